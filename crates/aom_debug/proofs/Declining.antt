@@ -4,7 +4,7 @@ use Rattle.std.specs.Prelude.{IfErr, IfOk}
 use Rattle.std.proofs.lemmas.Bool.Decides.{nat_tests}
 use Rattle.aom_debug_words.specs.Commands.{command_said}
 use Rattle.aom_debug_words.specs.declared.command.Command.{Command}
-use Rattle.aom_debug_words.specs.declared.command.Command.TheVariants.{Step, Turn, Go, Break, Cells, Owners, Cleanup, Actives, Recent}
+use Rattle.aom_debug_words.specs.declared.command.Command.TheVariants.{Step, Turn, Go, Break, Unbreak, Breaks, Clock, Help, Cells, Owners, Cleanup, Actives, Recent}
 use Rattle.aom_debug_words.specs.declared.fault.DebugFault.{DebugFault}
 use Rattle.aom_debug_words.specs.declared.fault.DebugFault.TheVariants.{Ended}
 use Rattle.aom_debug_words.specs.declared.fault.DebugFault.TheVariants as faults
@@ -15,7 +15,7 @@ use Rattle.aom_parts.specs.declared.progress.Progress.TheVariants as progress
 use Rattle.aom_text.specs.declared.number.Number.{Number}
 use Rattle.aom_transcript.specs.declared.line.Ending.{Ending}
 use Rattle.aom_debug.specs.Commands.{is_count, spot_named}
-use Rattle.aom_debug.specs.Debugging.{Answer, CountsNot, Declined, Goes, Outgoing, Sets, SetsAt, steps_of}
+use Rattle.aom_debug.specs.Debugging.{Answer, CountsNot, Declined, Goes, Marks, MarksAt, Outgoing, steps_of}
 use Rattle.aom_debug.specs.Obeying.{Heeds, Obeys, Passes}
 use Rattle.aom_debug.specs.declared.debugger.Debugger.{Debugger}
 
@@ -48,19 +48,20 @@ unset _ _ more spots is = cc
 pub set_not : (spot : Spot) (spots : List Spot) → is_set spot spots ≡ false → with_spot spot spots ≡ spots
 set_not spot spots is = unset (has_spot spot spots) (nat_lt (length spots) 16) (spots ++ spot ∷ []) spots is
 
-module _ {X : Type 0} {B : X → Type 0} (spot : Spot) (old new : Debugger X B) (out : Outgoing) where
-  pub set_mover : (answer : Answer) → SetsAt spot old new out answer → new.mover ≡ old.mover
-  set_mover (Ok done) sets = ap (λ (d : Debugger X B). d.mover) sets.1
-  set_mover (Err faults.NoSuch) sets = ap (λ (d : Debugger X B). d.mover) sets.1.same
-  set_mover (Err faults.WriteFault) sets = ap (λ (d : Debugger X B). d.mover) sets.1
-  set_mover (Err _) sets = absurd sets
+module _ {X : Type 0} {B : X → Type 0} (may : Spot → List Spot → Bool) (marked : Spot → List Spot → List Spot) (spot : Spot) (old new : Debugger X B) (out : Outgoing) where
+  pub marked_mover : (answer : Answer) → MarksAt may marked spot old new out answer → new.mover ≡ old.mover
+  marked_mover (Ok done) marks = ap (λ (d : Debugger X B). d.mover) marks.1
+  marked_mover (Err faults.NoSuch) marks = ap (λ (d : Debugger X B). d.mover) marks.1.same
+  marked_mover (Err faults.WriteFault) marks = ap (λ (d : Debugger X B). d.mover) marks.1
+  marked_mover (Err _) marks = absurd marks
 
   -- one that two numbers name
-  pub set_named : (method place : Number) → old.has_failed ≡ false → spot_named old.mover.machine.core.image method place ≡ Some spot → (answer : Answer) → SetsAt spot old new out answer → Sets method place old new out answer
-  set_named method place well names (Ok done) sets = (well, spot, record { names = names; room = sets.0 }, sets.1, sets.2)
-  set_named method place well names (Err faults.NoSuch) sets = (well, inr (spot, names, sets.0), sets.1)
-  set_named method place well names (Err faults.WriteFault) sets = (well, spot, record { names = names; room = sets.0 }, sets.1, sets.2, sets.3, sets.4)
-  set_named method place well names (Err _) sets = absurd sets
+  pub marked_named : (method place : Number) → old.has_failed ≡ false → spot_named old.mover.machine.core.image method place ≡ Some spot → (answer : Answer) → MarksAt may marked spot old new out answer
+      → Marks may marked method place old new out answer
+  marked_named method place well names (Ok done) marks = (well, spot, record { names = names; room = marks.0 }, marks.1, marks.2)
+  marked_named method place well names (Err faults.NoSuch) marks = (well, inr (spot, names, marks.0), marks.1)
+  marked_named method place well names (Err faults.WriteFault) marks = (well, spot, record { names = names; room = marks.0 }, marks.1, marks.2, marks.3, marks.4)
+  marked_named method place well names (Err _) marks = absurd marks
 
 -- ---- the end
 
@@ -90,6 +91,7 @@ module _ {X : Type 0} {B : X → Type 0} where
     obeys_failed Turn = (inl ill, declined)
     obeys_failed Go = (inl ill, declined)
     obeys_failed (Break method place) = (ill, declined)
+    obeys_failed (Unbreak method place) = (ill, declined)
     obeys_failed _ = (ill, declined)
 
     pub heeds_failed : (said : Result (Option Command) DebugFault) → Heeds said d d (record { before = out; now = out; failed = failed }) (Err Ended)

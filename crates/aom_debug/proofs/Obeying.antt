@@ -7,20 +7,22 @@ use Rattle.aom_run.specs.Calls.{StandsFor}
 use Rattle.aom_run.specs.declared.machine.Machine.{Machine}
 use Rattle.aom_debug.specs.Runs.{after}
 use Rattle.aom_debug_words.specs.declared.command.Command.{Command}
-use Rattle.aom_debug_words.specs.declared.command.Command.TheVariants.{Step, Turn, Go, Break, Cells, Owners, Cleanup, Actives, Recent}
+use Rattle.aom_debug_words.specs.declared.command.Command.TheVariants.{Step, Turn, Go, Break, Unbreak, Breaks, Clock, Help, Cells, Owners, Cleanup, Actives, Recent}
 use Rattle.aom_debug_words.specs.declared.fault.DebugFault.{DebugFault}
-use Rattle.aom_debug_words.specs.declared.fault.DebugFault.TheVariants.{Ended, WriteFault}
+use Rattle.aom_debug_words.specs.declared.fault.DebugFault.TheVariants.{Ended, NoSuch, WriteFault}
 use Rattle.aom_debug.specs.Courses.{Courses, way_of}
-use Rattle.aom_debug.specs.Commands.{is_count, moved_text}
+use Rattle.aom_debug_words.specs.Marks.{has_spot, is_set, with_spot, without_spot}
+use Rattle.aom_debug_words.specs.declared.spot.Spot.{Spot}
+use Rattle.aom_debug.specs.Commands.{NamesNone, is_count, moved_text}
 use Rattle.aom_debug.specs.Movers.{outside_of}
-use Rattle.aom_debug.specs.Debugging.{Answer, CountsNot, Declined, Goes, Looks, Outgoing, Sees, Sets, Steps, goes_of, has_ended, runs_of, steps_of, turns_of}
+use Rattle.aom_debug.specs.Debugging.{Answer, CountsNot, Declined, Goes, Looks, Marks, Outgoing, Sees, Steps, goes_of, has_ended, runs_of, steps_of, turns_of}
 use Rattle.aom_debug_moves.specs.declared.courses.Course.{Course}
 use Rattle.aom_debug_moves.specs.declared.courses.Course.TheVariants as ways
 use Rattle.aom_debug.specs.Obeying.{Obeys}
 use Rattle.aom_debug.specs.declared.debugger.Debugger.{Debugger}
 use Rattle.aom_debug.specs.declared.looking.Look.TheVariants as look
 use Rattle.aom_debug.specs.Hearing.{standing}
-use Rattle.aom_debug.specs.Sessions.{Begins, Does, Goes as GoesSo, MovesOn, Refuses, Sets as SetsSo, Shown, SessionState, has_ended as is_ended}
+use Rattle.aom_debug.specs.Sessions.{Begins, Does, Goes as GoesSo, MovesOn, Refuses, Marks as MarksSo, Shown, SessionState, has_ended as is_ended}
 
 not_both : (b : Bool) → b ≡ true → b ≡ false → ⊥
 not_both b yes_is no_is = absurd cc
@@ -52,8 +54,9 @@ module _ {X : Type 0} {B : X → Type 0} (old new : Debugger X B) (out : Outgoin
       let f = x.2 s stands in
       (f.0, s, shown_so (λ t. shows old s t) s f.0 x.1 f.1, f.2, stands_same x.1 s stands)
 
-  sets_done : (method place : Number) → Sets method place old new out (Ok tt) → Done (λ a text b. SetsSo old.mover.machine.core.image method place a text b)
-  sets_done method place x s stands =
+  marks_done : (may : Spot → List Spot → Bool) (marked : Spot → List Spot → List Spot) (method place : Number) → Marks may marked method place old new out (Ok tt)
+      → Done (λ a text b. MarksSo may marked old.mover.machine.core.image method place a text b)
+  marks_done may marked method place x s stands =
       let can = x.2 in (
         _,
         s,
@@ -80,7 +83,11 @@ module _ {X : Type 0} {B : X → Type 0} (old new : Debugger X B) (out : Outgoin
   is_done (Step n) x = steps_done n x
   is_done Turn x = goes_done ways.EndOfDispatch x
   is_done Go x = goes_done ways.Breakpoint x
-  is_done (Break method place) x = sets_done method place x
+  is_done (Break method place) x = marks_done is_set with_spot method place x
+  is_done (Unbreak method place) x = marks_done has_spot without_spot method place x
+  is_done Breaks x = looks_done (Sees look.Breaks) x
+  is_done Clock x = looks_done (Sees look.Clock) x
+  is_done Help x = looks_done (Sees look.Help) x
   is_done Cells x = looks_done (Sees look.Cells) x
   is_done Owners x = looks_done (Sees look.Owners) x
   is_done Cleanup x = looks_done (Sees look.Cleanup) x
@@ -98,6 +105,10 @@ module _ {X : Type 0} {B : X → Type 0} (old new : Debugger X B) (out : Outgoin
   still_well Turn x = well_goes turns_of x
   still_well Go x = well_goes runs_of x
   still_well (Break method place) x = ap (λ (d : Debugger X B). d.has_failed) x.3 ∙ well
+  still_well (Unbreak method place) x = ap (λ (d : Debugger X B). d.has_failed) x.3 ∙ well
+  still_well Breaks x = well_same x.1
+  still_well Clock x = well_same x.1
+  still_well Help x = well_same x.1
   still_well Cells x = well_same x.1
   still_well Owners x = well_same x.1
   still_well Cleanup x = well_same x.1
@@ -131,14 +142,25 @@ module _ {X : Type 0} {B : X → Type 0} (old new : Debugger X B) (out : Outgoin
       go true is y = let r = goes_refused (steps_of n) fault other y in subst (λ f. Refused (Step n) f) (sym r.0) (r.1, (λ s stands. (is, r.2 s stands)))
       go false is y = counts_refused n is fault y
 
-  sets_refused : (method place : Number) (fault : DebugFault) → fault ≢ WriteFault → Sets method place old new out (Err fault) → Refused (Break method place) fault
-  sets_refused method place fault other x = grind arith
+  -- a place that may not be marked so
+  abbrev NoMark : (Spot → List Spot → Bool) → Number → Number → DebugFault → Type 0
+  NoMark may method place fault = (fault ≡ NoSuch) × Declined old new out × NamesNone may old.mover.machine.core.image method place old.breakpoints
+
+  marks_refused : (may : Spot → List Spot → Bool) (marked : Spot → List Spot → List Spot) (method place : Number) (fault : DebugFault) → fault ≢ WriteFault → Marks may marked method place old new out (Err fault) → NoMark may method place fault
+  marks_refused may marked method place NoSuch other x = (refl, x.2, x.1)
+  marks_refused may marked method place Ended other x = absurd (not_both old.has_failed x.0 well)
+  marks_refused may marked method place WriteFault other x = absurd (other refl)
+  marks_refused may marked method place _ other x = absurd x
 
   pub is_refused : (command : Command) (fault : DebugFault) → fault ≢ WriteFault → Obeys command old new out (Err fault) → Refused command fault
   is_refused (Step n) fault other x = steps_refused n fault other x
   is_refused Turn fault other x = let r = goes_refused turns_of fault other x in subst (λ f. Refused Turn f) (sym r.0) (r.1, r.2)
   is_refused Go fault other x = let r = goes_refused runs_of fault other x in subst (λ f. Refused Go f) (sym r.0) (r.1, r.2)
-  is_refused (Break method place) fault other x = sets_refused method place fault other x
+  is_refused (Break method place) fault other x = let r = marks_refused is_set with_spot method place fault other x in subst (λ f. Refused (Break method place) f) (sym r.0) (r.1, (λ s stands. r.2))
+  is_refused (Unbreak method place) fault other x = let r = marks_refused has_spot without_spot method place fault other x in subst (λ f. Refused (Unbreak method place) f) (sym r.0) (r.1, (λ s stands. r.2))
+  is_refused Breaks fault other x = absurd (looks_refused (Sees look.Breaks) fault other x)
+  is_refused Clock fault other x = absurd (looks_refused (Sees look.Clock) fault other x)
+  is_refused Help fault other x = absurd (looks_refused (Sees look.Help) fault other x)
   is_refused Cells fault other x = absurd (looks_refused (Sees look.Cells) fault other x)
   is_refused Owners fault other x = absurd (looks_refused (Sees look.Owners) fault other x)
   is_refused Cleanup fault other x = absurd (looks_refused (Sees look.Cleanup) fault other x)
@@ -168,16 +190,22 @@ module _ {X : Type 0} {B : X → Type 0} (old new : Debugger X B) (out : Outgoin
         (f.0, inl (standing old s, inl (does s f.0 f.1)), f.2)),
   )
 
-  sets_cut : (method place : Number) → Sets method place old new out (Err WriteFault) → CutOff (Break method place)
-  sets_cut method place x =
+  marks_cut : (command : Command) (may : Spot → List Spot → Bool) (marked : Spot → List Spot → List Spot) (method place : Number)
+      → ((a : SessionState) (text : List ℕ) (b : SessionState) → MarksSo may marked old.mover.machine.core.image method place a text b → Does old.mover.machine.core.image (outside_of old.mover) command a text b)
+      → Marks may marked method place old new out (Err WriteFault) → CutOff command
+  marks_cut command may marked method place does x =
       let can = x.2 in
-      (x.4, (λ s stands. (_, inl (_, inl (x.1, can.names, can.room, refl, refl)), (x.5, x.6))))
+      (x.4, (λ s stands. (_, inl (_, inl (does (standing old s) _ _ (x.1, can.names, can.room, refl, refl))), (x.5, x.6))))
 
   pub is_cut : (command : Command) → Obeys command old new out (Err WriteFault) → CutOff command
   is_cut (Step n) x = let y = counted n (Err WriteFault) (λ z. z) x in goes_cut (Step n) (steps_of n) (λ s ended. (y.0, ended)) y.1
   is_cut Turn x = goes_cut Turn turns_of (λ s ended. ended) x
   is_cut Go x = goes_cut Go runs_of (λ s ended. ended) x
-  is_cut (Break method place) x = sets_cut method place x
+  is_cut (Break method place) x = marks_cut (Break method place) is_set with_spot method place (λ a text b y. y) x
+  is_cut (Unbreak method place) x = marks_cut (Unbreak method place) has_spot without_spot method place (λ a text b y. y) x
+  is_cut Breaks x = looks_cut Breaks (Sees look.Breaks) (λ s text y. (refl, y)) x
+  is_cut Clock x = looks_cut Clock (Sees look.Clock) (λ s text y. (refl, y)) x
+  is_cut Help x = looks_cut Help (Sees look.Help) (λ s text y. (refl, y)) x
   is_cut Cells x = looks_cut Cells (Sees look.Cells) (λ s text y. (refl, y)) x
   is_cut Owners x = looks_cut Owners (Sees look.Owners) (λ s text y. (refl, y)) x
   is_cut Cleanup x = looks_cut Cleanup (Sees look.Cleanup) (λ s text y. (refl, y)) x

@@ -9,13 +9,14 @@ use Rattle.aom_sound.specs.State.{State}
 use Rattle.aom_transcript.specs.declared.line.Line.{Line}
 use Rattle.aom_transcript.specs.declared.line.Ending.{Ending}
 use Rattle.aom_transcript.specs.Text.{end_text, ended, text_of}
-use Rattle.aom_debug_words.specs.Marks.{is_set}
+use Rattle.aom_debug_words.specs.Marks.{has_spot, is_set}
+use Rattle.aom_debug_words.specs.Help.{help_text}
 use Rattle.aom_debug_words.specs.declared.spot.Spot.{Spot}
 use Rattle.aom_debug_words.specs.Answers.{answer_text}
 use Rattle.aom_debug_moves.specs.Next.{next_of}
 use Rattle.aom_debug_sights.specs.Actives.{InOrderOfChoice, active_answers}
 use Rattle.aom_debug_sights.specs.Owners.{owners, owners_text}
-use Rattle.aom_debug_sights.specs.Sights.{cells_answers, cleanup_answers, recent_answers}
+use Rattle.aom_debug_sights.specs.Sights.{breaks_answers, cells_answers, cleanup_answers, clock_text, recent_answers}
 use Rattle.aom_debug_sights.specs.Telling.{answers_text}
 
 -- ---- where a run stands
@@ -52,9 +53,17 @@ spot_by p _ _ = None
 abbrev pub spot_named : Image → Number → Number → Option Spot
 spot_named p method place = spot_by p (number_within 0 65535 method) (number_within 0 65535 place)
 
+-- they name none, or one that may not be marked so
+abbrev pub NamesNone : (Spot → List Spot → Bool) → Image → Number → Number → List Spot → Type 0
+NamesNone may p method place spots = (spot_named p method place ≡ None) ⊎ ((spot : Spot) × (spot_named p method place ≡ Some spot) × (may spot spots ≡ false))
+
 -- they name none, or there are sixteen others
 abbrev pub NamesNoRoom : Image → Number → Number → List Spot → Type 0
-NamesNoRoom p method place spots = (spot_named p method place ≡ None) ⊎ ((spot : Spot) × (spot_named p method place ≡ Some spot) × (is_set spot spots ≡ false))
+NamesNoRoom = NamesNone is_set
+
+-- they name none, or it has no breakpoint
+abbrev pub NamesNoMark : Image → Number → Number → List Spot → Type 0
+NamesNoMark = NamesNone has_spot
 
 -- ---- looks
 
@@ -75,3 +84,14 @@ ShowsOwners s text = text ≡ owners_text (owners s)
 -- the latest instructions, the oldest first
 abbrev pub ShowsRecent : List Spot → List ℕ → Type 0
 ShowsRecent spots text = text ≡ answers_text (recent_answers spots)
+
+-- the breakpoints, in the order in which they were set
+abbrev pub ShowsBreaks : List Spot → List ℕ → Type 0
+ShowsBreaks spots text = text ≡ answers_text (breaks_answers spots)
+
+abbrev pub ShowsClock : State → List ℕ → Type 0
+ShowsClock s text = text ≡ clock_text s
+
+-- all commands
+abbrev pub ShowsHelp : List ℕ → Type 0
+ShowsHelp text = text ≡ help_text

@@ -10,7 +10,7 @@ use Rattle.aom_debug_moves.specs.Runs.{after}
 use Rattle.aom_debug_moves.specs.Movers.{outside_of}
 use Rattle.aom_debug_words.specs.declared.fault.DebugFault.{DebugFault}
 use Rattle.aom_debug_words.specs.declared.fault.DebugFault.TheVariants.{BadCommand, NoSuch, Ended, OutOfMemory, WriteFault}
-use Rattle.aom_debug_words.specs.Marks.{is_set, with_spot}
+use Rattle.aom_debug_words.specs.Marks.{has_spot, is_set, with_spot, without_spot}
 use Rattle.aom_debug_words.specs.declared.spot.Spot.{Spot}
 use Rattle.aom_debug_words.specs.declared.answer.Answer.TheVariants.{Done}
 use Rattle.aom_debug_words.specs.Answers.{answer_text}
@@ -18,10 +18,10 @@ use Rattle.aom_debug_moves.specs.Courses.{Courses, course_of}
 use Rattle.aom_debug_moves.specs.declared.courses.Course.{Course}
 use Rattle.aom_debug_moves.specs.declared.courses.Course.TheVariants as course
 use Rattle.aom_debug_sights.specs.Telling.{Tells, TellsPart}
-use Rattle.aom_debug.specs.Commands.{NamesNoRoom, ShowsActives, ShowsCells, ShowsCleanup, ShowsOwners, ShowsRecent, is_count, moved_text, place_text, spot_named}
+use Rattle.aom_debug.specs.Commands.{NamesNone, ShowsActives, ShowsBreaks, ShowsCells, ShowsCleanup, ShowsClock, ShowsHelp, ShowsOwners, ShowsRecent, is_count, moved_text, place_text, spot_named}
 use Rattle.aom_debug.specs.declared.debugger.Debugger.{Debugger}
 use Rattle.aom_debug.specs.declared.looking.Look.{Look}
-use Rattle.aom_debug.specs.declared.looking.Look.TheVariants.{Cells as At_cells, Owners as At_owners, Cleanup as At_cleanup, Actives as At_actives, Recent as At_recent}
+use Rattle.aom_debug.specs.declared.looking.Look.TheVariants.{Cells as At_cells, Owners as At_owners, Cleanup as At_cleanup, Actives as At_actives, Recent as At_recent, Breaks as At_breaks, Clock as At_clock, Help as At_help}
 
 -- what a call answers
 abbrev pub Answer : Type 0
@@ -110,24 +110,40 @@ module _ {X : Type 0} {B : X → Type 0} where
 
   -- ---- a breakpoint
 
-  -- the numbers name a place, which can have a breakpoint
-  pub record CanSet (method place : Number) (d : Debugger X B) (spot : Spot) : Type 0 where
-    pub names : spot_named d.mover.machine.core.image method place ≡ Some spot
-    pub room : is_set spot d.breakpoints ≡ true
+  -- where it may be set, or taken away, and what the breakpoints are then
+  module _ (may : Spot → List Spot → Bool) (marked : Spot → List Spot → List Spot) where
+    -- the numbers name a place, which may be marked so
+    pub record CanMark (method place : Number) (d : Debugger X B) (spot : Spot) : Type 0 where
+      pub names : spot_named d.mover.machine.core.image method place ≡ Some spot
+      pub room : may spot d.breakpoints ≡ true
 
-  -- at a place
+    -- at a place
+    abbrev pub MarksAt : Spot → Debugger X B → Debugger X B → Outgoing → Answer → Type 0
+    MarksAt spot old new out (Ok done) = (may spot old.breakpoints ≡ true) × (new ≡ record old { breakpoints = marked spot old.breakpoints }) × (out.now ≡ after out.before (ended (answer_text Done)))
+    MarksAt spot old new out (Err NoSuch) = (may spot old.breakpoints ≡ false) × Declined old new out
+    MarksAt spot old new out (Err WriteFault) = (may spot old.breakpoints ≡ true) × (new ≡ record old { breakpoints = marked spot old.breakpoints; has_failed = true }) × (out.failed ≡ true) × (sent : ℕ) × (out.now ≡ after out.before (take sent (ended (answer_text Done))))
+    MarksAt spot old new out (Err fault) = ⊥
+
+    abbrev pub Marks : Number → Number → Debugger X B → Debugger X B → Outgoing → Answer → Type 0
+    Marks method place old new out (Ok done) = (old.has_failed ≡ false) × (spot : Spot) × CanMark method place old spot × (new ≡ record old { breakpoints = marked spot old.breakpoints }) × (out.now ≡ after out.before (ended (answer_text Done)))
+    Marks method place old new out (Err NoSuch) = (old.has_failed ≡ false) × NamesNone may old.mover.machine.core.image method place old.breakpoints × Declined old new out
+    Marks method place old new out (Err Ended) = (old.has_failed ≡ true) × Declined old new out
+    Marks method place old new out (Err WriteFault) = (old.has_failed ≡ false) × (spot : Spot) × CanMark method place old spot × (new ≡ record old { breakpoints = marked spot old.breakpoints; has_failed = true }) × (out.failed ≡ true) × (sent : ℕ) × (out.now ≡ after out.before (take sent (ended (answer_text Done))))
+    Marks method place old new out (Err fault) = ⊥
+
+  -- one is set
   abbrev pub SetsAt : Spot → Debugger X B → Debugger X B → Outgoing → Answer → Type 0
-  SetsAt spot old new out (Ok done) = (is_set spot old.breakpoints ≡ true) × (new ≡ record old { breakpoints = with_spot spot old.breakpoints }) × (out.now ≡ after out.before (ended (answer_text Done)))
-  SetsAt spot old new out (Err NoSuch) = (is_set spot old.breakpoints ≡ false) × Declined old new out
-  SetsAt spot old new out (Err WriteFault) = (is_set spot old.breakpoints ≡ true) × (new ≡ record old { breakpoints = with_spot spot old.breakpoints; has_failed = true }) × (out.failed ≡ true) × (sent : ℕ) × (out.now ≡ after out.before (take sent (ended (answer_text Done))))
-  SetsAt spot old new out (Err fault) = ⊥
+  SetsAt = MarksAt is_set with_spot
 
   abbrev pub Sets : Number → Number → Debugger X B → Debugger X B → Outgoing → Answer → Type 0
-  Sets method place old new out (Ok done) = (old.has_failed ≡ false) × (spot : Spot) × CanSet method place old spot × (new ≡ record old { breakpoints = with_spot spot old.breakpoints }) × (out.now ≡ after out.before (ended (answer_text Done)))
-  Sets method place old new out (Err NoSuch) = (old.has_failed ≡ false) × NamesNoRoom old.mover.machine.core.image method place old.breakpoints × Declined old new out
-  Sets method place old new out (Err Ended) = (old.has_failed ≡ true) × Declined old new out
-  Sets method place old new out (Err WriteFault) = (old.has_failed ≡ false) × (spot : Spot) × CanSet method place old spot × (new ≡ record old { breakpoints = with_spot spot old.breakpoints; has_failed = true }) × (out.failed ≡ true) × (sent : ℕ) × (out.now ≡ after out.before (take sent (ended (answer_text Done))))
-  Sets method place old new out (Err fault) = ⊥
+  Sets = Marks is_set with_spot
+
+  -- one is taken away
+  abbrev pub UnsetsAt : Spot → Debugger X B → Debugger X B → Outgoing → Answer → Type 0
+  UnsetsAt = MarksAt has_spot without_spot
+
+  abbrev pub Unsets : Number → Number → Debugger X B → Debugger X B → Outgoing → Answer → Type 0
+  Unsets = Marks has_spot without_spot
 
   -- ---- looks
 
@@ -138,6 +154,9 @@ module _ {X : Type 0} {B : X → Type 0} where
   Sees At_cleanup d s text = ShowsCleanup s text
   Sees At_actives d s text = ShowsActives d.mover.machine.core.image s text
   Sees At_recent d s text = ShowsRecent d.mover.recent text
+  Sees At_breaks d s text = ShowsBreaks d.breakpoints text
+  Sees At_clock d s text = ShowsClock s text
+  Sees At_help d s text = ShowsHelp text
 
   -- what each state shows that the machine stands for is out
   abbrev pub Seen : (Debugger X B → State → List ℕ → Type 0) → Debugger X B → Option (List ℕ) → Option (List ℕ) → Type 0

@@ -1,10 +1,10 @@
 -- What each command asks of a debugger, and what a line of commands does.
 use Rattle.std.specs.Prelude.{◌≡◌, ℕ, List, Option, Some, None, Result, Ok, Err, true, false}
 use Rattle.aom_debug_words.specs.declared.command.Command.{Command}
-use Rattle.aom_debug_words.specs.declared.command.Command.TheVariants.{Step, Turn, Go, Break, Cells, Owners, Cleanup, Actives, Recent}
+use Rattle.aom_debug_words.specs.declared.command.Command.TheVariants.{Step, Turn, Go, Break, Unbreak, Breaks, Clock, Help, Cells, Owners, Cleanup, Actives, Recent}
 use Rattle.aom_debug_words.specs.declared.fault.DebugFault.{DebugFault}
 use Rattle.aom_debug_words.specs.declared.fault.DebugFault.TheVariants.{Ended}
-use Rattle.aom_debug.specs.Debugging.{Answer, Declined, Looks, Outgoing, Runs, Sees, Sets, Steps, Turns}
+use Rattle.aom_debug.specs.Debugging.{Answer, Declined, Looks, Outgoing, Runs, Sees, Sets, Steps, Turns, Unsets}
 use Rattle.aom_debug.specs.declared.debugger.Debugger.{Debugger}
 use Rattle.aom_debug.specs.declared.looking.Look.TheVariants as look
 
@@ -15,6 +15,10 @@ module _ {X : Type 0} {B : X → Type 0} where
   Obeys Turn = Turns
   Obeys Go = Runs
   Obeys (Break method place) = Sets method place
+  Obeys (Unbreak method place) = Unsets method place
+  Obeys Breaks = Looks (Sees look.Breaks)
+  Obeys Clock = Looks (Sees look.Clock)
+  Obeys Help = Looks (Sees look.Help)
   Obeys Cells = Looks (Sees look.Cells)
   Obeys Owners = Looks (Sees look.Owners)
   Obeys Cleanup = Looks (Sees look.Cleanup)

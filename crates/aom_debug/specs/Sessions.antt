@@ -9,15 +9,15 @@ use Rattle.aom_transcript.specs.declared.line.Line.{Line}
 use Rattle.aom_transcript.specs.Text.{ended}
 use Rattle.aom_debug_words.specs.Commands.{command_said}
 use Rattle.aom_debug_words.specs.declared.command.Command.{Command}
-use Rattle.aom_debug_words.specs.declared.command.Command.TheVariants.{Step, Turn, Go, Break, Cells, Owners, Cleanup, Actives, Recent}
+use Rattle.aom_debug_words.specs.declared.command.Command.TheVariants.{Step, Turn, Go, Break, Unbreak, Breaks, Clock, Help, Cells, Owners, Cleanup, Actives, Recent}
 use Rattle.aom_debug_words.specs.declared.fault.DebugFault.{DebugFault}
 use Rattle.aom_debug_words.specs.declared.fault.DebugFault.TheVariants as faults
-use Rattle.aom_debug_words.specs.Marks.{is_set, with_spot}
+use Rattle.aom_debug_words.specs.Marks.{has_spot, is_set, with_spot, without_spot}
 use Rattle.aom_debug_words.specs.declared.spot.Spot.{Spot}
 use Rattle.aom_debug_words.specs.declared.answer.Answer.TheVariants.{Done, Fault}
 use Rattle.aom_debug_words.specs.Answers.{answer_text}
 use Rattle.aom_debug.specs.Courses.{Courses, GoesBy, GoesToBreakpoint, ToLimit, TurnsOver}
-use Rattle.aom_debug.specs.Commands.{NamesNoRoom, ShowsActives, ShowsCells, ShowsCleanup, ShowsOwners, ShowsRecent, is_count, moved_text, spot_named}
+use Rattle.aom_debug.specs.Commands.{NamesNoMark, NamesNoRoom, ShowsActives, ShowsBreaks, ShowsCells, ShowsCleanup, ShowsClock, ShowsHelp, ShowsOwners, ShowsRecent, is_count, moved_text, spot_named}
 
 -- where a session stands: at a state, with these breakpoints, and these were the latest instructions
 pub record SessionState : Type 0 where
@@ -38,9 +38,17 @@ Shown shows a text b = (b ≡ a) × shows text
 abbrev pub Goes : Image → Outside → Courses → SessionState → List ℕ → SessionState → Type 0
 Goes p outside leads a text b = (has_ended a ≡ false) × (lines : List Line) × ToLimit p outside leads a.recent b.recent a.state lines b.state × (b.spots ≡ a.spots) × (text ≡ moved_text p lines b.state)
 
+-- the breakpoints are others, where the place may be marked so
+abbrev pub Marks : (Spot → List Spot → Bool) → (Spot → List Spot → List Spot) → Image → Number → Number → SessionState → List ℕ → SessionState → Type 0
+Marks may marked p method place a text b = (spot : Spot) × (spot_named p method place ≡ Some spot) × (may spot a.spots ≡ true) × (b ≡ record a { spots = marked spot a.spots }) × (text ≡ ended (answer_text Done))
+
 -- a breakpoint is set
 abbrev pub Sets : Image → Number → Number → SessionState → List ℕ → SessionState → Type 0
-Sets p method place a text b = (spot : Spot) × (spot_named p method place ≡ Some spot) × (is_set spot a.spots ≡ true) × (b ≡ record a { spots = with_spot spot a.spots }) × (text ≡ ended (answer_text Done))
+Sets = Marks is_set with_spot
+
+-- a breakpoint is taken away
+abbrev pub Unsets : Image → Number → Number → SessionState → List ℕ → SessionState → Type 0
+Unsets = Marks has_spot without_spot
 
 -- a command that is done
 abbrev pub Does : Image → Outside → Command → SessionState → List ℕ → SessionState → Type 0
@@ -48,6 +56,10 @@ Does p outside (Step n) a text b = (is_count n ≡ true) × Goes p outside (Goes
 Does p outside Turn a text b = Goes p outside (TurnsOver p outside) a text b
 Does p outside Go a text b = Goes p outside (GoesToBreakpoint p outside a.spots) a text b
 Does p outside (Break method place) a text b = Sets p method place a text b
+Does p outside (Unbreak method place) a text b = Unsets p method place a text b
+Does p outside Breaks a text b = Shown (λ t. ShowsBreaks a.spots t) a text b
+Does p outside Clock a text b = Shown (λ t. ShowsClock a.state t) a text b
+Does p outside Help a text b = Shown (λ t. ShowsHelp t) a text b
 Does p outside Cells a text b = Shown (λ t. ShowsCells p a.state t) a text b
 Does p outside Owners a text b = Shown (λ t. ShowsOwners a.state t) a text b
 Does p outside Cleanup a text b = Shown (λ t. ShowsCleanup a.state t) a text b
@@ -61,6 +73,7 @@ Refuses p (Step n) a faults.Ended = (is_count n ≡ true) × (has_ended a ≡ tr
 Refuses p Turn a faults.Ended = has_ended a ≡ true
 Refuses p Go a faults.Ended = has_ended a ≡ true
 Refuses p (Break method place) a faults.NoSuch = NamesNoRoom p method place a.spots
+Refuses p (Unbreak method place) a faults.NoSuch = NamesNoMark p method place a.spots
 Refuses p command a fault = ⊥
 
 -- ---- what a line tells

@@ -42,11 +42,15 @@ impl<'a> Debugger<'a> {
             Command::Turn => self.turn(out),
             Command::Go => self.go(out),
             Command::Break(method, place) => self.break_at(method, place, out),
+            Command::Unbreak(method, place) => self.unbreak_at(method, place, out),
             Command::Cells => self.look(Look::Cells, out),
             Command::Owners => self.look(Look::Owners, out),
             Command::Cleanup => self.look(Look::Cleanup, out),
             Command::Actives => self.look(Look::Actives, out),
             Command::Recent => self.look(Look::Recent, out),
+            Command::Breaks => self.look(Look::Breaks, out),
+            Command::Clock => self.look(Look::Clock, out),
+            Command::Help => self.look(Look::Help, out),
         }
     }
 }

@@ -18,6 +18,7 @@ mod debugging;
 mod looking;
 mod marking;
 mod showing;
+mod unbreaking;
 
 pub use aom_debug_moves::{Mover, Sink};
 pub use aom_debug_sights::tell;

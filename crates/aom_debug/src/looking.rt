@@ -7,8 +7,8 @@ ghost use Rattle.aom_debug.specs.Debugging.{Looks, Seen, SeenPart, Sees};
 use crate::Debugger;
 use crate::showing::{show_cells, show_owners};
 use aom_debug_moves::Sink;
-use aom_debug_sights::{tell_actives, tell_cleanup, tell_recent};
-use aom_debug_words::DebugFault;
+use aom_debug_sights::{send, tell_actives, tell_breaks, tell_cleanup, tell_clock, tell_recent};
+use aom_debug_words::{DebugFault, help_text};
 use aom_natives::Native;
 
 /// What a debugger shows of a machine.
@@ -24,6 +24,12 @@ pub enum Look {
     Actives,
     /// The latest instructions, the oldest first.
     Recent,
+    /// The breakpoints, in the order in which they were set.
+    Breaks,
+    /// The time.
+    Clock,
+    /// The commands.
+    Help,
 }
 
 impl<'a> Debugger<'a> {
@@ -38,6 +44,9 @@ impl<'a> Debugger<'a> {
             Look::Cleanup => tell_cleanup(self.mover.machine.core.parts(), out),
             Look::Actives => tell_actives(self.mover.machine.core.parts(), out),
             Look::Recent => tell_recent(&self.mover.recent, out),
+            Look::Breaks => tell_breaks(&self.breakpoints, out),
+            Look::Clock => tell_clock(self.mover.machine.core.parts(), out),
+            Look::Help => send(help_text(), out),
         }
     }
 

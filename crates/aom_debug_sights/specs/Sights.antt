@@ -1,5 +1,7 @@
--- What a debugger tells of a state: its cells and its cleanup stack; and of the latest instructions.
+-- What a debugger tells of a state: its cells, its cleanup stack and its time; and of the latest instructions and the breakpoints.
 use Rattle.std.specs.Prelude.{ℕ, zero, suc, ◌+◌, Bool, false, cond, ◌==◌, List, [], ◌∷◌, length, Option, Some, None, map, option_map}
+use Rattle.aom_transcript.specs.Text.{ended}
+use Rattle.aom_debug_words.specs.Answers.{answer_text}
 use Rattle.std.specs.Int.{w32, cast_signed}
 use Rattle.aom_image.specs.Image.{Image}
 use Rattle.aom_image.specs.declared.method.Thing.{Thing}
@@ -12,7 +14,7 @@ use Rattle.aom_sound.specs.Places.{Cell, Entry, Object, count_cells, held}
 use Rattle.aom_sound.specs.State.{A_mark, An_object, An_operation, Item, State}
 use Rattle.aom_debug_words.specs.declared.spot.Spot.{Spot}
 use Rattle.aom_debug_words.specs.declared.answer.Answer.{Answer}
-use Rattle.aom_debug_words.specs.declared.answer.Answer.TheVariants.{Cells, OfClass, Object as Object_answer, Operation, Ran, Trap}
+use Rattle.aom_debug_words.specs.declared.answer.Answer.TheVariants.{Break, Cells, Clock, OfClass, Object as Object_answer, Operation, Ran, Trap}
 use Rattle.aom_debug_sights.specs.Telling.{gathered, listed}
 
 -- ---- classes
@@ -35,6 +37,16 @@ is_class class (Some c) = c == class
 
 abbrev pub recent_answers : List Spot → List Answer
 recent_answers spots = map (λ spot. Ran spot) spots
+
+-- ---- the breakpoints
+
+abbrev pub breaks_answers : List Spot → List Answer
+breaks_answers spots = map (λ spot. Break spot) spots
+
+-- ---- the time
+
+abbrev pub clock_text : State → List ℕ
+clock_text s = ended (answer_text (Clock s.rest.clock))
 
 -- ---- the cleanup stack
 

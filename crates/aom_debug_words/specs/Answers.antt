@@ -6,7 +6,7 @@ use Rattle.aom_debug_words.specs.declared.spot.Spot.{Spot}
 use Rattle.aom_debug_words.specs.declared.answer.Phase.{Phase}
 use Rattle.aom_debug_words.specs.declared.answer.Phase.TheVariants as phases
 use Rattle.aom_debug_words.specs.declared.answer.Answer.{Answer}
-use Rattle.aom_debug_words.specs.declared.answer.Answer.TheVariants.{Done, Fault, At, Gone, Between, Ended, Cells, OfClass, Trap, Object, Operation, Active, Server, Ran}
+use Rattle.aom_debug_words.specs.declared.answer.Answer.TheVariants.{Done, Fault, At, Gone, Between, Ended, Cells, OfClass, Trap, Object, Operation, Active, Server, Clock, Break, Ran}
 
 -- two numbers, parted by a space
 abbrev pub numbers_text : ℕ → ℕ → List ℕ
@@ -43,4 +43,6 @@ answer_text (Object class) = codes "object " ++ decimal class
 answer_text (Operation method word) = codes "op " ++ decimal method ++ codes " " ++ signed_decimal word
 answer_text (Active class priority phase status) = active_text class priority phase status
 answer_text (Server class priority queued) = server_text class priority queued
+answer_text (Clock time) = codes "clock " ++ decimal time
+answer_text (Break spot) = codes "break " ++ spot_text spot
 answer_text (Ran spot) = spot_text spot

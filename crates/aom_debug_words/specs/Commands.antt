@@ -5,7 +5,7 @@ use Rattle.aom_text.specs.Words.{words}
 use Rattle.aom_text.specs.Numbers.{number_of, number_within}
 use Rattle.aom_text.specs.declared.number.Number.{Number}
 use Rattle.aom_debug_words.specs.declared.command.Command.{Command}
-use Rattle.aom_debug_words.specs.declared.command.Command.TheVariants.{Step, Turn, Go, Break, Cells, Owners, Cleanup, Actives, Recent}
+use Rattle.aom_debug_words.specs.declared.command.Command.TheVariants.{Step, Turn, Go, Break, Unbreak, Breaks, Clock, Help, Cells, Owners, Cleanup, Actives, Recent}
 use Rattle.aom_debug_words.specs.declared.fault.DebugFault.{DebugFault}
 use Rattle.aom_debug_words.specs.declared.fault.DebugFault.TheVariants.{BadCommand}
 
@@ -15,6 +15,9 @@ abbrev pub named : List ℕ → Option Command
 named name =
     if bytes_eq name (codes "turn") then Some Turn
     else if bytes_eq name (codes "go") then Some Go
+    else if bytes_eq name (codes "breaks") then Some Breaks
+    else if bytes_eq name (codes "clock") then Some Clock
+    else if bytes_eq name (codes "help") then Some Help
     else if bytes_eq name (codes "cells") then Some Cells
     else if bytes_eq name (codes "owners") then Some Owners
     else if bytes_eq name (codes "cleanup") then Some Cleanup
@@ -46,12 +49,22 @@ abbrev pub break_says : List (List ℕ) → Option Command
 break_says (method ∷ place ∷ []) = breaks_at (number_of method) (number_of place)
 break_says _ = None
 
+-- and so where a breakpoint is to go
+abbrev pub unbreaks_at : Option Number → Option Number → Option Command
+unbreaks_at (Some method) (Some place) = Some (Unbreak method place)
+unbreaks_at _ _ = None
+
+abbrev pub unbreak_says : List (List ℕ) → Option Command
+unbreak_says (method ∷ place ∷ []) = unbreaks_at (number_of method) (number_of place)
+unbreak_says _ = None
+
 -- ---- lines
 
 abbrev pub words_say : List ℕ → List (List ℕ) → Option Command
 words_say name others =
     if bytes_eq name (codes "step") then step_says others
     else if bytes_eq name (codes "break") then break_says others
+    else if bytes_eq name (codes "unbreak") then unbreak_says others
     else alone name others
 
 -- a command, or none that there is

@@ -3,3 +3,4 @@ pub mod Marks
 pub mod Commands
 pub mod Faults
 pub mod Lines
+pub mod Help

@@ -1,5 +1,5 @@
 -- Breakpoints, and the latest places.
-use Rattle.std.specs.Prelude.{◌≡◌, ℕ, Bool, ◌&&◌, ◌||◌, ◌==◌, cond, nat_lt, List, [], ◌∷◌, ◌++◌, length}
+use Rattle.std.specs.Prelude.{◌≡◌, ℕ, Bool, ◌&&◌, ◌||◌, ◌==◌, false, cond, nat_lt, List, [], ◌∷◌, ◌++◌, length}
 use Rattle.std.specs.List.{list_any}
 use Rattle.circular_buffer.specs.Buffer.{keep_last}
 use Rattle.aom_debug_words.specs.declared.spot.Spot.{Spot}
@@ -18,6 +18,15 @@ is_set spot spots = has_spot spot spots || nat_lt (length spots) 16
 -- the breakpoints once one is set, which counts once; the same where it cannot be
 abbrev pub with_spot : Spot → List Spot → List Spot
 with_spot spot spots = cond (has_spot spot spots) spots (cond (nat_lt (length spots) 16) (spots ++ spot ∷ []) spots)
+
+-- the breakpoints without the first at that place
+abbrev pub without_spot : Spot → List Spot → List Spot
+without_spot spot [] = []
+without_spot spot (x ∷ xs) = cond (same_spot spot x) xs (x ∷ without_spot spot xs)
+
+-- to take away a breakpoint that was set where there was none is to have those that were
+abbrev pub UnbreakUndoesBreak : Type 0
+UnbreakUndoesBreak = (spot : Spot) (spots : List Spot) → has_spot spot spots ≡ false → without_spot spot (with_spot spot spots) ≡ spots
 
 -- to note a place after the latest sixteen of a history is to have the latest sixteen of the longer history
 abbrev pub NotesKeepLatest : Type 0

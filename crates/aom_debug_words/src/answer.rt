@@ -36,6 +36,10 @@ pub enum Answer {
     Active(u16, i32, Phase, i32),
     /// An enlisted server of a class, with its priority, and how many connects, messages and closes wait in its queue.
     Server(u16, i32, usize),
+    /// The time.
+    Clock(u64),
+    /// Where a breakpoint is, as the command that sets it.
+    Break(Spot),
     /// An instruction that ran.
     Ran(Spot),
 }

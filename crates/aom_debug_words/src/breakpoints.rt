@@ -1,6 +1,7 @@
 //! Breakpoints.
-ghost use Rattle.std.specs.Prelude.{◌≡◌, ◌≤◌, [], length};
-ghost use Rattle.aom_debug_words.specs.Marks.{has_spot, is_set, with_spot};
+ghost use Rattle.std.specs.Prelude.{◌≡◌, ◌<◌, ◌≤◌, [], IfSome, length, slice_get};
+ghost use Rattle.std.specs.List.{position};
+ghost use Rattle.aom_debug_words.specs.Marks.{UnbreakUndoesBreak, has_spot, is_set, same_spot, with_spot, without_spot};
 
 use crate::Spot;
 use arrayvec::ArrayVec;
@@ -22,6 +23,14 @@ impl Model for Breakpoints {
     ghost Value = { List Spot };
 
     ghost view = { λ b. b.spots.items };
+}
+
+/// Where the first of them stands that is that place.
+fn index_of(spots: &[Spot], spot: Spot) -> Option<usize>
+    ensures value { result ≡ position (same_spot spot) spots.now }
+    ensures within { IfSome result (λ index. index < length spots.now) }
+{
+    spots.iter().position(|other| spot.is(*other))
 }
 
 impl Breakpoints {
@@ -54,4 +63,36 @@ impl Breakpoints {
         self.spots.push(spot);
         true
     }
+
+    /// Takes away the one at that place. Answers false where there is none.
+    pub fn unset(&mut self, spot: Spot) -> bool
+        ensures answer { result ≡ has_spot spot self.old }
+        ensures spots { self.new ≡ without_spot spot self.old }
+    {
+        match index_of(self.spots.as_slice(), spot) {
+            Some(index) => {
+                self.spots.remove(index);
+                true
+            }
+            None => false,
+        }
+    }
+
+    pub fn count(&self) -> usize
+        ensures { result ≡ length self.now }
+    {
+        self.spots.len()
+    }
+
+    /// The place of one, in the order in which they were set.
+    pub fn at(&self, index: usize) -> Option<Spot>
+        ensures { result ≡ slice_get self.now index }
+    {
+        self.spots.as_slice().get(index).copied()
+    }
 }
+
+/// To set a breakpoint that was not there, and to take it away, is to do nothing.
+pub fn unbreak_undoes_break()
+    ensures { UnbreakUndoesBreak }
+{}

@@ -1,7 +1,7 @@
 //! What a line of commands says.
 ghost use Rattle.std.specs.Prelude.{◌≡◌};
 ghost use Rattle.aom_text.specs.Numbers.{number_of};
-ghost use Rattle.aom_debug_words.specs.Commands.{break_says, breaks_at, command_said, known, line_says, named, step_says, steps_by, words_say};
+ghost use Rattle.aom_debug_words.specs.Commands.{break_says, breaks_at, command_said, known, line_says, named, step_says, steps_by, unbreak_says, unbreaks_at, words_say};
 
 use crate::DebugFault;
 use aom_text::{Number, Words};
@@ -20,6 +20,13 @@ pub enum Command {
     Go,
     /// A breakpoint at the place of a method, which may be none.
     Break(Number, Number),
+    /// No breakpoint there any more.
+    Unbreak(Number, Number),
+    /// Where the breakpoints are.
+    Breaks,
+    Clock,
+    /// The commands that there are.
+    Help,
     Cells,
     Owners,
     Cleanup,
@@ -65,6 +72,8 @@ fn read_words(name: &[u8], words: Words) -> Option<Command>
         read_step(words)
     } else if name == b"break".as_slice() {
         read_break(words)
+    } else if name == b"unbreak".as_slice() {
+        read_unbreak(words)
     } else if words.is_empty() {
         command_named(name)
     } else {
@@ -80,6 +89,12 @@ fn command_named(name: &[u8]) -> Option<Command>
         Some(Command::Turn)
     } else if name == b"go".as_slice() {
         Some(Command::Go)
+    } else if name == b"breaks".as_slice() {
+        Some(Command::Breaks)
+    } else if name == b"clock".as_slice() {
+        Some(Command::Clock)
+    } else if name == b"help".as_slice() {
+        Some(Command::Help)
     } else if name == b"cells".as_slice() {
         Some(Command::Cells)
     } else if name == b"owners".as_slice() {
@@ -124,6 +139,24 @@ fn break_at(method: &[u8], place: &[u8]) -> Option<Command>
 {
     match (Number::of(method), Number::of(place)) {
         (Some(method), Some(place)) => Some(Command::Break(method, place)),
+        _ => None,
+    }
+}
+
+fn read_unbreak(mut words: Words) -> Option<Command>
+    ensures { result ≡ unbreak_says words.entry }
+{
+    match (words.next(), words.next()) {
+        (Some(method), Some(place)) if words.is_empty() => unbreak_at(method, place),
+        _ => None,
+    }
+}
+
+fn unbreak_at(method: &[u8], place: &[u8]) -> Option<Command>
+    ensures { result ≡ unbreaks_at (number_of method.now) (number_of place.now) }
+{
+    match (Number::of(method), Number::of(place)) {
+        (Some(method), Some(place)) => Some(Command::Unbreak(method, place)),
         _ => None,
     }
 }

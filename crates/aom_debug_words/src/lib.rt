@@ -4,7 +4,7 @@
 //! `read_command` answers just what a line says by `specs/Commands.antt`: a command with its numbers, nothing where the line has no
 //! word, or that it is bad. `Pending` keeps the line that is not yet whole, in the 256 bytes that a line may have, and gives just the
 //! lines of the text that came (`specs/Lines.antt`), however it is cut into parts. An `Answer` is a line as a value, and `line_of`
-//! spells it just as `specs/Answers.antt` does, in a buffer of its own. `Breakpoints` has at most sixteen places and none twice, and
+//! spells it just as `specs/Answers.antt` does, in a buffer of its own; `help_text` lists the commands (`specs/Help.antt`). `Breakpoints` has at most sixteen places and none twice, and
 //! `Recent` the latest sixteen of all places that were noted (`specs/Marks.antt`).
 //! After `Recent::new` nothing here takes memory, by signature. It knows nothing of machines and images: methods, classes and places
 //! are numbers.
@@ -14,15 +14,17 @@ mod answer;
 mod breakpoints;
 mod command;
 mod fault;
+mod help;
 mod line;
 mod pending;
 mod recent;
 mod spot;
 
 pub use answer::{Answer, Phase};
-pub use breakpoints::Breakpoints;
+pub use breakpoints::{Breakpoints, unbreak_undoes_break};
 pub use command::{Command, read_command};
 pub use fault::DebugFault;
+pub use help::help_text;
 pub use line::{AnswerLine, line_of};
 pub use pending::Pending;
 pub use recent::{Recent, notes_keep_latest};

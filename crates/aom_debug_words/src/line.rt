@@ -43,6 +43,8 @@ fn add_answer(line: &mut AnswerLine, answer: Answer)
             add_active(line, class, priority, phase, status);
         }
         Answer::Server(class, priority, queued) => add_server(line, class, priority, queued),
+        Answer::Clock(time) => line.add_count(b"clock ", time),
+        Answer::Break(spot) => add_break(line, spot),
         Answer::Ran(spot) => add_two(line, spot.method, spot.place),
     }
 }
@@ -53,6 +55,15 @@ fn add_at(line: &mut AnswerLine, spot: Spot)
     ensures short { length line.new ≤ 44 }
 {
     line.add_count(b"at ", spot.method);
+    line.add_count(b" ", spot.place);
+}
+
+fn add_break(line: &mut AnswerLine, spot: Spot)
+    requires { line.old ≡ [] }
+    ensures text { line.new ≡ codes "break " ++ spot_text spot }
+    ensures short { length line.new ≤ 47 }
+{
+    line.add_count(b"break ", spot.method);
     line.add_count(b" ", spot.place);
 }
 

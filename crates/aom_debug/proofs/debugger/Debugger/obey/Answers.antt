@@ -135,3 +135,63 @@ returns-in-Recent-clause-keeps g c = c.look-in-Recent.ensures.keeps
 
 pub returns-in-Recent-clause-answer : goal.returns-in-Recent-clause-answer
 returns-in-Recent-clause-answer g c = rw c.in-Recent.is c.look-in-Recent.ensures.answer
+
+pub look-requires-in-Breaks-clause-agree : goal.look-requires-in-Breaks-clause-agree
+look-requires-in-Breaks-clause-agree g c = c.requires.agree
+
+pub look-requires-in-Breaks-clause-ready : goal.look-requires-in-Breaks-clause-ready
+look-requires-in-Breaks-clause-ready g c = c.requires.ready
+
+pub returns-in-Breaks-clause-agree : goal.returns-in-Breaks-clause-agree
+returns-in-Breaks-clause-agree g c = c.look-in-Breaks.ensures.agree
+
+pub returns-in-Breaks-clause-keeps : goal.returns-in-Breaks-clause-keeps
+returns-in-Breaks-clause-keeps g c = c.look-in-Breaks.ensures.keeps
+
+pub returns-in-Breaks-clause-answer : goal.returns-in-Breaks-clause-answer
+returns-in-Breaks-clause-answer g c = rw c.in-Breaks.is c.look-in-Breaks.ensures.answer
+
+pub look-requires-in-Clock-clause-agree : goal.look-requires-in-Clock-clause-agree
+look-requires-in-Clock-clause-agree g c = c.requires.agree
+
+pub look-requires-in-Clock-clause-ready : goal.look-requires-in-Clock-clause-ready
+look-requires-in-Clock-clause-ready g c = c.requires.ready
+
+pub returns-in-Clock-clause-agree : goal.returns-in-Clock-clause-agree
+returns-in-Clock-clause-agree g c = c.look-in-Clock.ensures.agree
+
+pub returns-in-Clock-clause-keeps : goal.returns-in-Clock-clause-keeps
+returns-in-Clock-clause-keeps g c = c.look-in-Clock.ensures.keeps
+
+pub returns-in-Clock-clause-answer : goal.returns-in-Clock-clause-answer
+returns-in-Clock-clause-answer g c = rw c.in-Clock.is c.look-in-Clock.ensures.answer
+
+pub look-requires-in-Help-clause-agree : goal.look-requires-in-Help-clause-agree
+look-requires-in-Help-clause-agree g c = c.requires.agree
+
+pub look-requires-in-Help-clause-ready : goal.look-requires-in-Help-clause-ready
+look-requires-in-Help-clause-ready g c = c.requires.ready
+
+pub returns-in-Help-clause-agree : goal.returns-in-Help-clause-agree
+returns-in-Help-clause-agree g c = c.look-in-Help.ensures.agree
+
+pub returns-in-Help-clause-keeps : goal.returns-in-Help-clause-keeps
+returns-in-Help-clause-keeps g c = c.look-in-Help.ensures.keeps
+
+pub returns-in-Help-clause-answer : goal.returns-in-Help-clause-answer
+returns-in-Help-clause-answer g c = rw c.in-Help.is c.look-in-Help.ensures.answer
+
+pub unbreak_at-requires-clause-agree : goal.unbreak_at-requires-clause-agree
+unbreak_at-requires-clause-agree g c = c.requires.agree
+
+pub unbreak_at-requires-clause-ready : goal.unbreak_at-requires-clause-ready
+unbreak_at-requires-clause-ready g c = c.requires.ready
+
+pub returns-in-Unbreak-clause-agree : goal.returns-in-Unbreak-clause-agree
+returns-in-Unbreak-clause-agree g c = c.unbreak_at.ensures.agree
+
+pub returns-in-Unbreak-clause-keeps : goal.returns-in-Unbreak-clause-keeps
+returns-in-Unbreak-clause-keeps g c = c.unbreak_at.ensures.keeps
+
+pub returns-in-Unbreak-clause-answer : goal.returns-in-Unbreak-clause-answer
+returns-in-Unbreak-clause-answer g c = rw c.in-Unbreak.is c.unbreak_at.ensures.answer

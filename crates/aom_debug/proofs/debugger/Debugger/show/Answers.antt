@@ -40,3 +40,25 @@ returns-in-Recent-clause-ok g c = rw c.in-Recent.is (IfOk-weaker c.tell_recent.r
 
 pub returns-in-Recent-clause-err : goal.returns-in-Recent-clause-err
 returns-in-Recent-clause-err g c = rw c.in-Recent.is (IfErr-weaker c.tell_recent.result _ _ (λ fault part. (part.told, part.fails, (λ s st. (_, refl, (part.sent, part.out))))) c.tell_recent.ensures.err)
+
+pub returns-in-Breaks-clause-ok : goal.returns-in-Breaks-clause-ok
+returns-in-Breaks-clause-ok g c = rw c.in-Breaks.is (IfOk-weaker c.tell_breaks.result _ _ (λ done tells s st. (_, refl, tells)) c.tell_breaks.ensures.ok)
+
+pub returns-in-Breaks-clause-err : goal.returns-in-Breaks-clause-err
+returns-in-Breaks-clause-err g c = rw c.in-Breaks.is (IfErr-weaker c.tell_breaks.result _ _ (λ fault part. (part.told, part.fails, (λ s st. (_, refl, (part.sent, part.out))))) c.tell_breaks.ensures.err)
+
+pub returns-in-Clock-clause-ok : goal.returns-in-Clock-clause-ok
+returns-in-Clock-clause-ok g c =
+    let p = c.args.self.now.mover.machine.core.image in
+    rw c.in-Clock.is (IfOk-weaker c.tell_clock.result _ _ (λ done tells s st. (_, refl, (tells p).out s st.stands)) (rw c.parts-in-Clock.ensures.parts at c.tell_clock.ensures.ok))
+
+pub returns-in-Clock-clause-err : goal.returns-in-Clock-clause-err
+returns-in-Clock-clause-err g c =
+    let p = c.args.self.now.mover.machine.core.image in
+    rw c.in-Clock.is (IfErr-weaker c.tell_clock.result _ _ (λ fault part. ((part p).told, (part p).fails, (λ s st. (_, refl, (part p).out s st.stands)))) (rw c.parts-in-Clock.ensures.parts at c.tell_clock.ensures.err))
+
+pub returns-in-Help-clause-ok : goal.returns-in-Help-clause-ok
+returns-in-Help-clause-ok g c = rw c.in-Help.is (IfOk-weaker c.send.result _ _ (λ done sends s st. (_, refl, sends)) (rw c.help_text.ensures at c.send.ensures.ok))
+
+pub returns-in-Help-clause-err : goal.returns-in-Help-clause-err
+returns-in-Help-clause-err g c = rw c.in-Help.is (IfErr-weaker c.send.result _ _ (λ fault part. (part.told, part.fails, (λ s st. (_, refl, (part.sent, part.out))))) (rw c.help_text.ensures at c.send.ensures.err))

@@ -1,0 +1,24 @@
+//! The commands, as they are told to who asks.
+ghost use Rattle.std.specs.Prelude.{◌≡◌};
+ghost use Rattle.aom_debug_words.specs.Help.{help_text};
+
+/// All commands, each on a line.
+pub fn help_text() -> &'static [u8]
+    ensures { result.now ≡ help_text }
+{
+    b"step N: on by N steps, from 1 to 1000000
+turn: on to the end of the dispatch
+go: on to a breakpoint
+break METHOD PLACE: a breakpoint there
+unbreak METHOD PLACE: no breakpoint there
+breaks: all breakpoints
+cells: how many objects live
+owners: who owns what
+cleanup: the cleanup stack
+actives: who waits for what
+recent: the latest instructions
+clock: the time
+help: all commands
+"
+        .as_slice()
+}
