@@ -4,6 +4,8 @@
 //! Here they are brought together with the command line as the system gives it, and with the files, the input and the two outputs of `aom_host`, of which a contract can say nothing.
 #![tactic(auto)]
 
+mod program;
+
 ghost use Rattle.std.specs.Prelude.{◌≡◌, ◌≤◌};
 ghost use Rattle.aom_command_line.specs.CommandLine.{KeepsLimit};
 ghost use Rattle.aom_main.specs.Beside.{AreNew};
@@ -20,6 +22,7 @@ use aom_main::{
 };
 use aom_natives::{Counter, Delay, Line, Native, NativeKind};
 use aom_run::{Sink, write_text};
+use program::Program;
 use std::alloc::Global;
 use std::env;
 use std::io::{self, BufWriter, Write};
@@ -141,93 +144,104 @@ fn obey<W: Sink, E: Sink>(
     match words {
         Words::Check {
             image,
+            asm,
             prices,
             explain,
             text,
         } => {
-            let text = read_text(rt, text)?;
-            let image = read_file(rt, image)?;
-            Ok(check_beside(alloc, &image, *prices, *explain, &text, out, errors))
+            let program = Program::read(rt, image, text)?;
+            match program.ready(alloc, *asm, *explain, errors) {
+                Ok(program) => Ok(check_program(alloc, &program, *prices, *explain, out, errors)),
+                Err(status) => Ok(status),
+            }
         }
         Words::Run { run, explain, text } => {
-            let text = read_text(rt, text)?;
-            run_beside(rt, run, Purpose::of_run(&text, *explain), out, errors)
+            run_beside(rt, run, text, Purpose::of_run(*explain), out, errors)
         }
-        Words::Debug { run } => run_beside(rt, run, Purpose::Debug, out, errors),
+        Words::Debug { run } => run_beside(rt, run, &None, Purpose::Debug, out, errors),
         Words::Explore { run, first, last } => {
-            let files = RunFiles::read(rt, run)?;
             let (first, last) = (*first, *last);
-            Ok(explore_files(alloc, run, Part { first, last }, &files, out, errors))
+            explore_beside(rt, run, Part { first, last }, out, errors)
         }
         Words::Asm { text, explain } if *explain => {
             Ok(asm_explained(alloc, &read_file(rt, text)?, out, errors))
         }
         Words::Asm { text, .. } => Ok(asm_bytes(alloc, &read_file(rt, text)?, out, errors)),
         Words::Dis { image } => Ok(dis_bytes(alloc, &read_file(rt, image)?, out, errors)),
-        Words::Dot { image } => Ok(dot_bytes(alloc, &read_file(rt, image)?, out, errors)),
+        Words::Dot { image, asm } => {
+            let program = Program::read(rt, image, &None)?;
+            match program.ready(alloc, *asm, false, errors) {
+                Ok(program) => Ok(dot_bytes(alloc, &program.image, out, errors)),
+                Err(status) => Ok(status),
+            }
+        }
     }
 }
 
-/// The text that is named beside an image, where there is one.
-fn read_text(rt: &HostRuntime, name: &Option<String>) -> Result<Option<Vec<u8>>, Fault> {
-    match name {
-        Some(name) => Ok(Some(read_file(rt, name)?)),
-        None => Ok(None),
-    }
-}
-
-/// Checks an image, with its figures or without, and explains where that is asked, by its text where one is named.
-fn check_beside<W: Sink, E: Sink>(
+/// Checks an image, with its figures or without, and explains where that is asked, by its text where there is one.
+fn check_program<W: Sink, E: Sink>(
     alloc: Global,
-    image: &[u8],
+    program: &Program,
     prices: bool,
     explain: bool,
-    text: &Option<Vec<u8>>,
     out: &mut W,
     errors: &mut E,
 ) -> ExitStatus {
-    match text {
-        Some(text) => check_by_text(alloc, image, text, prices, out, errors),
-        None if explain => check_explained(alloc, image, prices, out, errors),
-        None if prices => prices_bytes(alloc, image, out, errors),
-        None => check_bytes(alloc, image, out, errors),
+    let image = &program.image;
+    match &program.text {
+        Some(text) if explain => check_by_text(alloc, image, text, prices, out, errors),
+        _ if explain => check_explained(alloc, image, prices, out, errors),
+        _ if prices => prices_bytes(alloc, image, out, errors),
+        _ => check_bytes(alloc, image, out, errors),
     }
 }
 
 /// The bytes of the files of a run.
 #[derive(Drop)]
 struct RunFiles {
-    image: Vec<u8>,
+    program: Program,
     script: Vec<u8>,
 }
 
 impl RunFiles {
-    fn read(rt: &HostRuntime, run: &RunWords) -> Result<RunFiles, Fault> {
+    fn read(rt: &HostRuntime, run: &RunWords, text: &Option<String>) -> Result<RunFiles, Fault> {
         Ok(RunFiles {
-            image: read_file(rt, &run.image)?,
+            program: Program::read(rt, &run.image, text)?,
             script: read_file(rt, &run.script)?,
         })
+    }
+
+    /// Makes the image ready, as `Program::ready` does.
+    fn ready<E: Sink>(
+        self,
+        alloc: Global,
+        asm: bool,
+        explain: bool,
+        errors: &mut E,
+    ) -> Result<RunFiles, ExitStatus> {
+        let script = self.script;
+        let program = self.program.ready(alloc, asm, explain, errors)?;
+        Ok(RunFiles { program, script })
     }
 }
 
 /// What an image and its natives are for.
 #[derive(Clone, Copy)]
-enum Purpose<'a> {
+enum Purpose {
     Run,
+    /// To run, and to explain a fault, by the lines of the image's text where there is one.
     Explain,
-    /// As `Explain`, with the lines of this text.
-    ExplainByText(&'a [u8]),
     /// To run as the commands say that come from standard input.
     Debug,
 }
 
-impl<'a> Purpose<'a> {
+impl Purpose {
     /// The purpose of `aom run`.
-    fn of_run(text: &'a Option<Vec<u8>>, explain: bool) -> Purpose<'a> {
-        match text {
-            Some(text) => Purpose::ExplainByText(text),
-            None if explain => Purpose::Explain,
-            None => Purpose::Run,
+    fn of_run(explain: bool) -> Purpose {
+        if explain {
+            Purpose::Explain
+        } else {
+            Purpose::Run
         }
     }
 
@@ -246,13 +260,13 @@ impl<'a> Purpose<'a> {
         requires new { AreNew (λ b. record { owed = (⟦<dyn Native as Native>⟧ b.vtable).owed b.value; open_may = (⟦<dyn Native as Native>⟧ b.vtable).open_may b.value; start_may = (⟦<dyn Native as Native>⟧ b.vtable).start_may b.value; call_may = (⟦<dyn Native as Native>⟧ b.vtable).call_may b.value; poll_may = (⟦<dyn Native as Native>⟧ b.vtable).poll_may b.value }) run.now.natives.items boxes.items }
     {
         let (alloc, limit) = (rt.alloc(), run.limit);
-        let (image, script) = (&files.image, &files.script);
+        let (image, script) = (&files.program.image, &files.script);
         match self {
             Purpose::Run => run_bytes(alloc, image, script, limit, boxes, out, errors),
-            Purpose::Explain => run_explained(alloc, image, script, limit, boxes, out, errors),
-            Purpose::ExplainByText(text) => {
-                run_by_text(alloc, image, text, script, limit, boxes, out, errors)
-            }
+            Purpose::Explain => match &files.program.text {
+                Some(text) => run_by_text(alloc, image, text, script, limit, boxes, out, errors),
+                None => run_explained(alloc, image, script, limit, boxes, out, errors),
+            },
             Purpose::Debug => {
                 let mut input = Input::new(rt.stdin());
                 let mut out = Output::new(rt.stdout());
@@ -268,17 +282,24 @@ impl<'a> Purpose<'a> {
 fn run_beside<W: Sink, E: Sink>(
     rt: &HostRuntime,
     run: &RunWords,
+    text: &Option<String>,
     purpose: Purpose,
     out: &mut W,
     errors: &mut E,
 ) -> Result<ExitStatus, Fault>
     requires limit { (1 ≤ run.now.limit) × (run.now.limit ≤ 1000000000) }
 {
-    let files = RunFiles::read(rt, run)?;
-    let kinds = run.natives.as_slice();
-    let ended = run_files(rt, purpose, run, kinds, &files, out, errors);
-    drop(files);
-    ended
+    let files = RunFiles::read(rt, run, text)?;
+    let explain = matches!(purpose, Purpose::Explain);
+    match files.ready(rt.alloc(), run.asm, explain, errors) {
+        Ok(files) => {
+            let kinds = run.natives.as_slice();
+            let ended = run_files(rt, purpose, run, kinds, &files, out, errors);
+            drop(files);
+            ended
+        }
+        Err(status) => Ok(status),
+    }
 }
 
 /// Makes natives of the kinds that the words name, and runs an image beside them.
@@ -306,7 +327,28 @@ fn run_files<W: Sink, E: Sink>(
     Ok(purpose.run(rt, run, files, boxes, out, errors))
 }
 
-/// Runs an image again and again, each time with one more allocation request refused.
+/// Reads the files of a run, and runs the image again and again, each time with one more allocation request refused.
+fn explore_beside<W: Sink, E: Sink>(
+    rt: &HostRuntime,
+    run: &RunWords,
+    part: Part,
+    out: &mut W,
+    errors: &mut E,
+) -> Result<ExitStatus, Fault>
+    requires limit { (1 ≤ run.now.limit) × (run.now.limit ≤ 1000000000) }
+{
+    let files = RunFiles::read(rt, run, &None)?;
+    match files.ready(rt.alloc(), run.asm, false, errors) {
+        Ok(files) => {
+            let ended = explore_files(rt.alloc(), run, part, &files, out, errors);
+            drop(files);
+            Ok(ended)
+        }
+        Err(status) => Ok(status),
+    }
+}
+
+/// Runs an image again and again, beside the natives that the words name.
 fn explore_files<W: Sink, E: Sink>(
     alloc: Global,
     run: &RunWords,
@@ -321,7 +363,7 @@ fn explore_files<W: Sink, E: Sink>(
     let kinds = run.natives.as_slice();
     explore_bytes(
         alloc,
-        &files.image,
+        &files.program.image,
         &files.script,
         limit,
         kinds,

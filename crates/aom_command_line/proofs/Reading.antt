@@ -18,7 +18,7 @@ use Rattle.aom_command_line.specs.declared.words.WordsFault.{WordsFault}
 use Rattle.aom_command_line.specs.declared.words.WordsFault.TheVariants as faults
 use Rattle.aom_natives.specs.Kinds.{word_of as word_of_kind}
 use Rattle.aom_natives.specs.declared.kind.NativeKind.{NativeKind}
-use Rattle.aom_command_line.specs.CommandLine.{IsCommand, IsUnexplained, Declines, AsksText, DeclinesText, HasForm, LacksExplain, NamesKinds, NamesNoKinds, Says, form, texts_in, word_of}
+use Rattle.aom_command_line.specs.CommandLine.{IsCommand, HasNoUseForText, Declines, AsksText, DeclinesText, HasForm, LacksExplain, NamesTwoTexts, NamesKinds, NamesNoKinds, Says, form, texts_in, word_of}
 
 same : {E : Type 0} (v n : ℕ) (r : Result ℕ E) → r ≡ Ok v → r ≡ Ok n → Some v ≡ Some n
 same v n r a b = cc
@@ -49,7 +49,7 @@ chosen f id o d r is empty found = ap (λ (s : Bor Text). s.now) is ∙ read o d
     read (Some s) d e = refl
 
 -- without a command there is none
-pub nothing_met : (met : Option (Text × List Row)) → None ≡ option_map (λ p. p.1) met → true ≡ true → IsCommand met → IsUnexplained met
+pub nothing_met : (met : Option (Text × List Row)) → None ≡ option_map (λ p. p.1) met → true ≡ true → IsCommand met → HasNoUseForText met
 nothing_met x e taken is = grind arith
 
 -- an argument for its own command alone leaves a command as it was in this
@@ -69,10 +69,14 @@ pub lacks_explain : (rows : List Row) (name : Text) (explain : Bool) → Some na
     → LacksExplain rows
 lacks_explain rows name explain there used unset = grind arith
 
-pub no_text : {A : Type 0} (rows : List Row) (explain : Bool) → None ≡ first_of (codes "text") rows → AsksText {A = A} rows explain None
-no_text rows explain none = record { named = none; explained = λ some. absurd (some (sym none)) }
+-- a text that is there, beside a flag that is set
+pub names_two : (rows : List Row) (name : Text) (asm : Bool) → Some name ≡ first_of (codes "text") rows → (one_of (codes "asm") rows ≡ Some (codes "false") → asm ≡ false) → asm ≡ true → NamesTwoTexts rows
+names_two rows name asm there unused set = grind arith
 
--- a command that explains declines a text without `--explain`
+pub no_text : {A : Type 0} (rows : List Row) (explain asm : Bool) → None ≡ first_of (codes "text") rows → AsksText {A = A} rows explain asm None
+no_text rows explain asm none = record { named = none; explained = λ some. absurd (some (sym none)); alone = λ some. absurd (some (sym none)) }
+
+-- a command that explains declines a text that it has no use for
 pub declines_text : (command : Text) (rows : List Row) (fault : WordsFault) → (command ≡ codes "check") ⊎ (command ≡ codes "run") → DeclinesText rows fault → Declines true (Some (command, rows)) fault
 declines_text command rows x explains lacks = grind arith
 

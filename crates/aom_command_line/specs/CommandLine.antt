@@ -68,6 +68,10 @@ prices_rule = flag_rule (codes "prices")
 abbrev pub explain_rule : Rule
 explain_rule = flag_rule (codes "explain")
 
+-- `--asm`
+abbrev pub asm_rule : Rule
+asm_rule = flag_rule (codes "asm")
+
 -- `--text TEXT`, the name of a file
 abbrev pub text_rule : Rule
 text_rule =
@@ -84,9 +88,9 @@ native_rule =
       range = Some (record { start_inclusive = 0; end_inclusive = usize_max });
     }
 
--- check [--prices] [--explain] [--text TEXT] IMAGE
+-- check [--prices] [--explain] [--text TEXT] [--asm] IMAGE
 abbrev pub check_form : App
-check_form = with_rule (with_rule (with_rule (with_rule (new_app (codes "check")) prices_rule) explain_rule) text_rule) (file_rule (codes "IMAGE"))
+check_form = with_rule (with_rule (with_rule (with_rule (with_rule (new_app (codes "check")) prices_rule) explain_rule) text_rule) asm_rule) (file_rule (codes "IMAGE"))
 
 -- asm [--explain] TEXT
 abbrev pub asm_form : App
@@ -96,23 +100,23 @@ asm_form = with_rule (with_rule (new_app (codes "asm")) explain_rule) (file_rule
 abbrev pub dis_form : App
 dis_form = with_rule (new_app (codes "dis")) (file_rule (codes "IMAGE"))
 
--- dot IMAGE
+-- dot [--asm] IMAGE
 abbrev pub dot_form : App
-dot_form = with_rule (new_app (codes "dot")) (file_rule (codes "IMAGE"))
+dot_form = with_rule (with_rule (new_app (codes "dot")) asm_rule) (file_rule (codes "IMAGE"))
 
--- IMAGE SCRIPT [NATIVE].., the last words of each command that runs an image
+-- [--asm] IMAGE SCRIPT [NATIVE].., the last words of each command that runs an image
 abbrev pub with_files : App → App
-with_files command = with_rule (with_rule (with_rule command (file_rule (codes "IMAGE"))) (file_rule (codes "SCRIPT"))) native_rule
+with_files command = with_rule (with_rule (with_rule (with_rule command asm_rule) (file_rule (codes "IMAGE"))) (file_rule (codes "SCRIPT"))) native_rule
 
--- run [--limit N] [--explain] [--text TEXT] IMAGE SCRIPT [NATIVE]..
+-- run [--limit N] [--explain] [--text TEXT] [--asm] IMAGE SCRIPT [NATIVE]..
 abbrev pub run_form : App
 run_form = with_files (with_rule (with_rule (with_rule (new_app (codes "run")) limit_rule) explain_rule) text_rule)
 
--- explore [--limit N] [--from N] [--to N] IMAGE SCRIPT [NATIVE]..
+-- explore [--limit N] [--from N] [--to N] [--asm] IMAGE SCRIPT [NATIVE]..
 abbrev pub explore_form : App
 explore_form = with_files (with_rule (with_rule (with_rule (new_app (codes "explore")) limit_rule) from_rule) to_rule)
 
--- debug [--limit N] IMAGE SCRIPT [NATIVE]..
+-- debug [--limit N] [--asm] IMAGE SCRIPT [NATIVE]..
 abbrev pub debug_form : App
 debug_form = with_files (with_rule (new_app (codes "debug")) limit_rule)
 
@@ -172,39 +176,46 @@ DeclinesNatives words faults.Memory = Unit {0}
 pub record AsksRun (rows : List Row) (run : RunWords) : Type 0 where
   pub image : string_bytes run.image ≡ word_of (codes "IMAGE") rows
   pub script : string_bytes run.script ≡ word_of (codes "SCRIPT") rows
+  pub asm : IsFlag (one_of (codes "asm") rows) run.asm
   pub limit : IsNumberUpTo 1000000000 (one_of (codes "limit") rows) run.limit
   pub natives : NamesKinds (all_of (codes "NATIVE") rows) run.natives.items
 
--- the words found for a command name this text beside its image, and none where nothing is to be explained
-pub record AsksText {A : Type 0} (rows : List Row) (explain : Bool) (text : Option (String A)) : Type 0 where
+-- the words found for a command name this text beside its image, and none where nothing is to be explained or the image is itself a text
+pub record AsksText {A : Type 0} (rows : List Row) (explain asm : Bool) (text : Option (String A)) : Type 0 where
   pub named : option_map (λ t. string_bytes t) text ≡ first_of (codes "text") rows
   pub explained : first_of (codes "text") rows ≢ None → explain ≡ true
+  pub alone : first_of (codes "text") rows ≢ None → asm ≡ false
 
 -- the words found for a command name a text, and do not ask that a fault be explained
 pub record LacksExplain (rows : List Row) : Type 0 where
   pub named : first_of (codes "text") rows ≢ None
   pub unasked : one_of (codes "explain") rows ≢ Some (codes "true")
 
+-- the words found for a command name a text beside one that is to be assembled
+pub record NamesTwoTexts (rows : List Row) : Type 0 where
+  pub named : first_of (codes "text") rows ≢ None
+  pub assembled : one_of (codes "asm") rows ≢ Some (codes "false")
+
 -- why a text beside an image is refused
 abbrev pub DeclinesText : List Row → WordsFault → Type 0
-DeclinesText rows (faults.Text text) = LacksExplain rows
+DeclinesText rows (faults.Text text) = LacksExplain rows ⊎ NamesTwoTexts rows
 DeclinesText rows faults.Native = ⊥
 DeclinesText rows faults.Memory = Unit {0}
 
 -- a command and the words found for it ask this
 abbrev pub Asks : Option (Text × List Row) → Words → Type 0
 Asks None words = ⊥
-Asks (Some met) (Check image prices explain text) =
-    (met.0 ≡ codes "check") × (string_bytes image ≡ word_of (codes "IMAGE") met.1)
-    × IsFlag (one_of (codes "prices") met.1) prices × IsFlag (one_of (codes "explain") met.1) explain × AsksText met.1 explain text
-Asks (Some met) (Run run explain text) = (met.0 ≡ codes "run") × AsksRun met.1 run × IsFlag (one_of (codes "explain") met.1) explain × AsksText met.1 explain text
+Asks (Some met) (Check image asm prices explain text) =
+    (met.0 ≡ codes "check") × (string_bytes image ≡ word_of (codes "IMAGE") met.1) × IsFlag (one_of (codes "asm") met.1) asm
+    × IsFlag (one_of (codes "prices") met.1) prices × IsFlag (one_of (codes "explain") met.1) explain × AsksText met.1 explain asm text
+Asks (Some met) (Run run explain text) = (met.0 ≡ codes "run") × AsksRun met.1 run × IsFlag (one_of (codes "explain") met.1) explain × AsksText met.1 explain run.asm text
 Asks (Some met) (Explore run first last) =
     (met.0 ≡ codes "explore") × AsksRun met.1 run
     × IsNumberUpTo 4294967295 (one_of (codes "from") met.1) first × IsNumberUpTo 4294967295 (one_of (codes "to") met.1) last
 Asks (Some met) (Debug run) = (met.0 ≡ codes "debug") × AsksRun met.1 run
 Asks (Some met) (Asm text explain) = (met.0 ≡ codes "asm") × (string_bytes text ≡ word_of (codes "TEXT") met.1) × IsFlag (one_of (codes "explain") met.1) explain
 Asks (Some met) (Dis image) = (met.0 ≡ codes "dis") × (string_bytes image ≡ word_of (codes "IMAGE") met.1)
-Asks (Some met) (Dot image) = (met.0 ≡ codes "dot") × (string_bytes image ≡ word_of (codes "IMAGE") met.1)
+Asks (Some met) (Dot image asm) = (met.0 ≡ codes "dot") × (string_bytes image ≡ word_of (codes "IMAGE") met.1) × IsFlag (one_of (codes "asm") met.1) asm
 
 -- it is one of the program's commands
 abbrev pub IsCommand : Option (Text × List Row) → Type 0
@@ -216,14 +227,14 @@ abbrev pub NamesNoNatives : Option (Text × List Row) → Type 0
 NamesNoNatives None = ⊥
 NamesNoNatives (Some met) = ((met.0 ≡ codes "run") ⊎ (met.0 ≡ codes "explore") ⊎ (met.0 ≡ codes "debug")) × NamesNoKinds (all_of (codes "NATIVE") met.1)
 
--- it is a command that explains, with a text and without `--explain`
-abbrev pub IsUnexplained : Option (Text × List Row) → Type 0
-IsUnexplained None = ⊥
-IsUnexplained (Some met) = ((met.0 ≡ codes "check") ⊎ (met.0 ≡ codes "run")) × LacksExplain met.1
+-- it is a command that explains, with a text and without `--explain`, or with two texts
+abbrev pub HasNoUseForText : Option (Text × List Row) → Type 0
+HasNoUseForText None = ⊥
+HasNoUseForText (Some met) = ((met.0 ≡ codes "check") ⊎ (met.0 ≡ codes "run")) × (LacksExplain met.1 ⊎ NamesTwoTexts met.1)
 
--- why words ask nothing: `clap` does not take them, or `--text` stands without `--explain`, or they do not name natives where they should, or memory is wanting
+-- why words ask nothing: `clap` does not take them, or `--text` stands without `--explain` or beside `--asm`, or they do not name natives where they should, or memory is wanting
 abbrev pub Declines : Bool → Option (Text × List Row) → WordsFault → Type 0
-Declines taken met (faults.Text text) = taken ≡ true → IsCommand met → IsUnexplained met
+Declines taken met (faults.Text text) = taken ≡ true → IsCommand met → HasNoUseForText met
 Declines taken met faults.Native = NamesNoNatives met
 Declines taken met faults.Memory = Unit {0}
 
@@ -239,10 +250,10 @@ Says kind faults.Memory = Unit {0}
 
 -- what is known of the limit of runs
 abbrev pub KeepsLimit : Words → Type 0
-KeepsLimit (Check image prices explain text) = Unit {0}
+KeepsLimit (Check image asm prices explain text) = Unit {0}
 KeepsLimit (Run run explain text) = (1 ≤ run.limit) × (run.limit ≤ 1000000000)
 KeepsLimit (Explore run first last) = (1 ≤ run.limit) × (run.limit ≤ 1000000000)
 KeepsLimit (Debug run) = (1 ≤ run.limit) × (run.limit ≤ 1000000000)
 KeepsLimit (Asm text explain) = Unit {0}
 KeepsLimit (Dis image) = Unit {0}
-KeepsLimit (Dot image) = Unit {0}
+KeepsLimit (Dot image asm) = Unit {0}

@@ -2,7 +2,7 @@
 ghost use Rattle.std.specs.Prelude.{◌≡◌, ◌≤◌, IfOk, IfErr, IsOkAnd, Some, false, true, codes, length};
 ghost use Rattle.std.specs.String.{string_bytes};
 ghost use Rattle.clap.specs.Words.{AddsArg, AddsSubcommand, App, all_of, app_of, found_of, kind_of, one_of, rows_of, rule_of, subcommand_of, subcommand_rows_of, takes, with_subcommand};
-ghost use Rattle.aom_command_line.specs.CommandLine.{asm_form, check_form, debug_form, dis_form, dot_form, explain_rule, explore_form, run_form, form, file_rule, flag_rule, from_rule, limit_rule, native_rule, number_rule, prices_rule, text_rule, to_rule, texts_of, with_files, word_of, Asks, AsksRun, AsksText, Declines, DeclinesNatives, DeclinesRun, DeclinesText, HasForm, IsFlag, IsNumberUpTo, KeepsLimit, NamesKinds, Says, texts_in};
+ghost use Rattle.aom_command_line.specs.CommandLine.{asm_form, check_form, debug_form, dis_form, dot_form, explain_rule, explore_form, run_form, form, asm_rule, file_rule, flag_rule, from_rule, limit_rule, native_rule, number_rule, prices_rule, text_rule, to_rule, texts_of, with_files, word_of, Asks, AsksRun, AsksText, Declines, DeclinesNatives, DeclinesRun, DeclinesText, HasForm, IsFlag, IsNumberUpTo, KeepsLimit, NamesKinds, Says, texts_in};
 
 use aom_natives::NativeKind;
 use clap::builder::ValueParser;
@@ -16,6 +16,8 @@ use thiserror::Error as FaultText;
 pub enum Words {
     Check {
         image: String,
+        /// Whether the file is an assembly text, and not an image.
+        asm: bool,
         /// Whether what the methods come to and cost is asked for.
         prices: bool,
         /// Whether a fault is to be explained.
@@ -52,13 +54,15 @@ pub enum Words {
     },
     Dot {
         image: String,
+        /// Whether the file is an assembly text, and not an image.
+        asm: bool,
     },
 }
 
 /// Why a command line is refused.
 #[derive(Debug, Drop, FaultText)]
 pub enum WordsFault {
-    /// What `clap` has to say, a fault, or the help or the version that was asked for; or that `--text` stands without `--explain`.
+    /// What `clap` has to say, a fault, or the help or the version that was asked for; or that `--text` stands without `--explain` or beside `--asm`.
     #[error("{0}")]
     Text(String),
     /// No native of that name, or one too many.
@@ -92,6 +96,8 @@ impl<T: Drop> From<AllocFailed<T>> for WordsFault {
 #[derive(Drop)]
 pub struct RunWords {
     pub image: String,
+    /// Whether that file is an assembly text, and not an image.
+    pub asm: bool,
     pub script: String,
     /// The most dispatches after main's, of each run.
     pub limit: u32,
@@ -213,6 +219,7 @@ fn check_command<'a>(alloc: Global) -> Result<Command<'a>, AllocError>
         .arg(prices_arg(alloc));
     let command = with_arg(command, explain_arg(alloc));
     let command = with_arg(command, text_arg(alloc));
+    let command = with_arg(command, asm_arg(alloc));
     with_arg(command, file_arg(alloc, "IMAGE", "The file of an image"))
 }
 
@@ -249,9 +256,10 @@ fn dis_command<'a>(alloc: Global) -> Result<Command<'a>, AllocError>
 fn dot_command<'a>(alloc: Global) -> Result<Command<'a>, AllocError>
     ensures { IfOk result (λ c. HasForm dot_form c) }
 {
-    Command::new(alloc, "dot")
+    let command = Command::new(alloc, "dot")
         .about("Writes an image as a graph in Graphviz's language")
-        .arg(file_arg(alloc, "IMAGE", "The file of an image"))
+        .arg(asm_arg(alloc));
+    with_arg(command, file_arg(alloc, "IMAGE", "The file of an image"))
 }
 
 fn run_command<'a>(alloc: Global) -> Result<Command<'a>, AllocError>
@@ -292,6 +300,7 @@ fn with_files<'a>(
 ) -> Result<Command<'a>, AllocError>
     ensures { (form : App) → IfOk command.entry (λ c. HasForm form c) → IfOk result (λ c. HasForm (with_files form) c) }
 {
+    let command = with_arg(command, asm_arg(alloc));
     let command = with_arg(command, file_arg(alloc, "IMAGE", "The file of an image"));
     let command = with_arg(command, file_arg(alloc, "SCRIPT", "The file of a script"));
     with_arg(command, native_arg(alloc))
@@ -395,6 +404,17 @@ fn explain_arg<'a>(alloc: Global) -> Arg<'a>
     )
 }
 
+fn asm_arg<'a>(alloc: Global) -> Arg<'a>
+    ensures rule { rule_of result ≡ asm_rule }
+    ensures own { result.global ≡ false }
+{
+    flag_arg(
+        alloc,
+        "asm",
+        "The file is an assembly text, and the image is what it denotes",
+    )
+}
+
 fn text_arg<'a>(alloc: Global) -> Arg<'a>
     ensures rule { rule_of result ≡ text_rule }
     ensures own { result.global ≡ false }
@@ -461,10 +481,12 @@ fn check_words(alloc: Global, own: &ArgMatches) -> Result<Words, WordsFault>
     ensures declines { IfErr result (λ fault. Declines true (Some (codes "check", rows_of (found_of own.now))) fault) }
 {
     let explain = is_set(own, "explain");
+    let asm = is_set(own, "asm");
     Ok(Words::Check {
-        text: text_of(alloc, own, explain)?,
+        text: text_of(alloc, own, explain, asm)?,
         image: word_of(alloc, own, "IMAGE")?,
         prices: is_set(own, "prices"),
+        asm,
         explain,
     })
 }
@@ -474,20 +496,31 @@ fn running_words(alloc: Global, own: &ArgMatches) -> Result<Words, WordsFault>
     ensures declines { IfErr result (λ fault. Declines true (Some (codes "run", rows_of (found_of own.now))) fault) }
 {
     let explain = is_set(own, "explain");
+    let asm = is_set(own, "asm");
     Ok(Words::Run {
-        text: text_of(alloc, own, explain)?,
-        run: run_words(alloc, own)?,
+        text: text_of(alloc, own, explain, asm)?,
+        run: run_words(alloc, own, asm)?,
         explain,
     })
 }
 
-/// The text that is named beside an image, which is refused where nothing is to be explained.
-fn text_of(alloc: Global, own: &ArgMatches, explain: bool) -> Result<Option<String>, WordsFault>
-    requires { IsFlag (one_of (codes "explain") (rows_of (found_of own.now))) explain }
-    ensures asks { IfOk result (λ text. AsksText (rows_of (found_of own.now)) explain text) }
+/// The text that is named beside an image, which is refused where nothing is to be explained, and where the file is itself a text.
+fn text_of(
+    alloc: Global,
+    own: &ArgMatches,
+    explain: bool,
+    asm: bool,
+) -> Result<Option<String>, WordsFault>
+    requires explain { IsFlag (one_of (codes "explain") (rows_of (found_of own.now))) explain }
+    requires asm { IsFlag (one_of (codes "asm") (rows_of (found_of own.now))) asm }
+    ensures asks { IfOk result (λ text. AsksText (rows_of (found_of own.now)) explain asm text) }
     ensures declines { IfErr result (λ fault. DeclinesText (rows_of (found_of own.now)) fault) }
 {
     match own.get_str("text") {
+        Some(_) if asm => Err(WordsFault::Text(String::from_str(
+            alloc,
+            "error: --text has no use beside --asm\n",
+        )?)),
         Some(name) if explain => Ok(Some(String::from_str(alloc, name)?)),
         Some(_) => Err(WordsFault::Text(String::from_str(
             alloc,
@@ -502,7 +535,7 @@ fn explore_words(alloc: Global, own: &ArgMatches) -> Result<Words, WordsFault>
     ensures declines { IfErr result (λ fault. Declines true (Some (codes "explore", rows_of (found_of own.now))) fault) }
 {
     Ok(Words::Explore {
-        run: run_words(alloc, own)?,
+        run: run_words(alloc, own, is_set(own, "asm"))?,
         first: number_of(own, "from", 1, u32::MAX),
         last: number_of(own, "to", u32::MAX, u32::MAX),
     })
@@ -512,7 +545,7 @@ fn debug_words(alloc: Global, own: &ArgMatches) -> Result<Words, WordsFault>
     ensures asks { IfOk result (λ asked. Asks (Some (codes "debug", rows_of (found_of own.now))) asked) }
     ensures declines { IfErr result (λ fault. Declines true (Some (codes "debug", rows_of (found_of own.now))) fault) }
 {
-    let run = run_words(alloc, own)?;
+    let run = run_words(alloc, own, is_set(own, "asm"))?;
     Ok(Words::Debug { run })
 }
 
@@ -540,17 +573,23 @@ fn dot_words(alloc: Global, own: &ArgMatches) -> Result<Words, WordsFault>
     ensures declines { IfErr result (λ fault. Declines true (Some (codes "dot", rows_of (found_of own.now))) fault) }
 {
     let image = word_of(alloc, own, "IMAGE")?;
-    Ok(Words::Dot { image })
+    Ok(Words::Dot {
+        image,
+        asm: is_set(own, "asm"),
+    })
 }
 
-/// What is to run.
-fn run_words(alloc: Global, own: &ArgMatches) -> Result<RunWords, WordsFault>
+/// What is to run: an image, or what a text denotes.
+fn run_words(alloc: Global, own: &ArgMatches, asm: bool) -> Result<RunWords, WordsFault>
+    requires { IsFlag (one_of (codes "asm") (rows_of (found_of own.now))) asm }
     ensures asks { IfOk result (λ run. AsksRun (rows_of (found_of own.now)) run) }
+    ensures asm { IfOk result (λ run. run.asm ≡ asm) }
     ensures declines { IfErr result (λ fault. DeclinesRun (rows_of (found_of own.now)) fault) }
 {
     Ok(RunWords {
         natives: natives_of(alloc, own)?,
         image: word_of(alloc, own, "IMAGE")?,
+        asm,
         script: word_of(alloc, own, "SCRIPT")?,
         limit: limit_of(own),
     })

@@ -20,6 +20,7 @@ mod running;
 mod status;
 
 pub use accepting::accept_bytes;
+pub use assembling::assemble_bytes;
 pub use commands::{
     Translation, asm_bytes, check_bytes, dis_bytes, dot_bytes, prices_bytes, run_bytes, try_check,
     try_run, try_translate,

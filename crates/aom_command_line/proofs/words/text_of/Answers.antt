@@ -1,19 +1,24 @@
--- A text is named only where a fault is to be explained.
-use Rattle.std.proofs.Common.{◌∙◌, ap, codes, Some}
+-- A text is named only where a fault is to be explained, and the image is no text.
+use Rattle.std.proofs.Common.{◌∙◌, ap, codes, Some, inl, inr}
 use Rattle.clap.specs.Words.{found_of}
 use Rattle.clap.proofs.WalkLemmas.{first_value-rows}
-use Rattle.aom_command_line.proofs.Reading.{lacks_explain, no_text}
+use Rattle.aom_command_line.proofs.Reading.{lacks_explain, names_two, no_text}
 use Rattle.aom_command_line.proofs.words.text_of.Goals as goal
 
-pub returns-in_ok-from_str-in-Some-clause-asks : goal.returns-in_ok-from_str-in-Some-clause-asks
-returns-in_ok-from_str-in-Some-clause-asks c = record {
-  named = ap (λ t. Some t) c.in_ok-from_str-in-Some.ensures.ok ∙ c.in-Some.ensures ∙ first_value-rows (found_of c.args.own.now) (codes "text");
+pub returns-in_ok-from_str-in-Some-clause-declines : goal.returns-in_ok-from_str-in-Some-clause-declines
+returns-in_ok-from_str-in-Some-clause-declines c =
+    inr (names_two _ _ _ (c.in-Some.ensures ∙ first_value-rows (found_of c.args.own.now) (codes "text")) c.requires.asm.unused c.if-asm.true)
+
+pub returns-in_ok-from_str-in-Some-2-clause-asks : goal.returns-in_ok-from_str-in-Some-2-clause-asks
+returns-in_ok-from_str-in-Some-2-clause-asks c = record {
+  named = ap (λ t. Some t) c.in_ok-from_str-in-Some-2.ensures.ok ∙ c.in-Some.ensures ∙ first_value-rows (found_of c.args.own.now) (codes "text");
   explained = λ some. c.if-explain.true;
+  alone = λ some. c.if-asm.false;
 }
 
-pub returns-in_ok-from_str-in-Some-2-clause-declines : goal.returns-in_ok-from_str-in-Some-2-clause-declines
-returns-in_ok-from_str-in-Some-2-clause-declines c =
-    lacks_explain _ _ _ (c.in-Some-2.ensures ∙ first_value-rows (found_of c.args.own.now) (codes "text")) c.requires.used c.if-explain.false
+pub returns-in_ok-from_str-in-Some-3-clause-declines : goal.returns-in_ok-from_str-in-Some-3-clause-declines
+returns-in_ok-from_str-in-Some-3-clause-declines c =
+    inl (lacks_explain _ _ _ (c.in-Some-3.ensures ∙ first_value-rows (found_of c.args.own.now) (codes "text")) c.requires.explain.used c.if-explain.false)
 
 pub returns-in-None-clause-asks : goal.returns-in-None-clause-asks
-returns-in-None-clause-asks c = no_text _ _ (c.in-None.ensures ∙ first_value-rows (found_of c.args.own.now) (codes "text"))
+returns-in-None-clause-asks c = no_text _ _ _ (c.in-None.ensures ∙ first_value-rows (found_of c.args.own.now) (codes "text"))

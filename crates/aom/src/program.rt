@@ -1,0 +1,77 @@
+//! What a command is about: an image, from its file or from an assembly text.
+ghost use Rattle.std.specs.Prelude.{◌≡◌, IfOk, IfErr, Some};
+ghost use Rattle.aom_main.specs.Assembly.{Makes, RefusesText};
+
+use aom_explaining::tell_explained;
+use aom_host::read_file;
+use aom_main::{ExitStatus, Fault, assemble_bytes, tell};
+use aom_run::Sink;
+use std::alloc::Global;
+use std::mem;
+
+/// The bytes of an image, and of the text that it is of, where there is one.
+#[derive(Drop)]
+pub struct Program {
+    /// The text itself, until it is assembled.
+    pub image: Vec<u8>,
+    pub text: Option<Vec<u8>>,
+}
+
+impl Program {
+    /// Reads the files of an image and of the text that is named beside it.
+    pub fn read(rt: &HostRuntime, image: &String, text: &Option<String>) -> Result<Program, Fault> {
+        let text = match text {
+            Some(name) => Some(read_file(rt, name)?),
+            None => None,
+        };
+        let image = read_file(rt, image)?;
+        Ok(Program { image, text })
+    }
+
+    /// Makes ready what a command is about: where the file is a text, the image that it denotes. A text's fault is told as `asm` tells it.
+    pub fn ready<E: Sink>(
+        mut self,
+        alloc: Global,
+        asm: bool,
+        explain: bool,
+        errors: &mut E,
+    ) -> Result<Program, ExitStatus> {
+        if !asm {
+            return Ok(self);
+        }
+        match self.assemble(alloc) {
+            Ok(()) => Ok(self),
+            Err(fault) => {
+                let status = refuse(alloc, &fault, &self.image, explain, errors);
+                drop(self);
+                Err(status)
+            }
+        }
+    }
+
+    /// Puts the image that the file's text denotes in its place, and keeps the text beside it.
+    fn assemble(&mut self, alloc: Global) -> Result<(), Fault>
+        ensures image { IfOk result (λ _. Makes self.old.image.items self.new.image.items) }
+        ensures text { IfOk result (λ _. self.new.text ≡ Some self.old.image) }
+        ensures err { IfErr result (λ fault. RefusesText self.old.image.items fault) }
+        ensures kept { IfErr result (λ _. self.new ≡ self.old) }
+    {
+        let image = assemble_bytes(alloc, &self.image)?;
+        self.text = Some(mem::replace(&mut self.image, image));
+        Ok(())
+    }
+}
+
+/// Tells why a text denotes no image, and explains it where that is asked.
+fn refuse<E: Sink>(
+    alloc: Global,
+    fault: &Fault,
+    text: &[u8],
+    explain: bool,
+    errors: &mut E,
+) -> ExitStatus {
+    if explain {
+        return tell_explained(alloc, fault, b"", text, errors);
+    }
+    tell(fault, errors)
+}
