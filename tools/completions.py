@@ -41,7 +41,7 @@ _aom_argument() {{
 
 _aom() {{
   local current=${{COMP_WORDS[COMP_CWORD]}} before=${{COMP_WORDS[COMP_CWORD - 1]}} command=${{COMP_WORDS[1]}}
-  local at=2 number=0 ended=0
+  local at=2 number=0 ended=0 image={image}
   COMPREPLY=()
   if [ "$COMP_CWORD" -eq 1 ]; then
     _aom_words "{commands} help --help --version"
@@ -53,6 +53,7 @@ _aom() {{
   while [ "$at" -lt "$COMP_CWORD" ]; do
     case $ended:${{COMP_WORDS[at]}} in
       0:--) ended=1 ;;
+      0:--asm) image={text} ;;
       {values})
         at=$((at + 1))
         [ "${{COMP_WORDS[at]}}" = '=' ] && at=$((at + 1))
@@ -81,7 +82,9 @@ complete -F _aom aom
 def bash_argument(command, number, argument):
     if argument.many:
         return f'    {command.name}:*) _aom_words "{" ".join(form.natives())}" ;;'
-    return f"    {command.name}:{number}) _aom_files {ENDINGS[argument.name]} ;;"
+    # with --asm a text stands in the place of an image
+    ending = "$image" if argument.name == "IMAGE" else ENDINGS[argument.name]
+    return f"    {command.name}:{number}) _aom_files {ending} ;;"
 
 
 def bash_command(command):
@@ -99,6 +102,7 @@ def bash():
         made=MADE,
         commands=names,
         text=ENDINGS["TEXT"],
+        image=ENDINGS["IMAGE"],
         arguments="\n".join([line for it in commands for line in bash_command(it)] + [f'    help:0) _aom_words "{names}" ;;']),
         values=" | ".join(f"0:--{name}" for name, _ in options),
         numbers=" | ".join(f"0:--{name}" for name, it in options if it.value not in ENDINGS),
@@ -150,15 +154,21 @@ def zsh_option(option):
     return quoted(f"--{option.name}[{bracketed(option.help)}]{value}")
 
 
-def zsh_argument(argument):
+def takes_text(command):
+    """Whether a text may stand in the place of a command's image."""
+    return any(it.name == "asm" for it in command.options)
+
+
+def zsh_argument(command, argument):
     if argument.many:
         return quoted(f"*:{bracketed(argument.help)}:({' '.join(form.natives())})")
-    return quoted(f":{bracketed(argument.help)}:{zsh_value(argument.name)}")
+    value = f"_files -g \"*.({ENDINGS['IMAGE']}|{ENDINGS['TEXT']})\"" if argument.name == "IMAGE" and takes_text(command) else zsh_value(argument.name)
+    return quoted(f":{bracketed(argument.help)}:{value}")
 
 
 def zsh():
     commands = form.commands()
-    told = [" ".join([f"        {it.name}) _arguments", *map(zsh_option, it.options), *map(zsh_argument, it.arguments), ";;"]) for it in commands]
+    told = [" ".join([f"        {it.name}) _arguments", *map(zsh_option, it.options), *(zsh_argument(it, one) for one in it.arguments), ";;"]) for it in commands]
     listed = [f"        {quoted(f'{it.name}:{bracketed(it.about)}')}" for it in commands]
     return ZSH.format(made=MADE, commands="\n".join(listed), arguments="\n".join(told), names=" ".join(it.name for it in commands))
 
@@ -212,7 +222,12 @@ def fish_option(command, option):
 def fish_argument(command, number, argument):
     if argument.many:
         return f"complete -c aom -n '__aom_from {command.name} {number}' -a '{' '.join(form.natives())}' -d native"
-    return f"complete -c aom -n '__aom_at {command.name} {number}' -k -a '(__fish_complete_suffix .{ENDINGS[argument.name]})' -d {quoted(argument.help)}"
+    head = f"complete -c aom -n '__aom_at {command.name} {number}"
+    files = f"' -k -a '(__fish_complete_suffix .{ENDINGS[argument.name]})' -d {quoted(argument.help)}"
+    if argument.name != "IMAGE" or not takes_text(command):
+        return head + files
+    text = f"; and __fish_contains_opt asm' -k -a '(__fish_complete_suffix .{ENDINGS['TEXT']})' -d {quoted(argument.help)}"
+    return f"{head}; and not __fish_contains_opt asm{files}\n{head}{text}"
 
 
 def fish_command(command):

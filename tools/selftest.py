@@ -139,7 +139,7 @@ EDITS = [
     ("sample", "fivefold-in-other-words", CODE, "fourfold(number) + number as u16", "threefold(number) + double(number)", NAME),
     ("sample", "again-in-other-words", CODE, "let once = number as u16;", "let once = number as u16 * 1;", ANSWER),
     # the same way, and no page shows it
-    ("sample", "again-without-a-page", CODE, "let once = number as u16;", "let once = number as u16 + 0;", ""),
+    ("sample", "again-without-a-page", CODE, "let once = number as u16;", "let once = number as u16 + 0;", ANSWER),
     ("stated", "sixfold-is-sevenfold", DEFINITIONS, "sixfold n = n * 6", "sixfold n = n * 7", GOAL),
     ("stated", "sixfold-in-other-words", DEFINITIONS, "sixfold n = n * 6", "sixfold n = 6 * n", ""),
     ("stated", "no-text-of-the-logic", DEFINITIONS, "sixfold n = n * 6", "sixfold n =", ""),
@@ -170,4 +170,4 @@ def tools_are_well(place, jobs, say):
     proofs, trial = prove_and_try(top, jobs, False, tell, tell)
     wanted = {f"{crate}/{name}.edit": kind for crate, name, *_, kind in EDITS if kind}
     is_told = {it: trial.kinds[it] for it in trial.passed} == wanted and len(trial.failed) == len(EDITS) - len(wanted)
-    return is_told and (proofs.passed, proofs.failed) == (2, 1)
+    return is_told and trial.unshown == ["sample/again-without-a-page.edit"] and (proofs.passed, proofs.failed) == (2, 1)

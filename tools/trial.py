@@ -28,8 +28,8 @@ class Trial:
         self.lanes = source.lanes
         self.verdicts = verdicts or Verdicts(house, None)
         self.passed, self.failed = [], []
-        # by what each was refused
-        self.kinds = {}
+        # by what each was refused, and those that neither their contract nor a page or a test shows
+        self.kinds, self.unshown = {}, []
         self.seconds, self.checks = dict.fromkeys(KINDS, 0.0), dict.fromkeys(KINDS, 0)
         # by crate: where its libraries lie, and what its checks have kept
         self.libraries, self.kept, self.rest = {}, {}, {}
@@ -84,14 +84,13 @@ class Trial:
         self.tell_kind(name, edit, kind, text)
 
     def tell_kind(self, name, edit, kind, text):
-        """Tells by what an edit is refused. Where its contract does not show what it turns a page or a test has to."""
+        """Tells by what an edit is refused, and which page or test shows it where its contract does not."""
         page = read_edit(self.house.folder(name), edit).page
-        if kind == GOAL:
-            self.tell(name, edit, True, f"refused, as it must be, by {kind}{text}")
-        elif page:
-            self.tell(name, edit, True, f"refused, as it must be, by {kind}, and {page} shows it{text}")
-        else:
-            self.tell(name, edit, False, f"NOT SHOWN: refused by {kind} alone, and no 'shown:' line names a page or a test{text}")
+        shown = "" if kind == GOAL else f", and {page or 'nothing'} shows it"
+        if shown and not page:
+            with self.lock:
+                self.unshown.append(f"{name}/{edit}")
+        self.tell(name, edit, True, f"refused, as it must be, by {kind}{shown}{text}")
 
     def keep_refused(self, name, edit):
         self.verdicts.keep_refused(name, edit, self.kinds[f"{name}/{edit}"], self.goals[name].get(edit, []))

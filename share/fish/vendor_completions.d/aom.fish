@@ -34,13 +34,15 @@ complete -c aom -n '__fish_seen_subcommand_from check' -l prices -d 'Tells too w
 complete -c aom -n '__fish_seen_subcommand_from check' -l explain -d 'Tells too what a fault means and what usually mends it'
 complete -c aom -n '__fish_seen_subcommand_from check' -l text -d 'The text that the image is of, whose lines --explain then names' -r -k -a '(__fish_complete_suffix .aom)'
 complete -c aom -n '__fish_seen_subcommand_from check' -l asm -d 'The file is an assembly text, and the image is what it denotes'
-complete -c aom -n '__aom_at check 0' -k -a '(__fish_complete_suffix .image)' -d 'The file of an image'
+complete -c aom -n '__aom_at check 0; and not __fish_contains_opt asm' -k -a '(__fish_complete_suffix .image)' -d 'The file of an image'
+complete -c aom -n '__aom_at check 0; and __fish_contains_opt asm' -k -a '(__fish_complete_suffix .aom)' -d 'The file of an image'
 complete -c aom -n __fish_use_subcommand -a run -d 'Runs an image under a script and writes the transcript'
 complete -c aom -n '__fish_seen_subcommand_from run' -l limit -d 'The most dispatches after main'\''s' -x
 complete -c aom -n '__fish_seen_subcommand_from run' -l explain -d 'Tells too what a fault means and what usually mends it'
 complete -c aom -n '__fish_seen_subcommand_from run' -l text -d 'The text that the image is of, whose lines --explain then names' -r -k -a '(__fish_complete_suffix .aom)'
 complete -c aom -n '__fish_seen_subcommand_from run' -l asm -d 'The file is an assembly text, and the image is what it denotes'
-complete -c aom -n '__aom_at run 0' -k -a '(__fish_complete_suffix .image)' -d 'The file of an image'
+complete -c aom -n '__aom_at run 0; and not __fish_contains_opt asm' -k -a '(__fish_complete_suffix .image)' -d 'The file of an image'
+complete -c aom -n '__aom_at run 0; and __fish_contains_opt asm' -k -a '(__fish_complete_suffix .aom)' -d 'The file of an image'
 complete -c aom -n '__aom_at run 1' -k -a '(__fish_complete_suffix .script)' -d 'The file of a script'
 complete -c aom -n '__aom_from run 2' -a 'counter line delay' -d native
 complete -c aom -n __fish_use_subcommand -a explore -d 'Runs an image again with one more allocation request refused, for each in turn'
@@ -48,13 +50,15 @@ complete -c aom -n '__fish_seen_subcommand_from explore' -l limit -d 'The most d
 complete -c aom -n '__fish_seen_subcommand_from explore' -l from -d 'The first allocation request that is refused' -x
 complete -c aom -n '__fish_seen_subcommand_from explore' -l to -d 'The last allocation request that is refused' -x
 complete -c aom -n '__fish_seen_subcommand_from explore' -l asm -d 'The file is an assembly text, and the image is what it denotes'
-complete -c aom -n '__aom_at explore 0' -k -a '(__fish_complete_suffix .image)' -d 'The file of an image'
+complete -c aom -n '__aom_at explore 0; and not __fish_contains_opt asm' -k -a '(__fish_complete_suffix .image)' -d 'The file of an image'
+complete -c aom -n '__aom_at explore 0; and __fish_contains_opt asm' -k -a '(__fish_complete_suffix .aom)' -d 'The file of an image'
 complete -c aom -n '__aom_at explore 1' -k -a '(__fish_complete_suffix .script)' -d 'The file of a script'
 complete -c aom -n '__aom_from explore 2' -a 'counter line delay' -d native
 complete -c aom -n __fish_use_subcommand -a debug -d 'Runs an image as commands say, which are read from standard input'
 complete -c aom -n '__fish_seen_subcommand_from debug' -l limit -d 'The most dispatches after main'\''s' -x
 complete -c aom -n '__fish_seen_subcommand_from debug' -l asm -d 'The file is an assembly text, and the image is what it denotes'
-complete -c aom -n '__aom_at debug 0' -k -a '(__fish_complete_suffix .image)' -d 'The file of an image'
+complete -c aom -n '__aom_at debug 0; and not __fish_contains_opt asm' -k -a '(__fish_complete_suffix .image)' -d 'The file of an image'
+complete -c aom -n '__aom_at debug 0; and __fish_contains_opt asm' -k -a '(__fish_complete_suffix .aom)' -d 'The file of an image'
 complete -c aom -n '__aom_at debug 1' -k -a '(__fish_complete_suffix .script)' -d 'The file of a script'
 complete -c aom -n '__aom_from debug 2' -a 'counter line delay' -d native
 complete -c aom -n __fish_use_subcommand -a asm -d 'Writes the image that a text denotes'
@@ -64,5 +68,6 @@ complete -c aom -n __fish_use_subcommand -a dis -d 'Writes the listing of an ima
 complete -c aom -n '__aom_at dis 0' -k -a '(__fish_complete_suffix .image)' -d 'The file of an image'
 complete -c aom -n __fish_use_subcommand -a dot -d 'Writes an image as a graph in Graphviz'\''s language'
 complete -c aom -n '__fish_seen_subcommand_from dot' -l asm -d 'The file is an assembly text, and the image is what it denotes'
-complete -c aom -n '__aom_at dot 0' -k -a '(__fish_complete_suffix .image)' -d 'The file of an image'
+complete -c aom -n '__aom_at dot 0; and not __fish_contains_opt asm' -k -a '(__fish_complete_suffix .image)' -d 'The file of an image'
+complete -c aom -n '__aom_at dot 0; and __fish_contains_opt asm' -k -a '(__fish_complete_suffix .aom)' -d 'The file of an image'
 complete -c aom -n '__aom_at help 0' -a 'check run explore debug asm dis dot'
