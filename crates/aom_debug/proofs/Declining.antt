@@ -4,7 +4,7 @@ use Rattle.std.specs.Prelude.{IfErr, IfOk}
 use Rattle.std.proofs.lemmas.Bool.Decides.{nat_tests}
 use Rattle.aom_debug_words.specs.Commands.{command_said}
 use Rattle.aom_debug_words.specs.declared.command.Command.{Command}
-use Rattle.aom_debug_words.specs.declared.command.Command.TheVariants.{Step, Turn, Go, Break, Unbreak, Breaks, Clock, Help, Cells, Owners, Cleanup, Actives, Recent}
+use Rattle.aom_debug_words.specs.declared.command.Command.TheVariants.{Step, Next, Finish, Turn, Go, Until, Break, Unbreak, Breaks, Clock, Frames, Help, Cells, Owners, Cleanup, Actives, Recent}
 use Rattle.aom_debug_words.specs.declared.fault.DebugFault.{DebugFault}
 use Rattle.aom_debug_words.specs.declared.fault.DebugFault.TheVariants.{Ended}
 use Rattle.aom_debug_words.specs.declared.fault.DebugFault.TheVariants as faults
@@ -15,7 +15,7 @@ use Rattle.aom_parts.specs.declared.progress.Progress.TheVariants as progress
 use Rattle.aom_text.specs.declared.number.Number.{Number}
 use Rattle.aom_transcript.specs.declared.line.Ending.{Ending}
 use Rattle.aom_debug.specs.Commands.{is_count, spot_named}
-use Rattle.aom_debug.specs.Debugging.{Answer, CountsNot, Declined, Goes, Marks, MarksAt, Outgoing, steps_of}
+use Rattle.aom_debug.specs.Debugging.{Answer, CountsNot, Declined, Goes, GoesNamed, Marks, MarksAt, Outgoing, steps_of}
 use Rattle.aom_debug.specs.Obeying.{Heeds, Obeys, Passes}
 use Rattle.aom_debug.specs.declared.debugger.Debugger.{Debugger}
 
@@ -86,10 +86,17 @@ module _ {X : Type 0} {B : X → Type 0} where
     either true n = (inl ill, declined)
     either false n = (ill, declined)
 
+    pub named_either : (o : Option Spot) → GoesNamed o d d (record { before = out; now = out; failed = failed }) (Err Ended)
+    named_either None = (ill, declined)
+    named_either (Some spot) = (inl ill, declined)
+
     obeys_failed : (command : Command) → Obeys command d d (record { before = out; now = out; failed = failed }) (Err Ended)
     obeys_failed (Step n) = either (is_count n) n
+    obeys_failed Next = (inl ill, declined)
+    obeys_failed Finish = (inl ill, declined)
     obeys_failed Turn = (inl ill, declined)
     obeys_failed Go = (inl ill, declined)
+    obeys_failed (Until method place) = named_either (spot_named d.mover.machine.core.image method place)
     obeys_failed (Break method place) = (ill, declined)
     obeys_failed (Unbreak method place) = (ill, declined)
     obeys_failed _ = (ill, declined)

@@ -1,5 +1,5 @@
 -- A command by its call is what a session says of it: done, refused, or cut.
-use Rattle.std.proofs.Common.{arith, ◌≡◌, ◌≢◌, ◌∙◌, ◌⊎◌, ℕ, Bool, true, false, cond, List, Some, Ok, Err, take, refl, sym, ap, subst, inl, inr}
+use Rattle.std.proofs.Common.{arith, ◌≡◌, ◌≢◌, ◌∙◌, ◌⊎◌, ℕ, Bool, true, false, cond, List, Option, None, Some, Ok, Err, take, refl, sym, ap, subst, inl, inr}
 use Rattle.std.specs.Prelude.{is_some}
 use Rattle.aom_text.specs.declared.number.Number.{Number}
 use Rattle.aom_sound.specs.State.{Rest, State}
@@ -7,16 +7,17 @@ use Rattle.aom_run.specs.Calls.{StandsFor}
 use Rattle.aom_run.specs.declared.machine.Machine.{Machine}
 use Rattle.aom_debug.specs.Runs.{after}
 use Rattle.aom_debug_words.specs.declared.command.Command.{Command}
-use Rattle.aom_debug_words.specs.declared.command.Command.TheVariants.{Step, Turn, Go, Break, Unbreak, Breaks, Clock, Help, Cells, Owners, Cleanup, Actives, Recent}
+use Rattle.aom_debug_words.specs.declared.command.Command.TheVariants.{Step, Next, Finish, Turn, Go, Until, Break, Unbreak, Breaks, Clock, Frames, Help, Cells, Owners, Cleanup, Actives, Recent}
 use Rattle.aom_debug_words.specs.declared.fault.DebugFault.{DebugFault}
 use Rattle.aom_debug_words.specs.declared.fault.DebugFault.TheVariants.{Ended, NoSuch, WriteFault}
 use Rattle.aom_debug.specs.Courses.{Courses, way_of}
 use Rattle.aom_debug_words.specs.Marks.{has_spot, is_set, with_spot, without_spot}
 use Rattle.aom_debug_words.specs.declared.spot.Spot.{Spot}
-use Rattle.aom_debug.specs.Commands.{NamesNone, is_count, moved_text}
+use Rattle.aom_debug.specs.Commands.{NamesNone, is_count, moved_text, spot_named}
 use Rattle.aom_debug.specs.Movers.{outside_of}
-use Rattle.aom_debug.specs.Debugging.{Answer, CountsNot, Declined, Goes, Looks, Marks, Outgoing, Sees, Steps, goes_of, has_ended, runs_of, steps_of, turns_of}
+use Rattle.aom_debug.specs.Debugging.{Answer, CountsNot, Declined, Goes, GoesNamed, Looks, Marks, NamesNot, Outgoing, Sees, Steps, Untils, goes_of, has_ended, overs_of, places_of, runs_of, steps_of, turns_of}
 use Rattle.aom_debug_moves.specs.declared.courses.Course.{Course}
+use Rattle.aom_debug_moves.specs.declared.over.Scope.TheVariants as scopes
 use Rattle.aom_debug_moves.specs.declared.courses.Course.TheVariants as ways
 use Rattle.aom_debug.specs.Obeying.{Obeys}
 use Rattle.aom_debug.specs.declared.debugger.Debugger.{Debugger}
@@ -79,14 +80,34 @@ module _ {X : Type 0} {B : X → Type 0} (old new : Debugger X B) (out : Outgoin
       let f = goes_done (ways.Steps n) y.1 s stands in
       (f.0, f.1, (y.0, f.2), f.3, f.4)
 
+  -- what is not answered where the numbers name none is answered where they name one
+  named : (method place : Number) (answer : Answer) → (NamesNot old new out answer → ⊥) → Untils method place old new out answer
+      → (spot : Spot) × (spot_named old.mover.machine.core.image method place ≡ Some spot) × Goes (places_of spot) old new out answer
+  named method place answer not x = go (spot_named old.mover.machine.core.image method place) refl x
+    where
+      go : (o : Option Spot) → spot_named old.mover.machine.core.image method place ≡ o → GoesNamed o old new out answer
+          → (spot : Spot) × (spot_named old.mover.machine.core.image method place ≡ Some spot) × Goes (places_of spot) old new out answer
+      go (Some spot) is y = (spot, is, y)
+      go None is y = absurd (not y)
+
+  until_done : (method place : Number) → Obeys (Until method place) old new out (Ok tt) → Done (λ a text b. Does old.mover.machine.core.image (outside_of old.mover) (Until method place) a text b)
+  until_done method place x s stands =
+      let y = named method place (Ok tt) (λ z. z) x in
+      let f = goes_done (ways.Place y.0) y.2 s stands in
+      (f.0, f.1, (y.0, y.1, f.2), f.3, f.4)
+
   pub is_done : (command : Command) → Obeys command old new out (Ok tt) → Done (λ a text b. Does old.mover.machine.core.image (outside_of old.mover) command a text b)
   is_done (Step n) x = steps_done n x
+  is_done Next x = goes_done (ways.Over scopes.Step) x
+  is_done Finish x = goes_done (ways.Over scopes.Method) x
   is_done Turn x = goes_done ways.EndOfDispatch x
   is_done Go x = goes_done ways.Breakpoint x
+  is_done (Until method place) x = until_done method place x
   is_done (Break method place) x = marks_done is_set with_spot method place x
   is_done (Unbreak method place) x = marks_done has_spot without_spot method place x
   is_done Breaks x = looks_done (Sees look.Breaks) x
   is_done Clock x = looks_done (Sees look.Clock) x
+  is_done Frames x = looks_done (Sees look.Frames) x
   is_done Help x = looks_done (Sees look.Help) x
   is_done Cells x = looks_done (Sees look.Cells) x
   is_done Owners x = looks_done (Sees look.Owners) x
@@ -102,12 +123,16 @@ module _ {X : Type 0} {B : X → Type 0} (old new : Debugger X B) (out : Outgoin
 
   pub still_well : (command : Command) → Obeys command old new out (Ok tt) → new.has_failed ≡ false
   still_well (Step n) x = well_goes (steps_of n) (counted n (Ok tt) (λ z. z) x).1
+  still_well Next x = well_goes (overs_of scopes.Step) x
+  still_well Finish x = well_goes (overs_of scopes.Method) x
   still_well Turn x = well_goes turns_of x
   still_well Go x = well_goes runs_of x
+  still_well (Until method place) x = let y = named method place (Ok tt) (λ z. z) x in well_goes (places_of y.0) y.2
   still_well (Break method place) x = ap (λ (d : Debugger X B). d.has_failed) x.3 ∙ well
   still_well (Unbreak method place) x = ap (λ (d : Debugger X B). d.has_failed) x.3 ∙ well
   still_well Breaks x = well_same x.1
   still_well Clock x = well_same x.1
+  still_well Frames x = well_same x.1
   still_well Help x = well_same x.1
   still_well Cells x = well_same x.1
   still_well Owners x = well_same x.1
@@ -142,6 +167,20 @@ module _ {X : Type 0} {B : X → Type 0} (old new : Debugger X B) (out : Outgoin
       go true is y = let r = goes_refused (steps_of n) fault other y in subst (λ f. Refused (Step n) f) (sym r.0) (r.1, (λ s stands. (is, r.2 s stands)))
       go false is y = counts_refused n is fault y
 
+  names_refused : (method place : Number) → spot_named old.mover.machine.core.image method place ≡ None → (fault : DebugFault) → NamesNot old new out (Err fault) → Refused (Until method place) fault
+  names_refused method place is NoSuch x = (x.1, (λ s stands. is))
+  names_refused method place is Ended x = absurd (not_both old.has_failed x.0 well)
+  names_refused method place is _ x = absurd x
+
+  until_refused : (method place : Number) (fault : DebugFault) → fault ≢ WriteFault → Obeys (Until method place) old new out (Err fault) → Refused (Until method place) fault
+  until_refused method place fault other x = go (spot_named old.mover.machine.core.image method place) refl x
+    where
+      go : (o : Option Spot) → spot_named old.mover.machine.core.image method place ≡ o → GoesNamed o old new out (Err fault) → Refused (Until method place) fault
+      go (Some spot) is y =
+          let r = goes_refused (places_of spot) fault other y in
+          subst (λ f. Refused (Until method place) f) (sym r.0) (r.1, (λ s stands. (ap is_some is, r.2 s stands)))
+      go None is y = names_refused method place is fault y
+
   -- a place that may not be marked so
   abbrev NoMark : (Spot → List Spot → Bool) → Number → Number → DebugFault → Type 0
   NoMark may method place fault = (fault ≡ NoSuch) × Declined old new out × NamesNone may old.mover.machine.core.image method place old.breakpoints
@@ -154,12 +193,16 @@ module _ {X : Type 0} {B : X → Type 0} (old new : Debugger X B) (out : Outgoin
 
   pub is_refused : (command : Command) (fault : DebugFault) → fault ≢ WriteFault → Obeys command old new out (Err fault) → Refused command fault
   is_refused (Step n) fault other x = steps_refused n fault other x
+  is_refused Next fault other x = let r = goes_refused (overs_of scopes.Step) fault other x in subst (λ f. Refused Next f) (sym r.0) (r.1, r.2)
+  is_refused Finish fault other x = let r = goes_refused (overs_of scopes.Method) fault other x in subst (λ f. Refused Finish f) (sym r.0) (r.1, r.2)
   is_refused Turn fault other x = let r = goes_refused turns_of fault other x in subst (λ f. Refused Turn f) (sym r.0) (r.1, r.2)
   is_refused Go fault other x = let r = goes_refused runs_of fault other x in subst (λ f. Refused Go f) (sym r.0) (r.1, r.2)
+  is_refused (Until method place) fault other x = until_refused method place fault other x
   is_refused (Break method place) fault other x = let r = marks_refused is_set with_spot method place fault other x in subst (λ f. Refused (Break method place) f) (sym r.0) (r.1, (λ s stands. r.2))
   is_refused (Unbreak method place) fault other x = let r = marks_refused has_spot without_spot method place fault other x in subst (λ f. Refused (Unbreak method place) f) (sym r.0) (r.1, (λ s stands. r.2))
   is_refused Breaks fault other x = absurd (looks_refused (Sees look.Breaks) fault other x)
   is_refused Clock fault other x = absurd (looks_refused (Sees look.Clock) fault other x)
+  is_refused Frames fault other x = absurd (looks_refused (Sees look.Frames) fault other x)
   is_refused Help fault other x = absurd (looks_refused (Sees look.Help) fault other x)
   is_refused Cells fault other x = absurd (looks_refused (Sees look.Cells) fault other x)
   is_refused Owners fault other x = absurd (looks_refused (Sees look.Owners) fault other x)
@@ -172,7 +215,7 @@ module _ {X : Type 0} {B : X → Type 0} (old new : Debugger X B) (out : Outgoin
   abbrev pub CutOff : Command → Type 0
   CutOff command = (out.failed ≡ true) × ((s : State) → StandsFor old.mover.machine s → (text : List ℕ) × Begins old.mover.machine.core.image (outside_of old.mover) (Ok (Some command)) (standing old s) text × ((sent : ℕ) × (out.now ≡ after out.before (take sent text))))
 
-  goes_cut : (command : Command) (leads : Debugger X B → Courses) → ((s : State) → is_ended (standing old s) ≡ false → MovesOn (Ok (Some command)) (standing old s)) → Goes leads old new out (Err WriteFault) → CutOff command
+  goes_cut : (command : Command) (leads : Debugger X B → Courses) → ((s : State) → is_ended (standing old s) ≡ false → MovesOn old.mover.machine.core.image (Ok (Some command)) (standing old s)) → Goes leads old new out (Err WriteFault) → CutOff command
   goes_cut command leads on x =
       let cut = x.1 in (
         cut.fails,
@@ -199,12 +242,16 @@ module _ {X : Type 0} {B : X → Type 0} (old new : Debugger X B) (out : Outgoin
 
   pub is_cut : (command : Command) → Obeys command old new out (Err WriteFault) → CutOff command
   is_cut (Step n) x = let y = counted n (Err WriteFault) (λ z. z) x in goes_cut (Step n) (steps_of n) (λ s ended. (y.0, ended)) y.1
+  is_cut Next x = goes_cut Next (overs_of scopes.Step) (λ s ended. ended) x
+  is_cut Finish x = goes_cut Finish (overs_of scopes.Method) (λ s ended. ended) x
   is_cut Turn x = goes_cut Turn turns_of (λ s ended. ended) x
   is_cut Go x = goes_cut Go runs_of (λ s ended. ended) x
+  is_cut (Until method place) x = let y = named method place (Err WriteFault) (λ z. z) x in goes_cut (Until method place) (places_of y.0) (λ s ended. (ap is_some y.1, ended)) y.2
   is_cut (Break method place) x = marks_cut (Break method place) is_set with_spot method place (λ a text b y. y) x
   is_cut (Unbreak method place) x = marks_cut (Unbreak method place) has_spot without_spot method place (λ a text b y. y) x
   is_cut Breaks x = looks_cut Breaks (Sees look.Breaks) (λ s text y. (refl, y)) x
   is_cut Clock x = looks_cut Clock (Sees look.Clock) (λ s text y. (refl, y)) x
+  is_cut Frames x = looks_cut Frames (Sees look.Frames) (λ s text y. (refl, y)) x
   is_cut Help x = looks_cut Help (Sees look.Help) (λ s text y. (refl, y)) x
   is_cut Cells x = looks_cut Cells (Sees look.Cells) (λ s text y. (refl, y)) x
   is_cut Owners x = looks_cut Owners (Sees look.Owners) (λ s text y. (refl, y)) x

@@ -14,6 +14,9 @@ use Rattle.aom_debug_words.specs.Help.{help_text}
 use Rattle.aom_debug_words.specs.declared.spot.Spot.{Spot}
 use Rattle.aom_debug_words.specs.Answers.{answer_text}
 use Rattle.aom_debug_moves.specs.Next.{next_of}
+use Rattle.aom_rules.specs.Typing.{Typing}
+use Rattle.aom_bounds.specs.Strongest.{IsStrongest}
+use Rattle.aom_debug_sights.specs.Frames.{frames_answers}
 use Rattle.aom_debug_sights.specs.Actives.{InOrderOfChoice, active_answers}
 use Rattle.aom_debug_sights.specs.Owners.{owners, owners_text}
 use Rattle.aom_debug_sights.specs.Sights.{breaks_answers, cells_answers, cleanup_answers, clock_text, recent_answers}
@@ -91,6 +94,10 @@ ShowsBreaks spots text = text ≡ answers_text (breaks_answers spots)
 
 abbrev pub ShowsClock : State → List ℕ → Type 0
 ShowsClock s text = text ≡ clock_text s
+
+-- the methods at hand, the outermost first, by the strongest typing
+abbrev pub ShowsFrames : Image → State → List ℕ → Type 0
+ShowsFrames p s text = (t : Typing) × IsStrongest p t × (text ≡ answers_text (frames_answers t s))
 
 -- all commands
 abbrev pub ShowsHelp : List ℕ → Type 0

@@ -16,12 +16,13 @@ use Rattle.aom_debug_words.specs.declared.answer.Answer.TheVariants.{Done}
 use Rattle.aom_debug_words.specs.Answers.{answer_text}
 use Rattle.aom_debug_moves.specs.Courses.{Courses, course_of}
 use Rattle.aom_debug_moves.specs.declared.courses.Course.{Course}
+use Rattle.aom_debug_moves.specs.declared.over.Scope.{Scope}
 use Rattle.aom_debug_moves.specs.declared.courses.Course.TheVariants as course
 use Rattle.aom_debug_sights.specs.Telling.{Tells, TellsPart}
-use Rattle.aom_debug.specs.Commands.{NamesNone, ShowsActives, ShowsBreaks, ShowsCells, ShowsCleanup, ShowsClock, ShowsHelp, ShowsOwners, ShowsRecent, is_count, moved_text, place_text, spot_named}
+use Rattle.aom_debug.specs.Commands.{NamesNone, ShowsActives, ShowsBreaks, ShowsCells, ShowsCleanup, ShowsClock, ShowsFrames, ShowsHelp, ShowsOwners, ShowsRecent, is_count, moved_text, place_text, spot_named}
 use Rattle.aom_debug.specs.declared.debugger.Debugger.{Debugger}
 use Rattle.aom_debug.specs.declared.looking.Look.{Look}
-use Rattle.aom_debug.specs.declared.looking.Look.TheVariants.{Cells as At_cells, Owners as At_owners, Cleanup as At_cleanup, Actives as At_actives, Recent as At_recent, Breaks as At_breaks, Clock as At_clock, Help as At_help}
+use Rattle.aom_debug.specs.declared.looking.Look.TheVariants.{Cells as At_cells, Owners as At_owners, Cleanup as At_cleanup, Actives as At_actives, Recent as At_recent, Breaks as At_breaks, Clock as At_clock, Frames as At_frames, Help as At_help}
 
 -- what a call answers
 abbrev pub Answer : Type 0
@@ -108,6 +109,30 @@ module _ {X : Type 0} {B : X → Type 0} where
   abbrev pub Runs : Debugger X B → Debugger X B → Outgoing → Answer → Type 0
   Runs old new out answer = Goes runs_of old new out answer
 
+  -- until that is over
+  abbrev pub overs_of : Scope → Debugger X B → Courses
+  overs_of scope = goes_of (course.Over scope)
+
+  abbrev pub GoesOver : Scope → Debugger X B → Debugger X B → Outgoing → Answer → Type 0
+  GoesOver scope old new out answer = Goes (overs_of scope) old new out answer
+
+  -- no place of the image
+  abbrev pub NamesNot : Debugger X B → Debugger X B → Outgoing → Answer → Type 0
+  NamesNot old new out (Err NoSuch) = (old.has_failed ≡ false) × Declined old new out
+  NamesNot old new out (Err Ended) = (old.has_failed ≡ true) × Declined old new out
+  NamesNot old new out answer = ⊥
+
+  -- to a place, if it is one
+  abbrev pub places_of : Spot → Debugger X B → Courses
+  places_of spot = goes_of (course.Place spot)
+
+  abbrev pub GoesNamed : Option Spot → Debugger X B → Debugger X B → Outgoing → Answer → Type 0
+  GoesNamed None old new out answer = NamesNot old new out answer
+  GoesNamed (Some spot) old new out answer = Goes (places_of spot) old new out answer
+
+  abbrev pub Untils : Number → Number → Debugger X B → Debugger X B → Outgoing → Answer → Type 0
+  Untils method place old new out answer = GoesNamed (spot_named old.mover.machine.core.image method place) old new out answer
+
   -- ---- a breakpoint
 
   -- where it may be set, or taken away, and what the breakpoints are then
@@ -156,6 +181,7 @@ module _ {X : Type 0} {B : X → Type 0} where
   Sees At_recent d s text = ShowsRecent d.mover.recent text
   Sees At_breaks d s text = ShowsBreaks d.breakpoints text
   Sees At_clock d s text = ShowsClock s text
+  Sees At_frames d s text = ShowsFrames d.mover.machine.core.image s text
   Sees At_help d s text = ShowsHelp text
 
   -- what each state shows that the machine stands for is out

@@ -1,23 +1,28 @@
 -- What each command asks of a debugger, and what a line of commands does.
 use Rattle.std.specs.Prelude.{◌≡◌, ℕ, List, Option, Some, None, Result, Ok, Err, true, false}
 use Rattle.aom_debug_words.specs.declared.command.Command.{Command}
-use Rattle.aom_debug_words.specs.declared.command.Command.TheVariants.{Step, Turn, Go, Break, Unbreak, Breaks, Clock, Help, Cells, Owners, Cleanup, Actives, Recent}
+use Rattle.aom_debug_words.specs.declared.command.Command.TheVariants.{Step, Next, Finish, Turn, Go, Until, Break, Unbreak, Breaks, Clock, Frames, Help, Cells, Owners, Cleanup, Actives, Recent}
 use Rattle.aom_debug_words.specs.declared.fault.DebugFault.{DebugFault}
 use Rattle.aom_debug_words.specs.declared.fault.DebugFault.TheVariants.{Ended}
-use Rattle.aom_debug.specs.Debugging.{Answer, Declined, Looks, Outgoing, Runs, Sees, Sets, Steps, Turns, Unsets}
+use Rattle.aom_debug.specs.Debugging.{Answer, Declined, GoesOver, Looks, Outgoing, Runs, Sees, Sets, Steps, Turns, Unsets, Untils}
 use Rattle.aom_debug.specs.declared.debugger.Debugger.{Debugger}
 use Rattle.aom_debug.specs.declared.looking.Look.TheVariants as look
+use Rattle.aom_debug_moves.specs.declared.over.Scope.TheVariants as scopes
 
 module _ {X : Type 0} {B : X → Type 0} where
   -- a command by its call
   abbrev pub Obeys : Command → Debugger X B → Debugger X B → Outgoing → Answer → Type 0
   Obeys (Step n) = Steps n
+  Obeys Next = GoesOver scopes.Step
+  Obeys Finish = GoesOver scopes.Method
   Obeys Turn = Turns
   Obeys Go = Runs
+  Obeys (Until method place) = Untils method place
   Obeys (Break method place) = Sets method place
   Obeys (Unbreak method place) = Unsets method place
   Obeys Breaks = Looks (Sees look.Breaks)
   Obeys Clock = Looks (Sees look.Clock)
+  Obeys Frames = Looks (Sees look.Frames)
   Obeys Help = Looks (Sees look.Help)
   Obeys Cells = Looks (Sees look.Cells)
   Obeys Owners = Looks (Sees look.Owners)

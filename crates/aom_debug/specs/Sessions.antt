@@ -9,15 +9,16 @@ use Rattle.aom_transcript.specs.declared.line.Line.{Line}
 use Rattle.aom_transcript.specs.Text.{ended}
 use Rattle.aom_debug_words.specs.Commands.{command_said}
 use Rattle.aom_debug_words.specs.declared.command.Command.{Command}
-use Rattle.aom_debug_words.specs.declared.command.Command.TheVariants.{Step, Turn, Go, Break, Unbreak, Breaks, Clock, Help, Cells, Owners, Cleanup, Actives, Recent}
+use Rattle.aom_debug_words.specs.declared.command.Command.TheVariants.{Step, Next, Finish, Turn, Go, Until, Break, Unbreak, Breaks, Clock, Frames, Help, Cells, Owners, Cleanup, Actives, Recent}
 use Rattle.aom_debug_words.specs.declared.fault.DebugFault.{DebugFault}
 use Rattle.aom_debug_words.specs.declared.fault.DebugFault.TheVariants as faults
 use Rattle.aom_debug_words.specs.Marks.{has_spot, is_set, with_spot, without_spot}
 use Rattle.aom_debug_words.specs.declared.spot.Spot.{Spot}
 use Rattle.aom_debug_words.specs.declared.answer.Answer.TheVariants.{Done, Fault}
 use Rattle.aom_debug_words.specs.Answers.{answer_text}
-use Rattle.aom_debug.specs.Courses.{Courses, GoesBy, GoesToBreakpoint, ToLimit, TurnsOver}
-use Rattle.aom_debug.specs.Commands.{NamesNoMark, NamesNoRoom, ShowsActives, ShowsBreaks, ShowsCells, ShowsCleanup, ShowsClock, ShowsHelp, ShowsOwners, ShowsRecent, is_count, moved_text, spot_named}
+use Rattle.aom_debug.specs.Courses.{Courses, GoesBy, GoesOver, GoesToBreakpoint, GoesToPlace, ToLimit, TurnsOver}
+use Rattle.aom_debug_moves.specs.declared.over.Scope.TheVariants as scopes
+use Rattle.aom_debug.specs.Commands.{NamesNoMark, NamesNoRoom, ShowsActives, ShowsBreaks, ShowsCells, ShowsCleanup, ShowsClock, ShowsFrames, ShowsHelp, ShowsOwners, ShowsRecent, is_count, moved_text, spot_named}
 
 -- where a session stands: at a state, with these breakpoints, and these were the latest instructions
 pub record SessionState : Type 0 where
@@ -38,6 +39,10 @@ Shown shows a text b = (b ≡ a) × shows text
 abbrev pub Goes : Image → Outside → Courses → SessionState → List ℕ → SessionState → Type 0
 Goes p outside leads a text b = (has_ended a ≡ false) × (lines : List Line) × ToLimit p outside leads a.recent b.recent a.state lines b.state × (b.spots ≡ a.spots) × (text ≡ moved_text p lines b.state)
 
+-- it goes on to the place that two numbers name
+abbrev pub GoesUntil : Image → Outside → Number → Number → SessionState → List ℕ → SessionState → Type 0
+GoesUntil p outside method place a text b = (spot : Spot) × (spot_named p method place ≡ Some spot) × Goes p outside (GoesToPlace p outside spot a.spots) a text b
+
 -- the breakpoints are others, where the place may be marked so
 abbrev pub Marks : (Spot → List Spot → Bool) → (Spot → List Spot → List Spot) → Image → Number → Number → SessionState → List ℕ → SessionState → Type 0
 Marks may marked p method place a text b = (spot : Spot) × (spot_named p method place ≡ Some spot) × (may spot a.spots ≡ true) × (b ≡ record a { spots = marked spot a.spots }) × (text ≡ ended (answer_text Done))
@@ -53,12 +58,16 @@ Unsets = Marks has_spot without_spot
 -- a command that is done
 abbrev pub Does : Image → Outside → Command → SessionState → List ℕ → SessionState → Type 0
 Does p outside (Step n) a text b = (is_count n ≡ true) × Goes p outside (GoesBy p outside n) a text b
+Does p outside Next a text b = Goes p outside (GoesOver p outside scopes.Step a.spots) a text b
+Does p outside Finish a text b = Goes p outside (GoesOver p outside scopes.Method a.spots) a text b
 Does p outside Turn a text b = Goes p outside (TurnsOver p outside) a text b
 Does p outside Go a text b = Goes p outside (GoesToBreakpoint p outside a.spots) a text b
+Does p outside (Until method place) a text b = GoesUntil p outside method place a text b
 Does p outside (Break method place) a text b = Sets p method place a text b
 Does p outside (Unbreak method place) a text b = Unsets p method place a text b
 Does p outside Breaks a text b = Shown (λ t. ShowsBreaks a.spots t) a text b
 Does p outside Clock a text b = Shown (λ t. ShowsClock a.state t) a text b
+Does p outside Frames a text b = Shown (λ t. ShowsFrames p a.state t) a text b
 Does p outside Help a text b = Shown (λ t. ShowsHelp t) a text b
 Does p outside Cells a text b = Shown (λ t. ShowsCells p a.state t) a text b
 Does p outside Owners a text b = Shown (λ t. ShowsOwners a.state t) a text b
@@ -70,8 +79,12 @@ Does p outside Recent a text b = Shown (λ t. ShowsRecent a.recent t) a text b
 abbrev pub Refuses : Image → Command → SessionState → DebugFault → Type 0
 Refuses p (Step n) a faults.BadCommand = is_count n ≡ false
 Refuses p (Step n) a faults.Ended = (is_count n ≡ true) × (has_ended a ≡ true)
+Refuses p Next a faults.Ended = has_ended a ≡ true
+Refuses p Finish a faults.Ended = has_ended a ≡ true
 Refuses p Turn a faults.Ended = has_ended a ≡ true
 Refuses p Go a faults.Ended = has_ended a ≡ true
+Refuses p (Until method place) a faults.NoSuch = spot_named p method place ≡ None
+Refuses p (Until method place) a faults.Ended = (is_some (spot_named p method place) ≡ true) × (has_ended a ≡ true)
 Refuses p (Break method place) a faults.NoSuch = NamesNoRoom p method place a.spots
 Refuses p (Unbreak method place) a faults.NoSuch = NamesNoMark p method place a.spots
 Refuses p command a fault = ⊥
@@ -97,15 +110,18 @@ pub data Session (p : Image) (outside : Outside) (a : SessionState) : List (List
   heeds : {lines : List (List ℕ)} {told : List ℕ} {b c : SessionState} (line text : List ℕ) → Session p outside a lines told b → Heeds p outside (command_said line) b text c → Session p outside a (lines ++ line ∷ []) (told ++ text) c
 
 -- a command that goes on, and may
-abbrev pub MovesOn : Result (Option Command) DebugFault → SessionState → Type 0
-MovesOn (Ok (Some (Step n))) a = (is_count n ≡ true) × (has_ended a ≡ false)
-MovesOn (Ok (Some Turn)) a = has_ended a ≡ false
-MovesOn (Ok (Some Go)) a = has_ended a ≡ false
-MovesOn said a = ⊥
+abbrev pub MovesOn : Image → Result (Option Command) DebugFault → SessionState → Type 0
+MovesOn p (Ok (Some (Step n))) a = (is_count n ≡ true) × (has_ended a ≡ false)
+MovesOn p (Ok (Some Next)) a = has_ended a ≡ false
+MovesOn p (Ok (Some Finish)) a = has_ended a ≡ false
+MovesOn p (Ok (Some Turn)) a = has_ended a ≡ false
+MovesOn p (Ok (Some Go)) a = has_ended a ≡ false
+MovesOn p (Ok (Some (Until method place))) a = (is_some (spot_named p method place) ≡ true) × (has_ended a ≡ false)
+MovesOn p said a = ⊥
 
 -- what the next line tells is cut: of moves it is a beginning of what would be told of a run
 abbrev pub Begins : Image → Outside → Result (Option Command) DebugFault → SessionState → List ℕ → Type 0
-Begins p outside said a text = ((b : SessionState) × Heeds p outside said a text b) ⊎ (MovesOn said a × (lines : List Line) × (u : State) × Reaches p outside a.state lines u × (text ≡ moved_text p lines u))
+Begins p outside said a text = ((b : SessionState) × Heeds p outside said a text b) ⊎ (MovesOn p said a × (lines : List Line) × (u : State) × Reaches p outside a.state lines u × (text ≡ moved_text p lines u))
 
 -- ---- the lines of what has come
 

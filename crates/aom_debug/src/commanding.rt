@@ -6,7 +6,7 @@ ghost use Rattle.aom_debug_moves.specs.Movers.{IsReady, Keeps};
 ghost use Rattle.aom_debug.specs.Obeying.{Heeds, Obeys};
 
 use crate::{Debugger, Look};
-use aom_debug_moves::Sink;
+use aom_debug_moves::{Scope, Sink};
 use aom_debug_words::{Command, DebugFault, read_command};
 use aom_natives::Native;
 
@@ -39,8 +39,11 @@ impl<'a> Debugger<'a> {
     {
         match command {
             Command::Step(steps) => self.step(steps, out),
+            Command::Next => self.over(Scope::Step, out),
+            Command::Finish => self.over(Scope::Method, out),
             Command::Turn => self.turn(out),
             Command::Go => self.go(out),
+            Command::Until(method, place) => self.until(method, place, out),
             Command::Break(method, place) => self.break_at(method, place, out),
             Command::Unbreak(method, place) => self.unbreak_at(method, place, out),
             Command::Cells => self.look(Look::Cells, out),
@@ -50,6 +53,7 @@ impl<'a> Debugger<'a> {
             Command::Recent => self.look(Look::Recent, out),
             Command::Breaks => self.look(Look::Breaks, out),
             Command::Clock => self.look(Look::Clock, out),
+            Command::Frames => self.look(Look::Frames, out),
             Command::Help => self.look(Look::Help, out),
         }
     }

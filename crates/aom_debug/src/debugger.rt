@@ -101,7 +101,7 @@ impl<'a> Debugger<'a> {
     }
 
     /// Goes on so far, and tells where that has led.
-    fn go_by<W: Sink>(&mut self, course: Course, out: &mut W) -> Result<(), DebugFault>
+    pub(crate) fn go_by<W: Sink>(&mut self, course: Course, out: &mut W) -> Result<(), DebugFault>
         requires agree { AllAgree (λ l. l.ids) (λ l. (⟦<dyn Native as Native>⟧ l.native.vtable).owed l.native.value) self.old.mover.machine.natives.slots.items }
         requires ready { IsReady self.old.mover }
         ensures agree { AllAgree (λ l. l.ids) (λ l. (⟦<dyn Native as Native>⟧ l.native.vtable).owed l.native.value) self.new.mover.machine.natives.slots.items }

@@ -17,10 +17,11 @@ mod debugger;
 mod debugging;
 mod looking;
 mod marking;
+mod onward;
 mod showing;
 mod unbreaking;
 
-pub use aom_debug_moves::{Mover, Sink};
+pub use aom_debug_moves::{Mover, Scope, Sink};
 pub use aom_debug_sights::tell;
 pub use aom_reader::Reader;
 pub use debugger::Debugger;

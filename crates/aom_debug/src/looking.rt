@@ -5,7 +5,7 @@ ghost use Rattle.aom_debug_moves.specs.Movers.{IsReady, Keeps};
 ghost use Rattle.aom_debug.specs.Debugging.{Looks, Seen, SeenPart, Sees};
 
 use crate::Debugger;
-use crate::showing::{show_cells, show_owners};
+use crate::showing::{show_cells, show_frames, show_owners};
 use aom_debug_moves::Sink;
 use aom_debug_sights::{send, tell_actives, tell_breaks, tell_cleanup, tell_clock, tell_recent};
 use aom_debug_words::{DebugFault, help_text};
@@ -28,6 +28,8 @@ pub enum Look {
     Breaks,
     /// The time.
     Clock,
+    /// The methods at hand, the outermost first.
+    Frames,
     /// The commands.
     Help,
 }
@@ -46,6 +48,7 @@ impl<'a> Debugger<'a> {
             Look::Recent => tell_recent(&self.mover.recent, out),
             Look::Breaks => tell_breaks(&self.breakpoints, out),
             Look::Clock => tell_clock(self.mover.machine.core.parts(), out),
+            Look::Frames => show_frames(&self.mover.machine, out),
             Look::Help => send(help_text(), out),
         }
     }

@@ -2,13 +2,17 @@
 ghost use Rattle.std.specs.Prelude.{◌≡◌, IfErr, IfOk};
 ghost use Rattle.aom_cells.specs.Heap.{count};
 ghost use Rattle.aom_debug_moves.specs.Calls.{Stands};
+ghost use Rattle.aom_parts.specs.Stands.{Stands as CoreStands};
+ghost use Rattle.aom_bounds.specs.Strongest.{IsStrongest};
+ghost use Rattle.aom_rules.specs.Typing.{Typing};
+ghost use Rattle.aom_debug_sights.specs.Frames.{frames_answers};
 ghost use Rattle.aom_debug_sights.specs.Owners.{owners, owners_text};
 ghost use Rattle.aom_debug_sights.specs.Sights.{cells_answers};
 ghost use Rattle.aom_debug_sights.specs.Telling.{Tells, TellsPart, answers_text};
 ghost use Rattle.aom_debug.specs.Commands.{end_by, place_text};
 
 use aom_debug_moves::{Machine, Progress, Sink, next_of};
-use aom_debug_sights::{send, tell, tell_cells, tell_owners};
+use aom_debug_sights::{send, tell, tell_cells, tell_frames, tell_owners};
 use aom_debug_words::DebugFault;
 use aom_transcript::Page;
 
@@ -37,6 +41,15 @@ pub fn show_owners<W: Sink>(machine: &Machine, out: &mut W) -> Result<(), DebugF
     ensures err { IfErr result (λ fault. TellsPart machine.now.core (λ s. owners_text (owners s)) fault (W.failed out.new) (W.out out.old) (W.out out.new)) }
 {
     tell_owners(machine.core.parts(), machine.core.accepted(), out)
+}
+
+/// Writes the methods at hand.
+pub fn show_frames<W: Sink>(machine: &Machine, out: &mut W) -> Result<(), DebugFault>
+    ensures stands { CoreStands machine.now.core }
+    ensures ok { IfOk result (λ _. (t : Typing) → IsStrongest machine.now.core.image t → Tells machine.now.core (λ s. answers_text (frames_answers t s)) (W.out out.old) (W.out out.new)) }
+    ensures err { IfErr result (λ fault. (t : Typing) → IsStrongest machine.now.core.image t → TellsPart machine.now.core (λ s. answers_text (frames_answers t s)) fault (W.failed out.new) (W.out out.old) (W.out out.new)) }
+{
+    tell_frames(machine.core.parts(), machine.core.accepted(), out)
 }
 
 /// Writes the run's last line where it is over, and then the step that is next.

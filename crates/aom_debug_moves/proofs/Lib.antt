@@ -4,6 +4,7 @@ pub mod Sending
 pub mod Strides
 pub mod Going
 pub mod Turning
+pub mod Scopes
 pub mod Passing
 pub mod Limits
 pub mod Leaving

@@ -23,7 +23,7 @@ use Rattle.aom_debug_moves.specs.Moves.{Arrives, Strides, TurnsOnce, stays as no
 use Rattle.aom_debug_moves.proofs.Keeping.{heard_as}
 use Rattle.aom_debug_moves.proofs.Sending.{breaks_then, moving_stride, reaches_arrived, sent_both}
 use Rattle.aom_debug_moves.specs.Courses.{Courses, GoesOn, HasBegun, InDispatch, IsOver, IsThere, Passes, Rests, Walks, WalksIfAny, WalksOn, WalksThere, stays_at}
-use Rattle.aom_debug_moves.specs.declared.walking.Until.TheVariants.{Breakpoint}
+use Rattle.aom_debug_moves.specs.declared.walking.Until.{Until}
 use Rattle.aom_debug_moves.specs.Courses.Passes.{begins as passes_none, strides as passes_more}
 use Rattle.aom_debug_moves.specs.Courses.Walks.{begins as walks_none, strides as walks_more}
 use Rattle.aom_debug_moves.proofs.Going.{cut_run, is_over, run_of}
@@ -174,10 +174,10 @@ module _ {X : Type 0} {B : X → Type 0} (p : Image) (outside : Outside) (stays 
 
 -- ---- by what a loop of dispatches keeps
 
-module _ {X : Type 0} {B : X → Type 0} (a m n : Mover X B) (keeps : Keeps a m) (marks : List Spot) (here out : Option (List ℕ)) where
-  -- a dispatch from one state to another, up to a breakpoint
+module _ {X : Type 0} {B : X → Type 0} (a m n : Mover X B) (keeps : Keeps a m) (until : Until) (marks : List Spot) (here out : Option (List ℕ)) where
+  -- a dispatch from one state to another, up to a place to stay
   abbrev Passed : Image → Outside → Type 0
-  Passed q outside = Sends (InDispatch q outside (WalksOn q outside.refused (λ (s : State). stays_at q Breakpoint marks s)) m.recent n.recent) m.machine here out n.machine
+  Passed q outside = Sends (InDispatch q outside (WalksOn q outside.refused (λ (s : State). stays_at q until marks s)) m.recent n.recent) m.machine here out n.machine
 
   pub passed : Passed m.machine.core.image (outside_of m) → Passed a.machine.core.image (outside_of a)
   passed = heard_as keeps Passed

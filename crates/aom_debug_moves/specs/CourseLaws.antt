@@ -5,8 +5,9 @@ use Rattle.aom_sound.specs.State.{State}
 use Rattle.aom_sound.specs.World.{Outside, Reaches}
 use Rattle.aom_transcript.specs.declared.line.Line.{Line}
 use Rattle.aom_debug_words.specs.declared.spot.Spot.{Spot}
-use Rattle.aom_debug_moves.specs.Courses.{Courses, GoesBy, GoesOn, TurnsOver, course_of}
+use Rattle.aom_debug_moves.specs.Courses.{Courses, GoesBy, GoesOn, GoesOver, TurnsOver, course_of}
 use Rattle.aom_debug_moves.specs.declared.courses.Course.{Course}
+use Rattle.aom_debug_moves.specs.declared.over.Scope.{Scope}
 
 -- what leads so is a run, with the same lines
 abbrev pub AreRuns : Image → Outside → Courses → Type 0
@@ -20,6 +21,9 @@ TurnsRun = (p : Image) (outside : Outside) → AreRuns p outside (TurnsOver p ou
 
 abbrev pub GoingRuns : Type 0
 GoingRuns = (p : Image) (outside : Outside) (stays : State → Bool) → AreRuns p outside (GoesOn p outside stays)
+
+abbrev pub OverRuns : Type 0
+OverRuns = (p : Image) (outside : Outside) (scope : Scope) (spots : List Spot) → AreRuns p outside (GoesOver p outside scope spots)
 
 -- and so is each course, with which the run may end by its limit
 abbrev pub CoursesRun : Type 0

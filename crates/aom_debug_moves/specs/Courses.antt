@@ -1,5 +1,5 @@
 -- How far a debugger goes on, and what the latest instructions are before and after.
-use Rattle.std.specs.Prelude.{◌≡◌, ◌≢◌, ◌⊎◌, ◌<◌, ℕ, suc, Bool, true, false, List, [], ◌++◌, Option, Some, None, is_some}
+use Rattle.std.specs.Prelude.{◌≡◌, ◌≢◌, ◌⊎◌, ◌<◌, ℕ, suc, Bool, true, false, ◌||◌, nat_le, List, [], ◌++◌, length, Option, Some, None, is_some}
 use Rattle.aom_image.specs.Image.{Image}
 use Rattle.aom_sound.specs.State.{State}
 use Rattle.aom_sound.specs.World.{Outside}
@@ -7,15 +7,17 @@ use Rattle.aom_transcript.specs.declared.line.Line.{Line}
 use Rattle.aom_parts.specs.declared.progress.Progress.TheVariants.{Running}
 use Rattle.aom_parts.specs.Progress.{progress_of}
 use Rattle.aom_exec.specs.Steps.{IsAtHand}
-use Rattle.aom_debug_words.specs.Marks.{has_spot}
+use Rattle.aom_debug_words.specs.Marks.{has_spot, same_spot}
 use Rattle.aom_debug_words.specs.declared.spot.Spot.{Spot}
 use Rattle.aom_debug_moves.specs.Next.{next_of, root_is_due, spot_of}
 use Rattle.aom_debug_moves.specs.Moves.{Arrives, EndsByLimit, Strides, is_at_limit}
 use Rattle.aom_debug_moves.specs.Sends.{Leads, Then, Where}
+use Rattle.aom_debug_moves.specs.Over.{depth_of}
+use Rattle.aom_debug_moves.specs.declared.over.Scope.{Scope}
 use Rattle.aom_debug_moves.specs.declared.courses.Course.{Course}
 use Rattle.aom_debug_moves.specs.declared.courses.Course.TheVariants as course
 use Rattle.aom_debug_moves.specs.declared.walking.Until.{Until}
-use Rattle.aom_debug_moves.specs.declared.walking.Until.TheVariants.{EndOfDispatch, Breakpoint}
+use Rattle.aom_debug_moves.specs.declared.walking.Until.TheVariants.{EndOfDispatch, Breakpoint, Depth, Place}
 
 -- what leads from a state to another, as the latest instructions are these before and after
 abbrev pub Courses : Type 1
@@ -28,10 +30,17 @@ abbrev pub is_broken : List Spot → Option Spot → Bool
 is_broken spots None = false
 is_broken spots (Some spot) = has_spot spot spots
 
+-- that instruction is next
+abbrev pub is_next : Spot → Option Spot → Bool
+is_next spot None = false
+is_next spot (Some next) = same_spot next spot
+
 -- a place to stay, where something is at hand
 abbrev pub stays_at : Image → Until → List Spot → State → Bool
 stays_at p EndOfDispatch spots s = root_is_due p s
 stays_at p Breakpoint spots s = is_broken spots (spot_of (next_of p s))
+stays_at p (Depth n) spots s = nat_le (length s.tasks) n || is_broken spots (spot_of (next_of p s))
+stays_at p (Place spot) spots s = is_next spot (spot_of (next_of p s)) || is_broken spots (spot_of (next_of p s))
 
 -- the run is over
 abbrev pub IsOver : State → Type 0
@@ -77,6 +86,15 @@ InDispatch p outside leads old new = Then (Arrives p outside) (λ s lines u. (Is
 abbrev pub TurnsOver : Image → Outside → Courses
 TurnsOver p outside = InDispatch p outside (WalksThere p outside.refused (λ s. root_is_due p s))
 
+-- ---- until something is over
+
+-- one step at least, until no more tasks are at hand than may be where it is over, or an instruction with a breakpoint is next
+abbrev pub WalksOver : Image → List ℕ → Scope → List Spot → Courses
+WalksOver p refused scope spots old new s = WalksThere p refused (λ v. stays_at p (Depth (depth_of scope s.tasks)) spots v) old new s
+
+abbrev pub GoesOver : Image → Outside → Scope → List Spot → Courses
+GoesOver p outside scope spots = InDispatch p outside (WalksOver p outside.refused scope spots)
+
 -- ---- so many steps
 
 -- each after the turns that come before it
@@ -107,12 +125,18 @@ GoesOn p outside stays old new s lines u = (n : ℕ) × Then (λ a ls b. Passes 
 abbrev pub GoesToBreakpoint : Image → Outside → List Spot → Courses
 GoesToBreakpoint p outside spots = GoesOn p outside (λ s. stays_at p Breakpoint spots s)
 
+-- and until that place is next
+abbrev pub GoesToPlace : Image → Outside → Spot → List Spot → Courses
+GoesToPlace p outside spot spots = GoesOn p outside (λ s. stays_at p (Place spot) spots s)
+
 -- ---- each course that a debugger is asked for
 
 abbrev pub way_of : Image → Outside → List Spot → Course → Courses
 way_of p outside spots (course.Steps n) = GoesBy p outside n
 way_of p outside spots course.EndOfDispatch = TurnsOver p outside
 way_of p outside spots course.Breakpoint = GoesToBreakpoint p outside spots
+way_of p outside spots (course.Over scope) = GoesOver p outside scope spots
+way_of p outside spots (course.Place spot) = GoesToPlace p outside spot spots
 
 -- where it ends with the dispatch that reaches the limit, the run ends with that too
 abbrev pub ToLimit : Image → Outside → Courses → Courses

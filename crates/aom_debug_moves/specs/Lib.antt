@@ -3,6 +3,7 @@ pub mod Movers
 pub mod Moves
 pub mod Sends
 pub mod Laws
+pub mod Over
 pub mod Courses
 pub mod CourseLaws
 -- what is said of the machine and of its runs, for those who say it of a debugger

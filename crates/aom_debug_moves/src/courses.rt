@@ -1,20 +1,20 @@
-//! So many steps, the end of a dispatch, and the next breakpoint.
+//! So many steps, the end of a dispatch, the end of a step or a method, and the next breakpoint or place.
 ghost use Rattle.aom_natives.specs.Slots.{AllAgree};
 ghost use Rattle.aom_sound.specs.World.{Reaches};
 ghost use Rattle.aom_debug_moves.specs.Movers.{IsReady, Keeps, Went, outside_of};
-ghost use Rattle.aom_debug_moves.specs.Courses.{GoesBy, GoesToBreakpoint, InDispatch, TurnsOver, WalksOn, course_of, stays_at, way_of};
-ghost use Rattle.aom_debug_moves.specs.declared.walking.Until.TheVariants.{Breakpoint};
+ghost use Rattle.aom_debug_moves.specs.Courses.{GoesBy, GoesOn, InDispatch, TurnsOver, WalksOn, course_of, stays_at, way_of};
 
 use crate::limit::cut_at_limit;
+use crate::over::go_over;
 use crate::walking::{Until, is_idle, is_there, walk, walk_unless};
-use crate::{Mover, arrive, stride};
-use aom_debug_words::Breakpoints;
+use crate::{Mover, Scope, arrive, stride};
+use aom_debug_words::{Breakpoints, Spot};
 use aom_exec::Progress;
 use aom_natives::Native;
 use aom_run::Sink;
 
 /// How far a debugger goes on, if the run does not end before.
-#[derive(Clone, Copy, PartialEq, Eq)]
+#[derive(Clone, Copy)]
 pub enum Course {
     /// By so many steps.
     Steps(u32),
@@ -22,6 +22,10 @@ pub enum Course {
     EndOfDispatch,
     /// Until an instruction with a breakpoint is next, but for where it begins.
     Breakpoint,
+    /// Until that is over, or an instruction with a breakpoint is next.
+    Over(Scope),
+    /// Until that instruction is next, or one with a breakpoint, but for where it begins.
+    Place(Spot),
 }
 
 /// So many steps, or to the end of the run.
@@ -58,39 +62,49 @@ fn go_turn<W: Sink>(mover: &mut Mover, breakpoints: &Breakpoints, out: &mut W) -
     }
 }
 
-/// To the next dispatch, and on in it unless its first instruction has a breakpoint.
-fn pass<W: Sink>(mover: &mut Mover, breakpoints: &Breakpoints, out: &mut W) -> Option<Progress>
+/// To the next dispatch, and on in it unless its first instruction is a place to stay.
+fn pass<W: Sink>(
+    mover: &mut Mover,
+    until: Until,
+    breakpoints: &Breakpoints,
+    out: &mut W,
+) -> Option<Progress>
     requires agree { AllAgree (λ l. l.ids) (λ l. (⟦<dyn Native as Native>⟧ l.native.vtable).owed l.native.value) mover.old.machine.natives.slots.items }
     requires ready { IsReady mover.old }
     ensures agree { AllAgree (λ l. l.ids) (λ l. (⟦<dyn Native as Native>⟧ l.native.vtable).owed l.native.value) mover.new.machine.natives.slots.items }
     ensures keeps { Keeps mover.old mover.new }
-    ensures went { Went (InDispatch mover.old.machine.core.image (outside_of mover.old) (WalksOn mover.old.machine.core.image mover.old.turn.refused (λ s. stays_at mover.old.machine.core.image Breakpoint breakpoints.now s)) mover.old.recent mover.new.recent) (Reaches mover.old.machine.core.image (outside_of mover.old)) mover.old (W.out out.old) (W.out out.new) (W.failed out.new) result mover.new }
+    ensures went { Went (InDispatch mover.old.machine.core.image (outside_of mover.old) (WalksOn mover.old.machine.core.image mover.old.turn.refused (λ s. stays_at mover.old.machine.core.image until breakpoints.now s)) mover.old.recent mover.new.recent) (Reaches mover.old.machine.core.image (outside_of mover.old)) mover.old (W.out out.old) (W.out out.new) (W.failed out.new) result mover.new }
 {
     match arrive(mover, out)? {
         Progress::Running => {
-            let rests = is_there(&mover.machine, Until::Breakpoint, breakpoints);
-            walk_unless(rests, mover, Until::Breakpoint, breakpoints, out)
+            let rests = is_there(&mover.machine, until, breakpoints);
+            walk_unless(rests, mover, until, breakpoints, out)
         }
         other => Some(other),
     }
 }
 
-/// Until an instruction with a breakpoint is next, but for where it begins, or to the end of the run.
-fn go_on<W: Sink>(mover: &mut Mover, breakpoints: &Breakpoints, out: &mut W) -> Option<Progress>
+/// Until a place to stay, but for where it begins, or to the end of the run.
+fn go_on<W: Sink>(
+    mover: &mut Mover,
+    until: Until,
+    breakpoints: &Breakpoints,
+    out: &mut W,
+) -> Option<Progress>
     requires agree { AllAgree (λ l. l.ids) (λ l. (⟦<dyn Native as Native>⟧ l.native.vtable).owed l.native.value) mover.old.machine.natives.slots.items }
     requires ready { IsReady mover.old }
     ensures agree { AllAgree (λ l. l.ids) (λ l. (⟦<dyn Native as Native>⟧ l.native.vtable).owed l.native.value) mover.new.machine.natives.slots.items }
     ensures keeps { Keeps mover.old mover.new }
-    ensures went { Went (GoesToBreakpoint mover.old.machine.core.image (outside_of mover.old) breakpoints.now mover.old.recent mover.new.recent) (Reaches mover.old.machine.core.image (outside_of mover.old)) mover.old (W.out out.old) (W.out out.new) (W.failed out.new) result mover.new }
+    ensures went { Went (GoesOn mover.old.machine.core.image (outside_of mover.old) (λ s. stays_at mover.old.machine.core.image until breakpoints.now s) mover.old.recent mover.new.recent) (Reaches mover.old.machine.core.image (outside_of mover.old)) mover.old (W.out out.old) (W.out out.new) (W.failed out.new) result mover.new }
 {
     let rests = is_idle(&mover.machine);
-    let mut progress = walk_unless(rests, mover, Until::Breakpoint, breakpoints, out)?;
+    let mut progress = walk_unless(rests, mover, until, breakpoints, out)?;
     loop {
         match progress {
             Progress::Turned => {}
             other => return Some(other),
         }
-        progress = pass(mover, breakpoints, out)?;
+        progress = pass(mover, until, breakpoints, out)?;
     }
 }
 
@@ -110,7 +124,9 @@ fn follow<W: Sink>(
     match course {
         Course::Steps(steps) => go_steps(mover, steps, out),
         Course::EndOfDispatch => go_turn(mover, breakpoints, out),
-        Course::Breakpoint => go_on(mover, breakpoints, out),
+        Course::Breakpoint => go_on(mover, Until::Breakpoint, breakpoints, out),
+        Course::Over(scope) => go_over(mover, scope, breakpoints, out),
+        Course::Place(spot) => go_on(mover, Until::Place(spot), breakpoints, out),
     }
 }
 

@@ -1,5 +1,5 @@
 //! That a debugger's moves are those of a run.
-ghost use Rattle.aom_debug_moves.specs.CourseLaws.{CoursesRun, GoingRuns, StepsRun, TurnsRun};
+ghost use Rattle.aom_debug_moves.specs.CourseLaws.{CoursesRun, GoingRuns, OverRuns, StepsRun, TurnsRun};
 ghost use Rattle.aom_debug_moves.specs.Laws.{ArrivesRun, StridesMove};
 
 /// However a debugger goes on, that is a run, with the same lines; so one that goes on by commands tells what a run tells.
@@ -7,6 +7,7 @@ pub fn courses_are_a_run()
     ensures steps { StepsRun }
     ensures turns { TurnsRun }
     ensures goes { GoingRuns }
+    ensures over { OverRuns }
     ensures courses { CoursesRun }
 {}
 

@@ -6,9 +6,9 @@
 //! stands for, and that their lines are out (`Sends` of `specs/Sends.antt`, with `Strides` and `Arrives` of `specs/Moves.antt`), or a
 //! beginning of the lines of some moves where the sink failed (`Breaks`).
 //!
-//! `go` goes by these moves one after another: by so many steps, to the end of a dispatch, or to a breakpoint. It promises of each
-//! course how many steps were made, where they end and that nowhere before was a place to stay (`GoesBy`, `TurnsOver` and
-//! `GoesToBreakpoint` of `specs/Courses.antt`); that the run ends with the dispatch that reaches its limit (`ToLimit`); that the lines
+//! `go` goes by these moves one after another: by so many steps, to the end of a dispatch, until a step or a method is over, or to a
+//! place. It promises of each course how many steps were made, where they end and that nowhere before was a place to stay (`GoesBy`,
+//! `TurnsOver`, `GoesOver`, `GoesToBreakpoint` and `GoesToPlace` of `specs/Courses.antt`); that the run ends with the dispatch that reaches its limit (`ToLimit`); that the lines
 //! that went out are those of these moves, or a beginning of the lines of a run where the sink failed; and that just the instructions
 //! that were made are noted, after the latest that were there.
 //!
@@ -25,6 +25,7 @@ mod laws;
 mod limit;
 mod mover;
 mod next;
+mod over;
 mod stepping;
 mod walking;
 
@@ -36,5 +37,6 @@ pub use ends::{is_due, pauses};
 pub use laws::{courses_are_a_run, moves_are_a_run};
 pub use mover::Mover;
 pub use next::{next_of, spot_at};
+pub use over::Scope;
 pub use stepping::stride;
 pub use walking::{Until, walk};

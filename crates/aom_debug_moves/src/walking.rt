@@ -10,17 +10,22 @@ ghost use Rattle.aom_debug_moves.specs.Next.{next_of, root_is_due, spot_of};
 ghost use Rattle.aom_debug_moves.specs.Movers.{IsReady, Keeps, Went};
 ghost use Rattle.aom_debug_moves.specs.Courses.{WalksThere, WalksUnless, is_broken, stays_at};
 
+use crate::over::{is_next, is_up};
 use crate::{Mover, is_due, spot_at, stride};
-use aom_debug_words::Breakpoints;
+use aom_debug_words::{Breakpoints, Spot};
 use aom_exec::Progress;
 use aom_natives::Native;
 use aom_run::{Machine, Sink};
 
 /// Where steps end, if not before.
-#[derive(Clone, Copy, PartialEq, Eq)]
+#[derive(Clone, Copy)]
 pub enum Until {
     EndOfDispatch,
     Breakpoint,
+    /// No more tasks are at hand, or an instruction with a breakpoint is next.
+    Depth(usize),
+    /// That instruction is next, or one with a breakpoint.
+    Place(Spot),
 }
 
 /// Whether the root's destruction is due.
@@ -49,6 +54,8 @@ pub fn is_there(machine: &Machine, until: Until, breakpoints: &Breakpoints) -> b
     match until {
         Until::EndOfDispatch => ends_all(machine),
         Until::Breakpoint => is_broken(machine, breakpoints),
+        Until::Depth(depth) => is_up(machine, depth) || is_broken(machine, breakpoints),
+        Until::Place(spot) => is_next(machine, spot) || is_broken(machine, breakpoints),
     }
 }
 

@@ -9,3 +9,5 @@ pub mod Tasks
 pub mod Registers
 pub mod Sums
 pub mod Once
+pub mod Words
+pub mod Contents

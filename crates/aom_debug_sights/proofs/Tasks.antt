@@ -89,10 +89,10 @@ register_over o i = read_over (λ t. register_of t i) null o
 pub register_there : (ms : List Held_task) (k i : ℕ) → register_in ms k i ≡ register_over (over ms k) i
 register_there ms k i = read_there (λ t. register_of t i) null (λ ts. register_in ts k i) k refl (λ t ts. refl) ms
 
-abbrev word_over : Option Task → ℕ → Option ℤ
+abbrev pub word_over : Option Task → ℕ → Option ℤ
 word_over o i = read_over (λ u. word_of u i) None o
 
-word_there : (us : List Task) (k i : ℕ) → word_in us k i ≡ word_over (over us k) i
+pub word_there : (us : List Task) (k i : ℕ) → word_in us k i ≡ word_over (over us k) i
 word_there us k i = read_there (λ u. word_of u i) None (λ ts. word_in ts k i) k refl (λ u ts. refl) us
 
 abbrev pub going_over : Option Held_task → ℕ
@@ -115,7 +115,7 @@ module _ (p : Image) (m : Parts) where
   abbrev M : Machine
   M = record { image = p; parts = m }
 
-  same_over : (s : State) → StandsFor M s → (k : ℕ) → SameOver (over tasks k) (over s.tasks k)
+  pub same_over : (s : State) → StandsFor M s → (k : ℕ) → SameOver (over tasks k) (over s.tasks k)
   same_over s st k = both_over k tasks s.tasks st.agrees.tasks
 
   pub as_many_tasks : (s : State) → StandsFor M s → length tasks ≡ length s.tasks

@@ -57,7 +57,7 @@ way_begins outer t is = is ∙ sym (append-nil (outer_text outer))
 
 -- ---- what a place holds
 
-thing_is : (t : Thing) (class : ℕ) → class_in t ≡ Some class → t ≡ An_object_of class
+pub thing_is : (t : Thing) (class : ℕ) → class_in t ≡ Some class → t ≡ An_object_of class
 thing_is (An_object_of c) class is = ap (λ k. An_object_of k) (same_Some c class is)
 thing_is Message class is = absurd (none-some class is)
 
@@ -175,7 +175,7 @@ module _ (p : Image) (m : Parts) where
   sent_client slot (Discarded d) client is = (record { client = d; holds_slot = slot; is_told = false }, refl, same_Some d client is)
 
   -- so a number that no cell has, and that a sender has, is that of a place that holds a message of that name
-  message_found : (n client : ℕ) (r : Place) (s : State) → StandsFor M s → Shows M n r → class_at m.cells n ≡ None → sender_at m.clients n ≡ Some client →
+  pub message_found : (n client : ℕ) (r : Place) (s : State) → StandsFor M s → Shows M n r → class_at m.cells n ≡ None → sender_at m.clients n ≡ Some client →
       (o : Object) × (held s.cells r ≡ Some o) × (o.thing ≡ Message) × (sd : Sender) × ((service_of s.cells o.name).sender ≡ Some sd) × (sd.client ≡ client)
   message_found n client r s st shows none is =
       let at = at_place n client is in
@@ -206,7 +206,7 @@ module _ (p : Image) (m : Parts) where
       ∙ ap (λ (u : List ℕ). ended (u ++ codes " " ++ (codes "msg " ++ decimal client))) (sym is)
 
   -- a number that neither has is that of a place that holds nothing
-  none_sends : (n : ℕ) (r : Place) → (Lives m.cells n → ⊥) → sender_at m.clients n ≡ None → Shows M n r → ShowsNone M r
+  pub none_sends : (n : ℕ) (r : Place) → (Lives m.cells n → ⊥) → sender_at m.clients n ≡ None → Shows M n r → ShowsNone M r
   none_sends n r none unsent shows = record { each = λ s st. go s st (held s.cells r) refl (shows.each s st) }
     where
       placed : (s : State) → StandsFor M s → (o : Object) → named s.cells o.name ≡ Some o → o.thing ≡ Message → n ≡ o.name → ⊥

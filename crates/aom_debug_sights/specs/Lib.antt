@@ -3,3 +3,4 @@ pub mod Sights
 pub mod Actives
 pub mod Owners
 pub mod Laws
+pub mod Frames

@@ -1,5 +1,5 @@
 //! What a debugger tells of a machine without moving it: its cells and who owns them, its cleanup stack, its active objects, the
-//! time, the breakpoints and the latest instructions.
+//! methods at hand, the time, the breakpoints and the latest instructions.
 //!
 //! Each call takes the machine's parts by `&` and writes lines to a `Sink`. It promises that what went out is the text of the lines that
 //! its definition says of each state that the machine stands for (`Tells` of `specs/Telling.antt`, with `specs/Sights.antt` and
@@ -13,6 +13,7 @@ mod breaks;
 mod cells;
 mod cleanup;
 mod clock;
+mod frames;
 mod laws;
 mod owners;
 mod recent;
@@ -25,6 +26,7 @@ pub use breaks::tell_breaks;
 pub use cells::tell_cells;
 pub use cleanup::tell_cleanup;
 pub use clock::tell_clock;
+pub use frames::tell_frames;
 pub use laws::{order_of_choice_is_one, owners_are_told_once};
 pub use owners::tell_owners;
 pub use recent::tell_recent;

@@ -93,7 +93,7 @@ fn frame_in(task: &Task) -> Option<Frame>
 }
 
 /// The frame at a depth, if one stands there.
-fn frame_at(parts: &Parts, depth: usize) -> Option<Frame>
+pub(crate) fn frame_at(parts: &Parts, depth: usize) -> Option<Frame>
     ensures { result ≡ frame_over (over parts.now.stack.tasks depth) }
 {
     match parts.stack.task(depth) {

@@ -52,7 +52,7 @@ fn tell_sent<W: Sink>(way: &mut Way, client: u8, out: &mut W) -> Result<(), Debu
 }
 
 /// The client that sent the message of that number, if there is one. The numbers of messages are those past the numbers of cells.
-fn sender_at(parts: &Parts, number: u32) -> Option<u8>
+pub(crate) fn sender_at(parts: &Parts, number: u32) -> Option<u8>
     requires { (p : Image) × Stands (record { image = p; parts = parts.now }) }
     ensures { result ≡ sender_at parts.now.clients number }
 {

@@ -5,8 +5,10 @@ use Rattle.aom_debug_words.specs.Faults.{number_of}
 use Rattle.aom_debug_words.specs.declared.spot.Spot.{Spot}
 use Rattle.aom_debug_words.specs.declared.answer.Phase.{Phase}
 use Rattle.aom_debug_words.specs.declared.answer.Phase.TheVariants as phases
+use Rattle.aom_debug_words.specs.declared.answer.Content.{Content}
+use Rattle.aom_debug_words.specs.declared.answer.Content.TheVariants as contents
 use Rattle.aom_debug_words.specs.declared.answer.Answer.{Answer}
-use Rattle.aom_debug_words.specs.declared.answer.Answer.TheVariants.{Done, Fault, At, Gone, Between, Ended, Cells, OfClass, Trap, Object, Operation, Active, Server, Clock, Break, Ran}
+use Rattle.aom_debug_words.specs.declared.answer.Answer.TheVariants.{Done, Fault, At, Gone, Between, Ended, Cells, OfClass, Trap, Object, Operation, Active, Server, Clock, Break, Frame, Register, Loop, Ran}
 
 -- two numbers, parted by a space
 abbrev pub numbers_text : ℕ → ℕ → List ℕ
@@ -28,6 +30,16 @@ active_text class priority phase status = decimal class ++ codes " " ++ signed_d
 abbrev pub server_text : ℕ → ℤ → ℕ → List ℕ
 server_text class priority queued = decimal class ++ codes " " ++ signed_decimal priority ++ codes " server " ++ decimal queued
 
+-- with a space before it
+abbrev pub content_text : Content → List ℕ
+content_text (contents.Word word) = codes " word " ++ signed_decimal word
+content_text (contents.Own class) = codes " own " ++ decimal class
+content_text contents.Null = codes " null"
+content_text (contents.Message client) = codes " msg " ++ decimal client
+
+abbrev pub register_text : ℕ → Content → List ℕ
+register_text i content = codes "r" ++ decimal i ++ content_text content
+
 -- an answer, without its line feed
 abbrev pub answer_text : Answer → List ℕ
 answer_text Done = codes "ok"
@@ -45,4 +57,7 @@ answer_text (Active class priority phase status) = active_text class priority ph
 answer_text (Server class priority queued) = server_text class priority queued
 answer_text (Clock time) = codes "clock " ++ decimal time
 answer_text (Break spot) = codes "break " ++ spot_text spot
+answer_text (Frame spot) = spot_text spot
+answer_text (Register i content) = register_text i content
+answer_text (Loop i rounds) = codes "loop " ++ numbers_text i rounds
 answer_text (Ran spot) = spot_text spot

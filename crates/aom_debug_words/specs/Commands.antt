@@ -5,7 +5,7 @@ use Rattle.aom_text.specs.Words.{words}
 use Rattle.aom_text.specs.Numbers.{number_of, number_within}
 use Rattle.aom_text.specs.declared.number.Number.{Number}
 use Rattle.aom_debug_words.specs.declared.command.Command.{Command}
-use Rattle.aom_debug_words.specs.declared.command.Command.TheVariants.{Step, Turn, Go, Break, Unbreak, Breaks, Clock, Help, Cells, Owners, Cleanup, Actives, Recent}
+use Rattle.aom_debug_words.specs.declared.command.Command.TheVariants.{Step, Next, Finish, Turn, Go, Until, Break, Unbreak, Breaks, Clock, Frames, Help, Cells, Owners, Cleanup, Actives, Recent}
 use Rattle.aom_debug_words.specs.declared.fault.DebugFault.{DebugFault}
 use Rattle.aom_debug_words.specs.declared.fault.DebugFault.TheVariants.{BadCommand}
 
@@ -13,10 +13,13 @@ use Rattle.aom_debug_words.specs.declared.fault.DebugFault.TheVariants.{BadComma
 
 abbrev pub named : List ℕ → Option Command
 named name =
-    if bytes_eq name (codes "turn") then Some Turn
+    if bytes_eq name (codes "next") then Some Next
+    else if bytes_eq name (codes "finish") then Some Finish
+    else if bytes_eq name (codes "turn") then Some Turn
     else if bytes_eq name (codes "go") then Some Go
     else if bytes_eq name (codes "breaks") then Some Breaks
     else if bytes_eq name (codes "clock") then Some Clock
+    else if bytes_eq name (codes "frames") then Some Frames
     else if bytes_eq name (codes "help") then Some Help
     else if bytes_eq name (codes "cells") then Some Cells
     else if bytes_eq name (codes "owners") then Some Owners
@@ -58,6 +61,15 @@ abbrev pub unbreak_says : List (List ℕ) → Option Command
 unbreak_says (method ∷ place ∷ []) = unbreaks_at (number_of method) (number_of place)
 unbreak_says _ = None
 
+-- and so where to go
+abbrev pub until_at : Option Number → Option Number → Option Command
+until_at (Some method) (Some place) = Some (Until method place)
+until_at _ _ = None
+
+abbrev pub until_says : List (List ℕ) → Option Command
+until_says (method ∷ place ∷ []) = until_at (number_of method) (number_of place)
+until_says _ = None
+
 -- ---- lines
 
 abbrev pub words_say : List ℕ → List (List ℕ) → Option Command
@@ -65,6 +77,7 @@ words_say name others =
     if bytes_eq name (codes "step") then step_says others
     else if bytes_eq name (codes "break") then break_says others
     else if bytes_eq name (codes "unbreak") then unbreak_says others
+    else if bytes_eq name (codes "until") then until_says others
     else alone name others
 
 -- a command, or none that there is

@@ -10,7 +10,10 @@ help_line command does = ended (command ++ codes ": " ++ does)
 abbrev pub help_on : List ℕ
 help_on =
     help_line (codes "step N") (codes "on by N steps, from 1 to 1000000")
-    ++ (help_line (codes "turn") (codes "on to the end of the dispatch") ++ help_line (codes "go") (codes "on to a breakpoint"))
+    ++ (help_line (codes "next") (codes "on over what is next, with all that it calls")
+    ++ (help_line (codes "finish") (codes "on to the end of the method")
+    ++ (help_line (codes "turn") (codes "on to the end of the dispatch")
+    ++ (help_line (codes "go") (codes "on to a breakpoint") ++ help_line (codes "until METHOD PLACE") (codes "on to that place")))))
 
 -- those that set breakpoints
 abbrev pub help_marks : List ℕ
@@ -25,8 +28,9 @@ help_looks =
     ++ (help_line (codes "owners") (codes "who owns what")
     ++ (help_line (codes "cleanup") (codes "the cleanup stack")
     ++ (help_line (codes "actives") (codes "who waits for what")
+    ++ (help_line (codes "frames") (codes "the methods at hand")
     ++ (help_line (codes "recent") (codes "the latest instructions")
-    ++ (help_line (codes "clock") (codes "the time") ++ help_line (codes "help") (codes "all commands"))))))
+    ++ (help_line (codes "clock") (codes "the time") ++ help_line (codes "help") (codes "all commands")))))))
 
 -- all commands, each on a line
 abbrev pub help_text : List ℕ

@@ -10,6 +10,17 @@ pub enum Phase {
     Active,
 }
 
+/// What a register has.
+#[derive(Clone, Copy)]
+pub enum Content {
+    Word(i32),
+    /// An object of a class.
+    Own(u16),
+    Null,
+    /// A message of a client.
+    Message(u8),
+}
+
 /// A line that a debugger answers.
 #[derive(Clone, Copy)]
 pub enum Answer {
@@ -40,6 +51,12 @@ pub enum Answer {
     Clock(u64),
     /// Where a breakpoint is, as the command that sets it.
     Break(Spot),
+    /// Where a method at hand stands.
+    Frame(Spot),
+    /// What a register of it has.
+    Register(u8, Content),
+    /// How many rounds are left of a loop of it.
+    Loop(u8, u16),
     /// An instruction that ran.
     Ran(Spot),
 }

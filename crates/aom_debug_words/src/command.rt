@@ -1,7 +1,7 @@
 //! What a line of commands says.
 ghost use Rattle.std.specs.Prelude.{◌≡◌};
 ghost use Rattle.aom_text.specs.Numbers.{number_of};
-ghost use Rattle.aom_debug_words.specs.Commands.{break_says, breaks_at, command_said, known, line_says, named, step_says, steps_by, unbreak_says, unbreaks_at, words_say};
+ghost use Rattle.aom_debug_words.specs.Commands.{break_says, breaks_at, command_said, known, line_says, named, step_says, steps_by, unbreak_says, unbreaks_at, until_at, until_says, words_say};
 
 use crate::DebugFault;
 use aom_text::{Number, Words};
@@ -14,10 +14,16 @@ const MOST_BYTES: usize = 256;
 pub enum Command {
     /// So many steps, from 1 to 1,000,000.
     Step(u32),
+    /// Until the step that is next is over, with all that it calls, traps or destroys.
+    Next,
+    /// To the end of the innermost method at hand.
+    Finish,
     /// To the end of the dispatch at hand, or of the next.
     Turn,
     /// Until an instruction with a breakpoint is next, or to the end.
     Go,
+    /// Until the place of a method is next, which may be none.
+    Until(Number, Number),
     /// A breakpoint at the place of a method, which may be none.
     Break(Number, Number),
     /// No breakpoint there any more.
@@ -25,6 +31,8 @@ pub enum Command {
     /// Where the breakpoints are.
     Breaks,
     Clock,
+    /// The methods at hand.
+    Frames,
     /// The commands that there are.
     Help,
     Cells,
@@ -74,6 +82,8 @@ fn read_words(name: &[u8], words: Words) -> Option<Command>
         read_break(words)
     } else if name == b"unbreak".as_slice() {
         read_unbreak(words)
+    } else if name == b"until".as_slice() {
+        read_until(words)
     } else if words.is_empty() {
         command_named(name)
     } else {
@@ -85,7 +95,11 @@ fn read_words(name: &[u8], words: Words) -> Option<Command>
 fn command_named(name: &[u8]) -> Option<Command>
     ensures { result ≡ named name.now }
 {
-    if name == b"turn".as_slice() {
+    if name == b"next".as_slice() {
+        Some(Command::Next)
+    } else if name == b"finish".as_slice() {
+        Some(Command::Finish)
+    } else if name == b"turn".as_slice() {
         Some(Command::Turn)
     } else if name == b"go".as_slice() {
         Some(Command::Go)
@@ -93,6 +107,8 @@ fn command_named(name: &[u8]) -> Option<Command>
         Some(Command::Breaks)
     } else if name == b"clock".as_slice() {
         Some(Command::Clock)
+    } else if name == b"frames".as_slice() {
+        Some(Command::Frames)
     } else if name == b"help".as_slice() {
         Some(Command::Help)
     } else if name == b"cells".as_slice() {
@@ -157,6 +173,24 @@ fn unbreak_at(method: &[u8], place: &[u8]) -> Option<Command>
 {
     match (Number::of(method), Number::of(place)) {
         (Some(method), Some(place)) => Some(Command::Unbreak(method, place)),
+        _ => None,
+    }
+}
+
+fn read_until(mut words: Words) -> Option<Command>
+    ensures { result ≡ until_says words.entry }
+{
+    match (words.next(), words.next()) {
+        (Some(method), Some(place)) if words.is_empty() => until_at(method, place),
+        _ => None,
+    }
+}
+
+fn until_at(method: &[u8], place: &[u8]) -> Option<Command>
+    ensures { result ≡ until_at (number_of method.now) (number_of place.now) }
+{
+    match (Number::of(method), Number::of(place)) {
+        (Some(method), Some(place)) => Some(Command::Until(method, place)),
         _ => None,
     }
 }

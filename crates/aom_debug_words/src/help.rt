@@ -7,8 +7,11 @@ pub fn help_text() -> &'static [u8]
     ensures { result.now ≡ help_text }
 {
     b"step N: on by N steps, from 1 to 1000000
+next: on over what is next, with all that it calls
+finish: on to the end of the method
 turn: on to the end of the dispatch
 go: on to a breakpoint
+until METHOD PLACE: on to that place
 break METHOD PLACE: a breakpoint there
 unbreak METHOD PLACE: no breakpoint there
 breaks: all breakpoints
@@ -16,6 +19,7 @@ cells: how many objects live
 owners: who owns what
 cleanup: the cleanup stack
 actives: who waits for what
+frames: the methods at hand
 recent: the latest instructions
 clock: the time
 help: all commands

@@ -2,9 +2,9 @@
 ghost use Rattle.std.specs.Prelude.{◌≡◌, ◌+◌, ◌≤◌, [], ◌++◌, length, decimal, codes};
 ghost use Rattle.std.specs.Fmt.{signed_decimal};
 ghost use Rattle.aom_transcript.specs.Text.{ended};
-ghost use Rattle.aom_debug_words.specs.Answers.{active_text, answer_text, numbers_text, phase_text, server_text, spot_text};
+ghost use Rattle.aom_debug_words.specs.Answers.{active_text, answer_text, content_text, numbers_text, phase_text, register_text, server_text, spot_text};
 
-use crate::{Answer, Phase, Spot};
+use crate::{Answer, Content, Phase, Spot};
 use aom_buffers::Text;
 
 /// No answer's line is longer.
@@ -45,6 +45,9 @@ fn add_answer(line: &mut AnswerLine, answer: Answer)
         Answer::Server(class, priority, queued) => add_server(line, class, priority, queued),
         Answer::Clock(time) => line.add_count(b"clock ", time),
         Answer::Break(spot) => add_break(line, spot),
+        Answer::Frame(spot) => add_two(line, spot.method, spot.place),
+        Answer::Register(register, content) => add_register(line, register, content),
+        Answer::Loop(number, rounds) => add_loop(line, number, rounds),
         Answer::Ran(spot) => add_two(line, spot.method, spot.place),
     }
 }
@@ -65,6 +68,37 @@ fn add_break(line: &mut AnswerLine, spot: Spot)
 {
     line.add_count(b"break ", spot.method);
     line.add_count(b" ", spot.place);
+}
+
+fn add_register(line: &mut AnswerLine, register: u8, content: Content)
+    requires { line.old ≡ [] }
+    ensures text { line.new ≡ register_text register content }
+    ensures short { length line.new ≤ 40 }
+{
+    line.add_count(b"r", register);
+    add_content(line, content);
+}
+
+fn add_content(line: &mut AnswerLine, content: Content)
+    requires { length line.old ≤ 22 }
+    ensures text { line.new ≡ line.old ++ content_text content }
+    ensures short { length line.new ≤ length line.old + 18 }
+{
+    match content {
+        Content::Word(word) => line.add_count(b" word ", word),
+        Content::Own(class) => line.add_count(b" own ", class),
+        Content::Null => line.add(b" null"),
+        Content::Message(client) => line.add_count(b" msg ", client),
+    }
+}
+
+fn add_loop(line: &mut AnswerLine, number: u8, rounds: u16)
+    requires { line.old ≡ [] }
+    ensures text { line.new ≡ codes "loop " ++ numbers_text number rounds }
+    ensures short { length line.new ≤ 36 }
+{
+    line.add_count(b"loop ", number);
+    line.add_count(b" ", rounds);
 }
 
 fn add_operation(line: &mut AnswerLine, method: u16, word: i32)

@@ -44,3 +44,33 @@ go_on-requires-clause-agree g c = c.requires.agree
 
 pub go_on-requires-clause-ready : goal.go_on-requires-clause-ready
 go_on-requires-clause-ready g c = c.requires.ready
+
+pub returns-in-Over-clause-went : goal.returns-in-Over-clause-went
+returns-in-Over-clause-went g c = rw c.in-Over.is c.go_over.ensures.went
+
+pub returns-in-Place-clause-went : goal.returns-in-Place-clause-went
+returns-in-Place-clause-went g c = rw c.in-Place.is c.go_on-in-Place.ensures.went
+
+pub returns-in-Over-clause-agree : goal.returns-in-Over-clause-agree
+returns-in-Over-clause-agree g c = c.go_over.ensures.agree
+
+pub returns-in-Over-clause-keeps : goal.returns-in-Over-clause-keeps
+returns-in-Over-clause-keeps g c = c.go_over.ensures.keeps
+
+pub returns-in-Place-clause-agree : goal.returns-in-Place-clause-agree
+returns-in-Place-clause-agree g c = c.go_on-in-Place.ensures.agree
+
+pub returns-in-Place-clause-keeps : goal.returns-in-Place-clause-keeps
+returns-in-Place-clause-keeps g c = c.go_on-in-Place.ensures.keeps
+
+pub go_over-requires-clause-agree : goal.go_over-requires-clause-agree
+go_over-requires-clause-agree g c = c.requires.agree
+
+pub go_over-requires-clause-ready : goal.go_over-requires-clause-ready
+go_over-requires-clause-ready g c = c.requires.ready
+
+pub go_on-requires-in-Place-clause-agree : goal.go_on-requires-in-Place-clause-agree
+go_on-requires-in-Place-clause-agree g c = c.requires.agree
+
+pub go_on-requires-in-Place-clause-ready : goal.go_on-requires-in-Place-clause-ready
+go_on-requires-in-Place-clause-ready g c = c.requires.ready

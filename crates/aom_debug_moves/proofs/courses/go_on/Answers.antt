@@ -7,7 +7,6 @@ use Rattle.aom_debug_moves.specs.Sends.{Breaks}
 use Rattle.aom_debug_moves.proofs.Keeping.{heard_as, keeps_on}
 use Rattle.aom_debug_moves.proofs.Sending.{nearer, to_go}
 use Rattle.aom_debug_moves.specs.Courses.{stays_at}
-use Rattle.aom_debug_moves.specs.declared.walking.Until.TheVariants.{Breakpoint}
 use Rattle.aom_debug_moves.proofs.Going.{cut_run}
 use Rattle.aom_debug_moves.proofs.Leaving.{left_falls, left_in}
 use Rattle.aom_debug_moves.proofs.Passing.{begins_far, far_cut, goes_far, passed, went_on}
@@ -19,7 +18,7 @@ loop-progress-init g c =
     let a = c.args.mover.now in
     let p = a.machine.core.image in
     let m = c.walk_unless.new.mover in
-    let stays = λ (s : State). stays_at p Breakpoint c.args.breakpoints.now s in
+    let stays = λ (s : State). stays_at p c.args.until c.args.breakpoints.now s in
     let before = g.W.Sink.out c.args.out.now in
     let out = g.W.Sink.out c.walk_unless.new.out in
     let walks = walked_if_any p a.turn.refused stays a.recent m.recent a.machine m.machine before out c.is_idle-rests.result c.is_idle-rests.ensures.rests c.in_ok-progress.ensures.went.0 in
@@ -35,7 +34,7 @@ returns-in_default-clause-went g c =
     let a = c.args.mover.now in
     let p = a.machine.core.image in
     let m = c.loop-progress.mover in
-    let stays = λ (s : State). stays_at p Breakpoint c.args.breakpoints.now s in
+    let stays = λ (s : State). stays_at p c.args.until c.args.breakpoints.now s in
     let i = c.loop-progress.invariant in
     (went_on p (outside_of a) stays a.recent m.recent a.machine m.machine (g.W.Sink.out c.args.out.now) (g.W.Sink.out c.loop-progress.out) (λ is. c.in_default.not-Turned (i.far ∙ is)) i.so_far, i.far)
 
@@ -49,7 +48,7 @@ pub returns-in_err-progress-2-clause-went : goal.returns-in_err-progress-2-claus
 returns-in_err-progress-2-clause-went g c =
     let a = c.args.mover.now in
     let p = a.machine.core.image in
-    let stays = λ (s : State). stays_at p Breakpoint c.args.breakpoints.now s in
+    let stays = λ (s : State). stays_at p c.args.until c.args.breakpoints.now s in
     let i = c.loop-progress.invariant in
     let m = c.loop-progress.mover in
     let n = c.pass.new.mover in
@@ -66,7 +65,7 @@ loop-progress-smaller g c =
     let m = c.loop-progress.mover in
     let n = c.pass.new.mover in
     let some = c.in_ok-progress-2.ensures.went in
-    let on = passed a m n keeps c.args.breakpoints.now _ _ some.0 in
+    let on = passed a m n keeps c.args.until c.args.breakpoints.now _ _ some.0 in
     let resting = sym c.loop-progress.invariant.far ∙ c.in-Turned.is in
     let later = left_in a.script.timed a.limit n.machine.core.parts.rest in
     let before = left_in a.script.timed a.limit m.machine.core.parts.rest in
@@ -81,9 +80,9 @@ loop-progress-preserved g c =
     let i = c.loop-progress.invariant in
     let m = c.loop-progress.mover in
     let n = c.pass.new.mover in
-    let stays = λ (s : State). stays_at p Breakpoint c.args.breakpoints.now s in
+    let stays = λ (s : State). stays_at p c.args.until c.args.breakpoints.now s in
     let some = c.in_ok-progress-2.ensures.went in
-    let on = passed a m n i.keeps c.args.breakpoints.now _ _ some.0 in
+    let on = passed a m n i.keeps c.args.until c.args.breakpoints.now _ _ some.0 in
     record {
       so_far = goes_far p (outside_of a) stays a.recent m.recent a.machine m.machine n.machine _ _ _ i.so_far n.recent on;
       far = some.1;

@@ -1,4 +1,4 @@
-use Rattle.aom_debug_moves.proofs.Runs.{reaches_by, reaches_course, reaches_on, reaches_over}
+use Rattle.aom_debug_moves.proofs.Runs.{reaches_by, reaches_course, reaches_on, reaches_over, reaches_step_over}
 use Rattle.aom_debug_moves.proofs.laws.courses_are_a_run.Goals as goal
 
 pub returns-clause-steps : goal.returns-clause-steps
@@ -12,3 +12,6 @@ returns-clause-goes c = reaches_on
 
 pub returns-clause-courses : goal.returns-clause-courses
 returns-clause-courses c = reaches_course
+
+pub returns-clause-over : goal.returns-clause-over
+returns-clause-over c = reaches_step_over

@@ -195,3 +195,63 @@ returns-in-Unbreak-clause-keeps g c = c.unbreak_at.ensures.keeps
 
 pub returns-in-Unbreak-clause-answer : goal.returns-in-Unbreak-clause-answer
 returns-in-Unbreak-clause-answer g c = rw c.in-Unbreak.is c.unbreak_at.ensures.answer
+
+pub over-requires-clause-agree : goal.over-requires-clause-agree
+over-requires-clause-agree g c = c.requires.agree
+
+pub over-requires-clause-ready : goal.over-requires-clause-ready
+over-requires-clause-ready g c = c.requires.ready
+
+pub returns-in-Next-clause-agree : goal.returns-in-Next-clause-agree
+returns-in-Next-clause-agree g c = c.over.ensures.agree
+
+pub returns-in-Next-clause-keeps : goal.returns-in-Next-clause-keeps
+returns-in-Next-clause-keeps g c = c.over.ensures.keeps
+
+pub returns-in-Next-clause-answer : goal.returns-in-Next-clause-answer
+returns-in-Next-clause-answer g c = rw c.in-Next.is c.over.ensures.answer
+
+pub over-requires-in-Finish-clause-agree : goal.over-requires-in-Finish-clause-agree
+over-requires-in-Finish-clause-agree g c = c.requires.agree
+
+pub over-requires-in-Finish-clause-ready : goal.over-requires-in-Finish-clause-ready
+over-requires-in-Finish-clause-ready g c = c.requires.ready
+
+pub returns-in-Finish-clause-agree : goal.returns-in-Finish-clause-agree
+returns-in-Finish-clause-agree g c = c.over-in-Finish.ensures.agree
+
+pub returns-in-Finish-clause-keeps : goal.returns-in-Finish-clause-keeps
+returns-in-Finish-clause-keeps g c = c.over-in-Finish.ensures.keeps
+
+pub returns-in-Finish-clause-answer : goal.returns-in-Finish-clause-answer
+returns-in-Finish-clause-answer g c = rw c.in-Finish.is c.over-in-Finish.ensures.answer
+
+pub until-requires-clause-agree : goal.until-requires-clause-agree
+until-requires-clause-agree g c = c.requires.agree
+
+pub until-requires-clause-ready : goal.until-requires-clause-ready
+until-requires-clause-ready g c = c.requires.ready
+
+pub returns-in-Until-clause-agree : goal.returns-in-Until-clause-agree
+returns-in-Until-clause-agree g c = c.until.ensures.agree
+
+pub returns-in-Until-clause-keeps : goal.returns-in-Until-clause-keeps
+returns-in-Until-clause-keeps g c = c.until.ensures.keeps
+
+pub returns-in-Until-clause-answer : goal.returns-in-Until-clause-answer
+returns-in-Until-clause-answer g c = rw c.in-Until.is c.until.ensures.answer
+
+pub look-requires-in-Frames-clause-agree : goal.look-requires-in-Frames-clause-agree
+look-requires-in-Frames-clause-agree g c = c.requires.agree
+
+pub look-requires-in-Frames-clause-ready : goal.look-requires-in-Frames-clause-ready
+look-requires-in-Frames-clause-ready g c = c.requires.ready
+
+pub returns-in-Frames-clause-agree : goal.returns-in-Frames-clause-agree
+returns-in-Frames-clause-agree g c = c.look-in-Frames.ensures.agree
+
+pub returns-in-Frames-clause-keeps : goal.returns-in-Frames-clause-keeps
+returns-in-Frames-clause-keeps g c = c.look-in-Frames.ensures.keeps
+
+pub returns-in-Frames-clause-answer : goal.returns-in-Frames-clause-answer
+returns-in-Frames-clause-answer g c = rw c.in-Frames.is c.look-in-Frames.ensures.answer

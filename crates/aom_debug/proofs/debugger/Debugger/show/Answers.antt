@@ -62,3 +62,20 @@ returns-in-Help-clause-ok g c = rw c.in-Help.is (IfOk-weaker c.send.result _ _ (
 
 pub returns-in-Help-clause-err : goal.returns-in-Help-clause-err
 returns-in-Help-clause-err g c = rw c.in-Help.is (IfErr-weaker c.send.result _ _ (λ fault part. (part.told, part.fails, (λ s st. (_, refl, (part.sent, part.out))))) (rw c.help_text.ensures at c.send.ensures.err))
+
+pub returns-in-Frames-clause-ok : goal.returns-in-Frames-clause-ok
+returns-in-Frames-clause-ok g c =
+    rw c.in-Frames.is
+    (IfOk-weaker c.show_frames.result _ _ (λ done tells s st. (_, (st.stands.typing, st.stands.sound.strongest, refl), (tells st.stands.typing st.stands.sound.strongest).out s st.stands)) c.show_frames.ensures.ok)
+
+pub returns-in-Frames-clause-err : goal.returns-in-Frames-clause-err
+returns-in-Frames-clause-err g c =
+    let here = c.show_frames.ensures.stands.1 in
+    rw c.in-Frames.is
+    (IfErr-weaker c.show_frames.result _ _
+    (λ fault part. (
+      (part here.typing here.sound.strongest).told,
+      (part here.typing here.sound.strongest).fails,
+      (λ s st. (_, (st.stands.typing, st.stands.sound.strongest, refl), (part st.stands.typing st.stands.sound.strongest).out s st.stands)),
+    ))
+    c.show_frames.ensures.err)

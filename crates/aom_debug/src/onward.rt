@@ -1,0 +1,47 @@
+//! On until something is over, or to a place.
+ghost use Rattle.std.specs.Prelude.{◌≡◌};
+ghost use Rattle.aom_natives.specs.Slots.{AllAgree};
+ghost use Rattle.aom_debug_moves.specs.Movers.{IsReady, Keeps};
+ghost use Rattle.aom_debug.specs.Debugging.{GoesOver, Untils};
+
+use crate::Debugger;
+use crate::marking::spot_named;
+use aom_debug_moves::{Course, Scope, Sink};
+use aom_debug_words::DebugFault;
+use aom_natives::Native;
+use aom_text::Number;
+
+impl<'a> Debugger<'a> {
+    /// Goes on until that is over, or an instruction with a breakpoint is next, or to the end of the run.
+    pub fn over<W: Sink>(&mut self, scope: Scope, out: &mut W) -> Result<(), DebugFault>
+        requires agree { AllAgree (λ l. l.ids) (λ l. (⟦<dyn Native as Native>⟧ l.native.vtable).owed l.native.value) self.old.mover.machine.natives.slots.items }
+        requires ready { IsReady self.old.mover }
+        ensures agree { AllAgree (λ l. l.ids) (λ l. (⟦<dyn Native as Native>⟧ l.native.vtable).owed l.native.value) self.new.mover.machine.natives.slots.items }
+        ensures keeps { Keeps self.old.mover self.new.mover }
+        ensures answer { GoesOver scope self.old self.new (record { before = W.out out.old; now = W.out out.new; failed = W.failed out.new }) result }
+    {
+        self.go_by(Course::Over(scope), out)
+    }
+
+    /// Goes on until the instruction at the place that two numbers name is next, or one with a breakpoint, but for where it begins, or to the end of the run.
+    pub fn until<W: Sink>(
+        &mut self,
+        method: Number,
+        place: Number,
+        out: &mut W,
+    ) -> Result<(), DebugFault>
+        requires agree { AllAgree (λ l. l.ids) (λ l. (⟦<dyn Native as Native>⟧ l.native.vtable).owed l.native.value) self.old.mover.machine.natives.slots.items }
+        requires ready { IsReady self.old.mover }
+        ensures agree { AllAgree (λ l. l.ids) (λ l. (⟦<dyn Native as Native>⟧ l.native.vtable).owed l.native.value) self.new.mover.machine.natives.slots.items }
+        ensures keeps { Keeps self.old.mover self.new.mover }
+        ensures answer { Untils method place self.old self.new (record { before = W.out out.old; now = W.out out.new; failed = W.failed out.new }) result }
+    {
+        if self.has_failed {
+            return Err(DebugFault::Ended);
+        }
+        match spot_named(self.mover.machine.core.accepted().linked(), method, place) {
+            Some(spot) => self.go_by(Course::Place(spot), out),
+            None => Err(DebugFault::NoSuch),
+        }
+    }
+}

@@ -1,0 +1,100 @@
+//! Until a step is over with all that it calls, or the innermost method.
+ghost use Rattle.std.specs.Prelude.{◌≡◌, length, nat_le, reverse, slice_get};
+ghost use Rattle.aom_image.specs.Image.{Image};
+ghost use Rattle.aom_natives.specs.Slots.{AllAgree};
+ghost use Rattle.aom_parts.specs.Stands.{StandsFor as PartsStandFor};
+ghost use Rattle.aom_sound.specs.State.{State};
+ghost use Rattle.aom_sound.specs.World.{Reaches};
+ghost use Rattle.aom_run.specs.Calls.{Stands, StandsFor};
+ghost use Rattle.aom_debug_moves.specs.Movers.{IsReady, Keeps, Went, outside_of};
+ghost use Rattle.aom_debug_moves.specs.Courses.{GoesOver, is_next};
+ghost use Rattle.aom_debug_moves.specs.Next.{next_of, spot_of};
+ghost use Rattle.aom_debug_moves.specs.Over.{depth_of, runs_there, under_method};
+
+use crate::walking::{Until, walk};
+use crate::{Mover, arrive, spot_at};
+use aom_debug_words::{Breakpoints, Spot};
+use aom_exec::Progress;
+use aom_frames::Task;
+use aom_natives::Native;
+use aom_parts::Parts;
+use aom_run::{Machine, Sink};
+
+/// What is to be over.
+#[derive(Clone, Copy)]
+pub enum Scope {
+    /// The step that is next, with all that it calls, traps or destroys.
+    Step,
+    /// The innermost method at hand.
+    Method,
+}
+
+/// Whether a method stands over so many tasks.
+fn is_method(parts: &Parts, depth: usize) -> bool
+    ensures { result ≡ runs_there (slice_get (reverse parts.now.stack.tasks) depth) }
+{
+    matches!(parts.stack.task(depth), Some(Task::Run(_)))
+}
+
+/// How many tasks are at hand beneath the innermost method.
+fn under_method(parts: &Parts) -> usize
+    ensures { (p : Image) (s : State) → PartsStandFor (record { image = p; parts = parts.now }) s → result ≡ under_method s.tasks }
+{
+    let mut under = 0;
+    for depth in 0..parts.stack.len() {
+        if is_method(parts, depth) {
+            under = depth;
+        }
+    }
+    under
+}
+
+/// How many tasks may be at hand where that is over.
+fn depth_of(machine: &Machine, scope: Scope) -> usize
+    ensures { (s : State) → StandsFor machine.now s → result ≡ depth_of scope s.tasks }
+{
+    match scope {
+        Scope::Step => machine.core.parts().stack.len(),
+        Scope::Method => under_method(machine.core.parts()),
+    }
+}
+
+/// Whether no more tasks are at hand.
+pub(crate) fn is_up(machine: &Machine, depth: usize) -> bool
+    ensures { (s : State) → StandsFor machine.now s → result ≡ nat_le (length s.tasks) depth }
+{
+    machine.core.parts().stack.len() <= depth
+}
+
+/// Whether that instruction is next.
+pub(crate) fn is_next(machine: &Machine, spot: Spot) -> bool
+    requires { Stands machine.now }
+    ensures { (s : State) → StandsFor machine.now s → result ≡ is_next spot (spot_of (next_of machine.now.core.image s)) }
+{
+    match spot_at(machine.core.parts(), machine.core.accepted().linked()) {
+        Some(next) => next.is(spot),
+        None => false,
+    }
+}
+
+/// Until that is over, in the dispatch at hand or in the next, or an instruction with a breakpoint is next.
+pub(crate) fn go_over<W: Sink>(
+    mover: &mut Mover,
+    scope: Scope,
+    breakpoints: &Breakpoints,
+    out: &mut W,
+) -> Option<Progress>
+    requires agree { AllAgree (λ l. l.ids) (λ l. (⟦<dyn Native as Native>⟧ l.native.vtable).owed l.native.value) mover.old.machine.natives.slots.items }
+    requires ready { IsReady mover.old }
+    ensures agree { AllAgree (λ l. l.ids) (λ l. (⟦<dyn Native as Native>⟧ l.native.vtable).owed l.native.value) mover.new.machine.natives.slots.items }
+    ensures keeps { Keeps mover.old mover.new }
+    ensures went { Went (GoesOver mover.old.machine.core.image (outside_of mover.old) scope breakpoints.now mover.old.recent mover.new.recent) (Reaches mover.old.machine.core.image (outside_of mover.old)) mover.old (W.out out.old) (W.out out.new) (W.failed out.new) result mover.new }
+{
+    match arrive(mover, out)? {
+        Progress::Running => {
+            let depth = depth_of(&mover.machine, scope);
+            walk(mover, Until::Depth(depth), breakpoints, out)
+        }
+        other => Some(other),
+    }
+}
