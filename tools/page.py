@@ -71,6 +71,7 @@ def make_place(program, place):
     for name in ("docs", "examples"):
         shutil.copytree(f"{TOP}/{name}", f"{place}/{name}")
     os.symlink(program, f"{place}/aom")
+    os.symlink(f"{TOP}/tools", f"{place}/tools")
 
 
 def said(call, place):
