@@ -119,16 +119,16 @@ unfolding sessions_in sessions_of
 unserving k k' e active = grind arith
 
 -- the provider of a kind, and how a request is made of it
-provided : (k : Option ClassKind) (q : Provider) → provider_of k ≡ Some q → (budget : ℕ) × (k ≡ Some (An_active q budget))
-provided (Some (An_active v budget)) q e = (budget, ap (λ v. Some (An_active v budget)) (same_Some _ _ e))
+provided : (k : Option ClassKind) (q : Provider) → provider_of k ≡ Some q → k ≡ Some (An_active q)
+provided (Some (An_active v)) q e = ap (λ v. Some (An_active v)) (same_Some _ _ e)
 provided _ q e = absurd (none-some _ e)
 
 issued_as : (k : Option ClassKind) (q : Provider) (asking : Asking) (w : ℤ) → provider_of k ≡ Some q → issued_of k asking w ≡ issued_by q asking w
-issued_as k q asking w e = ap (λ k. issued_of k asking w) (provided k q e).1
+issued_as k q asking w e = ap (λ k. issued_of k asking w) (provided k q e)
 
 -- the native that serves the objects of a class is its provider
 pub native_provided : (k : Option ClassKind) (n : ℕ) → provider_of k ≡ Some (Native n) → native_of k ≡ Some n
-native_provided k n e = ap native_of (provided k (Native n) e).1
+native_provided k n e = ap native_of (provided k (Native n) e)
 
 -- what is of a class of active objects lives, and its class is declared
 cell_there : (p : Image) (c : Option Held_cell) → is_active_kind (kind_of p (class_of c)) ≡ true → IsSome c
@@ -146,8 +146,8 @@ pub kind_declared : (p : Image) (class : Option ℕ) (c : ℕ) → class ≡ Som
 unfolding kind_of
 kind_declared p class c is e = class_there (declared_at p c) (ap (λ k. is_active_kind (kind_of p k)) (sym is) ∙ e)
 
-pub active_kind : (k : ClassKind) → is_active_kind (Some k) ≡ true → (q : Provider) × (budget : ℕ) × (k ≡ An_active q budget)
-active_kind (An_active q budget) e = (q, budget, refl)
+pub active_kind : (k : ClassKind) → is_active_kind (Some k) ≡ true → (q : Provider) × (k ≡ An_active q)
+active_kind (An_active q) e = (q, refl)
 active_kind _ e = absurd (false≢true e)
 
 pub kind_found : (p : Image) (class : Option ℕ) (c : ℕ) (d : ClassDecl) → class ≡ Some c → declared_at p c ≡ Some d → kind_of p class ≡ Some d.kind

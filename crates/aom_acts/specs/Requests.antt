@@ -44,7 +44,7 @@ kind_here p m = kind_of p (class_at m.cells (this m))
 
 -- what objects of a class of active objects make their requests of
 abbrev pub provider_of : Option ClassKind → Option Provider
-provider_of (Some (An_active provider budget)) = Some provider
+provider_of (Some (An_active provider)) = Some provider
 provider_of _ = None
 
 -- a request of an object is made of that provider, where sessions stand so and a native has answered that

@@ -103,7 +103,7 @@ pub fn provider(parts: &Parts, linked: &Linked) -> Provider
 {
     let class = linked.class(parts.class(parts.stack.this()));
     match class.kind {
-        ClassKind::Active { provider, .. } => provider,
+        ClassKind::Active { provider } => provider,
         _ => unreachable!(),
     }
 }

@@ -194,13 +194,13 @@ module _ (headers : HeadersInRange) (classes_in : ClassesInRange) (headings : He
 
   -- a method at its end, where there is a place for each label
   abbrev whole_of : Body → Method
-  whole_of b = record { class = b.heading.class; role = b.heading.role; flags = b.heading.flags; before = b.heading.before; after = b.heading.after; arguments = b.heading.arguments; gives = b.heading.gives; code = b.code }
+  whole_of b = record { class = b.heading.class; over = b.heading.over; role = b.heading.role; flags = b.heading.flags; before = b.heading.before; after = b.heading.after; arguments = b.heading.arguments; gives = b.heading.gives; code = b.code }
 
   method_fits : (b : Body) (left : ℕ) → BodyHolds scope b left → scope.is_strict ≡ true → length b.labels ≡ length b.code → 1 ≤ length b.code → MethodFits (length scope.classes) (length scope.methods) (whole_of b)
   method_fits b left body strict places some =
       let range = body.heading strict in
       let code = subst (λ n. All (InstrFits (limits (length scope.classes) (length scope.methods) n)) b.code) places (body.code strict) in
-      record { class = range.class; flags = range.flags; before = range.before; after = range.after; argument_count = range.argument_count; arguments = range.arguments; gives = range.gives; some_code = some; code_length = body.few; code = code }
+      record { class = range.class; over = range.over; flags = range.flags; before = range.before; after = range.after; argument_count = range.argument_count; arguments = range.arguments; gives = range.gives; some_code = some; code_length = body.few; code = code }
 
   -- the end of a method
   end_step : (ss : List Statement) (h : Header) (cs : List ClassDecl) (ms : List Method) (size left : ℕ) (b : Body) (ws : List (List ℕ)) (q : Program)

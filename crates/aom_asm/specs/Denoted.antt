@@ -54,7 +54,7 @@ with_instruction scope b ws =
 abbrev pub method_of : Body → Result Method AsmFaultKind
 method_of b =
     if length b.code == 0 then Err LimitPassed
-    else Ok (record { class = b.heading.class; role = b.heading.role; flags = b.heading.flags; before = b.heading.before; after = b.heading.after; arguments = b.heading.arguments; gives = b.heading.gives; code = b.code })
+    else Ok (record { class = b.heading.class; over = b.heading.over; role = b.heading.role; flags = b.heading.flags; before = b.heading.before; after = b.heading.after; arguments = b.heading.arguments; gives = b.heading.gives; code = b.code })
 
 -- ---- statements
 

@@ -63,6 +63,7 @@ impl<'a> Body<'a> {
         let heading = self.heading;
         Ok(Method {
             class: heading.class,
+            over: heading.over,
             role: heading.role,
             flags: heading.flags,
             before: heading.before,

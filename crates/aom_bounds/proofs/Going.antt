@@ -25,8 +25,8 @@ module _ (R : ℕ → ℕ → Type 0) (none : R 0 0) (times : (n x y : ℕ) → 
     kind_related : (kind : ClassKind) → ((s : ℕ) → sessions_of kind ≡ Some s → R (f s) (g s)) → R (kind_sessions f kind) (kind_sessions g kind)
     unfolding sessions_of
     kind_related Plain h = none
-    kind_related (Active provider budget) h = none
-    kind_related (Server most session budget) h = times most (f session) (g session) (h session refl)
+    kind_related (Active provider) h = none
+    kind_related (Server most session) h = times most (f session) (g session) (h session refl)
     kind_related Session h = none
 
     perhaps_related : (o : Option ClassKind) → ((s : ℕ) → sessions_in o ≡ Some s → R (f s) (g s)) → R (perhaps_sessions f o) (perhaps_sessions g o)

@@ -1,6 +1,7 @@
 -- What instructions cost by a table, one by one; and a worked method: a loop in a loop, and a jump out of both.
 use Rattle.std.specs.Prelude.{ℕ, ◌≡◌, ◌+◌, ◌*◌, List, [], ◌∷◌, Some, None, map, replicate}
 use Rattle.aom_image.specs.Image.{Image}
+use Rattle.aom_image.specs.Small.{a_class, a_header, a_method}
 use Rattle.aom_instructions.specs.declared.instr.Instr.{Instr}
 use Rattle.aom_instructions.specs.declared.instr.Instr.TheVariants.{Call, Cancel, Trap, Push, Delete, PushOperation, Pop, PopOperation, PopDelete, New, Print, Jump, JumpEqual, Loop, Next, Return, Leave, LeaveIf}
 use Rattle.aom_instructions.specs.declared.instr.Target.TheVariants.{This}
@@ -55,18 +56,9 @@ worked_code =
 -- its only argument is a word
 abbrev pub worked : Image
 worked = record {
-  header = record { cells = 4; messages = 0; natives = 0; root = None; budget = 100 };
+  header = a_header 4 0 0 None 100;
   classes = [];
-  methods = record {
-    class = None;
-    role = roles.Do;
-    flags = record { 0 = 0 };
-    before = record { 0 = 0 };
-    after = record { 0 = 0 };
-    arguments = arguments.Word ∷ [];
-    gives = gives.Nothing;
-    code = worked_code;
-  } ∷ [];
+  methods = a_method None roles.Do 0 0 0 (arguments.Word ∷ []) gives.Nothing worked_code ∷ [];
 }
 
 abbrev pub a_word : Shape
@@ -79,30 +71,21 @@ worked_typing = replicate 10 (Some a_word) ∷ []
 -- ---- the cases
 
 abbrev pub plain_method : Role → ℕ → Method
-plain_method role class = record {
-  class = Some class;
-  role = role;
-  flags = record { 0 = 0 };
-  before = record { 0 = 0 };
-  after = record { 0 = 0 };
-  arguments = [];
-  gives = gives.Nothing;
-  code = [];
-}
+plain_method role class = a_method (Some class) role 0 0 0 [] gives.Nothing []
 
 -- class 0 is plain, and method 1 cancels the requests of class 1
 abbrev pub cancelling : Image
 cancelling = record {
-  header = record { cells = 4; messages = 0; natives = 0; root = None; budget = 100 };
-  classes = record { kind = Plain; words = 0; fields = [] } ∷ record { kind = Active providers.Own 10; words = 0; fields = [] } ∷ [];
+  header = a_header 4 0 0 None 100;
+  classes = a_class Plain 0 0 [] ∷ a_class (Active providers.Own) 10 0 [] ∷ [];
   methods = plain_method roles.Do 0 ∷ plain_method roles.Cancel 1 ∷ plain_method roles.Do 1 ∷ [];
 }
 
 -- class 1 is of servers, with up to 3 sessions of class 0; their destructors are the methods 1 and 0
 abbrev pub serving : Image
 serving = record {
-  header = record { cells = 4; messages = 0; natives = 0; root = None; budget = 100 };
-  classes = record { kind = Session; words = 0; fields = [] } ∷ record { kind = Server 3 0 10; words = 0; fields = [] } ∷ [];
+  header = a_header 4 0 0 None 100;
+  classes = a_class Session 0 0 [] ∷ a_class (Server 3 0) 10 0 [] ∷ [];
   methods = plain_method roles.Destruct 0 ∷ plain_method roles.Destruct 1 ∷ [];
 }
 

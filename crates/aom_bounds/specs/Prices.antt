@@ -52,7 +52,7 @@ perhaps_price c (Some m) = price c m
 
 -- the most sessions of a server, where one of each class costs so much; objects of other classes have none
 abbrev pub kind_sessions : (ℕ → ℕ) → ClassKind → ℕ
-kind_sessions cost (Server most session budget) = most * cost session
+kind_sessions cost (Server most session) = most * cost session
 kind_sessions cost _ = 0
 
 abbrev pub perhaps_sessions : (ℕ → ℕ) → Option ClassKind → ℕ

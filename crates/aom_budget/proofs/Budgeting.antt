@@ -1,12 +1,12 @@
 -- What was found of each dispatch is its price, and an image whose dispatches cost more than is declared of them is none that keeps its budgets.
-use Rattle.std.proofs.Common.{◌≡◌, ◌∙◌, ◌<◌, ◌≤◌, ◌+◌, inl, inr, ap, ap₂, ℕ, List, [], length, Option, Some, None, IsSome, refl, sym, subst, arith}
+use Rattle.std.proofs.Common.{◌≡◌, ◌∙◌, ◌<◌, ◌≤◌, ◌+◌, inl, inr, ap, ap₂, ℕ, Bool, true, false, List, [], length, Option, Some, None, IsSome, refl, sym, subst, arith}
 use Rattle.aom_image.proofs.Given.{some_given}
-use Rattle.std.specs.Prelude.{min, slice_get}
+use Rattle.std.specs.Prelude.{min, slice_get, if◌then◌else◌}
 use Rattle.std.proofs.lemmas.Bool.Decides.{eqb_tells}
 use Rattle.std.proofs.lemmas.Option.{slice_get_within, same_Some}
 use Rattle.aom_image.specs.Image.{Image}
 use Rattle.aom_image.specs.Views.{class_at, method_at}
-use Rattle.aom_image.specs.WellFormed.{ClassFits, KindFits, WellFormed}
+use Rattle.aom_image.specs.WellFormed.{ClassFits, WellFormed, is_dispatched}
 use Rattle.aom_image.specs.declared.class.ClassDecl.{ClassDecl}
 use Rattle.aom_image.specs.declared.class.ClassKind.{ClassKind}
 use Rattle.aom_image.specs.declared.class.ClassKind.TheVariants.{Plain, Active, Server, Session}
@@ -32,7 +32,7 @@ use Rattle.aom_bounds.proofs.Alike.{IsCovered, prices_alike}
 use Rattle.aom_bounds.proofs.Methods.{destructs_within, method_is_some}
 use Rattle.aom_bounds.proofs.Going.{going_alike, found_of}
 use Rattle.aom_bounds.proofs.Unique.{law_one}
-use Rattle.aom_budget.specs.Budgets.{BudgetsWithin, CostsWithin, IsBefore, IsOver, class_declares, class_price, declared_by, kind_declares, kind_price, payer_price, role_price}
+use Rattle.aom_budget.specs.Budgets.{BudgetsWithin, CostsWithin, IsBefore, IsOver, class_declares, class_price, budget_of, declared_by, kind_price, payer_price, role_price}
 use Rattle.aom_budget.specs.Faults.{Refuses, RefusesOrWants}
 use Rattle.aom_budget.specs.Figures.{ClassesWithin, IsWithin, TellsFirst, TellsOver, class_by, kind_by, main_by, payer_by, role_by, root_by}
 use Rattle.aom_budget.specs.Pricing.{ArePriced, destruction_by, price_by}
@@ -80,8 +80,8 @@ module _ (p : Image) (linked : IsLinked p) (t d : Typing) (one : IsStrongest p t
 
   same_kind : (k : ℕ) (kind : ClassKind) → kind_price p c k kind ≡ kind_price p e k kind
   same_kind k Plain = refl
-  same_kind k (Active provider budget) = rw (same_role k Run, same_role k Error) refl
-  same_kind k (Server sessions session budget) = rw (same_role k Accept, same_role session Service, same.classes (Object session)) refl
+  same_kind k (Active provider) = rw (same_role k Run, same_role k Error) refl
+  same_kind k (Server sessions session) = rw (same_role k Accept, same_role session Service, same.classes (Object session)) refl
   same_kind k Session = refl
 
   same_class : (k : ℕ) (class : Option ClassDecl) → class_price p c k class ≡ class_price p e k class
@@ -133,8 +133,8 @@ module _ (p : Image) (prices : List ℕ) (h : ArePriced p prices) where
 
     kind_found : (k : ℕ) (kind : ClassKind) → kind_by p prices k kind ≡ min 4294967296 (kind_price p whole k kind)
     kind_found k Plain = refl
-    kind_found k (Active provider budget) = omega (arith, role_found k Run, role_found k Error)
-    kind_found k (Server sessions session budget) = omega (arith, role_found k Accept, role_found session Service, destruction_found (Object session))
+    kind_found k (Active provider) = omega (arith, role_found k Run, role_found k Error)
+    kind_found k (Server sessions session) = omega (arith, role_found k Accept, role_found session Service, destruction_found (Object session))
     kind_found k Session = refl
 
     class_found : (k : ℕ) (class : Option ClassDecl) → class_by p prices k class ≡ min 4294967296 (class_price p whole k class)
@@ -148,8 +148,12 @@ module _ (p : Image) (prices : List ℕ) (h : ArePriced p prices) where
 -- ---- what is declared
 
 -- a budget is below 2^32, so what counts for 2^32 is more
-kind_below : (classes natives : ℕ) (kind : ClassKind) (most : ℕ) → KindFits classes natives kind → kind_declares kind ≡ Some most → most < 4294967296
-kind_below classes natives kind most fits e = grind arith
+class_below : (classes natives : ℕ) (class : ClassDecl) (most : ℕ) → ClassFits classes natives class → budget_of class ≡ Some most → most < 4294967296
+class_below classes natives class most fits e = go (is_dispatched class.kind) e
+  where
+    go : (b : Bool) → (if b then Some class.budget else None) ≡ Some most → most < 4294967296
+    go true e = omega (arith, fits.budget, same_Some class.budget most e)
+    go false e = absurd cc
 
 declared_below : (p : Image) (payer : Payer) (most : ℕ) → WellFormed p → declared_by p payer ≡ Some most → most < 4294967296
 unfolding class_at
@@ -158,7 +162,7 @@ declared_below p (Class k) most formed e = go (slice_get p.classes k) refl e
   where
     go : (o : Option ClassDecl) → slice_get p.classes k ≡ o → class_declares o ≡ Some most → most < 4294967296
     go None is e = absurd cc
-    go (Some d) is e = kind_below (length p.classes) p.header.natives d.kind most (all_there (ClassFits (length p.classes) p.header.natives) p.classes k d formed.classes.each is).kind e
+    go (Some d) is e = class_below (length p.classes) p.header.natives d most (all_there (ClassFits (length p.classes) p.header.natives) p.classes k d formed.classes.each is) e
 
 -- what is past the classes declares nothing
 declares_within : (p : Image) (k most : ℕ) → declared_by p (Class k) ≡ Some most → k < length p.classes
@@ -182,17 +186,17 @@ class_there p k within = there p.classes k within
 
 -- what the class at a number declares
 module _ (p : Image) (prices : List ℕ) (k : ℕ) (class : ClassDecl) (is : class_at p k ≡ Some class) where
-  declares_here : (most : Option ℕ) → kind_declares class.kind ≡ most → declared_by p (Class k) ≡ most
+  declares_here : (most : Option ℕ) → budget_of class ≡ most → declared_by p (Class k) ≡ most
   declares_here most e = ap class_declares is ∙ e
 
-  pub within_none : kind_declares class.kind ≡ None → IsWithin p prices (Class k)
+  pub within_none : budget_of class ≡ None → IsWithin p prices (Class k)
   within_none none most e = let declares = declares_here None none in absurd cc
 
-  pub within_some : (declared cost : ℕ) → kind_declares class.kind ≡ Some declared → cost ≡ payer_by p prices (Class k) → cost ≤ declared → IsWithin p prices (Class k)
+  pub within_some : (declared cost : ℕ) → budget_of class ≡ Some declared → cost ≡ payer_by p prices (Class k) → cost ≤ declared → IsWithin p prices (Class k)
   within_some declared cost declares costs le most e = let same : declared ≡ most = same_Some declared most (sym (declares_here (Some declared) declares) ∙ e) in omega (arith, le, costs, same)
 
   pub tells_first :
-      (declared cost : ℕ) (fault : BudgetFault) → ClassesWithin p prices k → kind_declares class.kind ≡ Some declared →
+      (declared cost : ℕ) (fault : BudgetFault) → ClassesWithin p prices k → budget_of class ≡ Some declared →
       cost ≡ payer_by p prices (Class k) → declared < cost → fault ≡ OverBudget (Class k) cost declared → TellsFirst p prices fault
   tells_first declared cost fault earlier declares costs over told = record {
     class = k;

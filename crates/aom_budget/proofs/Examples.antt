@@ -2,6 +2,7 @@
 use Rattle.std.proofs.Common.{◌≡◌, ℕ, zero, suc, ◌<◌, ◌≤◌, [], ◌∷◌, Some, None, IsSome, refl, arith}
 use Rattle.std.proofs.lemmas.Option.{same_Some}
 use Rattle.aom_image.specs.Image.{Image}
+use Rattle.aom_image.specs.Small.{a_class, a_header, a_method}
 use Rattle.aom_image.specs.Views.{method_at, class_at, class_in}
 use Rattle.aom_image.specs.declared.class.ClassKind.TheVariants.{Active, Session, Server}
 use Rattle.aom_image.specs.declared.class.Provider.TheVariants.{Own as Own_provider}
@@ -30,13 +31,13 @@ use Rattle.aom_budget.specs.declared.fault.BudgetFault.TheVariants.{OverBudget}
 use Rattle.aom_budget.specs.declared.fault.Payer.TheVariants.{Class}
 
 method : ℕ → Role → Method
-method class role = record { class = Some class; role = role; flags = record { 0 = 0 }; before = record { 0 = 0 }; after = record { 0 = 0 }; arguments = []; gives = Nothing; code = [] }
+method class role = a_method (Some class) role 0 0 0 [] Nothing []
 
 -- class 0 is the session class of the server class 1; their destructors are the methods 0 and 1
 image : Image
 image = record {
-  header = record { cells = 4; messages = 0; natives = 0; root = None; budget = 100 };
-  classes = record { kind = Session; words = 0; fields = [] } ∷ record { kind = Server 4 0 10; words = 0; fields = [] } ∷ [];
+  header = a_header 4 0 0 None 100;
+  classes = a_class Session 0 0 [] ∷ a_class (Server 4 0) 10 0 [] ∷ [];
   methods = method 0 roles.Destruct ∷ method 1 roles.Destruct ∷ method 1 roles.Cancel ∷ method 1 roles.Do ∷ [];
 }
 
@@ -95,8 +96,8 @@ chain_of_257 p first calls = record { method = 256; count = 257; frames = chain 
 -- class 0 is active: it runs in the method 0, and the method 1 is its error method; class 1 has sessions, whose service is the method 2; class 2 is their server, which accepts in the method 3
 dispatched : Image
 dispatched = record {
-  header = record { cells = 4; messages = 0; natives = 0; root = None; budget = 100 };
-  classes = record { kind = Active Own_provider 12; words = 0; fields = [] } ∷ record { kind = Session; words = 0; fields = [] } ∷ record { kind = Server 4 1 8; words = 0; fields = [] } ∷ [];
+  header = a_header 4 0 0 None 100;
+  classes = a_class (Active Own_provider) 12 0 [] ∷ a_class Session 0 0 [] ∷ a_class (Server 4 1) 8 0 [] ∷ [];
   methods = method 0 roles.Run ∷ method 0 roles.Error ∷ method 1 roles.Service ∷ method 2 roles.Accept ∷ method 1 roles.Destruct ∷ [];
 }
 

@@ -1,7 +1,8 @@
 -- What each dispatch costs at most, and what the image declares of it.
-use Rattle.std.specs.Prelude.{ℕ, ◌+◌, ◌≡◌, ◌≤◌, ◌<◌, max, min, Option, Some, None}
+use Rattle.std.specs.Prelude.{ℕ, ◌+◌, ◌≡◌, ◌≤◌, ◌<◌, max, min, Option, Some, None, if◌then◌else◌}
 use Rattle.aom_image.specs.Image.{Image}
 use Rattle.aom_image.specs.Views.{class_at}
+use Rattle.aom_image.specs.WellFormed.{is_dispatched}
 use Rattle.aom_image.specs.declared.class.ClassDecl.{ClassDecl}
 use Rattle.aom_image.specs.declared.class.ClassKind.{ClassKind}
 use Rattle.aom_image.specs.declared.class.ClassKind.TheVariants.{Plain, Active, Server, Session}
@@ -19,15 +20,13 @@ use Rattle.aom_budget.specs.declared.fault.Payer.TheVariants.{Main, Class}
 
 -- ---- what is declared
 
-abbrev pub kind_declares : ClassKind → Option ℕ
-kind_declares Plain = None
-kind_declares (Active provider budget) = Some budget
-kind_declares (Server sessions session budget) = Some budget
-kind_declares Session = None
+-- of each dispatch of an object of a class, if its objects are dispatched
+abbrev pub budget_of : ClassDecl → Option ℕ
+budget_of class = if is_dispatched class.kind then Some class.budget else None
 
 abbrev pub class_declares : Option ClassDecl → Option ℕ
 class_declares None = None
-class_declares (Some class) = kind_declares class.kind
+class_declares (Some class) = budget_of class
 
 -- of main, or of each dispatch of an object of that class, if it is one that is dispatched
 abbrev pub declared_by : Image → Payer → Option ℕ
@@ -43,8 +42,8 @@ role_price p c k role = destructor_price c (role_of p k role)
 -- an active object runs, and its error method follows where the run left; a server accepts, serves, or ends a session
 abbrev pub kind_price : Image → Prices → ℕ → ClassKind → ℕ
 kind_price p c k Plain = 0
-kind_price p c k (Active provider budget) = role_price p c k Run + role_price p c k Error
-kind_price p c k (Server sessions session budget) = max (role_price p c k Accept) (max (role_price p c session Service) (c.destruction (Object session)))
+kind_price p c k (Active provider) = role_price p c k Run + role_price p c k Error
+kind_price p c k (Server sessions session) = max (role_price p c k Accept) (max (role_price p c session Service) (c.destruction (Object session)))
 kind_price p c k Session = 0
 
 abbrev pub class_price : Image → Prices → ℕ → Option ClassDecl → ℕ

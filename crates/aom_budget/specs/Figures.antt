@@ -47,8 +47,8 @@ role_by p prices k role = price_by prices (role_of p k role)
 -- by the kind of its class
 abbrev pub kind_by : Image → List ℕ → ℕ → ClassKind → ℕ
 kind_by p prices k Plain = 0
-kind_by p prices k (Active provider budget) = kept (role_by p prices k Run + role_by p prices k Error)
-kind_by p prices k (Server sessions session budget) = max (role_by p prices k Accept) (max (role_by p prices session Service) (destruction_by p prices (Object session)))
+kind_by p prices k (Active provider) = kept (role_by p prices k Run + role_by p prices k Error)
+kind_by p prices k (Server sessions session) = max (role_by p prices k Accept) (max (role_by p prices session Service) (destruction_by p prices (Object session)))
 kind_by p prices k Session = 0
 
 abbrev pub class_by : Image → List ℕ → ℕ → Option ClassDecl → ℕ

@@ -35,11 +35,8 @@ fn kind_sessions(linked: &Linked, prices: &Sums, kind: ClassKind) -> u64
     ensures low { result ≤ 255 * 4294967297 }
 {
     match kind {
-        ClassKind::Server {
-            sessions,
-            session,
-            ..
-        } => u64::from(sessions) * going(linked, prices, session),
+        ClassKind::Server { sessions, session } => u64::from(sessions)
+            * going(linked, prices, session),
         ClassKind::Plain | ClassKind::Active { .. } | ClassKind::Session => 0,
     }
 }

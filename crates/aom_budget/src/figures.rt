@@ -4,7 +4,7 @@ ghost use Rattle.aom_image.specs.Views.{class_at};
 ghost use Rattle.aom_shape.specs.Tables.{at};
 ghost use Rattle.aom_bounds.specs.Depths.{HasDepths};
 ghost use Rattle.aom_bounds.specs.Heights.{HasHeights};
-ghost use Rattle.aom_budget.specs.Budgets.{BudgetsWithin, kind_declares};
+ghost use Rattle.aom_budget.specs.Budgets.{BudgetsWithin, budget_of};
 ghost use Rattle.aom_budget.specs.Faults.{Refuses};
 ghost use Rattle.aom_budget.specs.Figures.{AreFigures, class_by, ClassesWithin, kind_by, main_by, TellsFirst};
 
@@ -13,7 +13,7 @@ use crate::prices::{kind_price, main_price, prices_of};
 use crate::sums::Sums;
 use crate::{BudgetFault, Payer};
 use aom_classes::Linked;
-use aom_image::{ClassKind, ClassNumber, MethodNumber};
+use aom_image::{ClassDecl, ClassKind, ClassNumber, MethodNumber};
 use aom_verify::Checked;
 use std::alloc::{AllocError, Global};
 use std::marker::Model;
@@ -27,12 +27,12 @@ fn class_number(index: usize) -> ClassNumber
 }
 
 /// What a class declares of each dispatch of its objects, if they are dispatched.
-pub fn budget_of(kind: ClassKind) -> Option<u32>
-    ensures { result ≡ kind_declares kind }
+pub fn budget_of(class: &ClassDecl) -> Option<u32>
+    ensures { result ≡ budget_of class.now }
 {
-    match kind {
+    match class.kind {
         ClassKind::Plain | ClassKind::Session => None,
-        ClassKind::Active { budget, .. } | ClassKind::Server { budget, .. } => Some(budget),
+        ClassKind::Active { .. } | ClassKind::Server { .. } => Some(class.budget),
     }
 }
 
@@ -127,7 +127,7 @@ impl Figures {
         let classes = linked.image().classes();
         for index in 0..classes.len() {
             let class = class_number(index);
-            if let Some(declared) = budget_of(linked.class(class).kind) {
+            if let Some(declared) = budget_of(linked.class(class)) {
                 let price = self.class_price(linked, class);
                 within(Payer::Class(class), price, declared)?;
             }

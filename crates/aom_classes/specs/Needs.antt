@@ -22,8 +22,8 @@ pub record HasActive (p : Image) (c : ℕ) : Type 0 where
 -- what the kind of a class needs
 abbrev pub KindNeeds : Image → ℕ → ClassKind → Type 0
 KindNeeds p c kinds.Plain = Unit {0}
-KindNeeds p c (kinds.Active provider budget) = HasActive p c
-KindNeeds p c (kinds.Server most session budget) = Has p c Accept
+KindNeeds p c (kinds.Active provider) = HasActive p c
+KindNeeds p c (kinds.Server most session) = Has p c Accept
 KindNeeds p c kinds.Session = Has p c Service
 
 -- and a class that owns needs a destructor

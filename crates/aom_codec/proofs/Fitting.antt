@@ -10,9 +10,11 @@ use Rattle.aom_image.specs.WellFormed.{ThingFits, ProviderFits, KindFits, ClassF
 use Rattle.aom_instructions.specs.Fits.{InstrFits, limits}
 use Rattle.aom_codec.specs.Codec.{Codec, ◌>>=◌, byte, pair, always, keep, FitMany, limited}
 use Rattle.aom_codec.specs.Instructions.{Bounded, instruction}
-use Rattle.aom_codec.specs.Format.{index_from, class_from, class_or_none, thing_from, thing, argument_from, argument, provider, purpose, closing, purpose_of, kind_sort, class, count_server, role, flags, states, result, gives_from, method, image}
+use Rattle.aom_codec.specs.Format.{index_from, class_from, class_or_none, thing_from, thing, argument_from, argument, provider, kind, kind_sort, class, count_server, role, flags, states, result, gives_from, method, opening_of, image}
 use Rattle.aom_codec.specs.declared.fault.LoadFault.{LoadFault}
+use Rattle.aom_codec.specs.declared.header.Opening.{Opening}
 use Rattle.aom_codec.specs.declared.fault.LoadFault.TheVariants.{BadIndex, BadOperand}
+use Rattle.aom_image.specs.declared.image.Version.{Version}
 use Rattle.aom_image.specs.declared.class.ClassDecl.{ClassDecl}
 use Rattle.aom_image.specs.declared.class.ClassKind.{ClassKind}
 use Rattle.aom_image.specs.declared.class.ClassKind.TheVariants as kinds
@@ -30,7 +32,7 @@ use Rattle.aom_image.specs.declared.method.MethodFlags.{MethodFlags}
 use Rattle.aom_image.specs.declared.method.States.{States}
 use Rattle.aom_image.specs.declared.method.Method.{Method}
 use Rattle.aom_codec.proofs.Lengths.{head_of, rest_of}
-use Rattle.aom_codec.proofs.Laws.{guard_ok, FitEach, fit_each, no_more, one_more, marked_or, made_of, kept}
+use Rattle.aom_codec.proofs.Laws.{guard_ok, ok_is, FitEach, fit_each, no_more, one_more, marked_or, made_of, kept}
 use Rattle.aom_codec.proofs.Returning.{index_returns}
 use Rattle.aom_codec.proofs.Formats.{between_true, between_is}
 use Rattle.aom_codec.proofs.InstructionFits.{in_range, fits}
@@ -151,34 +153,31 @@ provider_fits natives providers.Own few h = (((lit< tt, refl), (lit< tt, refl)),
 provider_fits natives providers.Timer few h = (((lit< tt, refl), (lit< tt, refl)), refl)
 provider_fits natives (providers.Native n) few h = (((lit< tt, refl), (omega arith, lt-ltb n natives h)), refl)
 
-kind_in : (classes natives : ℕ) (k : ClassKind) → (purpose classes natives (kind_byte k)).Fits (purpose_of k) → (closing (purpose_of k)).Fits k → KindFits classes natives k
-kind_in classes natives kinds.Plain f g = tt
-kind_in classes natives (kinds.Active p budget) f g = (provider_in natives p f.0.0, g.0)
-kind_in classes natives (kinds.Server sessions session budget) f g =
+kind_in : (classes natives : ℕ) (k : ClassKind) → (kind classes natives (kind_byte k)).Fits k → KindFits classes natives k
+kind_in classes natives kinds.Plain f = tt
+kind_in classes natives (kinds.Active p) f = provider_in natives p f.0.0
+kind_in classes natives (kinds.Server sessions session) f =
     let low = between_true 1 64 sessions f.0.0.1 in
-    (low.0, low.1, (index_returns classes session session f.0.1.1).1, g.0)
-kind_in classes natives kinds.Session f g = tt
+    (low.0, low.1, (index_returns classes session session f.0.1.1).1)
+kind_in classes natives kinds.Session f = tt
 
-purpose_fits : (classes natives : ℕ) (k : ClassKind) → classes ≤ 256 → natives ≤ 16 → KindFits classes natives k → (purpose classes natives (kind_byte k)).Fits (purpose_of k)
-purpose_fits classes natives kinds.Plain few some_natives h = (tt, refl)
-purpose_fits classes natives (kinds.Active p budget) few some_natives h = ((provider_fits natives p some_natives h.0, tt), refl)
-purpose_fits classes natives (kinds.Server sessions session budget) few some_natives h =
+kind_fits : (classes natives : ℕ) (k : ClassKind) → classes ≤ 256 → natives ≤ 16 → KindFits classes natives k → (kind classes natives (kind_byte k)).Fits k
+kind_fits classes natives kinds.Plain few some_natives h = (tt, refl)
+kind_fits classes natives (kinds.Active p) few some_natives h = ((provider_fits natives p some_natives h, tt), refl)
+kind_fits classes natives (kinds.Server sessions session) few some_natives h =
     let lt : session < classes = h.2 in
     ((limited_byte_fits 1 64 sessions (lit< tt) h.0 h.1, (omega arith, index_is classes session lt)), refl)
-purpose_fits classes natives kinds.Session few some_natives h = (tt, refl)
-
-closing_fits : (classes natives : ℕ) (k : ClassKind) → KindFits classes natives k → (closing (purpose_of k)).Fits k
-closing_fits classes natives kinds.Plain h = (tt, refl)
-closing_fits classes natives (kinds.Active p budget) h = (h.1, refl)
-closing_fits classes natives (kinds.Server sessions session budget) h = (h.3, refl)
-closing_fits classes natives kinds.Session h = (tt, refl)
+kind_fits classes natives kinds.Session few some_natives h = (tt, refl)
 
 class_in_range : (classes natives servers : ℕ) (c : ClassDecl) → (class classes natives servers).Fits c → ClassFits classes natives c
 class_in_range classes natives servers c f = record {
-  kind = kind_in classes natives c.kind f.0.1.1.1.0 f.0.1.1.1.1.1;
+  kind = kind_in classes natives c.kind f.0.1.1.1.0;
+  parent = sym (ap (λ (d : ClassDecl). d.parent) (ok_is _ c f.1));
   words = (between_true 0 8 c.words f.0.1.0.1).1;
   field_count = (between_true 0 8 (length c.fields) f.0.1.1.0.1).1;
   fields = each (thing classes).Fits (ThingFits classes) c.fields (λ t h. thing_in classes (thing_number t) t h.1) (all_fit (thing classes) (length c.fields) c.fields f.0.1.1.1.1.0);
+  budget = f.0.1.1.1.1.1.0;
+  budgeted = f.0.1.1.1.1.1.1;
 }
 
 -- a server stands after seven at most
@@ -212,17 +211,20 @@ class_fits classes natives servers c few some_natives first h = (
       (
         limited_byte_fits 0 8 (length c.fields) (lit< tt) (omega arith) h.field_count,
         (
-          purpose_fits classes natives c.kind few some_natives h.kind,
+          kind_fits classes natives c.kind few some_natives h.kind,
           (
             fit_all (thing classes) c.fields (each (ThingFits classes) (thing classes).Fits c.fields (λ t k. thing_number_fits classes t few k) h.fields),
-            closing_fits classes natives c.kind h.kind,
+            (h.budget, h.budgeted),
           ),
         ),
       ),
     ),
   ),
-  refl,
+  ap with_parent (sym h.parent),
 )
+  where
+    with_parent : Option ℕ → Result ClassDecl LoadFault
+    with_parent o = Ok (record c { parent = o })
 
 -- one more server, or none
 next_low : (b : Bool) (servers : ℕ) → servers ≤ 8 → (b ≡ true → servers < 8) → cond b (servers + 1) servers ≤ 8
@@ -294,6 +296,7 @@ method_in_range classes methods m f =
     let places = between_true 1 1024 (length m.code) f.0.1.1.1.1.1.1.1.1.1.0.1 in
     record {
       class = class_in classes (class_number m.class) m.class f.0.0.1;
+      over = sym (ap (λ (k : Method). k.over) (ok_is _ m f.1));
       flags = flags_in m.flags f.0.1.1.0;
       before = states_in m.before f.0.1.1.1.0;
       after = states_in m.after f.0.1.1.1.1.0;
@@ -310,6 +313,7 @@ method_fits : (classes methods : ℕ) (m : Method) → classes ≤ 256 → metho
 method_fits classes methods m few some_methods h =
     let l = limits classes methods (length m.code) in
     let bounded : Bounded l = record { classes = few; methods = some_methods; places = h.code_length } in
+    let with_over : Option ℕ → Result Method LoadFault = λ o. Ok (record m { over = o }) in
     let small = gives_small m.gives in (
       (
         class_number_fits classes m.class few h.class,
@@ -342,7 +346,7 @@ method_fits classes methods m few some_methods h =
           ),
         ),
       ),
-      refl,
+      ap with_over (sym h.over),
     )
 
 -- ---- the whole
@@ -355,6 +359,7 @@ image_in_range i f =
     let cs = classes_in classes i.header.natives classes 0 i.classes (omega arith)
     (fit_each (class classes i.header.natives) count_server 0 classes i.classes f.0.1.0) in (
       record {
+        version = sym (ap (λ (o : Opening). o.header.version) (ok_is _ (opening_of i) f.0.0.1));
         cells = (between_true 0 4096 i.header.cells o.1.1.0.1).1;
         messages = (between_true 0 1024 i.header.messages o.1.1.1.0.1).1;
         natives = (between_true 0 16 i.header.natives o.1.1.1.1.0.1).1;
@@ -374,7 +379,8 @@ image_in_range i f =
 pub image_fits : (i : Image) → HeaderFits (length i.classes) i.header → ClassesFit i.header.natives i.classes → MethodsFit (length i.classes) i.methods → image.Fits i
 image_fits i header cs ms =
     let classes = length i.classes in
-    let methods = length i.methods in (
+    let methods = length i.methods in
+    let with_version : Version → Result Opening LoadFault = λ v. Ok (record { classes = classes; methods = methods; header = record i.header { version = v } }) in (
       (
         (
           (
@@ -396,7 +402,7 @@ image_fits i header cs ms =
               ),
             ),
           ),
-          refl,
+          ap with_version (sym header.version),
         ),
         (
           classes_fit classes i.header.natives 0 i.classes cs.count header.natives cs.each (omega (arith, cs.servers)),

@@ -13,12 +13,12 @@ use Rattle.aom_instructions.specs.declared.kinds.LargeKind.{LargeKind}
 use Rattle.aom_instructions.specs.declared.kinds.SmallKind.{SmallKind}
 use Rattle.aom_instructions.specs.declared.mnemonic.Mnemonic.{Mnemonic}
 use Rattle.aom_instructions.specs.declared.operand.Operands.{Operands}
-use Rattle.aom_codec.specs.Spelling.{gives_byte, result_number, kind_byte, budget_of}
+use Rattle.aom_codec.specs.Spelling.{gives_byte, result_number, kind_byte}
 use Rattle.aom_codec.specs.Codec.{Codec, byte, pair, quad, fixed, always, keep, FitMany, unused, is_between, limited}
 use Rattle.aom_codec.specs.Instructions.{all_operands, instruction, known, large_operand, opcode, small_operand}
 use Rattle.aom_codec.specs.Spelling.{provider_sort, native_number}
 use Rattle.aom_instructions.specs.Fits.{limits}
-use Rattle.aom_codec.specs.Format.{class_or_none, thing, argument, opening_fields, opening, provider_from, provider, no_session, bare, session_class, active_part, active_provider, server_part, server_numbers, purpose, closing, purpose_of, kind_sort, class_parts, class, count_server, role, flags, states, result_sort, gives_from, result, method_parts, method, image_parts, opening_of, image}
+use Rattle.aom_codec.specs.Format.{class_or_none, thing, argument, opening_fields, opening, provider_from, provider, no_session, bare, session_class, active_part, active_provider, server_part, server_numbers, kind, budget, kind_sort, class_parts, class, count_server, role, flags, states, result_sort, gives_from, result, method_parts, method, image_parts, opening_of, image}
 use Rattle.aom_codec.specs.declared.fault.LoadFault.{LoadFault}
 use Rattle.aom_codec.specs.declared.fault.LoadFault.TheVariants.{BadMagic, BadVersion, LimitPassed, NotZero}
 use Rattle.aom_instructions.specs.declared.limits.Limits.{Limits}
@@ -27,8 +27,6 @@ use Rattle.aom_image.specs.declared.class.ClassDecl.{ClassDecl}
 use Rattle.aom_image.specs.declared.class.ClassKind.{ClassKind}
 use Rattle.aom_image.specs.declared.class.ClassKind.TheVariants as kinds
 use Rattle.aom_image.specs.declared.class.Provider.{Provider}
-use Rattle.aom_codec.specs.declared.class_reader.Purpose.{Purpose}
-use Rattle.aom_codec.specs.declared.class_reader.Purpose.TheVariants as purposes
 use Rattle.aom_image.specs.declared.method.Method.{Method}
 use Rattle.aom_image.specs.declared.method.Gives.{Gives}
 use Rattle.aom_instructions.specs.declared.instr.Instr.{Instr}
@@ -121,23 +119,20 @@ server_part_laws classes =
     of_after (fixed byte 0 NotZero) _ tt (fixed_byte_laws _ _ (lit< tt))
     (of_next _ _ (limited_laws byte 1 64 of_byte) (λ _. of_after (fixed byte 0 NotZero) _ tt (fixed_byte_laws _ _ (lit< tt)) (session_class_laws classes)))
 
-abbrev active_only : Purpose → Provider × Unit {0}
-active_only q = (active_provider q, tt)
+abbrev active_only : ClassKind → Provider × Unit {0}
+active_only k = (active_provider k, tt)
 
-purpose_laws : (classes natives sort : ℕ) → IsCodec (purpose classes natives sort)
-purpose_laws classes natives sort =
-    of_choose (eqb sort 0) _ _ (of_seen (λ _. Ok purposes.Plain) (λ _. tt) bare (record { at = λ x y fits e. refl }) bare_laws)
-    (of_choose (eqb sort 1) _ _ (of_seen (λ p. Ok (purposes.Active p.0)) (λ q. (active_provider q, tt)) (active_part natives)
-    (record { at = λ x y fits e. ap active_only (sym (ok_is (purposes.Active x.0) y e)) }) (active_part_laws natives))
-    (of_choose (eqb sort 2) _ _ (of_seen (λ p. Ok (purposes.Server p.0 p.1)) server_numbers (server_part classes)
-    (record { at = λ x y fits e. ap server_numbers (sym (ok_is (purposes.Server x.0 x.1) y e)) }) (server_part_laws classes))
-    (of_seen (λ _. Ok purposes.Session) (λ _. tt) bare (record { at = λ x y fits e. refl }) bare_laws)))
+kind_laws : (classes natives sort : ℕ) → IsCodec (kind classes natives sort)
+kind_laws classes natives sort =
+    of_choose (eqb sort 0) _ _ (of_seen (λ _. Ok kinds.Plain) (λ _. tt) bare (record { at = λ x y fits e. refl }) bare_laws)
+    (of_choose (eqb sort 1) _ _ (of_seen (λ p. Ok (kinds.Active p.0)) (λ k. (active_provider k, tt)) (active_part natives)
+    (record { at = λ x y fits e. ap active_only (sym (ok_is (kinds.Active x.0) y e)) }) (active_part_laws natives))
+    (of_choose (eqb sort 2) _ _ (of_seen (λ p. Ok (kinds.Server p.0 p.1)) server_numbers (server_part classes)
+    (record { at = λ x y fits e. ap server_numbers (sym (ok_is (kinds.Server x.0 x.1) y e)) }) (server_part_laws classes))
+    (of_seen (λ _. Ok kinds.Session) (λ _. tt) bare (record { at = λ x y fits e. refl }) bare_laws)))
 
-closing_laws : (p : Purpose) → IsCodec (closing p)
-closing_laws purposes.Plain = of_seen (λ _. Ok kinds.Plain) (λ _. tt) (fixed quad 0 NotZero) (record { at = λ x y fits e. refl }) (fixed_quad_laws _ _ (lit< tt))
-closing_laws (purposes.Active p) = of_seen _ _ quad (record { at = λ x y fits e. ap budget_of (sym (ok_is _ y e)) }) of_quad
-closing_laws (purposes.Server sessions session) = of_seen _ _ quad (record { at = λ x y fits e. ap budget_of (sym (ok_is _ y e)) }) of_quad
-closing_laws purposes.Session = of_seen (λ _. Ok kinds.Session) (λ _. tt) (fixed quad 0 NotZero) (record { at = λ x y fits e. refl }) (fixed_quad_laws _ _ (lit< tt))
+budget_laws : (k : ClassKind) → IsCodec (budget k)
+budget_laws k = of_checked _ _ _ of_quad
 
 kind_sort_laws : (servers : ℕ) → IsCodec (kind_sort servers)
 kind_sort_laws servers = of_checked _ _ _ (of_checked _ _ _ of_byte)
@@ -147,34 +142,18 @@ class_parts_laws classes natives servers =
     of_next _ _ (kind_sort_laws servers) (λ sort.
     of_next _ _ (limited_laws byte 0 8 of_byte) (λ _.
     of_next _ _ (limited_laws byte 0 8 of_byte) (λ count.
-    of_next _ _ (purpose_laws classes natives sort) (λ p.
+    of_next _ _ (kind_laws classes natives sort) (λ k.
     of_next _ _ (of_many count (thing classes) (thing_laws classes)) (λ _.
     of_after (unused (8 - count) pair NotZero) _ (unused_fits (8 - count) pair NotZero) (of_unused (8 - count) pair NotZero of_pair (lit< tt))
-    (closing_laws p))))))
+    (budget_laws k))))))
 
--- what was read before the budget is what the kind says
-closing_fits : (p : Purpose) (k : ClassKind) → (closing p).Fits k → purpose_of k ≡ p
-closing_fits purposes.Plain k fits = ap purpose_of (sym (ok_is _ k fits.1))
-closing_fits _ k fits = ap purpose_of (sym (ok_is _ k fits.1))
-
-purpose_byte : Purpose → ℕ
-purpose_byte purposes.Plain = 0
-purpose_byte (purposes.Active p) = 1
-purpose_byte (purposes.Server sessions session) = 2
-purpose_byte purposes.Session = 3
-
-purpose_byte-of : (k : ClassKind) → purpose_byte (purpose_of k) ≡ kind_byte k
-unfolding purpose_byte
-purpose_byte-of kinds.Plain = refl
-purpose_byte-of _ = refl
-
-purpose_fits : (classes natives sort : ℕ) (p : Purpose) → sort ≤ 3 → (purpose classes natives sort).Fits p → purpose_byte p ≡ sort
-unfolding purpose_byte
-purpose_fits classes natives zero p small fits = ap purpose_byte (sym (ok_is _ p fits.1))
-purpose_fits classes natives (suc zero) p small fits = ap purpose_byte (sym (ok_is _ p fits.1))
-purpose_fits classes natives (suc (suc zero)) p small fits = ap purpose_byte (sym (ok_is _ p fits.1))
-purpose_fits classes natives (suc (suc (suc zero))) p small fits = ap purpose_byte (sym (ok_is _ p fits.1))
-purpose_fits classes natives (suc (suc (suc (suc n)))) p small fits = absurd (omega arith)
+-- the kind that was read is of the byte before it
+kind_of_byte : (classes natives sort : ℕ) (k : ClassKind) → sort ≤ 3 → (kind classes natives sort).Fits k → kind_byte k ≡ sort
+kind_of_byte classes natives zero k small fits = ap kind_byte (sym (ok_is _ k fits.1))
+kind_of_byte classes natives (suc zero) k small fits = ap kind_byte (sym (ok_is _ k fits.1))
+kind_of_byte classes natives (suc (suc zero)) k small fits = ap kind_byte (sym (ok_is _ k fits.1))
+kind_of_byte classes natives (suc (suc (suc zero))) k small fits = ap kind_byte (sym (ok_is _ k fits.1))
+kind_of_byte classes natives (suc (suc (suc (suc n)))) k small fits = absurd (omega arith)
 
 pub many_length : {S X : Type 0} (c : S → Codec X) (add : S → X → S) (s : S) (n : ℕ) (xs : List X) → FitMany c add s n xs → length xs ≡ n
 many_length {S} {X} c add s n xs fits = by_each s n xs (fit_each c add s n xs fits)
@@ -188,11 +167,10 @@ class_laws classes natives servers = of_seen _ _ (class_parts classes natives se
     (record {
       at = λ x y fits e.
           let small : x.0 ≤ 3 = (between_true 0 3 x.0 fits.0.0.1).1 in
-          let purpose_is = closing_fits x.1.1.1.0 x.1.1.1.1.1 fits.1.1.1.1.1 in
-          let sort_is : kind_byte x.1.1.1.1.1 ≡ x.0 = sym (purpose_byte-of x.1.1.1.1.1) ∙ ap purpose_byte purpose_is ∙ purpose_fits classes natives x.0 x.1.1.1.0 small fits.1.1.1.0 in
+          let sort_is = kind_of_byte classes natives x.0 x.1.1.1.0 small fits.1.1.1.0 in
           let count_is = many_length (always (thing classes)) keep tt x.1.1.0 x.1.1.1.1.0 fits.1.1.1.1.0 in
-          ap (λ (c : ClassDecl). (kind_byte c.kind, (c.words, (length c.fields, (purpose_of c.kind, (c.fields, c.kind)))))) (sym (ok_is _ y e))
-          ∙ pair_is sort_is (pair_is refl (pair_is count_is (pair_is purpose_is refl)));
+          ap (λ (c : ClassDecl). (kind_byte c.kind, (c.words, (length c.fields, (c.kind, (c.fields, c.budget)))))) (sym (ok_is _ y e))
+          ∙ pair_is sort_is (pair_is refl (pair_is count_is refl));
     })
     (class_parts_laws classes natives servers)
 

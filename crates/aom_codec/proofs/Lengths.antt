@@ -5,7 +5,7 @@ use Rattle.std.proofs.lemmas.List.Sums.{sum_by-cons}
 use Rattle.aom_image.specs.Image.{Image}
 use Rattle.aom_image.specs.declared.class.ClassDecl.{ClassDecl}
 use Rattle.aom_image.specs.declared.method.Method.{Method}
-use Rattle.aom_codec.specs.Spelling.{pair, quad, unused_pairs, thing_number, argument_number, result_number, budget_of, class, method, instruction, spell}
+use Rattle.aom_codec.specs.Spelling.{pair, quad, unused_pairs, thing_number, argument_number, result_number, class, method, instruction, spell}
 use Rattle.aom_image.specs.WellFormed.{ClassesFit, MethodsFit, spelled_size}
 
 pub head_of : {X : Type 0} (P : X → Type 0) (x : X) (xs : List X) → All P (x ∷ xs) → P x
@@ -36,8 +36,8 @@ length_class c le =
     let unused = unused_pairs (8 - length c.fields) in
     omega (
       arith,
-      length-append fields (unused ++ quad (budget_of c.kind)),
-      length-append unused (quad (budget_of c.kind)),
+      length-append fields (unused ++ quad c.budget),
+      length-append unused (quad c.budget),
       length-pairs thing_number c.fields,
       length-unused_pairs (8 - length c.fields),
     )

@@ -1,5 +1,5 @@
 -- The formats spell what the spelling says.
-use Rattle.std.proofs.Common.{◌≡◌, ℕ, zero, suc, ◌+◌, ◌-◌, List, [], ◌∷◌, ◌++◌, length, refl, ap, ◌∙◌, flat_map, add-one}
+use Rattle.std.proofs.Common.{◌≡◌, ℕ, zero, suc, ◌+◌, ◌-◌, List, [], ◌∷◌, ◌++◌, length, Option, refl, ap, ◌∙◌, flat_map, add-one}
 use Rattle.aom_image.specs.Image.{Image}
 use Rattle.aom_codec.specs.Spelling as text
 use Rattle.aom_codec.specs.Codec.{Codec, pair, always, keep, spell_many, unused}
@@ -8,6 +8,7 @@ use Rattle.aom_instructions.specs.Fits.{limits}
 use Rattle.aom_codec.specs.Format.{thing, argument, class, count_server, method, image}
 use Rattle.aom_codec.specs.declared.fault.LoadFault.TheVariants.{NotZero}
 use Rattle.aom_instructions.specs.declared.limits.Limits.{Limits}
+use Rattle.aom_image.specs.declared.class.ClassDecl.{ClassDecl}
 use Rattle.aom_image.specs.declared.class.ClassKind.{ClassKind}
 use Rattle.aom_image.specs.declared.class.ClassKind.TheVariants as kinds
 use Rattle.aom_image.specs.declared.class.Provider.TheVariants as providers
@@ -32,20 +33,20 @@ fields_spelled classes fields n last =
     ap (λ t. t ++ ((unused n pair NotZero).spell tt ++ last)) (many_spelled (always (thing classes)) keep (λ t. text.pair (text.thing_number t)) (λ s x. refl) tt fields)
     ∙ ap (λ t. flat_map (λ t. text.pair (text.thing_number t)) fields ++ (t ++ last)) (unused_spelled n)
 
-class_spelled : (classes natives servers : ℕ) (kind : ClassKind) (words : ℕ) (fields : List Thing)
-    → (class classes natives servers).spell (record { kind = kind; words = words; fields = fields }) ≡ text.class (record { kind = kind; words = words; fields = fields })
-class_spelled classes natives servers kinds.Plain words fields =
-    ap (λ t. 0 ∷ words ∷ length fields ∷ 0 ∷ 0 ∷ 0 ∷ (text.pair 0xffff ++ t)) (fields_spelled classes fields (8 - length fields) (text.quad 0))
-class_spelled classes natives servers (kinds.Active providers.Own budget) words fields =
+class_spelled : (classes natives servers : ℕ) (kind : ClassKind) (parent : Option ℕ) (words : ℕ) (fields : List Thing) (budget : ℕ)
+    → let c : ClassDecl = record { kind = kind; parent = parent; words = words; fields = fields; budget = budget } in (class classes natives servers).spell c ≡ text.class c
+class_spelled classes natives servers kinds.Plain parent words fields budget =
+    ap (λ t. 0 ∷ words ∷ length fields ∷ 0 ∷ 0 ∷ 0 ∷ (text.pair 0xffff ++ t)) (fields_spelled classes fields (8 - length fields) (text.quad budget))
+class_spelled classes natives servers (kinds.Active providers.Own) parent words fields budget =
     ap (λ t. 1 ∷ words ∷ length fields ∷ 0 ∷ 0 ∷ 0 ∷ (text.pair 0xffff ++ t)) (fields_spelled classes fields (8 - length fields) (text.quad budget))
-class_spelled classes natives servers (kinds.Active providers.Timer budget) words fields =
+class_spelled classes natives servers (kinds.Active providers.Timer) parent words fields budget =
     ap (λ t. 1 ∷ words ∷ length fields ∷ 1 ∷ 0 ∷ 0 ∷ (text.pair 0xffff ++ t)) (fields_spelled classes fields (8 - length fields) (text.quad budget))
-class_spelled classes natives servers (kinds.Active (providers.Native n) budget) words fields =
+class_spelled classes natives servers (kinds.Active (providers.Native n)) parent words fields budget =
     ap (λ t. 1 ∷ words ∷ length fields ∷ 2 ∷ n ∷ 0 ∷ (text.pair 0xffff ++ t)) (fields_spelled classes fields (8 - length fields) (text.quad budget))
-class_spelled classes natives servers (kinds.Server sessions session budget) words fields =
+class_spelled classes natives servers (kinds.Server sessions session) parent words fields budget =
     ap (λ t. 2 ∷ words ∷ length fields ∷ 0 ∷ sessions ∷ 0 ∷ (text.pair session ++ t)) (fields_spelled classes fields (8 - length fields) (text.quad budget))
-class_spelled classes natives servers kinds.Session words fields =
-    ap (λ t. 3 ∷ words ∷ length fields ∷ 0 ∷ 0 ∷ 0 ∷ (text.pair 0xffff ++ t)) (fields_spelled classes fields (8 - length fields) (text.quad 0))
+class_spelled classes natives servers kinds.Session parent words fields budget =
+    ap (λ t. 3 ∷ words ∷ length fields ∷ 0 ∷ 0 ∷ 0 ∷ (text.pair 0xffff ++ t)) (fields_spelled classes fields (8 - length fields) (text.quad budget))
 
 code_spelled : (l : Limits) (code : List Instr) → spell_many (always (instruction l)) keep tt code ≡ flat_map text.instruction code
 code_spelled l code = many_spelled (always (instruction l)) keep text.instruction (λ s x. refl) tt code
@@ -70,7 +71,7 @@ image_spelled i =
     let methods = length i.methods in
     let first = text.header classes methods i.header in
     ap (λ t. first ++ (t ++ spell_many (always (method classes methods)) keep tt i.methods))
-    (many_spelled (class classes i.header.natives) count_server text.class (λ s c. class_spelled classes i.header.natives s c.kind c.words c.fields) 0 i.classes)
+    (many_spelled (class classes i.header.natives) count_server text.class (λ s c. class_spelled classes i.header.natives s c.kind c.parent c.words c.fields c.budget) 0 i.classes)
     ∙ ap (λ t. first ++ (flat_map text.class i.classes ++ t))
     (many_spelled (always (method classes methods)) keep text.method (λ s m. method_spelled classes methods m) tt i.methods)
 

@@ -3,19 +3,18 @@ use Rattle.std.specs.Prelude.{ℕ, ◌+◌, ◌-◌, true, List, length, Option,
 use Rattle.aom_codec.specs.Codec.{Codec, ◌>>=◌, byte, pair, quad, is_between, limited, checked, fixed, next, after, seen, many_from, many, unused, choose}
 use Rattle.aom_codec.specs.Instructions.{instruction}
 use Rattle.aom_image.specs.Image.{Image}
-use Rattle.aom_codec.specs.Spelling.{class_number, thing_number, argument_number, role_number, gives_byte, result_number, kind_byte, budget_of, provider_sort, native_number}
-use Rattle.aom_image.specs.WellFormed.{is_server}
+use Rattle.aom_codec.specs.Spelling.{class_number, thing_number, argument_number, role_number, gives_byte, result_number, kind_byte, provider_sort, native_number}
+use Rattle.aom_image.specs.WellFormed.{is_server, may_declare}
 use Rattle.aom_instructions.specs.Fits.{limits}
 use Rattle.aom_codec.specs.declared.fault.LoadFault.{LoadFault}
 use Rattle.aom_codec.specs.declared.fault.LoadFault.TheVariants.{BadMagic, BadVersion, Trailing, LimitPassed, BadOperand, BadIndex, NotZero}
 use Rattle.aom_codec.specs.declared.header.Opening.{Opening}
 use Rattle.aom_image.specs.declared.class.ClassDecl.{ClassDecl}
+use Rattle.aom_image.specs.declared.image.Version.TheVariants as versions
 use Rattle.aom_image.specs.declared.class.ClassKind.{ClassKind}
 use Rattle.aom_image.specs.declared.class.ClassKind.TheVariants as kinds
 use Rattle.aom_image.specs.declared.class.Provider.{Provider}
 use Rattle.aom_image.specs.declared.class.Provider.TheVariants as providers
-use Rattle.aom_codec.specs.declared.class_reader.Purpose.{Purpose}
-use Rattle.aom_codec.specs.declared.class_reader.Purpose.TheVariants as purposes
 use Rattle.aom_image.specs.declared.method.Thing.{Thing}
 use Rattle.aom_image.specs.declared.method.Thing.TheVariants.{Object, Message}
 use Rattle.aom_image.specs.declared.method.Role.{Role}
@@ -84,7 +83,7 @@ opening_fields =
 -- the header with the counts of classes and methods, which an image shows by its lists
 abbrev pub opening : Codec Opening
 opening = seen
-    (λ p. Ok (record { classes = p.0; methods = p.1.0; header = record { cells = p.1.1.0; messages = p.1.1.1.0; natives = p.1.1.1.1.0; root = p.1.1.1.1.1.0; budget = p.1.1.1.1.1.1 } }))
+    (λ p. Ok (record { classes = p.0; methods = p.1.0; header = record { version = versions.One; cells = p.1.1.0; messages = p.1.1.1.0; natives = p.1.1.1.1.0; root = p.1.1.1.1.1.0; budget = p.1.1.1.1.1.1 } }))
     (λ o. (o.classes, (o.methods, (o.header.cells, (o.header.messages, (o.header.natives, (o.header.root, o.header.budget)))))))
     opening_fields
 
@@ -124,57 +123,47 @@ abbrev pub server_part : ℕ → Codec (ℕ × ℕ)
 server_part classes = after (fixed byte 0 NotZero) (next (limited byte 1 64) (λ _. after (fixed byte 0 NotZero) (session_class classes)))
 
 -- the provider of an active class, and any where there is none
-abbrev pub active_provider : Purpose → Provider
-active_provider (purposes.Active p) = p
+abbrev pub active_provider : ClassKind → Provider
+active_provider (kinds.Active p) = p
 active_provider _ = providers.Own
 
 -- a server's most sessions and their class
-abbrev pub server_numbers : Purpose → ℕ × ℕ
-server_numbers (purposes.Server sessions session) = (sessions, session)
+abbrev pub server_numbers : ClassKind → ℕ × ℕ
+server_numbers (kinds.Server sessions session) = (sessions, session)
 server_numbers _ = (0, 0)
 
 -- what stands between the counts and the fields, by the kind's byte
-abbrev pub purpose : ℕ → ℕ → ℕ → Codec Purpose
-purpose classes natives sort =
-    choose (sort == 0) (seen (λ _. Ok purposes.Plain) (λ _. tt) bare) (
-    choose (sort == 1) (seen (λ p. Ok (purposes.Active p.0)) (λ q. (active_provider q, tt)) (active_part natives)) (
-    choose (sort == 2) (seen (λ p. Ok (purposes.Server p.0 p.1)) server_numbers (server_part classes))
-    (seen (λ _. Ok purposes.Session) (λ _. tt) bare)))
+abbrev pub kind : ℕ → ℕ → ℕ → Codec ClassKind
+kind classes natives sort =
+    choose (sort == 0) (seen (λ _. Ok kinds.Plain) (λ _. tt) bare) (
+    choose (sort == 1) (seen (λ p. Ok (kinds.Active p.0)) (λ k. (active_provider k, tt)) (active_part natives)) (
+    choose (sort == 2) (seen (λ p. Ok (kinds.Server p.0 p.1)) server_numbers (server_part classes))
+    (seen (λ _. Ok kinds.Session) (λ _. tt) bare)))
 
--- what stands after the fields
-abbrev pub closing : Purpose → Codec ClassKind
-closing purposes.Plain = seen (λ _. Ok kinds.Plain) (λ _. tt) (fixed quad 0 NotZero)
-closing (purposes.Active p) = seen (λ n. Ok (kinds.Active p n)) budget_of quad
-closing (purposes.Server sessions session) = seen (λ n. Ok (kinds.Server sessions session n)) budget_of quad
-closing purposes.Session = seen (λ _. Ok kinds.Session) (λ _. tt) (fixed quad 0 NotZero)
-
--- what a kind says but its budget
-abbrev pub purpose_of : ClassKind → Purpose
-purpose_of kinds.Plain = purposes.Plain
-purpose_of (kinds.Active p budget) = purposes.Active p
-purpose_of (kinds.Server sessions session budget) = purposes.Server sessions session
-purpose_of kinds.Session = purposes.Session
+-- what stands after the fields: zeros where objects of the class are not dispatched
+abbrev pub budget : ClassKind → Codec ℕ
+budget k = checked quad (may_declare k) NotZero
 
 -- the byte of a class's kind, after so many servers: the ninth passes the limit
 abbrev pub kind_sort : ℕ → Codec ℕ
 kind_sort servers = checked (checked byte (is_between 0 3) BadOperand) (λ n. if n == 2 then nat_lt servers 8 else true) LimitPassed
 
 -- the fields of a class
-abbrev pub class_parts : ℕ → ℕ → ℕ → Codec (ℕ × (ℕ × (ℕ × (Purpose × (List Thing × ClassKind)))))
+abbrev pub class_parts : ℕ → ℕ → ℕ → Codec (ℕ × (ℕ × (ℕ × (ClassKind × (List Thing × ℕ)))))
 class_parts classes natives servers =
     next (kind_sort servers) (λ sort.
     next (limited byte 0 8) (λ _.
     next (limited byte 0 8) (λ count.
-    next (purpose classes natives sort) (λ p.
+    next (kind classes natives sort) (λ k.
     next (many count (thing classes)) (λ _.
     after (unused (8 - count) pair NotZero)
-    (closing p))))))
+    (budget k))))))
 
 -- a class, after so many servers
 abbrev pub class : ℕ → ℕ → ℕ → Codec ClassDecl
 class classes natives servers = seen
-    (λ p. Ok (record { kind = p.1.1.1.1.1; words = p.1.0; fields = p.1.1.1.1.0 }))
-    (λ c. (kind_byte c.kind, (c.words, (length c.fields, (purpose_of c.kind, (c.fields, c.kind))))))
+    (λ p. Ok (record { kind = p.1.1.1.0; parent = None; words = p.1.0; fields = p.1.1.1.1.0; budget = p.1.1.1.1.1 }))
+    (λ c. (kind_byte c.kind, (c.words, (length c.fields, (c.kind, (c.fields, c.budget))))))
     (class_parts classes natives servers)
 
 -- the servers so far
@@ -246,7 +235,7 @@ method_parts classes methods =
 -- a method and its code
 abbrev pub method : ℕ → ℕ → Codec Method
 method classes methods = seen
-    (λ p. Ok (record { class = p.0; role = p.1.0; flags = p.1.1.0; before = p.1.1.1.0; after = p.1.1.1.1.0; arguments = p.1.1.1.1.1.1.1.0; gives = p.1.1.1.1.1.1.1.1.0; code = p.1.1.1.1.1.1.1.1.1.1 }))
+    (λ p. Ok (record { class = p.0; over = None; role = p.1.0; flags = p.1.1.0; before = p.1.1.1.0; after = p.1.1.1.1.0; arguments = p.1.1.1.1.1.1.1.0; gives = p.1.1.1.1.1.1.1.1.0; code = p.1.1.1.1.1.1.1.1.1.1 }))
     (λ m. (m.class, (m.role, (m.flags, (m.before, (m.after, (length m.arguments, (gives_byte m.gives, (m.arguments, (m.gives, (length m.code, m.code)))))))))))
     (method_parts classes methods)
 

@@ -79,8 +79,8 @@ header classes methods h =
 -- the kind of a class
 abbrev pub kind_byte : ClassKind → ℕ
 kind_byte kinds.Plain = 0
-kind_byte (kinds.Active provider budget) = 1
-kind_byte (kinds.Server sessions session budget) = 2
+kind_byte (kinds.Active provider) = 1
+kind_byte (kinds.Server sessions session) = 2
 kind_byte kinds.Session = 3
 
 -- the provider of a native class has its number beside it
@@ -91,7 +91,7 @@ provider_sort (providers.Native n) = 2
 
 -- the provider, of active classes alone
 abbrev pub provider_byte : ClassKind → ℕ
-provider_byte (kinds.Active provider budget) = provider_sort provider
+provider_byte (kinds.Active provider) = provider_sort provider
 provider_byte _ = 0
 
 -- the number of a native, and 0 for other providers
@@ -101,26 +101,20 @@ native_number _ = 0
 
 -- a native's number, or a server's most sessions
 abbrev pub number_byte : ClassKind → ℕ
-number_byte (kinds.Active provider budget) = native_number provider
-number_byte (kinds.Server sessions session budget) = sessions
+number_byte (kinds.Active provider) = native_number provider
+number_byte (kinds.Server sessions session) = sessions
 number_byte _ = 0
 
 -- the class of a server's sessions
 abbrev pub session_number : ClassKind → ℕ
-session_number (kinds.Server sessions session budget) = session
+session_number (kinds.Server sessions session) = session
 session_number _ = no_class
-
--- the budget of active and server classes
-abbrev pub budget_of : ClassKind → ℕ
-budget_of (kinds.Active provider budget) = budget
-budget_of (kinds.Server sessions session budget) = budget
-budget_of _ = 0
 
 -- a class, in 28 bytes
 abbrev pub class : ClassDecl → List ℕ
 class c =
     kind_byte c.kind ∷ c.words ∷ length c.fields ∷ provider_byte c.kind ∷ number_byte c.kind ∷ 0 ∷ (pair (session_number c.kind)
-    ++ (flat_map (λ t. pair (thing_number t)) c.fields ++ (unused_pairs (8 - length c.fields) ++ quad (budget_of c.kind))))
+    ++ (flat_map (λ t. pair (thing_number t)) c.fields ++ (unused_pairs (8 - length c.fields) ++ quad c.budget)))
 
 -- ---- instructions
 

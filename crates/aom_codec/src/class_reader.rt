@@ -1,6 +1,6 @@
 //! Classes, as they are read.
 ghost use Rattle.std.specs.Prelude.{◌≡◌, ◌≤◌, ◌<◌, ◌+◌};
-ghost use Rattle.aom_codec.specs.Format.{thing_from, thing, provider, bare, purpose, closing, kind_sort, class, no_session, active_part, server_part, count_server};
+ghost use Rattle.aom_codec.specs.Format.{thing_from, thing, provider, bare, kind, budget, kind_sort, class, no_session, active_part, server_part, count_server};
 ghost use Rattle.aom_codec.specs.Reads.{Reads, ReadsOrNoMemory};
 ghost use Rattle.aom_codec.specs.Codec.{many, many_from};
 
@@ -9,15 +9,6 @@ use crate::header::class_below;
 use crate::reader::Reader;
 use aom_image::{ClassDecl, ClassKind, ClassNumber, Items, NativeNumber, Provider, Thing};
 use std::alloc::Global;
-
-/// What a class's kind says before its budget is read.
-#[derive(Clone, Copy)]
-pub enum Purpose {
-    Plain,
-    Active(Provider),
-    Server(u8, ClassNumber),
-    Session,
-}
 
 /// The servers up to a class, after so many.
 fn count_server(servers: u16, class: &ClassDecl) -> u16
@@ -108,53 +99,40 @@ impl<'a> Reader<'a> {
     }
 
     /// What stands between the counts and the fields.
-    fn purpose(&mut self, sort: u8, classes: u16, natives: u8) -> Result<Purpose, LoadFault>
+    fn kind(&mut self, sort: u8, classes: u16, natives: u8) -> Result<ClassKind, LoadFault>
         requires classes { classes ≤ 256 }
         requires natives { natives ≤ 16 }
-        ensures { Reads (λ x. (x, self.new)) result ((purpose classes natives sort).read self.old) }
+        ensures { Reads (λ x. (x, self.new)) result ((kind classes natives sort).read self.old) }
     {
         match sort {
             0 => {
                 self.bare()?;
-                Ok(Purpose::Plain)
+                Ok(ClassKind::Plain)
             }
-            1 => Ok(Purpose::Active(self.active(natives)?)),
+            1 => {
+                let provider = self.active(natives)?;
+                Ok(ClassKind::Active { provider })
+            }
             2 => {
                 let (sessions, session) = self.server(classes)?;
-                Ok(Purpose::Server(sessions, session))
+                Ok(ClassKind::Server { sessions, session })
             }
             _ => {
                 self.bare()?;
-                Ok(Purpose::Session)
+                Ok(ClassKind::Session)
             }
         }
     }
 
     /// What stands after the fields.
-    fn closing(&mut self, purpose: Purpose) -> Result<ClassKind, LoadFault>
-        ensures { Reads (λ x. (x, self.new)) result ((closing purpose).read self.old) }
+    fn budget(&mut self, kind: ClassKind) -> Result<u32, LoadFault>
+        ensures { Reads (λ x. (x, self.new)) result ((budget kind).read self.old) }
     {
-        match purpose {
-            Purpose::Plain => {
-                self.fixed_quad(0, LoadFault::NotZero)?;
-                Ok(ClassKind::Plain)
-            }
-            Purpose::Active(provider) => {
-                let budget = self.quad()?;
-                Ok(ClassKind::Active { provider, budget })
-            }
-            Purpose::Server(sessions, session) => {
-                let budget = self.quad()?;
-                Ok(ClassKind::Server {
-                    sessions,
-                    session,
-                    budget,
-                })
-            }
-            Purpose::Session => {
-                self.fixed_quad(0, LoadFault::NotZero)?;
-                Ok(ClassKind::Session)
-            }
+        let budget = self.quad()?;
+        if kind.may_declare(budget) {
+            Ok(budget)
+        } else {
+            Err(LoadFault::NotZero)
         }
     }
 
@@ -195,15 +173,18 @@ impl<'a> Reader<'a> {
         let sort = self.kind_sort(servers)?;
         let words = self.limited_byte(0, 8)?;
         let count = self.limited_byte(0, 8)?;
-        let purpose = self.purpose(sort, classes, natives)?;
+        let kind = self.kind(sort, classes, natives)?;
         let fields = self.things(alloc, count, classes)?;
         self.unused_pairs(8 - count)?;
-        let kind = self.closing(purpose)?;
-        Ok(ClassDecl {
+        let mut class = ClassDecl {
             kind,
+            parent: None,
             words,
             fields: Items::from_vec(fields),
-        })
+            budget: 0,
+        };
+        class.budget = self.budget(class.kind)?;
+        Ok(class)
     }
 
     pub fn classes(

@@ -1,6 +1,6 @@
 //! The way out: the bytes that spell an image.
 ghost use Rattle.std.specs.Prelude.{◌≡◌, ◌≤◌, ◌-◌, ◌++◌, ◌∷◌, All, length, flat_map, OnOk, IfOk};
-ghost use Rattle.aom_codec.specs.Spelling.{pair, quad, unused_pairs, class_number, thing_number, argument_number, gives_byte, result_number, kind_byte, provider_byte, number_byte, session_number, budget_of, class as class_bytes, target_byte, small_byte, large_number, instruction as instruction_bytes, method as method_bytes, spell};
+ghost use Rattle.aom_codec.specs.Spelling.{pair, quad, unused_pairs, class_number, thing_number, argument_number, gives_byte, result_number, kind_byte, provider_byte, number_byte, session_number, class as class_bytes, target_byte, small_byte, large_number, instruction as instruction_bytes, method as method_bytes, spell};
 
 use aom_image::{
     Argument, ClassDecl, ClassKind, ClassNumber, Gives, Header, Image, Instr, Large, Method,
@@ -75,7 +75,7 @@ fn provider_and_number(kind: ClassKind) -> (u8, u8)
 {
     match kind {
         ClassKind::Plain | ClassKind::Session => (0, 0),
-        ClassKind::Active { provider, .. } => match provider {
+        ClassKind::Active { provider } => match provider {
             Provider::Own => (0, 0),
             Provider::Timer => (1, 0),
             Provider::Native(native) => (2, native.number()),
@@ -90,15 +90,6 @@ fn session_number(kind: ClassKind) -> u16
     match kind {
         ClassKind::Server { session, .. } => session.number(),
         _ => 0xffff,
-    }
-}
-
-fn budget_of(kind: ClassKind) -> u32
-    ensures { result ≡ budget_of kind }
-{
-    match kind {
-        ClassKind::Plain | ClassKind::Session => 0,
-        ClassKind::Active { budget, .. } | ClassKind::Server { budget, .. } => budget,
     }
 }
 
@@ -209,7 +200,7 @@ fn put_class(out: &mut Vec<u8>, class: &ClassDecl) -> Result<(), AllocError>
     put_pair(out, session_number(class.kind))?;
     put_things(out, class.fields.as_slice())?;
     put_unused_pairs(out, 8 - count)?;
-    put_quad(out, budget_of(class.kind))
+    put_quad(out, class.budget)
 }
 
 fn put_arguments(out: &mut Vec<u8>, arguments: &[Argument]) -> Result<(), AllocError>

@@ -5,7 +5,7 @@ ghost use Rattle.aom_codec.specs.Reads.{Reads};
 
 use crate::LoadFault;
 use crate::reader::Reader;
-use aom_image::{ClassNumber, Header};
+use aom_image::{ClassNumber, Header, Version};
 
 /// The header with the counts that an image shows by its lists.
 #[derive(Clone, Copy)]
@@ -62,6 +62,7 @@ impl<'a> Reader<'a> {
     fn header(&mut self, classes: u16) -> Result<Header, LoadFault>
         requires { classes ≤ 256 }
         ensures read { Reads (λ h. ((h.cells, (h.messages, (h.natives, (h.root, h.budget)))), self.new)) result ((header_fields classes).read self.old) }
+        ensures version { IfOk result (λ h. h.version ≡ Version.One) }
         ensures natives { IfOk result (λ h. h.natives ≤ 16) }
     {
         let cells = self.limited_pair(0, 4096)?;
@@ -72,6 +73,7 @@ impl<'a> Reader<'a> {
         self.fixed_pair(0, LoadFault::NotZero)?;
         let budget = self.quad()?;
         Ok(Header {
+            version: Version::One,
             cells,
             messages,
             natives,

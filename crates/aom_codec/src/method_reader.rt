@@ -157,6 +157,7 @@ impl<'a> Reader<'a> {
         let code = self.code(alloc, limits)?;
         Ok(Method {
             class,
+            over: None,
             role,
             flags,
             before,

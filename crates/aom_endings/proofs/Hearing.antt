@@ -1,5 +1,5 @@
 -- What a native answers counts only where it is heard.
-use Rattle.std.proofs.Common.{List, None, Option, Some, [], ap, arith, false, refl, ℕ, ℤ, ◌∷◌, ◌≡◌}
+use Rattle.std.proofs.Common.{List, None, Option, Some, [], ap, arith, false, refl, ℕ, ℤ, ◌∷◌, ◌≡◌, ◌<◌}
 use Rattle.aom_image.specs.Image.{Image}
 use Rattle.aom_image.specs.Views.{instr_at, class_at}
 use Rattle.aom_image.specs.declared.class.ClassKind.{ClassKind}
@@ -84,7 +84,7 @@ class_unserved : (p : Image) (c : ClassDecl) → p.header.natives ≡ 0 → Clas
 class_unserved p c none fits = go c.kind fits.kind
   where
     go : (k : ClassKind) → KindFits (length p.classes) p.header.natives k → is_native_kind (Some k) ≡ false
-    go (An_active (Native n) budget) h = let some = h.0 in absurd (omega (arith, some, none))
+    go (An_active (Native n)) h = absurd (let some : n < p.header.natives = h in omega (arith, some, none))
     go _ h = refl
 
 pub unnamed_unserved : (p : Image) → WellFormed p → p.header.natives ≡ 0 → HasNoNative p

@@ -111,8 +111,8 @@ few_answers places (Close c ∷ es) = few_answers places es
 
 kind_few : (classes natives : ℕ) (k : ClassKind) → KindFits classes natives k → most_of (Some k) ≤ 64
 kind_few classes natives kinds.Plain fits = omega arith
-kind_few classes natives (kinds.Active provider budget) fits = omega arith
-kind_few classes natives (kinds.Server sessions session budget) fits = fits.1
+kind_few classes natives (kinds.Active provider) fits = omega arith
+kind_few classes natives (kinds.Server sessions session) fits = fits.1
 kind_few classes natives kinds.Session fits = omega arith
 
 most_few : (p : Image) → WellFormed p → (t : Thing) → most_of (thing_kind p t) ≤ 64

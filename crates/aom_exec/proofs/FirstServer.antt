@@ -35,8 +35,7 @@ pub record IsFirst (p : Image) (m : Parts) (class n : ℕ) : Type 0 where
   pub below : n < length m.clients.queues
   pub most : ℕ
   pub session : ℕ
-  pub budget : ℕ
-  pub kind : kind_of p (Some class) ≡ Some (Server most session budget)
+  pub kind : kind_of p (Some class) ≡ Some (Server most session)
 
 -- it is in its list
 among_first : (ns : List ℕ) (n : ℕ) → first_of ns ≡ Some n → is_among n ns ≡ true
@@ -44,12 +43,12 @@ among_first [] n e = absurd (none-some _ e)
 among_first (k ∷ ns) n e = ap (λ b. b || is_among n ns) (eq-eqb k n (same_Some _ _ e))
 
 -- what is of a class of servers
-of_servers : (k : Option ClassKind) → is_some (sessions_in k) ≡ true → (most session budget : ℕ) × (k ≡ Some (Server most session budget))
+of_servers : (k : Option ClassKind) → is_some (sessions_in k) ≡ true → (most session : ℕ) × (k ≡ Some (Server most session))
 unfolding sessions_in sessions_of
 of_servers None e = absurd (false≢true e)
 of_servers (Some Plain) e = absurd (false≢true e)
-of_servers (Some (Active provider budget)) e = absurd (false≢true e)
-of_servers (Some (Server most session budget)) e = (most, session, budget, refl)
+of_servers (Some (Active provider)) e = absurd (false≢true e)
+of_servers (Some (Server most session)) e = (most, session, refl)
 of_servers (Some Session) e = absurd (false≢true e)
 
 of_class : (class : ℕ) (t : Thing) → is_of_class class t ≡ true → t ≡ An_object_of class
@@ -70,8 +69,7 @@ first_known p m (s, st) class n first = go (named s.cells n) refl (requested s.c
           below = (let small = st.agrees.cells.below n c.0 c.1 in let limit = st.agrees.cells.limit in let many = st.agrees.services.sized.queues in omega (arith, small, limit, many));
           most = kind.0;
           session = kind.1;
-          budget = kind.2;
-          kind = kind.3;
+          kind = kind.2;
         }
 
     go : (x : Option Object) → named s.cells n ≡ x → (q : Option Request) → lists p class x q ≡ true → IsFirst p m class n
@@ -90,7 +88,7 @@ module _ (p : Image) (m : Parts) (class n : ℕ) (known : IsFirst p m class n) w
       same : class ≡ k
       same = same_Some class k (sym known.is ∙ found)
 
-      kind : kind_in (declared_at p k) ≡ Some (Server known.most known.session known.budget)
+      kind : kind_in (declared_at p k) ≡ Some (Server known.most known.session)
       kind = ap (λ i. kind_in (declared_at p i)) (sym same) ∙ known.kind
 
       go : (o : Option ClassDecl) → declared_at p k ≡ o → IsSome (declared_at p k)
@@ -98,15 +96,15 @@ module _ (p : Image) (m : Parts) (class n : ℕ) (known : IsFirst p m class n) w
       go (Some d) e = ap is_some e
 
   -- and a class of servers
-  pub of_kind : (k : ℕ) (d : ClassDecl) → class_at m.cells n ≡ Some k → declared_at p k ≡ Some d → d.kind ≡ Server known.most known.session known.budget
+  pub of_kind : (k : ℕ) (d : ClassDecl) → class_at m.cells n ≡ Some k → declared_at p k ≡ Some d → d.kind ≡ Server known.most known.session
   of_kind k d found declared =
       let same = same_Some class k (sym known.is ∙ found) in
       same_Some d.kind _ (sym (kind_found p (Some class) k d (ap Some same) declared) ∙ known.kind)
 
   -- it is found with the most sessions that its class takes
-  pub first_served : first_of (list_at m.listed class) ≡ Some n → (most session budget : ℕ) → Server known.most known.session known.budget ≡ Server most session budget →
+  pub first_served : first_of (list_at m.listed class) ≡ Some n → (most session : ℕ) → Server known.most known.session ≡ Server most session →
       Some (record { cell = n; most = most }) ≡ first_server p m.listed class
-  first_served first most session budget same =
+  first_served first most session same =
       ap (λ k. Some (found (most_of (Some k)))) (sym same) ∙ ap (λ k. Some (found (most_of k))) (sym known.kind)
       ∙ ap (option_map (λ i. record { cell = i; most = most_of (kind_of p (Some class)) })) (sym first)
     where

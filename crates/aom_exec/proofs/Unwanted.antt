@@ -21,9 +21,9 @@ use Rattle.aom_sound.specs.Wanted.{Exchange, exchange_at, wanted, wanted_at, wan
 
 module _ (p : Image) (none_named : p.header.natives ≡ 0) (formed : WellFormed p) where
   kind_no_native : (k : ClassKind) → KindFits (length p.classes) p.header.natives k → native_of (Some k) ≡ None
-  kind_no_native (An_active (Native n) budget) fits = absurd (let below : n < p.header.natives = fits.0 in omega (arith, below, none_named))
-  kind_no_native (An_active Own budget) fits = refl
-  kind_no_native (An_active Timer budget) fits = refl
+  kind_no_native (An_active (Native n)) fits = absurd (let below : n < p.header.natives = fits in omega (arith, below, none_named))
+  kind_no_native (An_active Own) fits = refl
+  kind_no_native (An_active Timer) fits = refl
   kind_no_native _ fits = refl
 
   class_no_native : (class : Option ℕ) → native_of (kind_of p class) ≡ None

@@ -56,7 +56,7 @@ fn native_of(kind: ClassKind) -> Option<usize>
     ensures { native_of (Some kind) ≡ result }
 {
     match kind {
-        ClassKind::Active { provider, .. } => match provider {
+        ClassKind::Active { provider } => match provider {
             Provider::Native(native) => Some(native.number() as usize),
             Provider::Own => None,
             Provider::Timer => None,

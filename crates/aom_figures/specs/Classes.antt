@@ -13,8 +13,8 @@ use Rattle.aom_figures.specs.Over.{class_is_over, color_text}
 -- what a class is for, and the end of its label
 abbrev pub kind_word : ClassKind → List ℕ
 kind_word Plain = codes " plain\""
-kind_word (Active provider budget) = codes " active\""
-kind_word (Server sessions session budget) = codes " server\""
+kind_word (Active provider) = codes " active\""
+kind_word (Server sessions session) = codes " server\""
 kind_word Session = codes " session\""
 
 -- a box for a class, with its kind
@@ -22,8 +22,8 @@ abbrev pub class_heading : ℕ → ClassKind → List ℕ
 class_heading k kind = numbered (codes "c") k ++ numbered (codes " [shape=box label=\"c") k ++ kind_word kind
 
 -- its line, red where its dispatches are over what is declared of them
-abbrev pub class_line : Image → List ℕ → ℕ → ClassKind → List ℕ
-class_line p prices k kind = class_heading k kind ++ color_text (class_is_over p prices k kind) ++ line_end
+abbrev pub class_line : Image → List ℕ → ℕ → ClassDecl → List ℕ
+class_line p prices k class = class_heading k class.kind ++ color_text (class_is_over p prices k class) ++ line_end
 
 -- what is owned
 abbrev pub thing_text : Thing → List ℕ
@@ -38,7 +38,7 @@ fields_text k fields = each (field_line k) 0 fields
 
 -- a class, and what each of its owning fields may own
 abbrev pub class_text : Image → List ℕ → ℕ → ClassDecl → List ℕ
-class_text p prices k class = class_line p prices k class.kind ++ fields_text k class.fields
+class_text p prices k class = class_line p prices k class ++ fields_text k class.fields
 
 abbrev pub classes_text : Image → List ℕ → List ClassDecl → List ℕ
 classes_text p prices classes = each (class_text p prices) 0 classes

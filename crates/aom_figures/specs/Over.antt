@@ -1,10 +1,10 @@
 -- What costs more than is declared of it, or is over a limit.
 use Rattle.std.specs.Prelude.{ℕ, ◌==◌, Bool, true, false, ◌&&◌, ◌||◌, nat_lt, List, [], Option, Some, None, codes}
 use Rattle.aom_image.specs.Image.{Image}
-use Rattle.aom_image.specs.declared.class.ClassKind.{ClassKind}
+use Rattle.aom_image.specs.declared.class.ClassDecl.{ClassDecl}
 use Rattle.aom_classes.specs.Roles.{main_of}
 use Rattle.aom_shape.specs.Tables.{at}
-use Rattle.aom_budget.specs.Budgets.{kind_declares}
+use Rattle.aom_budget.specs.Budgets.{budget_of}
 use Rattle.aom_budget.specs.Figures.{Figures, kind_by, main_by}
 
 -- a price is more than what is declared, where something is
@@ -12,8 +12,8 @@ abbrev pub is_over : ℕ → Option ℕ → Bool
 is_over price None = false
 is_over price (Some declared) = nat_lt declared price
 
-abbrev pub class_is_over : Image → List ℕ → ℕ → ClassKind → Bool
-class_is_over p prices k kind = is_over (kind_by p prices k kind) (kind_declares kind)
+abbrev pub class_is_over : Image → List ℕ → ℕ → ClassDecl → Bool
+class_is_over p prices k class = is_over (kind_by p prices k class.kind) (budget_of class)
 
 abbrev pub is_method : Option ℕ → ℕ → Bool
 is_method None m = false

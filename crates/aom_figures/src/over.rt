@@ -25,10 +25,10 @@ pub(crate) fn class_is_over(
     class: ClassNumber,
     declaration: &ClassDecl,
 ) -> bool
-    ensures { result ≡ class_is_over linked.now figures.now.prices class declaration.now.kind }
+    ensures { result ≡ class_is_over linked.now figures.now.prices class declaration.now }
 {
     let price = figures.kind_price(linked, class, declaration.kind);
-    is_over(price, budget_of(declaration.kind))
+    is_over(price, budget_of(declaration))
 }
 
 /// Whether it is main, and main's dispatch may cost more than is declared of it.

@@ -4,7 +4,7 @@ ghost use Rattle.aom_budget.specs.Faults.{payer_text};
 ghost use Rattle.aom_budget.specs.declared.fault.Payer.TheVariants as payers;
 ghost use Rattle.aom_figures.specs.Text.{classes_text, declared_text, dispatch_line, entries_line, figures_text, frames_line, limits_text, method_line, methods_text, payer_lines};
 ghost use Rattle.aom_budget.specs.Figures.{kind_by};
-ghost use Rattle.aom_budget.specs.Budgets.{kind_declares};
+ghost use Rattle.aom_budget.specs.Budgets.{budget_of};
 
 use crate::most::{method_number, most_of};
 use crate::writer::Writer;
@@ -49,9 +49,9 @@ impl Writer {
         class: ClassNumber,
         declaration: &ClassDecl,
     ) -> Result<(), AllocError>
-        ensures { OnOk result (self.new ≡ self.old ++ declared_text (payers.Class class) (kind_by linked.now figures.now.prices class declaration.now.kind) (kind_declares declaration.now.kind)) }
+        ensures { OnOk result (self.new ≡ self.old ++ declared_text (payers.Class class) (kind_by linked.now figures.now.prices class declaration.now.kind) (budget_of declaration.now)) }
     {
-        match budget_of(declaration.kind) {
+        match budget_of(declaration) {
             Some(declared) => {
                 let price = figures.kind_price(linked, class, declaration.kind);
                 self.dispatch(Payer::Class(class), price, declared)

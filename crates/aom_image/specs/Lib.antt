@@ -2,3 +2,4 @@ pub mod Image
 pub mod Views
 pub mod Roles
 pub mod WellFormed
+pub mod Small

@@ -1,8 +1,9 @@
 -- Which images are well formed: every field in its range, and at most 1 MiB of bytes.
-use Rattle.std.specs.Prelude.{ℕ, ◌+◌, ◌*◌, ◌<◌, ◌≤◌, ◌^◌, Bool, true, false, List, length, All, count_by, sum_by, IfSome}
+use Rattle.std.specs.Prelude.{◌≡◌, ℕ, ◌+◌, ◌*◌, ◌<◌, ◌≤◌, ◌^◌, ◌||◌, ◌==◌, Bool, true, false, List, length, All, count_by, sum_by, None, IfSome}
 use Rattle.aom_image.specs.Image.{Image}
 use Rattle.aom_instructions.specs.Fits.{InstrFits, limits}
 use Rattle.aom_image.specs.declared.image.Header.{Header}
+use Rattle.aom_image.specs.declared.image.Version.TheVariants as versions
 use Rattle.aom_image.specs.declared.class.ClassDecl.{ClassDecl}
 use Rattle.aom_image.specs.declared.class.ClassKind.{ClassKind}
 use Rattle.aom_image.specs.declared.class.ClassKind.TheVariants as kinds
@@ -32,22 +33,36 @@ ProviderFits natives (providers.Native n) = n < natives
 -- a kind of class, beside so many classes and natives
 abbrev pub KindFits : ℕ → ℕ → ClassKind → Type 0
 KindFits classes natives kinds.Plain = Unit {0}
-KindFits classes natives (kinds.Active provider budget) = ProviderFits natives provider × (budget < 2 ^ 32)
-KindFits classes natives (kinds.Server sessions session budget) = (1 ≤ sessions) × (sessions ≤ 64) × (session < classes) × (budget < 2 ^ 32)
+KindFits classes natives (kinds.Active provider) = ProviderFits natives provider
+KindFits classes natives (kinds.Server sessions session) = (1 ≤ sessions) × (sessions ≤ 64) × (session < classes)
 KindFits classes natives kinds.Session = Unit {0}
 
--- a class, beside so many classes and natives
+-- objects of such a class are dispatched, and each dispatch has a budget
+abbrev pub is_dispatched : ClassKind → Bool
+is_dispatched kinds.Plain = false
+is_dispatched (kinds.Active provider) = true
+is_dispatched (kinds.Server sessions session) = true
+is_dispatched kinds.Session = false
+
+-- a class of such a kind may declare so much: nothing where its objects are not dispatched
+abbrev pub may_declare : ClassKind → ℕ → Bool
+may_declare kind budget = is_dispatched kind || (budget == 0)
+
+-- a class, beside so many classes and natives; no image with parents is read yet
 pub record ClassFits (classes natives : ℕ) (c : ClassDecl) : Type 0 where
   pub kind : KindFits classes natives c.kind
+  pub parent : c.parent ≡ None
   pub words : c.words ≤ 8
   pub field_count : length c.fields ≤ 8
   pub fields : All (ThingFits classes) c.fields
+  pub budget : c.budget < 2 ^ 32
+  pub budgeted : may_declare c.kind c.budget ≡ true
 
 -- the kind of servers
 abbrev pub is_server_kind : ClassKind → Bool
 is_server_kind kinds.Plain = false
-is_server_kind (kinds.Active provider budget) = false
-is_server_kind (kinds.Server sessions session budget) = true
+is_server_kind (kinds.Active provider) = false
+is_server_kind (kinds.Server sessions session) = true
 is_server_kind kinds.Session = false
 
 -- servers among the classes
@@ -69,9 +84,10 @@ GivesFits classes (gives.Own t) = ThingFits classes t
 GivesFits classes (gives.Maybe t) = ThingFits classes t
 GivesFits classes (gives.Left c) = c < classes
 
--- a method, beside so many classes and methods
+-- a method, beside so many classes and methods; no image with overriders is read yet
 pub record MethodFits (classes methods : ℕ) (m : Method) : Type 0 where
   pub class : IfSome m.class (λ c. c < classes)
+  pub over : m.over ≡ None
   pub flags : m.flags.0 < 4
   pub before : m.before.0 < 64
   pub after : m.after.0 < 64
@@ -84,8 +100,9 @@ pub record MethodFits (classes methods : ℕ) (m : Method) : Type 0 where
 
 -- ---- the whole
 
--- a header, beside so many classes
+-- a header, beside so many classes; no image of the second version is read yet
 pub record HeaderFits (classes : ℕ) (h : Header) : Type 0 where
+  pub version : h.version ≡ versions.One
   pub cells : h.cells ≤ 4096
   pub messages : h.messages ≤ 1024
   pub natives : h.natives ≤ 16

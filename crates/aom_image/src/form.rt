@@ -5,6 +5,7 @@ ghost use Rattle.aom_instructions.specs.Fits.{InstrFits};
 
 use crate::{
     Argument, ClassDecl, ClassKind, ClassNumber, Gives, Header, Instr, Method, Provider, Thing,
+    Version,
 };
 use aom_instructions::{Limits, fits};
 
@@ -64,12 +65,10 @@ fn kind_fits(kind: ClassKind, classes: usize, natives: u8) -> bool
 {
     match kind {
         ClassKind::Plain | ClassKind::Session => true,
-        ClassKind::Active { provider, .. } => provider_fits(provider, natives),
-        ClassKind::Server {
-            sessions,
-            session,
-            ..
-        } => 1 <= sessions && sessions <= 64 && class_fits(session, classes),
+        ClassKind::Active { provider } => provider_fits(provider, natives),
+        ClassKind::Server { sessions, session } => {
+            1 <= sessions && sessions <= 64 && class_fits(session, classes)
+        }
     }
 }
 
@@ -87,6 +86,8 @@ fn class_ok(class: &ClassDecl, classes: usize, natives: u8) -> bool
         && class.words <= 8
         && fields.len() <= 8
         && fields_fit(fields, classes)
+        && class.kind.may_declare(class.budget)
+        && class.parent.is_none()
 }
 
 fn code_fits(code: &[Instr], limits: Limits) -> bool
@@ -108,6 +109,7 @@ fn method_ok(method: &Method, classes: usize, methods: usize) -> bool
         None => true,
     };
     class_is_there
+        && method.over.is_none()
         && method.flags.is_known()
         && method.before.is_known()
         && method.after.is_known()
@@ -119,6 +121,15 @@ fn method_ok(method: &Method, classes: usize, methods: usize) -> bool
         && code_fits(method.code.as_slice(), limits)
 }
 
+fn is_first(version: Version) -> bool
+    ensures { IsTrue result ↔ (version ≡ Version.One) }
+{
+    match version {
+        Version::One => true,
+        Version::Two => false,
+    }
+}
+
 fn header_ok(header: &Header, classes: usize) -> bool
     ensures { IsTrue result ↔ HeaderFits classes header.now }
 {
@@ -127,7 +138,11 @@ fn header_ok(header: &Header, classes: usize) -> bool
         Some(class) => class_fits(class, classes),
         None => true,
     };
-    header.cells <= 4096 && header.messages <= 1024 && header.natives <= 16 && root_is_there
+    is_first(header.version)
+        && header.cells <= 4096
+        && header.messages <= 1024
+        && header.natives <= 16
+        && root_is_there
 }
 
 /// How many bytes spell so many classes and these methods.

@@ -4,9 +4,18 @@ ghost use Rattle.std.specs.Prelude.{◌≡◌};
 use crate::{ClassDecl, ClassNumber, Items, Method};
 use std::marker::Model;
 
+/// Which of the two formats an image has.
+#[derive(Clone, Copy)]
+pub enum Version {
+    One,
+    /// Its classes may have parents, and its methods may override others.
+    Two,
+}
+
 /// What an image says of the whole program.
 #[derive(Clone, Copy)]
 pub struct Header {
+    pub version: Version,
     /// How many cells may live at once, at most 4,096.
     pub cells: u16,
     /// How many messages may live at once, at most 1,024.

@@ -14,6 +14,6 @@ pub use aom_instructions::{
 };
 pub use class::{ClassDecl, ClassKind, Provider};
 pub use form::{form_ok, spelled_len};
-pub use image::{Header, Image};
+pub use image::{Header, Image, Version};
 pub use items::Items;
 pub use method::{Argument, Gives, Method, MethodFlags, Role, States, Thing};

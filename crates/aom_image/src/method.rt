@@ -2,7 +2,7 @@
 ghost use Rattle.std.specs.Prelude.{⊤, [], ◌∷◌, codes, ◌≡◌, IsSome, IfSome, IsTrue, ◌↔◌, ◌<◌};
 ghost use Rattle.aom_image.specs.Roles.{role_number};
 
-use crate::{ClassNumber, Instr, Items};
+use crate::{ClassNumber, Instr, Items, MethodNumber};
 use bitflags::{Flag, Flags};
 
 /// What a place may own.
@@ -200,6 +200,8 @@ impl Flags for States {
 pub struct Method {
     /// The class whose objects it works on, or none for a static method.
     pub class: Option<ClassNumber>,
+    /// The method of an ancestor in whose place it runs.
+    pub over: Option<MethodNumber>,
     pub role: Role,
     pub flags: MethodFlags,
     /// The states in which it may begin.

@@ -7,7 +7,7 @@ use Rattle.std.proofs.lemmas.List.Folds.{list_all-append}
 use Rattle.std.proofs.lemmas.List.Elements.{All-head, All-tail}
 use Rattle.aom_image.specs.Image.{Image}
 use Rattle.aom_image.specs.Views.{has}
-use Rattle.aom_image.specs.WellFormed.{WellFormed, MethodFits}
+use Rattle.aom_image.specs.WellFormed.{WellFormed, MethodFits, is_dispatched}
 use Rattle.aom_image.specs.declared.class.ClassDecl.{ClassDecl}
 use Rattle.aom_image.specs.declared.class.ClassKind.{ClassKind}
 use Rattle.aom_image.specs.declared.class.ClassKind.TheVariants as kinds
@@ -145,15 +145,13 @@ provider_are_words (providers.Native n) = (keyword_is_word k.Native, (decimal_is
 
 kind_are_words : (kind : ClassKind) → AreWords (kind_words kind)
 kind_are_words kinds.Plain = (keyword_is_word k.Plain, tt)
-kind_are_words (kinds.Active provider budget) = (keyword_is_word k.Active, provider_are_words provider)
-kind_are_words (kinds.Server sessions session budget) = (keyword_is_word k.Server, (name_is_word 99 session refl, (keyword_is_word k.Max, (decimal_is_word sessions, tt))))
+kind_are_words (kinds.Active provider) = (keyword_is_word k.Active, provider_are_words provider)
+kind_are_words (kinds.Server sessions session) = (keyword_is_word k.Server, (name_is_word 99 session refl, (keyword_is_word k.Max, (decimal_is_word sessions, tt))))
 kind_are_words kinds.Session = (keyword_is_word k.Session, tt)
 
-budget_are_words : (kind : ClassKind) → AreWords (budget_words kind)
-budget_are_words kinds.Plain = tt
-budget_are_words (kinds.Active provider budget) = (keyword_is_word k.Budget, (decimal_is_word budget, tt))
-budget_are_words (kinds.Server sessions session budget) = (keyword_is_word k.Budget, (decimal_is_word budget, tt))
-budget_are_words kinds.Session = tt
+budget_are_words : (dispatched : Bool) (budget : ℕ) → AreWords (budget_words dispatched budget)
+budget_are_words true budget = (keyword_is_word k.Budget, (decimal_is_word budget, tt))
+budget_are_words false budget = tt
 
 fields_are_words : (c : ClassDecl) → AreWords (field_words c)
 fields_are_words c = (keyword_is_word k.Words, (decimal_is_word c.words, (keyword_is_word k.Own, (list_is_word (map thing_word c.fields) (map_words thing_word thing_is_word c.fields), tt))))
@@ -161,7 +159,9 @@ fields_are_words c = (keyword_is_word k.Words, (decimal_is_word c.words, (keywor
 class_is_stated : (place : ℕ) (c : ClassDecl) → IsStated (class_words place c)
 class_is_stated place c =
     let front : AreWords (kind_words c.kind ++ field_words c) = words_append (kind_words c.kind) (field_words c) (kind_are_words c.kind) (fields_are_words c) in
-    let rest : AreWords (kind_words c.kind ++ field_words c ++ budget_words c.kind) = words_append (kind_words c.kind ++ field_words c) (budget_words c.kind) front (budget_are_words c.kind) in
+    let budget = budget_words (is_dispatched c.kind) c.budget in
+    let rest : AreWords (kind_words c.kind ++ field_words c ++ budget) =
+    words_append (kind_words c.kind ++ field_words c) budget front (budget_are_words (is_dispatched c.kind) c.budget) in
     record { some = refl; words = (keyword_is_word k.Class, (name_is_word 99 place refl, rest)) }
 
 classes_are_stated : (place : ℕ) (cs : List ClassDecl) → AreStated (placed class_words place cs)

@@ -1,5 +1,6 @@
 -- The statement that declares a class.
-use Rattle.std.specs.Prelude.{ℕ, List, [], ◌∷◌, ◌++◌, map, decimal}
+use Rattle.std.specs.Prelude.{ℕ, Bool, true, false, List, [], ◌∷◌, ◌++◌, map, decimal}
+use Rattle.aom_image.specs.WellFormed.{is_dispatched}
 use Rattle.aom_image.specs.declared.class.ClassDecl.{ClassDecl}
 use Rattle.aom_image.specs.declared.class.ClassKind.{ClassKind}
 use Rattle.aom_image.specs.declared.class.ClassKind.TheVariants as kinds
@@ -26,16 +27,14 @@ provider_words (providers.Native n) = keyword_text k.Native ∷ decimal n ∷ []
 -- what a class is for
 abbrev pub kind_words : ClassKind → List (List ℕ)
 kind_words kinds.Plain = keyword_text k.Plain ∷ []
-kind_words (kinds.Active provider budget) = keyword_text k.Active ∷ provider_words provider
-kind_words (kinds.Server sessions session budget) = keyword_text k.Server ∷ class_name session ∷ keyword_text k.Max ∷ decimal sessions ∷ []
+kind_words (kinds.Active provider) = keyword_text k.Active ∷ provider_words provider
+kind_words (kinds.Server sessions session) = keyword_text k.Server ∷ class_name session ∷ keyword_text k.Max ∷ decimal sessions ∷ []
 kind_words kinds.Session = keyword_text k.Session ∷ []
 
 -- a budget, where there are dispatches
-abbrev pub budget_words : ClassKind → List (List ℕ)
-budget_words kinds.Plain = []
-budget_words (kinds.Active provider budget) = keyword_text k.Budget ∷ decimal budget ∷ []
-budget_words (kinds.Server sessions session budget) = keyword_text k.Budget ∷ decimal budget ∷ []
-budget_words kinds.Session = []
+abbrev pub budget_words : Bool → ℕ → List (List ℕ)
+budget_words true budget = keyword_text k.Budget ∷ decimal budget ∷ []
+budget_words false budget = []
 
 -- how many words there are, and what each owning field may own
 abbrev pub field_words : ClassDecl → List (List ℕ)
@@ -43,4 +42,4 @@ field_words c = keyword_text k.Words ∷ decimal c.words ∷ keyword_text k.Own 
 
 -- a class, at its place among the classes
 abbrev pub class_words : ℕ → ClassDecl → List (List ℕ)
-class_words place c = keyword_text k.Class ∷ class_name place ∷ (kind_words c.kind ++ field_words c ++ budget_words c.kind)
+class_words place c = keyword_text k.Class ∷ class_name place ∷ (kind_words c.kind ++ field_words c ++ budget_words (is_dispatched c.kind) c.budget)

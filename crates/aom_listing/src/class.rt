@@ -1,5 +1,6 @@
 //! The statement that declares a class.
 ghost use Rattle.std.specs.Prelude.{◌≡◌, ◌++◌, OnOk};
+ghost use Rattle.aom_image.specs.WellFormed.{is_dispatched};
 ghost use Rattle.aom_listing.specs.Classes.{thing_word, provider_words, kind_words, budget_words, field_words, class_words};
 ghost use Rattle.aom_listing.specs.Text.{behind, line_of};
 
@@ -34,15 +35,11 @@ impl Writer {
     {
         match kind {
             ClassKind::Plain => self.keyword(Keyword::Plain),
-            ClassKind::Active { provider, .. } => {
+            ClassKind::Active { provider } => {
                 self.keyword(Keyword::Active)?;
                 self.provider(provider)
             }
-            ClassKind::Server {
-                sessions,
-                session,
-                ..
-            } => {
+            ClassKind::Server { sessions, session } => {
                 self.keyword(Keyword::Server)?;
                 self.class_name(session)?;
                 self.counted(Keyword::Max, u32::from(sessions))
@@ -51,14 +48,13 @@ impl Writer {
         }
     }
 
-    fn budget(&mut self, kind: ClassKind) -> Result<(), AllocError>
-        ensures { OnOk result (self.new ≡ self.old ++ behind 32 (budget_words kind)) }
+    fn budget(&mut self, class: &ClassDecl) -> Result<(), AllocError>
+        ensures { OnOk result (self.new ≡ self.old ++ behind 32 (budget_words (is_dispatched class.now.kind) class.now.budget)) }
     {
-        match kind {
-            ClassKind::Plain | ClassKind::Session => Ok(()),
-            ClassKind::Active { budget, .. } | ClassKind::Server { budget, .. } => {
-                self.counted(Keyword::Budget, budget)
-            }
+        if class.kind.is_dispatched() {
+            self.counted(Keyword::Budget, class.budget)
+        } else {
+            Ok(())
         }
     }
 
@@ -77,7 +73,7 @@ impl Writer {
         self.name(b'c', place)?;
         self.kind(class.kind)?;
         self.fields(class)?;
-        self.budget(class.kind)?;
+        self.budget(class)?;
         self.end_line()
     }
 }

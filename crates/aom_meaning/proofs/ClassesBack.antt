@@ -1,11 +1,11 @@
 -- The statement that declares a class reads back.
-use Rattle.std.proofs.Common.{◌≡◌, ℕ, ◌<◌, ◌≤◌, Bool, true, [], ◌∷◌, ◌++◌, length, Ok, Err, refl, ap, ◌∙◌, append_assoc, arith}
+use Rattle.std.proofs.Common.{◌≡◌, ℕ, ◌<◌, ◌≤◌, Bool, true, false, [], ◌∷◌, ◌++◌, length, Ok, Err, refl, sym, ap, subst, ◌∙◌, ◌||◌, eqb, eqb-true, append_assoc, arith, None}
 use Rattle.std.specs.Prelude.{◌&&◌, ◌^◌, decimal, if◌then◌else◌, nat_le, not}
 use Rattle.std.proofs.lemmas.Bool.{and_parts, lt-ltb}
 use Rattle.aom_text.specs.Names.{has_name_form, is_letter, is_reserved}
 use Rattle.aom_text.specs.Words.{others_of}
 use Rattle.aom_text.specs.declared.fault.AsmFaultKind.TheVariants.{BadShape, LimitPassed}
-use Rattle.aom_image.specs.WellFormed.{ClassFits, KindFits, ProviderFits, ThingFits, is_server, is_server_kind}
+use Rattle.aom_image.specs.WellFormed.{ClassFits, KindFits, ProviderFits, ThingFits, is_dispatched, is_server, is_server_kind}
 use Rattle.aom_image.specs.declared.class.ClassDecl.{ClassDecl}
 use Rattle.aom_image.specs.declared.class.ClassKind.{ClassKind}
 use Rattle.aom_image.specs.declared.class.ClassKind.TheVariants as kinds
@@ -13,12 +13,10 @@ use Rattle.aom_image.specs.declared.class.Provider.{Provider}
 use Rattle.aom_image.specs.declared.class.Provider.TheVariants as providers
 use Rattle.aom_image.specs.declared.method.Thing.{Thing}
 use Rattle.aom_image.specs.declared.method.Thing.TheVariants as owned
-use Rattle.aom_syntax.specs.Classes.{budget, class_of, class_statement, fields, flag, kind, provider, purpose, server, thing, thing_of}
+use Rattle.aom_syntax.specs.Classes.{budget, class_of, class_statement, fields, flag, kind, provider, said_budget, server, thing, thing_of}
 use Rattle.aom_syntax.specs.Keywords.{keyword_text}
 use Rattle.aom_syntax.specs.Names.{nowhere, place_of, referred}
 use Rattle.aom_syntax.specs.Reading.{◌>>=◌, Reading, any_keyword, failing, giving, next, optional_number}
-use Rattle.aom_syntax.specs.declared.class.Purpose.{Purpose}
-use Rattle.aom_syntax.specs.declared.class.Purpose.TheVariants as purposes
 use Rattle.aom_syntax.specs.declared.keyword.Keyword.TheVariants as k
 use Rattle.aom_syntax.specs.declared.scope.Scope.{Scope}
 use Rattle.aom_listing.specs.Classes.{budget_words, class_words, field_words, kind_words, provider_words, thing_word}
@@ -27,14 +25,7 @@ use Rattle.aom_meaning.specs.Naming.{HasNames}
 use Rattle.aom_meaning.proofs.Lists.{Element, plain_form, takes_list}
 use Rattle.aom_meaning.proofs.Names.{lettered, name_lettered}
 use Rattle.aom_meaning.proofs.OperandsBack.{takes_class}
-use Rattle.aom_meaning.proofs.Readings.{Takes, Whole, done, first, first_two, gives, in_turn, last, made, regroup, sees, takes_any_keyword, takes_declared, takes_flag, takes_keyword, takes_number, takes_optional, takes_word}
-
--- what a class is for, by its kind
-abbrev pub purpose_of : ClassKind → Purpose
-purpose_of kinds.Plain = purposes.Plain
-purpose_of (kinds.Active p b) = purposes.Active p
-purpose_of (kinds.Server sessions session b) = purposes.Server sessions session
-purpose_of kinds.Session = purposes.Session
+use Rattle.aom_meaning.proofs.Readings.{Takes, Whole, done, first, first_two, gives, in_turn, last, made, regroup, sees, takes_any_keyword, takes_declared, takes_flag, takes_keyword, takes_number, takes_optional, takes_word, settle}
 
 pub name_form : (letter n : ℕ) → n < 1024 → is_letter letter ≡ true → has_name_form (lettered letter n) ≡ true
 name_form letter n few is =
@@ -70,49 +61,47 @@ module _ {classes methods : ℕ} {scope : Scope} (names : HasNames classes metho
       reads = λ rest. ap (λ b. (if b then giving (providers.Native n) else failing LimitPassed) rest) (lt-ltb n natives fits);
     }))
 
-    takes_purpose : (kind : ClassKind) → KindFits classes natives kind → (is_server_kind kind ≡ true → servers < 8) → Takes (next any_keyword (purpose scope natives servers)) (kind_words kind) (purpose_of kind)
-    takes_purpose kinds.Plain fits few = in_turn _ (takes_any_keyword k.Plain) (gives _)
-    takes_purpose (kinds.Active p b) fits few = in_turn _ (takes_any_keyword k.Active) (made any_keyword (provider natives) purposes.Active (takes_provider p fits.0))
-    takes_purpose (kinds.Server sessions session b) fits few = in_turn _ (takes_any_keyword k.Server) (record {
+    takes_kind : (K : ClassKind) → KindFits classes natives K → (is_server_kind K ≡ true → servers < 8) → Takes (next any_keyword (kind scope natives servers)) (kind_words K) K
+    takes_kind kinds.Plain fits few = in_turn _ (takes_any_keyword k.Plain) (gives _)
+    takes_kind (kinds.Active p) fits few = in_turn _ (takes_any_keyword k.Active) (made any_keyword (provider natives) kinds.Active (takes_provider p fits))
+    takes_kind (kinds.Server sessions session) fits few = in_turn _ (takes_any_keyword k.Server) (record {
       reads = λ rest. ap (λ b. (if b then server scope else failing LimitPassed) (class_name session ∷ keyword_text k.Max ∷ decimal sessions ∷ rest)) (lt-ltb servers 8 (few refl))
-          ∙ (in_turn _ (takes_class names session fits.2) (in_turn _ (takes_keyword k.Max) (in_turn _ (takes_number 1 64 sessions fits.0 fits.1 (omega (arith, fits.1))) (gives (purposes.Server sessions session))))).reads rest;
+          ∙ (in_turn _ (takes_class names session fits.2) (in_turn _ (takes_keyword k.Max) (in_turn _ (takes_number 1 64 sessions fits.0 fits.1 (omega (arith, fits.1))) (gives (kinds.Server sessions session))))).reads rest;
     })
-    takes_purpose kinds.Session fits few = in_turn _ (takes_any_keyword k.Session) (gives _)
+    takes_kind kinds.Session fits few = in_turn _ (takes_any_keyword k.Session) (gives _)
 
     -- ---- the statement
 
-    whole_budget : (n : ℕ) → n < 2 ^ 32 → Whole budget (keyword_text k.Budget ∷ decimal n ∷ []) n
-    whole_budget n fits = first _ (takes_keyword k.Budget) (first _ (takes_number 0 4294967295 n (omega arith) (omega arith) (omega arith)) (record { reads = refl }))
+    whole_said : (n : ℕ) → n < 2 ^ 32 → Whole said_budget (keyword_text k.Budget ∷ decimal n ∷ []) n
+    whole_said n fits = first _ (takes_keyword k.Budget) (first _ (takes_number 0 4294967295 n (omega arith) (omega arith) (omega arith)) (record { reads = refl }))
 
-    whole_kind : (K : ClassKind) → KindFits classes natives K → Whole (kind true (purpose_of K)) (budget_words K) K
-    whole_kind kinds.Plain fits = record { reads = refl }
-    whole_kind (kinds.Active p b) fits = last _ (whole_budget b fits.1) (done _)
-    whole_kind (kinds.Server sessions session b) fits = last _ (whole_budget b fits.3) (done _)
-    whole_kind kinds.Session fits = record { reads = refl }
+    whole_budget : (dispatched : Bool) (n : ℕ) → n < 2 ^ 32 → (dispatched || eqb n 0) ≡ true → Whole (budget true dispatched) (budget_words dispatched n) n
+    whole_budget true n fits declared = whole_said n fits
+    whole_budget false n fits declared = subst (λ (m : ℕ). Whole (budget true false) [] m) (sym (eqb-true n 0 declared)) (record { reads = refl })
 
     -- what stands behind the kind, and behind the word before the fields
-    abbrev rest_of_fields : Purpose → ℕ → Bool → Reading ClassDecl
-    rest_of_fields p words owns =
+    abbrev rest_of_fields : ClassKind → ℕ → Bool → Reading ClassDecl
+    rest_of_fields K words owns =
         next (fields scope owns) (λ list.
-        next (kind owns p) (λ kind.
-        giving (record { kind = kind; words = words; fields = list })))
+        next (budget owns (is_dispatched K)) (λ n.
+        giving (record { kind = K; parent = None; words = words; fields = list; budget = n })))
 
-    abbrev rest_of_class : Purpose → Reading ClassDecl
-    rest_of_class p = next (optional_number k.Words 8) (λ words. next (flag k.Own) (rest_of_fields p words))
+    abbrev rest_of_class : ClassKind → Reading ClassDecl
+    rest_of_class K = next (optional_number k.Words 8) (λ words. next (flag k.Own) (rest_of_fields K words))
 
-    whole_rest : (c : ClassDecl) → ClassFits classes natives c → Whole (rest_of_class (purpose_of c.kind)) (field_words c ++ budget_words c.kind) c
+    whole_rest : (c : ClassDecl) → ClassFits classes natives c → Whole (rest_of_class c.kind) (field_words c ++ budget_words (is_dispatched c.kind) c.budget) c
     whole_rest c fits =
         first _ (takes_optional k.Words 8 c.words fits.words (omega (arith, fits.words))) (
-        first (rest_of_fields (purpose_of c.kind) c.words) (takes_flag k.Own) (
+        first (rest_of_fields c.kind c.words) (takes_flag k.Own) (
         first _ (takes_list 8 (thing_of scope) thing_word c.fields fits.field_count (λ i d less. thing_element _ (fits.fields i d less))) (
-        last _ (whole_kind c.kind fits.kind) (done _))))
+        last _ (whole_budget (is_dispatched c.kind) c.budget fits.budget fits.budgeted) (settle (ap (λ o. record c { parent = o }) (sym fits.parent)) (done _)))))
 
     whole_class : (place : ℕ) (c : ClassDecl) → place < classes → ClassFits classes natives c → (is_server c ≡ true → servers < 8) → Whole (class_statement scope natives place servers) (others_of (class_words place c)) c
     whole_class place c there fits few =
         let few_classes = names.few_classes in
         first _ (takes_declared 99 place scope.classes refl (omega arith) (names.class place there)) (
-        regroup (append_assoc (kind_words c.kind) (field_words c) (budget_words c.kind)) (
-        first_two any_keyword (purpose scope natives servers) rest_of_class (takes_purpose c.kind fits.kind few) (whole_rest c fits)))
+        regroup (append_assoc (kind_words c.kind) (field_words c) (budget_words (is_dispatched c.kind) c.budget)) (
+        first_two any_keyword (kind scope natives servers) rest_of_class (takes_kind c.kind fits.kind few) (whole_rest c fits)))
 
 pub class_statement_reads : (classes methods : ℕ) (scope : Scope) → HasNames classes methods scope → (natives servers place : ℕ) (c : ClassDecl) → natives ≤ 16 → place < classes → ClassFits classes natives c → (is_server c ≡ true → servers < 8) → class_statement scope natives place servers (others_of (class_words place c)) ≡ Ok (c, [])
 class_statement_reads classes methods scope names natives servers place c few_natives there fits few = (whole_class names natives servers few_natives place c there fits few).reads

@@ -11,7 +11,7 @@ use Rattle.aom_syntax.specs.Reading.{Reading, failing, giving, keyword, next, no
 use Rattle.aom_syntax.specs.declared.keyword.Keyword.TheVariants as k
 use Rattle.aom_syntax.specs.declared.scope.Scope.{Scope}
 use Rattle.aom_syntax.proofs.Within.{ok_is, steps}
-use Rattle.aom_meaning.proofs.Readings.{Whole, done, ends, first, last, takes_keyword}
+use Rattle.aom_meaning.proofs.Readings.{Whole, done, ends, first, last, takes_keyword, settle}
 use Rattle.aom_meaning.specs.Meaning.{HeaderMeans, IsNumber, IsNumbered, Names, SaidOrNone}
 use Rattle.aom_meaning.specs.Source.{HeaderText, header_words, part}
 use Rattle.aom_meaning.proofs.Ascii.{plain_number}
@@ -101,7 +101,7 @@ module _ (names : Names) (kinds : List ClassDecl) where
         words = e1
             ∙ ap (λ v. keyword_text k.Image ∷ v) (e2 ∙ cs.words ∙ ap (λ v. part k.Cells cs.said ++ v)
             (ms.words ∙ ap (λ v. part k.Messages ms.said ++ v) (ns.words ∙ ap (λ v. part k.Natives ns.said ++ v) (e6 ∙ ap (λ v. keyword_text k.Budget ∷ v) (b.words ∙ ap (λ v. b.w ∷ v) r.words)))));
-        means = record { cells = cs.says; messages = ms.says; natives = ns.says; budget = b.says; root = r.says };
+        means = record { version = refl; cells = cs.says; messages = ms.says; natives = ns.says; budget = b.says; root = r.says };
       })))))))))
 
 -- ---- what is read
@@ -131,7 +131,7 @@ module _ {names : Names} {scope : Scope} (looks : LooksUp names scope) where
       (not_word k.Natives (keyword_text k.Budget) (t.budget ∷ part k.Root t.root) refl)) (
       first _ (takes_keyword k.Budget) (
       first _ (takes_seen (number_reads 0 4294967295 t.budget h.budget means.budget)) (
-      last _ (root_reads t.root h.root means.root) (done _))))))))
+      last _ (root_reads t.root h.root means.root) (settle (ap (λ v. record h { version = v }) (sym means.version)) (done _)))))))))
     where
       no_version_next : NotNext k.Version (part k.Cells t.cells ++ (part k.Messages t.messages ++ (part k.Natives t.natives ++ (keyword_text k.Budget ∷ t.budget ∷ part k.Root t.root))))
       no_version_next =

@@ -1,5 +1,5 @@
 -- The statement that opens a listing reads back.
-use Rattle.std.proofs.Common.{◌≡◌, ℕ, ◌<◌, [], Option, Some, None, Ok, refl, arith}
+use Rattle.std.proofs.Common.{◌≡◌, ℕ, ◌<◌, [], Option, Some, None, Ok, refl, arith, ap, sym}
 use Rattle.std.specs.Prelude.{IfSome}
 use Rattle.aom_image.specs.WellFormed.{HeaderFits}
 use Rattle.aom_image.specs.declared.image.Header.{Header}
@@ -11,7 +11,7 @@ use Rattle.aom_listing.specs.Headers.{header_words}
 use Rattle.aom_listing.specs.Operands.{class_after}
 use Rattle.aom_meaning.specs.Naming.{HasNames}
 use Rattle.aom_meaning.proofs.OperandsBack.{takes_class}
-use Rattle.aom_meaning.proofs.Readings.{Whole, done, ends, first, last, takes_keyword, takes_number, takes_optional}
+use Rattle.aom_meaning.proofs.Readings.{Whole, done, ends, first, last, takes_keyword, takes_number, takes_optional, settle}
 
 module _ {classes methods : ℕ} {scope : Scope} (names : HasNames classes methods scope) where
   whole_root : (root : Option ℕ) → IfSome root (λ c. c < classes) → Whole (optional_root scope) (class_after k.Root root) root
@@ -25,7 +25,7 @@ module _ {classes methods : ℕ} {scope : Scope} (names : HasNames classes metho
       first _ (takes_optional k.Natives 16 h.natives fits.natives (omega (arith, fits.natives))) (
       first _ (takes_keyword k.Budget) (
       first _ (takes_number 0 4294967295 h.budget (omega arith) (omega (arith, fits.budget)) (omega (arith, fits.budget))) (
-      last _ (whole_root h.root fits.root) (done _))))))
+      last _ (whole_root h.root fits.root) (settle (ap (λ v. record h { version = v }) (sym fits.version)) (done _)))))))
 
   whole_header : (h : Header) → HeaderFits classes h → Whole (image_statement scope) (header_words h) h
   whole_header h fits = first _ (takes_keyword k.Image) (record { reads = (whole_limits h fits).reads })

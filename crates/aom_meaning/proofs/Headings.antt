@@ -1,5 +1,5 @@
 -- The statement that begins a method is read where its words mean a heading, and as that heading.
-use Rattle.std.proofs.Common.{◌≡◌, ℕ, true, false, List, [], ◌∷◌, ◌++◌, replicate, Option, Some, None, Ok, refl, sym, ap, subst, ◌∙◌, append-nil}
+use Rattle.std.proofs.Common.{◌≡◌, ℕ, true, false, List, [], ◌∷◌, ◌++◌, replicate, Option, Some, None, Ok, refl, sym, ap, subst, ◌∙◌, append-nil, ◌||◌}
 use Rattle.std.specs.Prelude.{if◌then◌else◌}
 use Rattle.std.specs.Str.{bytes_eq}
 use Rattle.aom_image.specs.declared.class.ClassDecl.{ClassDecl}
@@ -15,7 +15,7 @@ use Rattle.aom_image.specs.declared.method.Thing.{Thing}
 use Rattle.aom_image.specs.declared.method.Thing.TheVariants as owned
 use Rattle.aom_syntax.specs.Classes.{declared, flag, listed, thing, thing_of}
 use Rattle.aom_syntax.specs.Keywords.{keyword_text}
-use Rattle.aom_syntax.specs.Methods.{accepted, all_states, argument_of, gives, heading, kind_of, optional_arguments, optional_class, optional_gives, optional_states, role, role_of, states_of, unsaid_gives, usual_after, usual_before, usual_gives, usual_words, promised}
+use Rattle.aom_syntax.specs.Methods.{accepted, all_states, argument_of, gives, heading, kind_of, optional_arguments, optional_class, optional_gives, optional_states, role, role_of, states_of, unsaid_gives, usual_after, usual_before, usual_gives, usual_words, promised, flags_of, is_quiet_role}
 use Rattle.aom_syntax.specs.Names.{place_of}
 use Rattle.aom_syntax.specs.Operands.{class}
 use Rattle.aom_syntax.specs.Reading.{◌>>=◌, Reading, any_keyword, giving, next, nothing_more, seen}
@@ -188,7 +188,7 @@ module _ (names : Names) (kinds : List ClassDecl) where
         words = ap (λ v. keyword_text k.Method ∷ v) (d.words ∙ ap (λ v. d.w ∷ v) (r.words ∙ ap (λ v. keyword_text r.key ∷ v) (c.words ∙ ap (λ v. part k.Of c.said ++ v) (
             saw_mark k.Leaves v3 leaves v4 r4 ∙ ap (λ v. mark k.Leaves leaves ++ v) (saw_mark k.Quiet v4 quiet v5 r5 ∙ ap (λ v. mark k.Quiet quiet ++ v) (
             i.words ∙ ap (λ v. part k.In i.said ++ v) (o.words ∙ ap (λ v. part k.Out o.said ++ v) (a.words ∙ ap (λ v. part k.Args a.said ++ v) g.words))))))));
-        means = record { name = d.is_name; role = r.says; class = c.says; flags = refl; before = i.says; after = o.says; arguments = a.says; gives = g.means };
+        means = record { name = d.is_name; role = r.says; class = c.says; over = refl; flags = refl; before = i.says; after = o.says; arguments = a.says; gives = g.means };
         placed = d.placed;
       }))))))))))
 
@@ -252,7 +252,8 @@ module _ {names : Names} {scope : Scope} (looks : LooksUp names scope) where
       (list_reads 6 (argument_of scope) (IsArgument names) (argument_reads looks)) t.arguments h.arguments v9 means.arguments
       (not_gives k.Args t.gives refl)) (
       last _ (gives_read (usual_gives scope.is_strict h.role kind) t.gives h.gives means.gives) (
-      settle (ap (λ f. record h { flags = f }) (sym means.flags)) (done _))))))))))
+      settle (ap (λ f. record h { flags = f }) (sym means.flags)) (
+      settle (ap (λ o. record h { flags = flags_of t.leaves (t.quiet || is_quiet_role h.role); over = o }) (sym means.over)) (done _)))))))))))
 
 -- ---- beside other classes
 
@@ -286,7 +287,7 @@ record Stands (usual : Option Gives) : Type 0 where
   is : usual ≡ Some gives
 
 served_stands : (kind : ClassKind) → Stands (accepted false kind)
-served_stands (class_kind.Server sessions session budget) = record { gives = result.Own (owned.Object session); is = refl }
+served_stands (class_kind.Server sessions session) = record { gives = result.Own (owned.Object session); is = refl }
 served_stands _ = record { gives = result.Nothing; is = refl }
 
 gives_stands : (role : Role) (kind : ClassKind) → Stands (usual_gives false role kind)
@@ -313,6 +314,7 @@ beside_others names kinds others t h means =
         name = means.name;
         role = means.role;
         class = means.class;
+        over = means.over;
         flags = means.flags;
         before = still AreStates (states (usual_before h.role (all_states kind))) before t.before h.before means.before;
         after = still AreStates (states (usual_after h.role (all_states kind))) after t.after h.after means.after;

@@ -128,14 +128,15 @@ module _ {classes methods : ℕ} {scope : Scope} (names : HasNames classes metho
 
   -- a heading, with flags of its own
   abbrev with_flags : Method → MethodFlags → Heading
-  with_flags m flags = record { class = m.class; role = m.role; flags = flags; before = m.before; after = m.after; arguments = m.arguments; gives = m.gives }
+  with_flags m flags = record { class = m.class; over = m.over; role = m.role; flags = flags; before = m.before; after = m.after; arguments = m.arguments; gives = m.gives }
 
   whole_promise : (m : Method) → MethodFits classes methods m → (leaves quiet : Bool) → Whole (promised scope m.role m.class leaves quiet) (promise_words m) (with_flags m (flags_of leaves (quiet || is_quiet_role m.role)))
   whole_promise m fits leaves quiet =
       first _ (takes_states_in (usual_before m.role (all_states (kind_of scope.kinds m.class))) m.before fits.before) (
       first _ (takes_states_out (usual_after m.role (all_states (kind_of scope.kinds m.class))) m.after fits.after) (
       first _ (takes_arguments (usual_words m.role) m.arguments fits.argument_count fits.arguments) (
-      last _ (whole_gives (usual_gives scope.is_strict m.role (kind_of scope.kinds m.class)) m.gives fits.gives) (done _))))
+      last _ (whole_gives (usual_gives scope.is_strict m.role (kind_of scope.kinds m.class)) m.gives fits.gives) (
+      settle (ap (λ o. record (with_flags m (flags_of leaves (quiet || is_quiet_role m.role))) { over = o }) (sym fits.over)) (done _)))))
 
   whole_flags : (m : Method) → MethodFits classes methods m → (is_quiet_role m.role ≡ true → has m.flags.0 2 ≡ true)
       → Whole (next (flag k.Leaves) (λ leaves. next (flag k.Quiet) (promised scope m.role m.class leaves))) (flag_words m.flags.0 ++ promise_words m) (heading_of m)

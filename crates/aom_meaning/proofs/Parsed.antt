@@ -42,7 +42,7 @@ use Rattle.aom_meaning.proofs.Texts.{LabelsPlaced, Placed, labels_once, labels_t
 
 -- a method, by what was read of it
 abbrev pub whole_of : Body → Method
-whole_of b = record { class = b.heading.class; role = b.heading.role; flags = b.heading.flags; before = b.heading.before; after = b.heading.after; arguments = b.heading.arguments; gives = b.heading.gives; code = b.code }
+whole_of b = record { class = b.heading.class; over = b.heading.over; role = b.heading.role; flags = b.heading.flags; before = b.heading.before; after = b.heading.after; arguments = b.heading.arguments; gives = b.heading.gives; code = b.code }
 
 abbrev with_code : Body → List Instr → Body
 with_code b code = record { heading = b.heading; labels = b.labels; code = code }

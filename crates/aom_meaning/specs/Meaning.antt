@@ -3,12 +3,14 @@ use Rattle.std.specs.Prelude.{ℕ, ◌≡◌, ◌<◌, ◌≤◌, ◌==◌, ◌|
 use Rattle.std.specs.List.{slice_split}
 use Rattle.std.specs.Str.{bytes_eq}
 use Rattle.aom_text.specs.Names.{is_name}
+use Rattle.aom_image.specs.WellFormed.{is_dispatched}
 use Rattle.aom_image.specs.declared.class.ClassDecl.{ClassDecl}
 use Rattle.aom_image.specs.declared.class.ClassKind.{ClassKind}
 use Rattle.aom_image.specs.declared.class.ClassKind.TheVariants as kinds
 use Rattle.aom_image.specs.declared.class.Provider.{Provider}
 use Rattle.aom_image.specs.declared.class.Provider.TheVariants as providers
 use Rattle.aom_image.specs.declared.image.Header.{Header}
+use Rattle.aom_image.specs.declared.image.Version.TheVariants as versions
 use Rattle.aom_instructions.specs.declared.instr.Instr.{Instr}
 use Rattle.aom_image.specs.declared.method.Argument.{Argument}
 use Rattle.aom_image.specs.declared.method.Argument.TheVariants as arg
@@ -94,8 +96,9 @@ IsArgument names w (arg.Own t) = IsThing names w t
 
 -- ---- the image
 
--- limits that are missing are 0
+-- limits that are missing are 0; no text of the second version is read yet
 pub record HeaderMeans (names : Names) (t : HeaderText) (h : Header) : Type 0 where
+  pub version : h.version ≡ versions.One
   pub cells : SaidOr (IsNumber 0 4096) 0 t.cells h.cells
   pub messages : SaidOr (IsNumber 0 1024) 0 t.messages h.messages
   pub natives : SaidOr (IsNumber 0 16) 0 t.natives h.natives
@@ -115,20 +118,28 @@ ProviderMeans natives said provider = ⊥
 abbrev pub IsBudget : Word → ℕ → Type 0
 IsBudget w n = IsNumber 0 4294967295 w n
 
--- a kind with its budget, which stands where there are dispatches and nowhere else
-abbrev pub KindMeans : Names → ℕ → KindText → Option Word → ClassKind → Type 0
-KindMeans names natives plain None kinds.Plain = Unit {0}
-KindMeans names natives session None kinds.Session = Unit {0}
-KindMeans names natives (active said) (Some w) (kinds.Active provider budget) = ProviderMeans natives said provider × IsBudget w budget
-KindMeans names natives (server class most) (Some w) (kinds.Server sessions of_class budget) = IsNumbered names.classes class of_class × IsNumber 1 64 most sessions × IsBudget w budget
-KindMeans names natives said w kind = ⊥
+-- what a class is for
+abbrev pub KindMeans : Names → ℕ → KindText → ClassKind → Type 0
+KindMeans names natives plain kinds.Plain = Unit {0}
+KindMeans names natives session kinds.Session = Unit {0}
+KindMeans names natives (active said) (kinds.Active provider) = ProviderMeans natives said provider
+KindMeans names natives (server class most) (kinds.Server sessions of_class) = IsNumbered names.classes class of_class × IsNumber 1 64 most sessions
+KindMeans names natives said kind = ⊥
+
+-- a budget stands where there are dispatches, and nowhere else
+abbrev pub BudgetMeans : Bool → Option Word → ℕ → Type 0
+BudgetMeans true (Some w) n = IsBudget w n
+BudgetMeans false None n = n ≡ 0
+BudgetMeans dispatched said n = ⊥
 
 -- a class of an image with so many natives
 pub record ClassMeans (names : Names) (natives : ℕ) (t : ClassText) (c : ClassDecl) : Type 0 where
   pub name : is_name t.name ≡ true
-  pub kind : KindMeans names natives t.kind t.budget c.kind
+  pub kind : KindMeans names natives t.kind c.kind
+  pub parent : c.parent ≡ None
   pub words : SaidOr (IsNumber 0 8) 0 t.words c.words
   pub own : SaidOr (IsList 8 (IsThing names)) [] t.own c.fields
+  pub budget : BudgetMeans (is_dispatched c.kind) t.budget c.budget
 
 -- ---- methods
 
@@ -151,6 +162,7 @@ pub record HeadingMeans (names : Names) (known : Bool) (classes : List ClassDecl
   pub name : is_name t.name ≡ true
   pub role : role_of t.role ≡ Ok h.role
   pub class : SaidOrNone (IsNumbered names.classes) t.class h.class
+  pub over : h.over ≡ None
   pub flags : h.flags ≡ flags_of t.leaves (t.quiet || is_quiet_role h.role)
   pub before : SaidOr AreStates (states (usual_before h.role (all_states (kind_of classes h.class)))) t.before h.before
   pub after : SaidOr AreStates (states (usual_after h.role (all_states (kind_of classes h.class)))) t.after h.after

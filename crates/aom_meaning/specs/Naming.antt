@@ -34,4 +34,4 @@ HasLabel labels i = IfSome (jump_of i) (λ d. (d < 1024) × (place_of (label_nam
 
 -- what the heading of a method says
 abbrev pub heading_of : Method → Heading
-heading_of m = record { class = m.class; role = m.role; flags = m.flags; before = m.before; after = m.after; arguments = m.arguments; gives = m.gives }
+heading_of m = record { class = m.class; over = m.over; role = m.role; flags = m.flags; before = m.before; after = m.after; arguments = m.arguments; gives = m.gives }

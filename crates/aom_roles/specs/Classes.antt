@@ -10,7 +10,7 @@ use Rattle.aom_image.specs.declared.method.Thing.TheVariants.{Object, Message}
 
 -- the class of a server's sessions
 unfoldable pub sessions_of : ClassKind → Option ℕ
-sessions_of (Server most c budget) = Some c
+sessions_of (Server most c) = Some c
 sessions_of _ = None
 
 unfoldable pub is_session_kind : ClassKind → Bool

@@ -59,7 +59,7 @@ gives_object c (gives.Own t) = is_object c t
 gives_object c _ = false
 
 unfoldable pub is_active_in : Option ClassKind → Bool
-is_active_in (Some (kinds.Active provider budget)) = true
+is_active_in (Some (kinds.Active provider)) = true
 is_active_in _ = false
 
 -- the kind of class whose objects a method works on, or none
@@ -86,8 +86,8 @@ pub record DoesServer (m : Method) : Type 0 where
 abbrev pub IsDo : Option ClassKind → Method → Type 0
 IsDo None m = StandsStill m
 IsDo (Some kinds.Plain) m = StandsStill m
-IsDo (Some (kinds.Active provider budget)) m = DoesActive m
-IsDo (Some (kinds.Server most session budget)) m = DoesServer m
+IsDo (Some (kinds.Active provider)) m = DoesActive m
+IsDo (Some (kinds.Server most session)) m = DoesServer m
 IsDo (Some kinds.Session) m = StandsStill m
 
 pub record IsMain (k : Option ClassKind) (m : Method) : Type 0 where

@@ -37,20 +37,20 @@ no_state = 0
 
 -- the states in which the objects of a kind of class may be while nothing works on them
 unfoldable pub states_of : Option ClassKind → ℕ
-states_of (Some (Active provider budget)) = active_states
-states_of (Some (Server most session budget)) = server_states
+states_of (Some (Active provider)) = active_states
+states_of (Some (Server most session)) = server_states
 states_of _ = no_state
 
 -- the state in which they begin
 unfoldable pub first_of : Option ClassKind → ℕ
-first_of (Some (Active provider budget)) = unlisted
-first_of (Some (Server most session budget)) = unlisted
+first_of (Some (Active provider)) = unlisted
+first_of (Some (Server most session)) = unlisted
 first_of _ = no_state
 
 -- the states in which their destructor ends
 unfoldable pub last_of : Option ClassKind → ℕ
-last_of (Some (Active provider budget)) = server_states
-last_of (Some (Server most session budget)) = server_states
+last_of (Some (Active provider)) = server_states
+last_of (Some (Server most session)) = server_states
 last_of _ = no_state
 
 -- a part of a set, which is not empty unless that set is

@@ -1,6 +1,7 @@
 -- One refused instruction for each why that the rules give so far, and states that meet and do not meet.
 use Rattle.std.proofs.Common.{◌≡◌, ℕ, pos, List, [], ◌∷◌, Option, Some, None, Ok, Err, refl}
 use Rattle.aom_image.specs.Image.{Image}
+use Rattle.aom_image.specs.Small.{a_class, a_header, a_method}
 use Rattle.aom_image.specs.Views.{method_at, class_at, arguments_in, gives_in, leaves_in, quiet_in, role_in, class_in, fields_in}
 use Rattle.aom_image.specs.declared.class.ClassDecl.{ClassDecl}
 use Rattle.aom_image.specs.declared.class.ClassKind.TheVariants.{Plain}
@@ -30,16 +31,16 @@ use Rattle.aom_shape.specs.declared.why.Why.TheVariants.{RegisterKind, OwnedAtLe
 -- class 1 has a field of class 0
 classes : List ClassDecl
 classes =
-    record { kind = Plain; words = 0; fields = [] }
-    ∷ record { kind = Plain; words = 0; fields = Object 0 ∷ [] }
+    a_class Plain 0 0 []
+    ∷ a_class Plain 0 0 (Object 0 ∷ [])
     ∷ []
 
 -- an image with one method
 with_method : Option ℕ → Role → ℕ → Gives → Image
 with_method class role flags gives = record {
-  header = record { cells = 4; messages = 0; natives = 0; root = None; budget = 100 };
+  header = a_header 4 0 0 None 100;
   classes = classes;
-  methods = record { class = class; role = role; flags = record { 0 = flags }; before = record { 0 = 0 }; after = record { 0 = 0 }; arguments = []; gives = gives; code = [] } ∷ [];
+  methods = a_method class role flags 0 0 [] gives [] ∷ [];
 }
 
 -- a state of two registers and a field
@@ -101,11 +102,11 @@ jump_past_the_fields = refl
 -- method 0 is called by method 1
 called_by : (class : Option ℕ) (role : Role) (flags : ℕ) (arguments : List Argument) (gives : Gives) (caller : Option ℕ) (caller_flags : ℕ) → Image
 called_by class role flags arguments gives caller caller_flags = record {
-  header = record { cells = 4; messages = 0; natives = 0; root = None; budget = 100 };
+  header = a_header 4 0 0 None 100;
   classes = classes;
   methods =
-      record { class = class; role = role; flags = record { 0 = flags }; before = record { 0 = 0 }; after = record { 0 = 0 }; arguments = arguments; gives = gives; code = [] }
-      ∷ record { class = caller; role = Do; flags = record { 0 = caller_flags }; before = record { 0 = 0 }; after = record { 0 = 0 }; arguments = []; gives = Nothing; code = [] }
+      a_method class role flags 0 0 arguments gives []
+      ∷ a_method caller Do caller_flags 0 0 [] Nothing []
       ∷ [];
 }
 

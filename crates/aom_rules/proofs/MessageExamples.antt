@@ -1,6 +1,7 @@
 -- One refused instruction for each need of a message, and some that pass.
 use Rattle.std.proofs.Common.{◌≡◌, [], ◌∷◌, Some, None, Ok, Err, refl}
 use Rattle.aom_image.specs.Image.{Image}
+use Rattle.aom_image.specs.Small.{a_class, a_header, a_method}
 use Rattle.aom_image.specs.Views.{method_at, role_in}
 use Rattle.aom_image.specs.declared.class.ClassKind.TheVariants.{Plain}
 use Rattle.aom_image.specs.declared.method.Gives.TheVariants.{Nothing}
@@ -20,9 +21,9 @@ use Rattle.aom_shape.specs.declared.why.Why.TheVariants.{RegisterKind}
 -- its only method is of a plain class, in that role
 of_role : Role → Image
 of_role role = record {
-  header = record { cells = 4; messages = 1; natives = 0; root = None; budget = 100 };
-  classes = record { kind = Plain; words = 0; fields = [] } ∷ [];
-  methods = record { class = Some 0; role = role; flags = record { 0 = 1 }; before = record { 0 = 0 }; after = record { 0 = 0 }; arguments = []; gives = Nothing; code = [] } ∷ [];
+  header = a_header 4 1 0 None 100;
+  classes = a_class Plain 0 0 [] ∷ [];
+  methods = a_method (Some 0) role 1 0 0 [] Nothing [] ∷ [];
 }
 
 -- a state of two registers

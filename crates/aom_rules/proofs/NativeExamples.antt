@@ -1,6 +1,7 @@
 -- One refused instruction for each need at a native, and some that pass.
 use Rattle.std.proofs.Common.{◌≡◌, ℕ, List, [], ◌∷◌, Some, None, Result, Ok, Err, refl}
 use Rattle.aom_image.specs.Image.{Image}
+use Rattle.aom_image.specs.Small.{a_class, a_header, a_method}
 use Rattle.aom_image.specs.Views.{class_at, class_in, method_at}
 use Rattle.aom_image.specs.declared.class.ClassDecl.{ClassDecl}
 use Rattle.aom_image.specs.declared.class.ClassKind.TheVariants.{Active, Plain}
@@ -26,21 +27,21 @@ use Rattle.aom_shape.specs.declared.why.Why.TheVariants.{NotIdle, RegisterKind}
 -- a native serves class 0, a timer class 1, nothing class 2, and class 3 is plain
 classes : List ClassDecl
 classes =
-    record { kind = Active (Native 0) 10; words = 0; fields = [] }
-    ∷ record { kind = Active Timer 10; words = 0; fields = [] }
-    ∷ record { kind = Active No_provider 10; words = 0; fields = [] }
-    ∷ record { kind = Plain; words = 0; fields = [] }
+    a_class (Active (Native 0)) 10 0 []
+    ∷ a_class (Active Timer) 10 0 []
+    ∷ a_class (Active No_provider) 10 0 []
+    ∷ a_class Plain 0 0 []
     ∷ []
 
 -- it may leave, and begin and end in those states
 method : (class before after : ℕ) → Method
 method class before after =
-    record { class = Some class; role = Do; flags = record { 0 = 1 }; before = record { 0 = before }; after = record { 0 = after }; arguments = []; gives = Nothing; code = [] }
+    a_method (Some class) Do 1 before after [] Nothing []
 
 -- its only method is of that class
 of_class : (class before after : ℕ) → Image
 of_class class before after = record {
-  header = record { cells = 4; messages = 1; natives = 1; root = None; budget = 100 };
+  header = a_header 4 1 1 None 100;
   classes = classes;
   methods = method class before after ∷ [];
 }

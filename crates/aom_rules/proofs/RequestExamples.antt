@@ -1,6 +1,7 @@
 -- One refused instruction for each why of request states and of the message in service, and some that pass.
 use Rattle.std.proofs.Common.{◌≡◌, ℕ, pos, List, [], ◌∷◌, replicate, Option, Some, None, Ok, Err, refl}
 use Rattle.aom_image.specs.Image.{Image}
+use Rattle.aom_image.specs.Small.{a_class, a_header, a_method}
 use Rattle.aom_image.specs.Views.{method_at, class_at, arguments_in, gives_in, leaves_in, quiet_in, role_in, class_in, fields_in}
 use Rattle.aom_image.specs.declared.class.ClassDecl.{ClassDecl}
 use Rattle.aom_image.specs.declared.class.ClassKind.TheVariants.{Active, Plain, Server, Session}
@@ -29,20 +30,20 @@ use Rattle.aom_shape.specs.declared.why.Why.TheVariants.{IssuedAtLeave, IssuedAt
 -- class 0 is active, class 1 that of sessions, class 2 plain, class 3 that of a server
 classes : List ClassDecl
 classes =
-    record { kind = Active providers.Own 10; words = 0; fields = [] }
-    ∷ record { kind = Session; words = 0; fields = [] }
-    ∷ record { kind = Plain; words = 0; fields = [] }
-    ∷ record { kind = Server 4 1 10; words = 0; fields = [] }
+    a_class (Active providers.Own) 10 0 []
+    ∷ a_class Session 0 0 []
+    ∷ a_class Plain 0 0 []
+    ∷ a_class (Server 4 1) 10 0 []
     ∷ []
 
 method : (role : Role) (class : Option ℕ) (flags before after : ℕ) → Method
 method role class flags before after =
-    record { class = class; role = role; flags = record { 0 = flags }; before = record { 0 = before }; after = record { 0 = after }; arguments = []; gives = Nothing; code = [] }
+    a_method class role flags before after [] Nothing []
 
 -- method 0 runs, and may call method 1
 running : Method → Method → Image
 running here there = record {
-  header = record { cells = 4; messages = 1; natives = 0; root = None; budget = 100 };
+  header = a_header 4 1 0 None 100;
   classes = classes;
   methods = here ∷ there ∷ [];
 }

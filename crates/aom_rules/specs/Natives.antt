@@ -14,7 +14,7 @@ use Rattle.aom_shape.specs.declared.why.Why.TheVariants.{NotIdle, RegisterKind}
 
 -- objects of a class of active objects that a native serves
 abbrev pub is_native_kind : Option ClassKind → Bool
-is_native_kind (Some (Active (Native n) budget)) = true
+is_native_kind (Some (Active (Native n))) = true
 is_native_kind _ = false
 
 module _ (p : Image) (m : ℕ) (sh : Shape) where

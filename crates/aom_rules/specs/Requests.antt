@@ -15,13 +15,13 @@ use Rattle.aom_shape.specs.declared.why.Why.TheVariants.{EntryState, NotAdded, N
 
 -- objects of a class of active objects
 abbrev pub is_active_kind : Option ClassKind → Bool
-is_active_kind (Some (Active provider budget)) = true
+is_active_kind (Some (Active provider)) = true
 is_active_kind _ = false
 
 -- objects of a class whose objects are enlisted
 abbrev pub is_listed_kind : Option ClassKind → Bool
-is_listed_kind (Some (Active provider budget)) = true
-is_listed_kind (Some (Server most session budget)) = true
+is_listed_kind (Some (Active provider)) = true
+is_listed_kind (Some (Server most session)) = true
 is_listed_kind _ = false
 
 -- the kind of class that a method is of

@@ -20,7 +20,7 @@ fn is_native_kind(kind: ClassKind) -> bool
     ensures { result ≡ is_native_kind (Some kind) }
 {
     match kind {
-        ClassKind::Active { provider, .. } => matches!(provider, Provider::Native(_)),
+        ClassKind::Active { provider } => matches!(provider, Provider::Native(_)),
         _ => false,
     }
 }

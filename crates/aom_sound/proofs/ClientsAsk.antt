@@ -92,7 +92,7 @@ asked_there p class cs x t e = listed_there class cs x t (asked_listed p class c
 -- a class that takes sessions is of servers
 takes_some : (k : Option ClassKind) (n : ℕ) → nat_lt n (most_of k) ≡ true → is_some (sessions_in k) ≡ true
 unfolding sessions_in sessions_of
-takes_some (Some (A_server most session budget)) n e = refl
+takes_some (Some (A_server most session)) n e = refl
 takes_some _ n e = absurd (true≢false (sym e ∙ le-ltb n 0 (omega arith)))
 
 pub listed_serves : (p : Image) (class n : ℕ) (x : Thing) → is_of_class class x ≡ true → nat_lt n (most_of (kind_of p (Some class))) ≡ true → is_server p x ≡ true

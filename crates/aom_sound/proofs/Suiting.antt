@@ -25,14 +25,14 @@ use Rattle.aom_image.specs.declared.method.Gives.{Gives}
 -- a larger set
 pub suits_less :
     (k : Option ClassKind) (a b : ℕ) (c : Bool) (r : Option Request) → IsTrue (has a b) → Suits k (record { states = b; cancelled = c }) r → Suits k (record { states = a; cancelled = c }) r
-suits_less (Some (An_active v b)) a b' c r h s = (has_along a b' (state_of r) h s.0, s.1, s.2, s.3)
-suits_less (Some (A_server m x b)) a b' c r h s = (has_along a b' (state_of r) h s.0, s.1)
+suits_less (Some (An_active v)) a b' c r h s = (has_along a b' (state_of r) h s.0, s.1, s.2, s.3)
+suits_less (Some (A_server m x)) a b' c r h s = (has_along a b' (state_of r) h s.0, s.1)
 suits_less _ a b c r h s = s
 
 -- what is not issued, nor being cancelled, may rest
 pub suits_rests : (k : Option ClassKind) (states : ℕ) (r : Option Request) → unissued states ≡ true → Suits k (resting_in states) r → Suits k (resting_in (states_of k)) r
 unfolding states_of
-suits_rests (Some (An_active v b)) states r u s = (go r s.0 s.1, s.1, s.2, s.3)
+suits_rests (Some (An_active v)) states r u s = (go r s.0 s.1, s.1, s.2, s.3)
   where
     phase : (q : Phase) → IsTrue (has states (phase_state q)) → is_cancelling q ≡ false → IsTrue (has active_states (phase_state q))
     phase q h g = grind arith
@@ -40,26 +40,26 @@ suits_rests (Some (An_active v b)) states r u s = (go r s.0 s.1, s.1, s.2, s.3)
     go : (r : Option Request) → IsTrue (has states (state_of r)) → in_phase is_cancelling r ≡ false → IsTrue (has active_states (state_of r))
     go None h g = refl
     go (Some q) h g = phase q.phase h g
-suits_rests (Some (A_server m x b)) states r u s = (s.1, s.1)
+suits_rests (Some (A_server m x)) states r u s = (s.1, s.1)
 suits_rests _ states r u s = s
 
 pub rests_unissued : (k : Option ClassKind) → unissued (states_of k) ≡ true
 unfolding states_of
-rests_unissued (Some (An_active v b)) = refl
-rests_unissued (Some (A_server m x b)) = refl
+rests_unissued (Some (An_active v)) = refl
+rests_unissued (Some (A_server m x)) = refl
 rests_unissued _ = refl
 
 -- what is not enlisted may be under construction, and may rest
 pub suits_new : (k : Option ClassKind) → Suits k (resting_in (states_of k)) None
 unfolding states_of
-suits_new (Some (An_active v b)) = (refl, refl, refl, refl)
-suits_new (Some (A_server m x b)) = (refl, refl)
+suits_new (Some (An_active v)) = (refl, refl, refl, refl)
+suits_new (Some (A_server m x)) = (refl, refl)
 suits_new _ = refl
 
 begins_new : (k : Option ClassKind) → Suits k (resting_in (first_of k)) None
 unfolding first_of
-begins_new (Some (An_active v b)) = (refl, refl, refl, refl)
-begins_new (Some (A_server m x b)) = (refl, refl)
+begins_new (Some (An_active v)) = (refl, refl, refl, refl)
+begins_new (Some (A_server m x)) = (refl, refl)
 begins_new _ = refl
 
 pub suits_first : (k : Option ClassKind) (r : Option Request) → r ≡ None → Suits k (resting_in (first_of k)) r
@@ -118,11 +118,11 @@ served_only : (q : Phase) → IsTrue (has server_states (phase_state q)) → IsT
 served_only q h g = grind arith
 
 pub completed : (k : Option ClassKind) (n : Known) (r : Option Request) → IsTrue (has cancel_done n.states) → Suits k n r → int_eq (status_of r) pending ≡ false
-completed (Some (An_active v b)) n r h s = go r (has_along cancel_done n.states (state_of r) h s.0) s.2
+completed (Some (An_active v)) n r h s = go r (has_along cancel_done n.states (state_of r) h s.0) s.2
   where
     go : (r : Option Request) → IsTrue (has cancel_done (state_of r)) → is_unanswered r ≡ false → int_eq (status_of r) pending ≡ false
     go r h u = grind arith
-completed (Some (A_server m x b)) n r h s = go r s.1 (has_along cancel_done n.states (state_of r) h s.0)
+completed (Some (A_server m x)) n r h s = go r s.1 (has_along cancel_done n.states (state_of r) h s.0)
   where
     go : (r : Option Request) → IsTrue (has server_states (state_of r)) → IsTrue (has cancel_done (state_of r)) → int_eq (status_of r) pending ≡ false
     go None g h = refl
@@ -131,13 +131,13 @@ completed _ n r h s = ap (λ r. int_eq (status_of r) pending) s
 
 -- and leaves its object idle
 pub cancel_ends : (k : Option ClassKind) (n : Known) (r : Option Request) → IsTrue (has cancel_done n.states) → Suits k n r → Suits k (resting_in idle) (on_request cancelled r)
-cancel_ends (Some (An_active v b)) n r h s = go r (has_along cancel_done n.states (state_of r) h s.0) s.2 s.3
+cancel_ends (Some (An_active v)) n r h s = go r (has_along cancel_done n.states (state_of r) h s.0) s.2 s.3
   where
-    go : (r : Option Request) → IsTrue (has cancel_done (state_of r)) → is_unanswered r ≡ false → is_timed v r ≡ true → Suits (Some (An_active v b)) (resting_in idle) (on_request cancelled r)
+    go : (r : Option Request) → IsTrue (has cancel_done (state_of r)) → is_unanswered r ≡ false → is_timed v r ≡ true → Suits (Some (An_active v)) (resting_in idle) (on_request cancelled r)
     go r h u t = grind arith
-cancel_ends (Some (A_server m x b)) n r h s = go r (has_along cancel_done n.states (state_of r) h s.0)
+cancel_ends (Some (A_server m x)) n r h s = go r (has_along cancel_done n.states (state_of r) h s.0)
   where
-    go : (r : Option Request) → IsTrue (has cancel_done (state_of r)) → Suits (Some (A_server m x b)) (resting_in idle) (on_request cancelled r)
+    go : (r : Option Request) → IsTrue (has cancel_done (state_of r)) → Suits (Some (A_server m x)) (resting_in idle) (on_request cancelled r)
     go r h = grind arith
 cancel_ends _ n r h s = ap (λ r. on_request cancelled r) s
 

@@ -283,16 +283,16 @@ module _ (p : Image) (formed : WellFormed p) (linked : IsLinked p) where
   ]
 
   do_ends : (k : Option ClassKind) (d : Method_declared) → IsDo k d → unissued d.after.0 ≡ true
-  do_ends (Some (An_active v b)) d s = ap not s.settled
-  do_ends (Some (A_server most x b)) d s = unissued_part server_states d.after.0 refl s.ends.within
+  do_ends (Some (An_active v)) d s = ap not s.settled
+  do_ends (Some (A_server most x)) d s = unissued_part server_states d.after.0 refl s.ends.within
   do_ends None d s = ap unissued s.ends
   do_ends (Some Plain) d s = ap unissued s.ends
   do_ends (Some Session) d s = ap unissued s.ends
 
   construct_ends : (k : Option ClassKind) (d : Method_declared) → IsConstruct k d → unissued d.after.0 ≡ true
   unfolding states_of
-  construct_ends (Some (An_active v b)) d s = unissued_part active_states d.after.0 refl s.ends.within
-  construct_ends (Some (A_server most x b)) d s = unissued_part server_states d.after.0 refl s.ends.within
+  construct_ends (Some (An_active v)) d s = unissued_part active_states d.after.0 refl s.ends.within
+  construct_ends (Some (A_server most x)) d s = unissued_part server_states d.after.0 refl s.ends.within
   construct_ends k d s = unissued_part (states_of k) d.after.0 refl s.ends.within
 
   ends_unissued : (m : ℕ) (d : Method_declared) → method_at p m ≡ Some d → IsTrue (same_role d.role Do || same_role d.role Construct) → unissued (after_of p m) ≡ true
@@ -318,7 +318,7 @@ module _ (p : Image) (formed : WellFormed p) (linked : IsLinked p) where
   none_destructs c none = go (class_at p c) refl
     where
       of_kind : (d : ClassDecl) → class_at p c ≡ Some d → (k : ClassKind) → d.kind ≡ k → last_of (Some k) ≡ states_of (Some k)
-      of_kind d e (An_active v b) same =
+      of_kind d e (An_active v) same =
           let needs = subst (λ k. KindNeeds p c k) same (at_place (NeedsMet p) p.classes c d linked.needs e).kind in
           let clash : IsSome {T = ℕ} None = subst (λ (o : Option ℕ). IsSome o) none needs.destruct in
           cc

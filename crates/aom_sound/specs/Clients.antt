@@ -68,7 +68,7 @@ first_listed class (c ∷ cs) = among_listed class c.object c.request (first_lis
 
 -- the most sessions that a server of the class takes
 abbrev pub most_of : Option ClassKind → ℕ
-most_of (Some (A_server most session budget)) = most
+most_of (Some (A_server most session)) = most
 most_of _ = 0
 
 -- the server that a connect asks: no class but one of servers has one

@@ -157,7 +157,7 @@ issued_by A_timer asking a r = record r { phase = Issued; status = pending; time
 issued_by (Native n) asking a r = record r { phase = Issued; status = asking.started; timer = None }
 
 abbrev pub issued_of : Option ClassKind → Asking → ℤ → Request → Request
-issued_of (Some (An_active provider budget)) asking a r = issued_by provider asking a r
+issued_of (Some (An_active provider)) asking a r = issued_by provider asking a r
 issued_of _ asking a r = r
 
 -- of an enlisted object

@@ -17,7 +17,7 @@ use Rattle.aom_sound.specs.Words.{needs_word, needs_written}
 
 -- the native that serves the objects of a class
 abbrev pub native_of : Option ClassKind → Option ℕ
-native_of (Some (An_active (Native n) budget)) = Some n
+native_of (Some (An_active (Native n))) = Some n
 native_of _ = None
 
 -- it is among those that are killed

@@ -44,8 +44,8 @@ is_timed provider (Some r) = cond (ticks provider r) (is_some r.timer) (is_none 
 
 -- an object that may be enlisted is as it is known to be, what is aborted has its code, and timers run for what is pending; an object of another class is not enlisted
 abbrev pub Suits : Option ClassKind → Known → Option Request → Type 0
-Suits (Some (An_active provider budget)) k r = IsTrue (has k.states (state_of r)) × (in_phase is_cancelling r ≡ k.cancelled) × (is_unanswered r ≡ false) × (is_timed provider r ≡ true)
-Suits (Some (A_server most session budget)) k r = IsTrue (has k.states (state_of r)) × IsTrue (has server_states (state_of r))
+Suits (Some (An_active provider)) k r = IsTrue (has k.states (state_of r)) × (in_phase is_cancelling r ≡ k.cancelled) × (is_unanswered r ≡ false) × (is_timed provider r ≡ true)
+Suits (Some (A_server most session)) k r = IsTrue (has k.states (state_of r)) × IsTrue (has server_states (state_of r))
 Suits _ k r = r ≡ None
 
 -- a method with that home works on the cell of that name

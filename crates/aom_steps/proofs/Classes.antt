@@ -72,12 +72,12 @@ module _ (p : Image) (linked : IsLinked p) (x : ℕ) where
     server_price session e = go (kind_of p (Some x)) refl e
       where
         go : (k : Option ClassKind) → kind_of p (Some x) ≡ k → sessions_in k ≡ Some session → ServerPrice session
-        go (Some (Server most y budget)) at e =
+        go (Some (Server most y)) at e =
             let same : y ≡ session = cc in
             let a = perhaps_price c (role_of p x Accept) in
             let b = perhaps_price c (role_of p session Service) in
             let d = c.destruction (An_object_of session) in
-            let none = no_answer (Some (Server most y budget)) at refl in
+            let none = no_answer (Some (Server most y)) at refl in
             let is : object_price p c x ≡ max a (max b d) = ap (λ k. dispatch_price p c x k) at ∙ ap (λ i. max a (max (perhaps_price c (role_of p i Service)) (c.destruction (An_object_of i)))) same in
             record {
               accepts = omega (arith, none, is, le-max_left a (max b d));

@@ -3,6 +3,7 @@ use Rattle.std.proofs.lemmas.Option.{same_Some}
 use Rattle.std.specs.Prelude.{false}
 use Rattle.std.proofs.Common.{◌≡◌, ◌≤◌, ◌+◌, ◌-◌, ◌*◌, ◌∙◌, ℕ, zero, suc, List, [], ◌∷◌, Option, Some, None, IsSome, replicate, refl, sym, ap, arith, subst, pos}
 use Rattle.aom_image.specs.Image.{Image}
+use Rattle.aom_image.specs.Small.{a_class, a_header, a_method}
 use Rattle.aom_image.specs.Views.{arguments_in, class_at, class_in, fields_in, gives_in, instr_at, instr_in, method_at, quiet_in, role_in}
 use Rattle.aom_image.specs.declared.class.ClassKind.TheVariants.{Plain}
 use Rattle.aom_instructions.specs.declared.instr.Instr.{Instr}
@@ -44,12 +45,12 @@ use Rattle.aom_classes.proofs.Playing.{destroyed}
 
 abbrev method : Option ℕ → Role → ℕ → List Instr → Method
 method class role flags code =
-    record { class = class; role = role; flags = record { 0 = flags }; before = record { 0 = 0 }; after = record { 0 = 0 }; arguments = []; gives = Nothing; code = code }
+    a_method class role flags 0 0 [] Nothing code
 
 abbrev image : Image
 image = record {
-  header = record { cells = 1; messages = 0; natives = 0; root = None; budget = 18 };
-  classes = record { kind = Plain; words = 0; fields = [] } ∷ [];
+  header = a_header 1 0 0 None 18;
+  classes = a_class Plain 0 0 [] ∷ [];
   methods = method (Some 0) Destruct 2 (Return 0 ∷ []) ∷ method None Main 0 (Loop 0 3 ∷ New 0 0 ∷ Delete 0 ∷ Next 0 1 ∷ Stop ∷ Return 0 ∷ []) ∷ [];
 }
 

@@ -5,7 +5,7 @@ use Rattle.std.specs.Prelude.{IsSome, is_none, pos, max}
 use Rattle.std.proofs.Common.{◌≡◌, ◌<◌, ◌≤◌, ◌+◌, ◌∙◌, ◌^◌, slice_get, ℕ, ℤ, Bool, true, false, cond, List, [], ◌∷◌, length, Option, Some, None, refl, sym, ap, arith, subst, suc}
 use Rattle.aom_image.specs.Image.{Image}
 use Rattle.aom_image.specs.Views.{instr_at, method_at}
-use Rattle.aom_image.specs.WellFormed.{ClassFits, KindFits, WellFormed}
+use Rattle.aom_image.specs.WellFormed.{ClassFits, WellFormed}
 use Rattle.aom_instructions.specs.declared.instr.Instr.{Instr}
 use Rattle.aom_image.specs.declared.method.Thing.TheVariants.{Object as An_object_of}
 use Rattle.aom_image.specs.declared.class.ClassKind.{ClassKind}
@@ -14,7 +14,6 @@ use Rattle.aom_image.specs.declared.class.ClassDecl.{ClassDecl}
 use Rattle.aom_image.specs.declared.method.Role.{Role}
 use Rattle.aom_image.specs.declared.method.Role.TheVariants.{Accept, Error, Run as Handles, Service as Attends}
 use Rattle.aom_image.specs.Views.{class_at}
-use Rattle.aom_roles.specs.Classes.{kind_in}
 use Rattle.aom_roles.specs.Shapes.{kind_of}
 use Rattle.aom_classes.specs.Roles.{role_of}
 use Rattle.aom_classes.proofs.Facts.{all_there}
@@ -381,19 +380,13 @@ all_declared p t c affords objects (Some x) = objects.each x
 
 -- a declaration is a number of 32 bits
 declared_fits : (p : Image) → WellFormed p → (payer : Option ℕ) → declared_of p payer < 2 ^ 32
-unfolding kind_of class_at kind_in
+unfolding class_at
 declared_fits p formed None = formed.header.budget
 declared_fits p formed (Some x) = of_class (slice_get p.classes x) refl
   where
-    of_kind : (d : ClassDecl) → ClassFits (length p.classes) p.header.natives d → (k : ClassKind) → d.kind ≡ k → class_budget (Some k) < 2 ^ 32
-    of_kind d fits (Active provider budget) e = (subst (λ k. KindFits (length p.classes) p.header.natives k) e fits.kind).1
-    of_kind d fits Plain e = omega arith
-    of_kind d fits (Server most session budget) e = (subst (λ k. KindFits (length p.classes) p.header.natives k) e fits.kind).3
-    of_kind d fits A_session e = omega arith
-
-    of_class : (o : Option ClassDecl) → slice_get p.classes x ≡ o → class_budget (kind_in o) < 2 ^ 32
+    of_class : (o : Option ClassDecl) → slice_get p.classes x ≡ o → class_budget o < 2 ^ 32
     of_class None e = omega arith
-    of_class (Some d) e = of_kind d (all_there (ClassFits (length p.classes) p.header.natives) p.classes x d formed.classes.each e) d.kind refl
+    of_class (Some d) e = (all_there (ClassFits (length p.classes) p.header.natives) p.classes x d formed.classes.each e).budget
 
 -- a price up to a limit that is below the limit is the price
 module _ (limit : ℕ) (p : Image) (t : Typing) (c : Prices) (wired : IsWired p) (are : ArePricesUpTo limit p t c) where
@@ -424,8 +417,8 @@ module _ (limit : ℕ) (p : Image) (t : Typing) (c : Prices) (wired : IsWired p)
   same_dispatch x None less = refl
   same_dispatch x (Some Plain) less = refl
   same_dispatch x (Some A_session) less = refl
-  same_dispatch x (Some (Active provider budget)) less = omega (arith, same_part x Handles (omega (arith, less)), same_part x Error (omega (arith, less)))
-  same_dispatch x (Some (Server most session budget)) less =
+  same_dispatch x (Some (Active provider)) less = omega (arith, same_part x Handles (omega (arith, less)), same_part x Error (omega (arith, less)))
+  same_dispatch x (Some (Server most session)) less =
       let a = perhaps_price c (role_of p x Accept) in
       let b = perhaps_price c (role_of p session Attends) in
       let d = c.destruction (An_object_of session) in

@@ -1,6 +1,8 @@
 -- Who pays for the steps of a dispatch, and what is declared of it: main pays for its own dispatch and for the root's destruction, and a class for each dispatch of its objects or servers.
 use Rattle.std.specs.Prelude.{ℕ, ◌+◌, ◌≤◌, max, List, [], ◌∷◌, Option, Some, None}
 use Rattle.aom_image.specs.Image.{Image}
+use Rattle.aom_image.specs.Views.{class_at}
+use Rattle.aom_image.specs.declared.class.ClassDecl.{ClassDecl}
 use Rattle.aom_image.specs.declared.class.ClassKind.{ClassKind}
 use Rattle.aom_image.specs.declared.class.ClassKind.TheVariants.{Active, Plain, Server, Session}
 use Rattle.aom_image.specs.declared.method.Role.TheVariants.{Run as Handles, Error as Answers, Accept as Accepts, Service as Attends}
@@ -42,8 +44,8 @@ payer (_ ∷ ts) = payer ts
 abbrev pub dispatch_price : Image → Prices → ℕ → Option ClassKind → ℕ
 dispatch_price p c x None = 0
 dispatch_price p c x (Some Plain) = 0
-dispatch_price p c x (Some (Active provider budget)) = perhaps_price c (role_of p x Handles) + perhaps_price c (role_of p x Answers)
-dispatch_price p c x (Some (Server most session budget)) = max (perhaps_price c (role_of p x Accepts)) (max (perhaps_price c (role_of p session Attends)) (c.destruction (Object session)))
+dispatch_price p c x (Some (Active provider)) = perhaps_price c (role_of p x Handles) + perhaps_price c (role_of p x Answers)
+dispatch_price p c x (Some (Server most session)) = max (perhaps_price c (role_of p x Accepts)) (max (perhaps_price c (role_of p session Attends)) (c.destruction (Object session)))
 dispatch_price p c x (Some Session) = 0
 
 abbrev pub object_price : Image → Prices → ℕ → ℕ
@@ -55,15 +57,14 @@ price_of p c (Some x) = object_price p c x
 
 -- ---- what is declared
 
--- of each dispatch of an object of that kind of class
-abbrev pub class_budget : Option ClassKind → ℕ
-class_budget (Some (Active provider budget)) = budget
-class_budget (Some (Server most session budget)) = budget
-class_budget _ = 0
+-- of each dispatch of an object of that class
+abbrev pub class_budget : Option ClassDecl → ℕ
+class_budget None = 0
+class_budget (Some class) = class.budget
 
 abbrev pub declared_of : Image → Option ℕ → ℕ
 declared_of p None = p.header.budget
-declared_of p (Some x) = class_budget (kind_of p (Some x))
+declared_of p (Some x) = class_budget (class_at p x)
 
 -- the price of each class is within its declaration
 pub record AffordsObjects (p : Image) (c : Prices) : Type 0 where

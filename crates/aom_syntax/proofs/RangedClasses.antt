@@ -1,10 +1,10 @@
 -- A class that is read is in its range.
-use Rattle.std.proofs.Common.{◌≡◌, ℕ, ◌<◌, ◌≤◌, ◌^◌, Bool, true, false, not, List, [], length, nat_lt, arith, refl}
+use Rattle.std.proofs.Common.{◌≡◌, ℕ, ◌<◌, ◌^◌, ◌||◌, eqb, ap, Bool, true, false, not, List, [], length, nat_lt, arith, refl}
 use Rattle.std.specs.Prelude.{if◌then◌else◌}
 use Rattle.std.proofs.lemmas.Bool.{ltb-true}
 use Rattle.std.proofs.lemmas.List.Elements.{All-nil}
 use Rattle.aom_text.specs.declared.fault.AsmFaultKind.TheVariants.{BadShape, LimitPassed}
-use Rattle.aom_image.specs.WellFormed.{KindFits, ProviderFits, ThingFits, is_server_kind}
+use Rattle.aom_image.specs.WellFormed.{KindFits, ProviderFits, ThingFits, is_dispatched, is_server_kind, may_declare}
 use Rattle.aom_image.specs.declared.class.ClassDecl.{ClassDecl}
 use Rattle.aom_image.specs.declared.class.ClassKind.{ClassKind}
 use Rattle.aom_image.specs.declared.class.ClassKind.TheVariants as kinds
@@ -12,9 +12,7 @@ use Rattle.aom_image.specs.declared.class.Provider.TheVariants as providers
 use Rattle.aom_image.specs.declared.method.Thing.{Thing}
 use Rattle.aom_syntax.specs.Reading.{any_keyword, failing, giving, keyword, next, nothing_more, number, optional_number, word}
 use Rattle.aom_syntax.specs.Operands.{class}
-use Rattle.aom_syntax.specs.Classes.{budget, class_statement, declared, fields, flag, kind, listed, provider, purpose, server, thing_of, class_parts}
-use Rattle.aom_syntax.specs.declared.class.Purpose.{Purpose}
-use Rattle.aom_syntax.specs.declared.class.Purpose.TheVariants as purposes
+use Rattle.aom_syntax.specs.Classes.{budget, class_statement, declared, fields, flag, kind, listed, provider, said_budget, server, thing_of, class_parts}
 use Rattle.aom_syntax.specs.declared.keyword.Keyword.{Keyword}
 use Rattle.aom_syntax.specs.declared.keyword.Keyword.TheVariants as k
 use Rattle.aom_syntax.specs.declared.scope.Scope.{Scope}
@@ -36,67 +34,57 @@ provider_within natives k.Timer = giving_within (ProviderFits natives) providers
 provider_within natives k.Native = after (ProviderFits natives) (number 0 15) (λ n. if nat_lt n natives then giving (providers.Native n) else failing LimitPassed) (λ n. native_within natives n (nat_lt n natives) refl)
 provider_within natives key = failing_within (ProviderFits natives) BadShape
 
--- what a class is for, beside so many classes and natives and after so many servers
-abbrev PurposeFits : ℕ → ℕ → ℕ → Purpose → Type 0
-PurposeFits classes natives servers purposes.Plain = Unit {0}
-PurposeFits classes natives servers (purposes.Active p) = ProviderFits natives p
-PurposeFits classes natives servers (purposes.Server sessions session) = (1 ≤ sessions) × (sessions ≤ 64) × (session < classes) × (servers < 8)
-PurposeFits classes natives servers purposes.Session = Unit {0}
-
 -- a kind, and a server only after so few others
 record KindIsRead (classes natives servers : ℕ) (kind : ClassKind) : Type 0 where
   pub kind_fits : KindFits classes natives kind
   pub server : is_server_kind kind ≡ true → servers < 8
 
-budget_within : Within (λ n. n < 2 ^ 32) budget
-budget_within =
-    after (λ n. n < 2 ^ 32) (keyword k.Budget) (λ u. next (number 0 4294967295) (λ n. next (nothing_more false) (λ u. giving n))) (λ u.
-    next_within (Between 0 4294967295) (λ n. n < 2 ^ 32) (number 0 4294967295) (λ n. next (nothing_more false) (λ u. giving n)) (number_between 0 4294967295) (λ n small.
-    after (λ n. n < 2 ^ 32) (nothing_more false) (λ u. giving n) (λ u. giving_within (λ n. n < 2 ^ 32) n (omega (arith, small.most)))))
+-- a budget that a class of such a kind may declare
+record IsBudgetOf (kind : ClassKind) (n : ℕ) : Type 0 where
+  pub small : n < 2 ^ 32
+  pub declared : may_declare kind n ≡ true
+
+said_within : (kind : ClassKind) → is_dispatched kind ≡ true → Within (IsBudgetOf kind) said_budget
+said_within kind is =
+    after (IsBudgetOf kind) (keyword k.Budget) (λ u. next (number 0 4294967295) (λ n. next (nothing_more false) (λ u. giving n))) (λ u.
+    next_within (Between 0 4294967295) (IsBudgetOf kind) (number 0 4294967295) (λ n. next (nothing_more false) (λ u. giving n)) (number_between 0 4294967295) (λ n low.
+    after (IsBudgetOf kind) (nothing_more false) (λ u. giving n) (λ u.
+    giving_within (IsBudgetOf kind) n (record { small = omega (arith, low.most); declared = ap (λ b. b || eqb n 0) is }))))
+
+budget_within : (kind : ClassKind) (has_fields b : Bool) → is_dispatched kind ≡ b → Within (IsBudgetOf kind) (budget has_fields b)
+budget_within kind has_fields true is = said_within kind is
+budget_within kind has_fields false is =
+    after (IsBudgetOf kind) (nothing_more (not has_fields)) (λ u. giving 0) (λ u.
+    giving_within (IsBudgetOf kind) 0 (record { small = omega arith; declared = ap (λ b. b || eqb 0 0) is }))
 
 module _ (scope : Scope) (natives servers : ℕ) (known : IsKnown scope.is_strict (length scope.classes)) where
-  abbrev IsFor : Purpose → Type 0
-  IsFor p = PurposeFits (length scope.classes) natives servers p
-
   abbrev IsOfKind : ClassKind → Type 0
   IsOfKind kind = KindIsRead (length scope.classes) natives servers kind
 
   abbrev AreOwned : List Thing → Type 0
   AreOwned ts = ListFits (ThingFits (length scope.classes)) 8 ts
 
-  server_within : servers < 8 → Within IsFor (server scope)
+  server_within : servers < 8 → Within IsOfKind (server scope)
   server_within room =
-      next_within (λ c. c < length scope.classes) IsFor (class scope) (λ c. next (keyword k.Max) (λ u. next (number 1 64) (λ n. giving (purposes.Server n c)))) (used_below scope.is_strict 256 scope.classes known) (λ c below.
-      after IsFor (keyword k.Max) (λ u. next (number 1 64) (λ n. giving (purposes.Server n c))) (λ u.
-      next_within (Between 1 64) IsFor (number 1 64) (λ n. giving (purposes.Server n c)) (number_between 1 64) (λ n few.
-      giving_within IsFor (purposes.Server n c) (few.least, few.most, below, room))))
+      next_within (λ c. c < length scope.classes) IsOfKind (class scope) (λ c. next (keyword k.Max) (λ u. next (number 1 64) (λ n. giving (kinds.Server n c))))
+      (used_below scope.is_strict 256 scope.classes known) (λ c below.
+      after IsOfKind (keyword k.Max) (λ u. next (number 1 64) (λ n. giving (kinds.Server n c))) (λ u.
+      next_within (Between 1 64) IsOfKind (number 1 64) (λ n. giving (kinds.Server n c)) (number_between 1 64) (λ n few.
+      giving_within IsOfKind (kinds.Server n c) (record { kind_fits = (few.least, few.most, below); server = λ is. room }))))
 
-  next_server : (b : Bool) → nat_lt servers 8 ≡ b → Within IsFor (if b then server scope else failing LimitPassed)
+  next_server : (b : Bool) → nat_lt servers 8 ≡ b → Within IsOfKind (if b then server scope else failing LimitPassed)
   next_server true room = server_within (ltb-true servers 8 room)
-  next_server false room = failing_within IsFor LimitPassed
+  next_server false room = failing_within IsOfKind LimitPassed
 
-  purpose_within : (key : Keyword) → Within IsFor (purpose scope natives servers key)
-  purpose_within k.Plain = giving_within IsFor purposes.Plain tt
-  purpose_within k.Session = giving_within IsFor purposes.Session tt
-  purpose_within k.Active =
-      after IsFor any_keyword (λ key. next (provider natives key) (λ p. giving (purposes.Active p))) (λ key.
-      next_within (ProviderFits natives) IsFor (provider natives key) (λ p. giving (purposes.Active p)) (provider_within natives key) (λ p fits.
-      giving_within IsFor (purposes.Active p) fits))
-  purpose_within k.Server = next_server (nat_lt servers 8) refl
-  purpose_within key = failing_within IsFor BadShape
-
-  quiet_kind : (is_open : Bool) (kind : ClassKind) → IsOfKind kind → Within IsOfKind (next (nothing_more is_open) (λ u. giving kind))
-  quiet_kind is_open kind fits = after IsOfKind (nothing_more is_open) (λ u. giving kind) (λ u. giving_within IsOfKind kind fits)
-
-  kind_within : (has_fields : Bool) (p : Purpose) → IsFor p → Within IsOfKind (kind has_fields p)
-  kind_within has_fields purposes.Plain fits = quiet_kind (not has_fields) kinds.Plain (record { kind_fits = tt; server = λ is. absurd cc })
-  kind_within has_fields purposes.Session fits = quiet_kind (not has_fields) kinds.Session (record { kind_fits = tt; server = λ is. absurd cc })
-  kind_within has_fields (purposes.Active p) fits =
-      next_within (λ n. n < 2 ^ 32) IsOfKind budget (λ n. giving (kinds.Active p n)) budget_within (λ n small.
-      giving_within IsOfKind (kinds.Active p n) (record { kind_fits = (fits, small); server = λ is. absurd cc }))
-  kind_within has_fields (purposes.Server sessions session) fits =
-      next_within (λ n. n < 2 ^ 32) IsOfKind budget (λ n. giving (kinds.Server sessions session n)) budget_within (λ n small.
-      giving_within IsOfKind (kinds.Server sessions session n) (record { kind_fits = (fits.0, fits.1, fits.2, small); server = λ is. fits.3 }))
+  kind_within : (key : Keyword) → Within IsOfKind (kind scope natives servers key)
+  kind_within k.Plain = giving_within IsOfKind kinds.Plain (record { kind_fits = tt; server = λ is. absurd cc })
+  kind_within k.Session = giving_within IsOfKind kinds.Session (record { kind_fits = tt; server = λ is. absurd cc })
+  kind_within k.Active =
+      after IsOfKind any_keyword (λ key. next (provider natives key) (λ p. giving (kinds.Active p))) (λ key.
+      next_within (ProviderFits natives) IsOfKind (provider natives key) (λ p. giving (kinds.Active p)) (provider_within natives key) (λ p fits.
+      giving_within IsOfKind (kinds.Active p) (record { kind_fits = fits; server = λ is. absurd cc })))
+  kind_within k.Server = next_server (nat_lt servers 8) refl
+  kind_within key = failing_within IsOfKind BadShape
 
   fields_within : (owns : Bool) → Within AreOwned (fields scope owns)
   fields_within false = giving_within AreOwned [] (record { few = omega arith; each = All-nil (ThingFits (length scope.classes)) })
@@ -116,14 +104,22 @@ module _ (scope : Scope) (natives place servers : ℕ) where
   behind_within below =
       let known = some_names scope.is_strict place (length scope.classes) below in
       after IsRead any_keyword _ (λ key.
-      next_within (IsFor scope natives servers known) IsRead (purpose scope natives servers key) _ (purpose_within scope natives servers known key) (λ p is_for.
+      next_within (IsOfKind scope natives servers known) IsRead (kind scope natives servers key) _ (kind_within scope natives servers known key) (λ kind is_read.
       next_within (Between 0 8) IsRead (optional_number k.Words 8) _ (optional_between k.Words 8) (λ words few.
       after IsRead (flag k.Own) _ (λ owns.
       next_within (AreOwned scope natives servers known) IsRead (fields scope owns) _ (fields_within scope natives servers known owns) (λ list owned.
-      next_within (IsOfKind scope natives servers known) IsRead (kind owns p) _ (kind_within scope natives servers known owns p is_for) (λ kind is_read.
+      next_within (IsBudgetOf kind) IsRead (budget owns (is_dispatched kind)) _ (budget_within kind owns (is_dispatched kind) refl) (λ n is_budget.
       giving_within IsRead _ (record {
         declared = below;
-        class = record { kind = is_read.kind_fits; words = few.most; field_count = owned.few; fields = owned.each };
+        class = record {
+          kind = is_read.kind_fits;
+          parent = refl;
+          words = few.most;
+          field_count = owned.few;
+          fields = owned.each;
+          budget = is_budget.small;
+          budgeted = is_budget.declared;
+        };
         server = is_read.server;
       })))))))
 

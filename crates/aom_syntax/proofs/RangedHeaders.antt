@@ -1,5 +1,5 @@
 -- A header that is read is in its range.
-use Rattle.std.proofs.Common.{◌≡◌, ℕ, ◌<◌, true, false, length, Option, Some, None, arith}
+use Rattle.std.proofs.Common.{◌≡◌, ℕ, ◌<◌, true, false, length, Option, Some, None, arith, refl}
 use Rattle.std.specs.Prelude.{IfSome}
 use Rattle.aom_image.specs.WellFormed.{HeaderFits}
 use Rattle.aom_image.specs.declared.image.Header.{Header}
@@ -46,4 +46,4 @@ module _ (scope : Scope) (strict : scope.is_strict ≡ true) where
       after Fits (keyword k.Budget) _ (λ u.
       next_within (Between 0 4294967295) Fits (number 0 4294967295) _ (number_between 0 4294967295) (λ budget small.
       next_within IsRoot Fits (optional_root scope) _ root_within (λ root is_class.
-      giving_within Fits _ (record { cells = few_cells.most; messages = few_messages.most; natives = few_natives.most; root = is_class; budget = omega (arith, small.most) })))))))))
+      giving_within Fits _ (record { version = refl; cells = few_cells.most; messages = few_messages.most; natives = few_natives.most; root = is_class; budget = omega (arith, small.most) })))))))))

@@ -41,7 +41,7 @@ not_served_fits classes true = tt
 not_served_fits classes false = tt
 
 accepted_fits : (classes natives : ℕ) (known : Bool) (kind : ClassKind) → KindFits classes natives kind → MayGive classes (accepted known kind)
-accepted_fits classes natives known (kinds.Server sessions session budget) fits = fits.2
+accepted_fits classes natives known (kinds.Server sessions session) fits = fits.2
 accepted_fits classes natives known _ fits = not_served_fits classes known
 
 usual_fits : (classes natives : ℕ) (known : Bool) (role : Role) (kind : ClassKind) → KindFits classes natives kind → MayGive classes (usual_gives known role kind)
@@ -133,10 +133,11 @@ module _ (natives : ℕ) (scope : Scope) (settled : IsSettled natives scope) (pl
       next_within (AreArguments scope known) IsRead (optional_arguments scope (usual_words role)) _ (arguments_within scope known (usual_words role) (words_few role)) (λ arguments are_few.
       next_within (IsGiven scope known) IsRead (optional_gives scope (usual_gives scope.is_strict role (kind_of scope.kinds class))) _
       (optional_within scope known (usual_gives scope.is_strict role (kind_of scope.kinds class)) (usual_fits (length scope.classes) natives scope.is_strict role (kind_of scope.kinds class) (kind_fits (length scope.classes) natives scope.kinds class settled.kinds))) (λ gives is_given.
-      giving_within IsRead (record { class = class; role = role; flags = flags_of leaves (quiet || is_quiet_role role); before = before; after = after; arguments = arguments; gives = gives }) (record {
+      giving_within IsRead (record { class = class; over = None; role = role; flags = flags_of leaves (quiet || is_quiet_role role); before = before; after = after; arguments = arguments; gives = gives }) (record {
         declared = below;
         heading = record {
           class = is_class;
+          over = refl;
           flags = flags_below leaves (quiet || is_quiet_role role);
           before = in_states;
           after = out_states;

@@ -1,9 +1,10 @@
 -- The statement that declares a class.
-use Rattle.std.specs.Prelude.{◌≡◌, ℕ, ◌==◌, Bool, true, false, not, nat_lt, if◌then◌else◌, List, [], ◌∷◌, ◌++◌, length, Option, Some, None, Result, Ok, Err, codes}
+use Rattle.std.specs.Prelude.{ℕ, ◌==◌, Bool, true, false, not, nat_lt, if◌then◌else◌, List, [], ◌∷◌, ◌++◌, length, Option, Some, None, Result, Ok, Err, codes}
 use Rattle.std.specs.List.{slice_split}
 use Rattle.std.specs.Str.{bytes_eq}
 use Rattle.aom_text.specs.declared.fault.AsmFaultKind.{AsmFaultKind}
 use Rattle.aom_text.specs.declared.fault.AsmFaultKind.TheVariants.{DoubleName, BadShape, LimitPassed}
+use Rattle.aom_image.specs.WellFormed.{is_dispatched}
 use Rattle.aom_image.specs.declared.class.ClassDecl.{ClassDecl}
 use Rattle.aom_image.specs.declared.class.ClassKind.{ClassKind}
 use Rattle.aom_image.specs.declared.class.ClassKind.TheVariants as kinds
@@ -17,8 +18,6 @@ use Rattle.aom_syntax.specs.Operands.{class}
 use Rattle.aom_syntax.specs.declared.keyword.Keyword.{Keyword}
 use Rattle.aom_syntax.specs.declared.keyword.Keyword.TheVariants as k
 use Rattle.aom_syntax.specs.declared.scope.Scope.{Scope}
-use Rattle.aom_syntax.specs.declared.class.Purpose.{Purpose}
-use Rattle.aom_syntax.specs.declared.class.Purpose.TheVariants as purposes
 
 -- ---- names that are declared
 
@@ -74,27 +73,25 @@ provider natives k.Native = next (number 0 15) (λ n. if nat_lt n natives then g
 provider natives key = failing BadShape
 
 -- a server: the class of its sessions and how many there may be
-abbrev pub server : Scope → Reading Purpose
-server scope = next (class scope) (λ c. next (keyword k.Max) (λ u. next (number 1 64) (λ n. giving (purposes.Server n c))))
+abbrev pub server : Scope → Reading ClassKind
+server scope = next (class scope) (λ c. next (keyword k.Max) (λ u. next (number 1 64) (λ n. giving (kinds.Server n c))))
 
 -- what a class is for, after so many servers
-abbrev pub purpose : Scope → ℕ → ℕ → Keyword → Reading Purpose
-purpose scope natives servers k.Plain = giving purposes.Plain
-purpose scope natives servers k.Session = giving purposes.Session
-purpose scope natives servers k.Active = next any_keyword (λ key. next (provider natives key) (λ p. giving (purposes.Active p)))
-purpose scope natives servers k.Server = if nat_lt servers 8 then server scope else failing LimitPassed
-purpose scope natives servers key = failing BadShape
+abbrev pub kind : Scope → ℕ → ℕ → Keyword → Reading ClassKind
+kind scope natives servers k.Plain = giving kinds.Plain
+kind scope natives servers k.Session = giving kinds.Session
+kind scope natives servers k.Active = next any_keyword (λ key. next (provider natives key) (λ p. giving (kinds.Active p)))
+kind scope natives servers k.Server = if nat_lt servers 8 then server scope else failing LimitPassed
+kind scope natives servers key = failing BadShape
 
--- a budget has to stand where there are dispatches, and may not stand elsewhere
-abbrev pub budget : Reading ℕ
-budget = next (keyword k.Budget) (λ u. next (number 0 4294967295) (λ n. next (nothing_more false) (λ u. giving n)))
+-- a budget at the end
+abbrev pub said_budget : Reading ℕ
+said_budget = next (keyword k.Budget) (λ u. next (number 0 4294967295) (λ n. next (nothing_more false) (λ u. giving n)))
 
--- the kind, where owned fields were listed or not
-abbrev pub kind : Bool → Purpose → Reading ClassKind
-kind has_fields purposes.Plain = next (nothing_more (not has_fields)) (λ u. giving kinds.Plain)
-kind has_fields purposes.Session = next (nothing_more (not has_fields)) (λ u. giving kinds.Session)
-kind has_fields (purposes.Active p) = next budget (λ n. giving (kinds.Active p n))
-kind has_fields (purposes.Server sessions session) = next budget (λ n. giving (kinds.Server sessions session n))
+-- a budget has to stand where there are dispatches, and may not stand elsewhere; owned fields were listed or not
+abbrev pub budget : Bool → Bool → Reading ℕ
+budget has_fields true = said_budget
+budget has_fields false = next (nothing_more (not has_fields)) (λ u. giving 0)
 
 -- ---- the statement
 
@@ -111,12 +108,12 @@ flag key ws = Ok (took key ws)
 abbrev pub class_parts : Scope → ℕ → ℕ → Reading ClassDecl
 class_parts scope natives servers =
     next any_keyword (λ key.
-    next (purpose scope natives servers key) (λ p.
+    next (kind scope natives servers key) (λ kind.
     next (optional_number k.Words 8) (λ words.
     next (flag k.Own) (λ owns.
     next (fields scope owns) (λ list.
-    next (kind owns p) (λ kind.
-    giving (record { kind = kind; words = words; fields = list })))))))
+    next (budget owns (is_dispatched kind)) (λ n.
+    giving (record { kind = kind; parent = None; words = words; fields = list; budget = n })))))))
 
 -- a class, at its place among the classes, after so many servers
 abbrev pub class_statement : Scope → ℕ → ℕ → ℕ → Reading ClassDecl

@@ -1,6 +1,7 @@
 -- The statement that opens a text.
 use Rattle.std.specs.Prelude.{ℕ, true, false, if◌then◌else◌, List, Option, Some, None, Ok}
 use Rattle.aom_image.specs.declared.image.Header.{Header}
+use Rattle.aom_image.specs.declared.image.Version.TheVariants as versions
 use Rattle.aom_text.specs.declared.fault.AsmFaultKind.TheVariants.{BadShape}
 use Rattle.aom_syntax.specs.Reading.{Reading, next, giving, failing, took, keyword, nothing_more, number, optional_number}
 use Rattle.aom_syntax.specs.Operands.{class}
@@ -26,7 +27,7 @@ limits_and_root scope =
     next (keyword k.Budget) (λ u.
     next (number 0 4294967295) (λ budget.
     next (optional_root scope) (λ root.
-    giving (record { cells = cells; messages = messages; natives = natives; root = root; budget = budget })))))))
+    giving (record { version = versions.One; cells = cells; messages = messages; natives = natives; root = root; budget = budget })))))))
 
 -- the statement that opens a text
 abbrev pub image_statement : Scope → Reading Header

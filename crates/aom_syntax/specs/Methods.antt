@@ -1,12 +1,11 @@
 -- The statement that declares a method, and the statements of its code.
-use Rattle.std.specs.Prelude.{◌≡◌, ℕ, ◌==◌, ◌+◌, ◌-◌, Bool, true, false, not, ◌||◌, nat_lt, if◌then◌else◌, List, [], ◌∷◌, take, length, replicate, Option, Some, None, Result, Ok, Err, codes, slice_get, slice_index_or}
+use Rattle.std.specs.Prelude.{ℕ, ◌==◌, ◌+◌, ◌-◌, Bool, true, false, ◌||◌, if◌then◌else◌, List, [], ◌∷◌, take, length, replicate, Option, Some, None, Result, Ok, Err, codes, slice_get, slice_index_or}
 use Rattle.std.specs.Str.{bytes_eq}
 use Rattle.aom_text.specs.declared.fault.AsmFaultKind.{AsmFaultKind}
 use Rattle.aom_text.specs.declared.fault.AsmFaultKind.TheVariants.{BadShape}
 use Rattle.aom_image.specs.declared.class.ClassDecl.{ClassDecl}
 use Rattle.aom_image.specs.declared.class.ClassKind.{ClassKind}
 use Rattle.aom_image.specs.declared.class.ClassKind.TheVariants as kinds
-use Rattle.aom_image.specs.declared.method.Thing.{Thing}
 use Rattle.aom_image.specs.declared.method.Thing.TheVariants as owned
 use Rattle.aom_image.specs.declared.method.Argument.{Argument}
 use Rattle.aom_image.specs.declared.method.Argument.TheVariants as arg
@@ -17,7 +16,7 @@ use Rattle.aom_image.specs.declared.method.Role.TheVariants as roles
 use Rattle.aom_image.specs.declared.method.States.{States}
 use Rattle.aom_image.specs.declared.method.MethodFlags.{MethodFlags}
 use Rattle.aom_instructions.specs.declared.instr.Instr.{Instr}
-use Rattle.aom_syntax.specs.Reading.{◌>>=◌, Reading, next, seen, giving, failing, word, name, as_name, took, any_keyword, nothing_more}
+use Rattle.aom_syntax.specs.Reading.{◌>>=◌, Reading, next, seen, giving, failing, word, as_name, took, any_keyword, nothing_more}
 use Rattle.aom_syntax.specs.Keywords.{strange}
 use Rattle.aom_instructions.specs.Mnemonics.{mnemonic_of}
 use Rattle.aom_syntax.specs.Operands.{class}
@@ -57,8 +56,8 @@ kind_of classes (Some c) = elim (slice_get classes c) [ None ↦ kinds.Plain | S
 -- all request states of its objects outside a cancel: unlisted 1, idle 2, active 8
 abbrev pub all_states : ClassKind → ℕ
 all_states kinds.Plain = 0
-all_states (kinds.Active p budget) = 11
-all_states (kinds.Server sessions session budget) = 3
+all_states (kinds.Active p) = 11
+all_states (kinds.Server sessions session) = 3
 all_states kinds.Session = 0
 
 -- what an accept of a class that is no server gives: nothing stands for it, once the classes are known
@@ -68,7 +67,7 @@ not_served false = Some result.Nothing
 
 -- what an accept gives
 abbrev pub accepted : Bool → ClassKind → Option Gives
-accepted known (kinds.Server sessions session budget) = Some (result.Own (owned.Object session))
+accepted known (kinds.Server sessions session) = Some (result.Own (owned.Object session))
 accepted known _ = not_served known
 
 -- ---- what stands for what is missing
@@ -190,7 +189,7 @@ promised scope role class leaves quiet =
     next (optional_states k.Out (usual_after role (all_states (kind_of scope.kinds class)))) (λ after.
     next (optional_arguments scope (usual_words role)) (λ arguments.
     next (optional_gives scope (usual_gives scope.is_strict role (kind_of scope.kinds class))) (λ gives.
-    giving (record { class = class; role = role; flags = flags_of leaves (quiet || is_quiet_role role); before = before; after = after; arguments = arguments; gives = gives })))))
+    giving (record { class = class; over = None; role = role; flags = flags_of leaves (quiet || is_quiet_role role); before = before; after = after; arguments = arguments; gives = gives })))))
 
 -- what stands behind its class
 abbrev pub behind_class : Scope → Role → Option ℕ → Reading Heading

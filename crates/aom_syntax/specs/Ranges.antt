@@ -1,5 +1,5 @@
 -- The laws: what a statement says is in its range, whatever its words are.
-use Rattle.std.specs.Prelude.{◌≡◌, ◌<◌, ◌≤◌, ℕ, true, List, length, All, IfSome, Ok}
+use Rattle.std.specs.Prelude.{◌≡◌, ◌<◌, ◌≤◌, ℕ, true, List, length, All, IfSome, Ok, None}
 use Rattle.aom_image.specs.WellFormed.{ArgumentFits, ClassFits, GivesFits, HeaderFits, is_server}
 use Rattle.aom_instructions.specs.Fits.{InstrFits, limits}
 use Rattle.aom_image.specs.declared.class.ClassDecl.{ClassDecl}
@@ -16,6 +16,7 @@ use Rattle.aom_syntax.specs.declared.scope.Scope.{Scope}
 -- a method but its code, beside so many classes
 pub record HeadingFits (classes : ℕ) (h : Heading) : Type 0 where
   pub class : IfSome h.class (λ c. c < classes)
+  pub over : h.over ≡ None
   pub flags : h.flags.0 < 4
   pub before : h.before.0 < 64
   pub after : h.after.0 < 64

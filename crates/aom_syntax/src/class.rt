@@ -1,23 +1,15 @@
 //! The statement that declares a class.
 ghost use Rattle.std.specs.Prelude.{◌≡◌, ◌≤◌, ◌∷◌, ◌==◌, ◌<◌, length, option_map, IfSome};
 ghost use Rattle.std.specs.List.{slice_split, position};
+ghost use Rattle.aom_image.specs.WellFormed.{is_dispatched};
 ghost use Rattle.aom_syntax.specs.Reading.{Reads, ReadsOrNoMemory};
-ghost use Rattle.aom_syntax.specs.Classes.{declared, parts_left, class_of, thing_of, thing, things, provider, server, purpose, budget, kind, fields, class_statement};
+ghost use Rattle.aom_syntax.specs.Classes.{declared, parts_left, class_of, thing_of, thing, things, provider, server, kind, said_budget, budget, fields, class_statement};
 
 use crate::list::listed;
 use crate::{Keyword, Names, Reader, Scope};
 use aom_image::{ClassDecl, ClassKind, ClassNumber, Items, NativeNumber, Provider, Thing};
 use aom_text::{AsmFaultKind, is_name};
 use std::alloc::Global;
-
-/// What a class's kind says before its budget is read.
-#[derive(Clone, Copy)]
-pub enum Purpose {
-    Plain,
-    Active(Provider),
-    Server(u8, ClassNumber),
-    Session,
-}
 
 /// The first element of a list, and what comes after its comma.
 pub fn split_element(list: &[u8]) -> (&[u8], Option<&[u8]>)
@@ -95,31 +87,32 @@ impl<'a> Reader<'a> {
         }
     }
 
-    fn server(&mut self, scope: &Scope) -> Result<Purpose, AsmFaultKind>
+    fn server(&mut self, scope: &Scope) -> Result<ClassKind, AsmFaultKind>
         ensures { Reads (λ x. (x, self.new)) result (server scope.now self.old) }
     {
         let session = self.class(scope)?;
         self.keyword(Keyword::Max)?;
-        let sessions = self.number(1, 64)?;
-        Ok(Purpose::Server(sessions as u8, session))
+        let sessions = self.number(1, 64)? as u8;
+        Ok(ClassKind::Server { sessions, session })
     }
 
     /// What a keyword says that a class is for.
-    fn purpose(
+    fn kind(
         &mut self,
         key: Keyword,
         scope: &Scope,
         natives: u8,
         servers: usize,
-    ) -> Result<Purpose, AsmFaultKind>
-        ensures { Reads (λ x. (x, self.new)) result (purpose scope.now natives servers key self.old) }
+    ) -> Result<ClassKind, AsmFaultKind>
+        ensures { Reads (λ x. (x, self.new)) result (kind scope.now natives servers key self.old) }
     {
         match key {
-            Keyword::Plain => Ok(Purpose::Plain),
-            Keyword::Session => Ok(Purpose::Session),
+            Keyword::Plain => Ok(ClassKind::Plain),
+            Keyword::Session => Ok(ClassKind::Session),
             Keyword::Active => {
-                let provider = self.any_keyword()?;
-                Ok(Purpose::Active(self.provider(provider, natives)?))
+                let key = self.any_keyword()?;
+                let provider = self.provider(key, natives)?;
+                Ok(ClassKind::Active { provider })
             }
             Keyword::Server if servers < 8 => self.server(scope),
             Keyword::Server => Err(AsmFaultKind::LimitPassed),
@@ -127,8 +120,8 @@ impl<'a> Reader<'a> {
         }
     }
 
-    fn budget(&mut self) -> Result<u32, AsmFaultKind>
-        ensures { Reads (λ x. (x, self.new)) result (budget self.old) }
+    fn said_budget(&mut self) -> Result<u32, AsmFaultKind>
+        ensures { Reads (λ x. (x, self.new)) result (said_budget self.old) }
     {
         self.keyword(Keyword::Budget)?;
         let budget = self.number(0, u32::MAX)?;
@@ -137,31 +130,14 @@ impl<'a> Reader<'a> {
     }
 
     /// The end of the statement, where owned fields were listed or not.
-    fn kind(&mut self, has_fields: bool, purpose: Purpose) -> Result<ClassKind, AsmFaultKind>
-        ensures { Reads (λ x. (x, self.new)) result (kind has_fields purpose self.old) }
+    fn budget(&mut self, has_fields: bool, kind: ClassKind) -> Result<u32, AsmFaultKind>
+        ensures { Reads (λ x. (x, self.new)) result (budget has_fields (is_dispatched kind) self.old) }
     {
-        match purpose {
-            Purpose::Plain => {
-                self.nothing_more(!has_fields)?;
-                Ok(ClassKind::Plain)
-            }
-            Purpose::Session => {
-                self.nothing_more(!has_fields)?;
-                Ok(ClassKind::Session)
-            }
-            Purpose::Active(provider) => {
-                let budget = self.budget()?;
-                Ok(ClassKind::Active { provider, budget })
-            }
-            Purpose::Server(sessions, session) => {
-                let budget = self.budget()?;
-                Ok(ClassKind::Server {
-                    sessions,
-                    session,
-                    budget,
-                })
-            }
+        if kind.is_dispatched() {
+            return self.said_budget();
         }
+        self.nothing_more(!has_fields)?;
+        Ok(0)
     }
 
     /// The owned fields, where they are listed.
@@ -193,15 +169,18 @@ impl<'a> Reader<'a> {
     {
         self.declared(place, &scope.classes)?;
         let key = self.any_keyword()?;
-        let purpose = self.purpose(key, scope, natives, servers)?;
+        let kind = self.kind(key, scope, natives, servers)?;
         let words = self.optional_number(Keyword::Words, 8)?;
         let has_fields = self.took(Keyword::Own);
         let fields = self.fields(alloc, has_fields, scope)?;
-        let kind = self.kind(has_fields, purpose)?;
-        Ok(ClassDecl {
+        let mut class = ClassDecl {
             kind,
+            parent: None,
             words: words as u8,
             fields: Items::from_vec(fields),
-        })
+            budget: 0,
+        };
+        class.budget = self.budget(has_fields, class.kind)?;
+        Ok(class)
     }
 }

@@ -4,7 +4,7 @@ ghost use Rattle.aom_syntax.specs.Reading.{Reads};
 ghost use Rattle.aom_syntax.specs.Headers.{optional_version, optional_root, limits_and_root, image_statement};
 
 use crate::{Keyword, Reader, Scope};
-use aom_image::{ClassNumber, Header};
+use aom_image::{ClassNumber, Header, Version};
 use aom_text::AsmFaultKind;
 
 impl<'a> Reader<'a> {
@@ -44,6 +44,7 @@ impl<'a> Reader<'a> {
         let budget = self.number(0, u32::MAX)?;
         let root = self.optional_root(scope)?;
         Ok(Header {
+            version: Version::One,
             cells: cells as u16,
             messages: messages as u16,
             natives: natives as u8,

@@ -19,7 +19,6 @@ mod reader;
 mod scope;
 mod states;
 
-pub use class::Purpose;
 pub use instruction::label_of;
 pub use keyword::Keyword;
 pub use laws::{classes_in_range, headers_in_range, headings_in_range, instructions_in_range};

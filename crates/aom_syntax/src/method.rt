@@ -9,7 +9,8 @@ use crate::list::listed;
 use crate::states::{set_of, states_of};
 use crate::{Keyword, Reader, Scope};
 use aom_image::{
-    Argument, ClassDecl, ClassKind, ClassNumber, Gives, Items, MethodFlags, Role, States, Thing,
+    Argument, ClassDecl, ClassKind, ClassNumber, Gives, Items, MethodFlags, MethodNumber, Role,
+    States, Thing,
 };
 use aom_text::AsmFaultKind;
 use std::alloc::Global;
@@ -18,6 +19,7 @@ use std::alloc::Global;
 #[derive(Drop)]
 pub struct Heading {
     pub class: Option<ClassNumber>,
+    pub over: Option<MethodNumber>,
     pub role: Role,
     pub flags: MethodFlags,
     pub before: States,
@@ -266,6 +268,7 @@ impl<'a> Reader<'a> {
         let gives = self.optional_gives(scope, usual_gives(scope.is_strict, role, kind))?;
         Ok(Heading {
             class,
+            over: None,
             role,
             flags: flags_of(leaves, quiet || is_quiet_role(role)),
             before,

@@ -1,6 +1,7 @@
 -- What the cases are made of: a small image, states of it, and what comes of a case.
 use Rattle.std.specs.Prelude.{ℕ, ◌+◌, ℤ, pos, Bool, true, false, cond, ◌&&◌, ◌≡◌, map, List, [], ◌∷◌, Option, Some, None}
 use Rattle.aom_image.specs.Image.{Image}
+use Rattle.aom_image.specs.Small.{a_class, a_header, a_method as a_method_with}
 use Rattle.aom_image.specs.declared.class.ClassDecl.{ClassDecl}
 use Rattle.aom_image.specs.declared.class.ClassKind.TheVariants.{Active, Plain, Server}
 use Rattle.aom_image.specs.declared.class.Provider.TheVariants.{Native, Own}
@@ -39,31 +40,22 @@ served = An_object_of 4
 
 abbrev pub small_classes : List ClassDecl
 small_classes =
-    record { kind = Plain; words = 0; fields = [] }
-    ∷ record { kind = Plain; words = 1; fields = leaf ∷ Message ∷ [] }
-    ∷ record { kind = Active Own 1; words = 0; fields = [] }
-    ∷ record { kind = Server 1 0 1; words = 0; fields = [] }
-    ∷ record { kind = Active (Native 0) 1; words = 0; fields = [] }
+    a_class Plain 0 0 []
+    ∷ a_class Plain 0 1 (leaf ∷ Message ∷ [])
+    ∷ a_class (Active Own) 1 0 []
+    ∷ a_class (Server 1 0) 1 0 []
+    ∷ a_class (Active (Native 0)) 1 0 []
     ∷ []
 
 abbrev pub a_method : Option ℕ → List Argument → Gives → List Instr → Method
 a_method class arguments gives code =
-    record {
-      class = class;
-      role = Do;
-      flags = record { 0 = 0 };
-      before = record { 0 = 0 };
-      after = record { 0 = 0 };
-      arguments = arguments;
-      gives = gives;
-      code = code;
-    }
+    a_method_with class Do 0 0 0 arguments gives code
 
 -- of two methods: the one at hand, and the one that it calls
 abbrev pub small_image : Method → Method → Image
 small_image here called =
     record {
-      header = record { cells = 8; messages = 0; natives = 1; root = Some 1; budget = 1 };
+      header = a_header 8 0 1 (Some 1) 1;
       classes = small_classes;
       methods = here ∷ called ∷ [];
     }

@@ -1,8 +1,8 @@
 -- The programs of the runs with servers and clients.
 use Rattle.std.specs.Prelude.{ℕ, pos, negsuc, List, [], ◌∷◌, Option, Some, None}
 use Rattle.aom_image.specs.Image.{Image}
+use Rattle.aom_image.specs.Small.{a_class, a_header, a_method as a_method_with}
 use Rattle.aom_image.specs.declared.class.ClassDecl.{ClassDecl}
-use Rattle.aom_image.specs.declared.class.ClassKind.{ClassKind}
 use Rattle.aom_image.specs.declared.class.ClassKind.TheVariants.{Active, Plain, Server, Session}
 use Rattle.aom_image.specs.declared.class.Provider.TheVariants.{Timer}
 use Rattle.aom_instructions.specs.declared.instr.Instr.{Instr}
@@ -15,15 +15,11 @@ use Rattle.aom_image.specs.declared.method.Gives.TheVariants.{Nothing, Own as An
 use Rattle.aom_image.specs.declared.method.Method.{Method}
 use Rattle.aom_image.specs.declared.method.Role.{Role}
 use Rattle.aom_image.specs.declared.method.Role.TheVariants.{Accept, Cancel as Cancels, Construct, Destruct, Do, Main as Is_main, Run as Runs, Service}
-use Rattle.aom_image.specs.declared.method.Thing.{Thing}
 use Rattle.aom_image.specs.declared.method.Thing.TheVariants.{Object as An_object_of, Message}
-
-abbrev pub a_class : ClassKind → ℕ → List Thing → ClassDecl
-a_class kind words fields = record { kind = kind; words = words; fields = fields }
 
 abbrev pub a_method : Option ℕ → Role → List Argument → Gives → List Instr → Method
 a_method class role arguments gives code =
-    record { class = class; role = role; flags = record { 0 = 0 }; before = record { 0 = 0 }; after = record { 0 = 0 }; arguments = arguments; gives = gives; code = code }
+    a_method_with class role 0 0 0 arguments gives code
 
 abbrev pub five_words : List Argument
 five_words = Takes_word ∷ Takes_word ∷ Takes_word ∷ Takes_word ∷ Takes_word ∷ []
@@ -34,10 +30,10 @@ main_of class construct = a_method None Is_main [] Nothing (NewOrLeave 0 class �
 
 -- an image with so many cells, whose root is of that class
 abbrev pub an_image : (cells messages budget root : ℕ) → List ClassDecl → List Method → Image
-an_image cells messages budget root classes methods = record { header = record { cells = cells; messages = messages; natives = 0; root = Some root; budget = budget }; classes = classes; methods = methods }
+an_image cells messages budget root classes methods = record { header = a_header cells messages 0 (Some root) budget; classes = classes; methods = methods }
 
 abbrev pub session_class : ClassDecl
-session_class = a_class Session 0 []
+session_class = a_class Session 0 0 []
 
 -- what a session does with each message, the `accept` of a server and what constructs it, before the others
 abbrev pub serving_methods : (serve accept : List Instr) → List Argument → (construct : List Instr) → List Method → List Method
@@ -52,7 +48,7 @@ serving_methods serve accept arguments construct methods =
 -- one server of class 1, whose sessions are of class 0, with so many cells and messages and so many sessions at most
 abbrev pub one_server : (cells messages most : ℕ) → (accept serve : List Instr) → Image
 one_server cells messages most accept serve =
-    an_image cells messages 90 1 (session_class ∷ a_class (Server most 0 40) 0 [] ∷ []) (serving_methods serve accept [] (Return 0 ∷ []) (main_of 1 2 ∷ []))
+    an_image cells messages 90 1 (session_class ∷ a_class (Server most 0) 40 0 [] ∷ []) (serving_methods serve accept [] (Return 0 ∷ []) (main_of 1 2 ∷ []))
 
 abbrev pub accepts : List Instr
 accepts = NewOrLeave 0 0 ∷ Return 0 ∷ []
@@ -109,9 +105,9 @@ narrow = one_server 3 1 1 accepts replies
 
 abbrev pub holding_classes : List ClassDecl
 holding_classes =
-    a_class (Active Timer 10) 0 (Message ∷ [])
-    ∷ a_class Session 0 (An_object_of 0 ∷ [])
-    ∷ a_class (Server 4 1 40) 0 []
+    a_class (Active Timer) 10 0 (Message ∷ [])
+    ∷ a_class Session 0 0 (An_object_of 0 ∷ [])
+    ∷ a_class (Server 4 1) 40 0 []
     ∷ []
 
 abbrev pub holding_methods : List Method
@@ -138,7 +134,7 @@ holding = an_image 3 4 120 2 holding_classes holding_methods
 
 abbrev pub owning : Image
 owning =
-    an_image 4 4 200 2 (session_class ∷ a_class (Server 4 0 40) 0 [] ∷ a_class (Active Timer 100) 0 (An_object_of 1 ∷ []) ∷ [])
+    an_image 4 4 200 2 (session_class ∷ a_class (Server 4 0) 40 0 [] ∷ a_class (Active Timer) 100 0 (An_object_of 1 ∷ []) ∷ [])
     (serving_methods replies accepts [] (Return 0 ∷ [])
     (a_method (Some 2) Cancels [] Nothing (Abort ∷ Return 0 ∷ [])
     ∷ a_method (Some 2) Destruct [] Nothing (Cancel ∷ Take 0 0 ∷ Delete 0 ∷ Return 0 ∷ [])
@@ -152,7 +148,7 @@ owning =
 
 abbrev pub two_servers : Image
 two_servers =
-    an_image 6 4 200 2 (session_class ∷ a_class (Server 1 0 40) 1 [] ∷ a_class Plain 0 (An_object_of 1 ∷ An_object_of 1 ∷ []) ∷ [])
+    an_image 6 4 200 2 (session_class ∷ a_class (Server 1 0) 40 1 [] ∷ a_class Plain 0 0 (An_object_of 1 ∷ An_object_of 1 ∷ []) ∷ [])
     (serving_methods replies (Load 1 0 ∷ Print 1 ∷ accepts) (Takes_word ∷ []) (Store 0 0 ∷ Return 0 ∷ [])
     (a_method (Some 2) Destruct [] Nothing (Take 0 0 ∷ Delete 0 ∷ Take 0 1 ∷ Delete 0 ∷ Return 0 ∷ [])
     ∷ a_method (Some 2) Construct [] Nothing

@@ -17,7 +17,7 @@ unreachable-requires c =
     let class = rw c.this.ensures at c.class.ensures in
     let kind = kind_found c.args.linked.now _ c.class.result c.class-class.result.now class c.class-class.ensures in
     let is = active_kind c.class-class.result.now.kind (ap is_active_kind (sym kind) ∙ c.requires.active) in
-    c.in_default.not-Active is.0 is.1 is.2
+    c.in_default.not-Active is.0 is.1
 
 pub returns : goal.returns
 returns c =

@@ -31,7 +31,7 @@ unreachable-requires c =
     let class = rw c.from-2.ensures at c.class-class.ensures in
     let known = first_known c.args.linked.now c.args.parts.now c.requires c.args.class c.in_ok-cell.cell (sym first) in
     let is = of_kind c.args.linked.now c.args.parts.now c.args.class c.in_ok-cell.cell known c.class-class.result c.class.result.now class c.class.ensures in
-    c.in_default.not-Server known.most known.session known.budget is
+    c.in_default.not-Server known.most known.session is
 
 pub returns-clause-value : goal.returns-clause-value
 returns-clause-value c =
@@ -39,7 +39,7 @@ returns-clause-value c =
     let class = rw c.from-2.ensures at c.class-class.ensures in
     let known = first_known c.args.linked.now c.args.parts.now c.requires c.args.class c.in_ok-cell.cell (sym first) in
     let is = of_kind c.args.linked.now c.args.parts.now c.args.class c.in_ok-cell.cell known c.class-class.result c.class.result.now class c.class.ensures in
-    first_served c.args.linked.now c.args.parts.now c.args.class c.in_ok-cell.cell known (sym first) c.in-Server.sessions _ _ (sym is ∙ c.in-Server.is)
+    first_served c.args.linked.now c.args.parts.now c.args.class c.in_ok-cell.cell known (sym first) c.in-Server.sessions _ (sym is ∙ c.in-Server.is)
 
 pub returns-clause-below : goal.returns-clause-below
 returns-clause-below c =

@@ -12,8 +12,8 @@ returns c =
     let text = c.args.out.now in
     let class = c.args.declaration.now in
     let heading = class_heading c.args.class class.kind in
-    let color = color_text (class_is_over c.args.linked.now c.args.figures.now.prices c.args.class class.kind) in
-    let line = class_line c.args.linked.now c.args.figures.now.prices c.args.class class.kind in
+    let color = color_text (class_is_over c.args.linked.now c.args.figures.now.prices c.args.class class) in
+    let line = class_line c.args.linked.now c.args.figures.now.prices c.args.class class in
     let colored = c.in_ok-put_color.ensures ∙ ap (λ b. c.put_class_heading.new.out ++ color_text b) c.class_is_over.ensures in
     let ended = then text _ _ (heading ++ color) line_end (then text _ _ heading color c.in_ok-put_class_heading.ensures colored) c.in_ok-words.ensures in
     IfOk-weaker c.put_fields.result _ _ (λ r written. then text _ _ line (fields_text c.args.class class.fields) ended (written ∙ ap (λ fs. c.words.new.self ++ fields_text c.args.class fs) c.as_slice.ensures)) c.put_fields.ensures
