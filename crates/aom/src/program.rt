@@ -1,5 +1,5 @@
 //! What a command is about: an image, from its file or from an assembly text.
-ghost use Rattle.std.specs.Prelude.{◌≡◌, IfOk, IfErr, Some};
+ghost use Rattle.std.specs.Prelude.{◌≡◌, IfOk, IfErr, Some, false, true};
 ghost use Rattle.aom_main.specs.Assembly.{Makes, RefusesText};
 
 use aom_explaining::tell_explained;
@@ -35,7 +35,12 @@ impl Program {
         asm: bool,
         explain: bool,
         errors: &mut E,
-    ) -> Result<Program, ExitStatus> {
+    ) -> Result<Program, ExitStatus>
+        ensures image { IfOk result (λ p. asm ≡ true → Makes self.image.items p.image.items) }
+        ensures text { IfOk result (λ p. asm ≡ true → p.text ≡ Some self.image) }
+        ensures plain { IfOk result (λ p. asm ≡ false → p ≡ self) }
+        ensures refused { IfErr result (λ _. (asm ≡ true) × (fault : _) × RefusesText self.image.items fault) }
+    {
         if !asm {
             return Ok(self);
         }
