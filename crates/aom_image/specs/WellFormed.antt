@@ -1,8 +1,9 @@
 -- Which images are well formed: every field in its range, and at most 1 MiB of bytes.
-use Rattle.std.specs.Prelude.{◌≡◌, ℕ, ◌+◌, ◌*◌, ◌<◌, ◌≤◌, ◌^◌, ◌||◌, ◌==◌, Bool, true, false, List, length, All, count_by, sum_by, None, IfSome}
+use Rattle.std.specs.Prelude.{◌≡◌, ℕ, ◌+◌, ◌*◌, ◌<◌, ◌≤◌, ◌^◌, ◌||◌, ◌==◌, Bool, true, false, List, length, All, count_by, sum_by, Option, Some, None, IfSome}
 use Rattle.aom_image.specs.Image.{Image}
 use Rattle.aom_instructions.specs.Fits.{InstrFits, limits}
 use Rattle.aom_image.specs.declared.image.Header.{Header}
+use Rattle.aom_image.specs.declared.image.Version.{Version}
 use Rattle.aom_image.specs.declared.image.Version.TheVariants as versions
 use Rattle.aom_image.specs.declared.class.ClassDecl.{ClassDecl}
 use Rattle.aom_image.specs.declared.class.ClassKind.{ClassKind}
@@ -48,10 +49,9 @@ is_dispatched kinds.Session = false
 abbrev pub may_declare : ClassKind → ℕ → Bool
 may_declare kind budget = is_dispatched kind || (budget == 0)
 
--- a class, beside so many classes and natives; no image with parents is read yet
+-- a class, beside so many classes and natives
 pub record ClassFits (classes natives : ℕ) (c : ClassDecl) : Type 0 where
   pub kind : KindFits classes natives c.kind
-  pub parent : c.parent ≡ None
   pub words : c.words ≤ 8
   pub field_count : length c.fields ≤ 8
   pub fields : All (ThingFits classes) c.fields
@@ -84,10 +84,9 @@ GivesFits classes (gives.Own t) = ThingFits classes t
 GivesFits classes (gives.Maybe t) = ThingFits classes t
 GivesFits classes (gives.Left c) = c < classes
 
--- a method, beside so many classes and methods; no image with overriders is read yet
+-- a method, beside so many classes and methods
 pub record MethodFits (classes methods : ℕ) (m : Method) : Type 0 where
   pub class : IfSome m.class (λ c. c < classes)
-  pub over : m.over ≡ None
   pub flags : m.flags.0 < 4
   pub before : m.before.0 < 64
   pub after : m.after.0 < 64
@@ -98,11 +97,44 @@ pub record MethodFits (classes methods : ℕ) (m : Method) : Type 0 where
   pub code_length : length m.code ≤ 1024
   pub code : All (InstrFits (limits classes methods (length m.code))) m.code
 
+-- ---- families
+
+-- the first version has no parents and no overriders
+abbrev pub has_families : Version → Bool
+has_families versions.One = false
+has_families versions.Two = true
+
+-- servers and sessions have no parents
+abbrev pub may_descend : ClassKind → Bool
+may_descend kinds.Plain = true
+may_descend (kinds.Active provider) = true
+may_descend (kinds.Server sessions session) = false
+may_descend kinds.Session = false
+
+-- a parent is a class that is there, of an image and a kind that may have one
+abbrev pub ParentFits : Version → ℕ → ClassKind → Option ℕ → Type 0
+ParentFits version classes kind None = Unit {0}
+ParentFits version classes kind (Some c) = (has_families version ≡ true) × (may_descend kind ≡ true) × (c < classes)
+
+-- what is overridden is a method that is there
+abbrev pub OverFits : Version → ℕ → Option ℕ → Type 0
+OverFits version methods None = Unit {0}
+OverFits version methods (Some m) = (has_families version ≡ true) × (m < methods)
+
+-- the parents of the classes, and what the methods override
+pub record FamiliesFit (version : Version) (classes : List ClassDecl) (methods : List Method) : Type 0 where
+  pub parents : All (λ c. ParentFits version (length classes) c.kind c.parent) classes
+  pub overs : All (λ m. OverFits version (length methods) m.over) methods
+
+-- four bytes more of a class and of a method tell of them
+abbrev pub family_bytes : Version → ℕ
+family_bytes versions.One = 0
+family_bytes versions.Two = 4
+
 -- ---- the whole
 
--- a header, beside so many classes; no image of the second version is read yet
+-- a header, beside so many classes
 pub record HeaderFits (classes : ℕ) (h : Header) : Type 0 where
-  pub version : h.version ≡ versions.One
   pub cells : h.cells ≤ 4096
   pub messages : h.messages ≤ 1024
   pub natives : h.natives ≤ 16
@@ -121,13 +153,14 @@ pub record MethodsFit (classes : ℕ) (methods : List Method) : Type 0 where
   pub count : length methods ≤ 1024
   pub each : All (MethodFits classes (length methods)) methods
 
--- how many bytes so many classes and these methods take: 24 for the header, 28 a class, 24 a method and 8 an instruction
-abbrev pub spelled_size : ℕ → List Method → ℕ
-spelled_size classes methods = 24 + 28 * classes + sum_by (λ m. 24 + 8 * length m.code) methods
+-- how many bytes so many classes and these methods take: 24 for the header, 28 a class, 24 a method and 8 an instruction, and what tells of families
+abbrev pub spelled_size : Version → ℕ → List Method → ℕ
+spelled_size version classes methods = 24 + (28 + family_bytes version) * classes + sum_by (λ m. 24 + family_bytes version + 8 * length m.code) methods
 
 -- an image with every field in its range
 pub record WellFormed (i : Image) : Type 0 where
   pub header : HeaderFits (length i.classes) i.header
   pub classes : ClassesFit i.header.natives i.classes
   pub methods : MethodsFit (length i.classes) i.methods
-  pub size : spelled_size (length i.classes) i.methods ≤ 2 ^ 20
+  pub families : FamiliesFit i.header.version i.classes i.methods
+  pub size : spelled_size i.header.version (length i.classes) i.methods ≤ 2 ^ 20

@@ -22,7 +22,7 @@ pub enum ClassKind {
 }
 
 impl ClassKind {
-    ghost use Rattle.aom_image.specs.WellFormed.{is_dispatched, may_declare};
+    ghost use Rattle.aom_image.specs.WellFormed.{is_dispatched, may_declare, may_descend};
 
     /// Whether objects of such a class are dispatched.
     pub fn is_dispatched(self) -> bool
@@ -39,6 +39,16 @@ impl ClassKind {
         ensures { result ≡ may_declare self budget }
     {
         self.is_dispatched() || budget == 0
+    }
+
+    /// Whether a class of that kind may have a parent.
+    pub fn may_descend(self) -> bool
+        ensures { result ≡ may_descend self }
+    {
+        match self {
+            ClassKind::Plain | ClassKind::Active { .. } => true,
+            ClassKind::Server { .. } | ClassKind::Session => false,
+        }
     }
 }
 

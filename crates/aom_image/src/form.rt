@@ -1,11 +1,11 @@
 //! Whether parts make a well-formed image.
 ghost use Rattle.std.specs.Prelude.{◌≡◌, ◌<◌, ◌≤◌, ◌↔◌, IsTrue, IfSome, All, length, count_by, ◌+◌, ◌*◌, ◌^◌, sum_by, codes};
-ghost use Rattle.aom_image.specs.WellFormed.{ThingFits, ProviderFits, KindFits, ClassFits, ClassesFit, MethodsFit, ArgumentFits, GivesFits, MethodFits, HeaderFits, WellFormed, is_server, spelled_size};
+ghost use Rattle.aom_image.specs.WellFormed.{ThingFits, ProviderFits, KindFits, ClassFits, ClassesFit, MethodsFit, ArgumentFits, GivesFits, MethodFits, HeaderFits, ParentFits, OverFits, FamiliesFit, WellFormed, is_server, spelled_size};
 ghost use Rattle.aom_instructions.specs.Fits.{InstrFits};
 
 use crate::{
-    Argument, ClassDecl, ClassKind, ClassNumber, Gives, Header, Instr, Method, Provider, Thing,
-    Version,
+    Argument, ClassDecl, ClassKind, ClassNumber, Gives, Header, Instr, Method, MethodNumber,
+    Provider, Thing, Version,
 };
 use aom_instructions::{Limits, fits};
 
@@ -87,7 +87,29 @@ fn class_ok(class: &ClassDecl, classes: usize, natives: u8) -> bool
         && fields.len() <= 8
         && fields_fit(fields, classes)
         && class.kind.may_declare(class.budget)
-        && class.parent.is_none()
+}
+
+fn parent_fits(
+    parent: Option<ClassNumber>,
+    version: Version,
+    kind: ClassKind,
+    classes: usize,
+) -> bool
+    ensures { IsTrue result ↔ ParentFits version classes kind parent }
+{
+    match parent {
+        None => true,
+        Some(class) => version.has_families() && kind.may_descend() && class_fits(class, classes),
+    }
+}
+
+fn over_fits(over: Option<MethodNumber>, version: Version, methods: usize) -> bool
+    ensures { IsTrue result ↔ OverFits version methods over }
+{
+    match over {
+        None => true,
+        Some(method) => version.has_families() && (method.number() as usize) < methods,
+    }
 }
 
 fn code_fits(code: &[Instr], limits: Limits) -> bool
@@ -109,7 +131,6 @@ fn method_ok(method: &Method, classes: usize, methods: usize) -> bool
         None => true,
     };
     class_is_there
-        && method.over.is_none()
         && method.flags.is_known()
         && method.before.is_known()
         && method.after.is_known()
@@ -121,15 +142,6 @@ fn method_ok(method: &Method, classes: usize, methods: usize) -> bool
         && code_fits(method.code.as_slice(), limits)
 }
 
-fn is_first(version: Version) -> bool
-    ensures { IsTrue result ↔ (version ≡ Version.One) }
-{
-    match version {
-        Version::One => true,
-        Version::Two => false,
-    }
-}
-
 fn header_ok(header: &Header, classes: usize) -> bool
     ensures { IsTrue result ↔ HeaderFits classes header.now }
 {
@@ -138,23 +150,23 @@ fn header_ok(header: &Header, classes: usize) -> bool
         Some(class) => class_fits(class, classes),
         None => true,
     };
-    is_first(header.version)
-        && header.cells <= 4096
+    header.cells <= 4096
         && header.messages <= 1024
         && header.natives <= 16
         && root_is_there
 }
 
 /// How many bytes spell so many classes and these methods.
-pub fn spelled_len(classes: usize, methods: &[Method]) -> usize
+pub fn spelled_len(version: Version, classes: usize, methods: &[Method]) -> usize
     requires few { classes ≤ 256 }
     requires fits { All (λ m. length m.code ≤ 1024) methods.now }
     requires some { length methods.now ≤ 1024 }
-    ensures { result ≡ spelled_size classes methods.now }
+    ensures { result ≡ spelled_size version classes methods.now }
 {
-    let mut len = 24 + 28 * classes;
+    let more = version.family_bytes();
+    let mut len = 24 + (28 + more) * classes;
     for method in methods {
-        len += 24 + 8 * method.code.len();
+        len += 24 + more + 8 * method.code.len();
     }
     len
 }
@@ -200,6 +212,28 @@ fn methods_ok(methods: &[Method], classes: usize) -> bool
     1 <= methods.len() && methods.len() <= 1024 && each_method_ok(methods, classes, methods.len())
 }
 
+fn parents_fit(classes: &[ClassDecl], version: Version, count: usize) -> bool
+    ensures { IsTrue result ↔ All (λ c. ParentFits version count c.kind c.parent) classes.now }
+{
+    classes
+        .iter()
+        .all(|class| parent_fits(class.parent, version, class.kind, count))
+}
+
+fn overs_fit(methods: &[Method], version: Version, count: usize) -> bool
+    ensures { IsTrue result ↔ All (λ m. OverFits version count m.over) methods.now }
+{
+    methods
+        .iter()
+        .all(|method| over_fits(method.over, version, count))
+}
+
+fn families_ok(version: Version, classes: &[ClassDecl], methods: &[Method]) -> bool
+    ensures { IsTrue result ↔ FamiliesFit version classes.now methods.now }
+{
+    parents_fit(classes, version, classes.len()) && overs_fit(methods, version, methods.len())
+}
+
 /// Whether these are the parts of a well-formed image.
 pub fn form_ok(header: &Header, classes: &[ClassDecl], methods: &[Method]) -> bool
     ensures { IsTrue result ↔ WellFormed (record { header = header.now; classes = classes.now; methods = methods.now }) }
@@ -207,8 +241,9 @@ pub fn form_ok(header: &Header, classes: &[ClassDecl], methods: &[Method]) -> bo
     if !header_ok(header, classes.len())
         || !classes_ok(classes, header.natives)
         || !methods_ok(methods, classes.len())
+        || !families_ok(header.version, classes, methods)
     {
         return false;
     }
-    spelled_len(classes.len(), methods) <= 1 << 20
+    spelled_len(header.version, classes.len(), methods) <= 1 << 20
 }
