@@ -6,15 +6,15 @@ use Rattle.std.proofs.lemmas.List.Elements.{All-nil, All-cons}
 use Rattle.std.proofs.lemmas.List.Sums.{sum_by-cons}
 use Rattle.aom_image.specs.Image.{Image}
 use Rattle.aom_codec.specs.Spelling.{class_number, thing_number, argument_number, role_number, gives_byte, result_number, kind_byte}
-use Rattle.aom_image.specs.WellFormed.{ThingFits, ProviderFits, KindFits, ClassFits, is_server_kind, is_server, ArgumentFits, GivesFits, MethodFits, HeaderFits, ClassesFit, MethodsFit}
+use Rattle.aom_image.specs.WellFormed.{ThingFits, ProviderFits, KindFits, ClassFits, ParentFits, OverFits, FamiliesFit, may_descend, is_server_kind, is_server, ArgumentFits, GivesFits, MethodFits, HeaderFits, ClassesFit, MethodsFit}
 use Rattle.aom_instructions.specs.Fits.{InstrFits, limits}
 use Rattle.aom_codec.specs.Codec.{Codec, ◌>>=◌, byte, pair, always, keep, FitMany, limited}
 use Rattle.aom_codec.specs.Instructions.{Bounded, instruction}
-use Rattle.aom_codec.specs.Format.{index_from, class_from, class_or_none, thing_from, thing, argument_from, argument, provider, kind, kind_sort, class, count_server, role, flags, states, result, gives_from, method, opening_of, image}
+use Rattle.aom_codec.specs.Format.{version as version_format, parent_from, parent, over, index_from, class_from, class_or_none, thing_from, thing, argument_from, argument, provider, kind, kind_sort, class, count_server, role, flags, states, result, gives_from, method, image}
 use Rattle.aom_codec.specs.declared.fault.LoadFault.{LoadFault}
-use Rattle.aom_codec.specs.declared.header.Opening.{Opening}
 use Rattle.aom_codec.specs.declared.fault.LoadFault.TheVariants.{BadIndex, BadOperand}
 use Rattle.aom_image.specs.declared.image.Version.{Version}
+use Rattle.aom_image.specs.declared.image.Version.TheVariants as versions
 use Rattle.aom_image.specs.declared.class.ClassDecl.{ClassDecl}
 use Rattle.aom_image.specs.declared.class.ClassKind.{ClassKind}
 use Rattle.aom_image.specs.declared.class.ClassKind.TheVariants as kinds
@@ -32,8 +32,8 @@ use Rattle.aom_image.specs.declared.method.MethodFlags.{MethodFlags}
 use Rattle.aom_image.specs.declared.method.States.{States}
 use Rattle.aom_image.specs.declared.method.Method.{Method}
 use Rattle.aom_codec.proofs.Lengths.{head_of, rest_of}
-use Rattle.aom_codec.proofs.Laws.{guard_ok, ok_is, FitEach, fit_each, no_more, one_more, marked_or, made_of, kept}
-use Rattle.aom_codec.proofs.Returning.{index_returns}
+use Rattle.aom_codec.proofs.Laws.{guard_ok, ok_is, passed, FitEach, fit_each, no_more, one_more, marked_or, made_of, kept}
+use Rattle.aom_codec.proofs.Returning.{index_returns, took}
 use Rattle.aom_codec.proofs.Formats.{between_true, between_is}
 use Rattle.aom_codec.proofs.InstructionFits.{in_range, fits}
 
@@ -169,16 +169,56 @@ kind_fits classes natives (kinds.Server sessions session) few some_natives h =
     ((limited_byte_fits 1 64 sessions (lit< tt) h.0 h.1, (omega arith, index_is classes session lt)), refl)
 kind_fits classes natives kinds.Session few some_natives h = (tt, refl)
 
-class_in_range : (classes natives servers : ℕ) (c : ClassDecl) → (class classes natives servers).Fits c → ClassFits classes natives c
-class_in_range classes natives servers c f = record {
+class_in_range : (version : Version) (classes natives servers : ℕ) (c : ClassDecl) → (class version classes natives servers).Fits c → ClassFits classes natives c
+class_in_range version classes natives servers c f = record {
   kind = kind_in classes natives c.kind f.0.1.1.1.0;
-  parent = sym (ap (λ (d : ClassDecl). d.parent) (ok_is _ c f.1));
   words = (between_true 0 8 c.words f.0.1.0.1).1;
   field_count = (between_true 0 8 (length c.fields) f.0.1.1.0.1).1;
   fields = each (thing classes).Fits (ThingFits classes) c.fields (λ t h. thing_in classes (thing_number t) t h.1) (all_fit (thing classes) (length c.fields) c.fields f.0.1.1.1.1.0);
-  budget = f.0.1.1.1.1.1.0;
-  budgeted = f.0.1.1.1.1.1.1;
+  budget = f.0.1.1.1.1.1.0.0;
+  budgeted = f.0.1.1.1.1.1.0.1;
 }
+
+-- ---- families
+
+parent_from_in : (k : ClassKind) (classes n : ℕ) (o : Option ℕ) → parent_from k classes n ≡ Ok o → ParentFits versions.Two classes k o
+parent_from_in k classes n o e =
+    elim (took (eqb n 0xffff) _ _ o e) [
+      | inl none ↦ subst (ParentFits versions.Two classes k) (ok_is _ o none.1) tt
+      | inr some ↦
+          let p = passed (may_descend k) _ BadOperand o some.1 in
+          made_of (ParentFits versions.Two classes k) (index_from classes n) (λ c. Some c) o (λ c h. (refl, p.0, in_classes classes n c h)) p.1
+    ]
+
+parent_in : (version : Version) (k : ClassKind) (classes : ℕ) (o : Option ℕ) → (parent version k classes).Fits o → ParentFits version classes k o
+parent_in versions.One k classes o f = subst (ParentFits versions.One classes k) (ok_is _ o f.1) tt
+parent_in versions.Two k classes o f = parent_from_in k classes (class_number o) o f.0.0.1
+
+parent_fits : (version : Version) (k : ClassKind) (classes : ℕ) (o : Option ℕ) → classes ≤ 256 → ParentFits version classes k o → (parent version k classes).Fits o
+parent_fits versions.One k classes None few h = (tt, refl)
+parent_fits versions.One k classes (Some c) few h = let two = h.0 in absurd cc
+parent_fits versions.Two k classes None few h = (((lit< tt, refl), tt), refl)
+parent_fits versions.Two k classes (Some c) few h =
+    let below : c < classes = h.2 in
+    let lt : c < 0xffff = omega arith in
+    (((omega arith, rw (eqb_below c 0xffff lt, h.1, index_is classes c below) refl), tt), refl)
+
+over_in : (version : Version) (methods : ℕ) (o : Option ℕ) → (over version methods).Fits o → OverFits version methods o
+over_in versions.One methods o f = subst (OverFits versions.One methods) (ok_is _ o f.1) tt
+over_in versions.Two methods o f =
+    marked_or (OverFits versions.Two methods) (eqb (class_number o) 0xffff) None (index_from methods (class_number o)) (λ m. Some m) o (λ is. tt)
+    (λ m h. (refl, in_classes methods (class_number o) m h)) f.0.0.1
+
+over_fits : (version : Version) (methods : ℕ) (o : Option ℕ) → methods ≤ 1024 → OverFits version methods o → (over version methods).Fits o
+over_fits versions.One methods None few h = (tt, refl)
+over_fits versions.One methods (Some m) few h = let two = h.0 in absurd cc
+over_fits versions.Two methods None few h = (((lit< tt, refl), tt), refl)
+over_fits versions.Two methods (Some m) few h =
+    let below : m < methods = h.1 in
+    let lt : m < 0xffff = omega arith in
+    (((omega arith, rw (eqb_below m 0xffff lt, index_is methods m below) refl), tt), refl)
+
+-- ---- classes and servers
 
 -- a server stands after seven at most
 abbrev first_ok : ℕ → ClassKind → Bool
@@ -202,8 +242,9 @@ kind_sort_fits : (servers : ℕ) (k : ClassKind) → first_ok servers k ≡ true
 kind_sort_fits servers kinds.Plain h = ((lit< tt, refl), h)
 kind_sort_fits servers _ h = ((lit< tt, refl), h)
 
-class_fits : (classes natives servers : ℕ) (c : ClassDecl) → classes ≤ 256 → natives ≤ 16 → first_ok servers c.kind ≡ true → ClassFits classes natives c → (class classes natives servers).Fits c
-class_fits classes natives servers c few some_natives first h = (
+class_fits : (version : Version) (classes natives servers : ℕ) (c : ClassDecl) → classes ≤ 256 → natives ≤ 16 → first_ok servers c.kind ≡ true → ClassFits classes natives c
+    → ParentFits version classes c.kind c.parent → (class version classes natives servers).Fits c
+class_fits version classes natives servers c few some_natives first h above = (
   (
     kind_sort_fits servers c.kind first,
     (
@@ -214,17 +255,14 @@ class_fits classes natives servers c few some_natives first h = (
           kind_fits classes natives c.kind few some_natives h.kind,
           (
             fit_all (thing classes) c.fields (each (ThingFits classes) (thing classes).Fits c.fields (λ t k. thing_number_fits classes t few k) h.fields),
-            (h.budget, h.budgeted),
+            ((h.budget, h.budgeted), parent_fits version c.kind classes c.parent few above),
           ),
         ),
       ),
     ),
   ),
-  ap with_parent (sym h.parent),
+  refl,
 )
-  where
-    with_parent : Option ℕ → Result ClassDecl LoadFault
-    with_parent o = Ok (record c { parent = o })
 
 -- one more server, or none
 next_low : (b : Bool) (servers : ℕ) → servers ≤ 8 → (b ≡ true → servers < 8) → cond b (servers + 1) servers ≤ 8
@@ -238,27 +276,40 @@ next_is false servers = omega arith
 count-cons : (c : ClassDecl) (cs : List ClassDecl) → count_by is_server (c ∷ cs) ≡ cond (is_server c) 1 0 + count_by is_server cs
 count-cons c cs = sum_by-cons (λ x. cond (is_server x) 1 0) c cs
 
-classes_in : (classes natives n servers : ℕ) (cs : List ClassDecl) → servers ≤ 8 → FitEach (class classes natives) count_server servers n cs
-    → All (ClassFits classes natives) cs × (servers + count_by is_server cs ≤ 8)
-classes_in classes natives _ servers _ low no_more = (All-nil (ClassFits classes natives), omega arith)
-classes_in classes natives _ servers _ low (one_more {n = n} c cs fit more) =
+-- what is known of the classes that were read
+record ClassesIn (version : Version) (classes natives servers : ℕ) (cs : List ClassDecl) : Type 0 where
+  each : All (ClassFits classes natives) cs
+  parents : All (λ c. ParentFits version classes c.kind c.parent) cs
+  few : servers + count_by is_server cs ≤ 8
+
+classes_in : (version : Version) (classes natives n servers : ℕ) (cs : List ClassDecl) → servers ≤ 8 → FitEach (class version classes natives) count_server servers n cs
+    → ClassesIn version classes natives servers cs
+classes_in version classes natives _ servers _ low no_more = record {
+  each = All-nil (ClassFits classes natives);
+  parents = All-nil (λ c. ParentFits version classes c.kind c.parent);
+  few = omega arith;
+}
+classes_in version classes natives _ servers _ low (one_more {n = n} c cs fit more) =
     let first = first_in servers c.kind fit.0.0.1 in
-    let rest = classes_in classes natives n (count_server servers c) cs (next_low (is_server c) servers low first) more in (
-      All-cons (ClassFits classes natives) c cs (class_in_range classes natives servers c fit) rest.0,
-      omega (arith, rest.1, next_is (is_server c) servers, count-cons c cs),
-    )
+    let rest = classes_in version classes natives n (count_server servers c) cs (next_low (is_server c) servers low first) more in record {
+      each = All-cons (ClassFits classes natives) c cs (class_in_range version classes natives servers c fit) rest.each;
+      parents = All-cons (λ c. ParentFits version classes c.kind c.parent) c cs (parent_in version c.kind classes c.parent fit.0.1.1.1.1.1.1) rest.parents;
+      few = omega (arith, rest.few, next_is (is_server c) servers, count-cons c cs);
+    }
 
 some_server : (b : Bool) (servers n : ℕ) → servers + (cond b 1 0 + n) ≤ 8 → b ≡ true → servers < 8
 some_server b servers n h is = omega (arith, ap {B = ℕ} (λ c. cond c 1 0) is)
 
-classes_fit : (classes natives servers : ℕ) (cs : List ClassDecl) → classes ≤ 256 → natives ≤ 16 → All (ClassFits classes natives) cs → servers + count_by is_server cs ≤ 8
-    → FitMany (class classes natives) count_server servers (length cs) cs
-classes_fit classes natives servers [] few some_natives h low = tt
-classes_fit classes natives servers (c ∷ cs) few some_natives h low =
+classes_fit : (version : Version) (classes natives servers : ℕ) (cs : List ClassDecl) → classes ≤ 256 → natives ≤ 16 → All (ClassFits classes natives) cs
+    → All (λ c. ParentFits version classes c.kind c.parent) cs → servers + count_by is_server cs ≤ 8 → FitMany (class version classes natives) count_server servers (length cs) cs
+classes_fit version classes natives servers [] few some_natives h parents low = tt
+classes_fit version classes natives servers (c ∷ cs) few some_natives h parents low =
     let count = count-cons c cs in
     let next = next_is (is_server c) servers in (
-      class_fits classes natives servers c few some_natives (first_fits servers c.kind (some_server (is_server c) servers (count_by is_server cs) (omega arith))) (head_of (ClassFits classes natives) c cs h),
-      classes_fit classes natives (count_server servers c) cs few some_natives (rest_of (ClassFits classes natives) c cs h) (omega arith),
+      class_fits version classes natives servers c few some_natives (first_fits servers c.kind (some_server (is_server c) servers (count_by is_server cs) (omega arith)))
+          (head_of (ClassFits classes natives) c cs h) (head_of (λ c. ParentFits version classes c.kind c.parent) c cs parents),
+      classes_fit version classes natives (count_server servers c) cs few some_natives (rest_of (ClassFits classes natives) c cs h)
+          (rest_of (λ c. ParentFits version classes c.kind c.parent) c cs parents) (omega arith),
     )
 
 -- ---- methods
@@ -290,13 +341,12 @@ gives_small : (g : Gives) → gives_byte g ≤ 4
 gives_small gives.Nothing = lit≤ tt
 gives_small _ = lit≤ tt
 
-method_in_range : (classes methods : ℕ) (m : Method) → (method classes methods).Fits m → MethodFits classes methods m
-method_in_range classes methods m f =
+method_in_range : (version : Version) (classes methods : ℕ) (m : Method) → (method version classes methods).Fits m → MethodFits classes methods m
+method_in_range version classes methods m f =
     let l = limits classes methods (length m.code) in
     let places = between_true 1 1024 (length m.code) f.0.1.1.1.1.1.1.1.1.1.0.1 in
     record {
       class = class_in classes (class_number m.class) m.class f.0.0.1;
-      over = sym (ap (λ (k : Method). k.over) (ok_is _ m f.1));
       flags = flags_in m.flags f.0.1.1.0;
       before = states_in m.before f.0.1.1.1.0;
       after = states_in m.after f.0.1.1.1.1.0;
@@ -306,14 +356,14 @@ method_in_range classes methods m f =
       gives = gives_in classes (gives_byte m.gives) (result_number m.gives) m.gives (gives_small m.gives) f.0.1.1.1.1.1.1.1.1.0.1;
       some_code = places.0;
       code_length = places.1;
-      code = each (instruction l).Fits (InstrFits l) m.code (λ i h. in_range l i h) (all_fit (instruction l) (length m.code) m.code f.0.1.1.1.1.1.1.1.1.1.1);
+      code = each (instruction l).Fits (InstrFits l) m.code (λ i h. in_range l i h) (all_fit (instruction l) (length m.code) m.code f.0.1.1.1.1.1.1.1.1.1.1.1);
     }
 
-method_fits : (classes methods : ℕ) (m : Method) → classes ≤ 256 → methods ≤ 1024 → MethodFits classes methods m → (method classes methods).Fits m
-method_fits classes methods m few some_methods h =
+method_fits : (version : Version) (classes methods : ℕ) (m : Method) → classes ≤ 256 → methods ≤ 1024 → MethodFits classes methods m → OverFits version methods m.over
+    → (method version classes methods).Fits m
+method_fits version classes methods m few some_methods h overs =
     let l = limits classes methods (length m.code) in
     let bounded : Bounded l = record { classes = few; methods = some_methods; places = h.code_length } in
-    let with_over : Option ℕ → Result Method LoadFault = λ o. Ok (record m { over = o }) in
     let small = gives_small m.gives in (
       (
         class_number_fits classes m.class few h.class,
@@ -335,7 +385,10 @@ method_fits classes methods m few some_methods h =
                         gives_number_fits classes m.gives few h.gives,
                         (
                           limited_pair_fits 1 1024 (length m.code) (lit< tt) h.some_code h.code_length,
-                          fit_all (instruction l) m.code (each (InstrFits l) (instruction l).Fits m.code (λ i k. fits l i bounded k) h.code),
+                          (
+                            over_fits version methods m.over some_methods overs,
+                            fit_all (instruction l) m.code (each (InstrFits l) (instruction l).Fits m.code (λ i k. fits l i bounded k) h.code),
+                          ),
                         ),
                       ),
                     ),
@@ -346,67 +399,84 @@ method_fits classes methods m few some_methods h =
           ),
         ),
       ),
-      ap with_over (sym h.over),
+      refl,
     )
 
 -- ---- the whole
 
-pub image_in_range : (i : Image) → image.Fits i → HeaderFits (length i.classes) i.header × (ClassesFit i.header.natives i.classes × MethodsFit (length i.classes) i.methods)
+version_fits : (v : Version) → version_format.Fits v
+version_fits versions.One = (lit< tt, refl)
+version_fits versions.Two = (lit< tt, refl)
+
+-- the parts of an image that was read are in their ranges
+pub record InRange (i : Image) : Type 0 where
+  pub header : HeaderFits (length i.classes) i.header
+  pub classes : ClassesFit i.header.natives i.classes
+  pub methods : MethodsFit (length i.classes) i.methods
+  pub families : FamiliesFit i.header.version i.classes i.methods
+
+pub image_in_range : (i : Image) → image.Fits i → InRange i
 image_in_range i f =
-    let o = f.0.0.0 in
+    let v = i.header.version in
+    let o = f.0.0.0.1 in
     let classes = length i.classes in
     let methods = length i.methods in
-    let cs = classes_in classes i.header.natives classes 0 i.classes (omega arith)
-    (fit_each (class classes i.header.natives) count_server 0 classes i.classes f.0.1.0) in (
-      record {
-        version = sym (ap (λ (o : Opening). o.header.version) (ok_is _ (opening_of i) f.0.0.1));
+    let cs = classes_in v classes i.header.natives classes 0 i.classes (omega arith)
+    (fit_each (class v classes i.header.natives) count_server 0 classes i.classes f.0.1.0) in
+    let ms = all_fit (method v classes methods) methods i.methods f.0.1.1 in record {
+      header = record {
         cells = (between_true 0 4096 i.header.cells o.1.1.0.1).1;
         messages = (between_true 0 1024 i.header.messages o.1.1.1.0.1).1;
         natives = (between_true 0 16 i.header.natives o.1.1.1.1.0.1).1;
         root = class_in classes (class_number i.header.root) i.header.root o.1.1.1.1.1.0.1;
         budget = o.1.1.1.1.1.1;
-      },
-      (
-        record { count = (between_true 0 256 classes o.0.1).1; each = cs.0; servers = omega (arith, cs.1) },
-        record {
-          some = (between_true 1 1024 methods o.1.0.1).0;
-          count = (between_true 1 1024 methods o.1.0.1).1;
-          each = each (method classes methods).Fits (MethodFits classes methods) i.methods (λ m h. method_in_range classes methods m h) (all_fit (method classes methods) methods i.methods f.0.1.1);
-        },
-      ),
-    )
+      };
+      classes = record { count = (between_true 0 256 classes o.0.1).1; each = cs.each; servers = omega (arith, cs.few) };
+      methods = record {
+        some = (between_true 1 1024 methods o.1.0.1).0;
+        count = (between_true 1 1024 methods o.1.0.1).1;
+        each = each (method v classes methods).Fits (MethodFits classes methods) i.methods (λ m h. method_in_range v classes methods m h) ms;
+      };
+      families = record {
+        parents = cs.parents;
+        overs = each (method v classes methods).Fits (λ m. OverFits v methods m.over) i.methods (λ m h. over_in v methods m.over h.0.1.1.1.1.1.1.1.1.1.1.0) ms;
+      };
+    }
 
-pub image_fits : (i : Image) → HeaderFits (length i.classes) i.header → ClassesFit i.header.natives i.classes → MethodsFit (length i.classes) i.methods → image.Fits i
-image_fits i header cs ms =
+pub image_fits : (i : Image) → HeaderFits (length i.classes) i.header → ClassesFit i.header.natives i.classes → MethodsFit (length i.classes) i.methods → FamiliesFit i.header.version i.classes i.methods → image.Fits i
+image_fits i header cs ms families =
+    let v = i.header.version in
     let classes = length i.classes in
-    let methods = length i.methods in
-    let with_version : Version → Result Opening LoadFault = λ v. Ok (record { classes = classes; methods = methods; header = record i.header { version = v } }) in (
+    let methods = length i.methods in (
       (
         (
           (
-            limited_pair_fits 0 256 classes (lit< tt) (omega arith) cs.count,
+            version_fits v,
             (
-              limited_pair_fits 1 1024 methods (lit< tt) ms.some ms.count,
+              limited_pair_fits 0 256 classes (lit< tt) (omega arith) cs.count,
               (
-                limited_pair_fits 0 4096 i.header.cells (lit< tt) (omega arith) header.cells,
+                limited_pair_fits 1 1024 methods (lit< tt) ms.some ms.count,
                 (
-                  limited_pair_fits 0 1024 i.header.messages (lit< tt) (omega arith) header.messages,
+                  limited_pair_fits 0 4096 i.header.cells (lit< tt) (omega arith) header.cells,
                   (
-                    limited_byte_fits 0 16 i.header.natives (lit< tt) (omega arith) header.natives,
+                    limited_pair_fits 0 1024 i.header.messages (lit< tt) (omega arith) header.messages,
                     (
-                      class_number_fits classes i.header.root cs.count header.root,
-                      header.budget,
+                      limited_byte_fits 0 16 i.header.natives (lit< tt) (omega arith) header.natives,
+                      (
+                        class_number_fits classes i.header.root cs.count header.root,
+                        header.budget,
+                      ),
                     ),
                   ),
                 ),
               ),
             ),
           ),
-          ap with_version (sym header.version),
+          refl,
         ),
         (
-          classes_fit classes i.header.natives 0 i.classes cs.count header.natives cs.each (omega (arith, cs.servers)),
-          fit_all (method classes methods) i.methods (each (MethodFits classes methods) (method classes methods).Fits i.methods (λ m k. method_fits classes methods m cs.count ms.count k) ms.each),
+          classes_fit v classes i.header.natives 0 i.classes cs.count header.natives cs.each families.parents (omega (arith, cs.servers)),
+          fit_all (method v classes methods) i.methods (λ k d lt. let m = slice_index_or i.methods k d in method_fits v classes methods m cs.count ms.count (ms.each k d lt) (families.overs k d lt)),
         ),
       ),
       refl,

@@ -1,6 +1,6 @@
 -- The two laws of each format of an image, from those of its parts.
 use Rattle.std.proofs.lemmas.Option.{same_Some}
-use Rattle.std.proofs.Common.{◌≡◌, ℕ, zero, suc, ◌-◌, ◌<◌, ◌≤◌, Bool, true, false, cond, eqb, ltb, leb, List, [], ◌∷◌, length, Option, Some, Ok, refl, sym, ap, subst, ◌∙◌, arith, eqb-true, lit<, ◌&&◌}
+use Rattle.std.proofs.Common.{◌≡◌, ℕ, zero, suc, ◌-◌, ◌<◌, ◌≤◌, Bool, true, false, cond, eqb, ltb, leb, List, [], ◌∷◌, length, Option, Some, None, Result, Ok, refl, sym, ap, subst, ◌∙◌, arith, eqb-true, lit<, ◌&&◌}
 use Rattle.std.proofs.lemmas.Bool.{leb-true, le-leb, and_parts}
 use Rattle.aom_image.specs.Image.{Image}
 use Rattle.std.specs.List.{find}
@@ -13,16 +13,18 @@ use Rattle.aom_instructions.specs.declared.kinds.LargeKind.{LargeKind}
 use Rattle.aom_instructions.specs.declared.kinds.SmallKind.{SmallKind}
 use Rattle.aom_instructions.specs.declared.mnemonic.Mnemonic.{Mnemonic}
 use Rattle.aom_instructions.specs.declared.operand.Operands.{Operands}
-use Rattle.aom_codec.specs.Spelling.{gives_byte, result_number, kind_byte}
-use Rattle.aom_codec.specs.Codec.{Codec, byte, pair, quad, fixed, always, keep, FitMany, unused, is_between, limited}
+use Rattle.aom_codec.specs.Spelling.{class_number, gives_byte, result_number, kind_byte}
+use Rattle.aom_codec.specs.Codec.{Codec, byte, pair, quad, nothing, fixed, always, keep, FitMany, unused, is_between, limited}
 use Rattle.aom_codec.specs.Instructions.{all_operands, instruction, known, large_operand, opcode, small_operand}
 use Rattle.aom_codec.specs.Spelling.{provider_sort, native_number}
 use Rattle.aom_instructions.specs.Fits.{limits}
-use Rattle.aom_codec.specs.Format.{class_or_none, thing, argument, opening_fields, opening, provider_from, provider, no_session, bare, session_class, active_part, active_provider, server_part, server_numbers, kind, budget, kind_sort, class_parts, class, count_server, role, flags, states, result_sort, gives_from, result, method_parts, method, image_parts, opening_of, image}
+use Rattle.aom_codec.specs.Format.{class_from, class_or_none, version, untold, of_family, parent_from, parent, over, thing, argument, opening_fields, opening, provider_from, provider, no_session, bare, session_class, active_part, active_provider, server_part, server_numbers, kind, budget, kind_sort, class_parts, class, count_server, role, flags, states, result_sort, gives_from, result, method_parts, method, image_parts, opening_of, image}
 use Rattle.aom_codec.specs.declared.fault.LoadFault.{LoadFault}
-use Rattle.aom_codec.specs.declared.fault.LoadFault.TheVariants.{BadMagic, BadVersion, LimitPassed, NotZero}
+use Rattle.aom_codec.specs.declared.fault.LoadFault.TheVariants.{BadMagic, LimitPassed, NotZero}
 use Rattle.aom_instructions.specs.declared.limits.Limits.{Limits}
 use Rattle.aom_codec.specs.declared.header.Opening.{Opening}
+use Rattle.aom_image.specs.declared.image.Version.{Version}
+use Rattle.aom_image.specs.declared.image.Version.TheVariants as versions
 use Rattle.aom_image.specs.declared.class.ClassDecl.{ClassDecl}
 use Rattle.aom_image.specs.declared.class.ClassKind.{ClassKind}
 use Rattle.aom_image.specs.declared.class.ClassKind.TheVariants as kinds
@@ -30,8 +32,8 @@ use Rattle.aom_image.specs.declared.class.Provider.{Provider}
 use Rattle.aom_image.specs.declared.method.Method.{Method}
 use Rattle.aom_image.specs.declared.method.Gives.{Gives}
 use Rattle.aom_instructions.specs.declared.instr.Instr.{Instr}
-use Rattle.aom_codec.proofs.Laws.{IsCodec, ok_is, of_byte, of_pair, of_quad, of_fixed, of_checked, of_next, of_after, of_seen, of_choose, of_many_from, of_many, of_unused, unused_fits, FitEach, fit_each, no_more, one_more}
-use Rattle.aom_codec.proofs.Returning.{index_returns, class_returns, thing_returns, argument_returns, role_returns, flags_returns, states_returns, gives_returns, result_number_returns}
+use Rattle.aom_codec.proofs.Laws.{IsCodec, ok_is, of_byte, of_pair, of_quad, of_nothing, of_fixed, of_checked, of_next, of_after, of_seen, of_choose, of_many_from, of_many, of_unused, unused_fits, FitEach, fit_each, no_more, one_more}
+use Rattle.aom_codec.proofs.Returning.{version_returns, parent_returns, index_returns, class_returns, thing_returns, argument_returns, role_returns, flags_returns, states_returns, gives_returns, result_number_returns}
 use Rattle.aom_codec.proofs.InstructionFits.{operands_in_range}
 use Rattle.aom_codec.proofs.OperandLaws.{large_reads, small_reads}
 use Rattle.aom_image.proofs.Given.{some_given}
@@ -61,12 +63,18 @@ fixed_quad_laws n fault lt = of_fixed quad n fault of_quad lt
 
 -- ---- header
 
+version_laws : IsCodec version
+version_laws = of_seen _ _ pair (record { at = λ x y fits e. version_returns x y e }) of_pair
+
 opening_laws : IsCodec opening
 opening_laws = of_seen _ _ opening_fields
-    (record { at = λ x y fits e. ap (λ (o : Opening). (o.classes, (o.methods, (o.header.cells, (o.header.messages, (o.header.natives, (o.header.root, o.header.budget))))))) (sym (ok_is _ y e)) })
+    (record {
+      at = λ x y fits e.
+          ap (λ (o : Opening). (o.header.version, (o.classes, (o.methods, (o.header.cells, (o.header.messages, (o.header.natives, (o.header.root, o.header.budget)))))))) (sym (ok_is _ y e));
+    })
     (of_after (fixed quad 0x414f494d BadMagic) _ tt (fixed_quad_laws _ _ (lit< tt))
-    (of_after (fixed pair 1 BadVersion) _ tt (fixed_pair_laws _ _ (lit< tt))
-    (of_next _ _ (limited_laws pair 0 256 of_pair) (λ classes.
+    (of_next _ _ version_laws (λ _.
+    of_next _ _ (limited_laws pair 0 256 of_pair) (λ classes.
     of_next _ _ (limited_laws pair 1 1024 of_pair) (λ _.
     of_next _ _ (limited_laws pair 0 4096 of_pair) (λ _.
     of_next _ _ (limited_laws pair 0 1024 of_pair) (λ _.
@@ -134,18 +142,34 @@ kind_laws classes natives sort =
 budget_laws : (k : ClassKind) → IsCodec (budget k)
 budget_laws k = of_checked _ _ _ of_quad
 
+untold_laws : IsCodec untold
+untold_laws = of_seen (λ _. Ok None) (λ _. tt) nothing (record { at = λ x y fits e. refl }) of_nothing
+
+-- what a number stands for is spelled as that number
+of_family_laws : (from : ℕ → Result (Option ℕ) LoadFault) → ((n : ℕ) (y : Option ℕ) → from n ≡ Ok y → class_number y ≡ n) → IsCodec (of_family from)
+of_family_laws from returns = of_seen _ _ _ (record { at = λ x y fits e. ap (λ (o : Option ℕ). (o, tt)) (sym (ok_is _ y e)) })
+    (of_next _ _ (of_seen from class_number pair (record { at = λ x y fits e. returns x y e }) of_pair) (λ _. fixed_pair_laws 0 NotZero (lit< tt)))
+
+parent_laws : (version : Version) (k : ClassKind) (classes : ℕ) → IsCodec (parent version k classes)
+parent_laws versions.One k classes = untold_laws
+parent_laws versions.Two k classes = of_family_laws (parent_from k classes) (parent_returns k classes)
+
+over_laws : (version : Version) (methods : ℕ) → IsCodec (over version methods)
+over_laws versions.One methods = untold_laws
+over_laws versions.Two methods = of_family_laws (class_from methods) (class_returns methods)
+
 kind_sort_laws : (servers : ℕ) → IsCodec (kind_sort servers)
 kind_sort_laws servers = of_checked _ _ _ (of_checked _ _ _ of_byte)
 
-class_parts_laws : (classes natives servers : ℕ) → IsCodec (class_parts classes natives servers)
-class_parts_laws classes natives servers =
+class_parts_laws : (version : Version) (classes natives servers : ℕ) → IsCodec (class_parts version classes natives servers)
+class_parts_laws version classes natives servers =
     of_next _ _ (kind_sort_laws servers) (λ sort.
     of_next _ _ (limited_laws byte 0 8 of_byte) (λ _.
     of_next _ _ (limited_laws byte 0 8 of_byte) (λ count.
     of_next _ _ (kind_laws classes natives sort) (λ k.
     of_next _ _ (of_many count (thing classes) (thing_laws classes)) (λ _.
     of_after (unused (8 - count) pair NotZero) _ (unused_fits (8 - count) pair NotZero) (of_unused (8 - count) pair NotZero of_pair (lit< tt))
-    (budget_laws k))))))
+    (of_next _ _ (budget_laws k) (λ _. parent_laws version k classes)))))))
 
 -- the kind that was read is of the byte before it
 kind_of_byte : (classes natives sort : ℕ) (k : ClassKind) → sort ≤ 3 → (kind classes natives sort).Fits k → kind_byte k ≡ sort
@@ -162,17 +186,17 @@ many_length {S} {X} c add s n xs fits = by_each s n xs (fit_each c add s n xs fi
     by_each s _ _ no_more = refl
     by_each s _ _ (one_more {n = n} x xs here more) = omega (arith, by_each (add s x) n xs more)
 
-class_laws : (classes natives servers : ℕ) → IsCodec (class classes natives servers)
-class_laws classes natives servers = of_seen _ _ (class_parts classes natives servers)
+class_laws : (version : Version) (classes natives servers : ℕ) → IsCodec (class version classes natives servers)
+class_laws version classes natives servers = of_seen _ _ (class_parts version classes natives servers)
     (record {
       at = λ x y fits e.
           let small : x.0 ≤ 3 = (between_true 0 3 x.0 fits.0.0.1).1 in
           let sort_is = kind_of_byte classes natives x.0 x.1.1.1.0 small fits.1.1.1.0 in
           let count_is = many_length (always (thing classes)) keep tt x.1.1.0 x.1.1.1.1.0 fits.1.1.1.1.0 in
-          ap (λ (c : ClassDecl). (kind_byte c.kind, (c.words, (length c.fields, (c.kind, (c.fields, c.budget)))))) (sym (ok_is _ y e))
+          ap (λ (c : ClassDecl). (kind_byte c.kind, (c.words, (length c.fields, (c.kind, (c.fields, (c.budget, c.parent))))))) (sym (ok_is _ y e))
           ∙ pair_is sort_is (pair_is refl (pair_is count_is refl));
     })
-    (class_parts_laws classes natives servers)
+    (class_parts_laws version classes natives servers)
 
 -- ---- instructions
 
@@ -233,8 +257,8 @@ result_returns classes sort n y e = result_number_returns classes sort n y e
 result_laws : (classes sort : ℕ) → IsCodec (result classes sort)
 result_laws classes sort = of_seen _ _ pair (record { at = λ x y fits e. result_returns classes sort x y e }) of_pair
 
-method_parts_laws : (classes methods : ℕ) → IsCodec (method_parts classes methods)
-method_parts_laws classes methods =
+method_parts_laws : (version : Version) (classes methods : ℕ) → IsCodec (method_parts version classes methods)
+method_parts_laws version classes methods =
     of_next _ _ (class_or_none_laws classes) (λ _.
     of_next _ _ role_laws (λ _.
     of_next _ _ flags_laws (λ _.
@@ -246,10 +270,11 @@ method_parts_laws classes methods =
     of_after (unused (6 - count) pair NotZero) _ (unused_fits (6 - count) pair NotZero) (of_unused (6 - count) pair NotZero of_pair (lit< tt))
     (of_next _ _ (result_laws classes sort) (λ _.
     of_next _ _ (limited_laws pair 1 1024 of_pair) (λ places.
-    of_many places (instruction (limits classes methods places)) (instruction_laws (limits classes methods places)))))))))))))
+    of_next _ _ (over_laws version methods) (λ _.
+    of_many places (instruction (limits classes methods places)) (instruction_laws (limits classes methods places))))))))))))))
 
-method_laws : (classes methods : ℕ) → IsCodec (method classes methods)
-method_laws classes methods = of_seen _ _ (method_parts classes methods)
+method_laws : (version : Version) (classes methods : ℕ) → IsCodec (method version classes methods)
+method_laws version classes methods = of_seen _ _ (method_parts version classes methods)
     (record {
       at = λ x y fits e.
           let sort = x.1.1.1.1.1.1.0 in
@@ -258,19 +283,19 @@ method_laws classes methods = of_seen _ _ (method_parts classes methods)
           let sort_is = (gives_returns classes sort (result_number gives) gives small fits.1.1.1.1.1.1.1.1.0.1).1 in
           let count_is = many_length (always (argument classes)) keep tt x.1.1.1.1.1.0 x.1.1.1.1.1.1.1.0 fits.1.1.1.1.1.1.1.0 in
           let places = x.1.1.1.1.1.1.1.1.1.0 in
-          let places_is = many_length (always (instruction (limits classes methods places))) keep tt places x.1.1.1.1.1.1.1.1.1.1 fits.1.1.1.1.1.1.1.1.1.1 in
-          ap (λ (m : Method). (m.class, (m.role, (m.flags, (m.before, (m.after, (length m.arguments, (gives_byte m.gives, (m.arguments, (m.gives, (length m.code, m.code))))))))))) (sym (ok_is _ y e))
+          let places_is = many_length (always (instruction (limits classes methods places))) keep tt places x.1.1.1.1.1.1.1.1.1.1.1 fits.1.1.1.1.1.1.1.1.1.1.1 in
+          ap (λ (m : Method). (m.class, (m.role, (m.flags, (m.before, (m.after, (length m.arguments, (gives_byte m.gives, (m.arguments, (m.gives, (length m.code, (m.over, m.code)))))))))))) (sym (ok_is _ y e))
           ∙ pair_is refl (pair_is refl (pair_is refl (pair_is refl (pair_is refl (pair_is count_is (pair_is sort_is (pair_is refl (pair_is refl (pair_is places_is refl)))))))));
     })
-    (method_parts_laws classes methods)
+    (method_parts_laws version classes methods)
 
 -- ---- the whole
 
 image_parts_laws : IsCodec image_parts
 image_parts_laws =
     of_next _ _ opening_laws (λ o.
-    of_next _ _ (of_many_from (class o.classes o.header.natives) count_server (class_laws o.classes o.header.natives) o.classes 0) (λ _.
-    of_many o.methods (method o.classes o.methods) (method_laws o.classes o.methods)))
+    of_next _ _ (of_many_from (class o.header.version o.classes o.header.natives) count_server (class_laws o.header.version o.classes o.header.natives) o.classes 0) (λ _.
+    of_many o.methods (method o.header.version o.classes o.methods) (method_laws o.header.version o.classes o.methods)))
 
 opening_again : (o : Opening) (classes methods : ℕ) → classes ≡ o.classes → methods ≡ o.methods → record { classes = classes; methods = methods; header = o.header } ≡ o
 opening_again o classes methods p q =
@@ -281,8 +306,8 @@ pub image_laws : IsCodec image
 image_laws = of_seen _ _ image_parts
     (record {
       at = λ x y fits e.
-          let classes_is = many_length (class x.0.classes x.0.header.natives) count_server 0 x.0.classes x.1.0 fits.1.0 in
-          let methods_is = many_length (always (method x.0.classes x.0.methods)) keep tt x.0.methods x.1.1 fits.1.1 in
+          let classes_is = many_length (class x.0.header.version x.0.classes x.0.header.natives) count_server 0 x.0.classes x.1.0 fits.1.0 in
+          let methods_is = many_length (always (method x.0.header.version x.0.classes x.0.methods)) keep tt x.0.methods x.1.1 fits.1.1 in
           ap (λ (i : Image). (opening_of i, (i.classes, i.methods))) (sym (ok_is _ y e)) ∙ pair_is (opening_again x.0 (length x.1.0) (length x.1.1) classes_is methods_is) refl;
     })
     image_parts_laws

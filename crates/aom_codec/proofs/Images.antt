@@ -27,11 +27,12 @@ read_takes bytes i fits e =
     let t = image_laws.takes bytes (i, w.0) fits w.1 in
     let is : bytes ≡ spell i = t.0.parts ∙ ap (λ r. image.spell i ++ r) (nil_from_length w.0 w.2) ∙ append-nil (image.spell i) ∙ image_spelled i in
     let range = image_in_range i t.1 in
-    (record { header = range.0; classes = range.1.0; methods = range.1.1; size = omega (arith, ap length is, length_spell i range.1.0 range.1.1) }, is)
+    let size = length_spell i range.classes range.methods in
+    (record { header = range.header; classes = range.classes; methods = range.methods; families = range.families; size = omega (arith, ap length is, size) }, is)
 
 pub read_again : SpellingReadsBack
 read_again i well =
-    let fits = image_fits i well.header well.classes well.methods in
+    let fits = image_fits i well.header well.classes well.methods well.families in
     let whole_is : whole (image.read (spell i)) ≡ Ok i = ap whole (ap image.read (sym (append-nil (image.spell i) ∙ image_spelled i)) ∙ image_laws.again i [] fits) in
     let size = well.size in
     let long = length_spell i well.classes well.methods in

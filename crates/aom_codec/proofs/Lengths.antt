@@ -1,12 +1,14 @@
 -- How long a spelling is, from the counts of its parts.
-use Rattle.std.proofs.Common.{◌≡◌, ℕ, zero, suc, ◌+◌, ◌-◌, ◌*◌, ◌≤◌, List, [], ◌∷◌, ◌++◌, length, All, sum_by, slice_index_or, refl, arith, flat_map, length-append}
+use Rattle.std.proofs.Common.{◌≡◌, ℕ, zero, suc, ◌+◌, ◌-◌, ◌*◌, ◌≤◌, List, [], ◌∷◌, ◌++◌, length, All, Option, sum_by, slice_index_or, refl, arith, flat_map, length-append}
 use Rattle.std.proofs.lemmas.List.Concat.{length-flat_map}
 use Rattle.std.proofs.lemmas.List.Sums.{sum_by-cons}
 use Rattle.aom_image.specs.Image.{Image}
 use Rattle.aom_image.specs.declared.class.ClassDecl.{ClassDecl}
 use Rattle.aom_image.specs.declared.method.Method.{Method}
-use Rattle.aom_codec.specs.Spelling.{pair, quad, unused_pairs, thing_number, argument_number, result_number, class, method, instruction, spell}
-use Rattle.aom_image.specs.WellFormed.{ClassesFit, MethodsFit, spelled_size}
+use Rattle.aom_codec.specs.Spelling.{pair, quad, unused_pairs, thing_number, argument_number, result_number, family_bytes, class, method, instruction, spell}
+use Rattle.aom_image.specs.WellFormed.{ClassesFit, MethodsFit, family_bytes as family_size, spelled_size}
+use Rattle.aom_image.specs.declared.image.Version.{Version}
+use Rattle.aom_image.specs.declared.image.Version.TheVariants as versions
 
 pub head_of : {X : Type 0} (P : X → Type 0) (x : X) (xs : List X) → All P (x ∷ xs) → P x
 head_of P x xs h = h 0 x (omega arith)
@@ -30,28 +32,38 @@ length-unused_pairs (suc n) = omega (arith, length-append (pair 0) (unused_pairs
 length-pairs : {X : Type 0} (f : X → ℕ) (xs : List X) → length (flat_map (λ x. pair (f x)) xs) ≡ 2 * length xs
 length-pairs f xs = omega (arith, length-flat_map (λ x. pair (f x)) xs, sum_by-constant 2 xs)
 
-length_class : (c : ClassDecl) → length c.fields ≤ 8 → length (class c) ≡ 28
-length_class c le =
+length_family : (version : Version) (o : Option ℕ) → length (family_bytes version o) ≡ family_size version
+length_family versions.One o = refl
+length_family versions.Two o = refl
+
+length_class : (version : Version) (c : ClassDecl) → length c.fields ≤ 8 → length (class version c) ≡ 28 + family_size version
+length_class version c le =
     let fields = flat_map (λ t. pair (thing_number t)) c.fields in
     let unused = unused_pairs (8 - length c.fields) in
+    let last = quad c.budget ++ family_bytes version c.parent in
     omega (
       arith,
-      length-append fields (unused ++ quad c.budget),
-      length-append unused (quad c.budget),
+      length-append fields (unused ++ last),
+      length-append unused last,
+      length-append (quad c.budget) (family_bytes version c.parent),
+      length_family version c.parent,
       length-pairs thing_number c.fields,
       length-unused_pairs (8 - length c.fields),
     )
 
-length_method : (m : Method) → length m.arguments ≤ 6 → length (method m) ≡ 24 + 8 * length m.code
-length_method m le =
+length_method : (version : Version) (m : Method) → length m.arguments ≤ 6 → length (method version m) ≡ 24 + family_size version + 8 * length m.code
+length_method version m le =
     let arguments = flat_map (λ a. pair (argument_number a)) m.arguments in
     let unused = unused_pairs (6 - length m.arguments) in
     let code = flat_map instruction m.code in
-    let last = pair (result_number m.gives) ++ (pair (length m.code) ++ code) in
+    let family = family_bytes version m.over in
+    let last = pair (result_number m.gives) ++ (pair (length m.code) ++ (family ++ code)) in
     omega (
       arith,
       length-append arguments (unused ++ last),
       length-append unused last,
+      length-append family code,
+      length_family version m.over,
       length-pairs argument_number m.arguments,
       length-unused_pairs (6 - length m.arguments),
       length-flat_map instruction m.code,
@@ -59,16 +71,18 @@ length_method m le =
     )
 
 pub length_spell : (i : Image) → ClassesFit i.header.natives i.classes → MethodsFit (length i.classes) i.methods
-    → length (spell i) ≡ spelled_size (length i.classes) i.methods
+    → length (spell i) ≡ spelled_size i.header.version (length i.classes) i.methods
 length_spell i classes methods =
-    let each_class : All (λ c. length (class c) ≡ 28) i.classes = λ k d lt. length_class (slice_index_or i.classes k d) (classes.each k d lt).field_count in
-    let each_method : All (λ m. length (method m) ≡ 24 + 8 * length m.code) i.methods = λ k d lt. length_method (slice_index_or i.methods k d) (methods.each k d lt).argument_count in
+    let v = i.header.version in
+    let more = family_size v in
+    let each_class : All (λ c. length (class v c) ≡ 28 + more) i.classes = λ k d lt. length_class v (slice_index_or i.classes k d) (classes.each k d lt).field_count in
+    let each_method : All (λ m. length (method v m) ≡ 24 + more + 8 * length m.code) i.methods = λ k d lt. length_method v (slice_index_or i.methods k d) (methods.each k d lt).argument_count in
     omega (
       arith,
-      length-append (flat_map class i.classes) (flat_map method i.methods),
-      length-flat_map class i.classes,
-      length-flat_map method i.methods,
-      sum_by-same (λ c. length (class c)) (λ c. 28) i.classes each_class,
-      sum_by-constant 28 i.classes,
-      sum_by-same (λ m. length (method m)) (λ m. 24 + 8 * length m.code) i.methods each_method,
+      length-append (flat_map (class v) i.classes) (flat_map (method v) i.methods),
+      length-flat_map (class v) i.classes,
+      length-flat_map (method v) i.methods,
+      sum_by-same (λ c. length (class v c)) (λ c. 28 + more) i.classes each_class,
+      sum_by-constant (28 + more) i.classes,
+      sum_by-same (λ m. length (method v m)) (λ m. 24 + more + 8 * length m.code) i.methods each_method,
     )

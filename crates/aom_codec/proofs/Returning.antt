@@ -1,9 +1,12 @@
 -- What a number stands for is spelled as that number.
-use Rattle.std.proofs.Common.{◌≡◌, ℕ, ◌<◌, ◌≤◌, Bool, true, false, cond, eqb, ltb, Option, Some, None, Result, Ok, refl, sym, ap, arith, eqb-true, ◌⊎◌, inl, inr}
+use Rattle.std.proofs.Common.{◌≡◌, ℕ, ◌<◌, ◌≤◌, Bool, true, false, cond, eqb, ltb, Option, Some, None, Result, Ok, refl, sym, ap, ◌∙◌, arith, eqb-true, ◌⊎◌, inl, inr}
 use Rattle.std.proofs.lemmas.Bool.{ltb-true}
 use Rattle.std.proofs.lemmas.Bool.Decides.{nat_tests}
 use Rattle.aom_codec.specs.declared.fault.LoadFault.{LoadFault}
 use Rattle.aom_codec.specs.declared.fault.LoadFault.TheVariants.{BadIndex, BadOperand}
+use Rattle.aom_image.specs.WellFormed.{may_descend}
+use Rattle.aom_image.specs.declared.class.ClassKind.{ClassKind}
+use Rattle.aom_image.specs.declared.image.Version.{Version}
 use Rattle.aom_image.specs.declared.method.Thing.{Thing}
 use Rattle.aom_image.specs.declared.method.Thing.TheVariants.{Object, Message}
 use Rattle.aom_image.specs.declared.method.Argument.{Argument}
@@ -12,9 +15,9 @@ use Rattle.aom_image.specs.declared.method.Gives.{Gives}
 use Rattle.aom_image.specs.declared.method.Role.{Role}
 use Rattle.aom_image.specs.declared.method.MethodFlags.{MethodFlags}
 use Rattle.aom_image.specs.declared.method.States.{States}
-use Rattle.aom_codec.specs.Spelling.{class_number, thing_number, argument_number, role_number, gives_byte, result_number}
-use Rattle.aom_codec.specs.Format.{index_from, class_from, thing_from, argument_from, role_from, flags_from, states_from, gives_from}
-use Rattle.aom_codec.proofs.Laws.{guard_ok, marked_or}
+use Rattle.aom_codec.specs.Spelling.{version_number, class_number, thing_number, argument_number, role_number, gives_byte, result_number}
+use Rattle.aom_codec.specs.Format.{version_from, parent_from, index_from, class_from, thing_from, argument_from, role_from, flags_from, states_from, gives_from}
+use Rattle.aom_codec.proofs.Laws.{guard_ok, made_of, marked_or, ok_is, passed}
 
 -- a test that answers one of two things
 pub took : {A : Type 0} (b : Bool) (x y : Result A LoadFault) (z : A) → cond b x y ≡ Ok z → ((b ≡ true) × (x ≡ Ok z)) ⊎ ((b ≡ false) × (y ≡ Ok z))
@@ -28,6 +31,16 @@ pub class_returns : (classes n : ℕ) (y : Option ℕ) → class_from classes n 
 class_returns classes n y e =
     marked_or (λ o. class_number o ≡ n) (eqb n 0xffff) None (index_from classes n) (λ c. Some c) y (λ is. sym (eqb-true _ _ is))
     (λ c h. (index_returns classes n c h).0) e
+
+pub version_returns : (n : ℕ) (y : Version) → version_from n ≡ Ok y → version_number y ≡ n
+version_returns n y e = grind (arith, nat_tests, e)
+
+pub parent_returns : (k : ClassKind) (classes n : ℕ) (y : Option ℕ) → parent_from k classes n ≡ Ok y → class_number y ≡ n
+parent_returns k classes n y e =
+    elim (took (eqb n 0xffff) _ _ y e) [
+      | inl none ↦ ap class_number (sym (ok_is _ y none.1)) ∙ sym (eqb-true _ _ none.0)
+      | inr some ↦ made_of (λ o. class_number o ≡ n) (index_from classes n) (λ c. Some c) y (λ c h. (index_returns classes n c h).0) (passed (may_descend k) _ BadOperand y some.1).1
+    ]
 
 pub thing_returns : (classes n : ℕ) (y : Thing) → thing_from classes n ≡ Ok y → thing_number y ≡ n
 thing_returns classes n y e =

@@ -5,9 +5,11 @@ use Rattle.aom_codec.specs.Spelling as text
 use Rattle.aom_codec.specs.Codec.{Codec, pair, always, keep, spell_many, unused}
 use Rattle.aom_codec.specs.Instructions.{instruction}
 use Rattle.aom_instructions.specs.Fits.{limits}
-use Rattle.aom_codec.specs.Format.{thing, argument, class, count_server, method, image}
+use Rattle.aom_codec.specs.Format.{thing, argument, class, count_server, parent, over, method, image}
 use Rattle.aom_codec.specs.declared.fault.LoadFault.TheVariants.{NotZero}
 use Rattle.aom_instructions.specs.declared.limits.Limits.{Limits}
+use Rattle.aom_image.specs.declared.image.Version.{Version}
+use Rattle.aom_image.specs.declared.image.Version.TheVariants as versions
 use Rattle.aom_image.specs.declared.class.ClassDecl.{ClassDecl}
 use Rattle.aom_image.specs.declared.class.ClassKind.{ClassKind}
 use Rattle.aom_image.specs.declared.class.ClassKind.TheVariants as kinds
@@ -33,20 +35,39 @@ fields_spelled classes fields n last =
     ap (λ t. t ++ ((unused n pair NotZero).spell tt ++ last)) (many_spelled (always (thing classes)) keep (λ t. text.pair (text.thing_number t)) (λ s x. refl) tt fields)
     ∙ ap (λ t. flat_map (λ t. text.pair (text.thing_number t)) fields ++ (t ++ last)) (unused_spelled n)
 
-class_spelled : (classes natives servers : ℕ) (kind : ClassKind) (parent : Option ℕ) (words : ℕ) (fields : List Thing) (budget : ℕ)
-    → let c : ClassDecl = record { kind = kind; parent = parent; words = words; fields = fields; budget = budget } in (class classes natives servers).spell c ≡ text.class c
-class_spelled classes natives servers kinds.Plain parent words fields budget =
-    ap (λ t. 0 ∷ words ∷ length fields ∷ 0 ∷ 0 ∷ 0 ∷ (text.pair 0xffff ++ t)) (fields_spelled classes fields (8 - length fields) (text.quad budget))
-class_spelled classes natives servers (kinds.Active providers.Own) parent words fields budget =
-    ap (λ t. 1 ∷ words ∷ length fields ∷ 0 ∷ 0 ∷ 0 ∷ (text.pair 0xffff ++ t)) (fields_spelled classes fields (8 - length fields) (text.quad budget))
-class_spelled classes natives servers (kinds.Active providers.Timer) parent words fields budget =
-    ap (λ t. 1 ∷ words ∷ length fields ∷ 1 ∷ 0 ∷ 0 ∷ (text.pair 0xffff ++ t)) (fields_spelled classes fields (8 - length fields) (text.quad budget))
-class_spelled classes natives servers (kinds.Active (providers.Native n)) parent words fields budget =
-    ap (λ t. 1 ∷ words ∷ length fields ∷ 2 ∷ n ∷ 0 ∷ (text.pair 0xffff ++ t)) (fields_spelled classes fields (8 - length fields) (text.quad budget))
-class_spelled classes natives servers (kinds.Server sessions session) parent words fields budget =
-    ap (λ t. 2 ∷ words ∷ length fields ∷ 0 ∷ sessions ∷ 0 ∷ (text.pair session ++ t)) (fields_spelled classes fields (8 - length fields) (text.quad budget))
-class_spelled classes natives servers kinds.Session parent words fields budget =
-    ap (λ t. 3 ∷ words ∷ length fields ∷ 0 ∷ 0 ∷ 0 ∷ (text.pair 0xffff ++ t)) (fields_spelled classes fields (8 - length fields) (text.quad budget))
+-- what tells of a parent or of what is overridden
+parent_spelled : (version : Version) (k : ClassKind) (classes : ℕ) (o : Option ℕ) → (parent version k classes).spell o ≡ text.family_bytes version o
+parent_spelled versions.One k classes o = refl
+parent_spelled versions.Two k classes o = refl
+
+over_spelled : (version : Version) (methods : ℕ) (o : Option ℕ) → (over version methods).spell o ≡ text.family_bytes version o
+over_spelled versions.One methods o = refl
+over_spelled versions.Two methods o = refl
+
+class_spelled : (version : Version) (classes natives servers : ℕ) (kind : ClassKind) (above : Option ℕ) (words : ℕ) (fields : List Thing) (budget : ℕ)
+    → let c : ClassDecl = record { kind = kind; parent = above; words = words; fields = fields; budget = budget } in (class version classes natives servers).spell c ≡ text.class version c
+class_spelled version classes natives servers kind above words fields budget = ended kind ∙ by_kind kind
+  where
+    -- the fields, and all behind them
+    behind : List ℕ → List ℕ
+    behind t = spell_many (always (thing classes)) keep tt fields ++ ((unused (8 - length fields) pair NotZero).spell tt ++ (text.quad budget ++ t))
+
+    front : ClassKind → List ℕ → List ℕ
+    front k t = text.kind_byte k ∷ words ∷ length fields ∷ text.provider_byte k ∷ text.number_byte k ∷ 0 ∷ (text.pair (text.session_number k) ++ t)
+
+    whole : ClassKind → ClassDecl
+    whole k = record { kind = k; parent = above; words = words; fields = fields; budget = budget }
+
+    ended : (k : ClassKind) → (class version classes natives servers).spell (whole k) ≡ front k (behind (text.family_bytes version above))
+    ended kinds.Plain = ap (λ t. front kinds.Plain (behind t)) (parent_spelled version kinds.Plain classes above)
+    ended (kinds.Active providers.Own) = ap (λ t. front (kinds.Active providers.Own) (behind t)) (parent_spelled version (kinds.Active providers.Own) classes above)
+    ended (kinds.Active providers.Timer) = ap (λ t. front (kinds.Active providers.Timer) (behind t)) (parent_spelled version (kinds.Active providers.Timer) classes above)
+    ended (kinds.Active (providers.Native n)) = ap (λ t. front (kinds.Active (providers.Native n)) (behind t)) (parent_spelled version (kinds.Active (providers.Native n)) classes above)
+    ended (kinds.Server sessions session) = ap (λ t. front (kinds.Server sessions session) (behind t)) (parent_spelled version (kinds.Server sessions session) classes above)
+    ended kinds.Session = ap (λ t. front kinds.Session (behind t)) (parent_spelled version kinds.Session classes above)
+
+    by_kind : (k : ClassKind) → front k (behind (text.family_bytes version above)) ≡ text.class version (whole k)
+    by_kind k = ap (front k) (fields_spelled classes fields (8 - length fields) (text.quad budget ++ text.family_bytes version above))
 
 code_spelled : (l : Limits) (code : List Instr) → spell_many (always (instruction l)) keep tt code ≡ flat_map text.instruction code
 code_spelled l code = many_spelled (always (instruction l)) keep text.instruction (λ s x. refl) tt code
@@ -54,26 +75,29 @@ code_spelled l code = many_spelled (always (instruction l)) keep text.instructio
 arguments_spelled : (classes : ℕ) (arguments : List Argument) → spell_many (always (argument classes)) keep tt arguments ≡ flat_map (λ a. text.pair (text.argument_number a)) arguments
 arguments_spelled classes arguments = many_spelled (always (argument classes)) keep (λ a. text.pair (text.argument_number a)) (λ s x. refl) tt arguments
 
-method_spelled : (classes methods : ℕ) (m : Method) → (method classes methods).spell m ≡ text.method m
-method_spelled classes methods m =
+method_spelled : (version : Version) (classes methods : ℕ) (m : Method) → (method version classes methods).spell m ≡ text.method version m
+method_spelled version classes methods m =
     let front = λ (t : List ℕ). text.pair (text.class_number m.class) ++ (text.role_number m.role ∷ m.flags.0 ∷ m.before.0 ∷ m.after.0 ∷ length m.arguments ∷ text.gives_byte m.gives ∷ t) in
-    let last = λ (t : List ℕ). text.pair (text.result_number m.gives) ++ (text.pair (length m.code) ++ t) in
+    let last = λ (family t : List ℕ). text.pair (text.result_number m.gives) ++ (text.pair (length m.code) ++ (family ++ t)) in
     let code = spell_many (always (instruction (limits classes methods (length m.code)))) keep tt m.code in
     let arguments = flat_map (λ a. text.pair (text.argument_number a)) m.arguments in
+    let family = (over version methods).spell m.over in
     let n = 6 - length m.arguments in
-    ap (λ t. front (t ++ ((unused n pair NotZero).spell tt ++ last code))) (arguments_spelled classes m.arguments)
-    ∙ ap (λ t. front (arguments ++ (t ++ last code))) (unused_spelled n)
-    ∙ ap (λ t. front (arguments ++ (text.unused_pairs n ++ last t))) (code_spelled (limits classes methods (length m.code)) m.code)
+    ap (λ t. front (t ++ ((unused n pair NotZero).spell tt ++ last family code))) (arguments_spelled classes m.arguments)
+    ∙ ap (λ t. front (arguments ++ (t ++ last family code))) (unused_spelled n)
+    ∙ ap (λ t. front (arguments ++ (text.unused_pairs n ++ last t code))) (over_spelled version methods m.over)
+    ∙ ap (λ t. front (arguments ++ (text.unused_pairs n ++ last (text.family_bytes version m.over) t))) (code_spelled (limits classes methods (length m.code)) m.code)
 
 pub image_spelled : (i : Image) → image.spell i ≡ text.spell i
 image_spelled i =
+    let v = i.header.version in
     let classes = length i.classes in
     let methods = length i.methods in
     let first = text.header classes methods i.header in
-    ap (λ t. first ++ (t ++ spell_many (always (method classes methods)) keep tt i.methods))
-    (many_spelled (class classes i.header.natives) count_server text.class (λ s c. class_spelled classes i.header.natives s c.kind c.parent c.words c.fields c.budget) 0 i.classes)
-    ∙ ap (λ t. first ++ (flat_map text.class i.classes ++ t))
-    (many_spelled (always (method classes methods)) keep text.method (λ s m. method_spelled classes methods m) tt i.methods)
+    ap (λ t. first ++ (t ++ spell_many (always (method v classes methods)) keep tt i.methods))
+    (many_spelled (class v classes i.header.natives) count_server (text.class v) (λ s c. class_spelled v classes i.header.natives s c.kind c.parent c.words c.fields c.budget) 0 i.classes)
+    ∙ ap (λ t. first ++ (flat_map (text.class v) i.classes ++ t))
+    (many_spelled (always (method v classes methods)) keep (text.method v) (λ s m. method_spelled v classes methods m) tt i.methods)
 
 -- one more unused pair at the end
 unused_pairs-suc : (n : ℕ) → text.unused_pairs (suc n) ≡ text.unused_pairs n ++ text.pair 0

@@ -1,15 +1,16 @@
 -- The format of an image, as it is read: the header, the classes, the methods with their code.
 use Rattle.std.specs.Prelude.{ℕ, ◌+◌, ◌-◌, true, List, length, Option, Some, None, Result, Ok, Err, nat_lt, nat_le, ◌==◌, if◌then◌else◌}
-use Rattle.aom_codec.specs.Codec.{Codec, ◌>>=◌, byte, pair, quad, is_between, limited, checked, fixed, next, after, seen, many_from, many, unused, choose}
+use Rattle.aom_codec.specs.Codec.{Codec, ◌>>=◌, byte, pair, quad, is_between, limited, checked, fixed, next, after, seen, many_from, many, nothing, unused, choose}
 use Rattle.aom_codec.specs.Instructions.{instruction}
 use Rattle.aom_image.specs.Image.{Image}
-use Rattle.aom_codec.specs.Spelling.{class_number, thing_number, argument_number, role_number, gives_byte, result_number, kind_byte, provider_sort, native_number}
-use Rattle.aom_image.specs.WellFormed.{is_server, may_declare}
+use Rattle.aom_codec.specs.Spelling.{class_number, thing_number, argument_number, role_number, gives_byte, result_number, kind_byte, version_number, provider_sort, native_number}
+use Rattle.aom_image.specs.WellFormed.{is_server, may_declare, may_descend}
 use Rattle.aom_instructions.specs.Fits.{limits}
 use Rattle.aom_codec.specs.declared.fault.LoadFault.{LoadFault}
 use Rattle.aom_codec.specs.declared.fault.LoadFault.TheVariants.{BadMagic, BadVersion, Trailing, LimitPassed, BadOperand, BadIndex, NotZero}
 use Rattle.aom_codec.specs.declared.header.Opening.{Opening}
 use Rattle.aom_image.specs.declared.class.ClassDecl.{ClassDecl}
+use Rattle.aom_image.specs.declared.image.Version.{Version}
 use Rattle.aom_image.specs.declared.image.Version.TheVariants as versions
 use Rattle.aom_image.specs.declared.class.ClassKind.{ClassKind}
 use Rattle.aom_image.specs.declared.class.ClassKind.TheVariants as kinds
@@ -60,6 +61,14 @@ argument classes = seen (argument_from classes) argument_number pair
 
 -- ---- header
 
+-- the version of a format by its number
+abbrev pub version_from : ℕ → Result Version LoadFault
+version_from n = if n == 1 then Ok versions.One else if n == 2 then Ok versions.Two else Err BadVersion
+
+-- the version
+abbrev pub version : Codec Version
+version = seen version_from version_number pair
+
 -- what stands behind the counts
 abbrev pub header_fields : ℕ → Codec (ℕ × (ℕ × (ℕ × (Option ℕ × ℕ))))
 header_fields classes =
@@ -72,10 +81,10 @@ header_fields classes =
     quad)))))
 
 -- the fields of the header
-abbrev pub opening_fields : Codec (ℕ × (ℕ × (ℕ × (ℕ × (ℕ × (Option ℕ × ℕ))))))
+abbrev pub opening_fields : Codec (Version × (ℕ × (ℕ × (ℕ × (ℕ × (ℕ × (Option ℕ × ℕ)))))))
 opening_fields =
     after (fixed quad 0x414f494d BadMagic) (
-    after (fixed pair 1 BadVersion) (
+    next version (λ _.
     next (limited pair 0 256) (λ classes.
     next (limited pair 1 1024) (λ _.
     header_fields classes))))
@@ -83,8 +92,12 @@ opening_fields =
 -- the header with the counts of classes and methods, which an image shows by its lists
 abbrev pub opening : Codec Opening
 opening = seen
-    (λ p. Ok (record { classes = p.0; methods = p.1.0; header = record { version = versions.One; cells = p.1.1.0; messages = p.1.1.1.0; natives = p.1.1.1.1.0; root = p.1.1.1.1.1.0; budget = p.1.1.1.1.1.1 } }))
-    (λ o. (o.classes, (o.methods, (o.header.cells, (o.header.messages, (o.header.natives, (o.header.root, o.header.budget)))))))
+    (λ p. Ok (record {
+      classes = p.1.0;
+      methods = p.1.1.0;
+      header = record { version = p.0; cells = p.1.1.1.0; messages = p.1.1.1.1.0; natives = p.1.1.1.1.1.0; root = p.1.1.1.1.1.1.0; budget = p.1.1.1.1.1.1.1 };
+    }))
+    (λ o. (o.header.version, (o.classes, (o.methods, (o.header.cells, (o.header.messages, (o.header.natives, (o.header.root, o.header.budget))))))))
     opening_fields
 
 -- ---- classes
@@ -144,27 +157,50 @@ kind classes natives sort =
 abbrev pub budget : ClassKind → Codec ℕ
 budget k = checked quad (may_declare k) NotZero
 
+-- a parent, which plain and active classes alone may have
+abbrev pub parent_from : ClassKind → ℕ → ℕ → Result (Option ℕ) LoadFault
+parent_from k classes n = if n == 0xffff then Ok None else if may_descend k then (index_from classes n >>= λ c. Ok (Some c)) else Err BadOperand
+
+-- a class or a method, or none, and two unused bytes
+abbrev pub of_family : (ℕ → Result (Option ℕ) LoadFault) → Codec (Option ℕ)
+of_family from = seen (λ p. Ok p.0) (λ o. (o, tt)) (next (seen from class_number pair) (λ _. fixed pair 0 NotZero))
+
+-- what the first version does not tell
+abbrev pub untold : Codec (Option ℕ)
+untold = seen (λ _. Ok None) (λ _. tt) nothing
+
+-- what tells of the parent
+abbrev pub parent : Version → ClassKind → ℕ → Codec (Option ℕ)
+parent versions.One k classes = untold
+parent versions.Two k classes = of_family (parent_from k classes)
+
+-- what tells of the method that is overridden
+abbrev pub over : Version → ℕ → Codec (Option ℕ)
+over versions.One methods = untold
+over versions.Two methods = of_family (class_from methods)
+
 -- the byte of a class's kind, after so many servers: the ninth passes the limit
 abbrev pub kind_sort : ℕ → Codec ℕ
 kind_sort servers = checked (checked byte (is_between 0 3) BadOperand) (λ n. if n == 2 then nat_lt servers 8 else true) LimitPassed
 
 -- the fields of a class
-abbrev pub class_parts : ℕ → ℕ → ℕ → Codec (ℕ × (ℕ × (ℕ × (ClassKind × (List Thing × ℕ)))))
-class_parts classes natives servers =
+abbrev pub class_parts : Version → ℕ → ℕ → ℕ → Codec (ℕ × (ℕ × (ℕ × (ClassKind × (List Thing × (ℕ × Option ℕ))))))
+class_parts version classes natives servers =
     next (kind_sort servers) (λ sort.
     next (limited byte 0 8) (λ _.
     next (limited byte 0 8) (λ count.
     next (kind classes natives sort) (λ k.
     next (many count (thing classes)) (λ _.
-    after (unused (8 - count) pair NotZero)
-    (budget k))))))
+    after (unused (8 - count) pair NotZero) (
+    next (budget k) (λ _.
+    parent version k classes)))))))
 
 -- a class, after so many servers
-abbrev pub class : ℕ → ℕ → ℕ → Codec ClassDecl
-class classes natives servers = seen
-    (λ p. Ok (record { kind = p.1.1.1.0; parent = None; words = p.1.0; fields = p.1.1.1.1.0; budget = p.1.1.1.1.1 }))
-    (λ c. (kind_byte c.kind, (c.words, (length c.fields, (c.kind, (c.fields, c.budget))))))
-    (class_parts classes natives servers)
+abbrev pub class : Version → ℕ → ℕ → ℕ → Codec ClassDecl
+class version classes natives servers = seen
+    (λ p. Ok (record { kind = p.1.1.1.0; parent = p.1.1.1.1.1.1; words = p.1.0; fields = p.1.1.1.1.0; budget = p.1.1.1.1.1.0 }))
+    (λ c. (kind_byte c.kind, (c.words, (length c.fields, (c.kind, (c.fields, (c.budget, c.parent)))))))
+    (class_parts version classes natives servers)
 
 -- the servers so far
 abbrev pub count_server : ℕ → ClassDecl → ℕ
@@ -217,8 +253,8 @@ abbrev pub result : ℕ → ℕ → Codec Gives
 result classes sort = seen (gives_from classes sort) result_number pair
 
 -- the fields of a method, and its code
-abbrev pub method_parts : ℕ → ℕ → Codec (Option ℕ × (Role × (MethodFlags × (States × (States × (ℕ × (ℕ × (List Argument × (Gives × (ℕ × List Instr))))))))))
-method_parts classes methods =
+abbrev pub method_parts : Version → ℕ → ℕ → Codec (Option ℕ × (Role × (MethodFlags × (States × (States × (ℕ × (ℕ × (List Argument × (Gives × (ℕ × (Option ℕ × List Instr)))))))))))
+method_parts version classes methods =
     next (class_or_none classes) (λ _.
     next role (λ _.
     next flags (λ _.
@@ -230,14 +266,25 @@ method_parts classes methods =
     after (unused (6 - count) pair NotZero) (
     next (result classes sort) (λ _.
     next (limited pair 1 1024) (λ places.
-    many places (instruction (limits classes methods places)))))))))))))
+    next (over version methods) (λ _.
+    many places (instruction (limits classes methods places))))))))))))))
 
 -- a method and its code
-abbrev pub method : ℕ → ℕ → Codec Method
-method classes methods = seen
-    (λ p. Ok (record { class = p.0; over = None; role = p.1.0; flags = p.1.1.0; before = p.1.1.1.0; after = p.1.1.1.1.0; arguments = p.1.1.1.1.1.1.1.0; gives = p.1.1.1.1.1.1.1.1.0; code = p.1.1.1.1.1.1.1.1.1.1 }))
-    (λ m. (m.class, (m.role, (m.flags, (m.before, (m.after, (length m.arguments, (gives_byte m.gives, (m.arguments, (m.gives, (length m.code, m.code)))))))))))
-    (method_parts classes methods)
+abbrev pub method : Version → ℕ → ℕ → Codec Method
+method version classes methods = seen
+    (λ p. Ok (record {
+      class = p.0;
+      over = p.1.1.1.1.1.1.1.1.1.1.0;
+      role = p.1.0;
+      flags = p.1.1.0;
+      before = p.1.1.1.0;
+      after = p.1.1.1.1.0;
+      arguments = p.1.1.1.1.1.1.1.0;
+      gives = p.1.1.1.1.1.1.1.1.0;
+      code = p.1.1.1.1.1.1.1.1.1.1.1;
+    }))
+    (λ m. (m.class, (m.role, (m.flags, (m.before, (m.after, (length m.arguments, (gives_byte m.gives, (m.arguments, (m.gives, (length m.code, (m.over, m.code))))))))))))
+    (method_parts version classes methods)
 
 -- ---- the whole
 
@@ -245,8 +292,8 @@ method classes methods = seen
 abbrev pub image_parts : Codec (Opening × (List ClassDecl × List Method))
 image_parts =
     next opening (λ o.
-    next (many_from (class o.classes o.header.natives) count_server 0 o.classes) (λ _.
-    many o.methods (method o.classes o.methods)))
+    next (many_from (class o.header.version o.classes o.header.natives) count_server 0 o.classes) (λ _.
+    many o.methods (method o.header.version o.classes o.methods)))
 
 -- the header with the counts
 abbrev pub opening_of : Image → Opening

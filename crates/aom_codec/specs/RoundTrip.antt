@@ -7,7 +7,7 @@ use Rattle.aom_codec.specs.Format.{read_image}
 
 -- a well-formed image is spelled in as many bytes as its counts say
 abbrev pub SpellingHasItsSize : Type 0
-SpellingHasItsSize = (i : Image) → WellFormed i → length (spell i) ≡ spelled_size (length i.classes) i.methods
+SpellingHasItsSize = (i : Image) → WellFormed i → length (spell i) ≡ spelled_size i.header.version (length i.classes) i.methods
 
 -- what a well-formed image is spelled as reads as that image
 abbrev pub SpellingReadsBack : Type 0

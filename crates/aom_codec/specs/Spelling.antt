@@ -4,6 +4,8 @@ use Rattle.std.specs.Int.{w16, w32, cast_unsigned, to_be_bytes}
 use Rattle.aom_image.specs.Image.{Image}
 unfoldable pub use Rattle.aom_image.specs.Roles.{role_number}
 use Rattle.aom_image.specs.declared.image.Header.{Header}
+use Rattle.aom_image.specs.declared.image.Version.{Version}
+use Rattle.aom_image.specs.declared.image.Version.TheVariants as versions
 use Rattle.aom_image.specs.declared.class.ClassDecl.{ClassDecl}
 use Rattle.aom_image.specs.declared.class.ClassKind.{ClassKind}
 use Rattle.aom_image.specs.declared.class.ClassKind.TheVariants as kinds
@@ -68,13 +70,23 @@ argument_number (arguments.Own t) = thing_number t
 
 -- ---- header
 
+-- the number of a version
+abbrev pub version_number : Version → ℕ
+version_number versions.One = 1
+version_number versions.Two = 2
+
 -- the header of an image with so many classes and methods
 abbrev pub header : ℕ → ℕ → Header → List ℕ
 header classes methods h =
-    quad 0x414f494d ++ (pair 1 ++ (pair classes ++ (pair methods ++ (pair h.cells ++ (pair h.messages
+    quad 0x414f494d ++ (pair (version_number h.version) ++ (pair classes ++ (pair methods ++ (pair h.cells ++ (pair h.messages
     ++ (h.natives ∷ 0 ∷ (pair (class_number h.root) ++ (pair 0 ++ quad h.budget))))))))
 
 -- ---- classes
+
+-- a parent or what is overridden, of which the first version tells nothing
+abbrev pub family_bytes : Version → Option ℕ → List ℕ
+family_bytes versions.One number = []
+family_bytes versions.Two number = pair (class_number number) ++ pair 0
 
 -- the kind of a class
 abbrev pub kind_byte : ClassKind → ℕ
@@ -110,11 +122,11 @@ abbrev pub session_number : ClassKind → ℕ
 session_number (kinds.Server sessions session) = session
 session_number _ = no_class
 
--- a class, in 28 bytes
-abbrev pub class : ClassDecl → List ℕ
-class c =
+-- a class, in 28 bytes, and in the second version 4 for its parent
+abbrev pub class : Version → ClassDecl → List ℕ
+class version c =
     kind_byte c.kind ∷ c.words ∷ length c.fields ∷ provider_byte c.kind ∷ number_byte c.kind ∷ 0 ∷ (pair (session_number c.kind)
-    ++ (flat_map (λ t. pair (thing_number t)) c.fields ++ (unused_pairs (8 - length c.fields) ++ quad c.budget)))
+    ++ (flat_map (λ t. pair (thing_number t)) c.fields ++ (unused_pairs (8 - length c.fields) ++ (quad c.budget ++ family_bytes version c.parent))))
 
 -- ---- instructions
 
@@ -169,16 +181,16 @@ result_number (gives.Own t) = thing_number t
 result_number (gives.Maybe t) = thing_number t
 result_number (gives.Left c) = c
 
--- a method in 24 bytes, and its code
-abbrev pub method : Method → List ℕ
-method m =
+-- a method in 24 bytes, in the second version 4 for what it overrides, and its code
+abbrev pub method : Version → Method → List ℕ
+method version m =
     pair (class_number m.class) ++ (role_number m.role ∷ m.flags.0 ∷ m.before.0 ∷ m.after.0 ∷ length m.arguments ∷ gives_byte m.gives
     ∷ (flat_map (λ a. pair (argument_number a)) m.arguments ++ (unused_pairs (6 - length m.arguments)
-    ++ (pair (result_number m.gives) ++ (pair (length m.code) ++ flat_map instruction m.code)))))
+    ++ (pair (result_number m.gives) ++ (pair (length m.code) ++ (family_bytes version m.over ++ flat_map instruction m.code))))))
 
 -- ---- the whole
 
 -- the header, the classes and the methods
 abbrev pub spell : Image → List ℕ
 spell i =
-    header (length i.classes) (length i.methods) i.header ++ (flat_map class i.classes ++ flat_map method i.methods)
+    header (length i.classes) (length i.methods) i.header ++ (flat_map (class i.header.version) i.classes ++ flat_map (method i.header.version) i.methods)

@@ -1,13 +1,13 @@
 //! Classes, as they are read.
 ghost use Rattle.std.specs.Prelude.{◌≡◌, ◌≤◌, ◌<◌, ◌+◌};
-ghost use Rattle.aom_codec.specs.Format.{thing_from, thing, provider, bare, kind, budget, kind_sort, class, no_session, active_part, server_part, count_server};
+ghost use Rattle.aom_codec.specs.Format.{thing_from, thing, provider, bare, kind, budget, parent_from, parent, kind_sort, class, no_session, active_part, server_part, count_server};
 ghost use Rattle.aom_codec.specs.Reads.{Reads, ReadsOrNoMemory};
 ghost use Rattle.aom_codec.specs.Codec.{many, many_from};
 
 use crate::LoadFault;
 use crate::header::class_below;
 use crate::reader::Reader;
-use aom_image::{ClassDecl, ClassKind, ClassNumber, Items, NativeNumber, Provider, Thing};
+use aom_image::{ClassDecl, ClassKind, ClassNumber, Items, NativeNumber, Provider, Thing, Version};
 use std::alloc::Global;
 
 /// The servers up to a class, after so many.
@@ -30,6 +30,18 @@ pub fn thing_of(number: u16, classes: u16) -> Result<Thing, LoadFault>
     match number {
         0xfffe => Ok(Thing::Message),
         _ => Ok(Thing::Object(class_below(number, classes)?)),
+    }
+}
+
+/// The parent of a class of that kind, by its number.
+fn parent_of(number: u16, kind: ClassKind, classes: u16) -> Result<Option<ClassNumber>, LoadFault>
+    requires { classes ≤ 256 }
+    ensures { result ≡ parent_from kind classes number }
+{
+    match number {
+        0xffff => Ok(None),
+        _ if kind.may_descend() => Ok(Some(class_below(number, classes)?)),
+        _ => Err(LoadFault::BadOperand),
     }
 }
 
@@ -136,6 +148,26 @@ impl<'a> Reader<'a> {
         }
     }
 
+    /// What tells of the parent.
+    fn parent(
+        &mut self,
+        version: Version,
+        kind: ClassKind,
+        classes: u16,
+    ) -> Result<Option<ClassNumber>, LoadFault>
+        requires { classes ≤ 256 }
+        ensures { Reads (λ x. (x, self.new)) result ((parent version kind classes).read self.old) }
+    {
+        match version {
+            Version::One => Ok(None),
+            Version::Two => {
+                let parent = parent_of(self.pair()?, kind, classes)?;
+                self.fixed_pair(0, LoadFault::NotZero)?;
+                Ok(parent)
+            }
+        }
+    }
+
     /// The byte of a class's kind, after so many servers.
     fn kind_sort(&mut self, servers: u16) -> Result<u8, LoadFault>
         ensures { Reads (λ x. (x, self.new)) result ((kind_sort servers).read self.old) }
@@ -162,13 +194,14 @@ impl<'a> Reader<'a> {
     fn class(
         &mut self,
         alloc: Global,
+        version: Version,
         classes: u16,
         natives: u8,
         servers: u16,
     ) -> Result<ClassDecl, LoadFault>
         requires classes { classes ≤ 256 }
         requires natives { natives ≤ 16 }
-        ensures { ReadsOrNoMemory (λ x. (x, self.new)) result ((class classes natives servers).read self.old) }
+        ensures { ReadsOrNoMemory (λ x. (x, self.new)) result ((class version classes natives servers).read self.old) }
     {
         let sort = self.kind_sort(servers)?;
         let words = self.limited_byte(0, 8)?;
@@ -184,23 +217,25 @@ impl<'a> Reader<'a> {
             budget: 0,
         };
         class.budget = self.budget(class.kind)?;
+        class.parent = self.parent(version, class.kind, classes)?;
         Ok(class)
     }
 
     pub fn classes(
         &mut self,
         alloc: Global,
+        version: Version,
         count: u16,
         natives: u8,
     ) -> Result<Vec<ClassDecl>, LoadFault>
         requires classes { count ≤ 256 }
         requires natives { natives ≤ 16 }
-        ensures { ReadsOrNoMemory (λ x. (x.items, self.new)) result ((many_from (class count natives) count_server 0 count).read self.old) }
+        ensures { ReadsOrNoMemory (λ x. (x.items, self.new)) result ((many_from (class version count natives) count_server 0 count).read self.old) }
     {
         let mut classes = Vec::with_capacity(alloc, count as usize)?;
         let mut servers = 0;
         for _ in 0..count {
-            let class = self.class(alloc, count, natives, servers)?;
+            let class = self.class(alloc, version, count, natives, servers)?;
             servers = count_server(servers, &class);
             classes.push(class)?;
         }

@@ -36,8 +36,9 @@ fn read_parts(alloc: Global, reader: &mut Reader<'_>) -> Result<Parts, LoadFault
     ensures { ReadsOrNoMemory (λ p. (record { header = p.header; classes = p.classes.items; methods = p.methods.items }, reader.new)) result (image_format.read reader.old) }
 {
     let opening = reader.opening()?;
-    let classes = reader.classes(alloc, opening.classes, opening.header.natives)?;
-    let methods = reader.methods(alloc, opening.methods, opening.classes)?;
+    let version = opening.header.version;
+    let classes = reader.classes(alloc, version, opening.classes, opening.header.natives)?;
+    let methods = reader.methods(alloc, version, opening.methods, opening.classes)?;
     Ok(Parts {
         header: opening.header,
         classes,

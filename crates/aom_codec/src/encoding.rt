@@ -1,10 +1,10 @@
 //! The way out: the bytes that spell an image.
 ghost use Rattle.std.specs.Prelude.{◌≡◌, ◌≤◌, ◌-◌, ◌++◌, ◌∷◌, All, length, flat_map, OnOk, IfOk};
-ghost use Rattle.aom_codec.specs.Spelling.{pair, quad, unused_pairs, class_number, thing_number, argument_number, gives_byte, result_number, kind_byte, provider_byte, number_byte, session_number, class as class_bytes, target_byte, small_byte, large_number, instruction as instruction_bytes, method as method_bytes, spell};
+ghost use Rattle.aom_codec.specs.Spelling.{version_number, family_bytes, pair, quad, unused_pairs, class_number, thing_number, argument_number, gives_byte, result_number, kind_byte, provider_byte, number_byte, session_number, class as class_bytes, target_byte, small_byte, large_number, instruction as instruction_bytes, method as method_bytes, spell};
 
 use aom_image::{
     Argument, ClassDecl, ClassKind, ClassNumber, Gives, Header, Image, Instr, Large, Method,
-    Operands, Provider, Role, Small, Target, Thing, spelled_len,
+    Operands, Provider, Role, Small, Target, Thing, Version, spelled_len,
 };
 use bitflags::Flags;
 use std::alloc::{AllocError, Global};
@@ -152,11 +152,25 @@ fn put_unused_pairs(out: &mut Vec<u8>, count: usize) -> Result<(), AllocError>
     Ok(())
 }
 
-fn put_counts(out: &mut Vec<u8>, classes: u16, methods: u16) -> Result<(), AllocError>
-    ensures { OnOk result (out.new.items ≡ out.old.items ++ (quad 0x414f494d ++ (pair 1 ++ (pair classes ++ pair methods)))) }
+fn version_number(version: Version) -> u16
+    ensures { result ≡ version_number version }
+{
+    match version {
+        Version::One => 1,
+        Version::Two => 2,
+    }
+}
+
+fn put_counts(
+    out: &mut Vec<u8>,
+    version: Version,
+    classes: u16,
+    methods: u16,
+) -> Result<(), AllocError>
+    ensures { OnOk result (out.new.items ≡ out.old.items ++ (quad 0x414f494d ++ (pair (version_number version) ++ (pair classes ++ pair methods)))) }
 {
     put_quad(out, 0x414f494d)?;
-    put_pair(out, 1)?;
+    put_pair(out, version_number(version))?;
     put_pair(out, classes)?;
     put_pair(out, methods)
 }
@@ -182,9 +196,22 @@ fn put_things(out: &mut Vec<u8>, things: &[Thing]) -> Result<(), AllocError>
     Ok(())
 }
 
-fn put_class(out: &mut Vec<u8>, class: &ClassDecl) -> Result<(), AllocError>
+/// What tells of a parent or of what is overridden, by its number.
+fn put_family(out: &mut Vec<u8>, version: Version, number: Option<u16>) -> Result<(), AllocError>
+    ensures { OnOk result (out.new.items ≡ out.old.items ++ family_bytes version number) }
+{
+    match version {
+        Version::One => Ok(()),
+        Version::Two => {
+            put_pair(out, number.unwrap_or(0xffff))?;
+            put_pair(out, 0)
+        }
+    }
+}
+
+fn put_class(out: &mut Vec<u8>, version: Version, class: &ClassDecl) -> Result<(), AllocError>
     requires { length class.now.fields ≤ 8 }
-    ensures { OnOk result (out.new.items ≡ out.old.items ++ class_bytes class.now) }
+    ensures { OnOk result (out.new.items ≡ out.old.items ++ class_bytes version class.now) }
 {
     let count = class.fields.len();
     let (provider, number) = provider_and_number(class.kind);
@@ -200,7 +227,8 @@ fn put_class(out: &mut Vec<u8>, class: &ClassDecl) -> Result<(), AllocError>
     put_pair(out, session_number(class.kind))?;
     put_things(out, class.fields.as_slice())?;
     put_unused_pairs(out, 8 - count)?;
-    put_quad(out, class.budget)
+    put_quad(out, class.budget)?;
+    put_family(out, version, class.parent.map(|parent| parent.number()))
 }
 
 fn put_arguments(out: &mut Vec<u8>, arguments: &[Argument]) -> Result<(), AllocError>
@@ -231,10 +259,10 @@ fn put_code(out: &mut Vec<u8>, code: &[Instr]) -> Result<(), AllocError>
     Ok(())
 }
 
-fn put_method(out: &mut Vec<u8>, method: &Method) -> Result<(), AllocError>
+fn put_method(out: &mut Vec<u8>, version: Version, method: &Method) -> Result<(), AllocError>
     requires arguments { length method.now.arguments ≤ 6 }
     requires code { length method.now.code ≤ 1024 }
-    ensures { OnOk result (out.new.items ≡ out.old.items ++ method_bytes method.now) }
+    ensures { OnOk result (out.new.items ≡ out.old.items ++ method_bytes version method.now) }
 {
     let count = method.arguments.len();
     put_pair(out, class_number(method.class))?;
@@ -251,26 +279,27 @@ fn put_method(out: &mut Vec<u8>, method: &Method) -> Result<(), AllocError>
     put_unused_pairs(out, 6 - count)?;
     put_pair(out, result_number(method.gives))?;
     put_pair(out, method.code.len() as u16)?;
+    put_family(out, version, method.over.map(|over| over.number()))?;
     put_code(out, method.code.as_slice())
 }
 
-fn put_classes(out: &mut Vec<u8>, classes: &[ClassDecl]) -> Result<(), AllocError>
+fn put_classes(out: &mut Vec<u8>, version: Version, classes: &[ClassDecl]) -> Result<(), AllocError>
     requires { All (λ c. length c.fields ≤ 8) classes.now }
-    ensures { OnOk result (out.new.items ≡ out.old.items ++ flat_map class_bytes classes.now) }
+    ensures { OnOk result (out.new.items ≡ out.old.items ++ flat_map (class_bytes version) classes.now) }
 {
     for class in classes {
-        put_class(out, class)?;
+        put_class(out, version, class)?;
     }
     Ok(())
 }
 
-fn put_methods(out: &mut Vec<u8>, methods: &[Method]) -> Result<(), AllocError>
+fn put_methods(out: &mut Vec<u8>, version: Version, methods: &[Method]) -> Result<(), AllocError>
     requires arguments { All (λ m. length m.arguments ≤ 6) methods.now }
     requires code { All (λ m. length m.code ≤ 1024) methods.now }
-    ensures { OnOk result (out.new.items ≡ out.old.items ++ flat_map method_bytes methods.now) }
+    ensures { OnOk result (out.new.items ≡ out.old.items ++ flat_map (method_bytes version) methods.now) }
 {
     for method in methods {
-        put_method(out, method)?;
+        put_method(out, version, method)?;
     }
     Ok(())
 }
@@ -281,10 +310,16 @@ pub fn encode(alloc: Global, image: &Image) -> Result<Vec<u8>, AllocError>
 {
     let classes = image.classes().as_slice();
     let methods = image.methods().as_slice();
-    let mut out = Vec::with_capacity(alloc, spelled_len(classes.len(), methods))?;
-    put_counts(&mut out, classes.len() as u16, methods.len() as u16)?;
+    let version = image.header().version;
+    let mut out = Vec::with_capacity(alloc, spelled_len(version, classes.len(), methods))?;
+    put_counts(
+        &mut out,
+        version,
+        classes.len() as u16,
+        methods.len() as u16,
+    )?;
     put_limits(&mut out, image.header())?;
-    put_classes(&mut out, classes)?;
-    put_methods(&mut out, methods)?;
+    put_classes(&mut out, version, classes)?;
+    put_methods(&mut out, version, methods)?;
     Ok(out)
 }

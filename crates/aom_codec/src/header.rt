@@ -1,6 +1,6 @@
 //! The header, and the numbers of classes.
 ghost use Rattle.std.specs.Prelude.{◌≡◌, ◌≤◌, IfOk};
-ghost use Rattle.aom_codec.specs.Format.{header_fields, opening, class_or_none, class_from, index_from};
+ghost use Rattle.aom_codec.specs.Format.{header_fields, opening, version as version_format, class_or_none, class_from, index_from};
 ghost use Rattle.aom_codec.specs.Reads.{Reads};
 
 use crate::LoadFault;
@@ -40,6 +40,16 @@ impl<'a> Reader<'a> {
         }
     }
 
+    fn version(&mut self) -> Result<Version, LoadFault>
+        ensures { Reads (λ x. (x, self.new)) result (version_format.read self.old) }
+    {
+        match self.pair()? {
+            1 => Ok(Version::One),
+            2 => Ok(Version::Two),
+            _ => Err(LoadFault::BadVersion),
+        }
+    }
+
     pub fn opening(&mut self) -> Result<Opening, LoadFault>
         ensures read { Reads (λ x. (x, self.new)) result (opening.read self.old) }
         ensures classes { IfOk result (λ o. o.classes ≤ 256) }
@@ -47,10 +57,10 @@ impl<'a> Reader<'a> {
         ensures natives { IfOk result (λ o. o.header.natives ≤ 16) }
     {
         self.fixed_quad(0x414f494d, LoadFault::BadMagic)?;
-        self.fixed_pair(1, LoadFault::BadVersion)?;
+        let version = self.version()?;
         let classes = self.limited_pair(0, 256)?;
         let methods = self.limited_pair(1, 1024)?;
-        let header = self.header(classes)?;
+        let header = self.header(version, classes)?;
         Ok(Opening {
             classes,
             methods,
@@ -59,10 +69,10 @@ impl<'a> Reader<'a> {
     }
 
     /// What stands behind the counts.
-    fn header(&mut self, classes: u16) -> Result<Header, LoadFault>
+    fn header(&mut self, version: Version, classes: u16) -> Result<Header, LoadFault>
         requires { classes ≤ 256 }
         ensures read { Reads (λ h. ((h.cells, (h.messages, (h.natives, (h.root, h.budget)))), self.new)) result ((header_fields classes).read self.old) }
-        ensures version { IfOk result (λ h. h.version ≡ Version.One) }
+        ensures version { IfOk result (λ h. h.version ≡ version) }
         ensures natives { IfOk result (λ h. h.natives ≤ 16) }
     {
         let cells = self.limited_pair(0, 4096)?;
@@ -73,7 +83,7 @@ impl<'a> Reader<'a> {
         self.fixed_pair(0, LoadFault::NotZero)?;
         let budget = self.quad()?;
         Ok(Header {
-            version: Version::One,
+            version,
             cells,
             messages,
             natives,

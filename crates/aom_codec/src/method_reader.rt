@@ -2,7 +2,7 @@
 ghost use Rattle.std.specs.Prelude.{◌≡◌, ◌≤◌};
 ghost use Rattle.aom_codec.specs.Codec.{many};
 ghost use Rattle.aom_codec.specs.Instructions.{Bounded, instruction};
-ghost use Rattle.aom_codec.specs.Format.{argument_from, argument, role, flags, states, gives_from, result as result_format, result_sort, method};
+ghost use Rattle.aom_codec.specs.Format.{argument_from, argument, class_from, role, flags, states, gives_from, over as over_format, result as result_format, result_sort, method};
 ghost use Rattle.aom_codec.specs.Reads.{Reads, ReadsOrNoMemory};
 
 use crate::LoadFault;
@@ -10,7 +10,8 @@ use crate::class_reader::thing_of;
 use crate::header::class_below;
 use crate::reader::Reader;
 use aom_image::{
-    Argument, Gives, Instr, Items, Limits, Method, MethodFlags, Role, States, Target, Thing,
+    Argument, Gives, Instr, Items, Limits, Method, MethodFlags, MethodNumber, Role, States, Target,
+    Thing, Version,
 };
 use std::alloc::Global;
 
@@ -36,6 +37,20 @@ fn gives_of(sort: u8, number: u16, classes: u16) -> Result<Gives, LoadFault>
         (2, _) => Ok(Gives::Own(thing_of(number, classes)?)),
         (4, _) => Ok(Gives::Left(class_below(number, classes)?)),
         _ => Ok(Gives::Maybe(thing_of(number, classes)?)),
+    }
+}
+
+/// The method that is overridden, by its number.
+fn over_of(number: u16, methods: u16) -> Result<Option<MethodNumber>, LoadFault>
+    requires { methods ≤ 1024 }
+    ensures { result ≡ class_from methods number }
+{
+    if number == 0xffff {
+        return Ok(None);
+    }
+    match MethodNumber::new(number) {
+        Some(method) if method.number() < methods => Ok(Some(method)),
+        _ => Err(LoadFault::BadIndex),
     }
 }
 
@@ -133,10 +148,30 @@ impl<'a> Reader<'a> {
         Ok(code)
     }
 
-    fn method(&mut self, alloc: Global, classes: u16, methods: u16) -> Result<Method, LoadFault>
+    fn over(&mut self, version: Version, methods: u16) -> Result<Option<MethodNumber>, LoadFault>
+        requires { methods ≤ 1024 }
+        ensures { Reads (λ x. (x, self.new)) result ((over_format version methods).read self.old) }
+    {
+        match version {
+            Version::One => Ok(None),
+            Version::Two => {
+                let over = over_of(self.pair()?, methods)?;
+                self.fixed_pair(0, LoadFault::NotZero)?;
+                Ok(over)
+            }
+        }
+    }
+
+    fn method(
+        &mut self,
+        alloc: Global,
+        version: Version,
+        classes: u16,
+        methods: u16,
+    ) -> Result<Method, LoadFault>
         requires classes { classes ≤ 256 }
         requires methods { methods ≤ 1024 }
-        ensures { ReadsOrNoMemory (λ x. (x, self.new)) result ((method classes methods).read self.old) }
+        ensures { ReadsOrNoMemory (λ x. (x, self.new)) result ((method version classes methods).read self.old) }
     {
         let class = self.class_or_none(classes)?;
         let role = self.role()?;
@@ -149,6 +184,7 @@ impl<'a> Reader<'a> {
         self.unused_pairs(6 - count)?;
         let gives = self.result(sort, classes)?;
         let length = self.limited_pair(1, 1024)?;
+        let over = self.over(version, methods)?;
         let limits = Limits {
             classes: classes as usize,
             methods: methods as usize,
@@ -157,7 +193,7 @@ impl<'a> Reader<'a> {
         let code = self.code(alloc, limits)?;
         Ok(Method {
             class,
-            over: None,
+            over,
             role,
             flags,
             before,
@@ -171,16 +207,17 @@ impl<'a> Reader<'a> {
     pub fn methods(
         &mut self,
         alloc: Global,
+        version: Version,
         count: u16,
         classes: u16,
     ) -> Result<Vec<Method>, LoadFault>
         requires classes { classes ≤ 256 }
         requires methods { count ≤ 1024 }
-        ensures { ReadsOrNoMemory (λ x. (x.items, self.new)) result ((many count (method classes count)).read self.old) }
+        ensures { ReadsOrNoMemory (λ x. (x.items, self.new)) result ((many count (method version classes count)).read self.old) }
     {
         let mut methods = Vec::with_capacity(alloc, count as usize)?;
         for _ in 0..count {
-            let method = self.method(alloc, classes, count)?;
+            let method = self.method(alloc, version, classes, count)?;
             methods.push(method)?;
         }
         Ok(methods)

@@ -3,4 +3,4 @@ use Rattle.aom_codec.specs.Spelling.{class}
 use Rattle.aom_codec.proofs.encoding.put_classes.Given as goal
 
 abbrev pub invariant-loop-class : goal.invariant-loop-class
-invariant-loop-class l = l.out.items ≡ l.fn.out.items ++ flat_map class (take l.class-index l.classes)
+invariant-loop-class l = l.out.items ≡ l.fn.out.items ++ flat_map (class l.version) (take l.class-index l.classes)

@@ -3,4 +3,4 @@ use Rattle.aom_codec.specs.Spelling.{method}
 use Rattle.aom_codec.proofs.encoding.put_methods.Given as goal
 
 abbrev pub invariant-loop-method : goal.invariant-loop-method
-invariant-loop-method l = l.out.items ≡ l.fn.out.items ++ flat_map method (take l.method-index l.methods)
+invariant-loop-method l = l.out.items ≡ l.fn.out.items ++ flat_map (method l.version) (take l.method-index l.methods)
