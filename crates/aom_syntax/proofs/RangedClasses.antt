@@ -1,23 +1,25 @@
 -- A class that is read is in its range.
-use Rattle.std.proofs.Common.{◌≡◌, ℕ, ◌<◌, ◌^◌, ◌||◌, eqb, ap, Bool, true, false, not, List, [], length, nat_lt, arith, refl}
+use Rattle.std.proofs.Common.{◌≡◌, ℕ, ◌<◌, ◌^◌, ◌||◌, eqb, ap, Bool, true, false, not, List, [], length, nat_lt, arith, refl, Option, Some, None}
 use Rattle.std.specs.Prelude.{if◌then◌else◌}
 use Rattle.std.proofs.lemmas.Bool.{ltb-true}
 use Rattle.std.proofs.lemmas.List.Elements.{All-nil}
 use Rattle.aom_text.specs.declared.fault.AsmFaultKind.TheVariants.{BadShape, LimitPassed}
-use Rattle.aom_image.specs.WellFormed.{KindFits, ProviderFits, ThingFits, is_dispatched, is_server_kind, may_declare}
+use Rattle.aom_image.specs.WellFormed.{KindFits, ParentFits, ProviderFits, ThingFits, is_dispatched, is_server_kind, may_declare, may_descend}
+use Rattle.aom_image.specs.declared.image.Version.{Version}
+use Rattle.aom_image.specs.declared.image.Version.TheVariants as versions
 use Rattle.aom_image.specs.declared.class.ClassDecl.{ClassDecl}
 use Rattle.aom_image.specs.declared.class.ClassKind.{ClassKind}
 use Rattle.aom_image.specs.declared.class.ClassKind.TheVariants as kinds
 use Rattle.aom_image.specs.declared.class.Provider.TheVariants as providers
 use Rattle.aom_image.specs.declared.method.Thing.{Thing}
-use Rattle.aom_syntax.specs.Reading.{any_keyword, failing, giving, keyword, next, nothing_more, number, optional_number, word}
+use Rattle.aom_syntax.specs.Reading.{any_keyword, failing, giving, keyword, next, nothing_more, number, optional_number, took, word}
 use Rattle.aom_syntax.specs.Operands.{class}
-use Rattle.aom_syntax.specs.Classes.{budget, class_statement, declared, fields, flag, kind, listed, provider, said_budget, server, thing_of, class_parts}
+use Rattle.aom_syntax.specs.Classes.{budget, class_statement, declared, fields, flag, kind, listed, optional_parent, provider, said_budget, said_parent, server, thing_of, class_parts}
 use Rattle.aom_syntax.specs.declared.keyword.Keyword.{Keyword}
 use Rattle.aom_syntax.specs.declared.keyword.Keyword.TheVariants as k
 use Rattle.aom_syntax.specs.declared.scope.Scope.{Scope}
 use Rattle.aom_syntax.specs.Ranges.{ClassIsRead}
-use Rattle.aom_syntax.proofs.Within.{Within, after, failing_within, giving_within, next_within, seen_within}
+use Rattle.aom_syntax.proofs.Within.{Within, after, either, failing_within, giving_within, next_within, seen_within}
 use Rattle.aom_syntax.proofs.RangedNames.{IsKnown, declared_below, used_below}
 use Rattle.aom_syntax.proofs.Numbers.{Between, number_between, optional_between}
 use Rattle.aom_syntax.proofs.RangedLists.{ListFits, listed_fits, thing_fits}
@@ -86,6 +88,25 @@ module _ (scope : Scope) (natives servers : ℕ) (known : IsKnown scope.is_stric
   kind_within k.Server = next_server (nat_lt servers 8) refl
   kind_within key = failing_within IsOfKind BadShape
 
+  abbrev IsParent : Version → ClassKind → Option ℕ → Type 0
+  IsParent version kind parent = ParentFits version (length scope.classes) kind parent
+
+  named_parent : (kind : ClassKind) (b : Bool) → may_descend kind ≡ b
+      → Within (IsParent versions.Two kind) (if b then next (class scope) (λ c. giving (Some c)) else failing BadShape)
+  named_parent kind true is =
+      next_within (λ c. c < length scope.classes) (IsParent versions.Two kind) (class scope) (λ c. giving (Some c)) (used_below scope.is_strict 256 scope.classes known) (λ c below.
+      giving_within (IsParent versions.Two kind) (Some c) (refl, is, below))
+  named_parent kind false is = failing_within (IsParent versions.Two kind) BadShape
+
+  said_parent_within : (version : Version) (kind : ClassKind) → Within (IsParent version kind) (said_parent scope version kind)
+  said_parent_within versions.One kind = failing_within (IsParent versions.One kind) BadShape
+  said_parent_within versions.Two kind = named_parent kind (may_descend kind) refl
+
+  parent_within : (version : Version) (kind : ClassKind) → Within (IsParent version kind) (optional_parent scope version kind)
+  parent_within version kind =
+      either (IsParent version kind) (λ ws. (took k.From ws).0) (λ ws. (took k.From ws).1) (said_parent scope version kind) (giving None)
+      (said_parent_within version kind) (giving_within (IsParent version kind) None tt)
+
   fields_within : (owns : Bool) → Within AreOwned (fields scope owns)
   fields_within false = giving_within AreOwned [] (record { few = omega arith; each = All-nil (ThingFits (length scope.classes)) })
   fields_within true = seen_within AreOwned (listed 8 (thing_of scope)) word (listed_fits (ThingFits (length scope.classes)) 8 (thing_of scope) (thing_fits scope known))
@@ -96,15 +117,16 @@ module _ (scope : Scope) (natives servers : ℕ) (known : IsKnown scope.is_stric
 some_names : (is_strict : Bool) (place count : ℕ) → place < count → IsKnown is_strict count
 some_names is_strict place count below = record { some = λ loose. omega (arith, below) }
 
-module _ (scope : Scope) (natives place servers : ℕ) where
+module _ (scope : Scope) (version : Version) (natives place servers : ℕ) where
   abbrev IsRead : ClassDecl → Type 0
-  IsRead c = ClassIsRead scope natives place servers c
+  IsRead c = ClassIsRead scope version natives place servers c
 
-  behind_within : place < length scope.classes → Within IsRead (class_parts scope natives servers)
+  behind_within : place < length scope.classes → Within IsRead (class_parts scope version natives servers)
   behind_within below =
       let known = some_names scope.is_strict place (length scope.classes) below in
       after IsRead any_keyword _ (λ key.
       next_within (IsOfKind scope natives servers known) IsRead (kind scope natives servers key) _ (kind_within scope natives servers known key) (λ kind is_read.
+      next_within (IsParent scope natives servers known version kind) IsRead (optional_parent scope version kind) _ (parent_within scope natives servers known version kind) (λ parent is_parent.
       next_within (Between 0 8) IsRead (optional_number k.Words 8) _ (optional_between k.Words 8) (λ words few.
       after IsRead (flag k.Own) _ (λ owns.
       next_within (AreOwned scope natives servers known) IsRead (fields scope owns) _ (fields_within scope natives servers known owns) (λ list owned.
@@ -113,15 +135,15 @@ module _ (scope : Scope) (natives place servers : ℕ) where
         declared = below;
         class = record {
           kind = is_read.kind_fits;
-          parent = refl;
           words = few.most;
           field_count = owned.few;
           fields = owned.each;
           budget = is_budget.small;
           budgeted = is_budget.declared;
         };
+        parent = is_parent;
         server = is_read.server;
-      })))))))
+      }))))))))
 
-  pub class_within : Within IsRead (class_statement scope natives place servers)
-  class_within = next_within (λ u. place < length scope.classes) IsRead (declared place scope.classes) (λ u. class_parts scope natives servers) (declared_below place scope.classes) (λ u below. behind_within below)
+  pub class_within : Within IsRead (class_statement scope version natives place servers)
+  class_within = next_within (λ u. place < length scope.classes) IsRead (declared place scope.classes) (λ u. class_parts scope version natives servers) (declared_below place scope.classes) (λ u below. behind_within below)

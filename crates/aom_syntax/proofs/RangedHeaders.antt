@@ -1,5 +1,5 @@
 -- A header that is read is in its range.
-use Rattle.std.proofs.Common.{◌≡◌, ℕ, ◌<◌, true, false, length, Option, Some, None, arith, refl}
+use Rattle.std.proofs.Common.{◌≡◌, ℕ, ◌<◌, true, false, length, Option, Some, None, arith}
 use Rattle.std.specs.Prelude.{IfSome}
 use Rattle.aom_image.specs.WellFormed.{HeaderFits}
 use Rattle.aom_image.specs.declared.image.Header.{Header}
@@ -39,11 +39,11 @@ module _ (scope : Scope) (strict : scope.is_strict ≡ true) where
   pub header_within : Within Fits (image_statement scope)
   header_within =
       after Fits (keyword k.Image) _ (λ u.
-      after Fits optional_version _ (λ u.
+      after Fits optional_version _ (λ version.
       next_within (Between 0 4096) Fits (optional_number k.Cells 4096) _ (optional_between k.Cells 4096) (λ cells few_cells.
       next_within (Between 0 1024) Fits (optional_number k.Messages 1024) _ (optional_between k.Messages 1024) (λ messages few_messages.
       next_within (Between 0 16) Fits (optional_number k.Natives 16) _ (optional_between k.Natives 16) (λ natives few_natives.
       after Fits (keyword k.Budget) _ (λ u.
       next_within (Between 0 4294967295) Fits (number 0 4294967295) _ (number_between 0 4294967295) (λ budget small.
       next_within IsRoot Fits (optional_root scope) _ root_within (λ root is_class.
-      giving_within Fits _ (record { version = refl; cells = few_cells.most; messages = few_messages.most; natives = few_natives.most; root = is_class; budget = omega (arith, small.most) })))))))))
+      giving_within Fits _ (record { cells = few_cells.most; messages = few_messages.most; natives = few_natives.most; root = is_class; budget = omega (arith, small.most) })))))))))

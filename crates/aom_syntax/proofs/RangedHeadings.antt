@@ -6,7 +6,9 @@ use Rattle.std.proofs.lemmas.List.{length-replicate}
 use Rattle.std.proofs.lemmas.List.Elements.{All-replicate}
 use Rattle.std.proofs.lemmas.Option.{get_or_from_slice_get, slice_get_within}
 use Rattle.aom_text.specs.declared.fault.AsmFaultKind.TheVariants.{BadShape}
-use Rattle.aom_image.specs.WellFormed.{ArgumentFits, ClassFits, GivesFits, KindFits, ThingFits}
+use Rattle.aom_image.specs.WellFormed.{ArgumentFits, ClassFits, GivesFits, KindFits, OverFits, ThingFits}
+use Rattle.aom_image.specs.declared.image.Version.{Version}
+use Rattle.aom_image.specs.declared.image.Version.TheVariants as versions
 use Rattle.aom_image.specs.declared.class.ClassDecl.{ClassDecl}
 use Rattle.aom_image.specs.declared.class.ClassKind.{ClassKind}
 use Rattle.aom_image.specs.declared.class.ClassKind.TheVariants as kinds
@@ -17,9 +19,9 @@ use Rattle.aom_image.specs.declared.method.Gives.TheVariants as result
 use Rattle.aom_image.specs.declared.method.Role.{Role}
 use Rattle.aom_image.specs.declared.method.Role.TheVariants as roles
 use Rattle.aom_syntax.specs.Reading.{any_keyword, giving, next, nothing_more, seen, took, word}
-use Rattle.aom_syntax.specs.Operands.{class}
+use Rattle.aom_syntax.specs.Operands.{class, method}
 use Rattle.aom_syntax.specs.Classes.{declared, flag, listed, thing, thing_of}
-use Rattle.aom_syntax.specs.Methods.{accepted, all_states, argument_of, flags_of, gives, heading, is_quiet_role, kind_of, not_served, optional_arguments, optional_class, optional_gives, optional_states, role, unsaid_gives, usual_after, usual_before, usual_gives, usual_words, behind_class}
+use Rattle.aom_syntax.specs.Methods.{accepted, all_states, argument_of, flags_of, gives, heading, is_quiet_role, kind_of, not_served, optional_arguments, optional_class, optional_gives, optional_over, optional_states, role, said_over, unsaid_gives, usual_after, usual_before, usual_gives, usual_words, behind_class}
 use Rattle.aom_syntax.specs.declared.keyword.Keyword.{Keyword}
 use Rattle.aom_syntax.specs.declared.keyword.Keyword.TheVariants as k
 use Rattle.aom_syntax.specs.declared.method.Heading.{Heading}
@@ -116,15 +118,29 @@ module _ (scope : Scope) (known : IsKnown scope.is_strict (length scope.classes)
 
 -- ---- the statement
 
-module _ (natives : ℕ) (scope : Scope) (settled : IsSettled natives scope) (place : ℕ) where
+module _ (natives : ℕ) (scope : Scope) (version : Version) (settled : IsSettled natives scope) (place : ℕ) where
   known : IsKnown scope.is_strict (length scope.classes)
   known = all_known scope.is_strict (length scope.classes) settled.is_strict
 
   abbrev IsRead : Heading → Type 0
-  IsRead h = HeadingIsRead scope place h
+  IsRead h = HeadingIsRead scope version place h
 
-  behind_within : place < length scope.methods → (role : Role) (class : Option ℕ) → IsClass scope known class → Within IsRead (behind_class scope role class)
-  behind_within below role class is_class =
+  abbrev IsOver : Version → Option ℕ → Type 0
+  IsOver v over = OverFits v (length scope.methods) over
+
+  said_over_within : (v : Version) → Within (IsOver v) (said_over scope v)
+  said_over_within versions.One = failing_within (IsOver versions.One) BadShape
+  said_over_within versions.Two =
+      next_within (λ m. m < length scope.methods) (IsOver versions.Two) (method scope) (λ m. giving (Some m))
+      (used_below scope.is_strict 1024 scope.methods (all_known scope.is_strict (length scope.methods) settled.is_strict)) (λ m below. giving_within (IsOver versions.Two) (Some m) (refl, below))
+
+  over_within : Within (IsOver version) (optional_over scope version)
+  over_within =
+      either (IsOver version) (λ ws. (took k.Over ws).0) (λ ws. (took k.Over ws).1) (said_over scope version) (giving None)
+      (said_over_within version) (giving_within (IsOver version) None tt)
+
+  behind_within : place < length scope.methods → (role : Role) (class over : Option ℕ) → IsClass scope known class → IsOver version over → Within IsRead (behind_class scope role class over)
+  behind_within below role class over is_class is_over =
       let few = all_few (kind_of scope.kinds class) in
       after IsRead (flag k.Leaves) _ (λ leaves.
       after IsRead (flag k.Quiet) _ (λ quiet.
@@ -133,11 +149,11 @@ module _ (natives : ℕ) (scope : Scope) (settled : IsSettled natives scope) (pl
       next_within (AreArguments scope known) IsRead (optional_arguments scope (usual_words role)) _ (arguments_within scope known (usual_words role) (words_few role)) (λ arguments are_few.
       next_within (IsGiven scope known) IsRead (optional_gives scope (usual_gives scope.is_strict role (kind_of scope.kinds class))) _
       (optional_within scope known (usual_gives scope.is_strict role (kind_of scope.kinds class)) (usual_fits (length scope.classes) natives scope.is_strict role (kind_of scope.kinds class) (kind_fits (length scope.classes) natives scope.kinds class settled.kinds))) (λ gives is_given.
-      giving_within IsRead (record { class = class; over = None; role = role; flags = flags_of leaves (quiet || is_quiet_role role); before = before; after = after; arguments = arguments; gives = gives }) (record {
+      giving_within IsRead (record { class = class; over = over; role = role; flags = flags_of leaves (quiet || is_quiet_role role); before = before; after = after; arguments = arguments; gives = gives }) (record {
         declared = below;
         heading = record {
           class = is_class;
-          over = refl;
+          over = is_over;
           flags = flags_below leaves (quiet || is_quiet_role role);
           before = in_states;
           after = out_states;
@@ -147,8 +163,10 @@ module _ (natives : ℕ) (scope : Scope) (settled : IsSettled natives scope) (pl
         };
       })))))))
 
-  pub heading_within : Within IsRead (heading scope place)
+  pub heading_within : Within IsRead (heading scope version place)
   heading_within =
-      next_within (λ u. place < length scope.methods) IsRead (declared place scope.methods) (λ u. next role (λ role. next (optional_class scope) (λ class. behind_class scope role class))) (declared_below place scope.methods) (λ u below.
-      after IsRead role (λ role. next (optional_class scope) (λ class. behind_class scope role class)) (λ role.
-      next_within (IsClass scope known) IsRead (optional_class scope) (λ class. behind_class scope role class) (class_within scope known) (λ class is_class. behind_within below role class is_class)))
+      next_within (λ u. place < length scope.methods) IsRead (declared place scope.methods) _ (declared_below place scope.methods) (λ u below.
+      after IsRead role _ (λ role.
+      next_within (IsClass scope known) IsRead (optional_class scope) _ (class_within scope known) (λ class is_class.
+      next_within (IsOver version) IsRead (optional_over scope version) (λ over. behind_class scope role class over) over_within (λ over is_over.
+      behind_within below role class over is_class is_over))))

@@ -4,7 +4,9 @@ use Rattle.std.specs.List.{slice_split}
 use Rattle.std.specs.Str.{bytes_eq}
 use Rattle.aom_text.specs.declared.fault.AsmFaultKind.{AsmFaultKind}
 use Rattle.aom_text.specs.declared.fault.AsmFaultKind.TheVariants.{DoubleName, BadShape, LimitPassed}
-use Rattle.aom_image.specs.WellFormed.{is_dispatched}
+use Rattle.aom_image.specs.WellFormed.{is_dispatched, may_descend}
+use Rattle.aom_image.specs.declared.image.Version.{Version}
+use Rattle.aom_image.specs.declared.image.Version.TheVariants as versions
 use Rattle.aom_image.specs.declared.class.ClassDecl.{ClassDecl}
 use Rattle.aom_image.specs.declared.class.ClassKind.{ClassKind}
 use Rattle.aom_image.specs.declared.class.ClassKind.TheVariants as kinds
@@ -84,6 +86,14 @@ kind scope natives servers k.Active = next any_keyword (λ key. next (provider n
 kind scope natives servers k.Server = if nat_lt servers 8 then server scope else failing LimitPassed
 kind scope natives servers key = failing BadShape
 
+-- a parent, in a text of the second version and of a class that may have one
+abbrev pub said_parent : Scope → Version → ClassKind → Reading (Option ℕ)
+said_parent scope versions.One kind = failing BadShape
+said_parent scope versions.Two kind = if may_descend kind then next (class scope) (λ c. giving (Some c)) else failing BadShape
+
+abbrev pub optional_parent : Scope → Version → ClassKind → Reading (Option ℕ)
+optional_parent scope version kind ws = if (took k.From ws).0 then said_parent scope version kind (took k.From ws).1 else Ok (None, (took k.From ws).1)
+
 -- a budget at the end
 abbrev pub said_budget : Reading ℕ
 said_budget = next (keyword k.Budget) (λ u. next (number 0 4294967295) (λ n. next (nothing_more false) (λ u. giving n)))
@@ -105,16 +115,17 @@ abbrev pub flag : Keyword → Reading Bool
 flag key ws = Ok (took key ws)
 
 -- what stands behind a class's name, where so many servers stand before it
-abbrev pub class_parts : Scope → ℕ → ℕ → Reading ClassDecl
-class_parts scope natives servers =
+abbrev pub class_parts : Scope → Version → ℕ → ℕ → Reading ClassDecl
+class_parts scope version natives servers =
     next any_keyword (λ key.
     next (kind scope natives servers key) (λ kind.
+    next (optional_parent scope version kind) (λ parent.
     next (optional_number k.Words 8) (λ words.
     next (flag k.Own) (λ owns.
     next (fields scope owns) (λ list.
     next (budget owns (is_dispatched kind)) (λ n.
-    giving (record { kind = kind; parent = None; words = words; fields = list; budget = n })))))))
+    giving (record { kind = kind; parent = parent; words = words; fields = list; budget = n }))))))))
 
 -- a class, at its place among the classes, after so many servers
-abbrev pub class_statement : Scope → ℕ → ℕ → ℕ → Reading ClassDecl
-class_statement scope natives place servers = next (declared place scope.classes) (λ u. class_parts scope natives servers)
+abbrev pub class_statement : Scope → Version → ℕ → ℕ → ℕ → Reading ClassDecl
+class_statement scope version natives place servers = next (declared place scope.classes) (λ u. class_parts scope version natives servers)

@@ -19,7 +19,9 @@ use Rattle.aom_instructions.specs.declared.instr.Instr.{Instr}
 use Rattle.aom_syntax.specs.Reading.{◌>>=◌, Reading, next, seen, giving, failing, word, as_name, took, any_keyword, nothing_more}
 use Rattle.aom_syntax.specs.Keywords.{strange}
 use Rattle.aom_instructions.specs.Mnemonics.{mnemonic_of}
-use Rattle.aom_syntax.specs.Operands.{class}
+use Rattle.aom_image.specs.declared.image.Version.{Version}
+use Rattle.aom_image.specs.declared.image.Version.TheVariants as versions
+use Rattle.aom_syntax.specs.Operands.{class, method}
 use Rattle.aom_syntax.specs.Words.{words_operands}
 use Rattle.aom_syntax.specs.Classes.{declared, declared_at, listed, thing_of, thing, flag}
 use Rattle.aom_syntax.specs.declared.keyword.Keyword.{Keyword}
@@ -148,6 +150,14 @@ optional_states key usual ws = if (took key ws).0 then seen states_of word (took
 
 -- ---- the statement
 
+-- what is overridden, in a text of the second version
+abbrev pub said_over : Scope → Version → Reading (Option ℕ)
+said_over scope versions.One = failing BadShape
+said_over scope versions.Two = next (method scope) (λ m. giving (Some m))
+
+abbrev pub optional_over : Scope → Version → Reading (Option ℕ)
+optional_over scope version ws = if (took k.Over ws).0 then said_over scope version (took k.Over ws).1 else Ok (None, (took k.Over ws).1)
+
 abbrev pub optional_class : Scope → Reading (Option ℕ)
 optional_class scope ws = if (took k.Of ws).0 then (class scope (took k.Of ws).1 >>= λ x. Ok (Some x.0, x.1)) else Ok (None, (took k.Of ws).1)
 
@@ -183,21 +193,22 @@ abbrev pub flags_of : Bool → Bool → MethodFlags
 flags_of leaves quiet = record { 0 = (if leaves then 1 else 0) + (if quiet then 2 else 0) }
 
 -- what a method promises: its states, its arguments and its result
-abbrev pub promised : Scope → Role → Option ℕ → Bool → Bool → Reading Heading
-promised scope role class leaves quiet =
+abbrev pub promised : Scope → Role → Option ℕ → Option ℕ → Bool → Bool → Reading Heading
+promised scope role class over leaves quiet =
     next (optional_states k.In (usual_before role (all_states (kind_of scope.kinds class)))) (λ before.
     next (optional_states k.Out (usual_after role (all_states (kind_of scope.kinds class)))) (λ after.
     next (optional_arguments scope (usual_words role)) (λ arguments.
     next (optional_gives scope (usual_gives scope.is_strict role (kind_of scope.kinds class))) (λ gives.
-    giving (record { class = class; over = None; role = role; flags = flags_of leaves (quiet || is_quiet_role role); before = before; after = after; arguments = arguments; gives = gives })))))
+    giving (record { class = class; over = over; role = role; flags = flags_of leaves (quiet || is_quiet_role role); before = before; after = after; arguments = arguments; gives = gives })))))
 
--- what stands behind its class
-abbrev pub behind_class : Scope → Role → Option ℕ → Reading Heading
-behind_class scope role class = next (flag k.Leaves) (λ leaves. next (flag k.Quiet) (λ quiet. promised scope role class leaves quiet))
+-- what stands behind its class and what it overrides
+abbrev pub behind_class : Scope → Role → Option ℕ → Option ℕ → Reading Heading
+behind_class scope role class over = next (flag k.Leaves) (λ leaves. next (flag k.Quiet) (λ quiet. promised scope role class over leaves quiet))
 
 -- a method but its code, at its place among the methods
-abbrev pub heading : Scope → ℕ → Reading Heading
-heading scope place = next (declared place scope.methods) (λ u. next role (λ role. next (optional_class scope) (λ class. behind_class scope role class)))
+abbrev pub heading : Scope → Version → ℕ → Reading Heading
+heading scope version place =
+    next (declared place scope.methods) (λ u. next role (λ role. next (optional_class scope) (λ class. next (optional_over scope version) (λ over. behind_class scope role class over))))
 
 -- ---- instructions
 

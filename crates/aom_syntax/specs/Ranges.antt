@@ -1,6 +1,7 @@
 -- The laws: what a statement says is in its range, whatever its words are.
-use Rattle.std.specs.Prelude.{◌≡◌, ◌<◌, ◌≤◌, ℕ, true, List, length, All, IfSome, Ok, None}
-use Rattle.aom_image.specs.WellFormed.{ArgumentFits, ClassFits, GivesFits, HeaderFits, is_server}
+use Rattle.std.specs.Prelude.{◌≡◌, ◌<◌, ◌≤◌, ℕ, true, List, length, All, IfSome, Ok}
+use Rattle.aom_image.specs.WellFormed.{ArgumentFits, ClassFits, GivesFits, HeaderFits, OverFits, ParentFits, is_server}
+use Rattle.aom_image.specs.declared.image.Version.{Version}
 use Rattle.aom_instructions.specs.Fits.{InstrFits, limits}
 use Rattle.aom_image.specs.declared.class.ClassDecl.{ClassDecl}
 use Rattle.aom_image.specs.declared.image.Header.{Header}
@@ -13,10 +14,10 @@ use Rattle.aom_syntax.specs.declared.scope.Scope.{Scope}
 
 -- ---- ranges
 
--- a method but its code, beside so many classes
-pub record HeadingFits (classes : ℕ) (h : Heading) : Type 0 where
+-- a method but its code, beside so many classes and methods
+pub record HeadingFits (version : Version) (classes methods : ℕ) (h : Heading) : Type 0 where
   pub class : IfSome h.class (λ c. c < classes)
-  pub over : h.over ≡ None
+  pub over : OverFits version methods h.over
   pub flags : h.flags.0 < 4
   pub before : h.before.0 < 64
   pub after : h.after.0 < 64
@@ -30,15 +31,16 @@ pub record IsSettled (natives : ℕ) (scope : Scope) : Type 0 where
   pub kinds : All (ClassFits (length scope.classes) natives) scope.kinds
 
 -- a class at its place among the names of classes, after so many servers
-pub record ClassIsRead (scope : Scope) (natives place servers : ℕ) (c : ClassDecl) : Type 0 where
+pub record ClassIsRead (scope : Scope) (version : Version) (natives place servers : ℕ) (c : ClassDecl) : Type 0 where
   pub declared : place < length scope.classes
   pub class : ClassFits (length scope.classes) natives c
+  pub parent : ParentFits version (length scope.classes) c.kind c.parent
   pub server : is_server c ≡ true → servers < 8
 
 -- the beginning of a method at its place among the names of methods
-pub record HeadingIsRead (scope : Scope) (place : ℕ) (h : Heading) : Type 0 where
+pub record HeadingIsRead (scope : Scope) (version : Version) (place : ℕ) (h : Heading) : Type 0 where
   pub declared : place < length scope.methods
-  pub heading : HeadingFits (length scope.classes) h
+  pub heading : HeadingFits version (length scope.classes) (length scope.methods) h
 
 -- ---- laws
 
@@ -48,11 +50,11 @@ HeadersInRange = (scope : Scope) → scope.is_strict ≡ true → (ws : List (Li
 
 -- a class, whether names are told apart or not
 abbrev pub ClassesInRange : Type 0
-ClassesInRange = (scope : Scope) (natives place servers : ℕ) (ws : List (List ℕ)) (c : ClassDecl) (rest : List (List ℕ)) → class_statement scope natives place servers ws ≡ Ok (c, rest) → ClassIsRead scope natives place servers c
+ClassesInRange = (scope : Scope) (version : Version) (natives place servers : ℕ) (ws : List (List ℕ)) (c : ClassDecl) (rest : List (List ℕ)) → class_statement scope version natives place servers ws ≡ Ok (c, rest) → ClassIsRead scope version natives place servers c
 
 -- the beginning of a method, beside classes that were read before
 abbrev pub HeadingsInRange : Type 0
-HeadingsInRange = (natives : ℕ) (scope : Scope) → IsSettled natives scope → (place : ℕ) (ws : List (List ℕ)) (h : Heading) (rest : List (List ℕ)) → heading scope place ws ≡ Ok (h, rest) → HeadingIsRead scope place h
+HeadingsInRange = (natives : ℕ) (scope : Scope) (version : Version) → IsSettled natives scope → (place : ℕ) (ws : List (List ℕ)) (h : Heading) (rest : List (List ℕ)) → heading scope version place ws ≡ Ok (h, rest) → HeadingIsRead scope version place h
 
 -- an instruction, where names are told apart: it jumps to labels, and names classes and methods, that are declared
 abbrev pub InstructionsInRange : Type 0

@@ -1,12 +1,12 @@
 -- Reading the words of a statement from the left: a value and the words that are left, or the first fault.
-use Rattle.std.specs.Prelude.{◌≡◌, ◌≢◌, ℕ, Bool, true, false, ◌&&◌, if◌then◌else◌, List, [], ◌∷◌, Option, Some, None, Result, Ok, Err, nat_lt}
+use Rattle.std.specs.Prelude.{◌≡◌, ◌≢◌, ℕ, Bool, true, false, if◌then◌else◌, List, [], ◌∷◌, Option, Some, None, Result, Ok, Err}
 use Rattle.std.specs.List.{list_all}
 use Rattle.std.specs.Str.{bytes_eq}
 use Rattle.aom_text.specs.Words.{is_plain}
 use Rattle.aom_text.specs.Names.{is_name}
-use Rattle.aom_text.specs.Numbers.{number_of, number_within, number_signed}
+use Rattle.aom_text.specs.Numbers.{number_of, number_within}
 use Rattle.aom_text.specs.declared.fault.AsmFaultKind.{AsmFaultKind}
-use Rattle.aom_text.specs.declared.fault.AsmFaultKind.TheVariants.{NotAscii, UnknownName, BadNumber, BadShape, LimitPassed, OutOfMemory}
+use Rattle.aom_text.specs.declared.fault.AsmFaultKind.TheVariants.{NotAscii, BadNumber, BadShape, LimitPassed, OutOfMemory}
 use Rattle.aom_syntax.specs.declared.keyword.Keyword.{Keyword}
 use Rattle.aom_syntax.specs.Keywords.{keyword_text, keyword_of, strange}
 

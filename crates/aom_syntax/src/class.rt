@@ -3,11 +3,11 @@ ghost use Rattle.std.specs.Prelude.{◌≡◌, ◌≤◌, ◌∷◌, ◌==◌, �
 ghost use Rattle.std.specs.List.{slice_split, position};
 ghost use Rattle.aom_image.specs.WellFormed.{is_dispatched};
 ghost use Rattle.aom_syntax.specs.Reading.{Reads, ReadsOrNoMemory};
-ghost use Rattle.aom_syntax.specs.Classes.{declared, parts_left, class_of, thing_of, thing, things, provider, server, kind, said_budget, budget, fields, class_statement};
+ghost use Rattle.aom_syntax.specs.Classes.{declared, parts_left, class_of, thing_of, thing, things, provider, server, kind, optional_parent, said_budget, budget, fields, class_statement};
 
 use crate::list::listed;
 use crate::{Keyword, Names, Reader, Scope};
-use aom_image::{ClassDecl, ClassKind, ClassNumber, Items, NativeNumber, Provider, Thing};
+use aom_image::{ClassDecl, ClassKind, ClassNumber, Items, NativeNumber, Provider, Thing, Version};
 use aom_text::{AsmFaultKind, is_name};
 use std::alloc::Global;
 
@@ -120,6 +120,24 @@ impl<'a> Reader<'a> {
         }
     }
 
+    /// The parent, where it is said.
+    fn optional_parent(
+        &mut self,
+        scope: &Scope,
+        version: Version,
+        kind: ClassKind,
+    ) -> Result<Option<ClassNumber>, AsmFaultKind>
+        ensures { Reads (λ x. (x, self.new)) result (optional_parent scope.now version kind self.old) }
+    {
+        if !self.took(Keyword::From) {
+            return Ok(None);
+        }
+        match version {
+            Version::Two if kind.may_descend() => Ok(Some(self.class(scope)?)),
+            _ => Err(AsmFaultKind::BadShape),
+        }
+    }
+
     fn said_budget(&mut self) -> Result<u32, AsmFaultKind>
         ensures { Reads (λ x. (x, self.new)) result (said_budget self.old) }
     {
@@ -161,25 +179,27 @@ impl<'a> Reader<'a> {
         &mut self,
         alloc: Global,
         scope: &Scope,
+        version: Version,
         natives: u8,
         place: usize,
         servers: usize,
     ) -> Result<ClassDecl, AsmFaultKind>
-        ensures { ReadsOrNoMemory (λ x. (x, self.new)) result (class_statement scope.now natives place servers self.old) }
+        ensures { ReadsOrNoMemory (λ x. (x, self.new)) result (class_statement scope.now version natives place servers self.old) }
     {
         self.declared(place, &scope.classes)?;
         let key = self.any_keyword()?;
         let kind = self.kind(key, scope, natives, servers)?;
-        let words = self.optional_number(Keyword::Words, 8)?;
-        let has_fields = self.took(Keyword::Own);
-        let fields = self.fields(alloc, has_fields, scope)?;
         let mut class = ClassDecl {
             kind,
             parent: None,
-            words: words as u8,
-            fields: Items::from_vec(fields),
+            words: 0,
+            fields: Items::from_vec(Vec::new(alloc)),
             budget: 0,
         };
+        class.parent = self.optional_parent(scope, version, class.kind)?;
+        class.words = self.optional_number(Keyword::Words, 8)? as u8;
+        let has_fields = self.took(Keyword::Own);
+        class.fields = Items::from_vec(self.fields(alloc, has_fields, scope)?);
         class.budget = self.budget(has_fields, class.kind)?;
         Ok(class)
     }

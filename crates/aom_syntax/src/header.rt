@@ -8,15 +8,15 @@ use aom_image::{ClassNumber, Header, Version};
 use aom_text::AsmFaultKind;
 
 impl<'a> Reader<'a> {
-    /// The version, where it is said. It can only be 2, and no text of version 2 is taken yet.
-    fn optional_version(&mut self) -> Result<(), AsmFaultKind>
+    /// The version, where it is said. It can only be 2.
+    fn optional_version(&mut self) -> Result<Version, AsmFaultKind>
         ensures { Reads (λ x. (x, self.new)) result (optional_version self.old) }
     {
         if !self.took(Keyword::Version) {
-            return Ok(());
+            return Ok(Version::One);
         }
         self.number(2, 2)?;
-        Err(AsmFaultKind::BadShape)
+        Ok(Version::Two)
     }
 
     /// The end of the statement, with the class of the root or without.
@@ -34,8 +34,8 @@ impl<'a> Reader<'a> {
     }
 
     /// The limits, main's budget and the class of the root.
-    fn limits_and_root(&mut self, scope: &Scope) -> Result<Header, AsmFaultKind>
-        ensures { Reads (λ x. (x, self.new)) result (limits_and_root scope.now self.old) }
+    fn limits_and_root(&mut self, scope: &Scope, version: Version) -> Result<Header, AsmFaultKind>
+        ensures { Reads (λ x. (x, self.new)) result (limits_and_root scope.now version self.old) }
     {
         let cells = self.optional_number(Keyword::Cells, 4096)?;
         let messages = self.optional_number(Keyword::Messages, 1024)?;
@@ -44,7 +44,7 @@ impl<'a> Reader<'a> {
         let budget = self.number(0, u32::MAX)?;
         let root = self.optional_root(scope)?;
         Ok(Header {
-            version: Version::One,
+            version,
             cells: cells as u16,
             messages: messages as u16,
             natives: natives as u8,
@@ -58,7 +58,7 @@ impl<'a> Reader<'a> {
         ensures { Reads (λ x. (x, self.new)) result (image_statement scope.now self.old) }
     {
         self.keyword(Keyword::Image)?;
-        self.optional_version()?;
-        self.limits_and_root(scope)
+        let version = self.optional_version()?;
+        self.limits_and_root(scope, version)
     }
 }

@@ -2,7 +2,7 @@
 ghost use Rattle.std.specs.Prelude.{◌≡◌, ◌≤◌, ◌<◌, ◌∷◌, length, option_map, replicate, Ok};
 ghost use Rattle.aom_image.specs.declared.method.Argument.TheVariants.{Word};
 ghost use Rattle.aom_syntax.specs.Reading.{Reads, ReadsOrNoMemory};
-ghost use Rattle.aom_syntax.specs.Methods.{role, role_of, kind_of, all_states, accepted, usual_before, usual_after, usual_words, usual_gives, unsaid_gives, is_quiet_role, optional_states, optional_class, argument_of, optional_arguments, gives, optional_gives, flags_of, promised, heading};
+ghost use Rattle.aom_syntax.specs.Methods.{role, role_of, kind_of, all_states, accepted, usual_before, usual_after, usual_words, usual_gives, unsaid_gives, is_quiet_role, optional_states, optional_class, optional_over, argument_of, optional_arguments, gives, optional_gives, flags_of, promised, heading};
 
 use crate::class::thing_of;
 use crate::list::listed;
@@ -10,7 +10,7 @@ use crate::states::{set_of, states_of};
 use crate::{Keyword, Reader, Scope};
 use aom_image::{
     Argument, ClassDecl, ClassKind, ClassNumber, Gives, Items, MethodFlags, MethodNumber, Role,
-    States, Thing,
+    States, Thing, Version,
 };
 use aom_text::AsmFaultKind;
 use std::alloc::Global;
@@ -203,6 +203,22 @@ impl<'a> Reader<'a> {
         }
     }
 
+    fn optional_over(
+        &mut self,
+        scope: &Scope,
+        version: Version,
+    ) -> Result<Option<MethodNumber>, AsmFaultKind>
+        ensures { Reads (λ x. (x, self.new)) result (optional_over scope.now version self.old) }
+    {
+        if !self.took(Keyword::Over) {
+            return Ok(None);
+        }
+        match version {
+            Version::One => Err(AsmFaultKind::BadShape),
+            Version::Two => Ok(Some(self.method(scope)?)),
+        }
+    }
+
     /// The arguments that are said, and else so many words.
     fn optional_arguments(
         &mut self,
@@ -255,10 +271,11 @@ impl<'a> Reader<'a> {
         scope: &Scope,
         role: Role,
         class: Option<ClassNumber>,
+        over: Option<MethodNumber>,
         leaves: bool,
         quiet: bool,
     ) -> Result<Heading, AsmFaultKind>
-        ensures { ReadsOrNoMemory (λ x. (x, self.new)) result (promised scope.now role class leaves quiet self.old) }
+        ensures { ReadsOrNoMemory (λ x. (x, self.new)) result (promised scope.now role class over leaves quiet self.old) }
     {
         let kind = kind_of(&scope.kinds, class);
         let (usual_before, usual_after) = usual_states(role, all_states(kind));
@@ -268,7 +285,7 @@ impl<'a> Reader<'a> {
         let gives = self.optional_gives(scope, usual_gives(scope.is_strict, role, kind))?;
         Ok(Heading {
             class,
-            over: None,
+            over,
             role,
             flags: flags_of(leaves, quiet || is_quiet_role(role)),
             before,
@@ -283,15 +300,17 @@ impl<'a> Reader<'a> {
         &mut self,
         alloc: Global,
         scope: &Scope,
+        version: Version,
         place: usize,
     ) -> Result<Heading, AsmFaultKind>
-        ensures { ReadsOrNoMemory (λ x. (x, self.new)) result (heading scope.now place self.old) }
+        ensures { ReadsOrNoMemory (λ x. (x, self.new)) result (heading scope.now version place self.old) }
     {
         self.declared(place, &scope.methods)?;
         let role = self.role()?;
         let class = self.optional_class(scope)?;
+        let over = self.optional_over(scope, version)?;
         let leaves = self.took(Keyword::Leaves);
         let quiet = self.took(Keyword::Quiet);
-        self.promised(alloc, scope, role, class, leaves, quiet)
+        self.promised(alloc, scope, role, class, over, leaves, quiet)
     }
 }

@@ -2,4 +2,4 @@ use Rattle.aom_syntax.proofs.RangedClasses.{class_within}
 use Rattle.aom_syntax.proofs.laws.classes_in_range.Goals as goal
 
 pub returns : goal.returns
-returns c scope natives place servers = (class_within scope natives place servers).each
+returns c scope version natives place servers = (class_within scope version natives place servers).each
