@@ -12,6 +12,6 @@ use Rattle.aom_asm.proofs.WellRead.{text_well}
 pub reads_well : (text : List ℕ) (i : Image) → denoted text ≡ Ok i → WellFormed i
 reads_well text i is =
     text_well (λ scope strict. (header_within scope strict).each)
-    (λ scope natives place servers. (class_within scope natives place servers).each)
-    (λ natives scope settled place. (heading_within natives scope settled place).each)
+    (λ scope version natives place servers. (class_within scope version natives place servers).each)
+    (λ natives scope version settled place. (heading_within natives scope version settled place).each)
     (λ scope strict labels place. (instruction_within scope strict labels place).each) text i is

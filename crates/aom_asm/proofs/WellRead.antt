@@ -4,16 +4,18 @@ use Rattle.std.specs.Prelude.{cond, if◌then◌else◌}
 use Rattle.std.specs.List.{All, count_by, sum_by}
 use Rattle.std.proofs.lemmas.Bool.{ltb-true, eqb-false, false≢true}
 use Rattle.std.proofs.lemmas.List.Elements.{All-nil, All-push}
-use Rattle.std.proofs.lemmas.List.Sums.{sum_by-append, sum_by-cons}
+use Rattle.std.proofs.lemmas.List.Sums.{sum_by-cons, sum_by_push}
 use Rattle.aom_text.specs.Text.{statements}
 use Rattle.aom_text.specs.declared.fault.AsmFaultKind.{AsmFaultKind}
 use Rattle.aom_text.specs.declared.fault.AsmFaultKind.TheVariants.{BadShape, LimitPassed}
 use Rattle.aom_text.specs.declared.text.Statement.{Statement}
 use Rattle.aom_image.specs.Image.{Image}
-use Rattle.aom_image.specs.WellFormed.{ClassFits, ClassesFit, HeaderFits, MethodFits, MethodsFit, WellFormed, is_server}
+use Rattle.aom_image.specs.WellFormed.{ClassFits, ClassesFit, FamiliesFit, HeaderFits, MethodFits, MethodsFit, OverFits, ParentFits, WellFormed, family_bytes, is_server}
 use Rattle.aom_instructions.specs.Fits.{InstrFits, limits}
 use Rattle.aom_image.specs.declared.class.ClassDecl.{ClassDecl}
 use Rattle.aom_image.specs.declared.image.Header.{Header}
+use Rattle.aom_image.specs.declared.image.Version.{Version}
+use Rattle.aom_image.specs.declared.image.Version.TheVariants as versions
 use Rattle.aom_instructions.specs.declared.instr.Instr.{Instr}
 use Rattle.aom_image.specs.declared.method.Method.{Method}
 use Rattle.aom_syntax.specs.Classes.{class_statement}
@@ -38,13 +40,23 @@ use Rattle.aom_image.proofs.Given.{cons_given}
 abbrev program : Header → List ClassDecl → List Method → Option Body → ℕ → Program
 program h cs ms b size = record { header = h; classes = cs; methods = ms; body = b; size = size }
 
--- the bytes that a method spells, and a method that is open
-abbrev spelled : Method → ℕ
-spelled m = 24 + 8 * length m.code
+-- the bytes that a class spells, a method, and a method that is open
+abbrev pub class_bytes : Version → ClassDecl → ℕ
+class_bytes version c = 28 + family_bytes version
 
-abbrev spelled_open : Option Body → ℕ
-spelled_open None = 0
-spelled_open (Some b) = 24 + 8 * length b.code
+abbrev pub spelled : Version → Method → ℕ
+spelled version m = 24 + family_bytes version + 8 * length m.code
+
+abbrev spelled_open : Version → Option Body → ℕ
+spelled_open version None = 0
+spelled_open version (Some b) = 24 + family_bytes version + 8 * length b.code
+
+-- classes are all of the same size
+pub class_sizes : (version : Version) (cs : List ClassDecl) → sum_by (class_bytes version) cs ≡ (28 + family_bytes version) * length cs
+class_sizes versions.One [] = omega arith
+class_sizes versions.One (c ∷ cs) = omega (arith, sum_by-cons (class_bytes versions.One) c cs, class_sizes versions.One cs)
+class_sizes versions.Two [] = omega arith
+class_sizes versions.Two (c ∷ cs) = omega (arith, sum_by-cons (class_bytes versions.Two) c cs, class_sizes versions.Two cs)
 
 abbrev open_count : Option Body → ℕ
 open_count None = 0
@@ -54,11 +66,7 @@ abbrev counted : ClassDecl → ℕ
 counted c = cond (is_server c) 1 0
 
 counted_push : (cs : List ClassDecl) (c : ClassDecl) → count_by is_server (cs ++ c ∷ []) ≡ count_by is_server cs + counted c
-counted_push cs c =
-    let parted : sum_by counted (cs ++ c ∷ []) ≡ sum_by counted cs + sum_by counted (c ∷ []) = sum_by-append counted cs (c ∷ []) in
-    let one : sum_by counted (c ∷ []) ≡ counted c + sum_by counted [] = sum_by-cons counted c [] in
-    let sum : sum_by counted (cs ++ c ∷ []) ≡ sum_by counted cs + counted c = omega arith in
-    sum
+counted_push cs c = sum_by_push counted cs c
 
 few_counted : (n : ℕ) (b : Bool) → (b ≡ true → n < 8) → n ≤ 8 → n + cond {A = ℕ} b 1 0 ≤ 8
 few_counted n true few le = let less : n < 8 = few refl in omega arith
@@ -74,7 +82,9 @@ record Done (scope : Scope) (h : Header) (cs : List ClassDecl) (ms : List Method
   few_classes : length cs ≤ 256
   header : scope.is_strict ≡ true → HeaderFits (length scope.classes) h
   classes : All (ClassFits (length scope.classes) h.natives) cs
+  parents : All (λ c. ParentFits h.version (length scope.classes) c.kind c.parent) cs
   servers : count_by is_server cs ≤ 8
+  overs : scope.is_strict ≡ true → All (λ m. OverFits h.version (length scope.methods) m.over) ms
   methods : scope.is_strict ≡ true → All (MethodFits (length scope.classes) (length scope.methods)) ms
 
 -- and of the method that is open, with the names of classes and methods that are still to come
@@ -82,25 +92,25 @@ record Holds (scope : Scope) (h : Header) (cs : List ClassDecl) (ms : List Metho
   class_names : length cs + classes_left ≡ length scope.classes
   method_names : length ms + open_count o + methods_left ≡ length scope.methods
   few_methods : length ms + open_count o ≤ 1024
-  spelling : size ≡ 24 + 28 * length cs + sum_by spelled ms + spelled_open o
+  spelling : size ≡ 24 + sum_by (class_bytes h.version) cs + sum_by (spelled h.version) ms + spelled_open h.version o
   short : size ≤ 2 ^ 20
   done : Done scope h cs ms
 
 -- of a method that is open, with the statements that are left before its end
-record BodyHolds (scope : Scope) (b : Body) (left : ℕ) : Type 0 where
+record BodyHolds (scope : Scope) (version : Version) (b : Body) (left : ℕ) : Type 0 where
   labels : length b.code + left ≡ length b.labels
   few : length b.code ≤ 1024
-  heading : scope.is_strict ≡ true → HeadingFits (length scope.classes) b.heading
+  heading : scope.is_strict ≡ true → HeadingFits version (length scope.classes) (length scope.methods) b.heading
   code : scope.is_strict ≡ true → All (InstrFits (limits (length scope.classes) (length scope.methods) (length b.labels))) b.code
 
-abbrev OpenHolds : Scope → Option Body → List Statement → Type 0
-OpenHolds scope None ss = Unit {0}
-OpenHolds scope (Some b) ss = BodyHolds scope b (before_end ss)
+abbrev OpenHolds : Scope → Version → Option Body → List Statement → Type 0
+OpenHolds scope version None ss = Unit {0}
+OpenHolds scope version (Some b) ss = BodyHolds scope version b (before_end ss)
 
 -- of a program before these statements
 record Read (scope : Scope) (p : Program) (ss : List Statement) : Type 0 where
   parts : Holds scope p.header p.classes p.methods p.size p.body (declares k.Class ss) (declares k.Method ss)
-  body : OpenHolds scope p.body ss
+  body : OpenHolds scope p.header.version p.body ss
 
 -- ---- one statement
 
@@ -109,14 +119,15 @@ module _ (headers : HeadersInRange) (classes_in : ClassesInRange) (headings : He
   class_step : (ss : List Statement) (h : Header) (cs : List ClassDecl) (ms : List Method) (size cl ml : ℕ) (ws : List (List ℕ)) (q : Program)
       → cl ≡ suc (declares k.Class ss) → ml ≡ declares k.Method ss → Holds scope h cs ms size None cl ml → with_class scope (program h cs ms None size) ws ≡ Ok q → Read scope q ss
   class_step ss h cs ms size cl ml ws q some none holds is =
-      let i = passed (nat_lt (length cs) 256) (class_statement scope h.natives (length cs) (count_by is_server cs) ws >>= λ c. grown 28 size >>= λ n. Ok (program h (cs ++ c.0 ∷ []) ms None n)) LimitPassed q is in
-      let s = steps (class_statement scope h.natives (length cs) (count_by is_server cs) ws) (λ c. grown 28 size >>= λ n. Ok (program h (cs ++ c.0 ∷ []) ms None n)) q i.1 in
+      let i = passed (nat_lt (length cs) 256) (class_statement scope h.version h.natives (length cs) (count_by is_server cs) ws >>= λ c. grown (28 + family_bytes h.version) size >>= λ n. Ok (program h (cs ++ c.0 ∷ []) ms None n)) LimitPassed q is in
+      let s = steps (class_statement scope h.version h.natives (length cs) (count_by is_server cs) ws) (λ c. grown (28 + family_bytes h.version) size >>= λ n. Ok (program h (cs ++ c.0 ∷ []) ms None n)) q i.1 in
       let c = s.first.0 in
-      let t = steps (grown 28 size) (λ n. Ok (program h (cs ++ c ∷ []) ms None n)) q s.second in
-      let g = grown_is 28 size t.first t.read in
+      let t = steps (grown (28 + family_bytes h.version) size) (λ n. Ok (program h (cs ++ c ∷ []) ms None n)) q s.second in
+      let g = grown_is (28 + family_bytes h.version) size t.first t.read in
       let less : length cs < 256 = ltb-true (length cs) 256 i.0 in
-      let range = classes_in scope h.natives (length cs) (count_by is_server cs) ws c s.first.1 s.read in
+      let range = classes_in scope h.version h.natives (length cs) (count_by is_server cs) ws c s.first.1 s.read in
       let longer : length (cs ++ c ∷ []) ≡ length cs + 1 = length-append cs (c ∷ []) in
+      let summed : sum_by (class_bytes h.version) (cs ++ c ∷ []) ≡ sum_by (class_bytes h.version) cs + class_bytes h.version c = sum_by_push (class_bytes h.version) cs c in
       let names = holds.class_names in
       let methods = holds.method_names in
       let spelling = holds.spelling in
@@ -132,7 +143,9 @@ module _ (headers : HeadersInRange) (classes_in : ClassesInRange) (headings : He
             few_classes = omega arith;
             header = holds.done.header;
             classes = All-push (ClassFits (length scope.classes) h.natives) cs c holds.done.classes range.class;
+            parents = All-push (λ c. ParentFits h.version (length scope.classes) c.kind c.parent) cs c holds.done.parents range.parent;
             servers = servers;
+            overs = holds.done.overs;
             methods = holds.done.methods;
           };
         };
@@ -144,13 +157,13 @@ module _ (headers : HeadersInRange) (classes_in : ClassesInRange) (headings : He
       → cl ≡ declares k.Class ss → ml ≡ suc (declares k.Method ss) → Holds scope h cs ms size None cl ml → with_heading scope ss (program h cs ms None size) ws ≡ Ok q → Read scope q ss
   heading_step ss h cs ms size cl ml ws q none some holds is =
       let begun : Heading → Option Body = λ m. Some (record { heading = m; labels = labels_of [] ss; code = [] }) in
-      let i = passed (nat_lt (length ms) 1024) (heading scope (length ms) ws >>= λ m. grown 24 size >>= λ n. Ok (program h cs ms (begun m.0) n)) LimitPassed q is in
-      let s = steps (heading scope (length ms) ws) (λ m. grown 24 size >>= λ n. Ok (program h cs ms (begun m.0) n)) q i.1 in
+      let i = passed (nat_lt (length ms) 1024) (heading scope h.version (length ms) ws >>= λ m. grown (24 + family_bytes h.version) size >>= λ n. Ok (program h cs ms (begun m.0) n)) LimitPassed q is in
+      let s = steps (heading scope h.version (length ms) ws) (λ m. grown (24 + family_bytes h.version) size >>= λ n. Ok (program h cs ms (begun m.0) n)) q i.1 in
       let m = s.first.0 in
-      let t = steps (grown 24 size) (λ n. Ok (program h cs ms (begun m) n)) q s.second in
-      let g = grown_is 24 size t.first t.read in
+      let t = steps (grown (24 + family_bytes h.version) size) (λ n. Ok (program h cs ms (begun m) n)) q s.second in
+      let g = grown_is (24 + family_bytes h.version) size t.first t.read in
       let less : length ms < 1024 = ltb-true (length ms) 1024 i.0 in
-      let range = λ (strict : scope.is_strict ≡ true). (headings natives scope (record { is_strict = strict; kinds = settled strict }) (length ms) ws m s.first.1 s.read).heading in
+      let range = λ (strict : scope.is_strict ≡ true). (headings natives scope h.version (record { is_strict = strict; kinds = settled strict }) (length ms) ws m s.first.1 s.read).heading in
       let names = holds.class_names in
       let methods = holds.method_names in
       let spelling = holds.spelling in
@@ -166,7 +179,7 @@ module _ (headers : HeadersInRange) (classes_in : ClassesInRange) (headings : He
 
   -- an instruction
   code_step : (ss : List Statement) (h : Header) (cs : List ClassDecl) (ms : List Method) (size left : ℕ) (b : Body) (ws : List (List ℕ)) (q : Program)
-      → left ≡ suc (before_end ss) → Holds scope h cs ms size (Some b) (declares k.Class ss) (declares k.Method ss) → BodyHolds scope b left
+      → left ≡ suc (before_end ss) → Holds scope h cs ms size (Some b) (declares k.Class ss) (declares k.Method ss) → BodyHolds scope h.version b left
       → (with_instruction scope b ws >>= λ c. grown 8 size >>= λ n. Ok (program h cs ms (Some c) n)) ≡ Ok q → Read scope q ss
   code_step ss h cs ms size left b ws q one holds body is =
       let longer_by : Instr → Body = λ i. record b { code = b.code ++ i ∷ [] } in
@@ -196,15 +209,15 @@ module _ (headers : HeadersInRange) (classes_in : ClassesInRange) (headings : He
   abbrev whole_of : Body → Method
   whole_of b = record { class = b.heading.class; over = b.heading.over; role = b.heading.role; flags = b.heading.flags; before = b.heading.before; after = b.heading.after; arguments = b.heading.arguments; gives = b.heading.gives; code = b.code }
 
-  method_fits : (b : Body) (left : ℕ) → BodyHolds scope b left → scope.is_strict ≡ true → length b.labels ≡ length b.code → 1 ≤ length b.code → MethodFits (length scope.classes) (length scope.methods) (whole_of b)
-  method_fits b left body strict places some =
+  method_fits : (version : Version) (b : Body) (left : ℕ) → BodyHolds scope version b left → scope.is_strict ≡ true → length b.labels ≡ length b.code → 1 ≤ length b.code → MethodFits (length scope.classes) (length scope.methods) (whole_of b)
+  method_fits version b left body strict places some =
       let range = body.heading strict in
       let code = subst (λ n. All (InstrFits (limits (length scope.classes) (length scope.methods) n)) b.code) places (body.code strict) in
-      record { class = range.class; over = range.over; flags = range.flags; before = range.before; after = range.after; argument_count = range.argument_count; arguments = range.arguments; gives = range.gives; some_code = some; code_length = body.few; code = code }
+      record { class = range.class; flags = range.flags; before = range.before; after = range.after; argument_count = range.argument_count; arguments = range.arguments; gives = range.gives; some_code = some; code_length = body.few; code = code }
 
   -- the end of a method
   end_step : (ss : List Statement) (h : Header) (cs : List ClassDecl) (ms : List Method) (size left : ℕ) (b : Body) (ws : List (List ℕ)) (q : Program)
-      → left ≡ 0 → Holds scope h cs ms size (Some b) (declares k.Class ss) (declares k.Method ss) → BodyHolds scope b left
+      → left ≡ 0 → Holds scope h cs ms size (Some b) (declares k.Class ss) (declares k.Method ss) → BodyHolds scope h.version b left
       → with_method (program h cs ms None size) b ws ≡ Ok q → Read scope q ss
   end_step ss h cs ms size left b ws q none holds body is =
       let whole = whole_of b in
@@ -215,8 +228,7 @@ module _ (headers : HeadersInRange) (classes_in : ClassesInRange) (headings : He
       let some : length b.code ≡ 0 → ⊥ = eqb-false (length b.code) 0 i.0 in
       let longer : length (ms ++ whole ∷ []) ≡ length ms + 1 = length-append ms (whole ∷ []) in
       let places : length b.labels ≡ length b.code = (let labels = body.labels in omega arith) in
-      let summed : sum_by spelled (ms ++ whole ∷ []) ≡ sum_by spelled ms + sum_by spelled (whole ∷ []) = sum_by-append spelled ms (whole ∷ []) in
-      let one : sum_by spelled (whole ∷ []) ≡ spelled whole + sum_by spelled [] = sum_by-cons spelled whole [] in
+      let summed : sum_by (spelled h.version) (ms ++ whole ∷ []) ≡ sum_by (spelled h.version) ms + spelled h.version whole = sum_by_push (spelled h.version) ms whole in
       let names = holds.method_names in
       let few = holds.few_methods in
       let spelling = holds.spelling in
@@ -232,8 +244,10 @@ module _ (headers : HeadersInRange) (classes_in : ClassesInRange) (headings : He
             few_classes = holds.done.few_classes;
             header = holds.done.header;
             classes = holds.done.classes;
+            parents = holds.done.parents;
             servers = holds.done.servers;
-            methods = λ strict. All-push (MethodFits (length scope.classes) (length scope.methods)) ms whole (holds.done.methods strict) (method_fits b left body strict places (omega (arith, some)));
+            overs = λ strict. All-push (λ m. OverFits h.version (length scope.methods) m.over) ms whole (holds.done.overs strict) (body.heading strict).over;
+            methods = λ strict. All-push (MethodFits (length scope.classes) (length scope.methods)) ms whole (holds.done.methods strict) (method_fits h.version b left body strict places (omega (arith, some)));
           };
         };
         body = tt;
@@ -271,7 +285,7 @@ module _ (headers : HeadersInRange) (classes_in : ClassesInRange) (headings : He
         subst (λ n. Holds scope h cs ms size o n (declares k.Method ss)) classes (subst (λ n. Holds scope h cs ms size o (declares k.Class (s ∷ ss)) n) methods holds)
 
     -- an instruction, which declares no name
-    spoken : (b : Body) → Holds scope h cs ms size (Some b) (declares k.Class (s ∷ ss)) (declares k.Method (s ∷ ss)) → BodyHolds scope b (before_end (s ∷ ss)) → is_end s.words ≡ false
+    spoken : (b : Body) → Holds scope h cs ms size (Some b) (declares k.Class (s ∷ ss)) (declares k.Method (s ∷ ss)) → BodyHolds scope h.version b (before_end (s ∷ ss)) → is_end s.words ≡ false
         → (with_instruction scope b s.words >>= λ c. grown 8 size >>= λ n. Ok (program h cs ms (Some c) n)) ≡ Ok q → Read scope q ss
     spoken b holds body goes_on is =
         let added : Instr → Body = λ i. record b { code = b.code ++ i ∷ [] } in
@@ -280,7 +294,7 @@ module _ (headers : HeadersInRange) (classes_in : ClassesInRange) (headings : He
         let said = steps (instruction scope b.labels (length b.code) s.words) (λ i. Ok (added i.0)) first.first i.1 in
         code_step ss h cs ms size (before_end (s ∷ ss)) b s.words q (not_at_end s ss goes_on) (none_declared (Some b) (code_silent scope b.labels (length b.code) s.words said.first said.read) holds) body is
 
-    body_step : (b : Body) → Holds scope h cs ms size (Some b) (declares k.Class (s ∷ ss)) (declares k.Method (s ∷ ss)) → BodyHolds scope b (before_end (s ∷ ss)) → in_body scope (program h cs ms None size) b s.words ≡ Ok q → Read scope q ss
+    body_step : (b : Body) → Holds scope h cs ms size (Some b) (declares k.Class (s ∷ ss)) (declares k.Method (s ∷ ss)) → BodyHolds scope h.version b (before_end (s ∷ ss)) → in_body scope (program h cs ms None size) b s.words ≡ Ok q → Read scope q ss
     body_step b holds body is = go (is_end s.words) refl
       where
         one : Bool × List (List ℕ) → Result Program AsmFaultKind
@@ -290,7 +304,7 @@ module _ (headers : HeadersInRange) (classes_in : ClassesInRange) (headings : He
         go true ends = end_step ss h cs ms size (before_end (s ∷ ss)) b (took k.End s.words).1 q (at_end s ss ends) (none_declared (Some b) (end_silent s.words ends) holds) body (if_true _ _ (Ok q) (took k.End s.words).0 (takes_end s.words ends) is)
         go false goes_on = spoken b holds body goes_on (sym (ap one (takes_no_end s.words goes_on)) ∙ is)
 
-    stepped : (o : Option Body) → Holds scope h cs ms size o (declares k.Class (s ∷ ss)) (declares k.Method (s ∷ ss)) → OpenHolds scope o (s ∷ ss) → step_by o scope ss (program h cs ms None size) s.words ≡ Ok q → Read scope q ss
+    stepped : (o : Option Body) → Holds scope h cs ms size o (declares k.Class (s ∷ ss)) (declares k.Method (s ∷ ss)) → OpenHolds scope h.version o (s ∷ ss) → step_by o scope ss (program h cs ms None size) s.words ≡ Ok q → Read scope q ss
     stepped None holds body is =
         let t = steps (any_keyword s.words) (λ key. declaration scope ss (program h cs ms None size) key.0 key.1) q is in
         declared_step holds t.first.0 t.first.1 t.read t.second
@@ -337,7 +351,9 @@ module _ (headers : HeadersInRange) (classes_in : ClassesInRange) (headings : He
             few_classes = omega arith;
             header = λ strict. headers scope strict s.words t.first.0 t.first.1 t.read;
             classes = All-nil (ClassFits (length scope.classes) t.first.0.natives);
+            parents = All-nil (λ c. ParentFits t.first.0.version (length scope.classes) c.kind c.parent);
             servers = omega arith;
+            overs = λ strict. All-nil (λ m. OverFits t.first.0.version (length scope.methods) m.over);
             methods = λ strict. All-nil (MethodFits (length scope.classes) (length scope.methods));
           };
         };
@@ -361,11 +377,17 @@ module _ (headers : HeadersInRange) (classes_in : ClassesInRange) (headings : He
       let classes : ClassesFit q.header.natives q.classes = record { count = parts.done.few_classes; each = subst (λ n. All (ClassFits n q.header.natives) q.classes) class_count parts.done.classes; servers = parts.done.servers } in
       let each : All (MethodFits (length q.classes) (length q.methods)) q.methods = subst (λ n. All (MethodFits n (length q.methods)) q.methods) class_count (subst (λ n. All (MethodFits (length scope.classes) n) q.methods) method_count (parts.done.methods strict)) in
       let methods : MethodsFit (length q.classes) q.methods = record { some = at.some; count = omega arith; each = each } in
+      let v = q.header.version in
+      let families : FamiliesFit v q.classes q.methods = record {
+        parents = subst (λ n. All (λ c. ParentFits v n c.kind c.parent) q.classes) class_count parts.done.parents;
+        overs = subst (λ n. All (λ m. OverFits v n m.over) q.methods) method_count (parts.done.overs strict);
+      } in
       record {
         header = subst (λ n. HeaderFits n q.header) class_count (parts.done.header strict);
         classes = classes;
         methods = methods;
-        size = omega arith;
+        families = families;
+        size = omega (arith, class_sizes v q.classes);
       }
 
 -- ---- a whole text

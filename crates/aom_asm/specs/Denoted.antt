@@ -6,7 +6,7 @@ use Rattle.aom_text.specs.declared.fault.AsmFault.{AsmFault}
 use Rattle.aom_text.specs.declared.fault.AsmFaultKind.{AsmFaultKind}
 use Rattle.aom_text.specs.declared.fault.AsmFaultKind.TheVariants.{BadShape, LimitPassed, OutOfMemory}
 use Rattle.aom_image.specs.Image.{Image}
-use Rattle.aom_image.specs.WellFormed.{is_server}
+use Rattle.aom_image.specs.WellFormed.{family_bytes, is_server}
 use Rattle.aom_image.specs.declared.class.ClassDecl.{ClassDecl}
 use Rattle.aom_image.specs.declared.method.Method.{Method}
 use Rattle.aom_syntax.specs.Reading.{◌>>=◌, took, any_keyword, nothing_more}
@@ -66,14 +66,14 @@ opened scope ws = image_statement scope ws >>= λ h. Ok (record { header = h.0; 
 abbrev pub with_class : Scope → Program → List (List ℕ) → Result Program AsmFaultKind
 with_class scope p ws =
     if nat_lt (length p.classes) 256 then
-    (class_statement scope p.header.natives (length p.classes) (count_by is_server p.classes) ws >>= λ c. grown 28 p.size >>= λ size. Ok (record p { classes = p.classes ++ c.0 ∷ []; size = size }))
+    (class_statement scope p.header.version p.header.natives (length p.classes) (count_by is_server p.classes) ws >>= λ c. grown (28 + family_bytes p.header.version) p.size >>= λ size. Ok (record p { classes = p.classes ++ c.0 ∷ []; size = size }))
     else Err LimitPassed
 
 -- the beginning of a method, before these statements
 abbrev pub with_heading : Scope → List Statement → Program → List (List ℕ) → Result Program AsmFaultKind
 with_heading scope rest p ws =
     if nat_lt (length p.methods) 1024 then
-    (heading scope (length p.methods) ws >>= λ h. grown 24 p.size >>= λ size. Ok (record p { body = Some (record { heading = h.0; labels = labels_of [] rest; code = [] }); size = size }))
+    (heading scope p.header.version (length p.methods) ws >>= λ h. grown (24 + family_bytes p.header.version) p.size >>= λ size. Ok (record p { body = Some (record { heading = h.0; labels = labels_of [] rest; code = [] }); size = size }))
     else Err LimitPassed
 
 -- a class or the beginning of a method

@@ -37,7 +37,7 @@ impl<'a> Model for Program<'a> {
 }
 
 fn grown(bytes: usize, size: usize) -> Result<usize, AsmFaultKind>
-    requires bytes { bytes ≤ 28 }
+    requires bytes { bytes ≤ 32 }
     requires size { size ≤ 2 ^ 20 }
     ensures read { result ≡ grown bytes size }
     ensures within { IfOk result (λ n. n ≤ 2 ^ 20) }
@@ -90,10 +90,11 @@ impl<'a> Program<'a> {
             return Err(AsmFaultKind::LimitPassed);
         }
         let servers = self.servers();
+        let version = self.header.version;
         let natives = self.header.natives;
-        let class = reader.class_statement(alloc, scope, natives, place, servers)?;
+        let class = reader.class_statement(alloc, scope, version, natives, place, servers)?;
         self.keep_class(class)?;
-        self.size = grown(28, self.size)?;
+        self.size = grown(28 + version.family_bytes(), self.size)?;
         Ok(())
     }
 
@@ -119,9 +120,10 @@ impl<'a> Program<'a> {
             return Err(AsmFaultKind::LimitPassed);
         }
         let labels = labels_of(alloc, text.again())?;
-        let heading = reader.heading(alloc, scope, place)?;
+        let version = self.header.version;
+        let heading = reader.heading(alloc, scope, version, place)?;
         self.hold(Body::open(alloc, heading, labels));
-        self.size = grown(24, self.size)?;
+        self.size = grown(24 + version.family_bytes(), self.size)?;
         Ok(())
     }
 
