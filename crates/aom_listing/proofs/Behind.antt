@@ -36,15 +36,17 @@ promise_behind byte a b c d e f g ws text t1 t2 t3 t4 t5 new (Ok x) i1 i2 i3 i4 
     i6 ∙ one_behind byte t4 t5 g ws i5 ∙ one_behind byte t3 t4 f (g ∷ ws) i4 ∙ one_behind byte t2 t3 e (f ∷ g ∷ ws) i3
     ∙ parts_behind byte t1 t2 (c ∷ d ∷ []) (e ∷ f ∷ g ∷ ws) i2 ∙ parts_behind byte text t1 (a ∷ b ∷ []) (c ∷ d ∷ e ∷ f ∷ g ∷ ws) i1
 
--- parts with that byte between them, three lists of parts behind them, and the end of the line
-pub line_behind : {X E : Type 0} (byte : ℕ) (end first : List ℕ) (vs ws xs ys : List (List ℕ)) (text t1 t2 t3 t4 new : List ℕ) (r : Result X E)
-    → t1 ≡ text ++ parted_by byte (first ∷ vs) → t2 ≡ t1 ++ behind byte ws → t3 ≡ t2 ++ behind byte xs → t4 ≡ t3 ++ behind byte ys → OnOk r (new ≡ t4 ++ end)
-    → OnOk r (new ≡ text ++ (parted_by byte (first ∷ (vs ++ ((ws ++ xs) ++ ys))) ++ end))
-line_behind byte end first vs ws xs ys text t1 t2 t3 t4 new (Err x) i1 i2 i3 i4 i5 = tt
-line_behind byte end first vs ws xs ys text t1 t2 t3 t4 new (Ok x) i1 i2 i3 i4 i5 =
-    let all = i4 ∙ parts_behind byte t1 t3 (ws ++ xs) ys (i3 ∙ parts_behind byte t1 t2 ws xs i2) ∙ ap (λ t. t ++ behind byte ((ws ++ xs) ++ ys)) i1
-    ∙ append_assoc text (first ++ behind byte vs) (behind byte ((ws ++ xs) ++ ys)) ∙ ap (λ t. text ++ t) (more_behind byte first vs ((ws ++ xs) ++ ys)) in
-    i5 ∙ ap (λ t. t ++ end) all ∙ append_assoc text (first ++ behind byte (vs ++ ((ws ++ xs) ++ ys))) end
+-- parts with that byte between them, four lists of parts behind them, and the end of the line
+pub line_behind : {X E : Type 0} (byte : ℕ) (end first : List ℕ) (vs ws xs ys zs : List (List ℕ)) (text t1 t2 t3 t4 t5 new : List ℕ) (r : Result X E)
+    → t1 ≡ text ++ parted_by byte (first ∷ vs) → t2 ≡ t1 ++ behind byte ws → t3 ≡ t2 ++ behind byte xs → t4 ≡ t3 ++ behind byte ys → t5 ≡ t4 ++ behind byte zs → OnOk r (new ≡ t5 ++ end)
+    → OnOk r (new ≡ text ++ (parted_by byte (first ∷ (vs ++ (ws ++ (xs ++ (ys ++ zs))))) ++ end))
+line_behind byte end first vs ws xs ys zs text t1 t2 t3 t4 t5 new (Err x) i1 i2 i3 i4 i5 i6 = tt
+line_behind byte end first vs ws xs ys zs text t1 t2 t3 t4 t5 new (Ok x) i1 i2 i3 i4 i5 i6 =
+    let parts = ws ++ (xs ++ (ys ++ zs)) in
+    let rest = parts_behind byte t1 t2 ws (xs ++ (ys ++ zs)) i2 in
+    let all = i5 ∙ parts_behind byte t3 t4 ys zs i4 ∙ parts_behind byte t2 t3 xs (ys ++ zs) i3 ∙ rest ∙ ap (λ t. t ++ behind byte parts) i1
+    ∙ append_assoc text (first ++ behind byte vs) (behind byte parts) ∙ ap (λ t. text ++ t) (more_behind byte first vs parts) in
+    i6 ∙ ap (λ t. t ++ end) all ∙ append_assoc text (first ++ behind byte (vs ++ parts)) end
 
 -- a line, further lines, and one more
 pub lines_behind : {X E : Type 0} (first last : List (List ℕ)) (lines : List (List (List ℕ))) (text t1 t2 new : List ℕ) (r : Result X E)

@@ -14,6 +14,8 @@ use Rattle.aom_image.specs.declared.class.ClassKind.TheVariants as kinds
 use Rattle.aom_image.specs.declared.class.Provider.{Provider}
 use Rattle.aom_image.specs.declared.class.Provider.TheVariants as providers
 use Rattle.aom_image.specs.declared.image.Header.{Header}
+use Rattle.aom_image.specs.declared.image.Version.{Version}
+use Rattle.aom_image.specs.declared.image.Version.TheVariants as versions
 use Rattle.aom_instructions.specs.declared.instr.Instr.{Instr}
 use Rattle.aom_instructions.specs.declared.instr.Target.{Target}
 use Rattle.aom_instructions.specs.declared.instr.Target.TheVariants as targets
@@ -26,6 +28,7 @@ use Rattle.aom_image.specs.declared.method.Thing.{Thing}
 use Rattle.aom_image.specs.declared.method.Thing.TheVariants as owned
 use Rattle.aom_text.specs.Text.{has_words}
 use Rattle.aom_text.specs.Words.{has_bytes}
+use Rattle.aom_syntax.specs.Keywords.{keyword_text}
 use Rattle.aom_syntax.specs.declared.keyword.Keyword.{Keyword}
 use Rattle.aom_syntax.specs.declared.keyword.Keyword.TheVariants as k
 use Rattle.aom_instructions.specs.Parts.{mnemonic, operands}
@@ -38,11 +41,11 @@ use Rattle.aom_instructions.specs.declared.operand.Operands.{Operands}
 use Rattle.aom_instructions.specs.declared.operand.Small.{Small}
 use Rattle.aom_instructions.specs.declared.operand.Small.TheVariants as small
 use Rattle.aom_listing.specs.Classes.{budget_words, class_words, field_words, kind_words, provider_words, thing_word}
-use Rattle.aom_listing.specs.Headers.{header_words}
+use Rattle.aom_listing.specs.Headers.{header_words, limit_words, version_words}
 use Rattle.aom_listing.specs.Jumps.{is_target}
 use Rattle.aom_listing.specs.Listing.{end_words, instr_words, label_words, listing, method_statements, placed}
 use Rattle.aom_listing.specs.Methods.{argument_word, flag_words, gives_words, heading_words, promise_words, role_keyword, states_word, word_where}
-use Rattle.aom_listing.specs.Operands.{class_after, label_name, target_word}
+use Rattle.aom_listing.specs.Operands.{class_after, label_name, method_after, target_word}
 use Rattle.aom_listing.specs.Text.{list_word}
 use Rattle.aom_listing.specs.Words.{in_text, large_words, small_words, words_statement}
 use Rattle.aom_listing.proofs.PlainWords.{AreWords, IsWord, decimal_is_word, is_word_byte, keyword_is_word, list_is_word, map_words, mnemonic_is_word, name_is_word, signed_is_word, words_append}
@@ -113,26 +116,25 @@ class_after_are_words : (key : Keyword) (class : Option ℕ) → AreWords (class
 class_after_are_words key None = tt
 class_after_are_words key (Some c) = (keyword_is_word key, (name_is_word 99 c refl, tt))
 
+method_after_are_words : (key : Keyword) (over : Option ℕ) → AreWords (method_after key over)
+method_after_are_words key None = tt
+method_after_are_words key (Some m) = (keyword_is_word key, (name_is_word 109 m refl, tt))
+
+version_are_words : (version : Version) → AreWords (version_words version)
+version_are_words versions.One = tt
+version_are_words versions.Two = (keyword_is_word k.Version, (decimal_is_word 2, tt))
+
+limits_are_words : (h : Header) → AreWords (limit_words h)
+limits_are_words h =
+    (keyword_is_word k.Cells, (decimal_is_word h.cells, (keyword_is_word k.Messages, (decimal_is_word h.messages, (keyword_is_word k.Natives, (decimal_is_word h.natives, tt))))))
+
 header_is_stated : (h : Header) → IsStated (header_words h)
-header_is_stated h = record {
-  some = refl;
-  words = (
-    keyword_is_word k.Image,
-    (
-      keyword_is_word k.Cells,
-      (
-        decimal_is_word h.cells,
-        (
-          keyword_is_word k.Messages,
-          (
-            decimal_is_word h.messages,
-            (keyword_is_word k.Natives, (decimal_is_word h.natives, (keyword_is_word k.Budget, (decimal_is_word h.budget, class_after_are_words k.Root h.root)))),
-          ),
-        ),
-      ),
-    ),
-  );
-}
+header_is_stated h =
+    let end : List (List ℕ) = keyword_text k.Budget ∷ decimal h.budget ∷ class_after k.Root h.root in
+    let budget : AreWords end = (keyword_is_word k.Budget, (decimal_is_word h.budget, class_after_are_words k.Root h.root)) in
+    let limits : AreWords (limit_words h ++ end) = words_append (limit_words h) end (limits_are_words h) budget in
+    let rest = words_append (version_words h.version) (limit_words h ++ end) (version_are_words h.version) limits in
+    record { some = refl; words = (keyword_is_word k.Image, rest) }
 
 thing_is_word : (t : Thing) → IsWord (thing_word t)
 thing_is_word (owned.Object c) = name_is_word 99 c refl
@@ -158,10 +160,8 @@ fields_are_words c = (keyword_is_word k.Words, (decimal_is_word c.words, (keywor
 
 class_is_stated : (place : ℕ) (c : ClassDecl) → IsStated (class_words place c)
 class_is_stated place c =
-    let front : AreWords (kind_words c.kind ++ field_words c) = words_append (kind_words c.kind) (field_words c) (kind_are_words c.kind) (fields_are_words c) in
-    let budget = budget_words (is_dispatched c.kind) c.budget in
-    let rest : AreWords (kind_words c.kind ++ field_words c ++ budget) =
-    words_append (kind_words c.kind ++ field_words c) budget front (budget_are_words (is_dispatched c.kind) c.budget) in
+    let fields = words_append (field_words c) _ (fields_are_words c) (budget_are_words (is_dispatched c.kind) c.budget) in
+    let rest = words_append (kind_words c.kind) _ (kind_are_words c.kind) (words_append (class_after k.From c.parent) _ (class_after_are_words k.From c.parent) fields) in
     record { some = refl; words = (keyword_is_word k.Class, (name_is_word 99 place refl, rest)) }
 
 classes_are_stated : (place : ℕ) (cs : List ClassDecl) → AreStated (placed class_words place cs)
@@ -206,10 +206,9 @@ promise_are_words method before after =
 
 heading_is_stated : (place : ℕ) (method : Method) → method.before.0 < 64 → method.after.0 < 64 → IsStated (heading_words place method)
 heading_is_stated place method before after =
-    let front : AreWords (class_after k.Of method.class ++ flag_words method.flags.0) = words_append (class_after k.Of method.class) (flag_words method.flags.0) (class_after_are_words k.Of method.class) (flags_are_words method.flags.0) in
-    let rest : AreWords (class_after k.Of method.class ++ flag_words method.flags.0 ++ promise_words method) =
-    words_append (class_after k.Of method.class ++ flag_words method.flags.0) (promise_words method) front (promise_are_words method before after)
-    in
+    let promise = words_append (flag_words method.flags.0) _ (flags_are_words method.flags.0) (promise_are_words method before after) in
+    let over = words_append (method_after k.Over method.over) _ (method_after_are_words k.Over method.over) promise in
+    let rest = words_append (class_after k.Of method.class) _ (class_after_are_words k.Of method.class) over in
     record { some = refl; words = (keyword_is_word k.Method, (name_is_word 109 place refl, (keyword_is_word (role_keyword method.role), rest))) }
 
 method_is_stated : (place : ℕ) (method : Method) → method.before.0 < 64 → method.after.0 < 64 → AreStated (method_statements place method)

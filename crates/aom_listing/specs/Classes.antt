@@ -10,7 +10,7 @@ use Rattle.aom_image.specs.declared.method.Thing.{Thing}
 use Rattle.aom_image.specs.declared.method.Thing.TheVariants as owned
 use Rattle.aom_syntax.specs.Keywords.{keyword_text}
 use Rattle.aom_syntax.specs.declared.keyword.Keyword.TheVariants as k
-use Rattle.aom_listing.specs.Operands.{class_name}
+use Rattle.aom_listing.specs.Operands.{class_after, class_name}
 use Rattle.aom_listing.specs.Text.{list_word}
 
 -- what may be owned
@@ -42,4 +42,4 @@ field_words c = keyword_text k.Words ∷ decimal c.words ∷ keyword_text k.Own 
 
 -- a class, at its place among the classes
 abbrev pub class_words : ℕ → ClassDecl → List (List ℕ)
-class_words place c = keyword_text k.Class ∷ class_name place ∷ (kind_words c.kind ++ field_words c ++ budget_words (is_dispatched c.kind) c.budget)
+class_words place c = keyword_text k.Class ∷ class_name place ∷ (kind_words c.kind ++ (class_after k.From c.parent ++ (field_words c ++ budget_words (is_dispatched c.kind) c.budget)))

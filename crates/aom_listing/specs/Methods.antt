@@ -12,7 +12,7 @@ use Rattle.aom_syntax.specs.Keywords.{keyword_text}
 use Rattle.aom_syntax.specs.declared.keyword.Keyword.{Keyword}
 use Rattle.aom_syntax.specs.declared.keyword.Keyword.TheVariants as k
 use Rattle.aom_listing.specs.Classes.{thing_word}
-use Rattle.aom_listing.specs.Operands.{class_after, class_name, method_name}
+use Rattle.aom_listing.specs.Operands.{class_after, class_name, method_after, method_name}
 use Rattle.aom_listing.specs.Text.{list_word}
 
 -- what each role is called
@@ -81,4 +81,4 @@ promise_words m =
 
 -- a method, at its place among the methods
 abbrev pub heading_words : ℕ → Method → List (List ℕ)
-heading_words place m = keyword_text k.Method ∷ method_name place ∷ keyword_text (role_keyword m.role) ∷ (class_after k.Of m.class ++ flag_words m.flags.0 ++ promise_words m)
+heading_words place m = keyword_text k.Method ∷ method_name place ∷ keyword_text (role_keyword m.role) ∷ (class_after k.Of m.class ++ (method_after k.Over m.over ++ (flag_words m.flags.0 ++ promise_words m)))

@@ -19,6 +19,11 @@ abbrev pub class_after : Keyword → Option ℕ → List (List ℕ)
 class_after key None = []
 class_after key (Some c) = keyword_text key ∷ class_name c ∷ []
 
+-- the same of a method
+abbrev pub method_after : Keyword → Option ℕ → List (List ℕ)
+method_after key None = []
+method_after key (Some m) = keyword_text key ∷ method_name m ∷ []
+
 -- the label of a place
 abbrev pub label_name : ℕ → List ℕ
 label_name place = 76 ∷ decimal place

@@ -72,6 +72,7 @@ impl Writer {
         self.first(Keyword::Class)?;
         self.name(b'c', place)?;
         self.kind(class.kind)?;
+        self.class_after(Keyword::From, class.parent)?;
         self.fields(class)?;
         self.budget(class)?;
         self.end_line()

@@ -1,11 +1,11 @@
 //! The statement that opens a listing.
 ghost use Rattle.std.specs.Prelude.{◌≡◌, [], ◌∷◌, ◌++◌, OnOk, decimal};
 ghost use Rattle.aom_syntax.specs.Keywords.{keyword_text};
-ghost use Rattle.aom_listing.specs.Headers.{limit_words, header_words};
+ghost use Rattle.aom_listing.specs.Headers.{version_words, limit_words, header_words};
 ghost use Rattle.aom_listing.specs.Text.{behind, line_of};
 
 use crate::writer::Writer;
-use aom_image::Header;
+use aom_image::{Header, Version};
 use aom_syntax::Keyword;
 use std::alloc::AllocError;
 
@@ -16,6 +16,16 @@ impl Writer {
     {
         self.keyword(keyword)?;
         self.number(number)
+    }
+
+    /// The version, where it is the second.
+    fn version(&mut self, version: Version) -> Result<(), AllocError>
+        ensures { OnOk result (self.new ≡ self.old ++ behind 32 (version_words version)) }
+    {
+        match version {
+            Version::One => Ok(()),
+            Version::Two => self.counted(Keyword::Version, 2),
+        }
     }
 
     fn limits(&mut self, header: &Header) -> Result<(), AllocError>
@@ -30,6 +40,7 @@ impl Writer {
         ensures { OnOk result (self.new ≡ self.old ++ line_of (header_words header.now)) }
     {
         self.first(Keyword::Image)?;
+        self.version(header.version)?;
         self.limits(header)?;
         self.counted(Keyword::Budget, header.budget)?;
         self.class_after(Keyword::Root, header.root)?;

@@ -149,6 +149,7 @@ impl Writer {
     {
         self.name_and_role(place, method.role)?;
         self.class_after(Keyword::Of, method.class)?;
+        self.method_after(Keyword::Over, method.over)?;
         self.flags(method.flags)?;
         self.promise(method)?;
         self.end_line()

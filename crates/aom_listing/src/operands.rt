@@ -1,10 +1,10 @@
 //! Names, and the operands of instructions.
 ghost use Rattle.std.specs.Prelude.{◌≡◌, ◌∷◌, ◌++◌, OnOk};
-ghost use Rattle.aom_listing.specs.Operands.{class_after, class_name, register_word, field_word, target_word};
+ghost use Rattle.aom_listing.specs.Operands.{class_after, class_name, method_after, register_word, field_word, target_word};
 ghost use Rattle.aom_listing.specs.Text.{behind};
 
 use crate::writer::Writer;
-use aom_image::{ClassNumber, FieldIndex, Register, Target};
+use aom_image::{ClassNumber, FieldIndex, MethodNumber, Register, Target};
 use aom_syntax::Keyword;
 use std::alloc::AllocError;
 
@@ -28,6 +28,23 @@ impl Writer {
             Some(class) => {
                 self.keyword(keyword)?;
                 self.class_name(class)
+            }
+        }
+    }
+
+    /// A keyword and the name of a method behind it, where there is one.
+    pub fn method_after(
+        &mut self,
+        keyword: Keyword,
+        method: Option<MethodNumber>,
+    ) -> Result<(), AllocError>
+        ensures { OnOk result (self.new ≡ self.old ++ behind 32 (method_after keyword method)) }
+    {
+        match method {
+            None => Ok(()),
+            Some(method) => {
+                self.keyword(keyword)?;
+                self.name(b'm', u32::from(method.number()))
             }
         }
     }
