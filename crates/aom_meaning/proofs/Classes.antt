@@ -1,14 +1,16 @@
 -- The statement of a class is read where its words mean a class, and as that class.
 use Rattle.std.proofs.Common.{◌≡◌, ℕ, ◌<◌, Bool, true, false, not, List, [], ◌∷◌, ◌++◌, Option, Some, None, Ok, refl, sym, ap, subst, ◌∙◌, nat_lt}
 use Rattle.std.specs.Prelude.{if◌then◌else◌}
-use Rattle.std.proofs.lemmas.Bool.{lt-ltb, ltb-true}
-use Rattle.aom_text.specs.declared.fault.AsmFaultKind.TheVariants.{LimitPassed}
-use Rattle.aom_image.specs.WellFormed.{is_dispatched, is_server, is_server_kind}
+use Rattle.std.proofs.lemmas.Bool.{false≢true, lt-ltb, ltb-true}
+use Rattle.aom_text.specs.declared.fault.AsmFaultKind.TheVariants.{BadShape, LimitPassed}
+use Rattle.aom_image.specs.WellFormed.{is_dispatched, is_server, is_server_kind, may_descend}
+use Rattle.aom_image.specs.declared.image.Version.{Version}
+use Rattle.aom_image.specs.declared.image.Version.TheVariants as versions
 use Rattle.aom_image.specs.declared.class.ClassDecl.{ClassDecl}
 use Rattle.aom_image.specs.declared.class.ClassKind.{ClassKind}
 use Rattle.aom_image.specs.declared.class.Provider.{Provider}
 use Rattle.aom_image.specs.declared.method.Thing.{Thing}
-use Rattle.aom_syntax.specs.Classes.{budget, class_statement, declared, fields, flag, kind, listed, provider, said_budget, server, thing_of}
+use Rattle.aom_syntax.specs.Classes.{budget, class_statement, declared, fields, flag, kind, listed, optional_parent, provider, said_budget, said_parent, server, thing_of}
 use Rattle.aom_syntax.specs.Keywords.{keyword_text}
 use Rattle.aom_syntax.specs.Names.{place_of}
 use Rattle.aom_syntax.specs.Operands.{class}
@@ -16,10 +18,10 @@ use Rattle.aom_syntax.specs.Reading.{Reading, any_keyword, failing, giving, keyw
 use Rattle.aom_syntax.specs.declared.keyword.Keyword.{Keyword}
 use Rattle.aom_syntax.specs.declared.scope.Scope.{Scope}
 use Rattle.aom_asm.proofs.Counting.{begins_with}
-use Rattle.aom_meaning.proofs.Readings.{Takes, Whole, done, first, first_two, gives, in_turn, last, made, takes_any_keyword, takes_keyword, takes_flag, settle}
-use Rattle.aom_meaning.specs.Meaning.{BudgetMeans, ClassMeans, IsBudget, IsList, IsNumber, IsThing, KindMeans, Names, ProviderMeans, SaidOr}
+use Rattle.aom_meaning.proofs.Readings.{Takes, Whole, done, first, first_two, gives, in_turn, last, made, takes_any_keyword, takes_keyword, takes_flag, took_same}
+use Rattle.aom_meaning.specs.Meaning.{BudgetMeans, ClassMeans, IsBudget, IsList, IsNumber, IsThing, KindMeans, Names, ParentMeans, ProviderMeans, SaidOr}
 use Rattle.aom_meaning.specs.Source.{ClassText, KindText, ProviderText, class_words, kind_words, part, provider_words}
-use Rattle.aom_meaning.proofs.Pieces.{NotNext, none_left, not_part, reads_part, saw, saw_keyword, saw_part, saw_used, takes_seen, then_reads, Part, not_last}
+use Rattle.aom_meaning.proofs.Pieces.{Leaves, NotNext, Part, Took, is_not, is_there, none_left, not_last, not_part, reads_part, saw, saw_keyword, saw_part, saw_used, take_it, takes_seen, then_reads}
 use Rattle.aom_meaning.proofs.Declared.{reads_mark, saw_declared, saw_mark, takes_declared}
 use Rattle.aom_meaning.proofs.Headers.{number_reads}
 use Rattle.aom_meaning.proofs.Sound.{Sound, giving_sound, next_sound}
@@ -101,6 +103,39 @@ module _ (names : Names) (kinds_before : List ClassDecl) (natives servers : ℕ)
   kind_sound k.Server vs = if_few (nat_lt servers 8) vs
   kind_sound key vs = record { each = λ p rest is. cc }
 
+  -- a parent, where one is said
+  record ParentSays (version : Version) (kind : ClassKind) (ws : List (List ℕ)) (parent : Option ℕ) (rest : List (List ℕ)) : Type 0 where
+    said : Option (List ℕ)
+    words : ws ≡ part k.From said ++ rest
+    says : ParentMeans names version kind said parent
+
+  abbrev found_parent : Option ℕ → List (List ℕ) → Option ℕ × List (List ℕ)
+  found_parent parent ws = (parent, ws)
+
+  named_sound : (kind : ClassKind) (ws vs : List (List ℕ)) → ws ≡ keyword_text k.From ∷ vs → (b : Bool) → may_descend kind ≡ b
+      → Sound (if b then next (class (told names kinds_before)) (λ c. giving (Some c)) else failing BadShape) vs (λ parent rest. ParentSays versions.Two kind ws parent rest)
+  named_sound kind ws vs words true may =
+      let Q = λ (parent : Option ℕ) (rest : List (List ℕ)). ParentSays versions.Two kind ws parent rest in
+      next_sound Q (class (told names kinds_before)) _ vs (λ c us read.
+      let s = saw_used names.classes 256 vs c us read in
+      giving_sound Q (Some c) us (record { said = Some s.w; words = words ∙ ap (λ v. keyword_text k.From ∷ v) s.words; says = (refl, may, s.numbered) }))
+  named_sound kind ws vs words false may = record { each = λ p rest is. cc }
+
+  said_parent_sound : (version : Version) (kind : ClassKind) (ws vs : List (List ℕ)) → ws ≡ keyword_text k.From ∷ vs
+      → Sound (said_parent (told names kinds_before) version kind) vs (λ parent rest. ParentSays version kind ws parent rest)
+  said_parent_sound versions.One kind ws vs words = record { each = λ p rest is. cc }
+  said_parent_sound versions.Two kind ws vs words = named_sound kind ws vs words (may_descend kind) refl
+
+  parent_says : (version : Version) (kind : ClassKind) (ws : List (List ℕ)) (parent : Option ℕ) (rest : List (List ℕ)) → optional_parent (told names kinds_before) version kind ws ≡ Ok (parent, rest)
+      → ParentSays version kind ws parent rest
+  parent_says version kind ws parent rest is = go (take_it k.From ws)
+    where
+      go : Took k.From ws → ParentSays version kind ws parent rest
+      go (is_there vs words there) = (said_parent_sound version kind ws vs words).each parent rest (sym (ap (λ p. if p.0 then said_parent (told names kinds_before) version kind p.1 else Ok (None, p.1)) there) ∙ is)
+      go (is_not there) =
+          let same = ok_is (found_parent None ws) (parent, rest) (sym (ap (λ p. if p.0 then said_parent (told names kinds_before) version kind p.1 else Ok (None, p.1)) there) ∙ is) in
+          record { said = None; words = ap (λ p. p.1) same; says = subst (ParentMeans names version kind None) (ap (λ p. p.0) same) tt }
+
   record BudgetSays (dispatched : Bool) (ws : List (List ℕ)) (n : ℕ) : Type 0 where
     said : Option (List ℕ)
     words : ws ≡ part k.Budget said
@@ -140,36 +175,38 @@ module _ (names : Names) (kinds_before : List ClassDecl) (natives servers : ℕ)
       }
 
   -- the words of a class behind its keyword, and what they mean at its place
-  pub record ClassSays (place : ℕ) (ws : List (List ℕ)) (c : ClassDecl) : Type 0 where
+  pub record ClassSays (version : Version) (place : ℕ) (ws : List (List ℕ)) (c : ClassDecl) : Type 0 where
     pub said : ClassText
     pub words : keyword_text k.Class ∷ ws ≡ class_words said
-    pub means : ClassMeans names natives said c
+    pub means : ClassMeans names version natives said c
     pub placed : place_of said.name names.classes ≡ Some place
 
-  pub class_sound : (place : ℕ) (ws : List (List ℕ)) → Sound (class_statement (told names kinds_before) natives place servers) ws (λ c rest. ClassSays place ws c)
-  class_sound place ws =
-      let Q = λ (c : ClassDecl) (rest : List (List ℕ)). ClassSays place ws c in
+  pub class_sound : (version : Version) (place : ℕ) (ws : List (List ℕ)) → Sound (class_statement (told names kinds_before) version natives place servers) ws (λ c rest. ClassSays version place ws c)
+  class_sound version place ws =
+      let Q = λ (c : ClassDecl) (rest : List (List ℕ)). ClassSays version place ws c in
       let scope = told names kinds_before in
       next_sound Q (declared place names.classes) _ ws (λ u v1 r1.
       next_sound Q any_keyword _ v1 (λ key v2 r2.
       next_sound Q (kind scope natives servers key) _ v2 (λ K v3 r3.
-      next_sound Q (optional_number k.Words 8) _ v3 (λ words v4 r4.
+      next_sound Q (optional_parent scope version K) _ v3 (λ parent v3b r3b.
+      next_sound Q (optional_number k.Words 8) _ v3b (λ words v4 r4.
       next_sound Q (flag k.Own) _ v4 (λ owns v5 r5.
       next_sound Q (fields scope owns) _ v5 (λ list v6 r6.
       next_sound Q (budget owns (is_dispatched K)) _ v6 (λ most v7 r7.
       let d = saw_declared names.classes place ws u v1 r1 in
       let e = begins_with v1 key v2 r2 in
       let s = (kind_sound key v2).each K v3 r3 in
-      let n = saw_part k.Words (number_in 0 8) (IsNumber 0 8) 0 (λ w n is. is) v3 words v4 r4 in
+      let p = parent_says version K v3 parent v3b r3b in
+      let n = saw_part k.Words (number_in 0 8) (IsNumber 0 8) 0 (λ w n is. is) v3b words v4 r4 in
       let o = owns_says owns v4 v5 list v6 r5 r6 in
       let b = (budget_sound owns (is_dispatched K) v6).each most v7 r7 in
       giving_sound Q _ v7 (record {
-        said = record { name = d.w; kind = s.said; words = n.said; own = o.said; budget = b.said };
+        said = record { name = d.w; kind = s.said; parent = p.said; words = n.said; own = o.said; budget = b.said };
         words = ap (λ v. keyword_text k.Class ∷ v) (d.words ∙ ap (λ v. d.w ∷ v) (e ∙ s.words ∙ ap (λ v. kind_words s.said ++ v)
-            (n.words ∙ ap (λ v. part k.Words n.said ++ v) (o.words ∙ ap (λ v. part k.Own o.said ++ v) b.words))));
-        means = record { name = d.is_name; kind = s.means; parent = refl; words = n.says; own = o.says; budget = b.means };
+            (p.words ∙ ap (λ v. part k.From p.said ++ v) (n.words ∙ ap (λ v. part k.Words n.said ++ v) (o.words ∙ ap (λ v. part k.Own o.said ++ v) b.words)))));
+        means = record { name = d.is_name; kind = s.means; parent = p.says; words = n.says; own = o.says; budget = b.means };
         placed = d.placed;
-      }))))))))
+      })))))))))
 
 -- ---- what is read
 
@@ -213,20 +250,39 @@ module _ {names : Names} {scope : Scope} (looks : LooksUp names scope) where
     budget_reads dispatched said n means owns = absurd means
 
     -- what stands behind the kind
-    abbrev rest_of_fields : ClassKind → ℕ → Bool → List Thing → Reading ClassDecl
-    rest_of_fields K words owns list = next (budget owns (is_dispatched K)) (λ n. giving (record { kind = K; parent = None; words = words; fields = list; budget = n }))
+    abbrev rest_of_fields : ClassKind → Option ℕ → ℕ → Bool → List Thing → Reading ClassDecl
+    rest_of_fields K parent words owns list = next (budget owns (is_dispatched K)) (λ n. giving (record { kind = K; parent = parent; words = words; fields = list; budget = n }))
 
-    abbrev rest_of_class : ClassKind → Reading ClassDecl
-    rest_of_class K = next (optional_number k.Words 8) (λ words. next (flag k.Own) (λ owns. next (fields scope owns) (rest_of_fields K words owns)))
+    abbrev rest_of_class : ClassKind → Option ℕ → Reading ClassDecl
+    rest_of_class K parent = next (optional_number k.Words 8) (λ words. next (flag k.Own) (λ owns. next (fields scope owns) (rest_of_fields K parent words owns)))
+
+    abbrev behind_kind : Version → ClassKind → Reading ClassDecl
+    behind_kind version K = next (optional_parent scope version K) (rest_of_class K)
+
+    said_parent_reads : (version : Version) (K : ClassKind) (w : List ℕ) (c : ℕ) → ParentMeans names version K (Some w) (Some c) → (ws : List (List ℕ)) → said_parent scope version K (w ∷ ws) ≡ Ok (Some c, ws)
+    said_parent_reads versions.One K w c means ws = absurd (false≢true means.0)
+    said_parent_reads versions.Two K w c means ws =
+        ap (λ b. (if b then next (class scope) (λ c. giving (Some c)) else failing BadShape) (w ∷ ws)) means.1 ∙ (in_turn _ (takes_class looks w c means.2) (gives (Some c))).reads ws
+
+    parent_reads : (version : Version) (K : ClassKind) (said : Option (List ℕ)) (parent : Option ℕ) (ws : List (List ℕ)) → ParentMeans names version K said parent → NotNext k.From ws
+        → Leaves (optional_parent scope version K) (part k.From said ++ ws) parent ws
+    parent_reads version K None None ws means other = record { reads = ap (λ p. if p.0 then said_parent scope version K p.1 else Ok (None, p.1)) other.left }
+    parent_reads version K (Some w) (Some c) ws means other = record {
+      reads = ap (λ p. if p.0 then said_parent scope version K p.1 else Ok (None, p.1)) (took_same k.From (w ∷ ws)) ∙ said_parent_reads version K w c means ws;
+    }
+    parent_reads version K said parent ws means other = absurd means
 
     -- what stands behind the keyword
-    pub class_reads : (place : ℕ) (t : ClassText) (c : ClassDecl) → ClassMeans names natives t c → place_of t.name scope.classes ≡ Some place → (is_server c ≡ true → servers < 8)
-        → Whole (class_statement scope natives place servers) (t.name ∷ (kind_words t.kind ++ (part k.Words t.words ++ (part k.Own t.own ++ part k.Budget t.budget)))) c
-    class_reads place t c means placed few =
+    pub class_reads : (version : Version) (place : ℕ) (t : ClassText) (c : ClassDecl) → ClassMeans names version natives t c → place_of t.name scope.classes ≡ Some place → (is_server c ≡ true → servers < 8)
+        → Whole (class_statement scope version natives place servers) (t.name ∷ (kind_words t.kind ++ (part k.From t.parent ++ (part k.Words t.words ++ (part k.Own t.own ++ part k.Budget t.budget))))) c
+    class_reads version place t c means placed few =
         let budget_words = part k.Budget t.budget in
+        let own_words = part k.Own t.own ++ budget_words in
         first _ (takes_declared scope.classes place t.name means.name placed) (
-        first_two any_keyword (kind scope natives servers) rest_of_class (takes_kind t.kind c.kind means.kind few) (
-        then_reads _ (reads_part k.Words (number_in 0 8) (IsNumber 0 8) 0 (number_reads 0 8) t.words c.words (part k.Own t.own ++ budget_words) means.words
+        first_two any_keyword (kind scope natives servers) (behind_kind version) (takes_kind t.kind c.kind means.kind few) (
+        then_reads (rest_of_class c.kind) (parent_reads version c.kind t.parent c.parent (part k.Words t.words ++ own_words) means.parent
+        (not_part k.From k.Words t.words own_words refl (not_part k.From k.Own t.own budget_words refl (not_last k.From k.Budget t.budget refl)))) (
+        then_reads _ (reads_part k.Words (number_in 0 8) (IsNumber 0 8) 0 (number_reads 0 8) t.words c.words own_words means.words
         (not_part k.Words k.Own t.own budget_words refl (not_last k.Words k.Budget t.budget refl))) (
-        own_reads (rest_of_fields c.kind c.words) t.own c.fields budget_words c means.own (not_last k.Own k.Budget t.budget refl) (λ owns.
-        last _ (budget_reads (is_dispatched c.kind) t.budget c.budget means.budget owns) (settle (ap (λ o. record c { parent = o }) (sym means.parent)) (done _))))))
+        own_reads (rest_of_fields c.kind c.parent c.words) t.own c.fields budget_words c means.own (not_last k.Own k.Budget t.budget refl) (λ owns.
+        last _ (budget_reads (is_dispatched c.kind) t.budget c.budget means.budget owns) (done _))))))

@@ -1,31 +1,35 @@
 -- The statement that declares a class reads back.
-use Rattle.std.proofs.Common.{◌≡◌, ℕ, ◌<◌, ◌≤◌, Bool, true, false, [], ◌∷◌, ◌++◌, length, Ok, Err, refl, sym, ap, subst, ◌∙◌, ◌||◌, eqb, eqb-true, append_assoc, arith, None}
+use Rattle.std.proofs.Common.{◌≡◌, ℕ, ◌<◌, ◌≤◌, Bool, true, false, List, [], ◌∷◌, ◌++◌, length, Ok, Err, refl, sym, ap, subst, ◌∙◌, ◌||◌, eqb, eqb-true, arith, Option, None, Some}
 use Rattle.std.specs.Prelude.{◌&&◌, ◌^◌, decimal, if◌then◌else◌, nat_le, not}
-use Rattle.std.proofs.lemmas.Bool.{and_parts, lt-ltb}
+use Rattle.std.proofs.lemmas.Bool.{and_parts, false≢true, lt-ltb}
 use Rattle.aom_text.specs.Names.{has_name_form, is_letter, is_reserved}
 use Rattle.aom_text.specs.Words.{others_of}
 use Rattle.aom_text.specs.declared.fault.AsmFaultKind.TheVariants.{BadShape, LimitPassed}
-use Rattle.aom_image.specs.WellFormed.{ClassFits, KindFits, ProviderFits, ThingFits, is_dispatched, is_server, is_server_kind}
+use Rattle.aom_image.specs.WellFormed.{ClassFits, KindFits, ParentFits, ProviderFits, ThingFits, is_dispatched, is_server, is_server_kind}
 use Rattle.aom_image.specs.declared.class.ClassDecl.{ClassDecl}
 use Rattle.aom_image.specs.declared.class.ClassKind.{ClassKind}
 use Rattle.aom_image.specs.declared.class.ClassKind.TheVariants as kinds
 use Rattle.aom_image.specs.declared.class.Provider.{Provider}
 use Rattle.aom_image.specs.declared.class.Provider.TheVariants as providers
+use Rattle.aom_image.specs.declared.image.Version.{Version}
+use Rattle.aom_image.specs.declared.image.Version.TheVariants as versions
 use Rattle.aom_image.specs.declared.method.Thing.{Thing}
 use Rattle.aom_image.specs.declared.method.Thing.TheVariants as owned
-use Rattle.aom_syntax.specs.Classes.{budget, class_of, class_statement, fields, flag, kind, provider, said_budget, server, thing, thing_of}
+use Rattle.aom_syntax.specs.Classes.{budget, class_of, class_statement, fields, flag, kind, optional_parent, provider, said_budget, said_parent, server, thing, thing_of}
 use Rattle.aom_syntax.specs.Keywords.{keyword_text}
 use Rattle.aom_syntax.specs.Names.{nowhere, place_of, referred}
+use Rattle.aom_syntax.specs.Operands.{class}
 use Rattle.aom_syntax.specs.Reading.{◌>>=◌, Reading, any_keyword, failing, giving, next, optional_number}
 use Rattle.aom_syntax.specs.declared.keyword.Keyword.TheVariants as k
 use Rattle.aom_syntax.specs.declared.scope.Scope.{Scope}
 use Rattle.aom_listing.specs.Classes.{budget_words, class_words, field_words, kind_words, provider_words, thing_word}
-use Rattle.aom_listing.specs.Operands.{class_name}
+use Rattle.aom_listing.specs.Operands.{class_after, class_name}
 use Rattle.aom_meaning.specs.Naming.{HasNames}
+use Rattle.aom_meaning.specs.ReadbackLaws.{ClassesReadBack}
 use Rattle.aom_meaning.proofs.Lists.{Element, plain_form, takes_list}
 use Rattle.aom_meaning.proofs.Names.{lettered, name_lettered}
 use Rattle.aom_meaning.proofs.OperandsBack.{takes_class}
-use Rattle.aom_meaning.proofs.Readings.{Takes, Whole, done, first, first_two, gives, in_turn, last, made, regroup, sees, takes_any_keyword, takes_declared, takes_flag, takes_keyword, takes_number, takes_optional, takes_word, settle}
+use Rattle.aom_meaning.proofs.Readings.{Takes, Whole, done, first, first_two, gives, in_turn, last, made, reads_on, sees, takes_any_keyword, takes_declared, takes_flag, takes_keyword, takes_number, takes_optional, takes_word, took_same}
 
 pub name_form : (letter n : ℕ) → n < 1024 → is_letter letter ≡ true → has_name_form (lettered letter n) ≡ true
 name_form letter n few is =
@@ -50,6 +54,21 @@ module _ {classes methods : ℕ} {scope : Scope} (names : HasNames classes metho
 
   pub takes_thing : (t : Thing) → ThingFits classes t → Takes (thing scope) (thing_word t ∷ []) t
   takes_thing t fits = let element = thing_element t fits in sees _ (takes_word (thing_word t) (plain_form (thing_word t) element.form)) element.reads
+
+  -- ---- parents
+
+  said_reads : (version : Version) (K : ClassKind) (c : ℕ) → ParentFits version classes K (Some c) → (ws : List (List ℕ)) → said_parent scope version K (class_name c ∷ ws) ≡ Ok (Some c, ws)
+  said_reads versions.One K c fits ws = absurd (false≢true fits.0)
+  said_reads versions.Two K c fits ws =
+      ap (λ b. (if b then next (class scope) (λ c. giving (Some c)) else failing BadShape) (class_name c ∷ ws)) fits.1
+      ∙ (in_turn _ (takes_class names c fits.2) (gives (Some c))).reads ws
+
+  -- a parent stands before the word of words
+  parent_before : (version : Version) (K : ClassKind) (parent : Option ℕ) → ParentFits version classes K parent → (ws : List (List ℕ))
+      → optional_parent scope version K (class_after k.From parent ++ keyword_text k.Words ∷ ws) ≡ Ok (parent, keyword_text k.Words ∷ ws)
+  parent_before version K None fits ws = refl
+  parent_before version K (Some c) fits ws =
+      ap (λ p. if p.0 then said_parent scope version K p.1 else Ok (None, p.1)) (took_same k.From (class_name c ∷ keyword_text k.Words ∷ ws)) ∙ said_reads version K c fits (keyword_text k.Words ∷ ws)
 
   -- ---- kinds
 
@@ -80,28 +99,39 @@ module _ {classes methods : ℕ} {scope : Scope} (names : HasNames classes metho
     whole_budget false n fits declared = subst (λ (m : ℕ). Whole (budget true false) [] m) (sym (eqb-true n 0 declared)) (record { reads = refl })
 
     -- what stands behind the kind, and behind the word before the fields
-    abbrev rest_of_fields : ClassKind → ℕ → Bool → Reading ClassDecl
-    rest_of_fields K words owns =
+    abbrev rest_of_fields : ClassKind → Option ℕ → ℕ → Bool → Reading ClassDecl
+    rest_of_fields K parent words owns =
         next (fields scope owns) (λ list.
         next (budget owns (is_dispatched K)) (λ n.
-        giving (record { kind = K; parent = None; words = words; fields = list; budget = n })))
+        giving (record { kind = K; parent = parent; words = words; fields = list; budget = n })))
 
-    abbrev rest_of_class : ClassKind → Reading ClassDecl
-    rest_of_class K = next (optional_number k.Words 8) (λ words. next (flag k.Own) (rest_of_fields K words))
+    abbrev rest_of_class : ClassKind → Option ℕ → Reading ClassDecl
+    rest_of_class K parent = next (optional_number k.Words 8) (λ words. next (flag k.Own) (rest_of_fields K parent words))
 
-    whole_rest : (c : ClassDecl) → ClassFits classes natives c → Whole (rest_of_class c.kind) (field_words c ++ budget_words (is_dispatched c.kind) c.budget) c
+    abbrev behind_kind : Version → ClassKind → Reading ClassDecl
+    behind_kind version K = next (optional_parent scope version K) (rest_of_class K)
+
+    whole_rest : (c : ClassDecl) → ClassFits classes natives c → Whole (rest_of_class c.kind c.parent) (field_words c ++ budget_words (is_dispatched c.kind) c.budget) c
     whole_rest c fits =
         first _ (takes_optional k.Words 8 c.words fits.words (omega (arith, fits.words))) (
-        first (rest_of_fields c.kind c.words) (takes_flag k.Own) (
+        first (rest_of_fields c.kind c.parent c.words) (takes_flag k.Own) (
         first _ (takes_list 8 (thing_of scope) thing_word c.fields fits.field_count (λ i d less. thing_element _ (fits.fields i d less))) (
-        last _ (whole_budget (is_dispatched c.kind) c.budget fits.budget fits.budgeted) (settle (ap (λ o. record c { parent = o }) (sym fits.parent)) (done _)))))
+        last _ (whole_budget (is_dispatched c.kind) c.budget fits.budget fits.budgeted) (done _))))
 
-    whole_class : (place : ℕ) (c : ClassDecl) → place < classes → ClassFits classes natives c → (is_server c ≡ true → servers < 8) → Whole (class_statement scope natives place servers) (others_of (class_words place c)) c
-    whole_class place c there fits few =
+    whole_parent : (version : Version) (c : ClassDecl) → ClassFits classes natives c → ParentFits version classes c.kind c.parent
+        → Whole (behind_kind version c.kind) (class_after k.From c.parent ++ (field_words c ++ budget_words (is_dispatched c.kind) c.budget)) c
+    whole_parent version c fits parent = record {
+      reads = reads_on (optional_parent scope version c.kind) (rest_of_class c.kind) {ws = class_after k.From c.parent ++ (field_words c ++ budget_words (is_dispatched c.kind) c.budget)}
+          (parent_before version c.kind c.parent parent (others_of (field_words c ++ budget_words (is_dispatched c.kind) c.budget)))
+          (whole_rest c fits).reads;
+    }
+
+    whole_class : (version : Version) (place : ℕ) (c : ClassDecl) → place < classes → ClassFits classes natives c → ParentFits version classes c.kind c.parent → (is_server c ≡ true → servers < 8)
+        → Whole (class_statement scope version natives place servers) (others_of (class_words place c)) c
+    whole_class version place c there fits parent few =
         let few_classes = names.few_classes in
         first _ (takes_declared 99 place scope.classes refl (omega arith) (names.class place there)) (
-        regroup (append_assoc (kind_words c.kind) (field_words c) (budget_words (is_dispatched c.kind) c.budget)) (
-        first_two any_keyword (kind scope natives servers) rest_of_class (takes_kind c.kind fits.kind few) (whole_rest c fits)))
+        first_two any_keyword (kind scope natives servers) (behind_kind version) (takes_kind c.kind fits.kind few) (whole_parent version c fits parent))
 
-pub class_statement_reads : (classes methods : ℕ) (scope : Scope) → HasNames classes methods scope → (natives servers place : ℕ) (c : ClassDecl) → natives ≤ 16 → place < classes → ClassFits classes natives c → (is_server c ≡ true → servers < 8) → class_statement scope natives place servers (others_of (class_words place c)) ≡ Ok (c, [])
-class_statement_reads classes methods scope names natives servers place c few_natives there fits few = (whole_class names natives servers few_natives place c there fits few).reads
+pub class_statement_reads : ClassesReadBack
+class_statement_reads classes methods scope names version natives servers place c few_natives there fits parent few = (whole_class names natives servers few_natives version place c there fits parent few).reads

@@ -1,5 +1,5 @@
 -- Reading gives an image where the text denotes it, and only there: what was read is parsed, and what is meant is read, by both readings.
-use Rattle.std.proofs.Common.{◌≡◌, ℕ, ◌+◌, ◌*◌, ◌≤◌, ◌^◌, Bool, true, false, List, [], ◌∷◌, map, length, None, Ok, Err, refl, sym, ap, subst, ◌∙◌, arith, nat_le}
+use Rattle.std.proofs.Common.{◌≡◌, ℕ, ◌+◌, ◌≤◌, ◌^◌, Bool, true, false, List, [], ◌∷◌, map, length, None, Ok, Err, refl, sym, ap, subst, ◌∙◌, arith, nat_le}
 use Rattle.std.specs.Prelude.{if◌then◌else◌}
 use Rattle.std.specs.List.{count_by, sum_by}
 use Rattle.std.proofs.lemmas.Bool.{le-leb, leb-true, ne_eqb}
@@ -11,6 +11,7 @@ use Rattle.aom_image.specs.Image.{Image}
 use Rattle.aom_image.specs.WellFormed.{WellFormed, is_server}
 use Rattle.aom_image.specs.declared.class.ClassDecl.{ClassDecl}
 use Rattle.aom_image.specs.declared.image.Header.{Header}
+use Rattle.aom_image.specs.declared.image.Version.{Version}
 use Rattle.aom_image.specs.declared.method.Method.{Method}
 use Rattle.aom_syntax.specs.Reading.{◌>>=◌}
 use Rattle.aom_asm.specs.Body.{Program}
@@ -21,9 +22,10 @@ use Rattle.aom_meaning.specs.Naming.{heading_of}
 use Rattle.aom_meaning.specs.Texts.{all_words}
 use Rattle.aom_syntax.proofs.Within.{ok_is, passed}
 use Rattle.aom_meaning.proofs.Following.{Goes, first_of}
-use Rattle.aom_meaning.proofs.Parts.{read_so_far, spelled}
+use Rattle.aom_asm.proofs.WellRead.{class_bytes, class_sizes, spelled}
+use Rattle.aom_meaning.proofs.Parts.{read_so_far}
 use Rattle.aom_meaning.proofs.WholesBack.{none_left}
-use Rattle.aom_meaning.specs.Denotes.{Denotes, names_of}
+use Rattle.aom_meaning.specs.Denotes.{Denotes, bytes_of, names_of}
 use Rattle.aom_meaning.specs.Meaning.{ClassMeans, DeclaredOnce, HeaderMeans, MethodMeans, Names, Pairwise}
 use Rattle.aom_meaning.specs.Source.{ClassText, MethodText, Source, classes_of, declared_statements, methods_of, source_statements}
 use Rattle.aom_meaning.proofs.Headers.{header_reads}
@@ -42,32 +44,33 @@ record Says (names : Names) (b : Bool) (kinds : List ClassDecl) (text : Source) 
   class_names : DeclaredOnce names.classes
   method_names : DeclaredOnce names.methods
   header : HeaderMeans names text.header h
-  classes : Pairwise (ClassMeans names h.natives) (classes_of text.declarations) cs
-  methods : Pairwise (MethodMeans names b kinds) (methods_of text.declarations) ms
+  classes : Pairwise (ClassMeans names h.version h.natives) (classes_of text.declarations) cs
+  methods : Pairwise (MethodMeans names h.version b kinds) (methods_of text.declarations) ms
   few_classes : length cs ≤ 256
   few_servers : count_by is_server cs ≤ 8
   some_method : 1 ≤ length ms
   few_methods : length ms ≤ 1024
-  small : 24 + 28 * length cs + sum_by spelled ms ≤ 2 ^ 20
+  small : 24 + sum_by (class_bytes h.version) cs + sum_by (spelled h.version) ms ≤ 2 ^ 20
 
 -- ---- beside other classes
 
-record Others (names : Names) (kinds : List ClassDecl) (ts : List MethodText) (ms : List Method) : Type 0 where
+record Others (names : Names) (version : Version) (kinds : List ClassDecl) (ts : List MethodText) (ms : List Method) : Type 0 where
   others : List Method
-  means : Pairwise (MethodMeans names false kinds) ts others
+  means : Pairwise (MethodMeans names version false kinds) ts others
   count : length others ≡ length ms
-  bytes : sum_by spelled others ≡ sum_by spelled ms
+  bytes : sum_by (spelled version) others ≡ sum_by (spelled version) ms
 
-other_methods : (names : Names) (kinds others : List ClassDecl) (ts : List MethodText) (ms : List Method) → Pairs (MethodMeans names true kinds) ts ms → Others names others ts ms
-other_methods names kinds others _ _ no_pair = record { others = []; means = tt; count = refl; bytes = refl }
-other_methods names kinds others _ _ (a_pair t ts m ms one more) =
-    let b = beside_others names kinds others t.heading (heading_of m) one.heading in
+other_methods : (names : Names) (version : Version) (kinds others : List ClassDecl) (ts : List MethodText) (ms : List Method) → Pairs (MethodMeans names version true kinds) ts ms → Others names version others ts ms
+other_methods names version kinds others _ _ no_pair = record { others = []; means = tt; count = refl; bytes = refl }
+other_methods names version kinds others _ _ (a_pair t ts m ms one more) =
+    let b = beside_others names version kinds others t.heading (heading_of m) one.heading in
     let first : Method = whole_of (record { heading = b.heading; labels = []; code = m.code }) in
-    let later = other_methods names kinds others ts ms more in
+    let later = other_methods names version kinds others ts ms more in
     let count = later.count in
     let bytes = later.bytes in
-    let before : sum_by spelled (m ∷ ms) ≡ spelled m + sum_by spelled ms = sum_by-cons spelled m ms in
-    let after : sum_by spelled (first ∷ later.others) ≡ spelled first + sum_by spelled later.others = sum_by-cons spelled first later.others in
+    let size = spelled version in
+    let before : sum_by size (m ∷ ms) ≡ size m + sum_by size ms = sum_by-cons size m ms in
+    let after : sum_by size (first ∷ later.others) ≡ size first + sum_by size later.others = sum_by-cons size first later.others in
     record {
       others = first ∷ later.others;
       means = (record { heading = b.means; labels = one.labels; code = one.code; some = one.some; few = one.few }, later.means);
@@ -82,7 +85,7 @@ record SaysBeside (names : Names) (kinds : List ClassDecl) (text : Source) (h : 
 
 says_beside : (names : Names) (kinds others : List ClassDecl) (text : Source) (h : Header) (cs : List ClassDecl) (ms : List Method) → Says names true kinds text h cs ms → SaysBeside names others text h cs
 says_beside names kinds others text h cs ms says =
-    let o = other_methods names kinds others (methods_of text.declarations) ms (pairs (MethodMeans names true kinds) (methods_of text.declarations) ms says.methods) in
+    let o = other_methods names h.version kinds others (methods_of text.declarations) ms (pairs (MethodMeans names h.version true kinds) (methods_of text.declarations) ms says.methods) in
     let count = o.count in
     let bytes = o.bytes in
     let some = says.some_method in
@@ -106,9 +109,9 @@ says_beside names kinds others text h cs ms says =
 
 -- ---- what is meant is read
 
-class_count : (names : Names) (natives : ℕ) (ts : List ClassText) (cs : List ClassDecl) → Pairs (ClassMeans names natives) ts cs → length (map (λ t. t.name) ts) ≡ length cs
-class_count names natives _ _ no_pair = refl
-class_count names natives _ _ (a_pair t ts c cs here more) = let rest = class_count names natives ts cs more in omega arith
+as_many : {A B : Type 0} (R : A → B → Type 0) (name : A → List ℕ) (ts : List A) (xs : List B) → Pairs R ts xs → length (map name ts) ≡ length xs
+as_many R name _ _ no_pair = refl
+as_many R name _ _ (a_pair t ts x xs here more) = let rest = as_many R name ts xs more in omega arith
 
 module _ (last : ℕ) (text : Source) (b : Bool) (kinds : List ClassDecl) (h : Header) (cs : List ClassDecl) (ms : List Method) (says : Says (names_of text) b kinds text h cs ms) where
   abbrev class_texts : List ClassText
@@ -117,20 +120,22 @@ module _ (last : ℕ) (text : Source) (b : Bool) (kinds : List ClassDecl) (h : H
   abbrev method_texts : List MethodText
   method_texts = methods_of text.declarations
 
-  class_pairs : Pairs (ClassMeans (names_of text) h.natives) class_texts cs
-  class_pairs = pairs (ClassMeans (names_of text) h.natives) class_texts cs says.classes
+  class_pairs : Pairs (ClassMeans (names_of text) h.version h.natives) class_texts cs
+  class_pairs = pairs (ClassMeans (names_of text) h.version h.natives) class_texts cs says.classes
 
-  method_pairs : Pairs (MethodMeans (names_of text) b kinds) method_texts ms
-  method_pairs = pairs (MethodMeans (names_of text) b kinds) method_texts ms says.methods
+  method_pairs : Pairs (MethodMeans (names_of text) h.version b kinds) method_texts ms
+  method_pairs = pairs (MethodMeans (names_of text) h.version b kinds) method_texts ms says.methods
 
   abbrev whole : Program
-  whole = read_so_far h cs ms None (24 + 28 * length cs + sum_by spelled ms)
+  whole = read_so_far h cs ms None (24 + sum_by (class_bytes h.version) cs + sum_by (spelled h.version) ms)
 
   looks : LooksUp (names_of text) (scoped b (names_of text) kinds)
   looks =
-      let count = class_count (names_of text) h.natives class_texts cs class_pairs in
-      let few = says.few_classes in
-      looks_up b (names_of text) kinds says.class_names (omega arith)
+      let class_count = as_many (ClassMeans (names_of text) h.version h.natives) (λ t. t.name) class_texts cs class_pairs in
+      let method_count = as_many (MethodMeans (names_of text) h.version b kinds) (λ t. t.heading.name) method_texts ms method_pairs in
+      let few_classes = says.few_classes in
+      let few_methods = says.few_methods in
+      looks_up b (names_of text) kinds says.class_names (omega arith) says.method_names (omega arith)
 
   goes : (ss : List Statement) → all_words ss ≡ declared_statements text.declarations → Goes last (scoped b (names_of text) kinds) (read_so_far h [] [] None 24) ss whole []
   goes ss words =
@@ -138,8 +143,8 @@ module _ (last : ℕ) (text : Source) (b : Bool) (kinds : List ClassDecl) (h : H
       let few_methods = says.few_methods in
       let small = says.small in
       declarations_go last (names_of text) h b kinds looks text.declarations [] cs [] ms 24 ss class_pairs method_pairs
-      (classes_placed (names_of text) h.natives (names_of text).classes says.class_names [] class_texts cs class_pairs refl)
-      (methods_placed (names_of text) b kinds (names_of text).methods says.method_names [] method_texts ms method_pairs refl)
+      (classes_placed (names_of text) h.version h.natives (names_of text).classes says.class_names [] class_texts cs class_pairs refl)
+      (methods_placed (names_of text) h.version b kinds (names_of text).methods says.method_names [] method_texts ms method_pairs refl)
       (omega arith) says.few_servers (omega arith) (omega arith) words
 
   closes : (ss : List Statement) → all_words ss ≡ [] → read_rest last (scoped b (names_of text) kinds) whole ss ≡ Ok whole
@@ -163,8 +168,15 @@ module _ (last : ℕ) (text : Source) (b : Bool) (kinds : List ClassDecl) (h : H
 -- by the names that the statements declare
 by_names : (last : ℕ) (text : Source) (ss : List Statement) → all_words ss ≡ source_statements text
     → (b : Bool) (kinds : List ClassDecl) (h : Header) (cs : List ClassDecl) (ms : List Method) → Says (names_of text) b kinds text h cs ms
-    → read_program last (scope_of b ss kinds) ss ≡ Ok (read_so_far h cs ms None (24 + 28 * length cs + sum_by spelled ms))
+    → read_program last (scope_of b ss kinds) ss ≡ Ok (read_so_far h cs ms None (24 + sum_by (class_bytes h.version) cs + sum_by (spelled h.version) ms))
 by_names last text ss words b kinds h cs ms says = ap (λ n. read_program last (scoped b n kinds) ss) (names_are text ss words) ∙ program_reads last text b kinds h cs ms says ss words
+
+-- the bytes of an image, class by class
+summed : (i : Image) → bytes_of i ≤ 2 ^ 20 → 24 + sum_by (class_bytes i.header.version) i.classes + sum_by (spelled i.header.version) i.methods ≤ 2 ^ 20
+summed i small = subst (λ n. 24 + n + sum_by (spelled i.header.version) i.methods ≤ 2 ^ 20) (sym (class_sizes i.header.version i.classes)) small
+
+multiplied : (i : Image) → 24 + sum_by (class_bytes i.header.version) i.classes + sum_by (spelled i.header.version) i.methods ≤ 2 ^ 20 → bytes_of i ≤ 2 ^ 20
+multiplied i small = subst (λ n. 24 + n + sum_by (spelled i.header.version) i.methods ≤ 2 ^ 20) (class_sizes i.header.version i.classes) small
 
 module _ (text : List ℕ) (i : Image) where
   abbrev last : ℕ
@@ -184,7 +196,7 @@ module _ (text : List ℕ) (i : Image) where
     few_servers = d.few_servers;
     some_method = d.some_method;
     few_methods = d.few_methods;
-    small = d.small;
+    small = summed i d.small;
   }
 
   pub denotes_read : Denotes text i → denoted text ≡ Ok i
@@ -198,7 +210,7 @@ module _ (text : List ℕ) (i : Image) where
 
   -- ---- what was read is meant
 
-  read_small : (q : Program) → WellFormed (image_of q) → 24 + 28 * length q.classes + sum_by spelled q.methods ≤ 2 ^ 20
+  read_small : (q : Program) → WellFormed (image_of q) → bytes_of (image_of q) ≤ 2 ^ 20
   read_small q formed = formed.size
 
   pub read_denotes : denoted text ≡ Ok i → Denotes text i
@@ -223,13 +235,13 @@ module _ (text : List ℕ) (i : Image) where
         few_servers = formed.classes.servers;
         some_method = formed.methods.some;
         few_methods = formed.methods.count;
-        small = read_small q formed;
+        small = summed (image_of q) (read_small q formed);
       } in
       let says : Says (names_of source) true kinds source q.header q.classes q.methods = subst (λ n. Says n true kinds source q.header q.classes q.methods) same read in
       let loose = says_beside (names_of source) kinds [] source q.header q.classes q.methods says in
       let first = by_names last source ss p.words false [] q.header q.classes loose.methods loose.says in
-      let again : s.first ≡ read_so_far q.header q.classes loose.methods None (24 + 28 * length q.classes + sum_by spelled loose.methods) = ok_is s.first
-      (read_so_far q.header q.classes loose.methods None (24 + 28 * length q.classes + sum_by spelled loose.methods)) (sym s.read ∙ first) in
+      let again : s.first ≡ read_so_far q.header q.classes loose.methods None (24 + sum_by (class_bytes q.header.version) q.classes + sum_by (spelled q.header.version) loose.methods) = ok_is s.first
+      (read_so_far q.header q.classes loose.methods None (24 + sum_by (class_bytes q.header.version) q.classes + sum_by (spelled q.header.version) loose.methods)) (sym s.read ∙ first) in
       let alike : kinds ≡ q.classes = ap (λ (p : Program). p.classes) again in
       subst (Denotes text) made (record {
         source = source;
@@ -239,10 +251,10 @@ module _ (text : List ℕ) (i : Image) where
         method_names = says.method_names;
         header = says.header;
         classes = says.classes;
-        methods = subst (λ c. Pairwise (MethodMeans (names_of source) true c) (methods_of source.declarations) q.methods) alike says.methods;
+        methods = subst (λ c. Pairwise (MethodMeans (names_of source) q.header.version true c) (methods_of source.declarations) q.methods) alike says.methods;
         few_classes = says.few_classes;
         few_servers = says.few_servers;
         some_method = says.some_method;
         few_methods = says.few_methods;
-        small = says.small;
+        small = multiplied (image_of q) says.small;
       })

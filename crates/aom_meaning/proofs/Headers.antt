@@ -1,21 +1,23 @@
 -- The image statement is read where its words mean a header, and as that header.
-use Rattle.std.proofs.Common.{◌≡◌, ℕ, true, false, List, ◌∷◌, ◌++◌, Option, Some, None, Ok, refl, sym, ap, ◌∙◌}
+use Rattle.std.proofs.Common.{◌≡◌, ℕ, true, false, List, ◌∷◌, ◌++◌, Option, Some, None, Ok, refl, sym, ap, subst, ◌∙◌, arith}
 use Rattle.std.specs.Prelude.{if◌then◌else◌}
-use Rattle.aom_text.specs.declared.fault.AsmFaultKind.TheVariants.{BadShape}
 use Rattle.aom_image.specs.declared.class.ClassDecl.{ClassDecl}
 use Rattle.aom_image.specs.declared.image.Header.{Header}
+use Rattle.aom_image.specs.declared.image.Version.{Version}
+use Rattle.aom_image.specs.declared.image.Version.TheVariants as versions
 use Rattle.aom_syntax.specs.Headers.{image_statement, optional_root, optional_version}
 use Rattle.aom_syntax.specs.Keywords.{keyword_text}
 use Rattle.aom_syntax.specs.Operands.{class}
-use Rattle.aom_syntax.specs.Reading.{Reading, failing, giving, keyword, next, nothing_more, number, number_in, optional_number}
+use Rattle.aom_syntax.specs.Reading.{Reading, giving, keyword, next, nothing_more, number, number_in, optional_number}
 use Rattle.aom_syntax.specs.declared.keyword.Keyword.TheVariants as k
 use Rattle.aom_syntax.specs.declared.scope.Scope.{Scope}
+use Rattle.aom_syntax.proofs.Numbers.{number_between}
 use Rattle.aom_syntax.proofs.Within.{ok_is, steps}
-use Rattle.aom_meaning.proofs.Readings.{Whole, done, ends, first, last, takes_keyword, settle}
-use Rattle.aom_meaning.specs.Meaning.{HeaderMeans, IsNumber, IsNumbered, Names, SaidOrNone}
+use Rattle.aom_meaning.proofs.Readings.{Whole, done, ends, first, last, reads_on, takes_keyword, took_same}
+use Rattle.aom_meaning.specs.Meaning.{HeaderMeans, IsNumber, IsNumbered, Names, SaidOrNone, VersionMeans}
 use Rattle.aom_meaning.specs.Source.{HeaderText, header_words, part}
 use Rattle.aom_meaning.proofs.Ascii.{plain_number}
-use Rattle.aom_meaning.proofs.Pieces.{Leaves, NotNext, Reads, Took, is_not, is_there, none_left, not_part, not_word, pair, reads_part, saw, saw_keyword, saw_part, saw_used, take_it, takes_seen, then_reads}
+use Rattle.aom_meaning.proofs.Pieces.{Leaves, NotNext, Reads, Took, is_not, is_there, none_left, not_part, not_word, reads_part, saw, saw_keyword, saw_part, saw_used, take_it, takes_seen, then_reads}
 use Rattle.aom_meaning.proofs.Sound.{Sound, giving_sound, next_sound}
 use Rattle.aom_meaning.proofs.Words.{LooksUp, takes_class, told}
 
@@ -62,14 +64,38 @@ module _ (names : Names) (kinds : List ClassDecl) where
       go (is_there vs words there) = record { each = λ root rest is. (behind vs words).each root rest (sym (ap (λ p. if p.0 then said_root p.1 else no_root p.1) there) ∙ is) }
       go (is_not there) = record { each = λ root rest is. without.each root rest (sym (ap (λ p. if p.0 then said_root p.1 else no_root p.1) there) ∙ is) }
 
-  no_version : (ws : List (List ℕ)) (u : Unit {0}) (rest : List (List ℕ)) → optional_version ws ≡ Ok (u, rest) → ws ≡ rest
-  no_version ws u rest is = go (take_it k.Version ws)
+  record VersionSays (ws : List (List ℕ)) (version : Version) (rest : List (List ℕ)) : Type 0 where
+    said : Option (List ℕ)
+    words : ws ≡ part k.Version said ++ rest
+    says : VersionMeans said version
+
+  -- the version behind its keyword, or the first one
+  abbrev said_version : Reading Version
+  said_version = next (number 2 2) (λ n. giving versions.Two)
+
+  abbrev versioned : Version → List (List ℕ) → Version × List (List ℕ)
+  versioned version ws = (version, ws)
+
+  version_says : (ws : List (List ℕ)) (version : Version) (rest : List (List ℕ)) → optional_version ws ≡ Ok (version, rest) → VersionSays ws version rest
+  version_says ws version rest is = go (take_it k.Version ws)
     where
-      go : Took k.Version ws → ws ≡ rest
+      go : Took k.Version ws → VersionSays ws version rest
       go (is_there vs words there) =
-          let s = steps (number 2 2 vs) (λ n. failing BadShape n.1) (u, rest) (sym (ap (λ p. if p.0 then next (number 2 2) (λ n. failing BadShape) p.1 else Ok (tt, p.1)) there) ∙ is) in
-          absurd cc
-      go (is_not there) = ap (λ p. p.1) (ok_is (pair tt ws) (u, rest) (sym (ap (λ p. if p.0 then next (number 2 2) (λ n. failing BadShape) p.1 else Ok (tt, p.1)) there) ∙ is))
+          let s = steps (number 2 2 vs) (λ n. Ok (versioned versions.Two n.1)) (version, rest) (sym (ap (λ p. if p.0 then said_version p.1 else Ok (versions.One, p.1)) there) ∙ is) in
+          let same = ok_is (versioned versions.Two s.first.1) (version, rest) s.second in
+          let n = saw (number_in 2 2) vs s.first.0 s.first.1 s.read in
+          let between = (number_between 2 2).each vs s.first.0 s.first.1 s.read in
+          let least = between.least in
+          let most = between.most in
+          let two : s.first.0 ≡ 2 = omega arith in
+          record {
+            said = Some n.w;
+            words = words ∙ ap (λ v. keyword_text k.Version ∷ v) (n.words ∙ ap (λ p. n.w ∷ p.1) same);
+            says = subst (VersionMeans (Some n.w)) (ap (λ p. p.0) same) (n.says ∙ ap Ok two);
+          }
+      go (is_not there) =
+          let same = ok_is (versioned versions.One ws) (version, rest) (sym (ap (λ p. if p.0 then said_version p.1 else Ok (versions.One, p.1)) there) ∙ is) in
+          record { said = None; words = ap (λ p. p.1) same; says = subst (VersionMeans None) (ap (λ p. p.0) same) tt }
 
   -- the words of a header, and what they mean
   pub record HeaderSays (ws : List (List ℕ)) (h : Header) : Type 0 where
@@ -81,7 +107,7 @@ module _ (names : Names) (kinds : List ClassDecl) where
   header_sound ws =
       let Q = λ (h : Header) (rest : List (List ℕ)). HeaderSays ws h in
       next_sound Q (keyword k.Image) _ ws (λ u1 v1 r1.
-      next_sound Q optional_version _ v1 (λ u2 v2 r2.
+      next_sound Q optional_version _ v1 (λ version v2 r2.
       next_sound Q (optional_number k.Cells 4096) _ v2 (λ cells v3 r3.
       next_sound Q (optional_number k.Messages 1024) _ v3 (λ messages v4 r4.
       next_sound Q (optional_number k.Natives 16) _ v4 (λ natives v5 r5.
@@ -89,7 +115,7 @@ module _ (names : Names) (kinds : List ClassDecl) where
       next_sound Q (number 0 4294967295) _ v6 (λ budget v7 r7.
       next_sound Q (optional_root (told names kinds)) _ v7 (λ root v8 r8.
       let e1 = saw_keyword k.Image ws u1 v1 r1 in
-      let e2 = no_version v1 u2 v2 r2 in
+      let e2 = version_says v1 version v2 r2 in
       let cs = saw_part k.Cells (number_in 0 4096) (IsNumber 0 4096) 0 (λ w n is. is) v2 cells v3 r3 in
       let ms = saw_part k.Messages (number_in 0 1024) (IsNumber 0 1024) 0 (λ w n is. is) v3 messages v4 r4 in
       let ns = saw_part k.Natives (number_in 0 16) (IsNumber 0 16) 0 (λ w n is. is) v4 natives v5 r5 in
@@ -97,17 +123,22 @@ module _ (names : Names) (kinds : List ClassDecl) where
       let b = saw (number_in 0 4294967295) v6 budget v7 r7 in
       let r = (root_sound v7).each root v8 r8 in
       giving_sound Q _ v8 (record {
-        said = record { cells = cs.said; messages = ms.said; natives = ns.said; budget = b.w; root = r.said };
+        said = record { version = e2.said; cells = cs.said; messages = ms.said; natives = ns.said; budget = b.w; root = r.said };
         words = e1
-            ∙ ap (λ v. keyword_text k.Image ∷ v) (e2 ∙ cs.words ∙ ap (λ v. part k.Cells cs.said ++ v)
-            (ms.words ∙ ap (λ v. part k.Messages ms.said ++ v) (ns.words ∙ ap (λ v. part k.Natives ns.said ++ v) (e6 ∙ ap (λ v. keyword_text k.Budget ∷ v) (b.words ∙ ap (λ v. b.w ∷ v) r.words)))));
-        means = record { version = refl; cells = cs.says; messages = ms.says; natives = ns.says; budget = b.says; root = r.says };
+            ∙ ap (λ v. keyword_text k.Image ∷ v) (e2.words ∙ ap (λ v. part k.Version e2.said ++ v) (cs.words ∙ ap (λ v. part k.Cells cs.said ++ v)
+            (ms.words ∙ ap (λ v. part k.Messages ms.said ++ v) (ns.words ∙ ap (λ v. part k.Natives ns.said ++ v) (e6 ∙ ap (λ v. keyword_text k.Budget ∷ v) (b.words ∙ ap (λ v. b.w ∷ v) r.words))))));
+        means = record { version = e2.says; cells = cs.says; messages = ms.says; natives = ns.says; budget = b.says; root = r.says };
       })))))))))
 
 -- ---- what is read
 
-version_reads : (ws : List (List ℕ)) → NotNext k.Version ws → Leaves optional_version ws tt ws
-version_reads ws other = record { reads = ap (λ p. if p.0 then next (number 2 2) (λ n. failing BadShape) p.1 else Ok (tt, p.1)) other.left }
+version_reads : (said : Option (List ℕ)) (version : Version) (ws : List (List ℕ)) → VersionMeans said version → NotNext k.Version ws → Leaves optional_version (part k.Version said ++ ws) version ws
+version_reads None versions.One ws means other = record { reads = ap (λ p. if p.0 then next (number 2 2) (λ n. giving versions.Two) p.1 else Ok (versions.One, p.1)) other.left }
+version_reads (Some w) versions.Two ws means other = record {
+  reads = ap (λ p. if p.0 then next (number 2 2) (λ n. giving versions.Two) p.1 else Ok (versions.One, p.1)) (took_same k.Version (w ∷ ws))
+      ∙ reads_on (number 2 2) (λ n. giving versions.Two) {ws = w ∷ ws} ((takes_seen (number_reads 2 2 w 2 means)).reads ws) refl;
+}
+version_reads said version ws means other = absurd means
 
 module _ {names : Names} {scope : Scope} (looks : LooksUp names scope) where
   root_reads : (said : Option (List ℕ)) (root : Option ℕ) → SaidOrNone (IsNumbered names.classes) said root → Whole (optional_root scope) (part k.Root said) root
@@ -122,7 +153,7 @@ module _ {names : Names} {scope : Scope} (looks : LooksUp names scope) where
       let messages = part k.Messages t.messages ++ natives in
       let cells = part k.Cells t.cells ++ messages in
       first _ (takes_keyword k.Image) (
-      then_reads _ (version_reads cells no_version_next) (
+      then_reads _ (version_reads t.version h.version cells means.version no_version_next) (
       then_reads _ (reads_part k.Cells (number_in 0 4096) (IsNumber 0 4096) 0 (number_reads 0 4096) t.cells h.cells messages means.cells
       (not_part k.Cells k.Messages t.messages natives refl (not_part k.Cells k.Natives t.natives behind refl (not_word k.Cells (keyword_text k.Budget) (t.budget ∷ part k.Root t.root) refl)))) (
       then_reads _ (reads_part k.Messages (number_in 0 1024) (IsNumber 0 1024) 0 (number_reads 0 1024) t.messages h.messages natives means.messages
@@ -131,7 +162,7 @@ module _ {names : Names} {scope : Scope} (looks : LooksUp names scope) where
       (not_word k.Natives (keyword_text k.Budget) (t.budget ∷ part k.Root t.root) refl)) (
       first _ (takes_keyword k.Budget) (
       first _ (takes_seen (number_reads 0 4294967295 t.budget h.budget means.budget)) (
-      last _ (root_reads t.root h.root means.root) (settle (ap (λ v. record h { version = v }) (sym means.version)) (done _)))))))))
+      last _ (root_reads t.root h.root means.root) (done _))))))))
     where
       no_version_next : NotNext k.Version (part k.Cells t.cells ++ (part k.Messages t.messages ++ (part k.Natives t.natives ++ (keyword_text k.Budget ∷ t.budget ∷ part k.Root t.root))))
       no_version_next =

@@ -1,34 +1,51 @@
 -- The statement that opens a listing reads back.
-use Rattle.std.proofs.Common.{◌≡◌, ℕ, ◌<◌, [], Option, Some, None, Ok, refl, arith, ap, sym}
-use Rattle.std.specs.Prelude.{IfSome}
+use Rattle.std.proofs.Common.{◌≡◌, ◌∙◌, ℕ, ◌<◌, List, [], ◌∷◌, ◌++◌, Option, Some, None, Ok, refl, arith, ap}
+use Rattle.std.specs.Prelude.{IfSome, decimal, if◌then◌else◌}
 use Rattle.aom_image.specs.WellFormed.{HeaderFits}
 use Rattle.aom_image.specs.declared.image.Header.{Header}
-use Rattle.aom_text.specs.Words.{others_of}
-use Rattle.aom_syntax.specs.Headers.{image_statement, optional_root, limits_and_root}
+use Rattle.aom_image.specs.declared.image.Version.{Version}
+use Rattle.aom_image.specs.declared.image.Version.TheVariants as versions
+use Rattle.aom_syntax.specs.Headers.{image_statement, optional_root, optional_version, limits_and_root}
+use Rattle.aom_syntax.specs.Keywords.{keyword_text}
+use Rattle.aom_syntax.specs.Reading.{giving, next, number}
 use Rattle.aom_syntax.specs.declared.keyword.Keyword.TheVariants as k
 use Rattle.aom_syntax.specs.declared.scope.Scope.{Scope}
-use Rattle.aom_listing.specs.Headers.{header_words}
+use Rattle.aom_listing.specs.Headers.{header_words, limit_words, version_words}
 use Rattle.aom_listing.specs.Operands.{class_after}
 use Rattle.aom_meaning.specs.Naming.{HasNames}
 use Rattle.aom_meaning.proofs.OperandsBack.{takes_class}
-use Rattle.aom_meaning.proofs.Readings.{Whole, done, ends, first, last, takes_keyword, takes_number, takes_optional, settle}
+use Rattle.aom_meaning.proofs.Readings.{Takes, Whole, done, ends, first, gives, in_turn, last, takes_keyword, takes_number, takes_optional, took_same}
+
+takes_version : Takes optional_version (keyword_text k.Version ∷ decimal 2 ∷ []) versions.Two
+takes_version = record {
+  reads = λ rest. ap (λ p. if p.0 then next (number 2 2) (λ n. giving versions.Two) p.1 else Ok (versions.One, p.1)) (took_same k.Version (decimal 2 ∷ rest))
+      ∙ (in_turn _ (takes_number 2 2 2 (omega arith) (omega arith) (omega arith)) (gives versions.Two)).reads rest;
+}
+
+-- what stands behind the version
+abbrev limits_said : Header → List (List ℕ)
+limits_said h = limit_words h ++ keyword_text k.Budget ∷ decimal h.budget ∷ class_after k.Root h.root
 
 module _ {classes methods : ℕ} {scope : Scope} (names : HasNames classes methods scope) where
   whole_root : (root : Option ℕ) → IfSome root (λ c. c < classes) → Whole (optional_root scope) (class_after k.Root root) root
   whole_root None fits = record { reads = refl }
   whole_root (Some c) fits = record { reads = ends _ (takes_class names c fits) refl }
 
-  whole_limits : (h : Header) → HeaderFits classes h → Whole (limits_and_root scope) (others_of (header_words h)) h
+  whole_limits : (h : Header) → HeaderFits classes h → Whole (limits_and_root scope h.version) (limits_said h) h
   whole_limits h fits =
       first _ (takes_optional k.Cells 4096 h.cells fits.cells (omega (arith, fits.cells))) (
       first _ (takes_optional k.Messages 1024 h.messages fits.messages (omega (arith, fits.messages))) (
       first _ (takes_optional k.Natives 16 h.natives fits.natives (omega (arith, fits.natives))) (
       first _ (takes_keyword k.Budget) (
       first _ (takes_number 0 4294967295 h.budget (omega arith) (omega (arith, fits.budget)) (omega (arith, fits.budget))) (
-      last _ (whole_root h.root fits.root) (settle (ap (λ v. record h { version = v }) (sym fits.version)) (done _)))))))
+      last _ (whole_root h.root fits.root) (done _))))))
+
+  whole_version : (version : Version) (h : Header) → Whole (limits_and_root scope version) (limits_said h) h → Whole (next optional_version (λ v. limits_and_root scope v)) (version_words version ++ limits_said h) h
+  whole_version versions.One h whole = record { reads = whole.reads }
+  whole_version versions.Two h whole = first _ takes_version whole
 
   whole_header : (h : Header) → HeaderFits classes h → Whole (image_statement scope) (header_words h) h
-  whole_header h fits = first _ (takes_keyword k.Image) (record { reads = (whole_limits h fits).reads })
+  whole_header h fits = first _ (takes_keyword k.Image) (whole_version h.version h (whole_limits h fits))
 
   pub header_reads : (h : Header) → HeaderFits classes h → image_statement scope (header_words h) ≡ Ok (h, [])
   header_reads h fits = (whole_header h fits).reads

@@ -1,7 +1,10 @@
 -- The statement that begins a method is read where its words mean a heading, and as that heading.
-use Rattle.std.proofs.Common.{◌≡◌, ℕ, true, false, List, [], ◌∷◌, ◌++◌, replicate, Option, Some, None, Ok, refl, sym, ap, subst, ◌∙◌, append-nil, ◌||◌}
+use Rattle.std.proofs.Common.{◌≡◌, ℕ, true, false, List, [], ◌∷◌, ◌++◌, replicate, Option, Some, None, Ok, refl, sym, ap, subst, ◌∙◌, append-nil}
 use Rattle.std.specs.Prelude.{if◌then◌else◌}
 use Rattle.std.specs.Str.{bytes_eq}
+use Rattle.std.proofs.lemmas.Bool.{false≢true}
+use Rattle.aom_image.specs.declared.image.Version.{Version}
+use Rattle.aom_image.specs.declared.image.Version.TheVariants as versions
 use Rattle.aom_image.specs.declared.class.ClassDecl.{ClassDecl}
 use Rattle.aom_image.specs.declared.class.ClassKind.{ClassKind}
 use Rattle.aom_image.specs.declared.class.ClassKind.TheVariants as class_kind
@@ -15,9 +18,9 @@ use Rattle.aom_image.specs.declared.method.Thing.{Thing}
 use Rattle.aom_image.specs.declared.method.Thing.TheVariants as owned
 use Rattle.aom_syntax.specs.Classes.{declared, flag, listed, thing, thing_of}
 use Rattle.aom_syntax.specs.Keywords.{keyword_text}
-use Rattle.aom_syntax.specs.Methods.{accepted, all_states, argument_of, gives, heading, kind_of, optional_arguments, optional_class, optional_gives, optional_states, role, role_of, states_of, unsaid_gives, usual_after, usual_before, usual_gives, usual_words, promised, flags_of, is_quiet_role}
+use Rattle.aom_syntax.specs.Methods.{accepted, all_states, argument_of, gives, heading, kind_of, optional_arguments, optional_class, optional_gives, optional_over, optional_states, role, role_of, said_over, states_of, unsaid_gives, usual_after, usual_before, usual_gives, usual_words, promised}
 use Rattle.aom_syntax.specs.Names.{place_of}
-use Rattle.aom_syntax.specs.Operands.{class}
+use Rattle.aom_syntax.specs.Operands.{class, method}
 use Rattle.aom_syntax.specs.Reading.{◌>>=◌, Reading, any_keyword, giving, next, nothing_more, seen}
 use Rattle.aom_syntax.specs.declared.keyword.Keyword.{Keyword}
 use Rattle.aom_syntax.specs.declared.keyword.Keyword.TheVariants as k
@@ -26,15 +29,15 @@ use Rattle.aom_syntax.specs.declared.scope.Scope.{Scope}
 use Rattle.aom_asm.proofs.Counting.{begins_with}
 use Rattle.aom_syntax.proofs.RangedHeadings.{stands_for}
 use Rattle.aom_syntax.proofs.Within.{ok_is, steps}
-use Rattle.aom_meaning.proofs.Readings.{Takes, Whole, done, first, gives as gives_it, in_turn, last, only_two, sees, settle, takes_any_keyword}
-use Rattle.aom_meaning.specs.Meaning.{AreStates, GivesMeans, HeadingMeans, IsArgument, IsList, IsNumbered, IsThing, Names, SaidOr, SaidOrNone, states}
+use Rattle.aom_meaning.proofs.Readings.{Takes, Whole, done, first, gives as gives_it, in_turn, last, only_two, sees, settle, takes_any_keyword, took_same}
+use Rattle.aom_meaning.specs.Meaning.{AreStates, GivesMeans, HeadingMeans, IsArgument, IsList, IsNumbered, IsThing, Names, OverMeans, SaidOr, SaidOrNone, states}
 use Rattle.aom_meaning.specs.Source as source
 use Rattle.aom_meaning.specs.Source.{GivesText, HeadingText, gives_words, heading_words, mark, part, promise_words}
 use Rattle.aom_meaning.proofs.Pieces.{Leaves, NotNext, Reads, Took, is_not, is_there, none_left, not_mark, not_part, not_word, pair, reads_part, saw, saw_part, saw_used, take_it, takes_seen, then_reads}
 use Rattle.aom_meaning.proofs.Ascii.{plain_states}
 use Rattle.aom_meaning.proofs.Declared.{reads_mark, saw_declared, saw_mark, takes_declared}
 use Rattle.aom_meaning.proofs.Sound.{Sound, giving_sound, next_sound}
-use Rattle.aom_meaning.proofs.Words.{LooksUp, argument_means, argument_reads, list_means, list_reads, takes_class, thing_means, thing_reads, told}
+use Rattle.aom_meaning.proofs.Words.{LooksUp, argument_means, argument_reads, list_means, list_reads, takes_class, takes_method, thing_means, thing_reads, told}
 
 -- ---- words
 
@@ -82,6 +85,29 @@ module _ (names : Names) (kinds : List ClassDecl) where
           let read = sym (ap (λ p. if p.0 then (class scope p.1 >>= λ x. Ok (Some x.0, x.1)) else Ok (None, p.1)) there) ∙ is in
           let same : pair None ws ≡ (c, rest) = ok_is (pair None ws) (c, rest) read in
           record { said = None; words = ap (λ p. p.1) same; says = subst (SaidOrNone (IsNumbered names.classes) None) (ap (λ p. p.0) same) tt }
+
+  -- what is overridden, where it is said
+  record OverSays (version : Version) (ws : List (List ℕ)) (over : Option ℕ) (rest : List (List ℕ)) : Type 0 where
+    said : Option (List ℕ)
+    words : ws ≡ part k.Over said ++ rest
+    says : OverMeans names version said over
+
+  said_over_sound : (version : Version) (ws vs : List (List ℕ)) → ws ≡ keyword_text k.Over ∷ vs → Sound (said_over scope version) vs (λ over rest. OverSays version ws over rest)
+  said_over_sound versions.One ws vs words = record { each = λ p rest is. cc }
+  said_over_sound versions.Two ws vs words =
+      let Q = λ (over : Option ℕ) (rest : List (List ℕ)). OverSays versions.Two ws over rest in
+      next_sound Q (method scope) _ vs (λ m us read.
+      let s = saw_used names.methods 1024 vs m us read in
+      giving_sound Q (Some m) us (record { said = Some s.w; words = words ∙ ap (λ v. keyword_text k.Over ∷ v) s.words; says = (refl, s.numbered) }))
+
+  over_says : (version : Version) (ws : List (List ℕ)) (over : Option ℕ) (rest : List (List ℕ)) → optional_over scope version ws ≡ Ok (over, rest) → OverSays version ws over rest
+  over_says version ws over rest is = go (take_it k.Over ws)
+    where
+      go : Took k.Over ws → OverSays version ws over rest
+      go (is_there vs words there) = (said_over_sound version ws vs words).each over rest (sym (ap (λ p. if p.0 then said_over scope version p.1 else Ok (None, p.1)) there) ∙ is)
+      go (is_not there) =
+          let same : pair None ws ≡ (over, rest) = ok_is (pair None ws) (over, rest) (sym (ap (λ p. if p.0 then said_over scope version p.1 else Ok (None, p.1)) there) ∙ is) in
+          record { said = None; words = ap (λ p. p.1) same; says = subst (OverMeans names version None) (ap (λ p. p.0) same) tt }
 
   record GivesSays (usual : Option Gives) (ws : List (List ℕ)) (g : Gives) : Type 0 where
     said : GivesText
@@ -155,19 +181,20 @@ module _ (names : Names) (kinds : List ClassDecl) where
       go (is_not there) = record { each = λ g rest is. without.each g rest (sym (ap (λ p. if p.0 then said_gives p.1 else nothing_said usual p.1) there) ∙ is) }
 
   -- the words of a heading behind its keyword, and what they mean at its place
-  pub record HeadingSays (place : ℕ) (ws : List (List ℕ)) (h : Heading) : Type 0 where
+  pub record HeadingSays (version : Version) (place : ℕ) (ws : List (List ℕ)) (h : Heading) : Type 0 where
     pub said : HeadingText
     pub words : keyword_text k.Method ∷ ws ≡ heading_words said
-    pub means : HeadingMeans names true kinds said h
+    pub means : HeadingMeans names version true kinds said h
     pub placed : place_of said.name names.methods ≡ Some place
 
-  pub heading_sound : (place : ℕ) (ws : List (List ℕ)) → Sound (heading scope place) ws (λ h rest. HeadingSays place ws h)
-  heading_sound place ws =
-      let Q = λ (h : Heading) (rest : List (List ℕ)). HeadingSays place ws h in
+  pub heading_sound : (version : Version) (place : ℕ) (ws : List (List ℕ)) → Sound (heading scope version place) ws (λ h rest. HeadingSays version place ws h)
+  heading_sound version place ws =
+      let Q = λ (h : Heading) (rest : List (List ℕ)). HeadingSays version place ws h in
       next_sound Q (declared place names.methods) _ ws (λ u v1 r1.
       next_sound Q role _ v1 (λ role v2 r2.
       next_sound Q (optional_class scope) _ v2 (λ class v3 r3.
-      next_sound Q (flag k.Leaves) _ v3 (λ leaves v4 r4.
+      next_sound Q (optional_over scope version) _ v3 (λ over v3b r3b.
+      next_sound Q (flag k.Leaves) _ v3b (λ leaves v4 r4.
       next_sound Q (flag k.Quiet) _ v4 (λ quiet v5 r5.
       let all = all_states (kind_of kinds class) in
       next_sound Q (optional_states k.In (usual_before role all)) _ v5 (λ before v6 r6.
@@ -177,20 +204,21 @@ module _ (names : Names) (kinds : List ClassDecl) where
       let d = saw_declared names.methods place ws u v1 r1 in
       let r = role_says v1 role v2 r2 in
       let c = class_says v2 class v3 r3 in
+      let v = over_says version v3 over v3b r3b in
       let i = saw_part k.In states_of AreStates (states (usual_before role all)) (λ w s is. is) v5 before v6 r6 in
       let o = saw_part k.Out states_of AreStates (states (usual_after role all)) (λ w s is. is) v6 after v7 r7 in
       let a = saw_part k.Args (listed 6 (argument_of scope)) (IsList 6 (IsArgument names)) (replicate (usual_words role) arg.Word)
       (list_means 6 (argument_of scope) (IsArgument names) (argument_means names kinds)) v7 arguments v8 r8 in
       let g = (gives_sound (usual_gives true role (kind_of kinds class)) v8).each gives v9 r9 in
-      let said : HeadingText = record { name = d.w; role = r.key; class = c.said; leaves = leaves; quiet = quiet; before = i.said; after = o.said; arguments = a.said; gives = g.said } in
+      let said : HeadingText = record { name = d.w; role = r.key; class = c.said; over = v.said; leaves = leaves; quiet = quiet; before = i.said; after = o.said; arguments = a.said; gives = g.said } in
       giving_sound Q _ v9 (record {
         said = said;
-        words = ap (λ v. keyword_text k.Method ∷ v) (d.words ∙ ap (λ v. d.w ∷ v) (r.words ∙ ap (λ v. keyword_text r.key ∷ v) (c.words ∙ ap (λ v. part k.Of c.said ++ v) (
-            saw_mark k.Leaves v3 leaves v4 r4 ∙ ap (λ v. mark k.Leaves leaves ++ v) (saw_mark k.Quiet v4 quiet v5 r5 ∙ ap (λ v. mark k.Quiet quiet ++ v) (
-            i.words ∙ ap (λ v. part k.In i.said ++ v) (o.words ∙ ap (λ v. part k.Out o.said ++ v) (a.words ∙ ap (λ v. part k.Args a.said ++ v) g.words))))))));
-        means = record { name = d.is_name; role = r.says; class = c.says; over = refl; flags = refl; before = i.says; after = o.says; arguments = a.says; gives = g.means };
+        words = ap (λ v. keyword_text k.Method ∷ v) (d.words ∙ ap (λ v. d.w ∷ v) (r.words ∙ ap (λ v. keyword_text r.key ∷ v) (c.words ∙ ap (λ v. part k.Of c.said ++ v) (v.words ∙ ap (λ u. part k.Over v.said ++ u) (
+            saw_mark k.Leaves v3b leaves v4 r4 ∙ ap (λ v. mark k.Leaves leaves ++ v) (saw_mark k.Quiet v4 quiet v5 r5 ∙ ap (λ v. mark k.Quiet quiet ++ v) (
+            i.words ∙ ap (λ v. part k.In i.said ++ v) (o.words ∙ ap (λ v. part k.Out o.said ++ v) (a.words ∙ ap (λ v. part k.Args a.said ++ v) g.words)))))))));
+        means = record { name = d.is_name; role = r.says; class = c.says; over = v.says; flags = refl; before = i.says; after = o.says; arguments = a.says; gives = g.means };
         placed = d.placed;
-      }))))))))))
+      })))))))))))
 
 -- ---- what is read
 
@@ -223,10 +251,22 @@ module _ {names : Names} {scope : Scope} (looks : LooksUp names scope) where
   gives_read usual (source.left w) (result.Left c) means = whole_gives usual (result.Left c) (in_turn _ (takes_any_keyword k.Left) (in_turn _ (takes_class looks w c means) (gives_it _)))
   gives_read usual said g means = absurd means
 
+  said_over_reads : (version : Version) (w : List ℕ) (m : ℕ) → OverMeans names version (Some w) (Some m) → (ws : List (List ℕ)) → said_over scope version (w ∷ ws) ≡ Ok (Some m, ws)
+  said_over_reads versions.One w m means ws = absurd (false≢true means.0)
+  said_over_reads versions.Two w m means ws = (in_turn _ (takes_method looks w m means.1) (gives_it (Some m))).reads ws
+
+  over_reads : (version : Version) (said : Option (List ℕ)) (over : Option ℕ) (rest : List (List ℕ)) → OverMeans names version said over → NotNext k.Over rest
+      → Leaves (optional_over scope version) (part k.Over said ++ rest) over rest
+  over_reads version None None rest means other = record { reads = ap (λ p. if p.0 then said_over scope version p.1 else Ok (None, p.1)) other.left }
+  over_reads version (Some w) (Some m) rest means other = record {
+    reads = ap (λ p. if p.0 then said_over scope version p.1 else Ok (None, p.1)) (took_same k.Over (w ∷ rest)) ∙ said_over_reads version w m means rest;
+  }
+  over_reads version said over rest means other = absurd means
+
   -- what stands behind the keyword
-  pub heading_reads : (place : ℕ) (t : HeadingText) (h : Heading) → HeadingMeans names scope.is_strict scope.kinds t h → place_of t.name scope.methods ≡ Some place
-      → Whole (heading scope place) (t.name ∷ keyword_text t.role ∷ promise_words t) h
-  heading_reads place t h means placed =
+  pub heading_reads : (version : Version) (place : ℕ) (t : HeadingText) (h : Heading) → HeadingMeans names version scope.is_strict scope.kinds t h → place_of t.name scope.methods ≡ Some place
+      → Whole (heading scope version place) (t.name ∷ keyword_text t.role ∷ promise_words t) h
+  heading_reads version place t h means placed =
       let kind = kind_of scope.kinds h.class in
       let v9 = gives_words t.gives in
       let v8 = part k.Args t.arguments ++ v9 in
@@ -234,15 +274,19 @@ module _ {names : Names} {scope : Scope} (looks : LooksUp names scope) where
       let v6 = part k.In t.before ++ v7 in
       let v5 = mark k.Quiet t.quiet ++ v6 in
       let v4 = mark k.Leaves t.leaves ++ v5 in
+      let v3 = part k.Over t.over ++ v4 in
       first _ (takes_declared scope.methods place t.name means.name placed) (
       first _ (takes_role t.role h.role means.role) (
-      then_reads _ (class_reads t.class h.class v4 means.class
-      (not_mark k.Of k.Leaves t.leaves v5 refl (not_mark k.Of k.Quiet t.quiet v6 refl
-      (not_part k.Of k.In t.before v7 refl (not_part k.Of k.Out t.after v8 refl (not_part k.Of k.Args t.arguments v9 refl (not_gives k.Of t.gives refl))))))) (
-      then_reads (λ leaves. next (flag k.Quiet) (promised scope h.role h.class leaves)) (reads_mark k.Leaves t.leaves v5
+      then_reads _ (class_reads t.class h.class v3 means.class
+      (not_part k.Of k.Over t.over v4 refl (not_mark k.Of k.Leaves t.leaves v5 refl (not_mark k.Of k.Quiet t.quiet v6 refl
+      (not_part k.Of k.In t.before v7 refl (not_part k.Of k.Out t.after v8 refl (not_part k.Of k.Args t.arguments v9 refl (not_gives k.Of t.gives refl)))))))) (
+      then_reads (λ over. next (flag k.Leaves) (λ leaves. next (flag k.Quiet) (promised scope h.role h.class over leaves))) (over_reads version t.over h.over v4 means.over
+      (not_mark k.Over k.Leaves t.leaves v5 refl (not_mark k.Over k.Quiet t.quiet v6 refl
+      (not_part k.Over k.In t.before v7 refl (not_part k.Over k.Out t.after v8 refl (not_part k.Over k.Args t.arguments v9 refl (not_gives k.Over t.gives refl))))))) (
+      then_reads (λ leaves. next (flag k.Quiet) (promised scope h.role h.class h.over leaves)) (reads_mark k.Leaves t.leaves v5
       (not_mark k.Leaves k.Quiet t.quiet v6 refl (not_part k.Leaves k.In t.before v7 refl
       (not_part k.Leaves k.Out t.after v8 refl (not_part k.Leaves k.Args t.arguments v9 refl (not_gives k.Leaves t.gives refl)))))) (
-      then_reads (promised scope h.role h.class t.leaves) (reads_mark k.Quiet t.quiet v6
+      then_reads (promised scope h.role h.class h.over t.leaves) (reads_mark k.Quiet t.quiet v6
       (not_part k.Quiet k.In t.before v7 refl (not_part k.Quiet k.Out t.after v8 refl (not_part k.Quiet k.Args t.arguments v9 refl (not_gives k.Quiet t.gives refl))))) (
       then_reads _ (reads_part k.In states_of AreStates (states (usual_before h.role (all_states kind))) states_read t.before h.before v7 means.before
       (not_part k.In k.Out t.after v8 refl (not_part k.In k.Args t.arguments v9 refl (not_gives k.In t.gives refl)))) (
@@ -252,8 +296,7 @@ module _ {names : Names} {scope : Scope} (looks : LooksUp names scope) where
       (list_reads 6 (argument_of scope) (IsArgument names) (argument_reads looks)) t.arguments h.arguments v9 means.arguments
       (not_gives k.Args t.gives refl)) (
       last _ (gives_read (usual_gives scope.is_strict h.role kind) t.gives h.gives means.gives) (
-      settle (ap (λ f. record h { flags = f }) (sym means.flags)) (
-      settle (ap (λ o. record h { flags = flags_of t.leaves (t.quiet || is_quiet_role h.role); over = o }) (sym means.over)) (done _)))))))))))
+      settle (ap (λ f. record h { flags = f }) (sym means.flags)) (done _)))))))))))
 
 -- ---- beside other classes
 
@@ -296,12 +339,12 @@ gives_stands roles.Accept kind = served_stands kind
 gives_stands _ kind = record { gives = result.Nothing; is = refl }
 
 -- a heading means a heading too where no class is known yet
-pub record Beside (names : Names) (kinds : List ClassDecl) (t : HeadingText) : Type 0 where
+pub record Beside (names : Names) (version : Version) (kinds : List ClassDecl) (t : HeadingText) : Type 0 where
   pub heading : Heading
-  pub means : HeadingMeans names false kinds t heading
+  pub means : HeadingMeans names version false kinds t heading
 
-pub beside_others : (names : Names) (kinds others : List ClassDecl) (t : HeadingText) (h : Heading) → HeadingMeans names true kinds t h → Beside names others t
-beside_others names kinds others t h means =
+pub beside_others : (names : Names) (version : Version) (kinds others : List ClassDecl) (t : HeadingText) (h : Heading) → HeadingMeans names version true kinds t h → Beside names version others t
+beside_others names version kinds others t h means =
     let kind = kind_of kinds h.class in
     let other = kind_of others h.class in
     let before = states (usual_before h.role (all_states other)) in

@@ -32,3 +32,4 @@ pub mod Wholes
 pub mod Parsed
 pub mod Denoting
 pub mod Pairs
+pub mod Examples

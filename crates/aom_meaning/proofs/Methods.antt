@@ -1,13 +1,15 @@
 -- The statement that declares a method reads back.
-use Rattle.std.proofs.Common.{◌≡◌, ℕ, ◌<◌, ◌≤◌, ◌==◌, ◌||◌, Bool, true, false, List, [], ◌∷◌, ◌++◌, length, map, Option, Some, None, Result, Ok, Err, refl, sym, ap, ◌∙◌, append_assoc, arith}
+use Rattle.std.proofs.Common.{◌≡◌, ℕ, ◌<◌, ◌≤◌, ◌==◌, ◌||◌, Bool, true, false, List, [], ◌∷◌, ◌++◌, length, map, Option, Some, None, Result, Ok, Err, refl, sym, ap, ◌∙◌, arith}
 use Rattle.std.specs.Prelude.{IfSome, if◌then◌else◌}
 use Rattle.std.specs.List.{All, list_all}
-use Rattle.std.proofs.lemmas.Bool.{agree_below_at, eqb-true}
+use Rattle.std.proofs.lemmas.Bool.{agree_below_at, eqb-true, false≢true}
 use Rattle.aom_text.specs.Words.{is_plain, others_of}
 use Rattle.aom_text.specs.declared.fault.AsmFaultKind.{AsmFaultKind}
 use Rattle.aom_image.specs.Views.{has}
 use Rattle.aom_meaning.specs.ReadbackLaws.{HeadingsReadBack}
-use Rattle.aom_image.specs.WellFormed.{ArgumentFits, GivesFits, MethodFits}
+use Rattle.aom_image.specs.WellFormed.{ArgumentFits, GivesFits, MethodFits, OverFits}
+use Rattle.aom_image.specs.declared.image.Version.{Version}
+use Rattle.aom_image.specs.declared.image.Version.TheVariants as versions
 use Rattle.aom_image.specs.declared.method.Argument.{Argument}
 use Rattle.aom_image.specs.declared.method.Argument.TheVariants as arg
 use Rattle.aom_image.specs.declared.method.Gives.{Gives}
@@ -19,7 +21,7 @@ use Rattle.aom_image.specs.declared.method.Role.TheVariants as roles
 use Rattle.aom_image.specs.declared.method.Thing.TheVariants as owned
 use Rattle.aom_image.specs.declared.method.States.{States}
 use Rattle.aom_syntax.specs.Classes.{flag}
-use Rattle.aom_syntax.specs.Methods.{all_states, argument_of, flags_of, gives, heading, is_quiet_role, kind_of, optional_arguments, optional_class, optional_gives, optional_states, role, role_of, states_of, usual_after, usual_before, usual_gives, usual_words, promised}
+use Rattle.aom_syntax.specs.Methods.{all_states, argument_of, flags_of, gives, heading, is_quiet_role, kind_of, optional_arguments, optional_class, optional_gives, optional_over, optional_states, role, role_of, said_over, states_of, usual_after, usual_before, usual_gives, usual_words, promised}
 use Rattle.aom_syntax.specs.Reading.{◌>>=◌, Reading, any_keyword, giving, next, nothing_more, took}
 use Rattle.aom_syntax.specs.Operands.{class}
 use Rattle.aom_syntax.specs.Keywords.{keyword_text}
@@ -27,13 +29,14 @@ use Rattle.aom_syntax.specs.declared.keyword.Keyword.TheVariants as k
 use Rattle.aom_syntax.specs.declared.method.Heading.{Heading}
 use Rattle.aom_syntax.specs.declared.scope.Scope.{Scope}
 use Rattle.aom_listing.specs.Methods.{argument_word, flag_words, gives_words, heading_words, promise_words, role_keyword, states_word, word_where}
-use Rattle.aom_listing.specs.Operands.{class_after}
+use Rattle.aom_listing.specs.Operands.{class_after, method_after, method_name}
 use Rattle.aom_listing.specs.Text.{list_word}
 use Rattle.aom_meaning.specs.Naming.{HasNames, heading_of}
+use Rattle.aom_meaning.specs.Texts.{SaysQuiet}
 use Rattle.aom_meaning.proofs.ClassesBack.{takes_thing, thing_element}
 use Rattle.aom_meaning.proofs.Lists.{Element, takes_list}
-use Rattle.aom_meaning.proofs.OperandsBack.{takes_class}
-use Rattle.aom_meaning.proofs.Readings.{Takes, Whole, done, first, gives as gives_it, in_turn, last, only_two, reads_on, regroup, sees, settle, takes_any_keyword, takes_declared, takes_word}
+use Rattle.aom_meaning.proofs.OperandsBack.{takes_class, takes_method}
+use Rattle.aom_meaning.proofs.Readings.{Takes, Whole, done, first, gives as gives_it, in_turn, last, only_two, reads_on, sees, settle, takes_any_keyword, takes_declared, takes_word, took_same}
 
 -- ---- roles
 
@@ -83,7 +86,7 @@ takes_states_in usual s small = record { reads = (sees states_of (takes_word (st
 takes_states_out : (usual : ℕ) (s : States) → s.0 < 64 → Takes (optional_states k.Out usual) (keyword_text k.Out ∷ states_word s.0 ∷ []) s
 takes_states_out usual s small = record { reads = (sees states_of (takes_word (states_word s.0) (states_are_plain s.0 small)) (states_again s.0 small)).reads }
 
--- ---- the class and the flags that stand before what is promised
+-- ---- the class, what is overridden and the flags, which stand before what is promised
 
 flags_before : {X : Type 0} (leaves quiet : Bool) (f : Bool → Bool → Reading X) (ws : List (List ℕ)) (x : X) → Whole (f leaves quiet) (keyword_text k.In ∷ ws) x → Whole (next (flag k.Leaves) (λ leaves. next (flag k.Quiet) (λ quiet. f leaves quiet))) ((word_where leaves k.Leaves ++ word_where quiet k.Quiet) ++ keyword_text k.In ∷ ws) x
 flags_before true true f ws x whole = record { reads = whole.reads }
@@ -91,16 +94,36 @@ flags_before true false f ws x whole = record { reads = whole.reads }
 flags_before false true f ws x whole = record { reads = whole.reads }
 flags_before false false f ws x whole = record { reads = whole.reads }
 
-no_class : (leaves quiet : Bool) (ws : List (List ℕ)) → took k.Of ((word_where leaves k.Leaves ++ word_where quiet k.Quiet) ++ keyword_text k.In ∷ ws) ≡ (false, (word_where leaves k.Leaves ++ word_where quiet k.Quiet) ++ keyword_text k.In ∷ ws)
-no_class true true ws = refl
-no_class true false ws = refl
-no_class false true ws = refl
-no_class false false ws = refl
+-- flags, and what is promised behind them
+abbrev flagged : Bool → Bool → List (List ℕ) → List (List ℕ)
+flagged leaves quiet ws = (word_where leaves k.Leaves ++ word_where quiet k.Quiet) ++ keyword_text k.In ∷ ws
+
+no_over : (leaves quiet : Bool) (ws : List (List ℕ)) → took k.Over (flagged leaves quiet ws) ≡ (false, flagged leaves quiet ws)
+no_over true true ws = refl
+no_over true false ws = refl
+no_over false true ws = refl
+no_over false false ws = refl
+
+no_class : (over : Option ℕ) (leaves quiet : Bool) (ws : List (List ℕ)) → took k.Of (method_after k.Over over ++ flagged leaves quiet ws) ≡ (false, method_after k.Over over ++ flagged leaves quiet ws)
+no_class (Some m) leaves quiet ws = refl
+no_class None true true ws = refl
+no_class None true false ws = refl
+no_class None false true ws = refl
+no_class None false false ws = refl
 
 module _ {classes methods : ℕ} {scope : Scope} (names : HasNames classes methods scope) where
   class_before : (class : Option ℕ) → IfSome class (λ c. c < classes) → (ws : List (List ℕ)) → took k.Of ws ≡ (false, ws) → optional_class scope (class_after k.Of class ++ ws) ≡ Ok (class, ws)
   class_before None fits ws other = ap (λ p. if p.0 then (class scope p.1 >>= λ x. Ok (Some x.0, x.1)) else Ok (None, p.1)) other
   class_before (Some c) fits ws other = ap (λ e. e >>= λ x. Ok (Some x.0, x.1)) ((takes_class names c fits).reads ws)
+
+  said_reads : (version : Version) (m : ℕ) → OverFits version methods (Some m) → (ws : List (List ℕ)) → said_over scope version (method_name m ∷ ws) ≡ Ok (Some m, ws)
+  said_reads versions.One m fits ws = absurd (false≢true fits.0)
+  said_reads versions.Two m fits ws = (in_turn _ (takes_method names m fits.1) (gives_it (Some m))).reads ws
+
+  over_before : (version : Version) (over : Option ℕ) → OverFits version methods over → (ws : List (List ℕ)) → took k.Over ws ≡ (false, ws) → optional_over scope version (method_after k.Over over ++ ws) ≡ Ok (over, ws)
+  over_before version None fits ws other = ap (λ p. if p.0 then said_over scope version p.1 else Ok (None, p.1)) other
+  over_before version (Some m) fits ws other =
+      ap (λ p. if p.0 then said_over scope version p.1 else Ok (None, p.1)) (took_same k.Over (method_name m ∷ ws)) ∙ said_reads version m fits ws
 
   -- ---- arguments and results
 
@@ -130,37 +153,52 @@ module _ {classes methods : ℕ} {scope : Scope} (names : HasNames classes metho
   abbrev with_flags : Method → MethodFlags → Heading
   with_flags m flags = record { class = m.class; over = m.over; role = m.role; flags = flags; before = m.before; after = m.after; arguments = m.arguments; gives = m.gives }
 
-  whole_promise : (m : Method) → MethodFits classes methods m → (leaves quiet : Bool) → Whole (promised scope m.role m.class leaves quiet) (promise_words m) (with_flags m (flags_of leaves (quiet || is_quiet_role m.role)))
+  whole_promise : (m : Method) → MethodFits classes methods m → (leaves quiet : Bool) → Whole (promised scope m.role m.class m.over leaves quiet) (promise_words m) (with_flags m (flags_of leaves (quiet || is_quiet_role m.role)))
   whole_promise m fits leaves quiet =
       first _ (takes_states_in (usual_before m.role (all_states (kind_of scope.kinds m.class))) m.before fits.before) (
       first _ (takes_states_out (usual_after m.role (all_states (kind_of scope.kinds m.class))) m.after fits.after) (
       first _ (takes_arguments (usual_words m.role) m.arguments fits.argument_count fits.arguments) (
-      last _ (whole_gives (usual_gives scope.is_strict m.role (kind_of scope.kinds m.class)) m.gives fits.gives) (
-      settle (ap (λ o. record (with_flags m (flags_of leaves (quiet || is_quiet_role m.role))) { over = o }) (sym fits.over)) (done _)))))
+      last _ (whole_gives (usual_gives scope.is_strict m.role (kind_of scope.kinds m.class)) m.gives fits.gives) (done _))))
 
   whole_flags : (m : Method) → MethodFits classes methods m → (is_quiet_role m.role ≡ true → has m.flags.0 2 ≡ true)
-      → Whole (next (flag k.Leaves) (λ leaves. next (flag k.Quiet) (promised scope m.role m.class leaves))) (flag_words m.flags.0 ++ promise_words m) (heading_of m)
+      → Whole (next (flag k.Leaves) (λ leaves. next (flag k.Quiet) (promised scope m.role m.class m.over leaves))) (flag_words m.flags.0 ++ promise_words m) (heading_of m)
   whole_flags m fits quiet =
-      flags_before (has m.flags.0 1) (has m.flags.0 2) (promised scope m.role m.class) (others_of (promise_words m)) (heading_of m)
+      flags_before (has m.flags.0 1) (has m.flags.0 2) (promised scope m.role m.class m.over) (others_of (promise_words m)) (heading_of m)
       (settle (ap (with_flags m) (flags_read m.role m.flags fits.flags quiet)) (whole_promise m fits (has m.flags.0 1) (has m.flags.0 2)))
 
-  whole_class_and_flags : (m : Method) → MethodFits classes methods m → (is_quiet_role m.role ≡ true → has m.flags.0 2 ≡ true)
-      → Whole (next (optional_class scope) (λ class. next (flag k.Leaves) (λ leaves. next (flag k.Quiet) (promised scope m.role class leaves)))) (class_after k.Of m.class ++ (flag_words m.flags.0 ++ promise_words m)) (heading_of m)
-  whole_class_and_flags m fits quiet = record {
-    reads = reads_on (optional_class scope) (λ class. next (flag k.Leaves) (λ leaves. next (flag k.Quiet) (promised scope m.role class leaves))) {ws = class_after k.Of m.class ++ (flag_words m.flags.0 ++ promise_words m)}
-        (class_before m.class fits.class (flag_words m.flags.0 ++ promise_words m) (no_class (has m.flags.0 1) (has m.flags.0 2) (others_of (promise_words m))))
-        (whole_flags m fits quiet).reads;
-  }
+  -- what is read behind the class, and behind the role
+  abbrev behind_class : Version → Role → Option ℕ → Reading Heading
+  behind_class version role class = next (optional_over scope version) (λ over. next (flag k.Leaves) (λ leaves. next (flag k.Quiet) (promised scope role class over leaves)))
 
-  whole_heading : (place : ℕ) (m : Method) → place < methods → MethodFits classes methods m → (is_quiet_role m.role ≡ true → has m.flags.0 2 ≡ true) → Whole (heading scope place) (others_of (heading_words place m)) (heading_of m)
-  whole_heading place m there fits quiet =
-      let few = names.few_methods in
-      first _ (takes_declared 109 place scope.methods refl (omega arith) (names.method place there)) (
-      first _ (takes_role m.role) (
-      regroup (append_assoc (class_after k.Of m.class) (flag_words m.flags.0) (promise_words m)) (whole_class_and_flags m fits quiet)))
+  abbrev behind_role : Version → Role → Reading Heading
+  behind_role version role = next (optional_class scope) (behind_class version role)
 
-  pub heading_reads : (place : ℕ) (m : Method) → place < methods → MethodFits classes methods m → (is_quiet_role m.role ≡ true → has m.flags.0 2 ≡ true) → heading scope place (others_of (heading_words place m)) ≡ Ok (heading_of m, [])
-  heading_reads place m there fits quiet = (whole_heading place m there fits quiet).reads
+  module _ (version : Version) (m : Method) (fits : MethodFits classes methods m) (over_fits : OverFits version methods m.over) (quiet : is_quiet_role m.role ≡ true → has m.flags.0 2 ≡ true) where
+    abbrev words_flagged : List (List ℕ)
+    words_flagged = flag_words m.flags.0 ++ promise_words m
+
+    whole_over : Whole (behind_class version m.role m.class) (method_after k.Over m.over ++ words_flagged) (heading_of m)
+    whole_over = record {
+      reads = reads_on (optional_over scope version) (λ over. next (flag k.Leaves) (λ leaves. next (flag k.Quiet) (promised scope m.role m.class over leaves))) {ws = method_after k.Over m.over ++ words_flagged}
+          (over_before version m.over over_fits words_flagged (no_over (has m.flags.0 1) (has m.flags.0 2) (others_of (promise_words m))))
+          (whole_flags m fits quiet).reads;
+    }
+
+    whole_of_class : Whole (behind_role version m.role) (class_after k.Of m.class ++ (method_after k.Over m.over ++ words_flagged)) (heading_of m)
+    whole_of_class = record {
+      reads = reads_on (optional_class scope) (behind_class version m.role) {ws = class_after k.Of m.class ++ (method_after k.Over m.over ++ words_flagged)}
+          (class_before m.class fits.class (method_after k.Over m.over ++ words_flagged) (no_class m.over (has m.flags.0 1) (has m.flags.0 2) (others_of (promise_words m))))
+          whole_over.reads;
+    }
+
+    whole_heading : (place : ℕ) → place < methods → Whole (heading scope version place) (others_of (heading_words place m)) (heading_of m)
+    whole_heading place there =
+        let few = names.few_methods in
+        first _ (takes_declared 109 place scope.methods refl (omega arith) (names.method place there)) (first (behind_role version) (takes_role m.role) whole_of_class)
+
+  pub heading_reads : (version : Version) (place : ℕ) (m : Method) → place < methods → MethodFits classes methods m → OverFits version methods m.over → SaysQuiet m
+      → heading scope version place (others_of (heading_words place m)) ≡ Ok (heading_of m, [])
+  heading_reads version place m there fits over quiet = (whole_heading version m fits over quiet place there).reads
 
 -- whatever names there are
 pub heading_reads_back : HeadingsReadBack

@@ -7,7 +7,7 @@ use Rattle.std.proofs.lemmas.List.{length_push}
 use Rattle.aom_text.specs.declared.fault.AsmFaultKind.{AsmFaultKind}
 use Rattle.aom_text.specs.declared.fault.AsmFaultKind.TheVariants.{BadShape, LimitPassed}
 use Rattle.aom_text.specs.declared.text.Statement.{Statement}
-use Rattle.aom_image.specs.WellFormed.{is_server}
+use Rattle.aom_image.specs.WellFormed.{family_bytes, is_server}
 use Rattle.aom_image.specs.declared.class.ClassDecl.{ClassDecl}
 use Rattle.aom_image.specs.declared.image.Header.{Header}
 use Rattle.aom_instructions.specs.declared.instr.Instr.{Instr}
@@ -56,40 +56,40 @@ module _ (last : ℕ) (names : Names) (kinds : List ClassDecl) where
   record ClassStep (h : Header) (cs : List ClassDecl) (ms : List Method) (ws : List (List ℕ)) (q : Program) : Type 0 where
     class : ClassDecl
     size : ℕ
-    says : ClassSays names kinds h.natives (count_by is_server cs) (length cs) ws class
+    says : ClassSays names kinds h.natives (count_by is_server cs) h.version (length cs) ws class
     same : q ≡ read_so_far h (cs ++ class ∷ []) ms None size
 
   class_taken : (h : Header) (cs : List ClassDecl) (ms : List Method) (size : ℕ) (ws : List (List ℕ)) (q : Program) → with_class scope (read_so_far h cs ms None size) ws ≡ Ok q
       → ClassStep h cs ms ws q
   class_taken h cs ms size ws q is =
       let servers = count_by is_server cs in
-      let i = passed (nat_lt (length cs) 256) (class_statement scope h.natives (length cs) servers ws >>= λ c. grown 28 size >>= λ n. Ok (read_so_far h (cs ++ c.0 ∷ []) ms None n)) LimitPassed q is in
-      let s = steps (class_statement scope h.natives (length cs) servers ws) (λ c. grown 28 size >>= λ n. Ok (read_so_far h (cs ++ c.0 ∷ []) ms None n)) q i.1 in
-      let t = steps (grown 28 size) (λ n. Ok (read_so_far h (cs ++ s.first.0 ∷ []) ms None n)) q s.second in
+      let i = passed (nat_lt (length cs) 256) (class_statement scope h.version h.natives (length cs) servers ws >>= λ c. grown (28 + family_bytes h.version) size >>= λ n. Ok (read_so_far h (cs ++ c.0 ∷ []) ms None n)) LimitPassed q is in
+      let s = steps (class_statement scope h.version h.natives (length cs) servers ws) (λ c. grown (28 + family_bytes h.version) size >>= λ n. Ok (read_so_far h (cs ++ c.0 ∷ []) ms None n)) q i.1 in
+      let t = steps (grown (28 + family_bytes h.version) size) (λ n. Ok (read_so_far h (cs ++ s.first.0 ∷ []) ms None n)) q s.second in
       record {
         class = s.first.0;
         size = t.first;
-        says = (class_sound names kinds h.natives servers (length cs) ws).each s.first.0 s.first.1 s.read;
+        says = (class_sound names kinds h.natives servers h.version (length cs) ws).each s.first.0 s.first.1 s.read;
         same = sym (ok_is (read_so_far h (cs ++ s.first.0 ∷ []) ms None t.first) q t.second);
       }
 
   record HeadingStep (h : Header) (cs : List ClassDecl) (ms : List Method) (ss : List Statement) (ws : List (List ℕ)) (q : Program) : Type 0 where
     begun : Heading
     size : ℕ
-    says : HeadingSays names kinds (length ms) ws begun
+    says : HeadingSays names kinds h.version (length ms) ws begun
     same : q ≡ read_so_far h cs ms (Some (record { heading = begun; labels = labels_until [] ss; code = [] })) size
 
   heading_taken : (h : Header) (cs : List ClassDecl) (ms : List Method) (size : ℕ) (ss : List Statement) (ws : List (List ℕ)) (q : Program)
       → with_heading scope ss (read_so_far h cs ms None size) ws ≡ Ok q → HeadingStep h cs ms ss ws q
   heading_taken h cs ms size ss ws q is =
       let body : Heading → Option Body = λ m. Some (record { heading = m; labels = labels_until [] ss; code = [] }) in
-      let i = passed (nat_lt (length ms) 1024) (heading scope (length ms) ws >>= λ m. grown 24 size >>= λ n. Ok (read_so_far h cs ms (body m.0) n)) LimitPassed q is in
-      let s = steps (heading scope (length ms) ws) (λ m. grown 24 size >>= λ n. Ok (read_so_far h cs ms (body m.0) n)) q i.1 in
-      let t = steps (grown 24 size) (λ n. Ok (read_so_far h cs ms (body s.first.0) n)) q s.second in
+      let i = passed (nat_lt (length ms) 1024) (heading scope h.version (length ms) ws >>= λ m. grown (24 + family_bytes h.version) size >>= λ n. Ok (read_so_far h cs ms (body m.0) n)) LimitPassed q is in
+      let s = steps (heading scope h.version (length ms) ws) (λ m. grown (24 + family_bytes h.version) size >>= λ n. Ok (read_so_far h cs ms (body m.0) n)) q i.1 in
+      let t = steps (grown (24 + family_bytes h.version) size) (λ n. Ok (read_so_far h cs ms (body s.first.0) n)) q s.second in
       record {
         begun = s.first.0;
         size = t.first;
-        says = (heading_sound names kinds (length ms) ws).each s.first.0 s.first.1 s.read;
+        says = (heading_sound names kinds h.version (length ms) ws).each s.first.0 s.first.1 s.read;
         same = sym (ok_is (read_so_far h cs ms (body s.first.0) t.first) q t.second);
       }
 
@@ -143,11 +143,11 @@ module _ (last : ℕ) (names : Names) (kinds : List ClassDecl) where
     header : q.header ≡ h
     more_classes : List ClassDecl
     classes : q.classes ≡ cs ++ more_classes
-    class_means : Pairwise (ClassMeans names h.natives) (classes_of declarations) more_classes
+    class_means : Pairwise (ClassMeans names h.version h.natives) (classes_of declarations) more_classes
     class_places : Placed names.classes (length cs) (map (λ t. t.name) (classes_of declarations))
     more_methods : List Method
     methods : q.methods ≡ ms ++ more_methods
-    method_means : Pairwise (MethodMeans names true kinds) (methods_of declarations) more_methods
+    method_means : Pairwise (MethodMeans names h.version true kinds) (methods_of declarations) more_methods
     method_places : Placed names.methods (length ms) (map (λ t. t.heading.name) (methods_of declarations))
 
   -- where one is open: its instructions up to its end, and declarations behind it
@@ -195,7 +195,7 @@ module _ (last : ℕ) (names : Names) (kinds : List ClassDecl) where
   nothing_after (Some b) h cs ms size q few is = absurd (no_ok BadShape q (said last (Err BadShape) q is))
 
   module _ (s : Statement) (ss : List Statement) (h : Header) (cs : List ClassDecl) (ms : List Method) (q : Program) where
-    add_class : (rest : List (List ℕ)) → s.words ≡ keyword_text k.Class ∷ rest → (c : ClassDecl) → ClassSays names kinds h.natives (count_by is_server cs) (length cs) rest c
+    add_class : (rest : List (List ℕ)) → s.words ≡ keyword_text k.Class ∷ rest → (c : ClassDecl) → ClassSays names kinds h.natives (count_by is_server cs) h.version (length cs) rest c
         → Later h ss (cs ++ c ∷ []) ms q → Later h (s ∷ ss) cs ms q
     add_class rest begins c says later = record {
       declarations = source.class says.said ∷ later.declarations;
@@ -211,7 +211,7 @@ module _ (last : ℕ) (names : Names) (kinds : List ClassDecl) where
       method_places = later.method_places;
     }
 
-    add_method : (rest : List (List ℕ)) → s.words ≡ keyword_text k.Method ∷ rest → (begun : Heading) → HeadingSays names kinds (length ms) rest begun
+    add_method : (rest : List (List ℕ)) → s.words ≡ keyword_text k.Method ∷ rest → (begun : Heading) → HeadingSays names kinds h.version (length ms) rest begun
         → Inside h ss (record { heading = begun; labels = labels_until [] ss; code = [] }) cs ms q → Later h (s ∷ ss) cs ms q
     add_method rest begins begun says inside =
         let labels : labels_until [] ss ≡ labels_of inside.code = labels_there inside.code (all_words inside.rest) [] ss inside.words in
@@ -323,8 +323,8 @@ module _ (last : ℕ) (names : Names) (kinds : List ClassDecl) where
     pub text : Source
     pub words : all_words ss ≡ source_statements text
     pub header : HeaderMeans names text.header q.header
-    pub classes : Pairwise (ClassMeans names q.header.natives) (classes_of text.declarations) q.classes
-    pub methods : Pairwise (MethodMeans names true kinds) (methods_of text.declarations) q.methods
+    pub classes : Pairwise (ClassMeans names q.header.version q.header.natives) (classes_of text.declarations) q.classes
+    pub methods : Pairwise (MethodMeans names q.header.version true kinds) (methods_of text.declarations) q.methods
     pub class_places : Placed names.classes 0 (map (λ t. t.name) (classes_of text.declarations))
     pub method_places : Placed names.methods 0 (map (λ t. t.heading.name) (methods_of text.declarations))
 
@@ -339,9 +339,10 @@ module _ (last : ℕ) (names : Names) (kinds : List ClassDecl) where
         text = record { header = says.said; declarations = later.declarations };
         words = ap (λ ws. ws ∷ all_words ss) says.words ∙ ap (λ r. header_words says.said ∷ r) later.words;
         header = subst (HeaderMeans names says.said) (sym later.header) says.means;
-        classes = subst (λ n. Pairwise (ClassMeans names n) (classes_of later.declarations) q.classes) (ap (λ (h : Header). h.natives) (sym later.header))
-            (subst (Pairwise (ClassMeans names h.natives) (classes_of later.declarations)) (sym later.classes) later.class_means);
-        methods = subst (Pairwise (MethodMeans names true kinds) (methods_of later.declarations)) (sym later.methods) later.method_means;
+        classes = subst (λ (h : Header). Pairwise (ClassMeans names h.version h.natives) (classes_of later.declarations) q.classes) (sym later.header)
+            (subst (Pairwise (ClassMeans names h.version h.natives) (classes_of later.declarations)) (sym later.classes) later.class_means);
+        methods = subst (λ (h : Header). Pairwise (MethodMeans names h.version true kinds) (methods_of later.declarations) q.methods) (sym later.header)
+            (subst (Pairwise (MethodMeans names h.version true kinds) (methods_of later.declarations)) (sym later.methods) later.method_means);
         class_places = later.class_places;
         method_places = later.method_places;
       }

@@ -10,7 +10,7 @@ use Rattle.aom_text.specs.Words.{others_of}
 use Rattle.aom_text.specs.declared.fault.AsmFaultKind.{AsmFaultKind}
 use Rattle.aom_text.specs.declared.fault.AsmFaultKind.TheVariants.{LimitPassed}
 use Rattle.aom_text.specs.declared.text.Statement.{Statement}
-use Rattle.aom_image.specs.WellFormed.{ClassFits, MethodFits, is_server}
+use Rattle.aom_image.specs.WellFormed.{ClassFits, MethodFits, OverFits, ParentFits, family_bytes, is_server}
 use Rattle.aom_instructions.specs.Fits.{InstrFits, limits}
 use Rattle.aom_image.specs.declared.class.ClassDecl.{ClassDecl}
 use Rattle.aom_image.specs.declared.image.Header.{Header}
@@ -30,6 +30,7 @@ use Rattle.aom_listing.specs.Operands.{label_name}
 use Rattle.aom_listing.specs.Words.{words_statement}
 use Rattle.aom_asm.specs.Body.{Body, Program}
 use Rattle.aom_asm.specs.Denoted.{declaration, grown, step, with_instruction, with_method}
+use Rattle.aom_asm.proofs.WellRead.{class_bytes, spelled}
 use Rattle.aom_asm.specs.TextNames.{is_end, label_in, labels_of, label_or_none as label_or_empty}
 use Rattle.aom_meaning.specs.Naming.{HasNames, code_labels, heading_of, label_or_none, labels_from}
 use Rattle.aom_meaning.specs.Texts.{SaysQuiet, all_words}
@@ -99,40 +100,45 @@ few_before cs c todo few serves =
     let less : sum_by counted cs < 8 = omega arith in
     less
 
--- the bytes that a method spells
-abbrev pub spelled : Method → ℕ
-spelled m = 24 + 8 * length m.code
-
 module _ (last : ℕ) (h : Header) (classes methods : ℕ) (scope : Scope) (names : HasNames classes methods scope) (few_natives : h.natives ≤ 16) where
+  -- what tells of families in each class and method
+  abbrev more : ℕ
+  more = family_bytes h.version
+
+  abbrev fits_parent : ClassDecl → Type 0
+  fits_parent c = ParentFits h.version classes c.kind c.parent
+
   -- ---- classes
 
-  class_steps : (cs : List ClassDecl) (c : ClassDecl) (size : ℕ) (rest : List Statement) → length cs < classes → ClassFits classes h.natives c → (is_server c ≡ true → count_by is_server cs < 8) → size + 28 ≤ 2 ^ 20
-      → step scope rest (read_so_far h cs [] None size) (class_words (length cs) c) ≡ Ok (read_so_far h (cs ++ c ∷ []) [] None (size + 28))
-  class_steps cs c size rest there fits few enough =
+  class_steps : (cs : List ClassDecl) (c : ClassDecl) (size : ℕ) (rest : List Statement) → length cs < classes → ClassFits classes h.natives c → fits_parent c → (is_server c ≡ true → count_by is_server cs < 8) → size + (28 + more) ≤ 2 ^ 20
+      → step scope rest (read_so_far h cs [] None size) (class_words (length cs) c) ≡ Ok (read_so_far h (cs ++ c ∷ []) [] None (size + (28 + more)))
+  class_steps cs c size rest there fits parent few enough =
       let few_classes = names.few_classes in
       let words = others_of (class_words (length cs) c) in
       let p = read_so_far h cs [] None size in
       ap (λ e. e >>= λ key. declaration scope rest p key.0 key.1) ((takes_any_keyword k.Class).reads words)
-      ∙ ap (λ b. if b then (class_statement scope h.natives (length cs) (count_by is_server cs) words >>= λ x. grown 28 size >>= λ n. Ok (read_so_far h (cs ++ x.0 ∷ []) [] None n)) else Err LimitPassed) (lt-ltb (length cs) 256 (omega arith))
-      ∙ ap (λ e. e >>= λ x. grown 28 size >>= λ n. Ok (read_so_far h (cs ++ x.0 ∷ []) [] None n)) (class_statement_reads classes methods scope names h.natives (count_by is_server cs) (length cs) c few_natives there fits few)
-      ∙ ap (λ e. e >>= λ n. Ok (read_so_far h (cs ++ c ∷ []) [] None n)) (room 28 size enough)
+      ∙ ap (λ b. if b then (class_statement scope h.version h.natives (length cs) (count_by is_server cs) words >>= λ x. grown (28 + more) size >>= λ n. Ok (read_so_far h (cs ++ x.0 ∷ []) [] None n)) else Err LimitPassed) (lt-ltb (length cs) 256 (omega arith))
+      ∙ ap (λ e. e >>= λ x. grown (28 + more) size >>= λ n. Ok (read_so_far h (cs ++ x.0 ∷ []) [] None n))
+      (class_statement_reads classes methods scope names h.version h.natives (count_by is_server cs) (length cs) c few_natives there fits parent few)
+      ∙ ap (λ e. e >>= λ n. Ok (read_so_far h (cs ++ c ∷ []) [] None n)) (room (28 + more) size enough)
 
   pub classes_go : (cs todo : List ClassDecl) (size : ℕ) (left : List (List (List ℕ))) (ss : List Statement)
-      → length cs + length todo ≤ classes → All (ClassFits classes h.natives) todo → count_by is_server (cs ++ todo) ≤ 8 → size + 28 * length todo ≤ 2 ^ 20
+      → length cs + length todo ≤ classes → All (ClassFits classes h.natives) todo → All fits_parent todo → count_by is_server (cs ++ todo) ≤ 8 → size + sum_by (class_bytes h.version) todo ≤ 2 ^ 20
       → all_words ss ≡ classes_statements (length cs) todo ++ left
-      → Goes last scope (read_so_far h cs [] None size) ss (read_so_far h (cs ++ todo) [] None (size + 28 * length todo)) left
-  classes_go cs [] size left ss there fits few enough words =
-      let same : size ≡ size + 28 * 0 = omega arith in
+      → Goes last scope (read_so_far h cs [] None size) ss (read_so_far h (cs ++ todo) [] None (size + sum_by (class_bytes h.version) todo)) left
+  classes_go cs [] size left ss there fits parents few enough words =
+      let same : size ≡ size + 0 = omega arith in
       stays ss (ap (λ l. read_so_far h l [] None size) (sym (append-nil cs)) ∙ ap (λ n. read_so_far h (cs ++ []) [] None n) same) words
-  classes_go cs (c ∷ todo) size left ss there fits few enough words =
+  classes_go cs (c ∷ todo) size left ss there fits parents few enough words =
       let longer : length (cs ++ c ∷ []) ≡ length cs + 1 = length-append cs (c ∷ []) in
       let regrouped : (cs ++ c ∷ []) ++ todo ≡ cs ++ c ∷ todo = append_assoc cs (c ∷ []) todo in
-      let summed : (size + 28) + 28 * length todo ≡ size + 28 * suc (length todo) = omega arith in
+      let total : sum_by (class_bytes h.version) (c ∷ todo) ≡ (28 + more) + sum_by (class_bytes h.version) todo = sum_by-cons (class_bytes h.version) c todo in
+      let summed : (size + (28 + more)) + sum_by (class_bytes h.version) todo ≡ size + sum_by (class_bytes h.version) (c ∷ todo) = omega arith in
       goes_on
-      (steps {q = read_so_far h (cs ++ c ∷ []) [] None (size + 28)} {left = classes_statements (length cs + 1) todo ++ left} ss words
-      (λ rest behind. class_steps cs c size rest (omega arith) (All-head (ClassFits classes h.natives) c todo fits) (few_before cs c todo few) (omega arith)))
-      (λ rest behind. arrives (ap (λ l. read_so_far h l [] None ((size + 28) + 28 * length todo)) regrouped ∙ ap (λ n. read_so_far h (cs ++ c ∷ todo) [] None n) summed)
-      (classes_go (cs ++ c ∷ []) todo (size + 28) left rest (omega arith) (All-tail (ClassFits classes h.natives) c todo fits) (subst (λ l. count_by is_server l ≤ 8) (sym regrouped) few) (omega arith)
+      (steps {q = read_so_far h (cs ++ c ∷ []) [] None (size + (28 + more))} {left = classes_statements (length cs + 1) todo ++ left} ss words
+      (λ rest behind. class_steps cs c size rest (omega arith) (All-head (ClassFits classes h.natives) c todo fits) (All-head fits_parent c todo parents) (few_before cs c todo few) (omega arith)))
+      (λ rest behind. arrives (ap (λ l. read_so_far h l [] None ((size + (28 + more)) + sum_by (class_bytes h.version) todo)) regrouped ∙ ap (λ n. read_so_far h (cs ++ c ∷ todo) [] None n) summed)
+      (classes_go (cs ++ c ∷ []) todo (size + (28 + more)) left rest (omega arith) (All-tail (ClassFits classes h.natives) c todo fits) (All-tail fits_parent c todo parents) (subst (λ l. count_by is_server l ≤ 8) (sym regrouped) few) (omega arith)
       (behind ∙ ap (λ n. classes_statements n todo ++ left) (sym longer))))
 
   -- ---- methods
@@ -145,18 +151,18 @@ module _ (last : ℕ) (h : Header) (classes methods : ℕ) (scope : Scope) (name
     abbrev opened : List Method → Method → List Instr → ℕ → Program
     opened ms m code size = read_so_far h cs ms (Some (body_of m code)) size
 
-    heading_steps : (ms : List Method) (m : Method) (size : ℕ) (left : List (List (List ℕ))) (rest : List Statement) → length ms < methods → MethodFits classes methods m → SaysQuiet m → size + 24 ≤ 2 ^ 20
+    heading_steps : (ms : List Method) (m : Method) (size : ℕ) (left : List (List (List ℕ))) (rest : List Statement) → length ms < methods → MethodFits classes methods m → OverFits h.version methods m.over → SaysQuiet m → size + (24 + more) ≤ 2 ^ 20
         → all_words rest ≡ instr_statements m.code 0 m.code ++ end_words ∷ left
-        → step scope rest (read_so_far h cs ms None size) (heading_words (length ms) m) ≡ Ok (opened ms m [] (size + 24))
-    heading_steps ms m size left rest there fits quiet enough words =
+        → step scope rest (read_so_far h cs ms None size) (heading_words (length ms) m) ≡ Ok (opened ms m [] (size + (24 + more)))
+    heading_steps ms m size left rest there fits over quiet enough words =
         let few_methods = names.few_methods in
         let ws = others_of (heading_words (length ms) m) in
         let p = read_so_far h cs ms None size in
         ap (λ e. e >>= λ key. declaration scope rest p key.0 key.1) ((takes_any_keyword k.Method).reads ws)
-        ∙ ap (λ b. if b then (heading scope (length ms) ws >>= λ x. grown 24 size >>= λ n. Ok (read_so_far h cs ms (Some (record { heading = x.0; labels = labels_of [] rest; code = [] })) n)) else Err LimitPassed) (lt-ltb (length ms) 1024 (omega arith))
-        ∙ ap (λ e. e >>= λ x. grown 24 size >>= λ n. Ok (read_so_far h cs ms (Some (record { heading = x.0; labels = labels_of [] rest; code = [] })) n)) (heading_reads names (length ms) m there fits quiet)
-        ∙ ap (λ e. e >>= λ n. Ok (read_so_far h cs ms (Some (record { heading = heading_of m; labels = labels_of [] rest; code = [] })) n)) (room 24 size enough)
-        ∙ ap (λ l. Ok (read_so_far h cs ms (Some (record { heading = heading_of m; labels = l; code = [] })) (size + 24))) (labels_there m.code 0 m.code [] left rest words)
+        ∙ ap (λ b. if b then (heading scope h.version (length ms) ws >>= λ x. grown (24 + more) size >>= λ n. Ok (read_so_far h cs ms (Some (record { heading = x.0; labels = labels_of [] rest; code = [] })) n)) else Err LimitPassed) (lt-ltb (length ms) 1024 (omega arith))
+        ∙ ap (λ e. e >>= λ x. grown (24 + more) size >>= λ n. Ok (read_so_far h cs ms (Some (record { heading = x.0; labels = labels_of [] rest; code = [] })) n)) (heading_reads names h.version (length ms) m there fits over quiet)
+        ∙ ap (λ e. e >>= λ n. Ok (read_so_far h cs ms (Some (record { heading = heading_of m; labels = labels_of [] rest; code = [] })) n)) (room (24 + more) size enough)
+        ∙ ap (λ l. Ok (read_so_far h cs ms (Some (record { heading = heading_of m; labels = l; code = [] })) (size + (24 + more)))) (labels_there m.code 0 m.code [] left rest words)
 
     -- the instruction is read behind those that were read, and put behind them
     abbrev added : List Method → Method → List Instr → ℕ → Result (Instr × List (List ℕ)) AsmFaultKind → Result Program AsmFaultKind
@@ -197,37 +203,38 @@ module _ (last : ℕ) (h : Header) (classes methods : ℕ) (scope : Scope) (name
     end_steps ms m size rest some =
         ap (λ t. (if t then Err LimitPassed else Ok m) >>= λ x. Ok (read_so_far h cs (ms ++ x ∷ []) None size)) (ne_eqb (length m.code) 0 (λ none. omega arith))
 
-    method_goes : (ms : List Method) (m : Method) (size : ℕ) (left : List (List (List ℕ))) (ss : List Statement) → length ms < methods → MethodFits classes methods m → SaysQuiet m → size + spelled m ≤ 2 ^ 20
+    method_goes : (ms : List Method) (m : Method) (size : ℕ) (left : List (List (List ℕ))) (ss : List Statement) → length ms < methods → MethodFits classes methods m → OverFits h.version methods m.over → SaysQuiet m → size + spelled h.version m ≤ 2 ^ 20
         → all_words ss ≡ method_statements (length ms) m ++ left
-        → Goes last scope (read_so_far h cs ms None size) ss (read_so_far h cs (ms ++ m ∷ []) None (size + spelled m)) left
-    method_goes ms m size left ss there fits quiet enough words =
+        → Goes last scope (read_so_far h cs ms None size) ss (read_so_far h cs (ms ++ m ∷ []) None (size + spelled h.version m)) left
+    method_goes ms m size left ss there fits over quiet enough words =
         let code = instr_statements m.code 0 m.code in
         let heading = heading_words (length ms) m in
         let inner : (code ++ end_words ∷ []) ++ left ≡ code ++ end_words ∷ left = append_assoc code (end_words ∷ []) left in
-        let summed : (size + 24) + 8 * length m.code ≡ size + spelled m = omega arith in
+        let summed : (size + (24 + more)) + 8 * length m.code ≡ size + spelled h.version m = omega arith in
         arrives (ap (λ n. read_so_far h cs (ms ++ m ∷ []) None n) summed) (
         goes_on
-        (steps {q = opened ms m [] (size + 24)} {left = code ++ end_words ∷ left} ss (words ∙ ap (λ l. heading ∷ l) inner)
-        (λ rest behind. heading_steps ms m size left rest there fits quiet (omega arith) behind))
+        (steps {q = opened ms m [] (size + (24 + more))} {left = code ++ end_words ∷ left} ss (words ∙ ap (λ l. heading ∷ l) inner)
+        (λ rest behind. heading_steps ms m size left rest there fits over quiet (omega arith) behind))
         (λ rest behind. goes_on
-        (instructions_go ms m [] m.code (size + 24) (end_words ∷ left) rest fits refl fits.code (omega arith) behind)
-        (λ rest behind. steps rest behind (λ rest behind. end_steps ms m ((size + 24) + 8 * length m.code) rest fits.some_code))))
+        (instructions_go ms m [] m.code (size + (24 + more)) (end_words ∷ left) rest fits refl fits.code (omega arith) behind)
+        (λ rest behind. steps rest behind (λ rest behind. end_steps ms m ((size + (24 + more)) + 8 * length m.code) rest fits.some_code))))
 
     pub methods_go : (ms todo : List Method) (size : ℕ) (left : List (List (List ℕ))) (ss : List Statement)
-        → length ms + length todo ≤ methods → All (MethodFits classes methods) todo → All SaysQuiet todo → size + sum_by spelled todo ≤ 2 ^ 20
+        → length ms + length todo ≤ methods → All (MethodFits classes methods) todo → All (λ m. OverFits h.version methods m.over) todo → All SaysQuiet todo → size + sum_by (spelled h.version) todo ≤ 2 ^ 20
         → all_words ss ≡ methods_statements (length ms) todo ++ left
-        → Goes last scope (read_so_far h cs ms None size) ss (read_so_far h cs (ms ++ todo) None (size + sum_by spelled todo)) left
-    methods_go ms [] size left ss there fits quiet enough words =
+        → Goes last scope (read_so_far h cs ms None size) ss (read_so_far h cs (ms ++ todo) None (size + sum_by (spelled h.version) todo)) left
+    methods_go ms [] size left ss there fits overs quiet enough words =
         let same : size ≡ size + 0 = omega arith in
         stays ss (ap (λ l. read_so_far h cs l None size) (sym (append-nil ms)) ∙ ap (λ n. read_so_far h cs (ms ++ []) None n) same) words
-    methods_go ms (m ∷ todo) size left ss there fits quiet enough words =
+    methods_go ms (m ∷ todo) size left ss there fits overs quiet enough words =
         let longer : length (ms ++ m ∷ []) ≡ length ms + 1 = length-append ms (m ∷ []) in
         let regrouped : (ms ++ m ∷ []) ++ todo ≡ ms ++ m ∷ todo = append_assoc ms (m ∷ []) todo in
-        let total : sum_by spelled (m ∷ todo) ≡ spelled m + sum_by spelled todo = sum_by-cons spelled m todo in
-        let summed : (size + spelled m) + sum_by spelled todo ≡ size + sum_by spelled (m ∷ todo) = omega arith in
+        let bytes = spelled h.version in
+        let total : sum_by bytes (m ∷ todo) ≡ bytes m + sum_by bytes todo = sum_by-cons bytes m todo in
+        let summed : (size + bytes m) + sum_by bytes todo ≡ size + sum_by bytes (m ∷ todo) = omega arith in
         goes_on
-        (method_goes ms m size (methods_statements (length ms + 1) todo ++ left) ss (omega arith) (All-head (MethodFits classes methods) m todo fits) (All-head SaysQuiet m todo quiet) (omega arith)
+        (method_goes ms m size (methods_statements (length ms + 1) todo ++ left) ss (omega arith) (All-head (MethodFits classes methods) m todo fits) (All-head (λ m. OverFits h.version methods m.over) m todo overs) (All-head SaysQuiet m todo quiet) (omega arith)
         (words ∙ append_assoc (method_statements (length ms) m) (methods_statements (length ms + 1) todo) left))
-        (λ rest behind. arrives (ap (λ l. read_so_far h cs l None ((size + spelled m) + sum_by spelled todo)) regrouped ∙ ap (λ n. read_so_far h cs (ms ++ m ∷ todo) None n) summed)
-        (methods_go (ms ++ m ∷ []) todo (size + spelled m) left rest (omega arith) (All-tail (MethodFits classes methods) m todo fits) (All-tail SaysQuiet m todo quiet) (omega arith)
+        (λ rest behind. arrives (ap (λ l. read_so_far h cs l None ((size + bytes m) + sum_by bytes todo)) regrouped ∙ ap (λ n. read_so_far h cs (ms ++ m ∷ todo) None n) summed)
+        (methods_go (ms ++ m ∷ []) todo (size + bytes m) left rest (omega arith) (All-tail (MethodFits classes methods) m todo fits) (All-tail (λ m. OverFits h.version methods m.over) m todo overs) (All-tail SaysQuiet m todo quiet) (omega arith)
         (behind ∙ ap (λ n. methods_statements n todo ++ left) (sym longer))))

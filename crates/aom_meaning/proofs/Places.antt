@@ -1,5 +1,5 @@
 -- Where a name is declared once, it is found at its place, and the other way round.
-use Rattle.std.proofs.Common.{◌≡◌, ℕ, ◌<◌, Bool, true, false, List, [], length, Option, Some, None, Ok, sym, ap, ◌∙◌, arith, cond, get_or, nat_lt}
+use Rattle.std.proofs.Common.{◌≡◌, ℕ, ◌<◌, ◌≤◌, Bool, true, false, List, [], length, Option, Some, None, Ok, sym, ap, ◌∙◌, arith, cond, get_or, nat_lt}
 use Rattle.std.specs.Prelude.{if◌then◌else◌}
 use Rattle.std.specs.Str.{bytes_eq}
 use Rattle.std.proofs.lemmas.Bool.{lt-ltb, false_from_ne_true}
@@ -44,12 +44,14 @@ refers b limit n below = ap (λ c. if c then Ok n else nowhere b) (lt-ltb n limi
 abbrev pub scoped : Bool → Names → List ClassDecl → Scope
 scoped b names kinds = record { is_strict = b; classes = names.classes; methods = names.methods; kinds = kinds }
 
-pub looks_up : (b : Bool) (names : Names) (kinds : List ClassDecl) → DeclaredOnce names.classes → length names.classes < 257 → LooksUp names (scoped b names kinds)
-looks_up b names kinds once few = record {
-  class = λ w n is.
-      let within = slice_get_within names.classes n w is.declared in
-      ap (referred b 256) (found_once names.classes w n once is) ∙ refers b 256 n (omega arith);
-}
+looks : (b : Bool) (limit : ℕ) (space : List (List ℕ)) → DeclaredOnce space → length space ≤ limit → (w : List ℕ) (n : ℕ) → IsNumbered space w n → referred b limit (place_of w space) ≡ Ok n
+looks b limit space once few w n is =
+    let within = slice_get_within space n w is.declared in
+    ap (referred b limit) (found_once space w n once is) ∙ refers b limit n (omega arith)
+
+pub looks_up : (b : Bool) (names : Names) (kinds : List ClassDecl) → DeclaredOnce names.classes → length names.classes ≤ 256 → DeclaredOnce names.methods → length names.methods ≤ 1024
+    → LooksUp names (scoped b names kinds)
+looks_up b names kinds classes few_classes methods few_methods = record { class = looks b 256 names.classes classes few_classes; method = looks b 1024 names.methods methods few_methods }
 
 -- what is found where names are told apart is found where they are not
 loosens : (b : Bool) (limit : ℕ) (o : Option ℕ) (n : ℕ) → referred true limit o ≡ Ok n → referred b limit o ≡ Ok n

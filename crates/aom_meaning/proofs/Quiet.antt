@@ -5,7 +5,6 @@ use Rattle.aom_image.specs.Views.{has}
 use Rattle.aom_image.specs.declared.class.ClassKind.{ClassKind}
 use Rattle.aom_image.specs.declared.method.Method.{Method}
 use Rattle.aom_image.specs.declared.method.Role.{Role}
-use Rattle.aom_image.specs.declared.method.Role.TheVariants as roles
 use Rattle.aom_syntax.specs.Methods.{is_quiet_role}
 use Rattle.aom_roles.specs.Shapes.{AllShaped, HasShape}
 use Rattle.aom_meaning.specs.Texts.{AllSayQuiet}

@@ -1,14 +1,17 @@
 -- The names that a listing declares are those of its classes and methods, each at its number.
 use Rattle.std.proofs.Common.{◌≡◌, ℕ, zero, suc, ◌+◌, ◌<◌, ◌≤◌, inl, Bool, true, false, List, [], ◌∷◌, ◌++◌, length, get_or, Some, None, refl, sym, ap, ◌∙◌, append_assoc, append-nil, arith}
+use Rattle.aom_text.specs.Words.{others_of}
 use Rattle.aom_text.specs.declared.text.Statement.{Statement}
 use Rattle.aom_image.specs.Image.{Image}
 use Rattle.aom_image.specs.declared.class.ClassDecl.{ClassDecl}
 use Rattle.aom_instructions.specs.declared.instr.Instr.{Instr}
 use Rattle.aom_instructions.specs.declared.instr.Instr.TheVariants as instr
 use Rattle.aom_image.specs.declared.method.Method.{Method}
+use Rattle.aom_syntax.specs.Keywords.{keyword_text}
 use Rattle.aom_syntax.specs.Names.{place_of}
 use Rattle.aom_syntax.specs.declared.keyword.Keyword.{Keyword}
 use Rattle.aom_syntax.specs.declared.keyword.Keyword.TheVariants as k
+use Rattle.aom_listing.specs.Headers.{header_words}
 use Rattle.aom_listing.specs.Jumps.{is_target}
 use Rattle.aom_listing.specs.Listing.{classes_statements, end_words, instr_statements, label_words, listing, method_statements, methods_statements}
 use Rattle.aom_listing.specs.Operands.{class_name, method_name}
@@ -109,9 +112,19 @@ method_names_of_methods n (m ∷ ms) names =
 
 -- ---- the whole
 
+-- the image statement declares none
+pub image_no_class : (ws : List (List ℕ)) → name_after k.Class (keyword_text k.Image ∷ ws) ≡ None
+image_no_class [] = refl
+image_no_class (w ∷ ws) = refl
+
+pub image_no_method : (ws : List (List ℕ)) → name_after k.Method (keyword_text k.Image ∷ ws) ≡ None
+image_no_method [] = refl
+image_no_method (w ∷ ws) = refl
+
 declared_classes : (i : Image) (ss : List Statement) → all_words ss ≡ listing i → declared_names k.Class [] ss ≡ names_from class_name 0 i.classes
 declared_classes i ss words =
     declared_by_words k.Class [] ss ∙ ap (by_words k.Class []) words
+    ∙ ap (λ o. by_words k.Class (with_name [] o) (classes_statements 0 i.classes ++ methods_statements 0 i.methods)) (image_no_class (others_of (header_words i.header)))
     ∙ by_words_more k.Class [] (classes_statements 0 i.classes) (methods_statements 0 i.methods)
     ∙ class_names_of_methods 0 i.methods (by_words k.Class [] (classes_statements 0 i.classes))
     ∙ class_names_of_classes 0 i.classes []
@@ -119,6 +132,7 @@ declared_classes i ss words =
 declared_methods : (i : Image) (ss : List Statement) → all_words ss ≡ listing i → declared_names k.Method [] ss ≡ names_from method_name 0 i.methods
 declared_methods i ss words =
     declared_by_words k.Method [] ss ∙ ap (by_words k.Method []) words
+    ∙ ap (λ o. by_words k.Method (with_name [] o) (classes_statements 0 i.classes ++ methods_statements 0 i.methods)) (image_no_method (others_of (header_words i.header)))
     ∙ by_words_more k.Method [] (classes_statements 0 i.classes) (methods_statements 0 i.methods)
     ∙ ap (λ l. by_words k.Method l (methods_statements 0 i.methods)) (method_names_of_classes 0 i.classes [])
     ∙ method_names_of_methods 0 i.methods []

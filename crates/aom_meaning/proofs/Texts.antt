@@ -20,7 +20,7 @@ use Rattle.aom_asm.specs.TextNames.{declared_names, is_end, label_in, label_or_n
 use Rattle.aom_meaning.specs.Texts.{all_words}
 use Rattle.aom_meaning.proofs.Statements.{label_cut}
 use Rattle.aom_meaning.proofs.Tables.{mnemonic_is_no_label}
-use Rattle.aom_meaning.proofs.TextNames.{by_words, by_words_more, declared_by_words}
+use Rattle.aom_meaning.proofs.TextNames.{by_words, by_words_more, declared_by_words, image_no_class, image_no_method}
 use Rattle.aom_meaning.specs.Denotes.{names_of}
 use Rattle.aom_meaning.specs.Meaning.{DeclaredOnce, Names, labels_of}
 use Rattle.aom_meaning.specs.Source as source
@@ -98,15 +98,6 @@ method_names (source.method t ∷ ds) names =
     ∙ ap (λ l. by_words k.Method l (declared_statements ds)) (body_nameless k.Method (record { mnemonic = method_foreign; label = refl }) t.code (names ++ t.heading.name ∷ []))
     ∙ method_names ds (names ++ t.heading.name ∷ [])
     ∙ append_assoc names (t.heading.name ∷ []) (map (λ t. t.heading.name) (methods_of ds))
-
--- the image statement declares none
-image_no_class : (ws : List (List ℕ)) → name_after k.Class (keyword_text k.Image ∷ ws) ≡ None
-image_no_class [] = refl
-image_no_class (w ∷ ws) = refl
-
-image_no_method : (ws : List (List ℕ)) → name_after k.Method (keyword_text k.Image ∷ ws) ≡ None
-image_no_method [] = refl
-image_no_method (w ∷ ws) = refl
 
 -- the names that statements declare
 abbrev pub text_names : List Statement → Names

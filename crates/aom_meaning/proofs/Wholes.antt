@@ -9,7 +9,8 @@ use Rattle.aom_text.specs.Names.{is_name}
 use Rattle.aom_text.specs.declared.fault.AsmFaultKind.{AsmFaultKind}
 use Rattle.aom_text.specs.declared.fault.AsmFaultKind.TheVariants.{LimitPassed}
 use Rattle.aom_text.specs.declared.text.Statement.{Statement}
-use Rattle.aom_image.specs.WellFormed.{is_server}
+use Rattle.aom_image.specs.WellFormed.{family_bytes, is_server}
+use Rattle.aom_image.specs.declared.image.Version.{Version}
 use Rattle.aom_image.specs.declared.class.ClassDecl.{ClassDecl}
 use Rattle.aom_image.specs.declared.image.Header.{Header}
 use Rattle.aom_instructions.specs.declared.instr.Instr.{Instr}
@@ -27,7 +28,8 @@ use Rattle.aom_asm.specs.TextNames.{labels_of as labels_until, label_or_none}
 use Rattle.aom_meaning.specs.Naming.{heading_of}
 use Rattle.aom_meaning.specs.Texts.{all_words}
 use Rattle.aom_meaning.proofs.Following.{Goes, arrives, at_seam, goes_on, room, stays, steps}
-use Rattle.aom_meaning.proofs.Parts.{few_before, read_so_far, spelled}
+use Rattle.aom_asm.proofs.WellRead.{class_bytes, spelled}
+use Rattle.aom_meaning.proofs.Parts.{few_before, read_so_far}
 use Rattle.aom_meaning.proofs.Readings.{takes_any_keyword}
 use Rattle.aom_meaning.specs.Meaning.{ClassMeans, DeclaredOnce, HeadingMeans, InstructionMeans, MethodMeans, Names, labels_of}
 use Rattle.aom_meaning.specs.Source as source
@@ -48,22 +50,22 @@ regrouped front x xs = sym (append_assoc front (x ∷ []) xs)
 at_place : (space front : List (List ℕ)) (w : List ℕ) (ws : List (List ℕ)) → DeclaredOnce space → space ≡ front ++ w ∷ ws → is_name w ≡ true → place_of w space ≡ Some (length front)
 at_place space front w ws once whole is = found_once space w (length front) once (record { is_name = is; declared = ap (λ l. slice_get l (length front)) whole ∙ at_seam front w ws })
 
-pub classes_placed : (names : Names) (natives : ℕ) (space : List (List ℕ)) → DeclaredOnce space → (front : List (List ℕ)) (ts : List ClassText) (cs : List ClassDecl)
-    → Pairs (ClassMeans names natives) ts cs → space ≡ front ++ map (λ t. t.name) ts → Placed space (length front) (map (λ t. t.name) ts)
-classes_placed names natives space once front _ _ no_pair whole = tt
-classes_placed names natives space once front _ _ (a_pair t ts c cs here more) whole = (
+pub classes_placed : (names : Names) (version : Version) (natives : ℕ) (space : List (List ℕ)) → DeclaredOnce space → (front : List (List ℕ)) (ts : List ClassText) (cs : List ClassDecl)
+    → Pairs (ClassMeans names version natives) ts cs → space ≡ front ++ map (λ t. t.name) ts → Placed space (length front) (map (λ t. t.name) ts)
+classes_placed names version natives space once front _ _ no_pair whole = tt
+classes_placed names version natives space once front _ _ (a_pair t ts c cs here more) whole = (
   at_place space front t.name (map (λ t. t.name) ts) once whole here.name,
-  subst (λ n. Placed space n (map (λ t. t.name) ts)) (length_push front t.name) (classes_placed names natives space once (front ++ t.name ∷ []) ts cs more
+  subst (λ n. Placed space n (map (λ t. t.name) ts)) (length_push front t.name) (classes_placed names version natives space once (front ++ t.name ∷ []) ts cs more
       (whole ∙ regrouped front t.name (map (λ t. t.name) ts))),
 )
 
-pub methods_placed : (names : Names) (b : Bool) (kinds : List ClassDecl) (space : List (List ℕ)) → DeclaredOnce space → (front : List (List ℕ)) (ts : List MethodText) (ms : List Method)
-    → Pairs (MethodMeans names b kinds) ts ms → space ≡ front ++ map (λ t. t.heading.name) ts → Placed space (length front) (map (λ t. t.heading.name) ts)
-methods_placed names b kinds space once front _ _ no_pair whole = tt
-methods_placed names b kinds space once front _ _ (a_pair t ts m ms here more) whole = (
+pub methods_placed : (names : Names) (version : Version) (b : Bool) (kinds : List ClassDecl) (space : List (List ℕ)) → DeclaredOnce space → (front : List (List ℕ)) (ts : List MethodText) (ms : List Method)
+    → Pairs (MethodMeans names version b kinds) ts ms → space ≡ front ++ map (λ t. t.heading.name) ts → Placed space (length front) (map (λ t. t.heading.name) ts)
+methods_placed names version b kinds space once front _ _ no_pair whole = tt
+methods_placed names version b kinds space once front _ _ (a_pair t ts m ms here more) whole = (
   at_place space front t.heading.name (map (λ t. t.heading.name) ts) once whole here.heading.name,
   subst (λ n. Placed space n (map (λ t. t.heading.name) ts)) (length_push front t.heading.name)
-      (methods_placed names b kinds space once (front ++ t.heading.name ∷ []) ts ms more (whole ∙ regrouped front t.heading.name (map (λ t. t.heading.name) ts))),
+      (methods_placed names version b kinds space once (front ++ t.heading.name ∷ []) ts ms more (whole ∙ regrouped front t.heading.name (map (λ t. t.heading.name) ts))),
 )
 
 one_label : (labels front : List (List ℕ)) (label : Option (List ℕ)) (rest : List (List ℕ)) → DeclaredOnce labels → labels ≡ front ++ label_or_none label ∷ rest
@@ -86,17 +88,21 @@ module _ (last : ℕ) (names : Names) (h : Header) (b : Bool) (kinds : List Clas
   abbrev scope : Scope
   scope = scoped b names kinds
 
-  class_step : (cs : List ClassDecl) (ms : List Method) (t : ClassText) (c : ClassDecl) (size : ℕ) (rest : List Statement) → length cs < 256 → ClassMeans names h.natives t c
-      → place_of t.name names.classes ≡ Some (length cs) → (is_server c ≡ true → count_by is_server cs < 8) → size + 28 ≤ 2 ^ 20
-      → step scope rest (read_so_far h cs ms None size) (class_words t) ≡ Ok (read_so_far h (cs ++ c ∷ []) ms None (size + 28))
+  -- what tells of families in each class and method
+  abbrev more : ℕ
+  more = family_bytes h.version
+
+  class_step : (cs : List ClassDecl) (ms : List Method) (t : ClassText) (c : ClassDecl) (size : ℕ) (rest : List Statement) → length cs < 256 → ClassMeans names h.version h.natives t c
+      → place_of t.name names.classes ≡ Some (length cs) → (is_server c ≡ true → count_by is_server cs < 8) → size + (28 + more) ≤ 2 ^ 20
+      → step scope rest (read_so_far h cs ms None size) (class_words t) ≡ Ok (read_so_far h (cs ++ c ∷ []) ms None (size + (28 + more)))
   class_step cs ms t c size rest few means placed servers enough =
-      let words = t.name ∷ (kind_words t.kind ++ (part k.Words t.words ++ (part k.Own t.own ++ part k.Budget t.budget))) in
+      let words = t.name ∷ (kind_words t.kind ++ (part k.From t.parent ++ (part k.Words t.words ++ (part k.Own t.own ++ part k.Budget t.budget)))) in
       let p = read_so_far h cs ms None size in
       ap (λ e. e >>= λ key. declaration scope rest p key.0 key.1) ((takes_any_keyword k.Class).reads words)
-      ∙ ap (λ b. if b then (class_statement scope h.natives (length cs) (count_by is_server cs) words >>= λ x. grown 28 size >>= λ n. Ok
+      ∙ ap (λ b. if b then (class_statement scope h.version h.natives (length cs) (count_by is_server cs) words >>= λ x. grown (28 + more) size >>= λ n. Ok
       (read_so_far h (cs ++ x.0 ∷ []) ms None n)) else Err LimitPassed) (lt-ltb (length cs) 256 few)
-      ∙ ap (λ e. e >>= λ x. grown 28 size >>= λ n. Ok (read_so_far h (cs ++ x.0 ∷ []) ms None n)) (class_reads looks h.natives (count_by is_server cs) (length cs) t c means placed servers).reads
-      ∙ ap (λ e. e >>= λ n. Ok (read_so_far h (cs ++ c ∷ []) ms None n)) (room 28 size enough)
+      ∙ ap (λ e. e >>= λ x. grown (28 + more) size >>= λ n. Ok (read_so_far h (cs ++ x.0 ∷ []) ms None n)) (class_reads looks h.natives (count_by is_server cs) h.version (length cs) t c means placed servers).reads
+      ∙ ap (λ e. e >>= λ n. Ok (read_so_far h (cs ++ c ∷ []) ms None n)) (room (28 + more) size enough)
 
   module _ (cs : List ClassDecl) where
     -- a method that is being read
@@ -107,19 +113,19 @@ module _ (last : ℕ) (names : Names) (h : Header) (b : Bool) (kinds : List Clas
     open_method ms t m code size = read_so_far h cs ms (Some (body_of t m code)) size
 
     heading_step : (ms : List Method) (t : MethodText) (m : Method) (size : ℕ) (left : List (List (List ℕ))) (rest : List Statement) → length ms < 1024
-        → HeadingMeans names b kinds t.heading (heading_of m) → place_of t.heading.name names.methods ≡ Some (length ms) → size + 24 ≤ 2 ^ 20
+        → HeadingMeans names h.version b kinds t.heading (heading_of m) → place_of t.heading.name names.methods ≡ Some (length ms) → size + (24 + more) ≤ 2 ^ 20
         → all_words rest ≡ map instruction_words t.code ++ (end_words ∷ left)
-        → step scope rest (read_so_far h cs ms None size) (heading_words t.heading) ≡ Ok (open_method ms t m [] (size + 24))
+        → step scope rest (read_so_far h cs ms None size) (heading_words t.heading) ≡ Ok (open_method ms t m [] (size + (24 + more)))
     heading_step ms t m size left rest few means placed enough words =
         let ws = t.heading.name ∷ keyword_text t.heading.role ∷ promise_words t.heading in
         let p = read_so_far h cs ms None size in
         ap (λ e. e >>= λ key. declaration scope rest p key.0 key.1) ((takes_any_keyword k.Method).reads ws)
-        ∙ ap (λ b. if b then (heading scope (length ms) ws >>= λ x. grown 24 size >>= λ n. Ok
+        ∙ ap (λ b. if b then (heading scope h.version (length ms) ws >>= λ x. grown (24 + more) size >>= λ n. Ok
         (read_so_far h cs ms (Some (record { heading = x.0; labels = labels_until [] rest; code = [] })) n)) else Err LimitPassed) (lt-ltb (length ms) 1024 few)
-        ∙ ap (λ e. e >>= λ x. grown 24 size >>= λ n. Ok (read_so_far h cs ms (Some (record { heading = x.0; labels = labels_until [] rest; code = [] })) n))
-        (heading_reads looks (length ms) t.heading (heading_of m) means placed).reads
-        ∙ ap (λ e. e >>= λ n. Ok (read_so_far h cs ms (Some (record { heading = heading_of m; labels = labels_until [] rest; code = [] })) n)) (room 24 size enough)
-        ∙ ap (λ l. Ok (read_so_far h cs ms (Some (record { heading = heading_of m; labels = l; code = [] })) (size + 24))) (labels_there t.code left [] rest words)
+        ∙ ap (λ e. e >>= λ x. grown (24 + more) size >>= λ n. Ok (read_so_far h cs ms (Some (record { heading = x.0; labels = labels_until [] rest; code = [] })) n))
+        (heading_reads looks h.version (length ms) t.heading (heading_of m) means placed).reads
+        ∙ ap (λ e. e >>= λ n. Ok (read_so_far h cs ms (Some (record { heading = heading_of m; labels = labels_until [] rest; code = [] })) n)) (room (24 + more) size enough)
+        ∙ ap (λ l. Ok (read_so_far h cs ms (Some (record { heading = heading_of m; labels = l; code = [] })) (size + (24 + more)))) (labels_there t.code left [] rest words)
 
     -- the instruction is put behind those that were read
     abbrev added : List Method → MethodText → Method → List Instr → ℕ → Result (Instr × List (List ℕ)) AsmFaultKind → Result Program AsmFaultKind
@@ -158,57 +164,60 @@ module _ (last : ℕ) (names : Names) (h : Header) (b : Bool) (kinds : List Clas
         (λ rest behind. arrives (ap (λ l. open_method ms t m l ((size + 8) + 8 * length todo)) (append_assoc done (i ∷ []) todo) ∙ ap (λ n. open_method ms t m (done ++ i ∷ todo) n) summed)
         (code_goes ms t m (done ++ i ∷ []) ts todo (size + 8) left rest (omega arith) more (subst (λ n. LabelsPlaced (labels_of t.code) n ts) (sym count) placed.1) (omega arith) behind))
 
-    method_goes : (ms : List Method) (t : MethodText) (m : Method) (size : ℕ) (left : List (List (List ℕ))) (ss : List Statement) → length ms < 1024 → MethodMeans names b kinds t m
-        → place_of t.heading.name names.methods ≡ Some (length ms) → size + spelled m ≤ 2 ^ 20
+    method_goes : (ms : List Method) (t : MethodText) (m : Method) (size : ℕ) (left : List (List (List ℕ))) (ss : List Statement) → length ms < 1024 → MethodMeans names h.version b kinds t m
+        → place_of t.heading.name names.methods ≡ Some (length ms) → size + spelled h.version m ≤ 2 ^ 20
         → all_words ss ≡ heading_words t.heading ∷ (map instruction_words t.code ++ (end_words ∷ left))
-        → Goes last scope (read_so_far h cs ms None size) ss (read_so_far h cs (ms ++ m ∷ []) None (size + spelled m)) left
+        → Goes last scope (read_so_far h cs ms None size) ss (read_so_far h cs (ms ++ m ∷ []) None (size + spelled h.version m)) left
     method_goes ms t m size left ss few means placed enough words =
         let some = means.some in
         let short = means.few in
         let code = pairs (InstructionMeans names (labels_of t.code)) t.code m.code means.code in
-        let summed : (size + 24) + 8 * length m.code ≡ size + spelled m = omega arith in
+        let summed : (size + (24 + more)) + 8 * length m.code ≡ size + spelled h.version m = omega arith in
         goes_on
-        (steps {q = open_method ms t m [] (size + 24)} {left = map instruction_words t.code ++ (end_words ∷ left)} ss words
+        (steps {q = open_method ms t m [] (size + (24 + more))} {left = map instruction_words t.code ++ (end_words ∷ left)} ss words
         (λ rest behind. heading_step ms t m size left rest few means.heading placed (omega arith) behind))
         (λ rest behind. goes_on
-        (code_goes ms t m [] t.code m.code (size + 24) (end_words ∷ left) rest (omega arith) code
+        (code_goes ms t m [] t.code m.code (size + (24 + more)) (end_words ∷ left) rest (omega arith) code
         (labels_placed names (labels_of t.code) (labels_of t.code) means.labels [] t.code m.code code refl) (omega arith) behind)
         (λ later others. arrives (ap (λ n. read_so_far h cs (ms ++ m ∷ []) None n) summed)
-        (goes_on (steps {q = read_so_far h cs (ms ++ m ∷ []) None ((size + 24) + 8 * length m.code)} {left = left} later others
-        (λ rest behind. end_step ms t m ((size + 24) + 8 * length m.code) rest some)) (λ rest behind. stays rest refl behind))))
+        (goes_on (steps {q = read_so_far h cs (ms ++ m ∷ []) None ((size + (24 + more)) + 8 * length m.code)} {left = left} later others
+        (λ rest behind. end_step ms t m ((size + (24 + more)) + 8 * length m.code) rest some)) (λ rest behind. stays rest refl behind))))
 
   -- ---- declarations
 
   pub declarations_go : (ds : List Declaration) (cs todo : List ClassDecl) (ms left : List Method) (size : ℕ) (ss : List Statement)
-      → Pairs (ClassMeans names h.natives) (classes_of ds) todo → Pairs (MethodMeans names b kinds) (methods_of ds) left
+      → Pairs (ClassMeans names h.version h.natives) (classes_of ds) todo → Pairs (MethodMeans names h.version b kinds) (methods_of ds) left
       → Placed names.classes (length cs) (map (λ t. t.name) (classes_of ds)) → Placed names.methods (length ms) (map (λ t. t.heading.name) (methods_of ds))
-      → length cs + length todo ≤ 256 → count_by is_server (cs ++ todo) ≤ 8 → length ms + length left ≤ 1024 → size + 28 * length todo + sum_by spelled left ≤ 2 ^ 20
+      → length cs + length todo ≤ 256 → count_by is_server (cs ++ todo) ≤ 8 → length ms + length left ≤ 1024 → size + sum_by (class_bytes h.version) todo + sum_by (spelled h.version) left ≤ 2 ^ 20
       → all_words ss ≡ declared_statements ds
-      → Goes last scope (read_so_far h cs ms None size) ss (read_so_far h (cs ++ todo) (ms ++ left) None (size + 28 * length todo + sum_by spelled left)) []
+      → Goes last scope (read_so_far h cs ms None size) ss (read_so_far h (cs ++ todo) (ms ++ left) None (size + sum_by (class_bytes h.version) todo + sum_by (spelled h.version) left)) []
   declarations_go [] cs _ ms _ size ss no_pair no_pair cp mp few servers short enough words =
-      let same : size ≡ size + 28 * 0 + sum_by spelled [] = omega arith in
+      let same : size ≡ size + sum_by (class_bytes h.version) [] + sum_by (spelled h.version) [] = omega arith in
       stays ss (ap (λ l. read_so_far h l ms None size) (sym (append-nil cs)) ∙ ap (λ l. read_so_far h (cs ++ []) l None size) (sym (append-nil ms)) ∙ ap
       (λ n. read_so_far h (cs ++ []) (ms ++ []) None n) same) words
-  declarations_go (source.class t ∷ ds) cs _ ms left size ss (a_pair _ _ c todo here more) methods cp mp few servers short enough words =
+  declarations_go (source.class t ∷ ds) cs _ ms left size ss (a_pair _ _ c todo here later) methods cp mp few servers short enough words =
       let count : length (cs ++ c ∷ []) ≡ length cs + 1 = length_push cs c in
       let again : (cs ++ c ∷ []) ++ todo ≡ cs ++ c ∷ todo = append_assoc cs (c ∷ []) todo in
-      let sum = sum_by spelled left in
-      let summed : (size + 28) + 28 * length todo + sum ≡ size + 28 * suc (length todo) + sum = omega arith in
+      let sum = sum_by (spelled h.version) left in
+      let headed : sum_by (class_bytes h.version) (c ∷ todo) ≡ (28 + more) + sum_by (class_bytes h.version) todo = sum_by-cons (class_bytes h.version) c todo in
+      let summed : (size + (28 + more)) + sum_by (class_bytes h.version) todo + sum ≡ size + sum_by (class_bytes h.version) (c ∷ todo) + sum = omega arith in
       goes_on
-      (steps {q = read_so_far h (cs ++ c ∷ []) ms None (size + 28)} {left = declared_statements ds} ss words
+      (steps {q = read_so_far h (cs ++ c ∷ []) ms None (size + (28 + more))} {left = declared_statements ds} ss words
       (λ rest behind. class_step cs ms t c size rest (omega arith) here cp.0 (few_before cs c todo servers) (omega arith)))
-      (λ rest behind. arrives (ap (λ l. read_so_far h l (ms ++ left) None ((size + 28) + 28 * length todo + sum)) again ∙ ap (λ n. read_so_far h (cs ++ c ∷ todo) (ms ++ left) None n) summed)
-      (declarations_go ds (cs ++ c ∷ []) todo ms left (size + 28) rest more methods (subst (λ n. Placed names.classes n (map (λ t. t.name) (classes_of ds))) (sym count) cp.1) mp
+      (λ rest behind. arrives (ap (λ l. read_so_far h l (ms ++ left) None ((size + (28 + more)) + sum_by (class_bytes h.version) todo + sum)) again ∙ ap (λ n. read_so_far h (cs ++ c ∷ todo) (ms ++ left) None n) summed)
+      (declarations_go ds (cs ++ c ∷ []) todo ms left (size + (28 + more)) rest later methods (subst (λ n. Placed names.classes n (map (λ t. t.name) (classes_of ds))) (sym count) cp.1) mp
       (omega arith) (subst (λ l. count_by is_server l ≤ 8) (sym again) servers) short (omega arith) behind))
   declarations_go (source.method t ∷ ds) cs todo ms _ size ss classes (a_pair _ _ m left here more) cp mp few servers short enough words =
       let count : length (ms ++ m ∷ []) ≡ length ms + 1 = length_push ms m in
       let again : (ms ++ m ∷ []) ++ left ≡ ms ++ m ∷ left = append_assoc ms (m ∷ []) left in
-      let headed : sum_by spelled (m ∷ left) ≡ spelled m + sum_by spelled left = sum_by-cons spelled m left in
-      let summed : (size + spelled m) + 28 * length todo + sum_by spelled left ≡ size + 28 * length todo + sum_by spelled (m ∷ left) = omega arith in
+      let bytes = spelled h.version in
+      let sum = sum_by (class_bytes h.version) todo in
+      let headed : sum_by bytes (m ∷ left) ≡ bytes m + sum_by bytes left = sum_by-cons bytes m left in
+      let summed : (size + bytes m) + sum + sum_by bytes left ≡ size + sum + sum_by bytes (m ∷ left) = omega arith in
       goes_on
       (method_goes cs ms t m size (declared_statements ds) ss (omega arith) here mp.0 (omega arith)
       (words ∙ ap (λ v. heading_words t.heading ∷ v) (append_assoc (map instruction_words t.code) (end_words ∷ []) (declared_statements ds))))
-      (λ rest behind. arrives (ap (λ l. read_so_far h (cs ++ todo) l None ((size + spelled m) + 28 * length todo + sum_by spelled left)) again ∙ ap
+      (λ rest behind. arrives (ap (λ l. read_so_far h (cs ++ todo) l None ((size + bytes m) + sum + sum_by bytes left)) again ∙ ap
       (λ n. read_so_far h (cs ++ todo) (ms ++ m ∷ left) None n) summed)
-      (declarations_go ds cs todo (ms ++ m ∷ []) left (size + spelled m) rest classes more cp (subst (λ n. Placed names.methods n (map (λ t. t.heading.name) (methods_of ds))) (sym count) mp.1)
+      (declarations_go ds cs todo (ms ++ m ∷ []) left (size + bytes m) rest classes more cp (subst (λ n. Placed names.methods n (map (λ t. t.heading.name) (methods_of ds))) (sym count) mp.1)
       few servers (omega arith) (omega arith) behind))

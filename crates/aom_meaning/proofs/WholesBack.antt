@@ -1,5 +1,5 @@
 -- Statements that are a listing's denote its image.
-use Rattle.std.proofs.Common.{◌≡◌, ℕ, ◌+◌, ◌*◌, ◌≤◌, ◌^◌, Bool, true, false, List, [], ◌∷◌, ◌++◌, length, None, Ok, Err, refl, sym, ap, ◌∙◌, append-nil, arith}
+use Rattle.std.proofs.Common.{◌≡◌, ℕ, ◌+◌, ◌≤◌, ◌^◌, Bool, true, false, List, [], ◌∷◌, ◌++◌, length, None, Ok, Err, refl, sym, ap, subst, ◌∙◌, append-nil, arith}
 use Rattle.std.specs.Prelude.{if◌then◌else◌}
 use Rattle.std.specs.List.{sum_by}
 use Rattle.std.proofs.lemmas.Bool.{ne_eqb}
@@ -16,14 +16,15 @@ use Rattle.aom_meaning.specs.Naming.{HasNames}
 use Rattle.aom_meaning.specs.Texts.{AllSayQuiet, all_words}
 use Rattle.aom_meaning.proofs.Following.{Goes, goes_on, first_of}
 use Rattle.aom_meaning.proofs.HeadersBack.{header_reads}
-use Rattle.aom_meaning.proofs.Parts.{classes_go, methods_go, read_so_far, spelled}
+use Rattle.aom_asm.proofs.WellRead.{class_bytes, class_sizes, spelled}
+use Rattle.aom_meaning.proofs.Parts.{classes_go, methods_go, read_so_far}
 use Rattle.aom_meaning.proofs.TextNames.{has_names}
 
 -- ---- one reading
 
 -- the bytes that an image spells
 abbrev whole_size : Image → ℕ
-whole_size i = (24 + 28 * length i.classes) + sum_by spelled i.methods
+whole_size i = (24 + sum_by (class_bytes i.header.version) i.classes) + sum_by (spelled i.header.version) i.methods
 
 -- an image that was read
 abbrev all_read : Image → Program
@@ -35,14 +36,14 @@ none_left (s ∷ ss) words = absurd cc
 
 module _ (last : ℕ) (i : Image) (formed : WellFormed i) (quiet : AllSayQuiet i) (scope : Scope) (names : HasNames (length i.classes) (length i.methods) scope) where
   small : whole_size i ≤ 2 ^ 20
-  small = formed.size
+  small = subst (λ n. (24 + n) + sum_by (spelled i.header.version) i.methods ≤ 2 ^ 20) (sym (class_sizes i.header.version i.classes)) formed.size
 
   parts_go : (ss : List Statement) → all_words ss ≡ classes_statements 0 i.classes ++ methods_statements 0 i.methods → Goes last scope (read_so_far i.header [] [] None 24) ss (all_read i) []
   parts_go ss words =
       let enough = small in
       goes_on
-      (classes_go last i.header (length i.classes) (length i.methods) scope names formed.header.natives [] i.classes 24 (methods_statements 0 i.methods) ss (omega arith) formed.classes.each formed.classes.servers (omega arith) words)
-      (λ rest behind. methods_go last i.header (length i.classes) (length i.methods) scope names formed.header.natives i.classes [] i.methods (24 + 28 * length i.classes) [] rest (omega arith) formed.methods.each quiet enough
+      (classes_go last i.header (length i.classes) (length i.methods) scope names formed.header.natives [] i.classes 24 (methods_statements 0 i.methods) ss (omega arith) formed.classes.each formed.families.parents formed.classes.servers (omega arith) words)
+      (λ rest behind. methods_go last i.header (length i.classes) (length i.methods) scope names formed.header.natives i.classes [] i.methods (24 + sum_by (class_bytes i.header.version) i.classes) [] rest (omega arith) formed.methods.each formed.families.overs quiet enough
       (behind ∙ sym (append-nil (methods_statements 0 i.methods))))
 
   closes : (ss : List Statement) → all_words ss ≡ [] → read_rest last scope (all_read i) ss ≡ Ok (all_read i)

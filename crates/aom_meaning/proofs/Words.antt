@@ -17,7 +17,7 @@ use Rattle.aom_image.specs.declared.method.Thing.TheVariants as owned
 use Rattle.aom_syntax.specs.Classes.{class_of, elements, listed, thing_of}
 use Rattle.aom_syntax.specs.Methods.{argument_of}
 use Rattle.aom_syntax.specs.Names.{place_of, referred}
-use Rattle.aom_syntax.specs.Operands.{class}
+use Rattle.aom_syntax.specs.Operands.{class, method}
 use Rattle.aom_syntax.specs.Reading.{◌>>=◌, as_name, name}
 use Rattle.aom_syntax.specs.declared.scope.Scope.{Scope}
 use Rattle.aom_syntax.proofs.RangedLists.{listed_fits}
@@ -36,6 +36,7 @@ told names kinds = record { is_strict = true; classes = names.classes; methods =
 -- each name is found where it is declared
 pub record LooksUp (names : Names) (scope : Scope) : Type 0 where
   pub class : (w : List ℕ) (n : ℕ) → IsNumbered names.classes w n → referred scope.is_strict 256 (place_of w scope.classes) ≡ Ok n
+  pub method : (w : List ℕ) (n : ℕ) → IsNumbered names.methods w n → referred scope.is_strict 1024 (place_of w scope.methods) ≡ Ok n
 
 -- ---- names
 
@@ -53,6 +54,9 @@ takes_name w is = takes_seen (record { plain = plain_name w is; says = name_read
 module _ {names : Names} {scope : Scope} (looks : LooksUp names scope) where
   pub takes_class : (w : List ℕ) (n : ℕ) → IsNumbered names.classes w n → Takes (class scope) (w ∷ []) n
   takes_class w n is = sees (λ v. referred scope.is_strict 256 (place_of v scope.classes)) (takes_name w is.is_name) (looks.class w n is)
+
+  pub takes_method : (w : List ℕ) (n : ℕ) → IsNumbered names.methods w n → Takes (method scope) (w ∷ []) n
+  takes_method w n is = sees (λ v. referred scope.is_strict 1024 (place_of v scope.methods)) (takes_name w is.is_name) (looks.method w n is)
 
 -- ---- what may be owned
 

@@ -3,13 +3,14 @@ use Rattle.std.specs.Prelude.{ℕ, ◌≡◌, ◌<◌, ◌≤◌, ◌==◌, ◌|
 use Rattle.std.specs.List.{slice_split}
 use Rattle.std.specs.Str.{bytes_eq}
 use Rattle.aom_text.specs.Names.{is_name}
-use Rattle.aom_image.specs.WellFormed.{is_dispatched}
+use Rattle.aom_image.specs.WellFormed.{has_families, is_dispatched, may_descend}
 use Rattle.aom_image.specs.declared.class.ClassDecl.{ClassDecl}
 use Rattle.aom_image.specs.declared.class.ClassKind.{ClassKind}
 use Rattle.aom_image.specs.declared.class.ClassKind.TheVariants as kinds
 use Rattle.aom_image.specs.declared.class.Provider.{Provider}
 use Rattle.aom_image.specs.declared.class.Provider.TheVariants as providers
 use Rattle.aom_image.specs.declared.image.Header.{Header}
+use Rattle.aom_image.specs.declared.image.Version.{Version}
 use Rattle.aom_image.specs.declared.image.Version.TheVariants as versions
 use Rattle.aom_instructions.specs.declared.instr.Instr.{Instr}
 use Rattle.aom_image.specs.declared.method.Argument.{Argument}
@@ -96,9 +97,15 @@ IsArgument names w (arg.Own t) = IsThing names w t
 
 -- ---- the image
 
--- limits that are missing are 0; no text of the second version is read yet
+-- a version is said where it is the second
+abbrev pub VersionMeans : Option Word → Version → Type 0
+VersionMeans None versions.One = Unit {0}
+VersionMeans (Some w) versions.Two = IsNumber 2 2 w 2
+VersionMeans said version = ⊥
+
+-- limits that are missing are 0
 pub record HeaderMeans (names : Names) (t : HeaderText) (h : Header) : Type 0 where
-  pub version : h.version ≡ versions.One
+  pub version : VersionMeans t.version h.version
   pub cells : SaidOr (IsNumber 0 4096) 0 t.cells h.cells
   pub messages : SaidOr (IsNumber 0 1024) 0 t.messages h.messages
   pub natives : SaidOr (IsNumber 0 16) 0 t.natives h.natives
@@ -126,17 +133,23 @@ KindMeans names natives (active said) (kinds.Active provider) = ProviderMeans na
 KindMeans names natives (server class most) (kinds.Server sessions of_class) = IsNumbered names.classes class of_class × IsNumber 1 64 most sessions
 KindMeans names natives said kind = ⊥
 
+-- a parent is named in a text of the second version, of a class whose kind may have one
+abbrev pub ParentMeans : Names → Version → ClassKind → Option Word → Option ℕ → Type 0
+ParentMeans names version kind None None = Unit {0}
+ParentMeans names version kind (Some w) (Some c) = (has_families version ≡ true) × (may_descend kind ≡ true) × IsNumbered names.classes w c
+ParentMeans names version kind said parent = ⊥
+
 -- a budget stands where there are dispatches, and nowhere else
 abbrev pub BudgetMeans : Bool → Option Word → ℕ → Type 0
 BudgetMeans true (Some w) n = IsBudget w n
 BudgetMeans false None n = n ≡ 0
 BudgetMeans dispatched said n = ⊥
 
--- a class of an image with so many natives
-pub record ClassMeans (names : Names) (natives : ℕ) (t : ClassText) (c : ClassDecl) : Type 0 where
+-- a class of an image of that version with so many natives
+pub record ClassMeans (names : Names) (version : Version) (natives : ℕ) (t : ClassText) (c : ClassDecl) : Type 0 where
   pub name : is_name t.name ≡ true
   pub kind : KindMeans names natives t.kind c.kind
-  pub parent : c.parent ≡ None
+  pub parent : ParentMeans names version c.kind t.parent c.parent
   pub words : SaidOr (IsNumber 0 8) 0 t.words c.words
   pub own : SaidOr (IsList 8 (IsThing names)) [] t.own c.fields
   pub budget : BudgetMeans (is_dispatched c.kind) t.budget c.budget
@@ -153,16 +166,22 @@ GivesMeans names usual (maybe w) (result.Maybe t) = IsThing names w t
 GivesMeans names usual (left w) (result.Left c) = IsNumbered names.classes w c
 GivesMeans names usual said g = ⊥
 
+-- what is overridden is named in a text of the second version
+abbrev pub OverMeans : Names → Version → Option Word → Option ℕ → Type 0
+OverMeans names version None None = Unit {0}
+OverMeans names version (Some w) (Some m) = (has_families version ≡ true) × IsNumbered names.methods w m
+OverMeans names version said over = ⊥
+
 -- a set of states, by its number
 abbrev pub states : ℕ → States
 states set = record { 0 = set }
 
 -- a method but its code, beside the classes, where they are known: each part that is missing is as the role and the class say
-pub record HeadingMeans (names : Names) (known : Bool) (classes : List ClassDecl) (t : HeadingText) (h : Heading) : Type 0 where
+pub record HeadingMeans (names : Names) (version : Version) (known : Bool) (classes : List ClassDecl) (t : HeadingText) (h : Heading) : Type 0 where
   pub name : is_name t.name ≡ true
   pub role : role_of t.role ≡ Ok h.role
   pub class : SaidOrNone (IsNumbered names.classes) t.class h.class
-  pub over : h.over ≡ None
+  pub over : OverMeans names version t.over h.over
   pub flags : h.flags ≡ flags_of t.leaves (t.quiet || is_quiet_role h.role)
   pub before : SaidOr AreStates (states (usual_before h.role (all_states (kind_of classes h.class)))) t.before h.before
   pub after : SaidOr AreStates (states (usual_after h.role (all_states (kind_of classes h.class)))) t.after h.after
@@ -183,8 +202,8 @@ pub record InstructionMeans (names : Names) (labels : List Word) (t : Instructio
   pub operands : words_operands (lookup names) labels t.mnemonic t.operands ≡ Ok (i, [])
 
 -- a method beside the classes: no label stands twice, and each of its instructions is of the image
-pub record MethodMeans (names : Names) (known : Bool) (classes : List ClassDecl) (t : MethodText) (m : Method) : Type 0 where
-  pub heading : HeadingMeans names known classes t.heading (heading_of m)
+pub record MethodMeans (names : Names) (version : Version) (known : Bool) (classes : List ClassDecl) (t : MethodText) (m : Method) : Type 0 where
+  pub heading : HeadingMeans names version known classes t.heading (heading_of m)
   pub labels : DeclaredOnce (labels_of t.code)
   pub code : Pairwise (InstructionMeans names (labels_of t.code)) t.code m.code
   pub some : 1 ≤ length m.code

@@ -12,7 +12,8 @@ use Rattle.aom_listing.specs.Headers.{header_words}
 use Rattle.aom_listing.specs.Methods.{heading_words}
 use Rattle.aom_text.specs.declared.text.Statement.{Statement}
 use Rattle.aom_text.specs.Numbers.{number_of}
-use Rattle.aom_image.specs.WellFormed.{ClassFits, HeaderFits, MethodFits, WellFormed, is_server}
+use Rattle.aom_image.specs.WellFormed.{ClassFits, HeaderFits, MethodFits, OverFits, ParentFits, WellFormed, is_server}
+use Rattle.aom_image.specs.declared.image.Version.{Version}
 use Rattle.aom_instructions.specs.Fits.{InstrFits, limits}
 use Rattle.aom_instructions.specs.declared.instr.Instr.{Instr}
 use Rattle.aom_syntax.specs.Keywords.{keyword_text, keyword_of}
@@ -46,11 +47,14 @@ HeadersReadBack = (classes methods : ℕ) (scope : Scope) → HasNames classes m
 
 -- a class that fits reads as itself at its place, after so few servers that it may be one
 abbrev pub ClassesReadBack : Type 0
-ClassesReadBack = (classes methods : ℕ) (scope : Scope) → HasNames classes methods scope → (natives servers place : ℕ) (c : ClassDecl) → natives ≤ 16 → place < classes → ClassFits classes natives c → (is_server c ≡ true → servers < 8) → class_statement scope natives place servers (others_of (class_words place c)) ≡ Ok (c, [])
+ClassesReadBack = (classes methods : ℕ) (scope : Scope) → HasNames classes methods scope → (version : Version) (natives servers place : ℕ) (c : ClassDecl) → natives ≤ 16 → place < classes
+    → ClassFits classes natives c → ParentFits version classes c.kind c.parent → (is_server c ≡ true → servers < 8)
+    → class_statement scope version natives place servers (others_of (class_words place c)) ≡ Ok (c, [])
 
 -- the heading of a method that fits reads as itself at its place, where a method that is quiet by its role says so
 abbrev pub HeadingsReadBack : Type 0
-HeadingsReadBack = (classes methods : ℕ) (scope : Scope) → HasNames classes methods scope → (place : ℕ) (m : Method) → place < methods → MethodFits classes methods m → SaysQuiet m → heading scope place (others_of (heading_words place m)) ≡ Ok (heading_of m, [])
+HeadingsReadBack = (classes methods : ℕ) (scope : Scope) → HasNames classes methods scope → (version : Version) (place : ℕ) (m : Method) → place < methods
+    → MethodFits classes methods m → OverFits version methods m.over → SaysQuiet m → heading scope version place (others_of (heading_words place m)) ≡ Ok (heading_of m, [])
 
 -- where each method has the shape that its role asks, each that is quiet by its role says so
 abbrev pub ShapedSayQuiet : Type 0

@@ -28,8 +28,9 @@ mark key true = keyword_text key ∷ []
 
 -- ---- the image
 
--- limits, main's budget and the root's class
+-- the version, limits, main's budget and the root's class
 pub record HeaderText : Type 0 where
+  pub version : Option Word
   pub cells : Option Word
   pub messages : Option Word
   pub natives : Option Word
@@ -37,7 +38,7 @@ pub record HeaderText : Type 0 where
   pub root : Option Word
 
 abbrev pub header_words : HeaderText → Words
-header_words t = keyword_text k.Image ∷ (part k.Cells t.cells ++ (part k.Messages t.messages ++ (part k.Natives t.natives ++ (keyword_text k.Budget ∷ t.budget ∷ part k.Root t.root))))
+header_words t = keyword_text k.Image ∷ (part k.Version t.version ++ (part k.Cells t.cells ++ (part k.Messages t.messages ++ (part k.Natives t.natives ++ (keyword_text k.Budget ∷ t.budget ∷ part k.Root t.root)))))
 
 -- ---- classes
 
@@ -68,12 +69,13 @@ kind_words (server class most) = keyword_text k.Server ∷ class ∷ keyword_tex
 pub record ClassText : Type 0 where
   pub name : Word
   pub kind : KindText
+  pub parent : Option Word
   pub words : Option Word
   pub own : Option Word
   pub budget : Option Word
 
 abbrev pub class_words : ClassText → Words
-class_words t = keyword_text k.Class ∷ t.name ∷ (kind_words t.kind ++ (part k.Words t.words ++ (part k.Own t.own ++ part k.Budget t.budget)))
+class_words t = keyword_text k.Class ∷ t.name ∷ (kind_words t.kind ++ (part k.From t.parent ++ (part k.Words t.words ++ (part k.Own t.own ++ part k.Budget t.budget))))
 
 -- ---- methods
 
@@ -99,6 +101,7 @@ pub record HeadingText : Type 0 where
   pub name : Word
   pub role : Keyword
   pub class : Option Word
+  pub over : Option Word
   pub leaves : Bool
   pub quiet : Bool
   pub before : Option Word
@@ -108,7 +111,7 @@ pub record HeadingText : Type 0 where
 
 -- what stands behind the role
 abbrev pub promise_words : HeadingText → Words
-promise_words t = part k.Of t.class ++ (mark k.Leaves t.leaves ++ (mark k.Quiet t.quiet ++ (part k.In t.before ++ (part k.Out t.after ++ (part k.Args t.arguments ++ gives_words t.gives)))))
+promise_words t = part k.Of t.class ++ (part k.Over t.over ++ (mark k.Leaves t.leaves ++ (mark k.Quiet t.quiet ++ (part k.In t.before ++ (part k.Out t.after ++ (part k.Args t.arguments ++ gives_words t.gives))))))
 
 abbrev pub heading_words : HeadingText → Words
 heading_words t = keyword_text k.Method ∷ t.name ∷ keyword_text t.role ∷ promise_words t
