@@ -37,9 +37,9 @@ there_by key text i d spell said number one headed passes there =
     ∙ ap (λ ws. slice_get ws number) (filter_no (begins_with key) (header_words d.source.header) (declared_statements d.source.declarations) headed ∙ passes)
     ∙ slice_get-map spell said number ∙ ap (option_map spell) there
 
-pub found_class : (text : List ℕ) (i : Image) (d : Denotes text i) (number : ℕ) (c : ClassDecl) → slice_get i.classes number ≡ Some c → DeclaresClass text (names_of d.source) i.header.natives number c
+pub found_class : (text : List ℕ) (i : Image) (d : Denotes text i) (number : ℕ) (c : ClassDecl) → slice_get i.classes number ≡ Some c → DeclaresClass text (names_of d.source) i.header.version i.header.natives number c
 found_class text i d number c there =
-    let said = pair_at (ClassMeans (names_of d.source) i.header.natives) (classes_of d.source.declarations) i.classes number c d.classes there in
+    let said = pair_at (ClassMeans (names_of d.source) i.header.version i.header.natives) (classes_of d.source.declarations) i.classes number c d.classes there in
     record {
       said = said.other;
       there = there_by k.Class text i d class_words (classes_of d.source.declarations) number said.other refl (class_passes d.source.declarations) said.there;
@@ -57,9 +57,9 @@ found_instruction text i d number place said t method there =
     ∙ part_no (begins_with k.Method) (header_words d.source.header) (declared_statements d.source.declarations) number refl)
     ∙ code_found d.source.declarations number place said t method there
 
-pub found_method : (text : List ℕ) (i : Image) (d : Denotes text i) (number : ℕ) (m : Method) → slice_get i.methods number ≡ Some m → DeclaresMethod text (names_of d.source) i.classes number m
+pub found_method : (text : List ℕ) (i : Image) (d : Denotes text i) (number : ℕ) (m : Method) → slice_get i.methods number ≡ Some m → DeclaresMethod text (names_of d.source) i.header.version i.classes number m
 found_method text i d number m there =
-    let said = pair_at (MethodMeans (names_of d.source) true i.classes) (methods_of d.source.declarations) i.methods number m d.methods there in
+    let said = pair_at (MethodMeans (names_of d.source) i.header.version true i.classes) (methods_of d.source.declarations) i.methods number m d.methods there in
     record {
       said = said.other;
       there = there_by k.Method text i d method_words (methods_of d.source.declarations) number said.other refl (method_passes d.source.declarations) said.there;

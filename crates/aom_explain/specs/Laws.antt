@@ -2,6 +2,7 @@
 use Rattle.std.specs.Prelude.{ℕ, true, ◌≡◌, List, Option, Some, option_map, slice_get}
 use Rattle.aom_image.specs.Image.{Image}
 use Rattle.aom_image.specs.declared.class.ClassDecl.{ClassDecl}
+use Rattle.aom_image.specs.declared.image.Version.{Version}
 use Rattle.aom_image.specs.declared.method.Method.{Method}
 use Rattle.aom_instructions.specs.declared.instr.Instr.{Instr}
 use Rattle.aom_text.specs.declared.text.Statement.{Statement}
@@ -15,10 +16,10 @@ abbrev pub words_of : Option Statement → Option (List (List ℕ))
 words_of found = option_map (λ s. s.words) found
 
 -- the statement that is found for a class is there, and says what the class is
-pub record DeclaresClass (text : List ℕ) (names : Names) (natives number : ℕ) (c : ClassDecl) : Type 0 where
+pub record DeclaresClass (text : List ℕ) (names : Names) (version : Version) (natives number : ℕ) (c : ClassDecl) : Type 0 where
   pub said : ClassText
   pub there : words_of (class_statement text number) ≡ Some (class_words said)
-  pub means : ClassMeans names natives said c
+  pub means : ClassMeans names version natives said c
 
 -- the statement that is found for a place of a method is there, and says the instruction
 pub record HoldsInstruction (text : List ℕ) (names : Names) (labels : List (List ℕ)) (number place : ℕ) (i : Instr) : Type 0 where
@@ -27,13 +28,13 @@ pub record HoldsInstruction (text : List ℕ) (names : Names) (labels : List (Li
   pub means : InstructionMeans names labels said i
 
 -- the statement that is found for a method is there, and says what the method is, with those of its instructions
-pub record DeclaresMethod (text : List ℕ) (names : Names) (classes : List ClassDecl) (number : ℕ) (m : Method) : Type 0 where
+pub record DeclaresMethod (text : List ℕ) (names : Names) (version : Version) (classes : List ClassDecl) (number : ℕ) (m : Method) : Type 0 where
   pub said : MethodText
   pub there : words_of (method_statement text number) ≡ Some (heading_words said.heading)
-  pub means : MethodMeans names true classes said m
+  pub means : MethodMeans names version true classes said m
   pub code : (place : ℕ) (i : Instr) → slice_get m.code place ≡ Some i → HoldsInstruction text names (labels_of said.code) number place i
 
 pub record StatementsDeclare : Type 0 where
   pub image : (text : List ℕ) (i : Image) (d : Denotes text i) → words_of (image_statement text) ≡ Some (header_words d.source.header)
-  pub classes : (text : List ℕ) (i : Image) (d : Denotes text i) (number : ℕ) (c : ClassDecl) → slice_get i.classes number ≡ Some c → DeclaresClass text (names_of d.source) i.header.natives number c
-  pub methods : (text : List ℕ) (i : Image) (d : Denotes text i) (number : ℕ) (m : Method) → slice_get i.methods number ≡ Some m → DeclaresMethod text (names_of d.source) i.classes number m
+  pub classes : (text : List ℕ) (i : Image) (d : Denotes text i) (number : ℕ) (c : ClassDecl) → slice_get i.classes number ≡ Some c → DeclaresClass text (names_of d.source) i.header.version i.header.natives number c
+  pub methods : (text : List ℕ) (i : Image) (d : Denotes text i) (number : ℕ) (m : Method) → slice_get i.methods number ≡ Some m → DeclaresMethod text (names_of d.source) i.header.version i.classes number m
