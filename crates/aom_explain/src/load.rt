@@ -10,8 +10,8 @@ pub(crate) const BAD_MAGIC: Entry = Entry {
 
 pub(crate) const BAD_VERSION: Entry = Entry {
     name: b"wrong version",
-    meaning: b"The version is not 1.",
-    mend: b"Make the image in version 1.",
+    meaning: b"The version is neither 1 nor 2.",
+    mend: b"Make the image in one of these versions.",
 };
 
 pub(crate) const TRUNCATED: Entry = Entry {
