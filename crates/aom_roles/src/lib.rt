@@ -5,10 +5,12 @@
 #![tactic(auto)]
 
 mod class_order;
+mod families;
 mod roles;
 mod shapes;
 mod states;
 
 pub use class_order::{classes_are_ordered, sessions_at};
+pub use families::{descends, parent_of};
 pub use roles::same_role;
 pub use shapes::{all_are_shaped, gives_nothing, gives_of, resting_states};
