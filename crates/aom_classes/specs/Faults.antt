@@ -3,18 +3,18 @@ use Rattle.std.specs.Prelude.{ℕ}
 use Rattle.aom_image.specs.Image.{Image}
 use Rattle.aom_classes.specs.Calls.{AllCallsOrdered}
 use Rattle.aom_roles.specs.Classes.{ClassesOrdered}
-use Rattle.aom_classes.specs.Linked.{AllJumpWell, AllLoopsNest, HasMain, IsLinked}
+use Rattle.aom_classes.specs.Linked.{AllJumpWell, AllLoopsNest, HasMain, IsLinked, OverridersFit, ParentsFit}
 use Rattle.aom_classes.specs.Needs.{AllNeedsMet, RolesSingle}
 use Rattle.aom_roles.specs.Shapes.{AllShaped}
 use Rattle.aom_classes.specs.declared.fault.LinkFault.{LinkFault}
-use Rattle.aom_classes.specs.declared.fault.LinkFault.TheVariants.{ClassOrder, CallOrder, MissingRole, DoubleRole, RoleShape, BadJump, BadLoop, NoMain, OutOfMemory}
+use Rattle.aom_classes.specs.declared.fault.LinkFault.TheVariants.{ClassOrder, CallOrder, MissingRole, DoubleRole, RoleShape, BadJump, BadLoop, NoMain, OutOfMemory, BadParent, BadOverride}
 
 -- the number of a fault
 unfoldable pub number_of : LinkFault → ℕ
 number_of = elim
-    [ ClassOrder ↦ 1 | CallOrder ↦ 2 | MissingRole ↦ 3 | DoubleRole ↦ 4 | RoleShape ↦ 5 | BadJump ↦ 6 | BadLoop ↦ 7 | NoMain ↦ 8 | OutOfMemory ↦ 9 ]
+    [ ClassOrder ↦ 1 | CallOrder ↦ 2 | MissingRole ↦ 3 | DoubleRole ↦ 4 | RoleShape ↦ 5 | BadJump ↦ 6 | BadLoop ↦ 7 | NoMain ↦ 8 | OutOfMemory ↦ 9 | BadParent ↦ 10 | BadOverride ↦ 11 ]
 
--- the image fails the fault's condition, and keeps all of lower numbers. Want of memory is no reason to refuse one
+-- the image fails the fault's condition, and keeps all that come before it. Want of memory is no reason to refuse one
 unfoldable pub Fails : Image → LinkFault → Type 0
 Fails p ClassOrder = ¬ ClassesOrdered p
 Fails p CallOrder = ClassesOrdered p × ¬ AllCallsOrdered p
@@ -24,6 +24,10 @@ Fails p RoleShape = ClassesOrdered p × AllCallsOrdered p × AllNeedsMet p × Ro
 Fails p BadJump = ClassesOrdered p × AllCallsOrdered p × AllNeedsMet p × RolesSingle p × AllShaped p × ¬ AllJumpWell p
 Fails p BadLoop = ClassesOrdered p × AllCallsOrdered p × AllNeedsMet p × RolesSingle p × AllShaped p × AllJumpWell p × ¬ AllLoopsNest p
 Fails p NoMain = ClassesOrdered p × AllCallsOrdered p × AllNeedsMet p × RolesSingle p × AllShaped p × AllJumpWell p × AllLoopsNest p × ¬ HasMain p
+Fails p BadParent =
+    ClassesOrdered p × AllCallsOrdered p × AllNeedsMet p × RolesSingle p × AllShaped p × AllJumpWell p × AllLoopsNest p × HasMain p × ¬ ParentsFit p
+Fails p BadOverride =
+    ClassesOrdered p × AllCallsOrdered p × AllNeedsMet p × RolesSingle p × AllShaped p × AllJumpWell p × AllLoopsNest p × HasMain p × ParentsFit p × ¬ OverridersFit p
 Fails p _ = ⊥
 
 -- what a fault says of the image: the condition that it fails, or that memory was wanting once it was found linked

@@ -19,6 +19,8 @@ pub enum LinkFault {
     BadLoop,
     NoMain,
     OutOfMemory,
+    BadParent,
+    BadOverride,
 }
 
 impl LinkFault {

@@ -6,6 +6,7 @@
 #![tactic(auto)]
 
 mod call_order;
+mod families;
 mod fault;
 mod jumps;
 mod linked;

@@ -7,6 +7,7 @@ ghost use Rattle.aom_classes.specs.Faults.{Fails, RefusesOrWants};
 
 use crate::LinkFault;
 use crate::call_order::calls_are_ordered;
+use crate::families::{overriders_fit, parents_fit};
 use crate::jumps::all_jump_well;
 use crate::loops::all_loops_nest;
 use crate::needs::{needs_are_met, roles_are_single};
@@ -78,10 +79,16 @@ pub fn check_conditions(image: &Image) -> Result<MethodNumber, LinkFault>
     if !all_loops_nest(image) {
         return Err(LinkFault::BadLoop);
     }
-    match find_main(image.methods().as_slice()) {
-        Some(main) => Ok(main),
-        None => Err(LinkFault::NoMain),
+    let Some(main) = find_main(image.methods().as_slice()) else {
+        return Err(LinkFault::NoMain);
+    };
+    if !parents_fit(image) {
+        return Err(LinkFault::BadParent);
     }
+    if !overriders_fit(image) {
+        return Err(LinkFault::BadOverride);
+    }
+    Ok(main)
 }
 
 impl Linked {

@@ -133,6 +133,12 @@ link_texts fault = elim fault [
       "No method is main."
       "Declare one as main."
   | links.OutOfMemory ↦ memory_texts
+  | links.BadParent ↦ texts "wrong parent"
+      "A class has a parent, and no class may have one yet."
+      "Write the words, the fields and the methods of the parent in the class itself."
+  | links.BadOverride ↦ texts "wrong overrider"
+      "A method overrides another, and no method may yet."
+      "Take over away, and call the method that is meant."
 ]
 
 -- ---- methods without a typing

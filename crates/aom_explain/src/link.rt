@@ -49,3 +49,15 @@ pub(crate) const NO_MAIN: Entry = Entry {
     meaning: b"No method is main.",
     mend: b"Declare one as main.",
 };
+
+pub(crate) const BAD_PARENT: Entry = Entry {
+    name: b"wrong parent",
+    meaning: b"A class has a parent, and no class may have one yet.",
+    mend: b"Write the words, the fields and the methods of the parent in the class itself.",
+};
+
+pub(crate) const BAD_OVERRIDE: Entry = Entry {
+    name: b"wrong overrider",
+    meaning: b"A method overrides another, and no method may yet.",
+    mend: b"Take over away, and call the method that is meant.",
+};

@@ -72,6 +72,8 @@ pub fn link_entry(fault: LinkFault) -> Entry
         LinkFault::BadLoop => link::BAD_LOOP,
         LinkFault::NoMain => link::NO_MAIN,
         LinkFault::OutOfMemory => word::MEMORY,
+        LinkFault::BadParent => link::BAD_PARENT,
+        LinkFault::BadOverride => link::BAD_OVERRIDE,
     }
 }
 

@@ -10,7 +10,7 @@ use Rattle.aom_instructions.specs.declared.instr.Instr.{Instr}
 use Rattle.aom_classes.specs.Faults.{Fails, RefusesOrWants}
 use Rattle.aom_classes.specs.Linked.{IsLinked}
 use Rattle.aom_classes.specs.declared.fault.LinkFault.{LinkFault}
-use Rattle.aom_classes.specs.declared.fault.LinkFault.TheVariants.{ClassOrder, CallOrder, MissingRole, DoubleRole, RoleShape, BadJump, BadLoop, NoMain, OutOfMemory}
+use Rattle.aom_classes.specs.declared.fault.LinkFault.TheVariants.{ClassOrder, CallOrder, MissingRole, DoubleRole, RoleShape, BadJump, BadLoop, NoMain, OutOfMemory, BadParent, BadOverride}
 use Rattle.aom_rules.specs.Rules.{rule}
 use Rattle.aom_shape.proofs.Lists.{there}
 use Rattle.aom_shape.specs.Changes.{told}
@@ -132,4 +132,6 @@ module _ (p : Image) (m place : ℕ) (why : Why) (out : List ℕ) where
       unlinked BadJump refused other linked = refused.5 linked.jumps
       unlinked BadLoop refused other linked = refused.6 linked.loops
       unlinked NoMain refused other linked = refused.7 linked.main
+      unlinked BadParent refused other linked = refused.8 linked.parents
+      unlinked BadOverride refused other linked = refused.9 linked.overriders
       unlinked OutOfMemory refused other linked = other refl

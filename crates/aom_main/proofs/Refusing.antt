@@ -8,7 +8,7 @@ use Rattle.aom_codec.specs.declared.fault.LoadFault.TheVariants as loads
 use Rattle.aom_image.specs.Image.{Image}
 use Rattle.aom_classes.specs.Faults.{Fails, RefusesOrWants as RefusesOrWantsLink}
 use Rattle.aom_classes.specs.declared.fault.LinkFault.{LinkFault}
-use Rattle.aom_classes.specs.declared.fault.LinkFault.TheVariants.{ClassOrder, CallOrder, MissingRole, DoubleRole, RoleShape, BadJump, BadLoop, NoMain, OutOfMemory}
+use Rattle.aom_classes.specs.declared.fault.LinkFault.TheVariants.{ClassOrder, CallOrder, MissingRole, DoubleRole, RoleShape, BadJump, BadLoop, NoMain, OutOfMemory, BadParent, BadOverride}
 use Rattle.aom_classes.specs.Linked.{IsLinked}
 use Rattle.aom_rules.specs.Typing.{Typing, IsTyped}
 use Rattle.aom_bounds.specs.Strongest.{IsStrongest}
@@ -56,6 +56,8 @@ linked_memory p RoleShape refused a = absurd (refused.4 a.linked.shapes)
 linked_memory p BadJump refused a = absurd (refused.5 a.linked.jumps)
 linked_memory p BadLoop refused a = absurd (refused.6 a.linked.loops)
 linked_memory p NoMain refused a = absurd (refused.7 a.linked.main)
+linked_memory p BadParent refused a = absurd (refused.8 a.linked.parents)
+linked_memory p BadOverride refused a = absurd (refused.9 a.linked.overriders)
 linked_memory p OutOfMemory refused a = refl
 
 -- a fault of linking is one on the way

@@ -73,8 +73,53 @@ found_as : (p : Image) (ms : List Method) (o : Option ℕ) → o ≡ position is
 unfolding main_of
 found_as p ms o e f = ap (position is_main) (sym f) ∙ sym e
 
-pub returns-in-Some-clause-ok : goal.returns-in-Some-clause-ok
-returns-in-Some-clause-ok c =
+pub returns-in_default-clause-err : goal.returns-in_default-clause-err
+unfolding Fails
+returns-in_default-clause-err c =
+    let main = found_as c.args.image.now _ _ c.find_main.ensures (c.as_slice.ensures ∙ c.methods.ensures.value) ∙ c.in_default.is in (
+      c.classes_are_ordered.ensures.0 c.if-not-classes_are_ordered.false,
+      c.calls_are_ordered.ensures.0 c.if-not-calls_are_ordered.false,
+      c.needs_are_met.ensures.0 c.if-not-needs_are_met.false,
+      c.roles_are_single.ensures.0 c.if-not-roles_are_single.false,
+      c.all_are_shaped.ensures.0 c.if-not-all_are_shaped.false,
+      c.all_jump_well.ensures.0 c.if-not-all_jump_well.false,
+      c.all_loops_nest.ensures.0 c.if-not-all_loops_nest.false,
+      λ some. false≢true (rw main at some),
+    )
+
+pub returns-then-not-parents_fit-clause-err : goal.returns-then-not-parents_fit-clause-err
+unfolding Fails
+returns-then-not-parents_fit-clause-err c =
+    let main = found_as c.args.image.now _ _ c.find_main.ensures (c.as_slice.ensures ∙ c.methods.ensures.value) ∙ c.in-Some.is in (
+      c.classes_are_ordered.ensures.0 c.if-not-classes_are_ordered.false,
+      c.calls_are_ordered.ensures.0 c.if-not-calls_are_ordered.false,
+      c.needs_are_met.ensures.0 c.if-not-needs_are_met.false,
+      c.roles_are_single.ensures.0 c.if-not-roles_are_single.false,
+      c.all_are_shaped.ensures.0 c.if-not-all_are_shaped.false,
+      c.all_jump_well.ensures.0 c.if-not-all_jump_well.false,
+      c.all_loops_nest.ensures.0 c.if-not-all_loops_nest.false,
+      rw main refl,
+      refused _ c.parents_fit.ensures c.if-not-parents_fit.true,
+    )
+
+pub returns-then-not-overriders_fit-clause-err : goal.returns-then-not-overriders_fit-clause-err
+unfolding Fails
+returns-then-not-overriders_fit-clause-err c =
+    let main = found_as c.args.image.now _ _ c.find_main.ensures (c.as_slice.ensures ∙ c.methods.ensures.value) ∙ c.in-Some.is in (
+      c.classes_are_ordered.ensures.0 c.if-not-classes_are_ordered.false,
+      c.calls_are_ordered.ensures.0 c.if-not-calls_are_ordered.false,
+      c.needs_are_met.ensures.0 c.if-not-needs_are_met.false,
+      c.roles_are_single.ensures.0 c.if-not-roles_are_single.false,
+      c.all_are_shaped.ensures.0 c.if-not-all_are_shaped.false,
+      c.all_jump_well.ensures.0 c.if-not-all_jump_well.false,
+      c.all_loops_nest.ensures.0 c.if-not-all_loops_nest.false,
+      rw main refl,
+      c.parents_fit.ensures.0 c.if-not-parents_fit.false,
+      refused _ c.overriders_fit.ensures c.if-not-overriders_fit.true,
+    )
+
+pub returns-clause-ok : goal.returns-clause-ok
+returns-clause-ok c =
     let main = found_as c.args.image.now _ _ c.find_main.ensures (c.as_slice.ensures ∙ c.methods.ensures.value) ∙ c.in-Some.is in (
       record {
         classes = c.classes_are_ordered.ensures.0 c.if-not-classes_are_ordered.false;
@@ -85,20 +130,8 @@ returns-in-Some-clause-ok c =
         jumps = c.all_jump_well.ensures.0 c.if-not-all_jump_well.false;
         loops = c.all_loops_nest.ensures.0 c.if-not-all_loops_nest.false;
         main = rw main refl;
+        parents = c.parents_fit.ensures.0 c.if-not-parents_fit.false;
+        overriders = c.overriders_fit.ensures.0 c.if-not-overriders_fit.false;
       },
       main,
-    )
-
-pub returns-in-None-clause-err : goal.returns-in-None-clause-err
-unfolding Fails
-returns-in-None-clause-err c =
-    let main = found_as c.args.image.now _ _ c.find_main.ensures (c.as_slice.ensures ∙ c.methods.ensures.value) ∙ c.in-None.is in (
-      c.classes_are_ordered.ensures.0 c.if-not-classes_are_ordered.false,
-      c.calls_are_ordered.ensures.0 c.if-not-calls_are_ordered.false,
-      c.needs_are_met.ensures.0 c.if-not-needs_are_met.false,
-      c.roles_are_single.ensures.0 c.if-not-roles_are_single.false,
-      c.all_are_shaped.ensures.0 c.if-not-all_are_shaped.false,
-      c.all_jump_well.ensures.0 c.if-not-all_jump_well.false,
-      c.all_loops_nest.ensures.0 c.if-not-all_loops_nest.false,
-      λ some. false≢true (rw main at some),
     )
