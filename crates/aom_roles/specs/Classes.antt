@@ -50,10 +50,15 @@ OwnsBefore p c Message = Unit {0}
 abbrev pub SessionsBefore : Image → ℕ → ClassKind → Type 0
 SessionsBefore p c k = IfSome (sessions_of k) (λ s. (s < c) × (is_session p s ≡ true))
 
+-- its parent comes before it
+abbrev pub ParentBefore : ℕ → ClassDecl → Type 0
+ParentBefore c d = IfSome d.parent (λ e. e < c)
+
 -- what a class names comes before it
 pub record ClassOrdered (p : Image) (c : ℕ) (d : ClassDecl) : Type 0 where
   pub fields : All (OwnsBefore p c) d.fields
   pub sessions : SessionsBefore p c d.kind
+  pub parent : ParentBefore c d
 
 abbrev pub EachOrdered : Image → List ClassDecl → Type 0
 EachOrdered p classes = (c : ℕ) → IfSome (slice_get classes c) (ClassOrdered p c)

@@ -1,6 +1,6 @@
 //! What classes own, and whose sessions they are.
 ghost use Rattle.std.specs.Prelude.{◌≡◌, ◌<◌, ◌↔◌, IsTrue, All};
-ghost use Rattle.aom_roles.specs.Classes.{sessions_of, is_session_kind, kind_at, is_session_in, is_session, sessions_in, sessions_at, OwnsBefore, SessionsBefore, ClassOrdered, EachOrdered, RootOrdered, ClassesOrdered};
+ghost use Rattle.aom_roles.specs.Classes.{sessions_of, is_session_kind, kind_at, is_session_in, is_session, sessions_in, sessions_at, OwnsBefore, SessionsBefore, ParentBefore, ClassOrdered, EachOrdered, RootOrdered, ClassesOrdered};
 
 use aom_image::{ClassDecl, ClassKind, ClassNumber, Image, Thing};
 
@@ -89,11 +89,21 @@ fn has_sessions_before(image: &Image, class: usize, kind: ClassKind) -> bool
     }
 }
 
+fn has_parent_before(class: usize, decl: &ClassDecl) -> bool
+    ensures { IsTrue result ↔ ParentBefore class decl.now }
+{
+    match decl.parent {
+        Some(parent) => (parent.number() as usize) < class,
+        None => true,
+    }
+}
+
 fn is_class_ordered(image: &Image, class: usize, decl: &ClassDecl) -> bool
     ensures { IsTrue result ↔ ClassOrdered image.now class decl.now }
 {
     owns_all_before(image, class, decl.fields.as_slice())
         && has_sessions_before(image, class, decl.kind)
+        && has_parent_before(class, decl)
 }
 
 fn is_root_ordered(image: &Image) -> bool

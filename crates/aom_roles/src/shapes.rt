@@ -17,13 +17,15 @@ use aom_image::{
 };
 use bitflags::Flags;
 
-fn may_leave(method: &Method) -> bool
+/// Whether a method may leave.
+pub fn may_leave(method: &Method) -> bool
     ensures { result ≡ may_leave method.now }
 {
     method.flags.contains(MethodFlags::LEAVES)
 }
 
-fn is_quiet(method: &Method) -> bool
+/// Whether a method is quiet.
+pub fn is_quiet(method: &Method) -> bool
     ensures { result ≡ is_quiet method.now }
 {
     method.flags.contains(MethodFlags::QUIET)
