@@ -1,6 +1,8 @@
+pub mod Beginning
 pub mod Bodies
 pub mod Each
 pub mod Facts
+pub mod Leading
 pub mod LoopPlaces
 pub mod Nested
 pub mod Nesting

@@ -3,7 +3,9 @@ use Rattle.std.specs.Prelude.{ℕ}
 use Rattle.aom_image.specs.Image.{Image}
 use Rattle.aom_classes.specs.Calls.{AllCallsOrdered}
 use Rattle.aom_roles.specs.Classes.{ClassesOrdered}
-use Rattle.aom_classes.specs.Linked.{AllJumpWell, AllLoopsNest, HasMain, IsLinked, OverridersFit, ParentsFit}
+use Rattle.aom_classes.specs.Families.{ParentsFit}
+use Rattle.aom_classes.specs.Linked.{AllJumpWell, AllLoopsNest, HasMain, IsLinked}
+use Rattle.aom_classes.specs.Overriding.{OverridersFit}
 use Rattle.aom_classes.specs.Needs.{AllNeedsMet, RolesSingle}
 use Rattle.aom_roles.specs.Shapes.{AllShaped}
 use Rattle.aom_classes.specs.declared.fault.LinkFault.{LinkFault}

@@ -1,10 +1,12 @@
 pub mod Bodies
 pub mod Calls
+pub mod Families
 pub mod Faults
 pub mod Jumps
 pub mod Linked
 pub mod Loops
 pub mod Needs
+pub mod Overriding
 pub mod Roles
 pub mod Scanning
 pub mod Table

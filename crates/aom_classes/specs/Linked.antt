@@ -1,9 +1,10 @@
 -- The conditions under which an image is linked.
-use Rattle.std.specs.Prelude.{◌≡◌, ℕ, All, None, IfSome, IsSome, slice_get}
+use Rattle.std.specs.Prelude.{ℕ, IfSome, IsSome, slice_get}
 use Rattle.aom_image.specs.Image.{Image}
 use Rattle.aom_classes.specs.Calls.{AllCallsOrdered}
 use Rattle.aom_roles.specs.Classes.{ClassesOrdered}
-use Rattle.aom_roles.specs.Families.{HasNoParents}
+use Rattle.aom_classes.specs.Families.{ParentsFit}
+use Rattle.aom_classes.specs.Overriding.{OverridersFit}
 use Rattle.aom_classes.specs.Jumps.{JumpsWell}
 use Rattle.aom_classes.specs.Loops.{LoopsNest}
 use Rattle.aom_classes.specs.Needs.{AllNeedsMet, RolesSingle}
@@ -21,18 +22,6 @@ AllLoopsNest p = (m : ℕ) → IfSome (slice_get p.methods m) (λ d. LoopsNest d
 -- there is a main
 abbrev pub HasMain : Image → Type 0
 HasMain p = IsSome (main_of p)
-
--- what parents ask: there are none yet
-pub record ParentsFit (p : Image) : Type 0 where
-  pub none : HasNoParents p
-
--- no method overrides another
-abbrev pub OverridesNothing : Image → Type 0
-OverridesNothing p = All (λ d. d.over ≡ None) p.methods
-
--- what overriders ask: there are none yet
-pub record OverridersFit (p : Image) : Type 0 where
-  pub none : OverridesNothing p
 
 -- a linked image: what it names comes before, each class has its methods, and each method its shape; it has no parents and no overriders yet
 pub record IsLinked (p : Image) : Type 0 where

@@ -9,6 +9,11 @@ use Rattle.aom_image.specs.declared.method.Thing.TheVariants.{Object, Message}
 unfoldable pub use Rattle.aom_roles.specs.Roles.{role_number}
 pub use Rattle.aom_roles.specs.Roles.{same_role}
 
+-- the first, or where there is none the second
+abbrev pub or_else : {A : Type 0} → Option A → Option A → Option A
+or_else None other = other
+or_else (Some x) other = Some x
+
 -- whether a method's class is that one
 abbrev pub is_class : ℕ → Option ℕ → Bool
 is_class c None = false

@@ -1,9 +1,63 @@
-//! Parents and overriders.
-ghost use Rattle.std.specs.Prelude.{◌↔◌, IsTrue};
+//! What a class has of its parent.
+ghost use Rattle.std.specs.Prelude.{◌≡◌, ◌↔◌, IsTrue, Some, slice_get};
 ghost use Rattle.aom_roles.specs.Families.{HasNoParents};
-ghost use Rattle.aom_classes.specs.Linked.{OverridersFit, OverridesNothing, ParentsFit};
+ghost use Rattle.aom_classes.specs.Families.{AllContinue, BeginsWith, Continues, ContinuesParent, ParentsFit};
 
-use aom_image::Image;
+use crate::same::{same_kind, same_thing};
+use aom_image::{ClassDecl, Image, Thing};
+
+fn has_field(fields: &[Thing], field: usize, thing: Thing) -> bool
+    ensures { IsTrue result ↔ (slice_get fields.now field ≡ Some thing) }
+{
+    match fields.get(field) {
+        Some(own) => same_thing(*own, thing),
+        None => false,
+    }
+}
+
+fn begins_with(fields: &[Thing], first: &[Thing]) -> bool
+    ensures { IsTrue result ↔ BeginsWith fields.now first.now }
+{
+    for (field, thing) in first.iter().enumerate() {
+        if !has_field(fields, field, *thing) {
+            return false;
+        }
+    }
+    true
+}
+
+fn continues(class: &ClassDecl, parent: &ClassDecl) -> bool
+    ensures { IsTrue result ↔ Continues class.now parent.now }
+{
+    same_kind(class.kind, parent.kind)
+        && parent.words <= class.words
+        && begins_with(class.fields.as_slice(), parent.fields.as_slice())
+}
+
+#[tactic(auto, unfolding(aom_image::specs::Views::class_at))]
+fn continues_parent(image: &Image, class: &ClassDecl) -> bool
+    ensures { IsTrue result ↔ ContinuesParent image.now class.now }
+{
+    let Some(parent) = class.parent else {
+        return true;
+    };
+    let classes = image.classes();
+    match classes.as_slice().get(parent.number() as usize) {
+        Some(parent) => continues(class, parent),
+        None => true,
+    }
+}
+
+/// Whether each class has what its parent has.
+fn all_continue(image: &Image) -> bool
+    ensures { IsTrue result ↔ AllContinue image.now }
+{
+    image
+        .classes()
+        .as_slice()
+        .iter()
+        .all(|class| continues_parent(image, class))
+}
 
 /// Whether no class has a parent.
 fn has_no_parents(image: &Image) -> bool
@@ -16,27 +70,9 @@ fn has_no_parents(image: &Image) -> bool
         .all(|class| class.parent.is_none())
 }
 
-/// Whether no method overrides another.
-fn overrides_nothing(image: &Image) -> bool
-    ensures { IsTrue result ↔ OverridesNothing image.now }
-{
-    let methods = image.methods();
-    methods
-        .as_slice()
-        .iter()
-        .all(|method| method.over.is_none())
-}
-
 /// Whether the parents of classes are as they may be.
 pub fn parents_fit(image: &Image) -> bool
     ensures { IsTrue result ↔ ParentsFit image.now }
 {
-    has_no_parents(image)
-}
-
-/// Whether what overrides is as it may be.
-pub fn overriders_fit(image: &Image) -> bool
-    ensures { IsTrue result ↔ OverridersFit image.now }
-{
-    overrides_nothing(image)
+    all_continue(image) && has_no_parents(image)
 }

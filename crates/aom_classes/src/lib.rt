@@ -12,9 +12,12 @@ mod jumps;
 mod linked;
 mod loops;
 mod needs;
+mod overriding;
 mod role_table;
 mod roles;
+mod same;
 
 pub use fault::LinkFault;
 pub use linked::{Linked, check_conditions, link};
+pub use overriding::{leads_to, over_of};
 pub use role_table::RoleTable;

@@ -7,10 +7,11 @@ ghost use Rattle.aom_classes.specs.Faults.{Fails, RefusesOrWants};
 
 use crate::LinkFault;
 use crate::call_order::calls_are_ordered;
-use crate::families::{overriders_fit, parents_fit};
+use crate::families::parents_fit;
 use crate::jumps::all_jump_well;
 use crate::loops::all_loops_nest;
 use crate::needs::{needs_are_met, roles_are_single};
+use crate::overriding::overriders_fit;
 use crate::role_table::RoleTable;
 use crate::roles::find_main;
 use aom_image::{

@@ -11,7 +11,7 @@ pub fn is_main(method: &Method) -> bool
     same_role(method.role, Role::Main)
 }
 
-fn is_class(class: ClassNumber, of: Option<ClassNumber>) -> bool
+pub fn is_class(class: ClassNumber, of: Option<ClassNumber>) -> bool
     ensures { result ≡ is_class class of }
 {
     match of {
@@ -28,7 +28,7 @@ pub fn plays(class: ClassNumber, role: Role, method: &Method) -> bool
 }
 
 /// The number of the method at an index.
-fn number_at(index: usize) -> MethodNumber
+pub fn number_at(index: usize) -> MethodNumber
     requires { index < 1024 }
     ensures { result ≡ index }
 {

@@ -1,0 +1,212 @@
+//! Methods that run in the place of others.
+ghost use Rattle.std.specs.Prelude.{◌≡◌, ◌↔◌, ◌<◌, ◌≤◌, IsTrue, Some, length, position, slice_get};
+ghost use Rattle.aom_classes.specs.Families.{BeginsWith};
+ghost use Rattle.aom_classes.specs.Overriding.{over_of, leads_to, replaces, overrider_of, is_below, AsksNoMore, StandsIn, StandsInNamed, AllStandIn, IsOnly, OverriddenOnce, AllOverriddenOnce, OverridesNothing, OverridersFit};
+
+use crate::roles::{is_class, number_at};
+use crate::same::{same_argument, same_gives};
+use aom_image::{Argument, ClassNumber, Image, Method, MethodNumber, Role};
+use aom_roles::{descends, is_quiet, may_leave, same_role};
+use bitflags::Flags;
+
+/// What a method overrides.
+#[tactic(auto, unfolding(crate::specs::Overriding::over_in, aom_image::specs::Views::method_at))]
+pub fn over_of(image: &Image, method: MethodNumber) -> Option<MethodNumber>
+    ensures { result ≡ over_of image.now method }
+{
+    let methods = image.methods();
+    match methods.as_slice().get(method.number() as usize) {
+        Some(method) => method.over,
+        None => None,
+    }
+}
+
+/// Whether what overrides that one overrides the method, itself or through others.
+pub fn leads_to(image: &Image, over: Option<MethodNumber>, method: MethodNumber) -> bool
+    ensures { result ≡ leads_to image.now over method }
+{
+    let mut left = image.methods().len();
+    let mut here = over;
+    while let Some(other) = here {
+        if other.number() == method.number() {
+            return true;
+        }
+        if left == 0 {
+            return false;
+        }
+        left -= 1;
+        here = over_of(image, other);
+    }
+    false
+}
+
+#[tactic(auto, unfolding(crate::specs::Overriding::replaces))]
+fn replaces(image: &Image, class: ClassNumber, named: MethodNumber, method: &Method) -> bool
+    ensures { result ≡ replaces image.now class named method.now }
+{
+    is_class(class, method.class) && leads_to(image, method.over, named)
+}
+
+/// What a class has in the place of a method.
+#[tactic(auto, unfolding(crate::specs::Overriding::overrider_of))]
+fn overrider_of(image: &Image, class: ClassNumber, named: MethodNumber) -> Option<usize>
+    ensures { result ≡ overrider_of image.now class named }
+{
+    let methods = image.methods();
+    methods
+        .as_slice()
+        .iter()
+        .position(|method| replaces(image, class, named, method))
+}
+
+#[tactic(auto, unfolding(crate::specs::Overriding::is_below))]
+fn is_below(image: &Image, class: Option<ClassNumber>, other: Option<ClassNumber>) -> bool
+    ensures { result ≡ is_below image.now class other }
+{
+    let Some(class) = class else {
+        return false;
+    };
+    match other {
+        Some(ancestor) => {
+            class.number() != ancestor.number() && descends(image, class, ancestor)
+        }
+        None => false,
+    }
+}
+
+fn has_argument(arguments: &[Argument], index: usize, argument: Argument) -> bool
+    ensures { IsTrue result ↔ (slice_get arguments.now index ≡ Some argument) }
+{
+    match arguments.get(index) {
+        Some(own) => same_argument(*own, argument),
+        None => false,
+    }
+}
+
+fn begins_with(arguments: &[Argument], first: &[Argument]) -> bool
+    ensures { IsTrue result ↔ BeginsWith arguments.now first.now }
+{
+    for (index, argument) in first.iter().enumerate() {
+        if !has_argument(arguments, index, *argument) {
+            return false;
+        }
+    }
+    true
+}
+
+fn same_arguments(one: &[Argument], other: &[Argument]) -> bool
+    ensures { IsTrue result ↔ (one.now ≡ other.now) }
+{
+    one.len() == other.len() && begins_with(one, other)
+}
+
+fn takes_the_same(method: &Method, other: &Method) -> bool
+    ensures { IsTrue result ↔ ((method.now.arguments ≡ other.now.arguments) × (method.now.gives ≡ other.now.gives)) }
+{
+    same_arguments(method.arguments.as_slice(), other.arguments.as_slice())
+        && same_gives(method.gives, other.gives)
+}
+
+fn asks_no_more(method: &Method, other: &Method) -> bool
+    ensures { IsTrue result ↔ AsksNoMore method.now other.now }
+{
+    (!may_leave(method) || may_leave(other))
+        && (!is_quiet(other) || is_quiet(method))
+        && method.before.contains(other.before)
+        && other.after.contains(method.after)
+}
+
+/// Whether a method may run in the place of another.
+fn stands_in(image: &Image, method: &Method, other: &Method) -> bool
+    ensures { IsTrue result ↔ StandsIn image.now method.now other.now }
+{
+    is_below(image, method.class, other.class)
+        && same_role(method.role, Role::Do)
+        && same_role(other.role, Role::Do)
+        && takes_the_same(method, other)
+        && asks_no_more(method, other)
+}
+
+#[tactic(auto, unfolding(aom_image::specs::Views::method_at))]
+fn stands_in_named(image: &Image, method: &Method) -> bool
+    ensures { IsTrue result ↔ StandsInNamed image.now method.now }
+{
+    let Some(over) = method.over else {
+        return true;
+    };
+    let methods = image.methods();
+    match methods.as_slice().get(over.number() as usize) {
+        Some(other) => stands_in(image, method, other),
+        None => true,
+    }
+}
+
+fn all_stand_in(image: &Image) -> bool
+    ensures { IsTrue result ↔ AllStandIn image.now }
+{
+    image
+        .methods()
+        .as_slice()
+        .iter()
+        .all(|method| stands_in_named(image, method))
+}
+
+fn is_found(index: usize, found: Option<usize>) -> bool
+    ensures { IsTrue result ↔ (found ≡ Some index) }
+{
+    found == Some(index)
+}
+
+fn is_only(image: &Image, named: MethodNumber, index: usize, method: &Method) -> bool
+    ensures { IsTrue result ↔ IsOnly image.now named index method.now }
+{
+    if !leads_to(image, method.over, named) {
+        return true;
+    }
+    match method.class {
+        Some(class) => is_found(index, overrider_of(image, class, named)),
+        None => true,
+    }
+}
+
+fn is_overridden_once(image: &Image, named: MethodNumber) -> bool
+    ensures { IsTrue result ↔ OverriddenOnce image.now named }
+{
+    let methods = image.methods();
+    for (index, method) in methods.as_slice().iter().enumerate() {
+        if !is_only(image, named, index, method) {
+            return false;
+        }
+    }
+    true
+}
+
+fn all_overridden_once(image: &Image) -> bool
+    ensures { IsTrue result ↔ AllOverriddenOnce image.now }
+{
+    let methods = image.methods();
+    for (named, _method) in methods.as_slice().iter().enumerate() {
+        if !is_overridden_once(image, number_at(named)) {
+            return false;
+        }
+    }
+    true
+}
+
+/// Whether no method overrides another.
+fn overrides_nothing(image: &Image) -> bool
+    ensures { IsTrue result ↔ OverridesNothing image.now }
+{
+    let methods = image.methods();
+    methods
+        .as_slice()
+        .iter()
+        .all(|method| method.over.is_none())
+}
+
+/// Whether what overrides is as it may be.
+pub fn overriders_fit(image: &Image) -> bool
+    ensures { IsTrue result ↔ OverridersFit image.now }
+{
+    all_stand_in(image) && all_overridden_once(image) && overrides_nothing(image)
+}
