@@ -26,6 +26,7 @@ use Rattle.aom_classes.specs.Linked.{IsLinked}
 use Rattle.aom_classes.specs.Roles.{plays, role_of, same_role}
 use Rattle.aom_classes.proofs.Each.{both, join}
 use Rattle.aom_classes.proofs.Facts.{at_place, all_there, of_method}
+use Rattle.aom_classes.proofs.Mentioning.{cancels_own, mentions_own, mentions_sessions}
 use Rattle.aom_classes.proofs.Playing.{found}
 use Rattle.aom_rules.specs.Calls.{brought, caught, worked_on, while_called}
 use Rattle.aom_rules.specs.Requests.{resting}
@@ -82,8 +83,8 @@ destructor_below p m (Some c) h = role_below p m c roles.Destruct h
 
 mentioned : (p : Image) (m c : ℕ) → Mentions p m c → IsTrue (runs_below p m (Some c))
 mentioned p m c h =
-    let own = listed_below m (role_of p c roles.Destruct) (role_below p m c roles.Destruct h.own) in
-    let sessions = listed_below m (destructor_of p (sessions_at p c)) (destructor_below p m (sessions_at p c) h.sessions) in
+    let own = listed_below m (role_of p c roles.Destruct) (role_below p m c roles.Destruct (mentions_own p m c h)) in
+    let sessions = listed_below m (destructor_of p (sessions_at p c)) (destructor_below p m (sessions_at p c) (mentions_sessions p m c h)) in
     rw (list_all-append (λ k. nat_lt k m) (listed (role_of p c roles.Destruct)) (listed (destructor_of p (sessions_at p c)))) (join _ _ own sessions)
 
 thing_mentioned : (p : Image) (m : ℕ) (t : Thing) → MentionsThing p m t → IsTrue (runs_below p m (thing_class t))
@@ -520,7 +521,7 @@ module _ (p : Image) (m : ℕ) where
 
   cancel_low : (own : Option ℕ) → RunsBelow p m own Cancel → IsTrue (list_all (λ j. nat_lt j m) (listed (cancel_of p own)))
   cancel_low None h = refl
-  cancel_low (Some c) h = listed_below m (role_of p c roles.Cancel) (role_below p m c roles.Cancel h)
+  cancel_low (Some c) h = listed_below m (role_of p c roles.Cancel) (cancels_own p m c h)
 
   callees_low : (sh : Shape) (i : Instr) → RunsBelow p m (method_class p m) i → IsLow p m sh → IsTrue (list_all (λ j. nat_lt j m) (callees p m sh i))
   callees_low sh (Call target called first c) r h = listed_below m (Some called) r.below

@@ -4,8 +4,10 @@ pub mod Each
 pub mod Facts
 pub mod Leading
 pub mod LoopPlaces
+pub mod Mentioning
 pub mod Nested
 pub mod Nesting
+pub mod Ordering
 pub mod Playing
 pub mod Refusing
 pub mod Rows

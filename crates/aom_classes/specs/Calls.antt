@@ -1,5 +1,5 @@
 -- What a method may run, and which destructors may come of what it mentions.
-use Rattle.std.specs.Prelude.{◌<◌, ℕ, List, All, Option, IfSome, IsTrue, slice_get}
+use Rattle.std.specs.Prelude.{◌≡◌, ◌<◌, ℕ, true, List, All, Option, IfSome, IsTrue, slice_get}
 use Rattle.aom_image.specs.Image.{Image}
 use Rattle.aom_image.specs.Views.{fields_of, gives_of}
 use Rattle.aom_instructions.specs.declared.instr.Instr.{Instr}
@@ -14,7 +14,9 @@ use Rattle.aom_image.specs.declared.method.Role.TheVariants as roles
 use Rattle.aom_image.specs.declared.method.Thing.{Thing}
 use Rattle.aom_image.specs.declared.method.Thing.TheVariants.{Object, Message}
 use Rattle.aom_roles.specs.Classes.{sessions_at}
-use Rattle.aom_classes.specs.Roles.{plays, is_main}
+use Rattle.aom_roles.specs.Families.{descends}
+use Rattle.aom_classes.specs.Overriding.{leads_to}
+use Rattle.aom_classes.specs.Roles.{keeper_of, plays, is_main}
 
 -- every method of a class with that role has a number below m
 abbrev pub AllBelow : List Method → ℕ → ℕ → Role → Type 0
@@ -23,10 +25,30 @@ AllBelow methods m c r = (k : ℕ) → IfSome (slice_get methods k) (λ d. IsTru
 abbrev pub DestructsBelow : Image → ℕ → ℕ → Type 0
 DestructsBelow p m c = AllBelow p.methods m c roles.Destruct
 
--- what a method m asks of a class that it mentions: that the destructors of its objects, and of their sessions, have lower numbers
-pub record Mentions (p : Image) (m c : ℕ) : Type 0 where
-  pub own : DestructsBelow p m c
-  pub sessions : IfSome (sessions_at p c) (DestructsBelow p m)
+-- what runs as an object of a class goes: the destructors of the class and of those that it descends from
+abbrev pub GoesBelow : Image → ℕ → ℕ → Type 0
+GoesBelow p m x = (y : ℕ) → descends p x y ≡ true → DestructsBelow p m y
+
+-- and those of its sessions
+pub record EndsBelow (p : Image) (m x : ℕ) : Type 0 where
+  pub own : GoesBelow p m x
+  pub sessions : IfSome (sessions_at p x) (GoesBelow p m)
+
+-- what a method m asks of a class that it mentions: that all that runs as an object goes, of the class or of a descendant, has lower numbers
+abbrev pub Mentions : Image → ℕ → ℕ → Type 0
+Mentions p m c = (x : ℕ) → descends p x c ≡ true → EndsBelow p m x
+
+-- the cancel methods that an object of the class has
+abbrev pub CancelsBelow : Image → ℕ → ℕ → Type 0
+CancelsBelow p m x = IfSome (keeper_of p x roles.Cancel) (λ y. AllBelow p.methods m y roles.Cancel)
+
+-- what a method m asks of its class where it cancels: that all those of the class and of its descendants have lower numbers
+abbrev pub MayCancel : Image → ℕ → ℕ → Type 0
+MayCancel p m c = (x : ℕ) → descends p x c ≡ true → CancelsBelow p m x
+
+-- every method that overrides another, itself or through others, has a number below m
+abbrev pub OverridersBelow : Image → ℕ → ℕ → Type 0
+OverridersBelow p m called = (k : ℕ) → IfSome (slice_get p.methods k) (λ d. IsTrue (leads_to p d.over called) → k < m)
 
 abbrev pub MentionsThing : Image → ℕ → Thing → Type 0
 MentionsThing p m (Object c) = Mentions p m c
@@ -43,9 +65,10 @@ MentionsResult p m (gives.Own t) = MentionsThing p m t
 MentionsResult p m (gives.Maybe t) = MentionsThing p m t
 MentionsResult p m (gives.Left c) = Mentions p m c
 
--- a method that is called comes before, and its result is mentioned
+-- a method that is called comes before, with all that override it, and its result is mentioned
 pub record CallsBelow (p : Image) (m called : ℕ) : Type 0 where
   pub below : called < m
+  pub overriders : OverridersBelow p m called
   pub gives : MentionsResult p m (gives_of p called)
 
 -- what an instruction runs and mentions, in a method m of a class or of none
@@ -55,7 +78,7 @@ RunsBelow p m own (instrs.NewOrLeave r c) = Mentions p m c
 RunsBelow p m own (instrs.Call t called a r) = CallsBelow p m called
 RunsBelow p m own (instrs.Trap t called a r) = CallsBelow p m called
 RunsBelow p m own (instrs.PushOperation r called) = called < m
-RunsBelow p m own instrs.Cancel = IfSome own (λ c. AllBelow p.methods m c roles.Cancel)
+RunsBelow p m own instrs.Cancel = IfSome own (MayCancel p m)
 RunsBelow p m own _ = Unit {0}
 
 abbrev pub MentionsFields : Image → ℕ → Option ℕ → Type 0

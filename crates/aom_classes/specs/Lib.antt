@@ -6,6 +6,7 @@ pub mod Jumps
 pub mod Linked
 pub mod Loops
 pub mod Needs
+pub mod Orders
 pub mod Overriding
 pub mod Roles
 pub mod Scanning

@@ -1,11 +1,12 @@
 -- Which method has a role.
-use Rattle.std.specs.Prelude.{ℕ, Bool, false, ◌&&◌, nat_eq, Option, Some, None, position}
+use Rattle.std.specs.Prelude.{ℕ, zero, suc, Bool, false, ◌&&◌, cond, nat_eq, Option, Some, None, is_some, position}
 use Rattle.aom_image.specs.Image.{Image}
 use Rattle.aom_image.specs.declared.method.Method.{Method}
 use Rattle.aom_image.specs.declared.method.Role.{Role}
 use Rattle.aom_image.specs.declared.method.Role.TheVariants.{Destruct, Main}
 use Rattle.aom_image.specs.declared.method.Thing.{Thing}
 use Rattle.aom_image.specs.declared.method.Thing.TheVariants.{Object, Message}
+use Rattle.aom_roles.specs.Families.{parent_of}
 unfoldable pub use Rattle.aom_roles.specs.Roles.{role_number}
 pub use Rattle.aom_roles.specs.Roles.{same_role}
 
@@ -22,6 +23,20 @@ is_class c (Some d) = nat_eq d c
 -- whether a method is of that class and has that role
 unfoldable pub plays : ℕ → Role → Method → Bool
 plays c r m = is_class c m.class && same_role m.role r
+
+-- the first method of that class itself with that role
+unfoldable pub own_role : Image → ℕ → Role → Option ℕ
+own_role p c r = position (plays c r) p.methods
+
+-- the class with such a method, the nearest of so many generations above
+unfoldable pub keeper_in : Image → ℕ → Option ℕ → Role → Option ℕ
+keeper_in p n None r = None
+keeper_in p zero (Some c) r = cond (is_some (own_role p c r)) (Some c) None
+keeper_in p (suc n) (Some c) r = cond (is_some (own_role p c r)) (Some c) (keeper_in p n (parent_of p c) r)
+
+-- the class, or the nearest that it descends from, which has a method with that role itself
+abbrev pub keeper_of : Image → ℕ → Role → Option ℕ
+keeper_of p c r = keeper_in p c (Some c) r
 
 -- the first method of that class with that role
 unfoldable pub role_of : Image → ℕ → Role → Option ℕ

@@ -12,6 +12,7 @@ mod jumps;
 mod linked;
 mod loops;
 mod needs;
+mod orders;
 mod overriding;
 mod role_table;
 mod roles;

@@ -23,7 +23,7 @@ lower_below c (Some d) e is = go (nat_lt d c) refl is
 pub parent_below : (p : Image) (c e : ℕ) → parent_of p c ≡ Some e → e < c
 parent_below p c e is = lower_below c (parent_in (class_at p c)) e is
 
-none_below : (p : Image) → parent_of p 0 ≡ None
+pub none_below : (p : Image) → parent_of p 0 ≡ None
 none_below p = go (parent_of p 0) refl
   where
     go : (o : Option ℕ) → parent_of p 0 ≡ o → o ≡ None
@@ -31,7 +31,7 @@ none_below p = go (parent_of p 0) refl
     go (Some e) is = let lt = parent_below p 0 e is in absurd (omega arith)
 
 -- a parent needs a generation less
-fewer : (p : Image) (c n : ℕ) → c ≤ suc n → IfSome (parent_of p c) (λ e. e ≤ n)
+pub fewer : (p : Image) (c n : ℕ) → c ≤ suc n → IfSome (parent_of p c) (λ e. e ≤ n)
 fewer p c n le = go (parent_of p c) refl
   where
     go : (o : Option ℕ) → parent_of p c ≡ o → IfSome o (λ e. e ≤ n)

@@ -1,5 +1,5 @@
 -- What a run of a method costs those that begin it.
-use Rattle.std.proofs.Common.{Bool, IfSome, IsTrue, List, None, Option, Some, [], ap, arith, cond, false, length, refl, slice_get, subst, suc, true, ℕ, ◌*◌, ◌∷◌, ◌+◌, ◌<◌, ◌^◌, ◌∙◌, ◌≡◌, ◌≤◌}
+use Rattle.std.proofs.Common.{Bool, IfSome, List, None, Option, Some, [], ap, arith, cond, false, length, refl, slice_get, subst, suc, true, ℕ, ◌*◌, ◌∷◌, ◌+◌, ◌<◌, ◌^◌, ◌∙◌, ◌≡◌, ◌≤◌}
 use Rattle.std.specs.Prelude.{IsSome, position}
 use Rattle.std.proofs.lemmas.Option.{slice_get_within}
 use Rattle.aom_image.specs.Image.{Image}
@@ -12,11 +12,12 @@ use Rattle.aom_image.specs.declared.class.ClassKind.{ClassKind}
 use Rattle.aom_image.specs.declared.method.Role.{Role}
 use Rattle.aom_image.specs.declared.method.Role.TheVariants.{Cancel as Cancel_role, Destruct}
 use Rattle.aom_image.specs.declared.method.Thing.{Thing}
-use Rattle.aom_classes.specs.Calls.{AllBelow, CallsOrdered, RunsBelow}
+use Rattle.aom_classes.specs.Calls.{CallsOrdered, MayCancel, RunsBelow}
 use Rattle.aom_classes.specs.Linked.{IsLinked}
-use Rattle.aom_classes.specs.Roles.{destructor_of, is_main, main_of, plays, role_of}
+use Rattle.aom_classes.specs.Roles.{destructor_of, is_main, main_of, role_of}
 use Rattle.aom_roles.specs.Shapes.{FlagsFit, HasShape, IsShaped, kind_of, may_leave, is_quiet as quiet_bit}
 use Rattle.aom_classes.proofs.Facts.{all_there, at_place}
+use Rattle.aom_classes.proofs.Mentioning.{cancels_own}
 use Rattle.aom_sound.specs.Destruction.{begun, begun_by, destructed}
 use Rattle.aom_sound.specs.Servers.{is_server}
 use Rattle.aom_sound.specs.Places.{Object}
@@ -26,7 +27,7 @@ use Rattle.aom_steps.specs.Ranks.{all_left, base, cell_rank, closing_rank, left_
 use Rattle.aom_steps.specs.Within.{left}
 use Rattle.aom_steps.proofs.Sums.{pow_less, pow_more, pow_some, pow_step, pow_twice, whole_run}
 use Rattle.aom_image.proofs.Given.{cons_given, some_given}
-use Rattle.aom_classes.proofs.Playing.{destroyed, found, role_found}
+use Rattle.aom_classes.proofs.Playing.{destroyed, role_found}
 use Rattle.aom_steps.proofs.Sums.{one_of_all}
 
 left_below : (ms : List Method) (k : ℕ) (m : Method) → slice_get ms k ≡ Some m → left m.code [] 0 ≤ all_left ms
@@ -169,10 +170,7 @@ quiet_canceller p linked c m e = (role_quiet p linked c m Cancel_role (λ kind d
 pub canceller_before :
     (p : Image) → IsLinked p → (m place : ℕ) (d : Method) (c m' : ℕ) → method_at p m ≡ Some d → slice_get d.code place ≡ Some Cancel → d.class ≡ Some c → role_of p c Cancel_role ≡ Some m' →
     m' < m
-unfolding method_at role_of
 canceller_before p linked m place d c m' is stands class e =
     let runs = runs_below p linked m place d Cancel is stands in
-    let below : AllBelow p.methods m c Cancel_role = subst (λ o. IfSome o (λ c. AllBelow p.methods m c Cancel_role)) class runs in
-    let w = found (plays c Cancel_role) p.methods m' e in
-    let here : IfSome (Some w.0) (λ d. IsTrue (plays c Cancel_role d) → m' < m) = subst (λ o. IfSome o (λ d. IsTrue (plays c Cancel_role d) → m' < m)) w.1 (below m') in
-    here w.2
+    let below : MayCancel p m c = subst (λ o. IfSome o (MayCancel p m)) class runs in
+    subst (λ o. IfSome o (λ k. k < m)) e (cancels_own p m c below)
