@@ -5,6 +5,7 @@ use Rattle.std.proofs.lemmas.Bool.{ne_eqb, true≢false}
 use Rattle.std.specs.Prelude.{is_some, not, ◌||◌}
 use Rattle.aom_image.specs.Image.{Image}
 use Rattle.aom_image.specs.Views.{arguments_of, instr_at, is_quiet, leaves, method_class, method_role}
+use Rattle.aom_roles.specs.Families.{HasNoParents}
 use Rattle.aom_instructions.specs.declared.instr.Instr.{Instr}
 use Rattle.aom_instructions.specs.declared.instr.Instr.TheVariants.{Call, Cancel, Delete, Push, PushOperation, Trap}
 use Rattle.aom_instructions.specs.declared.instr.Target.{Target}
@@ -61,10 +62,10 @@ use Rattle.aom_sound.proofs.Services.{held_served}
 use Rattle.aom_sound.specs.Servers.{is_server, opened}
 
 -- what runs as an object goes is told by the class that its register's kind tells
-destructs_as : (p : Image) (h : Sight) (o : Object) (k : Kind) (m : ℕ) → Fits p h (Some o) k → Destructs p (Some o) m → Among m (destructors p (object_class k))
-destructs_as p h o (Own t a) m fits e = subst (λ x. Among m (destructors p (thing_class x))) (stands_same p o.thing t fits.0) e
-destructs_as p h o (Maybe t a) m fits e = subst (λ x. Among m (destructors p (thing_class x))) (stands_same p o.thing t fits.0) e
-destructs_as p h o _ m fits e = absurd (assumption tt)
+destructs_as : (p : Image) → HasNoParents p → (h : Sight) (o : Object) (k : Kind) (m : ℕ) → Fits p h (Some o) k → Destructs p (Some o) m → Among m (destructors p (object_class k))
+destructs_as p none h o (Own t a) m fits e = subst (λ x. Among m (destructors p (thing_class x))) (stands_same p none o.thing t fits.0) e
+destructs_as p none h o (Maybe t a) m fits e = subst (λ x. Among m (destructors p (thing_class x))) (stands_same p none o.thing t fits.0) e
+destructs_as p none h o _ m fits e = absurd (assumption tt)
 
 -- its own destructor does
 own_destructs : (p : Image) (o : Object) (m : ℕ) → destructor_of p o.thing ≡ Some m → Destructs p (Some o) m
@@ -338,7 +339,7 @@ module _ (p : Image) (t : Typing) (depth heights : ℕ → ℕ) (tables : Tables
     -- the method that cancels is quiet, and comes to no entries
     cancel_room : (m : ℕ) → instr_at p fr.method fr.place ≡ Some Cancel → cancel_method p fr.home ≡ Some m → R (applied p fr ts s (Cancels m))
     cancel_room m stands e =
-        let found = cancel_class p fr.home fr.method m h.holder e in
+        let found = cancel_class p tables.wired.parents fr.home fr.method m h.holder e in
         let quiet = cancel_quiet p tables.wired fr.home m e in
         let stays : leaves p m ≡ false = false_given (λ b. b ≡ true → is_quiet p m ≡ false) (leaves p m) (tables.wired.quiets m) (λ loud. absurd (true≢false (sym quiet ∙ loud refl))) (λ stays loud. stays) in
         let among : Among m (listed (bounds.cancel_of p (method_class p fr.method))) = subst (λ o. Among m (listed o)) (sym (ap (λ o. bounds.cancel_of p o) found.1 ∙ found.2)) (inl refl) in
@@ -366,7 +367,7 @@ module _ (p : Image) (t : Typing) (depth heights : ℕ → ℕ) (tables : Tables
         Leads t fr.method (suc fr.place) (with_entry (entry_of (register h.shape a)) (set_register h.shape a Null)) → After (Pushed a)
     push_room a stands leave leads =
         item_pushed p depth heights (moved (here fr ts s a) (Entry (length s.items)) s.cells) An_object s.items (Run fr ∷ ts) all_low
-        (λ m e. some_given (λ o. (Fits p (seen s.cells) o (register h.shape a)) × Destructs p o m) (held s.cells (here fr ts s a)) (h.fits a, subst (λ x. Destructs p x m) there_now e) (λ given. given.1) (λ o _ given. may_call fr h.shape h.there (Push a) m stands (destructs_as p (seen s.cells) o (register h.shape a) m given.0 given.1)))
+        (λ m e. some_given (λ o. (Fits p (seen s.cells) o (register h.shape a)) × Destructs p o m) (held s.cells (here fr ts s a)) (h.fits a, subst (λ x. Destructs p x m) there_now e) (λ given. given.1) (λ o _ given. may_call fr h.shape h.there (Push a) m stands (destructs_as p tables.wired.parents (seen s.cells) o (register h.shape a) m given.0 given.1)))
         (let few = pushes (Push a) (with_entry (entry_of (register h.shape a)) (set_register h.shape a Null)) stands leave leads refl in omega (arith, few))
         (recelled p depth heights s.cells (moved (here fr ts s a) (Entry (length s.items)) s.cells) s.items (Run fr ∷ ts) (
           λ k lt. held_apart s.cells (here fr ts s a) (Entry (length s.items)) (Entry k) refl (entry_apart (length s.items) k lt),
@@ -456,7 +457,7 @@ module _ (p : Image) (t : Typing) (depth heights : ℕ → ℕ) (tables : Tables
     delete_room o a words stands there fits =
         begins_over (moved (here fr ts s a) (Going (length (Run fr ∷ ts))) s.cells) s.items o (Run (with_words fr words) ∷ ts)
         (goes_there_now s.cells (here fr ts s a) (length (Run fr ∷ ts)) unheld refl ∙ there)
-        (λ m e. may_call fr h.shape h.there (Delete a) m stands (destructs_as p (seen s.cells) o (register h.shape a) m fits e))
+        (λ m e. may_call fr h.shape h.there (Delete a) m stands (destructs_as p tables.wired.parents (seen s.cells) o (register h.shape a) m fits e))
         (λ server. tt)
         (recelled p depth heights s.cells (moved (here fr ts s a) (Going (length (Run fr ∷ ts))) s.cells) s.items (Run fr ∷ ts) (
           λ k lt. held_apart s.cells (here fr ts s a) (Going (length (Run fr ∷ ts))) (Entry k) refl refl,

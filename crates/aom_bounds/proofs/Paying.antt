@@ -4,12 +4,15 @@ use Rattle.aom_image.specs.Image.{Image}
 use Rattle.aom_instructions.specs.declared.instr.Instr.{Instr}
 use Rattle.aom_instructions.specs.declared.instr.Instr.TheVariants.{Loop, Next}
 use Rattle.aom_image.specs.declared.method.Thing.{Thing}
+use Rattle.aom_image.specs.declared.method.Thing.TheVariants.{Message, Object}
+use Rattle.aom_roles.proofs.Descending.{one_class}
+use Rattle.aom_roles.specs.Families.{HasNoParents}
 use Rattle.aom_classes.proofs.Bodies.{linked_is_looped}
 use Rattle.aom_classes.specs.Bodies.{Body, IsLooped}
 use Rattle.aom_classes.specs.Linked.{IsLinked}
 use Rattle.aom_classes.specs.Loops.{loop_in, next_in}
 use Rattle.aom_classes.specs.Roles.{destructor_of}
-use Rattle.aom_shape.proofs.Deciding.{thing_is}
+use Rattle.aom_shape.specs.Things.{stands_for}
 use Rattle.aom_shape.specs.Needs.{Flow}
 use Rattle.aom_rules.specs.Rules.{flows}
 use Rattle.aom_shape.specs.Shape.{Shape}
@@ -33,6 +36,13 @@ each_paid c m pays here (f ∷ fs) paid = (paid f.0 (inl refl), each_paid c m pa
 
 at_most : (x y : ℕ) → y ≡ x → x ≤ y
 at_most x y e = omega (arith, e)
+
+-- where no class has a parent only a thing itself stands for it
+stands_same : (p : Image) → HasNoParents p → (x y : Thing) → stands_for p x y ≡ true → x ≡ y
+stands_same p none (Object c) (Object d) e = ap Object (one_class p none c d e)
+stands_same p none (Object c) Message e = cc
+stands_same p none Message (Object d) e = cc
+stands_same p none Message Message e = refl
 
 module _ (p : Image) (t : Typing) (c : Prices) (a : Afters) (looped : IsLooped p) (linked : IsLinked p) (typed : IsTyped p t) (swept : IsSwept p t c a) where
   -- what a region goes out to is paid for by what follows it
@@ -120,7 +130,7 @@ module _ (p : Image) (t : Typing) (c : Prices) (a : Afters) (looped : IsLooped p
     cells = λ x. omega (arith, swept.classes x);
     destructors = destructors_paid;
     sessions = λ x. omega (arith, ruled_of p linked c swept.classes x, perhaps_is c (destructor_of p x));
-    stands_in = λ x y e. omega (arith, ap c.destruction (thing_is x y e));
+    stands_in = λ x y e. omega (arith, ap c.destruction (stands_same p linked.parents.none x y e));
   }
 
 pub law_pays : SweptPays

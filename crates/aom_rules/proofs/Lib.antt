@@ -10,3 +10,4 @@ pub mod Examples
 pub mod RequestExamples
 pub mod NativeExamples
 pub mod MessageExamples
+pub mod FamilyExamples

@@ -10,6 +10,7 @@ use Rattle.aom_image.specs.declared.method.Gives.TheVariants.{Nothing}
 use Rattle.aom_image.specs.declared.method.Method.{Method}
 use Rattle.aom_image.specs.declared.method.Role.TheVariants.{Do}
 use Rattle.aom_image.specs.declared.method.Thing.TheVariants.{Object}
+use Rattle.aom_roles.specs.Families.{descends_in}
 use Rattle.aom_instructions.specs.declared.instr.Instr.{Instr}
 use Rattle.aom_instructions.specs.declared.instr.Instr.TheVariants.{Ask, Close, Connect}
 use Rattle.aom_roles.specs.Classes.{kind_in}
@@ -61,7 +62,7 @@ connect_bites :
     × Says (of_class 3 0 0) (state Unset Unset 0) (Connect 0) (Err RegisterKind)
     × Says (of_class 0 11 11) (state (Own (Object 3) Ready) Unset 1) (Connect 0) (Err RegisterKind)
     × Says (of_class 0 11 11) (state Unset Unset 11) (Connect 0) (Ok ((1, state Word Unset 11) ∷ []))
-unfolding of_class method state classes method_at class_at class_in kind_of kind_in
+unfolding of_class method state classes method_at class_at class_in kind_of kind_in descends_in
 connect_bites = (refl, refl, refl, refl, refl)
 
 -- `ask`: at a timer, of a plain object, of no function, with no word, and over an owner; it passes in any state of the object
@@ -72,7 +73,7 @@ ask_bites :
     × Says (of_class 0 11 11) (state Word Unset 1) (Ask 0 0 1) (Err RegisterKind)
     × Says (of_class 0 11 11) (state (Own (Object 3) Ready) Word 1) (Ask 0 1 1) (Err RegisterKind)
     × Says (of_class 0 11 11) (state Unset Word 11) (Ask 0 1 1) (Ok ((1, state Word Word 11) ∷ []))
-unfolding of_class method state classes method_at class_at class_in kind_of kind_in
+unfolding of_class method state classes method_at class_at class_in kind_of kind_in descends_in
 ask_bites = (refl, refl, refl, refl, refl, refl)
 
 -- `close`: at a timer, of a plain object, while it has issued, while it is active, and in a cancel; it passes once the object is idle
@@ -83,5 +84,5 @@ close_bites :
     × Says (of_class 0 11 11) (state Unset Unset 11) Close (Err NotIdle)
     × Says (of_class 0 11 11) (state Unset Unset 32) Close (Err NotIdle)
     × Says (of_class 0 11 11) (state Unset Unset 3) Close (Ok ((1, state Unset Unset 3) ∷ []))
-unfolding of_class method state classes method_at class_at class_in kind_of kind_in
+unfolding of_class method state classes method_at class_at class_in kind_of kind_in descends_in
 close_bites = (refl, refl, refl, refl, refl, refl)

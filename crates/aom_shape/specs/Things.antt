@@ -3,6 +3,7 @@ use Rattle.std.specs.Prelude.{ℕ, zero, suc, Bool, true, false, ◌==◌, Optio
 use Rattle.aom_image.specs.Image.{Image}
 use Rattle.aom_image.specs.Views.{class_at, fields_of, method_class, method_role}
 use Rattle.aom_image.specs.declared.class.ClassDecl.{ClassDecl}
+use Rattle.aom_roles.specs.Families.{descends}
 use Rattle.aom_image.specs.declared.method.Role.{Role}
 use Rattle.aom_image.specs.declared.method.Role.TheVariants.{Main}
 use Rattle.aom_image.specs.declared.method.Thing.{Thing}
@@ -16,7 +17,10 @@ same_thing Message Message = true
 
 -- a thing of the first kind may stand where one of the second is declared
 abbrev pub stands_for : Image → Thing → Thing → Bool
-stands_for p x y = same_thing x y
+stands_for p (Object c) (Object d) = descends p c d
+stands_for p (Object c) Message = false
+stands_for p Message (Object d) = false
+stands_for p Message Message = true
 
 -- whose owning fields a method works on: nobody's, the root as main's only field, or those of an object of a class
 pub data Holder : Type 0 where

@@ -6,13 +6,23 @@ ghost use Rattle.aom_shape.specs.Things.{stands_for, root_thing, field_thing, ho
 
 use aom_classes::Linked;
 use aom_image::{ClassNumber, FieldIndex, MethodNumber, Role, Thing};
-use aom_shape::{Kind, same_thing};
+use aom_roles::descends;
+use aom_shape::Kind;
 
 /// A thing of the first kind may stand where one of the second is declared.
-pub(crate) fn stands_for(_linked: &Linked, one: Thing, other: Thing) -> bool
-    ensures { result ≡ stands_for _linked.now one other }
+pub(crate) fn stands_for(linked: &Linked, one: Thing, other: Thing) -> bool
+    ensures { result ≡ stands_for linked.now one other }
 {
-    same_thing(one, other)
+    match one {
+        Thing::Object(class) => match other {
+            Thing::Object(ancestor) => descends(linked.image(), class, ancestor),
+            Thing::Message => false,
+        },
+        Thing::Message => match other {
+            Thing::Object(_) => false,
+            Thing::Message => true,
+        },
+    }
 }
 
 /// It owns what may stand for that thing.

@@ -3,6 +3,7 @@ use Rattle.std.proofs.Common.{refl, ℤ, pos, negsuc, arith}
 use Rattle.std.proofs.lemmas.Int.{ints}
 use Rattle.std.proofs.Math.Facts.{sfits_lit}
 use Rattle.aom_image.specs.Views.{arguments_in, class_at, class_in, fields_in, gives_in, instr_in, method_at, role_in}
+use Rattle.aom_roles.specs.Families.{descends_in, parent_in}
 use Rattle.aom_instructions.specs.declared.instr.Instr.TheVariants.{Call, Trap}
 use Rattle.aom_roles.specs.Classes.{sessions_in, sessions_of, kind_in}
 use Rattle.aom_roles.specs.Shapes.{is_role, kind_of}
@@ -22,42 +23,42 @@ use Rattle.aom_sound.specs.Cases.Words.{WordsBite}
 use Rattle.aom_classes.specs.Roles.{plays, role_number, role_of}
 
 pub words_bite : WordsBite
-unfolding class_at gives_in instr_in method_at words_in
+unfolding class_at gives_in instr_in method_at words_in descends_in parent_in
 words_bite = record { words = refl; of_cells = refl; binary = refl; compared = refl }
 
 pub objects_bite : ObjectsBite
-unfolding class_at fields_in gives_in instr_in method_at words_in role_in class_in
+unfolding class_at fields_in gives_in instr_in method_at words_in role_in class_in descends_in parent_in
 objects_bite = record { moves = refl; fields = refl; cells = refl }
 
 call_bites : CallBites Call
-unfolding arguments_in class_at class_in fields_in gives_in instr_in method_at
+unfolding arguments_in class_at class_in fields_in gives_in instr_in method_at descends_in parent_in
 call_bites = record { this = refl; registers = refl; fields = refl; entries = refl; arguments = refl; results = refl }
 
 trap_bites : CallBites Trap
-unfolding arguments_in class_at class_in fields_in gives_in instr_in method_at
+unfolding arguments_in class_at class_in fields_in gives_in instr_in method_at descends_in parent_in
 trap_bites = record { this = refl; registers = refl; fields = refl; entries = refl; arguments = refl; results = refl }
 
 pub calls_bite : CallsBite
-unfolding arguments_in class_at class_in fields_in gives_in instr_in method_at
+unfolding arguments_in class_at class_in fields_in gives_in instr_in method_at descends_in parent_in
 calls_bite = record { calls = call_bites; traps = trap_bites; codes = refl }
 
 pub returns_bite : ReturnsBite
-unfolding class_at fields_in gives_in instr_in method_at role_in
+unfolding class_at fields_in gives_in instr_in method_at role_in descends_in parent_in
 returns_bite = record { given = refl; level = refl; left = refl; owners = refl; waiting = refl; hanging = refl }
 
 pub cleanup_bites : CleanupBites
-unfolding class_at class_in fields_in gives_in instr_in method_at role_in words_in
+unfolding class_at class_in fields_in gives_in instr_in method_at role_in words_in descends_in parent_in
 cleanup_bites = record { leaves = refl; leave = refl; leave_if = refl; news = refl; refused_new = refl; pushes = refl; operations = refl; pops = refl }
 
 pub requests_bite : RequestsBite
-unfolding class_at gives_in instr_in kind_in kind_of method_at
+unfolding class_at gives_in instr_in kind_in kind_of method_at descends_in parent_in
 requests_bite = record { reading = refl; enlisting = refl; issuing = refl; waiting = refl; cancelling = refl; aborting = refl }
 
 no_answer : (w : ℤ) → (FitsWord w → ⊥) → IsNoAnswer w
 no_answer w none = (λ p refused name refuses s opened. none opened.answer, λ p s n cell well. none well.3)
 
 pub natives_bite : NativesBite
-unfolding class_at gives_in instr_in kind_in kind_of method_at
+unfolding class_at gives_in instr_in kind_in kind_of method_at descends_in parent_in
 natives_bite =
     record {
       connects = refl;
@@ -73,11 +74,11 @@ natives_bite =
     }
 
 pub moves_bite : MovesBite
-unfolding is_role role_number kind_of sessions_in sessions_of class_at class_in fields_in gives_in instr_in method_at role_in
+unfolding is_role role_number kind_of sessions_in sessions_of class_at class_in fields_in gives_in instr_in method_at role_in descends_in parent_in
 moves_bite = record { going = refl; unwinding = refl; arrival = refl; traps = refl; standing = refl }
 
 pub servers_bite : ServersBite
-unfolding is_role role_number role_of plays kind_of kind_in sessions_in sessions_of class_at class_in fields_in gives_in instr_in method_at role_in
+unfolding is_role role_number role_of plays kind_of kind_in sessions_in sessions_of class_at class_in fields_in gives_in instr_in method_at role_in descends_in parent_in
 servers_bite = record { taking = refl; replying = refl; returning = refl; ending = refl; closing = refl; signals = (refl, (refl, (refl, (refl, (refl, tt))))); counts = (refl, refl, (refl, refl, (refl, refl, tt))); picking = refl }
 
 pub turns_bite : TurnsBite
@@ -91,7 +92,7 @@ turns_bite =
     }
 
 pub events_bite : EventsBite
-unfolding class_at kind_in kind_of
+unfolding class_at kind_in kind_of descends_in parent_in
 events_bite =
     record {
       events = (refl, (refl, (refl, (refl, (refl, (refl, (refl, (refl, tt))))))));

@@ -32,7 +32,7 @@ use Rattle.aom_sound.specs.State.{Frame, Home, Inside, State, home_holder, thing
 use Rattle.aom_sound.specs.WellTyped.{Fits, Houses, IsBelow}
 use Rattle.aom_sound.specs.Requests.{thing_kind}
 use Rattle.aom_roles.proofs.Descending.{one_class}
-use Rattle.aom_roles.specs.Families.{descends}
+use Rattle.aom_roles.specs.Families.{HasNoParents, descends}
 use Rattle.aom_roles.specs.Shapes.{kind_of}
 use Rattle.aom_sound.specs.Enlisted.{cancel_method}
 use Rattle.aom_sound.specs.Laws.{IsWired}
@@ -168,8 +168,8 @@ cancel_family p h m k houses e =
     let same : above.0 ≡ home.0 = let both = sym above.1 ∙ home.1 in cc in
     (home.0, works.0, class_of_member (method_role p m) (method_class p m) works.0 (sym works.1), subst (λ b. descends p b works.0 ≡ true) same above.2, home.2)
 
--- it is of the method's own class, while no class has a parent
-pub cancel_class : (p : Image) (h : Home) (m k : ℕ) → Houses p (home_holder h) (holder_of p m) → cancel_method p h ≡ Some k → (c : ℕ) × (method_class p m ≡ Some c) × (role_of p c Cancel ≡ Some k)
-cancel_class p h m k houses e =
+-- it is of the method's own class, where no class has a parent
+pub cancel_class : (p : Image) → HasNoParents p → (h : Home) (m k : ℕ) → Houses p (home_holder h) (holder_of p m) → cancel_method p h ≡ Some k → (c : ℕ) × (method_class p m ≡ Some c) × (role_of p c Cancel ≡ Some k)
+cancel_class p none h m k houses e =
     let its = cancel_family p h m k houses e in
-    (its.1, its.2, subst (λ c. role_of p c Cancel ≡ Some k) (one_class p its.0 its.1 its.3) its.4)
+    (its.1, its.2, subst (λ c. role_of p c Cancel ≡ Some k) (one_class p none its.0 its.1 its.3) its.4)

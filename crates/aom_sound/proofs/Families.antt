@@ -31,12 +31,12 @@ module _ (p : Image) (linked : IsLinked p) where
   -- a class that owns another, or has it for its sessions, has a higher number, which weighs it: no class has a parent yet
   pub linked_is_family : IsFamily p
   linked_is_family = record {
-    kinds = λ c d h. ap (λ x. kind_of p (Some x)) (one_class p c d h);
-    inherits = λ c d f t h e. subst (λ x. field_thing p (Member x) f ≡ Some t) (sym (one_class p c d h)) e;
-    words = λ c d h. subst (λ x. word_count p (Member d) ≤ word_count p (Member x)) (sym (one_class p c d h)) (omega arith);
-    alone = λ c s x e h. one_class p x s h;
+    kinds = λ c d h. ap (λ x. kind_of p (Some x)) (one_class p linked.parents.none c d h);
+    inherits = λ c d f t h e. subst (λ x. field_thing p (Member x) f ≡ Some t) (sym (one_class p linked.parents.none c d h)) e;
+    words = λ c d h. subst (λ x. word_count p (Member d) ≤ word_count p (Member x)) (sym (one_class p linked.parents.none c d h)) (omega arith);
+    alone = λ c s x e h. one_class p linked.parents.none x s h;
     weight = λ c. c;
-    lighter = λ c d f x e h. subst (λ y. y < c) (sym (one_class p x d h)) (owned_before c d f e);
+    lighter = λ c d f x e h. subst (λ y. y < c) (sym (one_class p linked.parents.none x d h)) (owned_before c d f e);
     served = λ c s e. (session_before c s e).0;
     few = λ c lt. lt;
   }

@@ -6,6 +6,7 @@ use Rattle.aom_image.specs.Views.{class_at}
 use Rattle.aom_roles.specs.Classes.{kind_in, sessions_in, sessions_of}
 use Rattle.aom_roles.specs.Shapes.{kind_of}
 use Rattle.aom_image.specs.declared.method.Thing.TheVariants.{Message}
+use Rattle.aom_roles.specs.Families.{descends_in, parent_in}
 use Rattle.aom_shape.specs.Kinds.{is_object}
 use Rattle.aom_sound.proofs.Sources.{has_sender}
 use Rattle.aom_sound.specs.Cases.Building.{keeper, leaf, pair}
@@ -65,7 +66,7 @@ has_its_own n c h = by_name (λ k. has_session (service_of cells k) c ≡ true �
     (λ k e f g h. let clash : false ≡ true = ap (λ v. has_session v c) (sym (unserved_at k e f g)) ∙ h in cc) n h
 
 its_server : (o : Object) → named cells 5 ≡ Some o → is_server an_image o.thing ≡ true
-unfolding class_at kind_in kind_of sessions_in sessions_of
+unfolding class_at kind_in kind_of sessions_in sessions_of descends_in parent_in
 its_server o there = let same : record { name = 5; thing = keeper } ≡ o = cc in subst (λ (y : Object). is_server an_image y.thing ≡ true) same refl
 
 abbrev HasNone : ℕ → Type 0
@@ -88,7 +89,7 @@ sent_so n c m h = by_name (λ k. list_any (is_message_of c m) (service_of cells 
     (λ k e f g h. let clash : false ≡ true = ap (λ v. list_any (is_message_of c m) v.queue) (sym (unserved_at k e f g)) ∙ h in cc) n h
 
 seats_so : (o : Object) → named cells o.name ≡ Some o → seats_taken (service_of cells o.name) ≤ most_of (thing_kind an_image o.thing)
-unfolding class_at kind_in kind_of
+unfolding class_at kind_in kind_of descends_in parent_in
 seats_so o there = by_name (λ n. named cells n ≡ Some o → seats_taken (service_of cells n) ≤ most_of (thing_kind an_image o.thing))
     (λ h. let same : record { name = 5; thing = keeper } ≡ o = cc in subst (λ (y : Object). 1 ≤ most_of (thing_kind an_image y.thing)) same (omega arith)) (λ h. omega arith) (λ h. omega arith)
     (λ n e f g h. omega (arith, ap seats_taken (unserved_at n e f g))) o.name there
@@ -159,7 +160,7 @@ it_fits = record {
 -- ---- and those in which they do not
 
 pub kept_bites : KeptBites
-unfolding class_at kind_in kind_of sessions_in sessions_of
+unfolding class_at kind_in kind_of sessions_in sessions_of descends_in parent_in
 kept_bites = record {
   kept = they_fit;
   twice_connected = λ fit. let clash : true ≡ false = (fit.queues 5).0.1 in cc;

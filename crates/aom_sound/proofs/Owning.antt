@@ -2,6 +2,7 @@
 use Rattle.std.proofs.Common.{Bool, List, None, Some, [], arith, cond, false, inl, inr, refl, subst, sym, true, ◌∷◌, ◌≡◌}
 use Rattle.std.specs.Prelude.{IsSome, ◌⊎◌}
 use Rattle.aom_image.specs.Views.{class_at, fields_in}
+use Rattle.aom_roles.specs.Families.{descends_in, parent_in}
 use Rattle.aom_shape.specs.Things.{field_thing}
 use Rattle.aom_sound.proofs.Maps.{same_place-true}
 use Rattle.aom_sound.specs.Cases.Building.{a_cell, keeper, pair, state_of}
@@ -49,7 +50,7 @@ abbrev of_pair : Object
 of_pair = record { name = 5; thing = pair }
 
 pub owners_bite : OwnersBite
-unfolding class_at fields_in
+unfolding class_at fields_in descends_in parent_in
 owners_bite = record {
   register = record { each = (((tt, omega arith), at_register), ((refl, at_root), tt)); alone = (refl, refl, (refl, refl, tt)); settled = tt };
   item = record { each = ((tt, at_entry), ((refl, at_root), tt)); alone = (refl, refl, (refl, refl, tt)); settled = tt };

@@ -10,6 +10,7 @@ use Rattle.aom_image.specs.declared.method.Role.TheVariants.{Main}
 use Rattle.aom_image.specs.declared.method.Thing.{Thing}
 use Rattle.aom_classes.specs.Loops.{loop_in, next_in}
 use Rattle.aom_shape.specs.Kinds.{field, filled, is_object_or_null, register}
+use Rattle.aom_roles.specs.Families.{HasNoParents}
 use Rattle.aom_roles.specs.States.{unlisted}
 use Rattle.aom_shape.specs.Needs.{AllTrue, Flow}
 use Rattle.aom_rules.specs.Objects.{flow_jump_empty, flow_jump_null}
@@ -83,7 +84,7 @@ module _ (c : Prices) (fr : Frame) (sh : Shape) where
   dealing (An_operation m w ∷ items) o pays = pays
   dealing _ o pays = pays
 
-module _ (p : Image) (t : Typing) (c : Prices) (main_none : (m : ℕ) → method_role p m ≡ Some Main → own_kind p m ≡ None) (priced : IsPriced p t c) (ch : Choice) (s : State) (fr : Frame)
+module _ (p : Image) (t : Typing) (c : Prices) (main_none : (m : ℕ) → method_role p m ≡ Some Main → own_kind p m ≡ None) (none : HasNoParents p) (priced : IsPriced p t c) (ch : Choice) (s : State) (fr : Frame)
     (sh : Shape) (ls : List Layer) (at_hand : At p t s fr sh ls) where
   abbrev ts : List Task
   ts = tasks_of ls
@@ -134,7 +135,7 @@ module _ (p : Image) (t : Typing) (c : Prices) (main_none : (m : ℕ) → method
 
   -- the method that cancels is the one that the price counts
   same_cancel : (m : ℕ) → cancel_method p fr.home ≡ Some m → cancel_of p (method_class p fr.method) ≡ Some m
-  same_cancel m e = let found = cancel_class p fr.home fr.method m at_hand.good.stack.1.holder e in ap (λ o. cancel_of p o) found.1 ∙ found.2
+  same_cancel m e = let found = cancel_class p none fr.home fr.method m at_hand.good.stack.1.holder e in ap (λ o. cancel_of p o) found.1 ∙ found.2
 
   on_cancel :
       (b : Bool) (x : Option ℕ) → cancel_method p fr.home ≡ x → 1 + perhaps_price c (cancel_of p (method_class p fr.method)) + c.from fr.method (suc fr.place) ≤ c.from fr.method fr.place →

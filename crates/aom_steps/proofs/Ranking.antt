@@ -87,7 +87,7 @@ cancels_below :
     (m < fr.method) × (is_quiet p m ≡ true)
 unfolding class_in
 cancels_below p linked fr d there holder m stands e =
-    let found = cancel_class p fr.home fr.method m holder e in
+    let found = cancel_class p linked.parents.none fr.home fr.method m holder e in
     (canceller_before p linked fr.method fr.place d found.0 m there stands (sym (ap class_in there) ∙ found.1) found.2, quiet_canceller p linked found.0 m found.2)
 
 -- ---- every move
