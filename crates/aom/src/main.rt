@@ -13,7 +13,8 @@ ghost use Rattle.aom_main.specs.Beside.{AreNew};
 use aom_command_line::{RunWords, Words, WordsFault, read_words};
 use aom_debug::debug_bytes;
 use aom_explaining::{
-    asm_explained, check_by_text, check_explained, run_by_text, run_explained, tell_explained,
+    asm_explained, check_by_text, check_explained, check_lined, run_by_text, run_explained,
+    tell_explained,
 };
 use aom_host::{Input, Output, read_file};
 use aom_main::{
@@ -22,7 +23,7 @@ use aom_main::{
 };
 use aom_natives::{Counter, Delay, Line, Native, NativeKind};
 use aom_run::{Sink, write_text};
-use program::Program;
+use program::{Program, Telling};
 use std::alloc::Global;
 use std::env;
 use std::io::{self, BufWriter, Write};
@@ -147,11 +148,13 @@ fn obey<W: Sink, E: Sink>(
             asm,
             prices,
             explain,
+            lines,
             text,
         } => {
             let program = Program::read(rt, image, text)?;
-            match program.ready(alloc, *asm, *explain, errors) {
-                Ok(program) => Ok(check_program(alloc, &program, *prices, *explain, out, errors)),
+            let telling = telling_of(*explain, *lines, text.as_ref().unwrap_or(image));
+            match program.ready(alloc, *asm, telling, errors) {
+                Ok(program) => Ok(check_program(alloc, &program, *prices, telling, out, errors)),
                 Err(status) => Ok(status),
             }
         }
@@ -170,7 +173,7 @@ fn obey<W: Sink, E: Sink>(
         Words::Dis { image } => Ok(dis_bytes(alloc, &read_file(rt, image)?, out, errors)),
         Words::Dot { image, asm } => {
             let program = Program::read(rt, image, &None)?;
-            match program.ready(alloc, *asm, false, errors) {
+            match program.ready(alloc, *asm, Telling::Plain, errors) {
                 Ok(program) => Ok(dot_bytes(alloc, &program.image, out, errors)),
                 Err(status) => Ok(status),
             }
@@ -178,19 +181,31 @@ fn obey<W: Sink, E: Sink>(
     }
 }
 
-/// Checks an image, with its figures or without, and explains where that is asked, by its text where there is one.
+/// How a fault of an image is told whose text has that name.
+fn telling_of(explain: bool, lines: bool, file: &String) -> Telling<'_> {
+    if lines {
+        Telling::Lined(file.as_bytes())
+    } else {
+        Telling::of_flag(explain)
+    }
+}
+
+/// Checks an image, with its figures or without, and tells a fault as that is asked, by its text where there is one.
 fn check_program<W: Sink, E: Sink>(
     alloc: Global,
     program: &Program,
     prices: bool,
-    explain: bool,
+    telling: Telling<'_>,
     out: &mut W,
     errors: &mut E,
 ) -> ExitStatus {
     let image = &program.image;
-    match &program.text {
-        Some(text) if explain => check_by_text(alloc, image, text, prices, out, errors),
-        _ if explain => check_explained(alloc, image, prices, out, errors),
+    match (telling, &program.text) {
+        (Telling::Lined(file), Some(text)) => {
+            check_lined(alloc, image, text, file, prices, out, errors)
+        }
+        (Telling::Explained, Some(text)) => check_by_text(alloc, image, text, prices, out, errors),
+        (Telling::Explained, None) => check_explained(alloc, image, prices, out, errors),
         _ if prices => prices_bytes(alloc, image, out, errors),
         _ => check_bytes(alloc, image, out, errors),
     }
@@ -216,11 +231,11 @@ impl RunFiles {
         self,
         alloc: Global,
         asm: bool,
-        explain: bool,
+        telling: Telling<'_>,
         errors: &mut E,
     ) -> Result<RunFiles, ExitStatus> {
         let script = self.script;
-        let program = self.program.ready(alloc, asm, explain, errors)?;
+        let program = self.program.ready(alloc, asm, telling, errors)?;
         Ok(RunFiles { program, script })
     }
 }
@@ -290,8 +305,8 @@ fn run_beside<W: Sink, E: Sink>(
     requires limit { (1 ≤ run.now.limit) × (run.now.limit ≤ 1000000000) }
 {
     let files = RunFiles::read(rt, run, text)?;
-    let explain = matches!(purpose, Purpose::Explain);
-    match files.ready(rt.alloc(), run.asm, explain, errors) {
+    let telling = Telling::of_flag(matches!(purpose, Purpose::Explain));
+    match files.ready(rt.alloc(), run.asm, telling, errors) {
         Ok(files) => {
             let kinds = run.natives.as_slice();
             let ended = run_files(rt, purpose, run, kinds, &files, out, errors);
@@ -338,7 +353,7 @@ fn explore_beside<W: Sink, E: Sink>(
     requires limit { (1 ≤ run.now.limit) × (run.now.limit ≤ 1000000000) }
 {
     let files = RunFiles::read(rt, run, &None)?;
-    match files.ready(rt.alloc(), run.asm, false, errors) {
+    match files.ready(rt.alloc(), run.asm, Telling::Plain, errors) {
         Ok(files) => {
             let ended = explore_files(rt.alloc(), run, part, &files, out, errors);
             drop(files);

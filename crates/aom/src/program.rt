@@ -2,7 +2,7 @@
 ghost use Rattle.std.specs.Prelude.{◌≡◌, IfOk, IfErr, Some, false, true};
 ghost use Rattle.aom_main.specs.Assembly.{Makes, RefusesText};
 
-use aom_explaining::tell_explained;
+use aom_explaining::{tell_explained, tell_lined};
 use aom_host::read_file;
 use aom_main::{ExitStatus, Fault, assemble_bytes, tell};
 use aom_run::Sink;
@@ -15,6 +15,28 @@ pub struct Program {
     /// The text itself, until it is assembled.
     pub image: Vec<u8>,
     pub text: Option<Vec<u8>>,
+}
+
+/// How a fault is told.
+#[derive(Clone, Copy)]
+pub enum Telling<'a> {
+    /// By its line alone.
+    Plain,
+    /// By its line, with what it means behind it.
+    Explained,
+    /// In one line of the text's file, which has that name.
+    Lined(&'a [u8]),
+}
+
+impl<'a> Telling<'a> {
+    /// By its line alone, or explained.
+    pub fn of_flag(explain: bool) -> Telling<'a> {
+        if explain {
+            Telling::Explained
+        } else {
+            Telling::Plain
+        }
+    }
 }
 
 impl Program {
@@ -33,7 +55,7 @@ impl Program {
         mut self,
         alloc: Global,
         asm: bool,
-        explain: bool,
+        telling: Telling<'_>,
         errors: &mut E,
     ) -> Result<Program, ExitStatus>
         ensures image { IfOk result (λ p. asm ≡ true → Makes self.image.items p.image.items) }
@@ -47,7 +69,7 @@ impl Program {
         match self.assemble(alloc) {
             Ok(()) => Ok(self),
             Err(fault) => {
-                let status = refuse(alloc, &fault, &self.image, explain, errors);
+                let status = refuse(alloc, &fault, &self.image, telling, errors);
                 drop(self);
                 Err(status)
             }
@@ -67,16 +89,25 @@ impl Program {
     }
 }
 
-/// Tells why a text denotes no image, and explains it where that is asked.
+/// Tells why a text denotes no image, as that is asked.
 fn refuse<E: Sink>(
     alloc: Global,
     fault: &Fault,
     text: &[u8],
-    explain: bool,
+    telling: Telling<'_>,
     errors: &mut E,
 ) -> ExitStatus {
-    if explain {
-        return tell_explained(alloc, fault, b"", text, errors);
+    match telling {
+        Telling::Plain => tell(fault, errors),
+        Telling::Explained => tell_explained(alloc, fault, b"", text, errors),
+        Telling::Lined(file) => tell_lined(alloc, file, line_of(fault), fault, errors),
     }
-    tell(fault, errors)
+}
+
+/// The line of a text in which it has a fault.
+fn line_of(fault: &Fault) -> Option<u32> {
+    match fault {
+        Fault::Asm(fault) => Some(fault.line),
+        _ => None,
+    }
 }

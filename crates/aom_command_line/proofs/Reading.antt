@@ -18,7 +18,7 @@ use Rattle.aom_command_line.specs.declared.words.WordsFault.{WordsFault}
 use Rattle.aom_command_line.specs.declared.words.WordsFault.TheVariants as faults
 use Rattle.aom_natives.specs.Kinds.{word_of as word_of_kind}
 use Rattle.aom_natives.specs.declared.kind.NativeKind.{NativeKind}
-use Rattle.aom_command_line.specs.CommandLine.{IsCommand, HasNoUseForText, Declines, AsksText, DeclinesText, HasForm, LacksExplain, NamesTwoTexts, NamesKinds, NamesNoKinds, Says, form, texts_in, word_of}
+use Rattle.aom_command_line.specs.CommandLine.{IsCommand, HasNoUseForText, Declines, AsksLines, AsksText, DeclinesLines, DeclinesText, HasForm, IsFlag, NamesTwoTexts, NamesKinds, NamesNoKinds, Says, form, texts_in, word_of}
 
 same : {E : Type 0} (v n : ℕ) (r : Result ℕ E) → r ≡ Ok v → r ≡ Ok n → Some v ≡ Some n
 same v n r a b = cc
@@ -64,21 +64,64 @@ simple = refl
 
 -- ---- a text beside an image
 
--- a text that is there, and a flag that is not set
-pub lacks_explain : (rows : List Row) (name : Text) (explain : Bool) → Some name ≡ first_of (codes "text") rows → (one_of (codes "explain") rows ≡ Some (codes "true") → explain ≡ true) → explain ≡ false
-    → LacksExplain rows
-lacks_explain rows name explain there used unset = grind arith
+-- a text that is there
+pub is_named : (rows : List Row) (name : Text) → Some name ≡ first_of (codes "text") rows → first_of (codes "text") rows ≢ None
+is_named rows name there = grind arith
 
 -- a text that is there, beside a flag that is set
 pub names_two : (rows : List Row) (name : Text) (asm : Bool) → Some name ≡ first_of (codes "text") rows → (one_of (codes "asm") rows ≡ Some (codes "false") → asm ≡ false) → asm ≡ true → NamesTwoTexts rows
 names_two rows name asm there unused set = grind arith
 
 pub no_text : {A : Type 0} (rows : List Row) (explain asm : Bool) → None ≡ first_of (codes "text") rows → AsksText {A = A} rows explain asm None
-no_text rows explain asm none = record { named = none; explained = λ some. absurd (some (sym none)); alone = λ some. absurd (some (sym none)) }
+no_text rows explain asm none = record { named = none; useful = λ some. absurd (some (sym none)); alone = λ some. absurd (some (sym none)) }
 
--- a command that explains declines a text that it has no use for
-pub declines_text : (command : Text) (rows : List Row) (fault : WordsFault) → (command ≡ codes "check") ⊎ (command ≡ codes "run") → DeclinesText rows fault → Declines true (Some (command, rows)) fault
-declines_text command rows x explains lacks = grind arith
+-- a flag that is not set is not asked for
+pub unset : (rows : List Row) (id : Text) (flag : Bool) → IsFlag (one_of id rows) flag → flag ≡ false → one_of id rows ≢ Some (codes "true")
+unset rows id flag is none asked = both flag none (is.used asked)
+  where
+    both : (f : Bool) → f ≡ false → f ≡ true → ⊥
+    both f a b = cc
+
+pub set : (rows : List Row) (id : Text) (flag : Bool) → IsFlag (one_of id rows) flag → flag ≡ true → one_of id rows ≢ Some (codes "false")
+set rows id flag is some asked = both flag some (is.unused asked)
+  where
+    both : (f : Bool) → f ≡ true → f ≡ false → ⊥
+    both f a b = cc
+
+-- neither of two flags is set
+neither : (a b : Bool) → (a || b) ≡ false → (a ≡ false) × (b ≡ false)
+neither a b none = grind arith
+
+-- lines that nobody asks for, and those of a text
+pub unlined : (rows : List Row) (explain asm lines : Bool) → IsFlag (one_of (codes "lines") rows) lines → lines ≡ false → AsksLines rows explain asm lines
+unlined rows explain asm lines is none = record { set = is; textual = λ some. absurd (both lines none some); alone = λ some. absurd (both lines none some) }
+  where
+    both : (f : Bool) → f ≡ false → f ≡ true → ⊥
+    both f a b = cc
+
+-- `check` declines a text that it has no use for, and lines that it cannot tell
+pub check_declines : (rows : List Row) (explain lines : Bool) (fault : WordsFault) → IsFlag (one_of (codes "explain") rows) explain → IsFlag (one_of (codes "lines") rows) lines
+    → DeclinesText rows (explain || lines) fault → Declines true (Some (codes "check", rows)) fault
+check_declines rows explain lines (faults.Text text) e l (inl (named, unused)) = λ taken command.
+    let (unexplained, unlined) = neither explain lines unused in
+    inl (refl, inl (record { explained = record { named = named; unasked = unset rows _ explain e unexplained }; unlined = unset rows _ lines l unlined }))
+check_declines rows explain lines (faults.Text text) e l (inr two) = λ taken command. inl (refl, inr (inl two))
+check_declines rows explain lines faults.Native e l declines = elim declines [ ]
+check_declines rows explain lines faults.Memory e l declines = declines
+
+pub lines_decline : (rows : List Row) (fault : WordsFault) → DeclinesLines rows fault → Declines true (Some (codes "check", rows)) fault
+lines_decline rows (faults.Text text) (inl both) = λ taken command. inl (refl, inr (inr (inr both)))
+lines_decline rows (faults.Text text) (inr lacks) = λ taken command. inl (refl, inr (inr (inl lacks)))
+lines_decline rows faults.Native declines = elim declines [ ]
+lines_decline rows faults.Memory declines = declines
+
+-- and `run` one without an explanation
+pub run_declines : (rows : List Row) (explain : Bool) (fault : WordsFault) → IsFlag (one_of (codes "explain") rows) explain → DeclinesText rows explain fault
+    → Declines true (Some (codes "run", rows)) fault
+run_declines rows explain (faults.Text text) e (inl (named, unused)) = λ taken command. inr (refl, inl (record { named = named; unasked = unset rows _ explain e unused }))
+run_declines rows explain (faults.Text text) e (inr two) = λ taken command. inr (refl, inr two)
+run_declines rows explain faults.Native e declines = elim declines [ ]
+run_declines rows explain faults.Memory e declines = declines
 
 -- what `clap` takes, and what it does not
 pub declines : (taken : Bool) (met : Option (Text × List Row)) (fault : WordsFault) → Declines true met fault → Declines taken met fault

@@ -1,5 +1,5 @@
 -- The form of a command line as `clap` reads it, and what is asked by one.
-use Rattle.std.specs.Prelude.{ℕ, ◌≡◌, ◌≢◌, ◌≤◌, ◌<◌, ◌⊎◌, String, Bool, true, false, List, [], ◌∷◌, Contains, length, map, Option, Some, None, codes, option_map, unwrap_or, pos}
+use Rattle.std.specs.Prelude.{ℕ, ◌≡◌, ◌≢◌, ◌≤◌, ◌<◌, ◌⊎◌, String, Bool, true, false, ◌||◌, List, [], ◌∷◌, Contains, length, map, Option, Some, None, codes, option_map, unwrap_or, pos}
 use Rattle.std.specs.Borrow.{Bor}
 use Rattle.std.specs.String.{string_bytes}
 use Rattle.std.specs.Fmt.{decimal}
@@ -68,6 +68,10 @@ prices_rule = flag_rule (codes "prices")
 abbrev pub explain_rule : Rule
 explain_rule = flag_rule (codes "explain")
 
+-- `--lines`
+abbrev pub lines_rule : Rule
+lines_rule = flag_rule (codes "lines")
+
 -- `--asm`
 abbrev pub asm_rule : Rule
 asm_rule = flag_rule (codes "asm")
@@ -88,9 +92,10 @@ native_rule =
       range = Some (record { start_inclusive = 0; end_inclusive = usize_max });
     }
 
--- check [--prices] [--explain] [--text TEXT] [--asm] IMAGE
+-- check [--prices] [--explain] [--lines] [--text TEXT] [--asm] IMAGE
 abbrev pub check_form : App
-check_form = with_rule (with_rule (with_rule (with_rule (with_rule (new_app (codes "check")) prices_rule) explain_rule) text_rule) asm_rule) (file_rule (codes "IMAGE"))
+check_form =
+    with_rule (with_rule (with_rule (with_rule (with_rule (with_rule (new_app (codes "check")) prices_rule) explain_rule) lines_rule) text_rule) asm_rule) (file_rule (codes "IMAGE"))
 
 -- asm [--explain] TEXT
 abbrev pub asm_form : App
@@ -180,34 +185,63 @@ pub record AsksRun (rows : List Row) (run : RunWords) : Type 0 where
   pub limit : IsNumberUpTo 1000000000 (one_of (codes "limit") rows) run.limit
   pub natives : NamesKinds (all_of (codes "NATIVE") rows) run.natives.items
 
--- the words found for a command name this text beside its image, and none where nothing is to be explained or the image is itself a text
-pub record AsksText {A : Type 0} (rows : List Row) (explain asm : Bool) (text : Option (String A)) : Type 0 where
+-- the words found for a command name this text beside its image, and none where it is of no use or the image is itself a text
+pub record AsksText {A : Type 0} (rows : List Row) (used asm : Bool) (text : Option (String A)) : Type 0 where
   pub named : option_map (λ t. string_bytes t) text ≡ first_of (codes "text") rows
-  pub explained : first_of (codes "text") rows ≢ None → explain ≡ true
+  pub useful : first_of (codes "text") rows ≢ None → used ≡ true
   pub alone : first_of (codes "text") rows ≢ None → asm ≡ false
+
+-- where the words found for a command ask for lines, there is a text, and nothing is to be explained
+pub record AsksLines (rows : List Row) (explain asm lines : Bool) : Type 0 where
+  pub set : IsFlag (one_of (codes "lines") rows) lines
+  pub textual : lines ≡ true → (asm ≡ true) ⊎ (first_of (codes "text") rows ≢ None)
+  pub alone : lines ≡ true → explain ≡ false
 
 -- the words found for a command name a text, and do not ask that a fault be explained
 pub record LacksExplain (rows : List Row) : Type 0 where
   pub named : first_of (codes "text") rows ≢ None
   pub unasked : one_of (codes "explain") rows ≢ Some (codes "true")
 
+-- and do not ask for its lines either
+pub record LacksUse (rows : List Row) : Type 0 where
+  pub explained : LacksExplain rows
+  pub unlined : one_of (codes "lines") rows ≢ Some (codes "true")
+
 -- the words found for a command name a text beside one that is to be assembled
 pub record NamesTwoTexts (rows : List Row) : Type 0 where
   pub named : first_of (codes "text") rows ≢ None
   pub assembled : one_of (codes "asm") rows ≢ Some (codes "false")
 
+-- the words found for a command ask for the lines of no text
+pub record LacksText (rows : List Row) : Type 0 where
+  pub lined : one_of (codes "lines") rows ≢ Some (codes "false")
+  pub unnamed : first_of (codes "text") rows ≡ None
+  pub unassembled : one_of (codes "asm") rows ≢ Some (codes "true")
+
+-- the words found for a command ask for lines and for an explanation
+pub record AsksTwoTellings (rows : List Row) : Type 0 where
+  pub lined : one_of (codes "lines") rows ≢ Some (codes "false")
+  pub explained : one_of (codes "explain") rows ≢ Some (codes "false")
+
 -- why a text beside an image is refused
-abbrev pub DeclinesText : List Row → WordsFault → Type 0
-DeclinesText rows (faults.Text text) = LacksExplain rows ⊎ NamesTwoTexts rows
-DeclinesText rows faults.Native = ⊥
-DeclinesText rows faults.Memory = Unit {0}
+abbrev pub DeclinesText : List Row → (used : Bool) → WordsFault → Type 0
+DeclinesText rows used (faults.Text text) = ((first_of (codes "text") rows ≢ None) × (used ≡ false)) ⊎ NamesTwoTexts rows
+DeclinesText rows used faults.Native = ⊥
+DeclinesText rows used faults.Memory = Unit {0}
+
+-- why lines are refused
+abbrev pub DeclinesLines : List Row → WordsFault → Type 0
+DeclinesLines rows (faults.Text text) = AsksTwoTellings rows ⊎ LacksText rows
+DeclinesLines rows faults.Native = ⊥
+DeclinesLines rows faults.Memory = Unit {0}
 
 -- a command and the words found for it ask this
 abbrev pub Asks : Option (Text × List Row) → Words → Type 0
 Asks None words = ⊥
-Asks (Some met) (Check image asm prices explain text) =
+Asks (Some met) (Check image asm prices explain lines text) =
     (met.0 ≡ codes "check") × (string_bytes image ≡ word_of (codes "IMAGE") met.1) × IsFlag (one_of (codes "asm") met.1) asm
-    × IsFlag (one_of (codes "prices") met.1) prices × IsFlag (one_of (codes "explain") met.1) explain × AsksText met.1 explain asm text
+    × IsFlag (one_of (codes "prices") met.1) prices × IsFlag (one_of (codes "explain") met.1) explain
+    × AsksLines met.1 explain asm lines × AsksText met.1 (explain || lines) asm text
 Asks (Some met) (Run run explain text) = (met.0 ≡ codes "run") × AsksRun met.1 run × IsFlag (one_of (codes "explain") met.1) explain × AsksText met.1 explain run.asm text
 Asks (Some met) (Explore run first last) =
     (met.0 ≡ codes "explore") × AsksRun met.1 run
@@ -227,12 +261,14 @@ abbrev pub NamesNoNatives : Option (Text × List Row) → Type 0
 NamesNoNatives None = ⊥
 NamesNoNatives (Some met) = ((met.0 ≡ codes "run") ⊎ (met.0 ≡ codes "explore") ⊎ (met.0 ≡ codes "debug")) × NamesNoKinds (all_of (codes "NATIVE") met.1)
 
--- it is a command that explains, with a text and without `--explain`, or with two texts
+-- it is a command that tells faults by a text, with words that do not fit together: a text that is of no use, two texts, lines of no text, or lines beside an explanation
 abbrev pub HasNoUseForText : Option (Text × List Row) → Type 0
 HasNoUseForText None = ⊥
-HasNoUseForText (Some met) = ((met.0 ≡ codes "check") ⊎ (met.0 ≡ codes "run")) × (LacksExplain met.1 ⊎ NamesTwoTexts met.1)
+HasNoUseForText (Some met) =
+    ((met.0 ≡ codes "check") × (LacksUse met.1 ⊎ NamesTwoTexts met.1 ⊎ LacksText met.1 ⊎ AsksTwoTellings met.1))
+    ⊎ ((met.0 ≡ codes "run") × (LacksExplain met.1 ⊎ NamesTwoTexts met.1))
 
--- why words ask nothing: `clap` does not take them, or `--text` stands without `--explain` or beside `--asm`, or they do not name natives where they should, or memory is wanting
+-- why words ask nothing: `clap` does not take them, or they do not fit together, or they do not name natives where they should, or memory is wanting
 abbrev pub Declines : Bool → Option (Text × List Row) → WordsFault → Type 0
 Declines taken met (faults.Text text) = taken ≡ true → IsCommand met → HasNoUseForText met
 Declines taken met faults.Native = NamesNoNatives met
@@ -250,7 +286,7 @@ Says kind faults.Memory = Unit {0}
 
 -- what is known of the limit of runs
 abbrev pub KeepsLimit : Words → Type 0
-KeepsLimit (Check image asm prices explain text) = Unit {0}
+KeepsLimit (Check image asm prices explain lines text) = Unit {0}
 KeepsLimit (Run run explain text) = (1 ≤ run.limit) × (run.limit ≤ 1000000000)
 KeepsLimit (Explore run first last) = (1 ≤ run.limit) × (run.limit ≤ 1000000000)
 KeepsLimit (Debug run) = (1 ≤ run.limit) × (run.limit ≤ 1000000000)

@@ -2,7 +2,7 @@
 ghost use Rattle.std.specs.Prelude.{◌≡◌, ◌≤◌, IfOk, IfErr, IsOkAnd, Some, false, true, codes, length};
 ghost use Rattle.std.specs.String.{string_bytes};
 ghost use Rattle.clap.specs.Words.{AddsArg, AddsSubcommand, App, all_of, app_of, found_of, kind_of, one_of, rows_of, rule_of, subcommand_of, subcommand_rows_of, takes, with_subcommand};
-ghost use Rattle.aom_command_line.specs.CommandLine.{asm_form, check_form, debug_form, dis_form, dot_form, explain_rule, explore_form, run_form, form, asm_rule, file_rule, flag_rule, from_rule, limit_rule, native_rule, number_rule, prices_rule, text_rule, to_rule, texts_of, with_files, word_of, Asks, AsksRun, AsksText, Declines, DeclinesNatives, DeclinesRun, DeclinesText, HasForm, IsFlag, IsNumberUpTo, KeepsLimit, NamesKinds, Says, texts_in};
+ghost use Rattle.aom_command_line.specs.CommandLine.{asm_form, check_form, debug_form, dis_form, dot_form, explain_rule, explore_form, run_form, form, asm_rule, file_rule, flag_rule, from_rule, limit_rule, lines_rule, native_rule, number_rule, prices_rule, text_rule, to_rule, texts_of, with_files, word_of, Asks, AsksLines, AsksRun, AsksText, Declines, DeclinesLines, DeclinesNatives, DeclinesRun, DeclinesText, HasForm, IsFlag, IsNumberUpTo, KeepsLimit, NamesKinds, Says, texts_in};
 
 use aom_natives::NativeKind;
 use clap::builder::ValueParser;
@@ -22,7 +22,9 @@ pub enum Words {
         prices: bool,
         /// Whether a fault is to be explained.
         explain: bool,
-        /// The text that the image is of, whose lines an explanation names.
+        /// Whether a fault is to be told in one line with its place in a text, as compilers do.
+        lines: bool,
+        /// The text that the image is of, whose lines are told.
         text: Option<String>,
     },
     Run {
@@ -62,7 +64,7 @@ pub enum Words {
 /// Why a command line is refused.
 #[derive(Debug, Drop, FaultText)]
 pub enum WordsFault {
-    /// What `clap` has to say, a fault, or the help or the version that was asked for; or that `--text` stands without `--explain` or beside `--asm`.
+    /// What `clap` has to say, a fault, or the help or the version that was asked for; or that `--text`, `--asm`, `--explain` and `--lines` do not fit together.
     #[error("{0}")]
     Text(String),
     /// No native of that name, or one too many.
@@ -218,6 +220,7 @@ fn check_command<'a>(alloc: Global) -> Result<Command<'a>, AllocError>
         .about("Tells whether an image is accepted")
         .arg(prices_arg(alloc));
     let command = with_arg(command, explain_arg(alloc));
+    let command = with_arg(command, lines_arg(alloc));
     let command = with_arg(command, text_arg(alloc));
     let command = with_arg(command, asm_arg(alloc));
     with_arg(command, file_arg(alloc, "IMAGE", "The file of an image"))
@@ -404,6 +407,17 @@ fn explain_arg<'a>(alloc: Global) -> Arg<'a>
     )
 }
 
+fn lines_arg<'a>(alloc: Global) -> Arg<'a>
+    ensures rule { rule_of result ≡ lines_rule }
+    ensures own { result.global ≡ false }
+{
+    flag_arg(
+        alloc,
+        "lines",
+        "Tells a fault in one line with its place in the text, as compilers do",
+    )
+}
+
 fn asm_arg<'a>(alloc: Global) -> Arg<'a>
     ensures rule { rule_of result ≡ asm_rule }
     ensures own { result.global ≡ false }
@@ -420,7 +434,7 @@ fn text_arg<'a>(alloc: Global) -> Arg<'a>
     ensures own { result.global ≡ false }
 {
     Arg::new(alloc, "text").long("text").value_name("TEXT").help(
-        "The text that the image is of, whose lines --explain then names",
+        "The text that the image is of, whose lines --explain and --lines name",
     )
 }
 
@@ -481,14 +495,51 @@ fn check_words(alloc: Global, own: &ArgMatches) -> Result<Words, WordsFault>
     ensures declines { IfErr result (λ fault. Declines true (Some (codes "check", rows_of (found_of own.now))) fault) }
 {
     let explain = is_set(own, "explain");
+    let lines = is_set(own, "lines");
     let asm = is_set(own, "asm");
+    fit_lines(alloc, own, explain, asm, lines)?;
     Ok(Words::Check {
-        text: text_of(alloc, own, explain, asm)?,
+        text: text_of(alloc, own, explain | lines, asm)?,
         image: word_of(alloc, own, "IMAGE")?,
         prices: is_set(own, "prices"),
         asm,
         explain,
+        lines,
     })
+}
+
+/// Refuses lines beside an explanation, and where there is no text whose lines they could be.
+fn fit_lines(
+    alloc: Global,
+    own: &ArgMatches,
+    explain: bool,
+    asm: bool,
+    lines: bool,
+) -> Result<(), WordsFault>
+    requires explain { IsFlag (one_of (codes "explain") (rows_of (found_of own.now))) explain }
+    requires asm { IsFlag (one_of (codes "asm") (rows_of (found_of own.now))) asm }
+    requires lines { IsFlag (one_of (codes "lines") (rows_of (found_of own.now))) lines }
+    ensures asks { IfOk result (λ _. AsksLines (rows_of (found_of own.now)) explain asm lines) }
+    ensures declines { IfErr result (λ fault. DeclinesLines (rows_of (found_of own.now)) fault) }
+{
+    if !lines {
+        return Ok(());
+    }
+    if explain {
+        return Err(WordsFault::Text(String::from_str(
+            alloc,
+            "error: --lines has no use beside --explain\n",
+        )?));
+    }
+    let text = own.get_str("text");
+    match text {
+        Some(_) => Ok(()),
+        None if asm => Ok(()),
+        None => Err(WordsFault::Text(String::from_str(
+            alloc,
+            "error: --lines asks for --asm or --text\n",
+        )?)),
+    }
 }
 
 fn running_words(alloc: Global, own: &ArgMatches) -> Result<Words, WordsFault>
@@ -504,27 +555,26 @@ fn running_words(alloc: Global, own: &ArgMatches) -> Result<Words, WordsFault>
     })
 }
 
-/// The text that is named beside an image, which is refused where nothing is to be explained, and where the file is itself a text.
+/// The text that is named beside an image, which is refused where it is of no use, and where the file is itself a text.
 fn text_of(
     alloc: Global,
     own: &ArgMatches,
-    explain: bool,
+    used: bool,
     asm: bool,
 ) -> Result<Option<String>, WordsFault>
-    requires explain { IsFlag (one_of (codes "explain") (rows_of (found_of own.now))) explain }
     requires asm { IsFlag (one_of (codes "asm") (rows_of (found_of own.now))) asm }
-    ensures asks { IfOk result (λ text. AsksText (rows_of (found_of own.now)) explain asm text) }
-    ensures declines { IfErr result (λ fault. DeclinesText (rows_of (found_of own.now)) fault) }
+    ensures asks { IfOk result (λ text. AsksText (rows_of (found_of own.now)) used asm text) }
+    ensures declines { IfErr result (λ fault. DeclinesText (rows_of (found_of own.now)) used fault) }
 {
     match own.get_str("text") {
         Some(_) if asm => Err(WordsFault::Text(String::from_str(
             alloc,
             "error: --text has no use beside --asm\n",
         )?)),
-        Some(name) if explain => Ok(Some(String::from_str(alloc, name)?)),
+        Some(name) if used => Ok(Some(String::from_str(alloc, name)?)),
         Some(_) => Err(WordsFault::Text(String::from_str(
             alloc,
-            "error: --text asks for --explain\n",
+            "error: --text asks for --explain or --lines\n",
         )?)),
         None => Ok(None),
     }

@@ -1,5 +1,6 @@
 pub mod Declarations
 pub mod Laws
+pub mod Lines
 pub mod Compared
 pub mod Entries
 pub mod Known

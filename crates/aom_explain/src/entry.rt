@@ -30,6 +30,15 @@ fn put_sentence(out: &mut Writer, words: &[u8]) -> Result<(), AllocError>
     out.words(b"\n")
 }
 
+impl Entry {
+    /// Writes what a fault is called to the end of a line.
+    pub(crate) fn put_name(&self, out: &mut Writer) -> Result<(), AllocError>
+        ensures { OnOk result (out.new ≡ out.old ++ sentence self.now.name) }
+    {
+        put_sentence(out, self.name)
+    }
+}
+
 fn put_meaning(out: &mut Writer, entry: &Entry) -> Result<(), AllocError>
     ensures { OnOk result (out.new ≡ out.old ++ meaning_line entry.now) }
 {

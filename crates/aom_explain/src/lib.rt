@@ -5,7 +5,7 @@
 //! kind's own texts stand in a file of its name. `put_entry` writes an entry, and `put_line`, `put_method` and `put_compared` what
 //! `specs/Places.antt` and `specs/Compared.antt` say of a line of a text, of an instruction and of a budget. A method and an
 //! instruction are written as in a listing; `put_source` and `put_declared` write in their place the statements of a text, as
-//! `specs/Sources.antt` says. `put_known` writes what is known where a method stands (`specs/Known.antt`).
+//! `specs/Sources.antt` says, and `put_lined` all in one line, as `specs/Lines.antt` says. `put_known` writes what is known where a method stands (`specs/Known.antt`).
 //!
 //! The way back from an image to its text: `image_statement`, `class_statement`, `method_statement` and `instruction_statement` answer
 //! the statements, with their lines, that `specs/Declarations.antt` finds in a text by counting those that begin with `class` or `method`.
@@ -21,6 +21,7 @@ mod entry;
 mod finding;
 mod known;
 mod laws;
+mod lined;
 mod link;
 mod load;
 mod place;
@@ -34,6 +35,7 @@ pub use compared::put_compared;
 pub use entry::{Entry, put_entry};
 pub use known::put_known;
 pub use laws::statements_declare;
+pub use lined::{budget_line, put_lined, refusal_line};
 pub use place::{put_line, put_method};
 pub use source::{put_declared, put_source};
 pub use table::{

@@ -56,7 +56,7 @@ pub fn put_source(
 }
 
 /// The statement of a text that declares a budget.
-fn budget_statement(text: &[u8], payer: Payer) -> Option<Statement>
+pub(crate) fn budget_statement(text: &[u8], payer: Payer) -> Option<Statement>
     requires { length text.now ≤ 2 ^ 20 }
     ensures { result ≡ budget_statement text.now payer }
 {

@@ -53,7 +53,7 @@ TellsText text (Asm fault) status errors = (status ≡ CallRefused) × ToldAndEx
 TellsText text Other status errors = (status ≡ CallRefused) × ToldAndExplained (Says (ended (codes "text"))) (λ said. said ≡ entry_text (word_texts Text)) errors
 TellsText text Memory status errors = (status ≡ Faulty) × ToldAndExplained (Tells faults.Memory) (Explains [] [] faults.Memory) errors
 
--- a command with a text beside its image: the text denotes the image, and the command answers so; or it does not, nothing else is done, and that is told and explained
-pub data Beside (answers : ExitStatus → Type 0) (text image : List ℕ) (out errors : Sent) (status : ExitStatus) : Type 0 where
-  denotes : Makes text image → answers status → Beside answers text image out errors status
-  refused : IsSilent out → (fault : TextFault) → RefusesText text image fault → TellsText text fault status errors → Beside answers text image out errors status
+-- a command with a text beside its image: the text denotes the image, and the command answers so; or it does not, nothing else is done, and that is told so
+pub data Beside (answers : ExitStatus → Type 0) (tells : TextFault → ExitStatus → Sent → Type 0) (text image : List ℕ) (out errors : Sent) (status : ExitStatus) : Type 0 where
+  denotes : Makes text image → answers status → Beside answers tells text image out errors status
+  refused : IsSilent out → (fault : TextFault) → RefusesText text image fault → tells fault status errors → Beside answers tells text image out errors status

@@ -6,9 +6,11 @@ ghost use Rattle.aom_main.specs.Prices.{Checks};
 ghost use Rattle.aom_main.specs.Translations.{Translates};
 ghost use Rattle.aom_main.specs.declared.commands.Translation.TheVariants.{Asm};
 ghost use Rattle.aom_explaining.specs.Explained.{Explains, ExplainsByText};
-ghost use Rattle.aom_explaining.specs.Explaining.{Beside, Explaining};
+ghost use Rattle.aom_explaining.specs.Lined.{Lining, LinesText, fault_lined};
+ghost use Rattle.aom_explaining.specs.Explaining.{Beside, Explaining, TellsText};
 
 use crate::beside::ImageText;
+use crate::lining::{answer_lined, line_text};
 use crate::telling::answer_explained;
 use crate::telling_by_text::{answer_by_text, refuse_text};
 use aom_main::{ExitStatus, Translation, try_check, try_run, try_translate};
@@ -70,13 +72,34 @@ pub fn check_by_text<W: Sink, E: Sink>(
     out: &mut W,
     errors: &mut E,
 ) -> ExitStatus
-    ensures { Beside (λ status. Explaining (Checks prices image.now (record { before = W.out out.old; now = W.out out.new; failed = W.failed out.new })) (ExplainsByText image.now text.now []) (record { before = E.out errors.old; now = E.out errors.new; failed = E.failed errors.new }) status) text.now image.now (record { before = W.out out.old; now = W.out out.new; failed = W.failed out.new }) (record { before = E.out errors.old; now = E.out errors.new; failed = E.failed errors.new }) result }
+    ensures { Beside (λ status. Explaining (Checks prices image.now (record { before = W.out out.old; now = W.out out.new; failed = W.failed out.new })) (ExplainsByText image.now text.now []) (record { before = E.out errors.old; now = E.out errors.new; failed = E.failed errors.new }) status) (TellsText text.now) text.now image.now (record { before = W.out out.old; now = W.out out.new; failed = W.failed out.new }) (record { before = E.out errors.old; now = E.out errors.new; failed = E.failed errors.new }) result }
 {
     match ImageText::beside(alloc, text, image) {
         Err(fault) => refuse_text(alloc, &fault, text, errors),
         Ok(text) => {
             let found = try_check(alloc, image, prices, out);
             answer_by_text(alloc, found, image, &text, b"", errors)
+        }
+    }
+}
+
+/// Tells whether an image is accepted, with its figures where they are asked, and in one line of its text's file why it is not.
+pub fn check_lined<W: Sink, E: Sink>(
+    alloc: Global,
+    image: &[u8],
+    text: &[u8],
+    file: &[u8],
+    prices: bool,
+    out: &mut W,
+    errors: &mut E,
+) -> ExitStatus
+    ensures { Beside (λ status. Lining (Checks prices image.now (record { before = W.out out.old; now = W.out out.new; failed = W.failed out.new })) (fault_lined file.now text.now) (record { before = E.out errors.old; now = E.out errors.new; failed = E.failed errors.new }) status) (LinesText file.now text.now) text.now image.now (record { before = W.out out.old; now = W.out out.new; failed = W.failed out.new }) (record { before = E.out errors.old; now = E.out errors.new; failed = E.failed errors.new }) result }
+{
+    match ImageText::beside(alloc, text, image) {
+        Err(fault) => line_text(alloc, &fault, file, errors),
+        Ok(text) => {
+            let found = try_check(alloc, image, prices, out);
+            answer_lined(alloc, found, file, &text, errors)
         }
     }
 }
@@ -94,7 +117,7 @@ pub fn run_by_text<W: Sink, E: Sink>(
 ) -> ExitStatus
     requires limit { (1 ≤ limit) × (limit ≤ 1000000000) }
     requires owed { OweNothing (λ b. (⟦<dyn Native as Native>⟧ b.vtable).owed b.value) boxes.items }
-    ensures { Beside (λ status. Explaining (RunAnswers image.now script.now limit (length boxes.items) (record { before = W.out out.old; now = W.out out.new; failed = W.failed out.new })) (ExplainsByText image.now text.now script.now) (record { before = E.out errors.old; now = E.out errors.new; failed = E.failed errors.new }) status) text.now image.now (record { before = W.out out.old; now = W.out out.new; failed = W.failed out.new }) (record { before = E.out errors.old; now = E.out errors.new; failed = E.failed errors.new }) result }
+    ensures { Beside (λ status. Explaining (RunAnswers image.now script.now limit (length boxes.items) (record { before = W.out out.old; now = W.out out.new; failed = W.failed out.new })) (ExplainsByText image.now text.now script.now) (record { before = E.out errors.old; now = E.out errors.new; failed = E.failed errors.new }) status) (TellsText text.now) text.now image.now (record { before = W.out out.old; now = W.out out.new; failed = W.failed out.new }) (record { before = E.out errors.old; now = E.out errors.new; failed = E.failed errors.new }) result }
 {
     match ImageText::beside(alloc, text, image) {
         Err(fault) => refuse_text(alloc, &fault, text, errors),

@@ -4,16 +4,20 @@
 //! same status, the same output and the same fault line as the command of `aom_main`, and then the text of `specs/Explained.antt`,
 //! which `aom_explain` writes. Without a fault nothing is explained. `check_by_text` and `run_by_text` take the
 //! text too that the image is of, and explain by its lines; they promise `Beside`, and refuse a text that denotes no image or
-//! another one. Nothing here knows why an image is refused, nor where a sink leads.
+//! another one. `check_lined` takes it too, and tells a fault in one line of its file, as compilers do (`specs/Lined.antt`). Nothing here knows why an image is refused, nor where a sink leads.
 #![tactic(auto)]
 
 mod beside;
 mod commands;
 mod explaining;
+mod lining;
 mod stopping;
 mod telling;
 mod telling_by_text;
 
-pub use commands::{asm_explained, check_by_text, check_explained, run_by_text, run_explained};
+pub use commands::{
+    asm_explained, check_by_text, check_explained, check_lined, run_by_text, run_explained,
+};
 pub use explaining::{entry_of, explanation};
+pub use lining::tell_lined;
 pub use telling::tell_explained;

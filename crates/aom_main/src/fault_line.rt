@@ -13,15 +13,25 @@ use aom_verify::Refusal;
 /// No fault's line is longer.
 const LONGEST: usize = 96;
 
-/// The line by which a fault is told, with its line feed.
-pub(crate) type FaultLine = Text<LONGEST>;
+/// The line by which a fault is told.
+pub type FaultLine = Text<LONGEST>;
 
+/// The line by which a fault is told, with its line feed.
 pub(crate) fn fault_line(fault: &Fault) -> FaultLine
     ensures { result ≡ ended (fault_line fault.now) }
 {
+    let mut line = fault_text(fault);
+    line.add(b"\n");
+    line
+}
+
+/// The words by which a fault is told, without a line feed.
+pub fn fault_text(fault: &Fault) -> FaultLine
+    ensures text { result ≡ fault_line fault.now }
+    ensures short { length result ≤ 92 }
+{
     let mut line = FaultLine::new();
     add_fault(&mut line, fault);
-    line.add(b"\n");
     line
 }
 

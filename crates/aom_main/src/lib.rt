@@ -26,5 +26,6 @@ pub use commands::{
     try_run, try_translate,
 };
 pub use exploring::{Part, explore_bytes};
+pub use fault_line::{FaultLine, fault_text};
 pub use faults::{Fault, tell};
 pub use status::ExitStatus;

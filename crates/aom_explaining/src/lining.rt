@@ -1,0 +1,126 @@
+//! A fault in one line with its place, as compilers write it.
+ghost use Rattle.std.specs.Prelude.{ℕ, ◌≡◌, IfOk, List, None, codes};
+ghost use Rattle.aom_explain.specs.Lines.{lined_text};
+ghost use Rattle.aom_explain.specs.Table.{word_texts};
+ghost use Rattle.aom_explain.specs.declared.word.Unnumbered.TheVariants.{Text};
+ghost use Rattle.aom_main.specs.Headline.{Says, Tells};
+ghost use Rattle.aom_main.specs.Status.{status_of};
+ghost use Rattle.aom_transcript.specs.Text.{ended};
+ghost use Rattle.aom_explaining.specs.Lined.{AnsweredOrLined, LinesText, TellsLined, fault_lined, fault_place, line_at, refusal_place};
+
+use crate::beside::{ImageText, TextFault};
+use crate::explaining::entry_of;
+use aom_explain::{Entry, Unnumbered, budget_line, put_lined, refusal_line, word_entry};
+use aom_figures::Writer;
+use aom_main::{ExitStatus, Fault, fault_text, tell};
+use aom_run::{Sink, write_text};
+use aom_verify::Refusal;
+use std::alloc::{AllocError, Global};
+
+fn refusal_place(text: &ImageText, refusal: Refusal) -> Option<u32>
+    ensures { result ≡ refusal_place text.now refusal }
+{
+    match refusal {
+        Refusal::OutOfMemory => None,
+        Refusal::Refused { method, place, .. } => refusal_line(text.bytes(), method, place),
+    }
+}
+
+/// The line of a text in which a fault of it or of its image is.
+fn fault_place(text: &ImageText, fault: &Fault) -> Option<u32>
+    ensures { result ≡ fault_place text.now fault.now }
+{
+    match fault {
+        Fault::Asm(fault) => Some(fault.line),
+        Fault::Verify(refusal) => refusal_place(text, *refusal),
+        Fault::Budget(fault) => budget_line(text.bytes(), fault),
+        _ => None,
+    }
+}
+
+/// One line: the file, that line of it, how a fault is told and what it is called.
+fn line_of(
+    alloc: Global,
+    file: &[u8],
+    place: Option<u32>,
+    told: &[u8],
+    entry: &Entry,
+) -> Result<Vec<u8>, AllocError>
+    ensures { IfOk result (λ line. line.items ≡ lined_text file.now place told.now entry.now.name) }
+{
+    let mut out = Writer::new(alloc);
+    put_lined(&mut out, file, place, told, entry)?;
+    Ok(out.into_text())
+}
+
+/// Tells a fault in one line of a file, and answers its status. Where there is no memory for that line, the fault's own is told.
+pub fn tell_lined<E: Sink>(
+    alloc: Global,
+    file: &[u8],
+    place: Option<u32>,
+    fault: &Fault,
+    errors: &mut E,
+) -> ExitStatus
+    ensures status { result ≡ status_of fault.now }
+    ensures told { TellsLined (line_at file.now place fault.now) (Tells fault.now) (record { before = E.out errors.old; now = E.out errors.new; failed = E.failed errors.new }) }
+{
+    let told = fault_text(fault);
+    match line_of(alloc, file, place, told.as_bytes(), &entry_of(fault)) {
+        Ok(line) => {
+            write_text(errors, &line);
+            fault.status()
+        }
+        Err(_) => tell(fault, errors),
+    }
+}
+
+/// Answers the status that a call has come to, or tells its fault in one line of the text that the image is of.
+pub fn answer_lined<E: Sink>(
+    alloc: Global,
+    found: Result<ExitStatus, Fault>,
+    file: &[u8],
+    text: &ImageText,
+    errors: &mut E,
+) -> ExitStatus
+    ensures { AnsweredOrLined (fault_lined file.now text.now) found (record { before = E.out errors.old; now = E.out errors.new; failed = E.failed errors.new }) result }
+{
+    match found {
+        Ok(status) => status,
+        Err(fault) => {
+            let place = fault_place(text, &fault);
+            tell_lined(alloc, file, place, &fault, errors)
+        }
+    }
+}
+
+/// Tells that a text denotes another image.
+fn line_other<E: Sink>(alloc: Global, file: &[u8], errors: &mut E)
+    ensures { TellsLined (lined_text file.now None (codes "text") (word_texts Text).name) (Says (ended (codes "text"))) (record { before = E.out errors.old; now = E.out errors.new; failed = E.failed errors.new }) }
+{
+    match line_of(alloc, file, None, b"text", &word_entry(Unnumbered::Text)) {
+        Ok(line) => write_text(errors, &line),
+        Err(_) => write_text(errors, b"text\n"),
+    }
+}
+
+/// Tells why a text is refused beside an image.
+pub fn line_text<E: Sink>(
+    alloc: Global,
+    fault: &TextFault,
+    file: &[u8],
+    errors: &mut E,
+) -> ExitStatus
+    ensures { (text : List ℕ) → LinesText file.now text fault.now result (record { before = E.out errors.old; now = E.out errors.new; failed = E.failed errors.new }) }
+{
+    match *fault {
+        TextFault::Asm(fault) => {
+            tell_lined(alloc, file, Some(fault.line), &Fault::Asm(fault), errors);
+            ExitStatus::CallRefused
+        }
+        TextFault::Other => {
+            line_other(alloc, file, errors);
+            ExitStatus::CallRefused
+        }
+        TextFault::Memory => tell(&Fault::Memory, errors),
+    }
+}
