@@ -5,7 +5,7 @@ ghost use Rattle.aom_debug_words.specs.Commands.{command_said};
 ghost use Rattle.aom_debug_moves.specs.Movers.{IsReady, Keeps};
 ghost use Rattle.aom_debug.specs.Obeying.{Heeds, Obeys};
 
-use crate::{Debugger, Look};
+use crate::Debugger;
 use aom_debug_moves::{Scope, Sink};
 use aom_debug_words::{Command, DebugFault, read_command};
 use aom_natives::Native;
@@ -46,15 +46,15 @@ impl<'a> Debugger<'a> {
             Command::Until(method, place) => self.until(method, place, out),
             Command::Break(method, place) => self.break_at(method, place, out),
             Command::Unbreak(method, place) => self.unbreak_at(method, place, out),
-            Command::Cells => self.look(Look::Cells, out),
-            Command::Owners => self.look(Look::Owners, out),
-            Command::Cleanup => self.look(Look::Cleanup, out),
-            Command::Actives => self.look(Look::Actives, out),
-            Command::Recent => self.look(Look::Recent, out),
-            Command::Breaks => self.look(Look::Breaks, out),
-            Command::Clock => self.look(Look::Clock, out),
-            Command::Frames => self.look(Look::Frames, out),
-            Command::Help => self.look(Look::Help, out),
+            Command::Cells => self.cells(out),
+            Command::Owners => self.owners(out),
+            Command::Cleanup => self.cleanup(out),
+            Command::Actives => self.actives(out),
+            Command::Recent => self.recent(out),
+            Command::Breaks => self.breaks(out),
+            Command::Clock => self.clock(out),
+            Command::Frames => self.frames(out),
+            Command::Help => self.help(out),
         }
     }
 }

@@ -1,6 +1,9 @@
 //! A debugger.
-ghost use Rattle.std.specs.Prelude.{◌≡◌, ◌||◌, [], false, true, IfErr, IfNone, IfOk, IfSome};
+ghost use Rattle.std.specs.Prelude.{◌≡◌, ◌+◌, ◌≤◌, ◌||◌, [], false, true, IfErr, IfNone, IfOk, IfSome};
 ghost use Rattle.aom_debug_moves.specs.Calls.{Stands};
+ghost use Rattle.aom_debug_words.specs.declared.fault.DebugFault.TheVariants.{OutOfMemory};
+ghost use Rattle.aom_lines.specs.Turn.{step_lines};
+ghost use Rattle.aom_script.specs.Script.{IsTimely};
 ghost use Rattle.aom_natives.specs.Slots.{AllAgree};
 ghost use Rattle.aom_debug_moves.specs.Movers.{IsReady, Keeps};
 ghost use Rattle.aom_debug.specs.Debugging.{GivesUp, Goes, Runs, Sets, SetsAt, Shows, Steps, Turns, goes_of, has_ended};
@@ -9,9 +12,14 @@ use crate::marking::spot_named;
 use crate::showing::tell_place;
 use aom_debug_moves::{Course, Mover, Progress, Sink, go};
 use aom_debug_sights::tell;
-use aom_debug_words::{Answer, Breakpoints, DebugFault, Spot};
+use aom_debug_words::{Answer, Breakpoints, DebugFault, Recent, Spot};
+use aom_lines::Turn;
 use aom_natives::Native;
+use aom_run::Machine;
+use aom_script::Script;
 use aom_text::Number;
+use aom_transcript::Page;
+use std::alloc::Global;
 
 /// The most steps of one command.
 const MOST_STEPS: u32 = 1_000_000;
@@ -26,17 +34,49 @@ pub struct Debugger<'a> {
 }
 
 impl<'a> Debugger<'a> {
-    /// A debugger of what moves, which has all the memory that any command will ever need.
-    pub fn new(mover: Mover<'a>) -> Debugger<'a>
-        requires agree { AllAgree (λ l. l.ids) (λ l. (⟦<dyn Native as Native>⟧ l.native.vtable).owed l.native.value) mover.machine.natives.slots.items }
-        ensures agree { AllAgree (λ l. l.ids) (λ l. (⟦<dyn Native as Native>⟧ l.native.vtable).owed l.native.value) result.mover.machine.natives.slots.items }
-        ensures mover { result.mover ≡ mover.entry }
-        ensures marks { (result.breakpoints ≡ []) × (result.has_failed ≡ false) }
+    /// A debugger of a machine under a script, with the turn of its run, of at most so many dispatches after main's. All the memory that
+    /// any command will ever need is taken here: where there is none for it, no debugger is made.
+    pub fn new(
+        alloc: Global,
+        machine: Machine<'a>,
+        script: Script,
+        turn: Turn,
+        limit: u32,
+    ) -> Result<Debugger<'a>, DebugFault>
+        requires agree { AllAgree (λ l. l.ids) (λ l. (⟦<dyn Native as Native>⟧ l.native.vtable).owed l.native.value) machine.natives.slots.items }
+        requires stands { Stands machine }
+        requires timely { IsTimely script.timed }
+        requires turn { (turn.lines ≡ []) × (64 + step_lines machine.core.image.header.messages ≤ turn.room) }
+        ensures agree { IfOk result (λ d. AllAgree (λ l. l.ids) (λ l. (⟦<dyn Native as Native>⟧ l.native.vtable).owed l.native.value) d.mover.machine.natives.slots.items) }
+        ensures ready { IfOk result (λ d. IsReady d.mover) }
+        ensures machine { IfOk result (λ d. d.mover.machine ≡ machine.entry) }
+        ensures given { IfOk result (λ d. (d.mover.script ≡ script) × (d.mover.turn ≡ turn) × (d.mover.limit ≡ limit)) }
+        ensures marks { IfOk result (λ d. (d.breakpoints ≡ []) × (d.mover.recent ≡ []) × (d.has_failed ≡ false)) }
+        ensures err { IfErr result (λ fault. fault ≡ OutOfMemory) }
     {
-        Debugger {
-            mover,
-            breakpoints: Breakpoints::new(),
-            has_failed: false,
+        match Recent::new(alloc) {
+            Ok(recent) => {
+                let page = Page::new();
+                let mover = Mover {
+                    machine,
+                    script,
+                    limit,
+                    turn,
+                    page,
+                    recent,
+                };
+                Ok(Debugger {
+                    mover,
+                    breakpoints: Breakpoints::new(),
+                    has_failed: false,
+                })
+            }
+            Err(_) => {
+                drop(machine);
+                drop(script);
+                drop(turn);
+                Err(DebugFault::OutOfMemory)
+            }
         }
     }
 

@@ -16,15 +16,13 @@ ghost use Rattle.aom_debug.specs.Answers.{DebugAnswers};
 ghost use Rattle.aom_debug.specs.Beginning.{IsBegun};
 
 use crate::conversing::converse;
-use crate::{Debugger, Mover, Reader, Sink};
+use crate::{Debugger, Reader, Sink};
 use aom_budget::Accepted;
-use aom_debug_words::Recent;
 use aom_lines::Turn;
 use aom_main::{ExitStatus, Fault, accept_bytes, tell};
 use aom_natives::Native;
 use aom_run::Machine;
 use aom_script::{Script, read_script};
-use aom_transcript::Page;
 use std::alloc::{AllocError, Global};
 
 /// Runs an image under a script beside those natives as commands say, which come from a reader, and writes what they tell. The image is looked
@@ -167,18 +165,11 @@ fn begun<'a>(
     ensures machine { IfOk result (λ d. d.mover.machine ≡ machine.entry) }
     ensures err { IfErr result (λ fault. fault ≡ Memory) }
 {
-    match room_of(alloc, accepted, &script) {
-        Ok((turn, recent)) => {
-            let page = Page::new();
-            Ok(Debugger::new(Mover {
-                machine,
-                script,
-                limit,
-                turn,
-                page,
-                recent,
-            }))
-        }
+    match turn_of(alloc, accepted, &script) {
+        Ok(turn) => match Debugger::new(alloc, machine, script, turn, limit) {
+            Ok(debugger) => Ok(debugger),
+            Err(_) => Err(Fault::Memory),
+        },
         Err(_) => {
             drop(machine);
             drop(script);
@@ -187,19 +178,12 @@ fn begun<'a>(
     }
 }
 
-/// The turn of a run under a script, and room for the latest instructions.
-fn room_of(
-    alloc: Global,
-    accepted: &Accepted,
-    script: &Script,
-) -> Result<(Turn, Recent), AllocError>
-    ensures lines { IfOk result (λ r. r.0.lines ≡ []) }
-    ensures refused { IfOk result (λ r. r.0.refused ≡ script.now.refused) }
-    ensures room { IfOk result (λ r. r.0.room ≡ 64 + step_lines accepted.now.header.messages) }
-    ensures recent { IfOk result (λ r. r.1 ≡ []) }
+/// The turn of a run under a script.
+fn turn_of(alloc: Global, accepted: &Accepted, script: &Script) -> Result<Turn, AllocError>
+    ensures lines { IfOk result (λ t. t.lines ≡ []) }
+    ensures refused { IfOk result (λ t. t.refused ≡ script.now.refused) }
+    ensures room { IfOk result (λ t. t.room ≡ 64 + step_lines accepted.now.header.messages) }
 {
     let refused = Vec::from_slice(alloc, script.refused())?;
-    let turn = Turn::new(alloc, accepted.linked(), refused)?;
-    let recent = Recent::new(alloc)?;
-    Ok((turn, recent))
+    Turn::new(alloc, accepted.linked(), refused)
 }

@@ -1,6 +1,6 @@
 //! The program's debugger: over a machine, and over the bytes of files, a reader of commands and two sinks.
 //!
-//! `Debugger::command` does what a line of commands says, and each command is a call too. A call promises what it did to each state that
+//! `Debugger::command` does what a line of commands says, and each command is a call of its own name too. A call promises what it did to each state that
 //! the machine stood for and what went out (`specs/Debugging.antt`): the moves that the command asks for by `aom_debug_moves`, their
 //! lines and then where they lead; or what `aom_debug_sights` tells, and nothing changed; or that it is refused, and nothing was
 //! changed or written. Nothing of this takes memory, by signature.
@@ -16,6 +16,7 @@ mod conversing;
 mod debugger;
 mod debugging;
 mod looking;
+mod looks;
 mod marking;
 mod onward;
 mod showing;

@@ -3,3 +3,4 @@ mod faults;
 mod listing;
 mod running;
 mod slate;
+mod stepping;

@@ -61,125 +61,125 @@ returns-in-Break-clause-keeps g c = c.break_at.ensures.keeps
 pub returns-in-Break-clause-answer : goal.returns-in-Break-clause-answer
 returns-in-Break-clause-answer g c = rw c.in-Break.is c.break_at.ensures.answer
 
-pub look-requires-clause-agree : goal.look-requires-clause-agree
-look-requires-clause-agree g c = c.requires.agree
+pub cells-requires-clause-agree : goal.cells-requires-clause-agree
+cells-requires-clause-agree g c = c.requires.agree
 
-pub look-requires-clause-ready : goal.look-requires-clause-ready
-look-requires-clause-ready g c = c.requires.ready
+pub cells-requires-clause-ready : goal.cells-requires-clause-ready
+cells-requires-clause-ready g c = c.requires.ready
 
 pub returns-in-Cells-clause-agree : goal.returns-in-Cells-clause-agree
-returns-in-Cells-clause-agree g c = c.look.ensures.agree
+returns-in-Cells-clause-agree g c = c.cells.ensures.agree
 
 pub returns-in-Cells-clause-keeps : goal.returns-in-Cells-clause-keeps
-returns-in-Cells-clause-keeps g c = c.look.ensures.keeps
+returns-in-Cells-clause-keeps g c = c.cells.ensures.keeps
 
 pub returns-in-Cells-clause-answer : goal.returns-in-Cells-clause-answer
-returns-in-Cells-clause-answer g c = rw c.in-Cells.is c.look.ensures.answer
+returns-in-Cells-clause-answer g c = rw c.in-Cells.is c.cells.ensures.answer
 
-pub look-requires-in-Owners-clause-agree : goal.look-requires-in-Owners-clause-agree
-look-requires-in-Owners-clause-agree g c = c.requires.agree
+pub owners-requires-clause-agree : goal.owners-requires-clause-agree
+owners-requires-clause-agree g c = c.requires.agree
 
-pub look-requires-in-Owners-clause-ready : goal.look-requires-in-Owners-clause-ready
-look-requires-in-Owners-clause-ready g c = c.requires.ready
+pub owners-requires-clause-ready : goal.owners-requires-clause-ready
+owners-requires-clause-ready g c = c.requires.ready
 
 pub returns-in-Owners-clause-agree : goal.returns-in-Owners-clause-agree
-returns-in-Owners-clause-agree g c = c.look-in-Owners.ensures.agree
+returns-in-Owners-clause-agree g c = c.owners.ensures.agree
 
 pub returns-in-Owners-clause-keeps : goal.returns-in-Owners-clause-keeps
-returns-in-Owners-clause-keeps g c = c.look-in-Owners.ensures.keeps
+returns-in-Owners-clause-keeps g c = c.owners.ensures.keeps
 
 pub returns-in-Owners-clause-answer : goal.returns-in-Owners-clause-answer
-returns-in-Owners-clause-answer g c = rw c.in-Owners.is c.look-in-Owners.ensures.answer
+returns-in-Owners-clause-answer g c = rw c.in-Owners.is c.owners.ensures.answer
 
-pub look-requires-in-Cleanup-clause-agree : goal.look-requires-in-Cleanup-clause-agree
-look-requires-in-Cleanup-clause-agree g c = c.requires.agree
+pub cleanup-requires-clause-agree : goal.cleanup-requires-clause-agree
+cleanup-requires-clause-agree g c = c.requires.agree
 
-pub look-requires-in-Cleanup-clause-ready : goal.look-requires-in-Cleanup-clause-ready
-look-requires-in-Cleanup-clause-ready g c = c.requires.ready
+pub cleanup-requires-clause-ready : goal.cleanup-requires-clause-ready
+cleanup-requires-clause-ready g c = c.requires.ready
 
 pub returns-in-Cleanup-clause-agree : goal.returns-in-Cleanup-clause-agree
-returns-in-Cleanup-clause-agree g c = c.look-in-Cleanup.ensures.agree
+returns-in-Cleanup-clause-agree g c = c.cleanup.ensures.agree
 
 pub returns-in-Cleanup-clause-keeps : goal.returns-in-Cleanup-clause-keeps
-returns-in-Cleanup-clause-keeps g c = c.look-in-Cleanup.ensures.keeps
+returns-in-Cleanup-clause-keeps g c = c.cleanup.ensures.keeps
 
 pub returns-in-Cleanup-clause-answer : goal.returns-in-Cleanup-clause-answer
-returns-in-Cleanup-clause-answer g c = rw c.in-Cleanup.is c.look-in-Cleanup.ensures.answer
+returns-in-Cleanup-clause-answer g c = rw c.in-Cleanup.is c.cleanup.ensures.answer
 
-pub look-requires-in-Actives-clause-agree : goal.look-requires-in-Actives-clause-agree
-look-requires-in-Actives-clause-agree g c = c.requires.agree
+pub actives-requires-clause-agree : goal.actives-requires-clause-agree
+actives-requires-clause-agree g c = c.requires.agree
 
-pub look-requires-in-Actives-clause-ready : goal.look-requires-in-Actives-clause-ready
-look-requires-in-Actives-clause-ready g c = c.requires.ready
+pub actives-requires-clause-ready : goal.actives-requires-clause-ready
+actives-requires-clause-ready g c = c.requires.ready
 
 pub returns-in-Actives-clause-agree : goal.returns-in-Actives-clause-agree
-returns-in-Actives-clause-agree g c = c.look-in-Actives.ensures.agree
+returns-in-Actives-clause-agree g c = c.actives.ensures.agree
 
 pub returns-in-Actives-clause-keeps : goal.returns-in-Actives-clause-keeps
-returns-in-Actives-clause-keeps g c = c.look-in-Actives.ensures.keeps
+returns-in-Actives-clause-keeps g c = c.actives.ensures.keeps
 
 pub returns-in-Actives-clause-answer : goal.returns-in-Actives-clause-answer
-returns-in-Actives-clause-answer g c = rw c.in-Actives.is c.look-in-Actives.ensures.answer
+returns-in-Actives-clause-answer g c = rw c.in-Actives.is c.actives.ensures.answer
 
-pub look-requires-in-Recent-clause-agree : goal.look-requires-in-Recent-clause-agree
-look-requires-in-Recent-clause-agree g c = c.requires.agree
+pub recent-requires-clause-agree : goal.recent-requires-clause-agree
+recent-requires-clause-agree g c = c.requires.agree
 
-pub look-requires-in-Recent-clause-ready : goal.look-requires-in-Recent-clause-ready
-look-requires-in-Recent-clause-ready g c = c.requires.ready
+pub recent-requires-clause-ready : goal.recent-requires-clause-ready
+recent-requires-clause-ready g c = c.requires.ready
 
 pub returns-in-Recent-clause-agree : goal.returns-in-Recent-clause-agree
-returns-in-Recent-clause-agree g c = c.look-in-Recent.ensures.agree
+returns-in-Recent-clause-agree g c = c.recent.ensures.agree
 
 pub returns-in-Recent-clause-keeps : goal.returns-in-Recent-clause-keeps
-returns-in-Recent-clause-keeps g c = c.look-in-Recent.ensures.keeps
+returns-in-Recent-clause-keeps g c = c.recent.ensures.keeps
 
 pub returns-in-Recent-clause-answer : goal.returns-in-Recent-clause-answer
-returns-in-Recent-clause-answer g c = rw c.in-Recent.is c.look-in-Recent.ensures.answer
+returns-in-Recent-clause-answer g c = rw c.in-Recent.is c.recent.ensures.answer
 
-pub look-requires-in-Breaks-clause-agree : goal.look-requires-in-Breaks-clause-agree
-look-requires-in-Breaks-clause-agree g c = c.requires.agree
+pub breaks-requires-clause-agree : goal.breaks-requires-clause-agree
+breaks-requires-clause-agree g c = c.requires.agree
 
-pub look-requires-in-Breaks-clause-ready : goal.look-requires-in-Breaks-clause-ready
-look-requires-in-Breaks-clause-ready g c = c.requires.ready
+pub breaks-requires-clause-ready : goal.breaks-requires-clause-ready
+breaks-requires-clause-ready g c = c.requires.ready
 
 pub returns-in-Breaks-clause-agree : goal.returns-in-Breaks-clause-agree
-returns-in-Breaks-clause-agree g c = c.look-in-Breaks.ensures.agree
+returns-in-Breaks-clause-agree g c = c.breaks.ensures.agree
 
 pub returns-in-Breaks-clause-keeps : goal.returns-in-Breaks-clause-keeps
-returns-in-Breaks-clause-keeps g c = c.look-in-Breaks.ensures.keeps
+returns-in-Breaks-clause-keeps g c = c.breaks.ensures.keeps
 
 pub returns-in-Breaks-clause-answer : goal.returns-in-Breaks-clause-answer
-returns-in-Breaks-clause-answer g c = rw c.in-Breaks.is c.look-in-Breaks.ensures.answer
+returns-in-Breaks-clause-answer g c = rw c.in-Breaks.is c.breaks.ensures.answer
 
-pub look-requires-in-Clock-clause-agree : goal.look-requires-in-Clock-clause-agree
-look-requires-in-Clock-clause-agree g c = c.requires.agree
+pub clock-requires-clause-agree : goal.clock-requires-clause-agree
+clock-requires-clause-agree g c = c.requires.agree
 
-pub look-requires-in-Clock-clause-ready : goal.look-requires-in-Clock-clause-ready
-look-requires-in-Clock-clause-ready g c = c.requires.ready
+pub clock-requires-clause-ready : goal.clock-requires-clause-ready
+clock-requires-clause-ready g c = c.requires.ready
 
 pub returns-in-Clock-clause-agree : goal.returns-in-Clock-clause-agree
-returns-in-Clock-clause-agree g c = c.look-in-Clock.ensures.agree
+returns-in-Clock-clause-agree g c = c.clock.ensures.agree
 
 pub returns-in-Clock-clause-keeps : goal.returns-in-Clock-clause-keeps
-returns-in-Clock-clause-keeps g c = c.look-in-Clock.ensures.keeps
+returns-in-Clock-clause-keeps g c = c.clock.ensures.keeps
 
 pub returns-in-Clock-clause-answer : goal.returns-in-Clock-clause-answer
-returns-in-Clock-clause-answer g c = rw c.in-Clock.is c.look-in-Clock.ensures.answer
+returns-in-Clock-clause-answer g c = rw c.in-Clock.is c.clock.ensures.answer
 
-pub look-requires-in-Help-clause-agree : goal.look-requires-in-Help-clause-agree
-look-requires-in-Help-clause-agree g c = c.requires.agree
+pub help-requires-clause-agree : goal.help-requires-clause-agree
+help-requires-clause-agree g c = c.requires.agree
 
-pub look-requires-in-Help-clause-ready : goal.look-requires-in-Help-clause-ready
-look-requires-in-Help-clause-ready g c = c.requires.ready
+pub help-requires-clause-ready : goal.help-requires-clause-ready
+help-requires-clause-ready g c = c.requires.ready
 
 pub returns-in-Help-clause-agree : goal.returns-in-Help-clause-agree
-returns-in-Help-clause-agree g c = c.look-in-Help.ensures.agree
+returns-in-Help-clause-agree g c = c.help.ensures.agree
 
 pub returns-in-Help-clause-keeps : goal.returns-in-Help-clause-keeps
-returns-in-Help-clause-keeps g c = c.look-in-Help.ensures.keeps
+returns-in-Help-clause-keeps g c = c.help.ensures.keeps
 
 pub returns-in-Help-clause-answer : goal.returns-in-Help-clause-answer
-returns-in-Help-clause-answer g c = rw c.in-Help.is c.look-in-Help.ensures.answer
+returns-in-Help-clause-answer g c = rw c.in-Help.is c.help.ensures.answer
 
 pub unbreak_at-requires-clause-agree : goal.unbreak_at-requires-clause-agree
 unbreak_at-requires-clause-agree g c = c.requires.agree
@@ -241,17 +241,17 @@ returns-in-Until-clause-keeps g c = c.until.ensures.keeps
 pub returns-in-Until-clause-answer : goal.returns-in-Until-clause-answer
 returns-in-Until-clause-answer g c = rw c.in-Until.is c.until.ensures.answer
 
-pub look-requires-in-Frames-clause-agree : goal.look-requires-in-Frames-clause-agree
-look-requires-in-Frames-clause-agree g c = c.requires.agree
+pub frames-requires-clause-agree : goal.frames-requires-clause-agree
+frames-requires-clause-agree g c = c.requires.agree
 
-pub look-requires-in-Frames-clause-ready : goal.look-requires-in-Frames-clause-ready
-look-requires-in-Frames-clause-ready g c = c.requires.ready
+pub frames-requires-clause-ready : goal.frames-requires-clause-ready
+frames-requires-clause-ready g c = c.requires.ready
 
 pub returns-in-Frames-clause-agree : goal.returns-in-Frames-clause-agree
-returns-in-Frames-clause-agree g c = c.look-in-Frames.ensures.agree
+returns-in-Frames-clause-agree g c = c.frames.ensures.agree
 
 pub returns-in-Frames-clause-keeps : goal.returns-in-Frames-clause-keeps
-returns-in-Frames-clause-keeps g c = c.look-in-Frames.ensures.keeps
+returns-in-Frames-clause-keeps g c = c.frames.ensures.keeps
 
 pub returns-in-Frames-clause-answer : goal.returns-in-Frames-clause-answer
-returns-in-Frames-clause-answer g c = rw c.in-Frames.is c.look-in-Frames.ensures.answer
+returns-in-Frames-clause-answer g c = rw c.in-Frames.is c.frames.ensures.answer
