@@ -8,6 +8,8 @@ use Rattle.aom_main.specs.Headline.{Says, Sent, Tells, Told}
 use Rattle.aom_main.specs.Untold.{Untold}
 use Rattle.aom_explaining.specs.Explaining.{AnsweredOrExplained, Explaining, ToldAndExplained}
 use Rattle.aom_explaining.specs.Explaining.Explaining.{behind, without}
+use Rattle.aom_explaining.specs.Lined.{AnsweredOrLined, Lining}
+use Rattle.aom_explaining.specs.Lined.Lining.{without as unfaulted, told as faulted}
 use Rattle.aom_explaining.proofs.Saying.{said_or_told}
 
 -- what was not told yet is an answer without a fault, and with one each way to tell it is, and so is this one
@@ -15,6 +17,12 @@ pub answered : (answers : Sent → ExitStatus → Type 0) (explains : Fault → 
     AnsweredOrExplained explains found errors status → Explaining answers explains errors status
 answered answers explains (Ok found) errors status untold told = without told.1 (subst (answers errors) (sym told.0) (untold errors told.1))
 answered answers explains (Err fault) errors status untold more = behind fault more (untold more.line status more.told)
+
+-- so it is with a fault that is told in another line
+pub lined : (answers : Sent → ExitStatus → Type 0) (line : Fault → List ℕ) (found : Result ExitStatus Fault) (errors : Sent) (status : ExitStatus) → Untold answers found →
+    AnsweredOrLined line found errors status → Lining answers line errors status
+lined answers line (Ok found) errors status untold told = unfaulted told.1 (subst (answers errors) (sym told.0) (untold errors told.1))
+lined answers line (Err fault) errors status untold (is, told) = faulted fault (λ plain. untold plain status) is told
 
 -- the explanation begins where the line has ended
 pub told_first : {X E : Type 0} (made : Result X E) (items : X → List ℕ) (tells : Sent → Type 0) (explains : List ℕ → Type 0) (before middle now : Option (List ℕ)) (told_fails fails : Bool) →

@@ -1,0 +1,11 @@
+-- The text is refused, or it denotes the image, and the command goes on.
+use Rattle.std.proofs.Common.{refl}
+use Rattle.aom_explaining.specs.Explaining.Beside.{denotes, refused}
+use Rattle.aom_explaining.proofs.Behind.{lined}
+use Rattle.aom_explaining.proofs.commands.check_lined.Goals as goal
+
+pub returns-in-Err : goal.returns-in-Err
+returns-in-Err g c = refused refl c.in-Err.fault c.in-Err.ensures.err (c.line_text.ensures c.args.text.now)
+
+pub returns-in-Ok : goal.returns-in-Ok
+returns-in-Ok g c = denotes c.in-Ok.ensures.makes (lined _ _ _ _ _ c.try_check-found.ensures (rw c.in-Ok.ensures.text at c.answer_lined.ensures))
