@@ -1,5 +1,6 @@
 -- A machine that has booted is as fresh as its debugger.
 use Rattle.std.proofs.Common.{arith, ap, refl, ◌+◌}
+use Rattle.std.proofs.lemmas.Result.{IfOk-weaker}
 use Rattle.aom_image.specs.Image.{Image}
 use Rattle.aom_lines.specs.Turn.{step_lines}
 use Rattle.aom_run.specs.Calls.{natives_of}
@@ -7,23 +8,29 @@ use Rattle.aom_sound.specs.World.{boot_state}
 use Rattle.aom_debug.proofs.Starting.{begun_of}
 use Rattle.aom_debug.proofs.debugging.begun.Goals as goal
 
-pub returns-in-Ok-clause-begun : goal.returns-in-Ok-clause-begun
-returns-in-Ok-clause-begun g c =
-    let machine = c.args.machine in
-    let room = c.in-Ok.ensures in
-    let new = c.new.ensures in
-    begun_of c.args.accepted.now c.args.script c.args.limit (natives_of machine) machine c.requires.image c.requires.stands refl c.new.result _ _ _ new.mover room.refused room.recent new.marks.0 new.marks.1
+pub new-requires-clause-agree : goal.new-requires-clause-agree
+new-requires-clause-agree g c = c.requires.agree
 
-pub returns-in-Ok-clause-ready : goal.returns-in-Ok-clause-ready
-returns-in-Ok-clause-ready g c =
-    let fits = c.ranges.limit.fits in
+pub new-requires-clause-stands : goal.new-requires-clause-stands
+new-requires-clause-stands g c = (boot_state c.args.accepted.now, c.requires.stands)
+
+pub new-requires-clause-timely : goal.new-requires-clause-timely
+new-requires-clause-timely g c = c.requires.timely
+
+pub new-requires-clause-turn : goal.new-requires-clause-turn
+new-requires-clause-turn g c =
     let room = c.in-Ok.ensures.room in
     let same = ap (λ (q : Image). 64 + step_lines q.header.messages) c.requires.image in
-    rw c.new.ensures.mover
-    (record {
-      stands = (boot_state c.args.accepted.now, c.requires.stands);
-      none = c.in-Ok.ensures.lines;
-      room = omega (arith, room, same);
-      timely = c.requires.timely;
-      few = omega (arith, fits);
-    })
+    (c.in-Ok.ensures.lines, omega (arith, room, same))
+
+pub returns-in-Ok-new-clause-agree : goal.returns-in-Ok-new-clause-agree
+returns-in-Ok-new-clause-agree g c = c.in-Ok-new.ensures.agree
+
+pub returns-in-Ok-new-clause-ready : goal.returns-in-Ok-new-clause-ready
+returns-in-Ok-new-clause-ready g c = c.in-Ok-new.ensures.ready
+
+pub returns-in-Ok-new-clause-begun : goal.returns-in-Ok-new-clause-begun
+returns-in-Ok-new-clause-begun g c =
+    let machine = c.args.machine in
+    let new = c.in-Ok-new.ensures in
+    begun_of c.args.accepted.now c.args.script c.args.limit (natives_of machine) machine c.requires.image c.requires.stands refl c.in-Ok-new.debugger _ new.machine new.given c.in-Ok.ensures.refused new.marks
