@@ -150,10 +150,7 @@ fn header_ok(header: &Header, classes: usize) -> bool
         Some(class) => class_fits(class, classes),
         None => true,
     };
-    header.cells <= 4096
-        && header.messages <= 1024
-        && header.natives <= 16
-        && root_is_there
+    header.cells <= 4096 && header.messages <= 1024 && header.natives <= 16 && root_is_there
 }
 
 /// How many bytes spell so many classes and these methods.
@@ -215,9 +212,7 @@ fn methods_ok(methods: &[Method], classes: usize) -> bool
 fn parents_fit(classes: &[ClassDecl], version: Version, count: usize) -> bool
     ensures { IsTrue result ↔ All (λ c. ParentFits version count c.kind c.parent) classes.now }
 {
-    classes
-        .iter()
-        .all(|class| parent_fits(class.parent, version, class.kind, count))
+    classes.iter().all(|class| parent_fits(class.parent, version, class.kind, count))
 }
 
 fn overs_fit(methods: &[Method], version: Version, count: usize) -> bool

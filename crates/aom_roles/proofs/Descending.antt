@@ -132,7 +132,7 @@ no_parent p none c e is = go (class_at p c) refl is
     go None at is = cc
     go (Some d) at is =
         let here : d.parent ≡ None =
-            subst (λ d. d.parent ≡ None) (get_or_from_slice_get p.classes c d d at) (All-get_or (λ d. d.parent ≡ None) p.classes c d (slice_get_within p.classes c d at) none) in
+        subst (λ d. d.parent ≡ None) (get_or_from_slice_get p.classes c d d at) (All-get_or (λ d. d.parent ≡ None) p.classes c d (slice_get_within p.classes c d at) none) in
         let empty : None ≡ Some e = sym (ap (lower c) here) ∙ is in cc
 
 -- where no class has a parent, a class descends from itself alone

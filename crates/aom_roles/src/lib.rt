@@ -13,6 +13,4 @@ mod states;
 pub use class_order::{classes_are_ordered, sessions_at};
 pub use families::{descends, parent_of};
 pub use roles::same_role;
-pub use shapes::{
-    all_are_shaped, gives_nothing, gives_of, is_quiet, may_leave, resting_states,
-};
+pub use shapes::{all_are_shaped, gives_nothing, gives_of, is_quiet, may_leave, resting_states};
