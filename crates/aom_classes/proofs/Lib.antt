@@ -2,6 +2,7 @@ pub mod Beginning
 pub mod Bodies
 pub mod Each
 pub mod Facts
+pub mod Keeping
 pub mod Leading
 pub mod LoopPlaces
 pub mod Mentioning

@@ -1,21 +1,20 @@
 -- The least numbers that a method may have, as loops and tables come to them.
-use Rattle.std.proofs.Common.{◌≡◌, ◌<◌, ◌≤◌, ◌+◌, ◌++◌, ◌∷◌, ◌==◌, ◌∙◌, ◌⊎◌, ◌↔◌, ℕ, zero, suc, Bool, true, false, IsTrue, List, [], length, Option, Some, None, IfSome, slice_get, slice_index_or, get_or, max, position, cond, is_some, leb, inl, inr, ap, sym, subst, refl, arith}
+use Rattle.std.proofs.Common.{◌≡◌, ◌<◌, ◌≤◌, ◌+◌, ◌++◌, ◌∷◌, ◌==◌, ◌∙◌, ◌⊎◌, ◌↔◌, ℕ, suc, Bool, true, false, IsTrue, List, [], length, Option, Some, None, IfSome, slice_get, slice_index_or, get_or, max, position, leb, inl, inr, ap, sym, subst, refl, arith}
 use Rattle.std.proofs.lemmas.Bool.{eqb-true, false≢true, le-leb, leb-true}
 use Rattle.std.proofs.lemmas.Option.{get_or_from_slice_get, slice_get-get_or, slice_get_read, slice_get_within}
 use Rattle.std.proofs.lemmas.Grind.{common_steps}
 use Rattle.std.proofs.lemmas.List.Sums.{fails_before_first}
 use Rattle.std.specs.List.{position_or_len}
 use Rattle.aom_image.specs.Image.{Image}
-use Rattle.aom_image.specs.Views.{class_at}
-use Rattle.aom_image.specs.declared.class.ClassDecl.{ClassDecl}
 use Rattle.aom_image.specs.declared.method.Role.{Role}
 use Rattle.aom_roles.specs.Classes.{sessions_at}
-use Rattle.aom_roles.specs.Families.{descends, lower, parent_in, parent_of}
-use Rattle.aom_roles.proofs.Descending.{along, child, fewer, from_none, from_parent, itself, none_below, parent_below}
+use Rattle.aom_roles.specs.Families.{descends, parent_of}
+use Rattle.aom_roles.proofs.Descending.{along, child, from_none, from_parent, itself}
 use Rattle.aom_classes.specs.Calls.{AllBelow, DestructsBelow, EndsBelow, GoesBelow}
 use Rattle.aom_classes.specs.Orders.{AreLeast, IsLeast, ReachesAll}
-use Rattle.aom_classes.specs.Roles.{keeper_in, keeper_of, own_role, plays}
+use Rattle.aom_classes.specs.Roles.{keeper_of, own_role, plays}
 use Rattle.aom_classes.proofs.Each.{EachBelow, each_all, each_more}
+use Rattle.aom_classes.proofs.Keeping.{child_there, keeper_own}
 use Rattle.aom_classes.proofs.Playing.{found}
 use Rattle.aom_classes.proofs.Rows.{each_push}
 
@@ -111,17 +110,9 @@ module _ (p : Image) where
 
   -- ---- a class and all that descend from it
 
-  child_there : (c e : ℕ) → parent_of p c ≡ Some e → c < length p.classes
-  unfolding parent_in class_at
-  child_there c e is = go (class_at p c) refl is
-    where
-      go : (o : Option ClassDecl) → class_at p c ≡ o → lower c (parent_in o) ≡ Some e → c < length p.classes
-      go None at is = cc
-      go (Some d) at is = slice_get_within p.classes c d at
-
   -- who descends from another class is there
   pub descends_there : (x c : ℕ) → descends p x c ≡ true → (x ≡ c) ⊎ (x < length p.classes)
-  descends_there x c h = along p (λ x. (x ≡ c) ⊎ (x < length p.classes)) c (λ d e is above. inr (child_there d e is)) (inl refl) x h
+  descends_there x c h = along p (λ x. (x ≡ c) ⊎ (x < length p.classes)) c (λ d e is above. inr (child_there p d e is)) (inl refl) x h
 
   -- what is found of those below a place
   abbrev pub ReachesSome : List ℕ → ℕ → ℕ → ℕ → Type 0
@@ -202,46 +193,7 @@ none_before test xs none k = go (slice_get xs k) refl
         absurd (false≢true (sym (sym (ap test (get_or_from_slice_get xs k x x e)) ∙ fails) ∙ passes))
 
 module _ (p : Image) where
-  none_kept : (n : ℕ) (r : Role) → keeper_in p n None r ≡ None
-  unfolding keeper_in
-  none_kept zero r = refl
-  none_kept (suc n) r = refl
-
   module _ (r : Role) where
-    pub keeper_own : (c k : ℕ) → own_role p c r ≡ Some k → keeper_of p c r ≡ Some c
-    unfolding keeper_in
-    keeper_own zero k is = ap (λ o. cond (is_some o) (Some 0) None) is
-    keeper_own (suc c) k is = ap (λ o. cond (is_some o) (Some (suc c)) (keeper_in p c (parent_of p (suc c)) r)) is
-
-    kept_last : (n c : ℕ) → c ≤ 0 → cond (is_some (own_role p c r)) (Some c) (keeper_in p n (parent_of p c) r) ≡ cond (is_some (own_role p c r)) (Some c) None
-    kept_last n c le =
-        let first : c ≡ 0 = omega (arith, le) in
-        ap (λ x. cond (is_some (own_role p c r)) (Some c) x) (ap (λ o. keeper_in p n o r) (ap (parent_of p) first ∙ none_below p) ∙ none_kept n r)
-
-    -- more generations change nothing
-    kept_enough : (n m : ℕ) (o : Option ℕ) → IfSome o (λ c. c ≤ n) → IfSome o (λ c. c ≤ m) → keeper_in p n o r ≡ keeper_in p m o r
-    unfolding keeper_in
-    kept_enough zero zero None a b = refl
-    kept_enough zero (suc m) None a b = refl
-    kept_enough (suc n) zero None a b = refl
-    kept_enough (suc n) (suc m) None a b = refl
-    kept_enough zero zero (Some c) a b = refl
-    kept_enough zero (suc m) (Some c) a b = sym (kept_last m c a)
-    kept_enough (suc n) zero (Some c) a b = kept_last n c b
-    kept_enough (suc n) (suc m) (Some c) a b = ap (λ x. cond (is_some (own_role p c r)) (Some c) x) (kept_enough n m (parent_of p c) (fewer p c n a) (fewer p c m b))
-
-    pub keeper_up : (c e : ℕ) → own_role p c r ≡ None → parent_of p c ≡ Some e → keeper_of p c r ≡ keeper_of p e r
-    unfolding keeper_in
-    keeper_up zero e none is = let lt = parent_below p 0 e is in absurd (omega (arith, lt))
-    keeper_up (suc c) e none is =
-        ap (λ o. cond (is_some o) (Some (suc c)) (keeper_in p c (parent_of p (suc c)) r)) none ∙ ap (λ o. keeper_in p c o r) is
-        ∙ kept_enough c e (Some e) (let lt = parent_below p (suc c) e is in omega (arith, lt)) (omega arith)
-
-    pub keeper_none : (c : ℕ) → own_role p c r ≡ None → parent_of p c ≡ None → keeper_of p c r ≡ None
-    unfolding keeper_in
-    keeper_none zero none is = ap (λ o. cond (is_some o) (Some 0) None) none
-    keeper_none (suc c) none is = ap (λ o. cond (is_some o) (Some (suc c)) (keeper_in p c (parent_of p (suc c)) r)) none ∙ ap (λ o. keeper_in p c o r) is ∙ none_kept c r
-
     -- a class with such methods is asked of them alone, and one without of what its parent is asked
     abbrev pub asked : ℕ → Option ℕ → Type 0
     asked m o = IfSome o (λ y. AllBelow p.methods m y r)
@@ -252,7 +204,7 @@ module _ (p : Image) where
       where
         go : (o : Option ℕ) → own_role p c r ≡ o → AllBelow p.methods m c r ↔ asked m (keeper_of p c r)
         go None none = let le = (h 0).1 (none_before (plays c r) p.methods none) in absurd (omega (arith, le, lt))
-        go (Some k) is = (λ all. subst (asked m) (sym (keeper_own c k is)) all, λ all. subst (asked m) (keeper_own c k is) all)
+        go (Some k) is = (λ all. subst (asked m) (sym (keeper_own p r c k is)) all, λ all. subst (asked m) (keeper_own p r c k is) all)
 
     -- where the least number is 0, there is none
     pub none_own : (n c : ℕ) → IsLeast n (λ m. AllBelow p.methods m c r) → n ≡ 0 → own_role p c r ≡ None

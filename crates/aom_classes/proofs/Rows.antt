@@ -40,10 +40,9 @@ no_player classes methods c r (x ∷ xs) h le =
 
 -- what is read from a row of the table
 pub row_found : (p : Image) (table rows : List (List (Option ℕ))) (c i k : ℕ) (r : Role) (row : List (Option ℕ)) (x : Option ℕ) → IsTable p table → rows ≡ table → i ≡ c → i < length rows → row ≡ get_or rows i row → k ≡ role_number r → get_or row k x ≡ role_of p c r
-unfolding role_of
 row_found p table rows c i k r row x t same here lt e n =
     let there : slice_get rows i ≡ Some row = slice_get_read rows (length rows) i row refl lt e in
     let at : slice_get table c ≡ Some row = ap (λ (l : List (List (Option ℕ))). slice_get l c) (sym same) ∙ (ap (slice_get rows) (sym here) ∙ there) in
     let rows_here = t.rows c in
-    let is : IsRow p.methods c row = rw at at rows_here in
-    ap (λ (j : ℕ). get_or row j x) n ∙ get_or_from_slice_get row (role_number r) (position (plays c r) p.methods) x (is r)
+    let is : IsRow p c row = rw at at rows_here in
+    ap (λ (j : ℕ). get_or row j x) n ∙ get_or_from_slice_get row (role_number r) (role_of p c r) x (is r)

@@ -1,13 +1,14 @@
 -- Which methods a class needs, and which it may have once.
 use Rattle.std.specs.Prelude.{◌≤◌, ◌<◌, ℕ, List, length, IfSome, IsSome, slice_get, count_by}
 use Rattle.aom_image.specs.Image.{Image}
+use Rattle.aom_image.specs.Views.{class_at}
 use Rattle.aom_image.specs.declared.class.ClassDecl.{ClassDecl}
 use Rattle.aom_image.specs.declared.class.ClassKind.{ClassKind}
 use Rattle.aom_image.specs.declared.class.ClassKind.TheVariants as kinds
 use Rattle.aom_image.specs.declared.method.Method.{Method}
 use Rattle.aom_image.specs.declared.method.Role.{Role}
 use Rattle.aom_image.specs.declared.method.Role.TheVariants.{Construct, Destruct, Run, Cancel, Error, Accept, Service}
-use Rattle.aom_classes.specs.Roles.{role_of, plays, is_main}
+use Rattle.aom_classes.specs.Roles.{own_role, role_of, plays, is_main}
 
 -- a class has a method with that role
 abbrev pub Has : Image → ℕ → Role → Type 0
@@ -26,10 +27,15 @@ KindNeeds p c (kinds.Active provider) = HasActive p c
 KindNeeds p c (kinds.Server most session) = Has p c Accept
 KindNeeds p c kinds.Session = Has p c Service
 
+-- a class that owns more than its parent needs a destructor of its own
+abbrev pub EmptiesMore : Image → ℕ → ClassDecl → Type 0
+EmptiesMore p c d = IfSome d.parent (λ e. IfSome (class_at p e) (λ f. length f.fields < length d.fields → IsSome (own_role p c Destruct)))
+
 -- and a class that owns needs a destructor
 pub record NeedsMet (p : Image) (c : ℕ) (d : ClassDecl) : Type 0 where
   pub kind : KindNeeds p c d.kind
   pub owner : 0 < length d.fields → Has p c Destruct
+  pub more : EmptiesMore p c d
 
 abbrev pub EachNeedsMet : Image → List ClassDecl → Type 0
 EachNeedsMet p classes = (c : ℕ) → IfSome (slice_get classes c) (NeedsMet p c)

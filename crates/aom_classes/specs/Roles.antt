@@ -1,9 +1,9 @@
 -- Which method has a role.
-use Rattle.std.specs.Prelude.{ℕ, zero, suc, Bool, false, ◌&&◌, cond, nat_eq, Option, Some, None, is_some, position}
+use Rattle.std.specs.Prelude.{ℕ, zero, suc, Bool, true, false, ◌&&◌, cond, nat_eq, Option, Some, None, is_some, position}
 use Rattle.aom_image.specs.Image.{Image}
 use Rattle.aom_image.specs.declared.method.Method.{Method}
 use Rattle.aom_image.specs.declared.method.Role.{Role}
-use Rattle.aom_image.specs.declared.method.Role.TheVariants.{Destruct, Main}
+use Rattle.aom_image.specs.declared.method.Role.TheVariants.{Construct, Destruct, Run, Cancel, Error, Main}
 use Rattle.aom_image.specs.declared.method.Thing.{Thing}
 use Rattle.aom_image.specs.declared.method.Thing.TheVariants.{Object, Message}
 use Rattle.aom_roles.specs.Families.{parent_of}
@@ -38,9 +38,22 @@ keeper_in p (suc n) (Some c) r = cond (is_some (own_role p c r)) (Some c) (keepe
 abbrev pub keeper_of : Image → ℕ → Role → Option ℕ
 keeper_of p c r = keeper_in p c (Some c) r
 
--- the first method of that class with that role
+-- roles that a class without a method of its own has from its parent
+abbrev pub is_inherited : Role → Bool
+is_inherited Construct = true
+is_inherited Destruct = true
+is_inherited Run = true
+is_inherited Cancel = true
+is_inherited Error = true
+is_inherited _ = false
+
+abbrev pub role_by : Image → Role → Option ℕ → Option ℕ
+role_by p r None = None
+role_by p r (Some keeper) = own_role p keeper r
+
+-- the first method with that role, of the class itself or of the nearest that it has the role from
 unfoldable pub role_of : Image → ℕ → Role → Option ℕ
-role_of p c r = position (plays c r) p.methods
+role_of p c r = cond (is_inherited r) (role_by p r (keeper_of p c r)) (own_role p c r)
 
 -- the method that runs as an object is destroyed
 abbrev pub destructor_of : Image → Thing → Option ℕ

@@ -1,9 +1,9 @@
 //! Which methods a class needs, and which it may have once.
 ghost use Rattle.std.specs.Prelude.{◌≡◌, ◌≤◌, ◌<◌, ◌↔◌, IsTrue, length, count_by};
 ghost use Rattle.aom_classes.specs.Roles.{plays, is_main};
-ghost use Rattle.aom_classes.specs.Needs.{Has, HasActive, KindNeeds, NeedsMet, EachNeedsMet, AllNeedsMet, AtMostOne, ClassSingle, EachSingle, RolesSingle};
+ghost use Rattle.aom_classes.specs.Needs.{Has, HasActive, KindNeeds, EmptiesMore, NeedsMet, EachNeedsMet, AllNeedsMet, AtMostOne, ClassSingle, EachSingle, RolesSingle};
 
-use crate::roles::{find_role, is_main, plays};
+use crate::roles::{find_role, is_main, own_role, plays};
 use aom_image::{ClassDecl, ClassKind, ClassNumber, Image, Method, Role};
 
 /// The number of the class at an index.
@@ -14,11 +14,28 @@ pub fn class_number(index: usize) -> ClassNumber
     ClassNumber::new(index as u16).unwrap()
 }
 
-#[tactic(auto, unfolding(crate::specs::Roles::role_of))]
 fn has_role(image: &Image, class: ClassNumber, role: Role) -> bool
     ensures { IsTrue result ↔ Has image.now class role }
 {
-    find_role(image.methods().as_slice(), class, role).is_some()
+    find_role(image, class, role).is_some()
+}
+
+/// Whether a class that owns more than its parent has a destructor of its own.
+#[tactic(auto, unfolding(aom_image::specs::Views::class_at))]
+fn empties_more(image: &Image, class: ClassNumber, decl: &ClassDecl) -> bool
+    ensures { IsTrue result ↔ EmptiesMore image.now class decl.now }
+{
+    let Some(parent) = decl.parent else {
+        return true;
+    };
+    let classes = image.classes();
+    match classes.as_slice().get(parent.number() as usize) {
+        Some(parent) => {
+            decl.fields.len() <= parent.fields.len()
+                || own_role(image, class, Role::Destruct).is_some()
+        }
+        None => true,
+    }
 }
 
 fn has_active(image: &Image, class: ClassNumber) -> bool
@@ -45,6 +62,7 @@ fn meets_needs(image: &Image, class: ClassNumber, decl: &ClassDecl) -> bool
 {
     meets_kind(image, class, decl.kind)
         && (decl.fields.is_empty() || has_role(image, class, Role::Destruct))
+        && empties_more(image, class, decl)
 }
 
 fn each_meets_needs(image: &Image, classes: &[ClassDecl]) -> bool

@@ -1,9 +1,9 @@
 //! Which method has a role.
 ghost use Rattle.std.specs.Prelude.{◌≡◌, ◌<◌, ◌≤◌, length, position};
-ghost use Rattle.aom_classes.specs.Roles.{same_role, is_main, plays, is_class};
+ghost use Rattle.aom_classes.specs.Roles.{same_role, is_inherited, is_main, keeper_of, own_role, plays, is_class, role_by, role_of};
 
-use aom_image::{ClassNumber, Method, MethodNumber, Role};
-use aom_roles::same_role;
+use aom_image::{ClassNumber, Image, Method, MethodNumber, Role};
+use aom_roles::{parent_of, same_role};
 
 pub fn is_main(method: &Method) -> bool
     ensures { result ≡ is_main method.now }
@@ -58,13 +58,51 @@ fn role_index(methods: &[Method], class: ClassNumber, role: Role) -> Option<usiz
     methods.iter().position(|method| plays(class, role, method))
 }
 
-/// The first method of that class with that role.
-pub fn find_role(methods: &[Method], class: ClassNumber, role: Role) -> Option<MethodNumber>
-    requires { length methods.now ≤ 1024 }
-    ensures { result ≡ position (plays class role) methods.now }
+/// The first method of that class itself with that role.
+#[tactic(auto, unfolding(crate::specs::Roles::own_role))]
+pub fn own_role(image: &Image, class: ClassNumber, role: Role) -> Option<MethodNumber>
+    ensures { result ≡ own_role image.now class role }
 {
-    match role_index(methods, class, role) {
+    let methods = image.methods();
+    match role_index(methods.as_slice(), class, role) {
         Some(index) => Some(number_at(index)),
         None => None,
+    }
+}
+
+/// The first method with that role, of the class itself or of the nearest class above that has one.
+fn kept_role(image: &Image, class: ClassNumber, role: Role) -> Option<MethodNumber>
+    ensures { result ≡ role_by image.now role (keeper_of image.now class role) }
+{
+    let mut here = class;
+    let mut found = own_role(image, here, role);
+    while found.is_none() {
+        let Some(parent) = parent_of(image, here) else {
+            return None;
+        };
+        here = parent;
+        found = own_role(image, here, role);
+    }
+    found
+}
+
+fn is_inherited(role: Role) -> bool
+    ensures { result ≡ is_inherited role }
+{
+    match role {
+        Role::Construct | Role::Destruct | Role::Run | Role::Cancel | Role::Error => true,
+        Role::Do | Role::Main | Role::Accept | Role::Service | Role::Undo => false,
+    }
+}
+
+/// The first method with that role, of the class itself or of the nearest that it has the role from.
+#[tactic(auto, unfolding(crate::specs::Roles::role_of))]
+pub fn find_role(image: &Image, class: ClassNumber, role: Role) -> Option<MethodNumber>
+    ensures { result ≡ role_of image.now class role }
+{
+    if is_inherited(role) {
+        kept_role(image, class, role)
+    } else {
+        own_role(image, class, role)
     }
 }

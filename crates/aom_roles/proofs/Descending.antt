@@ -124,7 +124,7 @@ from_none p (suc n) d other is = ap (λ b. b || descends_in p n (parent_of p (su
 
 -- ---- an image without parents
 
-no_parent : (p : Image) → HasNoParents p → (c e : ℕ) → parent_of p c ≡ Some e → ⊥
+pub no_parent : (p : Image) → HasNoParents p → (c e : ℕ) → parent_of p c ≡ Some e → ⊥
 unfolding parent_in class_at
 no_parent p none c e is = go (class_at p c) refl is
   where

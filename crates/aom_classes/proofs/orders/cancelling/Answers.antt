@@ -3,7 +3,8 @@ use Rattle.aom_image.specs.declared.method.Role.TheVariants.{Cancel}
 use Rattle.aom_roles.proofs.Descending.{parent_below}
 use Rattle.aom_classes.specs.Calls.{CancelsBelow}
 use Rattle.aom_classes.specs.Orders.{IsLeast}
-use Rattle.aom_classes.proofs.Ordering.{asked, asked_own, keeper_none, keeper_up, least_at, least_same, none_own}
+use Rattle.aom_classes.proofs.Keeping.{keeper_none, keeper_up}
+use Rattle.aom_classes.proofs.Ordering.{asked, asked_own, least_at, least_same, none_own}
 use Rattle.aom_classes.proofs.orders.cancelling.Goals as goal
 
 pub returns-then-own-gt0 : goal.returns-then-own-gt0
