@@ -24,7 +24,7 @@ module _ (p : Image) where
       go None at is = cc
       go (Some d) at is = slice_get_within p.classes c d at
 
-  none_kept : (n : ℕ) (r : Role) → keeper_in p n None r ≡ None
+  pub none_kept : (n : ℕ) (r : Role) → keeper_in p n None r ≡ None
   unfolding keeper_in
   none_kept zero r = refl
   none_kept (suc n) r = refl
