@@ -10,7 +10,7 @@ use Rattle.aom_image.specs.declared.method.Role.TheVariants.{Destruct}
 use Rattle.aom_image.specs.declared.method.Thing.{Thing}
 use Rattle.aom_image.specs.declared.method.Thing.TheVariants.{Object}
 use Rattle.aom_classes.specs.Roles.{destructor_of}
-use Rattle.aom_classes.proofs.Playing.{destroyed, role_found}
+use Rattle.aom_classes.proofs.Playing.{destroyed, role_inherits}
 use Rattle.aom_shape.proofs.Lists.{there}
 use Rattle.aom_bounds.specs.Layers.{Destructs}
 
@@ -22,7 +22,7 @@ pub method_there : (p : Image) (m : ℕ) → IsSome (method_at p m) → m < leng
 method_there p m some = some_given (λ o. IsSome o) (method_at p m) some (λ s. cc) (λ d e s. method_within p m d e)
 
 pub destructor_within : (p : Image) (x : Thing) (k : ℕ) → destructor_of p x ≡ Some k → k < length p.methods
-destructor_within p x k e = let w = destroyed p x k e in let d = role_found p w.0 k Destruct w.2 in method_within p k d.0 d.1
+destructor_within p x k e = let w = destroyed p x k e in let d = role_inherits p w.0 k Destruct w.2 in method_within p k d.method d.there
 
 -- each that runs as a thing is destroyed is there
 pub destructs_within : (p : Image) (x : Thing) (k : ℕ) → Destructs p x k → k < length p.methods

@@ -8,7 +8,8 @@ use Rattle.aom_image.specs.declared.method.Thing.TheVariants.{Object}
 use Rattle.aom_roles.specs.Classes.{kind_in}
 use Rattle.aom_classes.specs.Bodies.{Body}
 use Rattle.aom_classes.specs.Loops.{loop_in, next_in}
-use Rattle.aom_classes.specs.Roles.{plays, role_number, role_of}
+use Rattle.aom_roles.specs.Families.{parent_in}
+use Rattle.aom_classes.specs.Roles.{keeper_in, own_role, plays, role_number, role_of}
 use Rattle.aom_rules.specs.Rules.{flows}
 use Rattle.aom_bounds.specs.Cases.{PricesBite, a_word, worked, worked_typing}
 use Rattle.aom_bounds.specs.Costs.{AmongFlows, Costs, GoesOut, Inside, Region, Round, Whole}
@@ -218,7 +219,7 @@ module _ (c : Prices) where
   worked_path = loops tt at_each.0 outer outer_round outer_exit exit_path
 
 pub law_bites : PricesBite
-unfolding class_at kind_in method_at class_in role_of plays role_number
+unfolding class_at kind_in method_at class_in role_of own_role keeper_in parent_in plays role_number
 law_bites = record {
   called = refl;
   destroyed = refl;

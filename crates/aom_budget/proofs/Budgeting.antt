@@ -17,7 +17,7 @@ use Rattle.aom_image.specs.declared.method.Thing.TheVariants.{Object}
 use Rattle.aom_classes.specs.Linked.{IsLinked}
 use Rattle.aom_classes.specs.Roles.{main_of, role_of}
 use Rattle.aom_classes.proofs.Facts.{all_there}
-use Rattle.aom_classes.proofs.Playing.{main_found as main_method, role_found as role_method}
+use Rattle.aom_classes.proofs.Playing.{main_found as main_method, role_inherits}
 use Rattle.aom_shape.specs.Tables.{at}
 use Rattle.aom_shape.proofs.Lists.{there}
 use Rattle.aom_rules.specs.Typing.{Typing}
@@ -47,7 +47,7 @@ main_there : (p : Image) (m : ℕ) → main_of p ≡ Some m → IsSome (method_a
 main_there p m e = let d = main_method p m e in rw d.1 refl
 
 role_there : (p : Image) (k m : ℕ) (role : Role) → role_of p k role ≡ Some m → IsSome (method_at p m)
-role_there p k m role e = let d = role_method p k m role e in rw d.1 refl
+role_there p k m role e = let w = role_inherits p k m role e in rw w.there refl
 
 some_main : (p : Image) → IsLinked p → (m : ℕ) × (main_of p ≡ Some m)
 some_main p linked = some_given (λ o. IsSome o) (main_of p) linked.main (λ some. cc) (λ m e some. (m, e))

@@ -21,13 +21,13 @@ use Rattle.aom_image.specs.declared.method.Thing.{Thing}
 use Rattle.aom_image.specs.declared.method.Thing.TheVariants.{Object, Message}
 use Rattle.aom_roles.specs.Classes.{sessions_at}
 use Rattle.aom_roles.specs.Roles.{role_number}
-use Rattle.aom_classes.specs.Calls.{AllBelow, DestructsBelow, Mentions, MentionsThing, MentionsArgument, MentionsResult, MentionsFields, MentionsRoot, RunsBelow, CallsOrdered}
+use Rattle.aom_classes.specs.Calls.{GoesBelow, Mentions, MentionsThing, MentionsArgument, MentionsResult, MentionsFields, MentionsRoot, RunsBelow, CallsOrdered}
 use Rattle.aom_classes.specs.Linked.{IsLinked}
 use Rattle.aom_classes.specs.Roles.{plays, role_of, same_role}
 use Rattle.aom_classes.proofs.Each.{both, join}
 use Rattle.aom_classes.proofs.Facts.{at_place, all_there, of_method}
-use Rattle.aom_classes.proofs.Mentioning.{cancels_own, mentions_own, mentions_sessions}
-use Rattle.aom_classes.proofs.Playing.{found}
+use Rattle.aom_classes.proofs.Mentioning.{cancels_own, goes_role}
+use Rattle.aom_roles.proofs.Descending.{itself}
 use Rattle.aom_rules.specs.Calls.{brought, caught, worked_on, while_called}
 use Rattle.aom_rules.specs.Requests.{resting}
 use Rattle.aom_shape.proofs.Sets.{has_itself}
@@ -69,22 +69,14 @@ listed_below : (m : ℕ) (o : Option ℕ) → IfSome o (λ k. k < m) → IsTrue 
 listed_below m None h = refl
 listed_below m (Some k) h = join (nat_lt k m) true (grind (arith, h)) refl
 
-role_below : (p : Image) (m c : ℕ) (r : Role) → AllBelow p.methods m c r → IfSome (role_of p c r) (λ k. k < m)
-unfolding role_of
-role_below p m c r h = go (position (plays c r) p.methods) refl
-  where
-    go : (o : Option ℕ) → position (plays c r) p.methods ≡ o → IfSome o (λ k. k < m)
-    go None e = tt
-    go (Some k) e = let w = found (plays c r) p.methods k e in at_place (λ j d. IsTrue (plays c r d) → j < m) p.methods k w.0 h w.1 w.2
-
-destructor_below : (p : Image) (m : ℕ) (class : Option ℕ) → IfSome class (DestructsBelow p m) → IfSome (destructor_of p class) (λ k. k < m)
+destructor_below : (p : Image) (m : ℕ) (class : Option ℕ) → IfSome class (GoesBelow p m) → IfSome (destructor_of p class) (λ k. k < m)
 destructor_below p m None h = tt
-destructor_below p m (Some c) h = role_below p m c roles.Destruct h
+destructor_below p m (Some c) h = goes_role p m c h
 
 mentioned : (p : Image) (m c : ℕ) → Mentions p m c → IsTrue (runs_below p m (Some c))
 mentioned p m c h =
-    let own = listed_below m (role_of p c roles.Destruct) (role_below p m c roles.Destruct (mentions_own p m c h)) in
-    let sessions = listed_below m (destructor_of p (sessions_at p c)) (destructor_below p m (sessions_at p c) (mentions_sessions p m c h)) in
+    let own = listed_below m (role_of p c roles.Destruct) (goes_role p m c (h c (itself p c)).own) in
+    let sessions = listed_below m (destructor_of p (sessions_at p c)) (destructor_below p m (sessions_at p c) (h c (itself p c)).sessions) in
     rw (list_all-append (λ k. nat_lt k m) (listed (role_of p c roles.Destruct)) (listed (destructor_of p (sessions_at p c)))) (join _ _ own sessions)
 
 thing_mentioned : (p : Image) (m : ℕ) (t : Thing) → MentionsThing p m t → IsTrue (runs_below p m (thing_class t))

@@ -20,7 +20,7 @@ use Rattle.aom_sound.specs.Cases.Servers.{ServersBite}
 use Rattle.aom_sound.specs.Cases.Turns.{TurnsBite}
 use Rattle.aom_sound.specs.Cases.Events.{EventsBite}
 use Rattle.aom_sound.specs.Cases.Words.{WordsBite}
-use Rattle.aom_classes.specs.Roles.{plays, role_number, role_of}
+use Rattle.aom_classes.specs.Roles.{keeper_in, own_role, plays, role_number, role_of}
 
 pub words_bite : WordsBite
 unfolding class_at gives_in instr_in method_at words_in descends_in parent_in
@@ -78,7 +78,7 @@ unfolding is_role role_number kind_of sessions_in sessions_of class_at class_in 
 moves_bite = record { going = refl; unwinding = refl; arrival = refl; traps = refl; standing = refl }
 
 pub servers_bite : ServersBite
-unfolding is_role role_number role_of plays kind_of kind_in sessions_in sessions_of class_at class_in fields_in gives_in instr_in method_at role_in descends_in parent_in
+unfolding is_role role_number role_of own_role keeper_in plays kind_of kind_in sessions_in sessions_of class_at class_in fields_in gives_in instr_in method_at role_in descends_in parent_in
 servers_bite = record { taking = refl; replying = refl; returning = refl; ending = refl; closing = refl; signals = (refl, (refl, (refl, (refl, (refl, tt))))); counts = (refl, refl, (refl, refl, (refl, refl, tt))); picking = refl }
 
 pub turns_bite : TurnsBite

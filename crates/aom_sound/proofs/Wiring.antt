@@ -113,7 +113,7 @@ module _ (p : Image) (formed : WellFormed p) (linked : IsLinked p) where
 
   -- a method that plays a role in a class, and its shape
   its_role : (c m : ℕ) (r : Role) → role_of p c r ≡ Some m → (d : Method_declared) × (method_at p m ≡ Some d) × (d.class ≡ Some c) × (d.role ≡ r) × HasShape r (kind_of p d.class) d
-  its_role c m r e = let d = role_found p c m r e in (d.0, d.1, d.2, d.3, of_role m d.0 r d.1 d.3)
+  its_role c m r e = let d = role_found p linked.parents.none c m r e in (d.0, d.1, d.2, d.3, of_role m d.0 r d.1 d.3)
 
   main_is : (m : ℕ) → main_of p ≡ Some m → (IsSome (method_at p m)) × (method_role p m ≡ Some Main) × (gives_of p m ≡ Nothing) × (arguments_of p m ≡ [])
   unfolding role_in gives_in arguments_in

@@ -25,7 +25,7 @@ module _ (p : Image) (linked : IsLinked p) (x : ℕ) where
   shaped : (role : Role) (m : ℕ) → role_of p x role ≡ Some m → (d : Method_declared) × HasShape role (kind_of p (Some x)) d
   unfolding method_at
   shaped role m e =
-      let w = role_found p x m role e in
+      let w = role_found p linked.parents.none x m role e in
       let all : IsShaped p w.0 = all_there (IsShaped p) p.methods m w.0 linked.shapes w.1 in
       (w.0, subst (λ k. HasShape role (kind_of p k) w.0) w.2 (subst (λ r. HasShape r (kind_of p w.0.class) w.0) w.3 all.role))
 

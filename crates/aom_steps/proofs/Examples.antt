@@ -18,8 +18,9 @@ use Rattle.aom_roles.specs.Classes.{kind_in, sessions_in, sessions_of}
 use Rattle.aom_roles.specs.Shapes.{kind_of}
 use Rattle.aom_roles.specs.Roles.{role_number}
 use Rattle.aom_classes.specs.Loops.{loop_in, next_in}
-use Rattle.aom_classes.specs.Roles.{destructor_of, main_of, plays, role_of}
-use Rattle.aom_classes.proofs.Playing.{role_found}
+use Rattle.aom_roles.specs.Families.{parent_in}
+use Rattle.aom_classes.specs.Roles.{destructor_of, keeper_in, main_of, own_role, plays, role_of}
+use Rattle.aom_classes.proofs.Playing.{role_inherits}
 use Rattle.aom_shape.specs.Order.{SaysNoMore, Weaker, WeakerFilling, alike, alike_filling, perhaps_empty, unset_null}
 use Rattle.aom_rules.specs.Rules.{flows}
 use Rattle.aom_shape.specs.Shape.{Shape}
@@ -141,7 +142,9 @@ rounds_pay = at_each Rounds (λ d x e. cc) (λ d x e. cc) (λ d x e. cc) (λ d x
 -- the one destructor is method 0
 destructors_pay : (x : Thing) (m : ℕ) → destructor_of image x ≡ Some m → 1 + price table m ≤ 2
 unfolding method_at
-destructors_pay x m e = let there = destroyed image x m e in of_method m there.0 (role_found image there.0 m Destruct there.2)
+destructors_pay x m e =
+    let there = destroyed image x m e in
+    let w = role_inherits image there.0 m Destruct there.2 in of_method m w.class (w.method, w.there, w.of, w.role)
   where
     of_method : (m class : ℕ) → (d : Method) × (method_at image m ≡ Some d) × (d.class ≡ Some class) × (d.role ≡ Destruct) → 1 + price table m ≤ 2
     of_method zero class w = omega arith
@@ -210,7 +213,7 @@ abbrev Passing : ℕ → ℕ → Shape → Instr → Type 0
 Passing m place sh i = Passes image typing m place sh
 
 passing : (m place : ℕ) (sh : Shape) → shape_at typing m place ≡ Some sh → Passes image typing m place sh
-unfolding method_at instr_in gives_in quiet_in role_in class_in class_at fields_in role_of plays role_number after_in
+unfolding method_at instr_in gives_in quiet_in role_in class_in class_at fields_in role_of own_role keeper_in parent_in plays role_number after_in
 passing m place sh e = (there Passing
     (record { instr = Return 0; stands = refl; needs = (refl, (refl, (refl, (refl, (refl, (refl, (refl, (refl, (refl, tt))))))))); flows = tt })
     (record { instr = Loop 0 3; stands = refl; needs = tt; flows = ((_, refl, one_register Unset Unset alike), tt) })
@@ -243,5 +246,5 @@ outcome (Goes s) = Some (s.rest.steps, s.rest.ended)
 outcome (IsStuck kind) = None
 
 runs_to_its_end : outcome (after 20 (Goes (boot_state image))) ≡ Some (18, Some Stopped)
-unfolding main_of role_number method_at instr_in gives_in quiet_in role_in class_in class_at fields_in role_of plays kind_of kind_in sessions_in sessions_of
+unfolding main_of role_number method_at instr_in gives_in quiet_in role_in class_in class_at fields_in role_of own_role keeper_in parent_in plays kind_of kind_in sessions_in sessions_of
 runs_to_its_end = refl

@@ -103,7 +103,7 @@ record IsQuietThere (p : Image) (m : ℕ) : Type 0 where
 role_quiet : (p : Image) → IsLinked p → (c m : ℕ) (role : Role) → ((kind : Option ClassKind) (d : Method) → HasShape role kind d → quiet_in (Some d) ≡ true) → role_of p c role ≡ Some m → IsQuietThere p m
 unfolding method_at
 role_quiet p linked c m role quiet e =
-    let w = role_found p c m role e in
+    let w = role_found p linked.parents.none c m role e in
     let d = w.0 in
     let shaped : IsShaped p d = all_there (IsShaped p) p.methods m d linked.shapes w.1 in
     let shape : HasShape role (kind_of p d.class) d = subst (λ r. HasShape r (kind_of p d.class) d) w.3 shaped.role in

@@ -17,7 +17,7 @@ use Rattle.aom_image.specs.Views.{class_at}
 use Rattle.aom_roles.specs.Shapes.{kind_of}
 use Rattle.aom_classes.specs.Roles.{role_of}
 use Rattle.aom_classes.proofs.Facts.{all_there}
-use Rattle.aom_classes.proofs.Playing.{role_found}
+use Rattle.aom_classes.proofs.Playing.{role_inherits}
 use Rattle.aom_classes.specs.Linked.{IsLinked}
 use Rattle.aom_classes.specs.Roles.{main_of}
 use Rattle.aom_classes.proofs.Facts.{of_method}
@@ -410,8 +410,8 @@ module _ (limit : ℕ) (p : Image) (t : Typing) (c : Prices) (wired : IsWired p)
       go : (m : Option ℕ) → role_of p x role ≡ m → perhaps_price c m < limit → perhaps_price are.whole.prices m ≡ perhaps_price c m
       go None e less = refl
       go (Some m) e less =
-          let w = role_found p x m role e in
-          omega (arith, are.methods m (subst (λ o. IsSome o) (sym w.1) refl), less)
+          let w = role_inherits p x m role e in
+          omega (arith, are.methods m (subst (λ o. IsSome o) (sym w.there) refl), less)
 
   same_dispatch : (x : ℕ) (k : Option ClassKind) → dispatch_price p c x k < limit → dispatch_price p are.whole.prices x k ≡ dispatch_price p c x k
   same_dispatch x None less = refl
