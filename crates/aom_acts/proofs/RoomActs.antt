@@ -5,7 +5,6 @@ use Rattle.std.proofs.lemmas.Bool.{ne_eqb, true≢false}
 use Rattle.std.specs.Prelude.{is_some, not, ◌||◌}
 use Rattle.aom_image.specs.Image.{Image}
 use Rattle.aom_image.specs.Views.{arguments_of, instr_at, is_quiet, leaves, method_class, method_role}
-use Rattle.aom_roles.specs.Families.{HasNoParents}
 use Rattle.aom_instructions.specs.declared.instr.Instr.{Instr}
 use Rattle.aom_instructions.specs.declared.instr.Instr.TheVariants.{Call, Cancel, Delete, Push, PushOperation, Trap}
 use Rattle.aom_instructions.specs.declared.instr.Target.{Target}
@@ -31,8 +30,7 @@ use Rattle.aom_shape.specs.declared.kind.Entry.TheVariants.{Operation}
 use Rattle.aom_shape.specs.declared.kind.Kind.{Kind}
 use Rattle.aom_shape.specs.declared.kind.Kind.TheVariants.{Maybe, Null, Own}
 use Rattle.aom_bounds.specs.Strongest.{IsStrongest}
-use Rattle.aom_bounds.specs.Calls.{Among, MayCall, callees, destructors, listed, object_class, sessions_with, thing_class}
-use Rattle.aom_bounds.specs.Calls as bounds
+use Rattle.aom_bounds.specs.Calls.{Among, MayCall, callees, cancels, destructors, object_class, thing_class}
 use Rattle.aom_bounds.specs.Heights.{CallsOver, Enters, StandsWith}
 use Rattle.aom_sound.proofs.Claimed.{length_objects}
 use Rattle.aom_sound.proofs.Destroying.{destroys}
@@ -40,7 +38,8 @@ use Rattle.aom_sound.proofs.Finishing.{all_parts}
 use Rattle.aom_sound.proofs.Items.{length_forms}
 use Rattle.aom_sound.proofs.Maps.{held_without, held_moved, same_place_refl}
 use Rattle.aom_sound.proofs.Storing.{ended_alike, held_set_word, rerequested_alike, resessioned_alike}
-use Rattle.aom_sound.proofs.Things.{stands_same}
+use Rattle.aom_bounds.proofs.Listed.{cancel_among, kept_in_line, runs_among, stands_among}
+use Rattle.aom_roles.proofs.Descending.{itself}
 use Rattle.aom_sound.specs.Calls.{ended_well, accepted_cells, below_top, entered, given_cells, over_caller, over_trap, passed_cells, received, result_cells, result_register, returned}
 use Rattle.aom_sound.specs.Claims.{objects}
 use Rattle.aom_sound.specs.Cleanup.{operation_frame, top_place}
@@ -57,22 +56,22 @@ use Rattle.aom_parts.specs.Room.{Destructs, IsUnder, NoClosing, below_height, en
 use Rattle.aom_parts.proofs.Depths.{AllLow, Roomy, SameBelow, begins, closing_begins, dropped, held_apart, item_pushed, lower, off_to_trap, popped, popped_top, recelled, top_under}
 use Rattle.aom_parts.proofs.Heights.{LowUnder, Stands_here, own_entries}
 use Rattle.aom_sound.specs.Enlisted.{begun_cells, cancel_method, cancelling, ended_cells, on_request, own_request}
-use Rattle.aom_sound.proofs.Callees.{cancel_class, cancel_quiet}
+use Rattle.aom_sound.proofs.Callees.{cancel_family, cancel_quiet}
 use Rattle.aom_sound.proofs.Services.{held_served}
 use Rattle.aom_sound.specs.Servers.{is_server, opened}
 
--- what runs as an object goes is told by the class that its register's kind tells
-destructs_as : (p : Image) → HasNoParents p → (h : Sight) (o : Object) (k : Kind) (m : ℕ) → Fits p h (Some o) k → Destructs p (Some o) m → Among m (destructors p (object_class k))
-destructs_as p none h o (Own t a) m fits e = subst (λ x. Among m (destructors p (thing_class x))) (stands_same p none o.thing t fits.0) e
-destructs_as p none h o (Maybe t a) m fits e = subst (λ x. Among m (destructors p (thing_class x))) (stands_same p none o.thing t fits.0) e
-destructs_as p none h o _ m fits e = absurd (assumption tt)
+-- what runs as an object goes may run as one of the class does that its register's kind tells
+destructs_as : (p : Image) (h : Sight) (o : Object) (k : Kind) (m : ℕ) → Fits p h (Some o) k → Destructs p (Some o) m → Among m (destructors p (object_class k))
+destructs_as p h o (Own t a) m fits e = stands_among p o.thing t m fits.0 e
+destructs_as p h o (Maybe t a) m fits e = stands_among p o.thing t m fits.0 e
+destructs_as p h o _ m fits e = absurd (assumption tt)
 
 -- its own destructor does
 own_destructs : (p : Image) (o : Object) (m : ℕ) → destructor_of p o.thing ≡ Some m → Destructs p (Some o) m
 own_destructs p o m e = go o.thing e
   where
     go : (x : Thing) → destructor_of p x ≡ Some m → Among m (destructors p (thing_class x))
-    go (An_object_of c) e = subst (λ d. Among m (listed d ++ listed (bounds.destructor_of p (sessions_with p (Some c))))) (sym e) (inl refl)
+    go (An_object_of c) e = runs_among p (An_object_of c) m (An_object_of c, itself p c, inl (kept_in_line p c m e))
     go Message e = cc
 
 -- what comes to no entries calls nothing that may
@@ -246,7 +245,7 @@ module _ (p : Image) (t : Typing) (depth heights : ℕ → ℕ) (tables : Tables
     -- ---- calls
 
     -- a method that is called finds room for its entries
-    finds : (i : Instr) (m : ℕ) → instr_at p fr.method fr.place ≡ Some i → Enters i m → may_push p fr.method ≡ true → entries_in s.items + heights m ≤ 1024
+    finds : (i : Instr) (m : ℕ) → instr_at p fr.method fr.place ≡ Some i → Enters p i m → may_push p fr.method ≡ true → entries_in s.items + heights m ≤ 1024
     finds i m stands enters may =
         let more = tables.under fr.method m (length h.shape.entries) (record {
           place = fr.place;
@@ -268,7 +267,7 @@ module _ (p : Image) (t : Typing) (depth heights : ℕ → ℕ) (tables : Tables
         let more = all_parts (each_argument p h.shape (arguments_of p m) first) _ parts.1.1 in
         begins p depth heights (given_cells p fr ts s (over_caller p fr ts s) m first) s.items (entered p fr ts s target m first (length s.items)) (Run fr ∷ ts) refl
         (may_call fr h.shape h.there (Call target m first x) m stands (inl refl))
-        (λ may. finds (Call target m first x) m stands refl (pushes_from (is_quiet p fr.method) (is_quiet p m) (leaves p fr.method) (leaves p m) more.1.1.0 more.1.1.1.1.0 may))
+        (λ may. finds (Call target m first x) m stands (inl refl) (pushes_from (is_quiet p fr.method) (is_quiet p m) (leaves p fr.method) (leaves p m) more.1.1.0 more.1.1.1.1.0 may))
         (moves (given_cells p fr ts s (over_caller p fr ts s) m first) (λ e dealt. passed_same p fr ts s _ (arguments_of p m) first 0 s.cells e dealt))
 
     trap_room : (target : Target) (m first x : ℕ) → instr_at p fr.method fr.place ≡ Some (Trap target m first x) → not (is_quiet p fr.method) ≡ true → R (applied p fr ts s (Sets_trap target m first))
@@ -277,7 +276,7 @@ module _ (p : Image) (t : Typing) (depth heights : ℕ → ℕ) (tables : Tables
         let may = pushes_loud (is_quiet p fr.method) (leaves p fr.method) loud in
         begins p depth heights cells' (A_mark ∷ s.items) (entered p fr ts s target m first (length (A_mark ∷ s.items))) (Trapped ∷ Run fr ∷ ts) refl
         (may_call fr h.shape h.there (Trap target m first x) m stands (inl refl))
-        (λ _. finds (Trap target m first x) m stands refl may)
+        (λ _. finds (Trap target m first x) m stands (inl refl) may)
         (item_pushed p depth heights cells' A_mark s.items (Run fr ∷ ts) all_low (λ k e. absurd e) w.3 (moves cells' (λ e dealt. passed_same p fr ts s _ (arguments_of p m) first 0 s.cells e dealt)))
 
     -- ---- returns
@@ -339,10 +338,10 @@ module _ (p : Image) (t : Typing) (depth heights : ℕ → ℕ) (tables : Tables
     -- the method that cancels is quiet, and comes to no entries
     cancel_room : (m : ℕ) → instr_at p fr.method fr.place ≡ Some Cancel → cancel_method p fr.home ≡ Some m → R (applied p fr ts s (Cancels m))
     cancel_room m stands e =
-        let found = cancel_class p tables.wired.parents fr.home fr.method m h.holder e in
+        let its = cancel_family p fr.home fr.method m h.holder e in
         let quiet = cancel_quiet p tables.wired fr.home m e in
         let stays : leaves p m ≡ false = false_given (λ b. b ≡ true → is_quiet p m ≡ false) (leaves p m) (tables.wired.quiets m) (λ loud. absurd (true≢false (sym quiet ∙ loud refl))) (λ stays loud. stays) in
-        let among : Among m (listed (bounds.cancel_of p (method_class p fr.method))) = subst (λ o. Among m (listed o)) (sym (ap (λ o. bounds.cancel_of p o) found.1 ∙ found.2)) (inl refl) in
+        let among : Among m (cancels p (method_class p fr.method)) = subst (λ o. Among m (cancels p o)) (sym its.2) (cancel_among p (Some its.1) m (its.0, its.3, its.4)) in
         begins p depth heights (begun_cells fr s.cells) s.items (frame_of m fr.home (length s.items)) (Run fr ∷ ts) refl
         (may_call fr h.shape h.there Cancel m stands among)
         (λ may. absurd (pushes_none (is_quiet p m) (leaves p m) quiet stays may))
@@ -367,7 +366,7 @@ module _ (p : Image) (t : Typing) (depth heights : ℕ → ℕ) (tables : Tables
         Leads t fr.method (suc fr.place) (with_entry (entry_of (register h.shape a)) (set_register h.shape a Null)) → After (Pushed a)
     push_room a stands leave leads =
         item_pushed p depth heights (moved (here fr ts s a) (Entry (length s.items)) s.cells) An_object s.items (Run fr ∷ ts) all_low
-        (λ m e. some_given (λ o. (Fits p (seen s.cells) o (register h.shape a)) × Destructs p o m) (held s.cells (here fr ts s a)) (h.fits a, subst (λ x. Destructs p x m) there_now e) (λ given. given.1) (λ o _ given. may_call fr h.shape h.there (Push a) m stands (destructs_as p tables.wired.parents (seen s.cells) o (register h.shape a) m given.0 given.1)))
+        (λ m e. some_given (λ o. (Fits p (seen s.cells) o (register h.shape a)) × Destructs p o m) (held s.cells (here fr ts s a)) (h.fits a, subst (λ x. Destructs p x m) there_now e) (λ given. given.1) (λ o _ given. may_call fr h.shape h.there (Push a) m stands (destructs_as p (seen s.cells) o (register h.shape a) m given.0 given.1)))
         (let few = pushes (Push a) (with_entry (entry_of (register h.shape a)) (set_register h.shape a Null)) stands leave leads refl in omega (arith, few))
         (recelled p depth heights s.cells (moved (here fr ts s a) (Entry (length s.items)) s.cells) s.items (Run fr ∷ ts) (
           λ k lt. held_apart s.cells (here fr ts s a) (Entry (length s.items)) (Entry k) refl (entry_apart (length s.items) k lt),
@@ -457,7 +456,7 @@ module _ (p : Image) (t : Typing) (depth heights : ℕ → ℕ) (tables : Tables
     delete_room o a words stands there fits =
         begins_over (moved (here fr ts s a) (Going (length (Run fr ∷ ts))) s.cells) s.items o (Run (with_words fr words) ∷ ts)
         (goes_there_now s.cells (here fr ts s a) (length (Run fr ∷ ts)) unheld refl ∙ there)
-        (λ m e. may_call fr h.shape h.there (Delete a) m stands (destructs_as p tables.wired.parents (seen s.cells) o (register h.shape a) m fits e))
+        (λ m e. may_call fr h.shape h.there (Delete a) m stands (destructs_as p (seen s.cells) o (register h.shape a) m fits e))
         (λ server. tt)
         (recelled p depth heights s.cells (moved (here fr ts s a) (Going (length (Run fr ∷ ts))) s.cells) s.items (Run fr ∷ ts) (
           λ k lt. held_apart s.cells (here fr ts s a) (Going (length (Run fr ∷ ts))) (Entry k) refl refl,

@@ -19,7 +19,9 @@ use Rattle.aom_rules.specs.Typing.{AllLead, IsTyped, Typing}
 use Rattle.aom_bounds.specs.Strongest.{IsStrongest}
 use Rattle.aom_bounds.specs.Depths.{HasDepths}
 use Rattle.aom_bounds.specs.Heights.{HasHeights}
-use Rattle.aom_bounds.specs.Calls.{Among, destructors, listed, thing_class, destructor_of as bounds_destructor}
+use Rattle.aom_bounds.specs.Calls.{Among, destructors, lines_of, thing_class}
+use Rattle.aom_bounds.proofs.Listed.{among_right, below_from, below_lists, gone_with}
+use Rattle.aom_roles.proofs.Descending.{itself}
 use Rattle.aom_sound.proofs.Moving.{steps_are_moves}
 use Rattle.aom_sound.specs.Effects.{Effect, applied}
 use Rattle.aom_roles.specs.Classes.{sessions_at, sessions_in}
@@ -63,10 +65,6 @@ pub record SessionOf (p : Image) (o so : Object) : Type 0 where
   pub destructs : (m : ℕ) → Destructs p (Some so) m → Destructs p (Some o) m
   pub plain : is_server p so.thing ≡ false
 
-among_right : (m : ℕ) (xs ys : List ℕ) → Among m ys → Among m (xs ++ ys)
-among_right m [] ys h = h
-among_right m (x ∷ xs) ys h = inr (among_right m xs ys h)
-
 session_so : (p : Image) → IsWired p → (o so : Object) (class : ℕ) → session_class p o.thing ≡ Some class → so.thing ≡ An_object_of class → SessionOf p o so
 unfolding kind_of sessions_in
 session_so p wired o so class has is = go o.thing has
@@ -77,9 +75,12 @@ session_so p wired o so class has is = go o.thing has
     go : (x : Thing) → session_class p x ≡ Some class → SessionOf p (record { name = o.name; thing = x }) so
     go (An_object_of k) has = record {
       destructs = λ m d.
-          let own : Among m (listed (bounds_destructor p (Some class)) ++ []) =
-          subst (λ j. Among m (listed (bounds_destructor p (Some class)) ++ listed (bounds_destructor p j))) (none k has) (subst (λ y. Among m (destructors p (thing_class y))) is d) in
-          among_right m (listed (bounds_destructor p (Some k))) (listed (bounds_destructor p (sessions_at p k))) (subst (λ j. Among m (listed (bounds_destructor p j))) (sym has) (subst (Among m) (append-nil (listed (bounds_destructor p (Some class)))) own));
+          let w = below_from p (gone_with p) class m (subst (λ y. Among m (destructors p (thing_class y))) is d) in
+          let same : w.0 ≡ class = wired.family.alone k class w.0 has w.1 in
+          let own : Among m (lines_of p (Some class) ++ []) =
+          subst (λ j. Among m (lines_of p (Some class) ++ lines_of p j)) (none k has) (subst (λ y. Among m (gone_with p y)) same w.2) in
+          below_lists p (gone_with p) k k m (itself p k)
+          (among_right m (lines_of p (Some k)) (lines_of p (sessions_at p k)) (subst (λ j. Among m (lines_of p j)) (sym has) (subst (Among m) (append-nil (lines_of p (Some class))) own)));
       plain = ap (is_server p) is ∙ ap is_some (none k has);
     }
     go Message has = absurd (none-some class has)

@@ -45,7 +45,7 @@ module _
     -- what an instruction costs itself
     own_alike : (sh : Shape) (i : Instr) → ((k : ℕ) → Pays p m sh i k → k < m) → Alike limit (own p m c sh i) (own p m e sh i)
     own_alike sh i below =
-        own_related (λ x y. Alike limit x y) refl p c e (λ x y same. alike_plus limit 1 1 x y refl same)
+        own_related (λ x y. Alike limit x y) refl p c e (λ x y same. alike_plus limit 1 1 x y refl same) (alike_max limit)
         (λ x h. omega (arith, capped.classes x, whole.classes x, going_alike limit p (destructor_price c) (destructor_price e) refl x h)) m sh i (λ k paid. before k (below k paid))
 
     -- ---- a place

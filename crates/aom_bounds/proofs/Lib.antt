@@ -1,4 +1,8 @@
 pub mod Among
+pub mod Mosts
+pub mod Alone
+pub mod Listed
+pub mod Paid
 pub mod Ways
 pub mod Regions
 pub mod At

@@ -17,7 +17,7 @@ use Rattle.aom_bounds.specs.Layers.{Pays, PaysBefore}
 use Rattle.aom_bounds.specs.Sweeping.{Afters, IsAfter, IsInnermost, after, all_going, most_within}
 use Rattle.aom_bounds.proofs.At.{IsSweptAt}
 use Rattle.aom_bounds.proofs.Adding.{way_forward}
-use Rattle.aom_bounds.proofs.Going.{going_same}
+use Rattle.aom_bounds.proofs.Going.{going_same, max_same}
 use Rattle.aom_bounds.proofs.Regions.{ends_before}
 use Rattle.aom_bounds.proofs.Related.{most_related, own_related}
 
@@ -30,11 +30,11 @@ pub own_same :
     ((x : Thing) → c'.destruction x ≡ keep (all_going p (destructor_price c') x)) →
     (m : ℕ) (sh : Shape) (i : Instr) → ((k : ℕ) → Pays p m sh i k → price c' k ≡ price c k) → own p m c' sh i ≡ own p m c sh i
 own_same keep p c c' classes classes' =
-    own_related (λ x y. x ≡ y) refl p c' c (λ x y e. ap (λ n. 1 + n) e)
+    own_related (λ x y. x ≡ y) refl p c' c (λ x y e. ap (λ n. 1 + n) e) max_same
     (λ x h. classes' x ∙ (ap keep (going_same p (destructor_price c') (destructor_price c) refl x h) ∙ sym (classes x)))
 
 pub most_same : (p : Image) (c c' : Prices) (m : ℕ) (r : Region) (fs : List Flow) → ((to : ℕ) → AmongFlows to fs → c'.from m to ≡ c.from m to) → most_within c' m r fs ≡ most_within c m r fs
-most_same p c c' m r = most_related (λ x y. x ≡ y) refl p c' c (λ x y z w a b. ap (λ n. max n z) a ∙ ap (λ n. max y n) b) m r
+most_same p c c' m r = most_related (λ x y. x ≡ y) refl p c' c max_same m r
 
 -- ---- a place
 

@@ -4,25 +4,23 @@ use Rattle.aom_image.specs.Image.{Image}
 use Rattle.aom_instructions.specs.declared.instr.Instr.{Instr}
 use Rattle.aom_instructions.specs.declared.instr.Instr.TheVariants.{Loop, Next}
 use Rattle.aom_image.specs.declared.method.Thing.{Thing}
-use Rattle.aom_image.specs.declared.method.Thing.TheVariants.{Message, Object}
-use Rattle.aom_roles.proofs.Descending.{one_class}
-use Rattle.aom_roles.specs.Families.{HasNoParents}
+use Rattle.aom_image.specs.declared.method.Thing.TheVariants.{Object}
 use Rattle.aom_classes.proofs.Bodies.{linked_is_looped}
 use Rattle.aom_classes.specs.Bodies.{Body, IsLooped}
 use Rattle.aom_classes.specs.Linked.{IsLinked}
 use Rattle.aom_classes.specs.Loops.{loop_in, next_in}
-use Rattle.aom_classes.specs.Roles.{destructor_of}
-use Rattle.aom_shape.specs.Things.{stands_for}
 use Rattle.aom_shape.specs.Needs.{Flow}
 use Rattle.aom_rules.specs.Rules.{flows}
 use Rattle.aom_shape.specs.Shape.{Shape}
 use Rattle.aom_rules.specs.Typing.{IsTyped, Typing}
-use Rattle.aom_bounds.specs.Prices.{AllPaid, IsPriced, Prices, Stands, own, price}
-use Rattle.aom_bounds.specs.Costs.{AmongFlows, Region, destructor_price}
+use Rattle.aom_bounds.specs.Prices.{AllPaid, IsPriced, Prices, Stands, own, perhaps_price, sessions_cost}
+use Rattle.aom_bounds.specs.Costs.{AmongFlows, Region}
+use Rattle.aom_bounds.specs.Most.{line, most_standing}
+use Rattle.aom_bounds.proofs.Mosts.{most_stands_in, standing_has, stands_itself}
 use Rattle.aom_bounds.specs.PriceLaws.{SweptPays}
 use Rattle.aom_bounds.specs.Sweeping.{Afters, IsInnermost, IsSwept, after, is_past}
 use Rattle.aom_bounds.proofs.At.{place_of}
-use Rattle.aom_bounds.proofs.Going.{perhaps_is, ruled_of}
+use Rattle.aom_bounds.proofs.Going.{by_rule, line_is, ruled_of}
 use Rattle.aom_bounds.proofs.Adding.{by_past, leads_on, reached_is_some, within_most}
 use Rattle.aom_bounds.proofs.Regions.{by_kind, innermost}
 use Rattle.aom_bounds.proofs.Ways.{IsReached}
@@ -36,13 +34,6 @@ each_paid c m pays here (f ∷ fs) paid = (paid f.0 (inl refl), each_paid c m pa
 
 at_most : (x y : ℕ) → y ≡ x → x ≤ y
 at_most x y e = omega (arith, e)
-
--- where no class has a parent only a thing itself stands for it
-stands_same : (p : Image) → HasNoParents p → (x y : Thing) → stands_for p x y ≡ true → x ≡ y
-stands_same p none (Object c) (Object d) e = ap Object (one_class p none c d e)
-stands_same p none (Object c) Message e = cc
-stands_same p none Message (Object d) e = cc
-stands_same p none Message Message e = refl
 
 module _ (p : Image) (t : Typing) (c : Prices) (a : Afters) (looped : IsLooped p) (linked : IsLinked p) (typed : IsTyped p t) (swept : IsSwept p t c a) where
   -- what a region goes out to is paid for by what follows it
@@ -117,8 +108,13 @@ module _ (p : Image) (t : Typing) (c : Prices) (a : Afters) (looped : IsLooped p
           let one = ap (λ j. own p m c sh j) e in
           omega (arith, paid, one)
 
-  destructors_paid : (x : Thing) (m : ℕ) → destructor_of p x ≡ Some m → 1 + price c m ≤ c.destruction x
-  destructors_paid x m e = omega (arith, swept.classes x, ap (λ o. destructor_price c o) e)
+  ruled : (x : Thing) → c.destruction x ≡ most_standing p (by_rule p c) x
+  ruled = ruled_of p linked c swept.classes
+
+  lines_paid : (x : Thing) → 1 + line p (perhaps_price c) x + sessions_cost p (λ k. c.destruction (Object k)) x ≤ c.destruction x
+  lines_paid x =
+      let here = standing_has p (by_rule p c) x x (stands_itself p x) in
+      omega (arith, ruled x, here, line_is p c x)
 
   priced : IsPriced p t c
   priced = record {
@@ -127,10 +123,8 @@ module _ (p : Image) (t : Typing) (c : Prices) (a : Afters) (looped : IsLooped p
     loops = λ m place d n sh at. at_most _ _ ((place_of (λ n. n) p t c a swept m place).loops d n sh at);
     nexts = on_paid;
     rounds = rounds_paid;
-    cells = λ x. omega (arith, swept.classes x);
-    destructors = destructors_paid;
-    sessions = λ x. omega (arith, ruled_of p linked c swept.classes x, perhaps_is c (destructor_of p x));
-    stands_in = λ x y e. omega (arith, ap c.destruction (stands_same p linked.parents.none x y e));
+    lines = lines_paid;
+    stands_in = λ x y e. let most = most_stands_in p (by_rule p c) x y e in omega (arith, ruled x, ruled y, most);
   }
 
 pub law_pays : SweptPays

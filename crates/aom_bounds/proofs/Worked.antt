@@ -8,7 +8,6 @@ use Rattle.aom_image.specs.declared.method.Thing.TheVariants.{Object}
 use Rattle.aom_roles.specs.Classes.{kind_in}
 use Rattle.aom_classes.specs.Bodies.{Body}
 use Rattle.aom_classes.specs.Loops.{loop_in, next_in}
-use Rattle.aom_roles.specs.Families.{parent_in}
 use Rattle.aom_classes.specs.Roles.{keeper_in, own_role, plays, role_number, role_of}
 use Rattle.aom_rules.specs.Rules.{flows}
 use Rattle.aom_bounds.specs.Cases.{PricesBite, a_word, worked, worked_typing}
@@ -17,7 +16,9 @@ use Rattle.aom_bounds.specs.Costs.Costs.{ends, goes, loops}
 use Rattle.aom_bounds.specs.Prices.{Prices, Stands, own, price}
 use Rattle.aom_bounds.proofs.Paths.{GoesOn, Rounds, ends_or_goes, outside_cost, rounds_of}
 use Rattle.aom_bounds.proofs.Regions.{no_next_here}
-use Rattle.std.specs.Prelude.{◌==◌, cond}
+use Rattle.std.specs.Prelude.{◌==◌, cond, max}
+use Rattle.aom_classes.specs.Overriding.{leads_in, over_in}
+use Rattle.aom_roles.specs.Families.{descends_in, parent_in}
 use Rattle.std.proofs.lemmas.Bool.{eqb-true}
 use Rattle.std.proofs.Common.{ap}
 use Rattle.aom_bounds.proofs.Adding.{by_past}
@@ -219,7 +220,7 @@ module _ (c : Prices) where
   worked_path = loops tt at_each.0 outer outer_round outer_exit exit_path
 
 pub law_bites : PricesBite
-unfolding class_at kind_in method_at class_in role_of own_role keeper_in parent_in plays role_number
+unfolding class_at kind_in method_at class_in role_of plays role_number leads_in over_in descends_in parent_in own_role keeper_in
 law_bites = record {
   called = refl;
   destroyed = refl;
@@ -227,9 +228,14 @@ law_bites = record {
   cancelled = refl;
   none_cancelled = refl;
   destructors = refl;
+  overridden = refl;
+  cancelled_below = refl;
+  childs_line = refl;
+  parents_line = refl;
+  declared = refl;
   served = λ t c are session server.
-      let one : c.destruction (Object 0) ≡ 1 + price c 0 + 0 = are.classes (Object 0) in
-      let all : c.destruction (Object 1) ≡ 1 + price c 1 + 3 * c.destruction (Object 0) = are.classes (Object 1) in
+      let one : c.destruction (Object 0) ≡ max (1 + price c 0 + 0) (max 0 (max (1 + price c 0 + 0) 0)) = are.classes (Object 0) in
+      let all : c.destruction (Object 1) ≡ max (1 + (price c 1 + 0) + 3 * c.destruction (Object 0)) (max (1 + (price c 1 + 0) + 3 * c.destruction (Object 0)) (max 0 0)) = are.classes (Object 1) in
       (omega (arith, one, session), omega (arith, all, one, session, server));
   worked = λ c. record { met = worked_path c; most = from_0 c };
 }

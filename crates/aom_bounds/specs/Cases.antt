@@ -7,6 +7,7 @@ use Rattle.aom_instructions.specs.declared.instr.Instr.TheVariants.{Call, Cancel
 use Rattle.aom_instructions.specs.declared.instr.Target.TheVariants.{This}
 use Rattle.aom_image.specs.declared.class.ClassKind.TheVariants.{Active, Plain, Server, Session}
 use Rattle.aom_image.specs.declared.class.Provider.TheVariants as providers
+use Rattle.aom_image.specs.declared.image.Version.TheVariants.{Two}
 use Rattle.aom_image.specs.declared.method.Argument.TheVariants as arguments
 use Rattle.aom_image.specs.declared.method.Gives.TheVariants as gives
 use Rattle.aom_image.specs.declared.method.Method.{Method}
@@ -22,6 +23,7 @@ use Rattle.aom_shape.specs.declared.kind.Delivery.TheVariants.{Here}
 use Rattle.aom_shape.specs.declared.kind.Kind.TheVariants.{Word, Null, Own, Maybe}
 use Rattle.aom_bounds.specs.Prices.{Prices, own, price}
 use Rattle.aom_bounds.specs.Costs.{ArePrices, IsPrice, destructor_price}
+use Rattle.aom_bounds.specs.Most.{line, most_standing}
 
 -- ---- instructions
 
@@ -89,6 +91,22 @@ serving = record {
   methods = plain_method roles.Destruct 0 ∷ plain_method roles.Destruct 1 ∷ [];
 }
 
+-- class 1 descends from class 0; their destructors are the methods 2 and 1, method 4 overrides method 3, and methods 5 and 6 cancel
+abbrev pub descending : Image
+descending = record {
+  header = record (a_header 4 0 0 None 100) { version = Two };
+  classes = a_class (Active providers.Own) 10 0 [] ∷ record (a_class (Active providers.Own) 10 0 []) { parent = Some 0 } ∷ [];
+  methods =
+      plain_method roles.Do 0
+      ∷ plain_method roles.Destruct 0
+      ∷ plain_method roles.Destruct 1
+      ∷ plain_method roles.Do 0
+      ∷ record (plain_method roles.Do 1) { over = Some 3 }
+      ∷ plain_method roles.Cancel 0
+      ∷ plain_method roles.Cancel 1
+      ∷ [];
+}
+
 -- the image says nothing of these instructions
 abbrev pub own_prices : List Instr → List ℕ
 own_prices is = map (own worked 0 tens four_registers) is
@@ -104,5 +122,12 @@ pub record PricesBite : Type 0 where
   pub destructors : map (destructor_price tens) (None ∷ Some 3 ∷ []) ≡ 0 ∷ 30 ∷ []
   -- a session costs 1 and its destructor, and a server 1, its destructor, and three sessions
   pub served : (t : Typing) (c : Prices) → ArePrices serving t c → price c 0 ≡ 4 → price c 1 ≡ 20 → (c.destruction (Object 0) ≡ 5) × (c.destruction (Object 1) ≡ 36)
+  -- a call pays for what overrides its method too, and a cancel for the cancel methods of descendants
+  pub overridden : own descending 0 tens four_registers (Call This 3 0 0) ≡ 41
+  pub cancelled_below : own descending 0 tens four_registers Cancel ≡ 61
+  -- a line has the destructor of the class and that of its parent, and what stands for the parent may be of the child
+  pub childs_line : line descending (destructor_price tens) (Object 1) ≡ 30
+  pub parents_line : line descending (destructor_price tens) (Object 0) ≡ 10
+  pub declared : most_standing descending (λ y. line descending (destructor_price tens) y) (Object 0) ≡ 30
   -- a round of the inner loop costs 3, one of the outer 1 + 5 * 3 + 1, and after both comes the dearer exit, which costs 3
   pub worked : (c : Prices) → IsPrice worked worked_typing c 0 55

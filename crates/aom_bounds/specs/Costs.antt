@@ -8,7 +8,7 @@ use Rattle.aom_image.specs.declared.method.Thing.{Thing}
 use Rattle.aom_image.specs.declared.method.Thing.TheVariants.{Object}
 use Rattle.aom_classes.specs.Bodies.{Body, IsIn}
 use Rattle.aom_classes.specs.Loops.{loop_in, next_in}
-use Rattle.aom_classes.specs.Roles.{destructor_of}
+use Rattle.aom_bounds.specs.Most.{line, most_standing}
 use Rattle.aom_shape.specs.Needs.{Flow}
 use Rattle.aom_rules.specs.Rules.{flows}
 use Rattle.aom_shape.specs.Shape.{Shape}
@@ -68,5 +68,5 @@ destructor_price c (Some m) = price c m
 -- the table says the price of each method and of each destruction
 pub record ArePrices (p : Image) (t : Typing) (c : Prices) : Type 0 where
   pub methods : (m : ℕ) → IsSome (method_at p m) → IsPrice p t c m (price c m)
-  -- a thing's going, its destructor, and the destruction of each session that a server may have
-  pub classes : (x : Thing) → c.destruction x ≡ 1 + destructor_price c (destructor_of p x) + sessions_cost p (λ k. c.destruction (Object k)) x
+  -- of all that may stand there: its going, its line of destructors, and the destruction of each session that a server may have
+  pub classes : (x : Thing) → c.destruction x ≡ most_standing p (λ y. 1 + line p (destructor_price c) y + sessions_cost p (λ k. c.destruction (Object k)) y) x

@@ -7,6 +7,7 @@ use Rattle.aom_instructions.specs.declared.instr.Instr.TheVariants.{Call, Trap}
 use Rattle.aom_shape.specs.Shape.{Shape}
 use Rattle.aom_shape.specs.Tables.{at}
 use Rattle.aom_bounds.specs.Shapes.{Shapes}
+use Rattle.aom_bounds.specs.Layers.{MayRun}
 use Rattle.aom_bounds.specs.Strongest.{IsMethodStrongest}
 
 -- the strongest typing reaches that place with that state
@@ -23,10 +24,10 @@ pub record StandsWith (p : Image) (m n : ℕ) : Type 0 where
   pub count : length shape.entries ≡ n
 
 -- an instruction that calls that method, with a trap or without
-abbrev pub Enters : Instr → ℕ → Type 0
-Enters (Call target k' first c) k = k' ≡ k
-Enters (Trap target k' first c) k = k' ≡ k
-Enters _ k = ⊥
+abbrev pub Enters : Image → Instr → ℕ → Type 0
+Enters p (Call target k' first c) k = MayRun p k' k
+Enters p (Trap target k' first c) k = MayRun p k' k
+Enters p _ k = ⊥
 
 -- a method calls another one with so many entries of its own
 pub record CallsOver (p : Image) (m k h : ℕ) : Type 0 where
@@ -35,7 +36,7 @@ pub record CallsOver (p : Image) (m k h : ℕ) : Type 0 where
   pub stands : StandsAt p m place shape
   pub instr : Instr
   pub here : instr_at p m place ≡ Some instr
-  pub enters : Enters instr k
+  pub enters : Enters p instr k
   pub count : length shape.entries ≡ h
 
 -- so many entries, its own and those of the methods that it calls, each one by the one below

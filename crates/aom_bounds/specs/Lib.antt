@@ -1,3 +1,4 @@
+pub mod Most
 pub mod Prices
 pub mod Costs
 pub mod Sweeping

@@ -11,7 +11,8 @@ use Rattle.aom_image.specs.declared.method.Thing.{Thing}
 use Rattle.aom_image.specs.declared.method.Thing.TheVariants.{Object, Message}
 use Rattle.aom_roles.specs.Classes.{kind_at}
 use Rattle.aom_classes.specs.Loops.{loop_in, next_in}
-use Rattle.aom_classes.specs.Roles.{destructor_of, role_of}
+use Rattle.aom_classes.specs.Roles.{role_of}
+use Rattle.aom_bounds.specs.Most.{line, most_below, most_run}
 use Rattle.aom_shape.specs.Things.{stands_for}
 use Rattle.aom_shape.specs.Shape.{Shape}
 use Rattle.aom_shape.specs.Kinds.{register}
@@ -40,15 +41,19 @@ kind_price c Null = 0
 kind_price c (Own t a) = c.destruction t
 kind_price c (Maybe t a) = c.destruction t
 
--- the method that cancels the request of an object of a class
-abbrev pub cancel_of : Image → Option ℕ → Option ℕ
-cancel_of p None = None
-cancel_of p (Some c) = role_of p c roles.Cancel
-
 -- a method, if there is one
 abbrev pub perhaps_price : Prices → Option ℕ → ℕ
 perhaps_price c None = 0
 perhaps_price c (Some m) = price c m
+
+-- a call, whatever it runs
+abbrev pub call_price : Image → Prices → ℕ → ℕ
+call_price p c k = most_run p (price c) k
+
+-- cancelling the request of what counts as an object of a class
+abbrev pub cancel_price : Image → Prices → Option ℕ → ℕ
+cancel_price p c None = 0
+cancel_price p c (Some x) = most_below p (λ y. perhaps_price c (role_of p y roles.Cancel)) x
 
 -- the most sessions of a server, where one of each class costs so much; objects of other classes have none
 abbrev pub kind_sessions : (ℕ → ℕ) → ClassKind → ℕ
@@ -66,12 +71,12 @@ sessions_cost p cost Message = 0
 
 -- what an instruction of a method costs itself; what is pushed is paid for then, and costs nothing where it leaves the cleanup stack
 abbrev pub own : Image → (m : ℕ) → Prices → Shape → Instr → ℕ
-own p m c sh (Call target k first x) = 1 + price c k
-own p m c sh (Trap target k first x) = 1 + price c k
+own p m c sh (Call target k first x) = 1 + call_price p c k
+own p m c sh (Trap target k first x) = 1 + call_price p c k
 own p m c sh (Push a) = 1 + kind_price c (register sh a)
 own p m c sh (Delete a) = 1 + kind_price c (register sh a)
 own p m c sh (PushOperation a k) = 1 + price c k
-own p m c sh Cancel = 1 + perhaps_price c (cancel_of p (method_class p m))
+own p m c sh Cancel = 1 + cancel_price p c (method_class p m)
 own p m c sh _ = 1
 
 -- it pays for going on at each of these places
@@ -93,9 +98,7 @@ pub record IsPriced (p : Image) (t : Typing) (c : Prices) : Type 0 where
   -- the last round goes on, and another begins for the price of a round
   pub nexts : (m place d to : ℕ) (sh : Shape) → Stands p t m place sh (Next d to) → 1 + c.from m (suc place) ≤ c.from m place
   pub rounds : (m place d from : ℕ) (sh : Shape) → Stands p t m place sh (Next d (suc from)) → 1 + c.from m (suc from) ≤ c.from m place + c.round m from
-  -- a cell pays for its going, and for its destructor
-  pub cells : (x : Thing) → 1 ≤ c.destruction x
-  pub destructors : (x : Thing) (m : ℕ) → destructor_of p x ≡ Some m → 1 + price c m ≤ c.destruction x
-  -- and a server for each session that it may have
-  pub sessions : (x : Thing) → 1 + perhaps_price c (destructor_of p x) + sessions_cost p (λ k. c.destruction (Object k)) x ≤ c.destruction x
+  -- a cell pays for its going, for its line of destructors, and a server for each session that it may have
+  pub lines : (x : Thing) → 1 + line p (perhaps_price c) x + sessions_cost p (λ k. c.destruction (Object k)) x ≤ c.destruction x
+  -- and where it is declared all that may stand there is paid for
   pub stands_in : (x y : Thing) → stands_for p x y ≡ true → c.destruction x ≤ c.destruction y

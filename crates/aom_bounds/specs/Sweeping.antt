@@ -7,7 +7,7 @@ use Rattle.aom_image.specs.declared.method.Thing.{Thing}
 use Rattle.aom_image.specs.declared.method.Thing.TheVariants.{Object}
 use Rattle.aom_classes.specs.Bodies.{Body, IsIn}
 use Rattle.aom_classes.specs.Loops.{loop_in, next_in}
-use Rattle.aom_classes.specs.Roles.{destructor_of}
+use Rattle.aom_bounds.specs.Most.{line, most_standing}
 use Rattle.aom_shape.specs.Needs.{Flow}
 use Rattle.aom_rules.specs.Rules.{flows}
 use Rattle.aom_shape.specs.Shape.{Shape}
@@ -73,13 +73,17 @@ pub record IsSweptFrom (keep : ℕ → ℕ) (p : Image) (t : Typing) (c : Prices
 
 -- ---- destructions
 
--- what the going of a thing costs and its destructor, by what methods cost
+-- what the going of a thing costs and its destructors, by what methods cost
 abbrev pub going : Image → (Option ℕ → ℕ) → Thing → ℕ
-going p cost x = 1 + cost (destructor_of p x)
+going p cost x = 1 + line p cost x
 
 -- and the going of its sessions, which have none themselves
+abbrev pub whole_going : Image → (Option ℕ → ℕ) → Thing → ℕ
+whole_going p cost x = going p cost x + sessions_cost p (λ k. going p cost (Object k)) x
+
+-- of all that may stand there
 abbrev pub all_going : Image → (Option ℕ → ℕ) → Thing → ℕ
-all_going p cost x = going p cost x + sessions_cost p (λ k. going p cost (Object k)) x
+all_going p cost x = most_standing p (whole_going p cost) x
 
 -- of all methods and classes
 pub record IsSweptBy (keep : ℕ → ℕ) (p : Image) (t : Typing) (c : Prices) (a : Afters) : Type 0 where

@@ -13,9 +13,10 @@ use Rattle.aom_image.specs.declared.method.Method.{Method}
 use Rattle.aom_image.specs.declared.method.Role.{Role}
 use Rattle.aom_image.specs.declared.method.Role.TheVariants as roles
 use Rattle.aom_image.specs.declared.method.Thing.TheVariants.{Object}
+use Rattle.aom_roles.specs.Families.{descends_in, parent_in}
+use Rattle.aom_classes.specs.Overriding.{leads_in, over_in}
 use Rattle.aom_roles.specs.Classes.{kind_in, sessions_in, sessions_of}
 use Rattle.aom_roles.specs.Roles.{role_number}
-use Rattle.aom_roles.specs.Families.{parent_in}
 use Rattle.aom_classes.specs.Roles.{keeper_in, own_role, plays, role_of}
 use Rattle.aom_shape.specs.Shape.{Shape}
 use Rattle.aom_shape.specs.declared.kind.Delivery.TheVariants.{Here}
@@ -45,26 +46,28 @@ image = record {
 holding : Kind → Shape
 holding kind = record { registers = kind ∷ []; fields = []; entries = []; states = 0; delivery = Here }
 
-delete_of_a_server : callees image 3 (holding (Own (Object 1) Ready)) (Delete 0) ≡ 1 ∷ 0 ∷ []
-unfolding image method holding class_at kind_in sessions_in sessions_of role_of own_role keeper_in parent_in plays role_number
+-- a class is listed by itself, and once more among the classes that descend from it
+delete_of_a_server : callees image 3 (holding (Own (Object 1) Ready)) (Delete 0) ≡ 1 ∷ 0 ∷ 1 ∷ 0 ∷ []
+unfolding image method holding class_at kind_in sessions_in sessions_of role_of plays role_number descends_in parent_in own_role keeper_in
 delete_of_a_server = refl
 
-push_of_perhaps_a_session : callees image 3 (holding (Maybe (Object 0) Ready)) (Push 0) ≡ 0 ∷ []
-unfolding image method holding class_at kind_in sessions_in sessions_of role_of own_role keeper_in parent_in plays role_number
+push_of_perhaps_a_session : callees image 3 (holding (Maybe (Object 0) Ready)) (Push 0) ≡ 0 ∷ 0 ∷ []
+unfolding image method holding class_at kind_in sessions_in sessions_of role_of plays role_number descends_in parent_in own_role keeper_in
 push_of_perhaps_a_session = refl
 
 delete_of_null : callees image 3 (holding Null) (Delete 0) ≡ []
 unfolding holding
 delete_of_null = refl
 
-cancel_of_its_class : callees image 3 (holding Null) Cancel ≡ 2 ∷ []
-unfolding image method method_at class_in role_of own_role keeper_in parent_in class_at plays role_number
+cancel_of_its_class : callees image 3 (holding Null) Cancel ≡ 2 ∷ 2 ∷ []
+unfolding image method class_at method_at class_in role_of plays role_number descends_in parent_in own_role keeper_in
 cancel_of_its_class = refl
 
 operation_is_called : callees image 3 (holding Null) (PushOperation 0 2) ≡ 2 ∷ []
 operation_is_called = refl
 
 trap_calls : callees image 3 (holding Null) (Trap This 2 0 0) ≡ 2 ∷ []
+unfolding image method method_at over_in leads_in
 trap_calls = refl
 
 -- what goes was counted where it was pushed
@@ -73,15 +76,15 @@ pop_calls_nothing = refl
 
 -- a server goes with the four sessions that it may have
 destruction_of_a_server : destruction_by image (5 ∷ 7 ∷ 1 ∷ 1 ∷ []) (Object 1) ≡ 32
-unfolding image method class_at kind_in role_of own_role keeper_in parent_in plays role_number
+unfolding image method class_at kind_in role_of plays role_number descends_in parent_in own_role keeper_in
 destruction_of_a_server = refl
 
 destruction_of_a_session : destruction_by image (5 ∷ 7 ∷ 1 ∷ 1 ∷ []) (Object 0) ≡ 6
-unfolding image method class_at kind_in role_of own_role keeper_in parent_in plays role_number
+unfolding image method class_at kind_in role_of plays role_number descends_in parent_in own_role keeper_in
 destruction_of_a_session = refl
 
 destruction_is_kept : destruction_by image (4294967296 ∷ 7 ∷ 1 ∷ 1 ∷ []) (Object 1) ≡ 4294967296
-unfolding image method class_at kind_in role_of own_role keeper_in parent_in plays role_number
+unfolding image method class_at kind_in role_of plays role_number descends_in parent_in own_role keeper_in
 destruction_is_kept = refl
 
 chain : (p : Image) → IsSome (method_at p 0) → ((m : ℕ) → m < 256 → MayCall p (suc m) m) → (n : ℕ) → n ≤ 256 → Frames p n (suc n)
@@ -111,16 +114,16 @@ unfolding dispatched method class_at role_of own_role keeper_in parent_in plays 
 sum_is_kept = refl
 
 server_pays_for_accept : payer_by dispatched (7 ∷ 5 ∷ 3 ∷ 6 ∷ 4 ∷ []) (Class 2) ≡ 6
-unfolding dispatched method class_at kind_in role_of own_role keeper_in parent_in plays role_number
+unfolding dispatched method class_at kind_in role_of plays role_number descends_in parent_in own_role keeper_in
 server_pays_for_accept = refl
 
 server_pays_for_service : payer_by dispatched (7 ∷ 5 ∷ 8 ∷ 6 ∷ 4 ∷ []) (Class 2) ≡ 8
-unfolding dispatched method class_at kind_in role_of own_role keeper_in parent_in plays role_number
+unfolding dispatched method class_at kind_in role_of plays role_number descends_in parent_in own_role keeper_in
 server_pays_for_service = refl
 
 -- the end of a session is a step, and its destructor
 server_pays_for_the_end : payer_by dispatched (7 ∷ 5 ∷ 3 ∷ 6 ∷ 8 ∷ []) (Class 2) ≡ 9
-unfolding dispatched method class_at kind_in role_of own_role keeper_in parent_in plays role_number
+unfolding dispatched method class_at kind_in role_of plays role_number descends_in parent_in own_role keeper_in
 server_pays_for_the_end = refl
 
 sessions_declare_nothing : declared_by dispatched (Class 1) ≡ None

@@ -1,5 +1,5 @@
 -- What the places of a method come to it comes to, and the tables are filled by it.
-use Rattle.std.proofs.Common.{◌≡◌, ℕ, suc, ◌<◌, ◌+◌, List, length, Some, None, slice_index_or, slice_set, replicate, inl, inr, refl, sym, ap, ◌∙◌, subst, arith}
+use Rattle.std.proofs.Common.{◌≡◌, ℕ, suc, ◌<◌, ◌+◌, List, length, Option, Some, None, slice_index_or, slice_set, replicate, inl, inr, refl, sym, ap, ◌∙◌, subst, arith}
 use Rattle.std.specs.Prelude.{min}
 use Rattle.std.proofs.lemmas.Bool.Decides.{eqb_tells, leb_tells}
 use Rattle.std.proofs.lemmas.List.{length-set, length-replicate}
@@ -24,6 +24,8 @@ use Rattle.aom_bounds.specs.Depths.Frames.{alone, calling}
 use Rattle.aom_bounds.specs.Heights.{StandsAt, Enters, CallsOver, Heights}
 use Rattle.aom_bounds.specs.Heights.Heights.{own, under}
 use Rattle.aom_budget.specs.Extents.{IsMost, entered, OfSome, Joined, ComesTo, FramesAt, EntriesAt, Before, IsFilled, most_at}
+use Rattle.aom_bounds.proofs.Alone.{runs_named}
+use Rattle.aom_bounds.proofs.Listed.{run_among}
 use Rattle.aom_budget.proofs.Mentioned.{called_lower}
 use Rattle.aom_budget.proofs.Most.{of_none, alike, joined, of_methods}
 use Rattle.aom_instructions.specs.declared.instr.Instr.{Instr}
@@ -49,19 +51,47 @@ module _ (p : Image) (cap : ℕ) (its_own : Shape → ℕ) (calls : Shape → In
 
 -- ---- what is called is found already
 
--- what holds of a call and of a trap of a method holds of each instruction that enters it
-pub by_entering : (k : ℕ) (P : Instr → Type 0) → ((target : Target) (first c : ℕ) → P (Call target k first c)) → ((target : Target) (first c : ℕ) → P (Trap target k first c)) →
-    (i : Instr) → Enters i k → P i
-by_entering k P call trap i e = grind arith
+-- an instruction that calls that method by its name, with a trap or without
+abbrev Names : Instr → ℕ → Type 0
+Names (Call target j first c) k = j ≡ k
+Names (Trap target j first c) k = j ≡ k
+Names _ k = ⊥
 
-entered_called : (p : Image) (m : ℕ) (sh : Shape) (i : Instr) (k : ℕ) → Enters i k → Among k (callees p m sh i)
-entered_called p m sh i k e = by_entering k (λ j. Among k (callees p m sh j)) (λ target first c. inl refl) (λ target first c. inl refl) i e
+by_naming : (k : ℕ) (P : Instr → Type 0) → ((target : Target) (first c : ℕ) → P (Call target k first c)) → ((target : Target) (first c : ℕ) → P (Trap target k first c)) →
+    (i : Instr) → Names i k → P i
+by_naming k P call trap i e = grind arith
 
-is_entered : (i : Instr) (k : ℕ) → Enters i k → Among k (listed (entered i))
-is_entered i k e = by_entering k (λ j. Among k (listed (entered j))) (λ target first c. inl refl) (λ target first c. inl refl) i e
+-- in a linked image it enters the method that it names
+names_entered : (p : Image) → IsLinked p → (i : Instr) (k : ℕ) → Enters p i k → Names i k
+names_entered p linked (Call target j first c) k e = runs_named p linked.overriders.none j k e
+names_entered p linked (Trap target j first c) k e = runs_named p linked.overriders.none j k e
+names_entered p linked _ k e = absurd e
 
-enters : (i : Instr) (k : ℕ) → Among k (listed (entered i)) → Enters i k
-enters i k h = grind arith
+-- so what holds of a call and of a trap of a method holds of each instruction that enters it
+pub by_entering : (p : Image) → IsLinked p → (k : ℕ) (P : Instr → Type 0) → ((target : Target) (first c : ℕ) → P (Call target k first c)) →
+    ((target : Target) (first c : ℕ) → P (Trap target k first c)) → (i : Instr) → Enters p i k → P i
+by_entering p linked k P call trap i e = by_naming k P call trap i (names_entered p linked i k e)
+
+entered_called : (p : Image) (m : ℕ) (sh : Shape) (i : Instr) (k : ℕ) → Enters p i k → Among k (callees p m sh i)
+entered_called p m sh (Call target j first c) k e = run_among p j k e
+entered_called p m sh (Trap target j first c) k e = run_among p j k e
+entered_called p m sh _ k e = absurd e
+
+is_entered : (p : Image) → IsLinked p → (i : Instr) (k : ℕ) → Enters p i k → Among k (listed (entered i))
+is_entered p linked i k e = by_entering p linked k (λ j. Among k (listed (entered j))) (λ target first c. inl refl) (λ target first c. inl refl) i e
+
+named_enters : (p : Image) (i : Instr) (j k : ℕ) → entered i ≡ Some j → j ≡ k → Enters p i k
+named_enters p (Call target x first c) j k e same = let named : x ≡ j = cc in inl (named ∙ same)
+named_enters p (Trap target x first c) j k e same = let named : x ≡ j = cc in inl (named ∙ same)
+named_enters p _ j k e same = cc
+
+enters : (p : Image) (i : Instr) (k : ℕ) → Among k (listed (entered i)) → Enters p i k
+enters p i k h = go (entered i) refl h
+  where
+    go : (o : Option ℕ) → entered i ≡ o → Among k (listed o) → Enters p i k
+    go None e h = absurd h
+    go (Some j) e (inl same) = named_enters p i j k e (sym same)
+    go (Some j) e (inr h) = absurd h
 
 module _ (p : Image) (m : ℕ) (s : Shapes) (place : ℕ) (sh : Shape) (i : Instr) (linked : IsLinked p) (strongest : IsMethodStrongest p m s) where
   module _ (there : at None s place ≡ Some sh) (stands : instr_at p m place ≡ Some i) where
@@ -78,7 +108,7 @@ module _ (p : Image) (m : ℕ) (s : Shapes) (place : ℕ) (sh : Shape) (i : Inst
     pub height_found : (hs : List ℕ) (n : ℕ) → IsFilled p 1025 (Heights p) m hs → n ≡ min (length sh.entries + most_at hs (listed (entered i))) 1025 → IsMost 1025 (EntriesAt p m s place) n
     height_found hs n filled is =
         let found = called_found 1025 (Heights p) hs filled in
-        let over = of_methods 1025 (Heights p) hs (listed (entered i)) (λ k c. found k (entered_called p m sh i k (enters i k c))) in
+        let over = of_methods 1025 (Heights p) hs (listed (entered i)) (λ k c. found k (entered_called p m sh i k (enters p i k c))) in
         rw is (reached p 1025 (λ x. length x.entries) (λ x j. listed (entered j)) (Heights p) m s place sh i _ there stands over)
 
 -- ---- frames: what an instruction may call by what is known, it may call by what says less
@@ -98,7 +128,7 @@ reached_within s place sh e = elim (leb_tells (length s) place) [
   | inr w ↦ omega (arith, w.1)
 ]
 
-module _ (p : Image) (m : ℕ) (s : Shapes) (strongest : IsMethodStrongest p m s) where
+module _ (p : Image) (linked : IsLinked p) (m : ℕ) (s : Shapes) (strongest : IsMethodStrongest p m s) where
   -- what comes to a place that is reached comes before the end
   before_at : (its : Shape → ℕ) (calls : Shape → Instr → List ℕ) (of : ℕ → ℕ → Type 0) (n place : ℕ) → ComesTo p its calls of m s place n → Before (ComesTo p its calls of m s) (length s) n
   before_at its calls of n place comes = record { place = place; below = reached_within s place comes.shape comes.there; comes = comes }
@@ -146,7 +176,7 @@ module _ (p : Image) (m : ℕ) (s : Shapes) (strongest : IsMethodStrongest p m s
               stands = stands;
               instr = h.comes.instr;
               here = h.comes.stands;
-              enters = enters h.comes.instr w.1.method w.1.among;
+              enters = enters p h.comes.instr w.1.method w.1.among;
               count = refl;
             } in
             subst (Heights p m) (sym w.2) (under call w.1.has)
@@ -171,7 +201,7 @@ module _ (p : Image) (m : ℕ) (s : Shapes) (strongest : IsMethodStrongest p m s
         there = meets.there;
         instr = call.instr;
         stands = call.here;
-        is = inr (above, record { method = k; among = is_entered call.instr k call.enters; has = heights }, omega (arith, same, call.count));
+        is = inr (above, record { method = k; among = is_entered p linked call.instr k call.enters; has = heights }, omega (arith, same, call.count));
       })
 
   pub most_entries : (n : ℕ) → IsMost 1025 (Before (EntriesAt p m s) (length s)) n → IsMost 1025 (Heights p m) n

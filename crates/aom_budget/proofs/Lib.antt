@@ -1,4 +1,5 @@
 pub mod Classes
+pub mod Named
 pub mod Mentioned
 pub mod Most
 pub mod Filling

@@ -57,13 +57,15 @@ use Rattle.aom_rules.proofs.Branching.{by_states}
 use Rattle.aom_rules.proofs.Monotone.{needs_more, flows_more}
 use Rattle.aom_bounds.specs.Shapes.{Shapes, Meets, AllMet, Applies, IsMethodTyped}
 use Rattle.aom_bounds.specs.Strongest.{IsMethodStrongest}
-use Rattle.aom_bounds.specs.Calls.{listed, destructor_of, destructors, cancel_of, thing_class, object_class, callees, Among, MayCall}
+use Rattle.aom_bounds.specs.Calls.{listed, thing_class, object_class, Among, MayCall}
+use Rattle.aom_budget.specs.Named.{destructor_of, named_destructors, cancel_of, named}
+use Rattle.aom_budget.proofs.Named.{called_named}
 use Rattle.aom_verify.proofs.Following.{follow_met}
 
 -- ---- what runs as an object goes has a lower number
 
 abbrev runs_below : Image → ℕ → Option ℕ → Bool
-runs_below p m class = list_all (λ k. nat_lt k m) (destructors p class)
+runs_below p m class = list_all (λ k. nat_lt k m) (named_destructors p class)
 
 listed_below : (m : ℕ) (o : Option ℕ) → IfSome o (λ k. k < m) → IsTrue (list_all (λ k. nat_lt k m) (listed o))
 listed_below m None h = refl
@@ -515,14 +517,14 @@ module _ (p : Image) (m : ℕ) where
   cancel_low None h = refl
   cancel_low (Some c) h = listed_below m (role_of p c roles.Cancel) (cancels_own p m c h)
 
-  callees_low : (sh : Shape) (i : Instr) → RunsBelow p m (method_class p m) i → IsLow p m sh → IsTrue (list_all (λ j. nat_lt j m) (callees p m sh i))
-  callees_low sh (Call target called first c) r h = listed_below m (Some called) r.below
-  callees_low sh (Trap target called first c) r h = listed_below m (Some called) r.below
-  callees_low sh (PushOperation a called) r h = listed_below m (Some called) r
-  callees_low sh (Push a) r h = h.registers a
-  callees_low sh (Delete a) r h = h.registers a
-  callees_low sh Cancel r h = cancel_low (method_class p m) r
-  callees_low sh _ r h = refl
+  named_low : (sh : Shape) (i : Instr) → RunsBelow p m (method_class p m) i → IsLow p m sh → IsTrue (list_all (λ j. nat_lt j m) (named p m sh i))
+  named_low sh (Call target called first c) r h = listed_below m (Some called) r.below
+  named_low sh (Trap target called first c) r h = listed_below m (Some called) r.below
+  named_low sh (PushOperation a called) r h = listed_below m (Some called) r
+  named_low sh (Push a) r h = h.registers a
+  named_low sh (Delete a) r h = h.registers a
+  named_low sh Cancel r h = cancel_low (method_class p m) r
+  named_low sh _ r h = refl
 
   pub called_lower : (k : ℕ) → IsLinked p → MayCall p m k → k < m
   unfolding class_in
@@ -530,4 +532,4 @@ module _ (p : Image) (m : ℕ) where
       let runs = runs_ordered linked call.place call.calls.instr call.calls.stands in
       let own : RunsBelow p m (method_class p m) call.calls.instr = rw runs.1 runs.3 in
       let low = states_low call.states call.place call.calls.shape linked call.strongest call.calls.there in
-      among_low k (callees p m call.calls.shape call.calls.instr) (callees_low call.calls.shape call.calls.instr own low) call.calls.calls
+      among_low k (named p m call.calls.shape call.calls.instr) (named_low call.calls.shape call.calls.instr own low) (called_named p linked m call.calls.shape call.calls.instr k call.calls.calls)

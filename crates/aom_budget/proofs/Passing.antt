@@ -22,15 +22,19 @@ use Rattle.aom_shape.specs.declared.kind.Filling.TheVariants.{Empty, Full, Perha
 use Rattle.aom_shape.specs.declared.kind.Kind.{Kind}
 use Rattle.aom_shape.specs.declared.kind.Kind.TheVariants.{Unset, Word, Null, Own, Maybe}
 use Rattle.aom_bounds.specs.Shapes.{Shapes}
-use Rattle.aom_bounds.specs.Calls.{Among, cancel_of, listed, thing_class, object_class, destructors, callees}
-use Rattle.aom_bounds.specs.Prices.{Prices, price, kind_price, own, perhaps_price}
+use Rattle.aom_bounds.specs.Calls.{Among, bodies, cancels, listed, thing_class, object_class, destructors, callees}
+use Rattle.aom_bounds.specs.Most.{most_run}
+use Rattle.aom_bounds.proofs.Listed.{below_lists, run_among, runs_among}
+use Rattle.aom_bounds.proofs.Mosts.{below_related, run_related}
+use Rattle.aom_image.specs.declared.method.Role.TheVariants as roles
+use Rattle.aom_classes.specs.Roles.{role_of}
+use Rattle.aom_bounds.specs.Prices.{Prices, call_price, cancel_price, price, kind_price, own, perhaps_price}
 use Rattle.aom_bounds.specs.Costs.{AmongFlows, Region, Whole, Round, destructor_price}
-use Rattle.aom_bounds.specs.Layers.{Destructs}
 use Rattle.aom_bounds.specs.Sweeping.{Afters, IsInnermost, IsSweptFrom, all_going, most_within}
 use Rattle.aom_bounds.proofs.At.{IsSweptAt, at_each, from_each}
-use Rattle.aom_bounds.proofs.Going.{going_same}
+use Rattle.aom_bounds.proofs.Going.{going_same, max_same}
 use Rattle.aom_bounds.proofs.Regions.{ends_before, innermost_of_body}
-use Rattle.aom_budget.specs.Pricing.{kept, price_by, destruction_by, kind_by, own_by, null_targets, empty_targets, states_targets, targets_of, most_to, after_in, Found, Agrees, IsPassed}
+use Rattle.aom_budget.specs.Pricing.{kept, cancel_by, price_by, destruction_by, kind_by, own_by, null_targets, empty_targets, states_targets, targets_of, most_to, after_in, Found, Agrees, IsPassed}
 use Rattle.aom_bounds.proofs.Among.{by_flow}
 use Rattle.aom_image.proofs.Given.{some_given}
 
@@ -88,10 +92,6 @@ below_second : (o : Option ℕ) (j : ℕ) (rest : List ℕ) → Among j rest →
 below_second None j rest h = h
 below_second (Some k) j rest h = inr h
 
--- the destructors that run as a thing is destroyed are those that may be called
-pub runs_among : (p : Image) (x : Thing) (j : ℕ) → Destructs p x j → Among j (destructors p (thing_class x))
-runs_among p x j y = grind arith
-
 module _ (p : Image) (prices : List ℕ) (m : ℕ) (c : Prices) (lower : (k : ℕ) → k < m → price c k ≡ at 0 prices k) where
   module _ (classes : (x : Thing) → c.destruction x ≡ kept (all_going p (destructor_price c) x)) where
     destruction_same : (x : Thing) → ((j : ℕ) → Among j (destructors p (thing_class x)) → j < m) → c.destruction x ≡ destruction_by p prices x
@@ -108,13 +108,22 @@ module _ (p : Image) (prices : List ℕ) (m : ℕ) (c : Prices) (lower : (k : �
     perhaps_same None below = refl
     perhaps_same (Some k) below = lower k (below k (inl refl))
 
+    call_same : (k : ℕ) → ((j : ℕ) → Among j (bodies p k) → j < m) → call_price p c k ≡ most_run p (at 0 prices) k
+    call_same k below = run_related (λ x y. x ≡ y) refl max_same p (price c) (at 0 prices) k (λ j may. lower j (below j (run_among p k j may)))
+
+    cancel_same : (class : Option ℕ) → ((j : ℕ) → Among j (cancels p class) → j < m) → cancel_price p c class ≡ cancel_by p prices class
+    cancel_same None below = refl
+    cancel_same (Some x) below =
+        below_related (λ a b. a ≡ b) refl max_same p (λ y. perhaps_price c (role_of p y roles.Cancel)) (λ y. price_by prices (role_of p y roles.Cancel)) x
+        (λ y h. perhaps_same (role_of p y roles.Cancel) (λ j among. below j (below_lists p (λ z. listed (role_of p z roles.Cancel)) x y j h among)))
+
     pub own_same : (sh : Shape) (i : Instr) → ((j : ℕ) → Among j (callees p m sh i) → j < m) → own p m c sh i ≡ own_by p m prices sh i
-    own_same sh (Call target k first x) below = ap (λ n. 1 + n) (lower k (below k (inl refl)))
-    own_same sh (Trap target k first x) below = ap (λ n. 1 + n) (lower k (below k (inl refl)))
+    own_same sh (Call target k first x) below = ap (λ n. 1 + n) (call_same k below)
+    own_same sh (Trap target k first x) below = ap (λ n. 1 + n) (call_same k below)
     own_same sh (PushOperation a k) below = ap (λ n. 1 + n) (lower k (below k (inl refl)))
     own_same sh (Push a) below = ap (λ n. 1 + n) (kind_same (register sh a) below)
     own_same sh (Delete a) below = ap (λ n. 1 + n) (kind_same (register sh a) below)
-    own_same sh Cancel below = ap (λ n. 1 + n) (perhaps_same (cancel_of p (method_class p m)) below)
+    own_same sh Cancel below = ap (λ n. 1 + n) (cancel_same (method_class p m) below)
     own_same sh _ below = refl
 
 -- ---- tables that agree down to a place agree down to the one after it

@@ -4,20 +4,23 @@ use Rattle.std.proofs.lemmas.Bool.{cases_lt}
 use Rattle.std.proofs.lemmas.Bool.Decides.{eqb_tells}
 use Rattle.std.proofs.lemmas.List.{length-set, length-replicate}
 use Rattle.aom_image.specs.Image.{Image}
-use Rattle.aom_image.specs.Views.{instr_at, method_at}
+use Rattle.aom_image.specs.Views.{instr_at, method_at, method_class}
 use Rattle.aom_image.specs.WellFormed.{WellFormed}
 use Rattle.aom_instructions.specs.declared.instr.Instr.{Instr}
+use Rattle.aom_instructions.specs.declared.instr.Instr.TheVariants.{Call, Cancel, Delete, Push, PushOperation, Trap}
 use Rattle.aom_image.specs.declared.method.Thing.{Thing}
 use Rattle.aom_classes.specs.Linked.{IsLinked}
 use Rattle.aom_classes.proofs.Facts.{of_method}
 use Rattle.aom_shape.specs.Shape.{Shape}
 use Rattle.aom_shape.specs.Tables.{at}
 use Rattle.aom_rules.specs.Typing.{Typing}
+use Rattle.aom_shape.specs.Kinds.{register}
 use Rattle.aom_shape.specs.declared.kind.Kind.{Kind}
+use Rattle.aom_shape.specs.declared.kind.Kind.TheVariants.{Maybe, Own}
 use Rattle.aom_shape.proofs.Lists.{at_set_here, at_set_other}
 use Rattle.aom_bounds.specs.Shapes.{Shapes}
 use Rattle.aom_bounds.specs.Strongest.{IsMethodStrongest, IsStrongest}
-use Rattle.aom_bounds.specs.Calls.{Among, listed, object_class, destructors, callees, CallsAt}
+use Rattle.aom_bounds.specs.Calls.{Among, object_class, destructors, callees, CallsAt}
 use Rattle.aom_bounds.proofs.Typings.{image_strongest, method_within}
 use Rattle.aom_bounds.specs.Prices.{Prices}
 use Rattle.aom_bounds.specs.Costs.{destructor_price}
@@ -26,6 +29,7 @@ use Rattle.aom_bounds.specs.Sweeping.{Afters, IsSweptFrom, IsSweptUpTo, all_goin
 use Rattle.aom_bounds.proofs.At.{from_each}
 use Rattle.aom_bounds.proofs.Going.{going_same}
 use Rattle.aom_bounds.proofs.Capping.{law_up_to}
+use Rattle.aom_bounds.proofs.Listed.{cancel_among, run_among, runs_among}
 use Rattle.aom_bounds.proofs.Places.{nothing_there}
 use Rattle.aom_budget.specs.Pricing.{kept, Found, Agrees, IsMethodPriced, ArePricedBelow, ArePriced, IsPriceUpTo}
 use Rattle.aom_budget.proofs.Mentioned.{called_lower}
@@ -34,13 +38,18 @@ use Rattle.aom_image.proofs.Given.{none_given}
 -- ---- a method pays for lower ones
 
 kind_called : (p : Image) (k : Kind) (m : ℕ) → KindDestructs p k m → Among m (destructors p (object_class k))
-kind_called p k m runs = grind arith
-
-cancel_called : (o : Option ℕ) (k : ℕ) → o ≡ Some k → Among k (listed o)
-cancel_called o k e = grind arith
+kind_called p (Own t a) m runs = runs_among p t m runs
+kind_called p (Maybe t a) m runs = runs_among p t m runs
+kind_called p _ m runs = absurd runs
 
 paid_called : (p : Image) (m : ℕ) (sh : Shape) (i : Instr) (k : ℕ) → Pays p m sh i k → Among k (callees p m sh i)
-paid_called p m sh i k e = grind arith
+paid_called p m sh (Call target j first c) k e = run_among p j k e
+paid_called p m sh (Trap target j first c) k e = run_among p j k e
+paid_called p m sh (PushOperation r j) k e = inl (sym e)
+paid_called p m sh (Push r) k e = kind_called p (register sh r) k e
+paid_called p m sh (Delete r) k e = kind_called p (register sh r) k e
+paid_called p m sh Cancel k e = cancel_among p (method_class p m) k e
+paid_called p m sh _ k e = absurd e
 
 pub method_there : (p : Image) (m place : ℕ) (i : Instr) → instr_at p m place ≡ Some i → IsSome (method_at p m)
 method_there p m place i stands = let w = of_method p m place i stands in rw w.1 refl

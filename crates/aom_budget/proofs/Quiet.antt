@@ -210,8 +210,8 @@ stands_lowest p m place sh linked quiet h =
 
 -- ---- heights
 
-entered_quiet : (p : Image) (m pc : ℕ) (sh : Shape) (i : Instr) (k : ℕ) → IsLinked p → is_quiet p m ≡ true → Enters i k → AllTrue (rule_needs p m pc sh i) → is_quiet p k ≡ true
-entered_quiet p m pc sh i k linked quiet enters needs = by_entering k (λ j. AllTrue (rule_needs p m pc sh j) → is_quiet p k ≡ true)
+entered_quiet : (p : Image) (m pc : ℕ) (sh : Shape) (i : Instr) (k : ℕ) → IsLinked p → is_quiet p m ≡ true → Enters p i k → AllTrue (rule_needs p m pc sh i) → is_quiet p k ≡ true
+entered_quiet p m pc sh i k linked quiet enters needs = by_entering p linked k (λ j. AllTrue (rule_needs p m pc sh j) → is_quiet p k ≡ true)
     (λ target first c rule. callee_quiet p m linked quiet pc sh target k first c rule)
     (λ target first c rule. absurd (untrapped p m linked quiet pc sh target k first c rule)) i enters needs
 

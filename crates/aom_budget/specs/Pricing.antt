@@ -4,7 +4,9 @@ use Rattle.aom_image.specs.Image.{Image}
 use Rattle.aom_image.specs.Views.{instr_at, method_at, method_class}
 use Rattle.aom_instructions.specs.declared.instr.Instr.{Instr}
 use Rattle.aom_instructions.specs.declared.instr.Instr.TheVariants.{Call, Cancel, Trap, Push, PushOperation, Delete, Jump, JumpEqual, JumpLess, JumpNull, JumpEmpty, JumpActive, JumpAdded, Next, Return, Leave}
+use Rattle.aom_image.specs.declared.method.Role.TheVariants as roles
 use Rattle.aom_image.specs.declared.method.Thing.{Thing}
+use Rattle.aom_classes.specs.Roles.{role_of}
 use Rattle.aom_classes.specs.Bodies.{Body, IsIn}
 use Rattle.aom_roles.specs.States.{unlisted}
 use Rattle.aom_rules.specs.Requests.{enlisted, inactive, outstanding}
@@ -18,7 +20,8 @@ use Rattle.aom_shape.specs.declared.kind.Kind.{Kind}
 use Rattle.aom_shape.specs.declared.kind.Kind.TheVariants.{Unset, Word, Null, Own, Maybe}
 use Rattle.aom_bounds.specs.Shapes.{Shapes}
 use Rattle.aom_bounds.specs.Strongest.{IsMethodStrongest, IsStrongest}
-use Rattle.aom_bounds.specs.Calls.{Among, cancel_of}
+use Rattle.aom_bounds.specs.Calls.{Among}
+use Rattle.aom_bounds.specs.Most.{most_below, most_run}
 use Rattle.aom_verify.specs.Sweep.{HasPlaces}
 use Rattle.aom_bounds.specs.Prices.{Prices, price}
 use Rattle.aom_bounds.specs.Costs.{Region, Whole, Round, ArePrices, destructor_price}
@@ -52,14 +55,19 @@ kind_by p prices Null = 0
 kind_by p prices (Own t a) = destruction_by p prices t
 kind_by p prices (Maybe t a) = destruction_by p prices t
 
+-- what a cancel costs, by the cancel methods of a class and of all that descend from it
+abbrev pub cancel_by : Image → List ℕ → Option ℕ → ℕ
+cancel_by p prices None = 0
+cancel_by p prices (Some x) = most_below p (λ y. price_by prices (role_of p y roles.Cancel)) x
+
 -- what an instruction of a method costs itself
 abbrev pub own_by : Image → (m : ℕ) → List ℕ → Shape → Instr → ℕ
-own_by p m prices sh (Call target k first x) = 1 + at 0 prices k
-own_by p m prices sh (Trap target k first x) = 1 + at 0 prices k
+own_by p m prices sh (Call target k first x) = 1 + most_run p (at 0 prices) k
+own_by p m prices sh (Trap target k first x) = 1 + most_run p (at 0 prices) k
 own_by p m prices sh (PushOperation a k) = 1 + at 0 prices k
 own_by p m prices sh (Push a) = 1 + kind_by p prices (register sh a)
 own_by p m prices sh (Delete a) = 1 + kind_by p prices (register sh a)
-own_by p m prices sh Cancel = 1 + price_by prices (cancel_of p (method_class p m))
+own_by p m prices sh Cancel = 1 + cancel_by p prices (method_class p m)
 own_by p m prices sh _ = 1
 
 -- ---- places

@@ -1,7 +1,8 @@
-//! What an instruction may call.
+//! What an instruction names of what it may call.
 ghost use Rattle.std.specs.Prelude.{◌≡◌, ◌++◌, Some};
-ghost use Rattle.aom_bounds.specs.Calls.{listed, destructors, cancel_of, thing_class, object_class, callees};
+ghost use Rattle.aom_bounds.specs.Calls.{listed, thing_class, object_class};
 ghost use Rattle.aom_budget.specs.Extents.{entered};
+ghost use Rattle.aom_budget.specs.Named.{named_destructors, cancel_of, named};
 ghost use Rattle.aom_image.specs.Views.{method_class};
 
 use aom_classes::Linked;
@@ -73,7 +74,7 @@ impl Callees {
 
     /// What runs as an object of that class goes.
     fn of_class(linked: &Linked, class: ClassNumber) -> Callees
-        ensures { listed result.first ++ listed result.second ≡ destructors linked.now (Some class) }
+        ensures { listed result.first ++ listed result.second ≡ named_destructors linked.now (Some class) }
     {
         let first = linked.role(class, Role::Destruct);
         match sessions_at(linked.image(), class) {
@@ -89,7 +90,7 @@ impl Callees {
     }
 
     fn destructors(linked: &Linked, class: Option<ClassNumber>) -> Callees
-        ensures { listed result.first ++ listed result.second ≡ destructors linked.now class }
+        ensures { listed result.first ++ listed result.second ≡ named_destructors linked.now class }
     {
         match class {
             Some(class) => Callees::of_class(linked, class),
@@ -97,14 +98,15 @@ impl Callees {
         }
     }
 
-    /// What an instruction of a method may call, by what is known where it stands.
+    /// What an instruction of a method names, by what is known where it stands. It may call no more: no class has a
+    /// parent yet, and no method is overridden.
     pub(crate) fn of_instr(
         linked: &Linked,
         method: MethodNumber,
         shape: &Shape<'_>,
         instr: &Instr,
     ) -> Callees
-        ensures { listed result.first ++ listed result.second ≡ callees linked.now method shape.now instr.now }
+        ensures { listed result.first ++ listed result.second ≡ named linked.now method shape.now instr.now }
     {
         match *instr {
             Instr::Call(_, called, _, _)

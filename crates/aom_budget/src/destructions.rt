@@ -21,11 +21,12 @@ pub(crate) fn perhaps_cost(prices: &Sums, method: Option<MethodNumber>) -> u64
     }
 }
 
-/// What the going of an object costs: a step, and its destructor.
+/// What the going of an object costs: a step, and its destructor, which is its whole line: no class has a parent yet.
 fn going(linked: &Linked, prices: &Sums, class: ClassNumber) -> u64
     ensures is { result ≡ going linked.now (price_by prices.now) (Object class) }
     ensures low { result ≤ 4294967297 }
 {
+    linked.facts();
     1 + perhaps_cost(prices, linked.role(class, Role::Destruct))
 }
 
@@ -59,6 +60,7 @@ pub(crate) fn destruction(linked: &Linked, prices: &Sums, thing: Thing) -> u64
     ensures is { result ≡ destruction_by linked.now prices.now thing }
     ensures low { result ≤ 4294967296 }
 {
+    linked.facts();
     match thing {
         Thing::Object(class) => {
             kept(going(linked, prices, class) + class_sessions(linked, prices, class))

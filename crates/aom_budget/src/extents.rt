@@ -89,6 +89,7 @@ impl Extents {
     ) -> u16
         ensures { result ≡ min (1 + most_at self.now.depths (callees linked.now method shape.now instr.now)) 257 }
     {
+        linked.facts();
         let called = Callees::of_instr(linked, method, shape, instr);
         joined(1, self.depths.most_of(called), MOST_FRAMES + 1)
     }
@@ -133,6 +134,7 @@ impl Extents {
         ensures depth { IsMost 257 (Frames linked.now method) result.depth }
         ensures height { IsMost 1025 (Heights linked.now method) result.height }
     {
+        linked.facts();
         let mut most = Extent::none();
         for place in 0..sheet.len() {
             most = most.larger(self.of_place(linked, method, sheet, place));

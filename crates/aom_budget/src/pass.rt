@@ -310,6 +310,7 @@ fn cost_of(
     ensures is { result ≡ own_by linked.now method prices.now shape.now instr.now }
     ensures low { result ≤ 4294967297 }
 {
+    linked.facts();
     match *instr {
         Instr::Call(_, called, _, _)
         | Instr::Trap(_, called, _, _)

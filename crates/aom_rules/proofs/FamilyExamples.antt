@@ -67,8 +67,10 @@ put_of_a_fresh_child = refl
 
 -- ---- calls
 
-called_on_a_child : rule (image (Some 0) [] Nothing None) 1 0 (state (Own (Object 1) Ready) Empty) (Call (Register 0) 0 0 0) ≡ Ok ((1, state (Own (Object 1) Ready) Empty) ∷ [])
-unfolding image state classes method_at class_at arguments_in gives_in role_in class_in quiet_in leaves_in before_in after_in kind_of kind_in states_of descends_in parent_in
+called_on_a_child :
+    rule (image (Some 0) [] Nothing None) 1 0 (state (Own (Object 1) Ready) Empty) (Call (Register 0) 0 0 0) ≡ Ok ((1, state (Own (Object 1) Ready) Empty) ∷ [])
+unfolding image state classes method_at class_at arguments_in gives_in role_in class_in quiet_in leaves_in before_in after_in kind_of kind_in states_of descends_in
+    parent_in
 called_on_a_child = refl
 
 called_on_a_parent : rule (image (Some 1) [] Nothing None) 1 0 (state (Own (Object 0) Ready) Empty) (Call (Register 0) 0 0 0) ≡ Err RegisterKind
@@ -80,11 +82,13 @@ unfolding image state classes method_at class_at arguments_in role_in class_in d
 called_on_self_by_a_parent = refl
 
 argument_of_a_child :
-    rule (image None (An_own_argument (Object 0) ∷ []) Nothing None) 1 0 (state (Own (Object 1) Ready) Empty) (Call This 0 0 1) ≡ Ok ((1, state Null Empty) ∷ [])
+    rule (image None (An_own_argument (Object 0) ∷ []) Nothing None) 1 0 (state (Own (Object 1) Ready) Empty) (Call This 0 0 1)
+    ≡ Ok ((1, state Null Empty) ∷ [])
 unfolding image state classes method_at class_at arguments_in gives_in role_in class_in quiet_in leaves_in after_in descends_in parent_in
 argument_of_a_child = refl
 
-argument_of_a_parent : rule (image None (An_own_argument (Object 1) ∷ []) Nothing None) 1 0 (state (Own (Object 0) Ready) Empty) (Call This 0 0 1) ≡ Err RegisterKind
+argument_of_a_parent :
+    rule (image None (An_own_argument (Object 1) ∷ []) Nothing None) 1 0 (state (Own (Object 0) Ready) Empty) (Call This 0 0 1) ≡ Err RegisterKind
 unfolding image state classes method_at class_at arguments_in role_in class_in descends_in parent_in
 argument_of_a_parent = refl
 

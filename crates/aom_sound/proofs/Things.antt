@@ -7,8 +7,7 @@ use Rattle.aom_image.specs.declared.method.Thing.{Thing}
 use Rattle.aom_image.specs.declared.method.Thing.TheVariants.{Message, Object as An_object_of}
 use Rattle.aom_shape.specs.Things.{stands_for}
 use Rattle.aom_shape.specs.Kinds.{is_object}
-use Rattle.aom_roles.proofs.Descending.{itself, one_class, through}
-use Rattle.aom_roles.specs.Families.{HasNoParents}
+use Rattle.aom_roles.proofs.Descending.{itself, through}
 use Rattle.aom_sound.specs.Servers.{is_server, session_class}
 use Rattle.aom_roles.specs.Shapes.{kind_of}
 use Rattle.aom_roles.specs.Classes.{sessions_at, sessions_in}
@@ -35,13 +34,6 @@ stands_object p Message Message a = refl
 pub stands_message : (p : Image) (x : Thing) → stands_for p x Message ≡ true → x ≡ Message
 stands_message p (An_object_of c) a = cc
 stands_message p Message a = refl
-
--- where no class has a parent only a thing itself stands for it
-pub stands_same : (p : Image) → HasNoParents p → (x y : Thing) → stands_for p x y ≡ true → x ≡ y
-stands_same p none (An_object_of c) (An_object_of d) a = ap An_object_of (one_class p none c d a)
-stands_same p none (An_object_of c) Message a = cc
-stands_same p none Message (An_object_of d) a = cc
-stands_same p none Message Message a = refl
 
 -- a message is no server
 pub message_plain : (p : Image) (x : Thing) → x ≡ Message → is_server p x ≡ false

@@ -404,7 +404,6 @@ linked_is_wired p formed linked = record {
   undestructed = none_destructs p formed linked;
   no_destructor = owns_none p formed linked;
   family = linked_is_family p linked;
-  parents = linked.parents.none;
   acceptor = has_acceptor p formed linked;
   accepts = acceptor_is p formed linked;
   attendant = has_attendant p formed linked;

@@ -13,7 +13,7 @@ use Rattle.aom_image.specs.declared.method.Argument.TheVariants.{Word as Takes_w
 use Rattle.aom_image.specs.declared.method.Role.TheVariants.{Cancel, Do, Main, Construct, Destruct, Error, Run as Run_role, Accept, Service}
 use Rattle.aom_image.specs.declared.method.Thing.{Thing}
 use Rattle.aom_image.specs.declared.method.Thing.TheVariants.{Object as An_object_of}
-use Rattle.aom_roles.specs.Families.{HasNoParents, descends}
+use Rattle.aom_roles.specs.Families.{descends}
 use Rattle.aom_classes.specs.Linked.{IsLinked}
 use Rattle.aom_classes.specs.Roles.{role_of, main_of}
 use Rattle.aom_shape.specs.Things.{Member, field_thing, word_count}
@@ -130,8 +130,6 @@ pub record IsWired (p : Image) : Type 0 where
   pub sessions : (c session : ℕ) → sessions_at p c ≡ Some session → sessions_at p session ≡ None
   -- classes and what descends from them
   pub family : IsFamily p
-  -- no class has a parent yet
-  pub parents : HasNoParents p
 
 -- the boot state is well typed
 abbrev pub BootKeeps : Type 0

@@ -1,16 +1,16 @@
 -- What the price of each instruction's place covers: that of the place at which its method goes on, and what begins or is pushed.
-use Rattle.std.proofs.Common.{◌≡◌, ◌≤◌, ◌+◌, ◌-◌, ◌∙◌, ℕ, ℤ, zero, suc, Bool, true, false, cond, List, [], ◌∷◌, ◌++◌, ◌==◌, Option, Some, None, refl, ap, subst, arith}
+use Rattle.std.proofs.Common.{◌≡◌, ◌≤◌, ◌+◌, ◌-◌, ◌∙◌, ℕ, ℤ, zero, suc, Bool, true, false, cond, List, [], ◌∷◌, ◌++◌, ◌==◌, Option, Some, None, refl, ap, subst, sym, arith}
 use Rattle.std.specs.Ordering.{int_eq}
 use Rattle.std.specs.Prelude.{bit_and, int_lt, is_some}
 use Rattle.aom_image.specs.Image.{Image}
 use Rattle.aom_instructions.specs.declared.instr.Instr.{Instr}
-use Rattle.aom_instructions.specs.declared.instr.Instr.TheVariants.{Cancel, JumpActive, JumpAdded, JumpEmpty, JumpEqual, JumpLess, JumpNull, Leave, Loop, New, Next, Return}
+use Rattle.aom_instructions.specs.declared.instr.Instr.TheVariants.{Call, Cancel, JumpActive, JumpAdded, JumpEmpty, JumpEqual, JumpLess, JumpNull, Leave, Loop, New, Next, Return, Trap}
 use Rattle.aom_image.specs.Views.{method_class, method_role}
 use Rattle.aom_image.specs.declared.method.Role.TheVariants.{Main}
 use Rattle.aom_image.specs.declared.method.Thing.{Thing}
 use Rattle.aom_classes.specs.Loops.{loop_in, next_in}
 use Rattle.aom_shape.specs.Kinds.{field, filled, is_object_or_null, register}
-use Rattle.aom_roles.specs.Families.{HasNoParents}
+use Rattle.aom_bounds.proofs.Paid.{call_paid, cancel_paid}
 use Rattle.aom_roles.specs.States.{unlisted}
 use Rattle.aom_shape.specs.Needs.{AllTrue, Flow}
 use Rattle.aom_rules.specs.Objects.{flow_jump_empty, flow_jump_null}
@@ -33,8 +33,8 @@ use Rattle.aom_sound.specs.Places.{Object, held, seen}
 use Rattle.aom_sound.specs.State.{An_object, An_operation, Choice, Frame, Item, State, Task, counter, field_place, home_holder}
 use Rattle.aom_sound.specs.WellTyped.{Fits}
 use Rattle.aom_sound.specs.Words.{here, read}
-use Rattle.aom_bounds.specs.Prices.{AllPaid, IsPriced, Prices, Stands, cancel_of, kind_price, own, perhaps_price, price}
-use Rattle.aom_sound.proofs.Callees.{cancel_class}
+use Rattle.aom_bounds.specs.Prices.{AllPaid, IsPriced, Prices, Stands, call_price, cancel_price, kind_price, own, price}
+use Rattle.aom_sound.proofs.Callees.{cancel_family}
 use Rattle.aom_sound.proofs.Housing.{houses_field}
 
 module _ (c : Prices) (fr : Frame) (sh : Shape) where
@@ -84,7 +84,7 @@ module _ (c : Prices) (fr : Frame) (sh : Shape) where
   dealing (An_operation m w ∷ items) o pays = pays
   dealing _ o pays = pays
 
-module _ (p : Image) (t : Typing) (c : Prices) (main_none : (m : ℕ) → method_role p m ≡ Some Main → own_kind p m ≡ None) (none : HasNoParents p) (priced : IsPriced p t c) (ch : Choice) (s : State) (fr : Frame)
+module _ (p : Image) (t : Typing) (c : Prices) (main_none : (m : ℕ) → method_role p m ≡ Some Main → own_kind p m ≡ None) (priced : IsPriced p t c) (ch : Choice) (s : State) (fr : Frame)
     (sh : Shape) (ls : List Layer) (at_hand : At p t s fr sh ls) where
   abbrev ts : List Task
   ts = tasks_of ls
@@ -133,16 +133,22 @@ module _ (p : Image) (t : Typing) (c : Prices) (main_none : (m : ℕ) → method
 
   -- ---- a cancel
 
-  -- the method that cancels is the one that the price counts
-  same_cancel : (m : ℕ) → cancel_method p fr.home ≡ Some m → cancel_of p (method_class p fr.method) ≡ Some m
-  same_cancel m e = let found = cancel_class p none fr.home fr.method m at_hand.good.stack.1.holder e in ap (λ o. cancel_of p o) found.1 ∙ found.2
+  -- the method that cancels is one that the price counts
+  cancel_counted : (m : ℕ) → cancel_method p fr.home ≡ Some m → price c m ≤ cancel_price p c (method_class p fr.method)
+  cancel_counted m e =
+      let its = cancel_family p fr.home fr.method m at_hand.good.stack.1.holder e in
+      subst (λ o. price c m ≤ cancel_price p c o) (sym its.2) (cancel_paid p c its.1 its.0 m its.3 its.4)
 
   on_cancel :
-      (b : Bool) (x : Option ℕ) → cancel_method p fr.home ≡ x → 1 + perhaps_price c (cancel_of p (method_class p fr.method)) + c.from fr.method (suc fr.place) ≤ c.from fr.method fr.place →
+      (b : Bool) (x : Option ℕ) → cancel_method p fr.home ≡ x → 1 + cancel_price p c (method_class p fr.method) + c.from fr.method (suc fr.place) ≤ c.from fr.method fr.place →
       Covers c fr sh (cancels_if fr b x)
-  on_cancel true (Some m) e pays = omega (arith, pays, ap (λ o. perhaps_price c o) (same_cancel m e))
+  on_cancel true (Some m) e pays = omega (arith, pays, cancel_counted m e)
   on_cancel true None e pays = omega (arith, pays)
   on_cancel false x e pays = omega (arith, pays)
+
+  -- a call pays for the method that it names
+  called : (k : ℕ) → 1 + call_price p c k + c.from fr.method (suc fr.place) ≤ c.from fr.method fr.place → Affords c fr sh (1 + price c k) (suc fr.place)
+  called k pays = omega (arith, pays, call_paid p c k)
 
   -- ---- every instruction
 
@@ -179,6 +185,8 @@ module _ (p : Image) (t : Typing) (c : Prices) (main_none : (m : ℕ) → method
       made : (b : Bool) → Affords c fr sh 1 (suc fr.place) → Affords c fr sh (1 + pushes c fr sh (makes_unless b ch.name x a)) (suc fr.place)
       made true pays = pays
       made false pays = pays
+  covers (Call target k first x) it rule = called k (paid (Call target k first x) it refl refl).0
+  covers (Trap target k first x) it rule = called k (paid (Trap target k first x) it refl refl).0
   covers Cancel it rule = on_cancel (in_phase is_active (own_request s.cells fr.home)) (cancel_method p fr.home) refl (paid Cancel it refl refl).0
   covers (Leave a) it rule = some (Leave a) it
   covers (Return a) it rule = some (Return a) it

@@ -39,6 +39,11 @@ use Rattle.aom_sound.specs.World.{boot_state}
 use Rattle.aom_transcript.specs.declared.line.Ending.{Ending}
 use Rattle.aom_transcript.specs.declared.line.Ending.TheVariants.{Stopped}
 use Rattle.aom_bounds.specs.Prices.{AllPaid, Prices, Stands, own, perhaps_price, price, sessions_cost}
+use Rattle.aom_bounds.specs.Most.{line}
+use Rattle.std.proofs.lemmas.List.Elements.{All-nil, All-cons}
+use Rattle.aom_image.specs.declared.class.ClassDecl.{ClassDecl}
+use Rattle.aom_roles.specs.Families.{HasNoParents}
+use Rattle.aom_bounds.proofs.Alone.{line_alone}
 use Rattle.aom_bounds.specs.Dispatches.{IsAffordable, main_price}
 use Rattle.aom_classes.proofs.Playing.{destroyed}
 
@@ -168,6 +173,12 @@ sessions_pay x = omega (arith, go (destructor_of image x) refl, no_sessions x)
     go None e = omega arith
     go (Some m) e = omega (arith, destructors_pay x m e)
 
+parentless : HasNoParents image
+parentless = All-cons (λ (d : ClassDecl). d.parent ≡ None) (a_class Plain 0 0 []) [] refl (All-nil (λ (d : ClassDecl). d.parent ≡ None))
+
+lines_pay : (x : Thing) → 1 + line image (perhaps_price table) x + sessions_cost image (λ k. table.destruction (Object k)) x ≤ 2
+lines_pay x = omega (arith, sessions_pay x, line_alone image parentless (perhaps_price table) refl x)
+
 main_costs_18 : main_price image table ≡ 18
 unfolding main_of role_number
 main_costs_18 = refl
@@ -180,9 +191,7 @@ affordable = record {
     loops = λ m place d n sh it. loops_pay m place sh (Loop d n) it d n refl;
     nexts = λ m place d to sh it. nexts_pay m place sh (Next d to) it d to refl;
     rounds = λ m place d x sh it. rounds_pay m place sh (Next d (suc x)) it d x refl;
-    cells = λ x. omega arith;
-    destructors = destructors_pay;
-    sessions = sessions_pay;
+    lines = lines_pay;
     stands_in = λ x y e. omega arith;
   };
   declared = omega (arith, main_costs_18);

@@ -36,6 +36,7 @@ use Rattle.aom_steps.proofs.Sums.{scaled, scaled_le}
 use Rattle.aom_steps.proofs.Worths.{passed_less, returned_less, to_trap_less}
 use Rattle.aom_bounds.specs.Prices.{IsPriced, Prices, Stands, kind_price, price, perhaps_price, sessions_cost}
 use Rattle.aom_steps.specs.Left.{is_entry, left, left_worths, method_left, objects_left, operations_left, rounds_left, rounds_price, tasks_left, waiting_left, closing_left, closings_left, end_left, sessions_left}
+use Rattle.aom_bounds.proofs.Paid.{sessions_paid}
 use Rattle.aom_steps.proofs.Covering.{Affords, Covers, pushes}
 use Rattle.aom_steps.proofs.Pushed.{enters_place, field_no_entry, leaves_place, moved_less, none_moves, operations_below, rerequested_same, stored_same, resessioned_same, enters_place, served_same, without_less}
 use Rattle.aom_sound.specs.Enlisted.{cancelling, on_request, own_request, ended_cells}
@@ -82,8 +83,8 @@ begun_left p t c priced o height below us few = go (is_server p o.thing) refl
     go : (b : Bool) → is_server p o.thing ≡ b →
         tasks_left p c (cond b (Closing ∷ Destroy ∷ below) (destructed p o height below)) + closings_left p c us (cond b (Closing ∷ Destroy ∷ below) (destructed p o height below))
         ≤ c.destruction o.thing + (waiting_left p c below + closings_left p c us below)
-    go true e = let there = few e in omega (arith, ap (λ x. closing_left p c us x) there.0, there.1, priced.sessions o.thing)
-    go false e = omega (arith, destructed_left p c o height below us, priced.sessions o.thing)
+    go true e = let there = few e in omega (arith, ap (λ x. closing_left p c us x) there.0, there.1, sessions_paid p t c priced o.thing)
+    go false e = omega (arith, destructed_left p c o height below us, sessions_paid p t c priced o.thing)
 
 -- a register's kind pays for what it owns
 kind_pays : (p : Image) (t : Typing) (c : Prices) → IsPriced p t c → (h : Sight) (o : Object) (k : Kind) → Holds_of p h (Some o) k → c.destruction o.thing ≤ kind_price c k

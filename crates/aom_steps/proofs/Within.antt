@@ -100,7 +100,7 @@ module _ (p : Image) (t : Typing) (c : Prices) (linked : IsLinked p) (typed : Is
       let it : Stands p t fr.method fr.place sh i = record { shape = good.stack.0; instr = there } in
       let at_hand : At p t (counted p s) fr sh ls = record { tasks = tasks; items = items; undos = w.undos; good = good } in
       let a = acted p ch (counted p s) u fr ts i (subst (λ o. step_instr p ch fr ts (counted p s) o ≡ Goes u) there goes) in
-      let covered = covers p t c (main_of_none p linked) linked.parents.none priced ch (counted p s) fr sh ls at_hand i it rule in
+      let covered = covers p t c (main_of_none p linked) priced ch (counted p s) fr sh ls at_hand i it rule in
       subst (λ x. 1 + left p c x ≤ all_left (Run fr ∷ ts)) (sym a.2) (pays p t c linked priced ch (counted p s) fr sh ls at_hand few m.0 m.1 i m.2 it (effect p ch fr ts (counted p s) i) a.1 covered)
 
   acts : (ls : List Layer) → s.tasks ≡ tasks_of ls → forms s.items ≡ items_of ls → Good p t s.cells ls → (fr : Frame) (ts : List Task) → tasks_of ls ≡ Run fr ∷ ts → ActsPay fr ts

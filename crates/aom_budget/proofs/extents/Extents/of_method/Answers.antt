@@ -16,9 +16,9 @@ loop-place-preserved c = record {
 pub returns-clause-depth : goal.returns-clause-depth
 returns-clause-depth c =
     let count : c.loop-place.place ≡ length c.args.sheet.now = search rules in
-    most_frames _ _ _ c.requires.strongest _ (rw count at c.loop-place.invariant.deep)
+    most_frames _ c.facts.ensures.linked _ _ c.requires.strongest _ (rw count at c.loop-place.invariant.deep)
 
 pub returns-clause-height : goal.returns-clause-height
 returns-clause-height c =
     let count : c.loop-place.place ≡ length c.args.sheet.now = search rules in
-    most_entries _ _ _ c.requires.strongest _ (rw count at c.loop-place.invariant.high)
+    most_entries _ c.facts.ensures.linked _ _ c.requires.strongest _ (rw count at c.loop-place.invariant.high)
