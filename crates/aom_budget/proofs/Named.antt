@@ -120,9 +120,9 @@ pub most_named :
     (p : Image) → IsLinked p → (table : List ℕ) (m : ℕ) (sh : Shape) (i : Instr) → most_at table (named p m sh i) ≡ most_at table (callees p m sh i)
 most_named p linked table m sh i =
     let up = most_least table (named p m sh i) (most_at table (callees p m sh i))
-        (λ k h. has_most table (callees p m sh i) k (named_called p linked m sh i k h)) in
+    (λ k h. has_most table (callees p m sh i) k (named_called p linked m sh i k h)) in
     let down = most_least table (callees p m sh i) (most_at table (named p m sh i))
-        (λ k h. has_most table (named p m sh i) k (called_named p linked m sh i k h)) in
+    (λ k h. has_most table (named p m sh i) k (called_named p linked m sh i k h)) in
     omega (arith, up, down)
 
 -- ---- what it costs

@@ -74,14 +74,14 @@ module _ (p : Image) (fit : AllStandIn p) (m : ℕ) (e : Method) (named : method
       let w = found (replaces p c m) p.methods k h in
       let both = and_parts (is_class c w.0.class) (leads_to p w.0.over m) w.2 in
       some_given (λ o. leads_to p o m ≡ true) w.0.over both.1 (λ none. absurd (none_leads (length p.methods) none)) (λ x is leads.
-          let below = leads_alike (length p.methods) x leads in record {
-            class = c;
-            method = w.0;
-            of = class_is c w.0.class both.0;
-            family = itself p c;
-            overrides = ap (λ o. leads_to p (over_in o) m) w.1 ∙ both.1;
-            alike = alike_through p m x k w.0 below.0 e w.1 (stands p fit k x w.0 below.0 w.1 is below.1.there) below.1;
-          })
+      let below = leads_alike (length p.methods) x leads in record {
+        class = c;
+        method = w.0;
+        of = class_is c w.0.class both.0;
+        family = itself p c;
+        overrides = ap (λ o. leads_to p (over_in o) m) w.1 ∙ both.1;
+        alike = alike_through p m x k w.0 below.0 e w.1 (stands p fit k x w.0 below.0 w.1 is below.1.there) below.1;
+      })
 
   raised : (c d k : ℕ) → parent_of p c ≡ Some d → RunsAlike p m d k e → RunsAlike p m c k e
   raised c d k is w = record { class = w.class; method = w.method; of = w.of; family = child p c d w.class is w.family; overrides = w.overrides; alike = w.alike }

@@ -121,9 +121,9 @@ module _ (p : Image) where
         no_more : (w : Continued p c e) → length w.child.fields ≤ length w.parent.fields
         no_more w =
             let at : IfSome (Some e) (λ e. IfSome (class_at p e) (λ f. length f.fields < length w.child.fields → IsSome (own_role p c Destruct))) =
-                subst (λ o. IfSome o (λ e. IfSome (class_at p e) (λ f. length f.fields < length w.child.fields → IsSome (own_role p c Destruct)))) w.named (needs_of c w.child w.at).more in
+            subst (λ o. IfSome o (λ e. IfSome (class_at p e) (λ f. length f.fields < length w.child.fields → IsSome (own_role p c Destruct)))) w.named (needs_of c w.child w.at).more in
             let some : length w.parent.fields < length w.child.fields → IsSome (own_role p c Destruct) =
-                subst (λ o. IfSome o (λ f. length f.fields < length w.child.fields → IsSome (own_role p c Destruct))) w.above at in
+            subst (λ o. IfSome o (λ f. length f.fields < length w.child.fields → IsSome (own_role p c Destruct))) w.above at in
             ⊎_elim (λ lt. let clash : IsSome {T = ℕ} None = subst (λ (o : Option ℕ). IsSome o) none (some lt) in cc) (λ le. le) (cases_lt (length w.parent.fields) (length w.child.fields))
 
     -- a class has the fields of the one whose destructor it has
