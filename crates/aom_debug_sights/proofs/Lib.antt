@@ -11,3 +11,4 @@ pub mod Sums
 pub mod Once
 pub mod Words
 pub mod Contents
+pub mod Numbers

@@ -114,7 +114,7 @@ module _ (p : Image) (m : Parts) where
   M = record { image = p; parts = m }
 
   -- a cell's number is that of a place that holds an object of that name and class
-  found : (n class : ℕ) (r : Place) (s : State) → StandsFor M s → Shows M n r → class_at m.cells n ≡ Some class → (o : Object) × (held s.cells r ≡ Some o) × (o.thing ≡ An_object_of class) × (o.name ≡ n)
+  pub found : (n class : ℕ) (r : Place) (s : State) → StandsFor M s → Shows M n r → class_at m.cells n ≡ Some class → (o : Object) × (held s.cells r ≡ Some o) × (o.thing ≡ An_object_of class) × (o.name ≡ n)
   found n class r s st shows told = go (held s.cells r) refl (shows.each s st) (sym (class_held p m s st r n (shows.each s st)) ∙ told)
     where
       go : (o : Option Object) → held s.cells r ≡ o → n ≡ number o → class_of o ≡ Some class → (x : Object) × (held s.cells r ≡ Some x) × (x.thing ≡ An_object_of class) × (x.name ≡ n)

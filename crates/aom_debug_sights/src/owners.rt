@@ -28,7 +28,7 @@ use aom_shape::{Kind, Shape};
 use aom_verify::Checked;
 
 /// Whether a register may own an object.
-fn may_own(shape: &Shape<'_>, register: u8) -> bool
+pub(crate) fn may_own(shape: &Shape<'_>, register: u8) -> bool
     requires { register < 16 }
     ensures { result ≡ may_own (kind_in shape.now register) }
 {
@@ -171,7 +171,7 @@ fn entries_of(item: Item) -> usize
 }
 
 /// The number of what that item owns, and null where it owns nothing.
-fn item_number(parts: &Parts, height: usize) -> u32
+pub(crate) fn item_number(parts: &Parts, height: usize) -> u32
     requires { height < length parts.now.entries.items }
     ensures { result ≡ entry_in parts.now.entries.items height }
 {
@@ -228,7 +228,7 @@ fn goings_in(task: &Task) -> usize
 }
 
 /// The number of what the task at a depth lets go, and null where it lets nothing go.
-fn going_number(parts: &Parts, depth: usize) -> u32
+pub(crate) fn going_number(parts: &Parts, depth: usize) -> u32
     ensures { result ≡ going_in parts.now.stack.tasks depth }
 {
     match parts.stack.task(depth) {

@@ -107,9 +107,9 @@ fn next_session(parts: &Parts, id: CellId, client: u8) -> Option<u8>
 }
 
 /// The number of the session of a client with the server of that number, and null where it has none there.
-fn session_number(parts: &Parts, id: CellId, client: u8) -> u32
+pub(crate) fn session_in(parts: &Parts, number: u32, client: u8) -> u32
     requires { client < 64 }
-    ensures { result ≡ session_with id (client_at parts.now.clients client) }
+    ensures { result ≡ session_with number (client_at parts.now.clients client) }
 {
     match parts.clients.client(client) {
         Client::Open {
@@ -119,7 +119,7 @@ fn session_number(parts: &Parts, id: CellId, client: u8) -> u32
         }
         | Client::Closing { server, session }
         | Client::Dying { server, session } => {
-            if u32::from(server) == id.number() && session != NO_CELL {
+            if u32::from(server) == number && session != NO_CELL {
                 u32::from(session)
             } else {
                 NULL
@@ -127,6 +127,14 @@ fn session_number(parts: &Parts, id: CellId, client: u8) -> u32
         }
         _ => NULL,
     }
+}
+
+/// The same of a server that lives.
+fn session_number(parts: &Parts, id: CellId, client: u8) -> u32
+    requires { client < 64 }
+    ensures { result ≡ session_with id (client_at parts.now.clients client) }
+{
+    session_in(parts, id.number(), client)
 }
 
 /// Writes the line of what has that number, if it is one's, and so many generations of what hangs from it.

@@ -3,7 +3,8 @@ use super::slate::Slate;
 use aom_library::asm::assemble;
 use aom_library::budget::{Accepted, accept};
 use aom_library::classes::link;
-use aom_library::debug::Debugger;
+use aom_library::debug::{Debugger, Holding, Owner};
+use aom_library::image::Register;
 use aom_library::machine::{Machine, Turn};
 use aom_library::natives::Native;
 use aom_library::script::read_script;
@@ -44,6 +45,11 @@ fn stepped(alloc: Global, accepted: &Accepted, out: &mut Slate) -> Option<()> {
     let mut debugger = Debugger::new(alloc, machine, script, turn, 100).ok()?;
     debugger.step(1, out).ok()?;
     debugger.owners(out).ok()?;
+    let (depth, register) = (1, Register::FIRST);
+    let held = debugger.held_at(Owner::Register { depth, register });
+    if held != (Holding::Object { cell: 0, class: 0 }) {
+        return None;
+    }
     debugger.step(3, out).ok()?;
     debugger.cells(out).ok()?;
     debugger.go(out).ok()

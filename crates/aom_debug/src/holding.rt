@@ -1,0 +1,18 @@
+//! What a place owns, as a value.
+ghost use Rattle.aom_parts.specs.Stands.{StandsFor};
+ghost use Rattle.aom_sound.specs.State.{State};
+ghost use Rattle.aom_debug_sights.specs.Holdings.{HoldsSo, IsOwner, place_of};
+
+use crate::Debugger;
+use aom_debug_sights::{Holding, Owner, held_at};
+
+impl<'a> Debugger<'a> {
+    /// What a place owns. Nothing is told, and nothing changes.
+    pub fn held_at(&self, owner: Owner) -> Holding
+        requires { IsOwner owner }
+        ensures { (s : State) → StandsFor self.now.mover.machine.core s → HoldsSo s (place_of owner) result }
+    {
+        let core = &self.mover.machine.core;
+        held_at(core.parts(), core.accepted(), owner)
+    }
+}
