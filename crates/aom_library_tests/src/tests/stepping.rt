@@ -45,7 +45,8 @@ fn stepped(alloc: Global, accepted: &Accepted, out: &mut Slate) -> Option<()> {
     let mut debugger = Debugger::new(alloc, machine, script, turn, 100).ok()?;
     debugger.step(1, out).ok()?;
     debugger.owners(out).ok()?;
-    let (depth, register) = (1, Register::FIRST);
+    // main's frame stands over its dispatch and its trap
+    let (depth, register) = (2, Register::FIRST);
     let held = debugger.held_at(Owner::Register { depth, register });
     if held != (Holding::Object { cell: 0, class: 0 }) {
         return None;
