@@ -3,4 +3,3 @@ mod faults;
 mod listing;
 mod running;
 mod slate;
-mod stepping;
