@@ -1,17 +1,35 @@
--- What a linked image gives of its families: what a class owns, and its sessions, come before it.
-use Rattle.std.proofs.Common.{Option, Some, ap, arith, refl, slice_get, subst, sym, true, ℕ, ◌<◌, ◌≡◌, ◌≤◌}
+-- What a linked image gives of its families, by the laws of families: what descends from a class has what the class has, and an owner weighs more than what it owns.
+use Rattle.std.proofs.Common.{None, Option, Some, ap, arith, length, refl, slice_get, true, ℕ, ◌<◌, ◌≡◌, ◌≤◌}
+use Rattle.std.proofs.lemmas.Option.{slice_get_within}
 use Rattle.aom_image.proofs.Given.{some_given}
 use Rattle.aom_image.specs.Image.{Image}
-use Rattle.aom_image.specs.Views.{class_at, fields_in}
+use Rattle.aom_image.specs.Views.{class_at, fields_in, fields_of}
 use Rattle.aom_image.specs.declared.class.ClassDecl.{ClassDecl}
+use Rattle.aom_image.specs.declared.class.ClassKind.{ClassKind}
+use Rattle.aom_image.specs.declared.class.ClassKind.TheVariants.{Active, Plain, Server, Session}
+use Rattle.aom_image.specs.declared.method.Thing.{Thing}
 use Rattle.aom_image.specs.declared.method.Thing.TheVariants.{Object as An_object_of}
-use Rattle.aom_roles.proofs.Descending.{one_class}
-use Rattle.aom_roles.specs.Classes.{ClassOrdered, OwnsBefore, is_session, kind_in, sessions_at, sessions_in}
+use Rattle.aom_roles.proofs.Descending.{along, one_class}
+use Rattle.aom_roles.specs.Classes.{ClassOrdered, OwnsBefore, is_session, is_session_in, is_session_kind, kind_at, kind_in, sessions_at, sessions_in, sessions_of}
+use Rattle.aom_roles.specs.Families.{descends}
 use Rattle.aom_roles.specs.Shapes.{kind_of}
 use Rattle.aom_classes.proofs.Facts.{all_there, at_place}
+use Rattle.aom_classes.proofs.Keeping.{child_there}
 use Rattle.aom_classes.specs.Linked.{IsLinked}
-use Rattle.aom_shape.specs.Things.{Member, field_thing, word_count}
+use Rattle.aom_families.proofs.Inheriting.{continued, families_inherit}
+use Rattle.aom_families.proofs.Weighing.{weights_fall}
+use Rattle.aom_families.specs.Weights.{generation}
+use Rattle.aom_shape.specs.Things.{Member, field_thing, word_count, words_in}
 use Rattle.aom_sound.specs.Laws.{IsFamily}
+
+-- a class of sessions has none itself
+session_has_none : (k : Option ClassKind) → is_session_in k ≡ true → sessions_in k ≡ None
+unfolding is_session_in is_session_kind sessions_in sessions_of
+session_has_none None is = cc
+session_has_none (Some Plain) is = cc
+session_has_none (Some (Active provider)) is = cc
+session_has_none (Some (Server most session)) is = cc
+session_has_none (Some Session) is = refl
 
 module _ (p : Image) (linked : IsLinked p) where
   -- its sessions are of a class of sessions before it
@@ -28,15 +46,40 @@ module _ (p : Image) (linked : IsLinked p) where
       some_given (λ o. slice_get (fields_in o) f ≡ Some (An_object_of d)) (class_at p c) e (λ e. cc)
       (λ k g e. (all_there (OwnsBefore p c) k.fields f (An_object_of d) (at_place (ClassOrdered p) p.classes c k linked.classes.classes g).fields e).0)
 
-  -- a class that owns another, or has it for its sessions, has a higher number, which weighs it: no class has a parent yet
+  -- a class with a field, or with sessions, is there, and so is what descends from one
+  owner_there : (c f : ℕ) (t : Thing) → slice_get (fields_of p c) f ≡ Some t → c < length p.classes
+  unfolding fields_in class_at
+  owner_there c f t e = some_given (λ o. slice_get (fields_in o) f ≡ Some t) (class_at p c) e (λ e. cc) (λ k at e. slice_get_within p.classes c k at)
+
+  server_there : (c s : ℕ) → sessions_at p c ≡ Some s → c < length p.classes
+  unfolding kind_in class_at sessions_in
+  server_there c s e = some_given (λ o. sessions_in (kind_in o) ≡ Some s) (class_at p c) e (λ e. cc) (λ k at e. slice_get_within p.classes c k at)
+
+  descendant_there : (x d : ℕ) → descends p x d ≡ true → d < length p.classes → x < length p.classes
+  descendant_there x d h there = along p (λ c. c < length p.classes) d (λ c e is up. child_there p c e is) there x h
+
+  words_so : (c d : ℕ) → descends p c d ≡ true → word_count p (Member d) ≤ word_count p (Member c)
+  unfolding words_in
+  words_so c d h =
+      along p (λ x. word_count p (Member d) ≤ word_count p (Member x)) d
+      (λ x e is up. let k = continued p linked.parents.each x e is in omega (arith, up, k.continues.words, ap words_in k.at, ap words_in k.above)) (omega arith) c h
+
+  -- no class of sessions has descendants: no class has a parent yet
   pub linked_is_family : IsFamily p
+  unfolding kind_of
   linked_is_family = record {
-    kinds = λ c d h. ap (λ x. kind_of p (Some x)) (one_class p linked.parents.none c d h);
-    inherits = λ c d f t h e. subst (λ x. field_thing p (Member x) f ≡ Some t) (sym (one_class p linked.parents.none c d h)) e;
-    words = λ c d h. subst (λ x. word_count p (Member d) ≤ word_count p (Member x)) (sym (one_class p linked.parents.none c d h)) (omega arith);
+    kinds = λ c d h. families_inherit.kinds p linked.parents.each c d h;
+    inherits = λ c d f t h e. families_inherit.fields p linked.parents.each c d h f t e;
+    words = words_so;
     alone = λ c s x e h. one_class p linked.parents.none x s h;
-    weight = λ c. c;
-    lighter = λ c d f x e h. subst (λ y. y < c) (sym (one_class p linked.parents.none x d h)) (owned_before c d f e);
-    served = λ c s e. (session_before c s e).0;
-    few = λ c lt. lt;
+    weight = λ c. generation p c;
+    lighter = λ c d f x e h.
+        let there = owner_there c f (An_object_of d) e in
+        let before = owned_before c d f e in
+        weights_fall.generations p x c (descendant_there x d h (omega (arith, there, before))) (weights_fall.fields p linked.parents.each linked.calls linked.needs c d f x e h);
+    served = λ c s e.
+        let there = server_there c s e in
+        let before = session_before c s e in
+        weights_fall.generations p s c (omega (arith, there, before.0)) (weights_fall.sessions p c s e (session_has_none (kind_at p s) before.1));
+    few = λ c there. weights_fall.few p c there;
   }
