@@ -208,5 +208,5 @@ fn overrides_nothing(image: &Image) -> bool
 pub fn overriders_fit(image: &Image) -> bool
     ensures { IsTrue result ↔ OverridersFit image.now }
 {
-    all_stand_in(image) && all_overridden_once(image) && overrides_nothing(image)
+    overrides_nothing(image) && all_stand_in(image) && all_overridden_once(image)
 }
