@@ -52,6 +52,7 @@ impl<'a> Debugger<'a> {
         ensures machine { IfOk result (λ d. d.mover.machine ≡ machine.entry) }
         ensures given { IfOk result (λ d. (d.mover.script ≡ script) × (d.mover.turn ≡ turn) × (d.mover.limit ≡ limit)) }
         ensures marks { IfOk result (λ d. (d.breakpoints ≡ []) × (d.mover.recent ≡ []) × (d.has_failed ≡ false)) }
+        ensures page { IfOk result (λ d. d.mover.page ≡ []) }
         ensures err { IfErr result (λ fault. fault ≡ OutOfMemory) }
     {
         match Recent::new(alloc) {

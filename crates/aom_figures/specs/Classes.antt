@@ -1,5 +1,5 @@
--- Classes, and what their objects own.
-use Rattle.std.specs.Prelude.{ℕ, List, ◌++◌, codes}
+-- Classes, what they descend from, and what their objects own.
+use Rattle.std.specs.Prelude.{ℕ, List, [], ◌++◌, Option, Some, None, codes}
 use Rattle.std.specs.Fmt.{decimal}
 use Rattle.aom_image.specs.Image.{Image}
 use Rattle.aom_image.specs.declared.class.ClassDecl.{ClassDecl}
@@ -36,9 +36,14 @@ field_line k field thing = codes "c" ++ decimal k ++ thing_text thing ++ codes "
 abbrev pub fields_text : ℕ → List Thing → List ℕ
 fields_text k fields = each (field_line k) 0 fields
 
--- a class, and what each of its owning fields may own
+-- its parent, if it has one
+abbrev pub parent_text : ℕ → Option ℕ → List ℕ
+parent_text k None = []
+parent_text k (Some parent) = numbered (codes "c") k ++ numbered (codes " -> c") parent ++ codes " [arrowhead=empty" ++ line_end
+
+-- a class, its parent, and what each of its owning fields may own
 abbrev pub class_text : Image → List ℕ → ℕ → ClassDecl → List ℕ
-class_text p prices k class = class_line p prices k class ++ fields_text k class.fields
+class_text p prices k class = class_line p prices k class ++ parent_text k class.parent ++ fields_text k class.fields
 
 abbrev pub classes_text : Image → List ℕ → List ClassDecl → List ℕ
 classes_text p prices classes = each (class_text p prices) 0 classes

@@ -1,4 +1,4 @@
--- Methods, with their figures and what leads from them to others.
+-- Methods, with their figures, what they override and what leads from them to others.
 use Rattle.std.specs.Prelude.{ℕ, List, [], ◌∷◌, ◌++◌, Option, Some, None, codes}
 use Rattle.std.specs.Fmt.{decimal}
 use Rattle.aom_image.specs.Image.{Image}
@@ -33,9 +33,14 @@ heading_text m method = codes "m" ++ decimal m ++ codes " [label=\"m" ++ decimal
 abbrev pub method_line : Image → Figures → ℕ → Method → List ℕ
 method_line p f m method = heading_text m method ++ figures_label f m ++ color_text (method_is_over p f m) ++ line_end
 
--- a method, and what its instructions lead to
+-- the method that it overrides, if there is one
+abbrev pub over_text : ℕ → Option ℕ → List ℕ
+over_text m None = []
+over_text m (Some over) = codes "m" ++ decimal m ++ codes " -> m" ++ decimal over ++ codes " [key=over arrowhead=empty" ++ line_end
+
+-- a method, the one that it overrides, and what its instructions lead to
 abbrev pub method_text : Image → Figures → ℕ → Method → List ℕ
-method_text p f m method = method_line p f m method ++ code_text m method.code
+method_text p f m method = method_line p f m method ++ over_text m method.over ++ code_text m method.code
 
 abbrev pub methods_text : Image → Figures → List Method → List ℕ
 methods_text p f methods = each (method_text p f) 0 methods

@@ -1,7 +1,7 @@
-//! Classes, and what their objects own.
+//! Classes, what they descend from, and what their objects own.
 ghost use Rattle.std.specs.Prelude.{◌≡◌, ◌≤◌, ◌<◌, ◌++◌, OnOk, length};
 ghost use Rattle.aom_figures.specs.Each.{numbered};
-ghost use Rattle.aom_figures.specs.Classes.{kind_word, class_heading, thing_text, field_line, fields_text, class_text, classes_text};
+ghost use Rattle.aom_figures.specs.Classes.{kind_word, class_heading, thing_text, field_line, fields_text, parent_text, class_text, classes_text};
 
 use crate::Writer;
 use crate::over::{class_is_over, put_color};
@@ -82,7 +82,23 @@ fn put_fields(out: &mut Writer, class: ClassNumber, fields: &[Thing]) -> Result<
     Ok(())
 }
 
-/// A class, red where its dispatches are over what is declared of them, and what each of its owning fields may own.
+/// The class's parent, if it has one.
+fn put_parent(
+    out: &mut Writer,
+    class: ClassNumber,
+    parent: Option<ClassNumber>,
+) -> Result<(), AllocError>
+    ensures { OnOk result (out.new ≡ out.old ++ parent_text class parent) }
+{
+    let Some(parent) = parent else {
+        return Ok(());
+    };
+    put_class_number(out, b"c", class)?;
+    put_class_number(out, b" -> c", parent)?;
+    out.words(b" [arrowhead=empty]\n")
+}
+
+/// A class, red where its dispatches are over what is declared of them, its parent, and what each of its owning fields may own.
 fn put_class(
     out: &mut Writer,
     linked: &Linked,
@@ -95,6 +111,7 @@ fn put_class(
     put_class_heading(out, class, declaration.kind)?;
     put_color(out, class_is_over(linked, figures, class, declaration))?;
     out.words(b"]\n")?;
+    put_parent(out, class, declaration.parent)?;
     put_fields(out, class, declaration.fields.as_slice())
 }
 

@@ -1,6 +1,6 @@
-//! Methods, with their figures and what leads from them to others.
+//! Methods, with their figures, what they override and what leads from them to others.
 ghost use Rattle.std.specs.Prelude.{◌≡◌, ◌≤◌, ◌++◌, OnOk, length};
-ghost use Rattle.aom_figures.specs.Methods.{role_word, of_text, heading_text, figures_label, method_text, methods_text};
+ghost use Rattle.aom_figures.specs.Methods.{role_word, of_text, heading_text, figures_label, over_text, method_text, methods_text};
 
 use crate::edge::put_code;
 use crate::over::{method_is_over, put_color};
@@ -56,7 +56,23 @@ fn put_heading(out: &mut Writer, number: MethodNumber, method: &Method) -> Resul
     put_class_of(out, method.class)
 }
 
-/// A method with its figures, red where it is over a limit, and what its instructions lead to.
+/// The method that one overrides, if there is one.
+fn put_over(
+    out: &mut Writer,
+    method: MethodNumber,
+    over: Option<MethodNumber>,
+) -> Result<(), AllocError>
+    ensures { OnOk result (out.new ≡ out.old ++ over_text method over) }
+{
+    let Some(over) = over else {
+        return Ok(());
+    };
+    out.count(b"m", u64::from(method.number()))?;
+    out.count(b" -> m", u64::from(over.number()))?;
+    out.words(b" [key=over arrowhead=empty]\n")
+}
+
+/// A method with its figures, red where it is over a limit, the one that it overrides, and what its instructions lead to.
 fn put_method(
     out: &mut Writer,
     linked: &Linked,
@@ -70,6 +86,7 @@ fn put_method(
     put_figures(out, figures, number)?;
     put_color(out, method_is_over(linked, figures, number))?;
     out.words(b"]\n")?;
+    put_over(out, number, method.over)?;
     put_code(out, number, method.code.as_slice())
 }
 

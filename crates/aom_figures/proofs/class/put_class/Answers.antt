@@ -1,7 +1,7 @@
 -- The parts of the class follow each other.
 use Rattle.std.proofs.Common.{◌++◌, ◌∙◌, ap}
 use Rattle.std.proofs.lemmas.Result.{IfOk-weaker}
-use Rattle.aom_figures.specs.Classes.{class_heading, class_line, fields_text}
+use Rattle.aom_figures.specs.Classes.{class_heading, class_line, fields_text, parent_text}
 use Rattle.aom_figures.specs.Each.{line_end}
 use Rattle.aom_figures.specs.Over.{class_is_over, color_text}
 use Rattle.aom_figures.proofs.GraphGrowing.{then}
@@ -15,5 +15,7 @@ returns c =
     let color = color_text (class_is_over c.args.linked.now c.args.figures.now.prices c.args.class class) in
     let line = class_line c.args.linked.now c.args.figures.now.prices c.args.class class in
     let colored = c.in_ok-put_color.ensures ∙ ap (λ b. c.put_class_heading.new.out ++ color_text b) c.class_is_over.ensures in
+    let parent = parent_text c.args.class class.parent in
     let ended = then text _ _ (heading ++ color) line_end (then text _ _ heading color c.in_ok-put_class_heading.ensures colored) c.in_ok-words.ensures in
-    IfOk-weaker c.put_fields.result _ _ (λ r written. then text _ _ line (fields_text c.args.class class.fields) ended (written ∙ ap (λ fs. c.words.new.self ++ fields_text c.args.class fs) c.as_slice.ensures)) c.put_fields.ensures
+    let front = then text _ _ line parent ended c.in_ok-put_parent.ensures in
+    IfOk-weaker c.put_fields.result _ _ (λ r written. then text _ _ (line ++ parent) (fields_text c.args.class class.fields) front (written ∙ ap (λ fs. c.put_parent.new.out ++ fields_text c.args.class fs) c.as_slice.ensures)) c.put_fields.ensures

@@ -3,7 +3,7 @@ use Rattle.std.proofs.Common.{◌++◌, ◌∙◌, ap}
 use Rattle.std.proofs.lemmas.Result.{IfOk-weaker}
 use Rattle.aom_figures.specs.Each.{line_end}
 use Rattle.aom_figures.specs.Edges.{code_text}
-use Rattle.aom_figures.specs.Methods.{figures_label, heading_text, method_line}
+use Rattle.aom_figures.specs.Methods.{figures_label, heading_text, method_line, over_text}
 use Rattle.aom_figures.specs.Over.{color_text, method_is_over}
 use Rattle.aom_figures.proofs.GraphGrowing.{then}
 use Rattle.aom_figures.proofs.method.put_method.Goals as goal
@@ -19,4 +19,6 @@ returns c =
     let colored = c.in_ok-put_color.ensures ∙ ap (λ b. c.put_figures.new.out ++ color_text b) c.method_is_over.ensures in
     let before = then text _ _ (heading ++ figures) color (then text _ _ heading figures c.in_ok-put_heading.ensures c.in_ok-put_figures.ensures) colored in
     let ended = then text _ _ (heading ++ figures ++ color) line_end before c.in_ok-words.ensures in
-    IfOk-weaker c.put_code.result _ _ (λ r written. then text _ _ line (code_text number c.args.method.now.code) ended (written ∙ ap (λ is. c.words.new.self ++ code_text number is) c.as_slice.ensures)) c.put_code.ensures
+    let over = over_text number c.args.method.now.over in
+    let front = then text _ _ line over ended c.in_ok-put_over.ensures in
+    IfOk-weaker c.put_code.result _ _ (λ r written. then text _ _ (line ++ over) (code_text number c.args.method.now.code) front (written ∙ ap (λ is. c.put_over.new.out ++ code_text number is) c.as_slice.ensures)) c.put_code.ensures
