@@ -19,10 +19,10 @@ ghost use Rattle.aom_acts.specs.Next.{IsNext};
 
 use crate::serving;
 use aom_cells::NULL;
-use aom_classes::Linked;
 use aom_cleanup::Item;
 use aom_frames::{Dispatch, Frame, Task, TaskKind};
 use aom_image::{Argument, ClassNumber, Gives, Instr, MethodNumber, Register, Role, Target};
+use aom_linked::Linked;
 use aom_parts::Parts;
 
 /// The register to which the result of a call comes.

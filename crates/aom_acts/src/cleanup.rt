@@ -10,11 +10,11 @@ ghost use Rattle.aom_acts.specs.Next.{IsNext};
 use crate::leaving::{self, NO_MEMORY};
 use crate::{going, objects};
 use aom_cells::NULL;
-use aom_classes::Linked;
 use aom_cleanup::Item;
 use aom_frames::{Frame, Task};
 use aom_image::{ClassNumber, MethodNumber, Register};
 use aom_lines::Turn;
+use aom_linked::Linked;
 use aom_parts::Parts;
 
 /// An object goes from a register to the cleanup stack. Where the request is refused, the method leaves then.

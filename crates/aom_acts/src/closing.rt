@@ -9,10 +9,10 @@ ghost use Rattle.aom_parts.specs.Stands.{Stands};
 
 use crate::{going, serving};
 use aom_cells::NULL;
-use aom_classes::Linked;
 use aom_frames::{Dispatch, Frame, Subject, Task};
 use aom_image::Role;
 use aom_lines::Turn;
+use aom_linked::Linked;
 use aom_parts::Parts;
 
 /// Nothing of the dispatch is left. Where `stop` was run, the root is at hand to go, if there is one.

@@ -15,10 +15,10 @@ ghost use Rattle.aom_parts.specs.Stands.{Stands};
 
 use crate::serving;
 use aom_cells::NULL;
-use aom_classes::Linked;
 use aom_frames::{Dispatch, Frame, Task, TaskKind};
 use aom_image::{ClassNumber, Register, Role};
 use aom_lines::Turn;
+use aom_linked::Linked;
 use aom_parts::Parts;
 use aom_roles::sessions_at;
 use aom_transcript::Line;

@@ -18,10 +18,10 @@ ghost use Rattle.aom_parts.specs.Stands.{Stands};
 use crate::calls::result_of;
 use crate::{cleanup, serving};
 use aom_cells::NULL;
-use aom_classes::Linked;
 use aom_frames::{Dispatch, Stage, Task, TaskKind};
 use aom_image::{Gives, Instr, Register};
 use aom_lines::Turn;
+use aom_linked::Linked;
 use aom_parts::Parts;
 use aom_transcript::Line;
 

@@ -19,8 +19,8 @@ ghost use Rattle.std.specs.Prelude.{◌≡◌, ◌<◌, ℕ, IfSome, List, Some,
 
 use crate::requests;
 use aom_cells::CellId;
-use aom_classes::Linked;
 use aom_image::{Provider, Register};
+use aom_linked::Linked;
 use aom_parts::Parts;
 
 /// There is no native to connect to, or no session: KErrNotFound.

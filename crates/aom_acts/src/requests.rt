@@ -18,9 +18,9 @@ ghost use Rattle.aom_rules.specs.Requests.{is_active_kind};
 
 use crate::{going, natives};
 use aom_cells::CellId;
-use aom_classes::Linked;
 use aom_frames::{Frame, Task};
 use aom_image::{ClassKind, Place, Provider, Register, Role};
+use aom_linked::Linked;
 use aom_parts::Parts;
 
 /// A time so long after another, where a negative interval is none. Times stay at their greatest value.

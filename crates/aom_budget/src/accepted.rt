@@ -14,8 +14,8 @@ ghost use Rattle.aom_budget.specs.Faults.{RefusesOrWants};
 ghost use Rattle.aom_budget.specs.Figures.{AreFigures};
 
 use crate::{BudgetFault, Figures};
-use aom_classes::Linked;
 use aom_image::MethodNumber;
+use aom_linked::Linked;
 use aom_verify::Checked;
 use std::alloc::Global;
 use std::marker::Model;

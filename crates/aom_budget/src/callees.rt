@@ -5,8 +5,8 @@ ghost use Rattle.aom_budget.specs.Extents.{entered};
 ghost use Rattle.aom_budget.specs.Named.{named_destructors, cancel_of, named};
 ghost use Rattle.aom_image.specs.Views.{method_class};
 
-use aom_classes::Linked;
 use aom_image::{ClassNumber, Instr, MethodNumber, Role, Thing};
+use aom_linked::Linked;
 use aom_roles::sessions_at;
 use aom_shape::{Kind, Shape};
 

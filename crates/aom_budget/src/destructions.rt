@@ -7,8 +7,8 @@ ghost use Rattle.aom_bounds.specs.Sweeping.{going};
 ghost use Rattle.aom_budget.specs.Pricing.{destruction_by, price_by};
 
 use crate::sums::{Sums, kept};
-use aom_classes::Linked;
 use aom_image::{ClassKind, ClassNumber, MethodNumber, Role, Thing};
+use aom_linked::Linked;
 
 /// What a method costs, if there is one.
 pub(crate) fn perhaps_cost(prices: &Sums, method: Option<MethodNumber>) -> u64

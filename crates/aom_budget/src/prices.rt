@@ -7,8 +7,8 @@ use crate::destructions::{destruction, perhaps_cost};
 use crate::pass::price_of;
 use crate::sums::{Sums, kept};
 use crate::table::number_at;
-use aom_classes::Linked;
 use aom_image::{ClassKind, ClassNumber, Role, Thing};
+use aom_linked::Linked;
 use aom_verify::Checked;
 use std::alloc::{AllocError, Global};
 

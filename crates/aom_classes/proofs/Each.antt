@@ -1,5 +1,5 @@
 -- What tests say, both of two, and no; what holds of each element of a list, place by place or of all at once; and how many pass a test.
-use Rattle.std.proofs.Common.{◌≡◌, ◌<◌, ◌≤◌, ◌+◌, ℕ, Bool, true, false, ◌&&◌, IsTrue, ◌↔◌, List, All, length, take, count_by, IfSome, slice_get, slice_index_or, get_or, leb, refl, sym, ap, subst, ◌∙◌}
+use Rattle.std.proofs.Common.{◌≡◌, ◌<◌, ◌≤◌, ◌+◌, ℕ, Bool, true, false, ◌&&◌, IsTrue, ◌↔◌, List, [], ◌∷◌, ◌++◌, zero, suc, All, length, take, count_by, IfSome, slice_get, slice_index_or, get_or, leb, refl, sym, ap, subst, ◌∙◌}
 use Rattle.std.proofs.lemmas.List.{take_all}
 use Rattle.std.proofs.lemmas.List.Elements.{All-get_or, All-more}
 use Rattle.std.proofs.lemmas.List.Sums.{count_by_more_yes, count_by_more_no}
@@ -49,3 +49,10 @@ pub counted : {X : Type 0} (p : X → Bool) (xs : List X) (i n k : ℕ) → n �
 counted p xs i n k h le =
     let all : n ≡ count_by p xs = h ∙ ap (count_by p) (take_all i xs le) in
     (λ few. subst (λ m. m ≤ k) all (leb-true n k few), λ few. le-leb n k (subst (λ m. m ≤ k) (sym all) few))
+
+-- what holds of each element of a list, and of one more at its end
+pub each_push : {X : Type 0} (P : ℕ → X → Type 0) (xs : List X) (x : X) → ((k : ℕ) → IfSome (slice_get xs k) (P k)) → P (length xs) x → (k : ℕ) → IfSome (slice_get (xs ++ x ∷ []) k) (P k)
+each_push P [] x h p zero = p
+each_push P [] x h p (suc k) = tt
+each_push P (y ∷ xs) x h p zero = h zero
+each_push P (y ∷ xs) x h p (suc k) = each_push (λ j. P (suc j)) xs x (λ j. h (suc j)) p k

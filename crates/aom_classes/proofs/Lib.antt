@@ -10,6 +10,4 @@ pub mod Nested
 pub mod Nesting
 pub mod Ordering
 pub mod Playing
-pub mod Refusing
-pub mod Rows
 pub mod Views

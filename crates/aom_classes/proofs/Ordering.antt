@@ -13,10 +13,9 @@ use Rattle.aom_roles.proofs.Descending.{along, child, from_none, from_parent, it
 use Rattle.aom_classes.specs.Calls.{AllBelow, DestructsBelow, EndsBelow, GoesBelow}
 use Rattle.aom_classes.specs.Orders.{AreLeast, IsLeast, ReachesAll}
 use Rattle.aom_classes.specs.Roles.{keeper_of, own_role, plays}
-use Rattle.aom_classes.proofs.Each.{EachBelow, each_all, each_more}
+use Rattle.aom_classes.proofs.Each.{EachBelow, each_all, each_more, each_push}
 use Rattle.aom_classes.proofs.Keeping.{child_there, keeper_own}
 use Rattle.aom_classes.proofs.Playing.{found}
-use Rattle.aom_classes.proofs.Rows.{each_push}
 
 -- ---- one number
 

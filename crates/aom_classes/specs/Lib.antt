@@ -10,4 +10,3 @@ pub mod Orders
 pub mod Overriding
 pub mod Roles
 pub mod Scanning
-pub mod Table

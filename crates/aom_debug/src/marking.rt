@@ -2,9 +2,9 @@
 ghost use Rattle.std.specs.Prelude.{◌≡◌, slice_get};
 ghost use Rattle.aom_debug.specs.Commands.{spot_at, spot_named};
 
-use aom_classes::Linked;
 use aom_debug_words::Spot;
 use aom_image::Method;
+use aom_linked::Linked;
 use aom_text::Number;
 
 /// More than any image has, of methods and of places.

@@ -9,9 +9,9 @@ ghost use Rattle.aom_parts.specs.Stands.{StandsFor};
 ghost use Rattle.aom_debug_moves.specs.Next.{ends_all, ends_all_in, is_last, is_last_in, pauses, root_is_due};
 
 use aom_cells::NULL;
-use aom_classes::Linked;
 use aom_frames::{Dispatch, TaskKind};
 use aom_image::Role;
+use aom_linked::Linked;
 use aom_parts::Parts;
 
 /// The dispatch that is at its end, if one is.

@@ -15,10 +15,10 @@ ghost use Rattle.aom_debug_words.specs.declared.answer.Answer.TheVariants.{At};
 ghost use Rattle.aom_debug_moves.specs.Next.{GoesFirst, begins_by, destroyed_under, destruction_of, next_in, next_of, spot_of};
 
 use aom_cells::NULL;
-use aom_classes::Linked;
 use aom_debug_words::{Answer, Spot};
 use aom_frames::{Task, TaskKind};
 use aom_image::{ClassNumber, Role};
+use aom_linked::Linked;
 use aom_parts::Parts;
 
 /// The first step of a destruction of a cell of that class.

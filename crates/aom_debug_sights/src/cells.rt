@@ -9,8 +9,8 @@ ghost use Rattle.aom_debug_sights.specs.Telling.{Tells, TellsPart, answers_text}
 
 use crate::cleanup::class_of;
 use crate::sending::{tell, tell_any};
-use aom_classes::Linked;
 use aom_debug_words::{Answer, DebugFault};
+use aom_linked::Linked;
 use aom_parts::Parts;
 use aom_run::Sink;
 

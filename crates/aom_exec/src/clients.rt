@@ -12,10 +12,10 @@ ghost use Rattle.aom_sound.specs.State.{State as StateRecord};
 ghost use Rattle.std.specs.Prelude.{◌≡◌, ◌<◌, ◌≤◌, ◌+◌, ◌^◌, ℕ, IfSome, None, false, length, suc, true};
 
 use crate::servers::note_queue;
-use aom_classes::Linked;
 use aom_clients::{Client, Clients, Refusal, Server};
 use aom_image::ClassKind;
 use aom_lines::Turn;
+use aom_linked::Linked;
 use aom_messages::Messages;
 use aom_parts::Parts;
 use aom_transcript::{Command, Line};

@@ -8,11 +8,11 @@ ghost use Rattle.std.specs.Prelude.{◌≡◌, ◌<◌, ℕ, IsSome, length};
 
 use crate::turns::run_under;
 use aom_cells::CellId;
-use aom_classes::Linked;
 use aom_clients::{Entry, Taken};
 use aom_frames::{Dispatch, Frame, Stage, Subject, Task};
 use aom_image::Role;
 use aom_lines::Turn;
+use aom_linked::Linked;
 use aom_messages::{MessageId, Messages};
 use aom_parts::Parts;
 use aom_transcript::{Asked, Line};

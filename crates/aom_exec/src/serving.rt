@@ -19,8 +19,8 @@ ghost use Rattle.std.specs.Prelude.{◌≡◌, ◌<◌, ◌+◌, ◌^◌, ◌&&�
 use crate::wanted;
 use aom_acts::TERMINATED;
 use aom_cells::CellId;
-use aom_classes::Linked;
 use aom_lines::Turn;
+use aom_linked::Linked;
 use aom_parts::Parts;
 use aom_transcript::Line;
 

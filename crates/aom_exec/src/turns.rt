@@ -8,10 +8,10 @@ ghost use Rattle.aom_exec.specs.Turns.{CanDispatch, Completed, Dispatches, IsIdl
 
 use crate::servers;
 use aom_cells::CellId;
-use aom_classes::Linked;
 use aom_frames::{Dispatch, Frame, Subject, Task};
 use aom_image::Role;
 use aom_lines::Turn;
+use aom_linked::Linked;
 use aom_parts::Parts;
 use aom_transcript::Line;
 

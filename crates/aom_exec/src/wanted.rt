@@ -12,9 +12,9 @@ ghost use Rattle.aom_sound.specs.Wanted.{wanted};
 ghost use Rattle.std.specs.Prelude.{◌≡◌, ◌<◌, IfSome, Some, false, option_map, true};
 
 use aom_cells::{CellId, NULL};
-use aom_classes::Linked;
 use aom_frames::TaskKind;
 use aom_image::{ClassKind, Instr, Provider};
+use aom_linked::Linked;
 use aom_parts::Parts;
 
 /// A call that is to be made on a native, for the cell of that number, before the step that hears its answer.

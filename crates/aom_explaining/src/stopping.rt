@@ -6,10 +6,11 @@ ghost use Rattle.aom_shape.specs.Whys.{why_number};
 ghost use Rattle.aom_verify.specs.Arrivals.{StopsAt};
 ghost use Rattle.aom_explaining.specs.Explained.{KnownThere, state_text, ways_differ, ways_line};
 
-use aom_classes::{LinkFault, Linked, link};
+use aom_classes::LinkFault;
 use aom_explain::put_known;
 use aom_figures::Writer;
 use aom_image::{Image, MethodNumber};
+use aom_linked::{Linked, link};
 use aom_rules::rule;
 use aom_shape::{Shape, Why};
 use aom_verify::{Stop, stop_of};

@@ -6,8 +6,8 @@ ghost use Rattle.aom_figures.specs.Classes.{kind_word, class_heading, thing_text
 use crate::Writer;
 use crate::over::{class_is_over, put_color};
 use aom_budget::Figures;
-use aom_classes::Linked;
 use aom_image::{ClassDecl, ClassKind, ClassNumber, Thing};
+use aom_linked::Linked;
 use std::alloc::AllocError;
 
 /// The number of the class at an index.

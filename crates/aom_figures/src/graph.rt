@@ -7,7 +7,7 @@ use crate::class::put_classes;
 use crate::method::put_methods;
 use crate::way::put_way;
 use aom_budget::Figures;
-use aom_classes::Linked;
+use aom_linked::Linked;
 use std::alloc::{AllocError, Global};
 
 /// The graph of an image in Graphviz's language, with its figures.

@@ -6,8 +6,8 @@ use crate::edge::put_code;
 use crate::over::{method_is_over, put_color};
 use crate::{Writer, method_number};
 use aom_budget::Figures;
-use aom_classes::Linked;
 use aom_image::{ClassNumber, Method, MethodNumber, Role};
+use aom_linked::Linked;
 use std::alloc::AllocError;
 
 fn put_role(out: &mut Writer, role: Role) -> Result<(), AllocError>

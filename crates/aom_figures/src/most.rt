@@ -3,8 +3,8 @@ ghost use Rattle.std.specs.Prelude.{◌≡◌, ◌<◌, length};
 ghost use Rattle.aom_figures.specs.Text.{most_below};
 
 use aom_budget::Figures;
-use aom_classes::Linked;
 use aom_image::MethodNumber;
+use aom_linked::Linked;
 
 /// The number of the method at an index.
 pub fn method_number(index: usize) -> MethodNumber

@@ -4,8 +4,8 @@ ghost use Rattle.aom_figures.specs.Over.{color_text, class_is_over, main_is_over
 
 use crate::Writer;
 use aom_budget::{Figures, budget_of};
-use aom_classes::Linked;
 use aom_image::{ClassDecl, ClassNumber, MethodNumber};
+use aom_linked::Linked;
 use std::alloc::AllocError;
 
 /// Whether a price is more than what is declared, where something is.

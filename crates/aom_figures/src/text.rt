@@ -9,8 +9,8 @@ ghost use Rattle.aom_budget.specs.Budgets.{budget_of};
 use crate::most::{method_number, most_of};
 use crate::writer::Writer;
 use aom_budget::{Figures, Payer, budget_of};
-use aom_classes::Linked;
 use aom_image::{ClassDecl, ClassNumber, MethodNumber};
+use aom_linked::Linked;
 use std::alloc::{AllocError, Global};
 
 /// The number of the class at an index.

@@ -6,8 +6,8 @@ ghost use Rattle.aom_figures.specs.Way.{bold_line, dearer, dearer_one, dearest, 
 use crate::Writer;
 use crate::edge::{Edge, put_arrow};
 use aom_budget::Figures;
-use aom_classes::Linked;
 use aom_image::{Instr, MethodNumber};
+use aom_linked::Linked;
 use std::alloc::AllocError;
 
 /// Whether an edge leads to a greater price than another, or to an equal one of a lower method.

@@ -4,7 +4,7 @@ ghost use Rattle.std.specs.List.{list_any};
 ghost use Rattle.aom_lines.specs.Turn.{step_lines};
 
 use crate::refusals::Refusals;
-use aom_classes::Linked;
+use aom_linked::Linked;
 use aom_transcript::Line;
 use std::alloc::{AllocError, Global};
 use std::marker::Model;

@@ -7,8 +7,8 @@ ghost use Rattle.aom_main.specs.Prices.{StopsEarly};
 
 use crate::Fault;
 use aom_budget::{Accepted, accept};
-use aom_classes::{Linked, link};
 use aom_codec::decode;
+use aom_linked::{Linked, link};
 use aom_verify::check;
 use std::alloc::Global;
 

@@ -11,8 +11,8 @@ ghost use Rattle.aom_shape.specs.declared.why.Why.TheVariants.{RegisterKind};
 use crate::active::{needs_states, server_states};
 use crate::rules::Ruling;
 use crate::words::with_word;
-use aom_classes::Linked;
 use aom_image::{ClassKind, ClassNumber, Provider, Register};
+use aom_linked::Linked;
 use aom_shape::{Flow, Why, judge};
 use aom_site::Site;
 

@@ -22,8 +22,8 @@ use crate::words::{
     rule_combine, rule_compare, rule_const, rule_copy, rule_jump, rule_load, rule_loop, rule_next,
     rule_print, rule_stop, rule_store,
 };
-use aom_classes::Linked;
 use aom_image::{Instr, MethodNumber};
+use aom_linked::Linked;
 use aom_shape::{Flow, Shape, Why};
 use aom_site::{Call, Site};
 

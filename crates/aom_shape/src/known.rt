@@ -11,8 +11,8 @@ ghost use Rattle.aom_shape.specs.declared.kind.Filling.TheVariants.{Perhaps};
 ghost use Rattle.aom_shape.specs.declared.kind.Kind.TheVariants.{Unset};
 
 use crate::{Age, Delivery, Filling, Kind};
-use aom_classes::Linked;
 use aom_image::{Argument, FieldIndex, MethodNumber, Role, States, Thing};
+use aom_linked::Linked;
 use std::marker::Model;
 
 /// What is known of the registers, of the fields and the request states of a method's object, and of the message in service.

@@ -19,10 +19,10 @@ ghost use Rattle.aom_shape.specs.declared.why.Why.TheVariants.{EntryState, Regis
 use crate::requests::{is_construct, may_begin, resting, unissued};
 use crate::site::{Site, gives, is_quiet, leaves};
 use crate::things::{is_own_for, may_be, stands_for};
-use aom_classes::Linked;
 use aom_image::{
     Argument, ClassNumber, EntryDepth, Gives, Method, MethodNumber, Register, States, Target, Thing,
 };
+use aom_linked::Linked;
 use aom_shape::{Age, Entry, Flow, Kind, Next, Shape, Why, judge, judge_all, only_if};
 
 /// A call, as its instruction says it.

@@ -12,8 +12,8 @@ ghost use Rattle.aom_shape.specs.declared.why.Why.TheVariants.{EntryState, Field
 
 use crate::site::Site;
 use crate::things::class_fields;
-use aom_classes::Linked;
 use aom_image::{ClassNumber, MethodNumber, Role, States, Target};
+use aom_linked::Linked;
 use aom_roles::resting_states;
 use aom_shape::{Shape, Why, only_if};
 use bitflags::Flags;

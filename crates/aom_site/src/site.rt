@@ -13,8 +13,8 @@ ghost use Rattle.aom_shape.specs.declared.why.Why.TheVariants.{PopEmpty, QuietBr
 
 use crate::requests::{is_service, unissued};
 use crate::things::{field_thing, is_own_for, may_be_declared, word_count};
-use aom_classes::Linked;
 use aom_image::{FieldIndex, Gives, MethodFlags, MethodNumber, Place, Register, Thing, WordIndex};
+use aom_linked::Linked;
 use aom_shape::{Flow, Next, Shape, Why};
 use bitflags::Flags;
 use std::marker::Model;

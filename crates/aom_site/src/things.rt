@@ -4,8 +4,8 @@ ghost use Rattle.aom_image.specs.Views.{fields_of, method_at};
 ghost use Rattle.aom_shape.specs.Kinds.{is_own_for, may_be, may_be_declared};
 ghost use Rattle.aom_shape.specs.Things.{stands_for, root_thing, field_thing, holder_by, holder_of, words_of, word_count};
 
-use aom_classes::Linked;
 use aom_image::{ClassNumber, FieldIndex, MethodNumber, Role, Thing};
+use aom_linked::Linked;
 use aom_roles::descends;
 use aom_shape::Kind;
 

@@ -8,8 +8,8 @@ ghost use Rattle.aom_verify.specs.Sweep.{HasPlaces};
 
 use crate::Refusal;
 use crate::sheet::Sheet;
-use aom_classes::Linked;
 use aom_image::MethodNumber;
+use aom_linked::Linked;
 use aom_shape::{Known, Shape};
 use std::alloc::Global;
 use std::marker::Model;

@@ -6,8 +6,8 @@ ghost use Rattle.aom_verify.specs.Faults.{Stops};
 ghost use Rattle.aom_verify.specs.Sweep.{Spans, Settles};
 
 use crate::states::{Fault, States};
-use aom_classes::Linked;
 use aom_image::MethodNumber;
+use aom_linked::Linked;
 use aom_shape::{Known, Shape};
 use std::alloc::{AllocError, Global};
 use std::marker::Model;

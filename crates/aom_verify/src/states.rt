@@ -14,8 +14,8 @@ ghost use Rattle.aom_verify.specs.Sweep.{Spans, AllWithin, Joins, Flows, Fails, 
 
 use crate::Refusal;
 use crate::change::{Change, Step};
-use aom_classes::Linked;
 use aom_image::MethodNumber;
+use aom_linked::Linked;
 use aom_rules::rule;
 use aom_shape::{
     Change as EntriesChange, Flow, Kept, Known, Pile, Piles, Shape, Way, Why, meet, weaker,

@@ -7,8 +7,8 @@ ghost use Rattle.aom_verify.specs.Arrivals.{StopsAt};
 use crate::checked::place_count;
 use crate::sheet::Sheet;
 use crate::states::Fault;
-use aom_classes::Linked;
 use aom_image::MethodNumber;
+use aom_linked::Linked;
 use aom_shape::{Known, Why};
 use std::alloc::{AllocError, Global};
 
