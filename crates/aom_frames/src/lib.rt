@@ -13,10 +13,12 @@ mod dispatch;
 mod frame;
 mod task;
 mod tasks;
+mod view;
 mod words;
 
 pub use dispatch::{Dispatch, Stage, Subject};
 pub use frame::Frame;
 pub use task::{Task, TaskKind};
 pub use tasks::Tasks;
+pub use view::View;
 pub use words::is_on_words;
