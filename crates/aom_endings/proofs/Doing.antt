@@ -23,7 +23,7 @@ use Rattle.aom_sound.specs.State.{A_mark, Accepts, An_object, An_operation, Asks
 use Rattle.aom_sound.specs.Words.{loaded, stored}
 use Rattle.aom_endings.proofs.NamedCells.{held_renamed, moved_renamed, order_kept, set_request_renamed, set_word_field_renamed, tasks_counted, timer_kept, word_field_kept, in_session_kept, set_session_renamed, cond_applied, without_renamed}
 use Rattle.aom_endings.proofs.Serving.{opened_client_renamed, opens_renamed}
-use Rattle.aom_endings.proofs.Needs.{call_kept, field_renamed, free_at, given_renamed, held_field, holder_kept, kind_kept, leave_kept, message_at, own_request_kept, push_kept, pushed_renamed, put_kept, refusal_kept, register_renamed, reply_kept, return_kept, take_message_kept, trap_kept, under_trap_kept, whole_kept}
+use Rattle.aom_endings.proofs.Needs.{call_kept, field_renamed, free_at, given_renamed, held_field, holder_kept, kind_kept, leave_kept, message_at, own_request_kept, push_kept, pushed_renamed, put_kept, refusal_kept, register_renamed, reply_kept, return_kept, take_message_kept, trap_kept, under_trap_kept, view_kept, whole_kept}
 use Rattle.aom_endings.specs.Names.{IsOneToOne, renamed, renamed_cells, renamed_clients, renamed_choice, renamed_dispatch, renamed_frame, renamed_home, renamed_object, renamed_place, renamed_tasks}
 use Rattle.aom_rules.specs.Requests.{is_cancel}
 use Rattle.aom_sound.specs.Natives.{own_session, resessioned}
@@ -258,9 +258,15 @@ module _ (names : ℕ → ℕ) (one_to_one : IsOneToOne names) (p : Image) (c : 
 
   applied_renamed : (e : Effect) → applied p fr' ts' s' (renamed_effect names e) ≡ renamed names (applied p fr ts s e)
   applied_renamed (Goes_on ch) = rw (cells_renamed ch.update, items_kept ch.update s.items)
-  applied_renamed (Calls target m first) = rw (given_renamed names one_to_one p c fr ts s (Run fr ∷ ts) m first, target_renamed target (method_class p m))
-  applied_renamed (Sets_trap target m first) = rw (given_renamed names one_to_one p c fr ts s (Trapped ∷ Run fr ∷ ts) m first, target_renamed target (method_class p m))
-  applied_renamed (Cancels m) = rw (own_request_kept names one_to_one s.cells fr.home, rerequested_renamed names one_to_one s.cells fr.home (on_request cancelling (own_request s.cells fr.home)))
+  applied_renamed (Calls target m first) = rw (given_renamed names one_to_one p c fr ts s (Run fr ∷ ts) m first, target_renamed target (method_class p m), view_kept names (target_home p fr ts s target (method_class p m)))
+  applied_renamed (Sets_trap target m first) =
+      rw (given_renamed names one_to_one p c fr ts s (Trapped ∷ Run fr ∷ ts) m first, target_renamed target (method_class p m), view_kept names (target_home p fr ts s target (method_class p m)))
+  applied_renamed (Cancels m) =
+      rw (
+        own_request_kept names one_to_one s.cells fr.home,
+        rerequested_renamed names one_to_one s.cells fr.home (on_request cancelling (own_request s.cells fr.home)),
+        view_kept names fr.home,
+      )
   applied_renamed (Returns g a) =
       ap (λ cs. returned p fr' ts' (record s' { cells = cs }) g a ts') (ended_renamed names one_to_one p c fr ts s)
       ∙ returned_renamed names one_to_one p c fr ts (record s { cells = ended_cells p fr s.cells }) g a ts

@@ -19,7 +19,7 @@ use Rattle.aom_sound.specs.Objects.{is_declared_thing, is_no_message, is_thing, 
 use Rattle.aom_sound.specs.Places.{Cell, Elsewhere, Entry, In_service, Object, Place, Register, Session, held, moved}
 use Rattle.aom_sound.specs.Destruction.{needs_emptied}
 use Rattle.aom_sound.specs.Servers.{without_queue}
-use Rattle.aom_sound.specs.State.{A_mark, Accepts, An_object, An_operation, Asks, AtRoot, Choice, Destroy, Dispatch, Dispatched, Frame, Home, Inside, IsStuck, Item, MessageLost, Need, Of_server, Orphan, Run, Serves, State, Static, Task, Trapped, Unbalanced, field_place, guarded, home_holder}
+use Rattle.aom_sound.specs.State.{A_mark, Accepts, An_object, An_operation, Asks, AtRoot, Choice, Destroy, Dispatch, Dispatched, Frame, Home, Inside, IsStuck, Item, MessageLost, Need, Of_server, Orphan, Run, Serves, State, Static, Task, Trapped, Unbalanced, field_place, guarded, home_holder, home_view}
 use Rattle.aom_sound.specs.Words.{needs_word}
 use Rattle.aom_endings.proofs.NamedCells.{emptied_kept, held_renamed, moved_renamed, none_owns_kept, requested_kept, tasks_counted}
 use Rattle.aom_endings.proofs.Serving.{without_queue_renamed}
@@ -60,6 +60,11 @@ module _ (names : ℕ → ℕ) where
   holder_kept Static = refl
   holder_kept AtRoot = refl
   holder_kept (Inside o from) = refl
+
+  pub view_kept : (h : Home) → home_view (renamed_home names h) ≡ home_view h
+  view_kept Static = refl
+  view_kept AtRoot = refl
+  view_kept (Inside o from) = refl
 
   pub kind_kept : (p : Image) (h : Home) → home_kind p (renamed_home names h) ≡ home_kind p h
   kind_kept p Static = refl

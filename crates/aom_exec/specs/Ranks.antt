@@ -1,5 +1,5 @@
 -- A number that falls with each step, while something is at hand: the rank of the states that a machine stands for.
-use Rattle.std.specs.Prelude.{ℕ, ◌+◌, ◌-◌, ◌*◌, suc, List, [], ◌∷◌, map}
+use Rattle.std.specs.Prelude.{ℕ, ◌+◌, ◌-◌, ◌*◌, suc, List, [], ◌∷◌, map, None}
 use Rattle.aom_cells.specs.Heap.{count}
 use Rattle.aom_image.specs.Image.{Image}
 use Rattle.aom_parts.specs.declared.parts.Parts.{Parts}
@@ -14,7 +14,7 @@ use Rattle.aom_parts.specs.Agrees.{dispatch_of}
 
 -- a task, by all that its rank hangs on
 abbrev pub ranked : Held_task → Task
-ranked (Runs_frame f) = Run (record { method = f.method; place = f.place; words = []; counters = f.counters; home = Static; height = 0 })
+ranked (Runs_frame f) = Run (record { method = f.method; place = f.place; words = []; counters = f.counters; home = Static; height = 0; view = None })
 ranked Is_trap = Trapped
 ranked (Destroys x) = Destroy
 ranked Closes = Closing

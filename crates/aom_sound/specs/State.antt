@@ -1,5 +1,5 @@
 -- The state of the checked machine.
-use Rattle.std.specs.Prelude.{ℕ, suc, ℤ, Bool, cond, ◌+◌, ◌-◌, ◌^◌, min, List, [], ◌∷◌, Option, None, FitsSigned}
+use Rattle.std.specs.Prelude.{ℕ, suc, ℤ, Bool, cond, ◌+◌, ◌-◌, ◌^◌, min, List, [], ◌∷◌, Option, Some, None, FitsSigned}
 use Rattle.std.specs.Int.{w32}
 use Rattle.aom_image.specs.declared.method.Thing.{Thing}
 use Rattle.aom_image.specs.declared.method.Thing.TheVariants.{Object as An_object_of, Message}
@@ -25,6 +25,8 @@ pub record Frame : Type 0 where
   pub home : Home
   -- how many items the cleanup stack had as it began
   pub height : ℕ
+  -- the class that its object counts as
+  pub view : Option ℕ
 
 -- an object, and the place that owns it
 pub record Seat : Type 0 where
@@ -171,8 +173,22 @@ next fr = record fr { place = suc fr.place }
 abbrev pub to_place : Frame → ℕ → Frame
 to_place fr to = record fr { place = to }
 
+-- an object counts as its class
+abbrev pub thing_view : Thing → Option ℕ
+thing_view (An_object_of c) = Some c
+thing_view Message = None
+
+abbrev pub home_view : Home → Option ℕ
+home_view Static = None
+home_view AtRoot = None
+home_view (Inside o from) = thing_view o.thing
+
+-- a method begins on what counts as that class
+abbrev pub frame_as : ℕ → Home → Option ℕ → ℕ → Frame
+frame_as m home view height = record { method = m; place = 0; words = []; counters = []; home = home; height = height; view = view }
+
 abbrev pub frame_of : ℕ → Home → ℕ → Frame
-frame_of m home height = record { method = m; place = 0; words = []; counters = []; home = home; height = height }
+frame_of m home height = frame_as m home (home_view home) height
 
 -- the place of a field, and whose fields these are
 abbrev pub field_place : Home → ℕ → Place
