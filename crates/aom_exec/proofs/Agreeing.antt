@@ -8,21 +8,22 @@ use Rattle.aom_image.specs.Image.{Image}
 use Rattle.aom_image.specs.declared.method.Thing.{Thing}
 use Rattle.aom_shape.specs.Kinds.{entry_kind, field, filled}
 use Rattle.aom_shape.specs.Shape.{Shape}
-use Rattle.aom_shape.specs.Things.{Program, field_thing}
+use Rattle.aom_shape.specs.Things.{Program, field_thing, holder_of}
 use Rattle.aom_rules.specs.Typing.{Typing, shape_at}
 use Rattle.aom_shape.specs.declared.kind.Entry.{Entry as Pushed}
 use Rattle.aom_shape.specs.declared.kind.Filling.{Filling}
 use Rattle.aom_shape.specs.declared.kind.Filling.TheVariants.{Empty, Perhaps}
 use Rattle.aom_shape.specs.declared.kind.Kind.{Kind}
 use Rattle.aom_shape.specs.declared.kind.Kind.TheVariants.{Maybe, Null, Own, Unset, Word}
+use Rattle.aom_sound.proofs.Housing.{houses_field}
 use Rattle.aom_sound.proofs.Items.{length_forms}
 use Rattle.aom_sound.proofs.Maps.{held_lives, one_place}
 use Rattle.aom_sound.proofs.Straight.{claim_field}
-use Rattle.aom_sound.specs.Claims.{Dispatching, Dying, Ending, Layer, Mark, Mark_form, Method, Object_form, Unwinding, claim, declared, declared_field, entry_claim, entry_form, form, forms, home_claim, is_of_root, items_of, objects, root_claim}
+use Rattle.aom_sound.specs.Claims.{Dispatching, Dying, Ending, Layer, Mark, Mark_form, Method, Object_form, Unwinding, claim, declared, declared_field, entry_claim, entry_form, form, forms, home_claim, is_of_root, items_of, objects, own_field, root_claim}
 use Rattle.aom_sound.specs.Owned.{over}
 use Rattle.aom_sound.specs.Places.{Cell, Elsewhere, Entry, Field, Object, Place, Register, Root, Sight, held, named, seen}
-use Rattle.aom_sound.specs.State.{An_object, AtRoot, Closing, Destroy, Dispatched, Frame, Home, Inside, Item, Run, State, Static, Task, Trapped, Unwind, field_place, thing_holder, word}
-use Rattle.aom_sound.specs.WellTyped.{Back, Caught, Fits, Gone, IsHoused, Leaves, Now, Returns, Stack, Good}
+use Rattle.aom_sound.specs.State.{An_object, AtRoot, Closing, Destroy, Dispatched, Frame, Home, Inside, Item, Run, State, Static, Task, Trapped, Unwind, field_place, home_holder, thing_holder, word}
+use Rattle.aom_sound.specs.WellTyped.{Back, Caught, Fits, Gone, Houses, IsHoused, Leaves, Now, Returns, Stack, Good}
 use Rattle.aom_sound.proofs.Layers.{method_layer}
 use Rattle.aom_exec.specs.Agreement.{Agreement, AgreesInAll, FieldsAgree, NumberSays, RegistersAgree}
 use Rattle.aom_parts.specs.Agrees.{Shows, number, word_at, word_in, word_of}
@@ -91,20 +92,23 @@ module _ (p : Image) (t : Typing) (cs : List Cell) (n : ℕ) (o : Option Object)
 
   field_says : (x : Object) (f : ℕ) → named cs x.name ≡ Some x → (ls : List Layer) (back : Back) → Stack p t cs back ls → F (claim p (declared p cs) ls (Field x.name f)) → Declared x f
   field_says x f lives [] back st fits = declared_says p (seen cs) (field_thing p (thing_holder x.thing) f) Perhaps n o same (subst (λ y. F (declared_field p y f)) lives fits)
-  field_says x f lives (Method fr sh ∷ ls) back st fits = go fr.home st.2 (field_says x f lives ls (Returns fr.method fr.home) st.4) fits
+  field_says x f lives (Method fr sh ∷ ls) back st fits = go fr.home st.1.holder st.2 (field_says x f lives ls (Returns fr.method fr.home) st.4) fits
     where
-      go : (home : Home) → IsHoused p cs ls home → (F (claim p (declared p cs) ls (Field x.name f)) → Declared x f)
-          → F (home_claim p home sh x.name f (claim p (declared p cs) ls (Field x.name f))) → Declared x f
-      go Static housed below fits = below fits
-      go AtRoot housed below fits = below fits
-      go (Inside y from) housed below fits = inside (y.name == x.name) refl fits
+      go : (home : Home) → Houses p (home_holder home) (holder_of p fr.method) → IsHoused p cs ls home → (F (claim p (declared p cs) ls (Field x.name f)) → Declared x f)
+          → F (home_claim p (holder_of p fr.method) home sh x.name f (claim p (declared p cs) ls (Field x.name f))) → Declared x f
+      go Static houses housed below fits = below fits
+      go AtRoot houses housed below fits = below fits
+      go (Inside y from) houses housed below fits = inside (y.name == x.name) refl (field_thing p (holder_of p fr.method) f) refl fits
         where
-          inside : (b : Bool) → (y.name == x.name) ≡ b → F (cond b (filled (field_thing p (thing_holder y.thing) f) (field sh f)) (claim p (declared p cs) ls (Field x.name f))) → Declared x f
-          inside true e fits =
+          inside :
+              (b : Bool) → (y.name == x.name) ≡ b → (own : Option Thing) → field_thing p (holder_of p fr.method) f ≡ own →
+              F (cond b (own_field own (field sh f) (claim p (declared p cs) ls (Field x.name f))) (claim p (declared p cs) ls (Field x.name f))) → Declared x f
+          inside true e None is fits = below fits
+          inside true e (Some z) is fits =
               let alike : y ≡ x = same_Some y x (sym housed.lives ∙ ap (λ k. named cs k) (eqb-true y.name x.name e) ∙ lives) in
               declared_says p (seen cs) (field_thing p (thing_holder x.thing) f) (field sh f) n o same
-              (subst (λ (z : Object). F (filled (field_thing p (thing_holder z.thing) f) (field sh f))) alike fits)
-          inside false e fits = below fits
+              (subst (λ (z : Object). F (filled (field_thing p (thing_holder z.thing) f) (field sh f))) alike (subst (λ k. F (filled k (field sh f))) (sym (houses.fields f z is)) fits))
+          inside false e own is fits = below fits
   field_says x f lives (Mark gv ∷ ls) back st fits = field_says x f lives ls (Caught gv) st.1 fits
   field_says x f lives (Unwinding code es ∷ ls) back st fits = field_says x f lives ls Leaves st.1 fits
   field_says x f lives (Dispatching d seats ∷ ls) back st fits =
@@ -239,7 +243,8 @@ module _ (m : Machine) (s : State) (st : StandsFor m s) where
         typed = there;
         fields = λ f thing declares.
             let q = field_place g.home f in
-            let claims = claim_field p (declared p s.cells) g sh ls g.home f refl (ap is_some declares) ∙ ap (λ x. filled x (field sh f)) declares in
+            let own = houses_field p _ _ f good.stack.1.holder (ap is_some declares) ∙ declares in
+            let claims = claim_field p (declared p s.cells) g sh ls g.home f refl (own ∙ sym declares) (ap is_some own) ∙ ap (λ x. filled x (field sh f)) own in
             filled_says p (seen s.cells) thing (field sh f) (value m.parts q) (held s.cells q) (plain q (no_word_there g.home f))
             (subst (λ k. Fits p (seen s.cells) (held s.cells q) k) claims (good.fits q));
       }

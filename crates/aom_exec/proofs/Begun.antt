@@ -184,7 +184,7 @@ module _ (p : Image) (m : Machine_parts) (s : State) (st : StandsFor (record { i
   affords = subst (λ t. price_of p st.sound.prices (class_of t) ≤ declared_of p (class_of t)) (sym thing) (st.sound.objects.each class)
 
   pays : (u : State) → picked p x s ≡ Goes u → left p st.sound.prices u ≤ price_of p st.sound.prices (payer u.tasks)
-  pays u goes = picking p st.typing st.sound.prices st.sound.linked st.sound.affordable.priced s st.typed idle (Picks x) lives refl u goes
+  pays u goes = picking p st.typing st.sound.prices st.sound.wired.family st.sound.linked st.sound.affordable.priced s st.typed idle (Picks x) lives refl u goes
 
   -- ---- a method begins, on these words
 

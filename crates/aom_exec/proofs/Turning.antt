@@ -488,7 +488,7 @@ module _ (p : Image) (m : Parts) (s : State) (st : StandsFor (record { image = p
 
       -- it costs no more than its class declares
       dispatch_within : KeepsWithin p st.sound.prices then
-      dispatch_within = record { within = omega (arith, picking p st.typing st.sound.prices st.sound.linked st.sound.affordable.priced s st.typed idle (Picks k.found.candidate.seat) lives refl then goes, affords) }
+      dispatch_within = record { within = omega (arith, picking p st.typing st.sound.prices st.sound.wired.family st.sound.linked st.sound.affordable.priced s st.typed idle (Picks k.found.candidate.seat) lives refl then goes, affords) }
         where
           affords : price_of p st.sound.prices (payers.class_of object.thing) ≤ declared_of p (payers.class_of object.thing)
           affords = subst (λ t. price_of p st.sound.prices (payers.class_of t) ≤ declared_of p (payers.class_of t)) (sym thing) (st.sound.objects.each d.class)

@@ -6,14 +6,14 @@ use Rattle.aom_image.specs.Views.{instr_at}
 use Rattle.aom_image.specs.declared.method.Thing.{Thing}
 use Rattle.aom_shape.specs.Kinds.{field, filled, register}
 use Rattle.aom_shape.specs.Shape.{Shape}
-use Rattle.aom_shape.specs.Things.{Program, field_thing, stands_for}
+use Rattle.aom_shape.specs.Things.{Program, field_thing, holder_of, stands_for}
 use Rattle.aom_rules.specs.Typing.{Typing, shape_at}
 use Rattle.aom_shape.specs.declared.kind.Filling.TheVariants.{Perhaps}
 use Rattle.aom_shape.specs.declared.kind.Kind.{Kind}
 use Rattle.aom_shape.specs.declared.kind.Kind.TheVariants.{Maybe, Null, Own, Unset, Word}
 use Rattle.aom_sound.specs.Owned.{over}
 use Rattle.aom_sound.specs.Places.{Elsewhere, Entry, Field, Object, Place, Register, Root, held, named}
-use Rattle.aom_sound.specs.State.{An_object, Frame, Run, State, Task, field_place, home_holder, thing_holder}
+use Rattle.aom_sound.specs.State.{An_object, Frame, Run, State, Task, field_place, thing_holder}
 use Rattle.aom_bounds.specs.Strongest.{IsStrongest}
 use Rattle.aom_parts.specs.declared.parts.Parts.{Parts}
 use Rattle.aom_parts.specs.Agrees.{word_at}
@@ -52,11 +52,11 @@ pub record RegistersAgree (p : Image) (t : Typing) (m : Parts) (s : State) (abov
   pub typed : shape_at t fr.method fr.place ≡ Some shape
   pub registers : (i : ℕ) → NumberSays p (register (state_under p above fr shape) i) (value m (Register depth i)) (held s.cells (Register depth i))
 
--- so are the fields that it works on
+-- so are the fields that the method's class declares
 pub record FieldsAgree (p : Image) (t : Typing) (m : Parts) (s : State) (fr : Frame) : Type 0 where
   pub shape : Shape
   pub typed : shape_at t fr.method fr.place ≡ Some shape
-  pub fields : (f : ℕ) (thing : Thing) → field_thing p (home_holder fr.home) f ≡ Some thing
+  pub fields : (f : ℕ) (thing : Thing) → field_thing p (holder_of p fr.method) f ≡ Some thing
       → NumberSays p (filled (Some thing) (field shape f)) (value m (field_place fr.home f)) (held s.cells (field_place fr.home f))
 
 pub record Agreement (m : Machine) (s : State) : Type 0 where

@@ -171,7 +171,7 @@ module _ (p : Image) (t : Typing) (c : Choice) (s : State) (fr : Frame) (sh : Sh
         go false e f =
             let bare = subst (λ y. Fits p (seen cs1) (held cs1 r) y) (sym (claim-set_register p (declared p cs) fr sh below a Null r)) f in
             let over =
-            ended p cs fr (set_register sh a Null) below at_hand.good.stack.2 at_hand.good.stack.3 refl entries rest_free (λ serving. absurd (at_hand.good.stack.1.message.0 serving)) r
+            ended p cs fr (set_register sh a Null) below at_hand.good.stack.1.holder at_hand.good.stack.2 at_hand.good.stack.3 refl entries rest_free (λ serving. absurd (at_hand.good.stack.1.message.0 serving)) r
             (seen cs1) (held cs1 r) bare in
             subst (λ y. Fits p (seen cs1) (held cs1 r) y)
             (mark_claims p (declared p cs) gv (Dispatching (Of_server x client Accepts) seats ∷ ls) r ∙ sym (claims_alike (declared p cs) r)

@@ -19,6 +19,7 @@ use Rattle.aom_shape.specs.declared.kind.Kind.{Kind}
 use Rattle.aom_shape.specs.declared.kind.Kind.TheVariants.{Unset}
 use Rattle.aom_sound.proofs.Destroying.{at_alike}
 use Rattle.aom_sound.proofs.Entering.{Entering, enters}
+use Rattle.aom_sound.proofs.Housing.{houses_role}
 use Rattle.aom_sound.specs.Claims.{Dispatching, Layer, claim, declared, forms}
 use Rattle.aom_sound.specs.Enlisted.{part_of}
 use Rattle.aom_sound.specs.Laws.{IsAnswerer, IsWired}
@@ -88,7 +89,7 @@ module _ (p : Image) (t : Typing) (wired : IsWired p) (typed : IsTyped p t) (s :
         tidy = good.tidy;
         sits = good.stack.2;
         there = it.2.there;
-        holder = ap (λ r. holder_by r (method_class p m)) it.2.role ∙ ap (λ k. holder_by (Some Error) k) it.2.class ∙ sym (ap thing_holder it.1);
+        holder = houses_role p wired.family x.object.thing it.0 m it.1 it.2.family (ap (λ r. holder_by r (Some it.2.family.class)) it.2.role);
         plain = ap is_cancel it.2.role;
         words = λ i. subst (λ xs. WordFits (at None (Some code ∷ []) i) (at Unset (map argument_kind xs) i)) (sym it.2.arguments) (word i);
         free = λ i. subst (λ xs. Fits p (seen s.cells) None (at Unset (map argument_kind xs) i)) (sym it.2.arguments) (empty i);

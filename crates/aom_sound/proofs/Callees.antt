@@ -9,6 +9,7 @@ use Rattle.aom_image.specs.declared.method.Argument.TheVariants.{Own as Takes_ow
 use Rattle.aom_image.specs.declared.method.Role.{Role}
 use Rattle.aom_image.specs.declared.method.Role.TheVariants.{Cancel, Construct, Do, Main}
 use Rattle.aom_image.specs.declared.method.Thing.{Thing}
+use Rattle.aom_image.specs.declared.method.Thing.TheVariants.{Message, Object as An_object_of}
 use Rattle.aom_shape.specs.Arguments.{arguments_moved}
 use Rattle.aom_rules.specs.Calls.{is_among}
 use Rattle.aom_shape.specs.Kinds.{is_own_for, filled, is_ready_kind, is_unowning, none_owns, register, set_register}
@@ -31,10 +32,9 @@ use Rattle.aom_sound.specs.Places.{Cell, Object, Place, Sight, held, moved, same
 use Rattle.aom_sound.specs.State.{Frame, Home, Inside, State, home_holder, thing_holder}
 use Rattle.aom_sound.specs.WellTyped.{Fits, Houses, IsBelow}
 use Rattle.aom_sound.specs.Requests.{thing_kind}
-use Rattle.aom_roles.proofs.Descending.{one_class}
-use Rattle.aom_roles.specs.Families.{HasNoParents, descends}
+use Rattle.aom_roles.specs.Families.{descends}
 use Rattle.aom_roles.specs.Shapes.{kind_of}
-use Rattle.aom_sound.specs.Enlisted.{cancel_method}
+use Rattle.aom_sound.specs.Enlisted.{cancel_method, cancel_of}
 use Rattle.aom_sound.specs.Laws.{IsWired}
 use Rattle.aom_image.specs.Views.{is_quiet, method_class, method_role}
 use Rattle.aom_classes.specs.Roles.{role_of}
@@ -149,7 +149,12 @@ module _ (p : Image) (s : State) (fr : Frame) (ls : List Layer) (depth : ℕ) (d
 
 -- the method that cancels is quiet
 pub cancel_quiet : (p : Image) → IsWired p → (home : Home) (m : ℕ) → cancel_method p home ≡ Some m → is_quiet p m ≡ true
-cancel_quiet p wired x m e = grind arith
+cancel_quiet p wired (Inside o from) m e = of_thing o.thing e
+  where
+    of_thing : (x : Thing) → cancel_of p x ≡ Some m → is_quiet p m ≡ true
+    of_thing (An_object_of c) e = (wired.cancels m (wired.canceller c m e).1).0
+    of_thing Message e = cc
+cancel_quiet p wired _ m e = cc
 
 -- what a method works on is of the method's class, and so is the method that cancels for it
 class_of_member : (r : Option Role) (class : Option ℕ) (c : ℕ) → Member c ≡ holder_by r class → class ≡ Some c
@@ -167,9 +172,3 @@ cancel_family p h m k houses e =
     let above = houses.member works.0 works.1 in
     let same : above.0 ≡ home.0 = let both = sym above.1 ∙ home.1 in cc in
     (home.0, works.0, class_of_member (method_role p m) (method_class p m) works.0 (sym works.1), subst (λ b. descends p b works.0 ≡ true) same above.2, home.2)
-
--- it is of the method's own class, where no class has a parent
-pub cancel_class : (p : Image) → HasNoParents p → (h : Home) (m k : ℕ) → Houses p (home_holder h) (holder_of p m) → cancel_method p h ≡ Some k → (c : ℕ) × (method_class p m ≡ Some c) × (role_of p c Cancel ≡ Some k)
-cancel_class p none h m k houses e =
-    let its = cancel_family p h m k houses e in
-    (its.1, its.2, subst (λ c. role_of p c Cancel ≡ Some k) (one_class p none its.0 its.1 its.3) its.4)

@@ -39,10 +39,11 @@ use Rattle.aom_sound.proofs.Maps.{at-put_at, held_lives, same_place-true}
 use Rattle.aom_sound.proofs.Passing.{Passed, filled_weaker_below, filling, lower, under, upper}
 use Rattle.aom_sound.proofs.Straight.{At, claim_field, claim_register, field_fits, field_not_from, field_outside, fits_unowning, kind_fits, top, word_of_object}
 use Rattle.aom_sound.proofs.Things.{stands_along}
+use Rattle.aom_sound.proofs.Waiting.{waits_unclaimed}
 use Rattle.aom_sound.proofs.Housing.{houses_family, houses_field, houses_same}
 use Rattle.aom_roles.specs.Families.{descends}
 use Rattle.aom_sound.specs.Calls.{entry_place, home_at, needs_result, needs_target, needs_target_object, own_home, passed_cells, passed_words, target_home, works_on}
-use Rattle.aom_sound.specs.Claims.{serves, delivered, Layer, Method, claim, declared, declared_field, entry_claim, forms, home_claim, items_of, layer_claim, objects, root_claim, tasks_of}
+use Rattle.aom_sound.specs.Claims.{own_field, serves, delivered, Layer, Method, claim, declared, declared_field, entry_claim, forms, home_claim, items_of, layer_claim, objects, root_claim, tasks_of}
 use Rattle.aom_sound.specs.Laws.{IsCalled, IsWired}
 use Rattle.aom_sound.specs.Places.{In_service, Cell, Elsewhere, Entry, Field, Going, Object, Place, Register, Root, held, named, requested, same_place, seen}
 use Rattle.aom_sound.specs.State.{AtRoot, Choice, Frame, Home, Inside, Run, State, Static, WrongKind, field_place, frame_of, home_holder, thing_holder, word}
@@ -137,18 +138,23 @@ module _ (p : Image) (t : Typing) (wired : IsWired p) (typed : IsTyped p t) (c :
         go true h = fits_weaker p (seen cs) (held cs (Register f i)) (w.registers i) h
         go false h = h
     begins home sh' e after w (Entry k) = subst (λ es. Fits p (seen cs) (held cs (Entry k)) (claims_over Static (record after { entries = es }) sh' (Entry k))) (sym w.entries) (e.fits (Entry k))
-    begins home sh' e after w (Field n f) = go home e.fields
+    begins home sh' e after w (Field n f) = go home e.holder e.fields
       where
-        go : (home : Home) → FieldsBegin home → Fits p (seen cs) (held cs (Field n f)) (home_claim p home after n f (claim p (declared p cs) (Method fr sh' ∷ ls) (Field n f)))
-        go Static b = e.fits (Field n f)
-        go AtRoot b = e.fits (Field n f)
-        go (Inside o from) b = inside (o.name == n) refl
+        below : Kind
+        below = claim p (declared p cs) (Method fr sh' ∷ ls) (Field n f)
+
+        go : (home : Home) → Houses p (home_holder home) (holder_of p m) → FieldsBegin home → Fits p (seen cs) (held cs (Field n f)) (home_claim p (holder_of p m) home after n f below)
+        go Static houses b = e.fits (Field n f)
+        go AtRoot houses b = e.fits (Field n f)
+        go (Inside o from) houses b = inside (o.name == n) refl (field_thing p (holder_of p m) f) refl
           where
-            inside : (at : Bool) → (o.name == n) ≡ at → Fits p (seen cs) (held cs (Field n f)) (cond at (filled (field_thing p (thing_holder o.thing) f) (field after f)) (claim p (declared p cs) (Method fr sh' ∷ ls) (Field n f)))
-            inside true same =
-                subst (λ k. Fits p (seen cs) (held cs (Field k f)) (filled (field_thing p (thing_holder o.thing) f) (field after f))) (eqb-true o.name n same)
-                (fits_weaker p (seen cs) (held cs (Field o.name f)) (filled_weaker (field_thing p (thing_holder o.thing) f) (w.fields f)) (b f))
-            inside false other = e.fits (Field n f)
+            inside : (at : Bool) → (o.name == n) ≡ at → (own : Option Thing) → field_thing p (holder_of p m) f ≡ own → Fits p (seen cs) (held cs (Field n f)) (cond at (own_field own (field after f) below) below)
+            inside true same (Some x) is =
+                subst (λ k. Fits p (seen cs) (held cs (Field k f)) (filled (Some x) (field after f))) (eqb-true o.name n same)
+                (fits_weaker p (seen cs) (held cs (Field o.name f)) (filled_weaker (Some x) (w.fields f))
+                (subst (λ y. Fits p (seen cs) (held cs (Field o.name f)) (filled y (field (entry_shape p m) f))) (houses.fields f x is) (b f)))
+            inside true same None is = e.fits (Field n f)
+            inside false other own is = e.fits (Field n f)
     begins home sh' e after w (Elsewhere Root) = go home e.fields
       where
         go : (home : Home) → FieldsBegin home → Fits p (seen cs) (held cs (Elsewhere Root)) (claims_over home after sh' (Elsewhere Root))
@@ -210,7 +216,7 @@ module _ (p : Image) (t : Typing) (wired : IsWired p) (typed : IsTyped p t) (c :
         as_begun after w (Entry k) =
             ap (λ es. entry_claim es (items_of over) k (claim p (declared p cs) over (Entry k))) w.entries ∙ same (declared p cs) (Entry k)
             ∙ sym (ap (λ es. entry_claim es [] k (claim p (declared p cs) (Method fr sh' ∷ ls) (Entry k))) w.entries)
-        as_begun after w (Field n f) = ap (λ k. home_claim p home after n f k) (same (declared p cs) (Field n f))
+        as_begun after w (Field n f) = ap (λ k. home_claim p (holder_of p m) home after n f k) (same (declared p cs) (Field n f))
         as_begun after w (Elsewhere Root) = ap (λ k. root_claim p home after k) (same (declared p cs) (Elsewhere Root))
         as_begun after w (Elsewhere In_service) = ap (λ k. cond (serves p m) (delivered after.delivery) k) (same (declared p cs) (Elsewhere In_service))
         as_begun after w (Elsewhere o) = same (declared p cs) (Elsewhere o)
@@ -366,10 +372,9 @@ module _ (p : Image) (t : Typing) (wired : IsWired p) (typed : IsTyped p t) (c :
             (subst (λ b. Suits (thing_kind p x.thing) (cond b (known_at p fr after_arguments.states (below x)) (below x)) (requested cs x.name)) off (passed.suits x lives))
 
         own_fields : Unclaimed p (λ f. filled (field_thing p (thing_holder o.thing) f) Perhaps) o.name (Method fr (worked ended) ∷ ls)
-        own_fields f =
-            ap (λ h. home_claim p h (worked ended) o.name f (claim p (by_field (λ f. filled (field_thing p (thing_holder o.thing) f) Perhaps)) ls (Field o.name f))) eh
-            ∙ ap (λ b. cond b (filled (field_thing p (thing_holder o.thing) f) (field (worked ended) f)) (claim p (by_field (λ f. filled (field_thing p (thing_holder o.thing) f) Perhaps)) ls (Field o.name f))) (eq-eqb o.name _ refl)
-            ∙ ap (λ x. filled (field_thing p (thing_holder o.thing) f) x) (at_alike 8 Perhaps f)
+        own_fields =
+            let houses = subst (λ h. Houses p (home_holder h) (holder_of p fr.method)) eh at_hand.good.stack.1.holder in
+            waits_unclaimed p t s.cells fr o from eh (worked ended) ls houses (subst (λ h. IsApart p h ls) eh at_hand.good.stack.3) at_hand.good.stack.4 (λ f. at_alike 8 Perhaps f)
 
     -- where an object stood before the arguments were passed, it stands after
     stays_at :
@@ -491,7 +496,7 @@ module _ (p : Image) (t : Typing) (wired : IsWired p) (typed : IsTyped p t) (c :
 
     -- what a field owns
     module _ (f y : ℕ) (class : method_class p m ≡ Some y) (z : Thing) (a : Age) (kind : filled (field_thing p (home_holder fr.home) f) (field sh f) ≡ Own z a)
-        (for : stands_for p z (An_object_of y) ≡ true) (some : is_some (field_thing p (home_holder fr.home) f) ≡ true) (role : method_role p m ≡ Some Do) where
+        (for : stands_for p z (An_object_of y) ≡ true) (some : is_some (field_thing p (home_holder fr.home) f) ≡ true) (own : is_some (field_thing p (holder_of p fr.method) f) ≡ true) (role : method_role p m ≡ Some Do) where
       abbrev spot : Place
       spot = field_place fr.home f
 
@@ -501,7 +506,7 @@ module _ (p : Image) (t : Typing) (wired : IsWired p) (typed : IsTyped p t) (c :
       aside_field (Inside o from) i j = refl
 
       kept_in : (o : Object) × (held s.cells spot ≡ Some o) × (stands_for p o.thing z ≡ true)
-      kept_in = held_own p (seen s.cells) (held s.cells spot) z a (subst (λ k. Fits p (seen s.cells) (held s.cells spot) k) kind (field_fits p t c s fr sh ls at_hand f some))
+      kept_in = held_own p (seen s.cells) (held s.cells spot) z a (subst (λ k. Fits p (seen s.cells) (held s.cells spot) k) kind (field_fits p t c s fr sh ls at_hand f own))
 
       on_field : (ended : ℕ) → begins_there p m ≡ true → Entering ended (Inside kept_in.0 spot) after_arguments
       on_field ended may = record {
@@ -510,7 +515,7 @@ module _ (p : Image) (t : Typing) (wired : IsWired p) (typed : IsTyped p t) (c :
         settles = settles_not ended after_arguments kept_in.0 spot u.unworked.0;
         fits = passed.fits;
         words = passed.words;
-        housed = record { there = there; lives = lives; below = below fr.home refl; ready = ap is_ready_kind (claim_field p (λ x. Null) fr after_arguments ls fr.home f refl some) ∙ filled_ready _ _ };
+        housed = record { there = there; lives = lives; below = below fr.home refl; ready = ap is_ready_kind (claim_field p (λ x. Null) fr after_arguments ls fr.home f refl (houses_field p _ _ f at_hand.good.stack.1.holder own) some) ∙ filled_ready _ _ };
         apart = apart_so;
         holder = target_holder y kept_in.0 z class kept_in.2 for;
         owning = λ i. refl;
@@ -627,7 +632,7 @@ module _ (p : Image) (t : Typing) (wired : IsWired p) (typed : IsTyped p t) (c :
               go false e = passed.fits (Entry j)
           fits (Field n f) = subst (λ k. Fits p (seen cs) (held cs (Field n f)) k) (go fr.home) (passed.fits (Field n f))
             where
-              go : (h : Home) → home_claim p h after_arguments n f (claim p (declared p cs) ls (Field n f)) ≡ home_claim p h readied_pile n f (claim p (declared p cs) ls (Field n f))
+              go : (h : Home) → home_claim p (holder_of p fr.method) h after_arguments n f (claim p (declared p cs) ls (Field n f)) ≡ home_claim p (holder_of p fr.method) h readied_pile n f (claim p (declared p cs) ls (Field n f))
               go Static = refl
               go AtRoot = refl
               go (Inside o from) = refl
@@ -711,9 +716,10 @@ module _ (p : Image) (t : Typing) (wired : IsWired p) (typed : IsTyped p t) (c :
         own_for p (An_object_of y) kind (ap (λ k. is_own_for p (An_object_of y) k) same ∙ sym (ap (λ x. is_target p x (filled (field_thing p (holder_of p fr.method) f) (field sh f))) e) ∙ n.0) in
         let there = something (field_thing p (home_holder fr.home) f) (field sh f) w.0 w.1 w.2 in
         let does_so = ready (field_thing p (holder_of p fr.method) f) (field sh f) (age_of (filled (field_thing p (holder_of p fr.method) f) (field sh f)) n.1) in
-        let x = kept_in f y e w.0 w.1 w.2 w.3 there does_so in (
+        let own = declared_there v.0 v.1 v.2 in
+        let x = kept_in f y e w.0 w.1 w.2 w.3 there own does_so in (
           (there, subst (λ k. AllTrue (needs_target_object p k (held s.cells (field_place fr.home f)))) (sym e) (target_met y (held s.cells (field_place fr.home f)) x.0 w.0 x.1 x.2 w.3)),
-          at_home (field_place fr.home f) x.0 after_arguments x.1 (on_field f y e w.0 w.1 w.2 w.3 there does_so ended may),
+          at_home (field_place fr.home f) x.0 after_arguments x.1 (on_field f y e w.0 w.1 w.2 w.3 there own does_so ended may),
         )
       where
         something : (x : Option Thing) (y : Filling) (z : Thing) (a : Age) → filled x y ≡ Own z a → is_some x ≡ true

@@ -27,7 +27,7 @@ use Rattle.aom_shape.specs.declared.kind.Filling.{Filling}
 use Rattle.aom_shape.specs.declared.kind.Filling.TheVariants.{Empty, Full, Perhaps}
 use Rattle.aom_shape.specs.declared.kind.Kind.TheVariants.{Null, Unset}
 use Rattle.aom_sound.proofs.Callees.{below_more}
-use Rattle.aom_sound.proofs.Claimed.{OwnsNoMore, claim_from, claim_ready, claim_register_above, claim_weaker, fits_weaker}
+use Rattle.aom_sound.proofs.Claimed.{claim_unclaimed, OwnsNoMore, claim_from, claim_ready, claim_register_above, claim_weaker, fits_weaker}
 use Rattle.aom_sound.proofs.Destroying.{at_alike, entry_registers, perhaps_only, unset_only}
 use Rattle.aom_sound.proofs.Items.{length_forms}
 use Rattle.aom_sound.proofs.Maps.{one_place}
@@ -35,8 +35,9 @@ use Rattle.aom_sound.proofs.Requesting.{OfObject, active_home, active_listed, ha
 use Rattle.aom_sound.proofs.Storing.{Alike, fits_alike, housed_alike, listed_still, on_some, requested_here, requested_there, rerequested_alike, stack_alike}
 use Rattle.aom_sound.proofs.Straight.{At, Law, fits_unowning, settle, stepped, well}
 use Rattle.aom_sound.proofs.Suiting.{same_object}
-use Rattle.aom_sound.proofs.Housing.{houses_same}
-use Rattle.aom_sound.specs.Claims.{serves, Layer, Method, claim, declared, entry_claim, home_claim, items_of, objects, root_claim, tasks_of}
+use Rattle.aom_sound.proofs.Housing.{houses_role}
+use Rattle.aom_sound.proofs.Waiting.{waits_unclaimed}
+use Rattle.aom_sound.specs.Claims.{declared_field, own_field, serves, Layer, Method, claim, declared, entry_claim, home_claim, items_of, objects, root_claim, tasks_of}
 use Rattle.aom_sound.specs.Calls.{result_register}
 use Rattle.aom_sound.specs.Effects.{applied, cancels_if}
 use Rattle.aom_sound.specs.Enlisted.{begun_cells, cancel_method, cancel_of, cancelling, in_phase, is_active, is_cancelling, is_unsettled, on_request, own_request, rerequested, is_idle}
@@ -44,7 +45,7 @@ use Rattle.aom_sound.specs.Laws.{IsWired}
 use Rattle.aom_sound.specs.Places.{In_service, Cell, Elsewhere, Entry, Field, Going, Object, Phase, Place, Register, Request, Root, held, requested, seen}
 use Rattle.aom_sound.specs.Requests.{AllSuit, Known, Suits, known_at, phase_state, state_of, states_claim, thing_kind, works_at}
 use Rattle.aom_sound.specs.State.{Choice, Frame, Home, Inside, State, frame_of, home_holder, next, thing_holder}
-use Rattle.aom_sound.specs.WellTyped.{Awaits, EndsWell, Fits, Good, Holds, IsAlone, IsApart, IsHoused, NotIn, Returns, Stack, Stands, Unclaimed, WellTyped, WordFits, by_field}
+use Rattle.aom_sound.specs.WellTyped.{Houses, Awaits, EndsWell, Fits, Good, Holds, IsAlone, IsApart, IsHoused, NotIn, Returns, Stack, Stands, Unclaimed, WellTyped, WordFits, by_field}
 use Rattle.aom_sound.proofs.Attending.{plain_claim}
 
 -- ---- what is known of a request
@@ -200,6 +201,15 @@ module _ (p : Image) (t : Typing) (wired : IsWired p) (typed : IsTyped p t) (c :
     unfilled : (f : ℕ) → field begins.0 f ≡ Perhaps
     unfilled f = perhaps_only (subst (λ x. WeakerFilling (field begins.0 f) x) (ap (λ r. at Perhaps (entry_fields r) f) role ∙ at_alike 8 Perhaps f) (begins.2.fields f))
 
+    -- it is of the object's class, or of one above it
+    own_holder : Houses p (thing_holder o.thing) (holder_of p m)
+    own_holder = let found = wired.canceller class.0 m class.2 in houses_role p wired.family o.thing class.0 m class.1 found.2 (ap (λ r. holder_by r (Some found.2.class)) found.1)
+
+    own_fields : Unclaimed p (λ f. filled (field_thing p (thing_holder o.thing) f) Perhaps) o.name over
+    own_fields =
+        let houses = subst (λ h. Houses p (home_holder h) (holder_of p fr.method)) it.home at_hand.good.stack.1.holder in
+        waits_unclaimed p t s.cells fr o it.from it.home sh' ls houses apart at_hand.good.stack.4 (λ f. at_alike 8 Perhaps f)
+
     fits : (q : Place) → Fits p (seen cs') (held cs' q) (claim p (declared p cs') (Method fr' begins.0 ∷ over) q)
     fits (Register f i) = go (length (tasks_of over) == f) refl (base (Register f i))
       where
@@ -213,22 +223,24 @@ module _ (p : Image) (t : Typing) (wired : IsWired p) (typed : IsTyped p t) (c :
             subst (λ k. Fits p (seen cs') (held cs' (Register f i)) k) (sym (unset i)) (subst (λ x. Fits p (seen cs') x Unset) (sym none) tt)
         go false e h = h
     fits (Entry k) = subst (λ es. Fits p (seen cs') (held cs' (Entry k)) (entry_claim es (items_of over) k (claim p (declared p cs') over (Entry k)))) (sym begins.2.entries) (base (Entry k))
-    fits (Field n f) = subst (λ h. Fits p (seen cs') (held cs' (Field n f)) (home_claim p h begins.0 n f (claim p (declared p cs') over (Field n f)))) (sym it.home) (go (o.name == n) refl)
+    fits (Field n f) =
+        subst (λ h. Fits p (seen cs') (held cs' (Field n f)) (home_claim p (holder_of p m) h begins.0 n f (claim p (declared p cs') over (Field n f)))) (sym it.home)
+        (go (o.name == n) refl (field_thing p (holder_of p m) f) refl)
       where
-        thing : Option Thing
-        thing = field_thing p (thing_holder o.thing) f
+        declares : claim p (declared p cs') over (Field o.name f) ≡ filled (field_thing p (thing_holder o.thing) f) Perhaps
+        declares =
+            claim_unclaimed p (declared p cs') over o.name f (λ f. filled (field_thing p (thing_holder o.thing) f) Perhaps) own_fields
+            (ap (λ y. declared_field p y f) (same_cells.named_so o.name ∙ it.lives))
 
-        own_field : claim p (declared p cs') over (Field o.name f) ≡ filled thing Perhaps
-        own_field =
-            ap (λ h. home_claim p h sh' o.name f (claim p (declared p cs') ls (Field o.name f))) it.home
-            ∙ ap (λ b. cond b (filled thing (field sh' f)) (claim p (declared p cs') ls (Field o.name f))) (eq-eqb o.name o.name refl)
-            ∙ ap (λ x. filled thing x) (at_alike 8 Perhaps f)
-
-        go : (b : Bool) → (o.name == n) ≡ b → Fits p (seen cs') (held cs' (Field n f)) (cond b (filled thing (field begins.0 f)) (claim p (declared p cs') over (Field n f)))
-        go true e =
-            subst (λ n. Fits p (seen cs') (held cs' (Field n f)) (filled thing (field begins.0 f))) (eqb-true o.name n e)
-            (subst (λ x. Fits p (seen cs') (held cs' (Field o.name f)) (filled thing x)) (sym (unfilled f)) (subst (λ k. Fits p (seen cs') (held cs' (Field o.name f)) k) own_field (base (Field o.name f))))
-        go false e = base (Field n f)
+        go :
+            (b : Bool) → (o.name == n) ≡ b → (own : Option Thing) → field_thing p (holder_of p m) f ≡ own →
+            Fits p (seen cs') (held cs' (Field n f)) (cond b (own_field own (field begins.0 f) (claim p (declared p cs') over (Field n f))) (claim p (declared p cs') over (Field n f)))
+        go true e (Some y) is =
+            subst (λ n. Fits p (seen cs') (held cs' (Field n f)) (filled (Some y) (field begins.0 f))) (eqb-true o.name n e)
+            (subst (λ x. Fits p (seen cs') (held cs' (Field o.name f)) (filled (Some y) x)) (sym (unfilled f))
+            (subst (λ z. Fits p (seen cs') (held cs' (Field o.name f)) (filled z Perhaps)) (own_holder.fields f y is) (subst (λ k. Fits p (seen cs') (held cs' (Field o.name f)) k) declares (base (Field o.name f)))))
+        go true e None is = base (Field n f)
+        go false e own is = base (Field n f)
     fits (Elsewhere Root) = subst (λ h. Fits p (seen cs') (held cs' (Elsewhere Root)) (root_claim p h begins.0 (claim p (declared p cs') over (Elsewhere Root)))) (sym it.home) (base (Elsewhere Root))
     fits (Elsewhere In_service) =
         subst (λ k. Fits p (seen cs') (held cs' (Elsewhere In_service)) k)
@@ -309,18 +321,9 @@ module _ (p : Image) (t : Typing) (wired : IsWired p) (typed : IsTyped p t) (c :
 
     apart_over : IsApart p fr.home over
     apart_over = subst (λ h. IsApart p h over) (sym it.home) (apart.0, (subst (λ h. NotIn o.name h) (sym it.home) apart.0, apart.1), own_fields, inl (ap (λ h. works_at o.name h) it.home ∙ eq-eqb o.name o.name refl))
-      where
-        own_fields : Unclaimed p (λ f. filled (field_thing p (thing_holder o.thing) f) Perhaps) o.name over
-        own_fields f =
-            let below = claim p (by_field (λ f. filled (field_thing p (thing_holder o.thing) f) Perhaps)) ls (Field o.name f) in
-            ap (λ h. home_claim p h sh' o.name f below) it.home
-            ∙ ap (λ b. cond b (filled (field_thing p (thing_holder o.thing) f) (field sh' f)) below) (eq-eqb o.name o.name refl)
-            ∙ ap (λ x. filled (field_thing p (thing_holder o.thing) f) x) (at_alike 8 Perhaps f)
 
-    holder : home_holder fr.home ≡ holder_of p m
-    holder =
-        let found = wired.canceller class.0 m class.2 in
-        ap home_holder it.home ∙ ap thing_holder class.1 ∙ sym (ap (λ r. holder_by r (method_class p m)) found.1 ∙ ap (λ c. holder_by (Some Cancel_role) c) found.2)
+    holder : Houses p (home_holder fr.home) (holder_of p m)
+    holder = subst (λ h. Houses p (home_holder h) (holder_of p m)) (sym it.home) own_holder
 
     caller : Stack p t cs' (Returns m fr.home) over
     caller = (
@@ -337,7 +340,7 @@ module _ (p : Image) (t : Typing) (wired : IsWired p) (typed : IsTyped p t) (c :
         begins.1,
         record {
           words = λ i. subst (λ k. WordFits None k) (sym (unset i)) tt;
-          holder = houses_same p _ _ holder;
+          holder = holder;
           height = sym (length_forms s.items) ∙ ap length at_hand.items;
           alone = λ cancels. subst (λ h. IsAlone p h over) (sym it.home) alone;
           message = (λ serving. absurd (true≢false (sym serving ∙ ap is_service role)), λ served. absurd served);

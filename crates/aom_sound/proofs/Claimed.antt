@@ -9,7 +9,7 @@ use Rattle.aom_shape.specs.Kinds.{entry_kind, field, filled, is_ready_kind, regi
 use Rattle.aom_shape.specs.Order.{SaysNoMore, Weaker, WeakerFilling, alike, maybe_null, maybe_own, perhaps_empty, perhaps_full, unset_null, unset_word}
 use Rattle.aom_shape.specs.Shape.{Shape}
 use Rattle.aom_shape.specs.Tables.{at, put_at}
-use Rattle.aom_shape.specs.Things.{Program, field_thing}
+use Rattle.aom_shape.specs.Things.{Holder, Program, field_thing, holder_of}
 use Rattle.aom_rules.specs.Typing.{Typing}
 use Rattle.aom_shape.specs.declared.kind.Age.TheVariants.{Fresh, Ready}
 use Rattle.aom_shape.specs.declared.kind.Entry.{Entry as Pushed}
@@ -21,7 +21,7 @@ use Rattle.aom_sound.proofs.Services.{service_moved, attended_kept, sessions_kep
 use Rattle.aom_sound.specs.Servers.{message_thing, has_message, has_session, session_thing}
 use Rattle.aom_sound.proofs.Seats.{NoFieldHere, NoSeatHere, first_kept, sits_kept}
 use Rattle.aom_sound.proofs.Maps.{at-put_at, held_moved, named_moved, requested_moved, same_place-true, same_place_refl, transfer}
-use Rattle.aom_sound.specs.Claims.{is_of_root, Dispatching, Dying, Form, Layer, Mark, Method, Unwinding, claim, declared, declared_field, entries_of, entry_claim, home_claim, items_of, layer_claim, objects, root_claim, tasks_of, Ending, by_close, by_stage, delivered, serves}
+use Rattle.aom_sound.specs.Claims.{is_of_root, Dispatching, Dying, Form, Layer, Mark, Method, Unwinding, claim, declared, declared_field, entries_of, entry_claim, home_claim, items_of, layer_claim, objects, own_field, root_claim, tasks_of, Ending, by_close, by_stage, delivered, serves}
 use Rattle.aom_sound.specs.Places.{Service, Cell, Elsewhere, Entry, Field, Going, Object, Place, Register, Root, Sight, changed, held, moved, named, same_place, Session, In_service, Queued, service_of}
 use Rattle.aom_sound.specs.State.{AtRoot, Dispatch, Frame, Home, Inside, Seat, Static, field_place, home_holder, thing_holder, Of_server, Parts, Serves, Service_left}
 use Rattle.aom_sound.specs.WellTyped.{Back, Caught, Fits, Gone, HasAge, Holds, IsBelow, IsHoused, IsNoFieldOf, Leaves, NoneFrom, NoneIn, NotFrom, NotIn, Returns, Stack, Unclaimed, WordFits, by_field, seat_of, Now}
@@ -31,7 +31,8 @@ use mathlib.Core.Path.{fun_ext}
 pub claim_frame :
     (p : Image) (d : Place → Kind) (fr fr' : Frame) (sh : Shape) (ls : List Layer) (r : Place) → fr'.home ≡ fr.home → fr'.method ≡ fr.method →
     claim p d (Method fr' sh ∷ ls) r ≡ claim p d (Method fr sh ∷ ls) r
-claim_frame p d fr fr' sh ls (Field n f) e em = ap (λ h. home_claim p h sh n f (claim p d ls (Field n f))) e
+claim_frame p d fr fr' sh ls (Field n f) e em =
+    ap (λ h. home_claim p (holder_of p fr'.method) h sh n f (claim p d ls (Field n f))) e ∙ ap (λ m. home_claim p (holder_of p m) fr.home sh n f (claim p d ls (Field n f))) em
 claim_frame p d fr fr' sh ls (Elsewhere Root) e em = ap (λ h. root_claim p h sh (claim p d ls (Elsewhere Root))) e
 claim_frame p d fr fr' sh ls (Elsewhere In_service) e em = ap (λ m. cond (serves p m) (delivered sh.delivery) (claim p d ls (Elsewhere In_service))) em
 claim_frame p d fr fr' sh ls _ e em = refl
@@ -47,7 +48,7 @@ claim-set_register p d fr sh ls a v (Register f i) = go (length (tasks_of ls) ==
 claim-set_register p d fr sh ls a v (Entry k) = refl
 claim-set_register p d fr sh ls a v (Field n f) = go fr.home
   where
-    go : (h : Home) → home_claim p h (set_register sh a v) n f (claim p d ls (Field n f)) ≡ home_claim p h sh n f (claim p d ls (Field n f))
+    go : (h : Home) → home_claim p (holder_of p fr.method) h (set_register sh a v) n f (claim p d ls (Field n f)) ≡ home_claim p (holder_of p fr.method) h sh n f (claim p d ls (Field n f))
     go Static = refl
     go AtRoot = refl
     go (Inside o from) = refl
@@ -69,27 +70,44 @@ filled_at thing xs a x v f same = ap (λ y. filled (thing f) y) (at-put_at Perha
     push true e = ap (λ y. filled (thing y) x) (sym (eqb-true a f e)) ∙ same
     push false e = refl
 
+-- a field that the method's class declares is claimed as it is known
+pub own_there : (x : Option Thing) (y : Filling) (below : Kind) → is_some x ≡ true → own_field x y below ≡ filled x y
+own_there (Some t) y below some = refl
+own_there None y below some = cc
+
+own_at :
+    (thing : ℕ → Option Thing) (xs : List Filling) (a : ℕ) (x : Filling) (v below : Kind) (f : ℕ) → is_some (thing a) ≡ true → filled (thing a) x ≡ v →
+    own_field (thing f) (at Perhaps (put_at Perhaps xs a x) f) below ≡ cond (a == f) v (own_field (thing f) (at Perhaps xs f) below)
+own_at thing xs a x v below f some same = ap (λ y. own_field (thing f) y below) (at-put_at Perhaps xs a f x) ∙ push (a == f) refl
+  where
+    push : (b : Bool) → (a == f) ≡ b → own_field (thing f) (cond b x (at Perhaps xs f)) below ≡ cond b v (own_field (thing f) (at Perhaps xs f) below)
+    push true e = ap (λ y. own_field (thing y) x below) (sym (eqb-true a f e)) ∙ own_there (thing a) x below some ∙ same
+    push false e = refl
+
 claim-set_member :
     (p : Image) (d : Place → Kind) (fr : Frame) (o : Object) (from : Place) (sh : Shape) (ls : List Layer) (a : ℕ) (x : Filling) (v : Kind) (r : Place) → fr.home ≡ Inside o from →
-    filled (field_thing p (thing_holder o.thing) a) x ≡ v → claim p d (Method fr (set_field sh a x) ∷ ls) r ≡ changed (claim p d (Method fr sh ∷ ls)) (Field o.name a) v r
-claim-set_member p d fr o from sh ls a x v (Field n f) e same =
-    ap (λ h. home_claim p h (set_field sh a x) n f (claim p d ls (Field n f))) e ∙ go (o.name == n)
-    ∙ ap (λ h. cond ((o.name == n) && (a == f)) v (home_claim p h sh n f (claim p d ls (Field n f)))) (sym e)
+    is_some (field_thing p (holder_of p fr.method) a) ≡ true → filled (field_thing p (holder_of p fr.method) a) x ≡ v →
+    claim p d (Method fr (set_field sh a x) ∷ ls) r ≡ changed (claim p d (Method fr sh ∷ ls)) (Field o.name a) v r
+claim-set_member p d fr o from sh ls a x v (Field n f) e some same =
+    ap (λ h. home_claim p (holder_of p fr.method) h (set_field sh a x) n f (claim p d ls (Field n f))) e ∙ go (o.name == n)
+    ∙ ap (λ h. cond ((o.name == n) && (a == f)) v (home_claim p (holder_of p fr.method) h sh n f (claim p d ls (Field n f)))) (sym e)
   where
     go :
         (b : Bool) →
-        cond b (filled (field_thing p (thing_holder o.thing) f) (at Perhaps (put_at Perhaps sh.fields a x) f)) (claim p d ls (Field n f))
-        ≡ cond (b && (a == f)) v (cond b (filled (field_thing p (thing_holder o.thing) f) (field sh f)) (claim p d ls (Field n f)))
-    go true = filled_at (λ f. field_thing p (thing_holder o.thing) f) sh.fields a x v f same
+        cond b (own_field (field_thing p (holder_of p fr.method) f) (at Perhaps (put_at Perhaps sh.fields a x) f) (claim p d ls (Field n f))) (claim p d ls (Field n f))
+        ≡ cond (b && (a == f)) v (cond b (own_field (field_thing p (holder_of p fr.method) f) (field sh f) (claim p d ls (Field n f))) (claim p d ls (Field n f)))
+    go true = own_at (λ f. field_thing p (holder_of p fr.method) f) sh.fields a x v (claim p d ls (Field n f)) f some same
     go false = refl
-claim-set_member p d fr o from sh ls a x v (Elsewhere Root) e same =
+claim-set_member p d fr o from sh ls a x v (Elsewhere Root) e some same =
     ap (λ h. root_claim p h (set_field sh a x) (claim p d ls (Elsewhere Root))) e ∙ ap (λ h. root_claim p h sh (claim p d ls (Elsewhere Root))) (sym e)
-claim-set_member p d fr o from sh ls a x v _ e same = refl
+claim-set_member p d fr o from sh ls a x v _ e some same = refl
 
 claim-set_root :
     (p : Image) (d : Place → Kind) (fr : Frame) (sh : Shape) (ls : List Layer) (x : Filling) (v : Kind) (r : Place) → fr.home ≡ AtRoot → filled (field_thing p Program 0) x ≡ v →
     claim p d (Method fr (set_field sh 0 x) ∷ ls) r ≡ changed (claim p d (Method fr sh ∷ ls)) (Elsewhere Root) v r
-claim-set_root p d fr sh ls x v (Field n f) e same = ap (λ h. home_claim p h (set_field sh 0 x) n f (claim p d ls (Field n f))) e ∙ ap (λ h. home_claim p h sh n f (claim p d ls (Field n f))) (sym e)
+claim-set_root p d fr sh ls x v (Field n f) e same =
+    ap (λ h. home_claim p (holder_of p fr.method) h (set_field sh 0 x) n f (claim p d ls (Field n f))) e
+    ∙ ap (λ h. home_claim p (holder_of p fr.method) h sh n f (claim p d ls (Field n f))) (sym e)
 claim-set_root p d fr sh ls x v (Elsewhere Root) e same =
     ap (λ h. root_claim p h (set_field sh 0 x) (claim p d ls (Elsewhere Root))) e ∙ filled_at (λ f. field_thing p Program f) sh.fields 0 x v 0 same
 claim-set_root p d fr sh ls x v _ e same = refl
@@ -97,11 +115,11 @@ claim-set_root p d fr sh ls x v _ e same = refl
 -- a field of the top method is claimed anew
 pub claim-set_field :
     (p : Image) (d : Place → Kind) (fr : Frame) (home : Home) (sh : Shape) (ls : List Layer) (a : ℕ) (x : Filling) (v : Kind) (r : Place) → fr.home ≡ home →
-    is_some (field_thing p (home_holder home) a) ≡ true → filled (field_thing p (home_holder home) a) x ≡ v →
+    field_thing p (home_holder home) a ≡ field_thing p (holder_of p fr.method) a → is_some (field_thing p (home_holder home) a) ≡ true → filled (field_thing p (home_holder home) a) x ≡ v →
     claim p d (Method fr (set_field sh a x) ∷ ls) r ≡ changed (claim p d (Method fr sh ∷ ls)) (field_place home a) v r
-claim-set_field p d fr AtRoot sh ls zero x v r e some same = claim-set_root p d fr sh ls x v r e same
-claim-set_field p d fr (Inside o from) sh ls a x v r e some same = claim-set_member p d fr o from sh ls a x v r e same
-claim-set_field p d fr _ sh ls _ x v r e some same = cc
+claim-set_field p d fr AtRoot sh ls zero x v r e own some same = claim-set_root p d fr sh ls x v r e same
+claim-set_field p d fr (Inside o from) sh ls a x v r e own some same = claim-set_member p d fr o from sh ls a x v r e (ap is_some (sym own) ∙ some) (ap (λ y. filled y x) (sym own) ∙ same)
+claim-set_field p d fr _ sh ls _ x v r e own some same = cc
 
 -- one more entry, and one less
 pub claim_push :
@@ -117,7 +135,7 @@ claim_push p d fr sh ls v (Entry k) = go (length (objects sh.entries (items_of l
     go false = refl
 claim_push p d fr sh ls v (Field n f) = go fr.home
   where
-    go : (h : Home) → home_claim p h (record sh { entries = v ∷ sh.entries }) n f (claim p d ls (Field n f)) ≡ home_claim p h sh n f (claim p d ls (Field n f))
+    go : (h : Home) → home_claim p (holder_of p fr.method) h (record sh { entries = v ∷ sh.entries }) n f (claim p d ls (Field n f)) ≡ home_claim p (holder_of p fr.method) h sh n f (claim p d ls (Field n f))
     go Static = refl
     go AtRoot = refl
     go (Inside o from) = refl
@@ -133,6 +151,10 @@ pub filled_weaker : (c : Option Thing) {x y : Filling} → WeakerFilling x y →
 filled_weaker (Some c) perhaps_empty = maybe_null
 filled_weaker (Some c) perhaps_full = maybe_own
 filled_weaker _ _ = alike
+
+pub own_weaker : (c : Option Thing) (below : Kind) {x y : Filling} → WeakerFilling x y → Weaker (own_field c x below) (own_field c y below)
+own_weaker (Some c) below w = filled_weaker (Some c) w
+own_weaker None below w = alike
 
 -- of what places own the first state says no more than the second
 pub record OwnsNoMore (a b : Shape) : Type 0 where
@@ -154,13 +176,16 @@ claim_weaker p d fr a b ls (Register f i) w = go (length (tasks_of ls) == f)
 claim_weaker p d fr a b ls (Entry k) w = subst (λ es. Weaker (entry_claim a.entries (items_of ls) k (claim p d ls (Entry k))) (entry_claim es (items_of ls) k (claim p d ls (Entry k)))) w.entries alike
 claim_weaker p d fr a b ls (Field n f) w = go fr.home
   where
-    go : (h : Home) → Weaker (home_claim p h a n f (claim p d ls (Field n f))) (home_claim p h b n f (claim p d ls (Field n f)))
+    go : (h : Home) → Weaker (home_claim p (holder_of p fr.method) h a n f (claim p d ls (Field n f))) (home_claim p (holder_of p fr.method) h b n f (claim p d ls (Field n f)))
     go Static = alike
     go AtRoot = alike
     go (Inside o from) = inside (o.name == n)
       where
-        inside : (x : Bool) → Weaker (cond x (filled (field_thing p (thing_holder o.thing) f) (field a f)) (claim p d ls (Field n f))) (cond x (filled (field_thing p (thing_holder o.thing) f) (field b f)) (claim p d ls (Field n f)))
-        inside true = filled_weaker (field_thing p (thing_holder o.thing) f) (w.fields f)
+        inside :
+            (x : Bool) →
+            Weaker (cond x (own_field (field_thing p (holder_of p fr.method) f) (field a f) (claim p d ls (Field n f))) (claim p d ls (Field n f)))
+            (cond x (own_field (field_thing p (holder_of p fr.method) f) (field b f) (claim p d ls (Field n f))) (claim p d ls (Field n f)))
+        inside true = own_weaker (field_thing p (holder_of p fr.method) f) (claim p d ls (Field n f)) (w.fields f)
         inside false = alike
 claim_weaker p d fr a b ls (Elsewhere Root) w = go fr.home
   where
@@ -372,7 +397,8 @@ pub claim_from :
 claim_from p d fr o (Register g j) sh ls e n b = ap (λ x. cond x (register sh j) (claim p d ls (Register g j))) (ne_eqb (length (tasks_of ls)) g (λ e. absurd (omega arith)))
 claim_from p d fr o (Entry k) sh ls e n b = entries_below sh.entries (items_of ls) k (claim p d ls (Entry k)) b
 claim_from p d fr o (Field m g) sh ls e n b =
-    ap (λ h. home_claim p h sh m g (claim p d ls (Field m g))) e ∙ ap (λ x. cond x (filled (field_thing p (thing_holder o.thing) g) (field sh g)) (claim p d ls (Field m g))) n
+    ap (λ h. home_claim p (holder_of p fr.method) h sh m g (claim p d ls (Field m g))) e
+    ∙ ap (λ x. cond x (own_field (field_thing p (holder_of p fr.method) g) (field sh g) (claim p d ls (Field m g))) (claim p d ls (Field m g))) n
 claim_from p d fr o (Elsewhere Root) sh ls e n b = ap (λ h. root_claim p h sh (claim p d ls (Elsewhere Root))) e
 claim_from p d fr o (Elsewhere In_service) sh ls e n b = absurd b
 claim_from p d fr o _ sh ls e n b = refl
@@ -386,10 +412,18 @@ entry_rel : (R : Kind → Kind → Type 0) → ((k : Kind) → R k k) → (es : 
 entry_rel R same [] items k x y h = h
 entry_rel R same (z ∷ es) items k x y h = cond_rel R same (length (objects es items) == k) (entry_kind z) _ _ (entry_rel R same es items k x y h)
 
-home_rel : (R : Kind → Kind → Type 0) → ((k : Kind) → R k k) → (p : Image) (home : Home) (sh : Shape) (n f : ℕ) (x y : Kind) → R x y → R (home_claim p home sh n f x) (home_claim p home sh n f y)
-home_rel R same p Static sh n f x y h = h
-home_rel R same p AtRoot sh n f x y h = h
-home_rel R same p (Inside o from) sh n f x y h = cond_rel R same (o.name == n) _ x y h
+own_rel : (R : Kind → Kind → Type 0) → ((k : Kind) → R k k) → (o : Option Thing) (z : Filling) (x y : Kind) → R x y → R (own_field o z x) (own_field o z y)
+own_rel R same None z x y h = h
+own_rel R same (Some t) z x y h = same _
+
+home_rel : (R : Kind → Kind → Type 0) → ((k : Kind) → R k k) → (p : Image) (k : Holder) (home : Home) (sh : Shape) (n f : ℕ) (x y : Kind) → R x y → R (home_claim p k home sh n f x) (home_claim p k home sh n f y)
+home_rel R same p k Static sh n f x y h = h
+home_rel R same p k AtRoot sh n f x y h = h
+home_rel R same p k (Inside o from) sh n f x y h = go (o.name == n)
+  where
+    go : (b : Bool) → R (cond b (own_field (field_thing p k f) (field sh f) x) x) (cond b (own_field (field_thing p k f) (field sh f) y) y)
+    go true = own_rel R same (field_thing p k f) (field sh f) x y h
+    go false = h
 
 root_rel : (R : Kind → Kind → Type 0) → ((k : Kind) → R k k) → (p : Image) (home : Home) (sh : Shape) (x y : Kind) → R x y → R (root_claim p home sh x) (root_claim p home sh y)
 root_rel R same p Static sh x y h = h
@@ -410,7 +444,7 @@ pub layer_rel :
     R (layer_claim p l depth items r x) (layer_claim p l depth items r y)
 layer_rel R same p (Method fr sh) depth items (Register f i) x y h = cond_rel R same (depth == f) (register sh i) x y h
 layer_rel R same p l depth items (Entry k) x y h = entry_rel R same (entries_of l) items k x y h
-layer_rel R same p (Method fr sh) depth items (Field n f) x y h = home_rel R same p fr.home sh n f x y h
+layer_rel R same p (Method fr sh) depth items (Field n f) x y h = home_rel R same p (holder_of p fr.method) fr.home sh n f x y h
 layer_rel R same p (Dying o) depth items (Field n f) x y h = cond_rel R same (o.name == n) Null x y h
 layer_rel R same p (Ending o left) depth items (Field n f) x y h = cond_rel R same (o.name == n) _ x y h
 layer_rel R same p (Method fr sh) depth items (Elsewhere Root) x y h = root_rel R same p fr.home sh x y h
@@ -461,11 +495,11 @@ pub claim_unnamed :
 claim_unnamed p t cs d [] back n f s e = refl
 claim_unnamed p t cs d (Method fr sh ∷ ls) back n f s e = go fr.home s.2 ∙ claim_unnamed p t cs d ls (Returns fr.method fr.home) n f s.4 e
   where
-    go : (h : Home) → IsHoused p cs ls h → home_claim p h sh n f (claim p d ls (Field n f)) ≡ claim p d ls (Field n f)
+    go : (h : Home) → IsHoused p cs ls h → home_claim p (holder_of p fr.method) h sh n f (claim p d ls (Field n f)) ≡ claim p d ls (Field n f)
     go Static h = refl
     go AtRoot h = refl
     go (Inside o from) h =
-        ap (λ b. cond b (filled (field_thing p (thing_holder o.thing) f) (field sh f)) (claim p d ls (Field n f)))
+        ap (λ b. cond b (own_field (field_thing p (holder_of p fr.method) f) (field sh f) (claim p d ls (Field n f))) (claim p d ls (Field n f)))
         (ne_eqb o.name n (λ same. let l = h.lives in let e' : Some o ≡ None = sym l ∙ ap (λ x. named cs x) same ∙ e in cc))
 claim_unnamed p t cs d (Mark gv ∷ ls) back n f s e = claim_unnamed p t cs d ls (Caught gv) n f s.1 e
 claim_unnamed p t cs d (Dispatching w seats ∷ ls) back n f s e = ap (λ l. claim p d l (Field n f)) s.1

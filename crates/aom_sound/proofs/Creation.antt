@@ -10,7 +10,7 @@ use Rattle.aom_shape.specs.Kinds.{field, filled, set_register}
 use Rattle.aom_rules.specs.Objects.{new_age}
 use Rattle.aom_shape.specs.Order.{Weaker, alike, maybe_null}
 use Rattle.aom_shape.specs.Shape.{Shape}
-use Rattle.aom_shape.specs.Things.{field_thing}
+use Rattle.aom_shape.specs.Things.{field_thing, holder_of}
 use Rattle.aom_rules.specs.Typing.{Typing, Leads}
 use Rattle.aom_shape.specs.declared.kind.Age.{Age}
 use Rattle.aom_shape.specs.declared.kind.Age.TheVariants.{Fresh, Ready}
@@ -21,7 +21,7 @@ use Rattle.std.specs.Prelude.{is_some}
 use Rattle.aom_sound.proofs.Claimed.{Outside, claim-set_register, claim_frame, claim_rel, claim_unnamed, fits_age, fits_weaker, outside_differs}
 use Rattle.aom_sound.proofs.Straight.{At, Fitted, Law, fits_unowning, fitted, free_register, relabel, settle, top, well, words_set}
 use Rattle.aom_sound.proofs.Things.{stands_itself}
-use Rattle.aom_sound.specs.Claims.{Ending, Dispatching, Dying, Layer, Mark, Method, Unwinding, claim, declared, declared_field, home_claim, tasks_of}
+use Rattle.aom_sound.specs.Claims.{Ending, Dispatching, Dying, Layer, Mark, Method, Unwinding, claim, declared, declared_field, home_claim, own_field, tasks_of}
 use Rattle.aom_sound.specs.Effects.{applied, makes_unless, sets, Made}
 use Rattle.aom_sound.specs.Objects.{no_words}
 use Rattle.aom_sound.specs.Places.{Elsewhere, Session, Queued, service_of, unserved, Service, Cell, Field, Object, Place, Register, Request, Sight, held, named, requested, same_place, seen, with_new}
@@ -168,11 +168,11 @@ create p t cs fr sh ls n x ws a k g e free new word = record {
     no_field : (f : ℕ) → held cs (Field n f) ≡ None
     no_field f = fits_unowning p (seen cs) _ Null refl (subst (λ k. Fits p (seen cs) (held cs (Field n f)) k) (unclaimed ∙ ap (λ o. declared_field p o f) e) (g.fits (Field n f)))
       where
-        own : (h : Home) → IsHoused p cs ls h → home_claim p h sh n f (claim p (declared p cs) ls (Field n f)) ≡ claim p (declared p cs) ls (Field n f)
+        own : (h : Home) → IsHoused p cs ls h → home_claim p (holder_of p fr.method) h sh n f (claim p (declared p cs) ls (Field n f)) ≡ claim p (declared p cs) ls (Field n f)
         own Static h = refl
         own AtRoot h = refl
         own (Inside o from) h =
-            ap (λ b. cond b (filled (field_thing p (thing_holder o.thing) f) (field sh f)) (claim p (declared p cs) ls (Field n f)))
+            ap (λ b. cond b (own_field (field_thing p (holder_of p fr.method) f) (field sh f) (claim p (declared p cs) ls (Field n f))) (claim p (declared p cs) ls (Field n f)))
             (ne_eqb o.name n (λ same. let l = h.lives in let e' : Some o ≡ None = sym l ∙ ap (λ x. named cs x) same ∙ e in cc))
 
         unclaimed : claim p (declared p cs) (Method fr sh ∷ ls) (Field n f) ≡ declared p cs (Field n f)

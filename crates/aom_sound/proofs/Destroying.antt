@@ -29,7 +29,7 @@ use Rattle.aom_sound.proofs.Maps.{held_lives, held_moved, named_moved, one_place
 use Rattle.aom_sound.proofs.Straight.{At, Law, fits_unowning, fitted, housed_relocated, kind_fits, no_word, relabel, settle, top, well, words_set}
 use Rattle.aom_sound.proofs.Things.{stands_itself, stands_object}
 use Rattle.aom_sound.proofs.Housing.{houses_same}
-use Rattle.aom_sound.specs.Claims.{Ending, by_close, serves, Dispatching, Dying, Layer, Mark, Method, Unwinding, claim, declared, declared_field, entry_claim, forms, home_claim, items_of, tasks_of}
+use Rattle.aom_sound.specs.Claims.{Ending, by_close, serves, Dispatching, Dying, Layer, Mark, Method, Unwinding, claim, declared, declared_field, entry_claim, forms, home_claim, items_of, own_field, tasks_of}
 use Rattle.aom_classes.specs.Roles.{destructor_of}
 use Rattle.aom_sound.specs.Destruction.{destructed, begun, begun_by}
 use Rattle.aom_sound.specs.Laws.{IsWired}
@@ -76,7 +76,7 @@ module _ (p : Image) (t : Typing) (cs : List Cell) (q : Place) (o : Object) (tid
   untouched_method k fr sh ls aside out housed u = go housed
     where
       Result : Home → Type 0
-      Result home = (WorksOn o.name home → ⊥) × ((f : ℕ) → home_claim p home sh o.name f (k f) ≡ k f) × NotIn o.name home × (works_at o.name home ≡ false)
+      Result home = (WorksOn o.name home → ⊥) × ((f : ℕ) → home_claim p (holder_of p fr.method) home sh o.name f (k f) ≡ k f) × NotIn o.name home × (works_at o.name home ≡ false)
 
       not_in : (from : Place) → IsBelow from ls → IsNoFieldOf o.name from
       not_in x b = grind arith
@@ -86,12 +86,12 @@ module _ (p : Image) (t : Typing) (cs : List Cell) (q : Place) (o : Object) (tid
       of AtRoot same h = (λ x. x, λ f. refl, tt, refl)
       of (Inside x from) same h =
           let e = other_name from x h.there (outside_differs q from ls out (aside x from same) h.below) in
-          (λ same. true≢false (sym (eq-eqb x.name o.name same) ∙ e), λ f. ap (λ b. cond b (filled (field_thing p (thing_holder x.thing) f) (field sh f)) (k f)) e, not_in from h.below, e)
+          (λ same. true≢false (sym (eq-eqb x.name o.name same) ∙ e), λ f. ap (λ b. cond b (own_field (field_thing p (holder_of p fr.method) f) (field sh f) (k f)) (k f)) e, not_in from h.below, e)
 
       go : IsHoused p cs ls fr.home → Untouched p k o.name (Method fr sh ∷ ls)
       go h = let r = of fr.home refl h in record {
         some = λ s. ⊎_elim r.0 u.some s;
-        unclaimed = λ f. ap (λ x. home_claim p fr.home sh o.name f x) (u.unclaimed f) ∙ r.1 f;
+        unclaimed = λ f. ap (λ x. home_claim p (holder_of p fr.method) fr.home sh o.name f x) (u.unclaimed f) ∙ r.1 f;
         none_in = (r.2, u.none_in);
         unworked = (r.3, u.unworked);
         sessions = u.sessions;
@@ -270,15 +270,19 @@ module _ (p : Image) (t : Typing) (linked : IsWired p) (typed : IsTyped p t) (cs
             (subst (λ x. Fits p (seen cs) x Unset) (sym (fits_unowning p (seen cs) _ Null refl (null_of p (seen cs) _ _ (claim_register_above p cs ls f i (omega (arith, eqb-true _ _ e))) (fits (Register f i))))) tt)
         go false e = fits (Register f i)
     clothed m height after is w (Entry k) = subst (λ es. Fits p (seen cs) (held cs (Entry k)) (entry_claim es (items_of ls) k (claim p (declared p cs) ls (Entry k)))) (sym w.entries) (fits (Entry k))
-    clothed m height after is w (Field n f) = go (o.name == n) refl
+    clothed m height after is w (Field n f) = go (o.name == n) refl (field_thing p (holder_of p m) f) refl
       where
         go :
-            (b : Bool) → (o.name == n) ≡ b →
-            Fits p (seen cs) (held cs (Field n f)) (cond b (filled (field_thing p (thing_holder o.thing) f) (field after f)) (cond b Null (claim p (declared p cs) ls (Field n f))))
-        go true e =
-            subst (λ x. Fits p (seen cs) (held cs (Field n f)) (filled (field_thing p (thing_holder o.thing) f) x))
-            (sym (perhaps_only (subst (λ x. WeakerFilling (field after f) x) (destruct_fields p m is.role f) (w.fields f)))) (fields_fit n f e)
-        go false e = fits (Field n f)
+            (b : Bool) → (o.name == n) ≡ b → (own : Option Thing) → field_thing p (holder_of p m) f ≡ own →
+            Fits p (seen cs) (held cs (Field n f)) (cond b (own_field own (field after f) (cond b Null (claim p (declared p cs) ls (Field n f)))) (cond b Null (claim p (declared p cs) ls (Field n f))))
+        go true e own same = of_class own (sym (ap (λ h. field_thing p h f) is.holder) ∙ same)
+          where
+            of_class : (own : Option Thing) → field_thing p (thing_holder o.thing) f ≡ own → Fits p (seen cs) (held cs (Field n f)) (own_field own (field after f) Null)
+            of_class (Some x) is_there =
+                subst (λ y. Fits p (seen cs) (held cs (Field n f)) (filled (Some x) y)) (sym (perhaps_only (subst (λ x. WeakerFilling (field after f) x) (destruct_fields p m is.role f) (w.fields f))))
+                (subst (λ y. Fits p (seen cs) (held cs (Field n f)) (filled y Perhaps)) is_there (fields_fit n f e))
+            of_class None is_there = subst (λ y. Fits p (seen cs) (held cs (Field n f)) (filled y Perhaps)) is_there (fields_fit n f e)
+        go false e own same = fits (Field n f)
     clothed m height after is w (Elsewhere Root) = fits (Elsewhere Root)
     clothed m height after is w (Elsewhere In_service) =
         subst (λ k. Fits p (seen cs) (held cs (Elsewhere In_service)) k) (sym (plain_claim (serves p m) after (claim p (declared p cs) ls (Elsewhere In_service)) (ap is_service is.role)))

@@ -25,7 +25,7 @@ use Rattle.aom_sound.proofs.Emptied.{emptied_by}
 use Rattle.aom_sound.proofs.Going.{nothing_left}
 use Rattle.aom_sound.proofs.Straight.{At, Law, fits_unowning}
 use Rattle.aom_sound.specs.Calls.{needs_destroyed, result_needs}
-use Rattle.aom_sound.specs.Claims.{serves, Dying, Layer, claim, declared, entry_claim, home_claim, items_of, root_claim, tasks_of}
+use Rattle.aom_sound.specs.Claims.{serves, Dying, Layer, claim, declared, entry_claim, home_claim, items_of, own_field, root_claim, tasks_of}
 use Rattle.aom_sound.specs.Places.{In_service, Elsewhere, Entry, Field, Going, Object, Place, Register, Root, held, requested, seen}
 use Rattle.aom_sound.specs.Servers.{without_queue}
 use Rattle.aom_sound.specs.State.{Choice, Frame, Inside, State, thing_holder}
@@ -52,11 +52,11 @@ empty_field p Message xs f y done e = cc
 module _ (p : Image) (t : Typing) (c : Choice) (s : State) (fr : Frame) (sh : Shape) (o : Object) (ls : List Layer) (at_hand : At p t s fr sh (Dying o ∷ ls)) where
   -- what the rule says of the fields, as the claim of the cell that goes
   null_field :
-      (f : ℕ) (x : Option Object) → fields_done p true (thing_holder o.thing) sh.fields ≡ true → Fits p (seen s.cells) x (filled (field_thing p (thing_holder o.thing) f) (field sh f)) →
+      (f : ℕ) (x : Option Object) → fields_done p true (thing_holder o.thing) sh.fields ≡ true → Fits p (seen s.cells) x (own_field (field_thing p (thing_holder o.thing) f) (field sh f) Null) →
       Fits p (seen s.cells) x Null
   null_field f x done h = go (field_thing p (thing_holder o.thing) f) refl h
     where
-      go : (k : Option Thing) → field_thing p (thing_holder o.thing) f ≡ k → Fits p (seen s.cells) x (filled k (field sh f)) → Fits p (seen s.cells) x Null
+      go : (k : Option Thing) → field_thing p (thing_holder o.thing) f ≡ k → Fits p (seen s.cells) x (own_field k (field sh f) Null) → Fits p (seen s.cells) x Null
       go None e h = h
       go (Some y) e h = empty (field sh f) (empty_field p o.thing sh.fields f y done e) h
         where
@@ -64,9 +64,9 @@ module _ (p : Image) (t : Typing) (c : Choice) (s : State) (fr : Frame) (sh : Sh
           empty x e h = grind arith
 
   fits_dying :
-      is_service (method_role p fr.method) ≡ false → fr.home ≡ Inside o (Going (length (tasks_of ls))) → no_entry sh.entries ≡ true → none_owns sh.registers ≡ true →
+      is_service (method_role p fr.method) ≡ false → holder_of p fr.method ≡ thing_holder o.thing → fr.home ≡ Inside o (Going (length (tasks_of ls))) → no_entry sh.entries ≡ true → none_owns sh.registers ≡ true →
       fields_done p true (thing_holder o.thing) sh.fields ≡ true → (r : Place) → Fits p (seen s.cells) (held s.cells r) (claim p (declared p s.cells) (Dying o ∷ ls) r)
-  fits_dying plain eh e n done (Register f i) = go (length (tasks_of (Dying o ∷ ls)) == f) refl (at_hand.good.fits (Register f i))
+  fits_dying plain holder eh e n done (Register f i) = go (length (tasks_of (Dying o ∷ ls)) == f) refl (at_hand.good.fits (Register f i))
     where
       go :
           (b : Bool) → (length (tasks_of (Dying o ∷ ls)) == f) ≡ b →
@@ -76,25 +76,27 @@ module _ (p : Image) (t : Typing) (c : Choice) (s : State) (fr : Frame) (sh : Sh
           subst (λ k. Fits p (seen s.cells) (held s.cells (Register f i)) k) (sym (claim_register_above p s.cells ls f i (omega (arith, eqb-true _ _ e))))
           (subst (λ x. Fits p (seen s.cells) x Null) (sym (fits_unowning p (seen s.cells) _ (register sh i) (none_owns_at sh.registers i n) h)) tt)
       go false e h = h
-  fits_dying plain eh e n done (Entry k) =
+  fits_dying plain holder eh e n done (Entry k) =
       subst (λ es. Fits p (seen s.cells) (held s.cells (Entry k)) (entry_claim es (items_of ls) k (claim p (declared p s.cells) ls (Entry k)))) (no_entries sh.entries e) (at_hand.good.fits (Entry k))
-  fits_dying plain eh e n done (Field m f) =
+  fits_dying plain holder eh e n done (Field m f) =
       go (o.name == m)
-      (subst (λ h. Fits p (seen s.cells) (held s.cells (Field m f)) (home_claim p h sh m f (cond (o.name == m) Null (claim p (declared p s.cells) ls (Field m f))))) eh (at_hand.good.fits (Field m f)))
+      (subst (λ k. Fits p (seen s.cells) (held s.cells (Field m f)) (home_claim p k (Inside o (Going (length (tasks_of ls)))) sh m f (cond (o.name == m) Null (claim p (declared p s.cells) ls (Field m f))))) holder
+      (subst (λ h. Fits p (seen s.cells) (held s.cells (Field m f)) (home_claim p (holder_of p fr.method) h sh m f (cond (o.name == m) Null (claim p (declared p s.cells) ls (Field m f))))) eh (at_hand.good.fits (Field m f))))
     where
       go :
           (b : Bool) →
-          Fits p (seen s.cells) (held s.cells (Field m f)) (cond b (filled (field_thing p (thing_holder o.thing) f) (field sh f)) (cond b Null (claim p (declared p s.cells) ls (Field m f)))) →
+          Fits p (seen s.cells) (held s.cells (Field m f))
+          (cond b (own_field (field_thing p (thing_holder o.thing) f) (field sh f) (cond b Null (claim p (declared p s.cells) ls (Field m f)))) (cond b Null (claim p (declared p s.cells) ls (Field m f)))) →
           Fits p (seen s.cells) (held s.cells (Field m f)) (cond b Null (claim p (declared p s.cells) ls (Field m f)))
       go true h = null_field f (held s.cells (Field m f)) done h
       go false h = h
-  fits_dying plain eh e n done (Elsewhere Root) =
+  fits_dying plain holder eh e n done (Elsewhere Root) =
       subst (λ h. Fits p (seen s.cells) (held s.cells (Elsewhere Root)) (root_claim p h sh (claim p (declared p s.cells) ls (Elsewhere Root)))) eh (at_hand.good.fits (Elsewhere Root))
-  fits_dying plain eh e n done (Elsewhere In_service) =
+  fits_dying plain holder eh e n done (Elsewhere In_service) =
       subst (λ k. Fits p (seen s.cells) (held s.cells (Elsewhere In_service)) k)
       (plain_claim (serves p fr.method) sh (claim p (declared p s.cells) (Dying o ∷ ls) (Elsewhere In_service)) plain) (at_hand.good.fits (Elsewhere In_service))
-  fits_dying plain eh e n done (Elsewhere w) = at_hand.good.fits (Elsewhere w)
-  fits_dying plain eh e n done (Going k) = at_hand.good.fits (Going k)
+  fits_dying plain holder eh e n done (Elsewhere w) = at_hand.good.fits (Elsewhere w)
+  fits_dying plain holder eh e n done (Going k) = at_hand.good.fits (Going k)
 
   -- the object is in a state in which it may go
   suits_dying :
@@ -133,7 +135,7 @@ module _ (p : Image) (t : Typing) (c : Choice) (s : State) (fr : Frame) (sh : Sh
       let plain = destructs_only (method_role p fr.method) above.2 in
       let good : Good p t s.cells (Dying o ∷ ls) = record {
         stack = (at_hand.good.stack.4.0, tt, at_hand.good.stack.4.2);
-        fits = fits_dying (destructs_plainly (method_role p fr.method) above.2) above.1 entries free done;
+        fits = fits_dying (destructs_plainly (method_role p fr.method) above.2) holder above.1 entries free done;
         suits = suits_dying above.1 plain above.4 r.ends;
         tidy = at_hand.good.tidy;
       } in (

@@ -16,6 +16,7 @@ use Rattle.aom_shape.specs.declared.kind.Filling.TheVariants.{Perhaps}
 use Rattle.aom_shape.specs.declared.kind.Kind.{Kind}
 use Rattle.aom_shape.specs.declared.kind.Kind.TheVariants.{Null, Own}
 use Rattle.aom_shape.specs.declared.kind.Age.TheVariants.{Ready}
+use Rattle.aom_image.specs.declared.method.Thing.{Thing}
 use Rattle.aom_image.specs.declared.method.Thing.TheVariants.{Message}
 use Rattle.aom_sound.proofs.Attending.{with_message, with_message_ready}
 use Rattle.aom_sound.proofs.Claimed.{fits_weaker, word_fits_weaker}
@@ -23,12 +24,11 @@ use Rattle.aom_sound.proofs.Items.{begins_well}
 use Rattle.aom_sound.proofs.Destroying.{perhaps_only}
 use Rattle.aom_sound.proofs.Straight.{fits_unowning}
 use Rattle.aom_sound.proofs.Suiting.{known_plain, same_object, suits_less}
-use Rattle.aom_sound.proofs.Housing.{houses_same}
-use Rattle.aom_sound.specs.Claims.{Layer, Method, claim, declared, declared_field, entry_claim, forms, items_of, tasks_of, delivered, serves}
+use Rattle.aom_sound.specs.Claims.{own_field, Layer, Method, claim, declared, declared_field, entry_claim, forms, items_of, tasks_of, delivered, serves}
 use Rattle.aom_sound.specs.Places.{In_service, Cell, Elsewhere, Entry, Field, Going, Object, Place, Register, Root, Tidy, held, named, requested, seen}
 use Rattle.aom_sound.specs.Requests.{AllSuit, Joins, Known, Suits, known_at, resting_in, rests_in, states_claim, thing_kind}
 use Rattle.aom_sound.specs.State.{Frame, Inside, Run, Seat, State, frame_of, thing_holder}
-use Rattle.aom_sound.specs.WellTyped.{IsServed, AllSit, AllUndo, Fits, Good, Holds, IsApart, IsBelow, IsNoFieldOf, NoSeatIn, NoneIn, Returns, SitsIn, SomeIn, SomeSits, Stack, WellTyped, WordFits, by_field, past_going}
+use Rattle.aom_sound.specs.WellTyped.{IsServed, AllSit, AllUndo, Fits, Good, Holds, Houses, IsApart, IsBelow, IsNoFieldOf, NoSeatIn, NoneIn, Returns, SitsIn, SomeIn, SomeSits, Stack, WellTyped, WordFits, by_field, past_going}
 
 -- what it takes: over these layers nothing is claimed but the message that is served, and the method begins with its object as it is
 pub record Entering (p : Image) (t : Typing) (cs : List Cell) (x : Seat) (above : List Seat) (over : List Layer) (m : ℕ) (ws : List (Option ℤ)) : Type 0 where
@@ -49,7 +49,7 @@ pub record Entering (p : Image) (t : Typing) (cs : List Cell) (x : Seat) (above 
   pub tidy : Tidy cs
   pub sits : AllSit cs (x ∷ above)
   pub there : IsSome (method_at p m)
-  pub holder : holder_of p m ≡ thing_holder x.object.thing
+  pub holder : Houses p (thing_holder x.object.thing) (holder_of p m)
   pub plain : is_cancel (method_role p m) ≡ false
   pub words : (i : ℕ) → WordFits (at None ws i) (register (entry_shape p m) i)
   pub free : (i : ℕ) → Fits p (seen cs) None (register (entry_shape p m) i)
@@ -101,21 +101,23 @@ module _ (p : Image) (t : Typing) (typed : IsTyped p t) (cs : List Cell) (x : Se
       go true = subst (λ v. Fits p (seen cs) v (register after i)) (sym none) (fits_weaker p (seen cs) None (w.registers i) (e.free i))
       go false = base (Register f i)
   fits height after w (Entry k) = subst (λ es. Fits p (seen cs) (held cs (Entry k)) (entry_claim es (items_of over) k (claim p (declared p cs) over (Entry k)))) (sym w.entries) (base (Entry k))
-  fits height after w (Field n f) = go (x.object.name == n) refl
+  fits height after w (Field n f) = go (x.object.name == n) refl (field_thing p (holder_of p m) f) refl
     where
-      own_field : Fits p (seen cs) (held cs (Field x.object.name f)) (filled (field_thing p (thing_holder x.object.thing) f) Perhaps)
-      own_field = subst (λ y. Fits p (seen cs) (held cs (Field x.object.name f)) (declared_field p y f)) e.sits.0.1 (e.fits (Field x.object.name f))
+      declared_fits : Fits p (seen cs) (held cs (Field x.object.name f)) (filled (field_thing p (thing_holder x.object.thing) f) Perhaps)
+      declared_fits = subst (λ y. Fits p (seen cs) (held cs (Field x.object.name f)) (declared_field p y f)) e.sits.0.1 (e.fits (Field x.object.name f))
 
       unfilled : field after f ≡ Perhaps
       unfilled = perhaps_only (subst (λ y. WeakerFilling (field after f) y) (e.fields f) (w.fields f))
 
       go :
-          (b : Bool) → (x.object.name == n) ≡ b →
-          Fits p (seen cs) (held cs (Field n f)) (cond b (filled (field_thing p (thing_holder x.object.thing) f) (field after f)) (claim p (declared p cs) over (Field n f)))
-      go true same =
-          subst (λ k. Fits p (seen cs) (held cs (Field k f)) (filled (field_thing p (thing_holder x.object.thing) f) (field after f))) (eqb-true x.object.name n same)
-          (subst (λ y. Fits p (seen cs) (held cs (Field x.object.name f)) (filled (field_thing p (thing_holder x.object.thing) f) y)) (sym unfilled) own_field)
-      go false other = base (Field n f)
+          (b : Bool) → (x.object.name == n) ≡ b → (own : Option Thing) → field_thing p (holder_of p m) f ≡ own →
+          Fits p (seen cs) (held cs (Field n f)) (cond b (own_field own (field after f) (claim p (declared p cs) over (Field n f))) (claim p (declared p cs) over (Field n f)))
+      go true same (Some z) is =
+          subst (λ k. Fits p (seen cs) (held cs (Field k f)) (filled (Some z) (field after f))) (eqb-true x.object.name n same)
+          (subst (λ y. Fits p (seen cs) (held cs (Field x.object.name f)) (filled y (field after f))) (e.holder.fields f z is)
+          (subst (λ y. Fits p (seen cs) (held cs (Field x.object.name f)) (filled (field_thing p (thing_holder x.object.thing) f) y)) (sym unfilled) declared_fits))
+      go true same None is = base (Field n f)
+      go false other own is = base (Field n f)
   fits height after w (Elsewhere Root) = base (Elsewhere Root)
   fits height after w (Elsewhere In_service) = go (serves p m) refl
     where
@@ -152,7 +154,7 @@ module _ (p : Image) (t : Typing) (typed : IsTyped p t) (cs : List Cell) (x : Se
       let good : Good p t cs (Method (begun height) leads.0 ∷ over) = record {
         stack = (
           leads.1,
-          record { words = λ i. word_fits_weaker (at None ws i) (w.registers i) (e.words i); holder = houses_same p _ _ (sym e.holder); height = high; alone = λ cancels. absurd (true≢false (sym cancels ∙ e.plain)); message = e.right_over },
+          record { words = λ i. word_fits_weaker (at None ws i) (w.registers i) (e.words i); holder = e.holder; height = high; alone = λ cancels. absurd (true≢false (sym cancels ∙ e.plain)); message = e.right_over },
           housed,
           apart,
           e.stack,

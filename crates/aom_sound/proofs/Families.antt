@@ -1,17 +1,18 @@
 -- What a linked image gives of its families, by the laws of families: what descends from a class has what the class has, and an owner weighs more than what it owns.
-use Rattle.std.proofs.Common.{None, Option, Some, ap, arith, length, refl, slice_get, true, ℕ, ◌<◌, ◌≡◌, ◌≤◌}
+use Rattle.std.proofs.Common.{None, Option, Some, ap, arith, length, refl, slice_get, subst, sym, true, ℕ, ◌<◌, ◌∙◌, ◌≡◌, ◌≤◌}
 use Rattle.std.proofs.lemmas.Option.{slice_get_within}
 use Rattle.aom_image.proofs.Given.{some_given}
 use Rattle.aom_image.specs.Image.{Image}
 use Rattle.aom_image.specs.Views.{class_at, fields_in, fields_of}
+use Rattle.aom_image.specs.WellFormed.{ParentFits, WellFormed, may_descend}
 use Rattle.aom_image.specs.declared.class.ClassDecl.{ClassDecl}
 use Rattle.aom_image.specs.declared.class.ClassKind.{ClassKind}
 use Rattle.aom_image.specs.declared.class.ClassKind.TheVariants.{Active, Plain, Server, Session}
 use Rattle.aom_image.specs.declared.method.Thing.{Thing}
 use Rattle.aom_image.specs.declared.method.Thing.TheVariants.{Object as An_object_of}
-use Rattle.aom_roles.proofs.Descending.{along, one_class}
+use Rattle.aom_roles.proofs.Descending.{along}
 use Rattle.aom_roles.specs.Classes.{ClassOrdered, OwnsBefore, is_session, is_session_in, is_session_kind, kind_at, kind_in, sessions_at, sessions_in, sessions_of}
-use Rattle.aom_roles.specs.Families.{descends}
+use Rattle.aom_roles.specs.Families.{descends, parent_of}
 use Rattle.aom_roles.specs.Shapes.{kind_of}
 use Rattle.aom_classes.proofs.Facts.{all_there, at_place}
 use Rattle.aom_classes.proofs.Keeping.{child_there}
@@ -30,6 +31,11 @@ session_has_none (Some Plain) is = cc
 session_has_none (Some (Active provider)) is = cc
 session_has_none (Some (Server most session)) is = cc
 session_has_none (Some Session) is = refl
+
+-- and no parent
+session_childless : (k : ClassKind) → may_descend k ≡ true → is_session_kind k ≡ true → ⊥
+unfolding is_session_kind
+session_childless k may is = grind arith
 
 module _ (p : Image) (linked : IsLinked p) where
   -- its sessions are of a class of sessions before it
@@ -64,22 +70,41 @@ module _ (p : Image) (linked : IsLinked p) where
       along p (λ x. word_count p (Member d) ≤ word_count p (Member x)) d
       (λ x e is up. let k = continued p linked.parents.each x e is in omega (arith, up, k.continues.words, ap words_in k.at, ap words_in k.above)) (omega arith) c h
 
-  -- no class of sessions has descendants: no class has a parent yet
-  pub linked_is_family : IsFamily p
+  -- what descends from a class is of its kind
+  pub family_kinds : (c d : ℕ) → descends p c d ≡ true → kind_of p (Some c) ≡ kind_of p (Some d)
   unfolding kind_of
-  linked_is_family = record {
-    kinds = λ c d h. families_inherit.kinds p linked.parents.each c d h;
-    inherits = λ c d f t h e. families_inherit.fields p linked.parents.each c d h f t e;
-    words = words_so;
-    alone = λ c s x e h. one_class p linked.parents.none x s h;
-    weight = λ c. generation p c;
-    lighter = λ c d f x e h.
-        let there = owner_there c f (An_object_of d) e in
-        let before = owned_before c d f e in
-        weights_fall.generations p x c (descendant_there x d h (omega (arith, there, before))) (weights_fall.fields p linked.parents.each linked.calls linked.needs c d f x e h);
-    served = λ c s e.
-        let there = server_there c s e in
-        let before = session_before c s e in
-        weights_fall.generations p s c (omega (arith, there, before.0)) (weights_fall.sessions p c s e (session_has_none (kind_at p s) before.1));
-    few = λ c there. weights_fall.few p c there;
-  }
+  family_kinds c d h = families_inherit.kinds p linked.parents.each c d h
+
+  module _ (formed : WellFormed p) where
+    -- no class has one of sessions for its parent: in the file such a class has none, and a child is of its parent's kind
+    no_child : (c e : ℕ) → parent_of p c ≡ Some e → is_session p e ≡ true → ⊥
+    unfolding class_at is_session_in kind_in
+    no_child c e is session =
+        let w = continued p linked.parents.each c e is in
+        let fits : ParentFits p.header.version (length p.classes) w.child.kind w.child.parent = all_there (λ d. ParentFits p.header.version (length p.classes) d.kind d.parent) p.classes c w.child formed.families.parents w.at in
+        let may = subst (λ o. ParentFits p.header.version (length p.classes) w.child.kind o) w.named fits in
+        let above : is_session_kind w.parent.kind ≡ true = sym (ap (λ o. is_session_in (kind_in o)) w.above) ∙ session in
+        session_childless w.child.kind may.1 (ap is_session_kind w.continues.kind ∙ above)
+
+    sessions_alone : (c s x : ℕ) → sessions_at p c ≡ Some s → descends p x s ≡ true → x ≡ s
+    sessions_alone c s x serves h =
+        along p (λ y. y ≡ s) s (λ y e is same. absurd (no_child y e is (subst (λ z. is_session p z ≡ true) (sym same) (session_before c s serves).1))) refl x h
+
+    pub linked_is_family : IsFamily p
+    unfolding kind_of
+    linked_is_family = record {
+      kinds = family_kinds;
+      inherits = λ c d f t h e. families_inherit.fields p linked.parents.each c d h f t e;
+      words = words_so;
+      alone = sessions_alone;
+      weight = λ c. generation p c;
+      lighter = λ c d f x e h.
+          let there = owner_there c f (An_object_of d) e in
+          let before = owned_before c d f e in
+          weights_fall.generations p x c (descendant_there x d h (omega (arith, there, before))) (weights_fall.fields p linked.parents.each linked.calls linked.needs c d f x e h);
+      served = λ c s e.
+          let there = server_there c s e in
+          let before = session_before c s e in
+          weights_fall.generations p s c (omega (arith, there, before.0)) (weights_fall.sessions p c s e (session_has_none (kind_at p s) before.1));
+      few = λ c there. weights_fall.few p c there;
+    }

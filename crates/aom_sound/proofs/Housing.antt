@@ -1,16 +1,18 @@
 -- What a method works on has all that the method's class declares: by what is said of the family of its class.
-use Rattle.std.proofs.Common.{None, Option, Some, ap, arith, refl, subst, true, ℕ, ◌≡◌}
+use Rattle.std.proofs.Common.{None, Option, Some, ap, arith, refl, subst, sym, true, ℕ, ◌∙◌, ◌≡◌}
 use Rattle.std.specs.Prelude.{is_some}
 use Rattle.aom_image.specs.Image.{Image}
+use Rattle.aom_image.specs.Views.{method_class, method_role}
 use Rattle.aom_image.specs.declared.method.Thing.{Thing}
 use Rattle.aom_image.specs.declared.method.Thing.TheVariants.{Message, Object as An_object_of}
 use Rattle.aom_roles.specs.Classes.{sessions_at, sessions_in}
 use Rattle.aom_roles.specs.Families.{descends}
 use Rattle.aom_roles.proofs.Descending.{itself}
-use Rattle.aom_shape.specs.Things.{Holder, Member, field_thing, stands_for}
+use Rattle.aom_shape.specs.Things.{Holder, Member, field_thing, holder_by, holder_of, stands_for}
 use Rattle.aom_roles.specs.Shapes.{kind_of}
-use Rattle.aom_sound.specs.Laws.{IsFamily}
+use Rattle.aom_sound.specs.Laws.{IsFamily, IsOfFamily}
 use Rattle.aom_sound.specs.Servers.{session_class}
+use Rattle.aom_sound.specs.State.{thing_holder}
 use Rattle.aom_sound.specs.WellTyped.{Houses}
 
 pub houses_itself : (p : Image) (h : Holder) → Houses p h h
@@ -26,6 +28,13 @@ houses_family p family c d h = record {
   member = λ x e. let same : d ≡ x = cc in (c, refl, subst (λ y. descends p c y ≡ true) same h, family.kinds c x (subst (λ y. descends p c y ≡ true) same h));
   works = λ x e. (d, refl);
 }
+
+-- an object of a class has what a method declares that is of the class or of one above it
+pub houses_role :
+    (p : Image) → IsFamily p → (x : Thing) (c m : ℕ) → x ≡ An_object_of c → (of : IsOfFamily p c m) → holder_by (method_role p m) (Some of.class) ≡ Member of.class → Houses p (thing_holder x) (holder_of p m)
+houses_role p family x c m thing of member =
+    subst (λ y. Houses p (thing_holder y) (holder_of p m)) (sym thing)
+    (subst (λ h. Houses p (Member c) h) (sym (ap (λ k. holder_by (method_role p m) k) of.of ∙ member)) (houses_family p family c of.class of.above))
 
 -- a field that the method's class declares is the same field
 pub houses_field : (p : Image) (h k : Holder) (f : ℕ) → Houses p h k → is_some (field_thing p k f) ≡ true → field_thing p h f ≡ field_thing p k f

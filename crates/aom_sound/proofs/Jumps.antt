@@ -9,7 +9,7 @@ use Rattle.aom_shape.specs.Kinds.{field, filled, is_object_or_null, register, se
 use Rattle.aom_rules.specs.Objects.{flow_jump_empty, flow_jump_null}
 use Rattle.aom_shape.specs.Shape.{Shape}
 use Rattle.aom_shape.specs.Tables.{at}
-use Rattle.aom_shape.specs.Things.{field_thing}
+use Rattle.aom_shape.specs.Things.{holder_of, field_thing}
 use Rattle.aom_rules.specs.Typing.{AllLead, Leads, Typing}
 use Rattle.aom_rules.specs.Words.{flow_compare}
 use Rattle.aom_shape.specs.declared.kind.Filling.{Filling}
@@ -100,7 +100,7 @@ module _ (p : Image) (t : Typing) (c : Choice) (s : State) (fr : Frame) (sh : Sh
 
   -- two flows: what the jump has learned of the field is claimed on each
   pub law_jump_empty : (f to : ℕ) → Law p t c s fr sh ls at_hand (JumpEmpty f to)
-  law_jump_empty f to n leads = ((some, tt), go (field sh f) (held s.cells q) refl leads (field_fits p t c s fr sh ls at_hand f some))
+  law_jump_empty f to n leads = ((some, tt), go (field sh f) (held s.cells q) refl leads (field_fits p t c s fr sh ls at_hand f n.0))
     where
       q : Place
       q = field_place fr.home f
@@ -108,8 +108,11 @@ module _ (p : Image) (t : Typing) (c : Choice) (s : State) (fr : Frame) (sh : Sh
       x : Option Thing
       x = field_thing p (home_holder fr.home) f
 
+      own : x ≡ field_thing p (holder_of p fr.method) f
+      own = houses_field p _ _ f at_hand.good.stack.1.holder n.0
+
       some : is_some x ≡ true
-      some = ap is_some (houses_field p _ _ f at_hand.good.stack.1.holder n.0) ∙ n.0
+      some = ap is_some own ∙ n.0
 
       stays : (fr' : Frame) → fr'.home ≡ fr.home → fr'.method ≡ fr.method → fr'.height ≡ fr.height → fr'.words ≡ fr.words → forms s.items ≡ objects sh.entries (items_of ls) → Leads t fr'.method fr'.place sh → WellTyped p t (record s { tasks = Run fr' ∷ tasks_of ls })
       stays fr' eh em eg ew items leads = well p t c s fr sh ls at_hand _ fr' sh refl items at_hand.undos (settle p t s.cells fr' sh ls (placed fr' eh em eg ew) leads)
@@ -117,7 +120,7 @@ module _ (p : Image) (t : Typing) (c : Choice) (s : State) (fr : Frame) (sh : Sh
       learns : (fr' : Frame) (y : Filling) (o : Option Object) → held s.cells q ≡ o → fr'.home ≡ fr.home → fr'.method ≡ fr.method → fr'.height ≡ fr.height → fr'.words ≡ fr.words → Fits p (seen s.cells) o (filled x y) → Leads t fr'.method fr'.place (set_field sh f y) → WellTyped p t (record s { tasks = Run fr' ∷ tasks_of ls })
       learns fr' y o e eh em eg ew new leads = well p t c s fr sh ls at_hand _ fr' (set_field sh f y) refl at_hand.items at_hand.undos (settle p t s.cells fr' (set_field sh f y) ls
           (relabel p t s.cells fr fr' sh (set_field sh f y) ls q (filled x y) g eh em eg refl (subst (λ o. Fits p (seen s.cells) o (filled x y)) (sym e) new)
-          (λ r. claim-set_field p (declared p s.cells) fr fr.home sh ls f y (filled x y) r refl some refl)
+          (λ r. claim-set_field p (declared p s.cells) fr fr.home sh ls f y (filled x y) r refl own some refl)
           (λ i. subst (λ ws. WordFits (at None ws i) (register sh i)) (sym ew) (at_hand.good.stack.1.words i))) leads)
 
       go :

@@ -8,6 +8,7 @@ use Rattle.aom_instructions.specs.declared.instr.Instr.TheVariants.{Leave, Leave
 use Rattle.aom_shape.specs.Kinds.{entry_kind, none_owns, register}
 use Rattle.aom_shape.specs.Needs.{AllTrue}
 use Rattle.aom_shape.specs.Shape.{Shape}
+use Rattle.aom_shape.specs.Things.{holder_of}
 use Rattle.aom_rules.specs.Typing.{Typing}
 use Rattle.aom_shape.specs.declared.kind.Entry.{Entry as Pushed}
 use Rattle.aom_shape.specs.declared.kind.Kind.{Kind}
@@ -23,8 +24,8 @@ use Rattle.aom_shape.specs.declared.kind.Delivery.{Delivery}
 use Rattle.aom_shape.specs.declared.kind.Delivery.TheVariants.{Here}
 use Rattle.aom_sound.specs.Cleanup.{above_trap_is_free, has_trap, is_negative, leave_needs, to_trap}
 use Rattle.aom_sound.specs.Places.{In_service, Cell, Elsewhere, Entry, Field, Object, Place, Register, Request, Root, Sight, held, named, requested, seen}
-use Rattle.aom_sound.specs.State.{AtRoot, Choice, Dispatch, Frame, Home, Inside, Run, State, Static, Unwind, next}
-use Rattle.aom_sound.specs.WellTyped.{HasMessage, AllUndo, EndsDispatch, Fits, IsApart, IsHoused, Leaves, Returns, Stack, WellTyped, past_going}
+use Rattle.aom_sound.specs.State.{home_holder, AtRoot, Choice, Dispatch, Frame, Home, Inside, Run, State, Static, Unwind, next}
+use Rattle.aom_sound.specs.WellTyped.{HasMessage, Houses, AllUndo, EndsDispatch, Fits, IsApart, IsHoused, Leaves, Returns, Stack, WellTyped, past_going}
 use Rattle.aom_sound.specs.Effects.{Leaves, Same, applied, updates}
 use Rattle.aom_sound.specs.Words.{read}
 use Rattle.aom_rules.specs.Requests.{is_cancel, unissued}
@@ -87,10 +88,10 @@ not_going p t cs _ m home e s = refl
 
 -- a method ends by a leave, and its entries are still there
 ended_by_leave :
-    (p : Image) (cs : List Cell) (fr : Frame) (sh : Shape) (ls : List Layer) (code : ℤ) → IsHoused p cs ls fr.home → IsApart p fr.home ls → past_going ls ≡ ls →
+    (p : Image) (cs : List Cell) (fr : Frame) (sh : Shape) (ls : List Layer) (code : ℤ) → Houses p (home_holder fr.home) (holder_of p fr.method) → IsHoused p cs ls fr.home → IsApart p fr.home ls → past_going ls ≡ ls →
     none_owns sh.registers ≡ true → (serves p fr.method ≡ true → sh.delivery ≡ Here) → HasMessage p fr ls → (r : Place) (h : Sight) (o : Option Object) →
     Fits p h o (claim p (declared p cs) (Method fr sh ∷ ls) r) → Fits p h o (claim p (declared p cs) (Unwinding code sh.entries ∷ ls) r)
-ended_by_leave p cs fr sh ls code housed apart at_top n here served r h o fits = go r fits
+ended_by_leave p cs fr sh ls code houses housed apart at_top n here served r h o fits = go r fits
   where
     -- the message is where it was
     message : serves p fr.method ≡ true → claim p (declared p cs) ls (Elsewhere In_service) ≡ delivered sh.delivery
@@ -99,7 +100,7 @@ ended_by_leave p cs fr sh ls code housed apart at_top n here served r h o fits =
     bare : Shape
     bare = record sh { entries = [] }
 
-    same_fields : (home : Home) (m f : ℕ) (k : Kind) → home_claim p home sh m f k ≡ home_claim p home (record sh { entries = [] }) m f k
+    same_fields : (home : Home) (m f : ℕ) (k : Kind) → home_claim p (holder_of p fr.method) home sh m f k ≡ home_claim p (holder_of p fr.method) home (record sh { entries = [] }) m f k
     same_fields Static m f k = refl
     same_fields AtRoot m f k = refl
     same_fields (Inside x from) m f k = refl
@@ -110,12 +111,12 @@ ended_by_leave p cs fr sh ls code housed apart at_top n here served r h o fits =
     same_root (Inside x from) k = refl
 
     go : (r : Place) → Fits p h o (claim p (declared p cs) (Method fr sh ∷ ls) r) → Fits p h o (claim p (declared p cs) (Unwinding code sh.entries ∷ ls) r)
-    go (Register f i) fits = ended p cs fr bare ls housed apart at_top refl n message (Register f i) h o fits
+    go (Register f i) fits = ended p cs fr bare ls houses housed apart at_top refl n message (Register f i) h o fits
     go (Entry k) fits = fits
-    go (Field m f) fits = ended p cs fr bare ls housed apart at_top refl n message (Field m f) h o (subst (λ k. Fits p h o k) (same_fields fr.home m f (claim p (declared p cs) ls (Field m f))) fits)
+    go (Field m f) fits = ended p cs fr bare ls houses housed apart at_top refl n message (Field m f) h o (subst (λ k. Fits p h o k) (same_fields fr.home m f (claim p (declared p cs) ls (Field m f))) fits)
     go (Elsewhere Root) fits =
-        ended p cs fr bare ls housed apart at_top refl n message (Elsewhere Root) h o (subst (λ k. Fits p h o k) (same_root fr.home (claim p (declared p cs) ls (Elsewhere Root))) fits)
-    go (Elsewhere In_service) fits = ended p cs fr bare ls housed apart at_top refl n message (Elsewhere In_service) h o fits
+        ended p cs fr bare ls houses housed apart at_top refl n message (Elsewhere Root) h o (subst (λ k. Fits p h o k) (same_root fr.home (claim p (declared p cs) ls (Elsewhere Root))) fits)
+    go (Elsewhere In_service) fits = ended p cs fr bare ls houses housed apart at_top refl n message (Elsewhere In_service) h o fits
     go _ fits = fits
 
 -- all methods over the trap end so
@@ -128,7 +129,7 @@ all_ended p t cs code (Method fr sh ∷ ls) es m home e s r h o fits =
     let d = declared p cs in
     let one =
     layer_rel (λ x y. Fits p h o x → Fits p h o y) (λ k f. f) p (Unwinding code es) (length (tasks_of (Method fr sh ∷ ls))) (items_of (Method fr sh ∷ ls)) r _ _
-    (ended_by_leave p cs fr sh ls code s.2 s.3 (not_going p t cs ls _ _ may.0 s.4) may.1 may.3 s.1.message r h o) fits in
+    (ended_by_leave p cs fr sh ls code s.1.holder s.2 s.3 (not_going p t cs ls _ _ may.0 s.4) may.1 may.3 s.1.message r h o) fits in
     let two = subst (λ k. Fits p h o k) (join_claims p d code es sh.entries ls r) one in
     subst (λ es. Fits p h o (claim p d (Unwinding code es ∷ from_trap ls) r)) (append_assoc es sh.entries (entries_over ls))
     (all_ended p t cs code ls (es ++ sh.entries) fr.method fr.home may.0 s.4 r h o two)
@@ -308,7 +309,7 @@ leave_keeps p t wired s code fr sh ls items undos g may n u here = record {
   good = record {
     stack = (tt, stack_from_trap p t s.cells ls fr.method fr.home may g.stack);
     fits = λ r. all_ended p t s.cells code ls sh.entries fr.method fr.home may g.stack r (seen s.cells) (held s.cells r)
-        (ended_by_leave p s.cells fr sh ls code g.housed g.apart (not_going p t s.cells ls _ _ may g.stack) n (λ serving. here_is sh.delivery here) g.frames.message r (seen s.cells) (held s.cells r) (g.fits r));
+        (ended_by_leave p s.cells fr sh ls code g.frames.holder g.housed g.apart (not_going p t s.cells ls _ _ may g.stack) n (λ serving. here_is sh.delivery here) g.frames.message r (seen s.cells) (held s.cells r) (g.fits r));
     suits = all_left p t wired s.cells code (sh.entries ++ entries_over ls) fr sh ls g may u;
     tidy = g.tidy;
   };

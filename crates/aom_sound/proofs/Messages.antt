@@ -14,7 +14,7 @@ use Rattle.aom_rules.specs.Requests.{is_service}
 use Rattle.aom_rules.specs.Typing.{Typing}
 use Rattle.aom_shape.specs.Kinds.{is_here, is_object_or_null, is_own_for, is_word, register, set_register}
 use Rattle.aom_shape.specs.Shape.{Shape}
-use Rattle.aom_shape.specs.Things.{stands_for}
+use Rattle.aom_shape.specs.Things.{holder_of, stands_for}
 use Rattle.aom_shape.specs.declared.kind.Age.TheVariants.{Ready}
 use Rattle.aom_shape.specs.declared.kind.Delivery.{Delivery}
 use Rattle.aom_shape.specs.declared.kind.Delivery.TheVariants.{Gone}
@@ -60,7 +60,7 @@ claim_taken :
     claim p d (Method fr (record sh { delivery = Gone }) ∷ ls) r ≡ changed (claim p d (Method fr sh ∷ ls)) (Elsewhere In_service) Null r
 claim_taken p d fr sh ls (Field n f) serving = go fr.home
   where
-    go : (h : Home) → home_claim p h (record sh { delivery = Gone }) n f (claim p d ls (Field n f)) ≡ home_claim p h sh n f (claim p d ls (Field n f))
+    go : (h : Home) → home_claim p (holder_of p fr.method) h (record sh { delivery = Gone }) n f (claim p d ls (Field n f)) ≡ home_claim p (holder_of p fr.method) h sh n f (claim p d ls (Field n f))
     go Static = refl
     go AtRoot = refl
     go (Inside o from) = refl

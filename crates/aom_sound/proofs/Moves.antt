@@ -80,7 +80,7 @@ module _ (p : Image) (t : Typing) (c : Choice) (s : State) (fr : Frame) (sh : Sh
       some = may_be_some p t c s fr sh ls at_hand _ k may
 
       free : held s.cells (field_place fr.home f) ≡ None
-      free = fits_unowning p (seen s.cells) _ _ (empties p t c s fr sh ls at_hand _ (field sh f) n.1.1.0) (field_fits p t c s fr sh ls at_hand f some)
+      free = fits_unowning p (seen s.cells) _ _ (empties p t c s fr sh ls at_hand _ (field sh f) n.1.1.0) (field_fits p t c s fr sh ls at_hand f (may_be_some p t c s fr sh ls at_hand _ k n.0))
 
       no : word fr b ≡ None
       no = no_word p t c s fr sh ls at_hand b (declared_object p t c s fr sh ls at_hand _ k n.0)
@@ -108,7 +108,7 @@ module _ (p : Image) (t : Typing) (c : Choice) (s : State) (fr : Frame) (sh : Sh
           claim p d (Method fr (set_field (set_register wide b Null) f (filling_of k)) ∷ ls) r
           ≡ changed (changed (claim p d (Method fr wide ∷ ls)) (top ls b) Null) q (claim p d (Method fr wide ∷ ls) (top ls b)) r
       claims r =
-          claim-set_field p d fr fr.home (set_register wide b Null) ls f (filling_of k) l r refl some refl
+          claim-set_field p d fr fr.home (set_register wide b Null) ls f (filling_of k) l r refl same some refl
           ∙ ap (λ y. cond (same_place q r) l y) (claim-set_register p d fr wide ls b Null r)
           ∙ ap (λ y. changed (changed (claim p d (Method fr wide ∷ ls)) (top ls b) Null) q y r) (sym (claim_register p d fr wide ls b ∙ register_wide))
 
@@ -167,8 +167,8 @@ module _ (p : Image) (t : Typing) (c : Choice) (s : State) (fr : Frame) (sh : Sh
           claim p d (Method fr (set_register (set_field sh f Empty) a k) ∷ ls) r ≡ changed (changed (claim p d (Method fr sh ∷ ls)) q Null) (top ls a) (claim p d (Method fr sh ∷ ls) q) r
       claims r =
           claim-set_register p d fr (set_field sh f Empty) ls a k r
-          ∙ ap (λ x. cond (same_place (top ls a) r) k x) (claim-set_field p d fr fr.home sh ls f Empty Null r refl some (null_filled (field_thing p (home_holder fr.home) f)))
-          ∙ ap (λ x. changed (changed (claim p d (Method fr sh ∷ ls)) q Null) (top ls a) x r) (ap (λ x. filled x (field sh f)) (sym same) ∙ sym (claim_field p d fr sh ls fr.home f refl some))
+          ∙ ap (λ x. cond (same_place (top ls a) r) k x) (claim-set_field p d fr fr.home sh ls f Empty Null r refl same some (null_filled (field_thing p (home_holder fr.home) f)))
+          ∙ ap (λ x. changed (changed (claim p d (Method fr sh ∷ ls)) q Null) (top ls a) x r) (ap (λ x. filled x (field sh f)) (sym same) ∙ sym (claim_field p d fr sh ls fr.home f refl same some))
 
       goes : Fitted p t (moved (field_place fr.home f) (top ls a) s.cells) (next (set_word fr a None)) (set_register (set_field sh f Empty) a k) ls
       goes = relocate p t s.cells fr (next (set_word fr a None)) sh (set_register (set_field sh f Empty) a k) ls q (top ls a)

@@ -11,7 +11,7 @@ use Rattle.aom_image.specs.declared.method.Thing.TheVariants.{Message, Object as
 use Rattle.aom_roles.specs.Classes.{kind_in, sessions_at, sessions_in}
 use Rattle.aom_roles.specs.Shapes.{kind_of}
 use Rattle.aom_shape.specs.Kinds.{entry_kind, field, filled, register}
-use Rattle.aom_shape.specs.Things.{Program, field_thing, stands_for}
+use Rattle.aom_shape.specs.Things.{holder_of, Program, field_thing, stands_for}
 use Rattle.aom_rules.specs.Typing.{Typing}
 use Rattle.aom_shape.specs.declared.kind.Entry.{Entry as Pushed}
 use Rattle.aom_shape.specs.declared.kind.Filling.{Filling}
@@ -23,14 +23,14 @@ use Rattle.aom_sound.proofs.Items.{length_forms}
 use Rattle.aom_sound.proofs.Maps.{found, of_name, same_place-true, same_place_refl}
 use Rattle.aom_sound.proofs.Housing.{stands_session}
 use Rattle.aom_sound.proofs.Things.{serving_class, stands_message}
-use Rattle.aom_sound.specs.Claims.{Dispatching, Dying, Ending, Layer, Mark, Mark_form, Method, Object_form, Unwinding, by_close, by_stage, claim, delivered, serves, declared, declared_field, entry_claim, entry_form, form, forms, home_claim, is_of_root, items_of, objects, root_claim, task_of, tasks_of}
+use Rattle.aom_sound.specs.Claims.{own_field, Dispatching, Dying, Ending, Layer, Mark, Mark_form, Method, Object_form, Unwinding, by_close, by_stage, claim, delivered, serves, declared, declared_field, entry_claim, entry_form, form, forms, home_claim, is_of_root, items_of, objects, root_claim, task_of, tasks_of}
 use Rattle.aom_sound.specs.Laws.{EndsEmpty, EndsOwned, IsWired}
 use Rattle.aom_sound.specs.Owned.{AllOwned, Ends, HasRegisters, HasService, IsObjects, Lives, NoneGoes, Owned, at_entry, at_register, at_root, at_service, by_cell, by_server, over}
 use Rattle.aom_sound.specs.Places.{Cell, Elsewhere, Entry, Field, Going, Object, Place, Register, Root, Sight, Tidy, held, named, same_place, seen, service_of, Session, In_service, Queued}
 use Rattle.aom_sound.specs.Registers.{AllInRange, IsInRange}
 use Rattle.aom_sound.specs.Servers.{has_message, has_session, is_among, is_server, message_thing, of_class, session_class, session_thing}
-use Rattle.aom_sound.specs.State.{AtRoot, Dispatch, Dispatched, Home, Inside, Item, Of_server, Parts, Run, Service_left, Serves, State, Static, thing_holder}
-use Rattle.aom_sound.specs.WellTyped.{Back, Caught, Fits, Gone, IsHoused, IsServed, Leaves, Now, Returns, Stack, WellTyped}
+use Rattle.aom_sound.specs.State.{home_holder, AtRoot, Dispatch, Dispatched, Home, Inside, Item, Of_server, Parts, Run, Service_left, Serves, State, Static, thing_holder}
+use Rattle.aom_sound.specs.WellTyped.{Back, Caught, Fits, Gone, Houses, IsHoused, IsServed, Leaves, Now, Returns, Stack, WellTyped}
 
 -- what a kind of an owning place says of the thing
 abbrev pub HasThing : Kind → Thing → Type 0
@@ -92,21 +92,23 @@ pub field_thing_of :
     (p : Image) (t : Typing) (cs : List Cell) (ls : List Layer) (back : Back) (n f : ℕ) (c : Thing) → Stack p t cs back ls → HasThing (claim p (declared p cs) ls (Field n f)) c →
     (o : Object) × (named cs n ≡ Some o) × (field_thing p (thing_holder o.thing) f ≡ Some c)
 field_thing_of p t cs [] back n f c s h = declared_thing_of p cs n f c h
-field_thing_of p t cs (Method fr sh ∷ ls) back n f c s h = go fr.home s.2 (field_thing_of p t cs ls (Returns fr.method fr.home) n f c s.4) h
+field_thing_of p t cs (Method fr sh ∷ ls) back n f c s h = go fr.home s.1.holder s.2 (field_thing_of p t cs ls (Returns fr.method fr.home) n f c s.4) h
   where
     go :
-        (home : Home) → IsHoused p cs ls home →
+        (home : Home) → Houses p (home_holder home) (holder_of p fr.method) → IsHoused p cs ls home →
         (HasThing (claim p (declared p cs) ls (Field n f)) c → (o : Object) × (named cs n ≡ Some o) × (field_thing p (thing_holder o.thing) f ≡ Some c)) →
-        HasThing (home_claim p home sh n f (claim p (declared p cs) ls (Field n f))) c → (o : Object) × (named cs n ≡ Some o) × (field_thing p (thing_holder o.thing) f ≡ Some c)
-    go Static hs ih h = ih h
-    go AtRoot hs ih h = ih h
-    go (Inside o from) hs ih h = inside (o.name == n) refl h
+        HasThing (home_claim p (holder_of p fr.method) home sh n f (claim p (declared p cs) ls (Field n f))) c → (o : Object) × (named cs n ≡ Some o) × (field_thing p (thing_holder o.thing) f ≡ Some c)
+    go Static houses hs ih h = ih h
+    go AtRoot houses hs ih h = ih h
+    go (Inside o from) houses hs ih h = inside (o.name == n) refl (field_thing p (holder_of p fr.method) f) refl h
       where
         inside :
-            (b : Bool) → (o.name == n) ≡ b → HasThing (cond b (filled (field_thing p (thing_holder o.thing) f) (field sh f)) (claim p (declared p cs) ls (Field n f))) c →
+            (b : Bool) → (o.name == n) ≡ b → (own : Option Thing) → field_thing p (holder_of p fr.method) f ≡ own →
+            HasThing (cond b (own_field own (field sh f) (claim p (declared p cs) ls (Field n f))) (claim p (declared p cs) ls (Field n f))) c →
             (o : Object) × (named cs n ≡ Some o) × (field_thing p (thing_holder o.thing) f ≡ Some c)
-        inside true e h = (o, ap (λ m. named cs m) (sym (eqb-true o.name n e)) ∙ hs.lives, filled_thing (field_thing p (thing_holder o.thing) f) (field sh f) c h)
-        inside false e h = ih h
+        inside true e (Some x) is h = (o, ap (λ m. named cs m) (sym (eqb-true o.name n e)) ∙ hs.lives, houses.fields f c (is ∙ filled_thing (Some x) (field sh f) c h))
+        inside true e None is h = ih h
+        inside false e own is h = ih h
 field_thing_of p t cs (Mark gv ∷ ls) back n f c s h = field_thing_of p t cs ls (Caught gv) n f c s.1 h
 field_thing_of p t cs (Ending o left ∷ ls) back n f c s h = ending (o.name == n) refl (field_thing_of p t cs ls Now n f c s.3) h
   where

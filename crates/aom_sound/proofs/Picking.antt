@@ -32,6 +32,7 @@ use Rattle.aom_sound.proofs.ClientsFit.{by_server, connecting_only}
 use Rattle.aom_sound.proofs.ClientsGone.{open_server}
 use Rattle.aom_sound.proofs.Destroying.{at_alike}
 use Rattle.aom_sound.proofs.Entering.{Entering, enters}
+use Rattle.aom_sound.proofs.Housing.{houses_same}
 use Rattle.aom_sound.proofs.Maps.{held_lives, held_moved, named_moved, requested_moved, tidy_moved, transfer}
 use Rattle.aom_sound.proofs.Housing.{stands_session}
 use Rattle.aom_sound.proofs.Owners.{rank}
@@ -206,7 +207,7 @@ module _ (p : Image) (t : Typing) (wired : IsWired p) (typed : IsTyped p t) (s :
       tidy = tidy_now;
       sits = sits_now;
       there = it.there;
-      holder = ap (λ z. holder_by z (method_class p its_method.0)) it.role ∙ ap (λ k. holder_by (Some Accepts_role) k) it.class ∙ sym (ap thing_holder its_class.2);
+      holder = houses_same p _ _ (ap thing_holder its_class.2 ∙ sym (ap (λ z. holder_by z (method_class p its_method.0)) it.role ∙ ap (λ k. holder_by (Some Accepts_role) k) it.class));
       plain = ap is_cancel it.role;
       words = λ i. subst (λ xs. WordFits None (at Unset (map argument_kind xs) i)) (sym it.arguments) tt;
       free = λ i. subst (λ xs. Fits p (seen cs) None (at Unset (map argument_kind xs) i)) (sym it.arguments) tt;
@@ -409,7 +410,7 @@ module _ (p : Image) (t : Typing) (wired : IsWired p) (typed : IsTyped p t) (s :
       tidy = tidy_moved cs (Elsewhere (Queued n m)) (Elsewhere In_service) free tidy_now;
       sits = sits_all;
       there = service.there;
-      holder = ap (λ y. holder_by y (method_class p its_service.0)) service.role ∙ ap (λ k. holder_by (Some Attends_role) k) service.class ∙ sym (ap thing_holder z_thing);
+      holder = houses_same p _ _ (ap thing_holder z_thing ∙ sym (ap (λ y. holder_by y (method_class p its_service.0)) service.role ∙ ap (λ k. holder_by (Some Attends_role) k) service.class));
       plain = ap is_cancel service.role;
       words = λ i. subst (λ xs. WordFits (at None words i) (at Unset (map argument_kind xs) i)) (sym service.arguments) (five_words (word_field cs m 0) (word_field cs m 1) (word_field cs m 2) (word_field cs m 3) (word_field cs m 4) i);
       free = λ i. subst (λ xs. Fits p (seen served) None (at Unset (map argument_kind xs) i)) (sym service.arguments) (no_owner i);

@@ -43,7 +43,7 @@ claim_states p d fr sh ls states (Register f i) = refl
 claim_states p d fr sh ls states (Entry k) = refl
 claim_states p d fr sh ls states (Field n f) = go fr.home
   where
-    go : (h : Home) → home_claim p h (record sh { states = states }) n f (claim p d ls (Field n f)) ≡ home_claim p h sh n f (claim p d ls (Field n f))
+    go : (h : Home) → home_claim p (holder_of p fr.method) h (record sh { states = states }) n f (claim p d ls (Field n f)) ≡ home_claim p (holder_of p fr.method) h sh n f (claim p d ls (Field n f))
     go Static = refl
     go AtRoot = refl
     go (Inside o from) = refl

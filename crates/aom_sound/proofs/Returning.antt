@@ -13,6 +13,7 @@ use Rattle.aom_shape.specs.Kinds.{entry_kind, is_object_or_null, is_unowning, is
 use Rattle.aom_shape.specs.Entries.{with_entry}
 use Rattle.aom_shape.specs.Needs.{AllTrue}
 use Rattle.aom_shape.specs.Shape.{Shape}
+use Rattle.aom_shape.specs.Things.{holder_of}
 use Rattle.aom_rules.specs.Typing.{Leads, Typing}
 use Rattle.aom_shape.specs.declared.kind.Age.TheVariants.{Ready}
 use Rattle.aom_shape.specs.declared.kind.Entry.{Entry as Pushed}
@@ -56,7 +57,7 @@ module _ (p : Image) (t : Typing) (c : Choice) (s : State) (fr fr2 : Frame) (sh 
   pub plain : no_entry sh.entries ≡ true → none_owns sh.registers ≡ true → Fitted p t s.cells fr2 sh2 ls
   plain e n = let g = at_hand.good in record {
     fits = λ r. subst (λ k. Fits p (seen s.cells) (held s.cells r) k) (same_claims (declared p s.cells) r)
-        (ended p s.cells fr sh below g.stack.2 g.stack.3 at_top e n (λ serving. absurd (unserving serving)) r (seen s.cells) (held s.cells r) (g.fits r));
+        (ended p s.cells fr sh below g.stack.1.holder g.stack.2 g.stack.3 at_top e n (λ serving. absurd (unserving serving)) r (seen s.cells) (held s.cells r) (g.fits r));
     suits = suits;
     tidy = g.tidy;
     frames = caller.1;
@@ -100,7 +101,7 @@ module _ (p : Image) (t : Typing) (c : Choice) (s : State) (fr fr2 : Frame) (sh 
       go r true f =
           subst (λ y. Fits p (seen s.cells) (held s.cells y) (entry_kind entry)) (ap (λ l. Entry (length (items_of l))) over ∙ same_place-true spot r f) (left_held p t c s fr sh below at_hand x e)
       go r false f = subst (λ k. Fits p (seen s.cells) (held s.cells r) k) (same_claims (declared p s.cells) r)
-          (ended p s.cells fr bare below at_hand.good.stack.2 at_hand.good.stack.3 at_top refl n (λ serving. absurd (unserving serving)) r (seen s.cells) (held s.cells r)
+          (ended p s.cells fr bare below at_hand.good.stack.1.holder at_hand.good.stack.2 at_hand.good.stack.3 at_top refl n (λ serving. absurd (unserving serving)) r (seen s.cells) (held s.cells r)
           (subst (λ k. Fits p (seen s.cells) (held s.cells r) k) (without r f) (at_hand.good.fits r)))
 
   -- the result goes to its register
@@ -155,7 +156,7 @@ module _ (p : Image) (t : Typing) (c : Choice) (s : State) (fr fr2 : Frame) (sh 
           go true e = subst (λ y. Fits p (seen s.cells) (held s.cells y) k) (same_place-true q r e) (register_fits p s.cells fr sh below at_hand.good.fits a)
           go false f =
               subst (λ k. Fits p (seen s.cells) (held s.cells r) k) (same_claims (declared p s.cells) r)
-              (ended p s.cells fr (set_register sh a Null) below at_hand.good.stack.2 at_hand.good.stack.3 at_top e n (λ serving. absurd (unserving serving)) r (seen s.cells) (held s.cells r)
+              (ended p s.cells fr (set_register sh a Null) below at_hand.good.stack.1.holder at_hand.good.stack.2 at_hand.good.stack.3 at_top e n (λ serving. absurd (unserving serving)) r (seen s.cells) (held s.cells r)
               (subst (λ k. Fits p (seen s.cells) (held s.cells r) k) (sym (claim-set_register p (declared p s.cells) fr sh below a Null r ∙ ap (λ b. cond b Null (claim p (declared p s.cells) (Method fr sh ∷ below) r)) f)) (at_hand.good.fits r)))
 
       same :
@@ -373,7 +374,7 @@ module _ (p : Image) (t : Typing) (c : Choice) (s : State) (fr : Frame) (sh : Sh
       Fits p (seen s.cells) (held s.cells q) (claim p (declared p s.cells) (Dispatching w seats ∷ ls) q)
   plain_below entries free plain q =
       subst (λ k. Fits p (seen s.cells) (held s.cells q) k) (mark_claims p (declared p s.cells) gv (Dispatching w seats ∷ ls) q)
-      (ended p s.cells fr sh dispatched at_hand.good.stack.2 at_hand.good.stack.3 refl entries free (λ serving. absurd (plain serving)) q (seen s.cells) (held s.cells q) (at_hand.good.fits q))
+      (ended p s.cells fr sh dispatched at_hand.good.stack.1.holder at_hand.good.stack.2 at_hand.good.stack.3 refl entries free (λ serving. absurd (plain serving)) q (seen s.cells) (held s.cells q) (at_hand.good.fits q))
 
   -- with nothing given, the needs of a return are those of its end
   pub return_nothing :
@@ -427,10 +428,10 @@ module _ (p : Image) (t : Typing) (c : Choice) (s : State) (fr : Frame) (sh : Sh
           (q : Place) → Fits p (seen s.cells) (held s.cells q) (claim p (declared p s.cells) (Method fr bare ∷ Mark gv ∷ Dispatching (Of_server x client (Serves o)) seats ∷ ls) q) →
           Fits p (seen s.cells) (held s.cells q) (claim p (declared p s.cells) (Mark gv ∷ Dispatching (Of_server x client (Serves o)) seats ∷ ls) q)
       whole q f =
-          ended p s.cells fr bare (Mark gv ∷ Dispatching (Of_server x client (Serves o)) seats ∷ ls) at_hand.good.stack.2 at_hand.good.stack.3 refl entries free (λ serving. refl) q
+          ended p s.cells fr bare (Mark gv ∷ Dispatching (Of_server x client (Serves o)) seats ∷ ls) at_hand.good.stack.1.holder at_hand.good.stack.2 at_hand.good.stack.3 refl entries free (λ serving. refl) q
           (seen s.cells) (held s.cells q) f
 
-      same_fields : (home : Home) (m f : ℕ) (k : Kind) → home_claim p home sh m f k ≡ home_claim p home (record sh { delivery = Here }) m f k
+      same_fields : (home : Home) (m f : ℕ) (k : Kind) → home_claim p (holder_of p fr.method) home sh m f k ≡ home_claim p (holder_of p fr.method) home (record sh { delivery = Here }) m f k
       same_fields Static m f k = refl
       same_fields AtRoot m f k = refl
       same_fields (Inside y from) m f k = refl
@@ -481,7 +482,7 @@ module _ (p : Image) (t : Typing) (c : Choice) (s : State) (fr : Frame) (sh : Sh
           undos = at_hand.undos;
           good = record {
             stack = (tt, at_hand.good.stack.4.1);
-            fits = λ q. ended p s.cells fr sh below at_hand.good.stack.2 at_hand.good.stack.3 refl entries free (λ serving. absurd (at_hand.good.stack.1.message.0 serving)) q (seen s.cells) (held s.cells q) (at_hand.good.fits q);
+            fits = λ q. ended p s.cells fr sh below at_hand.good.stack.1.holder at_hand.good.stack.2 at_hand.good.stack.3 refl entries free (λ serving. absurd (at_hand.good.stack.1.message.0 serving)) q (seen s.cells) (held s.cells q) (at_hand.good.fits q);
             suits = all_returned p s.cells s.cells fr sh below at_hand.good.suits at_hand.good.stack.2 (λ n. refl) (λ n off. refl) (λ o from e h.
                 let apart : IsApart p (Inside o from) below = subst (λ h. IsApart p h below) e at_hand.good.stack.3 in
                 rests_there p o below (requested s.cells o.name) apart.3 (suits_rests (thing_kind p o.thing) sh.states (requested s.cells o.name) r.settled (subst (λ k. Suits (thing_kind p o.thing) k (requested s.cells o.name)) (known_resting p o fr sh.states below at_hand.good.stack.4.0.2 apart.3) h)));
@@ -517,7 +518,7 @@ module _ (p : Image) (t : Typing) (c : Choice) (s : State) (fr : Frame) (sh : Sh
           undos = at_hand.undos;
           good = record {
             stack = (tt, below.1, below.2, below.3, tt);
-            fits = λ q. subst (λ k. Fits p (seen s.cells) (held s.cells q) k) (sym (same_claims answer (declared p s.cells) q)) (ended p s.cells fr sh asker at_hand.good.stack.2 at_hand.good.stack.3 refl entries free (λ serving. absurd (at_hand.good.stack.1.message.0 serving)) q (seen s.cells) (held s.cells q) (at_hand.good.fits q));
+            fits = λ q. subst (λ k. Fits p (seen s.cells) (held s.cells q) k) (sym (same_claims answer (declared p s.cells) q)) (ended p s.cells fr sh asker at_hand.good.stack.1.holder at_hand.good.stack.2 at_hand.good.stack.3 refl entries free (λ serving. absurd (at_hand.good.stack.1.message.0 serving)) q (seen s.cells) (held s.cells q) (at_hand.good.fits q));
             suits = all_returned p s.cells s.cells fr sh asker at_hand.good.suits at_hand.good.stack.2 (λ n. refl) (λ n off. refl) (λ o from e h.
                 let apart : IsApart p (Inside o from) asker = subst (λ h. IsApart p h asker) e at_hand.good.stack.3 in
                 rests_there p o asker (requested s.cells o.name) apart.3 (suits_rests (thing_kind p o.thing) sh.states (requested s.cells o.name) r.settled (subst (λ k. Suits (thing_kind p o.thing) k (requested s.cells o.name)) (known_resting p o fr sh.states asker below.0.2 apart.3) h)));

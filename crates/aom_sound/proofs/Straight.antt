@@ -18,10 +18,11 @@ use Rattle.aom_shape.specs.declared.kind.Kind.{Kind}
 use Rattle.aom_shape.specs.declared.kind.Age.TheVariants.{Fresh, Ready}
 use Rattle.aom_shape.specs.declared.kind.Kind.TheVariants.{Maybe, Null, Own, Unset, Word}
 use Rattle.aom_sound.proofs.Seats.{NoFieldHere}
-use Rattle.aom_sound.proofs.Claimed.{Outside, claim-set_register, claim_frame, claim_from, claim_ready, claim_weaker, declared_moved, fits_weaker, holds_moved, keep_fits, outside_differs, owns_no_more, stack_moved, word_fits_weaker}
+use Rattle.aom_sound.proofs.Claimed.{Outside, claim-set_register, claim_frame, claim_from, claim_ready, claim_weaker, declared_moved, fits_weaker, holds_moved, keep_fits, outside_differs, own_there, owns_no_more, stack_moved, word_fits_weaker}
+use Rattle.aom_sound.proofs.Housing.{houses_field}
 use Rattle.aom_sound.proofs.Maps.{at-put_at, held_moved, one_place, requested_moved, same_place-true, tidy_moved}
 use Rattle.aom_sound.proofs.Things.{stands_along}
-use Rattle.aom_sound.specs.Claims.{Layer, Method, claim, declared, forms, home_claim, items_of, objects, root_claim, tasks_of, serves}
+use Rattle.aom_sound.specs.Claims.{Layer, Method, claim, declared, forms, home_claim, items_of, objects, own_field, root_claim, tasks_of, serves}
 use Rattle.aom_sound.specs.Moves.{does, needs}
 use Rattle.aom_sound.specs.Objects.{is_declared_thing, is_thing}
 use Rattle.aom_sound.specs.Places.{Cell, Elsewhere, Field, Object, Place, Register, Root, Sight, Tidy, changed, held, moved, requested, same_place, seen}
@@ -243,13 +244,17 @@ write p t cs fr sh ls a w k g u new word =
 
 -- a field of what the frame works on
 pub claim_field :
-    (p : Image) (d : Place → Kind) (fr : Frame) (sh : Shape) (ls : List Layer) (home : Home) (f : ℕ) → fr.home ≡ home → is_some (field_thing p (home_holder home) f) ≡ true →
+    (p : Image) (d : Place → Kind) (fr : Frame) (sh : Shape) (ls : List Layer) (home : Home) (f : ℕ) → fr.home ≡ home →
+    field_thing p (home_holder home) f ≡ field_thing p (holder_of p fr.method) f → is_some (field_thing p (home_holder home) f) ≡ true →
     claim p d (Method fr sh ∷ ls) (field_place home f) ≡ filled (field_thing p (home_holder home) f) (field sh f)
-claim_field p d fr sh ls AtRoot zero e some = ap (λ h. root_claim p h sh (claim p d ls (Elsewhere Root))) e
-claim_field p d fr sh ls (Inside o from) f e some =
-    ap (λ h. home_claim p h sh o.name f (claim p d ls (Field o.name f))) e
-    ∙ ap (λ b. cond b (filled (field_thing p (thing_holder o.thing) f) (field sh f)) (claim p d ls (Field o.name f))) (eq-eqb o.name _ refl)
-claim_field p d fr sh ls _ _ e some = cc
+claim_field p d fr sh ls AtRoot zero e own some = ap (λ h. root_claim p h sh (claim p d ls (Elsewhere Root))) e
+claim_field p d fr sh ls (Inside o from) f e own some =
+    let below = claim p d ls (Field o.name f) in
+    ap (λ h. home_claim p (holder_of p fr.method) h sh o.name f below) e
+    ∙ ap (λ b. cond b (own_field (field_thing p (holder_of p fr.method) f) (field sh f) below) below) (eq-eqb o.name _ refl)
+    ∙ ap (λ x. own_field x (field sh f) below) (sym own)
+    ∙ own_there (field_thing p (thing_holder o.thing) f) (field sh f) below some
+claim_field p d fr sh ls _ _ e own some = cc
 
 module _ (p : Image) (t : Typing) (c : Choice) (s : State) (fr : Frame) (sh : Shape) (ls : List Layer) (at_hand : At p t s fr sh ls) where
   pub free_register : (a : ℕ) → is_unowning (register sh a) ≡ true → held s.cells (Register (length (tasks_of ls)) a) ≡ None
@@ -275,10 +280,11 @@ module _ (p : Image) (t : Typing) (c : Choice) (s : State) (fr : Frame) (sh : Sh
   }
 
   pub field_fits :
-      (f : ℕ) → is_some (field_thing p (home_holder fr.home) f) ≡ true →
+      (f : ℕ) → is_some (field_thing p (holder_of p fr.method) f) ≡ true →
       Fits p (seen s.cells) (held s.cells (field_place fr.home f)) (filled (field_thing p (home_holder fr.home) f) (field sh f))
   field_fits f some =
-      subst (λ k. Fits p (seen s.cells) (held s.cells (field_place fr.home f)) k) (claim_field p (declared p s.cells) fr sh ls fr.home f refl some) (at_hand.good.fits (field_place fr.home f))
+      let own = houses_field p _ _ f at_hand.good.stack.1.holder some in
+      subst (λ k. Fits p (seen s.cells) (held s.cells (field_place fr.home f)) k) (claim_field p (declared p s.cells) fr sh ls fr.home f refl own (ap is_some own ∙ some)) (at_hand.good.fits (field_place fr.home f))
 
   pub field_outside : (home : Home) (f : ℕ) → fr.home ≡ home → is_some (field_thing p (home_holder home) f) ≡ true → Outside (field_place home f) ls
   field_outside home f e some = grind arith

@@ -9,7 +9,7 @@ use Rattle.aom_image.specs.declared.class.ClassKind.{ClassKind}
 use Rattle.aom_image.specs.declared.method.Gives.TheVariants.{Nothing}
 use Rattle.aom_image.specs.declared.method.Role.TheVariants.{Run as Handles}
 use Rattle.aom_image.specs.declared.method.Thing.{Thing}
-use Rattle.aom_image.specs.declared.method.Thing.TheVariants.{Object as An_object_of}
+use Rattle.aom_image.specs.declared.method.Thing.TheVariants.{Message, Object as An_object_of}
 use Rattle.aom_roles.specs.Classes.{sessions_in, sessions_of}
 use Rattle.aom_roles.specs.Shapes.{kind_of}
 use Rattle.aom_roles.specs.States.{idle, states_of}
@@ -24,6 +24,7 @@ use Rattle.aom_sound.proofs.Chains.{chain}
 use Rattle.aom_sound.proofs.Claimed.{declared_ready}
 use Rattle.aom_sound.proofs.Destroying.{at_alike}
 use Rattle.aom_sound.proofs.Entering.{Entering, enters}
+use Rattle.aom_sound.proofs.Housing.{houses_role}
 use Rattle.aom_sound.proofs.Maps.{same_place_refl}
 use Rattle.aom_sound.proofs.Owners.{later}
 use Rattle.aom_sound.proofs.Owners.{rank}
@@ -223,7 +224,8 @@ module _ (p : Image) (t : Typing) (s : State) (w : WellTyped p t s) (idle_now : 
     -- the method of an object of a class of active objects
     handler_of : (x : Thing) → is_active_kind (thing_kind p x) ≡ true → (m : ℕ) × (part_of p Handles x ≡ Some m) × (c : ℕ) × (x ≡ An_object_of c) × IsHandler p c m
     unfolding kind_of
-    handler_of x e = grind arith
+    handler_of (An_object_of c) e = let m = wired.handler c e in (m.0, m.1, c, refl, wired.handles c m.0 m.1)
+    handler_of Message e = cc
 
     object_well : (y : Candidate) → Found s.cells y → is_ready y.request ≡ true → Keeps p t (dispatched (part_of p Handles y.seat.object.thing) y.seat s)
     object_well y it_is ready = subst (λ h. Keeps p t (dispatched h y.seat s)) (sym it.1) well
@@ -275,7 +277,7 @@ module _ (p : Image) (t : Typing) (s : State) (w : WellTyped p t s) (idle_now : 
           tidy = (alike taken_up y.seat.object).tidy good.tidy;
           sits = sits_now;
           there = it.4.there;
-          holder = ap (λ r. holder_by r (method_class p it.0)) it.4.role ∙ ap (λ k. holder_by (Some Handles) k) it.4.class ∙ sym (ap thing_holder it.3);
+          holder = houses_role p wired.family y.seat.object.thing it.2 it.0 it.3 it.4.family (ap (λ r. holder_by r (Some it.4.family.class)) it.4.role);
           plain = ap is_cancel it.4.role;
           words = λ i. subst (λ xs. WordFits None (at Unset (map argument_kind xs) i)) (sym it.4.arguments) tt;
           free = λ i. subst (λ xs. Fits p (seen cs) None (at Unset (map argument_kind xs) i)) (sym it.4.arguments) tt;

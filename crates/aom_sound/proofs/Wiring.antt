@@ -1,7 +1,7 @@
 -- What a linked image gives the laws: main and the destructors are as they must be, what is called does or constructs, and its families are as the laws want them.
 use Rattle.std.proofs.lemmas.List.{nil_from_length}
 use Rattle.std.proofs.lemmas.Bool.{and_parts, cases_Bool, true≢false}
-use Rattle.std.proofs.Common.{Bool, IfSome, IsSome, IsTrue, List, None, Option, Some, [], ap, arith, false, inl, inr, length, refl, slice_get, subst, sym, true, ℕ, ⊎_elim, ◌<◌, ◌∙◌, ◌∷◌, ◌≡◌}
+use Rattle.std.proofs.Common.{Bool, cond, IfSome, IsSome, IsTrue, List, None, Option, Some, [], ap, arith, false, inl, inr, length, refl, slice_get, subst, sym, true, ℕ, ⊎_elim, ◌<◌, ◌∙◌, ◌∷◌, ◌≡◌}
 use Rattle.aom_image.proofs.Given.{none_given, some_given}
 use Rattle.std.specs.Prelude.{is_none, not, replicate, ◌||◌, ◌⊎◌}
 use Rattle.std.proofs.lemmas.Option.{slice_get_cases, slice_get_within}
@@ -24,12 +24,12 @@ use Rattle.aom_roles.specs.Classes.{is_session, is_session_in, is_session_kind, 
 use Rattle.aom_roles.specs.Shapes.{HasShape, IsCancel, IsConstruct, IsDo, IsMain, IsShaped, IsTrapped as ShapedTrapped, IsUndo as ShapedUndo, NamesRoles, gives_left, gives_nothing, is_role, is_word, kind_of, gives_word, gives_object, is_object}
 use Rattle.aom_classes.specs.Linked.{IsLinked}
 use Rattle.aom_classes.specs.Needs.{HasActive, KindNeeds, NeedsMet}
-use Rattle.aom_classes.specs.Roles.{main_of, role_of, same_role}
+use Rattle.aom_classes.specs.Roles.{is_inherited, keeper_of, main_of, own_role, role_by, role_of, same_role}
 use Rattle.aom_classes.proofs.Facts.{all_there, at_place, of_method}
-use Rattle.aom_classes.proofs.Playing.{main_found, role_found, same_roles}
+use Rattle.aom_classes.proofs.Playing.{main_found, own_found, role_found, role_inherits, same_roles}
 use Rattle.aom_shape.specs.Things.{Member, field_thing}
-use Rattle.aom_sound.proofs.Families.{linked_is_family, session_before}
-use Rattle.aom_sound.specs.Laws.{IsAcceptor, IsAnswerer, IsAttendant, IsCalled, IsHandler, IsTrapped, IsWired}
+use Rattle.aom_sound.proofs.Families.{family_kinds, linked_is_family, session_before}
+use Rattle.aom_sound.specs.Laws.{IsAcceptor, IsAnswerer, IsAttendant, IsCalled, IsHandler, IsOfFamily, IsTrapped, IsWired}
 use Rattle.aom_sound.specs.WellTyped.{IsUndo, LeavesNone}
 use Rattle.aom_image.specs.declared.method.Argument.{Argument}
 use Rattle.aom_image.specs.declared.method.Argument.TheVariants.{Word as Takes_word}
@@ -111,9 +111,19 @@ module _ (p : Image) (formed : WellFormed p) (linked : IsLinked p) where
   of_role : (m : ℕ) (d : Method_declared) (r : Role) → method_at p m ≡ Some d → d.role ≡ r → HasShape r (kind_of p d.class) d
   of_role m d r e same = subst (λ x. HasShape x (kind_of p d.class) d) same (shaped m d e).role
 
-  -- a method that plays a role in a class, and its shape
-  its_role : (c m : ℕ) (r : Role) → role_of p c r ≡ Some m → (d : Method_declared) × (method_at p m ≡ Some d) × (d.class ≡ Some c) × (d.role ≡ r) × HasShape r (kind_of p d.class) d
-  its_role c m r e = let d = role_found p linked.parents.none c m r e in (d.0, d.1, d.2, d.3, of_role m d.0 r d.1 d.3)
+  -- a method that plays a role for a class, of the class or of one that it descends from, and its shape
+  its_role : (c m : ℕ) (r : Role) → role_of p c r ≡ Some m → (d : Method_declared) × (method_at p m ≡ Some d) × IsOfFamily p c m × (d.role ≡ r) × HasShape r (kind_of p d.class) d
+  unfolding class_in
+  its_role c m r e =
+      let w = role_inherits p c m r e in
+      (w.method, w.there, record { class = w.class; of = ap class_in w.there ∙ w.of; above = w.family }, w.role, of_role m w.method r w.there w.role)
+
+  -- and of a role that is not inherited, of the class itself
+  own_its_role : (c m : ℕ) (r : Role) → is_inherited r ≡ false → role_of p c r ≡ Some m → (d : Method_declared) × (method_at p m ≡ Some d) × (d.class ≡ Some c) × (d.role ≡ r) × HasShape r (kind_of p d.class) d
+  unfolding role_of
+  own_its_role c m r own e =
+      let d = own_found p c m r (sym (ap (λ b. cond b (role_by p r (keeper_of p c r)) (own_role p c r)) own) ∙ e) in
+      (d.0, d.1, d.2, d.3, of_role m d.0 r d.1 d.3)
 
   main_is : (m : ℕ) → main_of p ≡ Some m → (IsSome (method_at p m)) × (method_role p m ≡ Some Main) × (gives_of p m ≡ Nothing) × (arguments_of p m ≡ [])
   unfolding role_in gives_in arguments_in
@@ -143,7 +153,7 @@ module _ (p : Image) (formed : WellFormed p) (linked : IsLinked p) where
       let d = its_role c m Destruct e in (
         rw d.1 refl,
         ap role_in d.1 ∙ ap (λ r. Some r) d.3,
-        ap class_in d.1 ∙ d.2,
+        (let own = role_found p linked.parents.none c m Destruct e in ap class_in own.1 ∙ own.2),
         ap leaves_in d.1 ∙ (shaped m d.0 d.1).flags.quiet d.4.flags,
         ap quiet_in d.1 ∙ d.4.flags,
         ap gives_in d.1 ∙ nothing_given d.0.gives d.4.gives,
@@ -159,11 +169,11 @@ module _ (p : Image) (formed : WellFormed p) (linked : IsLinked p) where
 
   canceller_is :
       (c m : ℕ) → role_of p c Cancel ≡ Some m →
-      (IsSome (method_at p m)) × (method_role p m ≡ Some Cancel) × (method_class p m ≡ Some c) × (arguments_of p m ≡ []) × (before_of p m ≡ cancel_open)
-  unfolding role_in class_in arguments_in before_in
+      (IsSome (method_at p m)) × (method_role p m ≡ Some Cancel) × IsOfFamily p c m × (arguments_of p m ≡ []) × (before_of p m ≡ cancel_open)
+  unfolding role_in arguments_in before_in
   canceller_is c m e =
       let d = its_role c m Cancel e in
-      (rw d.1 refl, ap role_in d.1 ∙ ap (λ r. Some r) d.3, ap class_in d.1 ∙ d.2, ap arguments_in d.1 ∙ nil_from_length d.0.arguments d.4.takes.count, ap before_in d.1 ∙ d.4.begins)
+      (rw d.1 refl, ap role_in d.1 ∙ ap (λ r. Some r) d.3, d.2, ap arguments_in d.1 ∙ nil_from_length d.0.arguments d.4.takes.count, ap before_in d.1 ∙ d.4.begins)
 
   -- what a class needs by its kind
   abbrev Needs : ℕ → Option ClassKind → Type 0
@@ -188,24 +198,24 @@ module _ (p : Image) (formed : WellFormed p) (linked : IsLinked p) where
   has_handler c active = some_there (role_of p c Run) (active_needs c (kind_of p (Some c)) (needs c) active).run
 
   handler_is : (c m : ℕ) → role_of p c Run ≡ Some m → IsHandler p c m
-  unfolding role_in class_in arguments_in gives_in before_in
+  unfolding role_in arguments_in gives_in before_in
   handler_is c m e =
       let d = its_role c m Run e in record {
         there = rw d.1 refl;
         role = ap role_in d.1 ∙ ap (λ r. Some r) d.3;
-        class = ap class_in d.1 ∙ d.2;
+        family = d.2;
         arguments = ap arguments_in d.1 ∙ nil_from_length d.0.arguments d.4.takes.count;
         gives = ap gives_in d.1 ∙ nothing_given d.0.gives d.4.gives;
         begins = ap before_in d.1 ∙ d.4.begins;
       }
 
   answerer_is : (c m : ℕ) → role_of p c Error ≡ Some m → IsAnswerer p c m
-  unfolding role_in class_in arguments_in gives_in leaves_in before_in
+  unfolding role_in arguments_in gives_in leaves_in before_in
   answerer_is c m e =
       let d = its_role c m Error e in record {
         there = rw d.1 refl;
         role = ap role_in d.1 ∙ ap (λ r. Some r) d.3;
-        class = ap class_in d.1 ∙ d.2;
+        family = d.2;
         arguments = ap arguments_in d.1 ∙ words_alone 1 d.0.arguments d.4.takes.count d.4.takes.words;
         gives = ap gives_in d.1 ∙ word_given d.0.gives d.4.gives;
         leaves = ap leaves_in d.1 ∙ d.4.flags;
@@ -223,7 +233,7 @@ module _ (p : Image) (formed : WellFormed p) (linked : IsLinked p) where
   acceptor_is : (c session m : ℕ) → sessions_at p c ≡ Some session → role_of p c Accept ≡ Some m → IsAcceptor p c m session
   unfolding role_in class_in arguments_in gives_in before_in kind_of
   acceptor_is c session m serves e =
-      let d = its_role c m Accept e in
+      let d = own_its_role c m Accept refl e in
       let gives : IsTrue (gives_object session d.0.gives) = subst (λ o. IfSome o (λ k. IsTrue (gives_object k d.0.gives))) (ap (λ k. sessions_in (kind_of p k)) d.2 ∙ serves) d.4.gives in record {
         there = rw d.1 refl;
         role = ap role_in d.1 ∙ ap (λ r. Some r) d.3;
@@ -236,7 +246,7 @@ module _ (p : Image) (formed : WellFormed p) (linked : IsLinked p) where
   attendant_is : (c m : ℕ) → role_of p c Service ≡ Some m → IsAttendant p c m
   unfolding role_in class_in arguments_in gives_in kind_of
   attendant_is c m e =
-      let d = its_role c m Service e in record {
+      let d = own_its_role c m Service refl e in record {
         session = ap (λ k. is_session_in (kind_of p k)) (sym d.2) ∙ d.4.of;
         there = rw d.1 refl;
         role = ap role_in d.1 ∙ ap (λ r. Some r) d.3;
@@ -307,10 +317,11 @@ module _ (p : Image) (formed : WellFormed p) (linked : IsLinked p) where
   construct_begins m d e role = let s : IsConstruct (kind_of p d.class) d = of_role m d Construct e role in ap before_in e ∙ s.begins ∙ sym (ap (λ o. first_of (kind_of p (class_in o))) e)
 
   destruct_states : (c m : ℕ) → role_of p c Destruct ≡ Some m → (before_of p m ≡ states_of (kind_of p (Some c))) × (after_of p m ≡ last_of (kind_of p (Some c)))
-  unfolding before_in after_in
+  unfolding before_in after_in class_in
   destruct_states c m e =
       let d = its_role c m Destruct e in
-      (ap before_in d.1 ∙ d.4.begins ∙ ap (λ k. states_of (kind_of p k)) d.2, ap after_in d.1 ∙ d.4.ends ∙ ap (λ k. last_of (kind_of p k)) d.2)
+      let kind : kind_of p d.0.class ≡ kind_of p (Some c) = ap (λ k. kind_of p k) (sym (ap class_in d.1) ∙ d.2.of) ∙ sym (family_kinds p linked c d.2.class d.2.above) in
+      (ap before_in d.1 ∙ d.4.begins ∙ ap states_of kind, ap after_in d.1 ∙ d.4.ends ∙ ap last_of kind)
 
   -- only a class of active objects has to have a destructor for its requests
   none_destructs : (c : ℕ) → role_of p c Destruct ≡ None → last_of (kind_of p (Some c)) ≡ states_of (kind_of p (Some c))
@@ -403,7 +414,7 @@ linked_is_wired p formed linked = record {
   destructs = destruct_states p formed linked;
   undestructed = none_destructs p formed linked;
   no_destructor = owns_none p formed linked;
-  family = linked_is_family p linked;
+  family = linked_is_family p linked formed;
   acceptor = has_acceptor p formed linked;
   accepts = acceptor_is p formed linked;
   attendant = has_attendant p formed linked;

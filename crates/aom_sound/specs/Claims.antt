@@ -2,17 +2,19 @@
 use Rattle.std.specs.Prelude.{ℕ, ℤ, Bool, true, false, cond, ◌==◌, map, List, [], ◌∷◌, Option, Some, None, length, ◌&&◌}
 use Rattle.aom_image.specs.Image.{Image}
 use Rattle.aom_image.specs.declared.method.Gives.{Gives}
-use Rattle.aom_shape.specs.Things.{Program, field_thing}
+use Rattle.aom_shape.specs.Things.{Holder, Program, field_thing, holder_of}
 use Rattle.aom_shape.specs.Shape.{Shape}
 use Rattle.aom_shape.specs.Kinds.{entry_kind, filled, register, field}
 use Rattle.aom_shape.specs.declared.kind.Age.TheVariants.{Ready}
 use Rattle.aom_shape.specs.declared.kind.Entry.{Entry as Pushed}
 use Rattle.aom_shape.specs.declared.kind.Entry.TheVariants.{Object as Pushed_object, Operation as Pushed_operation}
+use Rattle.aom_shape.specs.declared.kind.Filling.{Filling}
 use Rattle.aom_shape.specs.declared.kind.Filling.TheVariants.{Perhaps, Full}
 use Rattle.aom_shape.specs.declared.kind.Kind.{Kind}
 use Rattle.aom_shape.specs.declared.kind.Kind.TheVariants.{Null, Own}
 use Rattle.aom_image.specs.Views.{method_role}
 use Rattle.aom_rules.specs.Requests.{is_service}
+use Rattle.aom_image.specs.declared.method.Thing.{Thing}
 use Rattle.aom_image.specs.declared.method.Thing.TheVariants.{Message}
 use Rattle.aom_shape.specs.declared.kind.Delivery.{Delivery}
 use Rattle.aom_shape.specs.declared.kind.Delivery.TheVariants.{Here, Gone}
@@ -102,13 +104,18 @@ register_claim (Ending o left) depth f i below = below
 register_claim (Unwinding code es) depth f i below = below
 register_claim (Dispatching d seats) depth f i below = below
 
-abbrev pub home_claim : Image → Home → Shape → ℕ → ℕ → Kind → Kind
-home_claim p Static sh n f below = below
-home_claim p AtRoot sh n f below = below
-home_claim p (Inside o from) sh n f below = cond (o.name == n) (filled (field_thing p (thing_holder o.thing) f) (field sh f)) below
+-- of the fields that the method's class declares a method claims what it knows, and of the others what is claimed below
+abbrev pub own_field : Option Thing → Filling → Kind → Kind
+own_field None x below = below
+own_field (Some t) x below = filled (Some t) x
+
+abbrev pub home_claim : Image → Holder → Home → Shape → ℕ → ℕ → Kind → Kind
+home_claim p h Static sh n f below = below
+home_claim p h AtRoot sh n f below = below
+home_claim p h (Inside o from) sh n f below = cond (o.name == n) (own_field (field_thing p h f) (field sh f) below) below
 
 abbrev pub field_claim : Image → Layer → ℕ → ℕ → Kind → Kind
-field_claim p (Method fr sh) n f below = home_claim p fr.home sh n f below
+field_claim p (Method fr sh) n f below = home_claim p (holder_of p fr.method) fr.home sh n f below
 field_claim p (Mark gv) n f below = below
 field_claim p (Dying o) n f below = cond (o.name == n) Null below
 field_claim p (Ending o left) n f below = cond (o.name == n) (filled (field_thing p (thing_holder o.thing) f) Perhaps) below

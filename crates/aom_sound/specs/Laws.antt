@@ -49,11 +49,17 @@ pub record IsTrapped (p : Image) (m : ℕ) : Type 0 where
   pub ends : unissued (after_of p m) ≡ true
   pub gives : LeavesNone (gives_of p m)
 
+-- a method of a class, or of one that the class descends from
+pub record IsOfFamily (p : Image) (c m : ℕ) : Type 0 where
+  pub class : ℕ
+  pub of : method_class p m ≡ Some class
+  pub above : descends p c class ≡ true
+
 -- a method that is dispatched for its object: the object is idle as it begins
 pub record IsHandler (p : Image) (c m : ℕ) : Type 0 where
   pub there : IsSome (method_at p m)
   pub role : method_role p m ≡ Some Run_role
-  pub class : method_class p m ≡ Some c
+  pub family : IsOfFamily p c m
   pub arguments : arguments_of p m ≡ []
   pub gives : gives_of p m ≡ Nothing
   pub begins : before_of p m ≡ idle
@@ -62,7 +68,7 @@ pub record IsHandler (p : Image) (c m : ℕ) : Type 0 where
 pub record IsAnswerer (p : Image) (c m : ℕ) : Type 0 where
   pub there : IsSome (method_at p m)
   pub role : method_role p m ≡ Some Error
-  pub class : method_class p m ≡ Some c
+  pub family : IsOfFamily p c m
   pub arguments : arguments_of p m ≡ Takes_word ∷ []
   pub gives : gives_of p m ≡ A_word
   pub leaves : leaves p m ≡ false
@@ -104,7 +110,7 @@ pub record IsWired (p : Image) : Type 0 where
   pub destructor : (c m : ℕ) → role_of p c Destruct ≡ Some m → (IsSome (method_at p m)) × (method_role p m ≡ Some Destruct) × (method_class p m ≡ Some c) × (leaves p m ≡ false) × (is_quiet p m ≡ true) × (gives_of p m ≡ Nothing) × (arguments_of p m ≡ [])
   -- a class of active objects has a method that cancels, which begins with its object being cancelled
   pub cancel : (c : ℕ) → is_active_kind (kind_of p (Some c)) ≡ true → (m : ℕ) × (role_of p c Cancel ≡ Some m)
-  pub canceller : (c m : ℕ) → role_of p c Cancel ≡ Some m → (IsSome (method_at p m)) × (method_role p m ≡ Some Cancel) × (method_class p m ≡ Some c) × (arguments_of p m ≡ []) × (before_of p m ≡ cancel_open)
+  pub canceller : (c m : ℕ) → role_of p c Cancel ≡ Some m → (IsSome (method_at p m)) × (method_role p m ≡ Some Cancel) × IsOfFamily p c m × (arguments_of p m ≡ []) × (before_of p m ≡ cancel_open)
   -- and one that is dispatched for its objects; it may have one that answers
   pub handler : (c : ℕ) → is_active_kind (kind_of p (Some c)) ≡ true → (m : ℕ) × (role_of p c Run_role ≡ Some m)
   pub handles : (c m : ℕ) → role_of p c Run_role ≡ Some m → IsHandler p c m

@@ -1,5 +1,5 @@
 -- What a class costs by the methods that it has: one that runs is of active objects, and one that accepts of servers.
-use Rattle.std.proofs.Common.{◌≡◌, ◌≤◌, ◌+◌, ◌∙◌, ℕ, true, false, Option, Some, None, refl, ap, arith, subst}
+use Rattle.std.proofs.Common.{◌≡◌, ◌≤◌, ◌+◌, ◌∙◌, ℕ, true, false, Option, Some, None, refl, ap, arith, subst, sym}
 use Rattle.std.specs.Prelude.{is_some, max}
 use Rattle.std.proofs.Math.Nat.{le-max_left, le-max_right}
 use Rattle.aom_image.specs.Image.{Image}
@@ -11,13 +11,14 @@ use Rattle.aom_image.specs.declared.method.Role.{Role}
 use Rattle.aom_image.specs.declared.method.Role.TheVariants.{Accept, Error, Run as Handles, Service}
 use Rattle.aom_image.specs.declared.method.Thing.TheVariants.{Object as An_object_of}
 use Rattle.aom_classes.proofs.Facts.{all_there}
-use Rattle.aom_classes.proofs.Playing.{role_found}
+use Rattle.aom_classes.proofs.Playing.{role_inherits}
 use Rattle.aom_classes.specs.Linked.{IsLinked}
 use Rattle.aom_classes.specs.Roles.{role_of}
 use Rattle.aom_roles.specs.Classes.{sessions_in, sessions_of, is_session_in, is_session_kind, kind_in}
 use Rattle.aom_roles.specs.Shapes.{HasShape, IsShaped, is_active_in, kind_of}
 use Rattle.aom_bounds.specs.Prices.{Prices, perhaps_price, price}
 use Rattle.aom_steps.specs.Payers.{dispatch_price, object_price}
+use Rattle.aom_sound.proofs.Families.{family_kinds}
 use Rattle.aom_sound.specs.Servers.{is_server}
 use Rattle.aom_image.specs.declared.class.ClassDecl.{ClassDecl}
 
@@ -25,9 +26,11 @@ module _ (p : Image) (linked : IsLinked p) (x : ℕ) where
   shaped : (role : Role) (m : ℕ) → role_of p x role ≡ Some m → (d : Method_declared) × HasShape role (kind_of p (Some x)) d
   unfolding method_at
   shaped role m e =
-      let w = role_found p linked.parents.none x m role e in
-      let all : IsShaped p w.0 = all_there (IsShaped p) p.methods m w.0 linked.shapes w.1 in
-      (w.0, subst (λ k. HasShape role (kind_of p k) w.0) w.2 (subst (λ r. HasShape r (kind_of p w.0.class) w.0) w.3 all.role))
+      let w = role_inherits p x m role e in
+      let d = w.method in
+      let all : IsShaped p d = all_there (IsShaped p) p.methods m d linked.shapes w.there in
+      let kind : kind_of p d.class ≡ kind_of p (Some x) = ap (λ k. kind_of p k) w.of ∙ sym (family_kinds p linked x w.class w.family) in
+      (d, subst (λ k. HasShape role k d) kind (subst (λ r. HasShape r (kind_of p d.class) d) w.role all.role))
 
   -- the sessions of a server are no servers
   pub plain_session : (session : ℕ) → sessions_in (kind_of p (Some x)) ≡ Some session → is_server p (An_object_of session) ≡ false

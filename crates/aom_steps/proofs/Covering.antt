@@ -168,7 +168,7 @@ module _ (p : Image) (t : Typing) (c : Prices) (main_none : (m : ℕ) → method
   covers (JumpNull a to) it rule = on_null a to (register sh a) (held s.cells (here fr ts s a)) rule.0 (paid (JumpNull a to) it refl refl) (kind_fits p t ch s fr sh ls at_hand a)
   covers (JumpEmpty f to) it rule =
       let some : is_some (field_thing p (home_holder fr.home) f) ≡ true = ap is_some (houses_field p _ _ f at_hand.good.stack.1.holder rule.0) ∙ rule.0 in
-      on_empty f to (field_thing p (home_holder fr.home) f) some (field sh f) (held s.cells (field_place fr.home f)) (paid (JumpEmpty f to) it refl refl) (field_fits p t ch s fr sh ls at_hand f some)
+      on_empty f to (field_thing p (home_holder fr.home) f) some (field sh f) (held s.cells (field_place fr.home f)) (paid (JumpEmpty f to) it refl refl) (field_fits p t ch s fr sh ls at_hand f rule.0)
   covers (JumpActive to) it rule =
       let listed = active_listed (own_kind p fr.method) rule.0 in
       let r = own_request s.cells fr.home in

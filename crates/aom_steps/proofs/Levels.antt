@@ -18,6 +18,8 @@ use Rattle.aom_classes.specs.Roles.{destructor_of, is_main, main_of, role_of}
 use Rattle.aom_roles.specs.Shapes.{FlagsFit, HasShape, IsShaped, kind_of, may_leave, is_quiet as quiet_bit}
 use Rattle.aom_classes.proofs.Facts.{all_there, at_place}
 use Rattle.aom_classes.proofs.Mentioning.{cancels_own}
+use Rattle.aom_roles.proofs.Descending.{through}
+use Rattle.aom_roles.specs.Families.{descends}
 use Rattle.aom_sound.specs.Destruction.{begun, begun_by, destructed}
 use Rattle.aom_sound.specs.Servers.{is_server}
 use Rattle.aom_sound.specs.Places.{Object}
@@ -27,7 +29,7 @@ use Rattle.aom_steps.specs.Ranks.{all_left, base, cell_rank, closing_rank, left_
 use Rattle.aom_steps.specs.Within.{left}
 use Rattle.aom_steps.proofs.Sums.{pow_less, pow_more, pow_some, pow_step, pow_twice, whole_run}
 use Rattle.aom_image.proofs.Given.{cons_given, some_given}
-use Rattle.aom_classes.proofs.Playing.{destroyed, role_found}
+use Rattle.aom_classes.proofs.Playing.{destroyed, role_inherits}
 use Rattle.aom_steps.proofs.Sums.{one_of_all}
 
 left_below : (ms : List Method) (k : ℕ) (m : Method) → slice_get ms k ≡ Some m → left m.code [] 0 ≤ all_left ms
@@ -103,11 +105,11 @@ record IsQuietThere (p : Image) (m : ℕ) : Type 0 where
 role_quiet : (p : Image) → IsLinked p → (c m : ℕ) (role : Role) → ((kind : Option ClassKind) (d : Method) → HasShape role kind d → quiet_in (Some d) ≡ true) → role_of p c role ≡ Some m → IsQuietThere p m
 unfolding method_at
 role_quiet p linked c m role quiet e =
-    let w = role_found p linked.parents.none c m role e in
-    let d = w.0 in
-    let shaped : IsShaped p d = all_there (IsShaped p) p.methods m d linked.shapes w.1 in
-    let shape : HasShape role (kind_of p d.class) d = subst (λ r. HasShape r (kind_of p d.class) d) w.3 shaped.role in
-    record { within = slice_get_within p.methods m d w.1; quiet = ap quiet_in w.1 ∙ quiet (kind_of p d.class) d shape }
+    let w = role_inherits p c m role e in
+    let d = w.method in
+    let shaped : IsShaped p d = all_there (IsShaped p) p.methods m d linked.shapes w.there in
+    let shape : HasShape role (kind_of p d.class) d = subst (λ r. HasShape r (kind_of p d.class) d) w.role shaped.role in
+    record { within = slice_get_within p.methods m d w.there; quiet = ap quiet_in w.there ∙ quiet (kind_of p d.class) d shape }
 
 quiet_destructor : (p : Image) → IsLinked p → (c m : ℕ) → role_of p c Destruct ≡ Some m → IsQuietThere p m
 unfolding quiet_in
@@ -166,11 +168,11 @@ pub quiet_canceller : (p : Image) → IsLinked p → (c m : ℕ) → role_of p c
 unfolding quiet_in
 quiet_canceller p linked c m e = (role_quiet p linked c m Cancel_role (λ kind d shape. shape.flags) e).quiet
 
--- and comes before what cancels by it
+-- and comes before what cancels by it, also where the object is of a class that descends from the method's
 pub canceller_before :
-    (p : Image) → IsLinked p → (m place : ℕ) (d : Method) (c m' : ℕ) → method_at p m ≡ Some d → slice_get d.code place ≡ Some Cancel → d.class ≡ Some c → role_of p c Cancel_role ≡ Some m' →
+    (p : Image) → IsLinked p → (m place : ℕ) (d : Method) (c x m' : ℕ) → method_at p m ≡ Some d → slice_get d.code place ≡ Some Cancel → d.class ≡ Some c → descends p x c ≡ true → role_of p x Cancel_role ≡ Some m' →
     m' < m
-canceller_before p linked m place d c m' is stands class e =
+canceller_before p linked m place d c x m' is stands class family e =
     let runs = runs_below p linked m place d Cancel is stands in
     let below : MayCancel p m c = subst (λ o. IfSome o (MayCancel p m)) class runs in
-    subst (λ o. IfSome o (λ k. k < m)) e (cancels_own p m c below)
+    subst (λ o. IfSome o (λ k. k < m)) e (cancels_own p m x (λ y h. below y (through p y x c h family)))

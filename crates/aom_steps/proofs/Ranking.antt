@@ -49,7 +49,7 @@ use Rattle.aom_sound.proofs.Layers.{method_layer}
 use Rattle.aom_sound.specs.Enlisted.{cancel_method, ended_cells, part_of}
 use Rattle.aom_shape.specs.Things.{holder_of}
 use Rattle.aom_image.specs.declared.method.Role.TheVariants.{Error}
-use Rattle.aom_sound.proofs.Callees.{cancel_class}
+use Rattle.aom_sound.proofs.Callees.{cancel_family}
 
 -- ---- a return
 
@@ -87,8 +87,8 @@ cancels_below :
     (m < fr.method) × (is_quiet p m ≡ true)
 unfolding class_in
 cancels_below p linked fr d there holder m stands e =
-    let found = cancel_class p linked.parents.none fr.home fr.method m holder e in
-    (canceller_before p linked fr.method fr.place d found.0 m there stands (sym (ap class_in there) ∙ found.1) found.2, quiet_canceller p linked found.0 m found.2)
+    let found = cancel_family p fr.home fr.method m holder e in
+    (canceller_before p linked fr.method fr.place d found.1 found.0 m there stands (sym (ap class_in there) ∙ found.2) found.3 found.4, quiet_canceller p linked found.0 m found.4)
 
 -- ---- every move
 

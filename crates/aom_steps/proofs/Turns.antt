@@ -8,6 +8,7 @@ use Rattle.aom_image.specs.declared.method.Thing.{Thing}
 use Rattle.aom_image.specs.declared.method.Thing.TheVariants.{Message, Object as An_object_of}
 use Rattle.aom_rules.specs.Typing.{Typing}
 use Rattle.aom_sound.proofs.Families.{linked_is_family}
+use Rattle.aom_sound.specs.Laws.{IsFamily}
 use Rattle.aom_sound.proofs.Guarded.{goes_same}
 use Rattle.aom_sound.proofs.Housing.{stands_session_of}
 use Rattle.aom_sound.proofs.Turned.{accepts, attends, handles, parts, Polled, answers, nothing, polled_so, Picked, picked_so}
@@ -185,7 +186,7 @@ module _ (s : State) (tidy : Tidy s.cells) where
       go true = tt
       go false = timer_lives (first_due s.cells) _ (event_lives outside heard.name (next_event outside s) _ (polls_lives (next_native outside s) heard.completion _ (picks_lives (has_signal s.cells) (first_ready s.cells) refl (next_time outside s))))
 
-module _ (p : Image) (t : Typing) (c : Prices) (linked : IsLinked p) (priced : IsPriced p t c) (s : State) (good : Good p t s.cells []) (bare : objects_left c s.cells + operations_left c s.items ≡ 0) (x : Seat)
+module _ (p : Image) (t : Typing) (c : Prices) (family : IsFamily p) (linked : IsLinked p) (priced : IsPriced p t c) (s : State) (good : Good p t s.cells []) (bare : objects_left c s.cells + operations_left c s.items ≡ 0) (x : Seat)
     (there : named s.cells x.object.name ≡ Some x.object) where
   abbrev Paid : State → Type 0
   Paid u = left p c u ≤ price_of p c (payer u.tasks)
@@ -221,7 +222,7 @@ module _ (p : Image) (t : Typing) (c : Prices) (linked : IsLinked p) (priced : I
       go (session_class p x.object.thing) refl has.1
     where
       go : (k : Option ℕ) → session_class p x.object.thing ≡ k → Fits p (seen s.cells) (Some o) (filled (of_class k) Full) → IsSessionOf x.object.thing o
-      go (Some session) at f = (session, at, stands_session_of p (linked_is_family p linked) x.object.thing session at o.thing f.0)
+      go (Some session) at f = (session, at, stands_session_of p family x.object.thing session at o.thing f.0)
       go None at f = absurd f
 
   attends_within : (y : Thing) (o : Object) (m : ℕ) → IsSessionOf y o → part_of p Attends o.thing ≡ Some m → Affords y (price c m)
@@ -271,13 +272,13 @@ module _ (p : Image) (t : Typing) (c : Prices) (linked : IsLinked p) (priced : I
           omega (arith, begins, parts_within x.object.thing o is, less, bare, taken_same, ap (λ y. price_of p c y) (begun_payer p o (length s.items) below))
 
 pub picking :
-    (p : Image) (t : Typing) (c : Prices) → IsLinked p → IsPriced p t c → (s : State) → WellTyped p t s → s.tasks ≡ [] → (x : Turning) → Lives s x → starts x ≡ true → (u : State) → turned p s x ≡ Goes u →
+    (p : Image) (t : Typing) (c : Prices) → IsFamily p → IsLinked p → IsPriced p t c → (s : State) → WellTyped p t s → s.tasks ≡ [] → (x : Turning) → Lives s x → starts x ≡ true → (u : State) → turned p s x ≡ Goes u →
     left p c u ≤ price_of p c (payer u.tasks)
-picking p t c linked priced s w idle (Picks x) there f u e = picked_pays p t c linked priced s (at_rest_good p t s w idle) (none_between p t c s w idle) x there u (picked_so p s u x e)
-picking p t c linked priced s w idle _ there f u e = cc
+picking p t c family linked priced s w idle (Picks x) there f u e = picked_pays p t c family linked priced s (at_rest_good p t s w idle) (none_between p t c s w idle) x there u (picked_so p s u x e)
+picking p t c family linked priced s w idle _ there f u e = cc
 
 pub turns_pay : TurnsPay
 turns_pay = record {
-  begins = λ p t c linked priced outside heard s u w idle e f. picking p t c linked priced s w idle (turning outside heard s) (turning_lives s w.good.tidy outside heard) f u e;
+  begins = λ p t c formed linked priced outside heard s u w idle e f. picking p t c (linked_is_family p linked formed) linked priced s w idle (turning outside heard s) (turning_lives s w.good.tidy outside heard) f u e;
   passes = λ p c outside heard s u idle e f. passing p c s idle (turning outside heard s) f u e;
 }

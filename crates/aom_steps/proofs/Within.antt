@@ -337,7 +337,10 @@ moves_pay = record {
           omega (arith, step_pays p t c linked typed priced ch s u w kept goes on, steps_counted p ch s u goes on, h.within);
     }
 
-module _ (p : Image) (t : Typing) (c : Prices) (outside : Outside) (wired : IsWired p) (linked : IsLinked p) (typed : IsTyped p t) (priced : IsPriced p t c) where
+module _ (p : Image) (t : Typing) (c : Prices) (outside : Outside) (formed : WellFormed p) (linked : IsLinked p) (typed : IsTyped p t) (priced : IsPriced p t c) where
+  wired : IsWired p
+  wired = linked_is_wired p formed linked
+
   well : {lines : List Line} {s : State} → Reaches p outside (boot_state p) lines s → WellKept p t s
   well {lines = lines} {s = s} reached = well_on p t outside wired typed (boot_state p) (boot_keeps p t wired typed, clients_keep.boot p) lines s reached
 
@@ -358,7 +361,7 @@ module _ (p : Image) (t : Typing) (c : Prices) (outside : Outside) (wired : IsWi
   turns_on :
       (heard : Heard) (s u : State) (n : ℕ) → WellTyped p t s → s.tasks ≡ [] → turn p outside heard s ≡ Goes u → Within n s → (b : Bool) → starts (turning outside heard s) ≡ b →
       Within (cond b 0 n) u
-  turns_on heard s u n w idle goes h true begun = omega (arith, turns_pay.begins p t c linked priced outside heard s u w idle goes begun)
+  turns_on heard s u n w idle goes h true begun = omega (arith, turns_pay.begins p t c formed linked priced outside heard s u w idle goes begun)
   turns_on heard s u n w idle goes h false on =
       let passed = turns_pay.passes p c outside heard s u idle goes on in
       omega (arith, h, passed.1, ap (λ ts. price_of p c (payer ts)) (passed.0 ∙ sym idle))
@@ -441,7 +444,7 @@ steps_within = record { price = by_price; main = of_main; each = by_budget; limi
     by_price :
         (p : Image) (t : Typing) (c : Prices) (outside : Outside) → WellFormed p → IsLinked p → IsTyped p t → IsPriced p t c →
         (lines : List Line) (s : State) (reached : Reaches p outside (boot_state p) lines s) → taken reached ≤ price_of p c (payer s.tasks)
-    by_price p t c outside formed linked typed priced lines s reached = omega (arith, stays p t c outside (linked_is_wired p formed linked) linked typed priced reached)
+    by_price p t c outside formed linked typed priced lines s reached = omega (arith, stays p t c outside formed linked typed priced reached)
 
     of_main :
         (p : Image) (t : Typing) (c : Prices) (outside : Outside) → WellFormed p → IsLinked p → IsTyped p t → IsAffordable p t c →

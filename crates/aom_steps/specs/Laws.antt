@@ -39,7 +39,7 @@ pub record MovesPay : Type 0 where
 -- a turn that dispatches an object or a server begins with the price of its class, and any other costs nothing: whatever comes from outside, whatever a native completes, and whatever a client asks
 pub record TurnsPay : Type 0 where
   pub begins :
-      (p : Image) (t : Typing) (c : Prices) → IsLinked p → IsPriced p t c → (outside : Outside) (heard : Heard) (s u : State) → WellTyped p t s → s.tasks ≡ [] → turn p outside heard s ≡ Goes u →
+      (p : Image) (t : Typing) (c : Prices) → WellFormed p → IsLinked p → IsPriced p t c → (outside : Outside) (heard : Heard) (s u : State) → WellTyped p t s → s.tasks ≡ [] → turn p outside heard s ≡ Goes u →
       starts (turning outside heard s) ≡ true → left p c u ≤ price_of p c (payer u.tasks)
   pub passes :
       (p : Image) (c : Prices) (outside : Outside) (heard : Heard) (s u : State) → s.tasks ≡ [] → turn p outside heard s ≡ Goes u →
