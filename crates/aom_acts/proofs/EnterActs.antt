@@ -15,9 +15,10 @@ use Rattle.aom_image.specs.declared.method.Method.{Method as Method_decl}
 use Rattle.aom_cells.specs.Heap.{Heap, null}
 use Rattle.aom_shape.specs.Needs.{AllTrue}
 use Rattle.aom_shape.specs.Tables.{put_at}
-use Rattle.aom_sound.specs.Calls.{is_worked_on, own_home, entered, entry_place, home_at, needs_each, needs_entering, needs_target, passed_cells, passed_words, target_home}
+use Rattle.aom_sound.proofs.Plain.{body_named}
+use Rattle.aom_sound.specs.Calls.{is_worked_on, own_home, entered, entry_place, home_at, needs_each, needs_entering, needs_target, passed_cells, passed_words, target_home, target_view}
 use Rattle.aom_sound.specs.Places.{Place, Register, Elsewhere, Entry, Field, Going, Object, Cell, changed, held, moved, same_place}
-use Rattle.aom_sound.specs.State.{Frame, Need, Task, Run, Trapped, A_mark, State, field_place, frame_of, word}
+use Rattle.aom_sound.specs.State.{Frame, Need, Task, Run, Trapped, A_mark, State, field_place, frame_as, word}
 use Rattle.aom_sound.proofs.Finishing.{all_parts}
 use Rattle.aom_sound.proofs.Maps.{held_moved}
 use Rattle.aom_frames.specs.Tasks.{fresh, given, given_here, on_top, passed_on, passing, register_here, this_here, with_register, method_here, place_here}
@@ -36,7 +37,7 @@ use Rattle.aom_acts.specs.Calls.{target_here}
 use Rattle.aom_parts.proofs.Cells.{cells_moved}
 use Rattle.aom_parts.proofs.Entries.{entry_number, mark_shows_none}
 use Rattle.aom_acts.proofs.FieldActs.{field_shown}
-use Rattle.aom_acts.proofs.GoingActs.{fresh_value, fresh_word}
+use Rattle.aom_acts.proofs.GoingActs.{fresh_as, fresh_value}
 use Rattle.aom_acts.proofs.Housing.{needs_say}
 use Rattle.aom_acts.proofs.ObjectActs.{shown}
 use Rattle.aom_parts.proofs.Overs.{held_over, higher, over_deep, over_register, over_value, over_word, over_words, tasks_over}
@@ -46,7 +47,7 @@ use Rattle.aom_parts.proofs.Services.{services_passed}
 use Rattle.aom_sound.proofs.Owned.{object_for}
 use Rattle.aom_sound.proofs.Maps.{held_lives}
 use Rattle.aom_acts.proofs.FieldActs.{this_is}
-use Rattle.aom_acts.proofs.Running.{Aside, Top, agrees_with, aside_of, aside_with, by_top, begun_frame, object_small, reframed, no_word}
+use Rattle.aom_acts.proofs.Running.{Aside, Top, agrees_with, aside_of, aside_with, by_top, begun_as, object_small, reframed, no_word}
 use Rattle.aom_parts.proofs.Values.{kept, moves, value_here, value_written, word_written, writes}
 use Rattle.aom_parts.proofs.Sessions.{natives_passed}
 
@@ -293,8 +294,15 @@ module _ (p : Image) (m : Parts) (h : At_hand p m) (trapped : Bool) (target : Ta
   abbrev xs : List Argument
   xs = arguments_of p k
 
+  abbrev view : Option ℕ
+  view = target_view p h.frame h.below h.state target (method_class p k)
+
   abbrev called : Frame
-  called = frame_of k (target_home p h.frame h.below h.state target (method_class p k)) height
+  called = frame_as k (target_home p h.frame h.below h.state target (method_class p k)) view height
+
+  -- nothing is overridden yet, so what is called runs
+  runs : record called { words = passed_words p h.frame h.below h.state xs first } ≡ entered p h.frame h.below h.state target k first height
+  runs = ap (λ j. record (frame_as j (target_home p h.frame h.below h.state target (method_class p k)) view height) { words = passed_words p h.frame h.below h.state xs first }) (sym (body_named p h.linked k view))
 
   abbrev this : ℕ
   this = target_here target (method_class p k) m
@@ -321,12 +329,12 @@ module _ (p : Image) (m : Parts) (h : At_hand p m) (trapped : Bool) (target : Ta
       let above = higher trapped (Run fr ∷ ts) {n = length ts} (omega arith) in
       let begun : Passing p trapped m.cells m.entries.items (others m) ms ts fr called s top.deep f (fresh k this) s.cells [] 0 = record {
         values = λ r. subst (λ n. Shows n (word_at (Run called ∷ over) r) (held s.cells r)) (sym (fresh_value k this us m.cells m.entries.items (others m) r ∙ over_value trapped (Runs_frame f ∷ ms) m.cells m.entries.items (others m) r))
-            (subst (λ w. Shows (value_in (Runs_frame f ∷ ms) m.cells m.entries.items (others m) r) w (held s.cells r)) (sym (fresh_word k (target_home p fr ts s target (method_class p k)) height over r ∙ over_words trapped (Run fr ∷ ts) r)) (top.values r));
+            (subst (λ w. Shows (value_in (Runs_frame f ∷ ms) m.cells m.entries.items (others m) r) w (held s.cells r)) (sym (fresh_as k (target_home p fr ts s target (method_class p k)) view height over r ∙ over_words trapped (Run fr ∷ ts) r)) (top.values r));
         cells = h.agrees.cells;
         free = λ i le. none_above p h.typing s (length over) i h.typed (omega arith);
         even = refl;
         caller = top.frame;
-        called = begun_frame k this (target_home p fr ts s target (method_class p k)) height home housed;
+        called = begun_as k this (target_home p fr ts s target (method_class p k)) view height home housed;
       } in
       all_go p trapped m.cells m.entries.items (others m) ms ts fr called s top.deep xs first 0 f (fresh k this) s.cells [] fits (omega arith) each begun
 
@@ -344,8 +352,9 @@ module _ (p : Image) (m : Parts) (h : At_hand p m) (trapped : Bool) (target : Ta
   agrees_entered more needs f ms top =
       let done = enters more needs f ms top in
       let us = Runs_frame (given xs first 0 f (fresh k this)) ∷ held_over trapped (Runs_frame (passed_on xs first f) ∷ ms) in
-      agrees_with p m (record h.state { cells = passed }) us (Run (entered p h.frame h.below h.state target k first height) ∷ over)
-      (aside_passed done.cells) (done.called, over_same trapped _ _ done.caller top.below) done.values
+      subst (λ fr. Agrees p (with_tasks us m) (record h.state { cells = passed; tasks = Run fr ∷ over })) runs
+      (agrees_with p m (record h.state { cells = passed }) us (Run (record called { words = passed_words p h.frame h.below h.state xs first }) ∷ over)
+      (aside_passed done.cells) (done.called, over_same trapped _ _ done.caller top.below) done.values)
     where
       over_same : (b : Bool) (g : Held_frame) (gs : List Held_task) → SameFrame g h.frame → SameTasks gs h.below → SameTasks (held_over b (Runs_frame g ∷ gs)) (tasks_over b (Run h.frame ∷ h.below))
       over_same true g gs frame below = (tt, (frame, below))

@@ -13,7 +13,7 @@ use Rattle.aom_cells.specs.declared.cell.Cell.{Cell as Held_cell}
 use Rattle.aom_rules.specs.Typing.{Typing}
 use Rattle.aom_sound.specs.Places.{Place, Register, Field, Going, Elsewhere, Root, same_place, Object, Cell, held, named, moved, changed}
 use Rattle.aom_sound.specs.Effects.{applied, deletes}
-use Rattle.aom_sound.specs.State.{Home, Inside, frame_of, word, set_word, Dispatch, Of_root, Task, Run, Closing, Destroy, Dispatched, resumed, Rest, State, raised}
+use Rattle.aom_sound.specs.State.{Home, Inside, frame_as, frame_of, home_view, word, set_word, Dispatch, Of_root, Task, Run, Closing, Destroy, Dispatched, resumed, Rest, State, raised}
 use Rattle.aom_classes.specs.Roles.{destructor_of}
 use Rattle.aom_sound.specs.Destruction as checked
 use Rattle.aom_sound.specs.Destruction.{begun_by, is_field_of, owns_nothing}
@@ -54,8 +54,11 @@ fresh_value method this us h es rest (Going d) = at_depth (length us) d null (go
 fresh_value method this us h es rest _ = refl
 
 pub fresh_word : (method : ℕ) (home : Home) (height : ℕ) (ts : List Task) (r : Place) → word_at (Run (frame_of method home height) ∷ ts) r ≡ word_at ts r
-fresh_word method home height ts (Register d i) = at_depth (length ts) d None (word_in ts d i) (λ k. word_past ts d i (omega arith))
-fresh_word method home height ts _ = refl
+fresh_word method home height ts r = fresh_as method home (home_view home) height ts r
+
+pub fresh_as : (method : ℕ) (home : Home) (view : Option ℕ) (height : ℕ) (ts : List Task) (r : Place) → word_at (Run (frame_as method home view height) ∷ ts) r ≡ word_at ts r
+fresh_as method home view height ts (Register d i) = at_depth (length ts) d None (word_in ts d i) (λ k. word_past ts d i (omega arith))
+fresh_as method home view height ts _ = refl
 
 -- nor does what lets go of sessions
 pub closes_value : (us : List Held_task) (h : Heap) (es : List Item) (rest : Others) (r : Place) → value_in (Closes ∷ us) h es rest r ≡ value_in us h es rest r

@@ -23,7 +23,7 @@ module _ (p : Image) (m : Parts) (st : Stands (record { image = p; parts = m }))
   unfoldable pub at_hand : At_hand p m
   at_hand =
       let f = frame_of m.stack.tasks st.0.tasks runs st.1.agrees.tasks in
-      record { typing = st.1.typing; state = st.0; frame = f.0; below = f.1; top = f.2; formed = st.1.sound.formed; wired = st.1.sound.wired; typed = st.1.typed; kept = st.1.kept; agrees = st.1.agrees }
+      record { typing = st.1.typing; state = st.0; frame = f.0; below = f.1; top = f.2; formed = st.1.sound.formed; linked = st.1.sound.linked; wired = st.1.sound.wired; typed = st.1.typed; kept = st.1.kept; agrees = st.1.agrees }
 
   pub finds_home : ThisLives m
   finds_home = is_housed p m at_hand

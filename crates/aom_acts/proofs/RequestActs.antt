@@ -35,10 +35,12 @@ use Rattle.aom_active.specs.Meanings.{Enlists, Makes, Times, asked_anew, begun_w
 use Rattle.aom_active.proofs.Asking.{asked_set, newest, newest_timer, queued_same}
 use Rattle.aom_active.proofs.Telling.{held_state, standing_follows, told_active, told_busy, told_cancelling, told_enlisted, told_fresh, told_state, told_status}
 use Rattle.aom_sound.specs.Effects.{applied, cancels_if, jumps_if, updates, Cancels, Requested, writes as writes_word, asking_with, heard}
+use Rattle.aom_parts.proofs.Heights.{stands_here}
+use Rattle.aom_sound.proofs.Plain.{viewed_home}
 use Rattle.aom_sound.specs.Enlisted as enlisted
 use Rattle.aom_sound.specs.Enlisted.{aborted, begun_cells, cancel_method, cancel_of, cancelling, due_after, first_request, home_kind, in_phase, is_cancelling, is_idle, is_issued, issued_by, issued_of, next_order, next_timer, on_request, own_request, rerequested, status_of, thing_kind, waits, Asking, completed_at_once}
 use Rattle.aom_sound.specs.Places.{Register, Service, service_of, Cell, Idle, Issued, Object, Phase, Place, Request, held, in_session, named, requested, set_request}
-use Rattle.aom_sound.specs.State.{AtRoot, Choice, Frame, Home, Inside, Rest, Run, State, Static, Task, frame_of}
+use Rattle.aom_sound.specs.State.{AtRoot, Choice, Frame, Home, Inside, Rest, Run, State, Static, Task, frame_as, home_view, thing_view}
 use Rattle.aom_sound.specs.Moves.{needs}
 use Rattle.aom_sound.specs.Words.{read, word_or_zero}
 use Rattle.aom_sound.proofs.Requesting.{active_listed}
@@ -63,10 +65,10 @@ use Rattle.aom_acts.specs.Requests.{Issues, kind_here, provider_of}
 use Rattle.aom_parts.proofs.CellFields.{cell_of}
 use Rattle.aom_acts.proofs.FieldActs.{housed, inside_number, inside_object}
 use Rattle.aom_shape.specs.Kinds.{is_object}
-use Rattle.aom_acts.proofs.GoingActs.{fresh_value, fresh_word, thing_is}
+use Rattle.aom_acts.proofs.GoingActs.{fresh_as, fresh_value, thing_is}
 use Rattle.aom_acts.proofs.GoingOn.{goes_on_as}
 use Rattle.aom_acts.proofs.Housing.{at_hand, needs_met}
-use Rattle.aom_acts.proofs.Running.{begun_frame, by_top, free, object_class}
+use Rattle.aom_acts.proofs.Running.{begun_as, by_top, free, object_class}
 use Rattle.aom_acts.proofs.Stepping.{at_step}
 use Rattle.aom_acts.proofs.WordActs.{heard_at, jumps, passes, plain_at, plain_does, word_put, word_read}
 use Rattle.aom_parts.proofs.Asking.{cells_asked}
@@ -194,8 +196,11 @@ module _ (p : Image) (m : Parts) (h : At_hand p m) where
     kind_told = ap (home_kind p) x.home ∙ kind_same p _ x.object.thing thing_here
 
     -- the method that cancels is the one that the machine finds
-    pub cancel_told : (class : ℕ) → class_at m.cells (this m) ≡ Some class → cancel_method p h.frame.home ≡ role_of p class Cancels_role
-    cancel_told class is = ap (cancel_method p) x.home ∙ ap (cancel_of p) (thing_is x.object.thing class _ is thing_here)
+    -- no class has a parent yet, so the object counts as its own
+    pub cancel_told : (class : ℕ) → class_at m.cells (this m) ≡ Some class → cancel_method p h.frame ≡ role_of p class Cancels_role
+    cancel_told class is =
+        let viewed = viewed_home p h.linked.parents.none h.frame.home h.frame.view (holder_of p h.frame.method) (stands_here p h.typing h.state h.frame h.below h.typed h.top).view in
+        ap (cancel_of p) (viewed ∙ ap home_view x.home ∙ ap thing_view (thing_is x.object.thing class _ is thing_here))
 
     -- what the table tells of it
     pub active_told : is_waited_for (request_at m.active.table (this m)) ≡ in_phase enlisted.is_active (own_request h.state.cells h.frame.home)
@@ -438,7 +443,7 @@ pub cancel_idle_does : (m : Parts) (refused : List ℕ) → is_waited_for (reque
 cancel_idle_does m refused idle =
     plain_does m _ refused Cancel refl (λ p h c met.
     let on = on_object p m h (active_listed _ met.0) in
-    subst (λ b. Agrees p (places.next m) (applied p h.frame h.below h.state (cancels_if h.frame b (cancel_method p h.frame.home)))) (sym (sym (active_told p m h on) ∙ idle)) (passes m refused p h))
+    subst (λ b. Agrees p (places.next m) (applied p h.frame h.below h.state (cancels_if h.frame b (cancel_method p h.frame)))) (sym (sym (active_told p m h on) ∙ idle)) (passes m refused p h))
 
 -- and else the method that cancels begins over the one that runs
 module _ (p : Image) (m : Parts) (refused : List ℕ) (a : Active) (k : ℕ) where
@@ -453,14 +458,14 @@ module _ (p : Image) (m : Parts) (refused : List ℕ) (a : Active) (k : ℕ) whe
       let n = this m in
       let r = on_request cancelling (own_request s.cells fr.home) in
       let cs = begun_cells fr s.cells in
-      let called = frame_of k fr.home (length s.items) in
+      let called = frame_as k fr.home fr.view (length s.items) in
       let top_housed = by_top p m h (λ us. this_here us ≢ null → this_here us < 4096) (λ f ms top. top.frame.housed) in
       by_top p m h (λ us. Agrees p (record m { stack = record m.stack { tasks = Runs_frame (fresh k n) ∷ us }; active = a }) (record s { cells = cs; tasks = Run called ∷ Run fr ∷ ts }))
       (λ f ms top. record {
-        tasks = (begun_frame k n fr.home (length s.items) number top_housed, (top.frame, top.below));
+        tasks = (begun_as k n fr.home fr.view (length s.items) number top_housed, (top.frame, top.below));
         values = λ q.
             subst (λ x. Shows x (word_at (Run called ∷ Run fr ∷ ts) q) (held cs q)) (sym (fresh_value k n (Runs_frame f ∷ ms) m.cells m.entries.items (others m) q))
-            (subst (λ w. Shows (value_in (Runs_frame f ∷ ms) m.cells m.entries.items (others m) q) w (held cs q)) (sym (fresh_word k fr.home (length s.items) (Run fr ∷ ts) q))
+            (subst (λ w. Shows (value_in (Runs_frame f ∷ ms) m.cells m.entries.items (others m) q) w (held cs q)) (sym (fresh_as k fr.home fr.view (length s.items) (Run fr ∷ ts) q))
             (subst (λ o. Shows (value_in (Runs_frame f ∷ ms) m.cells m.entries.items (others m) q) (word_at (Run fr ∷ ts) q) o) (sym ((rerequested_alike s.cells fr.home r).held_so q)) (top.values q)));
         cells = cells_rerequested p m.cells s.cells fr.home r h.agrees.cells;
         entries = h.agrees.entries;
@@ -478,6 +483,6 @@ module _ (p : Image) (m : Parts) (refused : List ℕ) (a : Active) (k : ℕ) whe
       let on = on_object p m h (active_listed _ met.0) in
       let active = sym (active_told p m h on) ∙ waited in
       let r = in_one enlisted.is_active _ active in
-      subst (λ b. Agrees p cancels (applied p h.frame h.below h.state (cancels_if h.frame b (cancel_method p h.frame.home)))) (sym active)
+      subst (λ b. Agrees p cancels (applied p h.frame h.below h.state (cancels_if h.frame b (cancel_method p h.frame)))) (sym active)
       (subst (λ o. Agrees p cancels (applied p h.frame h.below h.state (cancels_if h.frame true o))) (sym (cancel_told p m h on class is ∙ role))
       (cancel_begins h (on.number ∙ sym (ap home_number on.home)) (requests_become p m h on a cancelling r.0 r.1 makes))))

@@ -40,7 +40,7 @@ use Rattle.aom_sound.proofs.Maps.{held_without, held_moved, same_place_refl}
 use Rattle.aom_sound.proofs.Storing.{ended_alike, held_set_word, rerequested_alike, resessioned_alike}
 use Rattle.aom_bounds.proofs.Listed.{cancel_among, kept_in_line, runs_among, stands_among}
 use Rattle.aom_roles.proofs.Descending.{itself}
-use Rattle.aom_sound.specs.Calls.{ended_well, accepted_cells, below_top, entered, given_cells, over_caller, over_trap, passed_cells, received, result_cells, result_register, returned}
+use Rattle.aom_sound.specs.Calls.{ended_well, accepted_cells, below_top, entered, given_cells, over_caller, over_trap, passed_cells, received, result_cells, result_register, returned, run_by, target_view}
 use Rattle.aom_sound.specs.Claims.{objects}
 use Rattle.aom_sound.specs.Cleanup.{operation_frame, top_place}
 use Rattle.aom_classes.specs.Roles.{destructor_of}
@@ -49,14 +49,16 @@ use Rattle.aom_sound.specs.Effects.{The_message, Replied, Calls, Cancels, Carrie
 use Rattle.aom_sound.specs.Laws.{IsWired}
 use Rattle.aom_sound.specs.Steps.{Fits as May, FitsUpdate}
 use Rattle.aom_sound.specs.Places.{service_of, Session, Place, Elsewhere, Cell, Entry, Going, Object, Register, Sight, held, moved, same_place, seen}
-use Rattle.aom_sound.specs.State.{Of_server, Dispatch, Accepts, A_mark, An_object, An_operation, AtRoot, Choice, Closing, Destroy, Dispatched, Frame, Home, Inside, Item, Run, State, Static, Task, Trapped, Unwind, field_place, frame_of, next, set_word}
+use Rattle.aom_sound.specs.State.{Of_server, Dispatch, Accepts, A_mark, An_object, An_operation, AtRoot, Choice, Closing, Destroy, Dispatched, Frame, Home, Inside, Item, Run, State, Static, Task, Trapped, Unwind, field_place, frame_as, frame_of, next, set_word}
 use Rattle.aom_sound.specs.WellTyped.{AllUndo, Fits, IsUndo}
 use Rattle.aom_sound.specs.Words.{here, stored}
 use Rattle.aom_parts.specs.Room.{Destructs, IsUnder, NoClosing, below_height, entries_in, may_push}
 use Rattle.aom_parts.proofs.Depths.{AllLow, Roomy, SameBelow, begins, closing_begins, dropped, held_apart, item_pushed, lower, off_to_trap, popped, popped_top, recelled, top_under}
 use Rattle.aom_parts.proofs.Heights.{LowUnder, Stands_here, own_entries}
 use Rattle.aom_sound.specs.Enlisted.{begun_cells, cancel_method, cancelling, ended_cells, on_request, own_request}
-use Rattle.aom_sound.proofs.Callees.{cancel_family, cancel_quiet}
+use Rattle.aom_families.proofs.Running.{body_runs}
+use Rattle.aom_sound.proofs.Callees.{cancel_family, cancel_quiet, only_then}
+use Rattle.aom_sound.proofs.Overriders.{body_leaves, body_quiet}
 use Rattle.aom_sound.proofs.Services.{held_served}
 use Rattle.aom_sound.specs.Servers.{is_server, opened}
 
@@ -75,8 +77,10 @@ own_destructs p o m e = go o.thing e
     go Message e = cc
 
 -- what comes to no entries calls nothing that may
-pushes_from : (quiet quiet' leave leave' : Bool) → only_if quiet quiet' ≡ true → only_if leave' leave ≡ true → (not quiet' || leave') ≡ true → (not quiet || leave) ≡ true
-pushes_from quiet quiet' leave leave' q l may = grind arith
+pushes_from : (quiet quiet' leave leave' : Bool) → (quiet ≡ true → quiet' ≡ true) → (leave' ≡ true → leave ≡ true) → (not quiet' || leave') ≡ true → (not quiet || leave) ≡ true
+pushes_from true true leave leave' q l may = l may
+pushes_from true false leave leave' q l may = absurd (false≢true (q refl))
+pushes_from false quiet' leave leave' q l may = refl
 
 pushes_where : (quiet leave : Bool) → leave ≡ true → (not quiet || leave) ≡ true
 pushes_where quiet leave e = grind arith
@@ -265,9 +269,14 @@ module _ (p : Image) (t : Typing) (depth heights : ℕ → ℕ) (tables : Tables
     call_room target m first x stands n =
         let parts = all_parts (rule_target p fr.method h.shape target (method_class p m) (is_construct (method_role p m)) first (length (arguments_of p m))) _ n in
         let more = all_parts (each_argument p h.shape (arguments_of p m) first) _ parts.1.1 in
+        let view = target_view p fr ts s target (method_class p m) in
+        let k = run_by p fr ts s target m in
+        let there = (tables.wired.called fr.method fr.place target m first x stands).there in
         begins p depth heights (given_cells p fr ts s (over_caller p fr ts s) m first) s.items (entered p fr ts s target m first (length s.items)) (Run fr ∷ ts) refl
-        (may_call fr h.shape h.there (Call target m first x) m stands (inl refl))
-        (λ may. finds (Call target m first x) m stands (inl refl) (pushes_from (is_quiet p fr.method) (is_quiet p m) (leaves p fr.method) (leaves p m) more.1.1.0 more.1.1.1.1.0 may))
+        (may_call fr h.shape h.there (Call target m first x) k stands (body_runs p m view))
+        (λ may. finds (Call target m first x) k stands (body_runs p m view) (pushes_from (is_quiet p fr.method) (is_quiet p k) (leaves p fr.method) (leaves p k)
+        (λ q. body_quiet p tables.wired.overriders m view (only_then (is_quiet p fr.method) (is_quiet p m) more.1.1.0 q))
+        (λ l. only_then (leaves p m) (leaves p fr.method) more.1.1.1.1.0 (body_leaves p tables.wired.overriders m view there l)) may))
         (moves (given_cells p fr ts s (over_caller p fr ts s) m first) (λ e dealt. passed_same p fr ts s _ (arguments_of p m) first 0 s.cells e dealt))
 
     trap_room : (target : Target) (m first x : ℕ) → instr_at p fr.method fr.place ≡ Some (Trap target m first x) → not (is_quiet p fr.method) ≡ true → R (applied p fr ts s (Sets_trap target m first))
@@ -275,8 +284,8 @@ module _ (p : Image) (t : Typing) (depth heights : ℕ → ℕ) (tables : Tables
         let cells' = given_cells p fr ts s (over_trap p fr ts s) m first in
         let may = pushes_loud (is_quiet p fr.method) (leaves p fr.method) loud in
         begins p depth heights cells' (A_mark ∷ s.items) (entered p fr ts s target m first (length (A_mark ∷ s.items))) (Trapped ∷ Run fr ∷ ts) refl
-        (may_call fr h.shape h.there (Trap target m first x) m stands (inl refl))
-        (λ _. finds (Trap target m first x) m stands (inl refl) may)
+        (may_call fr h.shape h.there (Trap target m first x) (run_by p fr ts s target m) stands (body_runs p m (target_view p fr ts s target (method_class p m))))
+        (λ _. finds (Trap target m first x) (run_by p fr ts s target m) stands (body_runs p m (target_view p fr ts s target (method_class p m))) may)
         (item_pushed p depth heights cells' A_mark s.items (Run fr ∷ ts) all_low (λ k e. absurd e) w.3 (moves cells' (λ e dealt. passed_same p fr ts s _ (arguments_of p m) first 0 s.cells e dealt)))
 
     -- ---- returns
@@ -336,13 +345,13 @@ module _ (p : Image) (t : Typing) (depth heights : ℕ → ℕ) (tables : Tables
     -- ---- cancels
 
     -- the method that cancels is quiet, and comes to no entries
-    cancel_room : (m : ℕ) → instr_at p fr.method fr.place ≡ Some Cancel → cancel_method p fr.home ≡ Some m → R (applied p fr ts s (Cancels m))
+    cancel_room : (m : ℕ) → instr_at p fr.method fr.place ≡ Some Cancel → cancel_method p fr ≡ Some m → R (applied p fr ts s (Cancels m))
     cancel_room m stands e =
-        let its = cancel_family p fr.home fr.method m h.holder e in
-        let quiet = cancel_quiet p tables.wired fr.home m e in
+        let its = cancel_family p fr m h.view e in
+        let quiet = cancel_quiet p tables.wired fr m e in
         let stays : leaves p m ≡ false = false_given (λ b. b ≡ true → is_quiet p m ≡ false) (leaves p m) (tables.wired.quiets m) (λ loud. absurd (true≢false (sym quiet ∙ loud refl))) (λ stays loud. stays) in
         let among : Among m (cancels p (method_class p fr.method)) = subst (λ o. Among m (cancels p o)) (sym its.2) (cancel_among p (Some its.1) m (its.0, its.3, its.4)) in
-        begins p depth heights (begun_cells fr s.cells) s.items (frame_of m fr.home (length s.items)) (Run fr ∷ ts) refl
+        begins p depth heights (begun_cells fr s.cells) s.items (frame_as m fr.home fr.view (length s.items)) (Run fr ∷ ts) refl
         (may_call fr h.shape h.there Cancel m stands among)
         (λ may. absurd (pushes_none (is_quiet p m) (leaves p m) quiet stays may))
         (moves (begun_cells fr s.cells) (λ e dealt. (rerequested_alike s.cells fr.home (on_request cancelling (own_request s.cells fr.home))).held_so e))

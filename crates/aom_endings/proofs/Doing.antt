@@ -10,7 +10,7 @@ use Rattle.aom_instructions.specs.declared.instr.Target.TheVariants.{Entry as On
 use Rattle.aom_image.specs.declared.method.Gives.{Gives}
 use Rattle.aom_image.specs.declared.method.Gives.TheVariants.{Left, Maybe as A_maybe, Nothing, Own as An_own, Word as A_word}
 use Rattle.aom_clients.specs.declared.client.Client.{Client}
-use Rattle.aom_sound.specs.Calls.{accepted_cells, accepted_clients, answered_by, below_top, ended_well, told_answer, entry_place, home_at, own_home, received, result_cells, result_register, returned, target_home}
+use Rattle.aom_sound.specs.Calls.{accepted_cells, accepted_clients, answered_by, below_top, ended_well, told_answer, entry_place, home_at, own_home, received, result_cells, result_register, returned, target_home, target_view}
 use Rattle.aom_sound.specs.Cleanup.{code_told, dealt_with, destroyed, to_trap, top_place}
 use Rattle.aom_classes.specs.Roles.{destructor_of}
 use Rattle.aom_sound.specs.Destruction.{begun, begun_by, destructed}
@@ -19,7 +19,7 @@ use Rattle.aom_sound.specs.Effects.{Calls, Cancels, Carried, Destroys, Destroys_
 use Rattle.aom_sound.specs.Enlisted.{cancel_method, cancelled, cancelling, ended_cells, in_phase, is_active, is_busy, on_request, own_request, rerequested}
 use Rattle.aom_sound.specs.Moves.{does, needs}
 use Rattle.aom_sound.specs.Places.{Cell, Elsewhere, Entry, Going, Object, Place, Register, Request, Session, held, moved}
-use Rattle.aom_sound.specs.State.{A_mark, Accepts, An_object, An_operation, Asks, AtRoot, Choice, Closing, Destroy, Dispatch, Dispatched, Frame, Home, Inside, Item, Of_server, Run, Serves, State, Static, Task, Trapped, counter, field_place}
+use Rattle.aom_sound.specs.State.{A_mark, Accepts, An_object, An_operation, Asks, AtRoot, Choice, Closing, Destroy, Dispatch, Dispatched, Frame, Home, Inside, Item, Of_server, Run, Serves, State, Static, Task, Trapped, counter, field_place, home_view}
 use Rattle.aom_sound.specs.Words.{loaded, stored}
 use Rattle.aom_endings.proofs.NamedCells.{held_renamed, moved_renamed, order_kept, set_request_renamed, set_word_field_renamed, tasks_counted, timer_kept, word_field_kept, in_session_kept, set_session_renamed, cond_applied, without_renamed}
 use Rattle.aom_endings.proofs.Serving.{opened_client_renamed, opens_renamed}
@@ -232,6 +232,16 @@ module _ (names : ℕ → ℕ) (one_to_one : IsOneToOne names) (p : Image) (c : 
       ap (λ o. home_at o (entry_place s.items k)) (held_renamed names one_to_one s.cells (entry_place s.items k))
       ∙ home_at_renamed names (held s.cells (entry_place s.items k)) (entry_place s.items k)
 
+  -- it counts as what it counts as under the other names
+  elsewhere : (target : Target) (class : Option ℕ) → home_view (target_home p fr' ts' s' target class) ≡ home_view (target_home p fr ts s target class)
+  elsewhere target class = ap home_view (target_renamed target class) ∙ view_kept names (target_home p fr ts s target class)
+
+  view_renamed : (target : Target) (class : Option ℕ) → target_view p fr' ts' s' target class ≡ target_view p fr ts s target class
+  view_renamed This class = refl
+  view_renamed (On_register r) class = elsewhere (On_register r) class
+  view_renamed (On_field f) class = elsewhere (On_field f) class
+  view_renamed (On_entry k) class = elsewhere (On_entry k) class
+
   -- ---- what an effect does
 
   place_renamed : (spot : Spot) → spot_place p fr' ts' s' spot ≡ renamed_place names (spot_place p fr ts s spot)
@@ -258,14 +268,22 @@ module _ (names : ℕ → ℕ) (one_to_one : IsOneToOne names) (p : Image) (c : 
 
   applied_renamed : (e : Effect) → applied p fr' ts' s' (renamed_effect names e) ≡ renamed names (applied p fr ts s e)
   applied_renamed (Goes_on ch) = rw (cells_renamed ch.update, items_kept ch.update s.items)
-  applied_renamed (Calls target m first) = rw (given_renamed names one_to_one p c fr ts s (Run fr ∷ ts) m first, target_renamed target (method_class p m), view_kept names (target_home p fr ts s target (method_class p m)))
+  applied_renamed (Calls target m first) =
+      rw (
+        given_renamed names one_to_one p c fr ts s (Run fr ∷ ts) m first,
+        view_renamed target (method_class p m),
+        target_renamed target (method_class p m),
+      )
   applied_renamed (Sets_trap target m first) =
-      rw (given_renamed names one_to_one p c fr ts s (Trapped ∷ Run fr ∷ ts) m first, target_renamed target (method_class p m), view_kept names (target_home p fr ts s target (method_class p m)))
+      rw (
+        given_renamed names one_to_one p c fr ts s (Trapped ∷ Run fr ∷ ts) m first,
+        view_renamed target (method_class p m),
+        target_renamed target (method_class p m),
+      )
   applied_renamed (Cancels m) =
       rw (
         own_request_kept names one_to_one s.cells fr.home,
         rerequested_renamed names one_to_one s.cells fr.home (on_request cancelling (own_request s.cells fr.home)),
-        view_kept names fr.home,
       )
   applied_renamed (Returns g a) =
       ap (λ cs. returned p fr' ts' (record s' { cells = cs }) g a ts') (ended_renamed names one_to_one p c fr ts s)
@@ -320,23 +338,17 @@ module _ (names : ℕ → ℕ) (one_to_one : IsOneToOne names) (p : Image) (c : 
       ∙ either_renamed (test (own_request s.cells fr.home)) (Jumps to) (updates fr Same) (Jumps to) (updates fr' Same) refl refl
 
   -- a request that is active is cancelled
-  cancel_kept : (h : Home) → cancel_method p (renamed_home names h) ≡ cancel_method p h
-  cancel_kept Static = refl
-  cancel_kept AtRoot = refl
-  cancel_kept (Inside o from) = refl
-
   cancels_renamed : (b : Bool) (m : Option ℕ) → cancels_if fr' b m ≡ renamed_effect names (cancels_if fr b m)
   cancels_renamed true (Some m) = refl
   cancels_renamed true None = refl
   cancels_renamed false m = refl
 
   cancel_renamed :
-      cancels_if fr' (in_phase is_active (own_request s'.cells fr'.home)) (cancel_method p fr'.home)
-      ≡ renamed_effect names (cancels_if fr (in_phase is_active (own_request s.cells fr.home)) (cancel_method p fr.home))
+      cancels_if fr' (in_phase is_active (own_request s'.cells fr'.home)) (cancel_method p fr')
+      ≡ renamed_effect names (cancels_if fr (in_phase is_active (own_request s.cells fr.home)) (cancel_method p fr))
   cancel_renamed =
-      ap (λ r. cancels_if fr' (in_phase is_active r) (cancel_method p fr'.home)) (own_request_kept names one_to_one s.cells fr.home)
-      ∙ ap (λ m. cancels_if fr' (in_phase is_active (own_request s.cells fr.home)) m) (cancel_kept fr.home)
-      ∙ cancels_renamed (in_phase is_active (own_request s.cells fr.home)) (cancel_method p fr.home)
+      ap (λ r. cancels_if fr' (in_phase is_active r) (cancel_method p fr')) (own_request_kept names one_to_one s.cells fr.home)
+      ∙ cancels_renamed (in_phase is_active (own_request s.cells fr.home)) (cancel_method p fr)
 
   -- the last item is dealt with
   dealt_alike : deals fr' s.items (held s'.cells (top_place s.items)) ≡ renamed_effect names (deals fr s.items (held s.cells (top_place s.items)))

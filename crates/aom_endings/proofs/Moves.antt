@@ -116,7 +116,7 @@ module _ (p : Image) (t : Typing) (c : Choice) (fr : Frame) (ts : List Task) (s 
   silently : (i : Instr) → exchange i ≡ Nothing → AllTrue (needs p c fr ts (counted p s) i) → Tells Nothing i
   silently (Enlist priority) none met = silent (Enlist priority) (asked_same p c.answer s fr.home (Some (first_request s.cells priority)) (sym (none_owed (own_request s.cells fr.home) met.1.0)))
   silently SetActive none met = silent SetActive (asked_same p c.answer s fr.home (on_request waits (own_request s.cells fr.home)) (waits_owed (own_request s.cells fr.home) met.1.1.1.0))
-  silently Cancel none met = silent Cancel (cancels (in_phase is_active (own_request s.cells fr.home)) refl (cancel_method p fr.home))
+  silently Cancel none met = silent Cancel (cancels (in_phase is_active (own_request s.cells fr.home)) refl (cancel_method p fr))
   silently (Return a) none met = silent (Return a) (returns a met)
   silently (Reply a b) none met = silent (Reply a b) (unchanged_completed p t s.cells ls good (here fr ts (counted p s) a) (λ x there. is_message a x there met.1.1.0))
   -- the others leave all as it is, whatever a test of theirs decides

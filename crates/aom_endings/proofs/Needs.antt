@@ -174,7 +174,7 @@ module _ (names : ℕ → ℕ) (one_to_one : IsOneToOne names) (p : Image) (c : 
   -- ---- calls
 
   pub target_kept : (target : Target) (class : Option ℕ) (first count : ℕ) → needs_target p fr' ts' s' target class first count ≡ needs_target p fr ts s target class first count
-  target_kept This class first count = rw (holder_kept names fr.home)
+  target_kept This class first count = refl
   target_kept (On_register r) class first count =
       let o = held s.cells (Register (length ts) r) in
       rw (register_renamed names one_to_one s.cells ts r, some_kept names o, worked_kept names p class o)

@@ -54,7 +54,7 @@ module _ (p : Image) (m : Parts) (s : State) (st : StandsFor (record { image = p
   abbrev h : At_hand p m
   h =
       let f = frame_of m.stack.tasks s.tasks runs st.agrees.tasks in
-      record { typing = st.typing; state = s; frame = f.0; below = f.1; top = f.2; formed = st.sound.formed; wired = st.sound.wired; typed = st.typed; kept = st.kept; agrees = st.agrees }
+      record { typing = st.typing; state = s; frame = f.0; below = f.1; top = f.2; formed = st.sound.formed; linked = st.sound.linked; wired = st.sound.wired; typed = st.typed; kept = st.kept; agrees = st.agrees }
 
   -- what the method that runs asks
   abbrev call : Exchange

@@ -5,7 +5,8 @@ use Rattle.aom_image.proofs.Given.{some_given}
 use Rattle.aom_image.specs.Image.{Image}
 use Rattle.aom_image.specs.Views.{method_at}
 use Rattle.aom_image.specs.declared.method.Method.{Method}
-use Rattle.aom_classes.proofs.Playing.{found}
+use Rattle.aom_image.specs.declared.method.Role.TheVariants.{Do}
+use Rattle.aom_classes.proofs.Playing.{found, same_roles}
 use Rattle.aom_classes.specs.Roles.{is_class, or_else}
 use Rattle.aom_classes.proofs.Facts.{all_there}
 use Rattle.aom_roles.proofs.Descending.{child, itself}
@@ -38,10 +39,17 @@ stands p fit k m d e there over named =
 
 -- one in the place of another is alike to what that one is alike to
 alike_through : (p : Image) (m x k : ℕ) (d e f : Method) → method_at p k ≡ Some d → StandsIn p d e → IsAlike p m x e f → IsAlike p m k d f
-alike_through p m x k d e f there s a = record { there = there; named = a.named; arguments = s.arguments ∙ a.arguments; gives = s.gives ∙ a.gives; asks = asks_along d e f s.asks a.asks }
+alike_through p m x k d e f there s a = record {
+  there = there;
+  named = a.named;
+  role = same_roles d.role Do s.role ∙ sym (same_roles e.role Do s.same) ∙ a.role;
+  arguments = s.arguments ∙ a.arguments;
+  gives = s.gives ∙ a.gives;
+  asks = asks_along d e f s.asks a.asks;
+}
 
 itself_alike : (p : Image) (m : ℕ) (e : Method) → method_at p m ≡ Some e → IsAlike p m m e e
-itself_alike p m e there = record { there = there; named = there; arguments = refl; gives = refl; asks = asks_itself e }
+itself_alike p m e there = record { there = there; named = there; role = refl; arguments = refl; gives = refl; asks = asks_itself e }
 
 -- what a method overrides leads to m, so the method is alike to m
 module _ (p : Image) (fit : AllStandIn p) (m : ℕ) (e : Method) (named : method_at p m ≡ Some e) where

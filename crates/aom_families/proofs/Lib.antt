@@ -4,3 +4,4 @@ pub mod Inheriting
 pub mod Sets
 pub mod Staying
 pub mod Weighing
+pub mod Running

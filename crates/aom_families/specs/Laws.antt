@@ -42,6 +42,7 @@ pub record FamiliesInherit : Type 0 where
 pub record IsAlike (p : Image) (m k : ℕ) (d e : Method) : Type 0 where
   pub there : method_at p k ≡ Some d
   pub named : method_at p m ≡ Some e
+  pub role : d.role ≡ e.role
   pub arguments : d.arguments ≡ e.arguments
   pub gives : d.gives ≡ e.gives
   pub asks : AsksNoMore d e

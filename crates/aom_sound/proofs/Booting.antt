@@ -19,7 +19,7 @@ use Rattle.aom_shape.specs.declared.kind.Filling.{Filling}
 use Rattle.aom_shape.specs.declared.kind.Filling.TheVariants.{Full, Perhaps}
 use Rattle.aom_shape.specs.declared.kind.Kind.TheVariants.{Null, Unset}
 use Rattle.aom_sound.proofs.Destroying.{entry_registers, unset_only}
-use Rattle.aom_sound.proofs.Housing.{houses_same}
+use Rattle.aom_sound.proofs.Housing.{counts_same, houses_same}
 use Rattle.aom_sound.specs.Claims.{serves, Dispatching, Layer, Mark, Mark_form, Method, claim, declared, entry_claim, forms, objects, tasks_of}
 use Rattle.aom_sound.specs.Laws.{IsWired}
 use Rattle.aom_sound.specs.Places.{In_service, Elsewhere, Entry, Field, Going, Place, Register, Root, Sight, seen}
@@ -61,7 +61,7 @@ module _ (p : Image) (m : ℕ) (after : Shape) (w : SaysNoMore after (entry_shap
   good t stands gives = record {
     stack = (
       stands,
-      record { words = λ i. subst (λ k. WordFits None k) (sym (unset i)) tt; holder = houses_same p _ _ (sym (ap (λ r. holder_by r (method_class p m)) role)); height = refl; alone = λ e. tt; message = (λ e. absurd (true≢false (sym e ∙ ap is_service role)), λ served. absurd served) },
+      record { words = λ i. subst (λ k. WordFits None k) (sym (unset i)) tt; holder = houses_same p _ _ (sym (ap (λ r. holder_by r (method_class p m)) role)); view = counts_same p AtRoot _ (sym (ap (λ r. holder_by r (method_class p m)) role)); height = refl; alone = λ e. tt; message = (λ e. absurd (true≢false (sym e ∙ ap is_service role)), λ served. absurd served) },
       tt,
       ((refl, tt), (tt, tt)),
       ((gives, tt, ap is_cancel role), (refl, refl, tt, refl, tt)),

@@ -20,12 +20,12 @@ use Rattle.aom_sound.proofs.Finishing.{all_join, all_parts, none_owns_at}
 use Rattle.aom_sound.proofs.Items.{length_forms}
 use Rattle.aom_sound.proofs.Passing.{all_passed, each_met, none_passed}
 use Rattle.aom_sound.proofs.Straight.{At, Law}
-use Rattle.aom_sound.specs.Calls.{called, given_cells, needs_each, needs_result, needs_target, over_trap, result_register, target_home}
+use Rattle.aom_sound.specs.Calls.{called, given_cells, needs_each, needs_result, needs_target, over_trap, result_register, run_by, target_home, target_view}
 use Rattle.aom_sound.specs.Claims.{Layer, Mark, Mark_form, Method, tasks_of}
 use Rattle.aom_sound.specs.Laws.{IsCalled, IsWired}
 use Rattle.aom_sound.specs.Moves.{does}
 use Rattle.aom_sound.specs.Places.{Cell, Object, Place}
-use Rattle.aom_sound.specs.State.{AtRoot, Choice, Frame, Home, Inside, State, Static}
+use Rattle.aom_sound.specs.State.{AtRoot, Choice, Frame, Home, Inside, State, Static, home_holder}
 use Rattle.aom_sound.specs.WellTyped.{Awaits, Caught, EndsWell, IsApart, IsBelow, IsHoused, Returns, Stands}
 use Rattle.aom_sound.proofs.Callees.{none_owns_each, only_then}
 use Rattle.aom_sound.specs.Requests.{rests_in, thing_kind, works_at}
@@ -34,6 +34,7 @@ use Rattle.aom_shape.proofs.Sets.{has_itself}
 use Rattle.aom_roles.specs.States.{idle, states_of}
 use Rattle.aom_sound.proofs.Calling.{answer, awaited, caller, cancels_not, enter, kind_begun, result_free, result_met, same_high}
 use Rattle.aom_sound.proofs.Leaving.{here_is}
+use Rattle.aom_sound.proofs.Overriders.{runs_for}
 use Rattle.aom_instructions.specs.declared.instr.Instr.{Instr}
 
 -- what the caller finds its own object in is no issued request, where neither before nor at the end there is one
@@ -54,13 +55,14 @@ rests_under :
     (o : Object) (from : Place) → home ≡ Inside o from → works_at o.name fr.home ≡ true → IsTrue (has sh.states (rests_in p o))
 rests_under p m fr sh home kind settles o from e w = subst (λ k. IsTrue (has sh.states k)) (settles o from e w ∙ ap states_of (sym (kind o from e))) (has_itself sh.states)
 
+-- the caller finds its object in a state in which what ran may leave it
 ends_well :
-    (p : Image) (m : ℕ) (fr : Frame) (sh : Shape) (home : Home) → is_cancel (method_role p m) ≡ false →
-    ((o : Object) (from : Place) → home ≡ Inside o from → works_at o.name fr.home ≡ true → sh.states ≡ after_of p m) → EndsWell p m home fr sh
-ends_well p m fr sh Static plain e = tt
-ends_well p m fr sh AtRoot plain e = tt
-ends_well p m fr sh (Inside o from) plain e =
-    λ w. subst (λ n. IsTrue (has sh.states n)) (sym (ap (λ b. cond b idle (after_of p m)) plain)) (subst (λ k. IsTrue (has k (after_of p m))) (sym (e o from refl w)) (has_itself (after_of p m)))
+    (p : Image) (m k : ℕ) (fr : Frame) (sh : Shape) (home : Home) → is_cancel (method_role p k) ≡ false → IsTrue (has (after_of p m) (after_of p k)) →
+    ((o : Object) (from : Place) → home ≡ Inside o from → works_at o.name fr.home ≡ true → sh.states ≡ after_of p m) → EndsWell p k home fr sh
+ends_well p m k fr sh Static plain after e = tt
+ends_well p m k fr sh AtRoot plain after e = tt
+ends_well p m k fr sh (Inside o from) plain after e =
+    λ w. subst (λ n. IsTrue (has sh.states n)) (sym (ap (λ b. cond b idle (after_of p k)) plain)) (subst (λ n. IsTrue (has n (after_of p k))) (sym (e o from refl w)) after)
 
 not_then : (b : Bool) → not b ≡ true → b ≡ false
 not_then x e = grind arith
@@ -74,26 +76,33 @@ module _ (p : Image) (t : Typing) (wired : IsWired p) (typed : IsTyped p t) (c :
       let more = all_parts (each_argument p sh (arguments_of p m) first) _ parts.1.1 in
       let deep : length (tasks_of ls) < suc (length (tasks_of ls)) = omega arith in
       let passed = all_passed p t fr ls depth deep s (arguments_of p m) first 0 s.cells sh [] [] refl more.0 (none_passed p t fr ls depth deep s.cells sh at_hand.good) in
-      let a = answer p t wired typed c s fr sh ls at_hand m first depth height deep called_so passed ended target parts.0 more.1.0 in
+      let answered = answer p t wired typed c s fr sh ls at_hand m first depth height deep called_so passed ended target parts.0 more.1.0 in
+      let a = answered.0 in
+      let view = target_view p fr (tasks_of ls) s target (method_class p m) in
+      let k = run_by p fr (tasks_of ls) s target m in
       let sh' = while_called target (method_class p m) ended (arguments_moved (arguments_of p m) first sh) in
       let at_x : result_register (instr_at p fr.method fr.place) ≡ x = ap result_register here in
       let home = target_home p fr (tasks_of ls) s target (method_class p m) in
-      let stands : Stands p t (Returns m home) fr sh' = (
-        λ l. (
-          only_then (leaves p m) (leaves p fr.method) more.1.1.1.1.0 l,
-          none_owns_each sh'.registers (λ i. a.1.owning i ∙ none_owns_at (arguments_moved (arguments_of p m) first sh).registers i (only_then (leaves p m) _ more.1.1.1.1.1.0 l)),
-          called_unissued target (method_class p m) ended (arguments_moved (arguments_of p m) first sh) (only_then (leaves p m) _ more.1.1.1.1.1.1.0 l) called_so.ends,
-          λ serving. called_delivery target (method_class p m) ended (arguments_moved (arguments_of p m) first sh) ∙ here_is _ (only_then (leaves p m) _ more.1.1.1.1.1.1.1.0 l),
+      let runs = runs_for p wired m view (home_holder home) called_so a.1.holder answered.1 in
+      let stands : Stands p t (Returns k home) fr sh' = (
+        λ l.
+        let may = runs.leaves l in (
+          only_then (leaves p m) (leaves p fr.method) more.1.1.1.1.0 may,
+          none_owns_each sh'.registers (λ i. a.1.owning i ∙ none_owns_at (arguments_moved (arguments_of p m) first sh).registers i (only_then (leaves p m) _ more.1.1.1.1.1.0 may)),
+          called_unissued target (method_class p m) ended (arguments_moved (arguments_of p m) first sh) (only_then (leaves p m) _ more.1.1.1.1.1.1.0 may) called_so.ends,
+          λ serving. called_delivery target (method_class p m) ended (arguments_moved (arguments_of p m) first sh) ∙ here_is _ (only_then (leaves p m) _ more.1.1.1.1.1.1.1.0 may),
         ),
-        subst (λ y. Awaits (gives_of p m) y sh') (sym at_x) (awaited p t wired typed c s fr sh ls at_hand m first depth height deep called_so passed (gives_of p m) x sh' a.1.owning more.1.1.1.0),
-        subst (λ y. Leads t fr.method (suc fr.place) (brought (gives_of p m) y sh')) (sym at_x) leads.0,
-        ends_well p m fr sh' home (cancels_not p t wired typed c s fr sh ls at_hand m first depth height deep called_so) a.1.settles,
-        λ q. only_then (is_quiet p fr.method) (is_quiet p m) more.1.1.0 q,
+        subst (λ g. Awaits g (result_register (instr_at p fr.method fr.place)) sh') (sym runs.gives)
+            (subst (λ y. Awaits (gives_of p m) y sh') (sym at_x) (awaited p t wired typed c s fr sh ls at_hand m first depth height deep called_so passed (gives_of p m) x sh' a.1.owning more.1.1.1.0)),
+        subst (λ g. Leads t fr.method (suc fr.place) (brought g (result_register (instr_at p fr.method fr.place)) sh')) (sym runs.gives)
+            (subst (λ y. Leads t fr.method (suc fr.place) (brought (gives_of p m) y sh')) (sym at_x) leads.0),
+        ends_well p m k fr sh' home (ap is_cancel runs.role ∙ cancels_not p t wired typed c s fr sh ls at_hand m first depth height deep called_so) runs.after a.1.settles,
+        λ q. runs.quiet (only_then (is_quiet p fr.method) (is_quiet p m) more.1.1.0 q),
       ) in
       let high = same_high p t wired typed c s fr sh ls at_hand m first depth height deep called_so passed home sh' a.1 in (
         all_join (needs_target p fr (tasks_of ls) s target (method_class p m) first (length (arguments_of p m))) _ a.0
             (parts.1.0, all_join (needs_each p fr (tasks_of ls) s (arguments_of p m) first) _ (each_met p t c s fr sh ls at_hand (arguments_of p m) first more.0) (result_met p t wired typed c s fr sh ls at_hand m first depth height deep called_so passed (gives_of p m) x more.1.1.1.0)),
-        enter p t wired typed c s fr sh ls at_hand m first depth height deep called_so passed home sh' (Method fr sh' ∷ ls) (λ x. x) a.1 refl (ap length (sym high) ∙ length_forms s.items) (λ d r. refl) (λ o. refl) a.1.housed a.1.apart (caller p t wired typed c s fr sh ls at_hand m first depth height deep called_so passed home sh' (Returns m home) a.1 stands) (does p c fr (tasks_of ls) s (Call target m first x)) refl refl high at_hand.undos,
+        enter p t wired typed c s fr sh ls at_hand m first depth height deep called_so passed home sh' (Method fr sh' ∷ ls) k view runs (λ x. x) a.1 refl (ap length (sym high) ∙ length_forms s.items) (λ d r. refl) (λ o. refl) a.1.housed a.1.apart (caller p t wired typed c s fr sh ls at_hand m first depth height deep called_so passed home sh' (Returns k home) a.1 stands) (does p c fr (tasks_of ls) s (Call target m first x)) refl refl high at_hand.undos,
       )
     where
       depth : ℕ
@@ -136,11 +145,15 @@ module _ (p : Image) (t : Typing) (wired : IsWired p) (typed : IsTyped p t) (c :
       let more = all_parts (each_argument p sh (arguments_of p m) first) _ parts.1.1 in
       let deep : length (tasks_of ls) < suc (suc (length (tasks_of ls))) = omega arith in
       let passed = all_passed p t fr ls depth deep s (arguments_of p m) first 0 s.cells sh [] [] refl more.0 (none_passed p t fr ls depth deep s.cells sh at_hand.good) in
-      let a = answer p t wired typed c s fr sh ls at_hand m first depth height deep called_so passed ended target parts.0 more.1.0 in
+      let answered = answer p t wired typed c s fr sh ls at_hand m first depth height deep called_so passed ended target parts.0 more.1.0 in
+      let a = answered.0 in
+      let view = target_view p fr (tasks_of ls) s target (method_class p m) in
+      let k = run_by p fr (tasks_of ls) s target m in
       let sh' = while_called target (method_class p m) ended (arguments_moved (arguments_of p m) first sh) in
       let gv = gives_of p m in
       let at_x : result_register (instr_at p fr.method fr.place) ≡ x = ap result_register here in
       let home = target_home p fr (tasks_of ls) s target (method_class p m) in
+      let runs = runs_for p wired m view (home_holder home) called_so a.1.holder answered.1 in
       let over = Mark gv ∷ Method fr sh' ∷ ls in
       let stands : Stands p t (Caught gv) fr sh' = (
         ap (λ i. called p i) here,
@@ -157,9 +170,9 @@ module _ (p : Image) (t : Typing) (wired : IsWired p) (typed : IsTyped p t) (c :
           all_join (needs_each p fr (tasks_of ls) s (arguments_of p m) first) _ (each_met p t c s fr sh ls at_hand (arguments_of p m) first more.0)
               (all_join (needs_result p fr (tasks_of ls) s gv (given_cells p fr (tasks_of ls) s (over_trap p fr (tasks_of ls) s) m first) x) _ (result_met p t wired typed c s fr sh ls at_hand m first depth height deep called_so passed gv x more.1.1.0) (free, tt)),
         ),
-        enter p t wired typed c s fr sh ls at_hand m first depth height deep called_so passed home sh' over (λ x. x) a.1 refl (ap suc (ap length (sym high) ∙ length_forms s.items)) (λ d r. mark_claims p d gv (Method fr sh' ∷ ls) r) (λ o. refl)
+        enter p t wired typed c s fr sh ls at_hand m first depth height deep called_so passed home sh' over k view runs (λ x. x) a.1 refl (ap suc (ap length (sym high) ∙ length_forms s.items)) (λ d r. mark_claims p d gv (Method fr sh' ∷ ls) r) (λ o. refl)
             (housed_mark p (given_cells p fr (tasks_of ls) s (over_trap p fr (tasks_of ls) s) m first) home gv (Method fr sh' ∷ ls) a.1.housed) (apart_mark p home gv fr sh' ls a.1.apart (rests_under p m fr sh' home (kind_begun p t wired typed c s fr sh ls at_hand m first depth height deep called_so home sh' a.1.begun) a.1.settles))
-            ((refl, trapped.gives, ap is_cancel trapped.role), below) (does p c fr (tasks_of ls) s (Trap target m first x)) refl refl (ap (λ fs. Mark_form ∷ fs) high) at_hand.undos,
+            ((runs.gives, trapped.gives, ap is_cancel (runs.role ∙ trapped.role)), below) (does p c fr (tasks_of ls) s (Trap target m first x)) refl refl (ap (λ fs. Mark_form ∷ fs) high) at_hand.undos,
       )
     where
       depth : ℕ

@@ -30,7 +30,7 @@ use Rattle.aom_sound.specs.Calls.{passed_cells}
 use Rattle.aom_sound.specs.Claims.{Layer, Method, tasks_of}
 use Rattle.aom_sound.specs.Places.{Cell, Object, Place, Sight, held, moved, same_place}
 use Rattle.aom_sound.specs.State.{Frame, Home, Inside, State, home_holder, thing_holder}
-use Rattle.aom_sound.specs.WellTyped.{Fits, Houses, IsBelow}
+use Rattle.aom_sound.specs.WellTyped.{CountsAs, Fits, IsBelow}
 use Rattle.aom_sound.specs.Requests.{thing_kind}
 use Rattle.aom_roles.specs.Families.{descends}
 use Rattle.aom_roles.specs.Shapes.{kind_of}
@@ -148,27 +148,25 @@ module _ (p : Image) (s : State) (fr : Frame) (ls : List Layer) (depth : ℕ) (d
       lower_upper i = ap (λ y. y && (first == i)) (ne_eqb (length (tasks_of ls)) depth (λ e. absurd (omega arith)))
 
 -- the method that cancels is quiet
-pub cancel_quiet : (p : Image) → IsWired p → (home : Home) (m : ℕ) → cancel_method p home ≡ Some m → is_quiet p m ≡ true
-cancel_quiet p wired (Inside o from) m e = of_thing o.thing e
+pub cancel_quiet : (p : Image) → IsWired p → (fr : Frame) (m : ℕ) → cancel_method p fr ≡ Some m → is_quiet p m ≡ true
+cancel_quiet p wired fr m e = by_view fr.view e
   where
-    of_thing : (x : Thing) → cancel_of p x ≡ Some m → is_quiet p m ≡ true
-    of_thing (An_object_of c) e = (wired.cancels m (wired.canceller c m e).1).0
-    of_thing Message e = cc
-cancel_quiet p wired _ m e = cc
+    by_view : (view : Option ℕ) → cancel_of p view ≡ Some m → is_quiet p m ≡ true
+    by_view None e = cc
+    by_view (Some c) e = (wired.cancels m (wired.canceller c m e).1).0
 
--- what a method works on is of the method's class, and so is the method that cancels for it
+-- what a method works on is of the method's class
 class_of_member : (r : Option Role) (class : Option ℕ) (c : ℕ) → Member c ≡ holder_by r class → class ≡ Some c
 class_of_member x class c e = grind arith
 
-cancelled_home : (p : Image) (h : Home) (k : ℕ) → cancel_method p h ≡ Some k → (b : ℕ) × (home_holder h ≡ Member b) × (role_of p b Cancel ≡ Some k)
-cancelled_home p x k e = grind arith
-
+-- the method that cancels is that of what its object counts as, which descends from the method's class
 pub cancel_family :
-    (p : Image) (h : Home) (m k : ℕ) → Houses p (home_holder h) (holder_of p m) → cancel_method p h ≡ Some k →
-    (b c : ℕ) × (method_class p m ≡ Some c) × (descends p b c ≡ true) × (role_of p b Cancel ≡ Some k)
-cancel_family p h m k houses e =
-    let home = cancelled_home p h k e in
-    let works = houses.works home.0 home.1 in
-    let above = houses.member works.0 works.1 in
-    let same : above.0 ≡ home.0 = let both = sym above.1 ∙ home.1 in cc in
-    (home.0, works.0, class_of_member (method_role p m) (method_class p m) works.0 (sym works.1), subst (λ b. descends p b works.0 ≡ true) same above.2, home.2)
+    (p : Image) (fr : Frame) (k : ℕ) → CountsAs p (home_holder fr.home) fr.view (holder_of p fr.method) → cancel_method p fr ≡ Some k →
+    (v c : ℕ) × (method_class p fr.method ≡ Some c) × (descends p v c ≡ true) × (role_of p v Cancel ≡ Some k)
+cancel_family p fr k counts e = by_view fr.view refl e
+  where
+    by_view : (view : Option ℕ) → fr.view ≡ view → cancel_of p view ≡ Some k → (v c : ℕ) × (method_class p fr.method ≡ Some c) × (descends p v c ≡ true) × (role_of p v Cancel ≡ Some k)
+    by_view None at e = cc
+    by_view (Some v) at e =
+        let between = counts.between v at in
+        (v, between.3, class_of_member (method_role p fr.method) (method_class p fr.method) between.3 (sym between.4), between.5, e)

@@ -13,7 +13,7 @@ use Rattle.aom_image.specs.declared.method.Role.TheVariants.{Construct, Do}
 use Rattle.aom_image.specs.declared.method.Thing.{Thing}
 use Rattle.aom_image.specs.declared.method.Thing.TheVariants.{Message as A_message, Object as An_object_of}
 use Rattle.aom_rules.specs.Calls.{age_need, awaits, is_among, is_target, rule_target, stands_here, while_called}
-use Rattle.aom_rules.specs.Requests.{begins_here, begins_there, is_cancel, is_construct, may_begin, resting}
+use Rattle.aom_rules.specs.Requests.{begins_here, begins_there, is_cancel, is_construct, is_service, may_begin, resting}
 use Rattle.aom_shape.specs.Arguments.{argument_kind, arguments_moved, before_of, entry_fields, entry_shape}
 use Rattle.aom_shape.specs.Kinds.{is_own_for, entry_kind, field, filled, is_fresh_kind, is_object_or_null, is_ready_kind, is_unowning, readied, register, set_register}
 use Rattle.aom_shape.specs.Entries.{readied_at}
@@ -38,16 +38,18 @@ use Rattle.aom_sound.proofs.Jumps.{words_kept}
 use Rattle.aom_sound.proofs.Maps.{at-put_at, held_lives, same_place-true}
 use Rattle.aom_sound.proofs.Passing.{Passed, filled_weaker_below, filling, lower, under, upper}
 use Rattle.aom_sound.proofs.Straight.{At, claim_field, claim_register, field_fits, field_not_from, field_outside, fits_unowning, kind_fits, top, word_of_object}
+use Rattle.aom_sound.proofs.Overriders.{RunsFor, begins_as}
 use Rattle.aom_sound.proofs.Things.{stands_along}
-use Rattle.aom_sound.proofs.Waiting.{waits_unclaimed}
-use Rattle.aom_sound.proofs.Housing.{houses_family, houses_field, houses_same}
+use Rattle.aom_sound.proofs.Housing.{houses_counts, houses_family, houses_field, houses_same}
+use Rattle.aom_roles.proofs.Descending.{through}
 use Rattle.aom_roles.specs.Families.{descends}
-use Rattle.aom_sound.specs.Calls.{entry_place, home_at, needs_result, needs_target, needs_target_object, own_home, passed_cells, passed_words, target_home, works_on}
+use Rattle.aom_sound.specs.Calls.{entry_place, home_at, needs_result, needs_target, needs_target_object, own_home, own_view, passed_cells, passed_words, target_home, target_view, works_on}
 use Rattle.aom_sound.specs.Claims.{own_field, serves, delivered, Layer, Method, claim, declared, declared_field, entry_claim, forms, home_claim, items_of, layer_claim, objects, root_claim, tasks_of}
+use Rattle.aom_sound.proofs.Waiting.{waits_unclaimed}
 use Rattle.aom_sound.specs.Laws.{IsCalled, IsWired}
 use Rattle.aom_sound.specs.Places.{In_service, Cell, Elsewhere, Entry, Field, Going, Object, Place, Register, Root, held, named, requested, same_place, seen}
-use Rattle.aom_sound.specs.State.{AtRoot, Choice, Frame, Home, Inside, Run, State, Static, WrongKind, field_place, frame_of, home_holder, thing_holder, word}
-use Rattle.aom_sound.specs.WellTyped.{Houses, IsServed, AllUndo, Awaits, Back, Fits, Good, Holds, IsApart, IsBelow, IsHoused, IsNoFieldOf, NotIn, Returns, Stack, Stands, Unclaimed, WellTyped, WordFits, WorksOn, by_field}
+use Rattle.aom_sound.specs.State.{AtRoot, Choice, Frame, Home, Inside, Run, State, Static, WrongKind, field_place, frame_as, home_holder, home_view, thing_holder, word}
+use Rattle.aom_sound.specs.WellTyped.{CountsAs, Houses, IsServed, AllUndo, Awaits, Back, Fits, Good, Holds, IsApart, IsBelow, IsHoused, IsNoFieldOf, NotIn, Returns, Stack, Stands, Unclaimed, WellTyped, WordFits, WorksOn, by_field}
 use Rattle.aom_sound.proofs.Callees.{apart_from, below_more, filled_ready, fits_fresh, held_own, holder_called, holder_member, holder_static, home_member, member_kind, moved_entries, moved_register, own_for, passed_elsewhere}
 use Rattle.aom_sound.specs.Requests.{AllSuit, Known, Suits, Unworked, known_at, resting_in, rests_in, states_claim, thing_kind, works_at}
 use Rattle.aom_roles.specs.Shapes.{kind_of}
@@ -72,8 +74,9 @@ module _ (p : Image) (t : Typing) (wired : IsWired p) (typed : IsTyped p t) (c :
   abbrev ws : List (Option ℤ)
   ws = passed_words p fr (tasks_of ls) s xs first
 
-  abbrev callee : Home → Frame
-  callee home = record (frame_of m home height) { words = ws }
+  -- what runs in the place of the method called
+  abbrev callee : ℕ → Option ℕ → Home → Frame
+  callee k view home = record (frame_as k home view height) { words = ws }
 
   -- the fields of what the called method works on are as its first state says
   abbrev FieldsBegin : Home → Type 0
@@ -122,109 +125,122 @@ module _ (p : Image) (t : Typing) (wired : IsWired p) (typed : IsTyped p t) (c :
     pub settles : (o : Object) (from : Place) → home ≡ Inside o from → works_at o.name fr.home ≡ true → sh'.states ≡ ended
 
   module _ (passed : Passed p t fr ls depth deep cs after_arguments regs ws) where
-    -- what is claimed with the called method over its caller
-    abbrev claims_over : Home → Shape → Shape → Place → Kind
-    claims_over home after sh' r = layer_claim p (Method (callee home) after) depth [] r (claim p (declared p cs) (Method fr sh' ∷ ls) r)
+    -- what is claimed with what runs over its caller
+    abbrev claims_over : ℕ → Home → Shape → Shape → Place → Kind
+    claims_over k home after sh' r = layer_claim p (Method (callee k None home) after) depth [] r (claim p (declared p cs) (Method fr sh' ∷ ls) r)
 
     -- the first state of the called method over its caller
     begins :
-        {ended : ℕ} (home : Home) (sh' : Shape) → Entering ended home sh' → (after : Shape) → SaysNoMore after (entry_shape p m) → (r : Place) →
-        Fits p (seen cs) (held cs r) (claims_over home after sh' r)
-    begins home sh' e after w (Register f i) = go (depth == f) (e.fits (Register f i))
+        {ended : ℕ} (k : ℕ) (home : Home) (sh' : Shape) → Entering ended home sh' → Houses p (home_holder home) (holder_of p k) → serves p k ≡ false → (after : Shape) → SaysNoMore after (entry_shape p m) → (r : Place) →
+        Fits p (seen cs) (held cs r) (claims_over k home after sh' r)
+    begins k home sh' e housing silent after w (Register f i) = go (depth == f) (e.fits (Register f i))
       where
         go :
             (b : Bool) → Fits p (seen cs) (held cs (Register f i)) (cond b (at Unset regs i) (claim p (declared p cs) (Method fr sh' ∷ ls) (Register f i))) →
             Fits p (seen cs) (held cs (Register f i)) (cond b (register after i) (claim p (declared p cs) (Method fr sh' ∷ ls) (Register f i)))
         go true h = fits_weaker p (seen cs) (held cs (Register f i)) (w.registers i) h
         go false h = h
-    begins home sh' e after w (Entry k) = subst (λ es. Fits p (seen cs) (held cs (Entry k)) (claims_over Static (record after { entries = es }) sh' (Entry k))) (sym w.entries) (e.fits (Entry k))
-    begins home sh' e after w (Field n f) = go home e.holder e.fields
+    begins k home sh' e housing silent after w (Entry j) = subst (λ es. Fits p (seen cs) (held cs (Entry j)) (claims_over k Static (record after { entries = es }) sh' (Entry j))) (sym w.entries) (e.fits (Entry j))
+    begins k home sh' e housing silent after w (Field n f) = go home housing e.fields
       where
         below : Kind
         below = claim p (declared p cs) (Method fr sh' ∷ ls) (Field n f)
 
-        go : (home : Home) → Houses p (home_holder home) (holder_of p m) → FieldsBegin home → Fits p (seen cs) (held cs (Field n f)) (home_claim p (holder_of p m) home after n f below)
+        go : (home : Home) → Houses p (home_holder home) (holder_of p k) → FieldsBegin home → Fits p (seen cs) (held cs (Field n f)) (home_claim p (holder_of p k) home after n f below)
         go Static houses b = e.fits (Field n f)
         go AtRoot houses b = e.fits (Field n f)
-        go (Inside o from) houses b = inside (o.name == n) refl (field_thing p (holder_of p m) f) refl
+        go (Inside o from) houses b = inside (o.name == n) refl (field_thing p (holder_of p k) f) refl
           where
-            inside : (at : Bool) → (o.name == n) ≡ at → (own : Option Thing) → field_thing p (holder_of p m) f ≡ own → Fits p (seen cs) (held cs (Field n f)) (cond at (own_field own (field after f) below) below)
+            inside : (at : Bool) → (o.name == n) ≡ at → (own : Option Thing) → field_thing p (holder_of p k) f ≡ own → Fits p (seen cs) (held cs (Field n f)) (cond at (own_field own (field after f) below) below)
             inside true same (Some x) is =
-                subst (λ k. Fits p (seen cs) (held cs (Field k f)) (filled (Some x) (field after f))) (eqb-true o.name n same)
+                subst (λ j. Fits p (seen cs) (held cs (Field j f)) (filled (Some x) (field after f))) (eqb-true o.name n same)
                 (fits_weaker p (seen cs) (held cs (Field o.name f)) (filled_weaker (Some x) (w.fields f))
                 (subst (λ y. Fits p (seen cs) (held cs (Field o.name f)) (filled y (field (entry_shape p m) f))) (houses.fields f x is) (b f)))
             inside true same None is = e.fits (Field n f)
             inside false other own is = e.fits (Field n f)
-    begins home sh' e after w (Elsewhere Root) = go home e.fields
+    begins k home sh' e housing silent after w (Elsewhere Root) = go home e.fields
       where
-        go : (home : Home) → FieldsBegin home → Fits p (seen cs) (held cs (Elsewhere Root)) (claims_over home after sh' (Elsewhere Root))
+        go : (home : Home) → FieldsBegin home → Fits p (seen cs) (held cs (Elsewhere Root)) (claims_over k home after sh' (Elsewhere Root))
         go x b = grind arith
-    begins home sh' e after w (Elsewhere In_service) =
-        subst (λ k. Fits p (seen cs) (held cs (Elsewhere In_service)) k)
-        (sym (plain_claim (serves p m) after (claim p (declared p cs) (Method fr sh' ∷ ls) (Elsewhere In_service)) serves_not)) (e.fits (Elsewhere In_service))
-    begins home sh' e after w (Elsewhere o) = e.fits (Elsewhere o)
-    begins home sh' e after w (Going k) = e.fits (Going k)
+    begins k home sh' e housing silent after w (Elsewhere In_service) =
+        subst (λ x. Fits p (seen cs) (held cs (Elsewhere In_service)) x)
+        (sym (plain_claim (serves p k) after (claim p (declared p cs) (Method fr sh' ∷ ls) (Elsewhere In_service)) silent)) (e.fits (Elsewhere In_service))
+    begins k home sh' e housing silent after w (Elsewhere o) = e.fits (Elsewhere o)
+    begins k home sh' e housing silent after w (Going j) = e.fits (Going j)
 
     -- all other objects are as they were
     begun_suits :
         (home : Home) (sh' : Shape) (over : List Layer) (after : Shape) → IsTrue (has after.states (before_of p m)) → IsHoused p cs over home →
         ((o : Object) → states_claim p o over ≡ states_claim p o (Method fr sh' ∷ ls)) → BeginsWell home sh' →
         ((x : Object) → named cs x.name ≡ Some x → works_at x.name home ≡ false → Suits (thing_kind p x.thing) (states_claim p x over) (requested cs x.name)) →
-        AllSuit p cs (Method (callee home) after ∷ over)
-    begun_suits Static sh' over after w h same b s x lives = s x lives refl
-    begun_suits AtRoot sh' over after w h same b s x lives = s x lives refl
-    begun_suits (Inside o from) sh' over after w h same b s x lives = inner (o.name == x.name) refl
+        (k : ℕ) (view : Option ℕ) → is_cancel (method_role p k) ≡ false → AllSuit p cs (Method (callee k view home) after ∷ over)
+    begun_suits Static sh' over after w h same b s k view plain x lives = s x lives refl
+    begun_suits AtRoot sh' over after w h same b s k view plain x lives = s x lives refl
+    begun_suits (Inside o from) sh' over after w h same b s k view plain x lives = inner (o.name == x.name) refl
       where
-        own : Suits (thing_kind p o.thing) (known_at p (callee (Inside o from)) after.states (states_claim p o over)) (requested cs o.name)
-        own = subst (λ k. Suits (thing_kind p o.thing) k (requested cs o.name)) (sym (known_plain p (callee (Inside o from)) after.states (states_claim p o over) cancels_not))
+        own : Suits (thing_kind p o.thing) (known_at p (callee k view (Inside o from)) after.states (states_claim p o over)) (requested cs o.name)
+        own = subst (λ k. Suits (thing_kind p o.thing) k (requested cs o.name)) (sym (known_plain p (callee k view (Inside o from)) after.states (states_claim p o over) plain))
             (suits_less (thing_kind p o.thing) after.states (before_of p m) _ (requested cs o.name) w
             (subst (λ (k : Known). Suits (thing_kind p o.thing) (record { states = before_of p m; cancelled = k.cancelled }) (requested cs o.name)) (sym (same o)) b.0))
 
         inner :
             (y : Bool) → (o.name == x.name) ≡ y →
-            Suits (thing_kind p x.thing) (cond y (known_at p (callee (Inside o from)) after.states (states_claim p x over)) (states_claim p x over)) (requested cs x.name)
+            Suits (thing_kind p x.thing) (cond y (known_at p (callee k view (Inside o from)) after.states (states_claim p x over)) (states_claim p x over)) (requested cs x.name)
         inner true e =
-            subst (λ z. Suits (thing_kind p z.thing) (known_at p (callee (Inside o from)) after.states (states_claim p z over)) (requested cs z.name)) (same_object cs o x h.lives lives e) own
+            subst (λ z. Suits (thing_kind p z.thing) (known_at p (callee k view (Inside o from)) after.states (states_claim p z over)) (requested cs z.name)) (same_object cs o x h.lives lives e) own
         inner false e = s x lives e
 
-    -- so it is entered, over these layers, which claim what the caller claims
+    -- so what runs in its place is entered, over these layers, which claim what the caller claims
     pub enter :
-        {ended : ℕ} (home : Home) (sh' : Shape) (over : List Layer) → (IsServed over → ⊥) → Entering ended home sh' → length (tasks_of over) ≡ depth → length (items_of over) ≡ height →
+        {ended : ℕ} (home : Home) (sh' : Shape) (over : List Layer) (k : ℕ) (view : Option ℕ) → RunsFor p m k (home_holder home) view → (IsServed over → ⊥) → Entering ended home sh' → length (tasks_of over) ≡ depth → length (items_of over) ≡ height →
         ((d : Place → Kind) (r : Place) → claim p d over r ≡ claim p d (Method fr sh' ∷ ls) r) → ((o : Object) → states_claim p o over ≡ states_claim p o (Method fr sh' ∷ ls)) →
-        IsHoused p cs over home → IsApart p home over → Stack p t cs (Returns m home) over → (s' : State) → s'.cells ≡ cs → s'.tasks ≡ Run (callee home) ∷ tasks_of over →
+        IsHoused p cs over home → IsApart p home over → Stack p t cs (Returns k home) over → (s' : State) → s'.cells ≡ cs → s'.tasks ≡ Run (callee k view home) ∷ tasks_of over →
         forms s'.items ≡ items_of over → AllUndo p s'.items → WellTyped p t s'
-    enter home sh' over unserved e at_depth high same same_states housed apart stack s' cells tasks items undos =
-        let leads = typed.entry m is_called.there in
-        let w = leads.2 in
-        let good : Good p t cs (Method (callee home) leads.0 ∷ over) = record {
+    enter home sh' over k view runs unserved e at_depth high same same_states housed apart stack s' cells tasks items undos =
+        let leads = typed.entry k runs.there in
+        let w = begins_as p m k (home_holder home) view runs leads.0 leads.2 in
+        let good : Good p t cs (Method (callee k view home) leads.0 ∷ over) = record {
           stack = (
             leads.1,
-            record { words = λ i. word_fits_weaker (at None ws i) (w.registers i) (passed.given i); holder = e.holder; height = sym high; alone = λ cancels. absurd (true≢false (sym cancels ∙ cancels_not)); message = (λ serving. absurd (true≢false (sym serving ∙ serves_not)), λ served. absurd (unserved served)) },
+            record {
+              words = λ i. word_fits_weaker (at None ws i) (w.registers i) (passed.given i);
+              holder = runs.holder;
+              view = runs.counts;
+              height = sym high;
+              alone = λ cancels. absurd (true≢false (sym cancels ∙ plain));
+              message = (λ serving. absurd (true≢false (sym serving ∙ silent)), λ served. absurd (unserved served));
+            },
             housed,
             apart,
             stack,
           );
-          fits = λ r. subst (λ k. Fits p (seen cs) (held cs r) k) (sym (as_begun leads.0 w r)) (begins home sh' e leads.0 w r);
-          suits = begun_suits home sh' over leads.0 w.states housed same_states e.begun (λ x lives other. subst (λ k. Suits (thing_kind p x.thing) k (requested cs x.name)) (sym (same_states x)) (e.suits x lives other));
+          fits = λ r. subst (λ k. Fits p (seen cs) (held cs r) k) (sym (as_begun leads.0 w r)) (begins k home sh' e runs.holder silent leads.0 w r);
+          suits = begun_suits home sh' over leads.0 w.states housed same_states e.begun (λ x lives other. subst (λ k. Suits (thing_kind p x.thing) k (requested cs x.name)) (sym (same_states x)) (e.suits x lives other)) k view plain;
           tidy = passed.tidy;
         } in
-        begins_well p t cs (callee home) leads.0 over s' w.entries good cells tasks items undos
+        begins_well p t cs (callee k view home) leads.0 over s' w.entries good cells tasks items undos
       where
-        as_begun : (after : Shape) → SaysNoMore after (entry_shape p m) → (r : Place) → claim p (declared p cs) (Method (callee home) after ∷ over) r ≡ claims_over home after sh' r
+        plain : is_cancel (method_role p k) ≡ false
+        plain = ap is_cancel runs.role ∙ cancels_not
+
+        silent : serves p k ≡ false
+        silent = ap is_service runs.role ∙ serves_not
+
+        as_begun : (after : Shape) → SaysNoMore after (entry_shape p m) → (r : Place) → claim p (declared p cs) (Method (callee k view home) after ∷ over) r ≡ claims_over k home after sh' r
         as_begun after w (Register f i) =
             ap (λ n. cond (n == f) (register after i) (claim p (declared p cs) over (Register f i))) at_depth ∙ ap (λ k. cond (depth == f) (register after i) k) (same (declared p cs) (Register f i))
-        as_begun after w (Entry k) =
-            ap (λ es. entry_claim es (items_of over) k (claim p (declared p cs) over (Entry k))) w.entries ∙ same (declared p cs) (Entry k)
-            ∙ sym (ap (λ es. entry_claim es [] k (claim p (declared p cs) (Method fr sh' ∷ ls) (Entry k))) w.entries)
-        as_begun after w (Field n f) = ap (λ k. home_claim p (holder_of p m) home after n f k) (same (declared p cs) (Field n f))
+        as_begun after w (Entry j) =
+            ap (λ es. entry_claim es (items_of over) j (claim p (declared p cs) over (Entry j))) w.entries ∙ same (declared p cs) (Entry j)
+            ∙ sym (ap (λ es. entry_claim es [] j (claim p (declared p cs) (Method fr sh' ∷ ls) (Entry j))) w.entries)
+        as_begun after w (Field n f) = ap (λ x. home_claim p (holder_of p k) home after n f x) (same (declared p cs) (Field n f))
         as_begun after w (Elsewhere Root) = ap (λ k. root_claim p home after k) (same (declared p cs) (Elsewhere Root))
-        as_begun after w (Elsewhere In_service) = ap (λ k. cond (serves p m) (delivered after.delivery) k) (same (declared p cs) (Elsewhere In_service))
+        as_begun after w (Elsewhere In_service) = ap (λ x. cond (serves p k) (delivered after.delivery) x) (same (declared p cs) (Elsewhere In_service))
         as_begun after w (Elsewhere o) = same (declared p cs) (Elsewhere o)
-        as_begun after w (Going k) = same (declared p cs) (Going k)
+        as_begun after w (Going j) = same (declared p cs) (Going j)
 
     -- the caller below, while the call lasts
     pub caller : {ended : ℕ} (home : Home) (sh' : Shape) (back : Back) → Entering ended home sh' → Stands p t back fr sh' → Stack p t cs back (Method fr sh' ∷ ls)
-    caller home sh' back e stands = (stands, record { words = e.words; holder = at_hand.good.stack.1.holder; height = at_hand.good.stack.1.height; alone = at_hand.good.stack.1.alone; message = at_hand.good.stack.1.message }, passed.housed, at_hand.good.stack.3, passed.stack)
+    caller home sh' back e stands = (stands, record { words = e.words; holder = at_hand.good.stack.1.holder; view = at_hand.good.stack.1.view; height = at_hand.good.stack.1.height; alone = at_hand.good.stack.1.alone; message = at_hand.good.stack.1.message }, passed.housed, at_hand.good.stack.3, passed.stack)
 
     -- the cleanup stack is as it was
     pub same_high : {ended : ℕ} (home : Home) (sh' : Shape) → Entering ended home sh' → forms s.items ≡ items_of (Method fr sh' ∷ ls)
@@ -261,8 +277,14 @@ module _ (p : Image) (t : Typing) (wired : IsWired p) (typed : IsTyped p t) (c :
     begins_fields o from sh' z a fits lives apart here (inr w) = construct_fields o from (subst (λ a. Fits p (seen cs) (Some o) (Own z a)) w.1 here).1.0 w.0
 
     -- what a target asks, and how the method begins
+    abbrev Begun : ℕ → Target → Type 0
+    Begun ended target = AllTrue (needs_target p fr (tasks_of ls) s target (method_class p m) first (length xs)) × Entering ended (target_home p fr (tasks_of ls) s target (method_class p m)) (while_called target (method_class p m) ended after_arguments)
+
+    -- and what its object counts as
     abbrev Answer : ℕ → Target → Type 0
-    Answer ended target = AllTrue (needs_target p fr (tasks_of ls) s target (method_class p m) first (length xs)) × Entering ended (target_home p fr (tasks_of ls) s target (method_class p m)) (while_called target (method_class p m) ended after_arguments)
+    Answer ended target =
+        Begun ended target
+        × CountsAs p (home_holder (target_home p fr (tasks_of ls) s target (method_class p m))) (target_view p fr (tasks_of ls) s target (method_class p m)) (holder_of p m)
 
     -- a static method
     on_nothing : (ended : ℕ) → method_class p m ≡ None → Entering ended Static after_arguments
@@ -660,10 +682,14 @@ module _ (p : Image) (t : Typing) (wired : IsWired p) (typed : IsTyped p t) (c :
     on_this :
         (ended : ℕ) (k : Option ℕ) → method_class p m ≡ k → AllTrue (rule_target p fr.method sh This (method_class p m) (is_construct (method_role p m)) first (length xs)) →
         may_begin p m This after_arguments.states ≡ true → Answer ended This
-    on_this ended None e n may = (
-      (ap (λ k. works_on p k (home_holder fr.home)) e, tt),
-      subst (λ k. Entering ended (own_home k fr.home) (while_called This k ended after_arguments)) (sym e) (on_nothing ended e),
-    )
+    on_this ended None e n may =
+        let begun = on_nothing ended e in (
+          (
+            (ap (λ k. works_on p k fr.view) e, tt),
+            subst (λ k. Entering ended (own_home k fr.home) (while_called This k ended after_arguments)) (sym e) begun,
+          ),
+          subst (λ k. CountsAs p (home_holder (own_home k fr.home)) (own_view k fr.view) (holder_of p m)) (sym e) (houses_counts p Static (holder_of p m) begun.holder),
+        )
     on_this ended (Some k) e n may = go (method_class p fr.method) refl
       where
         -- the caller works on an object of that class
@@ -674,22 +700,46 @@ module _ (p : Image) (t : Typing) (wired : IsWired p) (typed : IsTyped p t) (c :
             of (inl r) = r
             of (inr r) = absurd (true≢false (sym n.1.0 ∙ ap (λ x. not (is_construct x)) r))
 
+        own_below : (v d y : ℕ) → holder_of p fr.method ≡ Member d → holder_of p fr.method ≡ Member y → descends p v d ≡ true → descends p v y ≡ true
+        own_below v d y e f h = let same : d ≡ y = let both = sym e ∙ f in cc in subst (λ x. descends p v x ≡ true) same h
+
         go : (own : Option ℕ) → method_class p fr.method ≡ own → Answer ended This
         go None f = let clash : false ≡ true = sym (ap (λ x. stands_here p x (method_class p m)) f ∙ ap (λ x. stands_here p None x) e) ∙ n.0 in cc
         go (Some y) f =
             let stands : stands_for p (An_object_of y) (An_object_of k) ≡ true = sym (ap (λ x. stands_here p x (method_class p m)) f ∙ ap (λ x. stands_here p (Some y) x) e) ∙ n.0 in
-            let houses = at_hand.good.stack.1.holder.member y (ap (λ x. holder_by (method_role p fr.method) x) f
-            ∙ holder_member (method_role p fr.method) y (λ r. let clash : Some y ≡ None = sym f ∙ wired.static_main fr.method r in cc)) in
+            let own_holder : holder_of p fr.method ≡ Member y =
+            ap (λ x. holder_by (method_role p fr.method) x) f
+            ∙ holder_member (method_role p fr.method) y (λ r. let clash : Some y ≡ None = sym f ∙ wired.static_main fr.method r in cc) in
+            let houses = at_hand.good.stack.1.holder.member y own_holder in
+            let counts = at_hand.good.stack.1.view in
             let above : descends p houses.0 k ≡ true = stands_along p (An_object_of houses.0) (An_object_of y) (An_object_of k) houses.2 stands in
-            let w = home_member fr.home houses.0 houses.1 in (
-              (ap (λ k. works_on p k (home_holder fr.home)) e ∙ ap (λ h. works_on p (Some k) h) houses.1 ∙ above, tt),
-              subst (λ x. Entering ended (own_home x fr.home) (while_called This x ended after_arguments)) (sym e)
-                  (subst (λ h. Entering ended h (worked ended)) (sym w.2) (on_own ended k houses.0 w.0 w.1 w.2 w.3 above e does_not_construct (ap (λ c. begins_here p m c after_arguments.states) (sym e) ∙ may))),
+            let w = home_member fr.home houses.0 houses.1 in
+            let viewed = counts.some houses.0 houses.1 in
+            let between = counts.between viewed.0 viewed.1 in
+            let fits : descends p viewed.0 k ≡ true = through p viewed.0 y k (own_below viewed.0 between.3 y between.4 own_holder between.5) stands in (
+              (
+                (ap (λ k. works_on p k fr.view) e ∙ ap (λ v. works_on p (Some k) v) viewed.1 ∙ fits, tt),
+                subst (λ x. Entering ended (own_home x fr.home) (while_called This x ended after_arguments)) (sym e)
+                    (subst (λ h. Entering ended h (worked ended)) (sym w.2) (on_own ended k houses.0 w.0 w.1 w.2 w.3 above e does_not_construct (ap (λ c. begins_here p m c after_arguments.states) (sym e) ∙ may))),
+              ),
+              subst (λ x. CountsAs p (home_holder (own_home x fr.home)) (own_view x fr.view) (holder_of p m)) (sym e)
+                  (subst (λ x. CountsAs p (home_holder fr.home) x (holder_of p m)) (sym viewed.1) (record {
+                    some = λ c is. (viewed.0, refl);
+                    between = λ v is.
+                        let same : viewed.0 ≡ v = cc in (
+                          between.0,
+                          between.1,
+                          subst (λ x. descends p between.0 x ≡ true) same between.2,
+                          k,
+                          ap (λ c. holder_by (method_role p m) c) e ∙ holder_called (method_role p m) k is_called.role,
+                          subst (λ x. descends p x k ≡ true) same fits,
+                        );
+                  })),
             )
 
     on_owned :
         (ended r : ℕ) (k : Option ℕ) → method_class p m ≡ k → AllTrue (rule_target p fr.method sh (On_register r) (method_class p m) (is_construct (method_role p m)) first (length xs)) →
-        begins_there p m ≡ true → Answer ended (On_register r)
+        begins_there p m ≡ true → Begun ended (On_register r)
     on_owned ended r None e n may = let clash : false ≡ true = sym (ap (λ x. is_target p x (register sh r)) e) ∙ n.0 in cc
     on_owned ended r (Some y) e n may =
         let w = own_for p (An_object_of y) (register sh r) (sym (ap (λ x. is_target p x (register sh r)) e) ∙ n.0) in
@@ -705,7 +755,7 @@ module _ (p : Image) (t : Typing) (wired : IsWired p) (typed : IsTyped p t) (c :
 
     on_kept :
         (ended f : ℕ) (k : Option ℕ) → method_class p m ≡ k → AllTrue (rule_target p fr.method sh (On_field f) (method_class p m) (is_construct (method_role p m)) first (length xs)) →
-        begins_there p m ≡ true → Answer ended (On_field f)
+        begins_there p m ≡ true → Begun ended (On_field f)
     on_kept ended f None e n may = let clash : false ≡ true = sym (ap (λ x. is_target p x (filled (field_thing p (holder_of p fr.method) f) (field sh f))) e) ∙ n.0 in cc
     on_kept ended f (Some y) e n may =
         let kind : Kind = filled (field_thing p (home_holder fr.home) f) (field sh f) in
@@ -733,7 +783,7 @@ module _ (p : Image) (t : Typing) (wired : IsWired p) (typed : IsTyped p t) (c :
 
     on_pushed :
         (ended k : ℕ) (c : Option ℕ) → method_class p m ≡ c → AllTrue (rule_target p fr.method sh (On_entry k) (method_class p m) (is_construct (method_role p m)) first (length xs)) →
-        begins_there p m ≡ true → Answer ended (On_entry k)
+        begins_there p m ≡ true → Begun ended (On_entry k)
     on_pushed ended k None e n may = let clash : false ≡ true = sym (ap (λ x. is_target p x (entry_kind (at Pushed_operation sh.entries k))) e) ∙ n.1.0 in cc
     on_pushed ended k (Some y) e n may =
         let kind : Kind = entry_kind (at Pushed_operation sh.entries k) in
@@ -750,13 +800,21 @@ module _ (p : Image) (t : Typing) (wired : IsWired p) (typed : IsTyped p t) (c :
           at_home (entry_place s.items k) x.0 (while_called (On_entry k) (method_class p m) ended after_arguments) x.1 (on_entry k y e w.0 w.1 within w.2 w.3 ended may (ages kind w.0 w.1 w.2 (age_of kind n.1.1))),
         )
 
+    -- what is not the caller's own counts as its own class
+    elsewhere :
+        (ended : ℕ) (target : Target) → Begun ended target → target_view p fr (tasks_of ls) s target (method_class p m) ≡ home_view (target_home p fr (tasks_of ls) s target (method_class p m)) →
+        Answer ended target
+    elsewhere ended target b e =
+        let home = target_home p fr (tasks_of ls) s target (method_class p m) in
+        (b, subst (λ v. CountsAs p (home_holder home) v (holder_of p m)) (sym e) (houses_counts p home (holder_of p m) b.1.holder))
+
     pub answer :
         (ended : ℕ) (target : Target) → AllTrue (rule_target p fr.method sh target (method_class p m) (is_construct (method_role p m)) first (length xs)) →
         may_begin p m target after_arguments.states ≡ true → Answer ended target
     answer ended This n may = on_this ended (method_class p m) refl n may
-    answer ended (On_register r) n may = on_owned ended r (method_class p m) refl n may
-    answer ended (On_field f) n may = on_kept ended f (method_class p m) refl n may
-    answer ended (On_entry k) n may = on_pushed ended k (method_class p m) refl n may
+    answer ended (On_register r) n may = elsewhere ended (On_register r) (on_owned ended r (method_class p m) refl n may) refl
+    answer ended (On_field f) n may = elsewhere ended (On_field f) (on_kept ended f (method_class p m) refl n may) refl
+    answer ended (On_entry k) n may = elsewhere ended (On_entry k) (on_pushed ended k (method_class p m) refl n may) refl
 
     -- what the result comes to owns nothing
     pub result_free : (x : ℕ) → is_unowning (register after_arguments x) ≡ true → is_none (held cs (top ls x)) ≡ true

@@ -8,8 +8,10 @@ use Rattle.aom_image.specs.Views.{has, instr_at, method_class, method_role}
 use Rattle.aom_image.specs.declared.class.ClassKind.{ClassKind}
 use Rattle.aom_image.specs.declared.method.Role.TheVariants.{Cancel as Cancel_role}
 use Rattle.aom_image.specs.declared.method.Thing.{Thing}
-use Rattle.aom_image.specs.declared.method.Thing.TheVariants.{Object as An_object_of}
+use Rattle.aom_image.specs.declared.method.Thing.TheVariants.{Message, Object as An_object_of}
 use Rattle.aom_instructions.specs.declared.instr.Instr.TheVariants.{Cancel}
+use Rattle.aom_roles.proofs.Descending.{through}
+use Rattle.aom_roles.specs.Families.{descends}
 use Rattle.aom_roles.specs.Shapes.{kind_of}
 use Rattle.aom_roles.specs.States.{active, active_states, cancel_open, idle, server_states}
 use Rattle.aom_rules.specs.Calls.{brought}
@@ -22,7 +24,7 @@ use Rattle.aom_shape.specs.Kinds.{field, filled, is_ready_kind, register}
 use Rattle.aom_shape.specs.Order.{SaysNoMore, Weaker, WeakerFilling, alike, alike_filling, perhaps_empty, perhaps_full}
 use Rattle.aom_shape.specs.Shape.{Shape}
 use Rattle.aom_shape.specs.Tables.{at}
-use Rattle.aom_shape.specs.Things.{field_thing, holder_by, holder_of}
+use Rattle.aom_shape.specs.Things.{Member, field_thing, holder_by, holder_of}
 use Rattle.aom_shape.specs.declared.kind.Filling.{Filling}
 use Rattle.aom_shape.specs.declared.kind.Filling.TheVariants.{Empty, Full, Perhaps}
 use Rattle.aom_shape.specs.declared.kind.Kind.TheVariants.{Null, Unset}
@@ -35,17 +37,17 @@ use Rattle.aom_sound.proofs.Requesting.{OfObject, active_home, active_listed, ha
 use Rattle.aom_sound.proofs.Storing.{Alike, fits_alike, housed_alike, listed_still, on_some, requested_here, requested_there, rerequested_alike, stack_alike}
 use Rattle.aom_sound.proofs.Straight.{At, Law, fits_unowning, settle, stepped, well}
 use Rattle.aom_sound.proofs.Suiting.{same_object}
-use Rattle.aom_sound.proofs.Housing.{houses_role}
+use Rattle.aom_sound.proofs.Housing.{houses_family}
 use Rattle.aom_sound.proofs.Waiting.{waits_unclaimed}
 use Rattle.aom_sound.specs.Claims.{declared_field, own_field, serves, Layer, Method, claim, declared, entry_claim, home_claim, items_of, objects, root_claim, tasks_of}
 use Rattle.aom_sound.specs.Calls.{result_register}
 use Rattle.aom_sound.specs.Effects.{applied, cancels_if}
 use Rattle.aom_sound.specs.Enlisted.{begun_cells, cancel_method, cancel_of, cancelling, in_phase, is_active, is_cancelling, is_unsettled, on_request, own_request, rerequested, is_idle}
-use Rattle.aom_sound.specs.Laws.{IsWired}
+use Rattle.aom_sound.specs.Laws.{IsOfFamily, IsWired}
 use Rattle.aom_sound.specs.Places.{In_service, Cell, Elsewhere, Entry, Field, Going, Object, Phase, Place, Register, Request, Root, held, requested, seen}
 use Rattle.aom_sound.specs.Requests.{AllSuit, Known, Suits, known_at, phase_state, state_of, states_claim, thing_kind, works_at}
-use Rattle.aom_sound.specs.State.{Choice, Frame, Home, Inside, State, frame_of, home_holder, next, thing_holder}
-use Rattle.aom_sound.specs.WellTyped.{Houses, Awaits, EndsWell, Fits, Good, Holds, IsAlone, IsApart, IsHoused, NotIn, Returns, Stack, Stands, Unclaimed, WellTyped, WordFits, by_field}
+use Rattle.aom_sound.specs.State.{Choice, Frame, Home, Inside, State, frame_as, home_holder, next, thing_holder}
+use Rattle.aom_sound.specs.WellTyped.{Awaits, CountsAs, EndsWell, Fits, Good, Holds, Houses, IsAlone, IsApart, IsHoused, NotIn, Returns, Stack, Stands, Unclaimed, WellTyped, WordFits, by_field}
 use Rattle.aom_sound.proofs.Attending.{plain_claim}
 
 -- ---- what is known of a request
@@ -106,14 +108,19 @@ unknown Perhaps = alike_filling
 unknown_at : (i : ℕ) (x : Filling) → WeakerFilling (at Perhaps (replicate 8 Perhaps) i) x
 unknown_at i x = subst (λ y. WeakerFilling y x) (sym (at_alike 8 Perhaps i)) (unknown x)
 
--- the class of what is cancelled
-cancelled_class : (p : Image) (x : Thing) (m : ℕ) → cancel_of p x ≡ Some m → (c : ℕ) × (x ≡ An_object_of c) × (role_of p c Cancel_role ≡ Some m)
-cancelled_class p x m e = grind arith
+-- what is cancelled counts as a class
+cancelled_view : (p : Image) (view : Option ℕ) (m : ℕ) → cancel_of p view ≡ Some m → (v : ℕ) × (view ≡ Some v) × (role_of p v Cancel_role ≡ Some m)
+cancelled_view p view m e = grind arith
+
+-- what is active is an object
+active_object : (p : Image) (x : Thing) → is_active_kind (thing_kind p x) ≡ true → (b : ℕ) × (x ≡ An_object_of b)
+unfolding kind_of
+active_object p (An_object_of b) a = (b, refl)
+active_object p Message a = absurd (true≢false (sym a))
 
 -- a class of active objects has a method that cancels
-has_cancel : (p : Image) → IsWired p → (x : Thing) → is_active_kind (thing_kind p x) ≡ true → cancel_of p x ≡ None → ⊥
-unfolding kind_of
-has_cancel p wired x a e = grind arith
+has_cancel : (p : Image) → IsWired p → (v : ℕ) → is_active_kind (kind_of p (Some v)) ≡ true → role_of p v Cancel_role ≡ None → ⊥
+has_cancel p wired v a e = let found = wired.cancel v a in let clash : Some found.0 ≡ None = sym found.1 ∙ e in cc
 
 module _ (p : Image) (t : Typing) (wired : IsWired p) (typed : IsTyped p t) (c : Choice) (s : State) (fr : Frame) (sh : Shape) (ls : List Layer) (at_hand : At p t s fr sh ls)
     (is_kind : is_active_kind (own_kind p fr.method) ≡ true) (leads : Leads t fr.method (suc fr.place) (after_cancel sh)) where
@@ -136,7 +143,7 @@ module _ (p : Image) (t : Typing) (wired : IsWired p) (typed : IsTyped p t) (c :
       (settle p t s.cells (next fr) sh' ls (stepped p t s.cells fr sh' ls (learned p t (main_of_none p wired) c s fr sh ls at_hand listed states known)) (leads.0, leads.1, transitive leads.0 (after_cancel sh) sh' leads.2 less))
 
   -- the method that cancels begins
-  module _ (m : ℕ) (is_active_now : in_phase is_active request ≡ true) (its_method : cancel_of p it.object.thing ≡ Some m) where
+  module _ (m : ℕ) (is_active_now : in_phase is_active request ≡ true) (its_method : cancel_method p fr ≡ Some m) where
     abbrev o : Object
     o = it.object
 
@@ -150,10 +157,13 @@ module _ (p : Image) (t : Typing) (wired : IsWired p) (typed : IsTyped p t) (c :
     over = Method fr sh' ∷ ls
 
     abbrev fr' : Frame
-    fr' = frame_of m fr.home (length s.items)
+    fr' = frame_as m fr.home fr.view (length s.items)
 
-    class : (c : ℕ) × (o.thing ≡ An_object_of c) × (role_of p c Cancel_role ≡ Some m)
-    class = cancelled_class p o.thing m its_method
+    class : (v : ℕ) × (fr.view ≡ Some v) × (role_of p v Cancel_role ≡ Some m)
+    class = cancelled_view p fr.view m its_method
+
+    between : (c : ℕ) × (home_holder fr.home ≡ Member c) × (descends p c class.0 ≡ true) × (d : ℕ) × (holder_of p fr.method ≡ Member d) × (descends p class.0 d ≡ true)
+    between = at_hand.good.stack.1.view.between class.0 class.1
 
     abbrev role : method_role p m ≡ Some Cancel_role
     role = (wired.canceller class.0 m class.2).1
@@ -202,8 +212,19 @@ module _ (p : Image) (t : Typing) (wired : IsWired p) (typed : IsTyped p t) (c :
     unfilled f = perhaps_only (subst (λ x. WeakerFilling (field begins.0 f) x) (ap (λ r. at Perhaps (entry_fields r) f) role ∙ at_alike 8 Perhaps f) (begins.2.fields f))
 
     -- it is of the object's class, or of one above it
+    family : IsOfFamily p class.0 m
+    family = (wired.canceller class.0 m class.2).2
+
+    works : holder_of p m ≡ Member family.class
+    works = ap (λ r. holder_by r (method_class p m)) role ∙ ap (λ c. holder_by (Some Cancel_role) c) family.of
+
+    holder : Houses p (home_holder fr.home) (holder_of p m)
+    holder =
+        subst (λ h. Houses p h (holder_of p m)) (sym between.1)
+        (subst (λ h. Houses p (Member between.0) h) (sym works) (houses_family p wired.family between.0 family.class (through p between.0 class.0 family.class between.2 family.above)))
+
     own_holder : Houses p (thing_holder o.thing) (holder_of p m)
-    own_holder = let found = wired.canceller class.0 m class.2 in houses_role p wired.family o.thing class.0 m class.1 found.2 (ap (λ r. holder_by r (Some found.2.class)) found.1)
+    own_holder = subst (λ h. Houses p (home_holder h) (holder_of p m)) it.home holder
 
     own_fields : Unclaimed p (λ f. filled (field_thing p (thing_holder o.thing) f) Perhaps) o.name over
     own_fields =
@@ -322,13 +343,19 @@ module _ (p : Image) (t : Typing) (wired : IsWired p) (typed : IsTyped p t) (c :
     apart_over : IsApart p fr.home over
     apart_over = subst (λ h. IsApart p h over) (sym it.home) (apart.0, (subst (λ h. NotIn o.name h) (sym it.home) apart.0, apart.1), own_fields, inl (ap (λ h. works_at o.name h) it.home ∙ eq-eqb o.name o.name refl))
 
-    holder : Houses p (home_holder fr.home) (holder_of p m)
-    holder = subst (λ h. Houses p (home_holder h) (holder_of p m)) (sym it.home) own_holder
+    -- it counts as it does for the method that cancels
+    counts : CountsAs p (home_holder fr.home) fr.view (holder_of p m)
+    counts = record {
+      some = at_hand.good.stack.1.view.some;
+      between = λ v e.
+          let same : class.0 ≡ v = let both = sym class.1 ∙ e in cc in
+          (between.0, between.1, subst (λ x. descends p between.0 x ≡ true) same between.2, family.class, works, subst (λ x. descends p x family.class ≡ true) same family.above);
+    }
 
     caller : Stack p t cs' (Returns m fr.home) over
     caller = (
       stands,
-      record { words = at_hand.good.stack.1.words; holder = at_hand.good.stack.1.holder; height = at_hand.good.stack.1.height; alone = at_hand.good.stack.1.alone; message = at_hand.good.stack.1.message },
+      record { words = at_hand.good.stack.1.words; holder = at_hand.good.stack.1.holder; view = at_hand.good.stack.1.view; height = at_hand.good.stack.1.height; alone = at_hand.good.stack.1.alone; message = at_hand.good.stack.1.message },
       housed_alike p t s.cells cs' same_cells ls fr.home at_hand.good.stack.2,
       at_hand.good.stack.3,
       stack_alike p t s.cells cs' same_cells (listed_still s.cells fr.home (on_request cancelling request) (on_some cancelling request)) ls _ at_hand.good.stack.4,
@@ -341,6 +368,7 @@ module _ (p : Image) (t : Typing) (wired : IsWired p) (typed : IsTyped p t) (c :
         record {
           words = λ i. subst (λ k. WordFits None k) (sym (unset i)) tt;
           holder = holder;
+          view = counts;
           height = sym (length_forms s.items) ∙ ap length at_hand.items;
           alone = λ cancels. subst (λ h. IsAlone p h over) (sym it.home) alone;
           message = (λ serving. absurd (true≢false (sym serving ∙ ap is_service role)), λ served. absurd served);
@@ -365,7 +393,7 @@ module _ (p : Image) (t : Typing) (wired : IsWired p) (typed : IsTyped p t) (c :
 
 module _ (p : Image) (t : Typing) (wired : IsWired p) (typed : IsTyped p t) (c : Choice) (s : State) (fr : Frame) (sh : Shape) (ls : List Layer) (at_hand : At p t s fr sh ls) where
   pub law_cancel : Law p t c s fr sh ls at_hand Cancel
-  law_cancel n leads = ((active_home p t (main_of_none p wired) c s fr sh ls at_hand n.0, (settled_only request within, tt)), go (in_phase is_active request) (cancel_method p fr.home) refl refl)
+  law_cancel n leads = ((active_home p t (main_of_none p wired) c s fr sh ls at_hand n.0, (settled_only request within, tt)), go (in_phase is_active request) (cancel_method p fr) refl refl)
     where
       request : Option Request
       request = own_request s.cells fr.home
@@ -376,11 +404,18 @@ module _ (p : Image) (t : Typing) (wired : IsWired p) (typed : IsTyped p t) (c :
       within : IsTrue (has active_states (state_of request))
       within = in_state p t (main_of_none p wired) c s fr sh ls at_hand (active_listed (own_kind p fr.method) n.0) active_states n.1.0
 
-      its_method : (x : Option ℕ) → cancel_method p fr.home ≡ x → cancel_of p it.object.thing ≡ x
-      its_method x e = sym (ap (λ h. cancel_method p h) it.home) ∙ e
+      has_one : cancel_method p fr ≡ None → ⊥
+      has_one e =
+          let b = active_object p it.object.thing (ap is_active_kind it.kind ∙ n.0) in
+          let viewed = at_hand.good.stack.1.view.some b.0 (ap home_holder it.home ∙ ap thing_holder b.1) in
+          let between = at_hand.good.stack.1.view.between viewed.0 viewed.1 in
+          let same : between.0 ≡ b.0 = let both = sym between.1 ∙ ap home_holder it.home ∙ ap thing_holder b.1 in cc in
+          let kind : thing_kind p it.object.thing ≡ kind_of p (Some viewed.0) =
+          ap (thing_kind p) b.1 ∙ ap (λ x. kind_of p (Some x)) (sym same) ∙ wired.family.kinds between.0 viewed.0 between.2 in
+          has_cancel p wired viewed.0 (ap is_active_kind (sym kind ∙ it.kind) ∙ n.0) (ap (cancel_of p) (sym viewed.1) ∙ e)
 
-      go : (b : Bool) (m : Option ℕ) → in_phase is_active request ≡ b → cancel_method p fr.home ≡ m → WellTyped p t (applied p fr (tasks_of ls) s (cancels_if fr b m))
-      go true (Some m) a e = begun_well p t wired typed c s fr sh ls at_hand n.0 leads.0 m a (its_method (Some m) e)
-      go true None a e = absurd (has_cancel p wired it.object.thing (ap is_active_kind it.kind ∙ n.0) (its_method None e))
+      go : (b : Bool) (m : Option ℕ) → in_phase is_active request ≡ b → cancel_method p fr ≡ m → WellTyped p t (applied p fr (tasks_of ls) s (cancels_if fr b m))
+      go true (Some m) a e = begun_well p t wired typed c s fr sh ls at_hand n.0 leads.0 m a e
+      go true None a e = absurd (has_one e)
       go false (Some m) a e = stays p t wired typed c s fr sh ls at_hand n.0 leads.0 within a
       go false None a e = stays p t wired typed c s fr sh ls at_hand n.0 leads.0 within a

@@ -18,13 +18,14 @@ use Rattle.aom_shape.specs.Shape.{Shape}
 use Rattle.aom_rules.specs.Typing.{IsTyped, Typing, shape_at}
 use Rattle.aom_shape.specs.declared.kind.Entry.{Entry as Pushed_entry}
 use Rattle.aom_sound.proofs.Callees.{cancel_quiet, only_then}
+use Rattle.aom_sound.proofs.Overriders.{body_quiet}
 use Rattle.aom_sound.proofs.Claimed.{length_objects}
 use Rattle.aom_sound.proofs.Destroying.{destroys}
 use Rattle.aom_sound.proofs.Finishing.{all_parts}
 use Rattle.aom_sound.proofs.Items.{length_forms}
 use Rattle.aom_sound.proofs.Moving.{steps_are_moves}
 use Rattle.aom_sound.proofs.Preserving.{receives}
-use Rattle.aom_sound.specs.Calls.{result_register, returned}
+use Rattle.aom_sound.specs.Calls.{result_register, returned, target_view}
 use Rattle.aom_sound.specs.Claims.{Form, Layer, Method, forms, items_of, objects, tasks_of}
 use Rattle.aom_sound.specs.Cleanup.{has_trap}
 use Rattle.aom_classes.specs.Roles.{destructor_of}
@@ -124,8 +125,8 @@ module _ (p : Image) (wired : IsWired p) (c : Choice) (fr : Frame) (sh : Shape) 
   acts_kept i (Jumps to) r f = (h, refl)
   acts_kept i (Counts d n) r f = (h, refl)
   acts_kept i (Repeats d n to) r f = (h, refl)
-  acts_kept i (Calls target m first) r f = ((call_quiet target m first f.0 (subst Ruled f.1 r), refl, h), refl)
-  acts_kept i (Cancels m) r f = ((cancel_quiet p wired fr.home m f.1, refl, h), refl)
+  acts_kept i (Calls target m first) r f = ((body_quiet p wired.overriders m (target_view p fr ts s target (method_class p m)) (call_quiet target m first f.0 (subst Ruled f.1 r)), refl, h), refl)
+  acts_kept i (Cancels m) r f = ((cancel_quiet p wired fr m f.1, refl, h), refl)
   -- no quiet method sets a trap
   acts_kept i (Sets_trap target m first) r f = absurd (true≢false (sym (subst Ruled f.1 r).0 ∙ ap not h.0))
   acts_kept i (Returns g a) r f = return_kept g a ts h.2

@@ -153,7 +153,7 @@ create p t cs fr sh ls n x ws a k g e free new word = record {
   fits = fits;
   suits = suits;
   tidy = (free, e, g.tidy);
-  frames = record { words = words_set fr.words sh a None k g.frames.words word; holder = g.frames.holder; height = g.frames.height; alone = g.frames.alone; message = g.frames.message };
+  frames = record { words = words_set fr.words sh a None k g.frames.words word; holder = g.frames.holder; view = g.frames.view; height = g.frames.height; alone = g.frames.alone; message = g.frames.message };
   housed = holds_new p cs n x ws (top ls a) ls fr.home e (omega arith) (λ o from e. tt) g.housed;
   apart = g.apart;
   stack = stack_new p t cs n x ws (length (tasks_of ls)) a ls _ e (omega arith) g.stack;

@@ -24,7 +24,7 @@ use Rattle.aom_sound.proofs.Destroying.{no_going, untouched, goes_well}
 use Rattle.aom_sound.proofs.Items.{length_forms}
 use Rattle.aom_sound.proofs.Maps.{same_place-true, same_place_refl}
 use Rattle.aom_sound.proofs.Straight.{fits_unowning}
-use Rattle.aom_sound.proofs.Housing.{houses_same}
+use Rattle.aom_sound.proofs.Housing.{counts_same, houses_same}
 use Rattle.aom_sound.specs.Claims.{serves, Layer, Method, claim, declared, entry_claim, entry_form, forms, items_of, objects, tasks_of}
 use Rattle.aom_sound.specs.Calls.{below_top}
 use Rattle.aom_sound.specs.Cleanup.{dealt_with, destroyed, operation_frame, top_is_whole, top_place, tops_entry}
@@ -143,7 +143,7 @@ module _ (p : Image) (t : Typing) (wired : IsWired p) (typed : IsTyped p t) (s :
           good = record {
             stack = (
               leads.1,
-              record { words = λ i. word_fits_weaker (word fr i) (says.registers i) (subst (λ k. WordFits (word fr i) k) (sym (begins_with i)) (its_word i)); holder = houses_same p _ _ (sym holder); height = sym (length_forms items) ∙ ap length same; alone = λ e. tt; message = (λ e. absurd (true≢false (sym e ∙ ap is_service undo.role)), λ served. absurd (d.unserved served)) },
+              record { words = λ i. word_fits_weaker (word fr i) (says.registers i) (subst (λ k. WordFits (word fr i) k) (sym (begins_with i)) (its_word i)); holder = houses_same p _ _ (sym holder); view = counts_same p Static _ (sym holder); height = sym (length_forms items) ∙ ap length same; alone = λ e. tt; message = (λ e. absurd (true≢false (sym e ∙ ap is_service undo.role)), λ served. absurd (d.unserved served)) },
               tt,
               tt,
               d.under_operation m undo,

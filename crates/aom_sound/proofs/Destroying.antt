@@ -28,7 +28,7 @@ use Rattle.aom_sound.proofs.Seats.{NoFieldHere, NoSeatHere, no_seat}
 use Rattle.aom_sound.proofs.Maps.{held_lives, held_moved, named_moved, one_place, requested_moved, same_place-true, same_place_refl, tidy_moved}
 use Rattle.aom_sound.proofs.Straight.{At, Law, fits_unowning, fitted, housed_relocated, kind_fits, no_word, relabel, settle, top, well, words_set}
 use Rattle.aom_sound.proofs.Things.{stands_itself, stands_object}
-use Rattle.aom_sound.proofs.Housing.{houses_same}
+use Rattle.aom_sound.proofs.Housing.{counts_same, houses_same}
 use Rattle.aom_sound.specs.Claims.{Ending, by_close, serves, Dispatching, Dying, Layer, Mark, Method, Unwinding, claim, declared, declared_field, entry_claim, forms, home_claim, items_of, own_field, tasks_of}
 use Rattle.aom_classes.specs.Roles.{destructor_of}
 use Rattle.aom_sound.specs.Destruction.{destructed, begun, begun_by}
@@ -345,7 +345,7 @@ module _ (p : Image) (t : Typing) (linked : IsWired p) (typed : IsTyped p t) (cs
             let good : Good p t cs (Method fr leads.0 ∷ Dying o ∷ ls) = record {
               stack = (
                 leads.1,
-                record { words = λ i. subst (λ k. WordFits None k) (sym (unset_only (subst (λ k. Weaker (register leads.0 i) k) (entry_registers p m d.arguments i) (w.registers i)))) tt; holder = houses_same p _ _ (sym d.holder); height = high; alone = λ e. absurd (true≢false (sym e ∙ ap is_cancel d.role)); message = (λ e. absurd (true≢false (sym e ∙ ap is_service d.role)), λ served. absurd served) },
+                record { words = λ i. subst (λ k. WordFits None k) (sym (unset_only (subst (λ k. Weaker (register leads.0 i) k) (entry_registers p m d.arguments i) (w.registers i)))) tt; holder = houses_same p _ _ (sym d.holder); view = counts_same p (Inside o (Going (length (tasks_of ls)))) _ (sym d.holder); height = high; alone = λ e. absurd (true≢false (sym e ∙ ap is_cancel d.role)); message = (λ e. absurd (true≢false (sym e ∙ ap is_service d.role)), λ served. absurd served) },
                 record { there = there; lives = lives; below = omega arith; ready = ap (λ b. is_ready_kind (cond b (Own o.thing Ready) (claim p (λ x. Null) ls (Going (length (tasks_of ls)))))) (eq-eqb (length (tasks_of ls)) _ refl) },
                 (tt, apart.none_in, apart.unclaimed, apart.unworked),
                 ((lives, there), (d.stays, refl, ap is_destruct d.role, d.gives, d.ends, d.quiet, d.holder), stack),
@@ -520,7 +520,7 @@ module _ (p : Image) (t : Typing) (c : Choice) (s : State) (fr : Frame) (sh : Sh
           let housed = housed_relocated p cs q g ls fr.home free (omega arith) (omega arith) (λ o from e. (tt, tt)) at_hand.good.stack.2 in
           let k : ℕ → Kind = λ f. filled (field_thing p (thing_holder o.thing) f) Perhaps in
           goes_well p t cs o q before below at_hand.good.fits e (omega arith) claims linked typed at_hand.good.tidy
-          (leads.0, record { words = words; holder = at_hand.good.stack.1.holder; height = at_hand.good.stack.1.height; alone = at_hand.good.stack.1.alone; message = at_hand.good.stack.1.message }, housed, at_hand.good.stack.3, stack_moved p t cs q g ls _ free (omega arith) (omega arith) at_hand.good.stack.4)
+          (leads.0, record { words = words; holder = at_hand.good.stack.1.holder; view = at_hand.good.stack.1.view; height = at_hand.good.stack.1.height; alone = at_hand.good.stack.1.alone; message = at_hand.good.stack.1.message }, housed, at_hand.good.stack.3, stack_moved p t cs q g ls _ free (omega arith) (omega arith) at_hand.good.stack.4)
           (untouched_method p t cs q o at_hand.good.tidy e k fr' sh' ls (λ x from e. tt) (omega arith) at_hand.good.stack.2 (untouched p t cs q o at_hand.good.tidy e k ls _ (omega arith) at_hand.good.stack.4))
           at_hand.good.suits
           (applied p fr (tasks_of ls) s (deletes fr (Some o) a)) (length s.items) (sym (length_forms s.items) ∙ ap length at_hand.items) refl refl at_hand.items at_hand.undos

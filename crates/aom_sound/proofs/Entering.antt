@@ -24,6 +24,7 @@ use Rattle.aom_sound.proofs.Items.{begins_well}
 use Rattle.aom_sound.proofs.Destroying.{perhaps_only}
 use Rattle.aom_sound.proofs.Straight.{fits_unowning}
 use Rattle.aom_sound.proofs.Suiting.{known_plain, same_object, suits_less}
+use Rattle.aom_sound.proofs.Housing.{houses_counts}
 use Rattle.aom_sound.specs.Claims.{own_field, Layer, Method, claim, declared, declared_field, entry_claim, forms, items_of, tasks_of, delivered, serves}
 use Rattle.aom_sound.specs.Places.{In_service, Cell, Elsewhere, Entry, Field, Going, Object, Place, Register, Root, Tidy, held, named, requested, seen}
 use Rattle.aom_sound.specs.Requests.{AllSuit, Joins, Known, Suits, known_at, resting_in, rests_in, states_claim, thing_kind}
@@ -154,7 +155,7 @@ module _ (p : Image) (t : Typing) (typed : IsTyped p t) (cs : List Cell) (x : Se
       let good : Good p t cs (Method (begun height) leads.0 ∷ over) = record {
         stack = (
           leads.1,
-          record { words = λ i. word_fits_weaker (at None ws i) (w.registers i) (e.words i); holder = e.holder; height = high; alone = λ cancels. absurd (true≢false (sym cancels ∙ e.plain)); message = e.right_over },
+          record { words = λ i. word_fits_weaker (at None ws i) (w.registers i) (e.words i); holder = e.holder; view = houses_counts p (Inside x.object x.place) _ e.holder; height = high; alone = λ cancels. absurd (true≢false (sym cancels ∙ e.plain)); message = e.right_over },
           housed,
           apart,
           e.stack,

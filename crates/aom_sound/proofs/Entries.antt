@@ -272,7 +272,7 @@ module _ (p : Image) (t : Typing) (c : Choice) (s : State) (fr : Frame) (sh : Sh
 
       -- the method waits
       waits : (x : Pushed) (es : List Pushed) → sh.entries ≡ x ∷ es → Stack p t s.cells Gone (Method fr (record sh { entries = es }) ∷ ls)
-      waits x es e = (lead x es e, record { words = at_hand.good.stack.1.words; holder = at_hand.good.stack.1.holder; height = at_hand.good.stack.1.height; alone = at_hand.good.stack.1.alone; message = at_hand.good.stack.1.message }, at_hand.good.stack.2, at_hand.good.stack.3, at_hand.good.stack.4)
+      waits x es e = (lead x es e, record { words = at_hand.good.stack.1.words; holder = at_hand.good.stack.1.holder; view = at_hand.good.stack.1.view; height = at_hand.good.stack.1.height; alone = at_hand.good.stack.1.alone; message = at_hand.good.stack.1.message }, at_hand.good.stack.2, at_hand.good.stack.3, at_hand.good.stack.4)
 
       -- for a method that gives nothing and does not leave
       awaits : (x : Pushed) (es : List Pushed) → sh.entries ≡ x ∷ es → (m : ℕ) → IsUndo p m → Stack p t s.cells (Returns m Static) (Method fr (record sh { entries = es }) ∷ ls)

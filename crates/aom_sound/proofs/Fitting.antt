@@ -107,7 +107,7 @@ module _ (p : Image) (c : Choice) (fr : Frame) (ts : List Task) (s : State) wher
       let within = leb-true (first + length (arguments_of p m)) 16 met.0 in
       omega arith
 
-  cancels_by : (b : Bool) (m : Option ℕ) → cancel_method p fr.home ≡ m → May Cancel (cancels_if fr b m)
+  cancels_by : (b : Bool) (m : Option ℕ) → cancel_method p fr ≡ m → May Cancel (cancels_if fr b m)
   unfolding loop_in
   cancels_by true (Some m) e = ((refl, e), λ l f. tt)
   cancels_by true None e = ((refl, tt), λ l f. tt)
@@ -143,7 +143,7 @@ module _ (p : Image) (c : Choice) (fr : Frame) (ts : List Task) (s : State) wher
       either (LeaveIf a) b code Same _ (λ e. ((may_leave b s.cells n.1 e, (read_word (word fr a) n.0, e), tt), λ l f. tt)) ((refl, tt), λ l f. tt)
   fits (JumpActive to) n = branches (JumpActive to) (in_phase is_busy (own_request s.cells fr.home)) to refl refl
   fits (JumpAdded to) n = branches (JumpAdded to) (is_some (own_request s.cells fr.home)) to refl refl
-  fits Cancel n = cancels_by (in_phase is_active (own_request s.cells fr.home)) (cancel_method p fr.home) refl
+  fits Cancel n = cancels_by (in_phase is_active (own_request s.cells fr.home)) (cancel_method p fr) refl
   fits (Return a) n = ((refl, refl), λ l f. tt)
   -- the others go on
   fits _ n = ((refl, tt), λ l f. tt)

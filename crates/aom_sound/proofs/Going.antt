@@ -226,7 +226,7 @@ goes_on p t s (Method fr sh ∷ ls) stack fits suits tidy tasks items undos =
       fits = λ r. subst (λ k. Fits p (seen s.cells) (held s.cells r) k) (sym (claim_frame p (declared p s.cells) fr (next fr) sh ls r refl refl)) (fits r);
       suits = suits;
       tidy = tidy;
-      frames = record { words = stack.1.words; holder = stack.1.holder; height = stack.1.height; alone = stack.1.alone; message = stack.1.message };
+      frames = record { words = stack.1.words; holder = stack.1.holder; view = stack.1.view; height = stack.1.height; alone = stack.1.alone; message = stack.1.message };
       housed = stack.2;
       apart = stack.3;
       stack = stack.4;

@@ -12,8 +12,8 @@ use Rattle.aom_shape.specs.Things.{Holder, Member, field_thing, holder_by, holde
 use Rattle.aom_roles.specs.Shapes.{kind_of}
 use Rattle.aom_sound.specs.Laws.{IsFamily, IsOfFamily}
 use Rattle.aom_sound.specs.Servers.{session_class}
-use Rattle.aom_sound.specs.State.{thing_holder}
-use Rattle.aom_sound.specs.WellTyped.{Houses}
+use Rattle.aom_sound.specs.State.{AtRoot, Home, Inside, Static, home_holder, home_view, thing_holder, thing_view}
+use Rattle.aom_sound.specs.WellTyped.{CountsAs, Houses}
 
 pub houses_itself : (p : Image) (h : Holder) → Houses p h h
 houses_itself p h = record { fields = λ f t e. e; words = omega arith; member = λ d e. (d, e, itself p d, refl); works = λ c e. (c, e) }
@@ -35,6 +35,25 @@ pub houses_role :
 houses_role p family x c m thing of member =
     subst (λ y. Houses p (thing_holder y) (holder_of p m)) (sym thing)
     (subst (λ h. Houses p (Member c) h) (sym (ap (λ k. holder_by (method_role p m) k) of.of ∙ member)) (houses_family p family c of.class of.above))
+-- what a place owns counts as its own class
+pub houses_counts : (p : Image) (h : Home) (k : Holder) → Houses p (home_holder h) k → CountsAs p (home_holder h) (home_view h) k
+houses_counts p Static k houses = record { some = λ c e. cc; between = λ v e. cc }
+houses_counts p AtRoot k houses = record { some = λ c e. cc; between = λ v e. cc }
+houses_counts p (Inside o from) k houses = of_thing o.thing houses
+  where
+    of_thing : (x : Thing) → Houses p (thing_holder x) k → CountsAs p (thing_holder x) (thing_view x) k
+    of_thing (An_object_of c) houses =
+        let works = houses.works c refl in
+        let member = houses.member works.0 works.1 in
+        let same : member.0 ≡ c = let e : Member c ≡ Member member.0 = member.1 in cc in
+        let below : descends p c works.0 ≡ true = subst (λ x. descends p x works.0 ≡ true) same member.2 in record {
+          some = λ x e. (c, refl);
+          between = λ v e. let is : c ≡ v = cc in (c, refl, subst (λ x. descends p c x ≡ true) is (itself p c), works.0, works.1, subst (λ x. descends p x works.0 ≡ true) is below);
+        }
+    of_thing Message houses = record { some = λ c e. cc; between = λ v e. cc }
+
+pub counts_same : (p : Image) (h : Home) (k : Holder) → home_holder h ≡ k → CountsAs p (home_holder h) (home_view h) k
+counts_same p h k e = houses_counts p h k (houses_same p (home_holder h) k e)
 
 -- a field that the method's class declares is the same field
 pub houses_field : (p : Image) (h k : Holder) (f : ℕ) → Houses p h k → is_some (field_thing p k f) ≡ true → field_thing p h f ≡ field_thing p k f

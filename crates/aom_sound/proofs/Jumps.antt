@@ -18,7 +18,7 @@ use Rattle.aom_shape.specs.declared.kind.Kind.{Kind}
 use Rattle.aom_shape.specs.declared.kind.Kind.TheVariants.{Maybe, Null, Own, Unset, Word}
 use Rattle.aom_sound.proofs.Claimed.{claim-set_field, claim-set_register}
 use Rattle.aom_sound.proofs.Maps.{at-put_at}
-use Rattle.aom_sound.proofs.Straight.{At, Fitted, Law, field_fits, fitted, kind_fits, no_word, reframed, relabel, settle, stepped, top, well}
+use Rattle.aom_sound.proofs.Straight.{began, At, Fitted, Law, field_fits, fitted, kind_fits, no_word, reframed, relabel, settle, stepped, top, well}
 use Rattle.aom_sound.proofs.Housing.{houses_field}
 use Rattle.aom_sound.specs.Claims.{Layer, declared, forms, items_of, objects, tasks_of}
 use Rattle.aom_sound.specs.Effects.{applied, jumps_if, jumps_unless, round}
@@ -42,7 +42,7 @@ module _ (p : Image) (t : Typing) (c : Choice) (s : State) (fr : Frame) (sh : Sh
   g = fitted p t s.cells fr sh ls at_hand.good
 
   -- the frame stands elsewhere
-  placed : (fr' : Frame) → fr'.home ≡ fr.home → fr'.method ≡ fr.method → fr'.height ≡ fr.height → fr'.words ≡ fr.words → Fitted p t s.cells fr' sh ls
+  placed : (fr' : Frame) → fr'.home ≡ fr.home → fr'.method ≡ fr.method → began fr' ≡ began fr → fr'.words ≡ fr.words → Fitted p t s.cells fr' sh ls
   placed fr' eh em eg ew = reframed p t s.cells fr fr' sh ls eh em eg ew g
 
   -- two flows: what the jump has learned of the register is claimed on each
@@ -53,7 +53,7 @@ module _ (p : Image) (t : Typing) (c : Choice) (s : State) (fr : Frame) (sh : Sh
       none = no_word p t c s fr sh ls at_hand a n.0
 
       learned :
-          (fr' : Frame) (k : Kind) → fr'.home ≡ fr.home → fr'.method ≡ fr.method → fr'.height ≡ fr.height → fr'.words ≡ fr.words → Fits p (seen s.cells) (held s.cells (top ls a)) k →
+          (fr' : Frame) (k : Kind) → fr'.home ≡ fr.home → fr'.method ≡ fr.method → began fr' ≡ began fr → fr'.words ≡ fr.words → Fits p (seen s.cells) (held s.cells (top ls a)) k →
           WordFits None k → Fitted p t s.cells fr' (set_register sh a k) ls
       learned fr' k eh em eg ew new w = relabel p t s.cells fr fr' sh (set_register sh a k) ls (top ls a) k g eh em eg refl new (λ r. claim-set_register p (declared p s.cells) fr sh ls a k r)
           (λ i. subst (λ ws. WordFits (at None ws i) (register (set_register sh a k) i)) (sym ew) (words_kept fr.words sh a k at_hand.good.stack.1.words (subst (λ x. WordFits x k) (sym none) w) i))
@@ -114,10 +114,10 @@ module _ (p : Image) (t : Typing) (c : Choice) (s : State) (fr : Frame) (sh : Sh
       some : is_some x ≡ true
       some = ap is_some own ∙ n.0
 
-      stays : (fr' : Frame) → fr'.home ≡ fr.home → fr'.method ≡ fr.method → fr'.height ≡ fr.height → fr'.words ≡ fr.words → forms s.items ≡ objects sh.entries (items_of ls) → Leads t fr'.method fr'.place sh → WellTyped p t (record s { tasks = Run fr' ∷ tasks_of ls })
+      stays : (fr' : Frame) → fr'.home ≡ fr.home → fr'.method ≡ fr.method → began fr' ≡ began fr → fr'.words ≡ fr.words → forms s.items ≡ objects sh.entries (items_of ls) → Leads t fr'.method fr'.place sh → WellTyped p t (record s { tasks = Run fr' ∷ tasks_of ls })
       stays fr' eh em eg ew items leads = well p t c s fr sh ls at_hand _ fr' sh refl items at_hand.undos (settle p t s.cells fr' sh ls (placed fr' eh em eg ew) leads)
 
-      learns : (fr' : Frame) (y : Filling) (o : Option Object) → held s.cells q ≡ o → fr'.home ≡ fr.home → fr'.method ≡ fr.method → fr'.height ≡ fr.height → fr'.words ≡ fr.words → Fits p (seen s.cells) o (filled x y) → Leads t fr'.method fr'.place (set_field sh f y) → WellTyped p t (record s { tasks = Run fr' ∷ tasks_of ls })
+      learns : (fr' : Frame) (y : Filling) (o : Option Object) → held s.cells q ≡ o → fr'.home ≡ fr.home → fr'.method ≡ fr.method → began fr' ≡ began fr → fr'.words ≡ fr.words → Fits p (seen s.cells) o (filled x y) → Leads t fr'.method fr'.place (set_field sh f y) → WellTyped p t (record s { tasks = Run fr' ∷ tasks_of ls })
       learns fr' y o e eh em eg ew new leads = well p t c s fr sh ls at_hand _ fr' (set_field sh f y) refl at_hand.items at_hand.undos (settle p t s.cells fr' (set_field sh f y) ls
           (relabel p t s.cells fr fr' sh (set_field sh f y) ls q (filled x y) g eh em eg refl (subst (λ o. Fits p (seen s.cells) o (filled x y)) (sym e) new)
           (λ r. claim-set_field p (declared p s.cells) fr fr.home sh ls f y (filled x y) r refl own some refl)

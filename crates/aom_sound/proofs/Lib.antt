@@ -53,6 +53,8 @@ pub mod Returning
 pub mod Closing
 pub mod Passing
 pub mod Callees
+pub mod Overriders
+pub mod Plain
 pub mod Cancelled
 pub mod Calling
 pub mod CallLaws

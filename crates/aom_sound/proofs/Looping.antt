@@ -17,7 +17,7 @@ use Rattle.aom_sound.specs.Cleanup.{operation_frame}
 use Rattle.aom_sound.specs.Loops.{LoopsKeep, RoundsAt, RoundsLeft, rounds_left}
 use Rattle.aom_sound.specs.Moves.{counted, step, error_frame}
 use Rattle.aom_sound.specs.Places.{Going}
-use Rattle.aom_sound.specs.State.{A_mark, AtRoot, Choice, Frame, Goes, Inside, State, Task, counter, frame_of, set_counter}
+use Rattle.aom_sound.specs.State.{A_mark, AtRoot, Choice, Frame, Goes, Inside, State, Task, counter, frame_as, frame_of, set_counter}
 use Rattle.aom_sound.specs.Steps.{IsStraight, Sets}
 use Rattle.aom_sound.specs.World.{boot_state, main_tasks}
 
@@ -139,7 +139,7 @@ module _ (p : Image) (looped_so : IsLooped p) (c : Choice) (s : State) where
     waits = λ fr ts i a f words. goes_on p looped_so fr i a.there a.runs f;
     resumes = λ fr ts w words. w;
     calls = λ fr ts target m first x a. fresh p (entered p fr ts (counted p s) target m first (length s.items));
-    cancels = λ fr ts m a e. fresh p (frame_of m fr.home (length s.items));
+    cancels = λ fr ts m a e. fresh p (frame_as m fr.home fr.view (length s.items));
     traps = λ fr ts target m first x a. (fresh p (entered p fr ts (counted p s) target m first (length (A_mark ∷ s.items))), tt);
     destructs = λ o m height ts e. fresh p (frame_of m (Inside o (Going (length ts))) height);
     asks = λ x m code height e. fresh p (error_frame m x code height);

@@ -187,7 +187,7 @@ module _ (p : Image) (t : Typing) (c : Choice) (s : State) (fr : Frame) (sh : Sh
         fits = fits;
         suits = same_suits p left fr (next (set_word fr a None)) sh after ls refl refl refl (suits_dropped (λ r. same_place r (top ls a)) p s.cells at_hand.good.tidy messages (Method fr sh ∷ ls) at_hand.good.suits);
         tidy = tidy_dropped (λ r. same_place r (top ls a)) s.cells at_hand.good.tidy;
-        frames = record { words = words_set fr.words sh a None Null at_hand.good.stack.1.words refl; holder = at_hand.good.stack.1.holder; height = at_hand.good.stack.1.height; alone = at_hand.good.stack.1.alone; message = at_hand.good.stack.1.message };
+        frames = record { words = words_set fr.words sh a None Null at_hand.good.stack.1.words refl; holder = at_hand.good.stack.1.holder; view = at_hand.good.stack.1.view; height = at_hand.good.stack.1.height; alone = at_hand.good.stack.1.alone; message = at_hand.good.stack.1.message };
         housed = subst (λ l. IsHoused p l ls fr.home) (place_dropped (top ls a) s.cells) (housed_without p t s.cells (top ls a) it.0 at_hand.good.tidy it.1 ls fr.home (omega arith) (λ from. tt) at_hand.good.stack.2);
         apart = at_hand.good.stack.3;
         stack = subst (λ l. Stack p t l (Returns fr.method fr.home) ls) (place_dropped (top ls a) s.cells) (stack_without p t s.cells (top ls a) it.0 at_hand.good.tidy it.1 ls (Returns fr.method fr.home) (omega arith) (λ from. tt) at_hand.good.stack.4);

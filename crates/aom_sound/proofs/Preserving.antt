@@ -20,7 +20,7 @@ use Rattle.aom_sound.specs.Destruction.{destructed, parting, first_session, begu
 use Rattle.aom_sound.specs.Effects.{Calls, Cancels, Counts, Destroys, Destroys_last, Effect, Goes_on, Jumps, Leaves, Operates, Repeats, Returns, Sets_trap, applied, with_words}
 use Rattle.aom_sound.specs.Moves.{answered, asking, counted, dispatch_ends, error_frame, failed, handled, main_ends, needs, object_ends, step}
 use Rattle.aom_sound.specs.Places.{service_of, Elsewhere, Going, Object, Root, held}
-use Rattle.aom_sound.specs.State.{Closing, Home, Of_server, Accepts, Accept_left, Serves, Parts, A_mark, An_operation, Choice, Destroy, Dispatch, Dispatched, Frame, Goes, Inside, Item, Answered, Asks, Object_left, Of_main, Of_object, Of_root, Run, Seat, State, Task, Trapped, Unwind, counter, frame_of, next, resumed, set_counter, set_word, to_place}
+use Rattle.aom_sound.specs.State.{Closing, Home, Of_server, Accepts, Accept_left, Serves, Parts, A_mark, An_operation, Choice, Destroy, Dispatch, Dispatched, Frame, Goes, Inside, Item, Answered, Asks, Object_left, Of_main, Of_object, Of_root, Run, Seat, State, Task, Trapped, Unwind, counter, frame_as, frame_of, next, resumed, set_counter, set_word, to_place}
 use Rattle.aom_sound.specs.Steps.{Empties, Acts, Arrives, Clears, Comes_out, Ends, Fits, IsStraight, Move, Rests, Sets, Undoes, Vanishes}
 use Rattle.aom_sound.specs.Tasks.{Below, Holds, TaskLaw}
 use Rattle.aom_sound.specs.World.{heard_one, Heard, Outside, turn}
@@ -47,7 +47,7 @@ pub record Kept (p : Image) (c : Choice) (l : TaskLaw) (s : State) : Type 0 wher
   pub calls :
       (fr : Frame) (ts : List Task) (target : Target) (m first x : ℕ) → Acting p c l s fr ts (Call target m first x) →
       l.Runs (entered p fr ts (counted p s) target m first (length s.items)) (Run fr ∷ ts)
-  pub cancels : (fr : Frame) (ts : List Task) (m : ℕ) → Acting p c l s fr ts Cancel → cancel_method p fr.home ≡ Some m → l.Runs (frame_of m fr.home (length s.items)) (Run fr ∷ ts)
+  pub cancels : (fr : Frame) (ts : List Task) (m : ℕ) → Acting p c l s fr ts Cancel → cancel_method p fr ≡ Some m → l.Runs (frame_as m fr.home fr.view (length s.items)) (Run fr ∷ ts)
   pub traps :
       (fr : Frame) (ts : List Task) (target : Target) (m first x : ℕ) → Acting p c l s fr ts (Trap target m first x) →
       l.Runs (entered p fr ts (counted p s) target m first (length (A_mark ∷ s.items))) (Trapped ∷ Run fr ∷ ts) × l.Stands (Run fr ∷ ts)

@@ -16,13 +16,15 @@ use Rattle.aom_rules.specs.Rules.{rule_needs}
 use Rattle.aom_shape.specs.Shape.{Shape}
 use Rattle.aom_rules.specs.Typing.{IsTyped, Typing, shape_at}
 use Rattle.aom_sound.proofs.Callees.{cancel_quiet, only_then}
+use Rattle.aom_sound.proofs.Overriders.{body_quiet}
 use Rattle.aom_sound.proofs.Destroying.{destroys}
 use Rattle.aom_sound.proofs.Finishing.{all_parts}
 use Rattle.aom_sound.proofs.Owners.{owned}
 use Rattle.aom_sound.proofs.Preserving.{Acting, Kept, keeps, turn_keeps_it}
 use Rattle.aom_sound.specs.Claims.{Layer, tasks_of}
 use Rattle.aom_sound.specs.Laws.{IsWired}
-use Rattle.aom_sound.specs.Moves.{step}
+use Rattle.aom_sound.specs.Calls.{target_view}
+use Rattle.aom_sound.specs.Moves.{counted, step}
 use Rattle.aom_sound.specs.Owned.{NoneGoes}
 use Rattle.aom_sound.specs.Places.{Cell}
 use Rattle.aom_sound.specs.Quiet.{CalmKeeps, CaughtOwned, IsCalm, calm, is_clearing}
@@ -69,9 +71,9 @@ module _ (p : Image) (t : Typing) (wired : IsWired p) (typed : IsTyped p t) (c :
     repeats = λ fr ts d to k a f. a.runs;
     waits = λ fr ts i a f words. a.runs;
     resumes = λ fr ts h words. h;
-    calls = λ fr ts target m first x a. calls_quiet fr ts target m first x a;
+    calls = λ fr ts target m first x a clearing. body_quiet p wired.overriders m (target_view p fr ts (counted p s) target (method_class p m)) (calls_quiet fr ts target m first x a clearing);
     traps = λ fr ts target m first x a. let clear = not_clearing fr ts target m first x a in (λ clearing. absurd (true≢false (sym clearing ∙ clear)), clear);
-    cancels = λ fr ts m a e clearing. cancel_quiet p wired fr.home m e;
+    cancels = λ fr ts m a e clearing. cancel_quiet p wired fr m e;
     destructs = λ o m height ts e clearing. (destroys p wired o.thing m e).quiet;
     asks = λ x m code height e clearing. absurd (true≢false (sym clearing));
     undoes = λ m x items ts e clearing. undo_quiet m x items e;

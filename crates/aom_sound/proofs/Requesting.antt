@@ -21,7 +21,7 @@ use Rattle.aom_shape.specs.declared.kind.Kind.{Kind}
 use Rattle.aom_shape.specs.Things.{holder_by, holder_of}
 use Rattle.aom_sound.proofs.Callees.{holder_member, home_member, member_kind}
 use Rattle.aom_sound.proofs.Storing.{Alike, alike_itself, fits_alike, housed_alike, listed_still, on_some, requested_here, requested_there, rerequested_alike, stack_alike}
-use Rattle.aom_sound.proofs.Straight.{At, Fitted, Law, fitted, reframed, settle, stepped, this_is_ready, well}
+use Rattle.aom_sound.proofs.Straight.{began, At, Fitted, Law, fitted, reframed, settle, stepped, this_is_ready, well}
 use Rattle.aom_sound.proofs.Suiting.{same_object}
 use Rattle.aom_sound.proofs.Words.{has_word, unowned, writes_word}
 use Rattle.aom_sound.specs.Claims.{Layer, Method, claim, declared, home_claim, root_claim, tasks_of}
@@ -68,7 +68,7 @@ restated p t cs cs' fr sh ls o from states home lives alike listed others ready 
   fits = λ q. subst (λ k. Fits p (seen cs') (held cs' q) k) (sym (claim_states p (declared p cs') fr sh ls states q)) (fits_alike p t cs cs' alike (Method fr sh ∷ ls) q (λ x e fresh. others x.name (ready q x e fresh)) (g.fits q));
   suits = λ x here. subst (λ h. Suits (thing_kind p x.thing) (cond (works_at x.name h) (known_at p fr states (states_claim p x ls)) (states_claim p x ls)) (requested cs' x.name)) (sym home) (known x here (o.name == x.name) refl);
   tidy = alike.tidy g.tidy;
-  frames = record { words = g.frames.words; holder = g.frames.holder; height = g.frames.height; alone = g.frames.alone; message = g.frames.message };
+  frames = record { words = g.frames.words; holder = g.frames.holder; view = g.frames.view; height = g.frames.height; alone = g.frames.alone; message = g.frames.message };
   housed = housed_alike p t cs cs' alike ls fr.home g.housed;
   apart = g.apart;
   stack = stack_alike p t cs cs' alike listed ls _ g.stack;
@@ -274,7 +274,7 @@ module _ (p : Image) (t : Typing) (main_none : (m : ℕ) → method_role p m ≡
       parts : AllLead t fr.method (flow_narrowed sh (suc fr.place) here) × AllLead t fr.method (flow_narrowed sh to there)
       parts = lead_parts t fr.method (flow_narrowed sh (suc fr.place) here) (flow_narrowed sh to there) leads
 
-      goes : (fr' : Frame) (place x : ℕ) → fr'.home ≡ fr.home → fr'.method ≡ fr.method → fr'.height ≡ fr.height → fr'.words ≡ fr.words → fr'.place ≡ place → IsTrue (has x (state_of own)) → AllLead t fr.method (flow_narrowed sh place x) → WellTyped p t (record s { tasks = Run fr' ∷ tasks_of ls })
+      goes : (fr' : Frame) (place x : ℕ) → fr'.home ≡ fr.home → fr'.method ≡ fr.method → began fr' ≡ began fr → fr'.words ≡ fr.words → fr'.place ≡ place → IsTrue (has x (state_of own)) → AllLead t fr.method (flow_narrowed sh place x) → WellTyped p t (record s { tasks = Run fr' ∷ tasks_of ls })
       goes fr' place x eh em eg ew ep h l =
           let sh' : Shape = record sh { states = bit_and sh.states x } in
           let goes_on = narrowed_leads t fr.method place x sh (some_left listed x h) l in

@@ -72,7 +72,7 @@ module _ (p : Image) (t : Typing) (c : Choice) (s : State) (fr fr2 : Frame) (sh 
     fits = λ r. subst (λ k. Fits p (seen s.cells) (held s.cells r) k) (sym (claim_push p (declared p s.cells) fr2 sh2 ls entry r)) (go r (same_place spot r) refl);
     suits = suits;
     tidy = at_hand.good.tidy;
-    frames = record { words = caller.1.words; holder = caller.1.holder; height = caller.1.height; alone = caller.1.alone; message = caller.1.message };
+    frames = record { words = caller.1.words; holder = caller.1.holder; view = caller.1.view; height = caller.1.height; alone = caller.1.alone; message = caller.1.message };
     housed = caller.2;
     apart = caller.3;
     stack = caller.4;
@@ -117,7 +117,7 @@ module _ (p : Image) (t : Typing) (c : Choice) (s : State) (fr fr2 : Frame) (sh 
             (keep_fits p h (seen cs') (changed (claim p d (Method fr2 sh2 ∷ ls)) q k) (claim p d (Method fr2 (set_register sh2 x k) ∷ ls)) q to (λ r. held_moved cs q to r free) (requested_moved cs q to) same (λ r x e k f. refl) fits_aside r));
         suits = all_moved p cs q to (Method fr2 sh2 ∷ ls) suits;
         tidy = tidy_moved cs q to free g.tidy;
-        frames = record { words = words_set fr2.words sh2 x None k caller.1.words (no_word_fits k obj); holder = caller.1.holder; height = caller.1.height; alone = caller.1.alone; message = caller.1.message };
+        frames = record { words = words_set fr2.words sh2 x None k caller.1.words (no_word_fits k obj); holder = caller.1.holder; view = caller.1.view; height = caller.1.height; alone = caller.1.alone; message = caller.1.message };
         housed = housed_relocated p cs q to ls fr2.home free (omega arith) (omega arith) (λ o from e. (tt, tt)) caller.2;
         apart = caller.3;
         stack = stack_moved p t cs q to ls (Returns fr2.method fr2.home) free (omega arith) (omega arith) caller.4;

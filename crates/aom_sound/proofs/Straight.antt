@@ -27,7 +27,7 @@ use Rattle.aom_sound.specs.Moves.{does, needs}
 use Rattle.aom_sound.specs.Objects.{is_declared_thing, is_thing}
 use Rattle.aom_sound.specs.Places.{Cell, Elsewhere, Field, Object, Place, Register, Root, Sight, Tidy, changed, held, moved, requested, same_place, seen}
 use Rattle.aom_sound.specs.State.{AtRoot, Choice, Frame, Home, Inside, Run, State, Static, field_place, home_holder, next, set_word, thing_holder, word}
-use Rattle.aom_sound.specs.WellTyped.{AllUndo, Fits, Frames, Good, Holds, Houses, IsAlone, IsApart, IsHoused, Returns, Stack, WellTyped, WordFits, HasMessage}
+use Rattle.aom_sound.specs.WellTyped.{CountsAs, AllUndo, Fits, Frames, Good, Holds, Houses, IsAlone, IsApart, IsHoused, Returns, Stack, WellTyped, WordFits, HasMessage}
 use Rattle.aom_sound.proofs.Suiting.{all_moved, claims_less}
 use Rattle.aom_sound.specs.Requests.{AllSuit, Known, Suits, known_at, states_claim, thing_kind, works_at}
 use Rattle.aom_image.specs.Views.{method_role}
@@ -78,7 +78,7 @@ settle p t cs fr sh ls g leads =
     let w = leads.2 in (
       leads.0,
       record {
-        stack = (leads.1, record { words = λ i. word_fits_weaker (word fr i) (w.registers i) (g.frames.words i); holder = g.frames.holder; height = g.frames.height; alone = g.frames.alone; message = g.frames.message }, g.housed, g.apart, g.stack);
+        stack = (leads.1, record { words = λ i. word_fits_weaker (word fr i) (w.registers i) (g.frames.words i); holder = g.frames.holder; view = g.frames.view; height = g.frames.height; alone = g.frames.alone; message = g.frames.message }, g.housed, g.apart, g.stack);
         fits = λ r. fits_weaker p (seen cs) (held cs r) (claim_weaker p (declared p cs) fr leads.0 sh ls r (owns_no_more leads.0 sh w)) (g.fits r);
         suits = λ o lives. claims_less p o fr leads.0 sh ls (requested cs o.name) w.states (g.suits o lives);
         tidy = g.tidy;
@@ -94,6 +94,19 @@ housed_relocated p cs a b ls AtRoot free oa ob n h = h
 housed_relocated p cs a b ls (Inside o from) free oa ob n h =
     let m = n o from refl in
     holds_moved p cs a b ls o from free (outside_differs a from ls oa m.0 h.below) (outside_differs b from ls ob m.1 h.below) h
+
+-- the height and the view with which a method began
+abbrev pub began : Frame → ℕ × Option ℕ
+began fr = (fr.height, fr.view)
+
+-- a frame of the same method, home and view counts as the same
+counts_too :
+    (p : Image) (fr fr' : Frame) → fr'.home ≡ fr.home → fr'.method ≡ fr.method → began fr' ≡ began fr → CountsAs p (home_holder fr.home) fr.view (holder_of p fr.method) →
+    CountsAs p (home_holder fr'.home) fr'.view (holder_of p fr'.method)
+counts_too p fr fr' eh em eg counts =
+    subst (λ h. CountsAs p (home_holder h) fr'.view (holder_of p fr'.method)) (sym eh)
+    (subst (λ m. CountsAs p (home_holder fr.home) fr'.view (holder_of p m)) (sym em)
+    (subst (λ v. CountsAs p (home_holder fr.home) v (holder_of p fr.method)) (sym (ap (λ (x : ℕ × Option ℕ). x.1) eg)) counts))
 
 -- a frame of the same method and home is as alone
 alone_too :
@@ -124,7 +137,7 @@ same_suits p cs fr fr' sh sh' ls eh em es s o lives = subst (λ k. Suits (thing_
 pub relocate :
     (p : Image) (t : Typing) (cs : List Cell) (fr fr' : Frame) (sh sh' : Shape) (ls : List Layer) (a b : Place) →
     Fitted p t cs fr sh ls →
-    fr'.home ≡ fr.home → fr'.method ≡ fr.method → fr'.height ≡ fr.height → sh'.states ≡ sh.states →
+    fr'.home ≡ fr.home → fr'.method ≡ fr.method → began fr' ≡ began fr → sh'.states ≡ sh.states →
     held cs b ≡ None →
     Outside a ls → Outside b ls →
     ((o : Object) (from : Place) → fr'.home ≡ Inside o from → NoFieldHere a from × NoFieldHere b from) →
@@ -141,7 +154,7 @@ relocate p t cs fr fr' sh sh' ls a b g eh em eg es free oa ob nf fresh claims wo
       fits = λ r. subst (λ k. Fits p (seen cs') (held cs' r) k) (ap (λ e. claim p e (Method fr sh' ∷ ls) r) (sym (declared_moved p cs a b)) ∙ sym (claim_frame p (declared p cs') fr fr' sh' ls r eh em)) (fits r);
       suits = same_suits p (moved a b cs) fr fr' sh sh' ls eh em es (all_moved p cs a b (Method fr sh ∷ ls) g.suits);
       tidy = tidy_moved cs a b free g.tidy;
-      frames = record { words = words; holder = subst (λ h. Houses p (home_holder h) (holder_of p fr'.method)) (sym eh) (subst (λ m. Houses p (home_holder fr.home) (holder_of p m)) (sym em) g.frames.holder); height = eg ∙ g.frames.height; alone = alone_too p fr fr' ls eh em g.frames.alone; message = message_too p fr fr' ls em g.frames.message };
+      frames = record { words = words; holder = subst (λ h. Houses p (home_holder h) (holder_of p fr'.method)) (sym eh) (subst (λ m. Houses p (home_holder fr.home) (holder_of p m)) (sym em) g.frames.holder); view = counts_too p fr fr' eh em eg g.frames.view; height = ap (λ (x : ℕ × Option ℕ). x.0) eg ∙ g.frames.height; alone = alone_too p fr fr' ls eh em g.frames.alone; message = message_too p fr fr' ls em g.frames.message };
       housed = housed_relocated p cs a b ls fr'.home free oa ob nf (subst (λ h. IsHoused p cs ls h) (sym eh) g.housed);
       apart = subst (λ h. IsApart p h ls) (sym eh) g.apart;
       stack = subst (λ m. Stack p t cs' (Returns m fr'.home) ls) (sym em) (subst (λ h. Stack p t cs' (Returns fr.method h) ls) (sym eh) (stack_moved p t cs a b ls _ free oa ob g.stack));
@@ -151,7 +164,7 @@ relocate p t cs fr fr' sh sh' ls a b g eh em eg es free oa ob nf fresh claims wo
 pub relabel :
     (p : Image) (t : Typing) (cs : List Cell) (fr fr' : Frame) (sh sh' : Shape) (ls : List Layer) (a : Place) (v : Kind) →
     Fitted p t cs fr sh ls →
-    fr'.home ≡ fr.home → fr'.method ≡ fr.method → fr'.height ≡ fr.height → sh'.states ≡ sh.states →
+    fr'.home ≡ fr.home → fr'.method ≡ fr.method → began fr' ≡ began fr → sh'.states ≡ sh.states →
     Fits p (seen cs) (held cs a) v →
     ((r : Place) → claim p (declared p cs) (Method fr sh' ∷ ls) r ≡ changed (claim p (declared p cs) (Method fr sh ∷ ls)) a v r) →
     ((i : ℕ) → WordFits (word fr' i) (register sh' i)) →
@@ -160,7 +173,7 @@ relabel p t cs fr fr' sh sh' ls a v g eh em eg es new claims words = record {
   fits = λ r. subst (λ k. Fits p (seen cs) (held cs r) k) (sym (claim_frame p (declared p cs) fr fr' sh' ls r eh em ∙ claims r)) (go r (same_place a r) refl);
   suits = same_suits p cs fr fr' sh sh' ls eh em es g.suits;
   tidy = g.tidy;
-  frames = record { words = words; holder = subst (λ h. Houses p (home_holder h) (holder_of p fr'.method)) (sym eh) (subst (λ m. Houses p (home_holder fr.home) (holder_of p m)) (sym em) g.frames.holder); height = eg ∙ g.frames.height; alone = alone_too p fr fr' ls eh em g.frames.alone; message = message_too p fr fr' ls em g.frames.message };
+  frames = record { words = words; holder = subst (λ h. Houses p (home_holder h) (holder_of p fr'.method)) (sym eh) (subst (λ m. Houses p (home_holder fr.home) (holder_of p m)) (sym em) g.frames.holder); view = counts_too p fr fr' eh em eg g.frames.view; height = ap (λ (x : ℕ × Option ℕ). x.0) eg ∙ g.frames.height; alone = alone_too p fr fr' ls eh em g.frames.alone; message = message_too p fr fr' ls em g.frames.message };
   housed = subst (λ h. IsHoused p cs ls h) (sym eh) g.housed;
   apart = subst (λ h. IsApart p h ls) (sym eh) g.apart;
   stack = subst (λ m. Stack p t cs (Returns m fr'.home) ls) (sym em) (subst (λ h. Stack p t cs (Returns fr.method h) ls) (sym eh) g.stack);
@@ -208,13 +221,13 @@ top ls i = Register (length (tasks_of ls)) i
 
 -- the frame stands elsewhere, or has other counters
 pub reframed :
-    (p : Image) (t : Typing) (cs : List Cell) (fr fr' : Frame) (sh : Shape) (ls : List Layer) → fr'.home ≡ fr.home → fr'.method ≡ fr.method → fr'.height ≡ fr.height → fr'.words ≡ fr.words →
+    (p : Image) (t : Typing) (cs : List Cell) (fr fr' : Frame) (sh : Shape) (ls : List Layer) → fr'.home ≡ fr.home → fr'.method ≡ fr.method → began fr' ≡ began fr → fr'.words ≡ fr.words →
     Fitted p t cs fr sh ls → Fitted p t cs fr' sh ls
 reframed p t cs fr fr' sh ls eh em eg ew g = record {
   fits = λ r. subst (λ k. Fits p (seen cs) (held cs r) k) (sym (claim_frame p (declared p cs) fr fr' sh ls r eh em)) (g.fits r);
   suits = same_suits p cs fr fr' sh sh ls eh em refl g.suits;
   tidy = g.tidy;
-  frames = record { words = λ i. subst (λ ws. WordFits (at None ws i) (register sh i)) (sym ew) (g.frames.words i); holder = subst (λ h. Houses p (home_holder h) (holder_of p fr'.method)) (sym eh) (subst (λ m. Houses p (home_holder fr.home) (holder_of p m)) (sym em) g.frames.holder); height = eg ∙ g.frames.height; alone = alone_too p fr fr' ls eh em g.frames.alone; message = message_too p fr fr' ls em g.frames.message };
+  frames = record { words = λ i. subst (λ ws. WordFits (at None ws i) (register sh i)) (sym ew) (g.frames.words i); holder = subst (λ h. Houses p (home_holder h) (holder_of p fr'.method)) (sym eh) (subst (λ m. Houses p (home_holder fr.home) (holder_of p m)) (sym em) g.frames.holder); view = counts_too p fr fr' eh em eg g.frames.view; height = ap (λ (x : ℕ × Option ℕ). x.0) eg ∙ g.frames.height; alone = alone_too p fr fr' ls eh em g.frames.alone; message = message_too p fr fr' ls em g.frames.message };
   housed = subst (λ h. IsHoused p cs ls h) (sym eh) g.housed;
   apart = subst (λ h. IsApart p h ls) (sym eh) g.apart;
   stack = subst (λ m. Stack p t cs (Returns m fr'.home) ls) (sym em) (subst (λ h. Stack p t cs (Returns fr.method h) ls) (sym eh) g.stack);
@@ -226,7 +239,7 @@ stepped p t cs fr sh ls g = record {
   fits = λ r. subst (λ k. Fits p (seen cs) (held cs r) k) (sym (claim_frame p (declared p cs) fr (next fr) sh ls r refl refl)) (g.fits r);
   suits = g.suits;
   tidy = g.tidy;
-  frames = record { words = g.frames.words; holder = g.frames.holder; height = g.frames.height; alone = g.frames.alone; message = g.frames.message };
+  frames = record { words = g.frames.words; holder = g.frames.holder; view = g.frames.view; height = g.frames.height; alone = g.frames.alone; message = g.frames.message };
   housed = g.housed;
   apart = g.apart;
   stack = g.stack;

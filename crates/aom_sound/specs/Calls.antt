@@ -12,24 +12,24 @@ use Rattle.aom_image.specs.declared.method.Gives.{Gives}
 use Rattle.aom_image.specs.declared.method.Gives.TheVariants.{Nothing, Word as A_word, Own as An_own, Maybe as A_maybe, Left}
 use Rattle.aom_image.specs.declared.method.Thing.{Thing}
 use Rattle.aom_image.specs.declared.method.Thing.TheVariants.{Object as An_object_of, Message}
+use Rattle.aom_classes.specs.Overriding.{body_of}
 use Rattle.aom_rules.specs.Calls.{is_among}
-use Rattle.aom_shape.specs.Things.{Holder, Nobody, Program, Member, field_thing, stands_for}
+use Rattle.aom_shape.specs.Things.{field_thing, stands_for}
 use Rattle.aom_clients.specs.declared.client.Client.{Client}
 use Rattle.aom_sound.specs.Clients.{at_opening, client_at, with_client}
 use Rattle.aom_sound.specs.Servers.{without_queue, opened, reserved}
 use Rattle.aom_sound.specs.Places.{Object, Place, Register, Entry, Field, Going, Elsewhere, Cell, held, moved, Session, In_service}
-use Rattle.aom_sound.specs.State.{Home, Static, AtRoot, Inside, Frame, Dispatch, Asks, Answered, Task, Run, Trapped, Destroy, Unwind, Dispatched, Item, An_object, An_operation, A_mark, State, Need, Unbalanced, PopUnder, Orphan, NullOrDead, WrongKind, word, set_word, next, field_place, home_holder, frame_of, Of_server, Of_object, Accepts, Accepted, Serves, MessageLost}
+use Rattle.aom_sound.specs.State.{Home, Static, AtRoot, Inside, Frame, Dispatch, Asks, Answered, Task, Run, Trapped, Destroy, Unwind, Dispatched, Item, An_object, An_operation, A_mark, State, Need, Unbalanced, PopUnder, Orphan, NullOrDead, WrongKind, word, set_word, next, field_place, home_holder, home_view, frame_as, Of_server, Of_object, Accepts, Accepted, Serves, MessageLost}
 use Rattle.aom_sound.specs.Destruction.{needs_emptied}
 use Rattle.aom_sound.specs.Enlisted.{needs_cancelled}
 use Rattle.aom_sound.specs.Words.{here, needs_word, word_or_zero}
 use Rattle.aom_sound.specs.Objects.{is_thing}
 
--- a method of that class may work on what this one works on, and a static one works on nothing
-abbrev pub works_on : Image → Option ℕ → Holder → Bool
-works_on p None h = true
-works_on p (Some c) Nobody = false
-works_on p (Some c) Program = false
-works_on p (Some c) (Member x) = stands_for p (An_object_of x) (An_object_of c)
+-- a method of that class may work on what counts as this, and a static one works on nothing
+abbrev pub works_on : Image → Option ℕ → Option ℕ → Bool
+works_on p None view = true
+works_on p (Some c) None = false
+works_on p (Some c) (Some x) = stands_for p (An_object_of x) (An_object_of c)
 
 -- a method of that class may work on this object
 abbrev pub is_worked_on : Image → Option ℕ → Option Object → Bool
@@ -48,6 +48,11 @@ home_at (Some o) from = Inside o from
 abbrev pub own_home : Option ℕ → Home → Home
 own_home None home = Static
 own_home (Some c) home = home
+
+-- which counts as it does for this one
+abbrev pub own_view : Option ℕ → Option ℕ → Option ℕ
+own_view None view = None
+own_view (Some c) view = view
 
 -- an entry counted from the last, with no mark over it
 abbrev pub entry_at : List Item → ℕ → Option Item
@@ -83,7 +88,7 @@ module _ (p : Image) (fr : Frame) (ts : List Task) (s : State) where
   needs_reply a b = needs_own Message a ++ (needs_word fr ts s b ∷ [])
 
   abbrev pub needs_target : Target → Option ℕ → ℕ → ℕ → List Need
-  needs_target This class first count = (works_on p class (home_holder fr.home), WrongKind) ∷ []
+  needs_target This class first count = (works_on p class fr.view, WrongKind) ∷ []
   needs_target (On_register r) class first count =
       (is_none (word fr r), WrongKind)
       ∷ (needs_target_object p class (held s.cells (here fr ts s r))
@@ -102,6 +107,17 @@ module _ (p : Image) (fr : Frame) (ts : List Task) (s : State) where
   target_home (On_register r) class = home_at (held s.cells (here fr ts s r)) (here fr ts s r)
   target_home (On_field f) class = home_at (held s.cells (field_place fr.home f)) (field_place fr.home f)
   target_home (On_entry k) class = home_at (held s.cells (entry_place s.items k)) (entry_place s.items k)
+
+  -- what the object of the target counts as: its own class, where it is not this one's
+  abbrev pub target_view : Target → Option ℕ → Option ℕ
+  target_view This class = own_view class fr.view
+  target_view (On_register r) class = home_view (target_home (On_register r) class)
+  target_view (On_field f) class = home_view (target_home (On_field f) class)
+  target_view (On_entry k) class = home_view (target_home (On_entry k) class)
+
+  -- what a call of the method runs: the method, or what overrides it for what the target counts as
+  abbrev pub run_by : Target → ℕ → ℕ
+  run_by target m = body_of p m (target_view target (method_class p m))
 
   -- a register is passed on
   abbrev pub needs_argument : Argument → ℕ → List Need
@@ -162,9 +178,10 @@ module _ (p : Image) (fr : Frame) (ts : List Task) (s : State) where
       needs_entering target m first
       (needs_result (gives_of p m) (given_cells over_trap m first) c ++ ((is_none (held (given_cells over_trap m first) (here fr ts s (suc c))), Orphan) ∷ []))
 
-  -- the method called, with its arguments in its first registers, at that height of the cleanup stack
+  -- what the call runs, with the arguments of the method called in its first registers, at that height of the cleanup stack
   abbrev pub entered : Target → ℕ → ℕ → ℕ → Frame
-  entered target m first height = record (frame_of m (target_home target (method_class p m)) height) { words = passed_words (arguments_of p m) first }
+  entered target m first height =
+      record (frame_as (run_by target m) (target_home target (method_class p m)) (target_view target (method_class p m)) height) { words = passed_words (arguments_of p m) first }
 
 -- the register of a call's result, and what the called method gives
 abbrev pub result_register : Option Instr → ℕ

@@ -199,14 +199,14 @@ abbrev pub part_of : Image → Role → Thing → Option ℕ
 part_of p role (An_object_of c) = role_of p c role
 part_of p role Message = None
 
--- the one that cancels
-abbrev pub cancel_of : Image → Thing → Option ℕ
-cancel_of p t = part_of p Cancels t
+-- the one that cancels what counts as that class
+abbrev pub cancel_of : Image → Option ℕ → Option ℕ
+cancel_of p None = None
+cancel_of p (Some c) = role_of p c Cancels
 
-abbrev pub cancel_method : Image → Home → Option ℕ
-cancel_method p Static = None
-cancel_method p AtRoot = None
-cancel_method p (Inside o from) = cancel_of p o.thing
+-- a method's object counts as it does for the method
+abbrev pub cancel_method : Image → Frame → Option ℕ
+cancel_method p fr = cancel_of p fr.view
 
 -- the cells as it begins
 abbrev pub begun_cells : Frame → List Cell → List Cell

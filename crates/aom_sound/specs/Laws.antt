@@ -15,6 +15,7 @@ use Rattle.aom_image.specs.declared.method.Thing.{Thing}
 use Rattle.aom_image.specs.declared.method.Thing.TheVariants.{Object as An_object_of}
 use Rattle.aom_roles.specs.Families.{descends}
 use Rattle.aom_classes.specs.Linked.{IsLinked}
+use Rattle.aom_classes.specs.Overriding.{AllStandIn}
 use Rattle.aom_classes.specs.Roles.{role_of, main_of}
 use Rattle.aom_shape.specs.Things.{Member, field_thing, word_count}
 use Rattle.aom_shape.specs.Arguments.{after_of, before_of}
@@ -136,6 +137,8 @@ pub record IsWired (p : Image) : Type 0 where
   pub sessions : (c session : ℕ) → sessions_at p c ≡ Some session → sessions_at p session ≡ None
   -- classes and what descends from them
   pub family : IsFamily p
+  -- what overrides a method may stand in its place
+  pub overriders : AllStandIn p
 
 -- the boot state is well typed
 abbrev pub BootKeeps : Type 0

@@ -87,10 +87,16 @@ pub record Houses (p : Image) (h k : Holder) : Type 0 where
   pub member : (d : ℕ) → k ≡ Member d → (c : ℕ) × (h ≡ Member c) × (descends p c d ≡ true) × (kind_of p (Some c) ≡ kind_of p (Some d))
   pub works : (c : ℕ) → h ≡ Member c → (d : ℕ) × (k ≡ Member d)
 
+-- an object counts as its class, or as one that it descends from, which is the method's or descends from that; and nothing counts as nothing
+pub record CountsAs (p : Image) (h : Holder) (view : Option ℕ) (k : Holder) : Type 0 where
+  pub some : (c : ℕ) → h ≡ Member c → (v : ℕ) × (view ≡ Some v)
+  pub between : (v : ℕ) → view ≡ Some v → (c : ℕ) × (h ≡ Member c) × (descends p c v ≡ true) × (d : ℕ) × (k ≡ Member d) × (descends p v d ≡ true)
+
 -- the frame's registers are as the state says, and its home and its height are its own
 pub record Frames (p : Image) (ls : List Layer) (fr : Frame) (sh : Shape) : Type 0 where
   pub words : (i : ℕ) → WordFits (word fr i) (register sh i)
   pub holder : Houses p (home_holder fr.home) (holder_of p fr.method)
+  pub view : CountsAs p (home_holder fr.home) fr.view (holder_of p fr.method)
   pub height : fr.height ≡ length (items_of ls)
   pub alone : is_cancel (method_role p fr.method) ≡ true → IsAlone p fr.home ls
   pub message : HasMessage p fr ls

@@ -1,16 +1,20 @@
 -- What the price of each instruction's place covers: that of the place at which its method goes on, and what begins or is pushed.
-use Rattle.std.proofs.Common.{◌≡◌, ◌≤◌, ◌+◌, ◌-◌, ◌∙◌, ℕ, ℤ, zero, suc, Bool, true, false, cond, List, [], ◌∷◌, ◌++◌, ◌==◌, Option, Some, None, refl, ap, subst, sym, arith}
+use Rattle.std.proofs.lemmas.Option.{slice_get_within}
+use Rattle.std.proofs.Common.{inr, inl, ◌≡◌, ◌≤◌, ◌+◌, ◌-◌, ◌∙◌, ℕ, ℤ, zero, suc, Bool, true, false, cond, List, [], ◌∷◌, ◌++◌, ◌==◌, Option, Some, None, refl, ap, subst, sym, arith}
 use Rattle.std.specs.Ordering.{int_eq}
 use Rattle.std.specs.Prelude.{bit_and, int_lt, is_some}
 use Rattle.aom_image.specs.Image.{Image}
 use Rattle.aom_instructions.specs.declared.instr.Instr.{Instr}
 use Rattle.aom_instructions.specs.declared.instr.Instr.TheVariants.{Call, Cancel, JumpActive, JumpAdded, JumpEmpty, JumpEqual, JumpLess, JumpNull, Leave, Loop, New, Next, Return, Trap}
-use Rattle.aom_image.specs.Views.{method_class, method_role}
+use Rattle.aom_image.specs.Views.{method_at, method_class, method_role}
 use Rattle.aom_image.specs.declared.method.Role.TheVariants.{Main}
 use Rattle.aom_image.specs.declared.method.Thing.{Thing}
 use Rattle.aom_classes.specs.Loops.{loop_in, next_in}
 use Rattle.aom_shape.specs.Kinds.{field, filled, is_object_or_null, register}
+use Rattle.aom_bounds.proofs.Mosts.{run_has}
 use Rattle.aom_bounds.proofs.Paid.{call_paid, cancel_paid}
+use Rattle.aom_classes.specs.Overriding.{body_of}
+use Rattle.aom_families.proofs.Running.{body_runs, overrides_there}
 use Rattle.aom_roles.specs.States.{unlisted}
 use Rattle.aom_shape.specs.Needs.{AllTrue, Flow}
 use Rattle.aom_rules.specs.Objects.{flow_jump_empty, flow_jump_null}
@@ -37,7 +41,15 @@ use Rattle.aom_bounds.specs.Prices.{AllPaid, IsPriced, Prices, Stands, call_pric
 use Rattle.aom_sound.proofs.Callees.{cancel_family}
 use Rattle.aom_sound.proofs.Housing.{houses_field}
 
-module _ (c : Prices) (fr : Frame) (sh : Shape) where
+-- what a call runs costs no more than the call pays
+pub body_paid : (p : Image) (c : Prices) (m : ℕ) (view : Option ℕ) → price c (body_of p m view) ≤ call_price p c m
+unfolding method_at
+body_paid p c m view = elim (body_runs p m view) [
+  | inl same ↦ let e = ap (price c) same in omega (arith, e, call_paid p c m)
+  | inr over ↦ let k = overrides_there p (body_of p m view) m over in run_has p (price c) m (body_of p m view) (inr over) (slice_get_within p.methods (body_of p m view) k.0 k.1)
+]
+
+module _ (p : Image) (c : Prices) (fr : Frame) (sh : Shape) where
   -- at its place the method has so much for what comes at once, and the price of the place at which it goes on
   abbrev pub Affords : ℕ → ℕ → Type 0
   Affords n to = n + c.from fr.method to ≤ c.from fr.method fr.place
@@ -54,9 +66,9 @@ module _ (c : Prices) (fr : Frame) (sh : Shape) where
   Covers (Jumps to) = Affords 1 to
   Covers (Counts depth n) = Unit {0}
   Covers (Repeats depth n to) = Unit {0}
-  Covers (Calls target m first) = Affords (1 + price c m) (suc fr.place)
+  Covers (Calls target m first) = Affords (1 + call_price p c m) (suc fr.place)
   Covers (Cancels m) = Affords (1 + price c m) (suc fr.place)
-  Covers (Sets_trap target m first) = Affords (1 + price c m) (suc fr.place)
+  Covers (Sets_trap target m first) = Affords (1 + call_price p c m) (suc fr.place)
   Covers (Returns g a) = 1 ≤ c.from fr.method fr.place
   Covers (Leaves code u) = 1 + pushes u ≤ c.from fr.method fr.place
   Covers (Destroys o a words) = Affords (1 + kind_price c (register sh a)) (suc fr.place)
@@ -93,7 +105,7 @@ module _ (p : Image) (t : Typing) (c : Prices) (main_none : (m : ℕ) → method
 
   on_null :
       (a to : ℕ) (k : Kind) (o : Option Object) → is_object_or_null k ≡ true → AllPaid c fr.method 1 (c.from fr.method fr.place) (flow_jump_null p fr.method fr.place sh k a to) →
-      Fits p (seen s.cells) o k → Covers c fr sh (jumps_unless fr o to)
+      Fits p (seen s.cells) o k → Covers p c fr sh (jumps_unless fr o to)
   on_null a to Null None need pays fits = pays.0
   on_null a to (Own x y) (Some o) need pays fits = pays.0
   on_null a to (Maybe x y) None need pays fits = pays.1.0
@@ -102,7 +114,7 @@ module _ (p : Image) (t : Typing) (c : Prices) (main_none : (m : ℕ) → method
 
   on_empty :
       (f to : ℕ) (x : Option Thing) → is_some x ≡ true → (y : Filling) (o : Option Object) → AllPaid c fr.method 1 (c.from fr.method fr.place) (flow_jump_empty p fr.method fr.place sh y f to) →
-      Fits p (seen s.cells) o (filled x y) → Covers c fr sh (jumps_unless fr o to)
+      Fits p (seen s.cells) o (filled x y) → Covers p c fr sh (jumps_unless fr o to)
   on_empty f to x some Empty None pays fits = pays.0
   on_empty f to x some Empty (Some o) pays fits = absurd (not_empty p t ch s fr sh ls at_hand x o fits)
   on_empty f to x some Full None pays fits = absurd (not_full p t ch s fr sh ls at_hand x some fits)
@@ -120,12 +132,12 @@ module _ (p : Image) (t : Typing) (c : Prices) (main_none : (m : ℕ) → method
   paid_rest n here [] ys pays = pays
   paid_rest n here (x ∷ xs) ys pays = paid_rest n here xs ys pays.1
 
-  narrowed_paid : (place x : ℕ) → (bit_and sh.states x == 0) ≡ false → AllPaid c fr.method 1 (c.from fr.method fr.place) (flow_narrowed sh place x) → Affords c fr sh 1 place
+  narrowed_paid : (place x : ℕ) → (bit_and sh.states x == 0) ≡ false → AllPaid c fr.method 1 (c.from fr.method fr.place) (flow_narrowed sh place x) → Affords p c fr sh 1 place
   narrowed_paid place x left pays = (subst (λ b. AllPaid c fr.method 1 (c.from fr.method fr.place) (cond b [] ((place, record sh { states = bit_and sh.states x }) ∷ []))) left pays).0
 
   on_states :
       (there here to : ℕ) (b : Bool) → (b ≡ true → (bit_and sh.states there == 0) ≡ false) → (b ≡ false → (bit_and sh.states here == 0) ≡ false) →
-      AllPaid c fr.method 1 (c.from fr.method fr.place) (flow_narrowed sh (suc fr.place) here ++ flow_narrowed sh to there) → Covers c fr sh (jumps_if fr b to)
+      AllPaid c fr.method 1 (c.from fr.method fr.place) (flow_narrowed sh (suc fr.place) here ++ flow_narrowed sh to there) → Covers p c fr sh (jumps_if fr b to)
   on_states there here to true some_there some_here pays =
       narrowed_paid to there (some_there refl) (paid_rest 1 (c.from fr.method fr.place) (flow_narrowed sh (suc fr.place) here) (flow_narrowed sh to there) pays)
   on_states there here to false some_there some_here pays =
@@ -134,21 +146,17 @@ module _ (p : Image) (t : Typing) (c : Prices) (main_none : (m : ℕ) → method
   -- ---- a cancel
 
   -- the method that cancels is one that the price counts
-  cancel_counted : (m : ℕ) → cancel_method p fr.home ≡ Some m → price c m ≤ cancel_price p c (method_class p fr.method)
+  cancel_counted : (m : ℕ) → cancel_method p fr ≡ Some m → price c m ≤ cancel_price p c (method_class p fr.method)
   cancel_counted m e =
-      let its = cancel_family p fr.home fr.method m at_hand.good.stack.1.holder e in
+      let its = cancel_family p fr m at_hand.good.stack.1.view e in
       subst (λ o. price c m ≤ cancel_price p c o) (sym its.2) (cancel_paid p c its.1 its.0 m its.3 its.4)
 
   on_cancel :
-      (b : Bool) (x : Option ℕ) → cancel_method p fr.home ≡ x → 1 + cancel_price p c (method_class p fr.method) + c.from fr.method (suc fr.place) ≤ c.from fr.method fr.place →
-      Covers c fr sh (cancels_if fr b x)
+      (b : Bool) (x : Option ℕ) → cancel_method p fr ≡ x → 1 + cancel_price p c (method_class p fr.method) + c.from fr.method (suc fr.place) ≤ c.from fr.method fr.place →
+      Covers p c fr sh (cancels_if fr b x)
   on_cancel true (Some m) e pays = omega (arith, pays, cancel_counted m e)
   on_cancel true None e pays = omega (arith, pays)
   on_cancel false x e pays = omega (arith, pays)
-
-  -- a call pays for the method that it names
-  called : (k : ℕ) → 1 + call_price p c k + c.from fr.method (suc fr.place) ≤ c.from fr.method fr.place → Affords c fr sh (1 + price c k) (suc fr.place)
-  called k pays = omega (arith, pays, call_paid p c k)
 
   -- ---- every instruction
 
@@ -161,10 +169,10 @@ module _ (p : Image) (t : Typing) (c : Prices) (main_none : (m : ℕ) → method
   some : (i : Instr) → StandsHere i → own p fr.method c sh i ≤ c.from fr.method fr.place
   some i it = priced.ends fr.method fr.place sh i it
 
-  pub covers : (i : Instr) → StandsHere i → AllTrue (rule_needs p fr.method fr.place sh i) → Covers c fr sh (effect p ch fr ts s i)
+  pub covers : (i : Instr) → StandsHere i → AllTrue (rule_needs p fr.method fr.place sh i) → Covers p c fr sh (effect p ch fr ts s i)
   unfolding loop_in next_in
-  covers (JumpEqual a b to) it rule = let f = paid (JumpEqual a b to) it refl refl in branches c fr sh (int_eq (read fr ts s a) (read fr ts s b)) to f.0 f.1.0
-  covers (JumpLess a b to) it rule = let f = paid (JumpLess a b to) it refl refl in branches c fr sh (int_lt (read fr ts s a) (read fr ts s b)) to f.0 f.1.0
+  covers (JumpEqual a b to) it rule = let f = paid (JumpEqual a b to) it refl refl in branches p c fr sh (int_eq (read fr ts s a) (read fr ts s b)) to f.0 f.1.0
+  covers (JumpLess a b to) it rule = let f = paid (JumpLess a b to) it refl refl in branches p c fr sh (int_lt (read fr ts s a) (read fr ts s b)) to f.0 f.1.0
   covers (JumpNull a to) it rule = on_null a to (register sh a) (held s.cells (here fr ts s a)) rule.0 (paid (JumpNull a to) it refl refl) (kind_fits p t ch s fr sh ls at_hand a)
   covers (JumpEmpty f to) it rule =
       let some : is_some (field_thing p (home_holder fr.home) f) ≡ true = ap is_some (houses_field p _ _ f at_hand.good.stack.1.holder rule.0) ∙ rule.0 in
@@ -179,15 +187,15 @@ module _ (p : Image) (t : Typing) (c : Prices) (main_none : (m : ℕ) → method
       let left = some_left p t main_none ch s fr sh ls at_hand rule.0 in
       on_states enlisted unlisted to (is_some r) (λ e. left enlisted (listed_in r e)) (λ e. left unlisted (unlisted_in r e)) (paid (JumpAdded to) it refl refl)
   covers (Loop depth rounds) it rule = tt
-  covers (Next depth to) it rule = rounding c fr sh (counter fr depth - 1) depth to
+  covers (Next depth to) it rule = rounding p c fr sh (counter fr depth - 1) depth to
   covers (New a x) it rule = made ch.refused (paid (New a x) it refl refl).0
     where
-      made : (b : Bool) → Affords c fr sh 1 (suc fr.place) → Affords c fr sh (1 + pushes c fr sh (makes_unless b ch.name x a)) (suc fr.place)
+      made : (b : Bool) → Affords p c fr sh 1 (suc fr.place) → Affords p c fr sh (1 + pushes p c fr sh (makes_unless b ch.name x a)) (suc fr.place)
       made true pays = pays
       made false pays = pays
-  covers (Call target k first x) it rule = called k (paid (Call target k first x) it refl refl).0
-  covers (Trap target k first x) it rule = called k (paid (Trap target k first x) it refl refl).0
-  covers Cancel it rule = on_cancel (in_phase is_active (own_request s.cells fr.home)) (cancel_method p fr.home) refl (paid Cancel it refl refl).0
+  covers (Call target k first x) it rule = (paid (Call target k first x) it refl refl).0
+  covers (Trap target k first x) it rule = (paid (Trap target k first x) it refl refl).0
+  covers Cancel it rule = on_cancel (in_phase is_active (own_request s.cells fr.home)) (cancel_method p fr) refl (paid Cancel it refl refl).0
   covers (Leave a) it rule = some (Leave a) it
   covers (Return a) it rule = some (Return a) it
-  covers i it rule = first_of (assumption (paid i it refl refl), search (either c fr sh, some i it, paid i it refl refl), search (deleting c fr sh, paid i it refl refl), search (dealing c fr sh, paid i it refl refl), grind (arith, rule))
+  covers i it rule = first_of (assumption (paid i it refl refl), search (either p c fr sh, some i it, paid i it refl refl), search (deleting p c fr sh, paid i it refl refl), search (dealing p c fr sh, paid i it refl refl), grind (arith, rule))

@@ -1,4 +1,5 @@
 -- The effect of each instruction leads to a lower rank.
+use Rattle.aom_sound.proofs.Overriders.{body_quiet}
 use Rattle.std.proofs.Common.{◌≡◌, ◌<◌, ◌≤◌, ◌+◌, ◌-◌, ◌*◌, ◌∙◌, ℕ, ℤ, suc, inl, inr, Bool, true, false, List, ◌∷◌, length, Option, Some, None, slice_get, refl, sym, ap, arith, subst}
 use Rattle.std.specs.Prelude.{not}
 use Rattle.aom_image.specs.Image.{Image}
@@ -21,7 +22,7 @@ use Rattle.aom_shape.specs.Shape.{Shape}
 use Rattle.aom_shape.specs.Tables.{put_at}
 use Rattle.aom_sound.proofs.Finishing.{all_parts}
 use Rattle.aom_sound.proofs.Fitting.{straight_by}
-use Rattle.aom_sound.specs.Calls.{below_top, passed_cells, returned}
+use Rattle.aom_sound.specs.Calls.{run_by, target_view, below_top, passed_cells, returned}
 use Rattle.aom_sound.specs.Cleanup.{to_trap, top_place}
 use Rattle.aom_sound.specs.Effects.{Calls, Cancels, Carried, Counts, Destroys, Destroys_last, Effect, Goes_on, In_field, In_register, The_message, Replied, Jumps, Leaves, Made, Operates, Popped, Popped_operation, Pushed, Pushed_operation, Repeats, Requested, Returns, Same, Sets_trap, Spot, Update, Written, applied, cells_after, items_after, spot_place, with_words, Sessioned}
 use Rattle.aom_sound.specs.Leaves.{LeavesWith}
@@ -86,8 +87,12 @@ module _ (p : Image) (linked : IsLinked p) (c : Choice) (s : State) (fr : Frame)
   unfolding loop_in
   calls target m first x stands quiet =
       let less = paid fr.counters (suc fr.place) (straight (Call target m first x) stands refl) in
-      let lower = called_lower p fr.method m (called_before p linked fr.method fr.place d target m first x declared_there stands) (λ q. subst (λ b. only_if b (is_quiet p m) ≡ true) q quiet) in
-      let run = run_paid p m _ lower in
+      let view = target_view p fr ts s target (method_class p m) in
+      let k = run_by p fr ts s target m in
+      let lower =
+      called_lower p fr.method k (called_before p linked fr.method fr.place d target m first x declared_there stands view)
+      (λ q. body_quiet p linked.overriders.each m view (subst (λ b. only_if b (is_quiet p m) ≡ true) q quiet)) in
+      let run = run_paid p k _ lower in
       let passed = passed_less standing standing_passes p fr ts s (length (Run fr ∷ ts)) (arguments_of p m) first 0 s.cells in
       let cells =
       scaled_le (standing (passed_cells p fr ts s (length (Run fr ∷ ts)) (arguments_of p m) first 0 s.cells) + operations s.items) (standing s.cells + operations s.items) (cell_rank p)
@@ -108,8 +113,11 @@ module _ (p : Image) (linked : IsLinked p) (c : Choice) (s : State) (fr : Frame)
   unfolding loop_in
   traps target m first x stands loud =
       let less = paid fr.counters (suc fr.place) (straight (Trap target m first x) stands refl) in
-      let lower = called_lower p fr.method m (trapped_before p linked fr.method fr.place d target m first x declared_there stands) (λ q. absurd (true≢false (sym q ∙ loud))) in
-      let run = run_paid p m _ lower in
+      let k = run_by p fr ts s target m in
+      let lower =
+      called_lower p fr.method k (trapped_before p linked fr.method fr.place d target m first x declared_there stands (target_view p fr ts s target (method_class p m)))
+      (λ q. absurd (true≢false (sym q ∙ loud))) in
+      let run = run_paid p k _ lower in
       let passed = passed_less standing standing_passes p fr ts s (length (Trapped ∷ Run fr ∷ ts)) (arguments_of p m) first 0 s.cells in
       let cells =
       scaled_le (standing (passed_cells p fr ts s (length (Trapped ∷ Run fr ∷ ts)) (arguments_of p m) first 0 s.cells) + operations s.items) (standing s.cells + operations s.items)
@@ -253,7 +261,7 @@ module _ (p : Image) (linked : IsLinked p) (c : Choice) (s : State) (fr : Frame)
         AllUndo p s.items → (i : Instr) → slice_get d.code fr.place ≡ Some i → Ruled i → (e : Effect) → Fits p c fr ts s i e →
         ((g : Gives) (a : ℕ) → slice_get d.code fr.place ≡ Some (Return a) → rank p (returned p fr ts (record s { cells = ended_cells p fr s.cells }) g a ts) < before) →
         ((a : ℕ) (o : Object) → i ≡ Delete a → held s.cells (here fr ts s a) ≡ Some o → is_object o.thing ≡ true) → ((o : Object) → held s.cells (top_place s.items) ≡ Some o → is_object o.thing ≡ true) →
-        ((m : ℕ) → slice_get d.code fr.place ≡ Some Cancel → cancel_method p fr.home ≡ Some m → (m < fr.method) × (is_quiet p m ≡ true)) → rank p (applied p fr ts s e) < before
+        ((m : ℕ) → slice_get d.code fr.place ≡ Some Cancel → cancel_method p fr ≡ Some m → (m < fr.method) × (is_quiet p m ≡ true)) → rank p (applied p fr ts s e) < before
     falls undos i stands r (Goes_on ch) f returns plain lasts lower = goes_after i stands f.0 r ch.update f.1
     falls undos i stands r (Jumps to) f returns plain lasts lower = to_jump i stands to f
     falls undos i stands r (Counts depth n) f returns plain lasts lower = counts i stands depth n f

@@ -1,5 +1,7 @@
 -- What a run of a method costs those that begin it.
-use Rattle.std.proofs.Common.{Bool, IfSome, List, None, Option, Some, [], ap, arith, cond, false, length, refl, slice_get, subst, suc, true, ℕ, ◌*◌, ◌∷◌, ◌+◌, ◌<◌, ◌^◌, ◌∙◌, ◌≡◌, ◌≤◌}
+use Rattle.aom_families.proofs.Running.{overrides_there, body_runs}
+use Rattle.aom_classes.specs.Overriding.{leads_to, body_of}
+use Rattle.std.proofs.Common.{IsTrue, inr, inl, Bool, IfSome, List, None, Option, Some, [], ap, arith, cond, false, length, refl, slice_get, subst, suc, true, ℕ, ◌*◌, ◌∷◌, ◌+◌, ◌<◌, ◌^◌, ◌∙◌, ◌≡◌, ◌≤◌}
 use Rattle.std.specs.Prelude.{IsSome, position}
 use Rattle.std.proofs.lemmas.Option.{slice_get_within}
 use Rattle.aom_image.specs.Image.{Image}
@@ -12,7 +14,7 @@ use Rattle.aom_image.specs.declared.class.ClassKind.{ClassKind}
 use Rattle.aom_image.specs.declared.method.Role.{Role}
 use Rattle.aom_image.specs.declared.method.Role.TheVariants.{Cancel as Cancel_role, Destruct}
 use Rattle.aom_image.specs.declared.method.Thing.{Thing}
-use Rattle.aom_classes.specs.Calls.{CallsOrdered, MayCancel, RunsBelow}
+use Rattle.aom_classes.specs.Calls.{CallsBelow, CallsOrdered, MayCancel, RunsBelow}
 use Rattle.aom_classes.specs.Linked.{IsLinked}
 use Rattle.aom_classes.specs.Roles.{destructor_of, is_main, main_of, role_of}
 use Rattle.aom_roles.specs.Shapes.{FlagsFit, HasShape, IsShaped, kind_of, may_leave, is_quiet as quiet_bit}
@@ -146,12 +148,25 @@ runs_below : (p : Image) → IsLinked p → (m place : ℕ) (d : Method) (i : In
 unfolding method_at
 runs_below p linked m place d i is stands = all_there (RunsBelow p m d.class) d.code place i (at_place (CallsOrdered p) p.methods m d linked.calls is).code stands
 
--- so a called method does
-pub called_before : (p : Image) → IsLinked p → (m place : ℕ) (d : Method) (target : Target) (m' first c : ℕ) → method_at p m ≡ Some d → slice_get d.code place ≡ Some (Call target m' first c) → m' < m
-called_before p linked m place d target m' first c is stands = (runs_below p linked m place d (Call target m' first c) is stands).below
+-- so what runs in the place of a method that is called does
+body_before : (p : Image) (m m' : ℕ) (view : Option ℕ) → CallsBelow p m m' → body_of p m' view < m
+unfolding method_at
+body_before p m m' view below = elim (body_runs p m' view) [
+  | inl same ↦ omega (arith, same, below.below)
+  | inr over ↦
+      let k = overrides_there p (body_of p m' view) m' over in
+      subst (λ o. IfSome o (λ d. IsTrue (leads_to p d.over m') → body_of p m' view < m)) k.1 (below.overriders (body_of p m' view)) k.2
+]
 
-pub trapped_before : (p : Image) → IsLinked p → (m place : ℕ) (d : Method) (target : Target) (m' first c : ℕ) → method_at p m ≡ Some d → slice_get d.code place ≡ Some (Trap target m' first c) → m' < m
-trapped_before p linked m place d target m' first c is stands = (runs_below p linked m place d (Trap target m' first c) is stands).below
+pub called_before :
+    (p : Image) → IsLinked p → (m place : ℕ) (d : Method) (target : Target) (m' first c : ℕ) → method_at p m ≡ Some d → slice_get d.code place ≡ Some (Call target m' first c) →
+    (view : Option ℕ) → body_of p m' view < m
+called_before p linked m place d target m' first c is stands view = body_before p m m' view (runs_below p linked m place d (Call target m' first c) is stands)
+
+pub trapped_before :
+    (p : Image) → IsLinked p → (m place : ℕ) (d : Method) (target : Target) (m' first c : ℕ) → method_at p m ≡ Some d → slice_get d.code place ≡ Some (Trap target m' first c) →
+    (view : Option ℕ) → body_of p m' view < m
+trapped_before p linked m place d target m' first c is stands view = body_before p m m' view (runs_below p linked m place d (Trap target m' first c) is stands)
 
 -- an operation is paid by its item, with two left
 pub undo_paid : (p : Image) (m : ℕ) → IsUndo p m → left_in (method_at p m) [] 0 * price p m + 2 ≤ cell_rank p

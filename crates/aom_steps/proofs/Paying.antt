@@ -2,7 +2,7 @@
 use Rattle.std.proofs.Common.{◌≡◌, ◌≤◌, ◌+◌, ◌-◌, ◌*◌, ◌∙◌, ℕ, ℤ, zero, suc, Bool, true, false, cond, inl, inr, List, [], ◌∷◌, length, Option, Some, None, slice_get, refl, sym, ap, arith, subst}
 use Rattle.aom_image.specs.Image.{Image}
 use Rattle.aom_image.specs.declared.method.Thing.TheVariants.{Object as An_object_of}
-use Rattle.aom_image.specs.Views.{arguments_of, method_at, instr_at}
+use Rattle.aom_image.specs.Views.{method_class, arguments_of, method_at, instr_at}
 use Rattle.aom_instructions.specs.declared.instr.Instr.{Instr}
 use Rattle.aom_instructions.specs.declared.instr.Instr.TheVariants.{Next}
 use Rattle.aom_instructions.specs.declared.instr.Target.{Target}
@@ -20,7 +20,7 @@ use Rattle.aom_rules.specs.Typing.{Typing}
 use Rattle.aom_shape.specs.declared.kind.Kind.{Kind}
 use Rattle.aom_sound.proofs.Straight.{At, kind_fits}
 use Rattle.aom_sound.proofs.Fitting.{straight_by}
-use Rattle.aom_sound.specs.Calls.{below_top, accepted_cells, ended_well, passed_cells, result_cells, result_register, returned}
+use Rattle.aom_sound.specs.Calls.{run_by, target_view, below_top, accepted_cells, ended_well, passed_cells, result_cells, result_register, returned}
 use Rattle.aom_sound.specs.Claims.{Layer, tasks_of, Dispatching, Dying, Mark, Method, Unwinding}
 use Rattle.aom_sound.specs.Cleanup.{top_place}
 use Rattle.aom_sound.specs.Destruction.{begun, begun_by, destructed}
@@ -34,10 +34,10 @@ use Rattle.aom_steps.specs.Within.{loops_worth, total, worth_at}
 use Rattle.aom_steps.proofs.Rounds.{back, closed_loop, enters, jumps, leaves, straight_on}
 use Rattle.aom_steps.proofs.Sums.{scaled, scaled_le}
 use Rattle.aom_steps.proofs.Worths.{passed_less, returned_less, to_trap_less}
-use Rattle.aom_bounds.specs.Prices.{IsPriced, Prices, Stands, kind_price, price, perhaps_price, sessions_cost}
+use Rattle.aom_bounds.specs.Prices.{call_price, IsPriced, Prices, Stands, kind_price, price, perhaps_price, sessions_cost}
 use Rattle.aom_steps.specs.Left.{is_entry, left, left_worths, method_left, objects_left, operations_left, rounds_left, rounds_price, tasks_left, waiting_left, closing_left, closings_left, end_left, sessions_left}
 use Rattle.aom_bounds.proofs.Paid.{sessions_paid}
-use Rattle.aom_steps.proofs.Covering.{Affords, Covers, pushes}
+use Rattle.aom_steps.proofs.Covering.{Affords, Covers, body_paid, pushes}
 use Rattle.aom_steps.proofs.Pushed.{enters_place, field_no_entry, leaves_place, moved_less, none_moves, operations_below, rerequested_same, stored_same, resessioned_same, enters_place, served_same, without_less}
 use Rattle.aom_sound.specs.Enlisted.{cancelling, on_request, own_request, ended_cells}
 use Rattle.aom_sound.specs.Servers.{is_server, opened}
@@ -141,7 +141,7 @@ module _ (p : Image) (t : Typing) (c : Prices) (linked : IsLinked p) (priced : I
       omega (arith, begins, lasting p c s.cells us ts (lasts_moved (length ts) from (Going depth) s.cells apart (going_apart (length ts) depth (omega arith)) (λ n. refl)))
 
   straight :
-      (i : Instr) → slice_get d.code fr.place ≡ Some i → loop_in (Some i) ≡ None → (n : ℕ) → Affords c fr sh n (suc fr.place) →
+      (i : Instr) → slice_get d.code fr.place ≡ Some i → loop_in (Some i) ≡ None → (n : ℕ) → Affords p c fr sh n (suc fr.place) →
       n + rest_at fr.counters (suc fr.place) ≤ rest_at fr.counters fr.place
   straight i stands plain n pays = there fr.counters (suc fr.place) n 0 0 (omega (arith, straight_on d.code worth grows fr.counters fr.place i stands plain)) (omega (arith, pays))
 
@@ -157,7 +157,7 @@ module _ (p : Image) (t : Typing) (c : Prices) (linked : IsLinked p) (priced : I
   spot_no_entry The_message = refl
 
   -- what is on the cleanup stack after an update was there before, or its place pays for it
-  after : (u : Update) → objects_left c (cells_after p fr ts s u) + operations_left c (items_after u s.items) ≤ pushes c fr sh u + pushed
+  after : (u : Update) → objects_left c (cells_after p fr ts s u) + operations_left c (items_after u s.items) ≤ pushes p c fr sh u + pushed
   after Same = omega arith
   after (Carried from to) = omega (arith, moved_less c is_entry (spot_place p fr ts s from) (spot_place p fr ts s to) s.cells (spot_no_entry to))
   after (Made name x a) = omega arith
@@ -189,7 +189,7 @@ module _ (p : Image) (t : Typing) (c : Prices) (linked : IsLinked p) (priced : I
   Pays e = 1 + left p c (applied p fr ts s e) ≤ before
 
   -- a jump goes into no loop
-  away : (i : Instr) → slice_get d.code fr.place ≡ Some i → (to : ℕ) → jump_of i ≡ Some to → Affords c fr sh 1 to → Pays (Jumps to)
+  away : (i : Instr) → slice_get d.code fr.place ≡ Some i → (to : ℕ) → jump_of i ≡ Some to → Affords p c fr sh 1 to → Pays (Jumps to)
   unfolding method_at
   away i stands to jump pays =
       let well : JumpsWell d.code = at_place (λ _ x. JumpsWell x.code) p.methods fr.method d linked.jumps declared_there in
@@ -223,28 +223,32 @@ module _ (p : Image) (t : Typing) (c : Prices) (linked : IsLinked p) (priced : I
       let less = there (put_at 0 fr.counters depth (suc n)) (suc r.0) 1 0 (c.round fr.method r.0) (omega (arith, loops, one, more)) (omega (arith, pays)) in
       subst (λ k. Pays (Repeats depth (suc n) k)) (sym r.2) (goes (put_at 0 fr.counters depth (suc n)) (suc r.0) 0 pushed closings less (omega arith) (omega arith))
 
-  calls : (i : Instr) → slice_get d.code fr.place ≡ Some i → loop_in (Some i) ≡ None → (target : Target) (m first : ℕ) → Affords c fr sh (1 + price c m) (suc fr.place) → Pays (Calls target m first)
+  calls : (i : Instr) → slice_get d.code fr.place ≡ Some i → loop_in (Some i) ≡ None → (target : Target) (m first : ℕ) → Affords p c fr sh (1 + call_price p c m) (suc fr.place) → Pays (Calls target m first)
   calls i stands plain target m first pays =
-      let less = straight i stands plain (1 + price c m) pays in
-      omega (arith, less, passed_less (objects_left c) (λ d i e j cs. moved_less c is_entry (Register d i) (Register e j) cs refl) p fr ts s (length (Run fr ∷ ts)) (arguments_of p m) first 0 s.cells, closings_passed (length (Run fr ∷ ts)) m first, fresh_rounds c m (method_at p m))
+      let less = straight i stands plain (1 + call_price p c m) pays in
+      let k = run_by p fr ts s target m in
+      let run = body_paid p c m (target_view p fr ts s target (method_class p m)) in
+      omega (arith, less, passed_less (objects_left c) (λ d i e j cs. moved_less c is_entry (Register d i) (Register e j) cs refl) p fr ts s (length (Run fr ∷ ts)) (arguments_of p m) first 0 s.cells, closings_passed (length (Run fr ∷ ts)) m first, fresh_rounds c k (method_at p k), run)
 
-  cancels : (i : Instr) → slice_get d.code fr.place ≡ Some i → loop_in (Some i) ≡ None → (m : ℕ) → Affords c fr sh (1 + price c m) (suc fr.place) → Pays (Cancels m)
+  cancels : (i : Instr) → slice_get d.code fr.place ≡ Some i → loop_in (Some i) ≡ None → (m : ℕ) → Affords p c fr sh (1 + price c m) (suc fr.place) → Pays (Cancels m)
   cancels i stands plain m pays =
       let less = straight i stands plain (1 + price c m) pays in
       let after = on_request cancelling (own_request s.cells fr.home) in
       omega (arith, less, rerequested_same c is_entry s.cells fr.home after, closings_after (Requested after), fresh_rounds c m (method_at p m))
 
   traps :
-      (i : Instr) → slice_get d.code fr.place ≡ Some i → loop_in (Some i) ≡ None → (target : Target) (m first : ℕ) → Affords c fr sh (1 + price c m) (suc fr.place) →
+      (i : Instr) → slice_get d.code fr.place ≡ Some i → loop_in (Some i) ≡ None → (target : Target) (m first : ℕ) → Affords p c fr sh (1 + call_price p c m) (suc fr.place) →
       Pays (Sets_trap target m first)
   traps i stands plain target m first pays =
-      let less = straight i stands plain (1 + price c m) pays in
-      omega (arith, less, passed_less (objects_left c) (λ d i e j cs. moved_less c is_entry (Register d i) (Register e j) cs refl) p fr ts s (length (Trapped ∷ Run fr ∷ ts)) (arguments_of p m) first 0 s.cells, closings_passed (length (Trapped ∷ Run fr ∷ ts)) m first, fresh_rounds c m (method_at p m))
+      let less = straight i stands plain (1 + call_price p c m) pays in
+      let k = run_by p fr ts s target m in
+      let run = body_paid p c m (target_view p fr ts s target (method_class p m)) in
+      omega (arith, less, passed_less (objects_left c) (λ d i e j cs. moved_less c is_entry (Register d i) (Register e j) cs refl) p fr ts s (length (Trapped ∷ Run fr ∷ ts)) (arguments_of p m) first 0 s.cells, closings_passed (length (Trapped ∷ Run fr ∷ ts)) m first, fresh_rounds c k (method_at p k), run)
 
   -- the object of a register goes, or that of the last item, which was paid for as it was pushed
   destroys :
       (i : Instr) → slice_get d.code fr.place ≡ Some i → loop_in (Some i) ≡ None → (o : Object) (a : ℕ) (words : List (Option ℤ)) → held s.cells (here fr ts s a) ≡ Some o →
-      Affords c fr sh (1 + kind_price c (register sh a)) (suc fr.place) →
+      Affords p c fr sh (1 + kind_price c (register sh a)) (suc fr.place) →
       Pays (Destroys o a words)
   destroys i stands plain o a words owned pays =
       let less = straight i stands plain (1 + kind_price c (register sh a)) pays in
@@ -254,7 +258,7 @@ module _ (p : Image) (t : Typing) (c : Prices) (linked : IsLinked p) (priced : I
 
   destroys_last :
       (i : Instr) → slice_get d.code fr.place ≡ Some i → loop_in (Some i) ≡ None → (o : Object) → s.items ≡ An_object ∷ below_top s.items → held s.cells (top_place s.items) ≡ Some o →
-      Affords c fr sh 1 (suc fr.place) →
+      Affords p c fr sh 1 (suc fr.place) →
       Pays (Destroys_last o)
   destroys_last i stands plain o top owned pays =
       let less = straight i stands plain 1 pays in
@@ -262,7 +266,7 @@ module _ (p : Image) (t : Typing) (c : Prices) (linked : IsLinked p) (priced : I
       omega (arith, less, begins, leaves_place c is_entry (top_place s.items) (Going (length (Run fr ∷ ts))) o s.cells refl refl owned, operations_below c s.items)
 
   operates :
-      (i : Instr) → slice_get d.code fr.place ≡ Some i → loop_in (Some i) ≡ None → (m : ℕ) (w : ℤ) → s.items ≡ An_operation m w ∷ below_top s.items → Affords c fr sh 1 (suc fr.place) →
+      (i : Instr) → slice_get d.code fr.place ≡ Some i → loop_in (Some i) ≡ None → (m : ℕ) (w : ℤ) → s.items ≡ An_operation m w ∷ below_top s.items → Affords p c fr sh 1 (suc fr.place) →
       Pays (Operates m w)
   operates i stands plain m w top pays =
       let less = straight i stands plain 1 pays in
@@ -310,9 +314,9 @@ module _ (p : Image) (t : Typing) (c : Prices) (linked : IsLinked p) (priced : I
       (λ d e i. accepted_less d e i (ended_cells p fr s.cells)) ls at_hand.good.stack in
       omega (arith, some, less.0, less.1, returned_closings g a ls at_hand.good.stack)
 
-  pub pays : (i : Instr) → slice_get d.code fr.place ≡ Some i → Stands p t fr.method fr.place sh i → (e : Effect) → Fits p ch fr ts s i e → Covers c fr sh e → Pays e
+  pub pays : (i : Instr) → slice_get d.code fr.place ≡ Some i → Stands p t fr.method fr.place sh i → (e : Effect) → Fits p ch fr ts s i e → Covers p c fr sh e → Pays e
   pays i stands it (Goes_on change) f covered =
-      let n = pushes c fr sh change.update in
+      let n = pushes p c fr sh change.update in
       goes fr.counters (suc fr.place) n _ _ (straight i stands f.0 (1 + n) covered) (after change.update) (closings_after change.update)
   pays i stands it (Jumps to) f covered = away i stands to f covered
   pays i stands it (Counts depth n) f covered = counts i stands it depth n f

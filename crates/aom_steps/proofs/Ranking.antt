@@ -32,7 +32,7 @@ use Rattle.aom_sound.specs.Destruction.{begun, first_session, parting, vanished}
 use Rattle.aom_sound.proofs.Steps.{step_keeps}
 use Rattle.aom_sound.specs.Laws.{IsWired}
 use Rattle.aom_steps.specs.RankLaws.{Moves, no_move, one_move}
-use Rattle.aom_sound.specs.WellTyped.{Keeps}
+use Rattle.aom_sound.specs.WellTyped.{CountsAs, Keeps}
 use Rattle.aom_sound.specs.Moves.{answered, asking, counted, dispatch_ends, failed, handled, main_ends, object_ends, stage_ends, step}
 use Rattle.aom_sound.specs.Places.{Cell, Elsewhere, Entry, Going, In_service, Object, Root, held, moved, service_of, without}
 use Rattle.aom_sound.specs.Servers.{parted, reserved}
@@ -83,11 +83,11 @@ returns p t s fr sh ls h some g a =
 
 -- the method that cancels is quiet, and comes before
 cancels_below :
-    (p : Image) → IsLinked p → (fr : Frame) (d : Method_declared) → method_at p fr.method ≡ Some d → Houses p (home_holder fr.home) (holder_of p fr.method) → (m : ℕ) → slice_get d.code fr.place ≡ Some Cancel → cancel_method p fr.home ≡ Some m →
+    (p : Image) → IsLinked p → (fr : Frame) (d : Method_declared) → method_at p fr.method ≡ Some d → CountsAs p (home_holder fr.home) fr.view (holder_of p fr.method) → (m : ℕ) → slice_get d.code fr.place ≡ Some Cancel → cancel_method p fr ≡ Some m →
     (m < fr.method) × (is_quiet p m ≡ true)
 unfolding class_in
-cancels_below p linked fr d there holder m stands e =
-    let found = cancel_family p fr.home fr.method m holder e in
+cancels_below p linked fr d there counts m stands e =
+    let found = cancel_family p fr m counts e in
     (canceller_before p linked fr.method fr.place d found.1 found.0 m there stands (sym (ap class_in there) ∙ found.2) found.3 found.4, quiet_canceller p linked found.0 m found.4)
 
 -- ---- every move
@@ -112,7 +112,7 @@ module _ (p : Image) (t : Typing) (linked : IsLinked p) (typed : IsTyped p t) (c
       falls p linked c (counted p s) fr (tasks_of ls) m.0 m.1 sh w.undos i m.2 (subst (λ j. AllTrue (rule_needs p fr.method fr.place sh j)) is x.needs) e fits
       (λ g a stands. returns p t (counted p s) fr sh ls good.stack (ends p linked c (counted p s) fr (tasks_of ls) m.0 m.1 a stands) g a)
       (λ a o delete owns. plain fr (tasks_of ls) a o (subst (λ j. AllTrue (needs p c fr (tasks_of ls) (counted p s) j)) delete met).1.0 owns) (λ o owns. entry_object p t s w o _ owns)
-      (λ k stands e. cancels_below p linked fr m.0 m.1 good.stack.1.holder k stands e)
+      (λ k stands e. cancels_below p linked fr m.0 m.1 good.stack.1.view k stands e)
 
   acts : (ls : List Layer) → Good p t s.cells ls → (fr : Frame) (ts : List Task) → tasks_of ls ≡ Run fr ∷ ts → ActsLower fr ts
   acts ls good fr ts at = method_layer (Good p t s.cells) fr ts ls at good (λ sh below under there. subst (ActsLower fr) under (acts_there fr sh below there))
