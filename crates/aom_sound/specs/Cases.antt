@@ -17,3 +17,4 @@ pub mod Programs
 pub mod Running
 pub mod Served
 pub mod Further
+pub mod Families

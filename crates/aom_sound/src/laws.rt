@@ -19,6 +19,7 @@ ghost use Rattle.aom_sound.specs.Cases.Kept.{KeptBites};
 ghost use Rattle.aom_sound.specs.Cases.Turns.{TurnsBite};
 ghost use Rattle.aom_sound.specs.Cases.Events.{EventsBite};
 ghost use Rattle.aom_sound.specs.Cases.Owners.{OwnersBite};
+ghost use Rattle.aom_sound.specs.Cases.Families.{OverridersRun};
 ghost use Rattle.aom_sound.specs.Cases.Further.{ServersRun};
 
 /// A run of a typed image begins well typed.
@@ -194,6 +195,11 @@ pub fn servers_bite()
 /// Where clients and servers do not say the same, nothing is kept.
 pub fn kept_bites()
     ensures { KeptBites }
+{}
+
+/// A call runs the overrider of what its object counts as, as these runs write.
+pub fn overriders_run()
+    ensures { OverridersRun }
 {}
 
 /// Runs with servers and clients write, line by line, what their examples say.

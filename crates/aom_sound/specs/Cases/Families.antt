@@ -1,0 +1,93 @@
+-- Runs over classes with parents: which method a call runs.
+use Rattle.std.specs.Prelude.{ℕ, pos, List, [], ◌∷◌, Some, None}
+use Rattle.aom_image.specs.Image.{Image}
+use Rattle.aom_image.specs.Small.{a_class, a_header}
+use Rattle.aom_image.specs.declared.class.ClassDecl.{ClassDecl}
+use Rattle.aom_image.specs.declared.class.ClassKind.TheVariants.{Plain}
+use Rattle.aom_image.specs.declared.image.Version.TheVariants.{Two}
+use Rattle.aom_image.specs.declared.method.Argument.TheVariants.{Own as Takes_own}
+use Rattle.aom_image.specs.declared.method.Gives.TheVariants.{Nothing}
+use Rattle.aom_image.specs.declared.method.Method.{Method}
+use Rattle.aom_image.specs.declared.method.Role.TheVariants.{Do, Main as Is_main}
+use Rattle.aom_image.specs.declared.method.Thing.TheVariants.{Object as An_object_of}
+use Rattle.aom_instructions.specs.declared.instr.Instr.{Instr}
+use Rattle.aom_instructions.specs.declared.instr.Instr.TheVariants.{Call, Const, Delete, NewOrLeave, Print, Return, Stop, Trap}
+use Rattle.aom_instructions.specs.declared.instr.Target.TheVariants.{This, Register as On_register}
+use Rattle.aom_transcript.specs.declared.line.Ending.TheVariants.{Stopped}
+use Rattle.aom_transcript.specs.declared.line.Line.TheVariants.{Gone, Out}
+use Rattle.aom_sound.specs.Cases.Programs.{a_method}
+use Rattle.aom_sound.specs.Cases.Running.{Runs}
+
+-- an image of the second version
+abbrev pub a_family : List ClassDecl → List Method → Image
+a_family classes methods = record { header = record (a_header 4 0 0 None 60) { version = Two }; classes = classes; methods = methods }
+
+abbrev pub a_plain : ClassDecl
+a_plain = a_class Plain 0 0 []
+
+-- a class that descends from that one
+abbrev pub from : ℕ → ClassDecl
+from parent = record a_plain { parent = Some parent }
+
+-- a method of a class that prints a number, and one that does so in the place of another
+abbrev pub says : ℕ → ℕ → Method
+says class n = a_method (Some class) Do [] Nothing (Const 0 (pos n) ∷ Print 0 ∷ Return 0 ∷ [])
+
+abbrev pub says_over : ℕ → ℕ → ℕ → Method
+says_over m class n = record (says class n) { over = Some m }
+
+abbrev pub is_main : List Instr → Method
+is_main code = a_method None Is_main [] Nothing code
+
+-- an object of a class is made, that method is called on it, and it goes
+abbrev pub tries : ℕ → ℕ → List Instr → List Instr
+tries class m code = NewOrLeave 0 class ∷ Call (On_register 0) m 0 0 ∷ Delete 0 ∷ code
+
+-- of the child the child's, and of the parent its own, also under a trap
+abbrev pub overridden : Type 0
+overridden =
+    Runs 80
+    (a_family (a_plain ∷ from 0 ∷ []) (
+    says 0 1 ∷ says_over 0 1 2
+    ∷ is_main (tries 1 0 (tries 0 0 (NewOrLeave 0 1 ∷ Trap (On_register 0) 0 1 2 ∷ Delete 0 ∷ Stop ∷ Return 0 ∷ [])))
+    ∷ []))
+    [] Stopped 0 (Out (pos 2) ∷ Gone 1 ∷ Out (pos 1) ∷ Gone 0 ∷ Out (pos 2) ∷ Gone 1 ∷ [])
+
+-- of four classes in a line, the second and the third with one of their own, the nearest
+abbrev pub nearest : Type 0
+nearest =
+    Runs 80
+    (a_family (a_plain ∷ from 0 ∷ from 1 ∷ from 2 ∷ []) (
+    says 0 1 ∷ says_over 0 1 2 ∷ says_over 0 2 3
+    ∷ is_main (tries 3 0 (tries 1 0 (Stop ∷ Return 0 ∷ [])))
+    ∷ []))
+    [] Stopped 0 (Out (pos 3) ∷ Gone 3 ∷ Out (pos 2) ∷ Gone 1 ∷ [])
+
+-- two overriders of a method, neither of the other: a call of the first runs the first on an object whose class has the second
+abbrev pub no_slots : Type 0
+no_slots =
+    Runs 80
+    (a_family (a_plain ∷ from 0 ∷ from 1 ∷ []) (
+    says 0 1 ∷ says_over 0 1 2 ∷ says_over 0 2 3
+    ∷ a_method None Do (Takes_own (An_object_of 1) ∷ []) Nothing (Call (On_register 0) 1 0 0 ∷ Call (On_register 0) 0 0 0 ∷ Delete 0 ∷ Return 0 ∷ [])
+    ∷ is_main (NewOrLeave 0 2 ∷ Call This 3 0 0 ∷ Stop ∷ Return 0 ∷ [])
+    ∷ []))
+    [] Stopped 0 (Out (pos 2) ∷ Out (pos 3) ∷ Gone 2 ∷ [])
+
+-- an overrider of an overrider is one, and the parent's method calls on its own object what the child has
+abbrev pub on_self : Type 0
+on_self =
+    Runs 80
+    (a_family (a_plain ∷ from 0 ∷ from 1 ∷ []) (
+    says 0 1 ∷ says_over 0 1 2 ∷ says_over 1 2 3
+    ∷ a_method (Some 0) Do [] Nothing (Call This 0 0 0 ∷ Return 0 ∷ [])
+    ∷ is_main (tries 2 3 (tries 0 3 (Stop ∷ Return 0 ∷ [])))
+    ∷ []))
+    [] Stopped 0 (Out (pos 3) ∷ Gone 2 ∷ Out (pos 1) ∷ Gone 0 ∷ [])
+
+-- each of these runs comes out so
+pub record OverridersRun : Type 0 where
+  pub child : overridden
+  pub near : nearest
+  pub slots : no_slots
+  pub self : on_self
