@@ -53,12 +53,12 @@ fresh_value method this us h es rest (Register d i) =
 fresh_value method this us h es rest (Going d) = at_depth (length us) d null (going_in us d) (λ k. going_past us d (omega arith))
 fresh_value method this us h es rest _ = refl
 
-pub fresh_word : (method : ℕ) (home : Home) (height : ℕ) (ts : List Task) (r : Place) → word_at (Run (frame_of method home height) ∷ ts) r ≡ word_at ts r
-fresh_word method home height ts r = fresh_as method home (home_view home) height ts r
-
 pub fresh_as : (method : ℕ) (home : Home) (view : Option ℕ) (height : ℕ) (ts : List Task) (r : Place) → word_at (Run (frame_as method home view height) ∷ ts) r ≡ word_at ts r
 fresh_as method home view height ts (Register d i) = at_depth (length ts) d None (word_in ts d i) (λ k. word_past ts d i (omega arith))
 fresh_as method home view height ts _ = refl
+
+pub fresh_word : (method : ℕ) (home : Home) (height : ℕ) (ts : List Task) (r : Place) → word_at (Run (frame_of method home height) ∷ ts) r ≡ word_at ts r
+fresh_word method home height ts r = fresh_as method home (home_view home) height ts r
 
 -- nor does what lets go of sessions
 pub closes_value : (us : List Held_task) (h : Heap) (es : List Item) (rest : Others) (r : Place) → value_in (Closes ∷ us) h es rest r ≡ value_in us h es rest r

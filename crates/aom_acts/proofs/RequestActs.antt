@@ -1,4 +1,5 @@
 -- Instructions on the request of what a method works on: the machine's table stands for the requests that the checked machine then has.
+use Rattle.aom_shape.specs.Things.{holder_of}
 use Rattle.std.proofs.Common.{◌≡◌, ◌≢◌, ◌<◌, ◌==◌, ℕ, ℤ, Bool, true, false, cond, length, List, ◌∷◌, Option, Some, None, IsSome, refl, sym, ap, ◌∙◌, subst, arith}
 use Rattle.std.specs.Prelude.{is_some, option_map}
 use Rattle.std.specs.Int.{w32, cast_signed}

@@ -1,7 +1,7 @@
 -- Each instruction keeps the room that a run needs.
 use Rattle.std.proofs.Common.{Bool, List, None, Option, Some, [], ap, arith, cond, false, inl, length, refl, subst, suc, sym, true, ℕ, ℤ, pos, ◌&&◌, ◌==◌, ◌+◌, ◌++◌, ◌-◌, ◌<◌, ◌∙◌, ◌∷◌, ◌≡◌, ◌≤◌}
 use Rattle.aom_image.proofs.Given.{false_given, some_given}
-use Rattle.std.proofs.lemmas.Bool.{ne_eqb, true≢false}
+use Rattle.std.proofs.lemmas.Bool.{false≢true, ne_eqb, true≢false}
 use Rattle.std.specs.Prelude.{is_some, not, ◌||◌}
 use Rattle.aom_image.specs.Image.{Image}
 use Rattle.aom_image.specs.Views.{arguments_of, instr_at, is_quiet, leaves, method_class, method_role}
@@ -38,7 +38,7 @@ use Rattle.aom_sound.proofs.Finishing.{all_parts}
 use Rattle.aom_sound.proofs.Items.{length_forms}
 use Rattle.aom_sound.proofs.Maps.{held_without, held_moved, same_place_refl}
 use Rattle.aom_sound.proofs.Storing.{ended_alike, held_set_word, rerequested_alike, resessioned_alike}
-use Rattle.aom_bounds.proofs.Listed.{cancel_among, kept_in_line, runs_among, stands_among}
+use Rattle.aom_bounds.proofs.Listed.{run_among, cancel_among, kept_in_line, runs_among, stands_among}
 use Rattle.aom_roles.proofs.Descending.{itself}
 use Rattle.aom_sound.specs.Calls.{ended_well, accepted_cells, below_top, entered, given_cells, over_caller, over_trap, passed_cells, received, result_cells, result_register, returned, run_by, target_view}
 use Rattle.aom_sound.specs.Claims.{objects}
@@ -273,7 +273,7 @@ module _ (p : Image) (t : Typing) (depth heights : ℕ → ℕ) (tables : Tables
         let k = run_by p fr ts s target m in
         let there = (tables.wired.called fr.method fr.place target m first x stands).there in
         begins p depth heights (given_cells p fr ts s (over_caller p fr ts s) m first) s.items (entered p fr ts s target m first (length s.items)) (Run fr ∷ ts) refl
-        (may_call fr h.shape h.there (Call target m first x) k stands (body_runs p m view))
+        (may_call fr h.shape h.there (Call target m first x) k stands (run_among p m k (body_runs p m view)))
         (λ may. finds (Call target m first x) k stands (body_runs p m view) (pushes_from (is_quiet p fr.method) (is_quiet p k) (leaves p fr.method) (leaves p k)
         (λ q. body_quiet p tables.wired.overriders m view (only_then (is_quiet p fr.method) (is_quiet p m) more.1.1.0 q))
         (λ l. only_then (leaves p m) (leaves p fr.method) more.1.1.1.1.0 (body_leaves p tables.wired.overriders m view there l)) may))
@@ -284,7 +284,7 @@ module _ (p : Image) (t : Typing) (depth heights : ℕ → ℕ) (tables : Tables
         let cells' = given_cells p fr ts s (over_trap p fr ts s) m first in
         let may = pushes_loud (is_quiet p fr.method) (leaves p fr.method) loud in
         begins p depth heights cells' (A_mark ∷ s.items) (entered p fr ts s target m first (length (A_mark ∷ s.items))) (Trapped ∷ Run fr ∷ ts) refl
-        (may_call fr h.shape h.there (Trap target m first x) (run_by p fr ts s target m) stands (body_runs p m (target_view p fr ts s target (method_class p m))))
+        (may_call fr h.shape h.there (Trap target m first x) (run_by p fr ts s target m) stands (run_among p m (run_by p fr ts s target m) (body_runs p m (target_view p fr ts s target (method_class p m)))))
         (λ _. finds (Trap target m first x) (run_by p fr ts s target m) stands (body_runs p m (target_view p fr ts s target (method_class p m))) may)
         (item_pushed p depth heights cells' A_mark s.items (Run fr ∷ ts) all_low (λ k e. absurd e) w.3 (moves cells' (λ e dealt. passed_same p fr ts s _ (arguments_of p m) first 0 s.cells e dealt)))
 
