@@ -240,29 +240,29 @@ module _ (p : Image) (trapped : Bool) (heap : Heap) (es : List Item) (rest : Oth
 -- its arguments lie in registers that a method has
 pub entering_fits : (p : Image) (fr : Frame) (ts : List Task) (s : State) (target : Target) (k first : ℕ) (more : List Need) → AllTrue (needs_entering p fr ts s target k first more) → (first + length (arguments_of p k)) ≤ 16
 entering_fits p fr ts s target k first more needs =
-    let parts = all_parts (needs_target p fr ts s target (method_class p k) first (length (arguments_of p k))) _ needs in
+    let parts = all_parts (needs_target p fr ts s target k (method_class p k) first (length (arguments_of p k))) _ needs in
     grind (arith, leb_tells (first + length (arguments_of p k)) 16, parts.1.0)
 
 -- what the method works on
-home_of : (p : Image) (m : Parts) (h : At_hand p m) (target : Target) (class : Option ℕ) (first count : ℕ) → AllTrue (needs_target p h.frame h.below h.state target class first count) → target_here target class m ≡ home_number (target_home p h.frame h.below h.state target class)
-home_of p m h This None first count needs = refl
-home_of p m h This (Some c) first count needs = by_top p m h (λ us. this_here us ≡ home_number h.frame.home) (λ f ms top. top.frame.this)
-home_of p m h (On_register r) class first count needs =
+home_of : (p : Image) (m : Parts) (h : At_hand p m) (target : Target) (k : ℕ) (class : Option ℕ) (first count : ℕ) → AllTrue (needs_target p h.frame h.below h.state target k class first count) → target_here target class m ≡ home_number (target_home p h.frame h.below h.state target class)
+home_of p m h This k None first count needs = refl
+home_of p m h This k (Some c) first count needs = by_top p m h (λ us. this_here us ≡ home_number h.frame.home) (λ f ms top. top.frame.this)
+home_of p m h (On_register r) k class first count needs =
     by_top p m h (λ us. register_here us r ≡ home_number (home_at (held h.state.cells (Register (length h.below) r)) (Register (length h.below) r)))
     (λ f ms top. shown p m h f ms top r (no_word _ needs.0) ∙ owner (held h.state.cells (Register (length h.below) r)) (Register (length h.below) r))
   where
     owner : (o : Option Object) (q : Place) → number o ≡ home_number (home_at o q)
     owner None q = refl
     owner (Some o) q = refl
-home_of p m h (On_field g) class first count needs = field_shown p m h g needs.0 ∙ owner (held h.state.cells (field_place h.frame.home g)) (field_place h.frame.home g)
+home_of p m h (On_field g) k class first count needs = field_shown p m h g needs.0 ∙ owner (held h.state.cells (field_place h.frame.home g)) (field_place h.frame.home g)
   where
     owner : (o : Option Object) (q : Place) → number o ≡ home_number (home_at o q)
     owner None q = refl
     owner (Some o) q = refl
-home_of p m h (On_entry k) class first count needs =
-    entry_number m.entries.items h.state.items k _ h.agrees.entries needs.0 refl
-    ∙ h.agrees.values (entry_place h.state.items k)
-    ∙ owner (held h.state.cells (entry_place h.state.items k)) (entry_place h.state.items k)
+home_of p m h (On_entry e) k class first count needs =
+    entry_number m.entries.items h.state.items e _ h.agrees.entries needs.0 refl
+    ∙ h.agrees.values (entry_place h.state.items e)
+    ∙ owner (held h.state.cells (entry_place h.state.items e)) (entry_place h.state.items e)
   where
     owner : (o : Option Object) (q : Place) → number o ≡ home_number (home_at o q)
     owner None q = refl
@@ -275,19 +275,19 @@ module _ (p : Image) (m : Parts) (h : At_hand p m) (class : Option ℕ) where
   worked_small None (Some o) q e worked there = absurd (false≢true worked)
   worked_small (Some c) (Some o) q e worked there = object_small p m h.state h.formed h.agrees o (held_lives h.state.cells q o h.typed.good.tidy e) (object_for p o.thing c worked)
 
-  home_small : (target : Target) (first count : ℕ) → AllTrue (needs_target p h.frame h.below h.state target class first count) → home_number (target_home p h.frame h.below h.state target class) ≢ null → home_number (target_home p h.frame h.below h.state target class) < 4096
-  home_small This first count needs = own class
+  home_small : (target : Target) (k first count : ℕ) → AllTrue (needs_target p h.frame h.below h.state target k class first count) → home_number (target_home p h.frame h.below h.state target class) ≢ null → home_number (target_home p h.frame h.below h.state target class) < 4096
+  home_small This k first count needs = own class
     where
       own : (class : Option ℕ) → home_number (own_home class h.frame.home) ≢ null → home_number (own_home class h.frame.home) < 4096
       own None there = absurd (there refl)
       own (Some c) there = subst (λ n. n < 4096) (this_is p m h) (by_top p m h (λ us. this_here us ≢ null → this_here us < 4096) (λ f ms top. top.frame.housed) (λ none. there (sym (this_is p m h) ∙ none)))
-  home_small (On_register r) first count needs = worked_small class (held h.state.cells (Register (length h.below) r)) (Register (length h.below) r) refl needs.1.1.0
-  home_small (On_field g) first count needs = worked_small class (held h.state.cells (field_place h.frame.home g)) (field_place h.frame.home g) refl needs.1.1.0
-  home_small (On_entry k) first count needs = worked_small class (held h.state.cells (entry_place h.state.items k)) (entry_place h.state.items k) refl needs.1.1.1.0
+  home_small (On_register r) k first count needs = worked_small class (held h.state.cells (Register (length h.below) r)) (Register (length h.below) r) refl needs.1.1.0
+  home_small (On_field g) k first count needs = worked_small class (held h.state.cells (field_place h.frame.home g)) (field_place h.frame.home g) refl needs.1.1.0
+  home_small (On_entry e) k first count needs = worked_small class (held h.state.cells (entry_place h.state.items e)) (entry_place h.state.items e) refl needs.1.1.1.0
 
-housed_by : (p : Image) (m : Parts) (h : At_hand p m) (target : Target) (class : Option ℕ) (first count : ℕ) → AllTrue (needs_target p h.frame h.below h.state target class first count) → target_here target class m ≡ home_number (target_home p h.frame h.below h.state target class)
+housed_by : (p : Image) (m : Parts) (h : At_hand p m) (target : Target) (k : ℕ) (class : Option ℕ) (first count : ℕ) → AllTrue (needs_target p h.frame h.below h.state target k class first count) → target_here target class m ≡ home_number (target_home p h.frame h.below h.state target class)
     → target_here target class m ≢ null → target_here target class m < 4096
-housed_by p m h target class first count needs home there = subst (λ n. n < 4096) (sym home) (home_small p m h class target first count needs (λ none. there (home ∙ none)))
+housed_by p m h target k class first count needs home there = subst (λ n. n < 4096) (sym home) (home_small p m h class target k first count needs (λ none. there (home ∙ none)))
 
 -- what a method that is called finds, over the caller or over a trap on it
 module _ (p : Image) (m : Parts) (h : At_hand p m) (trapped : Bool) (target : Target) (k first height : ℕ) where
@@ -316,11 +316,11 @@ module _ (p : Image) (m : Parts) (h : At_hand p m) (trapped : Bool) (target : Ta
   enters : (more : List Need) → AllTrue (needs_entering p h.frame h.below h.state target k first more) → (f : Held_frame) (ms : List Held_task) (top : Top m h.state h.frame h.below f ms)
       → Passing p trapped m.cells m.entries.items (others m) ms h.below h.frame called h.state top.deep (passed_on xs first f) (given xs first 0 f (fresh k this)) passed (passed_words p h.frame h.below h.state xs first) (0 + length xs)
   enters more needs f ms top =
-      let parts = all_parts (needs_target p h.frame h.below h.state target (method_class p k) first (length xs)) _ needs in
+      let parts = all_parts (needs_target p h.frame h.below h.state target k (method_class p k) first (length xs)) _ needs in
       let fits = entering_fits p h.frame h.below h.state target k first more needs in
       let each = (all_parts (needs_each p h.frame h.below h.state xs first) _ parts.1.1).0 in
-      let home = home_of p m h target (method_class p k) first (length xs) parts.0 in
-      let housed = housed_by p m h target (method_class p k) first (length xs) parts.0 home in
+      let home = home_of p m h target k (method_class p k) first (length xs) parts.0 in
+      let housed = housed_by p m h target k (method_class p k) first (length xs) parts.0 home in
       let s = h.state in
       let fr = h.frame in
       let ts = h.below in

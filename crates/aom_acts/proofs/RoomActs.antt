@@ -267,7 +267,7 @@ module _ (p : Image) (t : Typing) (depth heights : ℕ → ℕ) (tables : Tables
         (target : Target) (m first x : ℕ) → instr_at p fr.method fr.place ≡ Some (Call target m first x) → AllTrue (rule_needs p fr.method fr.place h.shape (Call target m first x)) →
         R (applied p fr ts s (Calls target m first))
     call_room target m first x stands n =
-        let parts = all_parts (rule_target p fr.method h.shape target (method_class p m) (is_construct (method_role p m)) first (length (arguments_of p m))) _ n in
+        let parts = all_parts (rule_target p fr.method h.shape target m (method_class p m) (is_construct (method_role p m)) first (length (arguments_of p m))) _ n in
         let more = all_parts (each_argument p h.shape (arguments_of p m) first) _ parts.1.1 in
         let view = target_view p fr ts s target (method_class p m) in
         let k = run_by p fr ts s target m in

@@ -88,7 +88,7 @@ module _ (p : Image) (m : ℕ) (linked : IsLinked p) (quiet : is_quiet p m ≡ t
 
   callee_quiet : (pc : ℕ) (sh : Shape) (target : Target) (k first c : ℕ) → AllTrue (rule_needs p m pc sh (Call target k first c)) → is_quiet p k ≡ true
   callee_quiet pc sh target k first c needs =
-      let targets = rule_target p m sh target (method_class p k) (is_construct (method_role p k)) first (length (arguments_of p k)) in
+      let targets = rule_target p m sh target k (method_class p k) (is_construct (method_role p k)) first (length (arguments_of p k)) in
       let moved = rest_true (rule_arguments p sh (arguments_of p k) first) _ (rest_true targets _ needs) in
       rw quiet at moved.1.0
 

@@ -111,11 +111,11 @@ module _ (p : Image) (m pc : ℕ) (sh : Shape) (i : ℕ) (is : register sh i ≡
   waiting_words : (x : Instr) → AllTrue (rule_needs p m pc sh x) → register (waiting_by p (ways_of p x) sh) i ≡ Word
   waiting_words (Call target m' first c) met =
       let xs = arguments_of p m' in
-      let later = (all_parts (rule_target p m sh target (method_class p m') (is_construct (method_role p m')) first (length xs)) _ met).1 in
+      let later = (all_parts (rule_target p m sh target m' (method_class p m') (is_construct (method_role p m')) first (length xs)) _ met).1 in
       call_words target m' first _ (all_parts (rule_arguments p sh xs first) (rule_moved p m (arguments_moved xs first sh) target m' c) later).0.1
   waiting_words (Trap target m' first c) met =
       let xs = arguments_of p m' in
-      let later = (all_parts (rule_target p m sh target (method_class p m') (is_construct (method_role p m')) first (length xs)) _ met.1).1 in
+      let later = (all_parts (rule_target p m sh target m' (method_class p m') (is_construct (method_role p m')) first (length xs)) _ met.1).1 in
       call_words target m' first _ (all_parts (rule_arguments p sh xs first) (rule_trapped p m pc sh (arguments_moved xs first sh) target m' c) later).0.1
   waiting_words (Delete a) met = emptied_words sh a i may_be_destroyed refl met.0 is
   waiting_words (Reply a b) met = emptied_words sh a i (is_own_for p Message) refl met.0 is

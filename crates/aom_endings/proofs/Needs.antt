@@ -173,13 +173,18 @@ module _ (names : ℕ → ℕ) (one_to_one : IsOneToOne names) (p : Image) (c : 
 
   -- ---- calls
 
-  pub target_kept : (target : Target) (class : Option ℕ) (first count : ℕ) → needs_target p fr' ts' s' target class first count ≡ needs_target p fr ts s target class first count
-  target_kept This class first count = refl
-  target_kept (On_register r) class first count =
+  -- of the first fields of what is worked on
+  filled_kept : (home : Home) (n : ℕ) → none_filled (renamed_cells names s.cells) (renamed_home names home) n ≡ none_filled s.cells home n
+  filled_kept home zero = refl
+  filled_kept home (suc n) = rw (field_at names one_to_one s.cells home n, filled_kept home n)
+
+  pub target_kept : (target : Target) (m : ℕ) (class : Option ℕ) (first count : ℕ) → needs_target p fr' ts' s' target m class first count ≡ needs_target p fr ts s target m class first count
+  target_kept This m class first count = rw (filled_kept fr.home (count_by p (parent_above p fr.method)))
+  target_kept (On_register r) m class first count =
       let o = held s.cells (Register (length ts) r) in
       rw (register_renamed names one_to_one s.cells ts r, some_kept names o, worked_kept names p class o)
-  target_kept (On_field f) class first count = rw (holder_kept names fr.home, held_field names one_to_one s.cells fr.home f, target_object_kept names p class (held s.cells (field_place fr.home f)))
-  target_kept (On_entry k) class first count = rw (held_renamed names one_to_one s.cells (entry_place s.items k), target_object_kept names p class (held s.cells (entry_place s.items k)))
+  target_kept (On_field f) m class first count = rw (holder_kept names fr.home, held_field names one_to_one s.cells fr.home f, target_object_kept names p class (held s.cells (field_place fr.home f)))
+  target_kept (On_entry k) m class first count = rw (held_renamed names one_to_one s.cells (entry_place s.items k), target_object_kept names p class (held s.cells (entry_place s.items k)))
 
   argument_kept : (x : Argument) (a : ℕ) → needs_argument p fr' ts' s' x a ≡ needs_argument p fr ts s x a
   argument_kept Takes_word a = refl
@@ -213,7 +218,7 @@ module _ (names : ℕ → ℕ) (one_to_one : IsOneToOne names) (p : Image) (c : 
   result_kept (Left x) cs a = refl
 
   entering_kept : (target : Target) (m first : ℕ) (more : List Need) → needs_entering p fr' ts' s' target m first more ≡ needs_entering p fr ts s target m first more
-  entering_kept target m first more = rw (target_kept target (method_class p m) first (length (arguments_of p m)), each_kept (arguments_of p m) first)
+  entering_kept target m first more = rw (target_kept target m (method_class p m) first (length (arguments_of p m)), each_kept (arguments_of p m) first)
 
   pub call_kept : (target : Target) (m first a : ℕ) → needs_call p fr' ts' s' target m first a ≡ needs_call p fr ts s target m first a
   call_kept target m first a =

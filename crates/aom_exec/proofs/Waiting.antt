@@ -294,7 +294,7 @@ module _ (p : Image) (t : Typing) (c : Choice) (s : State) (fr : Frame) (ts : Li
   calls depth m first ended target more deep needed is =
       let xs = arguments_of p m in
       let cs = passed_cells p fr ts s depth xs first 0 s.cells in
-      let parts = all_parts (needs_target p fr ts s target (method_class p m) first (length xs)) _ needed in
+      let parts = all_parts (needs_target p fr ts s target m (method_class p m) first (length xs)) _ needed in
       let each = (all_parts (needs_each p fr ts s xs first) more parts.1.1).0 in
       let moved_on = arguments_says p fr ts s depth xs first 0 s.cells h.shape deep each h.says in
       let says = called_says p fr ts s target (method_class p m) ended cs (arguments_moved xs first h.shape) moved_on in (

@@ -14,6 +14,7 @@ use Rattle.aom_image.specs.declared.method.Gives.TheVariants.{Nothing, Word as A
 use Rattle.aom_image.specs.declared.method.Role.{Role}
 use Rattle.aom_image.specs.declared.method.Role.TheVariants.{Main, Do, Construct, Destruct}
 use Rattle.aom_image.specs.declared.method.Thing.TheVariants.{Object}
+use Rattle.aom_classes.specs.Roles.{keeper_in, own_role, plays, role_number, role_of}
 use Rattle.aom_roles.specs.Families.{descends_in, parent_in}
 use Rattle.aom_rules.specs.Rules.{rule}
 use Rattle.aom_shape.specs.Arguments.{after_in}
@@ -166,6 +167,7 @@ leave_with_an_owner = refl
 -- and one that passes: the object is ready after its construct method, and the argument has moved
 construct_with_an_argument : rule (called_by (Some 1) Construct 0 (An_own_argument (Object 0) ∷ []) Nothing None 0) 1 0 (state (Own (Object 1) Fresh) (Own (Object 0) Ready) Empty) (Call (Register 0) 0 1 0) ≡ Ok ((1, state (Own (Object 1) Ready) Null Empty) ∷ [])
 unfolding called_by state method_at arguments_in role_in class_in quiet_in gives_in leaves_in descends_in parent_in class_at classes
+    role_of keeper_in own_role plays role_number
 construct_with_an_argument = refl
 
 -- ---- the cleanup stack, and leaves
@@ -261,6 +263,7 @@ left_at_return = refl
 
 constructed_on_the_stack : rule (called_by (Some 0) Construct 1 [] Nothing None 1) 1 0 (stacked Unset Unset (An_object 0 Fresh ∷ [])) (Call (On_entry 0) 0 0 0) ≡ Ok ((1, stacked Unset Unset (An_object 0 Ready ∷ [])) ∷ [])
 unfolding called_by stacked method_at arguments_in role_in class_in quiet_in gives_in leaves_in descends_in parent_in class_at classes
+    role_of keeper_in own_role plays role_number
 constructed_on_the_stack = refl
 
 trapped : rule (called_by None Do 1 [] (An_own (Object 0)) None 0) 1 0 (stacked Unset Null []) (Trap This 0 0 0) ≡ Ok ((1, stacked (Maybe (Object 0) Ready) Word []) ∷ [])

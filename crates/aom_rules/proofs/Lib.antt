@@ -11,3 +11,4 @@ pub mod RequestExamples
 pub mod NativeExamples
 pub mod MessageExamples
 pub mod FamilyExamples
+pub mod ConstructExamples

@@ -1,5 +1,5 @@
 -- The rules are monotone: each instruction's needs and flows, from a state to one that says more.
-use Rattle.std.proofs.Common.{arith, ◌≡◌, ◌≤◌, ℕ, zero, suc, Bool, true, false, not, IsTrue, sym, cond, ◌==◌, List, [], ◌∷◌, ◌++◌, length, Option, Some, None, inl, inr, refl, ap, ◌∙◌}
+use Rattle.std.proofs.Common.{arith, ◌≡◌, ◌≤◌, ℕ, zero, suc, Bool, true, false, not, ◌&&◌, IsTrue, sym, cond, ◌==◌, List, [], ◌∷◌, ◌++◌, length, Option, Some, None, inl, inr, refl, ap, ◌∙◌}
 use Rattle.std.proofs.lemmas.Bool.{false≢true, eqb-true}
 use Rattle.std.specs.Prelude.{bit_and, bit_or}
 use Rattle.aom_image.specs.Image.{Image}
@@ -16,11 +16,11 @@ use Rattle.aom_image.specs.declared.method.Thing.TheVariants.{Message, Object}
 use Rattle.aom_roles.specs.States.{active, active_states, cancel_done, cancel_open, idle, issued, server_states, unlisted}
 use Rattle.aom_rules.specs.Requests.{begins_here, flow_in, flow_narrowed, is_cancel, is_construct, is_service, may_begin, once_cancelled, resting, unissued}
 use Rattle.aom_site.specs.Site.{leave_point}
-use Rattle.aom_site.specs.Calls.{is_destructor, is_target, age_need, awaits, brought, caught, worked_on, while_called, argument_needs, each_argument, rule_target, rule_arguments, rule_moved, rule_trapped, fields_done, rule_ended, rule_left, rule_result, result_moved, lasting}
+use Rattle.aom_site.specs.Calls.{constructs_owned, empty_by, parent_above, is_destructor, is_target, age_need, awaits, brought, caught, worked_on, while_called, argument_needs, each_argument, rule_target, rule_arguments, rule_moved, rule_trapped, fields_done, rule_ended, rule_left, rule_result, result_moved, lasting}
 use Rattle.aom_shape.specs.Entries.{readied_at, without_top, with_entry, without_entry}
 use Rattle.aom_shape.specs.Arguments.{after_of, argument_moved, arguments_moved, before_of}
 use Rattle.aom_rules.specs.Cleanup.{owns_object, entry_of, top_kind}
-use Rattle.aom_shape.specs.Kinds.{register, field, set_register, set_field, filled, filling_of, is_here, is_object_or_null, none_owns, readied}
+use Rattle.aom_shape.specs.Kinds.{register, field, set_register, set_field, filled, filling_of, is_fresh_kind, is_here, is_object_or_null, none_owns, readied}
 use Rattle.aom_rules.specs.Laws.{AllFollow, Follows}
 use Rattle.aom_shape.specs.Needs.{Flow, Need, AllTrue, only_if}
 use Rattle.aom_rules.specs.Objects.{flow_jump_null, flow_jump_empty}
@@ -43,7 +43,7 @@ use Rattle.aom_shape.specs.declared.kind.Filling.TheVariants.{Empty, Full, Perha
 use Rattle.aom_rules.proofs.Ways.{Allows, allows}
 use Rattle.aom_shape.proofs.Lists.{at_put}
 use Rattle.aom_shape.proofs.Sets.{has_along, has_both, has_first, has_itself, has_second, has_shared, larger}
-use Rattle.aom_rules.proofs.Telling.{fresh_more, readied_more, word_more, unowning_more, object_or_null_more, destroyed_more, ready_more, own_more, may_be_more, declared_more, empty_more, filled_more, filling_more, none_owns_more, all_empty_more}
+use Rattle.aom_rules.proofs.Telling.{readied_more, word_more, unowning_more, object_or_null_more, destroyed_more, ready_more, own_more, may_be_more, declared_more, empty_more, filled_more, filling_more, none_owns_more, all_empty_more}
 
 -- what holds of two tables, entry by entry
 module _ {A : Type 0} (R : A → A → Type 0) (z : A) (xs ys : List A) (i : ℕ) (h : (j : ℕ) → R (at z xs j) (at z ys j)) where
@@ -128,26 +128,43 @@ all_true_both : (xs ys : List Need) → AllTrue xs → AllTrue ys → AllTrue (x
 all_true_both [] ys h k = k
 all_true_both (x ∷ xs) ys h k = (h.0, all_true_both xs ys h.1 k)
 
+only_if_more : (asked x y : Bool) → (x ≡ true → y ≡ true) → only_if asked x ≡ true → only_if asked y ≡ true
+only_if_more true x y f h = f h
+only_if_more false x y f h = h
+
 -- a call's target
 target_more : (p : Image) (class : Option ℕ) (k l : Kind) → Weaker k l → is_target p class k ≡ true → is_target p class l ≡ true
 target_more p None k l w h = h
 target_more p (Some c) k l w h = own_more p (Object c) k l w h
 
-age_more : (constructs : Bool) (k l : Kind) → Weaker k l → (age_need constructs k).0 ≡ true → (age_need constructs l).0 ≡ true
-age_more true k l w h = fresh_more k l w h
-age_more false k l w h = ready_more k l w h
+-- what is fresh is known to be owned, and of which class
+built_more : (p : Image) (m' : ℕ) (k l : Kind) → Weaker k l → (is_fresh_kind k && constructs_owned p m' k) ≡ true → (is_fresh_kind l && constructs_owned p m' l) ≡ true
+built_more p m' k l alike h = h
+built_more p m' _ _ _ h = absurd (false≢true h)
 
-called_on_more : (p : Image) (m : ℕ) (a b : Shape) (target : Target) (class : Option ℕ) (constructs : Bool) (first count : ℕ) → SaysNoMore a b → AllTrue (rule_target p m a target class constructs first count) → AllTrue (rule_target p m b target class constructs first count)
-called_on_more p m a b This class constructs first count h n = n
-called_on_more p m a b (Register r) class constructs first count h n = (
+age_more : (p : Image) (m' : ℕ) (constructs : Bool) (k l : Kind) → Weaker k l → (age_need p m' constructs k).0 ≡ true → (age_need p m' constructs l).0 ≡ true
+age_more p m' true k l w h = built_more p m' k l w h
+age_more p m' false k l w h = ready_more k l w h
+
+empty_by_more : (p : Image) (c : Option ℕ) (a b : Shape) → SaysNoMore a b → empty_by p c a.fields ≡ true → empty_by p c b.fields ≡ true
+empty_by_more p None a b h n = refl
+empty_by_more p (Some c) a b h n = all_empty_more (fields_of p c) a.fields b.fields h.fields n
+
+called_on_more :
+    (p : Image) (m : ℕ) (a b : Shape) (target : Target) (m' : ℕ) (class : Option ℕ) (constructs : Bool) (first count : ℕ) → SaysNoMore a b →
+    AllTrue (rule_target p m a target m' class constructs first count) → AllTrue (rule_target p m b target m' class constructs first count)
+called_on_more p m a b This m' class constructs first count h n =
+    let above = parent_above p m in
+    (n.0, (n.1.0, (only_if_more constructs (empty_by p above a.fields) (empty_by p above b.fields) (empty_by_more p above a b h) n.1.1.0, tt)))
+called_on_more p m a b (Register r) m' class constructs first count h n = (
   target_more p class (register a r) (register b r) (h.registers r) n.0,
-  (n.1.0, (age_more constructs (register a r) (register b r) (h.registers r) n.1.1.0, tt)),
+  (n.1.0, (age_more p m' constructs (register a r) (register b r) (h.registers r) n.1.1.0, tt)),
 )
-called_on_more p m a b (Field f) class constructs first count h n =
+called_on_more p m a b (Field f) m' class constructs first count h n =
     let o = field_thing p (holder_of p m) f in
     let w = filled_more o (field a f) (field b f) (h.fields f) in
-    (target_more p class (filled o (field a f)) (filled o (field b f)) w n.0, (age_more constructs (filled o (field a f)) (filled o (field b f)) w n.1.0, tt))
-called_on_more p m a b (On_entry k) class constructs first count h n = rw (← h.entries) n
+    (target_more p class (filled o (field a f)) (filled o (field b f)) w n.0, (age_more p m' constructs (filled o (field a f)) (filled o (field b f)) w n.1.0, tt))
+called_on_more p m a b (On_entry k) m' class constructs first count h n = rw (← h.entries) n
 
 -- its arguments
 argument_more : (p : Image) (x : Argument) (k l : Kind) → Weaker k l → AllTrue (argument_needs p x k) → AllTrue (argument_needs p x l)
@@ -176,10 +193,6 @@ awaits_more A_word k l w h = unowning_more k l w h
 awaits_more (An_own t) k l w h = unowning_more k l w h
 awaits_more (A_maybe t) k l w h = unowning_more k l w h
 awaits_more (Left c) k l w h = h
-
-only_if_more : (asked x y : Bool) → (x ≡ true → y ≡ true) → only_if asked x ≡ true → only_if asked y ≡ true
-only_if_more true x y f h = f h
-only_if_more false x y f h = h
 
 -- fewer request states, and the same message
 has_not_more : (s t x : ℕ) → IsTrue (has s t) → not (has s x) ≡ true → not (has t x) ≡ true
@@ -214,17 +227,17 @@ moved_needs_more p m a b target m' c h n =
 
 -- what a call and a trap ask of their target and of their arguments
 entering_more : (p : Image) (m : ℕ) (a b : Shape) (target : Target) (m' first : ℕ) (x y : List Need) → SaysNoMore a b → (AllTrue x → AllTrue y)
-    → AllTrue (rule_target p m a target (method_class p m') (is_construct (method_role p m')) first (length (arguments_of p m')) ++ (rule_arguments p a (arguments_of p m') first ++ x))
-    → AllTrue (rule_target p m b target (method_class p m') (is_construct (method_role p m')) first (length (arguments_of p m')) ++ (rule_arguments p b (arguments_of p m') first ++ y))
+    → AllTrue (rule_target p m a target m' (method_class p m') (is_construct (method_role p m')) first (length (arguments_of p m')) ++ (rule_arguments p a (arguments_of p m') first ++ x))
+    → AllTrue (rule_target p m b target m' (method_class p m') (is_construct (method_role p m')) first (length (arguments_of p m')) ++ (rule_arguments p b (arguments_of p m') first ++ y))
 entering_more p m a b target m' first x y h more n =
     let xs = arguments_of p m' in
     let class = method_class p m' in
     let constructs = is_construct (method_role p m') in
-    let one = rule_target p m a target class constructs first (length xs) in
+    let one = rule_target p m a target m' class constructs first (length xs) in
     let two = rule_arguments p a xs first in
     let rest = all_true_rest one (two ++ x) n in
     let args = all_true_first two x rest in
-    all_true_both (rule_target p m b target class constructs first (length xs)) (rule_arguments p b xs first ++ y) (called_on_more p m a b target class constructs first (length xs) h (all_true_first one (two ++ x) n))
+    all_true_both (rule_target p m b target m' class constructs first (length xs)) (rule_arguments p b xs first ++ y) (called_on_more p m a b target m' class constructs first (length xs) h (all_true_first one (two ++ x) n))
     (all_true_both (rule_arguments p b xs first) y (args.0, arguments_more p a b xs first h args.1) (more (all_true_rest two x rest)))
 
 call_more : (p : Image) (m pc : ℕ) (a b : Shape) (target : Target) (m' first c : ℕ) → SaysNoMore a b → AllTrue (rule_needs p m pc a (Call target m' first c)) → AllTrue (rule_needs p m pc b (Call target m' first c))

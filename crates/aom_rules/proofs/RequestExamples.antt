@@ -11,6 +11,7 @@ use Rattle.aom_image.specs.declared.method.Method.{Method}
 use Rattle.aom_image.specs.declared.method.Role.{Role}
 use Rattle.aom_image.specs.declared.method.Role.TheVariants.{Cancel, Construct, Destruct, Do, Service}
 use Rattle.aom_image.specs.declared.method.Thing.TheVariants.{Object}
+use Rattle.aom_classes.specs.Roles.{keeper_in, own_role, plays, role_number, role_of}
 use Rattle.aom_roles.specs.Families.{descends_in}
 use Rattle.aom_instructions.specs.declared.instr.Instr.TheVariants.{Abort, Call, Cancel as Cancels, Enlist, Issue, JumpActive, JumpAdded, Leave, Return, SetActive, Status, Trap}
 use Rattle.aom_instructions.specs.declared.instr.Target.TheVariants.{This, Register}
@@ -135,6 +136,7 @@ trapped_on_self = refl
 -- another object is constructed in its first state
 constructed_there : rule (running (active_do 11 11) (method Construct (Some 0) 0 1 3)) 0 0 (state (Own (Object 0) Fresh) 6 Here) (Call (Register 0) 1 1 1) ≡ Ok ((1, state (Own (Object 0) Ready) 6 Here) ∷ [])
 unfolding running active_do method state method_at arguments_in gives_in role_in class_in quiet_in leaves_in descends_in
+    role_of keeper_in own_role plays role_number
 constructed_there = refl
 
 -- ---- requests

@@ -38,9 +38,9 @@ passed_is {A = A} (x ∷ xs) a z e =
       | false ↦ λ e. absurd cc
     ] e
 
-module _ (p : Image) (m : ℕ) (sh : Shape) (target : Target) (first : ℕ) (d : Method) where
+module _ (p : Image) (m : ℕ) (sh : Shape) (target : Target) (m' first : ℕ) (d : Method) where
   abbrev of_target : List Need
-  of_target = rule_target p m sh target d.class (is_construct (Some d.role)) first (length d.arguments)
+  of_target = rule_target p m sh target m' d.class (is_construct (Some d.role)) first (length d.arguments)
 
   abbrev of_arguments : List Need
   of_arguments = rule_arguments p sh d.arguments first
@@ -49,7 +49,7 @@ module _ (p : Image) (m : ℕ) (sh : Shape) (target : Target) (first : ℕ) (d :
   moved = arguments_moved d.arguments first sh
 
   abbrev given : List Need
-  given = rule_given p m sh target d first
+  given = rule_given p m sh target m' d first
 
   pub target_refused : (w : Why) → tested of_target ≡ Err w → judged given moved ≡ Err w
   target_refused w e = failed_first of_target of_arguments tt moved w e
@@ -86,7 +86,7 @@ module _ (p : Image) (m : ℕ) (sh : Shape) (target : Target) (first : ℕ) (d :
 
 module _ (site : Site) (call : Call) (d : Method) (there : method_at site.image call.method ≡ Some d) where
   abbrev needs : List Need
-  needs = rule_given site.image site.method site.shape call.target d call.first
+  needs = rule_given site.image site.method site.shape call.target call.method d call.first
 
   abbrev after : Shape
   after = arguments_moved d.arguments call.first site.shape
@@ -97,7 +97,7 @@ module _ (site : Site) (call : Call) (d : Method) (there : method_at site.image 
   -- what is asked, by what is declared of the called method
   abbrev asks : (Shape → List Need) → Option ℕ → Option Role → List Argument → List Need
   asks rest class role xs =
-      rule_target site.image site.method site.shape call.target class (is_construct role) call.first (length xs)
+      rule_target site.image site.method site.shape call.target call.method class (is_construct role) call.first (length xs)
       ++ (rule_arguments site.image site.shape xs call.first
       ++ rest (arguments_moved xs call.first site.shape))
 
@@ -106,7 +106,7 @@ module _ (site : Site) (call : Call) (d : Method) (there : method_at site.image 
       ap (λ class. asks rest class (method_role site.image call.method) (arguments_of site.image call.method)) (class_there site.image call.method d there)
       ∙ ap (λ role. asks rest d.class role (arguments_of site.image call.method)) (role_there site.image call.method d there)
       ∙ ap (λ xs. asks rest d.class (Some d.role) xs) (arguments_there site.image call.method d there)
-      ∙ sym (append_assoc (of_target site.image site.method site.shape call.target call.first d) (of_arguments site.image site.method site.shape call.target call.first d) (rest after))
+      ∙ sym (append_assoc (of_target site.image site.method site.shape call.target call.method call.first d) (of_arguments site.image site.method site.shape call.target call.method call.first d) (rest after))
 
   -- ---- calls
 
@@ -122,8 +122,8 @@ module _ (site : Site) (call : Call) (d : Method) (there : method_at site.image 
   call_is : call_answer site call.target call.method call.first call.result ≡ judged (needs ++ of_moved after) (left_by_call after)
   call_is = ap (λ ns. judged ns (flow_call site.image site.method site.place site.shape call.target call.method call.first call.result)) (asked of_moved) ∙ ap (λ fs. judged (needs ++ of_moved after) fs) call_leaves
 
-  pub call_decides : Decides site.image site.method site.shape call.target call.first d of_moved left_by_call (call_answer site call.target call.method call.first call.result)
-  call_decides = decides site.image site.method site.shape call.target call.first d of_moved left_by_call (call_answer site call.target call.method call.first call.result) call_is
+  pub call_decides : Decides site.image site.method site.shape call.target call.method call.first d of_moved left_by_call (call_answer site call.target call.method call.first call.result)
+  call_decides = decides site.image site.method site.shape call.target call.method call.first d of_moved left_by_call (call_answer site call.target call.method call.first call.result) call_is
 
   -- ---- traps
 
@@ -145,5 +145,5 @@ module _ (site : Site) (call : Call) (d : Method) (there : method_at site.image 
     trap_is : trap_answer site call.target call.method call.first call.result ≡ judged (needs ++ of_trapped after) (left_by_trap after)
     trap_is = ap (λ ns. judged ns (flow_trap site.image site.method site.place site.shape call.target call.method call.first call.result)) trap_asks ∙ ap (λ fs. judged (needs ++ of_trapped after) fs) trap_leaves
 
-    pub trap_decides : Decides site.image site.method site.shape call.target call.first d of_trapped left_by_trap (trap_answer site call.target call.method call.first call.result)
-    trap_decides = decides site.image site.method site.shape call.target call.first d of_trapped left_by_trap (trap_answer site call.target call.method call.first call.result) trap_is
+    pub trap_decides : Decides site.image site.method site.shape call.target call.method call.first d of_trapped left_by_trap (trap_answer site call.target call.method call.first call.result)
+    trap_decides = decides site.image site.method site.shape call.target call.method call.first d of_trapped left_by_trap (trap_answer site call.target call.method call.first call.result) trap_is

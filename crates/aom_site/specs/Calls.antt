@@ -12,8 +12,11 @@ use Rattle.aom_image.specs.declared.method.Gives.{Gives}
 use Rattle.aom_image.specs.declared.method.Gives.TheVariants.{Nothing, Word as A_word, Own as An_own, Maybe as A_maybe, Left}
 use Rattle.aom_image.specs.declared.method.Method.{Method}
 use Rattle.aom_image.specs.declared.method.Role.{Role}
-use Rattle.aom_image.specs.declared.method.Role.TheVariants.{Destruct}
-use Rattle.aom_image.specs.declared.method.Thing.TheVariants.{Object}
+use Rattle.aom_image.specs.declared.method.Role.TheVariants.{Construct, Destruct}
+use Rattle.aom_image.specs.declared.method.Thing.{Thing}
+use Rattle.aom_image.specs.declared.method.Thing.TheVariants.{Object, Message}
+use Rattle.aom_classes.specs.Roles.{role_of}
+use Rattle.aom_roles.specs.Families.{parent_of}
 use Rattle.aom_roles.specs.States.{active, cancel_done}
 use Rattle.aom_site.specs.Requests.{is_cancel, is_construct, is_service, may_begin, resting, unissued}
 use Rattle.aom_shape.specs.Things.{Holder, Nobody, Program, Member, field_thing, stands_for, holder_of}
@@ -30,7 +33,7 @@ use Rattle.aom_shape.specs.declared.kind.Filling.{Filling}
 use Rattle.aom_shape.specs.declared.kind.Filling.TheVariants.{Perhaps}
 use Rattle.aom_shape.specs.declared.kind.Kind.{Kind}
 use Rattle.aom_shape.specs.declared.kind.Kind.TheVariants.{Word, Null, Own, Maybe}
-use Rattle.aom_shape.specs.declared.why.Why.TheVariants.{RegisterKind, OwnedAtLeave, OwnedAtReturn, CleanupAtReturn, PopEmpty, LeaveNotAllowed, FieldsLeft, NotFresh, StillFresh, IssuedAtLeave, IssuedAtReturn, StillActive, NotCancelled, MessageAtLeave, MessageAtReturn, EntryState, QuietBroken}
+use Rattle.aom_shape.specs.declared.why.Why.TheVariants.{RegisterKind, OwnedAtLeave, OwnedAtReturn, CleanupAtReturn, PopEmpty, LeaveNotAllowed, FieldNotNull, FieldsLeft, NotFresh, StillFresh, IssuedAtLeave, IssuedAtReturn, StillActive, NotCancelled, MessageAtLeave, MessageAtReturn, EntryState, QuietBroken}
 
 -- ---- calls
 
@@ -45,14 +48,54 @@ abbrev pub is_target : Image → Option ℕ → Kind → Bool
 is_target p None k = false
 is_target p (Some c) k = is_own_for p (Object c) k
 
--- a construct method works on a fresh object, another method on a ready one
-abbrev pub age_need : Bool → Kind → Need
-age_need true k = (is_fresh_kind k, NotFresh)
-age_need false k = (is_ready_kind k, StillFresh)
+-- there is such a method, and it is that one
+abbrev pub is_that : ℕ → Option ℕ → Bool
+is_that m None = false
+is_that m (Some k) = k == m
+
+-- it is the method that constructs an object of that class
+abbrev pub constructs_thing : Image → ℕ → Thing → Bool
+constructs_thing p m (Object c) = is_that m (role_of p c Construct)
+constructs_thing p m Message = false
+
+-- it is the one that constructs what is owned
+abbrev pub constructs_owned : Image → ℕ → Kind → Bool
+constructs_owned p m (Own t a) = constructs_thing p m t
+constructs_owned p m _ = false
+
+-- a construct method works on a fresh object of a class that it constructs, another method on a ready one
+abbrev pub age_need : Image → ℕ → Bool → Kind → Need
+age_need p m true k = (is_fresh_kind k && constructs_owned p m k, NotFresh)
+age_need p m false k = (is_ready_kind k, StillFresh)
 
 -- what is asked of an object that a method of that class is called on
-abbrev pub object_needs : Image → Option ℕ → Bool → Kind → List Need
-object_needs p class constructs k = (is_target p class k, RegisterKind) ∷ age_need constructs k ∷ []
+abbrev pub object_needs : Image → ℕ → Option ℕ → Bool → Kind → List Need
+object_needs p m class constructs k = (is_target p class k, RegisterKind) ∷ age_need p m constructs k ∷ []
+
+-- the parent of a class, if there is one
+abbrev pub parent_by : Image → Option ℕ → Option ℕ
+parent_by p None = None
+parent_by p (Some c) = parent_of p c
+
+abbrev pub constructs_class : Image → ℕ → Option ℕ → Bool
+constructs_class p m None = false
+constructs_class p m (Some c) = is_that m (role_of p c Construct)
+
+-- the fields that a class declares are null
+abbrev pub empty_by : Image → Option ℕ → List Filling → Bool
+empty_by p None xs = true
+empty_by p (Some c) xs = all_empty (fields_of p c) xs
+
+-- the parent of a method's class
+abbrev pub parent_above : Image → ℕ → Option ℕ
+parent_above p m = parent_by p (method_class p m)
+
+-- a construct is called on self by a construct alone, and is that of its class's parent, whose fields are null
+abbrev pub above_needs : Image → ℕ → ℕ → Bool → List Filling → List Need
+above_needs p m m' constructs xs =
+    (only_if constructs (is_construct (method_role p m) && constructs_class p m' (parent_above p m)), NotFresh)
+    ∷ (only_if constructs (empty_by p (parent_above p m) xs), FieldNotNull)
+    ∷ []
 
 -- the register is one of so many from the first on
 abbrev pub is_among : ℕ → ℕ → ℕ → Bool
@@ -111,22 +154,22 @@ abbrev pub rule_arguments : Image → Shape → List Argument → ℕ → List N
 rule_arguments p sh xs first = (nat_le (first + length xs) 16, RegisterKind) ∷ each_argument p sh xs first
 
 module _ (p : Image) (m : ℕ) (sh : Shape) where
-  -- what a method of that class is called on: itself, or an own object of its class that is no argument, fresh for a construct method and else ready
-  abbrev pub rule_target : Target → Option ℕ → Bool → ℕ → ℕ → List Need
-  rule_target This class constructs first count = (stands_here p (method_class p m) class, RegisterKind) ∷ (not constructs, NotFresh) ∷ []
-  rule_target (Register r) class constructs first count =
+  -- what a method of that number and that class is called on: itself, or an own object of its class that is no argument, fresh for a construct method and else ready
+  abbrev pub rule_target : Target → ℕ → Option ℕ → Bool → ℕ → ℕ → List Need
+  rule_target This m' class constructs first count = (stands_here p (method_class p m) class, RegisterKind) ∷ above_needs p m m' constructs sh.fields
+  rule_target (Register r) m' class constructs first count =
       (is_target p class (register sh r), RegisterKind)
       ∷ (not (is_among first count r), RegisterKind)
-      ∷ age_need constructs (register sh r)
+      ∷ age_need p m' constructs (register sh r)
       ∷ []
-  rule_target (Field f) class constructs first count =
+  rule_target (Field f) m' class constructs first count =
       (is_target p class (filled (field_thing p (holder_of p m) f) (field sh f)), RegisterKind)
-      ∷ age_need constructs (filled (field_thing p (holder_of p m) f) (field sh f))
+      ∷ age_need p m' constructs (filled (field_thing p (holder_of p m) f) (field sh f))
       ∷ []
-  rule_target (On_entry k) class constructs first count =
+  rule_target (On_entry k) m' class constructs first count =
       (nat_lt k (length sh.entries), PopEmpty)
       ∷ (is_target p class (entry_kind (at Operation sh.entries k)), RegisterKind)
-      ∷ age_need constructs (entry_kind (at Operation sh.entries k))
+      ∷ age_need p m' constructs (entry_kind (at Operation sh.entries k))
       ∷ []
 
   -- what is asked once the arguments have moved: the method may begin, a quiet method calls quiet ones, the result has a register, and where the called method may leave, this one may, and nothing is lost by that
@@ -142,9 +185,9 @@ module _ (p : Image) (m : ℕ) (sh : Shape) where
       ∷ []
 
 -- what is asked of what a method so declared is called on, and of its arguments
-abbrev pub rule_given : Image → ℕ → Shape → Target → Method → ℕ → List Need
-rule_given p m sh target d first =
-    rule_target p m sh target d.class (is_construct (Some d.role)) first (length d.arguments)
+abbrev pub rule_given : Image → ℕ → Shape → Target → ℕ → Method → ℕ → List Need
+rule_given p m sh target m' d first =
+    rule_target p m sh target m' d.class (is_construct (Some d.role)) first (length d.arguments)
     ++ rule_arguments p sh d.arguments first
 
 -- the method that an instruction calls is one of the image
@@ -162,7 +205,7 @@ HasCodeRegister _ = Unit {0}
 module _ (p : Image) (m : ℕ) (pc : ℕ) (sh : Shape) where
   abbrev pub rule_call : Target → ℕ → ℕ → ℕ → List Need
   rule_call target m' first c =
-      rule_target p m sh target (method_class p m') (is_construct (method_role p m')) first (length (arguments_of p m'))
+      rule_target p m sh target m' (method_class p m') (is_construct (method_role p m')) first (length (arguments_of p m'))
       ++ (rule_arguments p sh (arguments_of p m') first
       ++ rule_moved p m (arguments_moved (arguments_of p m') first sh) target m' c)
 
@@ -188,7 +231,7 @@ module _ (p : Image) (m : ℕ) (pc : ℕ) (sh : Shape) where
   abbrev pub rule_trap : Target → ℕ → ℕ → ℕ → List Need
   rule_trap target m' first c =
       (not (is_quiet p m), QuietBroken)
-      ∷ (rule_target p m sh target (method_class p m') (is_construct (method_role p m')) first (length (arguments_of p m'))
+      ∷ (rule_target p m sh target m' (method_class p m') (is_construct (method_role p m')) first (length (arguments_of p m'))
       ++ (rule_arguments p sh (arguments_of p m') first
       ++ rule_trapped (arguments_moved (arguments_of p m') first sh) target m' c))
 

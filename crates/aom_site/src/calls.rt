@@ -1,28 +1,32 @@
 //! The rules of calls and of returns.
 ghost use Rattle.std.specs.Prelude.{◌≡◌, ◌≤◌, ◌+◌, List, [], ◌∷◌, suc, ◌&&◌, nat_lt, IsSome, Some, length};
-ghost use Rattle.aom_image.specs.Views.{gives_of, method_at};
+ghost use Rattle.aom_image.specs.Views.{gives_of, method_at, method_role};
+ghost use Rattle.aom_image.specs.declared.method.Role.TheVariants.{Construct};
 ghost use Rattle.aom_image.specs.declared.method.Thing.TheVariants.{Object};
-ghost use Rattle.aom_site.specs.Calls.{stands_here, is_target, age_need, object_needs, is_among, awaits, brought, while_called, argument_needs, rule_arguments, rule_given, rule_target, rule_moved, caught, leaves_one, entries_done, rule_result, result_moved};
+ghost use Rattle.aom_classes.specs.Roles.{role_of};
+ghost use Rattle.aom_site.specs.Calls.{stands_here, is_target, is_that, constructs_thing, constructs_owned, constructs_class, empty_by, parent_above, age_need, object_needs, is_among, awaits, brought, while_called, argument_needs, rule_arguments, rule_given, rule_target, rule_moved, caught, leaves_one, entries_done, rule_result, result_moved};
 ghost use Rattle.aom_site.specs.Requests.{is_construct, may_begin};
 ghost use Rattle.aom_site.specs.Site.{call_answer, return_answer, trap_answer};
 ghost use Rattle.aom_instructions.specs.declared.instr.Target.TheVariants.{This, Register as OnRegister};
 ghost use Rattle.aom_shape.specs.Arguments.{arguments_moved};
 ghost use Rattle.aom_shape.specs.Changes.{next_shape, told};
 ghost use Rattle.aom_shape.specs.Kinds.{is_own_for, entry_kind, is_ready_kind, is_unowning, register};
-ghost use Rattle.aom_shape.specs.Needs.{judged, tested};
+ghost use Rattle.aom_shape.specs.Needs.{judged, only_if, tested};
 ghost use Rattle.aom_shape.specs.Tables.{at};
 ghost use Rattle.aom_shape.specs.declared.flow.Last.TheVariants.{Same};
 ghost use Rattle.aom_shape.specs.declared.kind.Entry.{Entry as EntryData};
 ghost use Rattle.aom_shape.specs.declared.kind.Entry.TheVariants.{Operation};
-ghost use Rattle.aom_shape.specs.declared.why.Why.TheVariants.{EntryState, RegisterKind, PopEmpty};
+ghost use Rattle.aom_shape.specs.declared.why.Why.TheVariants.{EntryState, FieldNotNull, NotFresh, RegisterKind, PopEmpty};
 
 use crate::requests::{is_construct, may_begin, resting, unissued};
 use crate::site::{Site, gives, is_quiet, leaves};
-use crate::things::{is_own_for, may_be, stands_for};
+use crate::things::{class_fields, is_own_for, may_be, stands_for};
 use aom_image::{
-    Argument, ClassNumber, EntryDepth, Gives, Method, MethodNumber, Register, States, Target, Thing,
+    Argument, ClassNumber, EntryDepth, Gives, Method, MethodNumber, Register, Role, States, Target,
+    Thing,
 };
 use aom_linked::Linked;
+use aom_roles::parent_of;
 use aom_shape::{Age, Entry, Flow, Kind, Next, Shape, Why, judge, judge_all, only_if};
 
 /// A call, as its instruction says it.
@@ -70,14 +74,63 @@ fn is_target(linked: &Linked, class: Option<ClassNumber>, kind: &Kind) -> bool
     }
 }
 
-/// A construct method works on a fresh object, another method on a ready one.
-fn age_need(constructs: bool, kind: &Kind) -> (bool, Why)
-    ensures { result ≡ age_need constructs kind.now }
+/// It is the method that constructs an object of that class.
+fn constructs_class(linked: &Linked, method: MethodNumber, class: ClassNumber) -> bool
+    ensures { result ≡ is_that method (role_of linked.now class Construct) }
+{
+    match linked.role(class, Role::Construct) {
+        None => false,
+        Some(construct) => construct.number() == method.number(),
+    }
+}
+
+fn constructs_thing(linked: &Linked, method: MethodNumber, thing: Thing) -> bool
+    ensures { result ≡ constructs_thing linked.now method thing }
+{
+    match thing {
+        Thing::Object(class) => constructs_class(linked, method, class),
+        Thing::Message => false,
+    }
+}
+
+/// It is the method that constructs what is owned.
+fn constructs_owned(linked: &Linked, method: MethodNumber, kind: &Kind) -> bool
+    ensures { result ≡ constructs_owned linked.now method kind.now }
+{
+    match *kind {
+        Kind::Unset | Kind::Word | Kind::Null | Kind::Maybe(_, _) => false,
+        Kind::Own(thing, _) => constructs_thing(linked, method, thing),
+    }
+}
+
+/// A construct method works on a fresh object of a class that it constructs, another method on a ready one.
+fn age_need(linked: &Linked, method: MethodNumber, constructs: bool, kind: &Kind) -> (bool, Why)
+    ensures { result ≡ age_need linked.now method constructs kind.now }
 {
     if constructs {
-        (kind.is_fresh(), Why::NotFresh)
+        let fresh = kind.is_fresh() && constructs_owned(linked, method, kind);
+        (fresh, Why::NotFresh)
     } else {
         (kind.is_ready(), Why::StillFresh)
+    }
+}
+
+fn constructs_above(linked: &Linked, method: MethodNumber, parent: Option<ClassNumber>) -> bool
+    ensures { result ≡ constructs_class linked.now method parent }
+{
+    match parent {
+        None => false,
+        Some(parent) => constructs_class(linked, method, parent),
+    }
+}
+
+/// The fields that a class declares are null.
+fn empty_by(linked: &Linked, class: Option<ClassNumber>, shape: &Shape<'_>) -> bool
+    ensures { result ≡ empty_by linked.now class shape.now.fields }
+{
+    match class {
+        None => true,
+        Some(class) => shape.are_empty(class_fields(linked, class)),
     }
 }
 
@@ -91,12 +144,17 @@ fn is_among(first: Register, count: usize, register: Register) -> bool
 }
 
 /// What is asked of an object that a method so declared is called on.
-fn judge_object(linked: &Linked, callee: &Method, kind: &Kind) -> Result<(), Why>
-    ensures { result ≡ tested (object_needs linked.now callee.now.class (is_construct (Some callee.now.role)) kind.now) }
+fn judge_object(
+    linked: &Linked,
+    method: MethodNumber,
+    callee: &Method,
+    kind: &Kind,
+) -> Result<(), Why>
+    ensures { result ≡ tested (object_needs linked.now method callee.now.class (is_construct (Some callee.now.role)) kind.now) }
 {
     let needs = [
         (is_target(linked, callee.class, kind), Why::RegisterKind),
-        age_need(is_construct(callee.role), kind),
+        age_need(linked, method, is_construct(callee.role), kind),
     ];
     judge_all(&needs)
 }
@@ -241,71 +299,114 @@ fn leaves_one(linked: &Linked, class: ClassNumber, shape: &Shape<'_>) -> bool
 
 impl<'a> Site<'a> {
     /// What is asked of the cleanup entry that the method is called on.
-    fn judge_entry(&self, number: EntryDepth, callee: &Method) -> Result<(), Why>
-        ensures { result ≡ tested ((nat_lt number (length self.now.shape.entries), PopEmpty) ∷ object_needs self.now.image callee.now.class (is_construct (Some callee.now.role)) (entry_kind (at Operation self.now.shape.entries number))) }
+    fn judge_entry(
+        &self,
+        number: EntryDepth,
+        method: MethodNumber,
+        callee: &Method,
+    ) -> Result<(), Why>
+        ensures { result ≡ tested ((nat_lt number (length self.now.shape.entries), PopEmpty) ∷ object_needs self.now.image method callee.now.class (is_construct (Some callee.now.role)) (entry_kind (at Operation self.now.shape.entries number))) }
     {
         match self.shape.entry(number.number() as usize) {
             None => Err(Why::PopEmpty),
-            Some(entry) => judge_object(self.linked, callee, &entry.kind()),
+            Some(entry) => judge_object(self.linked, method, callee, &entry.kind()),
         }
+    }
+
+    /// The parent of the method's class.
+    #[tactic(auto, using(aom_shape::proofs::Views::class_there))]
+    fn parent_above(&self) -> Option<ClassNumber>
+        ensures { result ≡ parent_above self.now.image self.now.method }
+    {
+        match self.linked.method(self.method).class {
+            None => None,
+            Some(class) => parent_of(self.linked.image(), class),
+        }
+    }
+
+    /// The method is a construct, and calls that of its class's parent.
+    #[tactic(auto, using(aom_shape::proofs::Views::role_there))]
+    fn calls_above(&self, method: MethodNumber) -> bool
+        ensures { result ≡ (is_construct (method_role self.now.image self.now.method) && constructs_class self.now.image method (parent_above self.now.image self.now.method)) }
+    {
+        let here = is_construct(self.linked.method(self.method).role);
+        here && constructs_above(self.linked, method, self.parent_above())
+    }
+
+    /// A construct is called on self by a construct alone, and is the one of the parent.
+    fn needs_above(&self, method: MethodNumber, constructs: bool) -> (bool, Why)
+        ensures { result ≡ (only_if constructs (is_construct (method_role self.now.image self.now.method) && constructs_class self.now.image method (parent_above self.now.image self.now.method)), NotFresh) }
+    {
+        if !constructs {
+            return (true, Why::NotFresh);
+        }
+        (self.calls_above(method), Why::NotFresh)
+    }
+
+    /// And the fields of the parent are null.
+    fn needs_empty_above(&self, constructs: bool) -> (bool, Why)
+        ensures { result ≡ (only_if constructs (empty_by self.now.image (parent_above self.now.image self.now.method) self.now.shape.fields), FieldNotNull) }
+    {
+        if !constructs {
+            return (true, Why::FieldNotNull);
+        }
+        let empty = empty_by(self.linked, self.parent_above(), self.shape);
+        (empty, Why::FieldNotNull)
     }
 
     /// What is asked where the method is called on the object that it works on itself.
     #[tactic(auto, using(aom_shape::proofs::Views::class_there))]
-    fn judge_this(&self, callee: &Method) -> Result<(), Why>
-        ensures { result ≡ tested (rule_target self.now.image self.now.method self.now.shape This callee.now.class (is_construct (Some callee.now.role)) 0 (length callee.now.arguments)) }
+    fn judge_this(&self, method: MethodNumber, callee: &Method) -> Result<(), Why>
+        ensures { result ≡ tested (rule_target self.now.image self.now.method self.now.shape This method callee.now.class (is_construct (Some callee.now.role)) 0 (length callee.now.arguments)) }
     {
         let here = self.linked.method(self.method).class;
+        let constructs = is_construct(callee.role);
         let needs = [
             (
                 stands_here(self.linked, here, callee.class),
                 Why::RegisterKind,
             ),
-            (!is_construct(callee.role), Why::NotFresh),
+            self.needs_above(method, constructs),
+            self.needs_empty_above(constructs),
         ];
         judge_all(&needs)
     }
 
     /// What is asked of a register that the method is called on.
-    fn judge_register(
-        &self,
-        register: Register,
-        first: Register,
-        callee: &Method,
-    ) -> Result<(), Why>
-        ensures { result ≡ tested (rule_target self.now.image self.now.method self.now.shape (OnRegister register) callee.now.class (is_construct (Some callee.now.role)) first (length callee.now.arguments)) }
+    fn judge_register(&self, register: Register, call: &Call, callee: &Method) -> Result<(), Why>
+        ensures { result ≡ tested (rule_target self.now.image self.now.method self.now.shape (OnRegister register) call.now.method callee.now.class (is_construct (Some callee.now.role)) call.now.first (length callee.now.arguments)) }
     {
         let kind = self.shape.register(register);
-        let is_argument = is_among(first, callee.arguments.len(), register);
+        let is_argument = is_among(call.first, callee.arguments.len(), register);
         let needs = [
             (
                 is_target(self.linked, callee.class, &kind),
                 Why::RegisterKind,
             ),
             (!is_argument, Why::RegisterKind),
-            age_need(is_construct(callee.role), &kind),
+            age_need(self.linked, call.method, is_construct(callee.role), &kind),
         ];
         judge_all(&needs)
     }
 
     /// What is asked of what the method is called on.
     fn judge_target(&self, call: &Call, callee: &Method) -> Result<(), Why>
-        ensures { result ≡ tested (rule_target self.now.image self.now.method self.now.shape call.now.target callee.now.class (is_construct (Some callee.now.role)) call.now.first (length callee.now.arguments)) }
+        ensures { result ≡ tested (rule_target self.now.image self.now.method self.now.shape call.now.target call.now.method callee.now.class (is_construct (Some callee.now.role)) call.now.first (length callee.now.arguments)) }
     {
         match call.target {
-            Target::This => self.judge_this(callee),
-            Target::Register(register) => self.judge_register(register, call.first, callee),
+            Target::This => self.judge_this(call.method, callee),
+            Target::Register(register) => self.judge_register(register, call, callee),
             Target::Field(field) => {
                 let kind = self.shape.field(field).kind(self.declared(field));
-                judge_object(self.linked, callee, &kind)
+                judge_object(self.linked, call.method, callee, &kind)
             }
-            Target::Entry(number) => self.judge_entry(number, callee),
+            Target::Entry(number) => self.judge_entry(number, call.method, callee),
         }
     }
 
     /// What is known once the arguments have moved, if what the method is called on and they are as they must be.
     fn given(&self, call: &Call, callee: &Method) -> Result<Shape<'a>, Why>
-        ensures { result ≡ judged (rule_given self.now.image self.now.method self.now.shape call.now.target callee.now call.now.first) (arguments_moved callee.now.arguments call.now.first self.now.shape) }
+        ensures { result ≡ judged (rule_given self.now.image self.now.method self.now.shape call.now.target call.now.method callee.now call.now.first) (arguments_moved callee.now.arguments call.now.first self.now.shape) }
     {
         let shape = self.shape;
         let arguments = callee.arguments.as_slice();

@@ -23,7 +23,7 @@ use Rattle.aom_sound.specs.Cases.Words.{WordsBite}
 use Rattle.aom_classes.specs.Roles.{keeper_in, own_role, plays, role_number, role_of}
 
 pub words_bite : WordsBite
-unfolding class_at gives_in instr_in method_at words_in descends_in parent_in
+unfolding class_at class_in gives_in instr_in method_at role_in words_in descends_in parent_in
 words_bite = record { words = refl; of_cells = refl; binary = refl; compared = refl }
 
 pub objects_bite : ObjectsBite
@@ -31,15 +31,15 @@ unfolding class_at fields_in gives_in instr_in method_at words_in role_in class_
 objects_bite = record { moves = refl; fields = refl; cells = refl }
 
 call_bites : CallBites Call
-unfolding arguments_in class_at class_in fields_in gives_in instr_in method_at descends_in parent_in
+unfolding arguments_in class_at class_in fields_in gives_in instr_in method_at role_in descends_in parent_in
 call_bites = record { this = refl; registers = refl; fields = refl; entries = refl; arguments = refl; results = refl }
 
 trap_bites : CallBites Trap
-unfolding arguments_in class_at class_in fields_in gives_in instr_in method_at descends_in parent_in
+unfolding arguments_in class_at class_in fields_in gives_in instr_in method_at role_in descends_in parent_in
 trap_bites = record { this = refl; registers = refl; fields = refl; entries = refl; arguments = refl; results = refl }
 
 pub calls_bite : CallsBite
-unfolding arguments_in class_at class_in fields_in gives_in instr_in method_at descends_in parent_in
+unfolding arguments_in class_at class_in fields_in gives_in instr_in method_at role_in descends_in parent_in
 calls_bite = record { calls = call_bites; traps = trap_bites; codes = refl }
 
 pub returns_bite : ReturnsBite

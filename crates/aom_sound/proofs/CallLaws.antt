@@ -72,7 +72,7 @@ module _ (p : Image) (t : Typing) (wired : IsWired p) (typed : IsTyped p t) (c :
   law_call target m first x here n leads =
       let ended = after_of p m in
       let called_so = wired.called fr.method fr.place target m first x here in
-      let parts = all_parts (rule_target p fr.method sh target (method_class p m) (is_construct (method_role p m)) first (length (arguments_of p m))) _ n in
+      let parts = all_parts (rule_target p fr.method sh target m (method_class p m) (is_construct (method_role p m)) first (length (arguments_of p m))) _ n in
       let more = all_parts (each_argument p sh (arguments_of p m) first) _ parts.1.1 in
       let deep : length (tasks_of ls) < suc (length (tasks_of ls)) = omega arith in
       let passed = all_passed p t fr ls depth deep s (arguments_of p m) first 0 s.cells sh [] [] refl more.0 (none_passed p t fr ls depth deep s.cells sh at_hand.good) in
@@ -100,7 +100,7 @@ module _ (p : Image) (t : Typing) (wired : IsWired p) (typed : IsTyped p t) (c :
         λ q. runs.quiet (only_then (is_quiet p fr.method) (is_quiet p m) more.1.1.0 q),
       ) in
       let high = same_high p t wired typed c s fr sh ls at_hand m first depth height deep called_so passed home sh' a.1 in (
-        all_join (needs_target p fr (tasks_of ls) s target (method_class p m) first (length (arguments_of p m))) _ a.0
+        all_join (needs_target p fr (tasks_of ls) s target m (method_class p m) first (length (arguments_of p m))) _ a.0
             (parts.1.0, all_join (needs_each p fr (tasks_of ls) s (arguments_of p m) first) _ (each_met p t c s fr sh ls at_hand (arguments_of p m) first more.0) (result_met p t wired typed c s fr sh ls at_hand m first depth height deep called_so passed (gives_of p m) x more.1.1.1.0)),
         enter p t wired typed c s fr sh ls at_hand m first depth height deep called_so passed home sh' (Method fr sh' ∷ ls) k view runs (λ x. x) a.1 refl (ap length (sym high) ∙ length_forms s.items) (λ d r. refl) (λ o. refl) a.1.housed a.1.apart (caller p t wired typed c s fr sh ls at_hand m first depth height deep called_so passed home sh' (Returns k home) a.1 stands) (does p c fr (tasks_of ls) s (Call target m first x)) refl refl high at_hand.undos,
       )
@@ -141,7 +141,7 @@ module _ (p : Image) (t : Typing) (wired : IsWired p) (typed : IsTyped p t) (c :
       let ended = resting p (method_class p m) in
       let trapped = wired.trapped fr.method fr.place target m first x here in
       let called_so : IsCalled p m = record { there = trapped.there; role = inl trapped.role; ends = trapped.ends; begins = λ e. let clash : Some Do ≡ Some Construct = sym trapped.role ∙ e in cc } in
-      let parts = all_parts (rule_target p fr.method sh target (method_class p m) (is_construct (method_role p m)) first (length (arguments_of p m))) _ n.1 in
+      let parts = all_parts (rule_target p fr.method sh target m (method_class p m) (is_construct (method_role p m)) first (length (arguments_of p m))) _ n.1 in
       let more = all_parts (each_argument p sh (arguments_of p m) first) _ parts.1.1 in
       let deep : length (tasks_of ls) < suc (suc (length (tasks_of ls))) = omega arith in
       let passed = all_passed p t fr ls depth deep s (arguments_of p m) first 0 s.cells sh [] [] refl more.0 (none_passed p t fr ls depth deep s.cells sh at_hand.good) in
@@ -165,7 +165,7 @@ module _ (p : Image) (t : Typing) (wired : IsWired p) (typed : IsTyped p t) (c :
       let high = same_high p t wired typed c s fr sh ls at_hand m first depth height deep called_so passed home sh' a.1 in
       let below = caller p t wired typed c s fr sh ls at_hand m first depth height deep called_so passed home sh' (Caught gv) a.1 stands in
       let free = result_free p t wired typed c s fr sh ls at_hand m first depth height deep called_so passed (suc x) more.1.1.1.0 in (
-        all_join (needs_target p fr (tasks_of ls) s target (method_class p m) first (length (arguments_of p m))) _ a.0 (
+        all_join (needs_target p fr (tasks_of ls) s target m (method_class p m) first (length (arguments_of p m))) _ a.0 (
           parts.1.0,
           all_join (needs_each p fr (tasks_of ls) s (arguments_of p m) first) _ (each_met p t c s fr sh ls at_hand (arguments_of p m) first more.0)
               (all_join (needs_result p fr (tasks_of ls) s gv (given_cells p fr (tasks_of ls) s (over_trap p fr (tasks_of ls) s) m first) x) _ (result_met p t wired typed c s fr sh ls at_hand m first depth height deep called_so passed gv x more.1.1.0) (free, tt)),

@@ -1,6 +1,6 @@
 -- A method is called, plainly or under a trap: on its caller's own object, on what a register, a field or a cleanup entry owns, or on nothing.
 use Rattle.std.proofs.Common.{[], Bool, IsTrue, List, None, Option, Some, ap, arith, cond, false, inl, inr, length, refl, subst, suc, sym, true, ℕ, ℤ, ◌&&◌, ◌+◌, ◌-◌, ◌<◌, ◌==◌, ◌∙◌, ◌∷◌, ◌≡◌, ◌≤◌}
-use Rattle.std.proofs.lemmas.Bool.{eq-eqb, eqb-true, ltb-true, ne_eqb, true≢false}
+use Rattle.std.proofs.lemmas.Bool.{and_parts, eq-eqb, eqb-true, ltb-true, ne_eqb, true≢false}
 use Rattle.std.specs.Prelude.{is_none, is_some, map, not, replicate, ◌⊎◌}
 use Rattle.aom_image.specs.Image.{Image}
 use Rattle.aom_image.specs.Views.{arguments_of, has, method_class, method_role}
@@ -12,7 +12,7 @@ use Rattle.aom_image.specs.declared.method.Gives.TheVariants.{Left, Nothing}
 use Rattle.aom_image.specs.declared.method.Role.TheVariants.{Construct, Do}
 use Rattle.aom_image.specs.declared.method.Thing.{Thing}
 use Rattle.aom_image.specs.declared.method.Thing.TheVariants.{Message as A_message, Object as An_object_of}
-use Rattle.aom_rules.specs.Calls.{age_need, awaits, is_among, is_target, rule_target, stands_here, while_called}
+use Rattle.aom_rules.specs.Calls.{age_need, awaits, constructs_owned, is_among, is_target, rule_target, stands_here, while_called}
 use Rattle.aom_rules.specs.Requests.{begins_here, begins_there, is_cancel, is_construct, is_service, may_begin, resting}
 use Rattle.aom_shape.specs.Arguments.{argument_kind, arguments_moved, before_of, entry_fields, entry_shape}
 use Rattle.aom_shape.specs.Kinds.{is_own_for, entry_kind, field, filled, is_fresh_kind, is_object_or_null, is_ready_kind, is_unowning, readied, register, set_register}
@@ -37,6 +37,7 @@ use Rattle.aom_sound.proofs.Items.{begins_well, entry_claimed, entry_owns, entry
 use Rattle.aom_sound.proofs.Jumps.{words_kept}
 use Rattle.aom_sound.proofs.Maps.{at-put_at, held_lives, same_place-true}
 use Rattle.aom_sound.proofs.Passing.{Passed, filled_weaker_below, filling, lower, under, upper}
+use Rattle.aom_sound.proofs.Raising.{parents_met, raised}
 use Rattle.aom_sound.proofs.Straight.{At, claim_field, claim_register, field_fits, field_not_from, field_outside, fits_unowning, kind_fits, top, word_of_object}
 use Rattle.aom_sound.proofs.Overriders.{RunsFor, begins_as}
 use Rattle.aom_sound.proofs.Things.{stands_along}
@@ -50,7 +51,7 @@ use Rattle.aom_sound.specs.Laws.{IsCalled, IsWired}
 use Rattle.aom_sound.specs.Places.{In_service, Cell, Elsewhere, Entry, Field, Going, Object, Place, Register, Root, held, named, requested, same_place, seen}
 use Rattle.aom_sound.specs.State.{AtRoot, Choice, Frame, Home, Inside, Run, State, Static, WrongKind, field_place, frame_as, home_holder, home_view, thing_holder, word}
 use Rattle.aom_sound.specs.WellTyped.{CountsAs, Houses, IsServed, AllUndo, Awaits, Back, Fits, Good, Holds, IsApart, IsBelow, IsHoused, IsNoFieldOf, NotIn, Returns, Stack, Stands, Unclaimed, WellTyped, WordFits, WorksOn, by_field}
-use Rattle.aom_sound.proofs.Callees.{apart_from, below_more, filled_ready, fits_fresh, held_own, holder_called, holder_member, holder_static, home_member, member_kind, moved_entries, moved_register, own_for, passed_elsewhere}
+use Rattle.aom_sound.proofs.Callees.{apart_from, below_more, filled_ready, fits_fresh, held_own, holder_called, holder_member, holder_static, home_member, member_kind, moved_entries, moved_fields, moved_register, own_for, passed_elsewhere}
 use Rattle.aom_sound.specs.Requests.{AllSuit, Known, Suits, Unworked, known_at, resting_in, rests_in, states_claim, thing_kind, works_at}
 use Rattle.aom_roles.specs.Shapes.{kind_of}
 use Rattle.aom_sound.proofs.Suiting.{known_plain, same_object, suits_first, suits_less, unworked_rests}
@@ -78,11 +79,15 @@ module _ (p : Image) (t : Typing) (wired : IsWired p) (typed : IsTyped p t) (c :
   abbrev callee : ℕ → Option ℕ → Home → Frame
   callee k view home = record (frame_as k home view height) { words = ws }
 
-  -- the fields of what the called method works on are as its first state says
+  -- what may run in the place of the method called: nothing else where it constructs
+  abbrev MayRun : ℕ → Object → Type 0
+  MayRun k o = Houses p (thing_holder o.thing) (holder_of p k) × (method_role p m ≡ Some Construct → k ≡ m)
+
+  -- the fields that its class declares are as the first state says
   abbrev FieldsBegin : Home → Type 0
   FieldsBegin Static = Unit {0}
   FieldsBegin AtRoot = ⊥
-  FieldsBegin (Inside o from) = (f : ℕ) → Fits p (seen cs) (held cs (Field o.name f)) (filled (field_thing p (thing_holder o.thing) f) (field (entry_shape p m) f))
+  FieldsBegin (Inside o from) = (k : ℕ) → MayRun k o → (f : ℕ) (x : Thing) → field_thing p (holder_of p k) f ≡ Some x → Fits p (seen cs) (held cs (Field o.name f)) (filled (Some x) (field (entry_shape p m) f))
 
   -- what is known of the object that it works on as it begins, over its caller in that state
   abbrev known_there : Object → Shape → ℕ → Known
@@ -131,7 +136,7 @@ module _ (p : Image) (t : Typing) (wired : IsWired p) (typed : IsTyped p t) (c :
 
     -- the first state of the called method over its caller
     begins :
-        {ended : ℕ} (k : ℕ) (home : Home) (sh' : Shape) → Entering ended home sh' → Houses p (home_holder home) (holder_of p k) → serves p k ≡ false → (after : Shape) → SaysNoMore after (entry_shape p m) → (r : Place) →
+        {ended : ℕ} (k : ℕ) (home : Home) (sh' : Shape) → Entering ended home sh' → Houses p (home_holder home) (holder_of p k) × (method_role p m ≡ Some Construct → k ≡ m) → serves p k ≡ false → (after : Shape) → SaysNoMore after (entry_shape p m) → (r : Place) →
         Fits p (seen cs) (held cs r) (claims_over k home after sh' r)
     begins k home sh' e housing silent after w (Register f i) = go (depth == f) (e.fits (Register f i))
       where
@@ -146,16 +151,15 @@ module _ (p : Image) (t : Typing) (wired : IsWired p) (typed : IsTyped p t) (c :
         below : Kind
         below = claim p (declared p cs) (Method fr sh' ∷ ls) (Field n f)
 
-        go : (home : Home) → Houses p (home_holder home) (holder_of p k) → FieldsBegin home → Fits p (seen cs) (held cs (Field n f)) (home_claim p (holder_of p k) home after n f below)
-        go Static houses b = e.fits (Field n f)
-        go AtRoot houses b = e.fits (Field n f)
-        go (Inside o from) houses b = inside (o.name == n) refl (field_thing p (holder_of p k) f) refl
+        go : (home : Home) → Houses p (home_holder home) (holder_of p k) × (method_role p m ≡ Some Construct → k ≡ m) → FieldsBegin home → Fits p (seen cs) (held cs (Field n f)) (home_claim p (holder_of p k) home after n f below)
+        go Static may b = e.fits (Field n f)
+        go AtRoot may b = e.fits (Field n f)
+        go (Inside o from) may b = inside (o.name == n) refl (field_thing p (holder_of p k) f) refl
           where
             inside : (at : Bool) → (o.name == n) ≡ at → (own : Option Thing) → field_thing p (holder_of p k) f ≡ own → Fits p (seen cs) (held cs (Field n f)) (cond at (own_field own (field after f) below) below)
             inside true same (Some x) is =
                 subst (λ j. Fits p (seen cs) (held cs (Field j f)) (filled (Some x) (field after f))) (eqb-true o.name n same)
-                (fits_weaker p (seen cs) (held cs (Field o.name f)) (filled_weaker (Some x) (w.fields f))
-                (subst (λ y. Fits p (seen cs) (held cs (Field o.name f)) (filled y (field (entry_shape p m) f))) (houses.fields f x is) (b f)))
+                (fits_weaker p (seen cs) (held cs (Field o.name f)) (filled_weaker (Some x) (w.fields f)) (b k may f x is))
             inside true same None is = e.fits (Field n f)
             inside false other own is = e.fits (Field n f)
     begins k home sh' e housing silent after w (Elsewhere Root) = go home e.fields
@@ -214,7 +218,7 @@ module _ (p : Image) (t : Typing) (wired : IsWired p) (typed : IsTyped p t) (c :
             apart,
             stack,
           );
-          fits = λ r. subst (λ k. Fits p (seen cs) (held cs r) k) (sym (as_begun leads.0 w r)) (begins k home sh' e runs.holder silent leads.0 w r);
+          fits = λ r. subst (λ k. Fits p (seen cs) (held cs r) k) (sym (as_begun leads.0 w r)) (begins k home sh' e (runs.holder, runs.only) silent leads.0 w r);
           suits = begun_suits home sh' over leads.0 w.states housed same_states e.begun (λ x lives other. subst (λ k. Suits (thing_kind p x.thing) k (requested cs x.name)) (sym (same_states x)) (e.suits x lives other)) k view plain;
           tidy = passed.tidy;
         } in
@@ -250,16 +254,30 @@ module _ (p : Image) (t : Typing) (wired : IsWired p) (typed : IsTyped p t) (c :
     do_fields :
         (o : Object) (from : Place) (sh' : Shape) → ((r : Place) → Fits p (seen cs) (held cs r) (filling p t fr ls depth deep (declared p cs) regs sh' r)) → named cs o.name ≡ Some o →
         IsApart p (Inside o from) (Method fr sh' ∷ ls) → method_role p m ≡ Some Do → FieldsBegin (Inside o from)
-    do_fields o from sh' fits lives apart role f =
-        let x = field_thing p (thing_holder o.thing) f in
+    do_fields o from sh' fits lives apart role k may f x is =
         let claims = claim_unclaimed p (declared p cs) (Method fr sh' ∷ ls) o.name f (λ f. filled (field_thing p (thing_holder o.thing) f) Perhaps) apart.2 (ap (λ y. declared_field p y f) lives) in
-        subst (λ y. Fits p (seen cs) (held cs (Field o.name f)) (filled x y)) (sym (ap (λ r. at Perhaps (entry_fields r) f) role ∙ at_alike 8 Perhaps f))
-        (subst (λ k. Fits p (seen cs) (held cs (Field o.name f)) k) claims (fits (Field o.name f)))
+        subst (λ y. Fits p (seen cs) (held cs (Field o.name f)) (filled (Some x) y)) (sym (ap (λ r. at Perhaps (entry_fields r) f) role ∙ at_alike 8 Perhaps f))
+        (subst (λ v. Fits p (seen cs) (held cs (Field o.name f)) v) (claims ∙ ap (λ y. filled y Perhaps) (may.0.fields f x is)) (fits (Field o.name f)))
 
-    construct_fields : (o : Object) (from : Place) → ((f : ℕ) → held cs (Field o.name f) ≡ None) → method_role p m ≡ Some Construct → FieldsBegin (Inside o from)
-    construct_fields o from null role f =
-        subst (λ y. Fits p (seen cs) (held cs (Field o.name f)) (filled (field_thing p (thing_holder o.thing) f) y)) (sym (ap (λ r. at Perhaps (entry_fields r) f) role))
-        (subst (λ y. Fits p (seen cs) y (filled (field_thing p (thing_holder o.thing) f) (at Perhaps (replicate 8 Empty) f))) (sym (null f)) (fits_fresh p (seen cs) (field_thing p (thing_holder o.thing) f) 8 f))
+    -- the fields of the called method's class are null
+    abbrev AllNull : Object → Type 0
+    AllNull o = (f : ℕ) (x : Thing) → field_thing p (holder_of p m) f ≡ Some x → held cs (Field o.name f) ≡ None
+
+    construct_fields : (o : Object) (from : Place) → AllNull o → method_role p m ≡ Some Construct → FieldsBegin (Inside o from)
+    construct_fields o from null role k may f x is =
+        let none = null f x (ap (λ j. field_thing p (holder_of p j) f) (sym (may.1 role)) ∙ is) in
+        subst (λ y. Fits p (seen cs) (held cs (Field o.name f)) (filled (Some x) y)) (sym (ap (λ r. at Perhaps (entry_fields r) f) role))
+        (subst (λ y. Fits p (seen cs) y (filled (Some x) (at Perhaps (replicate 8 Empty) f))) (sym none) (fits_fresh p (seen cs) (Some x) 8 f))
+
+    -- it is a plain method, or a construct that finds them null
+    abbrev Starts : Object → Type 0
+    Starts o = method_role p m ≡ Some Do ⊎ ((method_role p m ≡ Some Construct) × AllNull o)
+
+    start_fields :
+        (o : Object) (from : Place) (sh' : Shape) → ((r : Place) → Fits p (seen cs) (held cs r) (filling p t fr ls depth deep (declared p cs) regs sh' r)) → named cs o.name ≡ Some o →
+        IsApart p (Inside o from) (Method fr sh' ∷ ls) → Starts o → FieldsBegin (Inside o from)
+    start_fields o from sh' fits lives apart (inl role) = do_fields o from sh' fits lives apart role
+    start_fields o from sh' fits lives apart (inr w) = construct_fields o from w.1 w.0
 
     -- it is a plain call, or it constructs what is fresh
     abbrev Ages : Age → Type 0
@@ -270,15 +288,14 @@ module _ (p : Image) (t : Typing) (wired : IsWired p) (typed : IsTyped p t) (c :
     fresh_one o z a here (inl role) = inl role
     fresh_one o z a here (inr w) = inr (w.0, (subst (λ a. Fits p (seen cs) (Some o) (Own z a)) w.1 here).1.1)
 
-    begins_fields :
-        (o : Object) (from : Place) (sh' : Shape) (z : Thing) (a : Age) → ((r : Place) → Fits p (seen cs) (held cs r) (filling p t fr ls depth deep (declared p cs) regs sh' r)) → named cs o.name ≡ Some o →
-        IsApart p (Inside o from) (Method fr sh' ∷ ls) → Fits p (seen cs) (Some o) (Own z a) → Ages a → FieldsBegin (Inside o from)
-    begins_fields o from sh' z a fits lives apart here (inl role) = do_fields o from sh' fits lives apart role
-    begins_fields o from sh' z a fits lives apart here (inr w) = construct_fields o from (subst (λ a. Fits p (seen cs) (Some o) (Own z a)) w.1 here).1.0 w.0
+    -- and finds its fields null
+    starts_fresh : (o : Object) (z : Thing) (a : Age) → Fits p (seen cs) (Some o) (Own z a) → Ages a → Starts o
+    starts_fresh o z a here (inl role) = inl role
+    starts_fresh o z a here (inr w) = inr (w.0, λ f x is. (subst (λ a. Fits p (seen cs) (Some o) (Own z a)) w.1 here).1.0 f)
 
     -- what a target asks, and how the method begins
     abbrev Begun : ℕ → Target → Type 0
-    Begun ended target = AllTrue (needs_target p fr (tasks_of ls) s target (method_class p m) first (length xs)) × Entering ended (target_home p fr (tasks_of ls) s target (method_class p m)) (while_called target (method_class p m) ended after_arguments)
+    Begun ended target = AllTrue (needs_target p fr (tasks_of ls) s target m (method_class p m) first (length xs)) × Entering ended (target_home p fr (tasks_of ls) s target (method_class p m)) (while_called target (method_class p m) ended after_arguments)
 
     -- and what its object counts as
     abbrev Answer : ℕ → Target → Type 0
@@ -351,9 +368,9 @@ module _ (p : Image) (t : Typing) (wired : IsWired p) (typed : IsTyped p t) (c :
 
     -- a method of the caller's own object
     on_own :
-        (ended : ℕ) (k b : ℕ) (o : Object) (from : Place) → fr.home ≡ Inside o from → thing_holder o.thing ≡ Member b → descends p b k ≡ true → method_class p m ≡ Some k → method_role p m ≡ Some Do →
+        (ended : ℕ) (k b : ℕ) (o : Object) (from : Place) → fr.home ≡ Inside o from → thing_holder o.thing ≡ Member b → descends p b k ≡ true → method_class p m ≡ Some k → Starts o →
         IsTrue (has (before_of p m) after_arguments.states) → Entering ended (Inside o from) (worked ended)
-    on_own ended k b o from eh member stands class role before =
+    on_own ended k b o from eh member stands class starts before =
         let holds : Holds p cs ls o from = subst (λ h. IsHoused p cs ls h) eh passed.housed in
         let apart : IsApart p (Inside o from) ls = subst (λ h. IsApart p h ls) eh at_hand.good.stack.3 in
         let apart' : IsApart p (Inside o from) (Method fr (worked ended) ∷ ls) = (apart.0, (subst (λ h. NotIn o.name h) (sym eh) apart.0, apart.1), own_fields, inl own_home_works) in
@@ -367,7 +384,7 @@ module _ (p : Image) (t : Typing) (wired : IsWired p) (typed : IsTyped p t) (c :
           holder = subst (λ h. Houses p h (holder_of p m)) (sym member) (subst (λ h. Houses p (Member b) h) (sym (ap (λ c. holder_by (method_role p m) c) class ∙ holder_called (method_role p m) k is_called.role)) (houses_family p wired.family b k stands));
           owning = λ i. refl;
           items = ap (λ es. objects es (items_of ls)) (moved_entries xs first sh);
-          fields = do_fields o from (worked ended) fits holds.lives apart' role;
+          fields = start_fields o from (worked ended) fits holds.lives apart' starts;
           suits = other_suits;
           begun = (own_begun holds.lives, member_kind p o.thing b member ∙ wired.family.kinds b k stands ∙ ap (kind_of p) (sym class));
           settles = λ x q e w. refl;
@@ -421,12 +438,12 @@ module _ (p : Image) (t : Typing) (wired : IsWired p) (typed : IsTyped p t) (c :
         of_family A_message stands = cc
 
     -- a construct method works on a fresh object, another on a ready one
-    age_of : (k : Kind) → AllTrue (age_need (is_construct (method_role p m)) k ∷ []) → (method_role p m ≡ Some Do) ⊎ ((method_role p m ≡ Some Construct) × (is_fresh_kind k ≡ true))
+    age_of : (k : Kind) → AllTrue (age_need p m (is_construct (method_role p m)) k ∷ []) → (method_role p m ≡ Some Do) ⊎ ((method_role p m ≡ Some Construct) × (is_fresh_kind k ≡ true))
     age_of k n = go is_called.role
       where
         go : (method_role p m ≡ Some Do) ⊎ (method_role p m ≡ Some Construct) → (method_role p m ≡ Some Do) ⊎ ((method_role p m ≡ Some Construct) × (is_fresh_kind k ≡ true))
         go (inl e) = inl e
-        go (inr e) = inr (e, ap (λ r. (age_need (is_construct r) k).0) (sym e) ∙ n.0)
+        go (inr e) = inr (e, (and_parts (is_fresh_kind k) (constructs_owned p m k) (ap (λ r. (age_need p m (is_construct r) k).0) (sym e) ∙ n.0)).0)
 
     -- what a register owns
     module _ (r y : ℕ) (class : method_class p m ≡ Some y) (z : Thing) (a : Age) (kind : register sh r ≡ Own z a) (for : stands_for p z (An_object_of y) ≡ true)
@@ -474,7 +491,7 @@ module _ (p : Image) (t : Typing) (wired : IsWired p) (typed : IsTyped p t) (c :
         holder = target_holder y owned.0 z class owned.2 for;
         owning = owning;
         items = ap (λ es. objects es (items_of ls)) (moved_entries xs first sh);
-        fields = begins_fields owned.0 q readied_shape z a fits lives apart_so here_fits ages;
+        fields = start_fields owned.0 q readied_shape fits lives apart_so (starts_fresh owned.0 z a here_fits ages);
       }
         where
           there : held cs q ≡ Some owned.0
@@ -629,7 +646,7 @@ module _ (p : Image) (t : Typing) (wired : IsWired p) (typed : IsTyped p t) (c :
         holder = target_holder y piled.0 z class piled.2 for;
         owning = λ i. refl;
         items = same_items;
-        fields = begins_fields piled.0 pile readied_pile z a fits lives apart_so here_fits ages;
+        fields = start_fields piled.0 pile readied_pile fits lives apart_so (starts_fresh piled.0 z a here_fits ages);
       }
         where
           same_items : objects readied_pile.entries (items_of ls) ≡ objects sh.entries (items_of ls)
@@ -680,25 +697,25 @@ module _ (p : Image) (t : Typing) (wired : IsWired p) (typed : IsTyped p t) (c :
 
     -- each kind of target
     on_this :
-        (ended : ℕ) (k : Option ℕ) → method_class p m ≡ k → AllTrue (rule_target p fr.method sh This (method_class p m) (is_construct (method_role p m)) first (length xs)) →
+        (ended : ℕ) (k : Option ℕ) → method_class p m ≡ k → AllTrue (rule_target p fr.method sh This m (method_class p m) (is_construct (method_role p m)) first (length xs)) →
         may_begin p m This after_arguments.states ≡ true → Answer ended This
     on_this ended None e n may =
         let begun = on_nothing ended e in (
           (
-            (ap (λ k. works_on p k fr.view) e, tt),
+            (ap (λ k. works_on p k fr.view) e, (parents_met p t wired s fr sh ls at_hand m (is_construct (method_role p m)) n.1, tt)),
             subst (λ k. Entering ended (own_home k fr.home) (while_called This k ended after_arguments)) (sym e) begun,
           ),
           subst (λ k. CountsAs p (home_holder (own_home k fr.home)) (own_view k fr.view) (holder_of p m)) (sym e) (houses_counts p Static (holder_of p m) begun.holder),
         )
     on_this ended (Some k) e n may = go (method_class p fr.method) refl
       where
-        -- the caller works on an object of that class
-        does_not_construct : method_role p m ≡ Some Do
-        does_not_construct = of is_called.role
+        -- the caller works on an object of that class; a construct is its parent's
+        starts : (o : Object) (from : Place) → fr.home ≡ Inside o from → Starts o
+        starts o from at = of is_called.role
           where
-            of : (method_role p m ≡ Some Do) ⊎ (method_role p m ≡ Some Construct) → method_role p m ≡ Some Do
-            of (inl r) = r
-            of (inr r) = absurd (true≢false (sym n.1.0 ∙ ap (λ x. not (is_construct x)) r))
+            of : (method_role p m ≡ Some Do) ⊎ (method_role p m ≡ Some Construct) → Starts o
+            of (inl r) = inl r
+            of (inr r) = inr (r, raised p t wired s fr sh ls at_hand m r n.1 cs after_arguments (moved_fields xs first sh) o from at (λ f. passed.fits (Field o.name f)))
 
         own_below : (v d y : ℕ) → holder_of p fr.method ≡ Member d → holder_of p fr.method ≡ Member y → descends p v d ≡ true → descends p v y ≡ true
         own_below v d y e f h = let same : d ≡ y = let both = sym e ∙ f in cc in subst (λ x. descends p v x ≡ true) same h
@@ -718,9 +735,9 @@ module _ (p : Image) (t : Typing) (wired : IsWired p) (typed : IsTyped p t) (c :
             let between = counts.between viewed.0 viewed.1 in
             let fits : descends p viewed.0 k ≡ true = through p viewed.0 y k (own_below viewed.0 between.3 y between.4 own_holder between.5) stands in (
               (
-                (ap (λ k. works_on p k fr.view) e ∙ ap (λ v. works_on p (Some k) v) viewed.1 ∙ fits, tt),
+                (ap (λ k. works_on p k fr.view) e ∙ ap (λ v. works_on p (Some k) v) viewed.1 ∙ fits, (parents_met p t wired s fr sh ls at_hand m (is_construct (method_role p m)) n.1, tt)),
                 subst (λ x. Entering ended (own_home x fr.home) (while_called This x ended after_arguments)) (sym e)
-                    (subst (λ h. Entering ended h (worked ended)) (sym w.2) (on_own ended k houses.0 w.0 w.1 w.2 w.3 above e does_not_construct (ap (λ c. begins_here p m c after_arguments.states) (sym e) ∙ may))),
+                    (subst (λ h. Entering ended h (worked ended)) (sym w.2) (on_own ended k houses.0 w.0 w.1 w.2 w.3 above e (starts w.0 w.1 w.2) (ap (λ c. begins_here p m c after_arguments.states) (sym e) ∙ may))),
               ),
               subst (λ x. CountsAs p (home_holder (own_home x fr.home)) (own_view x fr.view) (holder_of p m)) (sym e)
                   (subst (λ x. CountsAs p (home_holder fr.home) x (holder_of p m)) (sym viewed.1) (record {
@@ -738,7 +755,7 @@ module _ (p : Image) (t : Typing) (wired : IsWired p) (typed : IsTyped p t) (c :
             )
 
     on_owned :
-        (ended r : ℕ) (k : Option ℕ) → method_class p m ≡ k → AllTrue (rule_target p fr.method sh (On_register r) (method_class p m) (is_construct (method_role p m)) first (length xs)) →
+        (ended r : ℕ) (k : Option ℕ) → method_class p m ≡ k → AllTrue (rule_target p fr.method sh (On_register r) m (method_class p m) (is_construct (method_role p m)) first (length xs)) →
         begins_there p m ≡ true → Begun ended (On_register r)
     on_owned ended r None e n may = let clash : false ≡ true = sym (ap (λ x. is_target p x (register sh r)) e) ∙ n.0 in cc
     on_owned ended r (Some y) e n may =
@@ -754,7 +771,7 @@ module _ (p : Image) (t : Typing) (wired : IsWired p) (typed : IsTyped p t) (c :
         )
 
     on_kept :
-        (ended f : ℕ) (k : Option ℕ) → method_class p m ≡ k → AllTrue (rule_target p fr.method sh (On_field f) (method_class p m) (is_construct (method_role p m)) first (length xs)) →
+        (ended f : ℕ) (k : Option ℕ) → method_class p m ≡ k → AllTrue (rule_target p fr.method sh (On_field f) m (method_class p m) (is_construct (method_role p m)) first (length xs)) →
         begins_there p m ≡ true → Begun ended (On_field f)
     on_kept ended f None e n may = let clash : false ≡ true = sym (ap (λ x. is_target p x (filled (field_thing p (holder_of p fr.method) f) (field sh f))) e) ∙ n.0 in cc
     on_kept ended f (Some y) e n may =
@@ -782,7 +799,7 @@ module _ (p : Image) (t : Typing) (wired : IsWired p) (typed : IsTyped p t) (c :
         ready _ _ (inr w) = let clash : false ≡ true = w.1 in cc
 
     on_pushed :
-        (ended k : ℕ) (c : Option ℕ) → method_class p m ≡ c → AllTrue (rule_target p fr.method sh (On_entry k) (method_class p m) (is_construct (method_role p m)) first (length xs)) →
+        (ended k : ℕ) (c : Option ℕ) → method_class p m ≡ c → AllTrue (rule_target p fr.method sh (On_entry k) m (method_class p m) (is_construct (method_role p m)) first (length xs)) →
         begins_there p m ≡ true → Begun ended (On_entry k)
     on_pushed ended k None e n may = let clash : false ≡ true = sym (ap (λ x. is_target p x (entry_kind (at Pushed_operation sh.entries k))) e) ∙ n.1.0 in cc
     on_pushed ended k (Some y) e n may =
@@ -809,7 +826,7 @@ module _ (p : Image) (t : Typing) (wired : IsWired p) (typed : IsTyped p t) (c :
         (b, subst (λ v. CountsAs p (home_holder home) v (holder_of p m)) (sym e) (houses_counts p home (holder_of p m) b.1.holder))
 
     pub answer :
-        (ended : ℕ) (target : Target) → AllTrue (rule_target p fr.method sh target (method_class p m) (is_construct (method_role p m)) first (length xs)) →
+        (ended : ℕ) (target : Target) → AllTrue (rule_target p fr.method sh target m (method_class p m) (is_construct (method_role p m)) first (length xs)) →
         may_begin p m target after_arguments.states ≡ true → Answer ended target
     answer ended This n may = on_this ended (method_class p m) refl n may
     answer ended (On_register r) n may = elsewhere ended (On_register r) (on_owned ended r (method_class p m) refl n may) refl

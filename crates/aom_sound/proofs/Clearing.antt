@@ -116,7 +116,7 @@ module _ (p : Image) (wired : IsWired p) (c : Choice) (fr : Frame) (sh : Shape) 
   -- a quiet method calls quiet ones
   call_quiet : (target : Target) (m first x : ℕ) → Ruled (Call target m first x) → is_quiet p m ≡ true
   call_quiet target m first x r =
-      let parts = all_parts (rule_target p fr.method sh target (method_class p m) (is_construct (method_role p m)) first (length (arguments_of p m))) _ r in
+      let parts = all_parts (rule_target p fr.method sh target m (method_class p m) (is_construct (method_role p m)) first (length (arguments_of p m))) _ r in
       let more = all_parts (each_argument p sh (arguments_of p m) first) _ parts.1.1 in
       only_then (is_quiet p fr.method) (is_quiet p m) more.1.1.0 h.0
 

@@ -36,7 +36,7 @@ use Rattle.aom_sound.specs.Requests.{AllSuit, Known, Suits, known_at, resting_in
 use Rattle.aom_sound.proofs.Suiting.{known_plain, same_object, suits_less}
 use Rattle.aom_sound.proofs.Attending.{plain_claim}
 
-empty_at : (ts : List Thing) (xs : List Filling) (f : ℕ) (y : Thing) → all_empty ts xs ≡ true → slice_get ts f ≡ Some y → is_empty (at Perhaps xs f) ≡ true
+pub empty_at : (ts : List Thing) (xs : List Filling) (f : ℕ) (y : Thing) → all_empty ts xs ≡ true → slice_get ts f ≡ Some y → is_empty (at Perhaps xs f) ≡ true
 empty_at [] xs f y e h = let clash : slice_get {X = Thing} [] f ≡ Some y = h in cc
 empty_at (t ∷ ts) [] f y e h = cc
 empty_at (t ∷ ts) (x ∷ xs) zero y e h = (and_parts _ _ e).0

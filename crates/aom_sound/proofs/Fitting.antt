@@ -103,7 +103,7 @@ module _ (p : Image) (c : Choice) (fr : Frame) (ts : List Task) (s : State) wher
   -- the arguments lie within the registers of the caller, and so of the method called
   few_arguments : (target : Target) (m first : ℕ) (more : List Need) → AllTrue (needs_entering p fr ts s target m first more) → length (arguments_of p m) ≤ 16
   few_arguments target m first more n =
-      let met = (all_parts (needs_target p fr ts s target (method_class p m) first (length (arguments_of p m))) _ n).1 in
+      let met = (all_parts (needs_target p fr ts s target m (method_class p m) first (length (arguments_of p m))) _ n).1 in
       let within = leb-true (first + length (arguments_of p m)) 16 met.0 in
       omega arith
 

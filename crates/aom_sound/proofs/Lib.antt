@@ -56,6 +56,7 @@ pub mod Callees
 pub mod Overriders
 pub mod Plain
 pub mod Cancelled
+pub mod Raising
 pub mod Calling
 pub mod CallLaws
 pub mod Leaving

@@ -1,11 +1,15 @@
 -- What a call runs takes and gives what the method called does, asks no more of its object and promises no less: by what is said of overriders.
-use Rattle.std.proofs.Common.{IsTrue, None, Option, Some, ap, inl, inr, map, refl, subst, sym, true, ℕ, ◌∙◌, ◌≡◌}
+use Rattle.std.proofs.Common.{Bool, IfSome, IsTrue, None, Option, Some, ap, false, inl, inr, length, map, refl, subst, suc, sym, true, zero, ℕ, ◌==◌, ◌||◌, ◌∙◌, ◌≡◌}
+use Rattle.std.proofs.lemmas.Bool.{eqb-true}
 use Rattle.std.specs.Prelude.{IsSome, is_some}
 use Rattle.aom_image.proofs.Given.{some_given}
 use Rattle.aom_image.specs.Image.{Image}
 use Rattle.aom_image.specs.Views.{arguments_in, arguments_of, class_in, gives_in, gives_of, has, is_quiet, leaves, leaves_in, method_at, method_class, method_role, quiet_in, role_in}
 use Rattle.aom_image.specs.declared.method.Method.{Method}
-use Rattle.aom_classes.specs.Overriding.{AllStandIn, body_of}
+use Rattle.aom_image.specs.declared.method.Role.TheVariants.{Construct, Do}
+use Rattle.aom_classes.proofs.Facts.{all_there}
+use Rattle.aom_classes.proofs.Playing.{same_roles}
+use Rattle.aom_classes.specs.Overriding.{AllStandIn, StandsIn, StandsInNamed, body_of, leads_in, leads_to, over_in, over_of, overrides}
 use Rattle.aom_families.proofs.Bodies.{bodies_are_alike}
 use Rattle.aom_families.specs.Laws.{RunsAlike}
 use Rattle.aom_roles.proofs.Descending.{through}
@@ -37,6 +41,8 @@ pub record RunsFor (p : Image) (m k : ℕ) (h : Holder) (view : Option ℕ) : Ty
   pub after : IsTrue (has (after_of p m) (after_of p k))
   pub holder : Houses p h (holder_of p k)
   pub counts : CountsAs p h view (holder_of p k)
+  -- nothing runs in the place of a construct
+  pub only : method_role p m ≡ Some Construct → k ≡ m
 
 -- where nothing overrides the method
 itself_runs : (p : Image) (m : ℕ) (h : Holder) (view : Option ℕ) → IsSome (method_at p m) → Houses p h (holder_of p m) → CountsAs p h view (holder_of p m) → RunsFor p m m h view
@@ -51,7 +57,48 @@ itself_runs p m h view there houses counts = record {
   after = has_itself (after_of p m);
   holder = houses;
   counts = counts;
+  only = λ r. refl;
 }
+
+-- what leads to a method that is there is there
+leads_there : (p : Image) (m : ℕ) → IsSome (method_at p m) → (n z : ℕ) → leads_in p n (Some z) m ≡ true → (e : Method) × (method_at p z ≡ Some e)
+unfolding leads_in over_in
+leads_there p m there n z leads = go (method_at p z) refl n leads
+  where
+    itself : (b : Bool) → (z == m) ≡ b → method_at p z ≡ None → b ≡ true → ⊥
+    itself true same none e = let empty : IsSome None = subst (λ o. IsSome o) (ap (method_at p) (sym (eqb-true z m same)) ∙ none) there in cc
+    itself false same none e = cc
+
+    above_none : (n : ℕ) → leads_in p n None m ≡ true → ⊥
+    above_none zero h = cc
+    above_none (suc n) h = cc
+
+    either : (a b : Bool) → (b ≡ true → ⊥) → (a || b) ≡ true → a ≡ true
+    either true b no h = refl
+    either false b no h = absurd (no h)
+
+    go : (o : Option Method) → method_at p z ≡ o → (n : ℕ) → leads_in p n (Some z) m ≡ true → (e : Method) × (method_at p z ≡ Some e)
+    go (Some e) at n leads = (e, at)
+    go None at zero leads = absurd (itself (z == m) refl at leads)
+    go None at (suc n) leads =
+        absurd (itself (z == m) refl at (either (z == m) (leads_in p n (over_of p z) m) (λ h. above_none n (sym (ap (λ o. leads_in p n (over_in o) m) at) ∙ h)) leads))
+
+-- what overrides a method is a plain one
+overrides_plainly : (p : Image) → AllStandIn p → (m k : ℕ) (d : Method) → IsSome (method_at p m) → method_at p k ≡ Some d → overrides p k m ≡ true → d.role ≡ Do
+unfolding leads_in over_in method_at
+overrides_plainly p fit m k d there at over = go d.over refl (sym (ap (λ o. leads_to p (over_in o) m) at) ∙ over)
+  where
+    none_leads : (n : ℕ) → leads_in p n None m ≡ true → ⊥
+    none_leads zero h = cc
+    none_leads (suc n) h = cc
+
+    go : (o : Option ℕ) → d.over ≡ o → leads_to p o m ≡ true → d.role ≡ Do
+    go None is leads = absurd (none_leads (length p.methods) leads)
+    go (Some z) is leads =
+        let named = leads_there p m there (length p.methods) z leads in
+        let fits : IfSome (Some z) (λ m. IfSome (method_at p m) (StandsIn p d)) = subst (λ o. IfSome o (λ m. IfSome (method_at p m) (StandsIn p d))) is (all_there (StandsInNamed p) p.methods k d fit at) in
+        let stands : StandsIn p d named.0 = subst (λ o. IfSome o (StandsIn p d)) named.1 fits in
+        same_roles d.role Do stands.role
 
 -- and where something does
 overrider_runs : (p : Image) → IsWired p → (m v k : ℕ) (h : Holder) (e : Method) → IsCalled p m → RunsAlike p m v k e → CountsAs p h (Some v) (holder_of p m) → RunsFor p m k h (Some v)
@@ -66,6 +113,10 @@ overrider_runs p wired m v k h e called x counts = record {
   before = subst (λ o. IsTrue (has (before_in o) (before_of p m))) (sym x.alike.there) (subst (λ o. IsTrue (has (before_in (Some x.method)) (before_in o))) (sym x.alike.named) x.alike.asks.before);
   after = subst (λ o. IsTrue (has (after_of p m) (after_in o))) (sym x.alike.there) (subst (λ o. IsTrue (has (after_in o) (after_in (Some x.method)))) (sym x.alike.named) x.alike.asks.after);
   holder = subst (λ y. Houses p h y) (sym works) (subst (λ y. Houses p y (Member x.class)) (sym object.1) (houses_family p wired.family object.0 x.class (through p object.0 v x.class object.2 x.family)));
+  only = λ construct.
+      let plain = overrides_plainly p wired.overriders m k x.method called.there x.alike.there x.overrides in
+      let clash : Some Do ≡ Some Construct = ap (λ r. Some r) (sym plain) ∙ sym (ap role_in x.alike.there) ∙ role ∙ construct in
+      absurd cc;
   counts = record {
     some = λ c is. (v, refl);
     between = λ w is. (object.0, object.1, subst (λ y. descends p object.0 y ≡ true) (same w is) object.2, x.class, works, subst (λ y. descends p y x.class ≡ true) (same w is) x.family);

@@ -52,7 +52,7 @@ module _ (p : Image) (t : Typing) (wired : IsWired p) (typed : IsTyped p t) (c :
   calls_quiet : (fr : Frame) (ts : List Task) (target : Target) (m first x : ℕ) → Acting p c (calm p) s fr ts (Call target m first x) → is_clearing ts ≡ true → is_quiet p m ≡ true
   calls_quiet fr ts target m first x a clearing =
       let r = ruled fr ts (Call target m first x) a in
-      let parts = all_parts (rule_target p fr.method r.0 target (method_class p m) (is_construct (method_role p m)) first (length (arguments_of p m))) _ r.1 in
+      let parts = all_parts (rule_target p fr.method r.0 target m (method_class p m) (is_construct (method_role p m)) first (length (arguments_of p m))) _ r.1 in
       let more = all_parts (each_argument p r.0 (arguments_of p m) first) _ parts.1.1 in
       only_then (is_quiet p fr.method) (is_quiet p m) more.1.1.0 (a.runs clearing)
 

@@ -415,6 +415,7 @@ linked_is_wired p formed linked = record {
   undestructed = none_destructs p formed linked;
   no_destructor = owns_none p formed linked;
   family = linked_is_family p linked formed;
+  constructs = λ c m e. (its_role p formed linked c m Construct e).2;
   overriders = linked.overriders.each;
   acceptor = has_acceptor p formed linked;
   accepts = acceptor_is p formed linked;

@@ -1,7 +1,7 @@
 -- Calls, returns, and `stop`.
 use Rattle.std.specs.Prelude.{ℕ, zero, suc, ◌+◌, ◌-◌, ℤ, pos, Bool, true, false, not, ◌&&◌, ◌==◌, nat_le, List, [], ◌∷◌, ◌++◌, Option, Some, None, is_some, is_none, length}
 use Rattle.aom_image.specs.Image.{Image}
-use Rattle.aom_image.specs.Views.{instr_at, arguments_of, gives_of, method_class}
+use Rattle.aom_image.specs.Views.{instr_at, arguments_of, fields_of, gives_of, method_class, method_role}
 use Rattle.aom_instructions.specs.declared.instr.Instr.{Instr}
 use Rattle.aom_instructions.specs.declared.instr.Instr.TheVariants.{Call, Trap}
 use Rattle.aom_instructions.specs.declared.instr.Target.{Target}
@@ -13,7 +13,9 @@ use Rattle.aom_image.specs.declared.method.Gives.TheVariants.{Nothing, Word as A
 use Rattle.aom_image.specs.declared.method.Thing.{Thing}
 use Rattle.aom_image.specs.declared.method.Thing.TheVariants.{Object as An_object_of, Message}
 use Rattle.aom_classes.specs.Overriding.{body_of}
-use Rattle.aom_rules.specs.Calls.{is_among}
+use Rattle.aom_rules.specs.Calls.{is_among, parent_above}
+use Rattle.aom_rules.specs.Requests.{is_construct}
+use Rattle.aom_shape.specs.Needs.{only_if}
 use Rattle.aom_shape.specs.Things.{field_thing, stands_for}
 use Rattle.aom_clients.specs.declared.client.Client.{Client}
 use Rattle.aom_sound.specs.Clients.{at_opening, client_at, with_client}
@@ -74,6 +76,16 @@ is_no_operation (Some A_mark) = true
 abbrev pub entry_place : List Item → ℕ → Place
 entry_place items k = Entry (length items - suc k)
 
+-- how many fields a class declares
+abbrev pub count_by : Image → Option ℕ → ℕ
+count_by p None = 0
+count_by p (Some c) = length (fields_of p c)
+
+-- no field of what a method works on, of so many, owns
+abbrev pub none_filled : List Cell → Home → ℕ → Bool
+none_filled cs home zero = true
+none_filled cs home (suc n) = is_none (held cs (field_place home n)) && none_filled cs home n
+
 module _ (p : Image) (fr : Frame) (ts : List Task) (s : State) where
   -- a register owns what may stand for that thing
   abbrev pub needs_own : Thing → ℕ → List Need
@@ -87,17 +99,21 @@ module _ (p : Image) (fr : Frame) (ts : List Task) (s : State) where
   abbrev pub needs_reply : ℕ → ℕ → List Need
   needs_reply a b = needs_own Message a ++ (needs_word fr ts s b ∷ [])
 
-  abbrev pub needs_target : Target → Option ℕ → ℕ → ℕ → List Need
-  needs_target This class first count = (works_on p class fr.view, WrongKind) ∷ []
-  needs_target (On_register r) class first count =
+  -- where a construct calls its parent's on its own object, no field that the parent declares owns
+  abbrev pub parents_empty : ℕ → Need
+  parents_empty m = (only_if (is_construct (method_role p m)) (none_filled s.cells fr.home (count_by p (parent_above p fr.method))), Orphan)
+
+  abbrev pub needs_target : Target → ℕ → Option ℕ → ℕ → ℕ → List Need
+  needs_target This m class first count = (works_on p class fr.view, WrongKind) ∷ parents_empty m ∷ []
+  needs_target (On_register r) m class first count =
       (is_none (word fr r), WrongKind)
       ∷ (needs_target_object p class (held s.cells (here fr ts s r))
       ++ ((not (is_among first count r), WrongKind)
       ∷ []))
-  needs_target (On_field f) class first count =
+  needs_target (On_field f) m class first count =
       (is_some (field_thing p (home_holder fr.home) f), WrongKind)
       ∷ needs_target_object p class (held s.cells (field_place fr.home f))
-  needs_target (On_entry k) class first count =
+  needs_target (On_entry k) m class first count =
       (is_some (entry_at s.items k), PopUnder)
       ∷ (is_no_operation (entry_at s.items k), WrongKind)
       ∷ needs_target_object p class (held s.cells (entry_place s.items k))
@@ -163,7 +179,7 @@ module _ (p : Image) (fr : Frame) (ts : List Task) (s : State) where
   -- the target, and the arguments
   abbrev pub needs_entering : Target → ℕ → ℕ → List Need → List Need
   needs_entering target m first more =
-      needs_target target (method_class p m) first (length (arguments_of p m))
+      needs_target target m (method_class p m) first (length (arguments_of p m))
       ++ ((nat_le (first + length (arguments_of p m)) 16, WrongKind)
       ∷ (needs_each (arguments_of p m) first
       ++ more))

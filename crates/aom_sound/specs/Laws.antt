@@ -137,6 +137,8 @@ pub record IsWired (p : Image) : Type 0 where
   pub sessions : (c session : ℕ) → sessions_at p c ≡ Some session → sessions_at p session ≡ None
   -- classes and what descends from them
   pub family : IsFamily p
+  -- what a class has for its construct is of the class, or of one that it descends from
+  pub constructs : (c m : ℕ) → role_of p c Construct ≡ Some m → IsOfFamily p c m
   -- what overrides a method may stand in its place
   pub overriders : AllStandIn p
 

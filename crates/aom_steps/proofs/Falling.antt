@@ -253,7 +253,7 @@ module _ (p : Image) (linked : IsLinked p) (c : Choice) (s : State) (fr : Frame)
     -- a method that calls a quiet one, or is not quiet
     called_quiet : (target : Target) (m first x : ℕ) → Ruled (Call target m first x) → only_if (is_quiet p fr.method) (is_quiet p m) ≡ true
     called_quiet target m first x r =
-        let parts = all_parts (rule_target p fr.method sh target (method_class p m) (is_construct (method_role p m)) first (length (arguments_of p m))) _ r in
+        let parts = all_parts (rule_target p fr.method sh target m (method_class p m) (is_construct (method_role p m)) first (length (arguments_of p m))) _ r in
         let others = all_parts (rule_arguments p sh (arguments_of p m) first) _ parts.1 in
         others.1.1.0
 

@@ -11,11 +11,12 @@ use Rattle.aom_image.specs.declared.method.Gives.{Gives}
 use Rattle.aom_image.specs.declared.method.Gives.TheVariants.{Nothing}
 use Rattle.aom_image.specs.declared.method.Method.{Method}
 use Rattle.aom_image.specs.declared.method.Role.{Role}
-use Rattle.aom_image.specs.declared.method.Role.TheVariants.{Do}
+use Rattle.aom_image.specs.declared.method.Role.TheVariants.{Do, Main}
+use Rattle.aom_classes.specs.Roles.{or_else}
 use Rattle.aom_image.specs.declared.method.Thing.{Thing}
 use Rattle.aom_image.specs.declared.method.Thing.TheVariants.{Object as An_object_of, Message}
 use Rattle.aom_sound.specs.Places.{Place, Register, Elsewhere, Root, Cell, unserved}
-use Rattle.aom_sound.specs.State.{Home, Static, Inside, Frame, frame_of, Task, Run, Trapped, Dispatched, Of_main, Item, A_mark, State, Choice, Need, Outcome, Goes, IsStuck, Stuck, Unbalanced, PopUnder, PushNoTrap, LeaveNoTrap, AlreadyActive, ActiveDestroyed, Stray, AddedWrong, RequestOverlap, CancelHang, CompletedTwice, MessageLost, Orphan, NullOrDead, WrongKind, ClosedWhileOutstanding}
+use Rattle.aom_sound.specs.State.{Home, Static, AtRoot, Inside, Frame, frame_of, Task, Run, Trapped, Dispatched, Of_main, Item, A_mark, State, Choice, Need, Outcome, Goes, IsStuck, Stuck, Unbalanced, PopUnder, PushNoTrap, LeaveNoTrap, AlreadyActive, ActiveDestroyed, Stray, AddedWrong, RequestOverlap, CancelHang, CompletedTwice, MessageLost, Orphan, NullOrDead, WrongKind, ClosedWhileOutstanding}
 use Rattle.aom_sound.specs.Moves.{needs, step}
 
 -- ---- the image
@@ -38,6 +39,10 @@ keeper = An_object_of 3
 abbrev pub served : Thing
 served = An_object_of 4
 
+-- and a child of the second class, with a word and a field more
+abbrev pub child : Thing
+child = An_object_of 5
+
 abbrev pub small_classes : List ClassDecl
 small_classes =
     a_class Plain 0 0 []
@@ -45,6 +50,7 @@ small_classes =
     ∷ a_class (Active Own) 1 0 []
     ∷ a_class (Server 1 0) 1 0 []
     ∷ a_class (Active (Native 0)) 1 0 []
+    ∷ record (a_class Plain 0 2 (leaf ∷ Message ∷ leaf ∷ [])) { parent = Some 1 }
     ∷ []
 
 abbrev pub a_method : Option ℕ → List Argument → Gives → List Instr → Method
@@ -107,6 +113,8 @@ pub record Case : Type 0 where
   -- whether its request is refused
   pub refused : Bool
   pub role : Role
+  -- the method's class, where it is not that of what it works on
+  pub class : Option ℕ
   -- what the method gives
   pub gives : Gives
   -- the method that it calls
@@ -125,13 +133,28 @@ fails instr kinds =
       items = A_mark ∷ [];
       refused = false;
       role = Do;
+      class = None;
       gives = Nothing;
       called = a_method None [] Nothing [];
       unmet = kinds;
     }
 
+-- the class of what is worked on, and the role of what works there: main works on the root
+abbrev pub thing_class : Thing → Option ℕ
+thing_class (An_object_of c) = Some c
+thing_class Message = None
+
+abbrev pub class_there : Home → Option ℕ
+class_there Static = None
+class_there AtRoot = None
+class_there (Inside o from) = thing_class o.thing
+
+abbrev pub role_there : Home → Role → Role
+role_there AtRoot r = Main
+role_there _ r = r
+
 abbrev pub image_of : Case → Image
-image_of c = small_image (record (a_method None [] c.gives (c.instr ∷ [])) { role = c.role }) c.called
+image_of c = small_image (record (a_method (or_else c.class (class_there c.home)) [] c.gives (c.instr ∷ [])) { role = role_there c.home c.role }) c.called
 
 abbrev pub frame_at : Case → Frame
 frame_at c = record (frame_of 0 c.home 1) { words = c.words }

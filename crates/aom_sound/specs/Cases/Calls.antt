@@ -9,10 +9,11 @@ use Rattle.aom_image.specs.declared.method.Argument.TheVariants.{Word as Takes_w
 use Rattle.aom_image.specs.declared.method.Gives.{Gives}
 use Rattle.aom_image.specs.declared.method.Gives.TheVariants.{Nothing, Word as A_word, Own as An_own, Maybe as A_maybe, Left}
 use Rattle.aom_image.specs.declared.method.Method.{Method}
+use Rattle.aom_image.specs.declared.method.Role.TheVariants.{Construct}
 use Rattle.aom_image.specs.declared.method.Thing.TheVariants.{Message}
 use Rattle.aom_sound.specs.Places.{Entry, Field}
 use Rattle.aom_sound.specs.State.{AtRoot, An_object, An_operation, A_mark, PopUnder, Orphan, NullOrDead, WrongKind}
-use Rattle.aom_sound.specs.Cases.Building.{leaf, pair, seven, a_method, a_cell, mine, inside, Case, fails, AllBite}
+use Rattle.aom_sound.specs.Cases.Building.{child, leaf, pair, seven, a_method, a_cell, mine, inside, Case, fails, AllBite}
 
 -- a call or a trap: the target, the method called, the first argument's register and the result's
 abbrev pub Calling : Type 0
@@ -21,6 +22,10 @@ Calling = Target → ℕ → ℕ → ℕ → Instr
 -- a method of pairs, that takes these and gives that
 abbrev pub of_pair : List Argument → Gives → Method
 of_pair arguments gives = a_method (Some 1) arguments gives []
+
+-- one that constructs them
+abbrev pub construct_of_pair : Method
+construct_of_pair = record (of_pair [] Nothing) { role = Construct }
 
 -- a static method
 abbrev pub static : List Argument → Gives → Method
@@ -34,6 +39,12 @@ this_cases call =
     ∷ record (fails (call This 1 0 0) (WrongKind ∷ [])) { called = of_pair [] Nothing }
     ∷ record (fails (call This 1 0 0) (WrongKind ∷ [])) { home = AtRoot; called = of_pair [] Nothing }
     ∷ record (fails (call This 1 0 0) (WrongKind ∷ [])) { home = inside leaf; called = of_pair [] Nothing }
+    ∷ record (fails (call This 1 0 0) []) { home = inside child; called = of_pair [] Nothing; cells = a_cell 1 leaf (Field 9 0) ∷ [] }
+    -- where it constructs, no field that the parent of the caller's class declares owns; the caller's own may
+    ∷ record (fails (call This 1 0 0) []) { home = inside child; called = construct_of_pair; cells = a_cell 1 leaf (Field 9 2) ∷ [] }
+    ∷ record (fails (call This 1 0 0) (Orphan ∷ [])) { home = inside child; called = construct_of_pair; cells = a_cell 1 leaf (Field 9 0) ∷ [] }
+    ∷ record (fails (call This 1 0 0) (Orphan ∷ [])) { home = inside child; called = construct_of_pair; cells = a_cell 1 Message (Field 9 1) ∷ [] }
+    ∷ record (fails (call This 1 0 0) (WrongKind ∷ [])) { home = inside leaf; called = construct_of_pair }
     ∷ []
 
 -- on what a register owns

@@ -28,7 +28,7 @@ returns c =
     let there : method_at site.image call.method ≡ Some c.method-callee.result.now = rw (← c.self.view_is) c.method-callee.ensures in
     let loud : is_quiet site.image site.method ≡ false = rw (← c.self.view_is) (sym c.is_quiet.ensures ∙ c.if-is_quiet.false) in
     let given = sym c.given.ensures ∙ c.in_ok-moved.was in
-    let same = entries_kept site.image site.method site.shape call.target call.first c.method-callee.result.now c.in_ok-moved.moved given in
+    let same = entries_kept site.image site.method site.shape call.target call.method call.first c.method-callee.result.now c.in_ok-moved.moved given in
     let rested : c.resting-rested.result.0 ≡ resting site.image c.method-callee.result.now.class = rw (← c.self.view_is) c.resting-rested.ensures in
     let lasting : next_shape site.shape.entries c.while_called-lasting.result ≡ while_called call.target c.method-callee.result.now.class (resting site.image c.method-callee.result.now.class) c.in_ok-moved.moved = rw (same, ← rested) c.while_called-lasting.ensures.value in
     rw (c.on.ensures site.shape.entries, c.caught.ensures site.shape.entries, lasting)
