@@ -3,19 +3,20 @@ use Rattle.std.proofs.lemmas.Option.{none-some}
 use Rattle.std.proofs.Common.{false, inl, inr, ◌≡◌, ◌≢◌, ℕ, ℤ, ◌<◌, true, cond, length, List, ◌∷◌, Option, Some, None, refl, sym, ap, ◌∙◌, subst, arith}
 use Rattle.std.specs.Prelude.{is_some, nat_lt}
 use Rattle.std.specs.Int.{w32, cast_signed}
-use Rattle.std.proofs.lemmas.Bool.{eq-eqb, false≢true, ltb-true, ne_eqb}
+use Rattle.std.proofs.lemmas.Bool.{eq-eqb, false≢true, lt-ltb, ltb-true, ne_eqb}
 use Rattle.aom_image.specs.Image.{Image}
 use Rattle.aom_instructions.specs.declared.instr.Instr.TheVariants.{Load, Store, Take, Put, JumpEmpty}
 use Rattle.aom_image.specs.declared.method.Thing.{Thing}
 use Rattle.aom_cells.specs.Heap.{Heap, null, field_at, Lives, word_at as cell_word}
-use Rattle.aom_shape.specs.Things.{field_thing, word_count}
+use Rattle.aom_shape.specs.Things.{field_thing, holder_of, word_count}
 use Rattle.aom_shape.specs.Tables.{put_at}
 use Rattle.aom_sound.specs.Places.{Place, Register, Field, Elsewhere, Root, Object, held, named, moved, changed}
 use Rattle.aom_sound.specs.Effects.{applied, writes as writes_word}
 use Rattle.aom_sound.specs.State.{Home, Static, AtRoot, Inside, next, Task, Run, field_place, home_holder}
 use Rattle.aom_sound.specs.Objects.{is_declared_thing}
-use Rattle.aom_sound.specs.WellTyped.{IsHoused, Now, Stack}
+use Rattle.aom_sound.specs.WellTyped.{Houses, IsHoused, Now, Stack}
 use Rattle.aom_sound.specs.Words.{loaded, stored, read}
+use Rattle.aom_sound.proofs.Housing.{houses_field}
 use Rattle.aom_sound.proofs.Storing.{held_set_word}
 use Rattle.aom_sound.proofs.Maps.{held_moved}
 use Rattle.aom_sound.proofs.Layers.{method_layer}
@@ -23,6 +24,7 @@ use Rattle.aom_frames.specs.Tasks.{on_top, with_register, register_here, this_he
 use Rattle.aom_frames.specs.declared.frame.Frame.{Frame as Held_frame}
 use Rattle.aom_frames.specs.declared.task.Task.{Task as Held_task}
 use Rattle.aom_frames.specs.declared.task.Task.TheVariants.{Run as Runs_frame}
+use Rattle.aom_parts.proofs.Heights.{stands_here}
 use Rattle.aom_parts.proofs.Asking.{requests_moved, requests_stored}
 use Rattle.aom_parts.specs.declared.parts.Parts.{Parts}
 use Rattle.aom_parts.specs.Places.{others, value_in, WritesWord, set_register}
@@ -78,12 +80,24 @@ module _ (p : Image) (m : Parts) (h : At_hand p m) where
           subst (Lives m.cells) (sym (inside_number o from e)) (ap is_some c.1)
       go _ e = absurd (there (this_is ∙ ap home_number e))
 
+  -- what the method's class declares, what it works on has
+  houses : Houses p (home_holder h.frame.home) (holder_of p h.frame.method)
+  houses = (stands_here p h.typing h.state h.frame h.below h.typed h.top).holder
+
+  declared_there : (f : ℕ) → is_some (field_thing p (holder_of p h.frame.method) f) ≡ true → is_some (field_thing p (home_holder h.frame.home) f) ≡ true
+  declared_there f has = ap is_some (houses_field p (home_holder h.frame.home) (holder_of p h.frame.method) f houses has) ∙ has
+
+  word_there : (w : ℕ) → nat_lt w (word_count p (holder_of p h.frame.method)) ≡ true → nat_lt w (word_count p (home_holder h.frame.home)) ≡ true
+  word_there w has =
+      let within = ltb-true w (word_count p (holder_of p h.frame.method)) has in
+      lt-ltb w (word_count p (home_holder h.frame.home)) (let more = houses.words in omega (arith, within, more))
+
   -- a method that has words has a cell
   no_words : {P : Type 0} (w : ℕ) → nat_lt w 0 ≡ true → P
   no_words w e = let lt = ltb-true w 0 e in absurd (omega (arith, lt))
 
-  pub has_cell : (w : ℕ) → nat_lt w (word_count p (home_holder h.frame.home)) ≡ true → this m ≢ null
-  has_cell w has n = go h.frame.home refl has
+  pub has_cell : (w : ℕ) → nat_lt w (word_count p (holder_of p h.frame.method)) ≡ true → this m ≢ null
+  has_cell w has n = go h.frame.home refl (word_there w has)
     where
       go : (home : Home) → h.frame.home ≡ home → nat_lt w (word_count p (home_holder home)) ≡ true → ⊥
       go Static e has = no_words w has
@@ -92,8 +106,8 @@ module _ (p : Image) (m : Parts) (h : At_hand p m) where
 
   -- ---- words
 
-  pub word_loaded : (w : ℕ) → nat_lt w (word_count p (home_holder h.frame.home)) ≡ true → cell_word m.cells (this m) w ≡ loaded h.state.cells h.frame.home w
-  word_loaded w has = go h.frame.home refl has
+  pub word_loaded : (w : ℕ) → nat_lt w (word_count p (holder_of p h.frame.method)) ≡ true → cell_word m.cells (this m) w ≡ loaded h.state.cells h.frame.home w
+  word_loaded w has = go h.frame.home refl (word_there w has)
     where
       go : (home : Home) → h.frame.home ≡ home → nat_lt w (word_count p (home_holder home)) ≡ true → cell_word m.cells (this m) w ≡ loaded h.state.cells home w
       go Static e has = no_words w has
@@ -105,8 +119,8 @@ module _ (p : Image) (m : Parts) (h : At_hand p m) where
   held_stored AtRoot w v r = refl
   held_stored (Inside o from) w v r = held_set_word h.state.cells o.name w v r
 
-  cells_after_store : (heap : Heap) (w : ℕ) (v : ℤ) → nat_lt w (word_count p (home_holder h.frame.home)) ≡ true → PutsWord (this m) w v m.cells heap → SameCells p heap (stored h.state.cells h.frame.home w v)
-  cells_after_store heap w v has puts = go h.frame.home refl has
+  cells_after_store : (heap : Heap) (w : ℕ) (v : ℤ) → nat_lt w (word_count p (holder_of p h.frame.method)) ≡ true → PutsWord (this m) w v m.cells heap → SameCells p heap (stored h.state.cells h.frame.home w v)
+  cells_after_store heap w v has puts = go h.frame.home refl (word_there w has)
     where
       go : (home : Home) → h.frame.home ≡ home → nat_lt w (word_count p (home_holder home)) ≡ true → SameCells p heap (stored h.state.cells home w v)
       go Static e has = no_words w has
@@ -126,8 +140,8 @@ module _ (p : Image) (m : Parts) (h : At_hand p m) where
   field_no_queue (Inside o from) f = refl
 
   -- a method of which a field is declared works on the root or on an object
-  by_home : (f : ℕ) (P : Home → Type 0) → (h.frame.home ≡ AtRoot → P AtRoot) → ((o : Object) (from : Place) → h.frame.home ≡ Inside o from → P (Inside o from)) → is_some (field_thing p (home_holder h.frame.home) f) ≡ true → P h.frame.home
-  by_home f P root inside has = go h.frame.home refl has
+  by_home : (f : ℕ) (P : Home → Type 0) → (h.frame.home ≡ AtRoot → P AtRoot) → ((o : Object) (from : Place) → h.frame.home ≡ Inside o from → P (Inside o from)) → is_some (field_thing p (holder_of p h.frame.method) f) ≡ true → P h.frame.home
+  by_home f P root inside has = go h.frame.home refl (declared_there f has)
     where
       go : (home : Home) → h.frame.home ≡ home → is_some (field_thing p (home_holder home) f) ≡ true → P home
       go Static e has = cc
@@ -138,7 +152,7 @@ module _ (p : Image) (m : Parts) (h : At_hand p m) where
   here_at_root : (f : ℕ) → this m ≡ null → m.root ≡ field_here f m
   here_at_root f n = ap (λ b. cond b m.root (field_at m.cells (this m) f)) (sym (eq-eqb (this m) null n))
 
-  pub field_read_here : (f : ℕ) (us : List Held_task) → is_some (field_thing p (home_holder h.frame.home) f) ≡ true → value_in us m.cells m.entries.items (others m) (field_place h.frame.home f) ≡ field_here f m
+  pub field_read_here : (f : ℕ) (us : List Held_task) → is_some (field_thing p (holder_of p h.frame.method) f) ≡ true → value_in us m.cells m.entries.items (others m) (field_place h.frame.home f) ≡ field_here f m
   field_read_here f us =
       by_home f (λ home. value_in us m.cells m.entries.items (others m) (field_place home f) ≡ field_here f m) (λ e. here_at_root f (this_is ∙ ap home_number e)) (λ o from e.
       ap (λ n. field_at m.cells n f) (sym (inside_number o from e))
@@ -150,7 +164,7 @@ module _ (p : Image) (m : Parts) (h : At_hand p m) where
     pub cells : SameCells p mid.cells h.state.cells
     pub rest : mid ≡ record m { cells = mid.cells; root = mid.root }
 
-  pub field_written_here : (mid : Parts) (f x : ℕ) → is_some (field_thing p (home_holder h.frame.home) f) ≡ true → WritesField f x m mid → Written mid (field_place h.frame.home f) x
+  pub field_written_here : (mid : Parts) (f x : ℕ) → is_some (field_thing p (holder_of p h.frame.method) f) ≡ true → WritesField f x m mid → Written mid (field_place h.frame.home f) x
   field_written_here mid f x has writes =
       by_home f (λ home. Written mid (field_place home f) x)
       (λ e. elim writes [ inl root ↦ at_root root.1 | inr cell ↦ absurd (cell.0 (this_is ∙ ap home_number e)) ])
@@ -170,7 +184,7 @@ module _ (p : Image) (m : Parts) (h : At_hand p m) where
           }
 
   -- the number in a field is that of what the field owns
-  pub field_shown : (f : ℕ) → is_some (field_thing p (home_holder h.frame.home) f) ≡ true → field_here f m ≡ number (held h.state.cells (field_place h.frame.home f))
+  pub field_shown : (f : ℕ) → is_some (field_thing p (holder_of p h.frame.method) f) ≡ true → field_here f m ≡ number (held h.state.cells (field_place h.frame.home f))
   field_shown f has =
       let q = field_place h.frame.home f in
       sym (field_read_here f m.stack.tasks has) ∙ subst (λ w. Shows (value_in m.stack.tasks m.cells m.entries.items (others m) q) w (held h.state.cells q)) (no_word_there h.frame.home f h.state.tasks) (h.agrees.values q)

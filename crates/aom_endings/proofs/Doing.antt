@@ -23,7 +23,7 @@ use Rattle.aom_sound.specs.State.{A_mark, Accepts, An_object, An_operation, Asks
 use Rattle.aom_sound.specs.Words.{loaded, stored}
 use Rattle.aom_endings.proofs.NamedCells.{held_renamed, moved_renamed, order_kept, set_request_renamed, set_word_field_renamed, tasks_counted, timer_kept, word_field_kept, in_session_kept, set_session_renamed, cond_applied, without_renamed}
 use Rattle.aom_endings.proofs.Serving.{opened_client_renamed, opens_renamed}
-use Rattle.aom_endings.proofs.Needs.{call_kept, field_renamed, free_at, given_renamed, held_field, holder_kept, kind_kept, leave_kept, message_at, own_request_kept, push_kept, pushed_renamed, put_kept, refusal_kept, register_renamed, reply_kept, return_kept, take_message_kept, trap_kept, under_trap_kept, view_kept, whole_kept}
+use Rattle.aom_endings.proofs.Needs.{call_kept, field_renamed, free_at, given_renamed, held_field, kind_kept, leave_kept, message_at, own_request_kept, push_kept, pushed_renamed, put_kept, refusal_kept, register_renamed, reply_kept, return_kept, take_message_kept, trap_kept, under_trap_kept, view_kept, whole_kept}
 use Rattle.aom_endings.specs.Names.{IsOneToOne, renamed, renamed_cells, renamed_clients, renamed_choice, renamed_dispatch, renamed_frame, renamed_home, renamed_object, renamed_place, renamed_tasks}
 use Rattle.aom_rules.specs.Requests.{is_cancel}
 use Rattle.aom_sound.specs.Natives.{own_session, resessioned}
@@ -384,11 +384,11 @@ module _ (names : ℕ → ℕ) (one_to_one : IsOneToOne names) (p : Image) (c : 
   needs_kept (And a b x) = rw (free_at names one_to_one s.cells ts a)
   needs_kept (Or a b x) = rw (free_at names one_to_one s.cells ts a)
   needs_kept (Xor a b x) = rw (free_at names one_to_one s.cells ts a)
-  needs_kept (JumpEmpty f to) = rw (holder_kept names fr.home)
-  needs_kept (Load a w) = rw (holder_kept names fr.home, free_at names one_to_one s.cells ts a)
-  needs_kept (Store w b) = rw (holder_kept names fr.home)
+  needs_kept (JumpEmpty f to) = refl
+  needs_kept (Load a w) = rw (free_at names one_to_one s.cells ts a)
+  needs_kept (Store w b) = refl
   needs_kept (Move a b) = rw (free_at names one_to_one s.cells ts a)
-  needs_kept (Take a f) = rw (holder_kept names fr.home, free_at names one_to_one s.cells ts a)
+  needs_kept (Take a f) = rw (free_at names one_to_one s.cells ts a)
   needs_kept (Put f b) = put_kept names one_to_one p c fr ts s f b
   needs_kept (New a x) = rw (free_at names one_to_one s.cells ts a)
   needs_kept (Delete a) = rw (message_at names one_to_one s.cells ts a)

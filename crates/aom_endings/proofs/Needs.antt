@@ -11,7 +11,7 @@ use Rattle.aom_image.specs.declared.method.Gives.{Gives}
 use Rattle.aom_image.specs.declared.method.Gives.TheVariants.{Left, Maybe as A_maybe, Nothing, Own as An_own, Word as A_word}
 use Rattle.aom_image.specs.declared.method.Thing.{Thing}
 use Rattle.aom_image.specs.declared.method.Thing.TheVariants.{Message, Object as An_object_of}
-use Rattle.aom_shape.specs.Things.{field_thing}
+use Rattle.aom_shape.specs.Things.{field_thing, holder_of}
 use Rattle.aom_sound.specs.Calls.{end_needs, is_asked, entry_place, given_cells, is_level, is_worked_on, leaves_object, needs_argument, needs_call, needs_destroyed, needs_each, needs_ended, needs_entering, needs_reply, needs_result, needs_return, needs_target, needs_target_object, needs_trap, passed_cells, result_needs, result_source, tops_mark}
 use Rattle.aom_sound.specs.Cleanup.{above_trap_is_free, has_trap, if_refused, leave_needs, needs_push, pushed_cells, top_is_whole}
 use Rattle.aom_sound.specs.Enlisted.{home_kind, own_request}
@@ -183,7 +183,7 @@ module _ (names : ℕ → ℕ) (one_to_one : IsOneToOne names) (p : Image) (c : 
   target_kept (On_register r) m class first count =
       let o = held s.cells (Register (length ts) r) in
       rw (register_renamed names one_to_one s.cells ts r, some_kept names o, worked_kept names p class o)
-  target_kept (On_field f) m class first count = rw (holder_kept names fr.home, held_field names one_to_one s.cells fr.home f, target_object_kept names p class (held s.cells (field_place fr.home f)))
+  target_kept (On_field f) m class first count = rw (held_field names one_to_one s.cells fr.home f, target_object_kept names p class (held s.cells (field_place fr.home f)))
   target_kept (On_entry k) m class first count = rw (held_renamed names one_to_one s.cells (entry_place s.items k), target_object_kept names p class (held s.cells (entry_place s.items k)))
 
   argument_kept : (x : Argument) (a : ℕ) → needs_argument p fr' ts' s' x a ≡ needs_argument p fr ts s x a
@@ -301,9 +301,8 @@ module _ (names : ℕ → ℕ) (one_to_one : IsOneToOne names) (p : Image) (c : 
 
   pub put_kept : (f b : ℕ) → needs_put p c' fr' ts' s' f b ≡ needs_put p c fr ts s f b
   put_kept f b = rw (
-    holder_kept names fr.home,
     register_renamed names one_to_one s.cells ts b,
-    declared_kept names p (field_thing p (home_holder fr.home) f) (held s.cells (Register (length ts) b)),
+    declared_kept names p (field_thing p (holder_of p fr.method) f) (held s.cells (Register (length ts) b)),
     field_at names one_to_one s.cells fr.home f,
   )
 

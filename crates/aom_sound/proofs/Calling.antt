@@ -785,7 +785,7 @@ module _ (p : Image) (t : Typing) (wired : IsWired p) (typed : IsTyped p t) (c :
         let does_so = ready (field_thing p (holder_of p fr.method) f) (field sh f) (age_of (filled (field_thing p (holder_of p fr.method) f) (field sh f)) n.1) in
         let own = declared_there v.0 v.1 v.2 in
         let x = kept_in f y e w.0 w.1 w.2 w.3 there own does_so in (
-          (there, subst (λ k. AllTrue (needs_target_object p k (held s.cells (field_place fr.home f)))) (sym e) (target_met y (held s.cells (field_place fr.home f)) x.0 w.0 x.1 x.2 w.3)),
+          (declared_there v.0 v.1 v.2, subst (λ k. AllTrue (needs_target_object p k (held s.cells (field_place fr.home f)))) (sym e) (target_met y (held s.cells (field_place fr.home f)) x.0 w.0 x.1 x.2 w.3)),
           at_home (field_place fr.home f) x.0 after_arguments x.1 (on_field f y e w.0 w.1 w.2 w.3 there own does_so ended may),
         )
       where

@@ -100,7 +100,7 @@ module _ (p : Image) (t : Typing) (c : Choice) (s : State) (fr : Frame) (sh : Sh
 
   -- two flows: what the jump has learned of the field is claimed on each
   pub law_jump_empty : (f to : ℕ) → Law p t c s fr sh ls at_hand (JumpEmpty f to)
-  law_jump_empty f to n leads = ((some, tt), go (field sh f) (held s.cells q) refl leads (field_fits p t c s fr sh ls at_hand f n.0))
+  law_jump_empty f to n leads = ((n.0, tt), go (field sh f) (held s.cells q) refl leads (field_fits p t c s fr sh ls at_hand f n.0))
     where
       q : Place
       q = field_place fr.home f

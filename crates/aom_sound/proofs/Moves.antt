@@ -54,7 +54,7 @@ module _ (p : Image) (t : Typing) (c : Choice) (s : State) (fr : Frame) (sh : Sh
     (
       ap is_none no,
       (
-        ap (λ x. is_declared_thing p x (held s.cells (top ls b))) same ∙ declared_ok p t c s fr sh ls at_hand _ _ k n.0 (kind_fits p t c s fr sh ls at_hand b),
+        declared_ok p t c s fr sh ls at_hand _ _ k n.0 (kind_fits p t c s fr sh ls at_hand b),
         (ap is_none free, tt),
       ),
     ),
@@ -136,7 +136,7 @@ module _ (p : Image) (t : Typing) (c : Choice) (s : State) (fr : Frame) (sh : Sh
 
   pub law_take : (a f : ℕ) → Law p t c s fr sh ls at_hand (Take a f)
   law_take a f n leads = (
-    (some, (ap is_none free, tt)),
+    (n.0, (ap is_none free, tt)),
     well p t c s fr sh ls at_hand (does p c fr (tasks_of ls) s (Take a f)) (next (set_word fr a None)) (set_register (set_field sh f Empty) a k) refl at_hand.items at_hand.undos (settle p t (moved (field_place fr.home f) (top ls a) s.cells) (next (set_word fr a None)) (set_register (set_field sh f Empty) a k) ls goes leads.0),
   )
     where

@@ -65,19 +65,15 @@ module _ (p : Image) (t : Typing) (c : Choice) (s : State) (fr : Frame) (sh : Sh
   pub law_print : (a : ℕ) → Law p t c s fr sh ls at_hand (Print a)
   law_print a n leads = ((has_word a n.0, tt), well p t c s fr sh ls at_hand (does p c fr (tasks_of ls) s (Print a)) (next fr) sh refl at_hand.items at_hand.undos (settle p t s.cells (next fr) sh ls (stepped p t s.cells fr sh ls (fitted p t s.cells fr sh ls at_hand.good)) leads.0))
 
-  -- what the frame works on has the word that the rule speaks of
-  has_word_field : (w : ℕ) → nat_lt w (word_count p (holder_of p fr.method)) ≡ true → nat_lt w (word_count p (home_holder fr.home)) ≡ true
-  has_word_field w e = let lt = ltb-true w (word_count p (holder_of p fr.method)) e in lt-ltb w (word_count p (home_holder fr.home)) (let le = at_hand.good.stack.1.holder.words in omega (arith, lt, le))
-
   pub law_load : (a w : ℕ) → Law p t c s fr sh ls at_hand (Load a w)
-  law_load a w n leads = ((has_word_field w n.0, (unowned a n.1.0, tt)), writes_word a (loaded s.cells fr.home w) n.1.0 leads)
+  law_load a w n leads = ((n.0, (unowned a n.1.0, tt)), writes_word a (loaded s.cells fr.home w) n.1.0 leads)
 
   pub law_store : (w b : ℕ) → Law p t c s fr sh ls at_hand (Store w b)
   law_store w b n leads =
       let v = read fr (tasks_of ls) s b in
       let cs = stored s.cells fr.home w v in
       let h = stepped p t cs fr sh ls (stored_fitted p t s.cells fr.home w v fr sh ls (fitted p t s.cells fr sh ls at_hand.good)) in
-      ((has_word_field w n.0, (has_word b n.1.0, tt)), well p t c s fr sh ls at_hand (does p c fr (tasks_of ls) s (Store w b)) (next fr) sh refl at_hand.items at_hand.undos (settle p t cs (next fr) sh ls h leads.0))
+      ((n.0, (has_word b n.1.0, tt)), well p t c s fr sh ls at_hand (does p c fr (tasks_of ls) s (Store w b)) (next fr) sh refl at_hand.items at_hand.undos (settle p t cs (next fr) sh ls h leads.0))
 
   -- each instruction of this file by its law
   abbrev pub of_words : (i : Instr) → Option (Law p t c s fr sh ls at_hand i)

@@ -16,7 +16,7 @@ use Rattle.aom_classes.specs.Overriding.{body_of}
 use Rattle.aom_rules.specs.Calls.{is_among, parent_above}
 use Rattle.aom_rules.specs.Requests.{is_construct}
 use Rattle.aom_shape.specs.Needs.{only_if}
-use Rattle.aom_shape.specs.Things.{field_thing, stands_for}
+use Rattle.aom_shape.specs.Things.{field_thing, holder_of, stands_for}
 use Rattle.aom_clients.specs.declared.client.Client.{Client}
 use Rattle.aom_sound.specs.Clients.{at_opening, client_at, with_client}
 use Rattle.aom_sound.specs.Servers.{without_queue, opened, reserved}
@@ -111,7 +111,7 @@ module _ (p : Image) (fr : Frame) (ts : List Task) (s : State) where
       ++ ((not (is_among first count r), WrongKind)
       ∷ []))
   needs_target (On_field f) m class first count =
-      (is_some (field_thing p (home_holder fr.home) f), WrongKind)
+      (is_some (field_thing p (holder_of p fr.method) f), WrongKind)
       ∷ needs_target_object p class (held s.cells (field_place fr.home f))
   needs_target (On_entry k) m class first count =
       (is_some (entry_at s.items k), PopUnder)

@@ -2,13 +2,13 @@
 use Rattle.std.specs.Prelude.{ℕ, ℤ, pos, Bool, true, false, List, [], ◌∷◌, Option, Some, None, is_some, is_none, replicate}
 use Rattle.aom_image.specs.Image.{Image}
 use Rattle.aom_image.specs.declared.method.Thing.{Thing}
-use Rattle.aom_shape.specs.Things.{stands_for, field_thing, words_of}
+use Rattle.aom_shape.specs.Things.{stands_for, field_thing, holder_of, words_of}
 use Rattle.aom_shape.specs.Kinds.{is_object}
 use Rattle.aom_image.specs.Views.{method_role}
 use Rattle.aom_image.specs.declared.method.Role.TheVariants.{Service as Attends}
 use Rattle.aom_roles.specs.Shapes.{is_role}
 use Rattle.aom_sound.specs.Places.{Object, held, Elsewhere, In_service}
-use Rattle.aom_sound.specs.State.{Frame, Task, State, Choice, Need, Orphan, WrongKind, word, field_place, home_holder, NullOrDead}
+use Rattle.aom_sound.specs.State.{Frame, Task, State, Choice, Need, Orphan, WrongKind, word, field_place, NullOrDead}
 use Rattle.aom_sound.specs.Words.{here, needs_written}
 
 -- what may stand for that thing, or nothing
@@ -36,9 +36,9 @@ module _ (p : Image) (c : Choice) (fr : Frame) (ts : List Task) (s : State) wher
   abbrev pub needs_jump_null : ℕ → List Need
   needs_jump_null a = (is_none (word fr a), WrongKind) ∷ []
 
-  -- what the frame works on has such a field
+  -- the method's class declares such a field, whatever class the object is of
   abbrev pub needs_field : ℕ → Need
-  needs_field f = (is_some (field_thing p (home_holder fr.home) f), WrongKind)
+  needs_field f = (is_some (field_thing p (holder_of p fr.method) f), WrongKind)
 
   abbrev pub needs_jump_empty : ℕ → List Need
   needs_jump_empty f = needs_field f ∷ []
@@ -49,7 +49,7 @@ module _ (p : Image) (c : Choice) (fr : Frame) (ts : List Task) (s : State) wher
   abbrev pub needs_put : ℕ → ℕ → List Need
   needs_put f b =
       (is_none (word fr b), WrongKind)
-      ∷ (is_declared_thing p (field_thing p (home_holder fr.home) f) (held s.cells (here fr ts s b)), WrongKind)
+      ∷ (is_declared_thing p (field_thing p (holder_of p fr.method) f) (held s.cells (here fr ts s b)), WrongKind)
       ∷ (is_none (held s.cells (field_place fr.home f)), Orphan)
       ∷ []
 

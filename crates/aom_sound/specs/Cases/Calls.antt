@@ -23,7 +23,11 @@ Calling = Target → ℕ → ℕ → ℕ → Instr
 abbrev pub of_pair : List Argument → Gives → Method
 of_pair arguments gives = a_method (Some 1) arguments gives []
 
--- one that constructs them
+-- one of leaves
+abbrev pub of_leaf : Method
+of_leaf = a_method (Some 0) [] Nothing []
+
+-- one that constructs pairs
 abbrev pub construct_of_pair : Method
 construct_of_pair = record (of_pair [] Nothing) { role = Construct }
 
@@ -72,6 +76,8 @@ on_field_cases call =
     record (fails (call (On_field 0) 1 0 0) []) { home = inside pair; called = of_pair [] Nothing; cells = a_cell 1 pair (Field 9 0) ∷ [] }
     -- there is no such field
     ∷ record (fails (call (On_field 2) 1 0 0) (WrongKind ∷ [])) { home = inside pair; called = of_pair [] Nothing; cells = a_cell 1 pair (Field 9 2) ∷ [] }
+    ∷ record (fails (call (On_field 2) 1 0 0) (WrongKind ∷ [])) { home = inside child; class = Some 1; called = of_leaf; cells = a_cell 1 leaf (Field 9 2) ∷ [] }
+    ∷ record (fails (call (On_field 2) 1 0 0) []) { home = inside child; called = of_leaf; cells = a_cell 1 leaf (Field 9 2) ∷ [] }
     -- it is null, or owns another thing
     ∷ record (fails (call (On_field 0) 1 0 0) (NullOrDead ∷ [])) { home = inside pair; called = of_pair [] Nothing }
     ∷ record (fails (call (On_field 0) 1 0 0) (WrongKind ∷ [])) { home = inside pair; called = of_pair [] Nothing; cells = a_cell 1 leaf (Field 9 0) ∷ [] }

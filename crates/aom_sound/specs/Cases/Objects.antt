@@ -1,10 +1,10 @@
 -- The needs of instructions on objects.
-use Rattle.std.specs.Prelude.{List, [], ◌∷◌, true, None}
+use Rattle.std.specs.Prelude.{List, [], ◌∷◌, true, Some, None}
 use Rattle.aom_instructions.specs.declared.instr.Instr.TheVariants.{Move, JumpNull, JumpEmpty, Take, Put, New, Delete}
 use Rattle.aom_image.specs.declared.method.Thing.TheVariants.{Message}
 use Rattle.aom_sound.specs.Places.{Field, Elsewhere, Root}
 use Rattle.aom_sound.specs.State.{AtRoot, Orphan, WrongKind}
-use Rattle.aom_sound.specs.Cases.Building.{leaf, pair, seven, a_cell, mine, inside, Case, fails, AllBite}
+use Rattle.aom_sound.specs.Cases.Building.{child, leaf, pair, seven, a_cell, mine, inside, Case, fails, AllBite}
 
 abbrev pub move_cases : List Case
 move_cases =
@@ -24,6 +24,13 @@ field_cases =
     ∷ fails (JumpEmpty 0 0) (WrongKind ∷ [])
     ∷ record (fails (JumpEmpty 1 0) (WrongKind ∷ [])) { home = AtRoot }
     ∷ record (fails (JumpEmpty 2 0) (WrongKind ∷ [])) { home = inside pair }
+    -- a method of an ancestor reaches the fields of its own class, and none that the child declares
+    ∷ record (fails (JumpEmpty 2 0) []) { home = inside child }
+    ∷ record (fails (JumpEmpty 1 0) []) { home = inside child; class = Some 1 }
+    ∷ record (fails (JumpEmpty 2 0) (WrongKind ∷ [])) { home = inside child; class = Some 1 }
+    ∷ record (fails (Take 0 2) (WrongKind ∷ [])) { home = inside child; class = Some 1; cells = a_cell 1 leaf (Field 9 2) ∷ [] }
+    ∷ record (fails (Put 2 0) (WrongKind ∷ [])) { home = inside child; class = Some 1; cells = a_cell 1 leaf (mine 0) ∷ [] }
+    ∷ record (fails (Put 2 0) []) { home = inside child; cells = a_cell 1 leaf (mine 0) ∷ [] }
     ∷ record (fails (Take 0 1) []) { home = inside pair }
     ∷ record (fails (Take 0 2) (WrongKind ∷ [])) { home = inside pair }
     ∷ fails (Take 0 0) (WrongKind ∷ [])

@@ -1,9 +1,9 @@
 -- The needs of instructions on words.
-use Rattle.std.specs.Prelude.{ℕ, pos, List, [], ◌∷◌, ◌++◌, None}
+use Rattle.std.specs.Prelude.{ℕ, pos, List, [], ◌∷◌, ◌++◌, Some, None}
 use Rattle.aom_instructions.specs.declared.instr.Instr.{Instr}
 use Rattle.aom_instructions.specs.declared.instr.Instr.TheVariants.{Const, Copy, Add, Sub, Mul, And, Or, Xor, Jump, JumpEqual, JumpLess, Loop, Next, Load, Store, Print, Stop}
 use Rattle.aom_sound.specs.State.{AtRoot, Orphan, WrongKind}
-use Rattle.aom_sound.specs.Cases.Building.{leaf, pair, seven, a_cell, mine, inside, Case, fails, AllBite}
+use Rattle.aom_sound.specs.Cases.Building.{child, leaf, pair, seven, a_cell, mine, inside, Case, fails, AllBite}
 
 -- two words give a third, in the first register
 abbrev pub binary_cases : (ℕ → ℕ → ℕ → Instr) → List Case
@@ -55,6 +55,11 @@ cell_word_cases =
     ∷ record (fails (Load 0 1) (WrongKind ∷ [])) { home = inside pair }
     ∷ record (fails (Load 0 0) (Orphan ∷ [])) { home = inside pair; cells = a_cell 1 leaf (mine 0) ∷ [] }
     ∷ record (fails (Load 0 1) (WrongKind ∷ Orphan ∷ [])) { home = inside pair; cells = a_cell 1 leaf (mine 0) ∷ [] }
+    -- a method of an ancestor reaches the words of its own class alone
+    ∷ record (fails (Load 0 1) []) { home = inside child }
+    ∷ record (fails (Load 0 0) []) { home = inside child; class = Some 1 }
+    ∷ record (fails (Load 0 1) (WrongKind ∷ [])) { home = inside child; class = Some 1 }
+    ∷ record (fails (Store 1 0) (WrongKind ∷ [])) { home = inside child; class = Some 1; words = seven ∷ [] }
     ∷ record (fails (Store 0 0) []) { home = inside pair; words = seven ∷ [] }
     ∷ record (fails (Store 0 0) (WrongKind ∷ [])) { words = seven ∷ [] }
     ∷ record (fails (Store 0 0) (WrongKind ∷ [])) { home = AtRoot; words = seven ∷ [] }
