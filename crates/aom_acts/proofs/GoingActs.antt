@@ -91,7 +91,7 @@ module _ (p : Image) (m : Parts) (v : State) (us : List Held_task) (ts : List Ta
 
   -- its destructor runs, if there is one
   pub destructs : (d : Option ℕ) (o : Object) (height : ℕ) → n ≡ o.name → n < 4096 → SameTasks us ts → Aside p m v → DyingShows
-      → Agrees p (with_tasks (destructed d n (Destroys n ∷ us)) m) (record v { tasks = begun_by d o height ts })
+      → Agrees p (with_tasks (destructed d n (Destroys n ∷ us)) m) (record v { tasks = begun_by p d o height ts })
   destructs None o height name small same aside values = agrees_with p m v (Destroys n ∷ us) (Destroy ∷ ts) aside (small, same) values
   destructs (Some k) o height name small same aside values =
       let home = Inside o (Going (length ts)) in

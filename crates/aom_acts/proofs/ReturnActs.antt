@@ -23,6 +23,7 @@ use Rattle.aom_sound.specs.State.{Accepted, Accepts, Of_server, Seat, Answered, 
 use Rattle.aom_sound.specs.WellTyped.{Awaits, Fits, Good, WellTyped, WordFits}
 use Rattle.aom_sound.proofs.Claimed.{claim_register_above}
 use Rattle.aom_sound.proofs.Finishing.{all_parts}
+use Rattle.aom_sound.proofs.Lines.{line_none}
 use Rattle.aom_sound.proofs.Maps.{at-put_at, held_lives, held_moved}
 use Rattle.aom_sound.proofs.Straight.{claim_register, fits_unowning}
 use Rattle.aom_sound.proofs.Layers.{mark_layer, method_layer}
@@ -588,7 +589,7 @@ module _ (p : Image) (m : Parts) (refused : List ℕ) (a : ℕ) (act : Active) (
   return_to_going = to_waits IsDestroying (λ ms ts has same h. go h (tops A_going ms has) same)
     where
       go : (h : At_hand p m) {ms : List Held_task} {ts : List Task} → Tops A_going ms → Alike ms ts → after h ts ≡ record (past h) { tasks = ts }
-      go h (going_on_top x ms) (both_go _ _ ts _ _ _) = refl
+      go h (going_on_top x ms) (both_go _ _ ts _ _ _) = ap (λ us. record (past h) { tasks = us }) (line_none p h.linked.parents.none h.frame.method h.frame.home h.frame.height ts)
 
   pub return_to_unwinding : IsUnwinding (below_first m.stack.tasks) → DoesIn p refused (Return a) m (with_tasks (below_first m.stack.tasks) mid)
   return_to_unwinding = to_waits IsUnwinding (λ ms ts has same h. go h (tops A_leave ms has) same)

@@ -35,6 +35,7 @@ use Rattle.aom_bounds.specs.Heights.{CallsOver, Enters, StandsWith}
 use Rattle.aom_sound.proofs.Claimed.{length_objects}
 use Rattle.aom_sound.proofs.Destroying.{destroys}
 use Rattle.aom_sound.proofs.Finishing.{all_parts}
+use Rattle.aom_sound.proofs.Lines.{line_none}
 use Rattle.aom_sound.proofs.Items.{length_forms}
 use Rattle.aom_sound.proofs.Maps.{held_without, held_moved, same_place_refl}
 use Rattle.aom_sound.proofs.Storing.{ended_alike, held_set_word, rerequested_alike, resessioned_alike}
@@ -44,7 +45,7 @@ use Rattle.aom_sound.specs.Calls.{ended_well, accepted_cells, below_top, entered
 use Rattle.aom_sound.specs.Claims.{objects}
 use Rattle.aom_sound.specs.Cleanup.{operation_frame, top_place}
 use Rattle.aom_classes.specs.Roles.{destructor_of}
-use Rattle.aom_sound.specs.Destruction.{begun, begun_by, destructed}
+use Rattle.aom_sound.specs.Destruction.{destructor_frame, begun, begun_by, destructed}
 use Rattle.aom_sound.specs.Effects.{The_message, Replied, Calls, Cancels, Carried, Counts, Destroys, Destroys_last, Effect, Goes_on, In_field, In_register, Jumps, Leaves, Made, Operates, Popped, Popped_operation, Pushed, Pushed_operation, Repeats, Requested, Returns, Same, Sets_trap, Spot, Update, Written, applied, cells_after, items_after, spot_place, with_words, Sessioned}
 use Rattle.aom_sound.specs.Laws.{IsWired}
 use Rattle.aom_sound.specs.Steps.{Fits as May, FitsUpdate}
@@ -172,11 +173,11 @@ module _ (p : Image) (t : Typing) (depth heights : ℕ → ℕ) (tables : Tables
   pub destructed_over : (cs : List Cell) (items : List Item) (o : Object) (ts : List Task) → ((m : ℕ) → Destructs p (Some o) m → IsUnder depth (depth m) ts) → Roomy p depth heights cs items ts → Roomy p depth heights cs items (destructed p o (length items) ts)
   destructed_over cs items o ts under w = go (destructor_of p o.thing) refl
     where
-      go : (d : Option ℕ) → destructor_of p o.thing ≡ d → Roomy p depth heights cs items (begun_by d o (length items) ts)
+      go : (d : Option ℕ) → destructor_of p o.thing ≡ d → Roomy p depth heights cs items (begun_by p d o (length items) ts)
       go None e = w
       go (Some m) e =
           let x = destroys p tables.wired o.thing m e in
-          begins p depth heights cs items (frame_of m (Inside o (Going (length ts))) (length items)) (Destroy ∷ ts) refl (under m (own_destructs p o m e)) (λ may. absurd (pushes_none (is_quiet p m) (leaves p m) x.quiet x.stays may)) w
+          begins p depth heights cs items (destructor_frame p m o (length ts) (length items)) (Destroy ∷ ts) refl (under m (own_destructs p o m e)) (λ may. absurd (pushes_none (is_quiet p m) (leaves p m) x.quiet x.stays may)) w
 
   -- of a server nothing is begun over another that lets go of its sessions
   pub begins_over :
@@ -337,7 +338,9 @@ module _ (p : Image) (t : Typing) (depth heights : ℕ → ℕ) (tables : Tables
         let cells' = accepted_cells d (here fr ts over a) over.cells in
         popped_top p depth heights cells' s.items (Dispatched (ended_well d) ∷ below) (low_top (Dispatched d ∷ below) low)
         (again cells' s.items (Dispatched (ended_well d) ∷ below) (accepted_same d (here fr ts over a) over.cells (register_apart (length ts) a)) v)
-    return_room g a (Destroy ∷ below) low v = again over.cells s.items (Destroy ∷ below) (λ e dealt. refl) v
+    return_room g a (Destroy ∷ below) low v =
+        let line = line_none p tables.wired.parentless fr.method fr.home fr.height below in
+        subst (λ us. R (record over { tasks = us })) (sym line) (again over.cells s.items (Destroy ∷ below) (λ e dealt. refl) v)
     return_room g a (Dispatched d ∷ below) low v = again over.cells s.items (Dispatched d ∷ below) (λ e dealt. refl) v
     return_room g a (Unwind code ∷ below) low v = again over.cells s.items (Unwind code ∷ below) (λ e dealt. refl) v
     return_room g a _ low v = again over.cells s.items s.tasks (λ e dealt. refl) given

@@ -13,7 +13,7 @@ use Rattle.aom_clients.specs.declared.client.Client.{Client}
 use Rattle.aom_sound.specs.Calls.{accepted_cells, accepted_clients, answered_by, below_top, ended_well, told_answer, entry_place, home_at, own_home, received, result_cells, result_register, returned, target_home, target_view}
 use Rattle.aom_sound.specs.Cleanup.{code_told, dealt_with, destroyed, to_trap, top_place}
 use Rattle.aom_classes.specs.Roles.{destructor_of}
-use Rattle.aom_sound.specs.Destruction.{begun, begun_by, destructed}
+use Rattle.aom_sound.specs.Destruction.{begun, begun_by, destructed, line_on, next_destructor}
 use Rattle.aom_sound.specs.Servers.{is_server, opened, reserved}
 use Rattle.aom_sound.specs.Effects.{Calls, Cancels, Carried, Destroys, Destroys_last, Effect, Goes_on, In_field, In_register, Jumps, Leaves, Made, Popped, Popped_operation, Pushed, Pushed_operation, Requested, Returns, Same, Sets_trap, Spot, Update, Written, applied, cancels_if, cells_after, deals, deletes, effect, items_after, jumps_if, jumps_unless, makes_unless, round, sets, spot_place, updates, with_words, writes, Replied, Sessioned, The_message}
 use Rattle.aom_sound.specs.Enlisted.{cancel_method, cancelled, cancelling, ended_cells, in_phase, is_active, is_busy, on_request, own_request, rerequested}
@@ -46,14 +46,20 @@ module _ (names : ℕ → ℕ) where
 
 module _ (names : ℕ → ℕ) where
   begun_by_renamed :
-      (m : Option ℕ) (o : Object) (height : ℕ) (below : List Task) →
-      begun_by m (renamed_object names o) height (renamed_tasks names below) ≡ renamed_tasks names (begun_by m o height below)
-  begun_by_renamed None o height below = refl
-  begun_by_renamed (Some m) o height below = rw (tasks_counted names below)
+      (p : Image) (m : Option ℕ) (o : Object) (height : ℕ) (below : List Task) →
+      begun_by p m (renamed_object names o) height (renamed_tasks names below) ≡ renamed_tasks names (begun_by p m o height below)
+  begun_by_renamed p None o height below = refl
+  begun_by_renamed p (Some m) o height below = rw (tasks_counted names below)
 
   pub destructed_renamed :
       (p : Image) (o : Object) (height : ℕ) (below : List Task) → destructed p (renamed_object names o) height (renamed_tasks names below) ≡ renamed_tasks names (destructed p o height below)
-  destructed_renamed p o height below = begun_by_renamed (destructor_of p o.thing) o height below
+  destructed_renamed p o height below = begun_by_renamed p (destructor_of p o.thing) o height below
+
+  pub line_renamed :
+      (p : Image) (m : ℕ) (home : Home) (height : ℕ) (below : List Task) → line_on p m (renamed_home names home) height (renamed_tasks names below) ≡ renamed_tasks names (line_on p m home height below)
+  line_renamed p m Static height below = refl
+  line_renamed p m AtRoot height below = refl
+  line_renamed p m (Inside o from) height below = begun_by_renamed p (next_destructor p m) o height below
 
   pub begun_renamed : (p : Image) (o : Object) (height : ℕ) (below : List Task) → begun p (renamed_object names o) height (renamed_tasks names below) ≡ renamed_tasks names (begun p o height below)
   begun_renamed p o height below =
@@ -191,6 +197,7 @@ module _ (names : ℕ → ℕ) (one_to_one : IsOneToOne names) (p : Image) (c : 
   returned_renamed g a (Trapped ∷ Dispatched d ∷ below) =
       rw (tasks_counted names ts, accepted_renamed names one_to_one d (Register (length ts) a) s.cells, accepted_clients_renamed names d s.clients, ended_well_renamed names d)
   returned_renamed g a (Dispatched d ∷ below) = rw (answer_kept names g fr a, answered_by_renamed names (told_answer g fr a) d)
+  returned_renamed g a (Destroy ∷ below) = rw (line_renamed names p fr.method fr.home fr.height below)
   returned_renamed g a _ = refl
 
   -- the cells as a return begins

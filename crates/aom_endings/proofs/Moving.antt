@@ -18,7 +18,7 @@ use Rattle.aom_sound.proofs.Storing.{rerequested_alike}
 use Rattle.aom_sound.specs.Calls.{accepted_cells, accepted_clients, answered_by, ended_well, returned}
 use Rattle.aom_sound.specs.Cleanup.{arrived, destroyed, ended_by, to_trap, top_is_whole, top_place, unwound}
 use Rattle.aom_sound.specs.Clients.{at_opening, client_at, with_client}
-use Rattle.aom_sound.specs.Destruction.{begun, begun_by, destructed}
+use Rattle.aom_sound.specs.Destruction.{begun, begun_by, destructed, line_on, next_destructor}
 use Rattle.aom_sound.specs.Effects.{Calls, Cancels, Destroys, Destroys_last, Effect, Goes_on, Leaves, Returns, Sets_trap, applied}
 use Rattle.aom_sound.specs.Enlisted.{begun_cells, cancelling, on_request, own_request}
 use Rattle.aom_sound.specs.Kept.{is_connect_of}
@@ -33,16 +33,21 @@ use Rattle.aom_endings.specs.There.{AllThere, AreThere, dispatch_of, waits}
 
 -- ---- the dispatch below
 
-pub dispatch_begun_by : (m : Option ℕ) (o : Object) (height : ℕ) (ts : List Task) → dispatch_of (begun_by m o height ts) ≡ dispatch_of ts
-dispatch_begun_by None o height ts = refl
-dispatch_begun_by (Some m) o height ts = refl
+pub dispatch_begun_by : (p : Image) (m : Option ℕ) (o : Object) (height : ℕ) (ts : List Task) → dispatch_of (begun_by p m o height ts) ≡ dispatch_of ts
+dispatch_begun_by p None o height ts = refl
+dispatch_begun_by p (Some m) o height ts = refl
+
+dispatch_line : (p : Image) (m : ℕ) (home : Home) (height : ℕ) (ts : List Task) → dispatch_of (line_on p m home height ts) ≡ dispatch_of ts
+dispatch_line p m Static height ts = refl
+dispatch_line p m AtRoot height ts = refl
+dispatch_line p m (Inside o from) height ts = dispatch_begun_by p (next_destructor p m) o height ts
 
 pub dispatch_begun : (p : Image) (o : Object) (height : ℕ) (ts : List Task) → dispatch_of (begun p o height ts) ≡ dispatch_of ts
 dispatch_begun p o height ts = go (is_server p o.thing)
   where
     go : (b : Bool) → dispatch_of (cond b (Closing ∷ Destroy ∷ ts) (destructed p o height ts)) ≡ dispatch_of ts
     go true = refl
-    go false = dispatch_begun_by (destructor_of p o.thing) o height ts
+    go false = dispatch_begun_by p (destructor_of p o.thing) o height ts
 
 pub dispatch_resumed : (ts : List Task) → dispatch_of (resumed ts) ≡ dispatch_of ts
 dispatch_resumed (Run fr ∷ ts) = refl
@@ -126,7 +131,7 @@ module _ (p : Image) (fr : Frame) (ts : List Task) (s : State) where
   returned_there g a (Run caller ∷ below) tasks there all = there_by s.clients s.cells (dispatch_of below) s.clients _ _ refl (calm_result p fr ts s g a _ below) refl there
   returned_there g a (Trapped ∷ Run caller ∷ below) tasks there all = there_by s.clients s.cells (dispatch_of below) s.clients _ _ refl (calm_result p fr ts s g a _ below) refl there
   returned_there g a (Trapped ∷ Dispatched d ∷ below) tasks there all = accepted_there d (here fr ts s a) there
-  returned_there g a (Destroy ∷ below) tasks there all = there
+  returned_there g a (Destroy ∷ below) tasks there all = subst (λ d. AreThere s.clients s.cells d) (sym (dispatch_line p fr.method fr.home fr.height below)) there
   returned_there g a (Unwind code ∷ below) tasks there all = there
   returned_there g a (Dispatched d ∷ below) tasks there all = answered_there _ d there
   returned_there g a _ tasks there all = subst (λ l. AreThere s.clients s.cells (dispatch_of l)) (sym tasks) all

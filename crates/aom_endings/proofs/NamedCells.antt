@@ -6,7 +6,7 @@ use Rattle.std.specs.Prelude.{map, max, not, option_map}
 use Rattle.aom_image.specs.declared.method.Thing.{Thing}
 use Rattle.aom_shape.specs.Kinds.{is_object}
 use Rattle.aom_sound.specs.Calls.{is_register_but, none_owns_but}
-use Rattle.aom_sound.specs.Destruction.{is_field_of, needs_emptied, owns_none}
+use Rattle.aom_sound.specs.Destruction.{is_past, needs_past, owns_none_past, is_field_of, needs_emptied, owns_none}
 use Rattle.aom_sound.specs.Enlisted.{next_order, next_timer, order_after, request_after}
 use Rattle.aom_sound.specs.Places.{Cell, Elsewhere, Entry, Field, Going, Place, Register, Request, held, moved, named, requested, same_place, set_request, set_word_field, without, word_field, in_session, set_session, count_cells, Other, Root, Session, In_service, Queued}
 use Rattle.aom_sound.specs.State.{Task}
@@ -110,6 +110,20 @@ module _ (names : ℕ → ℕ) (one_to_one : IsOneToOne names) where
   owns_none_kept : (such : Thing → Bool) (cs : List Cell) (n : ℕ) → owns_none such (renamed_cells names cs) (names n) ≡ owns_none such cs n
   owns_none_kept such [] n = refl
   owns_none_kept such (c ∷ cs) n = rw (is_field_kept n c.owner, owns_none_kept such cs n)
+
+  is_past_kept : (k n : ℕ) (q : Place) → is_past k (names n) (renamed_place names q) ≡ is_past k n q
+  is_past_kept k n (Field m f) = ap (λ b. b && nat_le k f) (same_name n m)
+  is_past_kept k n (Elsewhere (Session s c)) = same_name n s
+  is_past_kept k n (Elsewhere (Queued s m)) = same_name n s
+  is_past_kept k n (Elsewhere _) = refl
+  is_past_kept k n _ = refl
+
+  owns_past_kept : (k : ℕ) (such : Thing → Bool) (cs : List Cell) (n : ℕ) → owns_none_past k such (renamed_cells names cs) (names n) ≡ owns_none_past k such cs n
+  owns_past_kept k such [] n = refl
+  owns_past_kept k such (c ∷ cs) n = rw (is_past_kept k n c.owner, owns_past_kept k such cs n)
+
+  pub past_kept : (k : ℕ) (cs : List Cell) (n : ℕ) → needs_past k (renamed_cells names cs) (names n) ≡ needs_past k cs n
+  past_kept k cs n = rw (owns_past_kept k is_object cs n, owns_past_kept k (λ t. not (is_object t)) cs n)
 
   pub emptied_kept : (cs : List Cell) (n : ℕ) → needs_emptied (renamed_cells names cs) (names n) ≡ needs_emptied cs n
   emptied_kept cs n = rw (owns_none_kept is_object cs n, owns_none_kept (λ t. not (is_object t)) cs n)

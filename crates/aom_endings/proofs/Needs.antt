@@ -1,4 +1,5 @@
 -- What is asked is asked under other names too: no need looks at a name but to compare it with another.
+use Rattle.aom_rules.specs.Calls.{fields_above, parent_by}
 use Rattle.std.proofs.Common.{Bool, List, None, Option, Some, [], ap, cond, false, length, refl, suc, true, ℕ, ◌&&◌, ◌==◌, ◌∙◌, ◌∷◌, ◌≡◌}
 use Rattle.std.specs.Prelude.{is_none, is_some, option_map, ◌++◌}
 use Rattle.aom_image.specs.Image.{Image}
@@ -21,7 +22,7 @@ use Rattle.aom_sound.specs.Destruction.{needs_emptied}
 use Rattle.aom_sound.specs.Servers.{without_queue}
 use Rattle.aom_sound.specs.State.{A_mark, Accepts, An_object, An_operation, Asks, AtRoot, Choice, Destroy, Dispatch, Dispatched, Frame, Home, Inside, IsStuck, Item, MessageLost, Need, Of_server, Orphan, Run, Serves, State, Static, Task, Trapped, Unbalanced, field_place, guarded, home_holder, home_view}
 use Rattle.aom_sound.specs.Words.{needs_word}
-use Rattle.aom_endings.proofs.NamedCells.{emptied_kept, held_renamed, moved_renamed, none_owns_kept, requested_kept, tasks_counted}
+use Rattle.aom_endings.proofs.NamedCells.{held_renamed, past_kept, moved_renamed, none_owns_kept, requested_kept, tasks_counted}
 use Rattle.aom_endings.proofs.Serving.{without_queue_renamed}
 use Rattle.aom_endings.specs.Names.{IsOneToOne, renamed, renamed_cells, renamed_choice, renamed_dispatch, renamed_frame, renamed_home, renamed_object, renamed_outcome, renamed_place, renamed_tasks}
 
@@ -125,10 +126,12 @@ module _ (names : ℕ → ℕ) (one_to_one : IsOneToOne names) where
   field_at : (cs : List Cell) (h : Home) (f : ℕ) → is_none (held (renamed_cells names cs) (field_place (renamed_home names h) f)) ≡ is_none (held cs (field_place h f))
   field_at cs h f = ap is_none (held_field cs h f) ∙ none_kept names (held cs (field_place h f))
 
-  destroyed_kept : (cs : List Cell) (h : Home) → needs_destroyed (renamed_cells names cs) (renamed_home names h) ≡ needs_destroyed cs h
-  destroyed_kept cs Static = refl
-  destroyed_kept cs AtRoot = refl
-  destroyed_kept cs (Inside o from) = ap (λ l. needs_emptied l (names o.name)) (without_queue_renamed names one_to_one o.name cs) ∙ emptied_kept names one_to_one (without_queue o.name cs) o.name
+  destroyed_kept : (p : Image) (m : ℕ) (cs : List Cell) (h : Home) → needs_destroyed p m (renamed_cells names cs) (renamed_home names h) ≡ needs_destroyed p m cs h
+  destroyed_kept p m cs Static = refl
+  destroyed_kept p m cs AtRoot = refl
+  destroyed_kept p m cs (Inside o from) =
+      let k = fields_above p (parent_by p (method_class p m)) in
+      ap (λ l. needs_past k l (names o.name)) (without_queue_renamed names one_to_one o.name cs) ∙ past_kept names one_to_one k (without_queue o.name cs) o.name
 
   pub place_owns : (cs : List Cell) (q : Place) → is_some (held (renamed_cells names cs) (renamed_place names q)) ≡ is_some (held cs q)
   place_owns cs q = ap is_some (held_renamed names one_to_one cs q) ∙ some_kept names (held cs q)
@@ -179,7 +182,7 @@ module _ (names : ℕ → ℕ) (one_to_one : IsOneToOne names) (p : Image) (c : 
   filled_kept home (suc n) = rw (field_at names one_to_one s.cells home n, filled_kept home n)
 
   pub target_kept : (target : Target) (m : ℕ) (class : Option ℕ) (first count : ℕ) → needs_target p fr' ts' s' target m class first count ≡ needs_target p fr ts s target m class first count
-  target_kept This m class first count = rw (filled_kept fr.home (count_by p (parent_above p fr.method)))
+  target_kept This m class first count = rw (filled_kept fr.home (fields_above p (parent_above p fr.method)))
   target_kept (On_register r) m class first count =
       let o = held s.cells (Register (length ts) r) in
       rw (register_renamed names one_to_one s.cells ts r, some_kept names o, worked_kept names p class o)
@@ -244,7 +247,7 @@ module _ (names : ℕ → ℕ) (one_to_one : IsOneToOne names) (p : Image) (c : 
   result_needs_kept (Left x) a = refl
 
   end_kept : (below : List Task) → end_needs p fr' ts' s' (renamed_tasks names below) ≡ end_needs p fr ts s below
-  end_kept (Destroy ∷ below) = destroyed_kept names one_to_one s.cells fr.home
+  end_kept (Destroy ∷ below) = destroyed_kept names one_to_one p fr.method s.cells fr.home
   end_kept (Trapped ∷ Run caller ∷ below) = refl
   end_kept (Trapped ∷ Dispatched d ∷ below) = ap (λ ns. (tops_mark s.items, Unbalanced) ∷ ns) (ended_kept names one_to_one d s.cells)
   end_kept (Trapped ∷ _) = refl

@@ -108,7 +108,7 @@ module _ (p : Image) (t : Typing) (s : State) (w : WellTyped p t s) (there : All
           (o : Object) → held s.cells (Going (length below)) ≡ Some o → (x : Option Seat) → first_session s.cells o.name (service_of s.cells o.name).sessions ≡ x →
           AllThere (parting p o x below s)
       by_session o at None first =
-          there_by s.clients s.cells (dispatch_of below) s.clients s.cells _ refl (calm_itself s.cells) (dispatch_begun_by (destructor_of p o.thing) o (length s.items) below) before
+          there_by s.clients s.cells (dispatch_of below) s.clients s.cells _ refl (calm_itself s.cells) (dispatch_begun_by p (destructor_of p o.thing) o (length s.items) below) before
       by_session o at (Some x) first =
           let found = found_first s.cells o.name (service_of s.cells o.name).sessions x first in
           let goes = session_goes o found.client (length (Closing ∷ Destroy ∷ below)) (dispatch_of below) (λ x k stage d. dying_apart p t s.cells w.good.tidy l.0 below l.1 l.2 o at x k stage d) before in

@@ -67,52 +67,52 @@ module _ (p : Image) (o : Object) (height : ℕ) (d : Dispatch) where
   ends = Dispatched d ∷ []
 
   -- what holds of it with its destructor and without, and with its sessions
-  by_begun : (P : List Task → Type 0) → P (Closing ∷ Destroy ∷ ends) → ((m : Option ℕ) → destructor_of p o.thing ≡ m → P (begun_by m o height ends)) → P (begun p o height ends)
+  by_begun : (P : List Task → Type 0) → P (Closing ∷ Destroy ∷ ends) → ((m : Option ℕ) → destructor_of p o.thing ≡ m → P (begun_by p m o height ends)) → P (begun p o height ends)
   by_begun P closing other = go (is_server p o.thing)
     where
-      go : (b : Bool) → P (cond b (Closing ∷ Destroy ∷ ends) (begun_by (destructor_of p o.thing) o height ends))
+      go : (b : Bool) → P (cond b (Closing ∷ Destroy ∷ ends) (begun_by p (destructor_of p o.thing) o height ends))
       go true = closing
       go false = other (destructor_of p o.thing) refl
 
   begun_calm : IsWired p → IsCalm p (begun p o height ends)
   begun_calm wired = by_begun (λ ts. IsCalm p ts) tt by
     where
-      by : (m : Option ℕ) → destructor_of p o.thing ≡ m → IsCalm p (begun_by m o height ends)
+      by : (m : Option ℕ) → destructor_of p o.thing ≡ m → IsCalm p (begun_by p m o height ends)
       by None e = tt
       by (Some m) e = (λ clearing. (destroys p wired o.thing m e).quiet, tt)
 
   begun_traps : AllAtTraps p (begun p o height ends)
   begun_traps = by_begun (λ ts. AllAtTraps p ts) tt by
     where
-      by : (m : Option ℕ) → destructor_of p o.thing ≡ m → AllAtTraps p (begun_by m o height ends)
+      by : (m : Option ℕ) → destructor_of p o.thing ≡ m → AllAtTraps p (begun_by p m o height ends)
       by None e = tt
       by (Some m) e = (tt, tt)
 
   begun_waits : (t : Typing) (cs : List Cell) → OthersWait p t cs (begun p o height ends)
   begun_waits t cs = by_begun (λ ts. OthersWait p t cs ts) tt by
     where
-      by : (m : Option ℕ) → destructor_of p o.thing ≡ m → OthersWait p t cs (begun_by m o height ends)
+      by : (m : Option ℕ) → destructor_of p o.thing ≡ m → OthersWait p t cs (begun_by p m o height ends)
       by None e = tt
       by (Some m) e = tt
 
   begun_under : (depth : ℕ → ℕ) → AllUnder depth (begun p o height ends)
   begun_under depth = by_begun (λ ts. AllUnder depth ts) tt by
     where
-      by : (m : Option ℕ) → destructor_of p o.thing ≡ m → AllUnder depth (begun_by m o height ends)
+      by : (m : Option ℕ) → destructor_of p o.thing ≡ m → AllUnder depth (begun_by p m o height ends)
       by None e = tt
       by (Some m) e = (tt, tt)
 
   begun_runs : (depth : ℕ → ℕ) (cs : List Cell) → AllRunUnder p depth cs [] (begun p o height ends)
   begun_runs depth cs = by_begun (λ ts. AllRunUnder p depth cs [] ts) ((λ m h. tt, tt), tt) by
     where
-      by : (m : Option ℕ) → destructor_of p o.thing ≡ m → AllRunUnder p depth cs [] (begun_by m o height ends)
+      by : (m : Option ℕ) → destructor_of p o.thing ≡ m → AllRunUnder p depth cs [] (begun_by p m o height ends)
       by None e = tt
       by (Some m) e = (tt, tt)
 
   begun_fit : (heights : HasHeights p) → AllFit p (at 0 heights.heights) [] (begun p o height ends)
   begun_fit heights = by_begun (λ ts. AllFit p (at 0 heights.heights) [] ts) tt by
     where
-      by : (m : Option ℕ) → destructor_of p o.thing ≡ m → AllFit p (at 0 heights.heights) [] (begun_by m o height ends)
+      by : (m : Option ℕ) → destructor_of p o.thing ≡ m → AllFit p (at 0 heights.heights) [] (begun_by p m o height ends)
       by None e = tt
       by (Some m) e = (λ may. let most = heights.are.within m in omega (arith, most), tt)
 

@@ -33,7 +33,7 @@ use Rattle.aom_sound.proofs.Storing.{ended_alike, held_set_word, rerequested_ali
 use Rattle.aom_sound.proofs.Straight.{register_fits}
 use Rattle.aom_sound.specs.Calls.{accepted_cells, needs_each, needs_entering, needs_target, passed_cells, result_cells, returned}
 use Rattle.aom_sound.specs.Cleanup.{to_trap, top_place}
-use Rattle.aom_sound.specs.Destruction.{begun, begun_by, destructed, first_session, parting, seat_or}
+use Rattle.aom_sound.specs.Destruction.{begun, begun_by, destructed, line_on, next_destructor, first_session, parting, seat_or}
 use Rattle.aom_sound.proofs.Dropping.{held_dropped, queue_dropped}
 use Rattle.aom_sound.proofs.Services.{held_served}
 use Rattle.aom_sound.proofs.Unslotting.{each_unslotted_alike}
@@ -232,10 +232,19 @@ runs_typed p t s fr ts w top = method_layer (λ ls. Good p t s.cells ls) fr ts w
 
 -- ---- moves
 
+line_wait : (p : Image) (t : Typing) (cs : List Cell) (m : ℕ) (home : Home) (height : ℕ) (ts : List Task) → AllWait p t cs ts → OthersWait p t cs (line_on p m home height ts)
+line_wait p t cs m Static height ts w = w
+line_wait p t cs m AtRoot height ts w = w
+line_wait p t cs m (Inside o from) height ts w = by (next_destructor p m)
+  where
+    by : (d : Option ℕ) → OthersWait p t cs (begun_by p d o height ts)
+    by None = w
+    by (Some k) = w
+
 destructed_wait : (p : Image) (t : Typing) (cs : List Cell) (o : Object) (height : ℕ) (ts : List Task) → AllWait p t cs ts → OthersWait p t cs (destructed p o height ts)
 destructed_wait p t cs o height ts w = by (destructor_of p o.thing)
   where
-    by : (d : Option ℕ) → OthersWait p t cs (begun_by d o height ts)
+    by : (d : Option ℕ) → OthersWait p t cs (begun_by p d o height ts)
     by None = w
     by (Some m) = w
 
@@ -314,7 +323,7 @@ module _ (p : Image) (t : Typing) (c : Choice) (s : State) (fr : Frame) (ts : Li
   returns g a (Trapped ∷ Run caller ∷ below) e = still_wait p t over.cells _ below (result_same p fr ts over g a _ below (let n = ap length e in omega (arith, n))) (subst (AllWait p t over.cells) (sym e) ended_w).1
   returns g a (Trapped ∷ Dispatched d ∷ below) e =
       still_wait p t over.cells _ below (accepted_same d a (length ts) over.cells (length below) (let n = ap length e in omega (arith, n))) (subst (AllWait p t over.cells) (sym e) ended_w)
-  returns g a (Destroy ∷ below) e = subst (AllWait p t over.cells) (sym e) ended_w
+  returns g a (Destroy ∷ below) e = line_wait p t over.cells fr.method fr.home fr.height below (subst (AllWait p t over.cells) (sym e) ended_w)
   returns g a (Unwind code ∷ below) e = subst (AllWait p t over.cells) (sym e) ended_w
   returns g a (Closing ∷ below) e = subst (OthersWait p t over.cells) (sym at_hand) ended_w
   returns g a [] e = stays

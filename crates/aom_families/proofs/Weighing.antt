@@ -141,7 +141,8 @@ module _ (p : Image) where
         go None f is later =
             some_given (λ o. keeper_in p n o Destruct ≡ Some y) (parent_of p c) is (λ none. let clash : None ≡ Some y = sym (none_kept p n Destruct) ∙ none in cc) (λ e at rest. same_fields c e at f ∙ later e rest)
 
-    keeper : (c m : ℕ) → role_of p c Destruct ≡ Some m → (y : ℕ) × (method_class p m ≡ Some y) × (fields_of p c ≡ fields_of p y)
+    -- a class has the fields of the class whose destructor it has
+    pub keeper : (c m : ℕ) → role_of p c Destruct ≡ Some m → (y : ℕ) × (method_class p m ≡ Some y) × (fields_of p c ≡ fields_of p y)
     unfolding role_of class_in
     keeper c m is = some_given (λ o. role_by p Destruct o ≡ Some m) (keeper_of p c Destruct) is (λ none. cc) (λ y at rest.
         let w = own_found p y m Destruct rest in (y, ap class_in w.1 ∙ w.2, kept_fields c c y at))

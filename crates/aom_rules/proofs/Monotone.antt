@@ -16,7 +16,8 @@ use Rattle.aom_image.specs.declared.method.Thing.TheVariants.{Message, Object}
 use Rattle.aom_roles.specs.States.{active, active_states, cancel_done, cancel_open, idle, issued, server_states, unlisted}
 use Rattle.aom_rules.specs.Requests.{begins_here, flow_in, flow_narrowed, is_cancel, is_construct, is_service, may_begin, once_cancelled, resting, unissued}
 use Rattle.aom_site.specs.Site.{leave_point}
-use Rattle.aom_site.specs.Calls.{constructs_owned, empty_by, parent_above, is_destructor, is_target, age_need, awaits, brought, caught, worked_on, while_called, argument_needs, each_argument, rule_target, rule_arguments, rule_moved, rule_trapped, fields_done, rule_ended, rule_left, rule_result, result_moved, lasting}
+use Rattle.aom_roles.specs.Families.{parent_of}
+use Rattle.aom_site.specs.Calls.{constructs_owned, empty_by, parent_above, is_destructor, is_target, age_need, awaits, brought, caught, worked_on, while_called, argument_needs, each_argument, rule_target, rule_arguments, rule_moved, rule_trapped, fields_above, fields_done, rule_ended, rule_left, rule_result, result_moved, lasting}
 use Rattle.aom_shape.specs.Entries.{readied_at, without_top, with_entry, without_entry}
 use Rattle.aom_shape.specs.Arguments.{after_of, argument_moved, arguments_moved, before_of}
 use Rattle.aom_rules.specs.Cleanup.{owns_object, entry_of, top_kind}
@@ -43,7 +44,7 @@ use Rattle.aom_shape.specs.declared.kind.Filling.TheVariants.{Empty, Full, Perha
 use Rattle.aom_rules.proofs.Ways.{Allows, allows}
 use Rattle.aom_shape.proofs.Lists.{at_put}
 use Rattle.aom_shape.proofs.Sets.{has_along, has_both, has_first, has_itself, has_second, has_shared, larger}
-use Rattle.aom_rules.proofs.Telling.{readied_more, word_more, unowning_more, object_or_null_more, destroyed_more, ready_more, own_more, may_be_more, declared_more, empty_more, filled_more, filling_more, none_owns_more, all_empty_more}
+use Rattle.aom_rules.proofs.Telling.{readied_more, word_more, unowning_more, object_or_null_more, destroyed_more, ready_more, own_more, may_be_more, declared_more, empty_more, filled_more, filling_more, none_owns_more, all_empty_more, past_empty_more}
 
 -- what holds of two tables, entry by entry
 module _ {A : Type 0} (R : A → A → Type 0) (z : A) (xs ys : List A) (i : ℕ) (h : (j : ℕ) → R (at z xs j) (at z ys j)) where
@@ -111,7 +112,7 @@ moved_more p m pc a b (A_maybe t) r h = register_more a b r Null Null h alike
 moved_more p m pc a b (Left c) r h = h
 
 done_more : (p : Image) (d : Bool) (o : Holder) (a b : Shape) → SaysNoMore a b → fields_done p d o a.fields ≡ true → fields_done p d o b.fields ≡ true
-done_more p true (Member c) a b h n = all_empty_more (fields_of p c) a.fields b.fields h.fields n
+done_more p true (Member c) a b h n = past_empty_more (fields_above p (parent_of p c)) (fields_of p c) a.fields b.fields h.fields n
 done_more p true Program a b h n = refl
 done_more p true Nobody a b h n = refl
 done_more p false o a b h n = refl

@@ -3,6 +3,7 @@ use Rattle.std.proofs.Common.{Bool, ◌≡◌, ℕ, zero, suc, ◌<◌, true, Li
 use Rattle.std.proofs.lemmas.Bool.{false≢true, and_parts}
 use Rattle.aom_image.specs.Image.{Image}
 use Rattle.aom_image.specs.declared.method.Thing.{Thing}
+use Rattle.aom_site.specs.Calls.{empty_past}
 use Rattle.aom_shape.specs.Kinds.{all_empty, is_own_for, is_word, is_unowning, is_object_or_null, may_be_destroyed, may_be, may_be_declared, is_fresh_kind, is_ready_kind, readied, none_owns, is_empty, filled, filling_of}
 use Rattle.aom_shape.specs.Order.{Weaker, WeakerFilling}
 use Rattle.aom_shape.specs.Order.Weaker.{alike, unset_word, unset_null, maybe_null, maybe_own}
@@ -104,3 +105,13 @@ empty_from (t ∷ ts) (x ∷ xs) h = rw (h 0 (omega arith), empty_from ts xs (λ
 
 pub all_empty_more : (ts : List Thing) (xs ys : List Filling) → ((i : ℕ) → WeakerFilling (at Perhaps xs i) (at Perhaps ys i)) → all_empty ts xs ≡ true → all_empty ts ys ≡ true
 all_empty_more ts xs ys w h = empty_from ts ys (λ k below. empty_more (at Perhaps xs k) (at Perhaps ys k) (w k) (empty_at ts xs h k below))
+
+
+-- also those past so many
+pub past_empty_more : (k : ℕ) (ts : List Thing) (xs ys : List Filling) → ((i : ℕ) → WeakerFilling (at Perhaps xs i) (at Perhaps ys i)) → empty_past k ts xs ≡ true → empty_past k ts ys ≡ true
+past_empty_more zero ts xs ys w h = all_empty_more ts xs ys w h
+past_empty_more (suc k) [] xs ys w h = refl
+past_empty_more (suc k) (t ∷ ts) [] [] w h = h
+past_empty_more (suc k) (t ∷ ts) [] (y ∷ ys) w h = past_empty_more k ts [] ys (λ i. w (suc i)) h
+past_empty_more (suc k) (t ∷ ts) (x ∷ xs) [] w h = past_empty_more k ts xs [] (λ i. w (suc i)) h
+past_empty_more (suc k) (t ∷ ts) (x ∷ xs) (y ∷ ys) w h = past_empty_more k ts xs ys (λ i. w (suc i)) h

@@ -1,3 +1,4 @@
 pub mod Arguments
 pub mod Calling
+pub mod Past
 pub mod Returning

@@ -1,5 +1,5 @@
 -- The rules of calls, of returns and of stop.
-use Rattle.std.specs.Prelude.{ℕ, suc, ◌+◌, ◌≤◌, Bool, true, false, not, ◌&&◌, ◌==◌, nat_le, nat_lt, List, [], ◌∷◌, ◌++◌, length, replicate, IsSome, Option, Some, None}
+use Rattle.std.specs.Prelude.{ℕ, zero, suc, ◌+◌, ◌≤◌, Bool, true, false, not, ◌&&◌, ◌==◌, nat_le, nat_lt, List, [], ◌∷◌, ◌++◌, length, replicate, IsSome, Option, Some, None}
 use Rattle.aom_image.specs.Image.{Image}
 use Rattle.aom_image.specs.Views.{arguments_of, fields_of, gives_of, has, is_quiet, leaves, method_at, method_class, method_role}
 use Rattle.aom_instructions.specs.declared.instr.Instr.{Instr}
@@ -264,8 +264,21 @@ is_destruct _ = false
 abbrev pub is_destructor : Image → ℕ → Bool
 is_destructor p m = is_destruct (method_role p m)
 
+-- the fields that are declared past so many are null
+abbrev pub empty_past : ℕ → List Thing → List Filling → Bool
+empty_past zero ts xs = all_empty ts xs
+empty_past (suc k) [] xs = true
+empty_past (suc k) (t ∷ ts) [] = empty_past k ts []
+empty_past (suc k) (t ∷ ts) (x ∷ xs) = empty_past k ts xs
+
+-- how many fields a class has of its parent
+abbrev pub fields_above : Image → Option ℕ → ℕ
+fields_above p None = 0
+fields_above p (Some e) = length (fields_of p e)
+
+-- a destructor leaves those null that its class has past its parent's: the others are left to the parent's destructor
 abbrev pub fields_done : Image → Bool → Holder → List Filling → Bool
-fields_done p true (Member c) xs = all_empty (fields_of p c) xs
+fields_done p true (Member c) xs = empty_past (fields_above p (parent_of p c)) (fields_of p c) xs
 fields_done p true Program xs = true
 fields_done p true Nobody xs = true
 fields_done p false h xs = true

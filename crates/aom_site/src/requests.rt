@@ -2,20 +2,22 @@
 ghost use Rattle.std.specs.Prelude.{◌≡◌, IsSome, not};
 ghost use Rattle.aom_image.specs.Views.{has, method_at, method_class, method_role};
 ghost use Rattle.aom_roles.specs.States.{active, cancel_done};
-ghost use Rattle.aom_site.specs.Calls.{fields_done, is_destruct, is_destructor, rule_ended};
+ghost use Rattle.aom_site.specs.Calls.{empty_past, fields_above, fields_done, is_destruct, is_destructor, rule_ended};
 ghost use Rattle.aom_site.specs.Requests.{begins_here, begins_there, is_cancel, is_construct, is_service, may_begin, resting, unissued};
 ghost use Rattle.aom_shape.specs.Arguments.{after_of};
-ghost use Rattle.aom_shape.specs.Kinds.{is_here};
+ghost use Rattle.aom_shape.specs.Kinds.{is_empty, is_here};
 ghost use Rattle.aom_shape.specs.Needs.{only_if};
+ghost use Rattle.aom_shape.specs.Tables.{at};
 ghost use Rattle.aom_shape.specs.Things.{holder_by, holder_of};
+ghost use Rattle.aom_shape.specs.declared.kind.Filling.TheVariants.{Perhaps};
 ghost use Rattle.aom_shape.specs.declared.why.Why.TheVariants.{EntryState, FieldsLeft, IssuedAtReturn, MessageAtReturn, NotCancelled, StillActive};
 
 use crate::site::Site;
 use crate::things::class_fields;
-use aom_image::{ClassNumber, MethodNumber, Role, States, Target};
+use aom_image::{ClassNumber, MethodNumber, Role, States, Target, Thing};
 use aom_linked::Linked;
-use aom_roles::resting_states;
-use aom_shape::{Shape, Why, only_if};
+use aom_roles::{parent_of, resting_states};
+use aom_shape::{Filling, Shape, Why, only_if};
 use bitflags::Flags;
 
 /// The object has no request that is not set active.
@@ -85,14 +87,49 @@ fn is_destruct(role: Role) -> bool
     matches!(role, Role::Destruct)
 }
 
-/// Whether the fields may be left as they are, by the role and the class of the method: a destructor leaves them null.
+/// How many fields a class has of its parent.
+fn fields_above(linked: &Linked, parent: Option<ClassNumber>) -> usize
+    ensures { result ≡ fields_above linked.now parent }
+{
+    match parent {
+        None => 0,
+        Some(parent) => class_fields(linked, parent).len(),
+    }
+}
+
+fn is_empty_at(fillings: &[Filling], index: usize) -> bool
+    ensures { result ≡ is_empty (at Perhaps fillings.now index) }
+{
+    match fillings.get(index) {
+        Some(filling) => filling.is_empty(),
+        None => false,
+    }
+}
+
+/// The fields that are declared past so many are null.
+fn empty_past(past: usize, declared: &[Thing], fillings: &[Filling]) -> bool
+    ensures { result ≡ empty_past past declared.now fillings.now }
+{
+    for index in past..declared.len() {
+        if !is_empty_at(fillings, index) {
+            return false;
+        }
+    }
+    true
+}
+
+/// Whether the fields may be left as they are, by the role and the class of the method: a destructor leaves those of its class past the
+/// parent's null.
 fn done_by(linked: &Linked, role: Role, class: Option<ClassNumber>, shape: &Shape<'_>) -> bool
     ensures { result ≡ fields_done linked.now (is_destruct (Some role)) (holder_by (Some role) class) shape.now.fields }
 {
     match role {
         Role::Destruct => match class {
             None => true,
-            Some(class) => shape.are_empty(class_fields(linked, class)),
+            Some(class) => {
+                let inherited = fields_above(linked, parent_of(linked.image(), class));
+                empty_past(inherited, class_fields(linked, class), &shape.known().fields)
+            }
         },
         _ => true,
     }

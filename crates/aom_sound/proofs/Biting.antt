@@ -43,7 +43,7 @@ unfolding arguments_in class_at class_in fields_in gives_in instr_in method_at r
 calls_bite = record { calls = call_bites; traps = trap_bites; codes = refl }
 
 pub returns_bite : ReturnsBite
-unfolding class_at fields_in gives_in instr_in method_at role_in descends_in parent_in
+unfolding class_at class_in fields_in gives_in instr_in method_at role_in descends_in parent_in
 returns_bite = record { given = refl; level = refl; left = refl; owners = refl; waiting = refl; hanging = refl }
 
 pub cleanup_bites : CleanupBites

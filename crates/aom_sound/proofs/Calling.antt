@@ -413,7 +413,7 @@ module _ (p : Image) (t : Typing) (wired : IsWired p) (typed : IsTyped p t) (c :
         own_fields : Unclaimed p (λ f. filled (field_thing p (thing_holder o.thing) f) Perhaps) o.name (Method fr (worked ended) ∷ ls)
         own_fields =
             let houses = subst (λ h. Houses p (home_holder h) (holder_of p fr.method)) eh at_hand.good.stack.1.holder in
-            waits_unclaimed p t s.cells fr o from eh (worked ended) ls houses (subst (λ h. IsApart p h ls) eh at_hand.good.stack.3) at_hand.good.stack.4 (λ f. at_alike 8 Perhaps f)
+            waits_unclaimed p wired.parentless t s.cells fr o from eh (worked ended) ls houses (subst (λ h. IsApart p h ls) eh at_hand.good.stack.3) at_hand.good.stack.4 (λ f. at_alike 8 Perhaps f)
 
     -- where an object stood before the arguments were passed, it stands after
     stays_at :

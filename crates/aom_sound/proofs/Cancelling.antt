@@ -43,11 +43,11 @@ use Rattle.aom_sound.specs.Claims.{declared_field, own_field, serves, Layer, Met
 use Rattle.aom_sound.specs.Calls.{result_register}
 use Rattle.aom_sound.specs.Effects.{applied, cancels_if}
 use Rattle.aom_sound.specs.Enlisted.{begun_cells, cancel_method, cancel_of, cancelling, in_phase, is_active, is_cancelling, is_unsettled, on_request, own_request, rerequested, is_idle}
-use Rattle.aom_sound.specs.Laws.{IsOfFamily, IsWired}
+use Rattle.aom_sound.specs.Laws.{IsWired}
 use Rattle.aom_sound.specs.Places.{In_service, Cell, Elsewhere, Entry, Field, Going, Object, Phase, Place, Register, Request, Root, held, requested, seen}
 use Rattle.aom_sound.specs.Requests.{AllSuit, Known, Suits, known_at, phase_state, state_of, states_claim, thing_kind, works_at}
 use Rattle.aom_sound.specs.State.{Choice, Frame, Home, Inside, State, frame_as, home_holder, next, thing_holder}
-use Rattle.aom_sound.specs.WellTyped.{Awaits, CountsAs, EndsWell, Fits, Good, Holds, Houses, IsAlone, IsApart, IsHoused, NotIn, Returns, Stack, Stands, Unclaimed, WellTyped, WordFits, by_field}
+use Rattle.aom_sound.specs.WellTyped.{IsOfFamily, Awaits, CountsAs, EndsWell, Fits, Good, Holds, Houses, IsAlone, IsApart, IsHoused, NotIn, Returns, Stack, Stands, Unclaimed, WellTyped, WordFits, by_field}
 use Rattle.aom_sound.proofs.Attending.{plain_claim}
 
 -- ---- what is known of a request
@@ -229,7 +229,7 @@ module _ (p : Image) (t : Typing) (wired : IsWired p) (typed : IsTyped p t) (c :
     own_fields : Unclaimed p (λ f. filled (field_thing p (thing_holder o.thing) f) Perhaps) o.name over
     own_fields =
         let houses = subst (λ h. Houses p (home_holder h) (holder_of p fr.method)) it.home at_hand.good.stack.1.holder in
-        waits_unclaimed p t s.cells fr o it.from it.home sh' ls houses apart at_hand.good.stack.4 (λ f. at_alike 8 Perhaps f)
+        waits_unclaimed p wired.parentless t s.cells fr o it.from it.home sh' ls houses apart at_hand.good.stack.4 (λ f. at_alike 8 Perhaps f)
 
     fits : (q : Place) → Fits p (seen cs') (held cs' q) (claim p (declared p cs') (Method fr' begins.0 ∷ over) q)
     fits (Register f i) = go (length (tasks_of over) == f) refl (base (Register f i))

@@ -25,7 +25,7 @@ use Rattle.aom_sound.specs.Calls.{called, result_register}
 use Rattle.aom_sound.specs.Claims.{Dispatching, Form, Layer, Mark, Mark_form, Method, Unwinding, declared, forms, items_of, objects, tasks_of}
 use Rattle.aom_sound.specs.Cleanup.{arrival, arrived, code_told, destroyed, has_trap, operation_frame, to_trap, unwound}
 use Rattle.aom_classes.specs.Roles.{destructor_of}
-use Rattle.aom_sound.specs.Destruction.{begun_by}
+use Rattle.aom_sound.specs.Destruction.{destructor_frame, begun_by}
 use Rattle.aom_sound.specs.Laws.{IsWired}
 use Rattle.aom_sound.specs.Leaves.{AreEntries, AreMethods, Arrives, ArrivesAt, Begins, HasMoved, HasNoResult, HasPushed, Hears, IsBegun, IsDestroyed, IsLeaving, IsOver, LeavesWith}
 use Rattle.aom_sound.specs.Steps.{Fits as MayHave}
@@ -177,10 +177,10 @@ none_on_its_way p t s w ts at =
     fits_unowning p (seen s.cells) _ Null refl
     (subst (λ k. Fits p (seen s.cells) (held s.cells (Going (length ts))) k) (claim_going_above p s.cells w.layers (length ts) (omega (arith, deep))) (w.good.fits (Going (length ts))))
 
-destroyed_over : (x : Bool) (d : Option ℕ) (o : Object) (height : ℕ) (under : List Task) → IsDestroyed x d o under (cond x (Closing ∷ Destroy ∷ under) (begun_by d o height under))
-destroyed_over true d o height under = refl
-destroyed_over false None o height under = refl
-destroyed_over false (Some m) o height under = (frame_of m (Inside o (Going (length under))) height, refl, refl, refl, refl)
+destroyed_over : (p : Image) (x : Bool) (d : Option ℕ) (o : Object) (height : ℕ) (under : List Task) → IsDestroyed x d o under (cond x (Closing ∷ Destroy ∷ under) (begun_by p d o height under))
+destroyed_over p true d o height under = refl
+destroyed_over p false None o height under = refl
+destroyed_over p false (Some m) o height under = (destructor_frame p m o (length under) height, refl, refl, refl, refl)
 
 module _ (p : Image) (t : Typing) (wired : IsWired p) (s u : State) (w : WellTyped p t s) (code : ℤ) (below : List Task) (at_hand : s.tasks ≡ Unwind code ∷ below) where
   -- what is made of the item on top, with these below it
@@ -193,7 +193,7 @@ module _ (p : Image) (t : Typing) (wired : IsWired p) (s u : State) (w : WellTyp
       let g = Going (length (Unwind code ∷ below)) in
       let free = none_on_its_way p t s w (Unwind code ∷ below) at_hand in
       subst (λ x. Dealt An_object rest (destroyed p x rest (Unwind code ∷ below) (counted p s))) (sym o.1)
-      (begins_over p wired o.0 (length rest) code below (Unwind code ∷ below) (refl, refl), refl, (o.0, has_moved s.cells (Entry (length rest)) g o.0 o.1 free refl, destroyed_over (is_server p o.0.thing) (destructor_of p o.0.thing) o.0 (length rest) (Unwind code ∷ below)))
+      (begins_over p wired o.0 (length rest) code below (Unwind code ∷ below) (refl, refl), refl, (o.0, has_moved s.cells (Entry (length rest)) g o.0 o.1 free refl, destroyed_over p (is_server p o.0.thing) (destructor_of p o.0.thing) o.0 (length rest) (Unwind code ∷ below)))
 
   of_item : AllUndo p s.items → (i : Item) (rest es : List Item) → s.items ≡ i ∷ rest → AreEntries (i ∷ es) → unwound p code below (counted p s) (i ∷ rest) ≡ Goes u → Dealt i rest u
   of_item undos An_object rest es same plain e =

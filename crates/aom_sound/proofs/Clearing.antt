@@ -1,4 +1,6 @@
 -- While a leave is at hand, the methods and the going cells over it leave the cleanup stack as it is: by the heights at which the methods began.
+use Rattle.aom_image.specs.declared.method.Role.TheVariants.{Destruct}
+use Rattle.aom_roles.proofs.Descending.{itself}
 use Rattle.std.proofs.lemmas.Option.{same_Some}
 use Rattle.std.proofs.Common.{[], Bool, cond, false, List, None, Option, Some, ap, arith, length, refl, subst, sym, true, ℕ, ℤ, ◌∙◌, ◌∷◌, ◌≡◌, ◌≢◌}
 use Rattle.std.proofs.lemmas.Bool.{true≢false}
@@ -9,7 +11,7 @@ use Rattle.aom_instructions.specs.declared.instr.Instr.{Instr}
 use Rattle.aom_instructions.specs.declared.instr.Instr.TheVariants.{Call}
 use Rattle.aom_instructions.specs.declared.instr.Target.{Target}
 use Rattle.aom_image.specs.declared.method.Gives.{Gives}
-use Rattle.aom_rules.specs.Calls.{each_argument, rule_target}
+use Rattle.aom_rules.specs.Calls.{parent_by, each_argument, rule_target}
 use Rattle.aom_rules.specs.Requests.{is_construct}
 use Rattle.aom_shape.specs.Kinds.{no_entry}
 use Rattle.aom_shape.specs.Needs.{AllTrue}
@@ -20,7 +22,7 @@ use Rattle.aom_shape.specs.declared.kind.Entry.{Entry as Pushed_entry}
 use Rattle.aom_sound.proofs.Callees.{cancel_quiet, only_then}
 use Rattle.aom_sound.proofs.Overriders.{body_quiet}
 use Rattle.aom_sound.proofs.Claimed.{length_objects}
-use Rattle.aom_sound.proofs.Destroying.{destroys}
+use Rattle.aom_sound.proofs.Destroying.{destroys_by, destroys}
 use Rattle.aom_sound.proofs.Finishing.{all_parts}
 use Rattle.aom_sound.proofs.Items.{length_forms}
 use Rattle.aom_sound.proofs.Moving.{steps_are_moves}
@@ -28,14 +30,14 @@ use Rattle.aom_sound.proofs.Preserving.{receives}
 use Rattle.aom_sound.specs.Calls.{result_register, returned, target_view}
 use Rattle.aom_sound.specs.Claims.{Form, Layer, Method, forms, items_of, objects, tasks_of}
 use Rattle.aom_sound.specs.Cleanup.{has_trap}
-use Rattle.aom_classes.specs.Roles.{destructor_of}
-use Rattle.aom_sound.specs.Destruction.{destructed, parting, first_session, begun, begun_by}
+use Rattle.aom_classes.specs.Roles.{role_of, destructor_of}
+use Rattle.aom_sound.specs.Destruction.{class_destructor, line_on, destructed, parting, first_session, begun, begun_by}
 use Rattle.aom_sound.specs.Effects.{Calls, Cancels, Counts, Destroys, Destroys_last, Effect, Goes_on, Jumps, Leaves, Operates, Popped, Popped_operation, Pushed, Pushed_operation, Repeats, Returns, Sets_trap, Update, applied, items_after, with_words}
 use Rattle.aom_sound.specs.Laws.{IsWired}
 use Rattle.aom_sound.specs.Leaves.{IsLeaving, IsOver}
 use Rattle.aom_sound.specs.Moves.{counted, step}
 use Rattle.aom_sound.specs.Places.{service_of, Cell, Object}
-use Rattle.aom_sound.specs.State.{Closing, Seat, Choice, Destroy, Frame, Goes, Item, Run, State, Task, Unwind, next, resumed}
+use Rattle.aom_sound.specs.State.{Static, Inside, AtRoot, Home, Closing, Seat, Choice, Destroy, Frame, Goes, Item, Run, State, Task, Unwind, next, resumed}
 use Rattle.aom_sound.specs.Steps.{Empties, Acts, Arrives, Clears, Comes_out, Ends, Fits, FitsUpdate, Move, Rests, Undoes, Vanishes}
 use Rattle.aom_sound.specs.WellTyped.{Good, WellTyped}
 use Rattle.aom_sound.specs.Enlisted.{ended_cells}
@@ -58,9 +60,24 @@ resumes_over p height code below _ o = o
 destructs_over : (p : Image) → IsWired p → (o : Object) (height : ℕ) (code : ℤ) (below ts : List Task) → IsOver p height code below ts → IsOver p height code below (destructed p o height ts)
 destructs_over p wired o height code below ts h = go (destructor_of p o.thing) refl
   where
-    go : (d : Option ℕ) → destructor_of p o.thing ≡ d → IsOver p height code below (begun_by d o height ts)
+    go : (d : Option ℕ) → destructor_of p o.thing ≡ d → IsOver p height code below (begun_by p d o height ts)
     go None e = h
     go (Some m) e = ((destroys p wired o.thing m e).quiet, refl, h)
+
+-- and the next of its line
+line_over :
+    (p : Image) → IsWired p → (m : ℕ) (home : Home) (height : ℕ) (code : ℤ) (below ts : List Task) → IsOver p height code below ts → IsOver p height code below (line_on p m home height ts)
+line_over p wired m Static height code below ts h = h
+line_over p wired m AtRoot height code below ts h = h
+line_over p wired m (Inside o from) height code below ts h = go (parent_by p (method_class p m))
+  where
+    of_role : (x : ℕ) (d : Option ℕ) → role_of p x Destruct ≡ d → IsOver p height code below (begun_by p d o height ts)
+    of_role x None e = h
+    of_role x (Some k) e = ((destroys_by p wired x x k (itself p x) e).quiet, refl, h)
+
+    go : (x : Option ℕ) → IsOver p height code below (begun_by p (class_destructor p x) o height ts)
+    go None = h
+    go (Some x) = of_role x (role_of p x Destruct) refl
 
 pub begins_over : (p : Image) → IsWired p → (o : Object) (height : ℕ) (code : ℤ) (below ts : List Task) → IsOver p height code below ts → IsOver p height code below (begun p o height ts)
 begins_over p wired o height code below ts h = go (is_server p o.thing)
@@ -100,7 +117,8 @@ module _ (p : Image) (wired : IsWired p) (c : Choice) (fr : Frame) (sh : Shape) 
   return_kept g a (Run caller ∷ under) w =
       let x = result_register (instr_at p caller.method caller.place) in
       (subst (λ f. IsOver p (length s.items) code below (Run (next f) ∷ under)) (sym (receives p fr ts (record s { cells = ended_cells p fr s.cells }) g a x caller)) w, refl)
-  return_kept g a (Destroy ∷ under) w = (w, refl)
+  return_kept g a (Destroy ∷ under) w =
+      (subst (λ n. IsOver p (length s.items) code below (line_on p fr.method fr.home n under)) (sym h.1) (line_over p wired fr.method fr.home (length s.items) code below under w), refl)
   return_kept g a (Unwind x ∷ under) w = (w, refl)
   return_kept g a (Closing ∷ under) w = (subst (λ l. IsOver p (length s.items) code below l) (sym at_hand) h, refl)
   return_kept g a _ w = absurd (assumption tt)

@@ -98,7 +98,7 @@ module _ (p : Image) (s : State) (fit : ClientsFit p s.clients s.cells) where
   parting_kept : (o : Object) (x : Option Seat) (below : List Task) → TasksKept p s.clients s.cells below → IsKept p (parting p o x below s)
   parting_kept o None below stage = same_cells _ refl refl (go (destructor_of p o.thing))
     where
-      go : (m : Option ℕ) → TasksKept p s.clients s.cells (begun_by m o (length s.items) below)
+      go : (m : Option ℕ) → TasksKept p s.clients s.cells (begun_by p m o (length s.items) below)
       go None = stage
       go (Some m) = stage
   parting_kept o (Some x) below stage = begun_kept x.place _ x.object (length s.items) (Closing ∷ Destroy ∷ below) _ refl refl refl stage

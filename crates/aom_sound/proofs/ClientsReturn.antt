@@ -1,5 +1,6 @@
 -- What is kept of clients stays so where a method returns, where a message is completed, and where a dispatch comes to its end.
-use Rattle.std.proofs.Common.{[], Bool, List, None, Some, ap, cond, false, refl, subst, sym, true, ℕ, ℤ, ◌==◌, ◌∙◌, ◌∷◌, ◌≡◌, ◌<◌, ◌≤◌, arith}
+use Rattle.aom_sound.specs.Destruction.{begun_by, next_destructor, line_on}
+use Rattle.std.proofs.Common.{[], Bool, List, None, Some, ap, cond, false, refl, subst, sym, true, ℕ, ℤ, ◌==◌, ◌∙◌, ◌∷◌, ◌≡◌, ◌<◌, ◌≤◌, arith, Option}
 use Rattle.std.specs.List.{list_any}
 use Rattle.aom_image.specs.Image.{Image}
 use Rattle.aom_image.specs.declared.method.Gives.{Gives}
@@ -15,7 +16,7 @@ use Rattle.aom_sound.specs.Clients.{most_of}
 use Rattle.aom_sound.specs.Kept.{ClientsFit, IsKept, QueueFits, TasksKept, is_connect_of, is_message_of}
 use Rattle.aom_sound.specs.Places.{Cell, Elsewhere, Object, Place, Queued, Session, Tidy, held, moved, named, same_place, service_of, without, requested}
 use Rattle.aom_sound.specs.Servers.{is_from, is_server, seats_taken}
-use Rattle.aom_sound.specs.State.{Accept_left, Accepts, Destroy, Dispatch, Dispatched, Frame, Of_server, Parts, Run, Seat, State, Task, Trapped, Unwind}
+use Rattle.aom_sound.specs.State.{Static, Inside, AtRoot, Home, Accept_left, Accepts, Destroy, Dispatch, Dispatched, Frame, Of_server, Parts, Run, Seat, State, Task, Trapped, Unwind}
 use Rattle.aom_sound.specs.Words.{here}
 use Rattle.aom_sound.specs.Enlisted.{thing_kind}
 use Rattle.aom_sound.proofs.Seated.{seats_same}
@@ -68,12 +69,22 @@ module _ (p : Image) (fr : Frame) (ts : List Task) (s : State) (fit : ClientsFit
   answered_stage answer (Of_server x c stage) below k = k
   answered_stage answer _ below k = tt
 
+  -- the next destructor of a line, or the cell
+  line_kept : (m : ℕ) (home : Home) (height : ℕ) (below : List Task) → TasksKept p s.clients s.cells (Destroy ∷ below) → TasksKept p s.clients s.cells (line_on p m home height below)
+  line_kept m Static height below k = k
+  line_kept m AtRoot height below k = k
+  line_kept m (Inside o from) height below k = go (next_destructor p m)
+    where
+      go : (d : Option ℕ) → TasksKept p s.clients s.cells (begun_by p d o height below)
+      go None = k
+      go (Some x) = k
+
   -- to whatever is below; where it is the end of `accept`, its server stands
   pub return_kept : (g : Gives) (a : ℕ) (below : List Task) → ((x : Seat) (c : ℕ) → IsAt (Of_server x c Accepts) below → (named s.cells x.object.name ≡ Some x.object) × (is_server p x.object.thing ≡ true) × (is_some (requested s.cells x.object.name) ≡ true)) → s.tasks ≡ Run fr ∷ ts → TasksKept p s.clients s.cells below → TasksKept p s.clients s.cells ts → IsKept p (returned p fr ts s g a below)
   return_kept g a (Run caller ∷ below) there tasks stage all = result_kept g a _ below _ refl refl refl (λ cs k. k) stage
   return_kept g a (Trapped ∷ Run caller ∷ below) there tasks stage all = result_kept g a _ below _ refl refl refl (λ cs k. k) stage
   return_kept g a (Trapped ∷ Dispatched d ∷ below) there tasks stage all = ended_kept g a below d there stage
-  return_kept g a (Destroy ∷ below) there tasks stage all = same_tasks _ refl refl stage
+  return_kept g a (Destroy ∷ below) there tasks stage all = same_tasks _ refl refl (line_kept fr.method fr.home fr.height below stage)
   return_kept g a (Unwind code ∷ below) there tasks stage all = same_tasks _ refl refl stage
   return_kept g a (Dispatched d ∷ below) there tasks stage all = same_tasks _ refl refl (answered_stage _ d below stage)
   return_kept g a _ there tasks stage all = same_tasks s refl refl (subst (λ l. TasksKept p s.clients s.cells l) (sym tasks) all)

@@ -175,11 +175,11 @@ first_sent p clients cs o lives c m es queue fit x there =
 pub tasks_begun : (p : Image) (clients : List Client) (cs : List Cell) (o : Object) (height : ℕ) (ts : List Task) → TasksKept p clients cs ts → TasksKept p clients cs (begun p o height ts)
 tasks_begun p clients cs o height ts kept = go (is_server p o.thing)
   where
-    by : (m : Option ℕ) → TasksKept p clients cs (begun_by m o height ts)
+    by : (m : Option ℕ) → TasksKept p clients cs (begun_by p m o height ts)
     by None = kept
     by (Some m) = kept
 
-    go : (b : Bool) → TasksKept p clients cs (cond b (Closing ∷ Destroy ∷ ts) (begun_by (destructor_of p o.thing) o height ts))
+    go : (b : Bool) → TasksKept p clients cs (cond b (Closing ∷ Destroy ∷ ts) (begun_by p (destructor_of p o.thing) o height ts))
     go true = kept
     go false = by (destructor_of p o.thing)
 

@@ -28,16 +28,18 @@ use Rattle.aom_sound.proofs.Seats.{NoFieldHere, NoSeatHere, no_seat}
 use Rattle.aom_sound.proofs.Maps.{held_lives, held_moved, named_moved, one_place, requested_moved, same_place-true, same_place_refl, tidy_moved}
 use Rattle.aom_sound.proofs.Straight.{At, Law, fits_unowning, fitted, housed_relocated, kind_fits, no_word, relabel, settle, top, well, words_set}
 use Rattle.aom_sound.proofs.Things.{stands_itself, stands_object}
-use Rattle.aom_sound.proofs.Housing.{counts_same, houses_same}
+use Rattle.aom_sound.proofs.Housing.{counts_line, houses_role}
+use Rattle.aom_roles.proofs.Descending.{itself, through}
+use Rattle.aom_roles.specs.Families.{descends}
 use Rattle.aom_sound.specs.Claims.{Ending, by_close, serves, Dispatching, Dying, Layer, Mark, Method, Unwinding, claim, declared, declared_field, entry_claim, forms, home_claim, items_of, own_field, tasks_of}
-use Rattle.aom_classes.specs.Roles.{destructor_of}
-use Rattle.aom_sound.specs.Destruction.{destructed, begun, begun_by}
+use Rattle.aom_classes.specs.Roles.{destructor_of, role_of}
+use Rattle.aom_sound.specs.Destruction.{destructor_frame, destructed, begun, begun_by}
 use Rattle.aom_sound.specs.Laws.{IsWired}
 use Rattle.aom_sound.specs.Effects.{applied, deletes}
 use Rattle.aom_sound.specs.Objects.{is_no_message}
 use Rattle.aom_sound.specs.Places.{In_service, Queued, service_of, Cell, Elsewhere, Entry, Field, Going, Object, Place, Register, Root, Sight, Tidy, changed, held, moved, named, requested, same_place, seen, Session}
 use Rattle.aom_sound.specs.State.{Dispatch, Of_server, Parts, Closing, Destroy, AtRoot, Choice, Frame, Home, Inside, Run, Seat, State, Static, frame_of, next, set_word, thing_holder, word}
-use Rattle.aom_sound.specs.WellTyped.{SitsFirst, seat_of, IsOverDying, Now, AllSit, NoSeatAt, NoSeatIn, SitsIn, SomeSits, AllUndo, Back, Caught, Fits, Gone, Good, IsBelow, IsHoused, IsNoFieldOf, Leaves, NoneIn, NotIn, Returns, SomeIn, Stack, Unclaimed, WellTyped, WordFits, WorksOn}
+use Rattle.aom_sound.specs.WellTyped.{SitsFirst, seat_of, IsOverDying, Now, AllSit, NoSeatAt, NoSeatIn, SitsIn, SomeSits, AllUndo, Back, Caught, Fits, Gone, Good, Houses, IsBelow, IsHoused, IsNoFieldOf, IsOfFamily, Leaves, NoneIn, NotIn, Returns, SomeIn, Stack, Unclaimed, WellTyped, WordFits, WorksOn}
 use Rattle.aom_roles.specs.Shapes.{kind_of}
 use Rattle.aom_sound.proofs.Suiting.{all_moved, known_plain, same_object, suits_less, unworked_rests}
 use Rattle.aom_sound.specs.Requests.{AllSuit, Known, Suits, Unworked, known_at, resting_in, states_claim, thing_kind, works_at}
@@ -144,11 +146,12 @@ module _ (p : Image) (t : Typing) (cs : List Cell) (q : Place) (o : Object) (tid
       let u = untouched k ls Leaves (outside_less q (Unwinding code es) ls out) s.1 in
       record { some = u.some; unclaimed = u.unclaimed; none_in = u.none_in; unworked = u.unworked; sessions = u.sessions }
 
--- what the link has found of a thing's destructor
+-- what the link has found of a destructor in the line of a thing: it is of the thing's class, or of one above it
 pub record Destroys (p : Image) (x : Thing) (m : ℕ) : Type 0 where
   pub there : IsSome (method_at p m)
   pub role : method_role p m ≡ Some Destruct
-  pub holder : holder_of p m ≡ thing_holder x
+  pub holder : Houses p (thing_holder x) (holder_of p m)
+  pub family : (c : ℕ) × (x ≡ An_object_of c) × IsOfFamily p c m
   pub stays : leaves p m ≡ false
   pub quiet : is_quiet p m ≡ true
   pub gives : gives_of p m ≡ Nothing
@@ -156,21 +159,33 @@ pub record Destroys (p : Image) (x : Thing) (m : ℕ) : Type 0 where
   pub begins : before_of p m ≡ states_of (thing_kind p x)
   pub ends : after_of p m ≡ last_of (thing_kind p x)
 
-pub destroys : (p : Image) → IsWired p → (x : Thing) (m : ℕ) → destructor_of p x ≡ Some m → Destroys p x m
-destroys p wired (An_object_of c) m e =
-    let w = wired.destructor c m e in
+-- the destructor of a class, of what descends from the class
+pub destroys_by : (p : Image) → IsWired p → (c d m : ℕ) → descends p c d ≡ true → role_of p d Destruct ≡ Some m → Destroys p (An_object_of c) m
+destroys_by p wired c d m above e =
+    let w = wired.destructor d m e in
+    let of : IsOfFamily p c m = record { class = w.2.class; of = w.2.of; above = through p c d w.2.class above w.2.above } in
+    let kind = sym (wired.family.kinds c d above) in
     record {
       there = w.0;
       role = w.1;
-      holder = ap (λ r. holder_by r (method_class p m)) w.1 ∙ ap (λ k. holder_by (Some Destruct) k) w.2;
+      holder = houses_role p wired.family (An_object_of c) c m refl of (ap (λ r. holder_by r (Some of.class)) w.1);
+      family = (c, refl, of);
       stays = w.3;
       quiet = w.4;
       gives = w.5;
       arguments = w.6;
-      begins = (wired.destructs c m e).0;
-      ends = (wired.destructs c m e).1;
+      begins = (wired.destructs d m e).0 ∙ ap states_of kind;
+      ends = (wired.destructs d m e).1 ∙ ap last_of kind;
     }
+
+pub destroys : (p : Image) → IsWired p → (x : Thing) (m : ℕ) → destructor_of p x ≡ Some m → Destroys p x m
+destroys p wired (An_object_of c) m e = destroys_by p wired c c m (itself p c) e
 destroys p wired Message m e = cc
+
+-- the first of a line is of a class that has all the thing's fields
+first_fields : (p : Image) → IsWired p → (x : Thing) (m : ℕ) → destructor_of p x ≡ Some m → (f : ℕ) → field_thing p (thing_holder x) f ≡ field_thing p (holder_of p m) f
+first_fields p wired (An_object_of c) m e f = wired.empties c m e f
+first_fields p wired Message m e f = cc
 
 -- what has no destructor may rest as it goes
 undestructed : (p : Image) → IsWired p → (x : Thing) → destructor_of p x ≡ None → last_of (thing_kind p x) ≡ states_of (thing_kind p x)
@@ -261,34 +276,31 @@ module _ (p : Image) (t : Typing) (linked : IsWired p) (typed : IsTyped p t) (cs
 
     -- with one
     clothed :
-        (m height : ℕ) (after : Shape) → Destroys p o.thing m → SaysNoMore after (entry_shape p m) → (r : Place) →
-        Fits p (seen cs) (held cs r) (claim p (declared p cs) (Method (frame_of m (Inside o (Going (length (tasks_of ls)))) height) after ∷ Dying o ∷ ls) r)
-    clothed m height after is w (Register f i) = go (length (tasks_of (Dying o ∷ ls)) == f) refl
+        (m height : ℕ) (after : Shape) → Destroys p o.thing m → ((f : ℕ) → field_thing p (holder_of p m) f ≡ None → held cs (Field o.name f) ≡ None) → SaysNoMore after (entry_shape p m) → (r : Place) →
+        Fits p (seen cs) (held cs r) (claim p (declared p cs) (Method (destructor_frame p m o (length (tasks_of ls)) height) after ∷ Dying o ∷ ls) r)
+    clothed m height after is others w (Register f i) = go (length (tasks_of (Dying o ∷ ls)) == f) refl
       where
         go : (b : Bool) → (length (tasks_of (Dying o ∷ ls)) == f) ≡ b → Fits p (seen cs) (held cs (Register f i)) (cond b (register after i) (claim p (declared p cs) ls (Register f i)))
         go true e = subst (λ k. Fits p (seen cs) (held cs (Register f i)) k) (sym (unset_only (subst (λ k. Weaker (register after i) k) (entry_registers p m is.arguments i) (w.registers i))))
             (subst (λ x. Fits p (seen cs) x Unset) (sym (fits_unowning p (seen cs) _ Null refl (null_of p (seen cs) _ _ (claim_register_above p cs ls f i (omega (arith, eqb-true _ _ e))) (fits (Register f i))))) tt)
         go false e = fits (Register f i)
-    clothed m height after is w (Entry k) = subst (λ es. Fits p (seen cs) (held cs (Entry k)) (entry_claim es (items_of ls) k (claim p (declared p cs) ls (Entry k)))) (sym w.entries) (fits (Entry k))
-    clothed m height after is w (Field n f) = go (o.name == n) refl (field_thing p (holder_of p m) f) refl
+    clothed m height after is others w (Entry k) = subst (λ es. Fits p (seen cs) (held cs (Entry k)) (entry_claim es (items_of ls) k (claim p (declared p cs) ls (Entry k)))) (sym w.entries) (fits (Entry k))
+    clothed m height after is others w (Field n f) = go (o.name == n) refl (field_thing p (holder_of p m) f) refl
       where
         go :
             (b : Bool) → (o.name == n) ≡ b → (own : Option Thing) → field_thing p (holder_of p m) f ≡ own →
             Fits p (seen cs) (held cs (Field n f)) (cond b (own_field own (field after f) (cond b Null (claim p (declared p cs) ls (Field n f)))) (cond b Null (claim p (declared p cs) ls (Field n f))))
-        go true e own same = of_class own (sym (ap (λ h. field_thing p h f) is.holder) ∙ same)
-          where
-            of_class : (own : Option Thing) → field_thing p (thing_holder o.thing) f ≡ own → Fits p (seen cs) (held cs (Field n f)) (own_field own (field after f) Null)
-            of_class (Some x) is_there =
-                subst (λ y. Fits p (seen cs) (held cs (Field n f)) (filled (Some x) y)) (sym (perhaps_only (subst (λ x. WeakerFilling (field after f) x) (destruct_fields p m is.role f) (w.fields f))))
-                (subst (λ y. Fits p (seen cs) (held cs (Field n f)) (filled y Perhaps)) is_there (fields_fit n f e))
-            of_class None is_there = subst (λ y. Fits p (seen cs) (held cs (Field n f)) (filled y Perhaps)) is_there (fields_fit n f e)
+        go true e (Some x) same =
+            subst (λ y. Fits p (seen cs) (held cs (Field n f)) (filled (Some x) y)) (sym (perhaps_only (subst (λ x. WeakerFilling (field after f) x) (destruct_fields p m is.role f) (w.fields f))))
+            (subst (λ y. Fits p (seen cs) (held cs (Field n f)) (filled y Perhaps)) (is.holder.fields f x same) (fields_fit n f e))
+        go true e None same = subst (λ x. Fits p (seen cs) x Null) (sym (ap (λ k. held cs (Field k f)) (sym (eqb-true o.name n e)) ∙ others f same)) tt
         go false e own same = fits (Field n f)
-    clothed m height after is w (Elsewhere Root) = fits (Elsewhere Root)
-    clothed m height after is w (Elsewhere In_service) =
+    clothed m height after is others w (Elsewhere Root) = fits (Elsewhere Root)
+    clothed m height after is others w (Elsewhere In_service) =
         subst (λ k. Fits p (seen cs) (held cs (Elsewhere In_service)) k) (sym (plain_claim (serves p m) after (claim p (declared p cs) ls (Elsewhere In_service)) (ap is_service is.role)))
         (fits (Elsewhere In_service))
-    clothed m height after is w (Elsewhere w') = fits (Elsewhere w')
-    clothed m height after is w (Going k) =
+    clothed m height after is others w (Elsewhere w') = fits (Elsewhere w')
+    clothed m height after is others w (Going k) =
         subst (λ b. Fits p (seen cs) (held cs (Going k)) (cond b (Own o.thing Ready) (claim p (declared p cs) ls (Going k)))) (tail (length (tasks_of ls) == k)) (fits (Going k))
       where
         tail : (b : Bool) → (b && true) ≡ b
@@ -307,11 +319,11 @@ module _ (p : Image) (t : Typing) (linked : IsWired p) (typed : IsTyped p t) (cs
 
     clothed_suits :
         (m height : ℕ) (after : Shape) → Destroys p o.thing m → SaysNoMore after (entry_shape p m) →
-        AllSuit p cs (Method (frame_of m (Inside o (Going (length (tasks_of ls)))) height) after ∷ Dying o ∷ ls)
+        AllSuit p cs (Method (destructor_frame p m o (length (tasks_of ls)) height) after ∷ Dying o ∷ ls)
     clothed_suits m height after is w x there = at_name (o.name == x.name) refl
       where
         fr : Frame
-        fr = frame_of m (Inside o (Going (length (tasks_of ls)))) height
+        fr = destructor_frame p m o (length (tasks_of ls)) height
 
         below : Bool → Known
         below b = cond b (resting_in (last_of (thing_kind p x.thing))) (states_claim p x ls)
@@ -323,13 +335,35 @@ module _ (p : Image) (t : Typing) (linked : IsWired p) (typed : IsTyped p t) (cs
             (suits_less (thing_kind p o.thing) after.states (before_of p m) false (requested cs o.name) w.states (subst (λ n. Suits (thing_kind p o.thing) (resting_in n) (requested cs o.name)) (sym is.begins) rested)))
         at_name false e = suits x there
 
-    -- so a destructor begins
+    -- so one of the line begins, where the fields that its class does not declare are null
+    pub begins_line :
+        (m : ℕ) → Destroys p o.thing m → ((f : ℕ) → field_thing p (holder_of p m) f ≡ None → held cs (Field o.name f) ≡ None) → (s : State) (height : ℕ) → height ≡ length (items_of ls) → s.cells ≡ cs →
+        s.tasks ≡ Run (destructor_frame p m o (length (tasks_of ls)) height) ∷ Destroy ∷ tasks_of ls → forms s.items ≡ items_of ls → AllUndo p s.items → WellTyped p t s
+    begins_line m d others s height high cells tasks items undos =
+        let leads = typed.entry m d.there in
+        let w = leads.2 in
+        let fr = destructor_frame p m o (length (tasks_of ls)) height in
+        let good : Good p t cs (Method fr leads.0 ∷ Dying o ∷ ls) = record {
+          stack = (
+            leads.1,
+            record { words = λ i. subst (λ k. WordFits None k) (sym (unset_only (subst (λ k. Weaker (register leads.0 i) k) (entry_registers p m d.arguments i) (w.registers i)))) tt; holder = d.holder; view = counts_line p o.thing d.family.0 m d.family.1 d.family.2 (ap (λ r. holder_by r (method_class p m)) d.role ∙ ap (λ k. holder_by (Some Destruct) k) d.family.2.of); height = high; alone = λ e. absurd (true≢false (sym e ∙ ap is_cancel d.role)); message = (λ e. absurd (true≢false (sym e ∙ ap is_service d.role)), λ served. absurd served) },
+            record { there = there; lives = lives; below = omega arith; ready = ap (λ b. is_ready_kind (cond b (Own o.thing Ready) (claim p (λ x. Null) ls (Going (length (tasks_of ls)))))) (eq-eqb (length (tasks_of ls)) _ refl) },
+            (tt, apart.none_in, apart.unclaimed, apart.unworked),
+            ((lives, there), (d.stays, refl, ap is_destruct d.role, d.gives, d.ends, d.quiet, d.family.0, d.family.1, d.family.2), stack),
+          );
+          fits = clothed m height leads.0 d others w;
+          suits = clothed_suits m height leads.0 d w;
+          tidy = tidy;
+        } in
+        begins_well p t cs fr leads.0 (Dying o ∷ ls) s w.entries good cells tasks items undos
+
+    -- so the first one begins
     pub destruct :
         (s : State) (height : ℕ) → height ≡ length (items_of ls) → s.cells ≡ cs → s.tasks ≡ destructed p o height (tasks_of ls) → forms s.items ≡ items_of ls → AllUndo p s.items →
         WellTyped p t s
     destruct s height high cells tasks items undos = go (destructor_of p o.thing) refl tasks
       where
-        go : (d : Option ℕ) → destructor_of p o.thing ≡ d → s.tasks ≡ begun_by d o height (tasks_of ls) → WellTyped p t s
+        go : (d : Option ℕ) → destructor_of p o.thing ≡ d → s.tasks ≡ begun_by p d o height (tasks_of ls) → WellTyped p t s
         go None e tasks = record {
           layers = Dying o ∷ ls;
           tasks = tasks;
@@ -337,24 +371,12 @@ module _ (p : Image) (t : Typing) (linked : IsWired p) (typed : IsTyped p t) (cs
           undos = undos;
           good = subst (λ cs. Good p t cs (Dying o ∷ ls)) (sym cells) (record { stack = ((lives, there), tt, stack); fits = bare e; suits = bare_suits (undestructed p linked o.thing e); tidy = tidy });
         }
-        go (Some m) e tasks =
-            let d = destroys p linked o.thing m e in
-            let leads = typed.entry m d.there in
-            let w = leads.2 in
-            let fr = frame_of m (Inside o (Going (length (tasks_of ls)))) height in
-            let good : Good p t cs (Method fr leads.0 ∷ Dying o ∷ ls) = record {
-              stack = (
-                leads.1,
-                record { words = λ i. subst (λ k. WordFits None k) (sym (unset_only (subst (λ k. Weaker (register leads.0 i) k) (entry_registers p m d.arguments i) (w.registers i)))) tt; holder = houses_same p _ _ (sym d.holder); view = counts_same p (Inside o (Going (length (tasks_of ls)))) _ (sym d.holder); height = high; alone = λ e. absurd (true≢false (sym e ∙ ap is_cancel d.role)); message = (λ e. absurd (true≢false (sym e ∙ ap is_service d.role)), λ served. absurd served) },
-                record { there = there; lives = lives; below = omega arith; ready = ap (λ b. is_ready_kind (cond b (Own o.thing Ready) (claim p (λ x. Null) ls (Going (length (tasks_of ls)))))) (eq-eqb (length (tasks_of ls)) _ refl) },
-                (tt, apart.none_in, apart.unclaimed, apart.unworked),
-                ((lives, there), (d.stays, refl, ap is_destruct d.role, d.gives, d.ends, d.quiet, d.holder), stack),
-              );
-              fits = clothed m height leads.0 d w;
-              suits = clothed_suits m height leads.0 d w;
-              tidy = tidy;
-            } in
-            begins_well p t cs fr leads.0 (Dying o ∷ ls) s w.entries good cells tasks items undos
+        go (Some m) e tasks = begins_line m (destroys p linked o.thing m e) (others m e) s height high cells tasks items undos
+          where
+            others : (m : ℕ) → destructor_of p o.thing ≡ Some m → (f : ℕ) → field_thing p (holder_of p m) f ≡ None → held cs (Field o.name f) ≡ None
+            others m e f none =
+                fits_unowning p (seen cs) _ Null refl
+                (subst (λ y. Fits p (seen cs) (held cs (Field o.name f)) (filled y Perhaps)) (first_fields p linked o.thing m e f ∙ none) (fields_fit o.name f (eq-eqb o.name o.name refl)))
 
   -- with its sessions
   module _ (fits : (r : Place) → Fits p (seen cs) (held cs r) (Dies p cs o ls r)) where

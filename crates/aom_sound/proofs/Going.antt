@@ -1,4 +1,6 @@
 -- A cell goes.
+use Rattle.aom_shape.specs.Needs.{AllTrue}
+use Rattle.aom_image.specs.declared.method.Thing.{Thing}
 use Rattle.std.proofs.Common.{Bool, List, None, Option, Some, [], ap, arith, cond, false, length, refl, subst, sym, true, ℕ, ◌&&◌, ◌==◌, ◌∙◌, ◌∷◌, ◌≡◌}
 use Rattle.std.proofs.lemmas.Bool.{and_from, eq-eqb, eqb-true, ne_eqb, true≢false}
 use Rattle.std.specs.Prelude.{not}
@@ -14,7 +16,7 @@ use Rattle.aom_sound.proofs.Emptied.{emptied_by}
 use Rattle.aom_sound.proofs.Maps.{cond_same, same_place_refl, front_free, held_without, named_without, requested_without, same_place-true, tidy_without, unnamed, unrequested}
 use Rattle.aom_sound.proofs.Straight.{Fitted, fits_unowning, settle}
 use Rattle.aom_sound.specs.Claims.{Ending, Dispatching, Dying, Layer, Mark, Method, Unwinding, claim, declared, declared_field, forms, items_of, objects, tasks_of}
-use Rattle.aom_sound.specs.Destruction.{gone, is_at_rest, is_field_of, owns_no_message, owns_nothing}
+use Rattle.aom_sound.specs.Destruction.{needs_past, owns_none_past, is_past, gone, is_at_rest, is_field_of, owns_no_message, owns_nothing}
 use Rattle.aom_sound.specs.Places.{Session, Queued, service_of, Cell, Elsewhere, Field, Going, Object, Place, Request, Tidy, held, named, requested, same_place, seen, without}
 use Rattle.aom_sound.specs.State.{Of_server, Parts, Seat, ActiveDestroyed, AtRoot, Home, Inside, IsStuck, MessageLost, Of_root, Orphan, State, Static, guarded, next, resumed}
 use Rattle.aom_sound.specs.WellTyped.{IsOverDying, SitsFirst, NoSeatAt, seat_of, AllUndo, Back, Caught, Fits, Gone, Good, Holds, IsHoused, Keeps, Leaves, Now, Returns, Stack, WellTyped}
@@ -27,7 +29,7 @@ use Rattle.aom_sound.proofs.Dropping.{dropped, held_dropped, queue_dropped, queu
 use Rattle.aom_sound.proofs.Unslotting.{each_unslotted_alike, each_unslotted_requests}
 use Rattle.aom_sound.proofs.Storing.{stack_alike, fits_alike}
 use Rattle.aom_sound.proofs.Services.{attended_at, service_without, sits_there}
-use Rattle.aom_shape.specs.Kinds.{filled}
+use Rattle.aom_shape.specs.Kinds.{is_object, filled}
 use Rattle.aom_shape.specs.declared.kind.Filling.TheVariants.{Full}
 use Rattle.aom_image.specs.declared.method.Thing.TheVariants.{Message}
 
@@ -39,6 +41,18 @@ nothing_in (c ∷ cs) n h = and_from _ _ (go (is_field_of n c.owner) refl) (noth
     go : (b : Bool) → is_field_of n c.owner ≡ b → not b ≡ true
     go true e = absurd (true≢false (sym (same_place_refl c.owner) ∙ (front_free _ _ _ (h c.owner e)).0))
     go false e = refl
+
+-- and none past so many fields
+none_past : (k : ℕ) (such : Thing → Bool) (cs : List Cell) (n : ℕ) → ((r : Place) → is_past k n r ≡ true → held cs r ≡ None) → owns_none_past k such cs n ≡ true
+none_past k such [] n h = refl
+none_past k such (c ∷ cs) n h = and_from _ _ (go (is_past k n c.owner) refl) (none_past k such cs n (λ r e. (front_free _ _ _ (h r e)).1))
+  where
+    go : (b : Bool) → is_past k n c.owner ≡ b → not (b && such c.object.thing) ≡ true
+    go true e = absurd (true≢false (sym (same_place_refl c.owner) ∙ (front_free _ _ _ (h c.owner e)).0))
+    go false e = refl
+
+pub past_by : (k : ℕ) (cs : List Cell) (n : ℕ) → ((r : Place) → is_past k n r ≡ true → held cs r ≡ None) → AllTrue (needs_past k cs n)
+past_by k cs n h = (none_past k is_object cs n h, (none_past k (λ t. not (is_object t)) cs n h, tt))
 
 module _ (p : Image) (t : Typing) (cs : List Cell) (g : Place) (o : Object) (tidy : Tidy cs) (there : held cs g ≡ Some o) where
   holds_without : (ls : List Layer) (x : Object) (from : Place) → same_place g from ≡ false → Holds p cs ls x from → Holds p (without g cs) ls x from

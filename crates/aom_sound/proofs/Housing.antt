@@ -3,17 +3,19 @@ use Rattle.std.proofs.Common.{None, Option, Some, ap, arith, refl, subst, sym, t
 use Rattle.std.specs.Prelude.{is_some}
 use Rattle.aom_image.specs.Image.{Image}
 use Rattle.aom_image.specs.Views.{method_class, method_role}
+use Rattle.aom_image.specs.declared.method.Role.{Role}
 use Rattle.aom_image.specs.declared.method.Thing.{Thing}
 use Rattle.aom_image.specs.declared.method.Thing.TheVariants.{Message, Object as An_object_of}
 use Rattle.aom_roles.specs.Classes.{sessions_at, sessions_in}
 use Rattle.aom_roles.specs.Families.{descends}
 use Rattle.aom_roles.proofs.Descending.{itself}
+use Rattle.aom_rules.specs.Calls.{is_destruct}
 use Rattle.aom_shape.specs.Things.{Holder, Member, field_thing, holder_by, holder_of, stands_for}
 use Rattle.aom_roles.specs.Shapes.{kind_of}
-use Rattle.aom_sound.specs.Laws.{IsFamily, IsOfFamily}
+use Rattle.aom_sound.specs.Laws.{IsFamily}
 use Rattle.aom_sound.specs.Servers.{session_class}
 use Rattle.aom_sound.specs.State.{AtRoot, Home, Inside, Static, home_holder, home_view, thing_holder, thing_view}
-use Rattle.aom_sound.specs.WellTyped.{CountsAs, Houses}
+use Rattle.aom_sound.specs.WellTyped.{CountsAs, Houses, IsOfFamily}
 
 pub houses_itself : (p : Image) (h : Holder) → Houses p h h
 houses_itself p h = record { fields = λ f t e. e; words = omega arith; member = λ d e. (d, e, itself p d, refl); works = λ c e. (c, e) }
@@ -35,6 +37,7 @@ pub houses_role :
 houses_role p family x c m thing of member =
     subst (λ y. Houses p (thing_holder y) (holder_of p m)) (sym thing)
     (subst (λ h. Houses p (Member c) h) (sym (ap (λ k. holder_by (method_role p m) k) of.of ∙ member)) (houses_family p family c of.class of.above))
+
 -- what a place owns counts as its own class
 pub houses_counts : (p : Image) (h : Home) (k : Holder) → Houses p (home_holder h) k → CountsAs p (home_holder h) (home_view h) k
 houses_counts p Static k houses = record { some = λ c e. cc; between = λ v e. cc }
@@ -54,6 +57,20 @@ houses_counts p (Inside o from) k houses = of_thing o.thing houses
 
 pub counts_same : (p : Image) (h : Home) (k : Holder) → home_holder h ≡ k → CountsAs p (home_holder h) (home_view h) k
 counts_same p h k e = houses_counts p h k (houses_same p (home_holder h) k e)
+
+-- under a destructor of the line an object counts as the destructor's class
+pub counts_line :
+    (p : Image) (x : Thing) (c m : ℕ) → x ≡ An_object_of c → (of : IsOfFamily p c m) → holder_of p m ≡ Member of.class → CountsAs p (thing_holder x) (method_class p m) (holder_of p m)
+counts_line p x c m thing of works = record {
+  some = λ b e. (of.class, of.of);
+  between = λ v e.
+      let is : of.class ≡ v = let both = sym of.of ∙ e in cc in
+      (c, ap thing_holder thing, subst (λ y. descends p c y ≡ true) is of.above, of.class, works, subst (λ y. descends p y of.class ≡ true) is (itself p of.class));
+}
+
+-- what destructs works on an object
+pub destructs_member : (r : Option Role) (d : ℕ) → is_destruct r ≡ true → holder_by r (Some d) ≡ Member d
+destructs_member r d e = grind arith
 
 -- a field that the method's class declares is the same field
 pub houses_field : (p : Image) (h k : Holder) (f : ℕ) → Houses p h k → is_some (field_thing p k f) ≡ true → field_thing p h f ≡ field_thing p k f

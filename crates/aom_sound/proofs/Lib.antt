@@ -1,3 +1,4 @@
+pub mod Lines
 pub mod Waiting
 pub mod Altering
 pub mod Maps

@@ -1,4 +1,5 @@
 -- A method that stands in a loop's body has rounds left: each instruction and each return keeps that.
+use Rattle.aom_sound.specs.Destruction.{destructor_frame}
 use Rattle.std.proofs.Common.{List, None, Option, Some, ap, arith, cond, false, inl, inr, length, subst, suc, sym, true, ℕ, ⊎_elim, ◌-◌, ◌<◌, ◌==◌, ◌∙◌, ◌∷◌, ◌≡◌, ◌≢◌, ◌≤◌}
 use Rattle.std.proofs.lemmas.Bool.{cases_Bool, cases_lt, eq-eqb, eqb-true, ne_eqb}
 use Rattle.aom_image.specs.Image.{Image}
@@ -141,7 +142,7 @@ module _ (p : Image) (looped_so : IsLooped p) (c : Choice) (s : State) where
     calls = λ fr ts target m first x a. fresh p (entered p fr ts (counted p s) target m first (length s.items));
     cancels = λ fr ts m a e. fresh p (frame_as m fr.home fr.view (length s.items));
     traps = λ fr ts target m first x a. (fresh p (entered p fr ts (counted p s) target m first (length (A_mark ∷ s.items))), tt);
-    destructs = λ o m height ts e. fresh p (frame_of m (Inside o (Going (length ts))) height);
+    destructs = λ o x m height ts e. fresh p (destructor_frame p m o (length ts) height);
     asks = λ x m code height e. fresh p (error_frame m x code height);
     undoes = λ m w items ts e. fresh p (operation_frame m w (length items));
     unwinds = λ code ts w. tt;
@@ -151,7 +152,7 @@ moves : (p : Image) → IsLooped p → (c : Choice) (s u : State) → RoundsLeft
 moves p looped_so c s u h e = keeps p c (rounds_left p) s u (kept p looped_so c s) h e
 
 pub loops_keep : LoopsKeep
-loops_keep = record { linked = linked_is_looped; boot = boot; moves = moves; turns = λ p looped_so outside heard s u h e. turn_keeps_it p outside heard (rounds_left p) s u (λ m height home words d. fresh p (record (frame_of m home height) { words = words })) (λ d. tt) (λ o m height ts e. fresh p (frame_of m (Inside o (Going (length ts))) height)) h e }
+loops_keep = record { linked = linked_is_looped; boot = boot; moves = moves; turns = λ p looped_so outside heard s u h e. turn_keeps_it p outside heard (rounds_left p) s u (λ m height home words d. fresh p (record (frame_of m home height) { words = words })) (λ d. tt) (λ o x m height ts e. fresh p (destructor_frame p m o (length ts) height)) h e }
   where
     boot : (p : Image) → RoundsLeft p (boot_state p).tasks
     boot p = begins (main_of p)

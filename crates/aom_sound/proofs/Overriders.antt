@@ -66,7 +66,7 @@ unfolding leads_in over_in
 leads_there p m there n z leads = go (method_at p z) refl n leads
   where
     itself : (b : Bool) → (z == m) ≡ b → method_at p z ≡ None → b ≡ true → ⊥
-    itself true same none e = let empty : IsSome None = subst (λ o. IsSome o) (ap (method_at p) (sym (eqb-true z m same)) ∙ none) there in cc
+    itself true same none e = let empty : IsSome {T = Method} None = subst (λ o. IsSome o) (ap (method_at p) (sym (eqb-true z m same)) ∙ none) there in cc
     itself false same none e = cc
 
     above_none : (n : ℕ) → leads_in p n None m ≡ true → ⊥
@@ -74,8 +74,8 @@ leads_there p m there n z leads = go (method_at p z) refl n leads
     above_none (suc n) h = cc
 
     either : (a b : Bool) → (b ≡ true → ⊥) → (a || b) ≡ true → a ≡ true
-    either true b no h = refl
-    either false b no h = absurd (no h)
+    either true b never h = refl
+    either false b never h = absurd (never h)
 
     go : (o : Option Method) → method_at p z ≡ o → (n : ℕ) → leads_in p n (Some z) m ≡ true → (e : Method) × (method_at p z ≡ Some e)
     go (Some e) at n leads = (e, at)

@@ -1,12 +1,14 @@
 -- What it takes that each step keeps a law of tasks, and that it then does: once for all such laws, by the moves.
+use Rattle.aom_rules.specs.Calls.{parent_by}
+use Rattle.aom_classes.proofs.Playing.{destroyed}
 use Rattle.std.proofs.Common.{Bool, List, None, Option, Some, [], ap, cond, false, length, pos, refl, subst, suc, sym, true, ℕ, ℤ, ◌-◌, ◌∙◌, ◌∷◌, ◌≡◌}
 use Rattle.aom_image.specs.Image.{Image}
-use Rattle.aom_image.specs.Views.{instr_at}
+use Rattle.aom_image.specs.Views.{method_class, instr_at}
 use Rattle.aom_instructions.specs.declared.instr.Instr.{Instr}
 use Rattle.aom_instructions.specs.declared.instr.Instr.TheVariants.{Call, Cancel, Next, Trap}
 use Rattle.aom_instructions.specs.declared.instr.Target.{Target}
 use Rattle.std.specs.Ordering.{int_eq}
-use Rattle.aom_image.specs.declared.method.Role.TheVariants.{Error}
+use Rattle.aom_image.specs.declared.method.Role.TheVariants.{Destruct, Error}
 use Rattle.aom_image.specs.declared.method.Gives.{Gives}
 use Rattle.aom_image.specs.declared.method.Gives.TheVariants.{Own as An_own}
 use Rattle.aom_classes.specs.Jumps.{jump_of}
@@ -15,12 +17,12 @@ use Rattle.aom_shape.specs.Needs.{AllTrue}
 use Rattle.aom_sound.proofs.Moving.{steps_are_moves}
 use Rattle.aom_sound.specs.Calls.{below_top, called, entered, received, result_register, returned}
 use Rattle.aom_sound.specs.Cleanup.{code_told, has_trap, operation_frame, to_trap}
-use Rattle.aom_classes.specs.Roles.{destructor_of}
-use Rattle.aom_sound.specs.Destruction.{destructed, parting, first_session, begun, begun_by}
+use Rattle.aom_classes.specs.Roles.{role_of, destructor_of}
+use Rattle.aom_sound.specs.Destruction.{destructor_frame, class_destructor, line_on, destructed, parting, first_session, begun, begun_by}
 use Rattle.aom_sound.specs.Effects.{Calls, Cancels, Counts, Destroys, Destroys_last, Effect, Goes_on, Jumps, Leaves, Operates, Repeats, Returns, Sets_trap, applied, with_words}
 use Rattle.aom_sound.specs.Moves.{answered, asking, counted, dispatch_ends, error_frame, failed, handled, main_ends, needs, object_ends, step}
 use Rattle.aom_sound.specs.Places.{service_of, Elsewhere, Going, Object, Root, held}
-use Rattle.aom_sound.specs.State.{Closing, Home, Of_server, Accepts, Accept_left, Serves, Parts, A_mark, An_operation, Choice, Destroy, Dispatch, Dispatched, Frame, Goes, Inside, Item, Answered, Asks, Object_left, Of_main, Of_object, Of_root, Run, Seat, State, Task, Trapped, Unwind, counter, frame_as, frame_of, next, resumed, set_counter, set_word, to_place}
+use Rattle.aom_sound.specs.State.{Static, AtRoot, Closing, Home, Of_server, Accepts, Accept_left, Serves, Parts, A_mark, An_operation, Choice, Destroy, Dispatch, Dispatched, Frame, Goes, Inside, Item, Answered, Asks, Object_left, Of_main, Of_object, Of_root, Run, Seat, State, Task, Trapped, Unwind, counter, frame_as, frame_of, next, resumed, set_counter, set_word, to_place}
 use Rattle.aom_sound.specs.Steps.{Empties, Acts, Arrives, Clears, Comes_out, Ends, Fits, IsStraight, Move, Rests, Sets, Undoes, Vanishes}
 use Rattle.aom_sound.specs.Tasks.{Below, Holds, TaskLaw}
 use Rattle.aom_sound.specs.World.{heard_one, Heard, Outside, turn}
@@ -51,7 +53,7 @@ pub record Kept (p : Image) (c : Choice) (l : TaskLaw) (s : State) : Type 0 wher
   pub traps :
       (fr : Frame) (ts : List Task) (target : Target) (m first x : ℕ) → Acting p c l s fr ts (Trap target m first x) →
       l.Runs (entered p fr ts (counted p s) target m first (length (A_mark ∷ s.items))) (Trapped ∷ Run fr ∷ ts) × l.Stands (Run fr ∷ ts)
-  pub destructs : (o : Object) (m height : ℕ) (ts : List Task) → destructor_of p o.thing ≡ Some m → l.Runs (frame_of m (Inside o (Going (length ts))) height) (Destroy ∷ ts)
+  pub destructs : (o : Object) (x m height : ℕ) (ts : List Task) → role_of p x Destruct ≡ Some m → l.Runs (destructor_frame p m o (length ts) height) (Destroy ∷ ts)
   -- an `error` method is asked
   pub asks : (x : Seat) (m : ℕ) (code : ℤ) (height : ℕ) → part_of p Error x.object.thing ≡ Some m → l.Runs (error_frame m x code height) (Dispatched (Asks x) ∷ [])
   pub undoes : (m : ℕ) (w : ℤ) (items : List Item) (ts : List Task) → s.items ≡ An_operation m w ∷ items → l.Runs (operation_frame m w (length items)) ts
@@ -69,13 +71,27 @@ told _ x code fr = refl
 
 -- a destruction begins
 module _ (p : Image) (l : TaskLaw)
-    (destructs : (o : Object) (m height : ℕ) (ts : List Task) → destructor_of p o.thing ≡ Some m → l.Runs (frame_of m (Inside o (Going (length ts))) height) (Destroy ∷ ts)) where
+    (destructs : (o : Object) (x m height : ℕ) (ts : List Task) → role_of p x Destruct ≡ Some m → l.Runs (destructor_frame p m o (length ts) height) (Destroy ∷ ts)) where
   destructed_holds : (o : Object) (height : ℕ) (ts : List Task) → Below l ts → Holds l (destructed p o height ts)
   destructed_holds o height ts b = go (destructor_of p o.thing) refl
     where
-      go : (d : Option ℕ) → destructor_of p o.thing ≡ d → Holds l (begun_by d o height ts)
+      go : (d : Option ℕ) → destructor_of p o.thing ≡ d → Holds l (begun_by p d o height ts)
       go None e = b
-      go (Some m) e = (destructs o m height ts e, b)
+      go (Some m) e = let w = destroyed p o.thing m e in (destructs o w.0 m height ts w.2, b)
+
+  -- and the next of its line
+  line_holds : (m : ℕ) (home : Home) (height : ℕ) (ts : List Task) → Below l ts → Holds l (line_on p m home height ts)
+  line_holds m Static height ts b = b
+  line_holds m AtRoot height ts b = b
+  line_holds m (Inside o from) height ts b = go (parent_by p (method_class p m))
+    where
+      of_role : (x : ℕ) (d : Option ℕ) → role_of p x Destruct ≡ d → Holds l (begun_by p d o height ts)
+      of_role x None e = b
+      of_role x (Some k) e = (destructs o x k height ts e, b)
+
+      go : (x : Option ℕ) → Holds l (begun_by p (class_destructor p x) o height ts)
+      go None = b
+      go (Some x) = of_role x (role_of p x Destruct) refl
 
   begun_holds : (o : Object) (height : ℕ) (ts : List Task) → Below l ts → Holds l (begun p o height ts)
   begun_holds o height ts b = go (is_server p o.thing)
@@ -86,11 +102,11 @@ module _ (p : Image) (l : TaskLaw)
 
 module _ (p : Image) (c : Choice) (l : TaskLaw) (s : State) (k : Kept p c l s) where
   begins_over : (o : Object) (height : ℕ) (ts : List Task) → Below l ts → Holds l (begun p o height ts)
-  begins_over o height ts b = begun_holds p l (λ o m height ts e. k.destructs o m height ts e) o height ts b
+  begins_over o height ts b = begun_holds p l k.destructs o height ts b
 
   -- a server that goes has a session go first, or its destructor begins
   empties : (o : Object) (x : Option Seat) (ts : List Task) (v : State) → Below l ts → Holds l (parting p o x ts v).tasks
-  empties o None ts v b = destructed_holds p l (λ o m height ts e. k.destructs o m height ts e) o (length v.items) ts b
+  empties o None ts v b = destructed_holds p l k.destructs o (length v.items) ts b
   empties o (Some x) ts v b = begins_over x.object (length v.items) (Closing ∷ Destroy ∷ ts) b
 
   -- what waited goes on
@@ -116,7 +132,7 @@ module _ (p : Image) (c : Choice) (l : TaskLaw) (s : State) (k : Kept p c l s) w
       let x = result_register (instr_at p caller.method caller.place) in
       resumes_with caller (set_word (received p fr ts v g a x caller) (suc x) (Some (pos 0))) below (ap (λ f. set_word f (suc x) (Some (pos 0))) (receives p fr ts v g a x caller)) b.1
   returns fr ts v g a (Trapped ∷ Dispatched d ∷ below) h b = b.1
-  returns fr ts v g a (Destroy ∷ below) h b = b
+  returns fr ts v g a (Destroy ∷ below) h b = line_holds p l k.destructs fr.method fr.home fr.height below b
   returns fr ts v g a (Unwind code ∷ below) h b = b
   returns fr ts v g a (Dispatched d ∷ below) h b = b
   returns fr ts v g a _ h b = h
@@ -201,7 +217,7 @@ keeps p c l s u k h e = kept p c l s k u h (steps_are_moves p c s u e)
 pub turn_keeps_it :
     (p : Image) (outside : Outside) (heard : Heard) (l : TaskLaw) (s u : State) →
     ((m height : ℕ) (home : Home) (words : List (Option ℤ)) (d : Dispatch) → l.Runs (record (frame_of m home height) { words = words }) (Trapped ∷ Dispatched d ∷ [])) → ((d : Dispatch) → l.Stands (Dispatched d ∷ [])) →
-    ((o : Object) (m height : ℕ) (ts : List Task) → destructor_of p o.thing ≡ Some m → l.Runs (frame_of m (Inside o (Going (length ts))) height) (Destroy ∷ ts)) →
+    ((o : Object) (x m height : ℕ) (ts : List Task) → role_of p x Destruct ≡ Some m → l.Runs (destructor_frame p m o (length ts) height) (Destroy ∷ ts)) →
     Holds l s.tasks → turn p outside heard s ≡ Goes u → Holds l u.tasks
 turn_keeps_it p outside heard l s u runs stands destructs h e = elim (turns_so p outside heard s u e) as (λ v d. Holds l v.tasks) [
   | keeps_all r ↦ h

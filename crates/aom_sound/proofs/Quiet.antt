@@ -1,4 +1,5 @@
 -- While a cell goes or a leave unwinds, quiet methods alone run, so that no trap stands over it.
+use Rattle.aom_roles.proofs.Descending.{itself}
 use Rattle.std.proofs.lemmas.Option.{same_Some}
 use Rattle.std.proofs.Common.{List, None, Option, Some, [], ap, false, length, refl, subst, sym, true, ℕ, ℤ, ◌∙◌, ◌∷◌, ◌≡◌}
 use Rattle.std.proofs.lemmas.Bool.{true≢false, false_from_ne_true}
@@ -17,7 +18,7 @@ use Rattle.aom_shape.specs.Shape.{Shape}
 use Rattle.aom_rules.specs.Typing.{IsTyped, Typing, shape_at}
 use Rattle.aom_sound.proofs.Callees.{cancel_quiet, only_then}
 use Rattle.aom_sound.proofs.Overriders.{body_quiet}
-use Rattle.aom_sound.proofs.Destroying.{destroys}
+use Rattle.aom_sound.proofs.Destroying.{destroys_by, destroys}
 use Rattle.aom_sound.proofs.Finishing.{all_parts}
 use Rattle.aom_sound.proofs.Owners.{owned}
 use Rattle.aom_sound.proofs.Preserving.{Acting, Kept, keeps, turn_keeps_it}
@@ -74,7 +75,7 @@ module _ (p : Image) (t : Typing) (wired : IsWired p) (typed : IsTyped p t) (c :
     calls = λ fr ts target m first x a clearing. body_quiet p wired.overriders m (target_view p fr ts (counted p s) target (method_class p m)) (calls_quiet fr ts target m first x a clearing);
     traps = λ fr ts target m first x a. let clear = not_clearing fr ts target m first x a in (λ clearing. absurd (true≢false (sym clearing ∙ clear)), clear);
     cancels = λ fr ts m a e clearing. cancel_quiet p wired fr m e;
-    destructs = λ o m height ts e clearing. (destroys p wired o.thing m e).quiet;
+    destructs = λ o x m height ts e clearing. (destroys_by p wired x x m (itself p x) e).quiet;
     asks = λ x m code height e clearing. absurd (true≢false (sym clearing));
     undoes = λ m x items ts e clearing. undo_quiet m x items e;
     unwinds = λ code ts h. h;
@@ -91,7 +92,7 @@ boot p = begins (main_of p)
     begins (Some m) = (λ clearing. absurd (true≢false (sym clearing)), (refl, tt))
 
 pub calm_keeps : CalmKeeps
-calm_keeps = record { boot = boot; moves = moves; turns = λ p wired outside heard s u h e. turn_keeps_it p outside heard (calm p) s u (λ m height home words d clearing. absurd (true≢false (sym clearing))) (λ d. refl) (λ o m height ts e clearing. (destroys p wired o.thing m e).quiet) h e }
+calm_keeps = record { boot = boot; moves = moves; turns = λ p wired outside heard s u h e. turn_keeps_it p outside heard (calm p) s u (λ m height home words d clearing. absurd (true≢false (sym clearing))) (λ d. refl) (λ o x m height ts e clearing. (destroys_by p wired x x m (itself p x) e).quiet) h e }
 
 none_goes : (ts : List Task) → is_clearing ts ≡ false → NoneGoes ts
 none_goes [] e = tt

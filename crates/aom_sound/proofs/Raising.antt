@@ -11,7 +11,7 @@ use Rattle.aom_image.specs.declared.method.Thing.TheVariants.{Message}
 use Rattle.aom_classes.specs.Roles.{role_of}
 use Rattle.aom_roles.proofs.Descending.{child, itself}
 use Rattle.aom_roles.specs.Families.{parent_of}
-use Rattle.aom_rules.specs.Calls.{above_needs, constructs_class, empty_by, is_that, parent_above, parent_by}
+use Rattle.aom_rules.specs.Calls.{fields_above, above_needs, constructs_class, empty_by, is_that, parent_above, parent_by}
 use Rattle.aom_rules.specs.Requests.{is_construct}
 use Rattle.aom_rules.specs.Typing.{Typing}
 use Rattle.aom_shape.specs.Needs.{AllTrue, only_if}
@@ -24,7 +24,7 @@ use Rattle.aom_shape.specs.declared.kind.Kind.TheVariants.{Null}
 use Rattle.aom_sound.proofs.Callees.{holder_member}
 use Rattle.aom_sound.proofs.Destructors.{empty_at}
 use Rattle.aom_sound.proofs.Straight.{At, claim_field, fits_unowning}
-use Rattle.aom_sound.specs.Calls.{count_by, none_filled}
+use Rattle.aom_sound.specs.Calls.{none_filled}
 use Rattle.aom_sound.specs.Claims.{Layer, Method, claim, declared}
 use Rattle.aom_sound.specs.Laws.{IsWired}
 use Rattle.aom_sound.specs.Places.{Cell, Field, Object, Place, held, seen}
@@ -68,18 +68,18 @@ module _ (p : Image) (t : Typing) (wired : IsWired p) (s : State) (fr : Frame) (
       let null = null_by s.cells sh n x (inherited y e n x class above there) (empty_at (fields_of p e) sh.fields n x empty there) (at_hand.good.fits (field_place fr.home n)) in
       and_from (is_none (held s.cells (field_place fr.home n))) (none_filled s.cells fr.home n) (ap is_none null) (none_there y e class above empty n (omega arith))
 
-  parents_null : empty_by p (parent_above p fr.method) sh.fields ≡ true → none_filled s.cells fr.home (count_by p (parent_above p fr.method)) ≡ true
+  parents_null : empty_by p (parent_above p fr.method) sh.fields ≡ true → none_filled s.cells fr.home (fields_above p (parent_above p fr.method)) ≡ true
   parents_null empty = of (method_class p fr.method) refl empty
     where
-      over : (y : ℕ) → method_class p fr.method ≡ Some y → (o : Option ℕ) → parent_of p y ≡ o → empty_by p o sh.fields ≡ true → none_filled s.cells fr.home (count_by p o) ≡ true
+      over : (y : ℕ) → method_class p fr.method ≡ Some y → (o : Option ℕ) → parent_of p y ≡ o → empty_by p o sh.fields ≡ true → none_filled s.cells fr.home (fields_above p o) ≡ true
       over y class None above empty = refl
       over y class (Some e) above empty = none_there y e class above empty (length (fields_of p e)) (omega arith)
 
-      of : (k : Option ℕ) → method_class p fr.method ≡ k → empty_by p (parent_by p k) sh.fields ≡ true → none_filled s.cells fr.home (count_by p (parent_by p k)) ≡ true
+      of : (k : Option ℕ) → method_class p fr.method ≡ k → empty_by p (parent_by p k) sh.fields ≡ true → none_filled s.cells fr.home (fields_above p (parent_by p k)) ≡ true
       of None class empty = refl
       of (Some y) class empty = over y class (parent_of p y) refl empty
 
-  pub parents_met : (m : ℕ) (b : Bool) → AllTrue (above_needs p fr.method m b sh.fields) → only_if b (none_filled s.cells fr.home (count_by p (parent_above p fr.method))) ≡ true
+  pub parents_met : (m : ℕ) (b : Bool) → AllTrue (above_needs p fr.method m b sh.fields) → only_if b (none_filled s.cells fr.home (fields_above p (parent_above p fr.method))) ≡ true
   parents_met m true n = parents_null n.1.0
   parents_met m false n = refl
 

@@ -20,7 +20,7 @@ kept p c s = record {
   calls = λ fr ts target m first x a. tt;
   cancels = λ fr ts m a e. tt;
   traps = λ fr ts target m first x a. (tt, (target, m, first, x, a.there));
-  destructs = λ o m height ts e. tt;
+  destructs = λ o x m height ts e. tt;
   asks = λ x m code height e. tt;
   undoes = λ m w items ts e. tt;
   unwinds = λ code ts w. tt;
@@ -39,4 +39,4 @@ pub stand : (p : Image) (outside : Outside) (lines : List Line) (s : State) → 
 stand p outside _ _ begins = boot p (main_of p)
 stand p outside _ _ (moves {lines = lines} {s = s} {u = u} c before busy choice e) = stays p c s u (stand p outside lines s before) e
 stand p outside _ _ (turns {lines = lines} {s = s} {u = u} heard before between well e) =
-    turn_keeps_it p outside heard (at_traps p) s u (λ m height home words d. tt) (λ d. tt) (λ o m height ts e. tt) (stand p outside lines s before) e
+    turn_keeps_it p outside heard (at_traps p) s u (λ m height home words d. tt) (λ d. tt) (λ o x m height ts e. tt) (stand p outside lines s before) e

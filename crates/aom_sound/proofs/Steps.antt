@@ -93,20 +93,20 @@ no_stage p x (Accept_left code) m home e = e
 no_stage p x _ m home e = e
 
 -- a method returns to what stands below it
-returns : (p : Image) (t : Typing) → IsWired p → (c : Choice) (s : State) (fr : Frame) (sh : Shape) (ls : List Layer) (at_hand : At p t s fr sh ls) (a : ℕ) → Law p t c s fr sh ls at_hand (Return a)
-returns p t wired c s fr sh [] h a = let clash : Returns fr.method fr.home ≡ Now = h.good.stack.4 in cc
-returns p t wired c s fr sh (Method fr2 sh2 ∷ ls) h a = law_return p t wired c s fr fr2 sh sh2 ls h a
-returns p t wired c s fr sh (Dying o ∷ ls) h a = law_destructor p t c s fr sh o ls h a
-returns p t wired c s fr sh (Unwinding code es ∷ ls) h a = law_return_unwound p t c s fr sh code es ls h a
-returns p t wired c s fr sh (Mark gv ∷ []) h a = let clash : Caught gv ≡ Now = h.good.stack.4.1 in cc
-returns p t wired c s fr sh (Mark gv ∷ Method fr2 sh2 ∷ ls) h a = law_return_caught p t wired c s fr fr2 sh sh2 gv ls h a
-returns p t wired c s fr sh (Mark gv ∷ Dispatching Of_main seats ∷ ls) h a = law_return_main p t c s fr sh gv seats ls h a
-returns p t wired c s fr sh (Mark gv ∷ Dispatching (Of_object x) seats ∷ ls) h a = law_return_object p t c s fr sh gv x seats ls h a
-returns p t wired c s fr sh (Mark gv ∷ Dispatching (Of_server x client (Serves o)) seats ∷ ls) h a = law_return_served p t c s fr sh gv x client o seats ls h a
-returns p t wired c s fr sh (Dispatching (Asks x) seats ∷ ls) h a = law_answer p t c s fr sh x seats ls h a
-returns p t wired c s fr sh (Mark gv ∷ Dispatching (Of_server x client Accepts) seats ∷ ls) h a = law_return_accepted p t c s fr sh gv x client seats ls h a
-returns p t wired c s fr sh (Dispatching (Of_server x client stage) seats ∷ ls) h a = absurd (no_stage p x stage fr.method fr.home h.good.stack.4.0)
-returns p t wired c s fr sh _ h a = absurd (assumption tt)
+returns : (p : Image) (t : Typing) → IsWired p → IsTyped p t → (c : Choice) (s : State) (fr : Frame) (sh : Shape) (ls : List Layer) (at_hand : At p t s fr sh ls) (a : ℕ) → Law p t c s fr sh ls at_hand (Return a)
+returns p t wired typed c s fr sh [] h a = let clash : Returns fr.method fr.home ≡ Now = h.good.stack.4 in cc
+returns p t wired typed c s fr sh (Method fr2 sh2 ∷ ls) h a = law_return p t wired c s fr fr2 sh sh2 ls h a
+returns p t wired typed c s fr sh (Dying o ∷ ls) h a = law_destructor p t c s fr sh o ls h wired typed a
+returns p t wired typed c s fr sh (Unwinding code es ∷ ls) h a = law_return_unwound p t c s fr sh code es ls h a
+returns p t wired typed c s fr sh (Mark gv ∷ []) h a = let clash : Caught gv ≡ Now = h.good.stack.4.1 in cc
+returns p t wired typed c s fr sh (Mark gv ∷ Method fr2 sh2 ∷ ls) h a = law_return_caught p t wired c s fr fr2 sh sh2 gv ls h a
+returns p t wired typed c s fr sh (Mark gv ∷ Dispatching Of_main seats ∷ ls) h a = law_return_main p t c s fr sh gv seats ls h a
+returns p t wired typed c s fr sh (Mark gv ∷ Dispatching (Of_object x) seats ∷ ls) h a = law_return_object p t c s fr sh gv x seats ls h a
+returns p t wired typed c s fr sh (Mark gv ∷ Dispatching (Of_server x client (Serves o)) seats ∷ ls) h a = law_return_served p t c s fr sh gv x client o seats ls h a
+returns p t wired typed c s fr sh (Dispatching (Asks x) seats ∷ ls) h a = law_answer p t c s fr sh x seats ls h a
+returns p t wired typed c s fr sh (Mark gv ∷ Dispatching (Of_server x client Accepts) seats ∷ ls) h a = law_return_accepted p t c s fr sh gv x client seats ls h a
+returns p t wired typed c s fr sh (Dispatching (Of_server x client stage) seats ∷ ls) h a = absurd (no_stage p x stage fr.method fr.home h.good.stack.4.0)
+returns p t wired typed c s fr sh _ h a = absurd (assumption tt)
 
 -- an instruction of a well-typed state
 pub instruction_keeps :
@@ -114,7 +114,7 @@ pub instruction_keeps :
     Keeps p t (step_instr p c fr (tasks_of ls) s (instr_at p fr.method fr.place))
 instruction_keeps p t wired typed c s fr sh ls at_hand unused =
     let x = typed.each fr.method fr.place sh at_hand.good.stack.0 in
-    let l = law p t wired typed c s fr sh ls at_hand unused x.instr x.stands (λ a. returns p t wired c s fr sh ls at_hand a) x.needs x.flows in
+    let l = law p t wired typed c s fr sh ls at_hand unused x.instr x.stands (λ a. returns p t wired typed c s fr sh ls at_hand a) x.needs x.flows in
     subst (λ i. Keeps p t (step_instr p c fr (tasks_of ls) s i)) (sym x.stands) (kept p t (needs p c fr (tasks_of ls) s x.instr) (does p c fr (tasks_of ls) s x.instr) l.0 l.1)
 
 -- the counts of a move are no concern of the typing

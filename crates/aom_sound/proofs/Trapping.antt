@@ -25,12 +25,12 @@ use Rattle.aom_sound.specs.Calls.{ended_well, below_top, called, received, resul
 use Rattle.aom_sound.specs.Claims.{Ending, Dispatching, Dying, Form, Layer, Mark, Mark_form, Method, Object_form, Operation_form, Unwinding, forms, items_of, objects, tasks_of}
 use Rattle.aom_sound.specs.Cleanup.{code_told, ended_by, to_trap}
 use Rattle.aom_classes.specs.Roles.{destructor_of}
-use Rattle.aom_sound.specs.Destruction.{destructed, parting, first_session, begun, begun_by}
+use Rattle.aom_sound.specs.Destruction.{line_on, next_destructor, destructed, parting, first_session, begun, begun_by}
 use Rattle.aom_sound.specs.Effects.{Calls, Cancels, Counts, Destroys, Destroys_last, Effect, Goes_on, Jumps, Leaves, Operates, Popped, Popped_operation, Pushed, Pushed_operation, Repeats, Returns, Sets_trap, Update, applied, items_after, with_words}
 use Rattle.aom_sound.specs.Laws.{IsWired}
 use Rattle.aom_sound.specs.Moves.{IsOpen, counted, does, needs, step, step_instr, step_task}
 use Rattle.aom_sound.specs.Places.{service_of, Object, named}
-use Rattle.aom_sound.specs.State.{Closing, Seat, A_mark, An_object, An_operation, Choice, Destroy, Dispatch, Dispatched, Frame, Goes, Item, Run, State, Task, Trapped, Unwind, next, resumed, set_word, word}
+use Rattle.aom_sound.specs.State.{Static, Inside, AtRoot, Home, Closing, Seat, A_mark, An_object, An_operation, Choice, Destroy, Dispatch, Dispatched, Frame, Goes, Item, Run, State, Task, Trapped, Unwind, next, resumed, set_word, word}
 use Rattle.aom_sound.specs.Steps.{Empties, Acts, Arrives, Clears, Comes_out, Ends as A_dispatch_ends, Move, Rests, Undoes, Vanishes}
 use Rattle.aom_sound.specs.Traps.{ComesOff, GoesOnAfter, IsPast, IsTrapping, TellsZero, TrapsKeep, WasPast, marks, traps}
 use Rattle.aom_sound.specs.WellTyped.{Keeps, WellTyped}
@@ -144,9 +144,18 @@ resumes below _ e = e
 destructs_there : (p : Image) (o : Object) (height : ℕ) (below ts : List Task) → Ends below ts → Ends below (destructed p o height ts)
 destructs_there p o height below ts e = go (destructor_of p o.thing)
   where
-    go : (d : Option ℕ) → Ends below (begun_by d o height ts)
+    go : (d : Option ℕ) → Ends below (begun_by p d o height ts)
     go None = with_task below ts Destroy e
     go (Some m) = with_task below (Destroy ∷ ts) _ (with_task below ts Destroy e)
+
+line_there : (p : Image) (m : ℕ) (home : Home) (height : ℕ) (below ts : List Task) → Ends below (Destroy ∷ ts) → Ends below (line_on p m home height ts)
+line_there p m Static height below ts e = e
+line_there p m AtRoot height below ts e = e
+line_there p m (Inside o from) height below ts e = go (next_destructor p m)
+  where
+    go : (d : Option ℕ) → Ends below (begun_by p d o height ts)
+    go None = e
+    go (Some k) = with_task below (Destroy ∷ ts) _ e
 
 begins_there : (p : Image) (o : Object) (height : ℕ) (below ts : List Task) → Ends below ts → Ends below (begun p o height ts)
 begins_there p o height below ts e = go (is_server p o.thing)
@@ -199,7 +208,7 @@ module _ (p : Image) (c : Choice) (fr : Frame) (ts : List Task) (s : State) (at_
   return_there : (g : Gives) (a : ℕ) (under : List Task) → ts ≡ under → Ends below under → Moved p below s (returned p fr ts s g a under)
   return_there g a (Run caller ∷ under) at o = inl (with_task below under _ (under_frame below under caller o), inl refl)
   return_there g a (Trapped ∷ under) at o = through_trap g a under at (under_trap below under o)
-  return_there g a (Destroy ∷ under) at o = inl (o, inl refl)
+  return_there g a (Destroy ∷ under) at o = inl (line_there p fr.method fr.home fr.height below under o, inl refl)
   return_there g a (Unwind code ∷ under) at o = inl (o, inl refl)
   return_there g a (Dispatched d ∷ under) at o = inl (with_task below under _ (under_dispatch below under d o), inl refl)
   return_there g a _ at o = given

@@ -26,11 +26,12 @@ use Rattle.aom_classes.specs.Linked.{IsLinked}
 use Rattle.aom_classes.specs.Needs.{HasActive, KindNeeds, NeedsMet}
 use Rattle.aom_classes.specs.Roles.{is_inherited, keeper_of, main_of, own_role, role_by, role_of, same_role}
 use Rattle.aom_classes.proofs.Facts.{all_there, at_place, of_method}
-use Rattle.aom_classes.proofs.Playing.{main_found, own_found, role_found, role_inherits, same_roles}
-use Rattle.aom_shape.specs.Things.{Member, field_thing}
+use Rattle.aom_classes.proofs.Playing.{main_found, own_found, role_inherits, same_roles}
+use Rattle.aom_shape.specs.Things.{Member, field_thing, holder_by, holder_of}
+use Rattle.aom_families.proofs.Weighing.{keeper}
 use Rattle.aom_sound.proofs.Families.{family_kinds, linked_is_family, session_before}
-use Rattle.aom_sound.specs.Laws.{IsAcceptor, IsAnswerer, IsAttendant, IsCalled, IsHandler, IsOfFamily, IsTrapped, IsWired}
-use Rattle.aom_sound.specs.WellTyped.{IsUndo, LeavesNone}
+use Rattle.aom_sound.specs.Laws.{IsAcceptor, IsAnswerer, IsAttendant, IsCalled, IsHandler, IsTrapped, IsWired}
+use Rattle.aom_sound.specs.WellTyped.{IsOfFamily, IsUndo, LeavesNone}
 use Rattle.aom_image.specs.declared.method.Argument.{Argument}
 use Rattle.aom_image.specs.declared.method.Argument.TheVariants.{Word as Takes_word}
 use Rattle.std.specs.List.{list_all}
@@ -147,18 +148,25 @@ module _ (p : Image) (formed : WellFormed p) (linked : IsLinked p) where
 
   destructor_is :
       (c m : ℕ) → role_of p c Destruct ≡ Some m →
-      (IsSome (method_at p m)) × (method_role p m ≡ Some Destruct) × (method_class p m ≡ Some c) × (leaves p m ≡ false) × (is_quiet p m ≡ true) × (gives_of p m ≡ Nothing) × (arguments_of p m ≡ [])
+      (IsSome (method_at p m)) × (method_role p m ≡ Some Destruct) × IsOfFamily p c m × (leaves p m ≡ false) × (is_quiet p m ≡ true) × (gives_of p m ≡ Nothing) × (arguments_of p m ≡ [])
   unfolding role_in class_in leaves_in quiet_in gives_in arguments_in
   destructor_is c m e =
       let d = its_role c m Destruct e in (
         rw d.1 refl,
         ap role_in d.1 ∙ ap (λ r. Some r) d.3,
-        (let own = role_found p linked.parents.none c m Destruct e in ap class_in own.1 ∙ own.2),
+        d.2,
         ap leaves_in d.1 ∙ (shaped m d.0 d.1).flags.quiet d.4.flags,
         ap quiet_in d.1 ∙ d.4.flags,
         ap gives_in d.1 ∙ nothing_given d.0.gives d.4.gives,
         ap arguments_in d.1 ∙ nil_from_length d.0.arguments d.4.takes.count,
       )
+
+  -- a class has no fields but those of the class whose destructor it has
+  destructor_empties : (c m : ℕ) → role_of p c Destruct ≡ Some m → (f : ℕ) → field_thing p (Member c) f ≡ field_thing p (holder_of p m) f
+  destructor_empties c m e f =
+      let k = keeper p linked.parents.each linked.calls linked.needs c m e in
+      let holder : holder_of p m ≡ Member k.0 = ap (λ r. holder_by r (method_class p m)) (destructor_is c m e).1 ∙ ap (λ k. holder_by (Some Destruct) k) k.1 in
+      ap (λ ts. slice_get ts f) k.2 ∙ ap (λ h. field_thing p h f) (sym holder)
 
   cancel_is : (m : ℕ) → method_role p m ≡ Some Cancel → (is_quiet p m ≡ true) × (gives_of p m ≡ Nothing)
   unfolding quiet_in gives_in
@@ -399,6 +407,7 @@ linked_is_wired p formed linked = record {
   has_main = linked.main;
   main = main_is p formed linked;
   destructor = destructor_is p formed linked;
+  empties = destructor_empties p formed linked;
   static_main = static_main p formed linked;
   operands = operands_fit p formed linked;
   cancel = has_canceller p formed linked;
@@ -422,4 +431,5 @@ linked_is_wired p formed linked = record {
   attendant = has_attendant p formed linked;
   attends = attendant_is p formed linked;
   sessions = session_serves_none p formed linked;
+  parentless = linked.parents.none;
 }

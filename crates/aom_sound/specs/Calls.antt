@@ -1,7 +1,7 @@
 -- Calls, returns, and `stop`.
 use Rattle.std.specs.Prelude.{ℕ, zero, suc, ◌+◌, ◌-◌, ℤ, pos, Bool, true, false, not, ◌&&◌, ◌==◌, nat_le, List, [], ◌∷◌, ◌++◌, Option, Some, None, is_some, is_none, length}
 use Rattle.aom_image.specs.Image.{Image}
-use Rattle.aom_image.specs.Views.{instr_at, arguments_of, fields_of, gives_of, method_class, method_role}
+use Rattle.aom_image.specs.Views.{instr_at, arguments_of, gives_of, method_class, method_role}
 use Rattle.aom_instructions.specs.declared.instr.Instr.{Instr}
 use Rattle.aom_instructions.specs.declared.instr.Instr.TheVariants.{Call, Trap}
 use Rattle.aom_instructions.specs.declared.instr.Target.{Target}
@@ -13,7 +13,7 @@ use Rattle.aom_image.specs.declared.method.Gives.TheVariants.{Nothing, Word as A
 use Rattle.aom_image.specs.declared.method.Thing.{Thing}
 use Rattle.aom_image.specs.declared.method.Thing.TheVariants.{Object as An_object_of, Message}
 use Rattle.aom_classes.specs.Overriding.{body_of}
-use Rattle.aom_rules.specs.Calls.{is_among, parent_above}
+use Rattle.aom_rules.specs.Calls.{fields_above, is_among, parent_above}
 use Rattle.aom_rules.specs.Requests.{is_construct}
 use Rattle.aom_shape.specs.Needs.{only_if}
 use Rattle.aom_shape.specs.Things.{field_thing, holder_of, stands_for}
@@ -22,7 +22,7 @@ use Rattle.aom_sound.specs.Clients.{at_opening, client_at, with_client}
 use Rattle.aom_sound.specs.Servers.{without_queue, opened, reserved}
 use Rattle.aom_sound.specs.Places.{Object, Place, Register, Entry, Field, Going, Elsewhere, Cell, held, moved, Session, In_service}
 use Rattle.aom_sound.specs.State.{Home, Static, AtRoot, Inside, Frame, Dispatch, Asks, Answered, Task, Run, Trapped, Destroy, Unwind, Dispatched, Item, An_object, An_operation, A_mark, State, Need, Unbalanced, PopUnder, Orphan, NullOrDead, WrongKind, word, set_word, next, field_place, home_holder, home_view, frame_as, Of_server, Of_object, Accepts, Accepted, Serves, MessageLost}
-use Rattle.aom_sound.specs.Destruction.{needs_emptied}
+use Rattle.aom_sound.specs.Destruction.{line_on, needs_past}
 use Rattle.aom_sound.specs.Enlisted.{needs_cancelled}
 use Rattle.aom_sound.specs.Words.{here, needs_word, word_or_zero}
 use Rattle.aom_sound.specs.Objects.{is_thing}
@@ -76,11 +76,6 @@ is_no_operation (Some A_mark) = true
 abbrev pub entry_place : List Item → ℕ → Place
 entry_place items k = Entry (length items - suc k)
 
--- how many fields a class declares
-abbrev pub count_by : Image → Option ℕ → ℕ
-count_by p None = 0
-count_by p (Some c) = length (fields_of p c)
-
 -- no field of what a method works on, of so many, owns
 abbrev pub none_filled : List Cell → Home → ℕ → Bool
 none_filled cs home zero = true
@@ -101,7 +96,7 @@ module _ (p : Image) (fr : Frame) (ts : List Task) (s : State) where
 
   -- where a construct calls its parent's on its own object, no field that the parent declares owns
   abbrev pub parents_empty : ℕ → Need
-  parents_empty m = (only_if (is_construct (method_role p m)) (none_filled s.cells fr.home (count_by p (parent_above p fr.method))), Orphan)
+  parents_empty m = (only_if (is_construct (method_role p m)) (none_filled s.cells fr.home (fields_above p (parent_above p fr.method))), Orphan)
 
   abbrev pub needs_target : Target → ℕ → Option ℕ → ℕ → ℕ → List Need
   needs_target This m class first count = (works_on p class fr.view, WrongKind) ∷ parents_empty m ∷ []
@@ -258,11 +253,11 @@ abbrev pub told_answer : Gives → Frame → ℕ → ℤ
 told_answer A_word fr a = word_or_zero (word fr a)
 told_answer _ fr a = pos 0
 
--- what a destructor works on is a cell, no field of which owns; what waits in its queue is none
-abbrev pub needs_destroyed : List Cell → Home → List Need
-needs_destroyed cs Static = (false, Orphan) ∷ []
-needs_destroyed cs AtRoot = (false, Orphan) ∷ []
-needs_destroyed cs (Inside o from) = needs_emptied (without_queue o.name cs) o.name
+-- what a destructor works on is a cell, no field of which owns past those of the parent of its class; what waits in its queue is none
+abbrev pub needs_destroyed : Image → ℕ → List Cell → Home → List Need
+needs_destroyed p m cs Static = (false, Orphan) ∷ []
+needs_destroyed p m cs AtRoot = (false, Orphan) ∷ []
+needs_destroyed p m cs (Inside o from) = needs_past (fields_above p (parent_above p m)) (without_queue o.name cs) o.name
 
 -- ---- the method that a dispatch runs under its trap
 
@@ -316,7 +311,7 @@ module _ (p : Image) (fr : Frame) (ts : List Task) (s : State) where
   end_needs (Run caller ∷ below) = []
   end_needs (Trapped ∷ Run caller ∷ below) = (tops_mark s.items, Unbalanced) ∷ []
   end_needs (Trapped ∷ Dispatched d ∷ below) = (tops_mark s.items, Unbalanced) ∷ needs_ended d s.cells
-  end_needs (Destroy ∷ below) = needs_destroyed s.cells fr.home
+  end_needs (Destroy ∷ below) = needs_destroyed p fr.method s.cells fr.home
   end_needs (Unwind code ∷ below) = []
   end_needs (Dispatched d ∷ below) = (is_asked d, Unbalanced) ∷ []
   end_needs _ = (false, Unbalanced) ∷ []
@@ -364,7 +359,7 @@ module _ (p : Image) (fr : Frame) (ts : List Task) (s : State) where
         items = below_top s.items;
         clients = accepted_clients d s.clients;
       }
-  returned g a (Destroy ∷ below) = record s { tasks = Destroy ∷ below }
+  returned g a (Destroy ∷ below) = record s { tasks = line_on p fr.method fr.home fr.height below }
   returned g a (Unwind code ∷ below) = record s { tasks = Unwind code ∷ below }
   returned g a (Dispatched d ∷ below) = record s { tasks = Dispatched (answered_by (told_answer g fr a) d) ∷ below }
   returned g a _ = s

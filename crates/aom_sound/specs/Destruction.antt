@@ -1,22 +1,37 @@
 -- Destruction: a cell is at hand from here on, its destructor runs first, and then the cell goes.
-use Rattle.std.specs.Prelude.{ℕ, Bool, true, false, not, ◌&&◌, ◌==◌, List, [], ◌∷◌, ◌++◌, Option, Some, None, length, cond}
+use Rattle.aom_rules.specs.Calls.{parent_above}
+use Rattle.std.specs.Prelude.{ℕ, nat_le, Bool, true, false, not, ◌&&◌, ◌==◌, List, [], ◌∷◌, ◌++◌, Option, Some, None, length, cond}
 use Rattle.aom_image.specs.Image.{Image}
+use Rattle.aom_image.specs.Views.{method_class}
+use Rattle.aom_image.specs.declared.method.Role.TheVariants.{Destruct}
 use Rattle.aom_image.specs.declared.method.Thing.{Thing}
 use Rattle.aom_shape.specs.Kinds.{is_object}
-use Rattle.aom_classes.specs.Roles.{destructor_of}
+use Rattle.aom_classes.specs.Roles.{destructor_of, role_of}
 use Rattle.aom_sound.specs.Clients.{each_unslotted, queue_ended, sessions_ended}
 use Rattle.aom_sound.specs.Servers.{is_server, without_queue}
 use Rattle.aom_sound.specs.Enlisted.{is_idle}
 use Rattle.aom_sound.specs.Places.{Place, Register, Entry, Field, Going, Elsewhere, Object, Cell, Request, requested, without, Session, other_cell, service_of, held, moved}
-use Rattle.aom_sound.specs.State.{Inside, Task, Run, Destroy, frame_of, State, Outcome, Need, IsStuck, MessageLost, Orphan, NullOrDead, ActiveDestroyed, guarded, resumed, Closing, Seat, Goes, Unbalanced}
+use Rattle.aom_sound.specs.State.{AtRoot, Home, Inside, Static, Task, Frame, Run, Destroy, frame_as, State, Outcome, Need, IsStuck, MessageLost, Orphan, NullOrDead, ActiveDestroyed, guarded, resumed, Closing, Seat, Goes, Unbalanced}
 
-abbrev pub begun_by : Option ℕ → Object → ℕ → List Task → List Task
-begun_by None o height below = Destroy ∷ below
-begun_by (Some m) o height below = Run (frame_of m (Inside o (Going (length below))) height) ∷ Destroy ∷ below
+abbrev pub class_destructor : Image → Option ℕ → Option ℕ
+class_destructor p None = None
+class_destructor p (Some c) = role_of p c Destruct
+
+-- the destructor that runs after this one: that of the nearest class above its own which has one
+abbrev pub next_destructor : Image → ℕ → Option ℕ
+next_destructor p m = class_destructor p (parent_above p m)
+
+-- a destructor on an object that is at hand over so many tasks: while it runs the object counts as the destructor's class
+abbrev pub destructor_frame : Image → ℕ → Object → ℕ → ℕ → Frame
+destructor_frame p m o depth height = frame_as m (Inside o (Going depth)) (method_class p m) height
+
+abbrev pub begun_by : Image → Option ℕ → Object → ℕ → List Task → List Task
+begun_by p None o height below = Destroy ∷ below
+begun_by p (Some m) o height below = Run (destructor_frame p m o (length below) height) ∷ Destroy ∷ below
 
 -- its destructor begins over these tasks, at that height of the cleanup stack
 abbrev pub destructed : Image → Object → ℕ → List Task → List Task
-destructed p o height below = begun_by (destructor_of p o.thing) o height below
+destructed p o height below = begun_by p (destructor_of p o.thing) o height below
 
 -- the destruction of an object begins, of a server with its sessions
 abbrev pub begun : Image → Object → ℕ → List Task → List Task
@@ -76,6 +91,31 @@ vanished o ts s =
 abbrev pub gone : Option Object → List Task → State → Outcome
 gone None ts s = IsStuck NullOrDead
 gone (Some o) ts s = guarded (needs_gone (without_queue o.name s.cells) o) (vanished o ts s)
+
+-- a destructor is over: the next of the line begins on the same object, or the cell goes next
+abbrev pub line_on : Image → ℕ → Home → ℕ → List Task → List Task
+line_on p m Static height below = Destroy ∷ below
+line_on p m AtRoot height below = Destroy ∷ below
+line_on p m (Inside o from) height below = begun_by p (next_destructor p m) o height below
+
+-- ---- what a destructor leaves
+
+-- that place is a field of that cell past so many, or another place of the cell's
+abbrev pub is_past : ℕ → ℕ → Place → Bool
+is_past k n (Register f r) = false
+is_past k n (Entry j) = false
+is_past k n (Field m f) = (n == m) && nat_le k f
+is_past k n (Going j) = false
+is_past k n (Elsewhere o) = is_of_cell n (other_cell o)
+
+-- no field of that cell past so many owns such a thing
+abbrev pub owns_none_past : ℕ → (Thing → Bool) → List Cell → ℕ → Bool
+owns_none_past k such [] n = true
+owns_none_past k such (c ∷ cs) n = not (is_past k n c.owner && such c.object.thing) && owns_none_past k such cs n
+
+-- an object that is left there is an orphan, and then a message there is lost
+abbrev pub needs_past : ℕ → List Cell → ℕ → List Need
+needs_past k cs n = (owns_none_past k is_object cs n, Orphan) ∷ (owns_none_past k (λ t. not (is_object t)) cs n, MessageLost) ∷ []
 
 -- ---- the sessions of a server
 

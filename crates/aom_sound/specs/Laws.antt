@@ -13,11 +13,11 @@ use Rattle.aom_image.specs.declared.method.Argument.TheVariants.{Word as Takes_w
 use Rattle.aom_image.specs.declared.method.Role.TheVariants.{Cancel, Do, Main, Construct, Destruct, Error, Run as Run_role, Accept, Service}
 use Rattle.aom_image.specs.declared.method.Thing.{Thing}
 use Rattle.aom_image.specs.declared.method.Thing.TheVariants.{Object as An_object_of}
-use Rattle.aom_roles.specs.Families.{descends}
+use Rattle.aom_roles.specs.Families.{HasNoParents, descends}
 use Rattle.aom_classes.specs.Linked.{IsLinked}
 use Rattle.aom_classes.specs.Overriding.{AllStandIn}
 use Rattle.aom_classes.specs.Roles.{role_of, main_of}
-use Rattle.aom_shape.specs.Things.{Member, field_thing, word_count}
+use Rattle.aom_shape.specs.Things.{Member, field_thing, holder_of, word_count}
 use Rattle.aom_shape.specs.Arguments.{after_of, before_of}
 use Rattle.aom_rules.specs.Requests.{is_active_kind, unissued}
 use Rattle.aom_roles.specs.Shapes.{kind_of}
@@ -27,7 +27,7 @@ use Rattle.aom_roles.specs.Classes.{is_session, sessions_at}
 use Rattle.aom_sound.specs.Places.{Cell, Elsewhere, Root, held, named}
 use Rattle.aom_sound.specs.State.{Dispatch, Frame, Task, Run, Destroy, Unwind, Dispatched, Item, A_mark, State, Choice, Goes}
 use Rattle.aom_sound.specs.Moves.{step, IsOpen}
-use Rattle.aom_sound.specs.WellTyped.{LeavesNone, IsUndo, WellTyped, Keeps}
+use Rattle.aom_sound.specs.WellTyped.{IsOfFamily, LeavesNone, IsUndo, WellTyped, Keeps}
 use Rattle.aom_sound.specs.Kept.{ClientsFit, IsKept}
 use Rattle.aom_sound.specs.Owned.{Owned}
 use Rattle.aom_sound.specs.Registers.{AllInRange}
@@ -49,12 +49,6 @@ pub record IsTrapped (p : Image) (m : ℕ) : Type 0 where
   pub role : method_role p m ≡ Some Do
   pub ends : unissued (after_of p m) ≡ true
   pub gives : LeavesNone (gives_of p m)
-
--- a method of a class, or of one that the class descends from
-pub record IsOfFamily (p : Image) (c m : ℕ) : Type 0 where
-  pub class : ℕ
-  pub of : method_class p m ≡ Some class
-  pub above : descends p c class ≡ true
 
 -- a method that is dispatched for its object: the object is idle as it begins
 pub record IsHandler (p : Image) (c m : ℕ) : Type 0 where
@@ -108,7 +102,9 @@ pub record IsFamily (p : Image) : Type 0 where
 pub record IsWired (p : Image) : Type 0 where
   pub has_main : IsSome (main_of p)
   pub main : (m : ℕ) → main_of p ≡ Some m → (IsSome (method_at p m)) × (method_role p m ≡ Some Main) × (gives_of p m ≡ Nothing) × (arguments_of p m ≡ [])
-  pub destructor : (c m : ℕ) → role_of p c Destruct ≡ Some m → (IsSome (method_at p m)) × (method_role p m ≡ Some Destruct) × (method_class p m ≡ Some c) × (leaves p m ≡ false) × (is_quiet p m ≡ true) × (gives_of p m ≡ Nothing) × (arguments_of p m ≡ [])
+  pub destructor : (c m : ℕ) → role_of p c Destruct ≡ Some m → (IsSome (method_at p m)) × (method_role p m ≡ Some Destruct) × IsOfFamily p c m × (leaves p m ≡ false) × (is_quiet p m ≡ true) × (gives_of p m ≡ Nothing) × (arguments_of p m ≡ [])
+  -- its class has all the fields
+  pub empties : (c m : ℕ) → role_of p c Destruct ≡ Some m → (f : ℕ) → field_thing p (Member c) f ≡ field_thing p (holder_of p m) f
   -- a class of active objects has a method that cancels, which begins with its object being cancelled
   pub cancel : (c : ℕ) → is_active_kind (kind_of p (Some c)) ≡ true → (m : ℕ) × (role_of p c Cancel ≡ Some m)
   pub canceller : (c m : ℕ) → role_of p c Cancel ≡ Some m → (IsSome (method_at p m)) × (method_role p m ≡ Some Cancel) × IsOfFamily p c m × (arguments_of p m ≡ []) × (before_of p m ≡ cancel_open)
@@ -141,6 +137,8 @@ pub record IsWired (p : Image) : Type 0 where
   pub constructs : (c m : ℕ) → role_of p c Construct ≡ Some m → IsOfFamily p c m
   -- what overrides a method may stand in its place
   pub overriders : AllStandIn p
+  -- no class has a parent yet
+  pub parentless : HasNoParents p
 
 -- the boot state is well typed
 abbrev pub BootKeeps : Type 0

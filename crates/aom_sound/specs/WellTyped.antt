@@ -1,4 +1,5 @@
 -- The well-typed states: what the typing says of the methods at hand holds of the cells and their owners.
+use Rattle.aom_image.specs.declared.method.Thing.TheVariants.{Object as An_object_of}
 use Rattle.std.specs.Prelude.{IsSome, is_some, cond, IsTrue, List, None, Option, Some, [], false, length, suc, true, ℕ, ℤ, ◌<◌, ◌≤◌, ◌==◌, ◌∷◌, ◌≡◌, ◌⊎◌}
 use Rattle.aom_image.specs.Image.{Image}
 use Rattle.aom_image.specs.Views.{has, instr_at, method_at, method_role, method_class, arguments_of, is_quiet, leaves, gives_of}
@@ -91,6 +92,12 @@ pub record Houses (p : Image) (h k : Holder) : Type 0 where
 pub record CountsAs (p : Image) (h : Holder) (view : Option ℕ) (k : Holder) : Type 0 where
   pub some : (c : ℕ) → h ≡ Member c → (v : ℕ) × (view ≡ Some v)
   pub between : (v : ℕ) → view ≡ Some v → (c : ℕ) × (h ≡ Member c) × (descends p c v ≡ true) × (d : ℕ) × (k ≡ Member d) × (descends p v d ≡ true)
+
+-- a method of a class, or of one that the class descends from
+pub record IsOfFamily (p : Image) (c m : ℕ) : Type 0 where
+  pub class : ℕ
+  pub of : method_class p m ≡ Some class
+  pub above : descends p c class ≡ true
 
 -- the frame's registers are as the state says, and its home and its height are its own
 pub record Frames (p : Image) (ls : List Layer) (fr : Frame) (sh : Shape) : Type 0 where
@@ -318,11 +325,12 @@ Catches p (Caught g') g = ⊥
 Catches p Gone g = ⊥
 Catches p Leaves g = Unit {0}
 
--- right above a cell that goes stands its destructor
+-- right above a cell that goes stands a destructor of its line: of its class, or of one above it
 abbrev pub IsDestructorOf : Image → ℕ → Object → Back → Type 0
 IsDestructorOf p depth o Now = Unit {0}
 IsDestructorOf p depth o (Returns m home) =
-    (leaves p m ≡ false) × (home ≡ Inside o (Going depth)) × (is_destructor p m ≡ true) × (gives_of p m ≡ Nothing) × (after_of p m ≡ last_of (thing_kind p o.thing)) × (is_quiet p m ≡ true) × (holder_of p m ≡ thing_holder o.thing)
+    (leaves p m ≡ false) × (home ≡ Inside o (Going depth)) × (is_destructor p m ≡ true) × (gives_of p m ≡ Nothing) × (after_of p m ≡ last_of (thing_kind p o.thing)) × (is_quiet p m ≡ true)
+    × (c : ℕ) × (o.thing ≡ An_object_of c) × IsOfFamily p c m
 IsDestructorOf p depth o (Caught g) = ⊥
 IsDestructorOf p depth o Gone = ⊥
 IsDestructorOf p depth o Leaves = ⊥

@@ -19,7 +19,7 @@ ghost use Rattle.aom_sound.specs.Cases.Kept.{KeptBites};
 ghost use Rattle.aom_sound.specs.Cases.Turns.{TurnsBite};
 ghost use Rattle.aom_sound.specs.Cases.Events.{EventsBite};
 ghost use Rattle.aom_sound.specs.Cases.Owners.{OwnersBite};
-ghost use Rattle.aom_sound.specs.Cases.Families.{OverridersRun};
+ghost use Rattle.aom_sound.specs.Cases.Families.{LinesRun, OverridersRun};
 ghost use Rattle.aom_sound.specs.Cases.Further.{ServersRun};
 
 /// A run of a typed image begins well typed.
@@ -195,6 +195,11 @@ pub fn servers_bite()
 /// Where clients and servers do not say the same, nothing is kept.
 pub fn kept_bites()
     ensures { KeptBites }
+{}
+
+/// As an object goes the destructors of its class and of those above run in a line, as these runs write.
+pub fn lines_run()
+    ensures { LinesRun }
 {}
 
 /// A call runs the overrider of what its object counts as, as these runs write.

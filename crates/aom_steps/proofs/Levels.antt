@@ -124,7 +124,7 @@ destructed_paid p linked o height below = go (destructor_of p o.thing) (of_thing
     of_thing : (t : Thing) (m : ℕ) → destructor_of p t ≡ Some m → IsQuietThere p m
     of_thing x m e = let w = destroyed p x m e in quiet_destructor p linked w.0 m w.2
 
-    go : (d : Option ℕ) → ((m : ℕ) → d ≡ Some m → IsQuietThere p m) → tasks_rank p (begun_by d o height below) + 1 ≤ closing_rank p + waiting_rank p below
+    go : (d : Option ℕ) → ((m : ℕ) → d ≡ Some m → IsQuietThere p m) → tasks_rank p (begun_by p d o height below) + 1 ≤ closing_rank p + waiting_rank p below
     go None h = omega (arith, closing_two p linked)
     go (Some m) h =
         let w = h m refl in

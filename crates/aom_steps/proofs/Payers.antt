@@ -10,13 +10,13 @@ use Rattle.aom_sound.proofs.Moving.{steps_are_moves}
 use Rattle.aom_sound.specs.Calls.{answered_by, ended_well, returned, told_answer}
 use Rattle.aom_sound.specs.Cleanup.{ended_by, to_trap}
 use Rattle.aom_sound.specs.Counting.{ends_object, restarts}
-use Rattle.aom_sound.specs.Destruction.{begun, begun_by, destructed, first_session, parting}
+use Rattle.aom_sound.specs.Destruction.{line_on, next_destructor, begun, begun_by, destructed, first_session, parting}
 use Rattle.aom_sound.specs.Effects.{Destroys, Destroys_last, Effect, Leaves, Returns, applied, with_words}
 use Rattle.aom_sound.specs.Enlisted.{ended_cells, part_of}
 use Rattle.aom_sound.specs.Moves.{answered, asking, counted, dispatch_ends, failed, handled, main_ends, object_ends, stage_ends, step}
 use Rattle.aom_sound.specs.Places.{Elsewhere, Object, Root, held, service_of}
 use Rattle.aom_sound.specs.Servers.{is_server}
-use Rattle.aom_sound.specs.State.{Accept_left, Accepts, Answered, Asks, Choice, Closing, Destroy, Dispatch, Dispatched, Frame, Goes, Main_left, Object_left, Of_main, Of_object, Of_root, Of_server, Run, Seat, Serves, Stage, State, Task, Trapped, Unwind, resumed}
+use Rattle.aom_sound.specs.State.{Inside, AtRoot, Static, Home, Accept_left, Accepts, Answered, Asks, Choice, Closing, Destroy, Dispatch, Dispatched, Frame, Goes, Main_left, Object_left, Of_main, Of_object, Of_root, Of_server, Run, Seat, Serves, Stage, State, Task, Trapped, Unwind, resumed}
 use Rattle.aom_sound.specs.Steps.{Acts, Arrives, Clears, Comes_out, Empties, Ends, IsStill, Move, Rests, Undoes, Vanishes}
 use Rattle.aom_steps.specs.Payers.{class_of, payer, payer_of}
 
@@ -33,7 +33,7 @@ resumed_payer _ = refl
 destructed_payer : (p : Image) (o : Object) (height : ℕ) (ts : List Task) → payer (destructed p o height ts) ≡ payer ts
 destructed_payer p o height ts = go (destructor_of p o.thing)
   where
-    go : (m : Option ℕ) → payer (begun_by m o height ts) ≡ payer ts
+    go : (m : Option ℕ) → payer (begun_by p m o height ts) ≡ payer ts
     go None = refl
     go (Some m) = refl
 
@@ -62,11 +62,21 @@ served_payer (Of_server x client Accepts) = refl
 served_payer (Of_server x client (Serves o)) = refl
 served_payer _ = refl
 
+-- a destructor has ended
+line_payer : (p : Image) (m : ℕ) (home : Home) (height : ℕ) (below : List Task) → payer (line_on p m home height below) ≡ payer below
+line_payer p m Static height below = refl
+line_payer p m AtRoot height below = refl
+line_payer p m (Inside o from) height below = go (next_destructor p m)
+  where
+    go : (d : Option ℕ) → payer (begun_by p d o height below) ≡ payer below
+    go None = refl
+    go (Some k) = refl
+
 returned_payer : (p : Image) (fr : Frame) (ts : List Task) (v : State) (g : Gives) (a : ℕ) (below : List Task) → payer v.tasks ≡ payer below → payer (returned p fr ts v g a below).tasks ≡ payer below
 returned_payer p fr ts v g a (Run caller ∷ below) same = refl
 returned_payer p fr ts v g a (Trapped ∷ Run caller ∷ below) same = refl
 returned_payer p fr ts v g a (Trapped ∷ Dispatched d ∷ below) same = served_payer d
-returned_payer p fr ts v g a (Destroy ∷ below) same = refl
+returned_payer p fr ts v g a (Destroy ∷ below) same = line_payer p fr.method fr.home fr.height below
 returned_payer p fr ts v g a (Unwind code ∷ below) same = refl
 returned_payer p fr ts v g a (Dispatched d ∷ below) same = answered_payer (told_answer g fr a) d
 returned_payer p fr ts v g a _ same = same

@@ -20,6 +20,8 @@ use Rattle.aom_rules.specs.Typing.{Typing}
 use Rattle.aom_shape.specs.declared.kind.Kind.{Kind}
 use Rattle.aom_sound.proofs.Straight.{At, kind_fits}
 use Rattle.aom_sound.proofs.Fitting.{straight_by}
+use Rattle.aom_roles.specs.Families.{HasNoParents}
+use Rattle.aom_sound.proofs.Lines.{line_none}
 use Rattle.aom_sound.specs.Calls.{run_by, target_view, below_top, accepted_cells, ended_well, passed_cells, result_cells, result_register, returned}
 use Rattle.aom_sound.specs.Claims.{Layer, tasks_of, Dispatching, Dying, Mark, Method, Unwinding}
 use Rattle.aom_sound.specs.Cleanup.{top_place}
@@ -69,7 +71,7 @@ pub destructed_left :
     tasks_left p c (destructed p o height below) + closings_left p c us (destructed p o height below) ≤ 1 + perhaps_price c (destructor_of p o.thing) + (waiting_left p c below + closings_left p c us below)
 destructed_left p c o height below us = go (destructor_of p o.thing)
   where
-    go : (m : Option ℕ) → tasks_left p c (begun_by m o height below) + closings_left p c us (begun_by m o height below) ≤ 1 + perhaps_price c m + (waiting_left p c below + closings_left p c us below)
+    go : (m : Option ℕ) → tasks_left p c (begun_by p m o height below) + closings_left p c us (begun_by p m o height below) ≤ 1 + perhaps_price c m + (waiting_left p c below + closings_left p c us below)
     go None = omega arith
     go (Some m) = omega (arith, fresh_rounds c m (method_at p m))
 
@@ -299,20 +301,20 @@ module _ (p : Image) (t : Typing) (c : Prices) (linked : IsLinked p) (priced : I
     over_result : (over below : List Task) (x : ℕ) → closings_left p c (result_cells p fr over ended g a x below) below ≤ closings_left p c s.cells below
     over_result over below x = omega (arith, over_ended below, lasting p c ended.cells _ below (lasts_result (length below) p fr over ended g a x below))
 
-    returned_closings : (l : List Layer) → Stack p t s.cells Now (Method fr sh ∷ l) → Fewer l
-    returned_closings (Method caller sh2 ∷ l) h = over_result (Run caller ∷ tasks_of l) (tasks_of l) (result_register (instr_at p caller.method caller.place))
-    returned_closings (Dying o ∷ l) h = over_ended (tasks_of l)
-    returned_closings (Unwinding code es ∷ l) h = over_ended (tasks_of l)
-    returned_closings (Mark gv ∷ Method caller sh2 ∷ l) h = over_result (Trapped ∷ Run caller ∷ tasks_of l) (tasks_of l) (result_register (instr_at p caller.method caller.place))
-    returned_closings (Mark gv ∷ Dispatching d seats ∷ l) h = subst (λ k. Fewer (Mark gv ∷ Dispatching d seats ∷ k)) (sym h.4.1.1) (omega arith)
-    returned_closings (Dispatching d seats ∷ l) h = over_ended (tasks_of l)
-    returned_closings _ h = absurd (grind arith)
+    returned_closings : HasNoParents p → (l : List Layer) → Stack p t s.cells Now (Method fr sh ∷ l) → Fewer l
+    returned_closings none (Method caller sh2 ∷ l) h = over_result (Run caller ∷ tasks_of l) (tasks_of l) (result_register (instr_at p caller.method caller.place))
+    returned_closings none (Dying o ∷ l) h = subst (λ ts. closings_left p c ended.cells ts ≤ closings_left p c s.cells (tasks_of (Dying o ∷ l))) (sym (line_none p none fr.method fr.home fr.height (tasks_of l))) (over_ended (tasks_of l))
+    returned_closings none (Unwinding code es ∷ l) h = over_ended (tasks_of l)
+    returned_closings none (Mark gv ∷ Method caller sh2 ∷ l) h = over_result (Trapped ∷ Run caller ∷ tasks_of l) (tasks_of l) (result_register (instr_at p caller.method caller.place))
+    returned_closings none (Mark gv ∷ Dispatching d seats ∷ l) h = subst (λ k. Fewer (Mark gv ∷ Dispatching d seats ∷ k)) (sym h.4.1.1) (omega arith)
+    returned_closings none (Dispatching d seats ∷ l) h = over_ended (tasks_of l)
+    returned_closings none _ h = absurd (grind arith)
 
   returns : (g : Gives) (a : ℕ) → 1 ≤ c.from fr.method fr.place → Pays (Returns g a)
   returns g a some =
       let less = returned_less (left_worths p c) (objects_left c) (operations_left c) (λ d i e j cs. moved_less c is_entry (Register d i) (Register e j) cs refl) (operations_below c) (rerequested_same c is_entry) (λ x answer. omega arith) well_ended p t s fr sh g a
-      (λ d e i. accepted_less d e i (ended_cells p fr s.cells)) ls at_hand.good.stack in
-      omega (arith, some, less.0, less.1, returned_closings g a ls at_hand.good.stack)
+      (λ d e i. accepted_less d e i (ended_cells p fr s.cells)) linked.parents.none ls at_hand.good.stack in
+      omega (arith, some, less.0, less.1, returned_closings g a linked.parents.none ls at_hand.good.stack)
 
   pub pays : (i : Instr) → slice_get d.code fr.place ≡ Some i → Stands p t fr.method fr.place sh i → (e : Effect) → Fits p ch fr ts s i e → Covers p c fr sh e → Pays e
   pays i stands it (Goes_on change) f covered =

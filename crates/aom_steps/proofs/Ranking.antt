@@ -16,6 +16,7 @@ use Rattle.aom_shape.specs.Needs.{AllTrue}
 use Rattle.aom_rules.specs.Rules.{rule_needs}
 use Rattle.aom_shape.specs.Shape.{Shape}
 use Rattle.aom_rules.specs.Typing.{IsTyped, Typing}
+use Rattle.aom_roles.specs.Families.{HasNoParents}
 use Rattle.aom_sound.specs.Calls.{called, result_register, returned}
 use Rattle.aom_sound.specs.Cleanup.{ended_by, operation_frame}
 use Rattle.aom_sound.specs.Calls.{ended_well}
@@ -69,13 +70,13 @@ well_less p _ = omega arith
 
 -- to what stands below
 returns :
-    (p : Image) (t : Typing) (s : State) (fr : Frame) (sh : Shape) (ls : List Layer) → Stack p t s.cells Now (Method fr sh ∷ ls) → 1 ≤ frame_rank p fr → (g : Gives) (a : ℕ) →
+    (p : Image) → HasNoParents p → (t : Typing) (s : State) (fr : Frame) (sh : Shape) (ls : List Layer) → Stack p t s.cells Now (Method fr sh ∷ ls) → 1 ≤ frame_rank p fr → (g : Gives) (a : ℕ) →
     rank p (returned p fr (tasks_of ls) (record s { cells = ended_cells p fr s.cells }) g a (tasks_of ls)) < tasks_rank p (Run fr ∷ tasks_of ls) + (standing s.cells + operations s.items) * cell_rank p
-returns p t s fr sh ls h some g a =
+returns p none t s fr sh ls h some g a =
     let u = returned p fr (tasks_of ls) (record s { cells = ended_cells p fr s.cells }) g a (tasks_of ls) in
     let less =
     returned_less (rank_worths p) standing operations standing_passes operations_below standing_asked (λ x answer. omega arith) (well_less p) p t s fr sh g a
-    (λ d e i. standing_accepted d e i (ended_cells p fr s.cells)) ls h in
+    (λ d e i. standing_accepted d e i (ended_cells p fr s.cells)) none ls h in
     let cells = scaled_le (standing u.cells + operations u.items) (standing s.cells + operations s.items) (cell_rank p) less.1 in
     omega (arith, some, less.0, cells)
 
@@ -110,7 +111,7 @@ module _ (p : Image) (t : Typing) (linked : IsLinked p) (typed : IsTyped p t) (c
       let m = of_method p fr.method fr.place i there in
       let is : x.instr ≡ i = same_Some x.instr i (sym x.stands ∙ there) in
       falls p linked c (counted p s) fr (tasks_of ls) m.0 m.1 sh w.undos i m.2 (subst (λ j. AllTrue (rule_needs p fr.method fr.place sh j)) is x.needs) e fits
-      (λ g a stands. returns p t (counted p s) fr sh ls good.stack (ends p linked c (counted p s) fr (tasks_of ls) m.0 m.1 a stands) g a)
+      (λ g a stands. returns p linked.parents.none t (counted p s) fr sh ls good.stack (ends p linked c (counted p s) fr (tasks_of ls) m.0 m.1 a stands) g a)
       (λ a o delete owns. plain fr (tasks_of ls) a o (subst (λ j. AllTrue (needs p c fr (tasks_of ls) (counted p s) j)) delete met).1.0 owns) (λ o owns. entry_object p t s w o _ owns)
       (λ k stands e. cancels_below p linked fr m.0 m.1 good.stack.1.view k stands e)
 

@@ -1,5 +1,5 @@
 -- What the tasks come to after a leave, a return, an arrival and the going of a cell; and what of the cells is only passed on.
-use Rattle.std.proofs.Common.{Bool, List, Option, [], arith, cond, false, length, refl, suc, true, ℕ, ℤ, ◌+◌, ◌∷◌, ◌≡◌, ◌≤◌}
+use Rattle.std.proofs.Common.{ap, Bool, List, Option, [], arith, cond, false, length, refl, suc, true, ℕ, ℤ, ◌+◌, ◌∷◌, ◌≡◌, ◌≤◌}
 use Rattle.aom_image.specs.Image.{Image}
 use Rattle.aom_image.specs.Views.{instr_at, method_role}
 use Rattle.aom_image.specs.declared.method.Argument.{Argument}
@@ -8,6 +8,8 @@ use Rattle.aom_image.specs.declared.method.Gives.{Gives}
 use Rattle.aom_image.specs.declared.method.Gives.TheVariants.{Own as An_own, Maybe as A_maybe}
 use Rattle.aom_shape.specs.Shape.{Shape}
 use Rattle.aom_rules.specs.Typing.{Typing}
+use Rattle.aom_roles.specs.Families.{HasNoParents}
+use Rattle.aom_sound.proofs.Lines.{line_none}
 use Rattle.aom_sound.specs.Calls.{accepted_cells, answered_by, below_top, ended_well, passed_cells, received, result_cells, result_register, returned, told_answer}
 use Rattle.aom_sound.specs.Claims.{Dispatching, Dying, Layer, Mark, Method, Unwinding, tasks_of}
 use Rattle.aom_sound.specs.Cleanup.{code_told, to_trap}
@@ -93,17 +95,17 @@ module _ (w : Worths) where
     abbrev pub Less : List Layer → Type 0
     Less ls = (tasks_worth w (after ls).tasks ≤ waiting_worth w (tasks_of ls)) × (f (after ls).cells + g (after ls).items ≤ f s.cells + g s.items)
 
-    pub returned_less : (ls : List Layer) → Stack p t s.cells Now (Method fr sh ∷ ls) → Less ls
-    returned_less (Method caller sh2 ∷ ls) h =
+    pub returned_less : HasNoParents p → (ls : List Layer) → Stack p t s.cells Now (Method fr sh ∷ ls) → Less ls
+    returned_less none (Method caller sh2 ∷ ls) h =
         let x = result_register (instr_at p caller.method caller.place) in
         let below = Run caller ∷ tasks_of ls in
         (omega (arith, received_alike p fr below ended gives a x caller (tasks_of ls)), omega (arith, result_less f passes p fr below ended gives a x (tasks_of ls), ended_less))
-    returned_less (Dying o ∷ ls) h = (omega arith, omega (arith, ended_less))
-    returned_less (Unwinding code es ∷ ls) h = (omega arith, omega (arith, ended_less))
-    returned_less (Mark gv ∷ Method caller sh2 ∷ ls) h =
+    returned_less none (Dying o ∷ ls) h = (omega (arith, ap (tasks_worth w) (line_none p none fr.method fr.home fr.height (tasks_of ls))), omega (arith, ended_less))
+    returned_less none (Unwinding code es ∷ ls) h = (omega arith, omega (arith, ended_less))
+    returned_less none (Mark gv ∷ Method caller sh2 ∷ ls) h =
         let x = result_register (instr_at p caller.method caller.place) in
         let over = Trapped ∷ Run caller ∷ tasks_of ls in
         (omega (arith, received_alike p fr over ended gives a x caller (tasks_of ls)), omega (arith, result_less f passes p fr over ended gives a x (tasks_of ls), ended_less, below s.items))
-    returned_less (Mark gv ∷ Dispatching d seats ∷ ls) h = (omega (arith, serves d), omega (arith, accepts d (length (Trapped ∷ Dispatched d ∷ tasks_of ls)) a, ended_less, below s.items))
-    returned_less (Dispatching d seats ∷ ls) h = (omega (arith, answered_less (told_answer gives fr a) d), omega (arith, ended_less))
-    returned_less _ h = absurd (grind arith)
+    returned_less none (Mark gv ∷ Dispatching d seats ∷ ls) h = (omega (arith, serves d), omega (arith, accepts d (length (Trapped ∷ Dispatched d ∷ tasks_of ls)) a, ended_less, below s.items))
+    returned_less none (Dispatching d seats ∷ ls) h = (omega (arith, answered_less (told_answer gives fr a) d), omega (arith, ended_less))
+    returned_less none _ h = absurd (grind arith)

@@ -1,5 +1,5 @@
--- Runs over classes with parents: which method a call runs.
-use Rattle.std.specs.Prelude.{ℕ, pos, List, [], ◌∷◌, Some, None}
+-- Runs over classes with parents: which method a call runs, and which destructors as an object goes.
+use Rattle.std.specs.Prelude.{ℕ, pos, ◌≡◌, List, [], ◌∷◌, Some, None}
 use Rattle.aom_image.specs.Image.{Image}
 use Rattle.aom_image.specs.Small.{a_class, a_header}
 use Rattle.aom_image.specs.declared.class.ClassDecl.{ClassDecl}
@@ -8,15 +8,16 @@ use Rattle.aom_image.specs.declared.image.Version.TheVariants.{Two}
 use Rattle.aom_image.specs.declared.method.Argument.TheVariants.{Own as Takes_own}
 use Rattle.aom_image.specs.declared.method.Gives.TheVariants.{Nothing}
 use Rattle.aom_image.specs.declared.method.Method.{Method}
-use Rattle.aom_image.specs.declared.method.Role.TheVariants.{Do, Main as Is_main}
+use Rattle.aom_image.specs.declared.method.Role.TheVariants.{Destruct, Do, Main as Is_main}
 use Rattle.aom_image.specs.declared.method.Thing.TheVariants.{Object as An_object_of}
 use Rattle.aom_instructions.specs.declared.instr.Instr.{Instr}
-use Rattle.aom_instructions.specs.declared.instr.Instr.TheVariants.{Call, Const, Delete, NewOrLeave, Print, Return, Stop, Trap}
+use Rattle.aom_instructions.specs.declared.instr.Instr.TheVariants.{Call, Const, Delete, NewOrLeave, Print, Put, Return, Stop, Take, Trap}
 use Rattle.aom_instructions.specs.declared.instr.Target.TheVariants.{This, Register as On_register}
 use Rattle.aom_transcript.specs.declared.line.Ending.TheVariants.{Stopped}
-use Rattle.aom_transcript.specs.declared.line.Line.TheVariants.{Gone, Out}
+use Rattle.aom_transcript.specs.declared.line.Line.TheVariants.{Gone, Main, Out}
 use Rattle.aom_sound.specs.Cases.Programs.{a_method}
-use Rattle.aom_sound.specs.Cases.Running.{Runs}
+use Rattle.aom_sound.specs.Cases.Running.{Runs, Sticks, run_of}
+use Rattle.aom_sound.specs.State.{Orphan}
 
 -- an image of the second version
 abbrev pub a_family : List ClassDecl → List Method → Image
@@ -91,3 +92,56 @@ pub record OverridersRun : Type 0 where
   pub near : nearest
   pub slots : no_slots
   pub self : on_self
+
+-- ---- lines of destructors
+
+-- a destructor of a class, which prints a number first
+abbrev pub ends_with : ℕ → ℕ → List Instr → Method
+ends_with class n code = a_method (Some class) Destruct [] Nothing (Const 0 (pos n) ∷ Print 0 ∷ code)
+
+-- a field is emptied, and what it owned goes
+abbrev pub empties : ℕ → List Instr → List Instr
+empties f code = Take 1 f ∷ Delete 1 ∷ code
+
+-- the child's destructor, then that of the class two above: the one between has none
+abbrev pub gap : Type 0
+gap =
+    Runs 40
+    (a_family (a_plain ∷ from 0 ∷ from 1 ∷ []) (
+    ends_with 2 3 (Return 0 ∷ []) ∷ ends_with 0 1 (Return 0 ∷ []) ∷ is_main (NewOrLeave 0 2 ∷ Delete 0 ∷ Stop ∷ Return 0 ∷ [])
+    ∷ []))
+    [] Stopped 0 (Out (pos 3) ∷ Out (pos 1) ∷ Gone 2 ∷ [])
+
+-- a class that owns one, and its child that owns one more; both fields are filled, and each destructor empties its own class's
+abbrev pub owning_family : List Instr → Image
+owning_family code =
+    a_family (a_plain ∷ a_class Plain 0 0 (An_object_of 0 ∷ []) ∷ record (a_class Plain 0 0 (An_object_of 0 ∷ An_object_of 0 ∷ [])) { parent = Some 1 } ∷ []) (
+    ends_with 2 2 code ∷ ends_with 1 1 (empties 0 (Return 0 ∷ []))
+    ∷ a_method (Some 2) Do [] Nothing (NewOrLeave 0 0 ∷ Put 0 0 ∷ NewOrLeave 0 0 ∷ Put 1 0 ∷ Return 0 ∷ [])
+    ∷ is_main (tries 2 2 (Stop ∷ Return 0 ∷ []))
+    ∷ [])
+
+abbrev pub each_empties : Type 0
+each_empties = Runs 60 (owning_family (empties 1 (Return 0 ∷ []))) [] Stopped 0 (Out (pos 2) ∷ Gone 0 ∷ Out (pos 1) ∷ Gone 0 ∷ Gone 2 ∷ [])
+
+-- a field of the child's that is left is an orphan, as the child's destructor ends
+abbrev pub left_over : Type 0
+left_over = run_of 60 (owning_family (empties 0 (Return 0 ∷ []))) [] ≡ Sticks (Main 0 ∷ Out (pos 2) ∷ Gone 0 ∷ []) Orphan
+
+-- under the parent's destructor the object counts as the parent
+abbrev pub as_the_parent : Type 0
+as_the_parent =
+    Runs 60
+    (a_family (a_plain ∷ from 0 ∷ []) (
+    says 0 1 ∷ says_over 0 1 2
+    ∷ a_method (Some 1) Destruct [] Nothing (Call This 0 0 0 ∷ Return 0 ∷ []) ∷ a_method (Some 0) Destruct [] Nothing (Call This 0 0 0 ∷ Return 0 ∷ [])
+    ∷ is_main (NewOrLeave 0 1 ∷ Delete 0 ∷ Stop ∷ Return 0 ∷ [])
+    ∷ []))
+    [] Stopped 0 (Out (pos 2) ∷ Out (pos 1) ∷ Gone 1 ∷ [])
+
+-- each of these runs comes out so
+pub record LinesRun : Type 0 where
+  pub past_a_gap : gap
+  pub emptied : each_empties
+  pub left : left_over
+  pub parent : as_the_parent

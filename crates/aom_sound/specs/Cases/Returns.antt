@@ -9,7 +9,7 @@ use Rattle.aom_image.specs.declared.method.Role.TheVariants.{Cancel, Do}
 use Rattle.aom_sound.specs.Enlisted.{cancelled_code, pending}
 use Rattle.aom_sound.specs.Places.{Aborted, Active, Cancelling, Elsewhere, Entry, Field, Phase, Place, Register, Root}
 use Rattle.aom_sound.specs.State.{Static, frame_of, Task, Run, Trapped, Destroy, Unwind, Dispatched, Of_main, An_object, An_operation, A_mark, Stuck, CancelHang, Unbalanced, MessageLost, Orphan, NullOrDead, WrongKind}
-use Rattle.aom_sound.specs.Cases.Building.{leaf, pair, waiter, seven, a_cell, at_bottom, mine, inside, Case, fails, AllBite}
+use Rattle.aom_sound.specs.Cases.Building.{child, leaf, pair, waiter, seven, a_cell, at_bottom, mine, inside, Case, fails, AllBite}
 
 -- a method that waits for another
 abbrev pub waits : Task
@@ -107,6 +107,11 @@ waiting_cases =
     ∷ record (ends_over (Destroy ∷ at_bottom) (MessageLost ∷ [])) { home = inside pair; cells = a_cell 1 Message (Field 9 1) ∷ [] }
     ∷ record (ends_over (Destroy ∷ at_bottom) (Orphan ∷ MessageLost ∷ [])) { home = inside pair; cells = a_cell 1 Message (Field 9 1) ∷ a_cell 2 leaf (Field 9 0) ∷ [] }
     ∷ record (ends_over (Destroy ∷ at_bottom) []) { home = inside pair; cells = a_cell 1 leaf (Field 5 0) ∷ a_cell 2 Message (Field 5 1) ∷ [] }
+    -- a child's leaves none past its parent's, whose destructor leaves none
+    ∷ record (ends_over (Destroy ∷ at_bottom) []) { home = inside child; cells = a_cell 1 Message (Field 9 1) ∷ a_cell 2 leaf (Field 9 0) ∷ [] }
+    ∷ record (ends_over (Destroy ∷ at_bottom) (Orphan ∷ [])) { home = inside child; cells = a_cell 1 leaf (Field 9 2) ∷ [] }
+    ∷ record (ends_over (Destroy ∷ at_bottom) (Orphan ∷ [])) { home = inside child; class = Some 1; cells = a_cell 1 leaf (Field 9 0) ∷ [] }
+    ∷ record (ends_over (Destroy ∷ at_bottom) (Orphan ∷ [])) { home = inside child; class = Some 1; cells = a_cell 1 leaf (Field 9 2) ∷ [] }
     ∷ []
 
 -- a method of that role returns, and the request of what it works on is so far, with that status
