@@ -86,12 +86,12 @@ module _ (p : Image) (t : Typing) (wired : IsWired p) (typed : IsTyped p t) (c :
       let runs = runs_for p wired m view (home_holder home) called_so a.1.holder answered.1 in
       let stands : Stands p t (Returns k home) fr sh' = (
         λ l.
-        let may = runs.leaves l in (
-          only_then (leaves p m) (leaves p fr.method) more.1.1.1.1.0 may,
-          none_owns_each sh'.registers (λ i. a.1.owning i ∙ none_owns_at (arguments_moved (arguments_of p m) first sh).registers i (only_then (leaves p m) _ more.1.1.1.1.1.0 may)),
-          called_unissued target (method_class p m) ended (arguments_moved (arguments_of p m) first sh) (only_then (leaves p m) _ more.1.1.1.1.1.1.0 may) called_so.ends,
-          λ serving. called_delivery target (method_class p m) ended (arguments_moved (arguments_of p m) first sh) ∙ here_is _ (only_then (leaves p m) _ more.1.1.1.1.1.1.1.0 may),
-        ),
+            let may = runs.leaves l in (
+              only_then (leaves p m) (leaves p fr.method) more.1.1.1.1.0 may,
+              none_owns_each sh'.registers (λ i. a.1.owning i ∙ none_owns_at (arguments_moved (arguments_of p m) first sh).registers i (only_then (leaves p m) _ more.1.1.1.1.1.0 may)),
+              called_unissued target (method_class p m) ended (arguments_moved (arguments_of p m) first sh) (only_then (leaves p m) _ more.1.1.1.1.1.1.0 may) called_so.ends,
+              λ serving. called_delivery target (method_class p m) ended (arguments_moved (arguments_of p m) first sh) ∙ here_is _ (only_then (leaves p m) _ more.1.1.1.1.1.1.1.0 may),
+            ),
         subst (λ g. Awaits g (result_register (instr_at p fr.method fr.place)) sh') (sym runs.gives)
             (subst (λ y. Awaits (gives_of p m) y sh') (sym at_x) (awaited p t wired typed c s fr sh ls at_hand m first depth height deep called_so passed (gives_of p m) x sh' a.1.owning more.1.1.1.0)),
         subst (λ g. Leads t fr.method (suc fr.place) (brought g (result_register (instr_at p fr.method fr.place)) sh')) (sym runs.gives)

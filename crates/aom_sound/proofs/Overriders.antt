@@ -61,12 +61,12 @@ itself_runs p m h view there houses counts = record {
 }
 
 -- what leads to a method that is there is there
-leads_there : (p : Image) (m : ℕ) → IsSome (method_at p m) → (n z : ℕ) → leads_in p n (Some z) m ≡ true → (e : Method) × (method_at p z ≡ Some e)
+leads_there : (p : Image) (m : ℕ) (d : Method) → method_at p m ≡ Some d → (n z : ℕ) → leads_in p n (Some z) m ≡ true → (e : Method) × (method_at p z ≡ Some e)
 unfolding leads_in over_in
-leads_there p m there n z leads = go (method_at p z) refl n leads
+leads_there p m d named n z leads = go (method_at p z) refl n leads
   where
     itself : (b : Bool) → (z == m) ≡ b → method_at p z ≡ None → b ≡ true → ⊥
-    itself true same none e = let empty : IsSome {T = Method} None = subst (λ o. IsSome o) (ap (method_at p) (sym (eqb-true z m same)) ∙ none) there in cc
+    itself true same none e = let clash : Some d ≡ None = sym named ∙ ap (method_at p) (sym (eqb-true z m same)) ∙ none in cc
     itself false same none e = cc
 
     above_none : (n : ℕ) → leads_in p n None m ≡ true → ⊥
@@ -84,9 +84,9 @@ leads_there p m there n z leads = go (method_at p z) refl n leads
         absurd (itself (z == m) refl at (either (z == m) (leads_in p n (over_of p z) m) (λ h. above_none n (sym (ap (λ o. leads_in p n (over_in o) m) at) ∙ h)) leads))
 
 -- what overrides a method is a plain one
-overrides_plainly : (p : Image) → AllStandIn p → (m k : ℕ) (d : Method) → IsSome (method_at p m) → method_at p k ≡ Some d → overrides p k m ≡ true → d.role ≡ Do
+overrides_plainly : (p : Image) → AllStandIn p → (m k : ℕ) (d e : Method) → method_at p m ≡ Some e → method_at p k ≡ Some d → overrides p k m ≡ true → d.role ≡ Do
 unfolding leads_in over_in method_at
-overrides_plainly p fit m k d there at over = go d.over refl (sym (ap (λ o. leads_to p (over_in o) m) at) ∙ over)
+overrides_plainly p fit m k d e there at over = go d.over refl (sym (ap (λ o. leads_to p (over_in o) m) at) ∙ over)
   where
     none_leads : (n : ℕ) → leads_in p n None m ≡ true → ⊥
     none_leads zero h = cc
@@ -95,7 +95,7 @@ overrides_plainly p fit m k d there at over = go d.over refl (sym (ap (λ o. lea
     go : (o : Option ℕ) → d.over ≡ o → leads_to p o m ≡ true → d.role ≡ Do
     go None is leads = absurd (none_leads (length p.methods) leads)
     go (Some z) is leads =
-        let named = leads_there p m there (length p.methods) z leads in
+        let named = leads_there p m e there (length p.methods) z leads in
         let fits : IfSome (Some z) (λ m. IfSome (method_at p m) (StandsIn p d)) = subst (λ o. IfSome o (λ m. IfSome (method_at p m) (StandsIn p d))) is (all_there (StandsInNamed p) p.methods k d fit at) in
         let stands : StandsIn p d named.0 = subst (λ o. IfSome o (StandsIn p d)) named.1 fits in
         same_roles d.role Do stands.role
@@ -114,7 +114,7 @@ overrider_runs p wired m v k h e called x counts = record {
   after = subst (λ o. IsTrue (has (after_of p m) (after_in o))) (sym x.alike.there) (subst (λ o. IsTrue (has (after_in o) (after_in (Some x.method)))) (sym x.alike.named) x.alike.asks.after);
   holder = subst (λ y. Houses p h y) (sym works) (subst (λ y. Houses p y (Member x.class)) (sym object.1) (houses_family p wired.family object.0 x.class (through p object.0 v x.class object.2 x.family)));
   only = λ construct.
-      let plain = overrides_plainly p wired.overriders m k x.method called.there x.alike.there x.overrides in
+      let plain = overrides_plainly p wired.overriders m k x.method e x.alike.named x.alike.there x.overrides in
       let clash : Some Do ≡ Some Construct = ap (λ r. Some r) (sym plain) ∙ sym (ap role_in x.alike.there) ∙ role ∙ construct in
       absurd cc;
   counts = record {

@@ -7,6 +7,7 @@ use Rattle.aom_classes.specs.Roles.{keeper_in, main_of, own_role, plays, role_nu
 use Rattle.aom_roles.specs.Classes.{kind_in, sessions_in, sessions_of}
 use Rattle.aom_roles.specs.Shapes.{is_role, kind_of}
 use Rattle.aom_shape.specs.Things.{words_in}
+use Rattle.aom_sound.specs.Cases.Constructs.{ConstructsRun}
 use Rattle.aom_sound.specs.Cases.Families.{LinesRun, OverridersRun}
 use Rattle.aom_sound.specs.Cases.Further.{ServersRun}
 
@@ -40,3 +41,7 @@ overriders_run = record { child = refl; near = refl; slots = refl; self = refl }
 pub lines_run : LinesRun
 unfolding arguments_in class_at class_in fields_in gives_in instr_in is_role kind_in kind_of main_of method_at plays role_in role_number role_of own_role keeper_in sessions_in sessions_of words_in descends_in parent_in body_of found_in overrider_of replaces over_in leads_in
 lines_run = record { past_a_gap = refl; emptied = refl; left = refl; parent = refl }
+
+pub constructs_run : ConstructsRun
+unfolding arguments_in class_at class_in fields_in gives_in instr_in is_role kind_in kind_of main_of method_at plays role_in role_number role_of own_role keeper_in sessions_in sessions_of words_in descends_in parent_in body_of found_in overrider_of replaces over_in leads_in
+constructs_run = record { parent = refl; own = refl; filled = refl; again = refl }

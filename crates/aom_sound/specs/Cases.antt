@@ -16,5 +16,6 @@ pub mod Kept
 pub mod Programs
 pub mod Running
 pub mod Served
+pub mod Constructs
 pub mod Further
 pub mod Families

@@ -19,6 +19,7 @@ ghost use Rattle.aom_sound.specs.Cases.Kept.{KeptBites};
 ghost use Rattle.aom_sound.specs.Cases.Turns.{TurnsBite};
 ghost use Rattle.aom_sound.specs.Cases.Events.{EventsBite};
 ghost use Rattle.aom_sound.specs.Cases.Owners.{OwnersBite};
+ghost use Rattle.aom_sound.specs.Cases.Constructs.{ConstructsRun};
 ghost use Rattle.aom_sound.specs.Cases.Families.{LinesRun, OverridersRun};
 ghost use Rattle.aom_sound.specs.Cases.Further.{ServersRun};
 
@@ -205,6 +206,11 @@ pub fn lines_run()
 /// A call runs the overrider of what its object counts as, as these runs write.
 pub fn overriders_run()
     ensures { OverridersRun }
+{}
+
+/// A construct calls its parent's on its own object while the parent's fields are empty, as these runs write.
+pub fn constructs_run()
+    ensures { ConstructsRun }
 {}
 
 /// Runs with servers and clients write, line by line, what their examples say.
