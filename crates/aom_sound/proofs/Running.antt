@@ -40,7 +40,7 @@ overriders_run = record { child = refl; near = refl; slots = refl; self = refl }
 
 pub lines_run : LinesRun
 unfolding arguments_in class_at class_in fields_in gives_in instr_in is_role kind_in kind_of main_of method_at plays role_in role_number role_of own_role keeper_in sessions_in sessions_of words_in descends_in parent_in body_of found_in overrider_of replaces over_in leads_in
-lines_run = record { past_a_gap = refl; emptied = refl; left = refl; parent = refl }
+lines_run = record { past_a_gap = refl; emptied = refl; left = refl; parent = refl; above = refl; below = refl }
 
 pub constructs_run : ConstructsRun
 unfolding arguments_in class_at class_in fields_in gives_in instr_in is_role kind_in kind_of main_of method_at plays role_in role_number role_of own_role keeper_in sessions_in sessions_of words_in descends_in parent_in body_of found_in overrider_of replaces over_in leads_in

@@ -3,16 +3,17 @@ use Rattle.std.specs.Prelude.{ℕ, pos, ◌≡◌, List, [], ◌∷◌, Some, No
 use Rattle.aom_image.specs.Image.{Image}
 use Rattle.aom_image.specs.Small.{a_class, a_header}
 use Rattle.aom_image.specs.declared.class.ClassDecl.{ClassDecl}
-use Rattle.aom_image.specs.declared.class.ClassKind.TheVariants.{Plain}
+use Rattle.aom_image.specs.declared.class.ClassKind.TheVariants.{Active, Plain}
+use Rattle.aom_image.specs.declared.class.Provider.TheVariants.{Own}
 use Rattle.aom_image.specs.declared.image.Version.TheVariants.{Two}
 use Rattle.aom_image.specs.declared.method.Argument.TheVariants.{Own as Takes_own}
 use Rattle.aom_image.specs.declared.method.Gives.TheVariants.{Nothing}
 use Rattle.aom_image.specs.declared.method.Method.{Method}
-use Rattle.aom_image.specs.declared.method.Role.TheVariants.{Destruct, Do, Main as Is_main}
+use Rattle.aom_image.specs.declared.method.Role.TheVariants.{Cancel as Cancels, Construct, Destruct, Do, Main as Is_main}
 use Rattle.aom_image.specs.declared.method.Thing.TheVariants.{Object as An_object_of}
 use Rattle.aom_instructions.specs.declared.instr.Instr.{Instr}
-use Rattle.aom_instructions.specs.declared.instr.Instr.TheVariants.{Call, Const, Delete, NewOrLeave, Print, Put, Return, Stop, Take, Trap}
-use Rattle.aom_instructions.specs.declared.instr.Target.TheVariants.{This, Register as On_register}
+use Rattle.aom_instructions.specs.declared.instr.Instr.TheVariants.{Abort, Call, Cancel, Const, Delete, Enlist, Issue, NewOrLeave, Pop, Print, Push, Put, Return, SetActive, Stop, Take, Trap}
+use Rattle.aom_instructions.specs.declared.instr.Target.TheVariants.{This, Register as On_register, Entry as On_entry}
 use Rattle.aom_transcript.specs.declared.line.Ending.TheVariants.{Stopped}
 use Rattle.aom_transcript.specs.declared.line.Line.TheVariants.{Gone, Main, Out}
 use Rattle.aom_sound.specs.Cases.Programs.{a_method}
@@ -139,9 +140,36 @@ as_the_parent =
     ∷ []))
     [] Stopped 0 (Out (pos 2) ∷ Out (pos 1) ∷ Gone 1 ∷ [])
 
+-- two classes of active objects, the second from the first, each with a cancel method of its own; the destructors cancel
+abbrev pub waiting : List Method → Image
+waiting destructors =
+    record {
+      header = record (a_header 1 0 0 (Some 1) 60) { version = Two };
+      classes = a_class (Active Own) 30 0 [] ∷ record (a_class (Active Own) 30 0 []) { parent = Some 0 } ∷ [];
+      methods =
+          a_method (Some 0) Cancels [] Nothing (Const 0 (pos 1) ∷ Print 0 ∷ Abort ∷ Return 0 ∷ [])
+          ∷ a_method (Some 1) Cancels [] Nothing (Const 0 (pos 2) ∷ Print 0 ∷ Abort ∷ Return 0 ∷ [])
+          ∷ a_method (Some 0) Construct [] Nothing (Enlist (pos 0) ∷ Const 0 (pos 5) ∷ Issue 0 0 ∷ SetActive ∷ Return 0 ∷ [])
+          ∷ is_main (NewOrLeave 0 1 ∷ Push 0 ∷ Call (On_entry 0) 2 0 0 ∷ Pop 0 ∷ Put 0 0 ∷ Stop ∷ Return 0 ∷ [])
+          ∷ destructors;
+    }
+
+abbrev pub cancels : ℕ → Method
+cancels class = a_method (Some class) Destruct [] Nothing (Cancel ∷ Return 0 ∷ [])
+
+-- so the parent's destructor cancels as the parent does
+abbrev pub parent_cancels : Type 0
+parent_cancels = Runs 80 (waiting (cancels 0 ∷ [])) [] Stopped 0 (Out (pos 1) ∷ Gone 1 ∷ [])
+
+-- and the child's as the child does, before the parent's
+abbrev pub child_cancels : Type 0
+child_cancels = Runs 80 (waiting (cancels 1 ∷ cancels 0 ∷ [])) [] Stopped 0 (Out (pos 2) ∷ Gone 1 ∷ [])
+
 -- each of these runs comes out so
 pub record LinesRun : Type 0 where
   pub past_a_gap : gap
   pub emptied : each_empties
   pub left : left_over
   pub parent : as_the_parent
+  pub above : parent_cancels
+  pub below : child_cancels
