@@ -18,15 +18,17 @@ use Rattle.aom_shape.specs.declared.kind.Kind.{Kind}
 use Rattle.aom_shape.proofs.Lists.{at_past, at_within, at_set_here, at_set_other}
 use Rattle.aom_bounds.specs.Shapes.{Shapes}
 use Rattle.aom_bounds.specs.Strongest.{IsMethodStrongest}
-use Rattle.aom_bounds.specs.Calls.{Among, listed, destructors, object_class, callees, CallsAt, MayCall}
+use Rattle.aom_bounds.specs.Calls.{Among, destructors, object_class, callees, CallsAt, MayCall}
 use Rattle.aom_bounds.specs.Depths.{Frames}
 use Rattle.aom_bounds.specs.Depths.Frames.{alone, calling}
 use Rattle.aom_bounds.specs.Heights.{StandsAt, Enters, CallsOver, Heights}
 use Rattle.aom_bounds.specs.Heights.Heights.{own, under}
-use Rattle.aom_budget.specs.Extents.{IsMost, entered, OfSome, Joined, ComesTo, FramesAt, EntriesAt, Before, IsFilled, most_at}
-use Rattle.aom_bounds.proofs.Alone.{runs_named}
+use Rattle.aom_budget.specs.Extents.{IsMost, entered, OfSome, Joined, ComesTo, FramesAt, EntriesAt, Before, IsFilled}
+use Rattle.aom_budget.specs.Greatest.{most_at}
 use Rattle.aom_bounds.proofs.Listed.{run_among}
 use Rattle.aom_budget.proofs.Mentioned.{called_lower}
+use Rattle.aom_budget.proofs.Greatest.{run_from}
+use Rattle.aom_budget.proofs.Keeping.{at_noughts}
 use Rattle.aom_budget.proofs.Most.{of_none, alike, joined, of_methods}
 use Rattle.aom_instructions.specs.declared.instr.Instr.{Instr}
 use Rattle.aom_instructions.specs.declared.instr.Target.{Target}
@@ -51,47 +53,20 @@ module _ (p : Image) (cap : ℕ) (its_own : Shape → ℕ) (calls : Shape → In
 
 -- ---- what is called is found already
 
--- an instruction that calls that method by its name, with a trap or without
-abbrev Names : Instr → ℕ → Type 0
-Names (Call target j first c) k = j ≡ k
-Names (Trap target j first c) k = j ≡ k
-Names _ k = ⊥
-
-by_naming : (k : ℕ) (P : Instr → Type 0) → ((target : Target) (first c : ℕ) → P (Call target k first c)) → ((target : Target) (first c : ℕ) → P (Trap target k first c)) →
-    (i : Instr) → Names i k → P i
-by_naming k P call trap i e = grind arith
-
--- in a linked image it enters the method that it names
-names_entered : (p : Image) → IsLinked p → (i : Instr) (k : ℕ) → Enters p i k → Names i k
-names_entered p linked (Call target j first c) k e = runs_named p linked.overriders.none j k e
-names_entered p linked (Trap target j first c) k e = runs_named p linked.overriders.none j k e
-names_entered p linked _ k e = absurd e
-
--- so what holds of a call and of a trap of a method holds of each instruction that enters it
-pub by_entering : (p : Image) → IsLinked p → (k : ℕ) (P : Instr → Type 0) → ((target : Target) (first c : ℕ) → P (Call target k first c)) →
-    ((target : Target) (first c : ℕ) → P (Trap target k first c)) → (i : Instr) → Enters p i k → P i
-by_entering p linked k P call trap i e = by_naming k P call trap i (names_entered p linked i k e)
-
 entered_called : (p : Image) (m : ℕ) (sh : Shape) (i : Instr) (k : ℕ) → Enters p i k → Among k (callees p m sh i)
 entered_called p m sh (Call target j first c) k e = run_among p j k e
 entered_called p m sh (Trap target j first c) k e = run_among p j k e
 entered_called p m sh _ k e = absurd e
 
-is_entered : (p : Image) → IsLinked p → (i : Instr) (k : ℕ) → Enters p i k → Among k (listed (entered i))
-is_entered p linked i k e = by_entering p linked k (λ j. Among k (listed (entered j))) (λ target first c. inl refl) (λ target first c. inl refl) i e
+is_entered : (p : Image) (i : Instr) (k : ℕ) → Enters p i k → Among k (entered p i)
+is_entered p (Call target j first c) k e = run_among p j k e
+is_entered p (Trap target j first c) k e = run_among p j k e
+is_entered p _ k e = absurd e
 
-named_enters : (p : Image) (i : Instr) (j k : ℕ) → entered i ≡ Some j → j ≡ k → Enters p i k
-named_enters p (Call target x first c) j k e same = let named : x ≡ j = cc in inl (named ∙ same)
-named_enters p (Trap target x first c) j k e same = let named : x ≡ j = cc in inl (named ∙ same)
-named_enters p _ j k e same = cc
-
-enters : (p : Image) (i : Instr) (k : ℕ) → Among k (listed (entered i)) → Enters p i k
-enters p i k h = go (entered i) refl h
-  where
-    go : (o : Option ℕ) → entered i ≡ o → Among k (listed o) → Enters p i k
-    go None e h = absurd h
-    go (Some j) e (inl same) = named_enters p i j k e (sym same)
-    go (Some j) e (inr h) = absurd h
+enters : (p : Image) (i : Instr) (k : ℕ) → Among k (entered p i) → Enters p i k
+enters p (Call target j first c) k h = run_from p j k h
+enters p (Trap target j first c) k h = run_from p j k h
+enters p _ k h = absurd h
 
 module _ (p : Image) (m : ℕ) (s : Shapes) (place : ℕ) (sh : Shape) (i : Instr) (linked : IsLinked p) (strongest : IsMethodStrongest p m s) where
   module _ (there : at None s place ≡ Some sh) (stands : instr_at p m place ≡ Some i) where
@@ -105,11 +80,11 @@ module _ (p : Image) (m : ℕ) (s : Shapes) (place : ℕ) (sh : Shape) (i : Inst
         let over = of_methods 257 (Frames p) ds (callees p m sh i) (called_found 257 (Frames p) ds filled) in
         rw is (reached p 257 (λ x. 1) (callees p m) (Frames p) m s place sh i _ there stands over)
 
-    pub height_found : (hs : List ℕ) (n : ℕ) → IsFilled p 1025 (Heights p) m hs → n ≡ min (length sh.entries + most_at hs (listed (entered i))) 1025 → IsMost 1025 (EntriesAt p m s place) n
+    pub height_found : (hs : List ℕ) (n : ℕ) → IsFilled p 1025 (Heights p) m hs → n ≡ min (length sh.entries + most_at hs (entered p i)) 1025 → IsMost 1025 (EntriesAt p m s place) n
     height_found hs n filled is =
         let found = called_found 1025 (Heights p) hs filled in
-        let over = of_methods 1025 (Heights p) hs (listed (entered i)) (λ k c. found k (entered_called p m sh i k (enters p i k c))) in
-        rw is (reached p 1025 (λ x. length x.entries) (λ x j. listed (entered j)) (Heights p) m s place sh i _ there stands over)
+        let over = of_methods 1025 (Heights p) hs (entered p i) (λ k c. found k (entered_called p m sh i k (enters p i k c))) in
+        rw is (reached p 1025 (λ x. length x.entries) (λ x j. entered p j) (Heights p) m s place sh i _ there stands over)
 
 -- ---- frames: what an instruction may call by what is known, it may call by what says less
 
@@ -186,7 +161,7 @@ module _ (p : Image) (linked : IsLinked p) (m : ℕ) (s : Shapes) (strongest : I
   heights_before n (own h) =
       let meets = (h.stands.strongest.least s strongest.typed).each h.place h.shape h.stands.there in
       let applies = strongest.typed.each h.place meets.next meets.there in
-      before_at (λ x. length x.entries) (λ x j. listed (entered j)) (Heights p) n h.place (record {
+      before_at (λ x. length x.entries) (λ x j. entered p j) (Heights p) n h.place (record {
         shape = meets.next;
         there = meets.there;
         instr = applies.instr;
@@ -196,12 +171,12 @@ module _ (p : Image) (linked : IsLinked p) (m : ℕ) (s : Shapes) (strongest : I
   heights_before n (under {k = k} {h = count} {n = above} call heights) =
       let meets = (call.stands.strongest.least s strongest.typed).each call.place call.shape call.stands.there in
       let same = ap (λ es. length es) meets.no_more.entries in
-      before_at (λ x. length x.entries) (λ x j. listed (entered j)) (Heights p) n call.place (record {
+      before_at (λ x. length x.entries) (λ x j. entered p j) (Heights p) n call.place (record {
         shape = meets.next;
         there = meets.there;
         instr = call.instr;
         stands = call.here;
-        is = inr (above, record { method = k; among = is_entered p linked call.instr k call.enters; has = heights }, omega (arith, same, call.count));
+        is = inr (above, record { method = k; among = is_entered p call.instr k call.enters; has = heights }, omega (arith, same, call.count));
       })
 
   pub most_entries : (n : ℕ) → IsMost 1025 (Before (EntriesAt p m s) (length s)) n → IsMost 1025 (Heights p m) n
@@ -228,7 +203,11 @@ pub read_at : (ds xs : List ℕ) (i j n : ℕ) → xs ≡ ds → i ≡ j → j <
 read_at ds xs i j n e same h r = (rw (e, same) at r) ∙ at_within 0 n ds j h
 
 pub filled_first : (p : Image) (cap : ℕ) (of : ℕ → ℕ → Type 0) (n : ℕ) → n ≡ length p.methods → IsFilled p cap of 0 (replicate n 0)
-filled_first p cap of n e = record { size = length-replicate {A = ℕ} n 0 ∙ e; each = λ m below. absurd (omega (arith, below)) }
+filled_first p cap of n e = record {
+  size = length-replicate {A = ℕ} n 0 ∙ e;
+  each = λ m below. absurd (omega (arith, below));
+  others = λ m past. at_noughts n m;
+}
 
 pub filled_more :
     (p : Image) (cap : ℕ) (of : ℕ → ℕ → Type 0) (m : ℕ) (table : List ℕ) (n : ℕ) → IsFilled p cap of m table → m < length p.methods → IsMost cap (of m) n →
@@ -241,4 +220,5 @@ filled_more p cap of m table n h within most =
         | inl w ↦ rw (w.1, at_set_here 0 table m n inside) most
         | inr w ↦ rw (at_set_other 0 table m k n w.1) (h.each k (omega (arith, below, w.1)))
       ];
+      others = λ k past. at_set_other 0 table m k n (λ same. omega (arith, past, same)) ∙ h.others k (omega (arith, past));
     }

@@ -1,8 +1,10 @@
 -- Sums that are set stay kept.
-use Rattle.std.proofs.Common.{◌≡◌, ℕ, zero, suc, ◌<◌, ◌≤◌, List, length, slice_set, replicate, inl, inr, refl, arith}
+use Rattle.std.proofs.Common.{◌≡◌, ◌==◌, ℕ, zero, suc, ◌<◌, ◌≤◌, Bool, true, false, cond, ap, sym, List, [], ◌∷◌, length, slice_index_or, slice_set, replicate, inl, inr, refl, arith, ◌∙◌}
+use Rattle.std.specs.Prelude.{max}
+use Rattle.std.proofs.lemmas.Bool.{eq-eqb, eqb-true}
 use Rattle.std.proofs.lemmas.Bool.Decides.{eqb_tells}
 use Rattle.aom_shape.specs.Tables.{at}
-use Rattle.aom_shape.proofs.Lists.{at_set_here, at_set_other}
+use Rattle.aom_shape.proofs.Lists.{at_set_here, at_set_other, at_within}
 use Rattle.aom_budget.specs.Pricing.{AreKept}
 
 pub at_noughts : (n i : ℕ) → ◌≡◌ {A = ℕ} (at 0 (replicate n 0) i) 0
@@ -20,3 +22,21 @@ set_kept sums i v within low h = record {
     | inr w ↦ rw (at_set_other 0 sums i j v w.1) (h.each j)
   ];
 }
+
+-- within a list it does not matter what lies past its end
+pub at_either : (d e : ℕ) (xs : List ℕ) (i : ℕ) → i < length xs → at d xs i ≡ at e xs i
+at_either d e [] i lt = absurd (omega (arith, lt))
+at_either d e (x ∷ xs) zero lt = refl
+at_either d e (x ∷ xs) (suc i) lt = at_either d e xs i (omega (arith, lt))
+
+-- what is read there
+pub read_past : (ds xs : List ℕ) (past i n : ℕ) → xs ≡ ds → i < length ds → n ≡ slice_index_or xs i n → n ≡ at past ds i
+read_past ds xs past i n e h r = (rw e at r) ∙ at_within past n ds i h
+
+-- what is raised
+pub raised_set : (xs : List ℕ) (i v u k : ℕ) → i < length xs → u ≡ max (at 0 xs i) v → at 0 (slice_set xs i u) k ≡ max (at 0 xs k) (cond (i == k) v 0)
+raised_set xs i v u k lt is = go (i == k) refl
+  where
+    go : (b : Bool) → (i == k) ≡ b → at 0 (slice_set xs i u) k ≡ max (at 0 xs k) (cond b v 0)
+    go true same = let here = eqb-true i k same in ap (at 0 (slice_set xs i u)) (sym here) ∙ at_set_here 0 xs i u lt ∙ is ∙ ap (λ j. max (at 0 xs j) v) here
+    go false other = at_set_other 0 xs i k u (λ same. let yes = eq-eqb i k (sym same) in cc) ∙ omega arith

@@ -3,7 +3,7 @@ use Rattle.std.proofs.Common.{◌≡◌, ℕ, zero, suc, ◌<◌, ◌==◌, Bool
 use Rattle.aom_image.proofs.Given.{some_given, true_given}
 use Rattle.std.specs.Prelude.{nat_lt}
 use Rattle.std.specs.List.{list_all}
-use Rattle.std.proofs.lemmas.List.Folds.{list_all-append}
+use Rattle.std.proofs.lemmas.Bool.{lt-ltb}
 use Rattle.aom_image.specs.Image.{Image}
 use Rattle.aom_image.specs.Views.{arguments_of, arguments_in, class_in, fields_of, gives_of, instr_at, method_at, method_class, role_in}
 use Rattle.aom_instructions.specs.declared.instr.Instr.{Instr}
@@ -19,15 +19,16 @@ use Rattle.aom_image.specs.declared.method.Role.{Role}
 use Rattle.aom_image.specs.declared.method.Role.TheVariants as roles
 use Rattle.aom_image.specs.declared.method.Thing.{Thing}
 use Rattle.aom_image.specs.declared.method.Thing.TheVariants.{Object, Message}
-use Rattle.aom_roles.specs.Classes.{sessions_at}
 use Rattle.aom_roles.specs.Roles.{role_number}
-use Rattle.aom_classes.specs.Calls.{GoesBelow, Mentions, MentionsThing, MentionsArgument, MentionsResult, MentionsFields, MentionsRoot, RunsBelow, CallsOrdered}
+use Rattle.aom_classes.specs.Calls.{AllBelow, CallsBelow, EndsBelow, GoesBelow, MayCancel, Mentions, MentionsThing, MentionsArgument, MentionsResult, MentionsFields, MentionsRoot, RunsBelow, CallsOrdered}
 use Rattle.aom_classes.specs.Linked.{IsLinked}
-use Rattle.aom_classes.specs.Roles.{plays, role_of, same_role}
+use Rattle.aom_classes.specs.Overriding.{leads_to, over_in}
+use Rattle.aom_classes.specs.Roles.{own_role, plays, same_role}
 use Rattle.aom_classes.proofs.Each.{both, join}
 use Rattle.aom_classes.proofs.Facts.{at_place, all_there, of_method}
-use Rattle.aom_classes.proofs.Mentioning.{cancels_own, goes_role}
-use Rattle.aom_roles.proofs.Descending.{itself}
+use Rattle.aom_classes.proofs.Mentioning.{cancels_own}
+use Rattle.aom_classes.proofs.Playing.{found}
+use Rattle.aom_roles.proofs.Descending.{through}
 use Rattle.aom_rules.specs.Calls.{brought, caught, worked_on, while_called}
 use Rattle.aom_rules.specs.Requests.{resting}
 use Rattle.aom_shape.proofs.Sets.{has_itself}
@@ -57,29 +58,35 @@ use Rattle.aom_rules.proofs.Branching.{by_states}
 use Rattle.aom_rules.proofs.Monotone.{needs_more, flows_more}
 use Rattle.aom_bounds.specs.Shapes.{Shapes, Meets, AllMet, Applies, IsMethodTyped}
 use Rattle.aom_bounds.specs.Strongest.{IsMethodStrongest}
-use Rattle.aom_bounds.specs.Calls.{listed, thing_class, object_class, Among, MayCall}
-use Rattle.aom_budget.specs.Named.{destructor_of, named_destructors, cancel_of, named}
-use Rattle.aom_budget.proofs.Named.{called_named}
+use Rattle.aom_bounds.specs.Calls.{Among, MayCall, bodies, callees, cancels, destructors, object_class, thing_class}
+use Rattle.aom_bounds.specs.Layers.{MayRun, Runs}
+use Rattle.aom_budget.proofs.Greatest.{run_from}
+use Rattle.aom_budget.proofs.Lined.{cancels_from, destructors_from}
+use Rattle.aom_budget.proofs.Overridden.{overrider_is}
 use Rattle.aom_verify.proofs.Following.{follow_met}
 
 -- ---- what runs as an object goes has a lower number
 
 abbrev runs_below : Image → ℕ → Option ℕ → Bool
-runs_below p m class = list_all (λ k. nat_lt k m) (named_destructors p class)
+runs_below p m class = list_all (λ k. nat_lt k m) (destructors p class)
 
-listed_below : (m : ℕ) (o : Option ℕ) → IfSome o (λ k. k < m) → IsTrue (list_all (λ k. nat_lt k m) (listed o))
-listed_below m None h = refl
-listed_below m (Some k) h = join (nat_lt k m) true (grind (arith, h)) refl
+all_below : (m : ℕ) (xs : List ℕ) → ((k : ℕ) → Among k xs → k < m) → IsTrue (list_all (λ k. nat_lt k m) xs)
+all_below m [] each = refl
+all_below m (x ∷ xs) each = join (nat_lt x m) (list_all (λ k. nat_lt k m) xs) (lt-ltb x m (each x (inl refl))) (all_below m xs (λ k h. each k (inr h)))
 
-destructor_below : (p : Image) (m : ℕ) (class : Option ℕ) → IfSome class (GoesBelow p m) → IfSome (destructor_of p class) (λ k. k < m)
-destructor_below p m None h = tt
-destructor_below p m (Some c) h = goes_role p m c h
+-- the method of a role in a class, where all in that role there are lower
+role_below : (p : Image) (m d k : ℕ) (r : Role) → AllBelow p.methods m d r → own_role p d r ≡ Some k → k < m
+unfolding own_role
+role_below p m d k r all own = let w = found (plays d r) p.methods k own in (subst (λ o. IfSome o (λ e. IsTrue (plays d r e) → k < m)) w.1 (all k)) w.2
+
+ends_below : (p : Image) (m y k : ℕ) → EndsBelow p m y → Runs p (Object y) k → k < m
+ends_below p m y k ends (inl w) = role_below p m w.0 k roles.Destruct (ends.own w.0 w.1) w.2
+ends_below p m y k ends (inr w) =
+    let theirs : GoesBelow p m w.0 = subst (λ o. IfSome o (GoesBelow p m)) w.1 ends.sessions in
+    role_below p m w.2.0 k roles.Destruct (theirs w.2.0 w.2.1) w.2.2
 
 mentioned : (p : Image) (m c : ℕ) → Mentions p m c → IsTrue (runs_below p m (Some c))
-mentioned p m c h =
-    let own = listed_below m (role_of p c roles.Destruct) (goes_role p m c (h c (itself p c)).own) in
-    let sessions = listed_below m (destructor_of p (sessions_at p c)) (destructor_below p m (sessions_at p c) (h c (itself p c)).sessions) in
-    rw (list_all-append (λ k. nat_lt k m) (listed (role_of p c roles.Destruct)) (listed (destructor_of p (sessions_at p c)))) (join _ _ own sessions)
+mentioned p m c h = all_below m (destructors p (Some c)) (λ k among. let w = destructors_from p c k among in ends_below p m w.0 k (h w.0 w.1) w.2)
 
 thing_mentioned : (p : Image) (m : ℕ) (t : Thing) → MentionsThing p m t → IsTrue (runs_below p m (thing_class t))
 thing_mentioned p m (Object c) h = mentioned p m c h
@@ -513,18 +520,32 @@ module _ (p : Image) (m : ℕ) where
   among_low k (x ∷ xs) h (inl e) = let w = both (nat_lt x m) (list_all (λ j. nat_lt j m) xs) h in let low = w.0 in grind (arith, low, e)
   among_low k (x ∷ xs) h (inr c) = among_low k xs (both (nat_lt x m) (list_all (λ j. nat_lt j m) xs) h).1 c
 
-  cancel_low : (own : Option ℕ) → RunsBelow p m own Cancel → IsTrue (list_all (λ j. nat_lt j m) (listed (cancel_of p own)))
-  cancel_low None h = refl
-  cancel_low (Some c) h = listed_below m (role_of p c roles.Cancel) (cancels_own p m c h)
+  cancel_low : (own : Option ℕ) (k : ℕ) → RunsBelow p m own Cancel → Among k (cancels p own) → k < m
+  cancel_low None k h among = absurd among
+  cancel_low (Some c) k h among =
+      let w = cancels_from p c k among in
+      let may : MayCancel p m w.0 = λ x descends. h x (through p x w.0 c descends w.1) in
+      subst (λ o. IfSome o (λ j. j < m)) w.2 (cancels_own p m w.0 may)
 
-  named_low : (sh : Shape) (i : Instr) → RunsBelow p m (method_class p m) i → IsLow p m sh → IsTrue (list_all (λ j. nat_lt j m) (named p m sh i))
-  named_low sh (Call target called first c) r h = listed_below m (Some called) r.below
-  named_low sh (Trap target called first c) r h = listed_below m (Some called) r.below
-  named_low sh (PushOperation a called) r h = listed_below m (Some called) r
-  named_low sh (Push a) r h = h.registers a
-  named_low sh (Delete a) r h = h.registers a
-  named_low sh Cancel r h = cancel_low (method_class p m) r
-  named_low sh _ r h = refl
+  body_low : (called k : ℕ) → CallsBelow p m called → Among k (bodies p called) → k < m
+  unfolding over_in method_at
+  body_low called k h among = go (run_from p called k among)
+    where
+      go : MayRun p called k → k < m
+      go (inl same) = subst (λ j. j < m) same h.below
+      go (inr over) =
+          let w = overrider_is p k called over in
+          (subst (λ o. IfSome o (λ d. IsTrue (leads_to p d.over called) → k < m)) w.1 (h.overriders k)) (ap (λ o. leads_to p (over_in o) called) (sym w.1) ∙ over)
+
+  callee_low : (sh : Shape) (i : Instr) (k : ℕ) → RunsBelow p m (method_class p m) i → IsLow p m sh → Among k (callees p m sh i) → k < m
+  callee_low sh (Call target called first c) k r h among = body_low called k r among
+  callee_low sh (Trap target called first c) k r h among = body_low called k r among
+  callee_low sh (PushOperation a called) k r h (inl same) = subst (λ j. j < m) (sym same) r
+  callee_low sh (PushOperation a called) k r h (inr among) = absurd among
+  callee_low sh (Push a) k r h among = among_low k (destructors p (object_class (register sh a))) (h.registers a) among
+  callee_low sh (Delete a) k r h among = among_low k (destructors p (object_class (register sh a))) (h.registers a) among
+  callee_low sh Cancel k r h among = cancel_low (method_class p m) k r among
+  callee_low sh _ k r h among = absurd among
 
   pub called_lower : (k : ℕ) → IsLinked p → MayCall p m k → k < m
   unfolding class_in
@@ -532,4 +553,4 @@ module _ (p : Image) (m : ℕ) where
       let runs = runs_ordered linked call.place call.calls.instr call.calls.stands in
       let own : RunsBelow p m (method_class p m) call.calls.instr = rw runs.1 runs.3 in
       let low = states_low call.states call.place call.calls.shape linked call.strongest call.calls.there in
-      among_low k (named p m call.calls.shape call.calls.instr) (named_low call.calls.shape call.calls.instr own low) (called_named p linked m call.calls.shape call.calls.instr k call.calls.calls)
+      callee_low call.calls.shape call.calls.instr k own low call.calls.calls

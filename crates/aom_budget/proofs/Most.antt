@@ -4,7 +4,8 @@ use Rattle.std.specs.Prelude.{min, max}
 use Rattle.std.proofs.lemmas.Bool.Decides.{eqb_tells, leb_tells}
 use Rattle.aom_shape.specs.Tables.{at}
 use Rattle.aom_bounds.specs.Calls.{Among}
-use Rattle.aom_budget.specs.Extents.{IsMost, OfSome, Joined, Before, most_at}
+use Rattle.aom_budget.specs.Extents.{IsMost, OfSome, Joined, Before}
+use Rattle.aom_budget.specs.Greatest.{most_at}
 
 pub of_none : (cap : ℕ) (some : ℕ → Type 0) → ((k : ℕ) → some k → ⊥) → IsMost cap some 0
 of_none cap some none = record { above = λ k h. absurd (none k h); met = inl refl }

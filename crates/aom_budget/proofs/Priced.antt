@@ -32,6 +32,7 @@ use Rattle.aom_bounds.proofs.Capping.{law_up_to}
 use Rattle.aom_bounds.proofs.Listed.{cancel_among, run_among, runs_among}
 use Rattle.aom_bounds.proofs.Places.{nothing_there}
 use Rattle.aom_budget.specs.Pricing.{kept, Found, Agrees, IsMethodPriced, ArePricedBelow, ArePriced, IsPriceUpTo}
+use Rattle.aom_budget.proofs.Keeping.{at_noughts}
 use Rattle.aom_budget.proofs.Mentioned.{called_lower}
 use Rattle.aom_image.proofs.Given.{none_given}
 
@@ -180,7 +181,7 @@ are_priced p prices formed linked h = priced p prices (chosen p prices (length p
 -- ---- the walk
 
 pub priced_first : (p : Image) (n : ℕ) → n ≡ length p.methods → ArePricedBelow p 0 (replicate n 0)
-priced_first p n e = record { size = length-replicate {A = ℕ} n 0 ∙ e; each = λ m below. absurd (omega (arith, below)) }
+priced_first p n e = record { size = length-replicate {A = ℕ} n 0 ∙ e; each = λ m below. absurd (omega (arith, below)); others = λ m past. at_noughts n m }
 
 -- a later number is no matter
 still_priced : (p : Image) (prices : List ℕ) (m k n v : ℕ) → m ≤ k → IsMethodPriced p prices m n → IsMethodPriced p (slice_set prices k v) m n
@@ -208,6 +209,7 @@ priced_more p prices m n h within here =
         | inl w ↦ rw (w.1, at_set_here 0 prices m n inside) (still_priced p prices m m n n (omega arith) here)
         | inr w ↦ rw (at_set_other 0 prices m k n w.1) (still_priced p prices k m _ n (omega (arith, below)) (h.each k (omega (arith, below, w.1))))
       ];
+      others = λ k past. at_set_other 0 prices m k n (λ same. omega (arith, past, same)) ∙ h.others k (omega (arith, past));
     }
 
 pub price_up_to : (p : Image) (prices : List ℕ) (m : ℕ) → ArePriced p prices → IsSome (method_at p m) → IsPriceUpTo p m (at 0 prices m)

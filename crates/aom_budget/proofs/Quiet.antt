@@ -1,5 +1,5 @@
 -- A quiet method has no cleanup entries, and calls none that has.
-use Rattle.std.proofs.Common.{◌≡◌, ℕ, zero, suc, ◌≤◌, true, false, List, [], ◌∷◌, ◌++◌, length, map, IsTrue, Option, Some, None, refl, sym, ap, ◌∙◌, arith}
+use Rattle.std.proofs.Common.{◌≡◌, ℕ, zero, suc, ◌≤◌, true, false, List, [], ◌∷◌, ◌++◌, length, map, IfSome, IsTrue, Option, Some, None, inl, inr, refl, subst, sym, ap, ◌∙◌, arith}
 use Rattle.aom_image.proofs.Given.{nil_given, some_given}
 use Rattle.std.specs.Prelude.{not}
 use Rattle.std.proofs.lemmas.Bool.{true≢false}
@@ -14,6 +14,7 @@ use Rattle.aom_image.specs.declared.method.Method.{Method}
 use Rattle.aom_roles.specs.Shapes.{IsShaped, gives_left}
 use Rattle.aom_classes.specs.Linked.{IsLinked}
 use Rattle.aom_classes.proofs.Facts.{all_there}
+use Rattle.aom_classes.specs.Overriding.{StandsIn, StandsInNamed, over_in, over_of}
 use Rattle.aom_rules.specs.Calls.{brought, lasting, rule_target, rule_arguments}
 use Rattle.aom_rules.specs.Requests.{is_construct}
 use Rattle.aom_shape.specs.Entries.{without_top}
@@ -36,7 +37,8 @@ use Rattle.aom_rules.proofs.Growing.{lasting_has}
 use Rattle.aom_bounds.specs.Shapes.{Shapes, Meets, AllMet, IsMethodTyped}
 use Rattle.aom_bounds.specs.Heights.{StandsAt, Enters, CallsOver, Heights}
 use Rattle.aom_bounds.specs.Heights.Heights.{own, under}
-use Rattle.aom_budget.proofs.Filling.{by_entering}
+use Rattle.aom_bounds.specs.Layers.{MayRun}
+use Rattle.aom_budget.proofs.Overridden.{over_along}
 
 -- ---- flags
 
@@ -64,6 +66,23 @@ quiet_keeps p m linked quiet = go (method_at p m) refl quiet
     go : (o : Option Method) → method_at p m ≡ o → quiet_in o ≡ true → gives_left (gives_in o) ≡ false
     go None e q = refl
     go (Some d) e q = by d d.gives (all_there (IsShaped p) p.methods m d linked.shapes e) refl q
+
+-- what runs in the place of a quiet method is quiet
+over_quiet : (p : Image) → IsLinked p → (k x : ℕ) → over_of p k ≡ Some x → is_quiet p x ≡ true → is_quiet p k ≡ true
+unfolding over_in method_at quiet_in
+over_quiet p linked k x over quiet = go (method_at p k) refl (method_at p x) refl over quiet
+  where
+    go : (o : Option Method) → method_at p k ≡ o → (n : Option Method) → method_at p x ≡ n → over_in o ≡ Some x → quiet_in n ≡ true → quiet_in o ≡ true
+    go None is n at over quiet = cc
+    go (Some d) is None at over quiet = cc
+    go (Some d) is (Some e) at over quiet =
+        let stands = all_there (StandsInNamed p) p.methods k d linked.overriders.each is in
+        let asks = (subst (λ o. IfSome o (StandsIn p d)) at (subst (λ o. IfSome o (λ m. IfSome (method_at p m) (StandsIn p d))) over stands)).asks in
+        asks.quiet quiet
+
+run_quiet : (p : Image) → IsLinked p → (j k : ℕ) → is_quiet p j ≡ true → MayRun p j k → is_quiet p k ≡ true
+run_quiet p linked j k quiet (inl same) = subst (λ i. is_quiet p i ≡ true) same quiet
+run_quiet p linked j k quiet (inr over) = over_along p (λ i. is_quiet p i ≡ true) j (over_quiet p linked) quiet k over
 
 -- ---- flows
 
@@ -211,9 +230,9 @@ stands_lowest p m place sh linked quiet h =
 -- ---- heights
 
 entered_quiet : (p : Image) (m pc : ℕ) (sh : Shape) (i : Instr) (k : ℕ) → IsLinked p → is_quiet p m ≡ true → Enters p i k → AllTrue (rule_needs p m pc sh i) → is_quiet p k ≡ true
-entered_quiet p m pc sh i k linked quiet enters needs = by_entering p linked k (λ j. AllTrue (rule_needs p m pc sh j) → is_quiet p k ≡ true)
-    (λ target first c rule. callee_quiet p m linked quiet pc sh target k first c rule)
-    (λ target first c rule. absurd (untrapped p m linked quiet pc sh target k first c rule)) i enters needs
+entered_quiet p m pc sh (Call target j first c) k linked quiet enters needs = run_quiet p linked j k (callee_quiet p m linked quiet pc sh target j first c needs) enters
+entered_quiet p m pc sh (Trap target j first c) k linked quiet enters needs = absurd (untrapped p m linked quiet pc sh target j first c needs)
+entered_quiet p m pc sh _ k linked quiet enters needs = absurd enters
 
 called_quiet : (p : Image) (m k h : ℕ) → IsLinked p → is_quiet p m ≡ true → CallsOver p m k h → is_quiet p k ≡ true
 called_quiet p m k h linked quiet call =

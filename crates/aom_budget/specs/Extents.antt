@@ -7,7 +7,7 @@ use Rattle.aom_instructions.specs.declared.instr.Instr.TheVariants.{Call, Trap}
 use Rattle.aom_shape.specs.Shape.{Shape}
 use Rattle.aom_shape.specs.Tables.{at}
 use Rattle.aom_bounds.specs.Shapes.{Shapes}
-use Rattle.aom_bounds.specs.Calls.{Among, listed, callees}
+use Rattle.aom_bounds.specs.Calls.{Among, bodies, callees}
 use Rattle.aom_bounds.specs.Depths.{Frames}
 use Rattle.aom_bounds.specs.Heights.{Heights}
 
@@ -16,11 +16,11 @@ pub record IsMost (cap : ℕ) (some : ℕ → Type 0) (n : ℕ) : Type 0 where
   pub above : (k : ℕ) → some k → min k cap ≤ n
   pub met : (n ≡ 0) ⊎ ((k : ℕ) × some k × (n ≡ min k cap))
 
--- the method that an instruction enters, with a trap or without
-abbrev pub entered : Instr → Option ℕ
-entered (Call target k first c) = Some k
-entered (Trap target k first c) = Some k
-entered _ = None
+-- the methods that an instruction may enter, with a trap or without
+abbrev pub entered : Image → Instr → List ℕ
+entered p (Call target k first c) = bodies p k
+entered p (Trap target k first c) = bodies p k
+entered p _ = []
 
 -- so many of one of those methods
 pub record OfSome (of : ℕ → ℕ → Type 0) (methods : List ℕ) (n : ℕ) : Type 0 where
@@ -44,7 +44,7 @@ abbrev pub FramesAt : Image → ℕ → Shapes → ℕ → ℕ → Type 0
 FramesAt p m = ComesTo p (λ sh. 1) (callees p m) (Frames p) m
 
 abbrev pub EntriesAt : Image → ℕ → Shapes → ℕ → ℕ → Type 0
-EntriesAt p m = ComesTo p (λ sh. length sh.entries) (λ sh i. listed (entered i)) (Heights p) m
+EntriesAt p m = ComesTo p (λ sh. length sh.entries) (λ sh i. entered p i) (Heights p) m
 
 -- a place below a count comes to so many
 pub record Before (at_place : ℕ → ℕ → Type 0) (count n : ℕ) : Type 0 where
@@ -52,15 +52,11 @@ pub record Before (at_place : ℕ → ℕ → Type 0) (count n : ℕ) : Type 0 w
   pub below : place < count
   pub comes : at_place place n
 
--- the greatest number that a table has for those methods
-abbrev pub most_at : List ℕ → List ℕ → ℕ
-most_at table [] = 0
-most_at table (k ∷ ks) = max (at 0 table k) (most_at table ks)
-
--- a number for each method, right for those below a count
+-- a number for each method, right for those below a count, and 0 for the others
 pub record IsFilled (p : Image) (cap : ℕ) (of : ℕ → ℕ → Type 0) (count : ℕ) (table : List ℕ) : Type 0 where
   pub size : length table ≡ length p.methods
   pub each : (m : ℕ) → m < count → IsMost cap (of m) (at 0 table m)
+  pub others : (m : ℕ) → count ≤ m → at 0 table m ≡ 0
 
 -- frames count up to 257, and entries up to 1,025: one more than a method may come to
 pub record AreFilled (p : Image) (count : ℕ) (depths heights : List ℕ) : Type 0 where

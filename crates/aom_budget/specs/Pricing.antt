@@ -196,6 +196,7 @@ pub record IsMethodPriced (p : Image) (prices : List ℕ) (m n : ℕ) : Type 0 w
 pub record ArePricedBelow (p : Image) (count : ℕ) (prices : List ℕ) : Type 0 where
   pub size : length prices ≡ length p.methods
   pub each : (m : ℕ) → m < count → IsMethodPriced p prices m (at 0 prices m)
+  pub others : (m : ℕ) → count ≤ m → at 0 prices m ≡ 0
 
 -- the prices of the methods by number, of which none counts for more than 2^32
 pub record ArePriced (p : Image) (prices : List ℕ) : Type 0 where

@@ -9,22 +9,16 @@ ghost use Rattle.aom_budget.specs.Faults.{Refuses};
 ghost use Rattle.aom_budget.specs.Figures.{AreFigures, class_by, ClassesWithin, kind_by, main_by, TellsFirst};
 
 use crate::extents::Extents;
+use crate::finder::extents_of;
 use crate::prices::{kind_price, main_price, prices_of};
 use crate::sums::Sums;
+use crate::table::class_number;
 use crate::{BudgetFault, Payer};
 use aom_image::{ClassDecl, ClassKind, ClassNumber, MethodNumber};
 use aom_linked::Linked;
 use aom_verify::Checked;
 use std::alloc::{AllocError, Global};
 use std::marker::Model;
-
-/// The number of the class at an index.
-fn class_number(index: usize) -> ClassNumber
-    requires { index < 256 }
-    ensures { result ≡ index }
-{
-    ClassNumber::new(index as u16).unwrap()
-}
 
 /// What a class declares of each dispatch of its objects, if they are dispatched.
 pub fn budget_of(class: &ClassDecl) -> Option<u32>
@@ -71,7 +65,7 @@ impl Figures {
     pub fn of_image(alloc: Global, checked: &Checked) -> Result<Figures, AllocError>
         ensures { IfOk result (λ f. AreFigures checked.now f) }
     {
-        let extents = Extents::of_image(alloc, checked)?;
+        let extents = extents_of(alloc, checked)?;
         let prices = prices_of(alloc, checked)?;
         Ok(Figures { extents, prices })
     }

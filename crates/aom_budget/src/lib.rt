@@ -8,12 +8,17 @@
 
 mod accepted;
 mod callees;
+mod cancels;
+mod costs;
 mod destructions;
 mod extents;
 mod fault;
 mod figures;
+mod finder;
+mod lines;
 mod pass;
 mod prices;
+mod raising;
 mod sums;
 mod table;
 mod targets;

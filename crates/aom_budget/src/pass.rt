@@ -8,15 +8,14 @@ ghost use Rattle.aom_bounds.specs.Strongest.{IsMethodStrongest};
 ghost use Rattle.aom_bounds.specs.Calls.{listed};
 ghost use Rattle.aom_verify.specs.Sweep.{HasPlaces};
 ghost use Rattle.aom_budget.specs.Extents.{IsMost, Before};
-ghost use Rattle.aom_budget.specs.Pricing.{kept, kind_by, own_by, after_in, most_to, most_past, ExitsAt, Follows, IsPassing, IsMethodPriced, found_by, plain_cost, region_of};
+ghost use Rattle.aom_budget.specs.Costing.{AreCosts};
+ghost use Rattle.aom_budget.specs.Pricing.{kept, after_in, most_to, most_past, ExitsAt, Follows, IsPassing, IsMethodPriced, found_by, plain_cost, region_of};
 
-use crate::callees::{cancel_of, class_of};
-use crate::destructions::{destruction, perhaps_cost};
+use crate::costs::Costs;
 use crate::sums::{Sums, kept};
 use crate::targets::Targets;
 use aom_image::{Instr, MethodNumber};
 use aom_linked::Linked;
-use aom_shape::{Kind, Shape};
 use aom_verify::{Checked, Sheet};
 use std::alloc::{AllocError, Global};
 
@@ -194,14 +193,15 @@ impl Pass {
     fn plain(
         &self,
         linked: &Linked,
-        prices: &Sums,
+        costs: &Costs,
         method: MethodNumber,
         sheet: &Sheet,
         place: usize,
         instr: &Instr,
     ) -> u64
-        requires { suc place < 2 ^ 64 }
-        ensures is { (sh : Shape) → at None sheet.now place ≡ Some sh → result ≡ plain_cost linked.now method prices.now (found_by self.now.from self.now.after) (region_of self.now.innermost) place sh instr.now }
+        requires fits { suc place < 2 ^ 64 }
+        requires costs { AreCosts linked.now costs.now }
+        ensures is { (sh : Shape) → at None sheet.now place ≡ Some sh → result ≡ plain_cost linked.now method costs.now.prices (found_by self.now.from self.now.after) (region_of self.now.innermost) place sh instr.now }
         ensures low { result ≤ 4294967296 }
     {
         match sheet.shape(place) {
@@ -210,7 +210,7 @@ impl Pass {
                 let onward = self
                     .after_in(self.innermost)
                     .max(self.most_within(Targets::of_instr(place, &shape, instr)));
-                kept(cost_of(linked, prices, method, &shape, instr) + onward)
+                kept(costs.of_instr(linked, method, &shape, instr) + onward)
             }
         }
     }
@@ -235,16 +235,17 @@ impl Pass {
     fn visit(
         &mut self,
         linked: &Linked,
-        prices: &Sums,
+        costs: &Costs,
         method: MethodNumber,
         sheet: &Sheet,
         place: usize,
     )
         requires strongest { IsMethodStrongest linked.now method sheet.now }
-        requires passing { IsPassing linked.now prices.now method sheet.now (suc place) self.old.from self.old.after self.old.innermost self.old.around.items }
+        requires passing { IsPassing linked.now costs.now.prices method sheet.now (suc place) self.old.from self.old.after self.old.innermost self.old.around.items }
+        requires costs { AreCosts linked.now costs.now }
         requires place { place < length self.old.from }
         requires fits { suc place < 2 ^ 64 }
-        ensures passing { IsPassing linked.now prices.now method sheet.now place self.new.from self.new.after self.new.innermost self.new.around.items }
+        ensures passing { IsPassing linked.now costs.now.prices method sheet.now place self.new.from self.new.after self.new.innermost self.new.around.items }
         ensures size { length self.new.from ≡ length self.old.from }
     {
         linked.facts();
@@ -268,58 +269,24 @@ impl Pass {
                 self.note(sheet, place, cost);
             }
             _ => {
-                let cost = self.plain(linked, prices, method, sheet, place, &instr);
+                let cost = self.plain(linked, costs, method, sheet, place, &instr);
                 self.note(sheet, place, cost);
             }
         }
     }
 
     /// Finds what the method costs from each place, the last one first.
-    fn sweep(&mut self, linked: &Linked, prices: &Sums, method: MethodNumber, sheet: &Sheet)
+    fn sweep(&mut self, linked: &Linked, costs: &Costs, method: MethodNumber, sheet: &Sheet)
         requires strongest { IsMethodStrongest linked.now method sheet.now }
-        requires passing { IsPassing linked.now prices.now method sheet.now (length self.old.from) self.old.from self.old.after self.old.innermost self.old.around.items }
-        ensures { IsPassing linked.now prices.now method sheet.now 0 self.new.from self.new.after self.new.innermost self.new.around.items }
+        requires costs { AreCosts linked.now costs.now }
+        requires passing { IsPassing linked.now costs.now.prices method sheet.now (length self.old.from) self.old.from self.old.after self.old.innermost self.old.around.items }
+        ensures { IsPassing linked.now costs.now.prices method sheet.now 0 self.new.from self.new.after self.new.innermost self.new.around.items }
     {
         let mut place = self.from.len();
         while place > 0 {
             place -= 1;
-            self.visit(linked, prices, method, sheet, place);
+            self.visit(linked, costs, method, sheet, place);
         }
-    }
-}
-
-/// What the destruction of what a register may have costs.
-fn kind_cost(linked: &Linked, prices: &Sums, kind: Kind) -> u64
-    ensures is { result ≡ kind_by linked.now prices.now kind }
-    ensures low { result ≤ 4294967296 }
-{
-    match kind {
-        Kind::Unset | Kind::Word | Kind::Null => 0,
-        Kind::Own(thing, _) | Kind::Maybe(thing, _) => destruction(linked, prices, thing),
-    }
-}
-
-/// What an instruction of a method costs itself, by the prices of the lower methods.
-fn cost_of(
-    linked: &Linked,
-    prices: &Sums,
-    method: MethodNumber,
-    shape: &Shape<'_>,
-    instr: &Instr,
-) -> u64
-    ensures is { result ≡ own_by linked.now method prices.now shape.now instr.now }
-    ensures low { result ≤ 4294967297 }
-{
-    linked.facts();
-    match *instr {
-        Instr::Call(_, called, _, _)
-        | Instr::Trap(_, called, _, _)
-        | Instr::PushOperation(_, called) => 1 + prices.at(called.number() as usize),
-        Instr::Push(register) | Instr::Delete(register) => {
-            1 + kind_cost(linked, prices, shape.register(register))
-        }
-        Instr::Cancel => 1 + perhaps_cost(prices, cancel_of(linked, class_of(linked, method))),
-        _ => 1,
     }
 }
 
@@ -336,15 +303,16 @@ fn place_count(linked: &Linked, method: MethodNumber) -> usize
 pub(crate) fn price_of(
     alloc: Global,
     checked: &Checked,
-    prices: &Sums,
+    costs: &Costs,
     method: MethodNumber,
 ) -> Result<u64, AllocError>
-    requires { IsSome (method_at checked.now method) }
-    ensures price { IfOk result (λ n. IsMethodPriced checked.now prices.now method n) }
+    requires costs { AreCosts checked.now costs.now }
+    requires method { IsSome (method_at checked.now method) }
+    ensures price { IfOk result (λ n. IsMethodPriced checked.now costs.now.prices method n) }
     ensures low { IfOk result (λ n. n ≤ 4294967296) }
 {
     let linked = checked.linked();
     let mut pass = Pass::new(alloc, place_count(linked, method))?;
-    pass.sweep(linked, prices, method, checked.sheet(method));
+    pass.sweep(linked, costs, method, checked.sheet(method));
     Ok(pass.from.at(0))
 }

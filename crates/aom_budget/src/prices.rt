@@ -3,7 +3,9 @@ ghost use Rattle.std.specs.Prelude.{◌≡◌, ◌≤◌, IfOk};
 ghost use Rattle.aom_budget.specs.Figures.{kind_by, main_by, role_by, root_by};
 ghost use Rattle.aom_budget.specs.Pricing.{ArePriced};
 
-use crate::destructions::{destruction, perhaps_cost};
+use crate::costs::Costs;
+use crate::destructions::destruction;
+use crate::lines::perhaps_cost;
 use crate::pass::price_of;
 use crate::sums::{Sums, kept};
 use crate::table::number_at;
@@ -16,14 +18,15 @@ use std::alloc::{AllocError, Global};
 pub(crate) fn prices_of(alloc: Global, checked: &Checked) -> Result<Sums, AllocError>
     ensures { IfOk result (λ prices. ArePriced checked.now prices) }
 {
-    let methods = checked.linked().image().methods();
-    checked.linked().facts();
-    let mut prices = Sums::new(alloc, methods.len())?;
+    let linked = checked.linked();
+    let methods = linked.image().methods();
+    linked.facts();
+    let mut costs = Costs::new(alloc, linked)?;
     for index in 0..methods.len() {
-        let price = price_of(alloc, checked, &prices, number_at(index))?;
-        prices.set(index, price);
+        let price = price_of(alloc, checked, &costs, number_at(index))?;
+        costs.set(linked, number_at(index), price);
     }
-    Ok(prices)
+    Ok(costs.prices)
 }
 
 /// What the destruction of the root costs, if there is one.

@@ -1,5 +1,5 @@
 //! Sums by place or by method. What is more than 2^32 counts for 2^32.
-ghost use Rattle.std.specs.Prelude.{◌≡◌, ◌≤◌, ◌<◌, length, replicate, slice_set, IfOk};
+ghost use Rattle.std.specs.Prelude.{◌≡◌, ◌≤◌, ◌<◌, ◌==◌, ℕ, cond, length, max, replicate, slice_set, IfOk};
 ghost use Rattle.aom_shape.specs.Tables.{at};
 ghost use Rattle.aom_budget.specs.Pricing.{AreKept, kept};
 
@@ -59,10 +59,19 @@ impl Sums {
         ensures is { result ≡ at 0 self.now index }
         ensures low { result ≤ 4294967296 }
     {
+        self.at_or(0, index)
+    }
+
+    /// It is that number past the end.
+    pub(crate) fn at_or(&self, past: u64, index: usize) -> u64
+        requires { past ≤ 4294967296 }
+        ensures is { result ≡ at past self.now index }
+        ensures low { result ≤ 4294967296 }
+    {
         if index < self.numbers.len() {
             self.numbers[index]
         } else {
-            0
+            past
         }
     }
 
@@ -72,5 +81,16 @@ impl Sums {
         ensures { self.new ≡ slice_set self.old index sum }
     {
         self.numbers[index] = sum;
+    }
+
+    /// Keeps what is greater, where it is one of them.
+    pub(crate) fn raise(&mut self, index: usize, sum: u64)
+        requires { sum ≤ 4294967296 }
+        ensures size { length self.new ≡ length self.old }
+        ensures each { (k : ℕ) → k < length self.old → at 0 self.new k ≡ max (at 0 self.old k) (cond (index == k) sum 0) }
+    {
+        if index < self.numbers.len() {
+            self.set(index, self.at(index).max(sum));
+        }
     }
 }

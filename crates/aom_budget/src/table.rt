@@ -1,12 +1,11 @@
 //! A number for each method.
-ghost use Rattle.std.specs.Prelude.{◌≡◌, ◌<◌, ◌++◌, nat_le, length, replicate, slice_set, IfOk};
+ghost use Rattle.std.specs.Prelude.{◌≡◌, ◌<◌, nat_le, length, replicate, slice_set, IfOk};
 ghost use Rattle.std.specs.List.{list_all};
 ghost use Rattle.aom_shape.specs.Tables.{at};
 ghost use Rattle.aom_bounds.specs.Calls.{listed};
-ghost use Rattle.aom_budget.specs.Extents.{most_at};
+ghost use Rattle.aom_budget.specs.Greatest.{most_at};
 
-use crate::callees::Callees;
-use aom_image::MethodNumber;
+use aom_image::{ClassNumber, MethodNumber};
 use std::alloc::{AllocError, Global};
 use std::marker::Model;
 
@@ -31,6 +30,14 @@ pub(crate) fn number_at(index: usize) -> MethodNumber
     MethodNumber::new(index as u16).unwrap()
 }
 
+/// The number of the class at an index.
+pub(crate) fn class_number(index: usize) -> ClassNumber
+    requires { index < 256 }
+    ensures { result ≡ index }
+{
+    ClassNumber::new(index as u16).unwrap()
+}
+
 impl Table {
     /// 0 for each of so many methods.
     pub(crate) fn new(alloc: Global, methods: usize) -> Result<Table, AllocError>
@@ -52,21 +59,14 @@ impl Table {
         }
     }
 
-    fn of_perhaps(&self, method: Option<MethodNumber>) -> u16
+    /// It is 0 where there is none.
+    pub(crate) fn of_perhaps(&self, method: Option<MethodNumber>) -> u16
         ensures { result ≡ most_at self.now (listed method) }
     {
         match method {
             Some(method) => self.of_method(method),
             None => 0,
         }
-    }
-
-    /// The greatest number of those methods.
-    pub(crate) fn most_of(&self, callees: Callees) -> u16
-        ensures { result ≡ most_at self.now (listed callees.first ++ listed callees.second) }
-    {
-        self.of_perhaps(callees.first)
-            .max(self.of_perhaps(callees.second))
     }
 
     pub(crate) fn set(&mut self, method: MethodNumber, number: u16)

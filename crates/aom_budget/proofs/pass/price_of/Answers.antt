@@ -15,5 +15,5 @@ sweep-requires-clause-passing c =
 pub returns-clause-price : goal.returns-clause-price
 returns-clause-price c =
     let found : Found = record { from = c.sweep.new.self.from; after = c.sweep.new.self.after } in
-    let passed = subst (λ q. IsPassed q c.args.prices.now c.args.method c.sheet.result.now 0 found) c.linked-linked.ensures c.sweep.ensures.passed in
+    let passed = subst (λ q. IsPassed q c.args.costs.now.prices c.args.method c.sheet.result.now 0 found) c.linked-linked.ensures c.sweep.ensures.passed in
     record { states = c.sheet.result.now; strongest = c.sheet.ensures; found = found; is = sym c.at.ensures.is; swept = passed.swept }

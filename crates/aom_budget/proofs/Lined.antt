@@ -1,0 +1,265 @@
+-- A line of destructors, class by class from below, and what is in it.
+use Rattle.std.proofs.Common.{Bool, IfSome, List, None, Option, Some, [], ap, ap₂, arith, cond, false, inl, inr, length, refl, subst, suc, sym, true, zero, ℕ, ◌++◌, ◌+◌, ◌<◌, ◌==◌, ◌||◌, ◌∙◌, ◌∷◌, ◌≡◌, ◌≤◌, ◌⊎◌}
+use Rattle.std.specs.Prelude.{max}
+use Rattle.std.proofs.lemmas.Bool.{eq-eqb}
+use Rattle.std.proofs.lemmas.Option.{slice_get_past, same_Some}
+use Rattle.aom_image.proofs.Given.{some_given}
+use Rattle.aom_image.specs.Image.{Image}
+use Rattle.aom_image.specs.Views.{class_at, class_in, method_at, method_class}
+use Rattle.aom_image.specs.WellFormed.{WellFormed}
+use Rattle.aom_image.specs.declared.class.ClassDecl.{ClassDecl}
+use Rattle.aom_image.specs.declared.method.Method.{Method}
+use Rattle.aom_image.specs.declared.method.Role.{Role}
+use Rattle.aom_image.specs.declared.method.Role.TheVariants.{Cancel, Destruct}
+use Rattle.aom_image.specs.declared.method.Thing.{Thing}
+use Rattle.aom_image.specs.declared.method.Thing.TheVariants.{Message, Object}
+use Rattle.aom_roles.proofs.Descending.{fewer, none_below, parent_below}
+use Rattle.aom_roles.specs.Classes.{kind_at, kind_in, sessions_at, sessions_in}
+use Rattle.aom_roles.specs.Families.{descends, descends_in, parent_of}
+use Rattle.aom_classes.proofs.Keeping.{child_there, keeper_own, none_there}
+use Rattle.aom_classes.proofs.Playing.{own_found, role_inherits}
+use Rattle.aom_classes.proofs.Rows.{no_player}
+use Rattle.aom_classes.specs.Roles.{keeper_of, own_role, role_by, role_of}
+use Rattle.aom_shape.specs.Tables.{at}
+use Rattle.aom_bounds.specs.Calls.{Among, cancels, destructors, lines, lines_of, listed}
+use Rattle.aom_bounds.specs.Layers.{Destructs, InLine, Runs}
+use Rattle.aom_bounds.specs.Most.{line, line_in}
+use Rattle.aom_bounds.proofs.Listed.{among_either, below_from, gone_with}
+use Rattle.aom_budget.specs.Greatest.{most_at}
+use Rattle.aom_budget.specs.Pricing.{kept, price_by}
+use Rattle.aom_budget.proofs.Greatest.{most_append}
+
+-- ---- the destructor that a class has itself
+
+module _ (p : Image) where
+  class_of_own : (c m : ℕ) → own_role p c Destruct ≡ Some m → method_class p m ≡ Some c
+  unfolding class_in
+  class_of_own c m own = let w = own_found p c m Destruct own in rw w.1 w.2
+
+  inherits_own : (c k : ℕ) → own_role p c Destruct ≡ Some k → role_of p c Destruct ≡ Some k
+  unfolding role_of
+  inherits_own c k own = ap (role_by p Destruct) (keeper_own p Destruct c k own) ∙ own
+
+  pub is_own : (c m : ℕ) → role_of p c Destruct ≡ Some m → method_class p m ≡ Some c → own_role p c Destruct ≡ Some m
+  unfolding role_of
+  is_own c m role class =
+      some_given (λ o. role_by p Destruct o ≡ Some m) (keeper_of p c Destruct) role (λ none. cc) (λ y at own.
+      let same : y ≡ c = let of = class_of_own y m own in cc in
+      subst (λ x. own_role p x Destruct ≡ Some m) same own)
+
+  pub not_own : (c m : ℕ) → role_of p c Destruct ≡ Some m → (method_class p m ≡ Some c → ⊥) → own_role p c Destruct ≡ None
+  not_own c m role other = go (own_role p c Destruct) refl
+    where
+      go : (o : Option ℕ) → own_role p c Destruct ≡ o → o ≡ None
+      go None is = refl
+      go (Some k) is =
+          let same : k ≡ m = let has = inherits_own c k is in cc in
+          absurd (other (subst (λ x. method_class p x ≡ Some c) same (class_of_own c k is)))
+
+  pub none_own : (c : ℕ) → role_of p c Destruct ≡ None → own_role p c Destruct ≡ None
+  none_own c role = go (own_role p c Destruct) refl
+    where
+      go : (o : Option ℕ) → own_role p c Destruct ≡ o → o ≡ None
+      go None is = refl
+      go (Some k) is = let has = inherits_own c k is in cc
+
+-- ---- what a line costs, one class first
+
+module _ (p : Image) (cost : Option ℕ → ℕ) where
+  -- from a class on, or from none
+  abbrev pub line_from : Option ℕ → ℕ
+  line_from None = 0
+  line_from (Some c) = line p cost (Object c)
+
+  none_in : (n : ℕ) → line_in p cost n None ≡ 0
+  none_in zero = refl
+  none_in (suc n) = refl
+
+  last_in : (n c : ℕ) → c ≤ 0 → cost (own_role p c Destruct) + line_in p cost n (parent_of p c) ≡ cost (own_role p c Destruct)
+  last_in n c le =
+      let first : c ≡ 0 = omega (arith, le) in
+      let none : line_in p cost n (parent_of p c) ≡ 0 = ap (line_in p cost n) (ap (parent_of p) first ∙ none_below p) ∙ none_in n in
+      omega (arith, none)
+
+  enough_in : (n m : ℕ) (o : Option ℕ) → IfSome o (λ c. c ≤ n) → IfSome o (λ c. c ≤ m) → line_in p cost n o ≡ line_in p cost m o
+  enough_in zero zero None a b = refl
+  enough_in zero (suc m) None a b = refl
+  enough_in (suc n) zero None a b = refl
+  enough_in (suc n) (suc m) None a b = refl
+  enough_in zero zero (Some c) a b = refl
+  enough_in zero (suc m) (Some c) a b = sym (last_in m c a)
+  enough_in (suc n) zero (Some c) a b = last_in n c b
+  enough_in (suc n) (suc m) (Some c) a b = ap (λ x. cost (own_role p c Destruct) + x) (enough_in n m (parent_of p c) (fewer p c n a) (fewer p c m b))
+
+  pub line_step : (c : ℕ) → line p cost (Object c) ≡ cost (own_role p c Destruct) + line_from (parent_of p c)
+  line_step zero = let none = ap line_from (none_below p) in omega (arith, none)
+  line_step (suc n) = ap (λ x. cost (own_role p (suc n) Destruct) + x) (go (parent_of p (suc n)) refl)
+    where
+      go : (o : Option ℕ) → parent_of p (suc n) ≡ o → line_in p cost n o ≡ line_from o
+      go None is = none_in n
+      go (Some e) is = let lt = parent_below p (suc n) e is in enough_in n e (Some e) (omega (arith, lt)) (omega arith)
+
+  -- one class more
+  pub line_goes :
+      (x own t y : ℕ) (o next : Option ℕ) (w : ℕ) → o ≡ Some x → own ≡ cost (own_role p x Destruct) → y ≡ kept (t + own) → next ≡ parent_of p x →
+      kept (t + line_from o) ≡ w → kept (y + line_from next) ≡ w
+  line_goes x own t y o next w is price sum parent h =
+      let step = line_step x in
+      let from = ap line_from is in
+      let to = ap line_from parent in
+      omega (arith, step, from, to, price, sum, h)
+
+-- ---- and what is listed of it
+
+module _ (p : Image) where
+  nothing_after : (xs : List ℕ) → (xs ++ []) ≡ xs
+  nothing_after [] = refl
+  nothing_after (x ∷ xs) = ap (λ ys. x ∷ ys) (nothing_after xs)
+
+  none_listed : (n : ℕ) → lines p n None ≡ []
+  none_listed zero = refl
+  none_listed (suc n) = refl
+
+  last_listed : (n c : ℕ) → c ≤ 0 → (listed (own_role p c Destruct) ++ lines p n (parent_of p c)) ≡ listed (own_role p c Destruct)
+  last_listed n c le =
+      let first : c ≡ 0 = omega (arith, le) in
+      ap (λ xs. listed (own_role p c Destruct) ++ xs) (ap (lines p n) (ap (parent_of p) first ∙ none_below p) ∙ none_listed n) ∙ nothing_after (listed (own_role p c Destruct))
+
+  enough_listed : (n m : ℕ) (o : Option ℕ) → IfSome o (λ c. c ≤ n) → IfSome o (λ c. c ≤ m) → lines p n o ≡ lines p m o
+  enough_listed zero zero None a b = refl
+  enough_listed zero (suc m) None a b = refl
+  enough_listed (suc n) zero None a b = refl
+  enough_listed (suc n) (suc m) None a b = refl
+  enough_listed zero zero (Some c) a b = refl
+  enough_listed zero (suc m) (Some c) a b = sym (last_listed m c a)
+  enough_listed (suc n) zero (Some c) a b = last_listed n c b
+  enough_listed (suc n) (suc m) (Some c) a b = ap (λ xs. listed (own_role p c Destruct) ++ xs) (enough_listed n m (parent_of p c) (fewer p c n a) (fewer p c m b))
+
+  lines_step : (c : ℕ) → lines_of p (Some c) ≡ (listed (own_role p c Destruct) ++ lines_of p (parent_of p c))
+  lines_step zero = sym (ap (λ o. listed (own_role p 0 Destruct) ++ lines_of p o) (none_below p) ∙ nothing_after (listed (own_role p 0 Destruct)))
+  lines_step (suc n) = ap (λ xs. listed (own_role p (suc n) Destruct) ++ xs) (go (parent_of p (suc n)) refl)
+    where
+      go : (o : Option ℕ) → parent_of p (suc n) ≡ o → lines p n o ≡ lines_of p o
+      go None is = none_listed n
+      go (Some e) is = let lt = parent_below p (suc n) e is in enough_listed n e (Some e) (omega (arith, lt)) (omega arith)
+
+  pub most_step : (ds : List ℕ) (c : ℕ) → most_at ds (lines_of p (Some c)) ≡ max (most_at ds (listed (own_role p c Destruct))) (most_at ds (lines_of p (parent_of p c)))
+  most_step ds c = ap (most_at ds) (lines_step c) ∙ most_append ds (listed (own_role p c Destruct)) (lines_of p (parent_of p c))
+
+  pub most_goes :
+      (ds : List ℕ) (x own t y : ℕ) (o next : Option ℕ) (w : ℕ) → o ≡ Some x → own ≡ most_at ds (listed (own_role p x Destruct)) → y ≡ max t own → next ≡ parent_of p x →
+      max t (most_at ds (lines_of p o)) ≡ w → max y (most_at ds (lines_of p next)) ≡ w
+  most_goes ds x own t y o next w is depth most parent h =
+      let step = most_step ds x in
+      let from = ap (λ z. most_at ds (lines_of p z)) is in
+      let to = ap (λ z. most_at ds (lines_of p z)) parent in
+      omega (arith, step, from, to, depth, most, h)
+
+pub most_listed : (ns : List ℕ) (o : Option ℕ) → most_at ns (listed o) ≡ price_by ns o
+most_listed ns None = refl
+most_listed ns (Some k) = omega arith
+
+-- ---- what is in a line
+
+listed_is : (o : Option ℕ) (k : ℕ) → Among k (listed o) → o ≡ Some k
+listed_is None k h = absurd h
+listed_is (Some x) k (inl same) = ap (λ i. Some i) (sym same)
+listed_is (Some x) k (inr h) = absurd h
+
+in_lines : (p : Image) (n : ℕ) (o : Option ℕ) (k : ℕ) → Among k (lines p n o) → (d : ℕ) × (descends_in p n o d ≡ true) × (own_role p d Destruct ≡ Some k)
+unfolding descends_in
+in_lines p zero None k h = absurd h
+in_lines p (suc n) None k h = absurd h
+in_lines p zero (Some c) k h = (c, eq-eqb c c refl, listed_is (own_role p c Destruct) k h)
+in_lines p (suc n) (Some c) k h = elim (among_either k (listed (own_role p c Destruct)) (lines p n (parent_of p c)) h) [
+  | inl here ↦ (c, ap (λ b. b || descends_in p n (parent_of p c) c) (eq-eqb c c refl), listed_is (own_role p c Destruct) k here)
+  | inr rest ↦ let w = in_lines p n (parent_of p c) k rest in (w.0, or_right (c == w.0) (descends_in p n (parent_of p c) w.0) w.1, w.2)
+]
+  where
+    or_right : (a b : Bool) → b ≡ true → (a || b) ≡ true
+    or_right a b h = grind arith
+
+in_line : (p : Image) (c k : ℕ) → Among k (lines_of p (Some c)) → InLine p (Object c) k
+in_line p c k h = in_lines p c (Some c) k h
+
+gone_runs : (p : Image) (y k : ℕ) → Among k (gone_with p y) → Runs p (Object y) k
+gone_runs p y k h = elim (among_either k (lines_of p (Some y)) (lines_of p (sessions_at p y)) h) [
+  | inl own ↦ inl (in_line p y k own)
+  | inr theirs ↦ inr (go (sessions_at p y) refl theirs)
+]
+  where
+    go : (o : Option ℕ) → sessions_at p y ≡ o → Among k (lines_of p o) → (s : ℕ) × (sessions_at p y ≡ Some s) × InLine p (Object s) k
+    go None is h = absurd h
+    go (Some s) is h = (s, is, in_line p s k h)
+
+-- of all that may stand for a class
+pub destructors_from : (p : Image) (c k : ℕ) → Among k (destructors p (Some c)) → (y : ℕ) × (descends p y c ≡ true) × Runs p (Object y) k
+destructors_from p c k h = let w = below_from p (gone_with p) c k h in (w.0, w.1, gone_runs p w.0 k w.2)
+
+pub cancels_from : (p : Image) (c k : ℕ) → Among k (cancels p (Some c)) → (y : ℕ) × (descends p y c ≡ true) × (role_of p y Cancel ≡ Some k)
+cancels_from p c k h = let w = below_from p (λ x. listed (role_of p x Cancel)) c k h in (w.0, w.1, listed_is (role_of p w.0 Cancel) k w.2)
+
+-- ---- by their roles
+
+abbrev pub Plays : Image → ℕ → Role → Type 0
+Plays p k r = (d : Method) × (method_at p k ≡ Some d) × (d.role ≡ r)
+
+line_plays : (p : Image) (x : Thing) (k : ℕ) → InLine p x k → Plays p k Destruct
+line_plays p (Object c) k w = let f = own_found p w.0 k Destruct w.2 in (f.0, f.1, f.3)
+line_plays p Message k w = absurd w
+
+pub runs_plays : (p : Image) (x : Thing) (k : ℕ) → Runs p x k → Plays p k Destruct
+runs_plays p x k (inl w) = line_plays p x k w
+runs_plays p x k (inr w) = line_plays p (Object w.0) k w.2
+
+pub destructs_plays : (p : Image) (x : Thing) (k : ℕ) → Destructs p x k → Plays p k Destruct
+destructs_plays p x k w = runs_plays p w.0 k w.2
+
+pub destructors_play : (p : Image) (c k : ℕ) → Among k (destructors p (Some c)) → Plays p k Destruct
+destructors_play p c k h = let w = destructors_from p c k h in runs_plays p (Object w.0) k w.2
+
+pub cancels_play : (p : Image) (c k : ℕ) → Among k (cancels p (Some c)) → Plays p k Cancel
+cancels_play p c k h = let w = cancels_from p c k h in let f = role_inherits p w.0 k Cancel w.2 in (f.method, f.there, f.role)
+
+-- a method of another role is none of these
+pub plays_not : (p : Image) (k : ℕ) (d : Method) (r : Role) → method_at p k ≡ Some d → (d.role ≡ r → ⊥) → Plays p k r → ⊥
+plays_not p k d r is other w = other (ap (λ (e : Method). e.role) (same_Some d w.0 (sym is ∙ w.1)) ∙ w.2)
+
+-- ---- a class that is not there
+
+module _ (p : Image) (formed : WellFormed p) (c : ℕ) (past : length p.classes ≤ c) where
+  absent_own : (r : Role) → own_role p c r ≡ None
+  unfolding own_role
+  absent_own r = no_player (length p.classes) (length p.methods) c r p.methods formed.methods.each past
+
+  pub absent_role : (r : Role) → role_of p c r ≡ None
+  absent_role r = none_there p r c past (absent_own r)
+
+  absent_parent : parent_of p c ≡ None
+  absent_parent = go (parent_of p c) refl
+    where
+      go : (o : Option ℕ) → parent_of p c ≡ o → o ≡ None
+      go None is = refl
+      go (Some e) is = let there = child_there p c e is in absurd (omega (arith, there, past))
+
+  pub absent_kind : kind_at p c ≡ None
+  unfolding kind_in class_at
+  absent_kind = ap kind_in (slice_get_past p.classes c past)
+
+  absent_sessions : sessions_at p c ≡ None
+  unfolding sessions_in
+  absent_sessions = ap sessions_in absent_kind
+
+  pub absent_line : (cost : Option ℕ → ℕ) → cost None ≡ 0 → line p cost (Object c) ≡ 0
+  absent_line cost nobody =
+      let own = ap cost (absent_own Destruct) in
+      let above = ap (line_from p cost) absent_parent in
+      let is = line_step p cost c in
+      omega (arith, is, own, above, nobody)
+
+  pub absent_gone : gone_with p c ≡ []
+  absent_gone =
+      ap₂ (λ xs ys. xs ++ ys) (lines_step p c ∙ ap₂ (λ xs ys. xs ++ ys) (ap listed (absent_own Destruct)) (ap (lines_of p) absent_parent)) (ap (lines_of p) absent_sessions)
+
+  pub absent_cancels : listed (role_of p c Cancel) ≡ []
+  absent_cancels = ap listed (absent_role Cancel)

@@ -1,0 +1,283 @@
+//! What the methods may come to, found from the lowest number up: what a method may call has a lower one.
+ghost use Rattle.std.specs.Prelude.{◌≡◌, ◌+◌, ◌<◌, ◌≤◌, suc, min, max, length, replicate, slice_set, IfOk, IsSome};
+ghost use Rattle.aom_image.specs.Views.{method_at};
+ghost use Rattle.aom_shape.specs.Tables.{at};
+ghost use Rattle.aom_bounds.specs.Strongest.{IsMethodStrongest};
+ghost use Rattle.aom_bounds.specs.Calls.{callees};
+ghost use Rattle.aom_bounds.specs.Depths.{Frames};
+ghost use Rattle.aom_bounds.specs.Heights.{Heights};
+ghost use Rattle.aom_budget.specs.Extents.{IsMost, entered, FramesAt, EntriesAt, AreFilled};
+ghost use Rattle.aom_budget.specs.Greatest.{most_at};
+ghost use Rattle.aom_budget.specs.Pricing.{price_by};
+ghost use Rattle.aom_budget.specs.Reaching.{AreReached};
+
+use crate::callees::{class_of, object_class};
+use crate::cancels::raise_cancel_depths;
+use crate::extents::{Extents, MOST_ENTRIES, MOST_FRAMES};
+use crate::lines::raise_gone;
+use crate::raising::raise_called;
+use crate::sums::Sums;
+use crate::table::{Table, number_at};
+use aom_image::{ClassNumber, Instr, MethodNumber, Role};
+use aom_linked::Linked;
+use aom_shape::Shape;
+use aom_verify::{Checked, Sheet};
+use std::alloc::{AllocError, Global};
+
+/// How many frames, and how many cleanup entries. One more than the most stands for all that are too many.
+#[derive(Clone, Copy)]
+struct Extent {
+    depth: u16,
+    height: u16,
+}
+
+impl Extent {
+    fn none() -> Extent
+        ensures depth { result.depth ≡ 0 }
+        ensures height { result.height ≡ 0 }
+    {
+        Extent {
+            depth: 0,
+            height: 0,
+        }
+    }
+
+    fn larger(self, other: Extent) -> Extent
+        ensures depth { result.depth ≡ max self.depth other.depth }
+        ensures height { result.height ≡ max self.height other.height }
+    {
+        Extent {
+            depth: self.depth.max(other.depth),
+            height: self.height.max(other.height),
+        }
+    }
+}
+
+/// So many with others, up to a cap.
+fn joined(own: usize, others: u64, cap: u16) -> u16
+    requires { others ≤ 4294967296 }
+    ensures { result ≡ min (own + others) cap }
+{
+    let most = u64::from(cap);
+    ((own as u64).min(most) + others).min(most) as u16
+}
+
+/// What a table says of a class, if there is one.
+fn of_class(table: &Sums, class: Option<ClassNumber>) -> u64
+    ensures is { result ≡ price_by table.now class }
+    ensures low { result ≤ 4294967296 }
+{
+    match class {
+        Some(class) => table.at(class.number() as usize),
+        None => 0,
+    }
+}
+
+/// What was found of the methods, and what that makes of a call, a cancel and a destruction: the most over all that may run.
+#[derive(Drop)]
+struct Finder {
+    depths: Table,
+    heights: Table,
+    /// By method, how deep it goes and all that override it.
+    called: Sums,
+    /// By method, how high.
+    entered: Sums,
+    /// By class, how deep its cancel method goes and those of all that descend from it.
+    cancelled: Sums,
+    /// By class, how deep the lines of destructors go of what is declared of it.
+    gone: Sums,
+}
+
+impl Finder {
+    /// Nothing is known of any method yet.
+    fn new(alloc: Global, linked: &Linked) -> Result<Finder, AllocError>
+        ensures filled { IfOk result (λ f. AreFilled linked.now 0 f.depths f.heights) }
+        ensures reached { IfOk result (λ f. AreReached linked.now f) }
+    {
+        let methods = linked.image().methods().len();
+        let classes = linked.image().classes().len();
+        let depths = Table::new(alloc, methods)?;
+        let heights = Table::new(alloc, methods)?;
+        let called = Sums::new(alloc, methods)?;
+        let entered = Sums::new(alloc, methods)?;
+        let cancelled = Sums::new(alloc, classes)?;
+        let gone = Sums::new(alloc, classes)?;
+        Ok(Finder {
+            depths,
+            heights,
+            called,
+            entered,
+            cancelled,
+            gone,
+        })
+    }
+
+    /// The most of what an instruction may call.
+    fn most_called(
+        &self,
+        linked: &Linked,
+        method: MethodNumber,
+        shape: &Shape<'_>,
+        instr: &Instr,
+    ) -> u64
+        requires { AreReached linked.now self.now }
+        ensures low { result ≤ 4294967296 }
+        ensures is { result ≡ most_at self.now.depths (callees linked.now method shape.now instr.now) }
+    {
+        match *instr {
+            Instr::Call(_, called, _, _) | Instr::Trap(_, called, _, _) => {
+                self.called.at(called.number() as usize)
+            }
+            Instr::PushOperation(_, pushed) => u64::from(self.depths.of_method(pushed)),
+            Instr::Push(register) | Instr::Delete(register) => {
+                of_class(&self.gone, object_class(shape.register(register)))
+            }
+            Instr::Cancel => of_class(&self.cancelled, class_of(linked, method)),
+            _ => 0,
+        }
+    }
+
+    /// The most of what an instruction may enter.
+    fn most_entered(&self, linked: &Linked, instr: &Instr) -> u64
+        requires { AreReached linked.now self.now }
+        ensures low { result ≤ 4294967296 }
+        ensures is { result ≡ most_at self.now.heights (entered linked.now instr.now) }
+    {
+        match *instr {
+            Instr::Call(_, called, _, _) | Instr::Trap(_, called, _, _) => {
+                self.entered.at(called.number() as usize)
+            }
+            _ => 0,
+        }
+    }
+
+    /// One's own frame, with the most of what may be called.
+    fn depth_at(
+        &self,
+        linked: &Linked,
+        method: MethodNumber,
+        shape: &Shape<'_>,
+        instr: &Instr,
+    ) -> u16
+        requires { AreReached linked.now self.now }
+        ensures { result ≡ min (1 + most_at self.now.depths (callees linked.now method shape.now instr.now)) 257 }
+    {
+        joined(
+            1,
+            self.most_called(linked, method, shape, instr),
+            MOST_FRAMES + 1,
+        )
+    }
+
+    /// One's own entries, with the most of what may be entered.
+    fn height_at(&self, linked: &Linked, shape: &Shape<'_>, instr: &Instr) -> u16
+        requires { AreReached linked.now self.now }
+        ensures { result ≡ min (length shape.now.entries + most_at self.now.heights (entered linked.now instr.now)) 1025 }
+    {
+        joined(
+            shape.height(),
+            self.most_entered(linked, instr),
+            MOST_ENTRIES + 1,
+        )
+    }
+
+    /// What a place comes to: nothing where it is not reached.
+    fn of_place(&self, linked: &Linked, method: MethodNumber, sheet: &Sheet, place: usize) -> Extent
+        requires filled { AreFilled linked.now method self.now.depths self.now.heights }
+        requires reached { AreReached linked.now self.now }
+        requires strongest { IsMethodStrongest linked.now method sheet.now }
+        requires place { place < length sheet.now }
+        ensures depth { IsMost 257 (FramesAt linked.now method sheet.now place) result.depth }
+        ensures height { IsMost 1025 (EntriesAt linked.now method sheet.now place) result.height }
+    {
+        linked.facts();
+        match sheet.shape(place) {
+            None => Extent::none(),
+            Some(shape) => {
+                let instr = linked.instr(method, place);
+                Extent {
+                    depth: self.depth_at(linked, method, &shape, &instr),
+                    height: self.height_at(linked, &shape, &instr),
+                }
+            }
+        }
+    }
+
+    /// The most that a place of the method comes to.
+    fn of_method(&self, linked: &Linked, method: MethodNumber, sheet: &Sheet) -> Extent
+        requires filled { AreFilled linked.now method self.now.depths self.now.heights }
+        requires reached { AreReached linked.now self.now }
+        requires strongest { IsMethodStrongest linked.now method sheet.now }
+        ensures depth { IsMost 257 (Frames linked.now method) result.depth }
+        ensures height { IsMost 1025 (Heights linked.now method) result.height }
+    {
+        linked.facts();
+        let mut most = Extent::none();
+        for place in 0..sheet.len() {
+            most = most.larger(self.of_place(linked, method, sheet, place));
+        }
+        most
+    }
+
+    /// Keeps what a method comes to, and raises what it counts for.
+    fn set(&mut self, linked: &Linked, method: MethodNumber, extent: Extent)
+        requires reached { AreReached linked.now self.old }
+        requires method { IsSome (method_at linked.now method) }
+        requires shallow { at 0 self.old.depths method ≡ 0 }
+        requires flat { at 0 self.old.heights method ≡ 0 }
+        ensures reached { AreReached linked.now self.new }
+        ensures depths { self.new.depths ≡ slice_set self.old.depths method extent.depth }
+        ensures heights { self.new.heights ≡ slice_set self.old.heights method extent.height }
+    {
+        let image = linked.image();
+        let _formed = image.methods();
+        self.depths.set(method, extent.depth);
+        self.heights.set(method, extent.height);
+        raise_called(image, &mut self.called, method, u64::from(extent.depth));
+        raise_called(image, &mut self.entered, method, u64::from(extent.height));
+        match linked.method(method).role {
+            Role::Destruct => raise_gone(linked, &self.depths, &mut self.gone),
+            Role::Cancel => raise_cancel_depths(linked, &self.depths, &mut self.cancelled),
+            _ => {}
+        }
+    }
+
+    /// Finds the extent of a method once those of the lower ones are found.
+    fn find(&mut self, checked: &Checked, method: MethodNumber)
+        requires filled { AreFilled checked.now method self.old.depths self.old.heights }
+        requires reached { AreReached checked.now self.old }
+        requires method { IsSome (method_at checked.now method) }
+        ensures filled { AreFilled checked.now (suc method) self.new.depths self.new.heights }
+        ensures reached { AreReached checked.now self.new }
+    {
+        let linked = checked.linked();
+        let extent = self.of_method(linked, method, checked.sheet(method));
+        self.set(linked, method, extent);
+    }
+
+    /// Finds each extent, the lowest number first.
+    fn find_all(&mut self, checked: &Checked)
+        requires filled { AreFilled checked.now 0 self.old.depths self.old.heights }
+        requires reached { AreReached checked.now self.old }
+        ensures { AreFilled checked.now (length checked.now.methods) self.new.depths self.new.heights }
+    {
+        let methods = checked.linked().image().methods();
+        for index in 0..methods.len() {
+            self.find(checked, number_at(index));
+        }
+    }
+}
+
+/// The extents of a checked image. One more than may be stands for all that is too many.
+pub(crate) fn extents_of(alloc: Global, checked: &Checked) -> Result<Extents, AllocError>
+    ensures { IfOk result (λ e. AreFilled checked.now (length checked.now.methods) e.depths e.heights) }
+{
+    let mut finder = Finder::new(alloc, checked.linked())?;
+    finder.find_all(checked);
+    let Finder {
+        depths,
+        heights,
+        ..
+    } = finder;
+    Ok(Extents { depths, heights })
+}
