@@ -106,7 +106,6 @@ empty_from (t ∷ ts) (x ∷ xs) h = rw (h 0 (omega arith), empty_from ts xs (λ
 pub all_empty_more : (ts : List Thing) (xs ys : List Filling) → ((i : ℕ) → WeakerFilling (at Perhaps xs i) (at Perhaps ys i)) → all_empty ts xs ≡ true → all_empty ts ys ≡ true
 all_empty_more ts xs ys w h = empty_from ts ys (λ k below. empty_more (at Perhaps xs k) (at Perhaps ys k) (w k) (empty_at ts xs h k below))
 
-
 -- also those past so many
 pub past_empty_more : (k : ℕ) (ts : List Thing) (xs ys : List Filling) → ((i : ℕ) → WeakerFilling (at Perhaps xs i) (at Perhaps ys i)) → empty_past k ts xs ≡ true → empty_past k ts ys ≡ true
 past_empty_more zero ts xs ys w h = all_empty_more ts xs ys w h

@@ -128,7 +128,11 @@ fn done_by(linked: &Linked, role: Role, class: Option<ClassNumber>, shape: &Shap
             None => true,
             Some(class) => {
                 let inherited = fields_above(linked, parent_of(linked.image(), class));
-                empty_past(inherited, class_fields(linked, class), &shape.known().fields)
+                empty_past(
+                    inherited,
+                    class_fields(linked, class),
+                    &shape.known().fields,
+                )
             }
         },
         _ => true,
