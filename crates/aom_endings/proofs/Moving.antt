@@ -24,7 +24,7 @@ use Rattle.aom_sound.specs.Enlisted.{begun_cells, cancelling, on_request, own_re
 use Rattle.aom_sound.specs.Kept.{is_connect_of}
 use Rattle.aom_sound.specs.Places.{Cell, Elsewhere, Entry, Going, Object, Place, Session, held, moved}
 use Rattle.aom_sound.specs.Servers.{is_server, opened}
-use Rattle.aom_sound.specs.State.{A_mark, Accepts, An_object, An_operation, Asks, Closing, Destroy, Dispatch, Dispatched, Frame, Goes, IsStuck, Item, NullOrDead, Of_main, Of_object, Of_server, Run, Serves, State, Task, Trapped, Unwind, resumed}
+use Rattle.aom_sound.specs.State.{Inside, AtRoot, Static, Home, A_mark, Accepts, An_object, An_operation, Asks, Closing, Destroy, Dispatch, Dispatched, Frame, Goes, IsStuck, Item, NullOrDead, Of_main, Of_object, Of_server, Run, Serves, State, Task, Trapped, Unwind, resumed}
 use Rattle.aom_sound.specs.Words.{here}
 use Rattle.aom_sound.proofs.ClientsMoves.{steady_asked}
 use Rattle.aom_sound.proofs.ClientsTurn.{on_none}

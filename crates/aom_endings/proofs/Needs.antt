@@ -1,6 +1,6 @@
 -- What is asked is asked under other names too: no need looks at a name but to compare it with another.
-use Rattle.aom_rules.specs.Calls.{fields_above, parent_by}
-use Rattle.std.proofs.Common.{Bool, List, None, Option, Some, [], ap, cond, false, length, refl, suc, true, ℕ, ◌&&◌, ◌==◌, ◌∙◌, ◌∷◌, ◌≡◌}
+use Rattle.aom_rules.specs.Calls.{fields_above, parent_above}
+use Rattle.std.proofs.Common.{zero, Bool, List, None, Option, Some, [], ap, cond, false, length, refl, suc, true, ℕ, ◌&&◌, ◌==◌, ◌∙◌, ◌∷◌, ◌≡◌}
 use Rattle.std.specs.Prelude.{is_none, is_some, option_map, ◌++◌}
 use Rattle.aom_image.specs.Image.{Image}
 use Rattle.aom_image.specs.Views.{arguments_of, gives_of, method_class}
@@ -13,12 +13,12 @@ use Rattle.aom_image.specs.declared.method.Gives.TheVariants.{Left, Maybe as A_m
 use Rattle.aom_image.specs.declared.method.Thing.{Thing}
 use Rattle.aom_image.specs.declared.method.Thing.TheVariants.{Message, Object as An_object_of}
 use Rattle.aom_shape.specs.Things.{field_thing, holder_of}
-use Rattle.aom_sound.specs.Calls.{end_needs, is_asked, entry_place, given_cells, is_level, is_worked_on, leaves_object, needs_argument, needs_call, needs_destroyed, needs_each, needs_ended, needs_entering, needs_reply, needs_result, needs_return, needs_target, needs_target_object, needs_trap, passed_cells, result_needs, result_source, tops_mark}
+use Rattle.aom_sound.specs.Calls.{none_filled, end_needs, is_asked, entry_place, given_cells, is_level, is_worked_on, leaves_object, needs_argument, needs_call, needs_destroyed, needs_each, needs_ended, needs_entering, needs_reply, needs_result, needs_return, needs_target, needs_target_object, needs_trap, passed_cells, result_needs, result_source, tops_mark}
 use Rattle.aom_sound.specs.Cleanup.{above_trap_is_free, has_trap, if_refused, leave_needs, needs_push, pushed_cells, top_is_whole}
 use Rattle.aom_sound.specs.Enlisted.{home_kind, own_request}
 use Rattle.aom_sound.specs.Objects.{is_declared_thing, is_no_message, is_thing, needs_put, needs_take_message}
 use Rattle.aom_sound.specs.Places.{Cell, Elsewhere, Entry, In_service, Object, Place, Register, Session, held, moved}
-use Rattle.aom_sound.specs.Destruction.{needs_emptied}
+use Rattle.aom_sound.specs.Destruction.{needs_past, needs_emptied}
 use Rattle.aom_sound.specs.Servers.{without_queue}
 use Rattle.aom_sound.specs.State.{A_mark, Accepts, An_object, An_operation, Asks, AtRoot, Choice, Destroy, Dispatch, Dispatched, Frame, Home, Inside, IsStuck, Item, MessageLost, Need, Of_server, Orphan, Run, Serves, State, Static, Task, Trapped, Unbalanced, field_place, guarded, home_holder, home_view}
 use Rattle.aom_sound.specs.Words.{needs_word}
@@ -130,7 +130,7 @@ module _ (names : ℕ → ℕ) (one_to_one : IsOneToOne names) where
   destroyed_kept p m cs Static = refl
   destroyed_kept p m cs AtRoot = refl
   destroyed_kept p m cs (Inside o from) =
-      let k = fields_above p (parent_by p (method_class p m)) in
+      let k = fields_above p (parent_above p m) in
       ap (λ l. needs_past k l (names o.name)) (without_queue_renamed names one_to_one o.name cs) ∙ past_kept names one_to_one k (without_queue o.name cs) o.name
 
   pub place_owns : (cs : List Cell) (q : Place) → is_some (held (renamed_cells names cs) (renamed_place names q)) ≡ is_some (held cs q)
