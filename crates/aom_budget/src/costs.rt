@@ -50,7 +50,8 @@ impl Costs {
         })
     }
 
-    /// Keeps what a method costs, and raises what it counts for.
+    /// Keeps what a method costs, and raises what it counts for. A call of its own, so that the loop over places stays small.
+    #[inline(never)]
     pub(crate) fn set(&mut self, linked: &Linked, method: MethodNumber, price: u64)
         requires costs { AreCosts linked.now self.old }
         requires method { IsSome (method_at linked.now method) }

@@ -219,7 +219,8 @@ impl Finder {
         most
     }
 
-    /// Keeps what a method comes to, and raises what it counts for.
+    /// Keeps what a method comes to, and raises what it counts for. A call of its own, so that the loop over places stays small.
+    #[inline(never)]
     fn set(&mut self, linked: &Linked, method: MethodNumber, extent: Extent)
         requires reached { AreReached linked.now self.old }
         requires method { IsSome (method_at linked.now method) }
