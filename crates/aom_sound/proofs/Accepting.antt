@@ -171,7 +171,7 @@ module _ (p : Image) (t : Typing) (c : Choice) (s : State) (fr : Frame) (sh : Sh
         go false e f =
             let bare = subst (λ y. Fits p (seen cs1) (held cs1 r) y) (sym (claim-set_register p (declared p cs) fr sh below a Null r)) f in
             let over =
-            ended p cs fr (set_register sh a Null) below at_hand.good.stack.1.holder at_hand.good.stack.2 at_hand.good.stack.3 refl entries rest_free (λ serving. absurd (at_hand.good.stack.1.message.0 serving)) r
+            ended p cs fr (set_register sh a Null) below at_hand.good.stack.1.holder at_hand.good.stack.1.view at_hand.good.stack.2 at_hand.good.stack.3 refl entries rest_free (λ serving. absurd (at_hand.good.stack.1.message.0 serving)) r
             (seen cs1) (held cs1 r) bare in
             subst (λ y. Fits p (seen cs1) (held cs1 r) y)
             (mark_claims p (declared p cs) gv (Dispatching (Of_server x client Accepts) seats ∷ ls) r ∙ sym (claims_alike (declared p cs) r)
@@ -196,7 +196,7 @@ module _ (p : Image) (t : Typing) (c : Choice) (s : State) (fr : Frame) (sh : Sh
       where
         before : AllSuit p cs below
         before = all_returned p cs cs fr sh below at_hand.good.suits at_hand.good.stack.2 (λ n. refl) (λ n off. refl) (λ o from e h.
-            let apart : IsApart p (Inside o from) below = subst (λ h. IsApart p h below) e at_hand.good.stack.3 in
+            let apart : IsApart p fr.view fr.method (Inside o from) below = subst (λ h. IsApart p fr.view fr.method h below) e at_hand.good.stack.3 in
             rests_there p o below (requested cs o.name) apart.3 (suits_rests (thing_kind p o.thing) sh.states (requested cs o.name) r.settled (subst (λ k. Suits (thing_kind p o.thing) k (requested cs o.name)) (known_resting p o fr sh.states below at_hand.good.stack.4.0.2 apart.3) h)))
 
     good_then : Good p t cs2 (Dispatching (Of_server x client Accepted) seats ∷ ls)

@@ -102,7 +102,7 @@ module _ (p : Image) (t : Typing) (wired : IsWired p) (typed : IsTyped p t) (c :
       let high = same_high p t wired typed c s fr sh ls at_hand m first depth height deep called_so passed home sh' a.1 in (
         all_join (needs_target p fr (tasks_of ls) s target m (method_class p m) first (length (arguments_of p m))) _ a.0
             (parts.1.0, all_join (needs_each p fr (tasks_of ls) s (arguments_of p m) first) _ (each_met p t c s fr sh ls at_hand (arguments_of p m) first more.0) (result_met p t wired typed c s fr sh ls at_hand m first depth height deep called_so passed (gives_of p m) x more.1.1.1.0)),
-        enter p t wired typed c s fr sh ls at_hand m first depth height deep called_so passed home sh' (Method fr sh' ∷ ls) k view runs (λ x. x) a.1 refl (ap length (sym high) ∙ length_forms s.items) (λ d r. refl) (λ o. refl) a.1.housed a.1.apart (caller p t wired typed c s fr sh ls at_hand m first depth height deep called_so passed home sh' (Returns k home) a.1 stands) (does p c fr (tasks_of ls) s (Call target m first x)) refl refl high at_hand.undos,
+        enter p t wired typed c s fr sh ls at_hand m first depth height deep called_so passed home sh' (Method fr sh' ∷ ls) k view runs (λ x. x) a.1 refl (ap length (sym high) ∙ length_forms s.items) (λ d r. refl) (λ o. refl) a.1.housed (a.1.apart k) (caller p t wired typed c s fr sh ls at_hand m first depth height deep called_so passed home sh' (Returns k home) a.1 stands) (does p c fr (tasks_of ls) s (Call target m first x)) refl refl high at_hand.undos,
       )
     where
       depth : ℕ
@@ -121,11 +121,11 @@ housed_mark p _ AtRoot gv ls h = h
 housed_mark p _ (Inside o from) gv ls h = record { there = h.there; lives = h.lives; below = below_mark from gv ls h.below; ready = ap is_ready_kind (mark_claims p (λ r. Null) gv ls from) ∙ h.ready }
 
 apart_mark :
-    (p : Image) (home : Home) (gv : Gives) (fr : Frame) (sh : Shape) (ls : List Layer) → IsApart p home (Method fr sh ∷ ls) →
-    ((o : Object) (from : Place) → home ≡ Inside o from → works_at o.name fr.home ≡ true → IsTrue (has sh.states (rests_in p o))) → IsApart p home (Mark gv ∷ Method fr sh ∷ ls)
-apart_mark p Static gv fr sh ls a r = a
-apart_mark p AtRoot gv fr sh ls a r = a
-apart_mark p (Inside o from) gv fr sh ls a r = (
+    (p : Image) (view : Option ℕ) (k : ℕ) (home : Home) (gv : Gives) (fr : Frame) (sh : Shape) (ls : List Layer) → IsApart p view k home (Method fr sh ∷ ls) →
+    ((o : Object) (from : Place) → home ≡ Inside o from → works_at o.name fr.home ≡ true → IsTrue (has sh.states (rests_in p o))) → IsApart p view k home (Mark gv ∷ Method fr sh ∷ ls)
+apart_mark p view k Static gv fr sh ls a r = a
+apart_mark p view k AtRoot gv fr sh ls a r = a
+apart_mark p view k (Inside o from) gv fr sh ls a r = (
   a.0,
   a.1,
   a.2,
@@ -171,7 +171,7 @@ module _ (p : Image) (t : Typing) (wired : IsWired p) (typed : IsTyped p t) (c :
               (all_join (needs_result p fr (tasks_of ls) s gv (given_cells p fr (tasks_of ls) s (over_trap p fr (tasks_of ls) s) m first) x) _ (result_met p t wired typed c s fr sh ls at_hand m first depth height deep called_so passed gv x more.1.1.0) (free, tt)),
         ),
         enter p t wired typed c s fr sh ls at_hand m first depth height deep called_so passed home sh' over k view runs (λ x. x) a.1 refl (ap suc (ap length (sym high) ∙ length_forms s.items)) (λ d r. mark_claims p d gv (Method fr sh' ∷ ls) r) (λ o. refl)
-            (housed_mark p (given_cells p fr (tasks_of ls) s (over_trap p fr (tasks_of ls) s) m first) home gv (Method fr sh' ∷ ls) a.1.housed) (apart_mark p home gv fr sh' ls a.1.apart (rests_under p m fr sh' home (kind_begun p t wired typed c s fr sh ls at_hand m first depth height deep called_so home sh' a.1.begun) a.1.settles))
+            (housed_mark p (given_cells p fr (tasks_of ls) s (over_trap p fr (tasks_of ls) s) m first) home gv (Method fr sh' ∷ ls) a.1.housed) (apart_mark p view k home gv fr sh' ls (a.1.apart k) (rests_under p m fr sh' home (kind_begun p t wired typed c s fr sh ls at_hand m first depth height deep called_so home sh' a.1.begun) a.1.settles))
             ((runs.gives, trapped.gives, ap is_cancel (runs.role ∙ trapped.role)), below) (does p c fr (tasks_of ls) s (Trap target m first x)) refl refl (ap (λ fs. Mark_form ∷ fs) high) at_hand.undos,
       )
     where

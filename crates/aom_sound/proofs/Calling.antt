@@ -30,7 +30,7 @@ use Rattle.aom_shape.specs.declared.kind.Filling.{Filling}
 use Rattle.aom_shape.specs.declared.kind.Filling.TheVariants.{Empty, Full, Perhaps}
 use Rattle.aom_shape.specs.declared.kind.Kind.{Kind}
 use Rattle.aom_shape.specs.declared.kind.Kind.TheVariants.{Null, Own, Unset}
-use Rattle.aom_sound.proofs.Claimed.{Outside, OwnsNoMore, claim_from, claim_register_above, claim_unclaimed, claim_weaker, filled_weaker, fits_weaker, outside_differs, word_fits_weaker}
+use Rattle.aom_sound.proofs.Claimed.{claim_in_view, Outside, OwnsNoMore, claim_from, claim_register_above, claim_weaker, filled_weaker, fits_weaker, outside_differs, word_fits_weaker}
 use Rattle.aom_sound.proofs.Destroying.{Untouched, at_alike, eqb_comm, other_name, untouched, untouched_method}
 use Rattle.aom_sound.proofs.Finishing.{all_join}
 use Rattle.aom_sound.proofs.Items.{begins_well, entry_claimed, entry_owns, entry_there, length_each, length_forms, readied_claim, readied_items}
@@ -46,11 +46,11 @@ use Rattle.aom_roles.proofs.Descending.{through}
 use Rattle.aom_roles.specs.Families.{descends}
 use Rattle.aom_sound.specs.Calls.{entry_place, home_at, needs_result, needs_target, needs_target_object, own_home, own_view, passed_cells, passed_words, target_home, target_view, works_on}
 use Rattle.aom_sound.specs.Claims.{own_field, serves, delivered, Layer, Method, claim, declared, declared_field, entry_claim, forms, home_claim, items_of, layer_claim, objects, root_claim, tasks_of}
-use Rattle.aom_sound.proofs.Waiting.{waits_unclaimed}
+use Rattle.aom_sound.proofs.Waiting.{waits_in_view}
 use Rattle.aom_sound.specs.Laws.{IsCalled, IsWired}
 use Rattle.aom_sound.specs.Places.{In_service, Cell, Elsewhere, Entry, Field, Going, Object, Place, Register, Root, held, named, requested, same_place, seen}
-use Rattle.aom_sound.specs.State.{AtRoot, Choice, Frame, Home, Inside, Run, State, Static, WrongKind, field_place, frame_as, home_holder, home_view, thing_holder, word}
-use Rattle.aom_sound.specs.WellTyped.{CountsAs, Houses, IsServed, AllUndo, Awaits, Back, Fits, Good, Holds, IsApart, IsBelow, IsHoused, IsNoFieldOf, NotIn, Returns, Stack, Stands, Unclaimed, WellTyped, WordFits, WorksOn, by_field}
+use Rattle.aom_sound.specs.State.{thing_view, AtRoot, Choice, Frame, Home, Inside, Run, State, Static, WrongKind, field_place, frame_as, home_holder, home_view, thing_holder, word}
+use Rattle.aom_sound.specs.WellTyped.{InView, CountsAs, Houses, IsServed, AllUndo, Awaits, Back, Fits, Good, Holds, IsApart, IsBelow, IsHoused, IsNoFieldOf, NotIn, Returns, Stack, Stands, WellTyped, WordFits, WorksOn}
 use Rattle.aom_sound.proofs.Callees.{apart_from, below_more, filled_ready, fits_fresh, held_own, holder_called, holder_member, holder_static, home_member, member_kind, moved_entries, moved_fields, moved_register, own_for, passed_elsewhere}
 use Rattle.aom_sound.specs.Requests.{AllSuit, Known, Suits, Unworked, known_at, resting_in, rests_in, states_claim, thing_kind, works_at}
 use Rattle.aom_roles.specs.Shapes.{kind_of}
@@ -79,15 +79,15 @@ module _ (p : Image) (t : Typing) (wired : IsWired p) (typed : IsTyped p t) (c :
   abbrev callee : ℕ → Option ℕ → Home → Frame
   callee k view home = record (frame_as k home view height) { words = ws }
 
-  -- what may run in the place of the method called: nothing else where it constructs
-  abbrev MayRun : ℕ → Object → Type 0
-  MayRun k o = Houses p (thing_holder o.thing) (holder_of p k) × (method_role p m ≡ Some Construct → k ≡ m)
+  -- what may run in the place of the method called on what counts so: nothing else where it constructs
+  abbrev MayRun : ℕ → Option ℕ → Object → Type 0
+  MayRun k view o = Houses p (thing_holder o.thing) (holder_of p k) × (method_role p m ≡ Some Construct → k ≡ m) × CountsAs p (thing_holder o.thing) view (holder_of p k)
 
   -- the fields that its class declares are as the first state says
-  abbrev FieldsBegin : Home → Type 0
-  FieldsBegin Static = Unit {0}
-  FieldsBegin AtRoot = ⊥
-  FieldsBegin (Inside o from) = (k : ℕ) → MayRun k o → (f : ℕ) (x : Thing) → field_thing p (holder_of p k) f ≡ Some x → Fits p (seen cs) (held cs (Field o.name f)) (filled (Some x) (field (entry_shape p m) f))
+  abbrev FieldsBegin : Option ℕ → Home → Type 0
+  FieldsBegin view Static = Unit {0}
+  FieldsBegin view AtRoot = ⊥
+  FieldsBegin view (Inside o from) = (k : ℕ) → MayRun k view o → (f : ℕ) (x : Thing) → field_thing p (holder_of p k) f ≡ Some x → Fits p (seen cs) (held cs (Field o.name f)) (filled (Some x) (field (entry_shape p m) f))
 
   -- what is known of the object that it works on as it begins, over its caller in that state
   abbrev known_there : Object → Shape → ℕ → Known
@@ -114,16 +114,16 @@ module _ (p : Image) (t : Typing) (wired : IsWired p) (typed : IsTyped p t) (c :
   pub kind_begun : (home : Home) (sh' : Shape) → BeginsWell home sh' → (o : Object) (from : Place) → home ≡ Inside o from → thing_kind p o.thing ≡ kind_of p (method_class p m)
   kind_begun x sh' b o from e = grind arith
 
-  -- the caller while the call lasts, and the home of the method called
-  pub record Entering (ended : ℕ) (home : Home) (sh' : Shape) : Type 0 where
+  -- the caller while the call lasts, and the home of the method called and what it counts as
+  pub record Entering (ended : ℕ) (home : Home) (view : Option ℕ) (sh' : Shape) : Type 0 where
     pub fits : (r : Place) → Fits p (seen cs) (held cs r) (filling p t fr ls depth deep (declared p cs) regs sh' r)
     pub words : (i : ℕ) → WordFits (word fr i) (register sh' i)
     pub housed : IsHoused p cs (Method fr sh' ∷ ls) home
-    pub apart : IsApart p home (Method fr sh' ∷ ls)
+    pub apart : (k : ℕ) → IsApart p view k home (Method fr sh' ∷ ls)
     pub holder : Houses p (home_holder home) (holder_of p m)
     pub owning : (i : ℕ) → is_unowning (register sh' i) ≡ is_unowning (register after_arguments i)
     pub items : objects sh'.entries (items_of ls) ≡ objects sh.entries (items_of ls)
-    pub fields : FieldsBegin home
+    pub fields : FieldsBegin view home
     pub suits : (x : Object) → named cs x.name ≡ Some x → works_at x.name home ≡ false → Suits (thing_kind p x.thing) (states_claim p x (Method fr sh' ∷ ls)) (requested cs x.name)
     pub begun : BeginsWell home sh'
     -- the caller's own object will be in one of these states
@@ -136,22 +136,22 @@ module _ (p : Image) (t : Typing) (wired : IsWired p) (typed : IsTyped p t) (c :
 
     -- the first state of the called method over its caller
     begins :
-        {ended : ℕ} (k : ℕ) (home : Home) (sh' : Shape) → Entering ended home sh' → Houses p (home_holder home) (holder_of p k) × (method_role p m ≡ Some Construct → k ≡ m) → serves p k ≡ false → (after : Shape) → SaysNoMore after (entry_shape p m) → (r : Place) →
+        {ended : ℕ} {view : Option ℕ} (k : ℕ) (home : Home) (sh' : Shape) → Entering ended home view sh' → Houses p (home_holder home) (holder_of p k) × (method_role p m ≡ Some Construct → k ≡ m) × CountsAs p (home_holder home) view (holder_of p k) → serves p k ≡ false → (after : Shape) → SaysNoMore after (entry_shape p m) → (r : Place) →
         Fits p (seen cs) (held cs r) (claims_over k home after sh' r)
-    begins k home sh' e housing silent after w (Register f i) = go (depth == f) (e.fits (Register f i))
+    begins {view = view} k home sh' e housing silent after w (Register f i) = go (depth == f) (e.fits (Register f i))
       where
         go :
             (b : Bool) → Fits p (seen cs) (held cs (Register f i)) (cond b (at Unset regs i) (claim p (declared p cs) (Method fr sh' ∷ ls) (Register f i))) →
             Fits p (seen cs) (held cs (Register f i)) (cond b (register after i) (claim p (declared p cs) (Method fr sh' ∷ ls) (Register f i)))
         go true h = fits_weaker p (seen cs) (held cs (Register f i)) (w.registers i) h
         go false h = h
-    begins k home sh' e housing silent after w (Entry j) = subst (λ es. Fits p (seen cs) (held cs (Entry j)) (claims_over k Static (record after { entries = es }) sh' (Entry j))) (sym w.entries) (e.fits (Entry j))
-    begins k home sh' e housing silent after w (Field n f) = go home housing e.fields
+    begins {view = view} k home sh' e housing silent after w (Entry j) = subst (λ es. Fits p (seen cs) (held cs (Entry j)) (claims_over k Static (record after { entries = es }) sh' (Entry j))) (sym w.entries) (e.fits (Entry j))
+    begins {view = view} k home sh' e housing silent after w (Field n f) = go home housing e.fields
       where
         below : Kind
         below = claim p (declared p cs) (Method fr sh' ∷ ls) (Field n f)
 
-        go : (home : Home) → Houses p (home_holder home) (holder_of p k) × (method_role p m ≡ Some Construct → k ≡ m) → FieldsBegin home → Fits p (seen cs) (held cs (Field n f)) (home_claim p (holder_of p k) home after n f below)
+        go : (home : Home) → Houses p (home_holder home) (holder_of p k) × (method_role p m ≡ Some Construct → k ≡ m) × CountsAs p (home_holder home) view (holder_of p k) → FieldsBegin view home → Fits p (seen cs) (held cs (Field n f)) (home_claim p (holder_of p k) home after n f below)
         go Static may b = e.fits (Field n f)
         go AtRoot may b = e.fits (Field n f)
         go (Inside o from) may b = inside (o.name == n) refl (field_thing p (holder_of p k) f) refl
@@ -162,15 +162,15 @@ module _ (p : Image) (t : Typing) (wired : IsWired p) (typed : IsTyped p t) (c :
                 (fits_weaker p (seen cs) (held cs (Field o.name f)) (filled_weaker (Some x) (w.fields f)) (b k may f x is))
             inside true same None is = e.fits (Field n f)
             inside false other own is = e.fits (Field n f)
-    begins k home sh' e housing silent after w (Elsewhere Root) = go home e.fields
+    begins {view = view} k home sh' e housing silent after w (Elsewhere Root) = go home e.fields
       where
-        go : (home : Home) → FieldsBegin home → Fits p (seen cs) (held cs (Elsewhere Root)) (claims_over k home after sh' (Elsewhere Root))
+        go : (home : Home) → FieldsBegin view home → Fits p (seen cs) (held cs (Elsewhere Root)) (claims_over k home after sh' (Elsewhere Root))
         go x b = grind arith
-    begins k home sh' e housing silent after w (Elsewhere In_service) =
+    begins {view = view} k home sh' e housing silent after w (Elsewhere In_service) =
         subst (λ x. Fits p (seen cs) (held cs (Elsewhere In_service)) x)
         (sym (plain_claim (serves p k) after (claim p (declared p cs) (Method fr sh' ∷ ls) (Elsewhere In_service)) silent)) (e.fits (Elsewhere In_service))
-    begins k home sh' e housing silent after w (Elsewhere o) = e.fits (Elsewhere o)
-    begins k home sh' e housing silent after w (Going j) = e.fits (Going j)
+    begins {view = view} k home sh' e housing silent after w (Elsewhere o) = e.fits (Elsewhere o)
+    begins {view = view} k home sh' e housing silent after w (Going j) = e.fits (Going j)
 
     -- all other objects are as they were
     begun_suits :
@@ -196,9 +196,9 @@ module _ (p : Image) (t : Typing) (wired : IsWired p) (typed : IsTyped p t) (c :
 
     -- so what runs in its place is entered, over these layers, which claim what the caller claims
     pub enter :
-        {ended : ℕ} (home : Home) (sh' : Shape) (over : List Layer) (k : ℕ) (view : Option ℕ) → RunsFor p m k (home_holder home) view → (IsServed over → ⊥) → Entering ended home sh' → length (tasks_of over) ≡ depth → length (items_of over) ≡ height →
+        {ended : ℕ} (home : Home) (sh' : Shape) (over : List Layer) (k : ℕ) (view : Option ℕ) → RunsFor p m k (home_holder home) view → (IsServed over → ⊥) → Entering ended home view sh' → length (tasks_of over) ≡ depth → length (items_of over) ≡ height →
         ((d : Place → Kind) (r : Place) → claim p d over r ≡ claim p d (Method fr sh' ∷ ls) r) → ((o : Object) → states_claim p o over ≡ states_claim p o (Method fr sh' ∷ ls)) →
-        IsHoused p cs over home → IsApart p home over → Stack p t cs (Returns k home) over → (s' : State) → s'.cells ≡ cs → s'.tasks ≡ Run (callee k view home) ∷ tasks_of over →
+        IsHoused p cs over home → IsApart p view k home over → Stack p t cs (Returns k home) over → (s' : State) → s'.cells ≡ cs → s'.tasks ≡ Run (callee k view home) ∷ tasks_of over →
         forms s'.items ≡ items_of over → AllUndo p s'.items → WellTyped p t s'
     enter home sh' over k view runs unserved e at_depth high same same_states housed apart stack s' cells tasks items undos =
         let leads = typed.entry k runs.there in
@@ -218,7 +218,7 @@ module _ (p : Image) (t : Typing) (wired : IsWired p) (typed : IsTyped p t) (c :
             apart,
             stack,
           );
-          fits = λ r. subst (λ k. Fits p (seen cs) (held cs r) k) (sym (as_begun leads.0 w r)) (begins k home sh' e (runs.holder, runs.only) silent leads.0 w r);
+          fits = λ r. subst (λ k. Fits p (seen cs) (held cs r) k) (sym (as_begun leads.0 w r)) (begins k home sh' e (runs.holder, runs.only, runs.counts) silent leads.0 w r);
           suits = begun_suits home sh' over leads.0 w.states housed same_states e.begun (λ x lives other. subst (λ k. Suits (thing_kind p x.thing) k (requested cs x.name)) (sym (same_states x)) (e.suits x lives other)) k view plain;
           tidy = passed.tidy;
         } in
@@ -243,19 +243,19 @@ module _ (p : Image) (t : Typing) (wired : IsWired p) (typed : IsTyped p t) (c :
         as_begun after w (Going j) = same (declared p cs) (Going j)
 
     -- the caller below, while the call lasts
-    pub caller : {ended : ℕ} (home : Home) (sh' : Shape) (back : Back) → Entering ended home sh' → Stands p t back fr sh' → Stack p t cs back (Method fr sh' ∷ ls)
+    pub caller : {ended : ℕ} {view : Option ℕ} (home : Home) (sh' : Shape) (back : Back) → Entering ended home view sh' → Stands p t back fr sh' → Stack p t cs back (Method fr sh' ∷ ls)
     caller home sh' back e stands = (stands, record { words = e.words; holder = at_hand.good.stack.1.holder; view = at_hand.good.stack.1.view; height = at_hand.good.stack.1.height; alone = at_hand.good.stack.1.alone; message = at_hand.good.stack.1.message }, passed.housed, at_hand.good.stack.3, passed.stack)
 
     -- the cleanup stack is as it was
-    pub same_high : {ended : ℕ} (home : Home) (sh' : Shape) → Entering ended home sh' → forms s.items ≡ items_of (Method fr sh' ∷ ls)
+    pub same_high : {ended : ℕ} {view : Option ℕ} (home : Home) (sh' : Shape) → Entering ended home view sh' → forms s.items ≡ items_of (Method fr sh' ∷ ls)
     same_high home sh' e = at_hand.items ∙ sym e.items
 
     -- the fields of an object that is not under construction
     do_fields :
-        (o : Object) (from : Place) (sh' : Shape) → ((r : Place) → Fits p (seen cs) (held cs r) (filling p t fr ls depth deep (declared p cs) regs sh' r)) → named cs o.name ≡ Some o →
-        IsApart p (Inside o from) (Method fr sh' ∷ ls) → method_role p m ≡ Some Do → FieldsBegin (Inside o from)
-    do_fields o from sh' fits lives apart role k may f x is =
-        let claims = claim_unclaimed p (declared p cs) (Method fr sh' ∷ ls) o.name f (λ f. filled (field_thing p (thing_holder o.thing) f) Perhaps) apart.2 (ap (λ y. declared_field p y f) lives) in
+        (o : Object) (from : Place) (view : Option ℕ) (sh' : Shape) → ((r : Place) → Fits p (seen cs) (held cs r) (filling p t fr ls depth deep (declared p cs) regs sh' r)) → named cs o.name ≡ Some o →
+        IsApart p view m (Inside o from) (Method fr sh' ∷ ls) → method_role p m ≡ Some Do → FieldsBegin view (Inside o from)
+    do_fields o from view sh' fits lives apart role k may f x is =
+        let claims = claim_in_view p (declared p cs) (Method fr sh' ∷ ls) o.name f (λ f. filled (field_thing p (thing_holder o.thing) f) Perhaps) view apart.2.0 (ap is_some (may.2.fields f x is)) (ap (λ y. declared_field p y f) lives) in
         subst (λ y. Fits p (seen cs) (held cs (Field o.name f)) (filled (Some x) y)) (sym (ap (λ r. at Perhaps (entry_fields r) f) role ∙ at_alike 8 Perhaps f))
         (subst (λ v. Fits p (seen cs) (held cs (Field o.name f)) v) (claims ∙ ap (λ y. filled y Perhaps) (may.0.fields f x is)) (fits (Field o.name f)))
 
@@ -263,8 +263,8 @@ module _ (p : Image) (t : Typing) (wired : IsWired p) (typed : IsTyped p t) (c :
     abbrev AllNull : Object → Type 0
     AllNull o = (f : ℕ) (x : Thing) → field_thing p (holder_of p m) f ≡ Some x → held cs (Field o.name f) ≡ None
 
-    construct_fields : (o : Object) (from : Place) → AllNull o → method_role p m ≡ Some Construct → FieldsBegin (Inside o from)
-    construct_fields o from null role k may f x is =
+    construct_fields : (o : Object) (from : Place) (view : Option ℕ) → AllNull o → method_role p m ≡ Some Construct → FieldsBegin view (Inside o from)
+    construct_fields o from view null role k may f x is =
         let none = null f x (ap (λ j. field_thing p (holder_of p j) f) (sym (may.1 role)) ∙ is) in
         subst (λ y. Fits p (seen cs) (held cs (Field o.name f)) (filled (Some x) y)) (sym (ap (λ r. at Perhaps (entry_fields r) f) role))
         (subst (λ y. Fits p (seen cs) y (filled (Some x) (at Perhaps (replicate 8 Empty) f))) (sym none) (fits_fresh p (seen cs) (Some x) 8 f))
@@ -274,10 +274,10 @@ module _ (p : Image) (t : Typing) (wired : IsWired p) (typed : IsTyped p t) (c :
     Starts o = method_role p m ≡ Some Do ⊎ ((method_role p m ≡ Some Construct) × AllNull o)
 
     start_fields :
-        (o : Object) (from : Place) (sh' : Shape) → ((r : Place) → Fits p (seen cs) (held cs r) (filling p t fr ls depth deep (declared p cs) regs sh' r)) → named cs o.name ≡ Some o →
-        IsApart p (Inside o from) (Method fr sh' ∷ ls) → Starts o → FieldsBegin (Inside o from)
-    start_fields o from sh' fits lives apart (inl role) = do_fields o from sh' fits lives apart role
-    start_fields o from sh' fits lives apart (inr w) = construct_fields o from w.1 w.0
+        (o : Object) (from : Place) (view : Option ℕ) (sh' : Shape) → ((r : Place) → Fits p (seen cs) (held cs r) (filling p t fr ls depth deep (declared p cs) regs sh' r)) → named cs o.name ≡ Some o →
+        IsApart p view m (Inside o from) (Method fr sh' ∷ ls) → Starts o → FieldsBegin view (Inside o from)
+    start_fields o from view sh' fits lives apart (inl role) = do_fields o from view sh' fits lives apart role
+    start_fields o from view sh' fits lives apart (inr w) = construct_fields o from view w.1 w.0
 
     -- it is a plain call, or it constructs what is fresh
     abbrev Ages : Age → Type 0
@@ -295,7 +295,7 @@ module _ (p : Image) (t : Typing) (wired : IsWired p) (typed : IsTyped p t) (c :
 
     -- what a target asks, and how the method begins
     abbrev Begun : ℕ → Target → Type 0
-    Begun ended target = AllTrue (needs_target p fr (tasks_of ls) s target m (method_class p m) first (length xs)) × Entering ended (target_home p fr (tasks_of ls) s target (method_class p m)) (while_called target (method_class p m) ended after_arguments)
+    Begun ended target = AllTrue (needs_target p fr (tasks_of ls) s target m (method_class p m) first (length xs)) × Entering ended (target_home p fr (tasks_of ls) s target (method_class p m)) (target_view p fr (tasks_of ls) s target (method_class p m)) (while_called target (method_class p m) ended after_arguments)
 
     -- and what its object counts as
     abbrev Answer : ℕ → Target → Type 0
@@ -304,7 +304,7 @@ module _ (p : Image) (t : Typing) (wired : IsWired p) (typed : IsTyped p t) (c :
         × CountsAs p (home_holder (target_home p fr (tasks_of ls) s target (method_class p m))) (target_view p fr (tasks_of ls) s target (method_class p m)) (holder_of p m)
 
     -- a static method
-    on_nothing : (ended : ℕ) → method_class p m ≡ None → Entering ended Static after_arguments
+    on_nothing : (ended : ℕ) → method_class p m ≡ None → Entering ended Static None after_arguments
     on_nothing ended e = record {
       suits = λ x lives other. passed.suits x lives;
       begun = tt;
@@ -312,7 +312,7 @@ module _ (p : Image) (t : Typing) (wired : IsWired p) (typed : IsTyped p t) (c :
       fits = passed.fits;
       words = passed.words;
       housed = tt;
-      apart = tt;
+      apart = λ k. tt;
       holder = houses_same p _ _ (sym (ap (λ k. holder_by (method_role p m) k) e ∙ holder_static (method_role p m) is_called.role));
       owning = λ i. refl;
       items = ap (λ es. objects es (items_of ls)) (moved_entries xs first sh);
@@ -369,11 +369,11 @@ module _ (p : Image) (t : Typing) (wired : IsWired p) (typed : IsTyped p t) (c :
     -- a method of the caller's own object
     on_own :
         (ended : ℕ) (k b : ℕ) (o : Object) (from : Place) → fr.home ≡ Inside o from → thing_holder o.thing ≡ Member b → descends p b k ≡ true → method_class p m ≡ Some k → Starts o →
-        IsTrue (has (before_of p m) after_arguments.states) → Entering ended (Inside o from) (worked ended)
+        IsTrue (has (before_of p m) after_arguments.states) → Entering ended (Inside o from) fr.view (worked ended)
     on_own ended k b o from eh member stands class starts before =
         let holds : Holds p cs ls o from = subst (λ h. IsHoused p cs ls h) eh passed.housed in
-        let apart : IsApart p (Inside o from) ls = subst (λ h. IsApart p h ls) eh at_hand.good.stack.3 in
-        let apart' : IsApart p (Inside o from) (Method fr (worked ended) ∷ ls) = (apart.0, (subst (λ h. NotIn o.name h) (sym eh) apart.0, apart.1), own_fields, inl own_home_works) in
+        let apart : IsApart p fr.view fr.method (Inside o from) ls = subst (λ h. IsApart p fr.view fr.method h ls) eh at_hand.good.stack.3 in
+        let apart' : (k : ℕ) → IsApart p fr.view k (Inside o from) (Method fr (worked ended) ∷ ls) = λ k. (apart.0, (subst (λ h. NotIn o.name h) (sym eh) apart.0, apart.1), (own_fields, tt), inl own_home_works) in
         let fits : (r : Place) → Fits p (seen cs) (held cs r) (filling p t fr ls depth deep (declared p cs) regs (worked ended) r) =
         λ r. fits_weaker p (seen cs) (held cs r) (filled_weaker_below depth regs r _ _ (claim_weaker p (declared p cs) fr (worked ended) after_arguments ls r (opened ended))) (passed.fits r) in
         record {
@@ -384,7 +384,7 @@ module _ (p : Image) (t : Typing) (wired : IsWired p) (typed : IsTyped p t) (c :
           holder = subst (λ h. Houses p h (holder_of p m)) (sym member) (subst (λ h. Houses p (Member b) h) (sym (ap (λ c. holder_by (method_role p m) c) class ∙ holder_called (method_role p m) k is_called.role)) (houses_family p wired.family b k stands));
           owning = λ i. refl;
           items = ap (λ es. objects es (items_of ls)) (moved_entries xs first sh);
-          fields = start_fields o from (worked ended) fits holds.lives apart' starts;
+          fields = start_fields o from fr.view (worked ended) fits holds.lives (apart' m) starts;
           suits = other_suits;
           begun = (own_begun holds.lives, member_kind p o.thing b member ∙ wired.family.kinds b k stands ∙ ap (kind_of p) (sym class));
           settles = λ x q e w. refl;
@@ -410,10 +410,10 @@ module _ (p : Image) (t : Typing) (wired : IsWired p) (typed : IsTyped p t) (c :
             subst (λ b. Suits (thing_kind p x.thing) (cond b (known_at p fr ended (below x)) (below x)) (requested cs x.name)) (sym off)
             (subst (λ b. Suits (thing_kind p x.thing) (cond b (known_at p fr after_arguments.states (below x)) (below x)) (requested cs x.name)) off (passed.suits x lives))
 
-        own_fields : Unclaimed p (λ f. filled (field_thing p (thing_holder o.thing) f) Perhaps) o.name (Method fr (worked ended) ∷ ls)
+        own_fields : InView p fr.view (λ f. filled (field_thing p (thing_holder o.thing) f) Perhaps) o.name (Method fr (worked ended) ∷ ls)
         own_fields =
             let houses = subst (λ h. Houses p (home_holder h) (holder_of p fr.method)) eh at_hand.good.stack.1.holder in
-            waits_unclaimed p wired.parentless t s.cells fr o from eh (worked ended) ls houses (subst (λ h. IsApart p h ls) eh at_hand.good.stack.3) at_hand.good.stack.4 (λ f. at_alike 8 Perhaps f)
+            waits_in_view p fr o from eh (worked ended) ls houses (subst (λ h. IsApart p fr.view fr.method h ls) eh at_hand.good.stack.3) (λ f. at_alike 8 Perhaps f)
 
     -- where an object stood before the arguments were passed, it stands after
     stays_at :
@@ -479,7 +479,7 @@ module _ (p : Image) (t : Typing) (wired : IsWired p) (typed : IsTyped p t) (c :
       owned : (o : Object) × (held s.cells q ≡ Some o) × (stands_for p o.thing z ≡ true)
       owned = held_own p (seen s.cells) (held s.cells q) z a (subst (λ k. Fits p (seen s.cells) (held s.cells q) k) kind (kind_fits p t c s fr sh ls at_hand r))
 
-      on_register : (ended : ℕ) → begins_there p m ≡ true → Ages a → Entering ended (Inside owned.0 q) readied_shape
+      on_register : (ended : ℕ) → begins_there p m ≡ true → Ages a → Entering ended (Inside owned.0 q) (thing_view owned.0.thing) readied_shape
       on_register ended may ages = record {
         suits = λ x lives other. passed.suits x lives;
         begun = well_begun owned.0 readied_shape lives u.unworked (target_kind y owned.0 z class owned.2 for) may (fresh_one owned.0 z a here_fits ages);
@@ -491,7 +491,7 @@ module _ (p : Image) (t : Typing) (wired : IsWired p) (typed : IsTyped p t) (c :
         holder = target_holder y owned.0 z class owned.2 for;
         owning = owning;
         items = ap (λ es. objects es (items_of ls)) (moved_entries xs first sh);
-        fields = start_fields owned.0 q readied_shape fits lives apart_so (starts_fresh owned.0 z a here_fits ages);
+        fields = start_fields owned.0 q (thing_view owned.0.thing) readied_shape fits lives (apart_so m) (starts_fresh owned.0 z a here_fits ages);
       }
         where
           there : held cs q ≡ Some owned.0
@@ -523,8 +523,8 @@ module _ (p : Image) (t : Typing) (wired : IsWired p) (typed : IsTyped p t) (c :
           u = untouched_method p t cs q owned.0 passed.tidy there (λ f. filled (field_thing p (thing_holder owned.0.thing) f) Perhaps) fr readied_shape ls (λ x from e. tt) (omega arith) passed.housed
               (untouched p t cs q owned.0 passed.tidy there (λ f. filled (field_thing p (thing_holder owned.0.thing) f) Perhaps) ls (Returns fr.method fr.home) (omega arith) passed.stack)
 
-          apart_so : IsApart p (Inside owned.0 q) (Method fr readied_shape ∷ ls)
-          apart_so = (tt, u.none_in, u.unclaimed, inr u.unworked)
+          apart_so : (k : ℕ) → IsApart p (thing_view owned.0.thing) k (Inside owned.0 q) (Method fr readied_shape ∷ ls)
+          apart_so k = (tt, u.none_in, (λ f some. u.unclaimed f, tt), inr u.unworked)
 
           owning : (i : ℕ) → is_unowning (register readied_shape i) ≡ is_unowning (register after_arguments i)
           owning i = ap is_unowning (at-put_at Unset after_arguments.registers r i (readied (register after_arguments r))) ∙ go (r == i) refl
@@ -547,7 +547,7 @@ module _ (p : Image) (t : Typing) (wired : IsWired p) (typed : IsTyped p t) (c :
       kept_in : (o : Object) × (held s.cells spot ≡ Some o) × (stands_for p o.thing z ≡ true)
       kept_in = held_own p (seen s.cells) (held s.cells spot) z a (subst (λ k. Fits p (seen s.cells) (held s.cells spot) k) kind (field_fits p t c s fr sh ls at_hand f own))
 
-      on_field : (ended : ℕ) → begins_there p m ≡ true → Entering ended (Inside kept_in.0 spot) after_arguments
+      on_field : (ended : ℕ) → begins_there p m ≡ true → Entering ended (Inside kept_in.0 spot) (thing_view kept_in.0.thing) after_arguments
       on_field ended may = record {
         suits = λ x lives other. passed.suits x lives;
         begun = well_begun kept_in.0 after_arguments lives u.unworked (target_kind y kept_in.0 z class kept_in.2 for) may (inl role);
@@ -559,7 +559,7 @@ module _ (p : Image) (t : Typing) (wired : IsWired p) (typed : IsTyped p t) (c :
         holder = target_holder y kept_in.0 z class kept_in.2 for;
         owning = λ i. refl;
         items = ap (λ es. objects es (items_of ls)) (moved_entries xs first sh);
-        fields = do_fields kept_in.0 spot after_arguments passed.fits lives apart_so role;
+        fields = do_fields kept_in.0 spot (thing_view kept_in.0.thing) after_arguments passed.fits lives (apart_so m) role;
       }
         where
           there : held cs spot ≡ Some kept_in.0
@@ -587,8 +587,8 @@ module _ (p : Image) (t : Typing) (wired : IsWired p) (typed : IsTyped p t) (c :
               let holds : Holds p cs ls x from = subst (λ h. IsHoused p cs ls h) e passed.housed in
               eqb_comm kept_in.0.name x.name ∙ other_name p t cs spot kept_in.0 passed.tidy there from x holds.there (outside_differs spot from ls outside (field_not_from p t c s fr sh ls at_hand fr.home f refl x from e) holds.below)
 
-          apart_so : IsApart p (Inside kept_in.0 spot) (Method fr after_arguments ∷ ls)
-          apart_so = (no_field_of fr.home refl, u.none_in, u.unclaimed, inr u.unworked)
+          apart_so : (k : ℕ) → IsApart p (thing_view kept_in.0.thing) k (Inside kept_in.0 spot) (Method fr after_arguments ∷ ls)
+          apart_so k = (no_field_of fr.home refl, u.none_in, (λ f some. u.unclaimed f, tt), inr u.unworked)
 
     -- a construct method works on a fresh one
     ages :
@@ -634,7 +634,7 @@ module _ (p : Image) (t : Typing) (wired : IsWired p) (typed : IsTyped p t) (c :
       piled : (o : Object) × (held s.cells pile ≡ Some o) × (stands_for p o.thing z ≡ true)
       piled = held_own p (seen s.cells) (held s.cells pile) z a (subst (λ k. Fits p (seen s.cells) (held s.cells pile) k) (claimed (declared p s.cells) ∙ kind) (at_hand.good.fits pile))
 
-      on_entry : (ended : ℕ) → begins_there p m ≡ true → Ages a → Entering ended (Inside piled.0 pile) readied_pile
+      on_entry : (ended : ℕ) → begins_there p m ≡ true → Ages a → Entering ended (Inside piled.0 pile) (thing_view piled.0.thing) readied_pile
       on_entry ended may ages = record {
         suits = λ x lives other. passed.suits x lives;
         begun = well_begun piled.0 readied_pile lives u.unworked (target_kind y piled.0 z class piled.2 for) may (fresh_one piled.0 z a here_fits ages);
@@ -646,7 +646,7 @@ module _ (p : Image) (t : Typing) (wired : IsWired p) (typed : IsTyped p t) (c :
         holder = target_holder y piled.0 z class piled.2 for;
         owning = λ i. refl;
         items = same_items;
-        fields = start_fields piled.0 pile readied_pile fits lives apart_so (starts_fresh piled.0 z a here_fits ages);
+        fields = start_fields piled.0 pile (thing_view piled.0.thing) readied_pile fits lives (apart_so m) (starts_fresh piled.0 z a here_fits ages);
       }
         where
           same_items : objects readied_pile.entries (items_of ls) ≡ objects sh.entries (items_of ls)
@@ -688,12 +688,12 @@ module _ (p : Image) (t : Typing) (wired : IsWired p) (typed : IsTyped p t) (c :
           u = untouched_method p t cs pile piled.0 passed.tidy there (λ f. filled (field_thing p (thing_holder piled.0.thing) f) Perhaps) fr readied_pile ls (λ x from e. tt) deeper passed.housed
               (untouched p t cs pile piled.0 passed.tidy there (λ f. filled (field_thing p (thing_holder piled.0.thing) f) Perhaps) ls (Returns fr.method fr.home) deeper passed.stack)
 
-          apart_so : IsApart p (Inside piled.0 pile) (Method fr readied_pile ∷ ls)
-          apart_so = (tt, u.none_in, u.unclaimed, inr u.unworked)
+          apart_so : (k : ℕ) → IsApart p (thing_view piled.0.thing) k (Inside piled.0 pile) (Method fr readied_pile ∷ ls)
+          apart_so k = (tt, u.none_in, (λ f some. u.unclaimed f, tt), inr u.unworked)
 
     -- what a place owns is what the method works on
-    at_home : {ended : ℕ} (q : Place) (o : Object) (sh' : Shape) → held s.cells q ≡ Some o → Entering ended (Inside o q) sh' → Entering ended (home_at (held s.cells q) q) sh'
-    at_home {ended = ended} q o sh' there g = subst (λ x. Entering ended (home_at x q) sh') (sym there) g
+    at_home : {ended : ℕ} (q : Place) (o : Object) (sh' : Shape) → held s.cells q ≡ Some o → Entering ended (Inside o q) (thing_view o.thing) sh' → Entering ended (home_at (held s.cells q) q) (home_view (home_at (held s.cells q) q)) sh'
+    at_home {ended = ended} q o sh' there g = subst (λ x. Entering ended (home_at x q) (home_view (home_at x q)) sh') (sym there) g
 
     -- each kind of target
     on_this :
@@ -703,7 +703,7 @@ module _ (p : Image) (t : Typing) (wired : IsWired p) (typed : IsTyped p t) (c :
         let begun = on_nothing ended e in (
           (
             (ap (λ k. works_on p k fr.view) e, (parents_met p t wired s fr sh ls at_hand m (is_construct (method_role p m)) n.1, tt)),
-            subst (λ k. Entering ended (own_home k fr.home) (while_called This k ended after_arguments)) (sym e) begun,
+            subst (λ k. Entering ended (own_home k fr.home) (own_view k fr.view) (while_called This k ended after_arguments)) (sym e) begun,
           ),
           subst (λ k. CountsAs p (home_holder (own_home k fr.home)) (own_view k fr.view) (holder_of p m)) (sym e) (houses_counts p Static (holder_of p m) begun.holder),
         )
@@ -733,11 +733,12 @@ module _ (p : Image) (t : Typing) (wired : IsWired p) (typed : IsTyped p t) (c :
             let w = home_member fr.home houses.0 houses.1 in
             let viewed = counts.some houses.0 houses.1 in
             let between = counts.between viewed.0 viewed.1 in
+            let works : holder_of p m ≡ Member k = ap (λ c. holder_by (method_role p m) c) e ∙ holder_called (method_role p m) k is_called.role in
             let fits : descends p viewed.0 k ≡ true = through p viewed.0 y k (own_below viewed.0 between.3 y between.4 own_holder between.5) stands in (
               (
                 (ap (λ k. works_on p k fr.view) e ∙ ap (λ v. works_on p (Some k) v) viewed.1 ∙ fits, (parents_met p t wired s fr sh ls at_hand m (is_construct (method_role p m)) n.1, tt)),
-                subst (λ x. Entering ended (own_home x fr.home) (while_called This x ended after_arguments)) (sym e)
-                    (subst (λ h. Entering ended h (worked ended)) (sym w.2) (on_own ended k houses.0 w.0 w.1 w.2 w.3 above e (starts w.0 w.1 w.2) (ap (λ c. begins_here p m c after_arguments.states) (sym e) ∙ may))),
+                subst (λ x. Entering ended (own_home x fr.home) (own_view x fr.view) (while_called This x ended after_arguments)) (sym e)
+                    (subst (λ h. Entering ended h fr.view (worked ended)) (sym w.2) (on_own ended k houses.0 w.0 w.1 w.2 w.3 above e (starts w.0 w.1 w.2) (ap (λ c. begins_here p m c after_arguments.states) (sym e) ∙ may))),
               ),
               subst (λ x. CountsAs p (home_holder (own_home x fr.home)) (own_view x fr.view) (holder_of p m)) (sym e)
                   (subst (λ x. CountsAs p (home_holder fr.home) x (holder_of p m)) (sym viewed.1) (record {
@@ -748,9 +749,10 @@ module _ (p : Image) (t : Typing) (wired : IsWired p) (typed : IsTyped p t) (c :
                           between.1,
                           subst (λ x. descends p between.0 x ≡ true) same between.2,
                           k,
-                          ap (λ c. holder_by (method_role p m) c) e ∙ holder_called (method_role p m) k is_called.role,
+                          works,
                           subst (λ x. descends p x k ≡ true) same fits,
                         );
+                    fields = λ f t is. wired.family.inherits viewed.0 k f t fits (ap (λ h. field_thing p h f) (sym works) ∙ is);
                   })),
             )
 

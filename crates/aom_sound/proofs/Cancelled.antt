@@ -57,7 +57,7 @@ module _ (p : Image) (t : Typing) (c : Choice) (s : State) (fr fr2 : Frame) (sh 
   suits : AllSuit p cells_then below
   suits = all_returned p s.cells cells_then fr sh below at_hand.good.suits at_hand.good.stack.2 alike.named_so others (λ o from e h.
       let holds : IsHoused p s.cells below (Inside o from) = subst (λ h. IsHoused p s.cells below h) e at_hand.good.stack.2 in
-      let apart : IsApart p (Inside o from) below = subst (λ h. IsApart p h below) e at_hand.good.stack.3 in
+      let apart : IsApart p fr.view fr.method (Inside o from) below = subst (λ h. IsApart p fr.view fr.method h below) e at_hand.good.stack.3 in
       let alone : IsAlone p (Inside o from) below = subst (λ h. IsAlone p h below) e (at_hand.good.stack.1.alone cancels) in
       let well : EndsWell p fr.method (Inside o from) fr2 sh2 = subst (λ h. EndsWell p fr.method h fr2 sh2) e at_hand.good.stack.4.0.3 in
       let done : IsTrue (has cancel_done sh.states) = ap (λ b. only_if b (has cancel_done sh.states)) (sym cancels) ∙ r.cancels in
@@ -84,7 +84,7 @@ module _ (p : Image) (t : Typing) (c : Choice) (s : State) (fr fr2 : Frame) (sh 
       let caller : Stack p t s.cells (Returns fr.method fr.home) below = at_hand.good.stack.4 in
       record {
         fits = λ q. fits_alike p t s.cells cells_then alike below q (λ x at fresh. unworked q x at fresh)
-            (ended p s.cells fr sh below at_hand.good.stack.1.holder at_hand.good.stack.2 at_hand.good.stack.3 refl e n (λ serving. absurd (at_hand.good.stack.1.message.0 serving)) q (seen s.cells) (held s.cells q) (at_hand.good.fits q));
+            (ended p s.cells fr sh below at_hand.good.stack.1.holder at_hand.good.stack.1.view at_hand.good.stack.2 at_hand.good.stack.3 refl e n (λ serving. absurd (at_hand.good.stack.1.message.0 serving)) q (seen s.cells) (held s.cells q) (at_hand.good.fits q));
         suits = suits;
         tidy = alike.tidy at_hand.good.tidy;
         frames = caller.1;

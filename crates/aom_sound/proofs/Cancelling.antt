@@ -1,5 +1,5 @@
 -- The law of `cancel`: a request that is not active is left alone, and over the method that cancels the caller waits with its object idle.
-use Rattle.std.proofs.Common.{Bool, IsTrue, List, None, Option, Some, ap, arith, cond, false, inl, length, refl, replicate, subst, suc, sym, true, ℕ, ◌==◌, ◌∙◌, ◌∷◌, ◌≡◌}
+use Rattle.std.proofs.Common.{is_some, Bool, IsTrue, List, None, Option, Some, ap, arith, cond, false, inl, length, refl, replicate, subst, suc, sym, true, ℕ, ◌==◌, ◌∙◌, ◌∷◌, ◌≡◌}
 use Rattle.std.proofs.lemmas.Bool.{eq-eqb, eqb-true, ne_eqb, true≢false}
 use Rattle.std.specs.Prelude.{bit_and, bit_or, not, ◌||◌}
 use Rattle.aom_classes.specs.Roles.{role_of}
@@ -29,7 +29,7 @@ use Rattle.aom_shape.specs.declared.kind.Filling.{Filling}
 use Rattle.aom_shape.specs.declared.kind.Filling.TheVariants.{Empty, Full, Perhaps}
 use Rattle.aom_shape.specs.declared.kind.Kind.TheVariants.{Null, Unset}
 use Rattle.aom_sound.proofs.Callees.{below_more}
-use Rattle.aom_sound.proofs.Claimed.{claim_unclaimed, OwnsNoMore, claim_from, claim_ready, claim_register_above, claim_weaker, fits_weaker}
+use Rattle.aom_sound.proofs.Claimed.{claim_in_view, OwnsNoMore, claim_from, claim_ready, claim_register_above, claim_weaker, fits_weaker}
 use Rattle.aom_sound.proofs.Destroying.{at_alike, entry_registers, perhaps_only, unset_only}
 use Rattle.aom_sound.proofs.Items.{length_forms}
 use Rattle.aom_sound.proofs.Maps.{one_place}
@@ -38,7 +38,7 @@ use Rattle.aom_sound.proofs.Storing.{Alike, fits_alike, housed_alike, listed_sti
 use Rattle.aom_sound.proofs.Straight.{At, Law, fits_unowning, settle, stepped, well}
 use Rattle.aom_sound.proofs.Suiting.{same_object}
 use Rattle.aom_sound.proofs.Housing.{houses_family}
-use Rattle.aom_sound.proofs.Waiting.{waits_unclaimed}
+use Rattle.aom_sound.proofs.Waiting.{waits_in_view}
 use Rattle.aom_sound.specs.Claims.{declared_field, own_field, serves, Layer, Method, claim, declared, entry_claim, home_claim, items_of, objects, root_claim, tasks_of}
 use Rattle.aom_sound.specs.Calls.{result_register}
 use Rattle.aom_sound.specs.Effects.{applied, cancels_if}
@@ -47,7 +47,7 @@ use Rattle.aom_sound.specs.Laws.{IsWired}
 use Rattle.aom_sound.specs.Places.{In_service, Cell, Elsewhere, Entry, Field, Going, Object, Phase, Place, Register, Request, Root, held, requested, seen}
 use Rattle.aom_sound.specs.Requests.{AllSuit, Known, Suits, known_at, phase_state, state_of, states_claim, thing_kind, works_at}
 use Rattle.aom_sound.specs.State.{Choice, Frame, Home, Inside, State, frame_as, home_holder, next, thing_holder}
-use Rattle.aom_sound.specs.WellTyped.{IsOfFamily, Awaits, CountsAs, EndsWell, Fits, Good, Holds, Houses, IsAlone, IsApart, IsHoused, NotIn, Returns, Stack, Stands, Unclaimed, WellTyped, WordFits, by_field}
+use Rattle.aom_sound.specs.WellTyped.{view_holder, InView, IsOfFamily, Awaits, CountsAs, EndsWell, Fits, Good, Holds, Houses, IsAlone, IsApart, IsHoused, NotIn, Returns, Stack, Stands, WellTyped, WordFits}
 use Rattle.aom_sound.proofs.Attending.{plain_claim}
 
 -- ---- what is known of a request
@@ -177,8 +177,8 @@ module _ (p : Image) (t : Typing) (wired : IsWired p) (typed : IsTyped p t) (c :
     holds : Holds p s.cells ls o it.from
     holds = subst (λ h. IsHoused p s.cells ls h) it.home at_hand.good.stack.2
 
-    apart : IsApart p (Inside o it.from) ls
-    apart = subst (λ h. IsApart p h ls) it.home at_hand.good.stack.3
+    apart : IsApart p fr.view fr.method (Inside o it.from) ls
+    apart = subst (λ h. IsApart p fr.view fr.method h ls) it.home at_hand.good.stack.3
 
     same_cells : Alike s.cells cs'
     same_cells = rerequested_alike s.cells fr.home (on_request cancelling request)
@@ -226,10 +226,20 @@ module _ (p : Image) (t : Typing) (wired : IsWired p) (typed : IsTyped p t) (c :
     own_holder : Houses p (thing_holder o.thing) (holder_of p m)
     own_holder = subst (λ h. Houses p (home_holder h) (holder_of p m)) it.home holder
 
-    own_fields : Unclaimed p (λ f. filled (field_thing p (thing_holder o.thing) f) Perhaps) o.name over
+    own_fields : InView p fr.view (λ f. filled (field_thing p (thing_holder o.thing) f) Perhaps) o.name over
     own_fields =
         let houses = subst (λ h. Houses p (home_holder h) (holder_of p fr.method)) it.home at_hand.good.stack.1.holder in
-        waits_unclaimed p wired.parentless t s.cells fr o it.from it.home sh' ls houses apart at_hand.good.stack.4 (λ f. at_alike 8 Perhaps f)
+        waits_in_view p fr o it.from it.home sh' ls houses apart (λ f. at_alike 8 Perhaps f)
+
+    -- it counts as it does for the method that cancels
+    counts : CountsAs p (home_holder fr.home) fr.view (holder_of p m)
+    counts = record {
+      some = at_hand.good.stack.1.view.some;
+      between = λ v e.
+          let same : class.0 ≡ v = let both = sym class.1 ∙ e in cc in
+          (between.0, between.1, subst (λ x. descends p between.0 x ≡ true) same between.2, family.class, works, subst (λ x. descends p x family.class ≡ true) same family.above);
+      fields = λ f t is. ap (λ v. field_thing p (view_holder v) f) class.1 ∙ wired.family.inherits class.0 family.class f t family.above (ap (λ h. field_thing p h f) (sym works) ∙ is);
+    }
 
     fits : (q : Place) → Fits p (seen cs') (held cs' q) (claim p (declared p cs') (Method fr' begins.0 ∷ over) q)
     fits (Register f i) = go (length (tasks_of over) == f) refl (base (Register f i))
@@ -248,9 +258,9 @@ module _ (p : Image) (t : Typing) (wired : IsWired p) (typed : IsTyped p t) (c :
         subst (λ h. Fits p (seen cs') (held cs' (Field n f)) (home_claim p (holder_of p m) h begins.0 n f (claim p (declared p cs') over (Field n f)))) (sym it.home)
         (go (o.name == n) refl (field_thing p (holder_of p m) f) refl)
       where
-        declares : claim p (declared p cs') over (Field o.name f) ≡ filled (field_thing p (thing_holder o.thing) f) Perhaps
-        declares =
-            claim_unclaimed p (declared p cs') over o.name f (λ f. filled (field_thing p (thing_holder o.thing) f) Perhaps) own_fields
+        declares : is_some (field_thing p (view_holder fr.view) f) ≡ true → claim p (declared p cs') over (Field o.name f) ≡ filled (field_thing p (thing_holder o.thing) f) Perhaps
+        declares some =
+            claim_in_view p (declared p cs') over o.name f (λ f. filled (field_thing p (thing_holder o.thing) f) Perhaps) fr.view own_fields some
             (ap (λ y. declared_field p y f) (same_cells.named_so o.name ∙ it.lives))
 
         go :
@@ -259,7 +269,7 @@ module _ (p : Image) (t : Typing) (wired : IsWired p) (typed : IsTyped p t) (c :
         go true e (Some y) is =
             subst (λ n. Fits p (seen cs') (held cs' (Field n f)) (filled (Some y) (field begins.0 f))) (eqb-true o.name n e)
             (subst (λ x. Fits p (seen cs') (held cs' (Field o.name f)) (filled (Some y) x)) (sym (unfilled f))
-            (subst (λ z. Fits p (seen cs') (held cs' (Field o.name f)) (filled z Perhaps)) (own_holder.fields f y is) (subst (λ k. Fits p (seen cs') (held cs' (Field o.name f)) k) declares (base (Field o.name f)))))
+            (subst (λ z. Fits p (seen cs') (held cs' (Field o.name f)) (filled z Perhaps)) (own_holder.fields f y is) (subst (λ k. Fits p (seen cs') (held cs' (Field o.name f)) k) (declares (ap is_some (counts.fields f y is))) (base (Field o.name f)))))
         go true e None is = base (Field n f)
         go false e own is = base (Field n f)
     fits (Elsewhere Root) = subst (λ h. Fits p (seen cs') (held cs' (Elsewhere Root)) (root_claim p h begins.0 (claim p (declared p cs') over (Elsewhere Root)))) (sym it.home) (base (Elsewhere Root))
@@ -340,17 +350,8 @@ module _ (p : Image) (t : Typing) (wired : IsWired p) (typed : IsTyped p t) (c :
       ready = ap is_ready_kind (claim_from p (λ r. Null) fr o it.from sh' ls it.home apart.0 holds.below) ∙ holds.ready;
     })
 
-    apart_over : IsApart p fr.home over
-    apart_over = subst (λ h. IsApart p h over) (sym it.home) (apart.0, (subst (λ h. NotIn o.name h) (sym it.home) apart.0, apart.1), own_fields, inl (ap (λ h. works_at o.name h) it.home ∙ eq-eqb o.name o.name refl))
-
-    -- it counts as it does for the method that cancels
-    counts : CountsAs p (home_holder fr.home) fr.view (holder_of p m)
-    counts = record {
-      some = at_hand.good.stack.1.view.some;
-      between = λ v e.
-          let same : class.0 ≡ v = let both = sym class.1 ∙ e in cc in
-          (between.0, between.1, subst (λ x. descends p between.0 x ≡ true) same between.2, family.class, works, subst (λ x. descends p x family.class ≡ true) same family.above);
-    }
+    apart_over : IsApart p fr.view m fr.home over
+    apart_over = subst (λ h. IsApart p fr.view m h over) (sym it.home) (apart.0, (subst (λ h. NotIn o.name h) (sym it.home) apart.0, apart.1), (own_fields, tt), inl (ap (λ h. works_at o.name h) it.home ∙ eq-eqb o.name o.name refl))
 
     caller : Stack p t cs' (Returns m fr.home) over
     caller = (

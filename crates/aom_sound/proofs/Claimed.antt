@@ -24,7 +24,7 @@ use Rattle.aom_sound.proofs.Maps.{at-put_at, held_moved, named_moved, requested_
 use Rattle.aom_sound.specs.Claims.{is_of_root, Dispatching, Dying, Form, Layer, Mark, Method, Unwinding, claim, declared, declared_field, entries_of, entry_claim, home_claim, items_of, layer_claim, objects, own_field, root_claim, tasks_of, Ending, by_close, by_stage, delivered, serves}
 use Rattle.aom_sound.specs.Places.{Service, Cell, Elsewhere, Entry, Field, Going, Object, Place, Register, Root, Sight, changed, held, moved, named, same_place, Session, In_service, Queued, service_of}
 use Rattle.aom_sound.specs.State.{AtRoot, Dispatch, Frame, Home, Inside, Seat, Static, field_place, home_holder, thing_holder, Of_server, Parts, Serves, Service_left}
-use Rattle.aom_sound.specs.WellTyped.{Back, Caught, Fits, Gone, HasAge, Holds, IsBelow, IsHoused, IsNoFieldOf, Leaves, NoneFrom, NoneIn, NotFrom, NotIn, Returns, Stack, Unclaimed, WordFits, by_field, seat_of, Now}
+use Rattle.aom_sound.specs.WellTyped.{view_holder, InView, Back, Caught, Fits, Gone, HasAge, Holds, IsBelow, IsHoused, IsNoFieldOf, Leaves, NoneFrom, NoneIn, NotFrom, NotIn, Returns, Stack, Unclaimed, WordFits, by_field, seat_of, Now}
 use mathlib.Core.Path.{fun_ext}
 
 -- a frame counts for the claims by its home and its method alone
@@ -525,6 +525,12 @@ claim_register_above p cs (Unwinding code es ∷ ls) f i le = claim_register_abo
 -- of a cell of which the layers claim nothing more
 pub claim_unclaimed : (p : Image) (d : Place → Kind) (ls : List Layer) (n f : ℕ) (k : ℕ → Kind) → Unclaimed p k n ls → d (Field n f) ≡ k f → claim p d ls (Field n f) ≡ k f
 claim_unclaimed p d ls n f k u e = claim_rel (λ x y. x ≡ y) (λ k. refl) p d (by_field k) ls (Field n f) e ∙ u f
+
+-- of a field that the cell has as what it counts as
+pub claim_in_view :
+    (p : Image) (d : Place → Kind) (ls : List Layer) (n f : ℕ) (k : ℕ → Kind) (view : Option ℕ) → InView p view k n ls → is_some (field_thing p (view_holder view) f) ≡ true → d (Field n f) ≡ k f →
+    claim p d ls (Field n f) ≡ k f
+claim_in_view p d ls n f k view u some e = claim_rel (λ x y. x ≡ y) (λ k. refl) p d (by_field k) ls (Field n f) e ∙ u f some
 
 pub claim_going_above : (p : Image) (cs : List Cell) (ls : List Layer) (k : ℕ) → length (tasks_of ls) ≤ k → claim p (declared p cs) ls (Going k) ≡ Null
 claim_going_above p cs [] k le = refl

@@ -14,7 +14,7 @@ use Rattle.aom_shape.specs.Kinds.{field, filled, is_object_or_null, is_ready_kin
 use Rattle.aom_shape.specs.Order.{SaysNoMore, Weaker, WeakerFilling, alike, alike_filling}
 use Rattle.aom_shape.specs.Shape.{Shape}
 use Rattle.aom_shape.specs.Tables.{at}
-use Rattle.aom_shape.specs.Things.{field_thing, holder_by, holder_of}
+use Rattle.aom_shape.specs.Things.{Member, field_thing, holder_by, holder_of}
 use Rattle.aom_rules.specs.Typing.{IsTyped, Typing}
 use Rattle.aom_shape.specs.Arguments.{after_of, argument_kind, before_of, entry_fields, entry_shape}
 use Rattle.aom_shape.specs.declared.kind.Age.TheVariants.{Ready}
@@ -38,8 +38,8 @@ use Rattle.aom_sound.specs.Laws.{IsWired}
 use Rattle.aom_sound.specs.Effects.{applied, deletes}
 use Rattle.aom_sound.specs.Objects.{is_no_message}
 use Rattle.aom_sound.specs.Places.{In_service, Queued, service_of, Cell, Elsewhere, Entry, Field, Going, Object, Place, Register, Root, Sight, Tidy, changed, held, moved, named, requested, same_place, seen, Session}
-use Rattle.aom_sound.specs.State.{Dispatch, Of_server, Parts, Closing, Destroy, AtRoot, Choice, Frame, Home, Inside, Run, Seat, State, Static, frame_of, next, set_word, thing_holder, word}
-use Rattle.aom_sound.specs.WellTyped.{SitsFirst, seat_of, IsOverDying, Now, AllSit, NoSeatAt, NoSeatIn, SitsIn, SomeSits, AllUndo, Back, Caught, Fits, Gone, Good, Houses, IsBelow, IsHoused, IsNoFieldOf, IsOfFamily, Leaves, NoneIn, NotIn, Returns, SomeIn, Stack, Unclaimed, WellTyped, WordFits, WorksOn}
+use Rattle.aom_sound.specs.State.{Dispatch, Of_server, Parts, Closing, Destroy, AtRoot, Choice, Frame, Home, Inside, Run, Seat, State, Static, next, set_word, thing_holder, word}
+use Rattle.aom_sound.specs.WellTyped.{view_holder, SitsFirst, seat_of, IsOverDying, Now, AllSit, NoSeatAt, NoSeatIn, SitsIn, SomeSits, AllUndo, Back, Caught, Fits, Gone, Good, Houses, IsBelow, IsHoused, IsNoFieldOf, IsOfFamily, Leaves, NoneIn, NotIn, Returns, SomeIn, Stack, Unclaimed, WellTyped, WordFits, WorksOn}
 use Rattle.aom_roles.specs.Shapes.{kind_of}
 use Rattle.aom_sound.proofs.Suiting.{all_moved, known_plain, same_object, suits_less, unworked_rests}
 use Rattle.aom_sound.specs.Requests.{AllSuit, Known, Suits, Unworked, known_at, resting_in, states_claim, thing_kind, works_at}
@@ -343,12 +343,13 @@ module _ (p : Image) (t : Typing) (linked : IsWired p) (typed : IsTyped p t) (cs
         let leads = typed.entry m d.there in
         let w = leads.2 in
         let fr = destructor_frame p m o (length (tasks_of ls)) height in
+        let works : holder_of p m ≡ Member d.family.2.class = ap (λ r. holder_by r (method_class p m)) d.role ∙ ap (λ k. holder_by (Some Destruct) k) d.family.2.of in
         let good : Good p t cs (Method fr leads.0 ∷ Dying o ∷ ls) = record {
           stack = (
             leads.1,
-            record { words = λ i. subst (λ k. WordFits None k) (sym (unset_only (subst (λ k. Weaker (register leads.0 i) k) (entry_registers p m d.arguments i) (w.registers i)))) tt; holder = d.holder; view = counts_line p o.thing d.family.0 m d.family.1 d.family.2 (ap (λ r. holder_by r (method_class p m)) d.role ∙ ap (λ k. holder_by (Some Destruct) k) d.family.2.of); height = high; alone = λ e. absurd (true≢false (sym e ∙ ap is_cancel d.role)); message = (λ e. absurd (true≢false (sym e ∙ ap is_service d.role)), λ served. absurd served) },
+            record { words = λ i. subst (λ k. WordFits None k) (sym (unset_only (subst (λ k. Weaker (register leads.0 i) k) (entry_registers p m d.arguments i) (w.registers i)))) tt; holder = d.holder; view = counts_line p o.thing d.family.0 m d.family.1 d.family.2 works; height = high; alone = λ e. absurd (true≢false (sym e ∙ ap is_cancel d.role)); message = (λ e. absurd (true≢false (sym e ∙ ap is_service d.role)), λ served. absurd served) },
             record { there = there; lives = lives; below = omega arith; ready = ap (λ b. is_ready_kind (cond b (Own o.thing Ready) (claim p (λ x. Null) ls (Going (length (tasks_of ls)))))) (eq-eqb (length (tasks_of ls)) _ refl) },
-            (tt, apart.none_in, apart.unclaimed, apart.unworked),
+            (tt, apart.none_in, (λ f some. apart.unclaimed f, ap view_holder d.family.2.of ∙ sym works), apart.unworked),
             ((lives, there), (d.stays, refl, ap is_destruct d.role, d.gives, d.ends, d.quiet, d.family.0, d.family.1, d.family.2), stack),
           );
           fits = clothed m height leads.0 d others w;

@@ -1,5 +1,4 @@
 -- A destructor returns: the next of its line begins, or its cell goes. It leaves nothing in the fields past those of its class's parent, and the next is of a class that has all the parent's.
-use Rattle.aom_roles.specs.Shapes.{kind_of}
 use Rattle.aom_shape.specs.declared.kind.Age.TheVariants.{Ready}
 use Rattle.aom_image.specs.declared.method.Role.TheVariants.{Destruct}
 use Rattle.aom_image.specs.declared.class.ClassKind.{ClassKind}
@@ -15,10 +14,10 @@ use Rattle.std.proofs.Common.{leb-true, eq-eqb, [], Bool, IsTrue, List, None, Op
 use Rattle.std.proofs.lemmas.Bool.{and_parts, eqb-true}
 use Rattle.std.specs.Prelude.{slice_get, nat_le}
 use Rattle.aom_image.specs.Image.{Image}
-use Rattle.aom_image.specs.Views.{method_class, fields_of, has, method_role}
+use Rattle.aom_image.specs.Views.{fields_of, has, method_role}
 use Rattle.aom_instructions.specs.declared.instr.Instr.TheVariants.{Return}
 use Rattle.aom_image.specs.declared.method.Thing.{Thing}
-use Rattle.aom_image.specs.declared.method.Thing.TheVariants.{Message, Object as An_object_of}
+use Rattle.aom_image.specs.declared.method.Thing.TheVariants.{Object as An_object_of}
 use Rattle.aom_shape.specs.Kinds.{all_empty, field, filled, is_empty, no_entry, none_owns, register}
 use Rattle.aom_rules.specs.Calls.{parent_by, empty_past, fields_above, fields_done, is_destruct, result_moved}
 use Rattle.aom_rules.specs.Requests.{is_service, is_cancel}
@@ -30,11 +29,10 @@ use Rattle.aom_shape.specs.Things.{holder_by, Member, field_thing, holder_of}
 use Rattle.aom_rules.specs.Typing.{IsTyped, Typing}
 use Rattle.aom_shape.specs.declared.kind.Filling.{Filling}
 use Rattle.aom_shape.specs.declared.kind.Filling.TheVariants.{Full, Empty, Perhaps}
-use Rattle.aom_shape.specs.declared.kind.Kind.TheVariants.{Maybe, Own, Null}
+use Rattle.aom_shape.specs.declared.kind.Kind.TheVariants.{Own, Null}
 use Rattle.aom_sound.proofs.Claimed.{claim_unclaimed, claim_register_above}
 use Rattle.aom_sound.proofs.Finishing.{perhaps_fits, ended_plainly, no_entries, none_left, none_owns_at, return_needs, returnable, same_items}
-use Rattle.aom_sound.proofs.Emptied.{emptied_by}
-use Rattle.aom_sound.proofs.Going.{past_by, nothing_left}
+use Rattle.aom_sound.proofs.Going.{past_by}
 use Rattle.aom_sound.proofs.Straight.{At, Law, fits_unowning}
 use Rattle.aom_sound.specs.Calls.{needs_destroyed, result_needs}
 use Rattle.aom_sound.specs.Claims.{forms, declared_field, serves, Dying, Layer, claim, declared, entry_claim, home_claim, items_of, own_field, root_claim, tasks_of}

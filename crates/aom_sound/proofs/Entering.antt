@@ -1,5 +1,5 @@
 -- A method enters over its dispatch, on the object that is dispatched.
-use Rattle.std.proofs.Common.{inr, Bool, List, None, Option, Some, [], ap, cond, false, length, refl, subst, sym, true, ℕ, ℤ, ◌==◌, ◌∙◌, ◌∷◌, ◌≡◌, arith}
+use Rattle.std.proofs.Common.{inr, Bool, List, None, Option, Some, [], ap, cond, false, length, suc, refl, subst, sym, true, ℕ, ℤ, ◌==◌, ◌∙◌, ◌∷◌, ◌≡◌, arith}
 use Rattle.std.proofs.lemmas.Bool.{eqb-true, true≢false}
 use Rattle.std.specs.Prelude.{IsSome}
 use Rattle.aom_image.specs.Image.{Image}
@@ -25,11 +25,11 @@ use Rattle.aom_sound.proofs.Destroying.{perhaps_only}
 use Rattle.aom_sound.proofs.Straight.{fits_unowning}
 use Rattle.aom_sound.proofs.Suiting.{known_plain, same_object, suits_less}
 use Rattle.aom_sound.proofs.Housing.{houses_counts}
-use Rattle.aom_sound.specs.Claims.{own_field, Layer, Method, claim, declared, declared_field, entry_claim, forms, items_of, tasks_of, delivered, serves}
+use Rattle.aom_sound.specs.Claims.{Dying, own_field, Layer, Method, claim, declared, declared_field, entry_claim, forms, items_of, tasks_of, delivered, serves}
 use Rattle.aom_sound.specs.Places.{In_service, Cell, Elsewhere, Entry, Field, Going, Object, Place, Register, Root, Tidy, held, named, requested, seen}
 use Rattle.aom_sound.specs.Requests.{AllSuit, Joins, Known, Suits, known_at, resting_in, rests_in, states_claim, thing_kind}
-use Rattle.aom_sound.specs.State.{Frame, Inside, Run, Seat, State, frame_of, thing_holder}
-use Rattle.aom_sound.specs.WellTyped.{IsServed, AllSit, AllUndo, Fits, Good, Holds, Houses, IsApart, IsBelow, IsNoFieldOf, NoSeatIn, NoneIn, Returns, SitsIn, SomeIn, SomeSits, Stack, WellTyped, WordFits, by_field, past_going}
+use Rattle.aom_sound.specs.State.{thing_view, Frame, Inside, Run, Seat, State, frame_of, thing_holder}
+use Rattle.aom_sound.specs.WellTyped.{IsWhole, IsServed, AllSit, AllUndo, Fits, Good, Holds, Houses, IsApart, IsBelow, IsNoFieldOf, NoSeatIn, NoneIn, Returns, SitsIn, SomeIn, SomeSits, Stack, WellTyped, WordFits, by_field, past_going}
 
 -- what it takes: over these layers nothing is claimed but the message that is served, and the method begins with its object as it is
 pub record Entering (p : Image) (t : Typing) (cs : List Cell) (x : Seat) (above : List Seat) (over : List Layer) (m : ℕ) (ws : List (Option ℤ)) : Type 0 where
@@ -64,6 +64,11 @@ pub no_fields : (cs : List Cell) (n : ℕ) (xs : List Seat) → (SomeSits n xs �
 no_fields cs n [] none s = tt
 no_fields cs n (x ∷ xs) none s = (no_field n x.place xs (λ h. none (inr h)) s.0.2, no_fields cs n xs (λ h. none (inr h)) s.1)
 
+-- what stands over no cell that goes
+whole_past : (p : Image) (view : Option ℕ) (m : ℕ) (ls : List Layer) → past_going ls ≡ ls → IsWhole p view m ls
+whole_past p view m (Dying o ∷ ls) e = let longer : length ls ≡ suc (length ls) = ap length e in absurd (omega arith)
+whole_past p view m _ e = tt
+
 module _ (p : Image) (t : Typing) (typed : IsTyped p t) (cs : List Cell) (x : Seat) (above : List Seat) (over : List Layer) (m : ℕ) (ws : List (Option ℤ)) (e : Entering p t cs x above over m ws) where
   abbrev o : Object
   o = x.object
@@ -77,11 +82,14 @@ module _ (p : Image) (t : Typing) (typed : IsTyped p t) (cs : List Cell) (x : Se
       below : (q : Place) → SitsIn q above → IsBelow q over
       below x h = grind arith
 
-  apart : IsApart p (Inside x.object x.place) over
+  apart : IsApart p (thing_view x.object.thing) m (Inside x.object x.place) over
   apart = (
     own_place,
     e.none_in x.object.name (own_place, no_fields cs x.object.name above e.sits.0.3 e.sits.1),
-    λ f. ap (λ l. claim p (by_field (λ f. filled (field_thing p (thing_holder x.object.thing) f) Perhaps)) l (Field x.object.name f)) e.past ∙ e.claims (by_field (λ f. filled (field_thing p (thing_holder x.object.thing) f) Perhaps)) (Field x.object.name f),
+    (
+      λ f some. ap (λ l. claim p (by_field (λ f. filled (field_thing p (thing_holder x.object.thing) f) Perhaps)) l (Field x.object.name f)) e.past ∙ e.claims (by_field (λ f. filled (field_thing p (thing_holder x.object.thing) f) Perhaps)) (Field x.object.name f),
+      whole_past p (thing_view x.object.thing) m over e.past,
+    ),
     e.joins,
   )
     where

@@ -25,7 +25,7 @@ use Rattle.aom_shape.specs.declared.kind.Filling.{Filling}
 use Rattle.aom_shape.specs.declared.kind.Filling.TheVariants.{Empty, Full, Perhaps}
 use Rattle.aom_shape.specs.declared.kind.Kind.{Kind}
 use Rattle.aom_shape.specs.declared.kind.Kind.TheVariants.{Maybe, Null, Own, Unset}
-use Rattle.aom_sound.proofs.Claimed.{claim_register_above, claim_unclaimed}
+use Rattle.aom_sound.proofs.Claimed.{claim_in_view, claim_register_above}
 use Rattle.aom_sound.proofs.Destroying.{eqb_comm}
 use Rattle.aom_sound.proofs.Items.{length_forms}
 use Rattle.aom_sound.proofs.Maps.{at-put_at, front_free}
@@ -36,7 +36,7 @@ use Rattle.aom_sound.specs.Moves.{does, needs}
 use Rattle.aom_sound.specs.Objects.{is_thing}
 use Rattle.aom_sound.specs.Places.{In_service, Cell, Elsewhere, Entry, Field, Object, Place, Register, Root, Sight, held, requested, same_place, seen}
 use Rattle.aom_sound.specs.State.{home_holder, An_object, AtRoot, Choice, Frame, Home, Inside, Item, State, Static, thing_holder}
-use Rattle.aom_sound.specs.WellTyped.{Fits, Houses, IsApart, IsHoused, NotAtRoot, RootUnclaimed, Unclaimed, WellTyped, past_going}
+use Rattle.aom_sound.specs.WellTyped.{InView, CountsAs, Fits, Houses, IsApart, IsHoused, NotAtRoot, RootUnclaimed, WellTyped, past_going}
 use Rattle.aom_rules.specs.Requests.{is_cancel, unissued}
 use Rattle.aom_shape.specs.Arguments.{after_of}
 use Rattle.aom_sound.specs.Enlisted.{cancelled, hangs, on_request, own_request, pending, rerequested, status_of}
@@ -118,24 +118,24 @@ claim_root p d (Dispatching x seats ∷ ls) u = ap (λ b. cond b Null (claim p d
 
 -- a method ends
 pub ended :
-    (p : Image) (cs : List Cell) (fr : Frame) (sh : Shape) (ls : List Layer) → Houses p (home_holder fr.home) (holder_of p fr.method) → IsHoused p cs ls fr.home → IsApart p fr.home ls → past_going ls ≡ ls → no_entry sh.entries ≡ true →
+    (p : Image) (cs : List Cell) (fr : Frame) (sh : Shape) (ls : List Layer) → Houses p (home_holder fr.home) (holder_of p fr.method) → CountsAs p (home_holder fr.home) fr.view (holder_of p fr.method) → IsHoused p cs ls fr.home → IsApart p fr.view fr.method fr.home ls → past_going ls ≡ ls → no_entry sh.entries ≡ true →
     none_owns sh.registers ≡ true → (serves p fr.method ≡ true → claim p (declared p cs) ls (Elsewhere In_service) ≡ delivered sh.delivery) → (r : Place) (h : Sight) (o : Option Object) →
     Fits p h o (claim p (declared p cs) (Method fr sh ∷ ls) r) → Fits p h o (claim p (declared p cs) ls r)
-ended p cs fr sh ls houses housed apart at_top e n message (Register f i) h o fits = go (length (tasks_of ls) == f) refl fits
+ended p cs fr sh ls houses counts housed apart at_top e n message (Register f i) h o fits = go (length (tasks_of ls) == f) refl fits
   where
     go : (b : Bool) → (length (tasks_of ls) == f) ≡ b → Fits p h o (cond b (register sh i) (claim p (declared p cs) ls (Register f i))) → Fits p h o (claim p (declared p cs) ls (Register f i))
     go true e fits =
         subst (λ k. Fits p h o k) (sym (claim_register_above p cs ls f i (omega (arith, eqb-true _ _ e))))
         (subst (λ x. Fits p h x Null) (sym (fits_unowning p h o (register sh i) (none_owns_at sh.registers i n) fits)) tt)
     go false e fits = fits
-ended p cs fr sh ls houses housed apart at_top e n message (Entry k) h o fits = subst (λ es. Fits p h o (entry_claim es (items_of ls) k (claim p (declared p cs) ls (Entry k)))) (no_entries sh.entries e) fits
-ended p cs fr sh ls houses housed apart at_top e n message (Field m f) h o fits = go fr.home houses housed apart fits
+ended p cs fr sh ls houses counts housed apart at_top e n message (Entry k) h o fits = subst (λ es. Fits p h o (entry_claim es (items_of ls) k (claim p (declared p cs) ls (Entry k)))) (no_entries sh.entries e) fits
+ended p cs fr sh ls houses counts housed apart at_top e n message (Field m f) h o fits = go fr.home houses housed apart fits
   where
     own : Option Thing
     own = field_thing p (holder_of p fr.method) f
 
     go :
-        (home : Home) → Houses p (home_holder home) (holder_of p fr.method) → IsHoused p cs ls home → IsApart p home ls →
+        (home : Home) → Houses p (home_holder home) (holder_of p fr.method) → IsHoused p cs ls home → IsApart p fr.view fr.method home ls →
         Fits p h o (home_claim p (holder_of p fr.method) home sh m f (claim p (declared p cs) ls (Field m f))) → Fits p h o (claim p (declared p cs) ls (Field m f))
     go Static houses hs ap' fits = fits
     go AtRoot houses hs ap' fits = fits
@@ -148,23 +148,23 @@ ended p cs fr sh ls houses housed apart at_top e n message (Field m f) h o fits 
         cases true e None is fits = fits
         cases true e (Some y) is fits =
             let same = eqb-true x.name m e in
-            let unclaimed = subst (λ l. Unclaimed p (λ f. filled (field_thing p (thing_holder x.thing) f) Perhaps) x.name l) at_top ap'.2 in
-            let claims = claim_unclaimed p (declared p cs) ls x.name f (λ f. filled (field_thing p (thing_holder x.thing) f) Perhaps) unclaimed (ap (λ y. declared_field p y f) hs.lives) in
+            let viewed = subst (λ l. InView p fr.view (λ f. filled (field_thing p (thing_holder x.thing) f) Perhaps) x.name l) at_top ap'.2.0 in
+            let claims = claim_in_view p (declared p cs) ls x.name f (λ f. filled (field_thing p (thing_holder x.thing) f) Perhaps) fr.view viewed (ap is_some (counts.fields f y is)) (ap (λ y. declared_field p y f) hs.lives) in
             subst (λ k. Fits p h o k) (sym (ap (λ z. filled z Perhaps) (houses.fields f y is)) ∙ sym claims ∙ ap (λ y. claim p (declared p cs) ls (Field y f)) same) (perhaps_fits p h o (Some y) (field sh f) fits)
-ended p cs fr sh ls houses housed apart at_top e n message (Elsewhere Root) h o fits = go fr.home apart fits
+ended p cs fr sh ls houses counts housed apart at_top e n message (Elsewhere Root) h o fits = go fr.home apart fits
   where
-    go : (home : Home) → IsApart p home ls → Fits p h o (root_claim p home sh (claim p (declared p cs) ls (Elsewhere Root))) → Fits p h o (claim p (declared p cs) ls (Elsewhere Root))
+    go : (home : Home) → IsApart p fr.view fr.method home ls → Fits p h o (root_claim p home sh (claim p (declared p cs) ls (Elsewhere Root))) → Fits p h o (claim p (declared p cs) ls (Elsewhere Root))
     go Static ap' fits = fits
     go AtRoot ap' fits = subst (λ k. Fits p h o k) (sym (claim_root p (declared p cs) ls ap'.0)) (perhaps_fits p h o (field_thing p Program 0) (field sh 0) fits)
     go (Inside x from) ap' fits = fits
-ended p cs fr sh ls houses housed apart at_top e n message (Elsewhere In_service) h o fits = go (serves p fr.method) refl fits
+ended p cs fr sh ls houses counts housed apart at_top e n message (Elsewhere In_service) h o fits = go (serves p fr.method) refl fits
   where
     go :
         (b : Bool) → serves p fr.method ≡ b → Fits p h o (cond b (delivered sh.delivery) (claim p (declared p cs) ls (Elsewhere In_service))) →
         Fits p h o (claim p (declared p cs) ls (Elsewhere In_service))
     go true serving fits = subst (λ k. Fits p h o k) (sym (message serving)) fits
     go false plain fits = fits
-ended p cs fr sh ls houses housed apart at_top e n message _ h o fits = fits
+ended p cs fr sh ls houses counts housed apart at_top e n message _ h o fits = fits
 
 -- what the rule says of a return
 pub record Returnable (p : Image) (fr : Frame) (sh : Shape) (a : ℕ) : Type 0 where

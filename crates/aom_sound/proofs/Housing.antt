@@ -15,7 +15,7 @@ use Rattle.aom_roles.specs.Shapes.{kind_of}
 use Rattle.aom_sound.specs.Laws.{IsFamily}
 use Rattle.aom_sound.specs.Servers.{session_class}
 use Rattle.aom_sound.specs.State.{AtRoot, Home, Inside, Static, home_holder, home_view, thing_holder, thing_view}
-use Rattle.aom_sound.specs.WellTyped.{CountsAs, Houses, IsOfFamily}
+use Rattle.aom_sound.specs.WellTyped.{view_holder, CountsAs, Houses, IsOfFamily}
 
 pub houses_itself : (p : Image) (h : Holder) → Houses p h h
 houses_itself p h = record { fields = λ f t e. e; words = omega arith; member = λ d e. (d, e, itself p d, refl); works = λ c e. (c, e) }
@@ -40,8 +40,8 @@ houses_role p family x c m thing of member =
 
 -- what a place owns counts as its own class
 pub houses_counts : (p : Image) (h : Home) (k : Holder) → Houses p (home_holder h) k → CountsAs p (home_holder h) (home_view h) k
-houses_counts p Static k houses = record { some = λ c e. cc; between = λ v e. cc }
-houses_counts p AtRoot k houses = record { some = λ c e. cc; between = λ v e. cc }
+houses_counts p Static k houses = record { some = λ c e. cc; between = λ v e. cc; fields = λ f t is. let e : None ≡ Some t = houses.fields f t is in cc }
+houses_counts p AtRoot k houses = record { some = λ c e. cc; between = λ v e. cc; fields = houses.fields }
 houses_counts p (Inside o from) k houses = of_thing o.thing houses
   where
     of_thing : (x : Thing) → Houses p (thing_holder x) k → CountsAs p (thing_holder x) (thing_view x) k
@@ -52,8 +52,9 @@ houses_counts p (Inside o from) k houses = of_thing o.thing houses
         let below : descends p c works.0 ≡ true = subst (λ x. descends p x works.0 ≡ true) same member.2 in record {
           some = λ x e. (c, refl);
           between = λ v e. let is : c ≡ v = cc in (c, refl, subst (λ x. descends p c x ≡ true) is (itself p c), works.0, works.1, subst (λ x. descends p x works.0 ≡ true) is below);
+          fields = houses.fields;
         }
-    of_thing Message houses = record { some = λ c e. cc; between = λ v e. cc }
+    of_thing Message houses = record { some = λ c e. cc; between = λ v e. cc; fields = λ f t is. let e : None ≡ Some t = houses.fields f t is in cc }
 
 pub counts_same : (p : Image) (h : Home) (k : Holder) → home_holder h ≡ k → CountsAs p (home_holder h) (home_view h) k
 counts_same p h k e = houses_counts p h k (houses_same p (home_holder h) k e)
@@ -66,6 +67,7 @@ counts_line p x c m thing of works = record {
   between = λ v e.
       let is : of.class ≡ v = let both = sym of.of ∙ e in cc in
       (c, ap thing_holder thing, subst (λ y. descends p c y ≡ true) is of.above, of.class, works, subst (λ y. descends p y of.class ≡ true) is (itself p of.class));
+  fields = λ f t is. ap (λ v. field_thing p (view_holder v) f) of.of ∙ ap (λ h. field_thing p h f) (sym works) ∙ is;
 }
 
 -- what destructs works on an object

@@ -25,7 +25,7 @@ use Rattle.aom_shape.specs.declared.kind.Delivery.TheVariants.{Here}
 use Rattle.aom_sound.specs.Cleanup.{above_trap_is_free, has_trap, is_negative, leave_needs, to_trap}
 use Rattle.aom_sound.specs.Places.{In_service, Cell, Elsewhere, Entry, Field, Object, Place, Register, Request, Root, Sight, held, named, requested, seen}
 use Rattle.aom_sound.specs.State.{home_holder, AtRoot, Choice, Dispatch, Frame, Home, Inside, Run, State, Static, Unwind, next}
-use Rattle.aom_sound.specs.WellTyped.{HasMessage, Houses, AllUndo, EndsDispatch, Fits, IsApart, IsHoused, Leaves, Returns, Stack, WellTyped, past_going}
+use Rattle.aom_sound.specs.WellTyped.{CountsAs, HasMessage, Houses, AllUndo, EndsDispatch, Fits, IsApart, IsHoused, Leaves, Returns, Stack, WellTyped, past_going}
 use Rattle.aom_sound.specs.Effects.{Leaves, Same, applied, updates}
 use Rattle.aom_sound.specs.Words.{read}
 use Rattle.aom_rules.specs.Requests.{is_cancel, unissued}
@@ -88,10 +88,10 @@ not_going p t cs _ m home e s = refl
 
 -- a method ends by a leave, and its entries are still there
 ended_by_leave :
-    (p : Image) (cs : List Cell) (fr : Frame) (sh : Shape) (ls : List Layer) (code : ℤ) → Houses p (home_holder fr.home) (holder_of p fr.method) → IsHoused p cs ls fr.home → IsApart p fr.home ls → past_going ls ≡ ls →
+    (p : Image) (cs : List Cell) (fr : Frame) (sh : Shape) (ls : List Layer) (code : ℤ) → Houses p (home_holder fr.home) (holder_of p fr.method) → CountsAs p (home_holder fr.home) fr.view (holder_of p fr.method) → IsHoused p cs ls fr.home → IsApart p fr.view fr.method fr.home ls → past_going ls ≡ ls →
     none_owns sh.registers ≡ true → (serves p fr.method ≡ true → sh.delivery ≡ Here) → HasMessage p fr ls → (r : Place) (h : Sight) (o : Option Object) →
     Fits p h o (claim p (declared p cs) (Method fr sh ∷ ls) r) → Fits p h o (claim p (declared p cs) (Unwinding code sh.entries ∷ ls) r)
-ended_by_leave p cs fr sh ls code houses housed apart at_top n here served r h o fits = go r fits
+ended_by_leave p cs fr sh ls code houses counts housed apart at_top n here served r h o fits = go r fits
   where
     -- the message is where it was
     message : serves p fr.method ≡ true → claim p (declared p cs) ls (Elsewhere In_service) ≡ delivered sh.delivery
@@ -111,12 +111,12 @@ ended_by_leave p cs fr sh ls code houses housed apart at_top n here served r h o
     same_root (Inside x from) k = refl
 
     go : (r : Place) → Fits p h o (claim p (declared p cs) (Method fr sh ∷ ls) r) → Fits p h o (claim p (declared p cs) (Unwinding code sh.entries ∷ ls) r)
-    go (Register f i) fits = ended p cs fr bare ls houses housed apart at_top refl n message (Register f i) h o fits
+    go (Register f i) fits = ended p cs fr bare ls houses counts housed apart at_top refl n message (Register f i) h o fits
     go (Entry k) fits = fits
-    go (Field m f) fits = ended p cs fr bare ls houses housed apart at_top refl n message (Field m f) h o (subst (λ k. Fits p h o k) (same_fields fr.home m f (claim p (declared p cs) ls (Field m f))) fits)
+    go (Field m f) fits = ended p cs fr bare ls houses counts housed apart at_top refl n message (Field m f) h o (subst (λ k. Fits p h o k) (same_fields fr.home m f (claim p (declared p cs) ls (Field m f))) fits)
     go (Elsewhere Root) fits =
-        ended p cs fr bare ls houses housed apart at_top refl n message (Elsewhere Root) h o (subst (λ k. Fits p h o k) (same_root fr.home (claim p (declared p cs) ls (Elsewhere Root))) fits)
-    go (Elsewhere In_service) fits = ended p cs fr bare ls houses housed apart at_top refl n message (Elsewhere In_service) h o fits
+        ended p cs fr bare ls houses counts housed apart at_top refl n message (Elsewhere Root) h o (subst (λ k. Fits p h o k) (same_root fr.home (claim p (declared p cs) ls (Elsewhere Root))) fits)
+    go (Elsewhere In_service) fits = ended p cs fr bare ls houses counts housed apart at_top refl n message (Elsewhere In_service) h o fits
     go _ fits = fits
 
 -- all methods over the trap end so
@@ -129,7 +129,7 @@ all_ended p t cs code (Method fr sh ∷ ls) es m home e s r h o fits =
     let d = declared p cs in
     let one =
     layer_rel (λ x y. Fits p h o x → Fits p h o y) (λ k f. f) p (Unwinding code es) (length (tasks_of (Method fr sh ∷ ls))) (items_of (Method fr sh ∷ ls)) r _ _
-    (ended_by_leave p cs fr sh ls code s.1.holder s.2 s.3 (not_going p t cs ls _ _ may.0 s.4) may.1 may.3 s.1.message r h o) fits in
+    (ended_by_leave p cs fr sh ls code s.1.holder s.1.view s.2 s.3 (not_going p t cs ls _ _ may.0 s.4) may.1 may.3 s.1.message r h o) fits in
     let two = subst (λ k. Fits p h o k) (join_claims p d code es sh.entries ls r) one in
     subst (λ es. Fits p h o (claim p d (Unwinding code es ∷ from_trap ls) r)) (append_assoc es sh.entries (entries_over ls))
     (all_ended p t cs code ls (es ++ sh.entries) fr.method fr.home may.0 s.4 r h o two)
@@ -150,8 +150,8 @@ unworked_from_trap n [] u = u
 unworked_from_trap n (l ∷ ls) u = u
 
 -- the home of a method that works on the object
-on_it : (p : Image) (cs : List Cell) (ls : List Layer) (x : Object) (home : Home) → named cs x.name ≡ Some x → works_at x.name home ≡ true → IsHoused p cs ls home → IsApart p home ls → Joins p x ls
-on_it p cs ls x home lives w h a = grind arith
+on_it : (p : Image) (cs : List Cell) (ls : List Layer) (x : Object) (view : Option ℕ) (m : ℕ) (home : Home) → named cs x.name ≡ Some x → works_at x.name home ≡ true → IsHoused p cs ls home → IsApart p view m home ls → Joins p x ls
+on_it p cs ls x view m home lives w h a = grind arith
 
 -- what is below a frame that is not quiet is not quiet either
 still_loud : (a b : Bool) → (a ≡ true → b ≡ true) → b ≡ false → a ≡ false
@@ -207,7 +207,7 @@ module _ (p : Image) (t : Typing) (wired : IsWired p) (cs : List Cell) (x : Obje
     rested_left :
         (ls : List Layer) (m : ℕ) (home : Home) → leaves p m ≡ true → Stack p t cs (Returns m home) ls → Joins p x ls → Suits k (resting_in (rests_in p x)) r →
         Suits k (states_claim p x (from_trap ls)) r
-    rested_left (Method fr sh ∷ ls) m home e s (inl w) rests = rested_left ls fr.method fr.home (s.0.0 e).0 s.4 (on_it p cs ls x fr.home lives w s.2 s.3) rests
+    rested_left (Method fr sh ∷ ls) m home e s (inl w) rests = rested_left ls fr.method fr.home (s.0.0 e).0 s.4 (on_it p cs ls x fr.view fr.method fr.home lives w s.2 s.3) rests
     rested_left (Method fr sh ∷ ls) m home e s (inr u) rests = rests_there p x (from_trap ls) r (unworked_from_trap x.name ls u.1) rests
     rested_left (Mark gv ∷ Method fr sh ∷ ls) m home e s j rests =
         rejoins_trap p x gv fr sh ls (rests_in p x) r j (rests_unissued k) (known_loud fr sh ls s.1.0.4 (none_cancels ls fr.method fr.home s.1.0.4 s.1.4)) rests
@@ -218,10 +218,10 @@ module _ (p : Image) (t : Typing) (wired : IsWired p) (cs : List Cell) (x : Obje
 
     -- the object that a method which may leave works on
     works_left :
-        (fr : Frame) (sh : Shape) (ls : List Layer) → leaves p fr.method ≡ true → unissued sh.states ≡ true → IsHoused p cs ls fr.home → IsApart p fr.home ls →
+        (fr : Frame) (sh : Shape) (ls : List Layer) → leaves p fr.method ≡ true → unissued sh.states ≡ true → IsHoused p cs ls fr.home → IsApart p fr.view fr.method fr.home ls →
         Stack p t cs (Returns fr.method fr.home) ls → works_at x.name fr.home ≡ true → Suits k (known_at p fr sh.states (states_claim p x ls)) r → Suits k (states_claim p x (from_trap ls)) r
     works_left fr sh ls may u housed apart s w h =
-        rested_left ls fr.method fr.home may s (on_it p cs ls x fr.home lives w housed apart)
+        rested_left ls fr.method fr.home may s (on_it p cs ls x fr.view fr.method fr.home lives w housed apart)
         (suits_rests k sh.states r u (subst (λ n. Suits k n r) (known_leaving fr sh.states ls may s) h))
 
     suits_left : (ls : List Layer) (m : ℕ) (home : Home) → leaves p m ≡ true → Stack p t cs (Returns m home) ls → Suits k (states_claim p x ls) r → Suits k (states_claim p x (from_trap ls)) r
@@ -309,7 +309,7 @@ leave_keeps p t wired s code fr sh ls items undos g may n u here = record {
   good = record {
     stack = (tt, stack_from_trap p t s.cells ls fr.method fr.home may g.stack);
     fits = λ r. all_ended p t s.cells code ls sh.entries fr.method fr.home may g.stack r (seen s.cells) (held s.cells r)
-        (ended_by_leave p s.cells fr sh ls code g.frames.holder g.housed g.apart (not_going p t s.cells ls _ _ may g.stack) n (λ serving. here_is sh.delivery here) g.frames.message r (seen s.cells) (held s.cells r) (g.fits r));
+        (ended_by_leave p s.cells fr sh ls code g.frames.holder g.frames.view g.housed g.apart (not_going p t s.cells ls _ _ may g.stack) n (λ serving. here_is sh.delivery here) g.frames.message r (seen s.cells) (held s.cells r) (g.fits r));
     suits = all_left p t wired s.cells code (sh.entries ++ entries_over ls) fr sh ls g may u;
     tidy = g.tidy;
   };

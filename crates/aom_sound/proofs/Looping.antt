@@ -17,8 +17,7 @@ use Rattle.aom_sound.specs.Calls.{entered}
 use Rattle.aom_sound.specs.Cleanup.{operation_frame}
 use Rattle.aom_sound.specs.Loops.{LoopsKeep, RoundsAt, RoundsLeft, rounds_left}
 use Rattle.aom_sound.specs.Moves.{counted, step, error_frame}
-use Rattle.aom_sound.specs.Places.{Going}
-use Rattle.aom_sound.specs.State.{A_mark, AtRoot, Choice, Frame, Goes, Inside, State, Task, counter, frame_as, frame_of, set_counter}
+use Rattle.aom_sound.specs.State.{A_mark, AtRoot, Choice, Frame, Goes, State, Task, counter, frame_as, frame_of, set_counter}
 use Rattle.aom_sound.specs.Steps.{IsStraight, Sets}
 use Rattle.aom_sound.specs.World.{boot_state, main_tasks}
 

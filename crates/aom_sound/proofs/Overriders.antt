@@ -20,7 +20,7 @@ use Rattle.aom_shape.specs.Kinds.{field}
 use Rattle.aom_shape.specs.Order.{SaysNoMore, Weaker, WeakerFilling}
 use Rattle.aom_shape.specs.Shape.{Shape}
 use Rattle.aom_shape.specs.Tables.{at}
-use Rattle.aom_shape.specs.Things.{Holder, Member, holder_by, holder_of}
+use Rattle.aom_shape.specs.Things.{field_thing, Holder, Member, holder_by, holder_of}
 use Rattle.aom_shape.specs.declared.kind.Filling.TheVariants.{Perhaps}
 use Rattle.aom_shape.specs.declared.kind.Kind.TheVariants.{Unset}
 use Rattle.aom_shape.specs.Kinds.{register}
@@ -120,6 +120,7 @@ overrider_runs p wired m v k h e called x counts = record {
   counts = record {
     some = λ c is. (v, refl);
     between = λ w is. (object.0, object.1, subst (λ y. descends p object.0 y ≡ true) (same w is) object.2, x.class, works, subst (λ y. descends p y x.class ≡ true) (same w is) x.family);
+    fields = λ f t is. wired.family.inherits v x.class f t x.family (ap (λ y. field_thing p y f) (sym works) ∙ is);
   };
 }
   where

@@ -21,7 +21,7 @@ use Rattle.aom_classes.specs.Roles.{role_of, destructor_of}
 use Rattle.aom_sound.specs.Destruction.{destructor_frame, class_destructor, line_on, destructed, parting, first_session, begun, begun_by}
 use Rattle.aom_sound.specs.Effects.{Calls, Cancels, Counts, Destroys, Destroys_last, Effect, Goes_on, Jumps, Leaves, Operates, Repeats, Returns, Sets_trap, applied, with_words}
 use Rattle.aom_sound.specs.Moves.{answered, asking, counted, dispatch_ends, error_frame, failed, handled, main_ends, needs, object_ends, step}
-use Rattle.aom_sound.specs.Places.{service_of, Elsewhere, Going, Object, Root, held}
+use Rattle.aom_sound.specs.Places.{service_of, Elsewhere, Object, Root, held}
 use Rattle.aom_sound.specs.State.{Static, AtRoot, Closing, Home, Of_server, Accepts, Accept_left, Serves, Parts, A_mark, An_operation, Choice, Destroy, Dispatch, Dispatched, Frame, Goes, Inside, Item, Answered, Asks, Object_left, Of_main, Of_object, Of_root, Run, Seat, State, Task, Trapped, Unwind, counter, frame_as, frame_of, next, resumed, set_counter, set_word, to_place}
 use Rattle.aom_sound.specs.Steps.{Empties, Acts, Arrives, Clears, Comes_out, Ends, Fits, IsStraight, Move, Rests, Sets, Undoes, Vanishes}
 use Rattle.aom_sound.specs.Tasks.{Below, Holds, TaskLaw}

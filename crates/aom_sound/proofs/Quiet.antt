@@ -18,7 +18,7 @@ use Rattle.aom_shape.specs.Shape.{Shape}
 use Rattle.aom_rules.specs.Typing.{IsTyped, Typing, shape_at}
 use Rattle.aom_sound.proofs.Callees.{cancel_quiet, only_then}
 use Rattle.aom_sound.proofs.Overriders.{body_quiet}
-use Rattle.aom_sound.proofs.Destroying.{destroys_by, destroys}
+use Rattle.aom_sound.proofs.Destroying.{destroys_by}
 use Rattle.aom_sound.proofs.Finishing.{all_parts}
 use Rattle.aom_sound.proofs.Owners.{owned}
 use Rattle.aom_sound.proofs.Preserving.{Acting, Kept, keeps, turn_keeps_it}

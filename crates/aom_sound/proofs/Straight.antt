@@ -64,7 +64,7 @@ pub record Fitted (p : Image) (t : Typing) (cs : List Cell) (fr : Frame) (sh : S
   pub tidy : Tidy cs
   pub frames : Frames p ls fr sh
   pub housed : IsHoused p cs ls fr.home
-  pub apart : IsApart p fr.home ls
+  pub apart : IsApart p fr.view fr.method fr.home ls
   pub stack : Stack p t cs (Returns fr.method fr.home) ls
 
 pub fitted : (p : Image) (t : Typing) (cs : List Cell) (fr : Frame) (sh : Shape) (ls : List Layer) → Good p t cs (Method fr sh ∷ ls) → Fitted p t cs fr sh ls
@@ -98,6 +98,14 @@ housed_relocated p cs a b ls (Inside o from) free oa ob n h =
 -- the height and the view with which a method began
 abbrev pub began : Frame → ℕ × Option ℕ
 began fr = (fr.height, fr.view)
+
+-- nor is what the layers below claim of its object
+pub apart_too :
+    (p : Image) (fr fr' : Frame) (ls : List Layer) → fr'.home ≡ fr.home → fr'.method ≡ fr.method → began fr' ≡ began fr → IsApart p fr.view fr.method fr.home ls → IsApart p fr'.view fr'.method fr'.home ls
+apart_too p fr fr' ls eh em eg apart =
+    subst (λ h. IsApart p fr'.view fr'.method h ls) (sym eh)
+    (subst (λ m. IsApart p fr'.view m fr.home ls) (sym em)
+    (subst (λ v. IsApart p v fr.method fr.home ls) (sym (ap (λ (x : ℕ × Option ℕ). x.1) eg)) apart))
 
 -- a frame of the same method, home and view counts as the same
 counts_too :
@@ -156,7 +164,7 @@ relocate p t cs fr fr' sh sh' ls a b g eh em eg es free oa ob nf fresh claims wo
       tidy = tidy_moved cs a b free g.tidy;
       frames = record { words = words; holder = subst (λ h. Houses p (home_holder h) (holder_of p fr'.method)) (sym eh) (subst (λ m. Houses p (home_holder fr.home) (holder_of p m)) (sym em) g.frames.holder); view = counts_too p fr fr' eh em eg g.frames.view; height = ap (λ (x : ℕ × Option ℕ). x.0) eg ∙ g.frames.height; alone = alone_too p fr fr' ls eh em g.frames.alone; message = message_too p fr fr' ls em g.frames.message };
       housed = housed_relocated p cs a b ls fr'.home free oa ob nf (subst (λ h. IsHoused p cs ls h) (sym eh) g.housed);
-      apart = subst (λ h. IsApart p h ls) (sym eh) g.apart;
+      apart = apart_too p fr fr' ls eh em eg g.apart;
       stack = subst (λ m. Stack p t cs' (Returns m fr'.home) ls) (sym em) (subst (λ h. Stack p t cs' (Returns fr.method h) ls) (sym eh) (stack_moved p t cs a b ls _ free oa ob g.stack));
     }
 
@@ -175,7 +183,7 @@ relabel p t cs fr fr' sh sh' ls a v g eh em eg es new claims words = record {
   tidy = g.tidy;
   frames = record { words = words; holder = subst (λ h. Houses p (home_holder h) (holder_of p fr'.method)) (sym eh) (subst (λ m. Houses p (home_holder fr.home) (holder_of p m)) (sym em) g.frames.holder); view = counts_too p fr fr' eh em eg g.frames.view; height = ap (λ (x : ℕ × Option ℕ). x.0) eg ∙ g.frames.height; alone = alone_too p fr fr' ls eh em g.frames.alone; message = message_too p fr fr' ls em g.frames.message };
   housed = subst (λ h. IsHoused p cs ls h) (sym eh) g.housed;
-  apart = subst (λ h. IsApart p h ls) (sym eh) g.apart;
+  apart = apart_too p fr fr' ls eh em eg g.apart;
   stack = subst (λ m. Stack p t cs (Returns m fr'.home) ls) (sym em) (subst (λ h. Stack p t cs (Returns fr.method h) ls) (sym eh) g.stack);
 }
   where
@@ -229,7 +237,7 @@ reframed p t cs fr fr' sh ls eh em eg ew g = record {
   tidy = g.tidy;
   frames = record { words = λ i. subst (λ ws. WordFits (at None ws i) (register sh i)) (sym ew) (g.frames.words i); holder = subst (λ h. Houses p (home_holder h) (holder_of p fr'.method)) (sym eh) (subst (λ m. Houses p (home_holder fr.home) (holder_of p m)) (sym em) g.frames.holder); view = counts_too p fr fr' eh em eg g.frames.view; height = ap (λ (x : ℕ × Option ℕ). x.0) eg ∙ g.frames.height; alone = alone_too p fr fr' ls eh em g.frames.alone; message = message_too p fr fr' ls em g.frames.message };
   housed = subst (λ h. IsHoused p cs ls h) (sym eh) g.housed;
-  apart = subst (λ h. IsApart p h ls) (sym eh) g.apart;
+  apart = apart_too p fr fr' ls eh em eg g.apart;
   stack = subst (λ m. Stack p t cs (Returns m fr'.home) ls) (sym em) (subst (λ h. Stack p t cs (Returns fr.method h) ls) (sym eh) g.stack);
 }
 
@@ -384,8 +392,8 @@ module _ (p : Image) (t : Typing) (c : Choice) (s : State) (fr : Frame) (sh : Sh
       holds : Holds p s.cells ls o from
       holds = subst (λ h. IsHoused p s.cells ls h) e at_hand.good.stack.2
 
-      apart : IsApart p (Inside o from) ls
-      apart = subst (λ h. IsApart p h ls) e at_hand.good.stack.3
+      apart : IsApart p fr.view fr.method (Inside o from) ls
+      apart = subst (λ h. IsApart p fr.view fr.method h ls) e at_hand.good.stack.3
 
       differs : o.name ≡ x.name → ⊥
       differs n =

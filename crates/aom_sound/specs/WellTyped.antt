@@ -7,7 +7,7 @@ use Rattle.aom_image.specs.declared.method.Argument.TheVariants.{Word as Takes_w
 use Rattle.aom_image.specs.declared.method.Role.TheVariants.{Undo}
 use Rattle.aom_image.specs.declared.method.Gives.{Gives}
 use Rattle.aom_image.specs.declared.method.Gives.TheVariants.{Nothing, Word as A_word, Own as An_own, Maybe as A_maybe, Left}
-use Rattle.aom_shape.specs.Things.{Holder, Member, stands_for, field_thing, holder_of, word_count}
+use Rattle.aom_shape.specs.Things.{Program, Holder, Member, stands_for, field_thing, holder_of, word_count}
 use Rattle.aom_roles.specs.Families.{descends}
 use Rattle.aom_roles.specs.Shapes.{kind_of}
 use Rattle.aom_shape.specs.Shape.{Shape}
@@ -88,10 +88,16 @@ pub record Houses (p : Image) (h k : Holder) : Type 0 where
   pub member : (d : ℕ) → k ≡ Member d → (c : ℕ) × (h ≡ Member c) × (descends p c d ≡ true) × (kind_of p (Some c) ≡ kind_of p (Some d))
   pub works : (c : ℕ) → h ≡ Member c → (d : ℕ) × (k ≡ Member d)
 
+-- whose fields an object has that counts so; what counts as nothing has the program's
+abbrev pub view_holder : Option ℕ → Holder
+view_holder None = Program
+view_holder (Some c) = Member c
+
 -- an object counts as its class, or as one that it descends from, which is the method's or descends from that; and nothing counts as nothing
 pub record CountsAs (p : Image) (h : Holder) (view : Option ℕ) (k : Holder) : Type 0 where
   pub some : (c : ℕ) → h ≡ Member c → (v : ℕ) × (view ≡ Some v)
   pub between : (v : ℕ) → view ≡ Some v → (c : ℕ) × (h ≡ Member c) × (descends p c v ≡ true) × (d : ℕ) × (k ≡ Member d) × (descends p v d ≡ true)
+  pub fields : (f : ℕ) (t : Thing) → field_thing p k f ≡ Some t → field_thing p (view_holder view) f ≡ Some t
 
 -- a method of a class, or of one that the class descends from
 pub record IsOfFamily (p : Image) (c m : ℕ) : Type 0 where
@@ -268,14 +274,23 @@ NoneFrom q (Method fr sh ∷ ls) = NotFrom q fr.home × NoneFrom q ls
 NoneFrom q (Dispatching d seats ∷ ls) = NoSeatAt q seats × NoneFrom q ls
 NoneFrom q (_ ∷ ls) = NoneFrom q ls
 
--- the layers below claim of the fields that a method works on no more than what is declared
-abbrev pub IsApart : Image → Home → List Layer → Type 0
-IsApart p Static ls = Unit {0}
-IsApart p AtRoot ls = RootUnclaimed ls × NoneFrom (Elsewhere Root) ls
-IsApart p (Inside o from) ls =
+-- what is claimed of the fields that a cell has as what it counts as is what that says
+abbrev pub InView : Image → Option ℕ → (ℕ → Kind) → ℕ → List Layer → Type 0
+InView p view d n ls = (f : ℕ) → is_some (field_thing p (view_holder view) f) ≡ true → claim p (by_field d) ls (Field n f) ≡ d f
+
+-- right over a cell that goes, a method works on all that the cell counts as
+abbrev pub IsWhole : Image → Option ℕ → ℕ → List Layer → Type 0
+IsWhole p view m (Dying o ∷ ls) = view_holder view ≡ holder_of p m
+IsWhole p view m _ = Unit {0}
+
+-- the layers below claim of the fields that a method's object has, as what it counts as, no more than what is declared
+abbrev pub IsApart : Image → Option ℕ → ℕ → Home → List Layer → Type 0
+IsApart p view m Static ls = Unit {0}
+IsApart p view m AtRoot ls = RootUnclaimed ls × NoneFrom (Elsewhere Root) ls
+IsApart p view m (Inside o from) ls =
     IsNoFieldOf o.name from
     × NoneIn o.name ls
-    × Unclaimed p (λ f. filled (field_thing p (thing_holder o.thing) f) Perhaps) o.name (past_going ls)
+    × (InView p view (λ f. filled (field_thing p (thing_holder o.thing) f) Perhaps) o.name (past_going ls) × IsWhole p view m ls)
     × Joins p o ls
 
 -- some layer's method works on that cell, or it sits
@@ -439,7 +454,7 @@ Stack p t cs back (Method fr sh ∷ ls) =
     Stands p t back fr sh
     × Frames p ls fr sh
     × IsHoused p cs ls fr.home
-    × IsApart p fr.home ls
+    × IsApart p fr.view fr.method fr.home ls
     × Stack p t cs (Returns fr.method fr.home) ls
 Stack p t cs back (Mark gv ∷ ls) = Catches p back gv × Stack p t cs (Caught gv) ls
 Stack p t cs back (Dying o ∷ ls) =
