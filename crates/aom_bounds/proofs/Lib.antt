@@ -1,4 +1,5 @@
 pub mod Among
+pub mod Lines
 pub mod Mosts
 pub mod Alone
 pub mod Listed

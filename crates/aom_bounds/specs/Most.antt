@@ -4,6 +4,7 @@ use Rattle.aom_image.specs.Image.{Image}
 use Rattle.aom_image.specs.declared.method.Role.TheVariants.{Destruct}
 use Rattle.aom_image.specs.declared.method.Thing.{Thing}
 use Rattle.aom_image.specs.declared.method.Thing.TheVariants.{Object, Message}
+use Rattle.aom_rules.specs.Calls.{parent_above}
 use Rattle.aom_roles.specs.Families.{descends, parent_of}
 use Rattle.aom_classes.specs.Overriding.{overrides}
 use Rattle.aom_classes.specs.Roles.{own_role}
@@ -40,3 +41,12 @@ line_in p cost (suc n) (Some c) = cost (own_role p c Destruct) + line_in p cost 
 abbrev pub line : Image → (Option ℕ → ℕ) → Thing → ℕ
 line p cost (Object c) = line_in p cost c (Some c)
 line p cost Message = 0
+
+-- from a class on, or from none
+abbrev pub line_from : Image → (Option ℕ → ℕ) → Option ℕ → ℕ
+line_from p cost None = 0
+line_from p cost (Some c) = line p cost (Object c)
+
+-- what of a line runs behind that destructor
+abbrev pub line_after : Image → (Option ℕ → ℕ) → ℕ → ℕ
+line_after p cost m = line_from p cost (parent_above p m)

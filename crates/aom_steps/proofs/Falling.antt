@@ -33,6 +33,7 @@ use Rattle.aom_sound.specs.State.{An_object, An_operation, Choice, Frame, Run, S
 use Rattle.aom_sound.specs.Steps.{Fits, FitsUpdate, Sets}
 use Rattle.aom_sound.specs.WellTyped.{AllUndo}
 use Rattle.aom_sound.specs.Words.{here}
+use Rattle.aom_steps.specs.Worths.{over_worth}
 use Rattle.aom_steps.specs.Ranks.{cell_rank, frame_rank, is_going, left_in, operations, price, rank, rank_worths, standing, tasks_rank, waiting_rank}
 use Rattle.aom_steps.specs.Within.{left}
 use Rattle.aom_steps.proofs.Levels.{begun_paid, called_before, called_lower, cell_paid, cell_some, cell_two, loud_leaver, price_some, run_paid, trapped_before, undo_paid}
@@ -51,6 +52,10 @@ module _ (p : Image) (linked : IsLinked p) (c : Choice) (s : State) (fr : Frame)
   abbrev pub before : ℕ
   before = tasks_rank p (Run fr ∷ ts) + (standing s.cells + operations s.items) * cell_rank p
 
+  -- what is left once the method is over
+  abbrev beyond : ℕ
+  beyond = over_worth (rank_worths p) fr.method ts + waiting_rank p ts
+
   -- what the method has before it, at other counters and another place
   abbrev pub rest_at : List ℕ → ℕ → ℕ
   rest_at cs k = left_in (method_at p fr.method) cs k * price p fr.method
@@ -61,17 +66,17 @@ module _ (p : Image) (linked : IsLinked p) (c : Choice) (s : State) (fr : Frame)
       (scaled (left d.code cs k) (left d.code fr.counters fr.place) (price p fr.method) less)
 
   -- the method goes on there, with as many cells and operations or fewer
-  goes : (cs : List ℕ) (k m : ℕ) → left d.code cs k < left d.code fr.counters fr.place → m ≤ standing s.cells + operations s.items → rest_at cs k + waiting_rank p ts + m * cell_rank p < before
+  goes : (cs : List ℕ) (k m : ℕ) → left d.code cs k < left d.code fr.counters fr.place → m ≤ standing s.cells + operations s.items → rest_at cs k + beyond + m * cell_rank p < before
   goes cs k m less fewer = omega (arith, paid cs k less, price_some p fr.method, scaled_le m (standing s.cells + operations s.items) (cell_rank p) fewer)
 
   module _ (i : Instr) (stands : slice_get d.code fr.place ≡ Some i) where
     pub straight : loop_in (Some i) ≡ None → left d.code fr.counters (suc fr.place) < left d.code fr.counters fr.place
     straight plain = straight_on d.code fr.counters fr.place i stands plain
 
-    pub on : loop_in (Some i) ≡ None → (m : ℕ) → m ≤ standing s.cells + operations s.items → rest_at fr.counters (suc fr.place) + waiting_rank p ts + m * cell_rank p < before
+    pub on : loop_in (Some i) ≡ None → (m : ℕ) → m ≤ standing s.cells + operations s.items → rest_at fr.counters (suc fr.place) + beyond + m * cell_rank p < before
     on plain m fewer = goes fr.counters (suc fr.place) m (straight plain) fewer
 
-    to_jump : (to : ℕ) → jump_of i ≡ Some to → rest_at fr.counters to + waiting_rank p ts + (standing s.cells + operations s.items) * cell_rank p < before
+    to_jump : (to : ℕ) → jump_of i ≡ Some to → rest_at fr.counters to + beyond + (standing s.cells + operations s.items) * cell_rank p < before
     unfolding method_at
     to_jump to jump =
         goes fr.counters to (standing s.cells + operations s.items)
@@ -138,7 +143,7 @@ module _ (p : Image) (linked : IsLinked p) (c : Choice) (s : State) (fr : Frame)
   -- an item more, an operation at most
   pushes_on :
       (i : Instr) → slice_get d.code fr.place ≡ Some i → loop_in (Some i) ≡ None → is_quiet p fr.method ≡ false → (m : ℕ) → m ≤ suc (standing s.cells + operations s.items) →
-      rest_at fr.counters (suc fr.place) + waiting_rank p ts + m * cell_rank p < before
+      rest_at fr.counters (suc fr.place) + beyond + m * cell_rank p < before
   pushes_on i stands plain loud m more =
       let less = paid fr.counters (suc fr.place) (straight i stands plain) in
       let one = one_more m (standing s.cells + operations s.items) (cell_rank p) more in
@@ -188,7 +193,7 @@ module _ (p : Image) (linked : IsLinked p) (c : Choice) (s : State) (fr : Frame)
     -- the method goes on after an update
     goes_after :
         (i : Instr) → slice_get d.code fr.place ≡ Some i → loop_in (Some i) ≡ None → Ruled i → (u : Update) → FitsUpdate ts s.items i u →
-        rest_at fr.counters (suc fr.place) + waiting_rank p ts + count_after u * cell_rank p < before
+        rest_at fr.counters (suc fr.place) + beyond + count_after u * cell_rank p < before
     goes_after i stands plain r (Made name x a) f = pushes_on i stands plain (loud_maker i f r) (count_after (Made name x a)) (more (Made name x a))
     goes_after i stands plain r (Pushed a) f = pushes_on i stands plain (loud_leaver p linked fr.method (subst Ruled f.0 r).1.0) (count_after (Pushed a)) (more (Pushed a))
     goes_after i stands plain r (Pushed_operation m w) f =

@@ -1,7 +1,7 @@
 -- What a run of a method costs those that begin it.
 use Rattle.aom_families.proofs.Running.{overrides_there, body_runs}
 use Rattle.aom_classes.specs.Overriding.{leads_to, body_of}
-use Rattle.std.proofs.Common.{IsTrue, inr, inl, Bool, IfSome, List, None, Option, Some, [], ap, arith, cond, false, length, refl, slice_get, subst, suc, true, ℕ, ◌*◌, ◌∷◌, ◌+◌, ◌<◌, ◌^◌, ◌∙◌, ◌≡◌, ◌≤◌}
+use Rattle.std.proofs.Common.{IsTrue, inr, inl, Bool, IfSome, List, None, Option, Some, [], ap, arith, cond, false, length, refl, slice_get, subst, suc, true, zero, ℕ, ◌*◌, ◌∷◌, ◌+◌, ◌<◌, ◌^◌, ◌∙◌, ◌≡◌, ◌≤◌}
 use Rattle.std.specs.Prelude.{IsSome, position}
 use Rattle.std.proofs.lemmas.Option.{slice_get_within}
 use Rattle.aom_image.specs.Image.{Image}
@@ -16,20 +16,24 @@ use Rattle.aom_image.specs.declared.method.Role.TheVariants.{Cancel as Cancel_ro
 use Rattle.aom_image.specs.declared.method.Thing.{Thing}
 use Rattle.aom_classes.specs.Calls.{CallsBelow, CallsOrdered, MayCancel, RunsBelow}
 use Rattle.aom_classes.specs.Linked.{IsLinked}
-use Rattle.aom_classes.specs.Roles.{destructor_of, is_main, main_of, role_of}
+use Rattle.aom_classes.specs.Roles.{destructor_of, is_main, main_of, own_role, role_by, role_of}
 use Rattle.aom_roles.specs.Shapes.{FlagsFit, HasShape, IsShaped, kind_of, may_leave, is_quiet as quiet_bit}
 use Rattle.aom_classes.proofs.Facts.{all_there, at_place}
 use Rattle.aom_classes.proofs.Mentioning.{cancels_own}
 use Rattle.aom_roles.proofs.Descending.{through}
-use Rattle.aom_roles.specs.Families.{descends}
+use Rattle.aom_roles.specs.Families.{descends, parent_of}
 use Rattle.aom_sound.specs.Destruction.{begun, begun_by, destructed}
 use Rattle.aom_sound.specs.Servers.{is_server}
 use Rattle.aom_sound.specs.Places.{Object}
 use Rattle.aom_sound.specs.State.{Closing, Destroy, Task}
 use Rattle.aom_sound.specs.WellTyped.{IsUndo}
-use Rattle.aom_steps.specs.Ranks.{all_left, base, cell_rank, closing_rank, left_in, level, price, tasks_rank, waiting_rank}
+use Rattle.aom_steps.specs.Ranks.{all_left, base, cell_rank, closing_rank, left_in, level, price, run_rank, spare, tasks_rank, waiting_rank}
+use Rattle.aom_bounds.proofs.Lines.{line_first, line_step}
+use Rattle.aom_bounds.specs.Most.{line, line_from, line_in}
+use Rattle.aom_classes.proofs.Keeping.{child_there, keeper_own}
+use Rattle.aom_image.specs.declared.method.Thing.TheVariants.{Message, Object as Object_of}
 use Rattle.aom_steps.specs.Within.{left}
-use Rattle.aom_steps.proofs.Sums.{pow_less, pow_more, pow_some, pow_step, pow_twice, whole_run}
+use Rattle.aom_steps.proofs.Sums.{double_le, one_beside, one_of, pow_less, pow_more, pow_some, pow_step, pow_twice, scaled_le, whole_run}
 use Rattle.aom_image.proofs.Given.{cons_given, some_given}
 use Rattle.aom_classes.proofs.Playing.{destroyed, role_inherits}
 use Rattle.aom_steps.proofs.Sums.{one_of_all}
@@ -46,17 +50,17 @@ left_at_begin p m = go (slice_get p.methods m) refl
     go (Some d) e = left_below p.methods m d e
 
 pub price_some : (p : Image) (m : ℕ) → 1 ≤ price p m
-price_some p m = pow_some (all_left p.methods) (level p m)
+price_some p m = pow_some (spare p) (level p m)
 
 pub cell_some : (p : Image) → 1 ≤ cell_rank p
-cell_some p = pow_some (all_left p.methods) (suc (length p.methods))
+cell_some p = pow_some (spare p) (suc (length p.methods))
 
 -- a whole run of a method and two more are paid by a move of a higher level
 pub run_paid : (p : Image) (m : ℕ) (n : ℕ) → level p m < n → left_in (method_at p m) [] 0 * price p m + 2 ≤ base p ^ n
 run_paid p m n lower =
-    let whole = whole_run (left_in (method_at p m) [] 0) (all_left p.methods) (price p m) (left_at_begin p m) (price_some p m) in
-    let step : base p ^ suc (level p m) ≡ base p * price p m = pow_step (all_left p.methods) (level p m) in
-    let more : base p ^ suc (level p m) ≤ base p ^ n = pow_more (all_left p.methods) (suc (level p m)) n (omega (arith, lower)) in
+    let whole = whole_run (left_in (method_at p m) [] 0) (spare p) (price p m) (omega (arith, left_at_begin p m)) (price_some p m) in
+    let step : base p ^ suc (level p m) ≡ base p * price p m = pow_step (spare p) (level p m) in
+    let more : base p ^ suc (level p m) ≤ base p ^ n = pow_more (spare p) (suc (level p m)) n (omega (arith, lower)) in
     omega (arith, whole, step, more)
 
 -- what is called has a lower level
@@ -71,13 +75,16 @@ called_lower p m m' below quiet = go (is_quiet p m) (is_quiet p m') quiet
 
 -- a cell has two at least, and as there is a method, so has what goes before a server
 pub cell_two : (p : Image) → 2 ≤ cell_rank p
-cell_two p = omega (arith, pow_less (all_left p.methods) 0 (suc (length p.methods)) (omega arith), pow_some (all_left p.methods) 0)
+cell_two p = omega (arith, pow_less (spare p) 0 (suc (length p.methods)) (omega arith), pow_some (spare p) 0)
+
+power_two : (p : Image) → IsLinked p → 2 ≤ base p ^ length p.methods
+unfolding main_of
+power_two p linked =
+    let some : 1 ≤ length p.methods = cons_given (λ ms. IsSome (position is_main ms)) p.methods linked.main (λ none. cc) (λ m ms is found. omega (arith, ap length is)) in
+    omega (arith, pow_less (spare p) 0 (length p.methods) (omega (arith, some)), pow_some (spare p) 0)
 
 closing_two : (p : Image) → IsLinked p → 2 ≤ closing_rank p
-unfolding main_of
-closing_two p linked =
-    let some : 1 ≤ length p.methods = cons_given (λ ms. IsSome (position is_main ms)) p.methods linked.main (λ none. cc) (λ m ms is found. omega (arith, ap length is)) in
-    omega (arith, pow_less (all_left p.methods) 0 (length p.methods) (omega (arith, some)), pow_some (all_left p.methods) 0)
+closing_two p linked = omega (arith, power_two p linked, one_of (length p.classes) (base p ^ length p.methods))
 
 -- a method that may leave is not quiet
 pub loud_leaver : (p : Image) → IsLinked p → (m : ℕ) → leaves p m ≡ true → is_quiet p m ≡ false
@@ -93,8 +100,8 @@ loud_leaver p linked m e = some_given (λ o. leaves_in o ≡ true) (slice_get p.
 pub cell_paid : (p : Image) (m : ℕ) → is_quiet p m ≡ false → cell_rank p + cell_rank p ≤ price p m
 cell_paid p m loud =
     let is : level p m ≡ suc (suc (length p.methods)) + m = ap (λ b. cond b m (suc (suc (length p.methods)) + m)) loud in
-    let twice : cell_rank p + cell_rank p ≤ base p ^ suc (suc (length p.methods)) = pow_twice (all_left p.methods) (suc (length p.methods)) in
-    let more : base p ^ suc (suc (length p.methods)) ≤ base p ^ level p m = pow_more (all_left p.methods) (suc (suc (length p.methods))) (level p m) (omega (arith, is)) in
+    let twice : cell_rank p + cell_rank p ≤ base p ^ suc (suc (length p.methods)) = pow_twice (spare p) (suc (length p.methods)) in
+    let more : base p ^ suc (suc (length p.methods)) ≤ base p ^ level p m = pow_more (spare p) (suc (suc (length p.methods))) (level p m) (omega (arith, is)) in
     omega (arith, twice, more)
 
 -- ---- destructors
@@ -117,27 +124,61 @@ quiet_destructor : (p : Image) → IsLinked p → (c m : ℕ) → role_of p c De
 unfolding quiet_in
 quiet_destructor p linked c m e = role_quiet p linked c m Destruct (λ kind d shape. shape.flags) e
 
--- a destructor and the going after it are paid by what goes before a server, with one left
-pub destructed_paid : (p : Image) → IsLinked p → (o : Object) (height : ℕ) (below : List Task) → tasks_rank p (destructed p o height below) + 1 ≤ closing_rank p + waiting_rank p below
-destructed_paid p linked o height below = go (destructor_of p o.thing) (of_thing o.thing)
+-- a whole run of a class's own destructor is paid by a power that is over all quiet methods
+destructor_paid : (p : Image) → IsLinked p → (c : ℕ) → run_rank p (own_role p c Destruct) + 2 ≤ base p ^ length p.methods
+unfolding role_of
+destructor_paid p linked c = go (own_role p c Destruct) refl
   where
-    of_thing : (t : Thing) (m : ℕ) → destructor_of p t ≡ Some m → IsQuietThere p m
-    of_thing x m e = let w = destroyed p x m e in quiet_destructor p linked w.0 m w.2
-
-    go : (d : Option ℕ) → ((m : ℕ) → d ≡ Some m → IsQuietThere p m) → tasks_rank p (begun_by p d o height below) + 1 ≤ closing_rank p + waiting_rank p below
-    go None h = omega (arith, closing_two p linked)
-    go (Some m) h =
-        let w = h m refl in
+    go : (o : Option ℕ) → own_role p c Destruct ≡ o → run_rank p o + 2 ≤ base p ^ length p.methods
+    go None own = omega (arith, power_two p linked)
+    go (Some m) own =
+        let w = quiet_destructor p linked c m (ap (role_by p Destruct) (keeper_own p Destruct c m own) ∙ own) in
         let is : level p m ≡ m = ap (λ b. cond b m (suc (suc (length p.methods)) + m)) w.quiet in
-        let paid : left_in (method_at p m) [] 0 * price p m + 2 ≤ closing_rank p = run_paid p m (length p.methods) (omega (arith, is, w.within)) in
-        omega (arith, paid)
+        run_paid p m (length p.methods) (omega (arith, is, w.within))
+
+-- and so many of them by so many
+line_in_paid : (p : Image) → IsLinked p → (n : ℕ) (o : Option ℕ) → line_in p (run_rank p) n o + 2 ≤ suc n * base p ^ length p.methods
+line_in_paid p linked n None = omega (arith, power_two p linked, one_of n (base p ^ length p.methods))
+line_in_paid p linked zero (Some c) = omega (arith, destructor_paid p linked c, one_of 0 (base p ^ length p.methods))
+line_in_paid p linked (suc n) (Some c) =
+    let first = destructor_paid p linked c in
+    let rest = line_in_paid p linked n (parent_of p c) in
+    let both = one_beside (suc n) (base p ^ length p.methods) (run_rank p (own_role p c Destruct)) (line_in p (run_rank p) n (parent_of p c) + 2) (omega (arith, first)) rest in
+    omega (arith, both)
+
+-- a line has one of each class at most
+line_paid : (p : Image) → IsLinked p → (x : Thing) → line p (run_rank p) x + 2 ≤ closing_rank p
+line_paid p linked Message = closing_two p linked
+line_paid p linked (Object_of c) = go (parent_of p c) refl
+  where
+    go : (o : Option ℕ) → parent_of p c ≡ o → line p (run_rank p) (Object_of c) + 2 ≤ closing_rank p
+    go None above =
+        let step = line_step p (run_rank p) c in
+        let none = ap (line_from p (run_rank p)) above in
+        omega (arith, step, none, destructor_paid p linked c, one_of (length p.classes) (base p ^ length p.methods))
+    go (Some e) above =
+        let within = child_there p c e above in
+        let all = line_in_paid p linked c (Some c) in
+        let more = scaled_le (suc c) (suc (length p.classes)) (base p ^ length p.methods) (omega (arith, within)) in
+        omega (arith, all, more)
+
+-- a line of destructors and the going after it are paid by what goes before a server, with one left
+pub destructed_paid : (p : Image) → IsLinked p → (o : Object) (height : ℕ) (below : List Task) → tasks_rank p (destructed p o height below) + 1 ≤ closing_rank p + waiting_rank p below
+destructed_paid p linked o height below = go (destructor_of p o.thing) refl
+  where
+    go : (d : Option ℕ) → destructor_of p o.thing ≡ d → tasks_rank p (begun_by p d o height below) + 1 ≤ closing_rank p + waiting_rank p below
+    go None is = omega (arith, closing_two p linked)
+    go (Some m) is = omega (arith, line_first p (run_rank p) refl o.thing m is, line_paid p linked o.thing)
 
 -- a destruction that begins is paid by its cell, with one left
 pub begun_paid : (p : Image) → IsLinked p → (o : Object) (height : ℕ) (below : List Task) → tasks_rank p (begun p o height below) + 1 ≤ cell_rank p + waiting_rank p below
 begun_paid p linked o height below = go (is_server p o.thing)
   where
     twice : closing_rank p + closing_rank p ≤ cell_rank p
-    twice = pow_twice (all_left p.methods) (length p.methods)
+    twice =
+        let step : base p ^ suc (length p.methods) ≡ base p * base p ^ length p.methods = pow_step (spare p) (length p.methods) in
+        let more = double_le (suc (length p.classes)) (base p) (base p ^ length p.methods) (omega arith) in
+        omega (arith, step, more)
 
     go : (b : Bool) → tasks_rank p (cond b (Closing ∷ Destroy ∷ below) (destructed p o height below)) + 1 ≤ cell_rank p + waiting_rank p below
     go true = omega (arith, twice, closing_two p linked)

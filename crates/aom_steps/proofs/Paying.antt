@@ -20,15 +20,17 @@ use Rattle.aom_rules.specs.Typing.{Typing}
 use Rattle.aom_shape.specs.declared.kind.Kind.{Kind}
 use Rattle.aom_sound.proofs.Straight.{At, kind_fits}
 use Rattle.aom_sound.proofs.Fitting.{straight_by}
-use Rattle.aom_roles.specs.Families.{HasNoParents}
-use Rattle.aom_sound.proofs.Lines.{line_none}
+use Rattle.aom_image.proofs.Given.{some_given}
+use Rattle.aom_rules.specs.Calls.{parent_above}
+use Rattle.aom_bounds.proofs.Lines.{line_first, line_next}
+use Rattle.aom_bounds.specs.Most.{line, line_after}
 use Rattle.aom_sound.specs.Calls.{run_by, target_view, below_top, accepted_cells, ended_well, passed_cells, result_cells, result_register, returned}
 use Rattle.aom_sound.specs.Claims.{Layer, tasks_of, Dispatching, Dying, Mark, Method, Unwinding}
 use Rattle.aom_sound.specs.Cleanup.{top_place}
-use Rattle.aom_sound.specs.Destruction.{begun, begun_by, destructed}
+use Rattle.aom_sound.specs.Destruction.{begun, begun_by, class_destructor, destructed, line_on, next_destructor}
 use Rattle.aom_sound.specs.Effects.{Calls, Cancels, Carried, Counts, Destroys, Destroys_last, Effect, Goes_on, In_field, In_register, Jumps, Leaves, Made, Operates, Popped, Popped_operation, Pushed, Pushed_operation, Repeats, Requested, Returns, Same, Sets_trap, Spot, Update, Written, applied, cells_after, items_after, spot_place, with_words, Sessioned, Replied, The_message}
 use Rattle.aom_sound.specs.Places.{service_of, Entry, Going, Object, Sight, held, seen, Cell, Elsewhere, Place, Register, Session, moved}
-use Rattle.aom_sound.specs.State.{An_object, An_operation, Choice, Frame, Run, State, Task, Trapped, counter, Accepts, Closing, Destroy, Dispatch, Of_server, Serves}
+use Rattle.aom_sound.specs.State.{An_object, An_operation, AtRoot, Choice, Frame, Home, Inside, Static, Run, State, Task, Trapped, counter, Accepts, Closing, Destroy, Dispatch, Of_server, Serves}
 use Rattle.aom_sound.specs.Steps.{Fits, Sets}
 use Rattle.aom_sound.specs.WellTyped.{Fits as Holds_of, Now, Stack}
 use Rattle.aom_sound.specs.Words.{here}
@@ -37,8 +39,8 @@ use Rattle.aom_steps.proofs.Rounds.{back, closed_loop, enters, jumps, leaves, st
 use Rattle.aom_steps.proofs.Sums.{scaled, scaled_le}
 use Rattle.aom_steps.proofs.Worths.{passed_less, returned_less, to_trap_less}
 use Rattle.aom_bounds.specs.Prices.{call_price, IsPriced, Prices, Stands, kind_price, price, perhaps_price, sessions_cost}
+use Rattle.aom_steps.specs.Worths.{over_worth}
 use Rattle.aom_steps.specs.Left.{is_entry, left, left_worths, method_left, objects_left, operations_left, rounds_left, rounds_price, tasks_left, waiting_left, closing_left, closings_left, end_left, sessions_left}
-use Rattle.aom_bounds.proofs.Paid.{sessions_paid}
 use Rattle.aom_steps.proofs.Covering.{Affords, Covers, body_paid, pushes}
 use Rattle.aom_steps.proofs.Pushed.{enters_place, field_no_entry, leaves_place, moved_less, none_moves, operations_below, rerequested_same, stored_same, resessioned_same, enters_place, served_same, without_less}
 use Rattle.aom_sound.specs.Enlisted.{cancelling, on_request, own_request, ended_cells}
@@ -65,15 +67,16 @@ fresh_rounds c m (Some d) = none_in_all _ (length d.code) (λ q. none q _)
     none q None = omega arith
     none q (Some number) = no_rounds _ (c.round m q)
 
--- a destructor that begins over the going of its cell
+-- a line of destructors that begins over the going of its cell
 pub destructed_left :
     (p : Image) (c : Prices) (o : Object) (height : ℕ) (below : List Task) (us : List Cell) →
-    tasks_left p c (destructed p o height below) + closings_left p c us (destructed p o height below) ≤ 1 + perhaps_price c (destructor_of p o.thing) + (waiting_left p c below + closings_left p c us below)
-destructed_left p c o height below us = go (destructor_of p o.thing)
+    tasks_left p c (destructed p o height below) + closings_left p c us (destructed p o height below) ≤ 1 + line p (perhaps_price c) o.thing + (waiting_left p c below + closings_left p c us below)
+destructed_left p c o height below us = go (destructor_of p o.thing) refl
   where
-    go : (m : Option ℕ) → tasks_left p c (begun_by p m o height below) + closings_left p c us (begun_by p m o height below) ≤ 1 + perhaps_price c m + (waiting_left p c below + closings_left p c us below)
-    go None = omega arith
-    go (Some m) = omega (arith, fresh_rounds c m (method_at p m))
+    go : (m : Option ℕ) → destructor_of p o.thing ≡ m →
+        tasks_left p c (begun_by p m o height below) + closings_left p c us (begun_by p m o height below) ≤ 1 + line p (perhaps_price c) o.thing + (waiting_left p c below + closings_left p c us below)
+    go None is = omega arith
+    go (Some m) is = omega (arith, fresh_rounds c m (method_at p m), line_first p (perhaps_price c) refl o.thing m is)
 
 -- a destruction that begins costs what that of its class does, where what goes before a server is no more than its class pays for
 pub begun_left :
@@ -85,8 +88,8 @@ begun_left p t c priced o height below us few = go (is_server p o.thing) refl
     go : (b : Bool) → is_server p o.thing ≡ b →
         tasks_left p c (cond b (Closing ∷ Destroy ∷ below) (destructed p o height below)) + closings_left p c us (cond b (Closing ∷ Destroy ∷ below) (destructed p o height below))
         ≤ c.destruction o.thing + (waiting_left p c below + closings_left p c us below)
-    go true e = let there = few e in omega (arith, ap (λ x. closing_left p c us x) there.0, there.1, sessions_paid p t c priced o.thing)
-    go false e = omega (arith, destructed_left p c o height below us, sessions_paid p t c priced o.thing)
+    go true e = let there = few e in omega (arith, ap (λ x. closing_left p c us x) there.0, there.1, priced.lines o.thing)
+    go false e = omega (arith, destructed_left p c o height below us, priced.lines o.thing)
 
 -- a register's kind pays for what it owns
 kind_pays : (p : Image) (t : Typing) (c : Prices) → IsPriced p t c → (h : Sight) (o : Object) (k : Kind) → Holds_of p h (Some o) k → c.destruction o.thing ≤ kind_price c k
@@ -108,6 +111,10 @@ module _ (p : Image) (t : Typing) (c : Prices) (linked : IsLinked p) (priced : I
   abbrev before : ℕ
   before = tasks_left p c (Run fr ∷ ts) + closings + pushed
 
+  -- what may come once the method is over
+  abbrev beyond : ℕ
+  beyond = over_worth (left_worths p c) fr.method ts + waiting_left p c ts
+
   -- the method at other counters and another place
   abbrev rest_at : List ℕ → ℕ → ℕ
   rest_at cs k = method_left p c fr.method cs k
@@ -128,7 +135,7 @@ module _ (p : Image) (t : Typing) (c : Prices) (linked : IsLinked p) (priced : I
       same cs k = ap (λ o. rounds_left c fr.method o cs k) declared_there
 
   -- the method goes on there, with so much for what it pushes, and no more goes before servers
-  goes : (cs : List ℕ) (k n x y : ℕ) → 1 + n + rest_at cs k ≤ rest_at fr.counters fr.place → x ≤ n + pushed → y ≤ closings → 1 + (rest_at cs k + waiting_left p c ts + y + x) ≤ before
+  goes : (cs : List ℕ) (k n x y : ℕ) → 1 + n + rest_at cs k ≤ rest_at fr.counters fr.place → x ≤ n + pushed → y ≤ closings → 1 + (rest_at cs k + beyond + y + x) ≤ before
   goes cs k n x y less most few = omega (arith, less, most, few)
 
   -- a destruction begins over the method
@@ -301,20 +308,33 @@ module _ (p : Image) (t : Typing) (c : Prices) (linked : IsLinked p) (priced : I
     over_result : (over below : List Task) (x : ℕ) → closings_left p c (result_cells p fr over ended g a x below) below ≤ closings_left p c s.cells below
     over_result over below x = omega (arith, over_ended below, lasting p c ended.cells _ below (lasts_result (length below) p fr over ended g a x below))
 
-    returned_closings : HasNoParents p → (l : List Layer) → Stack p t s.cells Now (Method fr sh ∷ l) → Fewer l
-    returned_closings none (Method caller sh2 ∷ l) h = over_result (Run caller ∷ tasks_of l) (tasks_of l) (result_register (instr_at p caller.method caller.place))
-    returned_closings none (Dying o ∷ l) h = subst (λ ts. closings_left p c ended.cells ts ≤ closings_left p c s.cells (tasks_of (Dying o ∷ l))) (sym (line_none p none fr.method fr.home fr.height (tasks_of l))) (over_ended (tasks_of l))
-    returned_closings none (Unwinding code es ∷ l) h = over_ended (tasks_of l)
-    returned_closings none (Mark gv ∷ Method caller sh2 ∷ l) h = over_result (Trapped ∷ Run caller ∷ tasks_of l) (tasks_of l) (result_register (instr_at p caller.method caller.place))
-    returned_closings none (Mark gv ∷ Dispatching d seats ∷ l) h = subst (λ k. Fewer (Mark gv ∷ Dispatching d seats ∷ k)) (sym h.4.1.1) (omega arith)
-    returned_closings none (Dispatching d seats ∷ l) h = over_ended (tasks_of l)
-    returned_closings none _ h = absurd (grind arith)
+    line_closings : (cs : List Cell) (m : ℕ) (home : Home) (height : ℕ) (below : List Task) → closings_left p c cs (line_on p m home height below) ≡ closings_left p c cs below
+    line_closings cs m Static height below = refl
+    line_closings cs m AtRoot height below = refl
+    line_closings cs m (Inside o from) height below = go (next_destructor p m)
+      where
+        go : (k : Option ℕ) → closings_left p c cs (begun_by p k o height below) ≡ closings_left p c cs below
+        go None = refl
+        go (Some k) = refl
+
+    returned_closings : (l : List Layer) → Stack p t s.cells Now (Method fr sh ∷ l) → Fewer l
+    returned_closings (Method caller sh2 ∷ l) h = over_result (Run caller ∷ tasks_of l) (tasks_of l) (result_register (instr_at p caller.method caller.place))
+    returned_closings (Dying o ∷ l) h = omega (arith, line_closings ended.cells fr.method fr.home fr.height (tasks_of l), over_ended (tasks_of l))
+    returned_closings (Unwinding code es ∷ l) h = over_ended (tasks_of l)
+    returned_closings (Mark gv ∷ Method caller sh2 ∷ l) h = over_result (Trapped ∷ Run caller ∷ tasks_of l) (tasks_of l) (result_register (instr_at p caller.method caller.place))
+    returned_closings (Mark gv ∷ Dispatching d seats ∷ l) h = subst (λ k. Fewer (Mark gv ∷ Dispatching d seats ∷ k)) (sym h.4.1.1) (omega arith)
+    returned_closings (Dispatching d seats ∷ l) h = over_ended (tasks_of l)
+    returned_closings _ h = absurd (grind arith)
+
+  -- the rest of a line pays for the next of it
+  lines_fall : (m k : ℕ) → next_destructor p m ≡ Some k → method_left p c k [] 0 + line_after p (perhaps_price c) k ≤ line_after p (perhaps_price c) m
+  lines_fall m k is = some_given (λ o. class_destructor p o ≡ Some k) (parent_above p m) is (λ none. cc) (λ e above next. omega (arith, line_next p (perhaps_price c) refl m e k above next, fresh_rounds c k (method_at p k)))
 
   returns : (g : Gives) (a : ℕ) → 1 ≤ c.from fr.method fr.place → Pays (Returns g a)
   returns g a some =
       let less = returned_less (left_worths p c) (objects_left c) (operations_left c) (λ d i e j cs. moved_less c is_entry (Register d i) (Register e j) cs refl) (operations_below c) (rerequested_same c is_entry) (λ x answer. omega arith) well_ended p t s fr sh g a
-      (λ d e i. accepted_less d e i (ended_cells p fr s.cells)) linked.parents.none ls at_hand.good.stack in
-      omega (arith, some, less.0, less.1, returned_closings g a linked.parents.none ls at_hand.good.stack)
+      (λ d e i. accepted_less d e i (ended_cells p fr s.cells)) lines_fall ls at_hand.good.stack in
+      omega (arith, some, less.0, less.1, returned_closings g a ls at_hand.good.stack)
 
   pub pays : (i : Instr) → slice_get d.code fr.place ≡ Some i → Stands p t fr.method fr.place sh i → (e : Effect) → Fits p ch fr ts s i e → Covers p c fr sh e → Pays e
   pays i stands it (Goes_on change) f covered =

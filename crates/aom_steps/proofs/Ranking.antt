@@ -3,6 +3,11 @@ use Rattle.std.proofs.lemmas.Option.{same_Some}
 use Rattle.std.specs.Ordering.{int_eq}
 use Rattle.std.specs.Prelude.{cond, pos}
 use Rattle.std.proofs.Common.{◌≡◌, ◌<◌, ◌≤◌, ◌+◌, ◌*◌, ◌∙◌, ℕ, ℤ, suc, Bool, true, false, List, [], ◌∷◌, length, Option, Some, None, slice_get, refl, sym, ap, arith, subst}
+use Rattle.aom_image.proofs.Given.{some_given}
+use Rattle.aom_rules.specs.Calls.{parent_above}
+use Rattle.aom_bounds.proofs.Lines.{line_next}
+use Rattle.aom_bounds.specs.Most.{line_after}
+use Rattle.aom_sound.specs.Destruction.{class_destructor, next_destructor}
 use Rattle.aom_image.specs.Image.{Image}
 use Rattle.aom_image.specs.Views.{class_in, instr_at, is_quiet, method_at}
 use Rattle.aom_instructions.specs.declared.instr.Instr.{Instr}
@@ -16,7 +21,6 @@ use Rattle.aom_shape.specs.Needs.{AllTrue}
 use Rattle.aom_rules.specs.Rules.{rule_needs}
 use Rattle.aom_shape.specs.Shape.{Shape}
 use Rattle.aom_rules.specs.Typing.{IsTyped, Typing}
-use Rattle.aom_roles.specs.Families.{HasNoParents}
 use Rattle.aom_sound.specs.Calls.{called, result_register, returned}
 use Rattle.aom_sound.specs.Cleanup.{ended_by, operation_frame}
 use Rattle.aom_sound.specs.Calls.{ended_well}
@@ -40,7 +44,7 @@ use Rattle.aom_sound.specs.Servers.{parted, reserved}
 use Rattle.aom_sound.specs.State.{A_mark, Accept_left, An_object, An_operation, Answered, Asks, Choice, Closing, Destroy, Dispatch, Dispatched, Frame, Goes, Item, Main_left, Object_left, Of_main, Of_object, Of_root, Of_server, Outcome, Parts, Seat, Serves, Service_left, Stage, Run, State, Task, Trapped, Unwind, home_holder}
 use Rattle.aom_sound.specs.WellTyped.{AllUndo, Good, Houses, Now, Stack, WellTyped}
 use Rattle.aom_sound.specs.World.{IsBusy}
-use Rattle.aom_steps.specs.Ranks.{cell_rank, end_rank, frame_rank, is_going, operations, rank, rank_worths, run_rank, standing, tasks_rank, waiting_rank}
+use Rattle.aom_steps.specs.Ranks.{cell_rank, end_rank, frame_rank, is_going, method_rank, operations, rank, rank_worths, run_rank, standing, tasks_rank, waiting_rank}
 use Rattle.aom_steps.proofs.Falling.{falls, paid, straight}
 use Rattle.aom_steps.proofs.Levels.{begun_paid, canceller_before, destructed_paid, price_some, quiet_canceller, undo_paid}
 use Rattle.aom_steps.proofs.Cells.{operations_below, standing_accepted, standing_asked, standing_goes, standing_gone, standing_passes, standing_reserved, standing_without}
@@ -68,15 +72,19 @@ well_less : (p : Image) (d : Dispatch) → end_rank p (ended_well d) ≤ end_ran
 well_less p (Of_server x client (Serves o)) = omega arith
 well_less p _ = omega arith
 
+-- the rest of a line pays for the next of it
+lines_fall : (p : Image) (m k : ℕ) → next_destructor p m ≡ Some k → method_rank p k [] 0 + line_after p (run_rank p) k ≤ line_after p (run_rank p) m
+lines_fall p m k is = some_given (λ o. class_destructor p o ≡ Some k) (parent_above p m) is (λ none. cc) (λ e above next. omega (arith, line_next p (run_rank p) refl m e k above next))
+
 -- to what stands below
 returns :
-    (p : Image) → HasNoParents p → (t : Typing) (s : State) (fr : Frame) (sh : Shape) (ls : List Layer) → Stack p t s.cells Now (Method fr sh ∷ ls) → 1 ≤ frame_rank p fr → (g : Gives) (a : ℕ) →
+    (p : Image) (t : Typing) (s : State) (fr : Frame) (sh : Shape) (ls : List Layer) → Stack p t s.cells Now (Method fr sh ∷ ls) → 1 ≤ frame_rank p fr → (g : Gives) (a : ℕ) →
     rank p (returned p fr (tasks_of ls) (record s { cells = ended_cells p fr s.cells }) g a (tasks_of ls)) < tasks_rank p (Run fr ∷ tasks_of ls) + (standing s.cells + operations s.items) * cell_rank p
-returns p none t s fr sh ls h some g a =
+returns p t s fr sh ls h some g a =
     let u = returned p fr (tasks_of ls) (record s { cells = ended_cells p fr s.cells }) g a (tasks_of ls) in
     let less =
     returned_less (rank_worths p) standing operations standing_passes operations_below standing_asked (λ x answer. omega arith) (well_less p) p t s fr sh g a
-    (λ d e i. standing_accepted d e i (ended_cells p fr s.cells)) none ls h in
+    (λ d e i. standing_accepted d e i (ended_cells p fr s.cells)) (lines_fall p) ls h in
     let cells = scaled_le (standing u.cells + operations u.items) (standing s.cells + operations s.items) (cell_rank p) less.1 in
     omega (arith, some, less.0, cells)
 
@@ -111,7 +119,7 @@ module _ (p : Image) (t : Typing) (linked : IsLinked p) (typed : IsTyped p t) (c
       let m = of_method p fr.method fr.place i there in
       let is : x.instr ≡ i = same_Some x.instr i (sym x.stands ∙ there) in
       falls p linked c (counted p s) fr (tasks_of ls) m.0 m.1 sh w.undos i m.2 (subst (λ j. AllTrue (rule_needs p fr.method fr.place sh j)) is x.needs) e fits
-      (λ g a stands. returns p linked.parents.none t (counted p s) fr sh ls good.stack (ends p linked c (counted p s) fr (tasks_of ls) m.0 m.1 a stands) g a)
+      (λ g a stands. returns p t (counted p s) fr sh ls good.stack (ends p linked c (counted p s) fr (tasks_of ls) m.0 m.1 a stands) g a)
       (λ a o delete owns. plain fr (tasks_of ls) a o (subst (λ j. AllTrue (needs p c fr (tasks_of ls) (counted p s) j)) delete met).1.0 owns) (λ o owns. entry_object p t s w o _ owns)
       (λ k stands e. cancels_below p linked fr m.0 m.1 good.stack.1.view k stands e)
 

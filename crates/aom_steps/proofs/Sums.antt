@@ -77,3 +77,14 @@ pub one_of_all : {X : Type 0} (f : X → ℕ) (whole : List X → ℕ) → ((x :
 one_of_all f whole more (y ∷ xs) zero x e = omega (arith, more y xs, ap f (same_Some y x e))
 one_of_all f whole more (y ∷ xs) (suc k) x e = omega (arith, more y xs, one_of_all f whole more xs k x e)
 one_of_all f whole more _ _ x e = cc
+
+-- a number of them twice
+pub double_le : (a b x : ℕ) → a + a ≤ b → a * x + a * x ≤ b * x
+double_le a b x le = let more : (a + a) * x ≤ b * x = scaled_le (a + a) b x le in grind (arith, more)
+
+-- one of so many, and so many
+pub one_of : (a x : ℕ) → x ≤ suc a * x
+one_of a x = let more : 1 * x ≤ suc a * x = scaled_le 1 (suc a) x (omega arith) in grind (arith, more)
+
+pub one_beside : (a x y z : ℕ) → y ≤ x → z ≤ a * x → y + z ≤ suc a * x
+one_beside a x y z one more = grind (arith, one, more)

@@ -1,5 +1,5 @@
 -- What the tasks come to after a leave, a return, an arrival and the going of a cell; and what of the cells is only passed on.
-use Rattle.std.proofs.Common.{ap, Bool, List, Option, [], arith, cond, false, length, refl, suc, true, ℕ, ℤ, ◌+◌, ◌∷◌, ◌≡◌, ◌≤◌}
+use Rattle.std.proofs.Common.{ap, Bool, List, None, Option, Some, [], arith, cond, false, length, refl, suc, true, ℕ, ℤ, ◌+◌, ◌∷◌, ◌≡◌, ◌≤◌}
 use Rattle.aom_image.specs.Image.{Image}
 use Rattle.aom_image.specs.Views.{instr_at, method_role}
 use Rattle.aom_image.specs.declared.method.Argument.{Argument}
@@ -8,15 +8,14 @@ use Rattle.aom_image.specs.declared.method.Gives.{Gives}
 use Rattle.aom_image.specs.declared.method.Gives.TheVariants.{Own as An_own, Maybe as A_maybe}
 use Rattle.aom_shape.specs.Shape.{Shape}
 use Rattle.aom_rules.specs.Typing.{Typing}
-use Rattle.aom_roles.specs.Families.{HasNoParents}
-use Rattle.aom_sound.proofs.Lines.{line_none}
 use Rattle.aom_sound.specs.Calls.{accepted_cells, answered_by, below_top, ended_well, passed_cells, received, result_cells, result_register, returned, told_answer}
 use Rattle.aom_sound.specs.Claims.{Dispatching, Dying, Layer, Mark, Method, Unwinding, tasks_of}
 use Rattle.aom_sound.specs.Cleanup.{code_told, to_trap}
 use Rattle.aom_sound.specs.Places.{Cell, Register, Request, moved}
-use Rattle.aom_sound.specs.State.{Answered, Asks, Dispatch, Dispatched, Frame, Home, Item, Run, Seat, State, Task, Trapped, next, resumed}
+use Rattle.aom_sound.specs.State.{Answered, Asks, Dispatch, Dispatched, Frame, AtRoot, Home, Inside, Item, Run, Static, Seat, State, Task, Trapped, next, resumed}
 use Rattle.aom_sound.specs.WellTyped.{Now, Stack}
-use Rattle.aom_steps.specs.Worths.{Worths, tasks_worth, waiting_worth}
+use Rattle.aom_steps.specs.Worths.{Worths, over_worth, tasks_worth, waiting_worth}
+use Rattle.aom_sound.specs.Destruction.{begun_by, line_on, next_destructor}
 use Rattle.aom_sound.specs.Enlisted.{cancelled, ended_cells, on_request, own_request, rerequested}
 use Rattle.aom_rules.specs.Requests.{is_cancel}
 
@@ -93,19 +92,32 @@ module _ (w : Worths) where
     after ls = returned p fr (tasks_of ls) ended gives a (tasks_of ls)
 
     abbrev pub Less : List Layer → Type 0
-    Less ls = (tasks_worth w (after ls).tasks ≤ waiting_worth w (tasks_of ls)) × (f (after ls).cells + g (after ls).items ≤ f s.cells + g s.items)
+    Less ls = (tasks_worth w (after ls).tasks ≤ over_worth w fr.method (tasks_of ls) + waiting_worth w (tasks_of ls)) × (f (after ls).cells + g (after ls).items ≤ f s.cells + g s.items)
 
-    pub returned_less : HasNoParents p → (ls : List Layer) → Stack p t s.cells Now (Method fr sh ∷ ls) → Less ls
-    returned_less none (Method caller sh2 ∷ ls) h =
+    -- the next of a line begins with what the one before it had behind it
+    abbrev pub LinesFall : Type 0
+    LinesFall = (m k : ℕ) → next_destructor p m ≡ Some k → w.method k [] 0 + w.rest k ≤ w.rest m
+
+    line_less : LinesFall → (m : ℕ) (home : Home) (height : ℕ) (below : List Task) → tasks_worth w (line_on p m home height below) ≤ w.rest m + (w.going + waiting_worth w below)
+    line_less fall m Static height below = omega arith
+    line_less fall m AtRoot height below = omega arith
+    line_less fall m (Inside o from) height below = go (next_destructor p m) refl
+      where
+        go : (d : Option ℕ) → next_destructor p m ≡ d → tasks_worth w (begun_by p d o height below) ≤ w.rest m + (w.going + waiting_worth w below)
+        go None is = omega arith
+        go (Some k) is = omega (arith, fall m k is)
+
+    pub returned_less : LinesFall → (ls : List Layer) → Stack p t s.cells Now (Method fr sh ∷ ls) → Less ls
+    returned_less fall (Method caller sh2 ∷ ls) h =
         let x = result_register (instr_at p caller.method caller.place) in
         let below = Run caller ∷ tasks_of ls in
         (omega (arith, received_alike p fr below ended gives a x caller (tasks_of ls)), omega (arith, result_less f passes p fr below ended gives a x (tasks_of ls), ended_less))
-    returned_less none (Dying o ∷ ls) h = (omega (arith, ap (tasks_worth w) (line_none p none fr.method fr.home fr.height (tasks_of ls))), omega (arith, ended_less))
-    returned_less none (Unwinding code es ∷ ls) h = (omega arith, omega (arith, ended_less))
-    returned_less none (Mark gv ∷ Method caller sh2 ∷ ls) h =
+    returned_less fall (Dying o ∷ ls) h = (line_less fall fr.method fr.home fr.height (tasks_of ls), omega (arith, ended_less))
+    returned_less fall (Unwinding code es ∷ ls) h = (omega arith, omega (arith, ended_less))
+    returned_less fall (Mark gv ∷ Method caller sh2 ∷ ls) h =
         let x = result_register (instr_at p caller.method caller.place) in
         let over = Trapped ∷ Run caller ∷ tasks_of ls in
         (omega (arith, received_alike p fr over ended gives a x caller (tasks_of ls)), omega (arith, result_less f passes p fr over ended gives a x (tasks_of ls), ended_less, below s.items))
-    returned_less none (Mark gv ∷ Dispatching d seats ∷ ls) h = (omega (arith, serves d), omega (arith, accepts d (length (Trapped ∷ Dispatched d ∷ tasks_of ls)) a, ended_less, below s.items))
-    returned_less none (Dispatching d seats ∷ ls) h = (omega (arith, answered_less (told_answer gives fr a) d), omega (arith, ended_less))
-    returned_less none _ h = absurd (grind arith)
+    returned_less fall (Mark gv ∷ Dispatching d seats ∷ ls) h = (omega (arith, serves d), omega (arith, accepts d (length (Trapped ∷ Dispatched d ∷ tasks_of ls)) a, ended_less, below s.items))
+    returned_less fall (Dispatching d seats ∷ ls) h = (omega (arith, answered_less (told_answer gives fr a) d), omega (arith, ended_less))
+    returned_less fall _ h = absurd (grind arith)

@@ -4,13 +4,13 @@ use Rattle.aom_image.specs.Image.{Image}
 use Rattle.aom_image.specs.Views.{method_at}
 use Rattle.aom_image.specs.declared.method.Method.{Method}
 use Rattle.aom_image.specs.declared.method.Role.TheVariants.{Error}
-use Rattle.aom_classes.specs.Roles.{destructor_of}
 use Rattle.aom_sound.specs.Enlisted.{part_of}
 use Rattle.aom_sound.specs.Places.{Cell, Elsewhere, Entry, Field, Going, In_service, Object, Place, Queued, Register, Root, Session, held}
 use Rattle.aom_sound.specs.State.{A_mark, An_object, An_operation, Answered, Asks, Closing, Destroy, Dispatch, Dispatched, Item, Main_left, Object_left, Of_main, Of_object, Of_root, Of_server, Run, Seat, State, Task, Trapped, Unwind}
 use Rattle.aom_steps.specs.Within.{loops_worth}
 use Rattle.aom_steps.specs.Worths.{Worths, tasks_worth, waiting_worth}
 use Rattle.aom_bounds.specs.Dispatches.{root_price}
+use Rattle.aom_bounds.specs.Most.{line, line_after}
 use Rattle.aom_bounds.specs.Prices.{Prices, perhaps_price, price}
 
 -- the rounds that are left of a loop, but for the one at hand, which its place pays for
@@ -42,7 +42,7 @@ end_left p c (Of_server x client stage) = error_price p c x
 
 -- the going of a cell is a step; a trap and a leave are none, and what goes before a server is counted by what is there of it
 abbrev pub left_worths : Image → Prices → Worths
-left_worths p c = record { method = method_left p c; trap = 0; going = 1; closing = 0; leave = 0; dispatch = end_left p c }
+left_worths p c = record { method = method_left p c; rest = line_after p (perhaps_price c); trap = 0; going = 1; closing = 0; leave = 0; dispatch = end_left p c }
 
 abbrev pub waiting_left : Image → Prices → List Task → ℕ
 waiting_left p c ts = waiting_worth (left_worths p c) ts
@@ -81,10 +81,10 @@ is_session_with n _ = false
 abbrev pub sessions_left : Prices → ℕ → List Cell → ℕ
 sessions_left c n cs = owned_left c (is_session_with n) cs
 
--- before a server goes: the sessions with it that are there still, and then its destructor
+-- before a server goes: the sessions with it that are there still, and then its line of destructors
 abbrev pub closing_left : Image → Prices → List Cell → Option Object → ℕ
 closing_left p c cs None = 0
-closing_left p c cs (Some o) = sessions_left c o.name cs + perhaps_price c (destructor_of p o.thing)
+closing_left p c cs (Some o) = sessions_left c o.name cs + line p (perhaps_price c) o.thing
 
 -- what goes right below
 abbrev pub goes_below : List Cell → List Task → Option Object

@@ -5,6 +5,7 @@ use Rattle.aom_image.specs.Views.{is_quiet, method_at}
 use Rattle.aom_image.specs.declared.method.Method.{Method}
 use Rattle.aom_image.specs.declared.method.Role.TheVariants.{Error}
 use Rattle.aom_shape.specs.Kinds.{is_object}
+use Rattle.aom_bounds.specs.Most.{line_after}
 use Rattle.aom_sound.specs.Enlisted.{part_of}
 use Rattle.aom_sound.specs.Places.{Place, Going, Cell}
 use Rattle.aom_sound.specs.State.{Frame, Dispatch, Of_main, Main_left, Of_root, Of_object, Object_left, Asks, Answered, Of_server, Seat, Task, Run, Trapped, Destroy, Closing, Unwind, Dispatched, Item, An_object, An_operation, A_mark, State}
@@ -16,8 +17,12 @@ abbrev pub all_left : List Method → ℕ
 all_left [] = 0
 all_left (m ∷ ms) = left m.code [] 0 + all_left ms
 
+-- and each class may have a destructor in a line
+abbrev pub spare : Image → ℕ
+spare p = all_left p.methods + 2 * length p.classes
+
 abbrev pub base : Image → ℕ
-base p = all_left p.methods + 2
+base p = spare p + 2
 
 -- a method comes after those that it calls, and those that are not quiet come after all that are, and after a cell
 abbrev pub level : Image → ℕ → ℕ
@@ -58,13 +63,13 @@ end_rank p (Answered x answer) = 2
 -- once all is served it is the end of an object's
 end_rank p (Of_server x client stage) = 5 + error_rank p x
 
--- the destructor of a server, which is quiet, is paid as its sessions begin to go
+-- a line of destructors, which are quiet, has one of each class at most; that of a server is paid as its sessions begin to go
 abbrev pub closing_rank : Image → ℕ
-closing_rank p = base p ^ length p.methods
+closing_rank p = suc (length p.classes) * base p ^ length p.methods
 
 -- a trap, the going of a cell and a leave are a move each
 abbrev pub rank_worths : Image → Worths
-rank_worths p = record { method = method_rank p; trap = 1; going = 1; closing = closing_rank p; leave = 1; dispatch = end_rank p }
+rank_worths p = record { method = method_rank p; rest = line_after p (run_rank p); trap = 1; going = 1; closing = closing_rank p; leave = 1; dispatch = end_rank p }
 
 abbrev pub waiting_rank : Image → List Task → ℕ
 waiting_rank p ts = waiting_worth (rank_worths p) ts
@@ -72,7 +77,7 @@ waiting_rank p ts = waiting_worth (rank_worths p) ts
 abbrev pub tasks_rank : Image → List Task → ℕ
 tasks_rank p ts = tasks_worth (rank_worths p) ts
 
--- a cell pays for its destructor, which is quiet, for what goes before that where it is a server, and for its going
+-- a cell pays for its line of destructors, for what goes before that where it is a server, and for its going
 abbrev pub cell_rank : Image → ℕ
 cell_rank p = base p ^ suc (length p.methods)
 
