@@ -31,7 +31,7 @@ use Rattle.aom_parts.specs.Room.{AllRunUnder, AllUnder, HasRoom, IsUnder, entrie
 use Rattle.aom_parts.proofs.Depths.{Roomy}
 use Rattle.aom_parts.proofs.Heights.{stands_here}
 use Rattle.aom_acts.proofs.RoomActs.{may_call, pushes}
-use Rattle.aom_acts.proofs.RoomMoves.{none_going_there, tables_of}
+use Rattle.aom_acts.proofs.RoomMoves.{line_goes, none_going_there, tables_of}
 
 -- ---- methods
 
@@ -110,17 +110,17 @@ module _ (p : Image) (t : Typing) (depth : ℕ → ℕ) (cs : List Cell) (items 
   few_tasks back (Mark g ∷ Method fr sh ∷ ls) s r = let few = few_tasks (Returns fr.method fr.home) ls s.1.4 r.1 in omega (arith, few)
   few_tasks back (Mark g ∷ Dispatching d seats ∷ ls) s r = subst (λ us. Few (tasks_of (Mark g ∷ Dispatching d seats ∷ us))) (sym s.1.1) (omega arith)
   few_tasks back (Dying o ∷ []) s r = omega arith
-  few_tasks back (Dying o ∷ Method fr sh ∷ ls) s r = let few = few_tasks (Returns fr.method fr.home) ls s.2.4 r.1 in omega (arith, few)
-  few_tasks back (Dying o ∷ Unwinding code es ∷ ls) s r = let few = few_tasks Leaves ls s.2.1 r in omega (arith, few)
+  few_tasks back (Dying o ∷ Method fr sh ∷ ls) s r = let few = few_tasks (Returns fr.method fr.home) ls s.2.4 r.1.1 in omega (arith, few)
+  few_tasks back (Dying o ∷ Unwinding code es ∷ ls) s r = let few = few_tasks Leaves ls s.2.1 r.1 in omega (arith, few)
   few_tasks back (Dying o ∷ Dispatching d seats ∷ ls) s r = subst (λ us. Few (tasks_of (Dying o ∷ Dispatching d seats ∷ us))) (sym s.2.1) (omega arith)
   few_tasks back (Dying o ∷ Ending x left ∷ Dying y ∷ []) s r = omega arith
-  few_tasks back (Dying o ∷ Ending x left ∷ Dying y ∷ Method fr sh ∷ ls) s r = let few = few_tasks (Returns fr.method fr.home) ls s.2.3.2.4 r.1.1 in omega (arith, few)
-  few_tasks back (Dying o ∷ Ending x left ∷ Dying y ∷ Unwinding code es ∷ ls) s r = let few = few_tasks Leaves ls s.2.3.2.1 r.1 in omega (arith, few)
+  few_tasks back (Dying o ∷ Ending x left ∷ Dying y ∷ Method fr sh ∷ ls) s r = let few = few_tasks (Returns fr.method fr.home) ls s.2.3.2.4 r.1.1.1.1 in omega (arith, few)
+  few_tasks back (Dying o ∷ Ending x left ∷ Dying y ∷ Unwinding code es ∷ ls) s r = let few = few_tasks Leaves ls s.2.3.2.1 r.1.1.1 in omega (arith, few)
   few_tasks back (Dying o ∷ Ending x left ∷ Dying y ∷ Dispatching d seats ∷ ls) s r =
       subst (λ us. Few (tasks_of (Dying o ∷ Ending x left ∷ Dying y ∷ Dispatching d seats ∷ us))) (sym s.2.3.2.1) (omega arith)
   few_tasks back (Ending x left ∷ Dying y ∷ []) s r = omega arith
-  few_tasks back (Ending x left ∷ Dying y ∷ Method fr sh ∷ ls) s r = let few = few_tasks (Returns fr.method fr.home) ls s.3.2.4 r.1.1 in omega (arith, few)
-  few_tasks back (Ending x left ∷ Dying y ∷ Unwinding code es ∷ ls) s r = let few = few_tasks Leaves ls s.3.2.1 r.1 in omega (arith, few)
+  few_tasks back (Ending x left ∷ Dying y ∷ Method fr sh ∷ ls) s r = let few = few_tasks (Returns fr.method fr.home) ls s.3.2.4 r.1.1.1 in omega (arith, few)
+  few_tasks back (Ending x left ∷ Dying y ∷ Unwinding code es ∷ ls) s r = let few = few_tasks Leaves ls s.3.2.1 r.1.1 in omega (arith, few)
   few_tasks back (Ending x left ∷ Dying y ∷ Dispatching d seats ∷ ls) s r = subst (λ us. Few (tasks_of (Ending x left ∷ Dying y ∷ Dispatching d seats ∷ us))) (sym s.3.2.1) (omega arith)
   few_tasks back (Unwinding code es ∷ ls) s r = let few = few_tasks Leaves ls s.1 r in omega (arith, few)
   few_tasks back (Dispatching d seats ∷ ls) s r = subst (λ us. Few (tasks_of (Dispatching d seats ∷ us))) (sym s.1) (omega arith)
@@ -177,7 +177,7 @@ push_at_hand p t wired typed strongest depths heights s fr ts w same room a here
     let needs = subst (λ i. AllTrue (rule_needs p fr.method fr.place h.shape i)) it x.needs in
     let leads = subst (λ i. AllLead t fr.method (flows p fr.method fr.place h.shape i)) it x.flows in
     let roomy = subst (λ l. Roomy p (at 0 depths.depths) (at 0 heights.heights) s.cells s.items l) same (room.under, room.runs, room.fit, room.entries) in
-    let few = pushes p t (at 0 depths.depths) (at 0 heights.heights) (tables_of p t wired strongest depths heights) (record { name = 0; refused = false; answer = pos 0 }) fr ts s w.undos same h (none_going_there p t s w (length (Run fr ∷ ts)) (ap length same)) roomy (Push a) (with_entry (entry_of (register h.shape a)) (set_register h.shape a Null)) here needs.1.0 leads.0 refl in
+    let few = pushes p t (at 0 depths.depths) (at 0 heights.heights) (tables_of p t wired strongest depths heights) (record { name = 0; refused = false; answer = pos 0 }) fr ts s w.undos same h (none_going_there p t s w (length (Run fr ∷ ts)) (ap length same)) roomy (line_goes p t wired s w fr ts same) (Push a) (with_entry (entry_of (register h.shape a)) (set_register h.shape a Null)) here needs.1.0 leads.0 refl in
     omega (arith, few)
 
 pub push_operation_at_hand : (p : Image) (t : Typing) → IsWired p → IsTyped p t → IsStrongest p t → (depths : HasDepths p) (heights : HasHeights p) (s : State) (fr : Frame) (ts : List Task) → WellTyped p t s → s.tasks ≡ Run fr ∷ ts → HasRoom p (at 0 depths.depths) (at 0 heights.heights) s
@@ -189,5 +189,5 @@ push_operation_at_hand p t wired typed strongest depths heights s fr ts w same r
     let needs = subst (λ i. AllTrue (rule_needs p fr.method fr.place h.shape i)) it x.needs in
     let leads = subst (λ i. AllLead t fr.method (flows p fr.method fr.place h.shape i)) it x.flows in
     let roomy = subst (λ l. Roomy p (at 0 depths.depths) (at 0 heights.heights) s.cells s.items l) same (room.under, room.runs, room.fit, room.entries) in
-    let few = pushes p t (at 0 depths.depths) (at 0 heights.heights) (tables_of p t wired strongest depths heights) (record { name = 0; refused = false; answer = pos 0 }) fr ts s w.undos same h (none_going_there p t s w (length (Run fr ∷ ts)) (ap length same)) roomy (PushOperation a m) (with_entry Pushed_operation h.shape) here needs.1.0 leads.0 refl in
+    let few = pushes p t (at 0 depths.depths) (at 0 heights.heights) (tables_of p t wired strongest depths heights) (record { name = 0; refused = false; answer = pos 0 }) fr ts s w.undos same h (none_going_there p t s w (length (Run fr ∷ ts)) (ap length same)) roomy (line_goes p t wired s w fr ts same) (PushOperation a m) (with_entry Pushed_operation h.shape) here needs.1.0 leads.0 refl in
     omega (arith, few)

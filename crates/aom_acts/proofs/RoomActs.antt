@@ -4,7 +4,7 @@ use Rattle.aom_image.proofs.Given.{false_given, some_given}
 use Rattle.std.proofs.lemmas.Bool.{false≢true, ne_eqb, true≢false}
 use Rattle.std.specs.Prelude.{is_some, not, ◌||◌}
 use Rattle.aom_image.specs.Image.{Image}
-use Rattle.aom_image.specs.Views.{arguments_of, instr_at, is_quiet, leaves, method_class, method_role}
+use Rattle.aom_image.specs.Views.{arguments_of, gives_of, instr_at, is_quiet, leaves, method_class, method_role}
 use Rattle.aom_instructions.specs.declared.instr.Instr.{Instr}
 use Rattle.aom_instructions.specs.declared.instr.Instr.TheVariants.{Call, Cancel, Delete, Push, PushOperation, Trap}
 use Rattle.aom_instructions.specs.declared.instr.Target.{Target}
@@ -34,8 +34,7 @@ use Rattle.aom_bounds.specs.Calls.{Among, MayCall, callees, cancels, destructors
 use Rattle.aom_bounds.specs.Heights.{CallsOver, Enters, StandsWith}
 use Rattle.aom_sound.proofs.Claimed.{length_objects}
 use Rattle.aom_sound.proofs.Destroying.{destroys}
-use Rattle.aom_sound.proofs.Finishing.{all_parts}
-use Rattle.aom_sound.proofs.Lines.{line_none}
+use Rattle.aom_sound.proofs.Finishing.{all_parts, none_left, returnable}
 use Rattle.aom_sound.proofs.Items.{length_forms}
 use Rattle.aom_sound.proofs.Maps.{held_without, held_moved, same_place_refl}
 use Rattle.aom_sound.proofs.Storing.{ended_alike, held_set_word, rerequested_alike, resessioned_alike}
@@ -45,7 +44,7 @@ use Rattle.aom_sound.specs.Calls.{ended_well, accepted_cells, below_top, entered
 use Rattle.aom_sound.specs.Claims.{objects}
 use Rattle.aom_sound.specs.Cleanup.{operation_frame, top_place}
 use Rattle.aom_classes.specs.Roles.{destructor_of}
-use Rattle.aom_sound.specs.Destruction.{destructor_frame, begun, begun_by, destructed}
+use Rattle.aom_sound.specs.Destruction.{destructor_frame, begun, begun_by, destructed, line_on, next_destructor}
 use Rattle.aom_sound.specs.Effects.{The_message, Replied, Calls, Cancels, Carried, Counts, Destroys, Destroys_last, Effect, Goes_on, In_field, In_register, Jumps, Leaves, Made, Operates, Popped, Popped_operation, Pushed, Pushed_operation, Repeats, Requested, Returns, Same, Sets_trap, Spot, Update, Written, applied, cells_after, items_after, spot_place, with_words, Sessioned}
 use Rattle.aom_sound.specs.Laws.{IsWired}
 use Rattle.aom_sound.specs.Steps.{Fits as May, FitsUpdate}
@@ -54,7 +53,7 @@ use Rattle.aom_sound.specs.State.{Of_server, Dispatch, Accepts, A_mark, An_objec
 use Rattle.aom_sound.specs.WellTyped.{AllUndo, Fits, IsUndo}
 use Rattle.aom_sound.specs.Words.{here, stored}
 use Rattle.aom_parts.specs.Room.{Destructs, IsUnder, NoClosing, below_height, entries_in, may_push}
-use Rattle.aom_parts.proofs.Depths.{AllLow, Roomy, SameBelow, begins, closing_begins, dropped, held_apart, item_pushed, lower, off_to_trap, popped, popped_top, recelled, top_under}
+use Rattle.aom_parts.proofs.Depths.{AllLow, Roomy, SameBelow, begins, closing_begins, dropped, going_begins, held_apart, item_pushed, lower, off_to_trap, popped, popped_top, recelled, top_under}
 use Rattle.aom_parts.proofs.Heights.{LowUnder, Stands_here, own_entries}
 use Rattle.aom_sound.specs.Enlisted.{begun_cells, cancel_method, cancelling, ended_cells, on_request, own_request}
 use Rattle.aom_families.proofs.Running.{body_runs}
@@ -158,6 +157,16 @@ accepted_same (Of_server x c Accepts) from cs apart e dealt =
     held_served (moved from there cs) x.object.name (opened c (service_of (moved from there cs) x.object.name)) e ∙ held_apart cs from there e (apart e dealt) (session_apart x.object.name c e dealt)
 accepted_same _ from cs apart e dealt = refl
 
+-- the destructor that follows in the line runs as the cell goes too, and is quiet
+pub record NextGoes (p : Image) (cs : List Cell) (m : ℕ) (below : List Task) : Type 0 where
+  pub gives : gives_of p m ≡ Nothing
+  pub next : (k : ℕ) → next_destructor p m ≡ Some k → Destructs p (held cs (Going (length below))) k × (is_quiet p k ≡ true) × (leaves p k ≡ false)
+
+-- so is it of a method that runs over a cell that goes
+abbrev pub LineGoes : Image → List Cell → ℕ → List Task → Type 0
+LineGoes p cs m (Destroy ∷ below) = NextGoes p cs m below
+LineGoes p cs m _ = Unit {0}
+
 -- the tables of depths and of heights
 pub record Tables (p : Image) (t : Typing) (depth heights : ℕ → ℕ) : Type 0 where
   pub wired : IsWired p
@@ -170,7 +179,9 @@ module _ (p : Image) (t : Typing) (depth heights : ℕ → ℕ) (tables : Tables
   -- ---- what leaves the cleanup stack is dealt with
 
   -- its destructor begins, if it has one
-  pub destructed_over : (cs : List Cell) (items : List Item) (o : Object) (ts : List Task) → ((m : ℕ) → Destructs p (Some o) m → IsUnder depth (depth m) ts) → Roomy p depth heights cs items ts → Roomy p depth heights cs items (destructed p o (length items) ts)
+  pub destructed_over :
+      (cs : List Cell) (items : List Item) (o : Object) (ts : List Task) → ((m : ℕ) → Destructs p (Some o) m → IsUnder depth (depth m) ts) → Roomy p depth heights cs items (Destroy ∷ ts) →
+      Roomy p depth heights cs items (destructed p o (length items) ts)
   destructed_over cs items o ts under w = go (destructor_of p o.thing) refl
     where
       go : (d : Option ℕ) → destructor_of p o.thing ≡ d → Roomy p depth heights cs items (begun_by p d o (length items) ts)
@@ -185,9 +196,12 @@ module _ (p : Image) (t : Typing) (depth heights : ℕ → ℕ) (tables : Tables
       Roomy p depth heights cs items ts → Roomy p depth heights cs items (begun p o (length items) ts)
   begins_over cs items o ts there under lone w = over (is_server p o.thing) refl
     where
+      at_hand : Roomy p depth heights cs items (Destroy ∷ ts)
+      at_hand = going_begins p depth heights cs items ts (λ m e. under m (subst (λ x. Destructs p x m) there e)) w
+
       over : (b : Bool) → is_server p o.thing ≡ b → Roomy p depth heights cs items (cond b (Closing ∷ Destroy ∷ ts) (destructed p o (length items) ts))
-      over true server = closing_begins p depth heights cs items ts (λ m e. under m (subst (λ x. Destructs p x m) there e)) (lone server) w
-      over false plain = destructed_over cs items o ts under w
+      over true server = closing_begins p depth heights cs items ts (lone server) at_hand
+      over false plain = destructed_over cs items o ts under at_hand
 
   pub clears : (cs : List Cell) (items : List Item) (o : Object) (ts : List Task) → held cs (Entry (length items)) ≡ Some o → held cs (Going (length ts)) ≡ None → NoClosing ts → AllLow (length items) ts → Roomy p depth heights cs (An_object ∷ items) ts
       → Roomy p depth heights (moved (Entry (length items)) (Going (length ts)) cs) items (begun p o (length items) ts)
@@ -220,7 +234,8 @@ module _ (p : Image) (t : Typing) (depth heights : ℕ → ℕ) (tables : Tables
 
   -- ---- a method's move
 
-  module _ (c : Choice) (fr : Frame) (ts : List Task) (s : State) (undos : AllUndo p s.items) (at_hand : s.tasks ≡ Run fr ∷ ts) (h : Stands_here p t s fr ts) (unheld : held s.cells (Going (length (Run fr ∷ ts))) ≡ None) (w : Roomy p depth heights s.cells s.items (Run fr ∷ ts)) where
+  module _ (c : Choice) (fr : Frame) (ts : List Task) (s : State) (undos : AllUndo p s.items) (at_hand : s.tasks ≡ Run fr ∷ ts) (h : Stands_here p t s fr ts) (unheld : held s.cells (Going (length (Run fr ∷ ts))) ≡ None) (w : Roomy p depth heights s.cells s.items (Run fr ∷ ts))
+      (line : LineGoes p s.cells fr.method ts) where
     abbrev R : State → Type 0
     R u = Roomy p depth heights u.cells u.items u.tasks
 
@@ -324,26 +339,55 @@ module _ (p : Image) (t : Typing) (depth heights : ℕ → ℕ) (tables : Tables
     again : (cs' : List Cell) (items : List Item) (us : List Task) → ((e : Place) → IsDealt e → held cs' e ≡ held over.cells e) → Roomy p depth heights s.cells items us → Roomy p depth heights cs' items us
     again cs' items us same v = recelled p depth heights s.cells cs' items us (same_all s.cells cs' (length items) (length us) (λ e dealt. same e dealt ∙ ended_same e)) v
 
-    return_room : (g : Gives) (a : ℕ) (below : List Task) → LowUnder fr.height below → Roomy p depth heights s.cells s.items below → R (returned p fr ts over g a below)
-    return_room g a (Run caller ∷ below) low v =
+    -- at its end a method has no items of its own
+    ended_high : no_entry h.shape.entries ≡ true → length s.items ≡ fr.height
+    ended_high none = go h.shape.entries high none
+      where
+        go : (es : List Pushed_entry) → length s.items ≡ length (objects es h.below) → no_entry es ≡ true → length s.items ≡ fr.height
+        go [] same none = omega (arith, same, h.height)
+        go (e ∷ es) same none = absurd cc
+
+    -- the next destructor of a line begins, or the cell goes next
+    line_room :
+        (below : List Task) → NextGoes p s.cells fr.method below → (gives_of p fr.method ≡ Nothing → length s.items ≡ fr.height) → Roomy p depth heights s.cells s.items (Destroy ∷ below) →
+        Roomy p depth heights over.cells s.items (line_on p fr.method fr.home fr.height below)
+    line_room below goes ended v = on fr.home
+      where
+        there : Roomy p depth heights over.cells s.items (Destroy ∷ below)
+        there = again over.cells s.items (Destroy ∷ below) (λ e dealt. refl) v
+
+        by : (o : Object) (d : Option ℕ) → next_destructor p fr.method ≡ d → Roomy p depth heights over.cells s.items (begun_by p d o fr.height below)
+        by o None e = there
+        by o (Some m) e =
+            let next = goes.next m e in
+            begins p depth heights over.cells s.items (destructor_frame p m o (length below) fr.height) (Destroy ∷ below) (sym (ended goes.gives)) (v.1.0 m next.0)
+            (λ may. absurd (pushes_none (is_quiet p m) (leaves p m) next.1 next.2 may)) there
+
+        on : (home : Home) → Roomy p depth heights over.cells s.items (line_on p fr.method home fr.height below)
+        on Static = there
+        on AtRoot = there
+        on (Inside o from) = by o (next_destructor p fr.method) refl
+
+    return_room :
+        (g : Gives) (a : ℕ) (below : List Task) → LowUnder fr.height below → LineGoes p s.cells fr.method below → (gives_of p fr.method ≡ Nothing → length s.items ≡ fr.height) →
+        Roomy p depth heights s.cells s.items below → R (returned p fr ts over g a below)
+    return_room g a (Run caller ∷ below) low goes ended v =
         let x = result_register (instr_at p caller.method caller.place) in
         let cells' = result_cells p fr ts over g a x below in
         goes_back cells' s.items g a x caller below (again cells' s.items (Run caller ∷ below) (result_same p fr ts over g a x below) v)
-    return_room g a (Trapped ∷ Run caller ∷ below) low v =
+    return_room g a (Trapped ∷ Run caller ∷ below) low goes ended v =
         let x = result_register (instr_at p caller.method caller.place) in
         let cells' = result_cells p fr ts over g a x below in
         goes_back_trapped cells' (below_top s.items) g a x caller below (Some (pos 0))
         (popped_top p depth heights cells' s.items (Run caller ∷ below) (low_top (Run caller ∷ below) low) (again cells' s.items (Run caller ∷ below) (result_same p fr ts over g a x below) v))
-    return_room g a (Trapped ∷ Dispatched d ∷ below) low v =
+    return_room g a (Trapped ∷ Dispatched d ∷ below) low goes ended v =
         let cells' = accepted_cells d (here fr ts over a) over.cells in
         popped_top p depth heights cells' s.items (Dispatched (ended_well d) ∷ below) (low_top (Dispatched d ∷ below) low)
         (again cells' s.items (Dispatched (ended_well d) ∷ below) (accepted_same d (here fr ts over a) over.cells (register_apart (length ts) a)) v)
-    return_room g a (Destroy ∷ below) low v =
-        let line = line_none p tables.wired.parentless fr.method fr.home fr.height below in
-        subst (λ us. R (record over { tasks = us })) (sym line) (again over.cells s.items (Destroy ∷ below) (λ e dealt. refl) v)
-    return_room g a (Dispatched d ∷ below) low v = again over.cells s.items (Dispatched d ∷ below) (λ e dealt. refl) v
-    return_room g a (Unwind code ∷ below) low v = again over.cells s.items (Unwind code ∷ below) (λ e dealt. refl) v
-    return_room g a _ low v = again over.cells s.items s.tasks (λ e dealt. refl) given
+    return_room g a (Destroy ∷ below) low goes ended v = line_room below goes ended v
+    return_room g a (Dispatched d ∷ below) low goes ended v = again over.cells s.items (Dispatched d ∷ below) (λ e dealt. refl) v
+    return_room g a (Unwind code ∷ below) low goes ended v = again over.cells s.items (Unwind code ∷ below) (λ e dealt. refl) v
+    return_room g a _ low goes ended v = again over.cells s.items s.tasks (λ e dealt. refl) given
 
     -- ---- cancels
 
@@ -483,7 +527,7 @@ module _ (p : Image) (t : Typing) (depth heights : ℕ → ℕ) (tables : Tables
     acts_room i stands r n (Calls target m first) f = call_room target m first f.0 (stands_as i _ stands f.1) (subst Ruled f.1 r)
     acts_room i stands r n (Cancels m) f = cancel_room m (stands_as i _ stands f.0) f.1
     acts_room i stands r n (Sets_trap target m first) f = trap_room target m first f.0 (stands_as i _ stands f.1) (subst Ruled f.1 r).0
-    acts_room i stands r n (Returns g a) f = return_room g a ts h.low_under (dropped p depth heights s.cells s.items fr ts w)
+    acts_room i stands r n (Returns g a) f = return_room g a ts h.low_under line (λ nothing. ended_high (none_left p fr h.shape a nothing (returnable p fr h.shape a (subst Ruled f.0 r)))) (dropped p depth heights s.cells s.items fr ts w)
     acts_room i stands r n (Leaves code u) f =
         let cs = cells_after p fr ts s u in
         let items = items_after u s.items in

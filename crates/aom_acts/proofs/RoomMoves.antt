@@ -1,27 +1,31 @@
 -- Each move of a well-typed state keeps the room that a run needs.
 use Rattle.std.proofs.lemmas.Option.{none-some, same_Some}
-use Rattle.std.proofs.Common.{Bool, List, None, Option, Some, [], ap, arith, cond, false, inr, length, pos, refl, subst, sym, true, ℕ, ℤ, ◌++◌, ◌∙◌, ◌∷◌, ◌≡◌, ◌≤◌}
+use Rattle.std.proofs.Common.{Bool, List, None, Option, Some, [], ap, arith, cond, false, inl, inr, length, pos, refl, subst, sym, true, ℕ, ℤ, ◌++◌, ◌∙◌, ◌∷◌, ◌≡◌, ◌≤◌}
 use Rattle.std.proofs.lemmas.Bool.{eq-eqb, true≢false}
 use Rattle.std.proofs.lemmas.List.{append-nil}
 use Rattle.std.specs.Prelude.{is_some}
 use Rattle.std.specs.Ordering.{int_eq}
 use Rattle.aom_image.specs.declared.method.Role.TheVariants.{Error as Answers}
 use Rattle.aom_image.specs.Image.{Image}
-use Rattle.aom_image.specs.Views.{instr_at}
+use Rattle.aom_image.proofs.Given.{some_given}
+use Rattle.aom_image.specs.Views.{gives_of, instr_at}
 use Rattle.aom_instructions.specs.declared.instr.Instr.{Instr}
 use Rattle.aom_image.specs.declared.method.Gives.{Gives}
 use Rattle.aom_image.specs.declared.method.Gives.TheVariants.{Left, Maybe as A_maybe, Nothing, Own as An_own, Word as A_word}
 use Rattle.aom_classes.specs.Roles.{main_of}
 use Rattle.aom_shape.specs.Needs.{AllTrue}
 use Rattle.aom_rules.specs.Rules.{flows, rule_needs}
+use Rattle.aom_shape.specs.Shape.{Shape}
 use Rattle.aom_shape.specs.Tables.{at}
 use Rattle.aom_rules.specs.Typing.{AllLead, IsTyped, Typing}
 use Rattle.aom_bounds.specs.Strongest.{IsStrongest}
 use Rattle.aom_bounds.specs.Depths.{HasDepths}
 use Rattle.aom_bounds.specs.Heights.{HasHeights}
 use Rattle.aom_bounds.specs.Calls.{Among, destructors, lines_of, thing_class}
-use Rattle.aom_bounds.proofs.Listed.{among_right, below_from, below_lists, gone_with}
-use Rattle.aom_roles.proofs.Descending.{itself}
+use Rattle.aom_bounds.proofs.Listed.{among_right, below_from, below_lists, gone_with, kept_in_line, runs_among}
+use Rattle.aom_roles.proofs.Descending.{child, itself, through}
+use Rattle.aom_roles.specs.Families.{parent_of}
+use Rattle.aom_rules.specs.Calls.{parent_above, parent_by}
 use Rattle.aom_sound.proofs.Moving.{steps_are_moves}
 use Rattle.aom_sound.specs.Effects.{Effect, applied}
 use Rattle.aom_roles.specs.Classes.{sessions_at, sessions_in}
@@ -34,24 +38,25 @@ use Rattle.aom_shape.specs.declared.kind.Kind.TheVariants.{Null}
 use Rattle.aom_sound.proofs.Claimed.{claim_going_above}
 use Rattle.aom_sound.proofs.Housing.{stands_session_of}
 use Rattle.aom_sound.proofs.Straight.{fits_unowning}
-use Rattle.aom_sound.specs.Destruction.{first_session, parting, seat_or}
+use Rattle.aom_sound.specs.Destruction.{class_destructor, first_session, parting, seat_or}
 use Rattle.aom_sound.specs.Steps.{Empties, Acts, Arrives, Clears, Comes_out, Ends, Fits, Move, Rests, Undoes, Vanishes}
 use Rattle.aom_sound.proofs.Maps.{held_without}
 use Rattle.aom_sound.specs.Calls.{called, result_register}
 use Rattle.aom_sound.specs.Cleanup.{code_told}
 use Rattle.aom_sound.specs.Laws.{IsWired}
-use Rattle.aom_sound.proofs.Layers.{closing_layer, dispatch_layer}
-use Rattle.aom_sound.specs.Claims.{Dispatching, Dying, Ending, Layer, claim, declared, forms, items_of, tasks_of}
+use Rattle.aom_sound.proofs.Destroying.{destroys_by}
+use Rattle.aom_sound.proofs.Layers.{closing_layer, dispatch_layer, method_layer}
+use Rattle.aom_sound.specs.Claims.{Dispatching, Dying, Ending, Layer, Method, claim, declared, forms, items_of, tasks_of}
 use Rattle.aom_sound.specs.Enlisted.{part_of}
 use Rattle.aom_sound.specs.Moves.{answered, asking, counted, dispatch_ends, error_frame, failed, handled, main_ends, object_ends, step}
 use Rattle.aom_sound.specs.Places.{service_of, Entry, Cell, Elsewhere, Going, Object, Place, Root, Session, held, moved, same_place, seen, without}
 use Rattle.aom_sound.specs.State.{Parts, Service_left, Serves, Of_server, Closing, Destroy, Accepts, Accepted, Accept_left, A_mark, An_object, An_operation, Answered, Asks, Choice, Dispatch, Dispatched, Frame, Goes, Home, Item, Main_left, Object_left, Of_main, Of_object, Of_root, Rest, Run, Seat, State, Task, Trapped, Unwind, frame_of, next}
-use Rattle.aom_sound.specs.WellTyped.{AllUndo, Fits as Fits_kind, Good, IsOverDying, WellTyped}
+use Rattle.aom_sound.specs.WellTyped.{AllUndo, Fits as Fits_kind, Good, IsOfFamily, IsOverDying, WellTyped}
 use Rattle.aom_sound.specs.World.{boot_state, main_tasks}
 use Rattle.aom_parts.specs.Room.{Destructs, HasRoom, entries_in}
-use Rattle.aom_parts.proofs.Depths.{Roomy, held_apart, on_again, popped, recelled}
+use Rattle.aom_parts.proofs.Depths.{Roomy, going_ends, held_apart, on_again, popped, recelled}
 use Rattle.aom_parts.proofs.Heights.{Stands_here, low_unwinding, stands_here}
-use Rattle.aom_acts.proofs.RoomActs.{IsDealt, Tables, acts_room, begins_over, clears, destructed_over, goes_there_now, going_apart, session_apart, undoes}
+use Rattle.aom_acts.proofs.RoomActs.{IsDealt, LineGoes, NextGoes, Tables, acts_room, begins_over, clears, destructed_over, goes_there_now, going_apart, session_apart, undoes}
 use Rattle.aom_clients.specs.declared.client.Client.{Client}
 use Rattle.aom_sound.proofs.Dropping.{dropped, queue_dropped, held_dropped}
 use Rattle.aom_sound.proofs.Unslotting.{each_unslotted_alike}
@@ -124,6 +129,34 @@ session_told p t wired s w ts o at there c so holds = closing_layer (λ ls. Good
 
     over : (x : Object) (left : List ℕ) (ls : List Layer) → tasks_of ls ≡ Destroy ∷ ts → Good p t s.cells (Ending x left ∷ ls) → SessionOf p o so
     over x left ls under good = right_under x left ls under good good.stack.2
+
+-- ---- lines
+
+-- what follows a destructor in the line of a cell that goes is a destructor of the cell's line too
+next_goes :
+    (p : Image) → IsWired p → (cs : List Cell) (m c : ℕ) (below : List Task) (o : Object) → held cs (Going (length below)) ≡ Some o → o.thing ≡ An_object_of c → gives_of p m ≡ Nothing →
+    IsOfFamily p c m → NextGoes p cs m below
+next_goes p wired cs m c below o there is nothing family = record {
+  gives = nothing;
+  next = λ k e. some_given (λ q. class_destructor p q ≡ Some k) (parent_above p m) e (λ none. cc) (λ up at role.
+      let parent : parent_of p family.class ≡ Some up = ap (parent_by p) (sym family.of) ∙ at in
+      let above = through p c family.class up family.above (child p family.class up up parent (itself p up)) in
+      let its = destroys_by p wired c up k above role in
+      let line = kept_in_line p up k role in
+      let runs = runs_among p (An_object_of c) k (An_object_of c, itself p c, inl (line.0, through p c up line.0 above line.1, line.2)) in
+      let here = subst (λ x. Among k (destructors p (thing_class x))) (sym is) runs in
+      (subst (λ x. Destructs p x k) (sym there) here, its.quiet, its.stays));
+}
+
+pub line_goes : (p : Image) (t : Typing) → IsWired p → (s : State) → WellTyped p t s → (fr : Frame) (ts : List Task) → s.tasks ≡ Run fr ∷ ts → LineGoes p s.cells fr.method ts
+line_goes p t wired s w fr ts at =
+    method_layer (λ ls. Good p t s.cells ls) fr ts w.layers (sym w.tasks ∙ at) w.good (λ sh ls under good. subst (LineGoes p s.cells fr.method) under (go sh ls good))
+  where
+    go : (sh : Shape) (ls : List Layer) → Good p t s.cells (Method fr sh ∷ ls) → LineGoes p s.cells fr.method (tasks_of ls)
+    go sh (Dying o ∷ ls) good =
+        let d = good.stack.4 in
+        next_goes p wired s.cells fr.method d.1.6 (tasks_of ls) o d.0.1 d.1.7 d.1.3 d.1.8
+    go sh _ good = tt
 
 -- ---- ends
 
@@ -207,7 +240,8 @@ module _ (p : Image) (t : Typing) (depth heights : ℕ → ℕ) (tables : Tables
       let h = stands_here p t s fr ts w at in
       let x = typed.each fr.method fr.place h.shape h.there in
       let is : x.instr ≡ i = same_Some x.instr i (sym x.stands ∙ there) in
-      acts_room p t depth heights tables c fr ts (counted p s) w.undos at (again h) (none_going_there p t s w (length (Run fr ∷ ts)) (ap length at)) (subst (λ us. Roomy p depth heights s.cells s.items us) at room) i there
+      acts_room p t depth heights tables c fr ts (counted p s) w.undos at (again h) (none_going_there p t s w (length (Run fr ∷ ts)) (ap length at)) (subst (λ us. Roomy p depth heights s.cells s.items us) at room)
+      (line_goes p t tables.wired s w fr ts at) i there
       (subst (λ j. AllTrue (rule_needs p fr.method fr.place h.shape j)) is x.needs) (subst (λ j. AllLead t fr.method (flows p fr.method fr.place h.shape j)) is x.flows) e fits
     where
       -- what a move counts is no part of it
@@ -225,7 +259,7 @@ module _ (p : Image) (t : Typing) (depth heights : ℕ → ℕ) (tables : Tables
       (c : Choice) (s : State) → WellTyped p t s → (ts : List Task) (o : Object) → s.tasks ≡ Closing ∷ Destroy ∷ ts → held s.cells (Going (length ts)) ≡ Some o → Roomy p depth heights s.cells s.items (Closing ∷ Destroy ∷ ts) →
       (x : Option Seat) → first_session s.cells o.name (service_of s.cells o.name).sessions ≡ x → RoomyState (parting p o x ts (counted p s))
   emptied c s w ts o at there room None e =
-      destructed_over p t depth heights tables s.cells s.items o ts (λ m d. room.1.0.0 m (subst (λ y. Destructs p y m) (sym there) d)) (room.0, room.1.1, room.2, room.3)
+      destructed_over p t depth heights tables s.cells s.items o ts (λ m d. room.1.1.0 m (subst (λ y. Destructs p y m) (sym there) d)) (room.0, room.1.1, room.2, room.3)
   emptied c s w ts o at there room (Some x) e =
       let f = first_held s.cells o.name (service_of s.cells o.name).sessions x e in
       let k = length (Closing ∷ Destroy ∷ ts) in
@@ -235,7 +269,7 @@ module _ (p : Image) (t : Typing) (depth heights : ℕ → ℕ) (tables : Tables
       let cells' = moved x.place (Going k) s.cells in
       begins_over p t depth heights tables cells' s.items x.object (Closing ∷ Destroy ∷ ts)
       (goes_there_now s.cells x.place k (none_going_there p t s w k (ap length at)) (apart (Going k) tt) ∙ from)
-      (λ m d. room.1.0.0 m (subst (λ y. Destructs p y m) (sym there) (its.destructs m d)))
+      (λ m d. room.1.1.0 m (subst (λ y. Destructs p y m) (sym there) (its.destructs m d)))
       (λ server. absurd (true≢false (sym server ∙ its.plain)))
       (recelled p depth heights s.cells cells' s.items (Closing ∷ Destroy ∷ ts) (
         λ j lt. held_apart s.cells x.place (Going k) (Entry j) (apart (Entry j) tt) refl,
@@ -253,7 +287,7 @@ module _ (p : Image) (t : Typing) (depth heights : ℕ → ℕ) (tables : Tables
       subst RoomyState (sym same) (on_again p depth heights cells' s.items ts (recelled p depth heights s.cells cells' s.items ts (
         λ k lt. still (Entry k) ∙ held_without left (Going (length ts)) (Entry k) ∙ before (Entry k) ∙ held_dropped (is_queue_of o.name) s.cells (Entry k),
         λ k lt. still (Going k) ∙ held_without left (Going (length ts)) (Going k) ∙ ap (λ b. cond b None (held left (Going k))) (going_apart (length ts) k lt) ∙ before (Going k) ∙ held_dropped (is_queue_of o.name) s.cells (Going k),
-      ) (subst (λ us. Roomy p depth heights s.cells s.items us) at room)))
+      ) (going_ends p depth heights s.cells s.items ts (subst (λ us. Roomy p depth heights s.cells s.items us) at room))))
   roomy_moves within typed c s u w room (Empties ts o at there same) =
       subst RoomyState (sym same) (emptied c s w ts o at there (subst (λ us. Roomy p depth heights s.cells s.items us) at room) (first_session s.cells o.name (service_of s.cells o.name).sessions) refl)
   roomy_moves within typed c s u w room (Clears code ts items o at top there same) =

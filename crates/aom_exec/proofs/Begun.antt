@@ -103,11 +103,11 @@ module _ (p : Image) (o : Object) (height : ℕ) (d : Dispatch) where
       by (Some m) e = (tt, tt)
 
   begun_runs : (depth : ℕ → ℕ) (cs : List Cell) → AllRunUnder p depth cs [] (begun p o height ends)
-  begun_runs depth cs = by_begun (λ ts. AllRunUnder p depth cs [] ts) ((λ m h. tt, tt), tt) by
+  begun_runs depth cs = by_begun (λ ts. AllRunUnder p depth cs [] ts) (tt, (λ m h. tt, tt)) by
     where
       by : (m : Option ℕ) → destructor_of p o.thing ≡ m → AllRunUnder p depth cs [] (begun_by p m o height ends)
-      by None e = tt
-      by (Some m) e = (tt, tt)
+      by None e = (λ m h. tt, tt)
+      by (Some m) e = (tt, (λ m h. tt, tt))
 
   begun_fit : (heights : HasHeights p) → AllFit p (at 0 heights.heights) [] (begun p o height ends)
   begun_fit heights = by_begun (λ ts. AllFit p (at 0 heights.heights) [] ts) tt by

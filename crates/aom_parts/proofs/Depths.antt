@@ -7,7 +7,7 @@ use Rattle.aom_sound.specs.Cleanup.{to_trap}
 use Rattle.aom_sound.specs.Calls.{below_top}
 use Rattle.aom_sound.specs.Places.{Cell, Entry, Going, Place, held, moved, same_place}
 use Rattle.aom_sound.specs.State.{A_mark, An_object, An_operation, Closing, Destroy, Dispatched, Frame, Item, Run, Task, Trapped, Unwind, resumed}
-use Rattle.aom_parts.specs.Room.{AllFit, AllRunUnder, AllUnder, ClosesUnder, Destructs, IsUnder, NoClosing, RunsBy, RunsUnder, below_height, entries_in, may_push}
+use Rattle.aom_parts.specs.Room.{AllFit, AllRunUnder, AllUnder, Destructs, GoesUnder, IsUnder, NoClosing, RunsBy, RunsUnder, below_height, entries_in, may_push}
 
 -- each method at hand began where the cleanup stack had no more items than that
 abbrev pub AllLow : ℕ → List Task → Type 0
@@ -81,14 +81,8 @@ module _ (p : Image) (depth heights : ℕ → ℕ) where
       same_run (An_operation k w) m e = e
       same_run A_mark m e = e
 
-  same_closing : (cs cs' : List Cell) (ts : List Task) → ((k : ℕ) → k < length ts → held cs' (Going k) ≡ held cs (Going k)) → ClosesUnder p depth cs ts → ClosesUnder p depth cs' ts
-  same_closing cs cs' (Destroy ∷ ts) same w = (λ m e. w.0 m (subst (λ o. Destructs p o m) (same (length ts) (omega arith)) e), w.1)
-  same_closing cs cs' [] same w = tt
-  same_closing cs cs' (Run fr ∷ ts) same w = tt
-  same_closing cs cs' (Trapped ∷ ts) same w = tt
-  same_closing cs cs' (Closing ∷ ts) same w = tt
-  same_closing cs cs' (Unwind code ∷ ts) same w = tt
-  same_closing cs cs' (Dispatched d ∷ ts) same w = tt
+  same_going : (cs cs' : List Cell) (ts : List Task) → ((k : ℕ) → k < length (Destroy ∷ ts) → held cs' (Going k) ≡ held cs (Going k)) → GoesUnder p depth cs ts → GoesUnder p depth cs' ts
+  same_going cs cs' ts same w m e = w m (subst (λ o. Destructs p o m) (same (length ts) (omega arith)) e)
 
   -- below one task less
   fewer : (cs cs' : List Cell) (n d : ℕ) → SameBelow cs cs' n (suc d) → SameBelow cs cs' n d
@@ -98,10 +92,8 @@ module _ (p : Image) (depth heights : ℕ → ℕ) where
   all_same cs cs' items [] same w = tt
   all_same cs cs' items (Run fr ∷ ts) same w = (same_runs cs cs' fr.height (depth fr.method) items same.0 w.0, all_same cs cs' items ts (fewer cs cs' (length items) (length ts) same) w.1)
   all_same cs cs' items (Trapped ∷ ts) same w = all_same cs cs' items ts (fewer cs cs' (length items) (length ts) same) w
-  all_same cs cs' items (Destroy ∷ ts) same w = all_same cs cs' items ts (fewer cs cs' (length items) (length ts) same) w
-  all_same cs cs' items (Closing ∷ ts) same w =
-      let less = fewer cs cs' (length items) (length ts) same in
-      (same_closing cs cs' ts less.1 w.0, all_same cs cs' items ts less w.1)
+  all_same cs cs' items (Destroy ∷ ts) same w = (same_going cs cs' ts same.1 w.0, all_same cs cs' items ts (fewer cs cs' (length items) (length ts) same) w.1)
+  all_same cs cs' items (Closing ∷ ts) same w = (w.0, all_same cs cs' items ts (fewer cs cs' (length items) (length ts) same) w.1)
   all_same cs cs' items (Unwind code ∷ ts) same w = all_same cs cs' items ts (fewer cs cs' (length items) (length ts) same) w
   all_same cs cs' items (Dispatched d ∷ ts) same w = all_same cs cs' items ts (fewer cs cs' (length items) (length ts) same) w
 
@@ -114,7 +106,7 @@ module _ (p : Image) (depth heights : ℕ → ℕ) where
   runs_below cs i items [] w = tt
   runs_below cs i items (Run fr ∷ ts) w = (w.0.1, runs_below cs i items ts w.1)
   runs_below cs i items (Trapped ∷ ts) w = runs_below cs i items ts w
-  runs_below cs i items (Destroy ∷ ts) w = runs_below cs i items ts w
+  runs_below cs i items (Destroy ∷ ts) w = (w.0, runs_below cs i items ts w.1)
   runs_below cs i items (Closing ∷ ts) w = (w.0, runs_below cs i items ts w.1)
   runs_below cs i items (Unwind code ∷ ts) w = runs_below cs i items ts w
   runs_below cs i items (Dispatched d ∷ ts) w = runs_below cs i items ts w
@@ -146,7 +138,7 @@ module _ (p : Image) (depth heights : ℕ → ℕ) where
   pushed_runs cs i items [] u h w = tt
   pushed_runs cs i items (Run fr ∷ ts) u h w = ((λ le m e. h m e, w.0), pushed_runs cs i items ts u.1 (λ m e. under_less (depth m) (depth fr.method) ts (h m e) u.0) w.1)
   pushed_runs cs i items (Trapped ∷ ts) u h w = pushed_runs cs i items ts u h w
-  pushed_runs cs i items (Destroy ∷ ts) u h w = pushed_runs cs i items ts u h w
+  pushed_runs cs i items (Destroy ∷ ts) u h w = (w.0, pushed_runs cs i items ts u h w.1)
   pushed_runs cs i items (Closing ∷ ts) u h w = (w.0, pushed_runs cs i items ts u h w.1)
   pushed_runs cs i items (Unwind code ∷ ts) u h w = pushed_runs cs i items ts u h w
   pushed_runs cs i items (Dispatched d ∷ ts) u h w = pushed_runs cs i items ts u h w
@@ -179,14 +171,21 @@ module _ (p : Image) (depth heights : ℕ → ℕ) where
   top_under cs i items [] m low e w = tt
   top_under cs i items (Run fr ∷ ts) m low e w = w.0.0 low.0 m e
   top_under cs i items (Trapped ∷ ts) m low e w = top_under cs i items ts m low e w
-  top_under cs i items (Destroy ∷ ts) m low e w = top_under cs i items ts m low e w
+  top_under cs i items (Destroy ∷ ts) m low e w = top_under cs i items ts m low e w.1
   top_under cs i items (Closing ∷ ts) m low e w = top_under cs i items ts m low e w.1
   top_under cs i items (Unwind code ∷ ts) m low e w = top_under cs i items ts m low e w
   top_under cs i items (Dispatched d ∷ ts) m low e w = top_under cs i items ts m low e w
 
-  -- a server is at hand to go, whose sessions go first
-  pub closing_begins : (cs : List Cell) (items : List Item) (ts : List Task) → ((m : ℕ) → Destructs p (held cs (Going (length ts))) m → IsUnder depth (depth m) ts) → NoClosing ts → Roomy cs items ts → Roomy cs items (Closing ∷ Destroy ∷ ts)
-  closing_begins cs items ts under lone w = (w.0, ((under, lone), w.1), w.2, w.3)
+  -- a cell is at hand to go, or is gone
+  pub going_begins : (cs : List Cell) (items : List Item) (ts : List Task) → GoesUnder p depth cs ts → Roomy cs items ts → Roomy cs items (Destroy ∷ ts)
+  going_begins cs items ts under w = (w.0, (under, w.1), w.2, w.3)
+
+  pub going_ends : (cs : List Cell) (items : List Item) (ts : List Task) → Roomy cs items (Destroy ∷ ts) → Roomy cs items ts
+  going_ends cs items ts w = (w.0, w.1.1, w.2, w.3)
+
+  -- of a server the sessions go first
+  pub closing_begins : (cs : List Cell) (items : List Item) (ts : List Task) → NoClosing ts → Roomy cs items (Destroy ∷ ts) → Roomy cs items (Closing ∷ Destroy ∷ ts)
+  closing_begins cs items ts lone w = (w.0, (lone, w.1), w.2, w.3)
 
   -- ---- methods end
 

@@ -59,18 +59,22 @@ abbrev pub NoClosing : List Task → Type 0
 NoClosing (Closing ∷ ts) = ⊥
 NoClosing _ = Unit {0}
 
--- what runs as a server and its sessions go is less deep than the nearest method below, and the server is no session that goes with another
-abbrev pub ClosesUnder : Image → (ℕ → ℕ) → List Cell → List Task → Type 0
-ClosesUnder p depth cs (Destroy ∷ ts) = ((m : ℕ) → Destructs p (held cs (Going (length ts))) m → IsUnder depth (depth m) ts) × NoClosing ts
-ClosesUnder p depth cs _ = Unit {0}
+-- what runs as the cell goes that is at hand over those tasks, its whole line and that of its sessions, is less deep than the nearest method below
+abbrev pub GoesUnder : Image → (ℕ → ℕ) → List Cell → List Task → Type 0
+GoesUnder p depth cs below = (m : ℕ) → Destructs p (held cs (Going (length below))) m → IsUnder depth (depth m) below
 
--- so is it for the items that were pushed since each method at hand began, and for each server that is at hand to go
+-- a server whose sessions go first is no session that goes with another
+abbrev pub ClosesAlone : List Task → Type 0
+ClosesAlone (Destroy ∷ ts) = NoClosing ts
+ClosesAlone _ = Unit {0}
+
+-- so is it for the items that were pushed since each method at hand began, and for each cell that is at hand to go
 abbrev pub AllRunUnder : Image → (ℕ → ℕ) → List Cell → List Item → List Task → Type 0
 AllRunUnder p depth cs items [] = Unit {0}
 AllRunUnder p depth cs items (Run fr ∷ ts) = RunsUnder p depth cs fr.height (depth fr.method) items × AllRunUnder p depth cs items ts
 AllRunUnder p depth cs items (Trapped ∷ ts) = AllRunUnder p depth cs items ts
-AllRunUnder p depth cs items (Destroy ∷ ts) = AllRunUnder p depth cs items ts
-AllRunUnder p depth cs items (Closing ∷ ts) = ClosesUnder p depth cs ts × AllRunUnder p depth cs items ts
+AllRunUnder p depth cs items (Destroy ∷ ts) = GoesUnder p depth cs ts × AllRunUnder p depth cs items ts
+AllRunUnder p depth cs items (Closing ∷ ts) = ClosesAlone ts × AllRunUnder p depth cs items ts
 AllRunUnder p depth cs items (Unwind code ∷ ts) = AllRunUnder p depth cs items ts
 AllRunUnder p depth cs items (Dispatched d ∷ ts) = AllRunUnder p depth cs items ts
 
