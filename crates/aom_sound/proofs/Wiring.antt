@@ -431,5 +431,4 @@ linked_is_wired p formed linked = record {
   attendant = has_attendant p formed linked;
   attends = attendant_is p formed linked;
   sessions = session_serves_none p formed linked;
-  parentless = linked.parents.none;
 }

@@ -13,7 +13,7 @@ use Rattle.aom_image.specs.declared.method.Argument.TheVariants.{Word as Takes_w
 use Rattle.aom_image.specs.declared.method.Role.TheVariants.{Cancel, Do, Main, Construct, Destruct, Error, Run as Run_role, Accept, Service}
 use Rattle.aom_image.specs.declared.method.Thing.{Thing}
 use Rattle.aom_image.specs.declared.method.Thing.TheVariants.{Object as An_object_of}
-use Rattle.aom_roles.specs.Families.{HasNoParents, descends}
+use Rattle.aom_roles.specs.Families.{descends}
 use Rattle.aom_classes.specs.Linked.{IsLinked}
 use Rattle.aom_classes.specs.Overriding.{AllStandIn}
 use Rattle.aom_classes.specs.Roles.{role_of, main_of}
@@ -137,8 +137,6 @@ pub record IsWired (p : Image) : Type 0 where
   pub constructs : (c m : ℕ) → role_of p c Construct ≡ Some m → IsOfFamily p c m
   -- what overrides a method may stand in its place
   pub overriders : AllStandIn p
-  -- no class has a parent yet
-  pub parentless : HasNoParents p
 
 -- the boot state is well typed
 abbrev pub BootKeeps : Type 0
