@@ -1,6 +1,18 @@
 -- A method is called: it begins over the one that runs, with its arguments in its first registers.
+use Rattle.aom_image.specs.declared.method.Thing.TheVariants.{Message as A_message, Object as An_object_of}
+use Rattle.aom_cells.specs.declared.cell.Cell.{Cell as Held_cell}
+use Rattle.aom_parts.proofs.Heights.{stands_here}
+use Rattle.aom_acts.proofs.Stepping.{at_step}
+use Rattle.aom_acts.proofs.Finding.{class_fits}
+use Rattle.aom_frames.specs.declared.view.View.{View}
+use Rattle.aom_frames.specs.Views.{class_above}
+use Rattle.aom_classes.specs.Roles.{or_else}
+use Rattle.aom_classes.specs.Overriding.{body_of}
+use Rattle.aom_shape.specs.Kinds.{is_object}
+use Rattle.aom_shape.specs.Things.{Member}
+use Rattle.aom_image.specs.declared.method.Thing.{Thing}
 use Rattle.std.proofs.Common.{zero, suc, ◌≢◌, ◌≡◌, ◌==◌, ◌&&◌, ℕ, ℤ, ◌<◌, ◌≤◌, ◌+◌, Bool, true, false, cond, length, List, [], ◌∷◌, ◌++◌, Option, Some, None, slice_index_or, slice_set, refl, sym, ap, ◌∙◌, subst, arith, append-nil, append_assoc}
-use Rattle.std.specs.Prelude.{IsSome, is_some}
+use Rattle.std.specs.Prelude.{IfSome, IsSome, is_some}
 use Rattle.std.proofs.lemmas.Bool.{eq-eqb, eqb-true, false≢true, ne_eqb}
 use Rattle.std.proofs.lemmas.Bool.Decides.{leb_tells}
 use Rattle.std.proofs.lemmas.List.{length-set}
@@ -12,16 +24,15 @@ use Rattle.aom_instructions.specs.declared.instr.Target.TheVariants.{This, Regis
 use Rattle.aom_image.specs.declared.method.Argument.{Argument}
 use Rattle.aom_image.specs.declared.method.Argument.TheVariants.{Word as Takes_word, Own as Takes_own}
 use Rattle.aom_image.specs.declared.method.Method.{Method as Method_decl}
-use Rattle.aom_cells.specs.Heap.{Heap, null}
+use Rattle.aom_cells.specs.Heap.{cell_at, class_of, class_at, Lives, Heap, null}
 use Rattle.aom_shape.specs.Needs.{AllTrue}
 use Rattle.aom_shape.specs.Tables.{put_at}
-use Rattle.aom_sound.proofs.Plain.{body_named}
-use Rattle.aom_sound.specs.Calls.{is_worked_on, own_home, entered, entry_place, home_at, needs_each, needs_entering, needs_target, passed_cells, passed_words, target_home, target_view}
-use Rattle.aom_sound.specs.Places.{Place, Register, Elsewhere, Entry, Field, Going, Object, Cell, changed, held, moved, same_place}
-use Rattle.aom_sound.specs.State.{Frame, Need, Task, Run, Trapped, A_mark, State, field_place, frame_as, word}
+use Rattle.aom_sound.specs.Calls.{run_by, is_worked_on, own_home, entered, entry_place, home_at, needs_each, needs_entering, needs_target, passed_cells, passed_words, target_home, target_view}
+use Rattle.aom_sound.specs.Places.{named, Place, Register, Elsewhere, Entry, Field, Going, Object, Cell, changed, held, moved, same_place}
+use Rattle.aom_sound.specs.State.{thing_holder, thing_view, home_view, home_holder, Rest, Inside, AtRoot, Static, Home, Frame, Need, Task, Run, Trapped, A_mark, State, field_place, frame_as, word}
 use Rattle.aom_sound.proofs.Finishing.{all_parts}
 use Rattle.aom_sound.proofs.Maps.{held_moved}
-use Rattle.aom_frames.specs.Tasks.{fresh, given, given_here, on_top, passed_on, passing, register_here, this_here, with_register, method_here, place_here}
+use Rattle.aom_frames.specs.Tasks.{view_here, fresh, given, given_here, on_top, passed_on, passing, register_here, this_here, with_register, method_here, place_here}
 use Rattle.aom_frames.specs.declared.frame.Frame.{Frame as Held_frame}
 use Rattle.aom_frames.specs.declared.task.Task.{Task as Held_task}
 use Rattle.aom_frames.specs.declared.task.Task.TheVariants.{Run as Runs_frame}
@@ -29,16 +40,16 @@ use Rattle.aom_cleanup.specs.declared.item.Item.TheVariants.{Mark as Is_mark}
 use Rattle.aom_cleanup.specs.declared.item.Item.{Item}
 use Rattle.aom_parts.proofs.Asking.{requests_passed}
 use Rattle.aom_parts.specs.declared.parts.Parts.{Parts}
-use Rattle.aom_acts.specs.Next.{IsNext}
+use Rattle.aom_acts.specs.Next.{counting, IsNext}
 use Rattle.aom_parts.specs.Places.{others, Others, value_in, register_in, going_in, with_items, with_tasks}
-use Rattle.aom_parts.specs.Agrees.{word_at, word_in, Shows, SameCells, SameFrame, SameTasks, home_number, number, Agrees}
-use Rattle.aom_acts.specs.Acts.{At_hand, DoesIn}
-use Rattle.aom_acts.specs.Calls.{target_here}
+use Rattle.aom_parts.specs.Agrees.{viewed, thing_in, word_at, word_in, Shows, SameCells, SameFrame, SameTasks, home_number, number, Agrees}
+use Rattle.aom_acts.specs.Acts.{requested, At_hand, DoesIn}
+use Rattle.aom_acts.specs.Calls.{is_this, view_of, callee_here, body_on, target_here}
 use Rattle.aom_parts.proofs.Cells.{cells_moved}
 use Rattle.aom_parts.proofs.Entries.{entry_number, mark_shows_none}
-use Rattle.aom_acts.proofs.FieldActs.{field_shown}
-use Rattle.aom_acts.proofs.GoingActs.{fresh_as, fresh_value}
-use Rattle.aom_acts.proofs.Housing.{needs_say}
+use Rattle.aom_acts.proofs.FieldActs.{inside_object, housed, field_shown}
+use Rattle.aom_acts.proofs.GoingActs.{fresh_with, fresh_as, fresh_value}
+use Rattle.aom_acts.proofs.Housing.{needs_met, at_hand, needs_say}
 use Rattle.aom_acts.proofs.ObjectActs.{shown}
 use Rattle.aom_parts.proofs.Overs.{held_over, higher, over_deep, over_register, over_value, over_word, over_words, tasks_over}
 use Rattle.aom_acts.proofs.ReturnActs.{none_above}
@@ -47,7 +58,7 @@ use Rattle.aom_parts.proofs.Services.{services_passed}
 use Rattle.aom_sound.proofs.Owned.{object_for}
 use Rattle.aom_sound.proofs.Maps.{held_lives}
 use Rattle.aom_acts.proofs.FieldActs.{this_is}
-use Rattle.aom_acts.proofs.Running.{Aside, Top, agrees_with, aside_of, aside_with, by_top, begun_as, object_small, reframed, no_word}
+use Rattle.aom_acts.proofs.Running.{object_lives_at, object_class, null_unnamed, Aside, Top, agrees_with, aside_of, aside_with, by_top, begun_as, object_small, reframed, no_word}
 use Rattle.aom_parts.proofs.Values.{kept, moves, value_here, value_written, word_written, writes}
 use Rattle.aom_parts.proofs.Sessions.{natives_passed}
 
@@ -289,23 +300,126 @@ housed_by : (p : Image) (m : Parts) (h : At_hand p m) (target : Target) (k : ℕ
     → target_here target class m ≢ null → target_here target class m < 4096
 housed_by p m h target k class first count needs home there = subst (λ n. n < 4096) (sym home) (home_small p m h class target k first count needs (λ none. there (home ∙ none)))
 
+-- ---- what the call runs
+
+pub not_this : (target : Target) → (target ≡ This → ⊥) → is_this target ≡ false
+not_this This other = absurd (other refl)
+not_this (On_register r) other = refl
+not_this (On_field f) other = refl
+not_this (On_entry e) other = refl
+
+-- the class of a living cell is what its object counts as
+class_viewed : (c : Option Held_cell) (t : Thing) → thing_in c ≡ Some t → class_of c ≡ thing_view t
+class_viewed None t e = cc
+class_viewed (Some c) t e = let same : An_object_of c.class ≡ t = cc in ap thing_view same
+
+module _ (p : Image) (m : Parts) (h : At_hand p m) where
+  -- the frame's view is what the target counts as
+  view_told : (target : Target) (class : Option ℕ) → viewed (view_of target class m.stack.tasks) (target_home p h.frame h.below h.state target class) ≡ target_view p h.frame h.below h.state target class
+  view_told This None = refl
+  view_told This (Some c) = by_top p m h (λ us. viewed (view_here us) h.frame.home ≡ h.frame.view) (λ f ms top. sym top.frame.view)
+  view_told (On_register r) class = refl
+  view_told (On_field f) class = refl
+  view_told (On_entry e) class = refl
+
+  -- what it works on is there, and is no message
+  owned_there :
+      (class : Option ℕ) (x : Option Object) (q : Place) → held h.state.cells q ≡ x → is_worked_on p class x ≡ true → (o : Object) (from : Place) → home_at x q ≡ Inside o from →
+      (named h.state.cells o.name ≡ Some o) × (is_object o.thing ≡ true)
+  owned_there class None q at worked o from e = cc
+  owned_there None (Some x) q at worked o from e = absurd (false≢true worked)
+  owned_there (Some c) (Some x) q at worked o from e =
+      let same : x ≡ o = cc in
+      subst (λ (y : Object). (named h.state.cells y.name ≡ Some y) × (is_object y.thing ≡ true)) same (held_lives h.state.cells q x h.typed.good.tidy at, object_for p x.thing c worked)
+
+  target_there :
+      (target : Target) (k : ℕ) (class : Option ℕ) (first count : ℕ) → AllTrue (needs_target p h.frame h.below h.state target k class first count) → (o : Object) (from : Place) →
+      target_home p h.frame h.below h.state target class ≡ Inside o from → (named h.state.cells o.name ≡ Some o) × (is_object o.thing ≡ true)
+  target_there This k None first count needs o from e = cc
+  target_there This k (Some c) first count needs o from e = (housed p m h o from e, inside_object p m h o from e)
+  target_there (On_register r) k class first count needs o from is = owned_there class (held h.state.cells (Register (length h.below) r)) (Register (length h.below) r) refl needs.1.1.0 o from is
+  target_there (On_field g) k class first count needs o from is = owned_there class (held h.state.cells (field_place h.frame.home g)) (field_place h.frame.home g) refl needs.1.1.0 o from is
+  target_there (On_entry e) k class first count needs o from is = owned_there class (held h.state.cells (entry_place h.state.items e)) (entry_place h.state.items e) refl needs.1.1.1.0 o from is
+
+  -- what counts as a class is an object
+  of_home : (home : Home) (v : ℕ) → home_view home ≡ Some v → (c : ℕ) × (home_holder home ≡ Member c)
+  of_home Static v e = cc
+  of_home AtRoot v e = cc
+  of_home (Inside o from) v e = of_thing o.thing e
+    where
+      of_thing : (t : Thing) → thing_view t ≡ Some v → (c : ℕ) × (thing_holder t ≡ Member c)
+      of_thing (An_object_of c) e = (c, refl)
+      of_thing A_message e = cc
+
+  target_counts : (target : Target) (class : Option ℕ) (v : ℕ) → target_view p h.frame h.below h.state target class ≡ Some v → (c : ℕ) × (home_holder (target_home p h.frame h.below h.state target class) ≡ Member c)
+  target_counts This None v e = cc
+  target_counts This (Some c) v e = let between = (stands_here p h.typing h.state h.frame h.below h.typed h.top).view.between v e in (between.0, between.1)
+  target_counts (On_register r) class v e = of_home (target_home p h.frame h.below h.state (On_register r) class) v e
+  target_counts (On_field g) class v e = of_home (target_home p h.frame h.below h.state (On_field g) class) v e
+  target_counts (On_entry x) class v e = of_home (target_home p h.frame h.below h.state (On_entry x) class) v e
+
+  -- the table tells the same of the cell
+  unviewed : (k : ℕ) (home : Home) → ((c : ℕ) → home_holder home ≡ Member c → ⊥) → (view : Option ℕ) → ((v : ℕ) → view ≡ Some v → (c : ℕ) × (home_holder home ≡ Member c)) → k ≡ body_of p k view
+  unfolding body_of
+  unviewed k home none None counts = refl
+  unviewed k home none (Some v) counts = let c = counts v refl in absurd (none c.0 c.1)
+
+  body_by_home :
+      (k : ℕ) (home : Home) (v : View) (view : Option ℕ) → viewed v home ≡ view → ((v : ℕ) → view ≡ Some v → (c : ℕ) × (home_holder home ≡ Member c)) →
+      ((o : Object) (from : Place) → home ≡ Inside o from → (named h.state.cells o.name ≡ Some o) × (is_object o.thing ≡ true)) → body_on p k (home_number home) v m.cells ≡ body_of p k view
+  body_by_home k Static v view same counts there = ap (λ b. cond b k (body_of p k (or_else (class_above v) (class_at m.cells null)))) (eq-eqb null null refl) ∙ unviewed k Static (λ c e. cc) view counts
+  body_by_home k AtRoot v view same counts there = ap (λ b. cond b k (body_of p k (or_else (class_above v) (class_at m.cells null)))) (eq-eqb null null refl) ∙ unviewed k AtRoot (λ c e. cc) view counts
+  body_by_home k (Inside o from) v view same counts there =
+      let x = there o from refl in
+      let some : o.name ≡ null → ⊥ = λ n. let clash : Some o ≡ None = sym x.0 ∙ ap (named h.state.cells) n ∙ null_unnamed p m h.state h.agrees in cc in
+      ap (λ b. cond b k (body_of p k (or_else (class_above v) (class_at m.cells o.name)))) (ne_eqb o.name null some)
+      ∙ ap (λ y. body_of p k (or_else (class_above v) y)) (class_viewed (cell_at m.cells o.name) o.thing (object_class p m h.state h.agrees o x.0 x.1))
+      ∙ ap (body_of p k) same
+
+  body_told :
+      (target : Target) (k first count : ℕ) → AllTrue (needs_target p h.frame h.below h.state target k (method_class p k) first count) →
+      body_on p k (target_here target (method_class p k) m) (view_of target (method_class p k) m.stack.tasks) m.cells ≡ run_by p h.frame h.below h.state target k
+  body_told target k first count needs =
+      let class = method_class p k in
+      ap (λ n. body_on p k n (view_of target class m.stack.tasks) m.cells) (home_of p m h target k class first count needs)
+      ∙ body_by_home k (target_home p h.frame h.below h.state target class) (view_of target class m.stack.tasks) (target_view p h.frame h.below h.state target class) (view_told target class) (target_counts target class) (target_there target k class first count needs)
+
+  -- so it lives, where it is a cell
+  home_lives : (home : Home) → ((o : Object) (from : Place) → home ≡ Inside o from → (named h.state.cells o.name ≡ Some o) × (is_object o.thing ≡ true)) → home_number home ≢ null → Lives m.cells (home_number home)
+  home_lives Static there some = absurd (some refl)
+  home_lives AtRoot there some = absurd (some refl)
+  home_lives (Inside o from) there some = let x = there o from refl in object_lives_at p m h.state h.agrees o x.0 x.1
+
+  target_lives :
+      (target : Target) (k first count : ℕ) → AllTrue (needs_target p h.frame h.below h.state target k (method_class p k) first count) →
+      target_here target (method_class p k) m ≢ null → Lives m.cells (target_here target (method_class p k) m)
+  target_lives target k first count needs =
+      let class = method_class p k in
+      subst (λ n. n ≢ null → Lives m.cells n) (sym (home_of p m h target k class first count needs)) (home_lives (target_home p h.frame h.below h.state target class) (target_there target k class first count needs))
+
 -- what a method that is called finds, over the caller or over a trap on it
 module _ (p : Image) (m : Parts) (h : At_hand p m) (trapped : Bool) (target : Target) (k first height : ℕ) where
   abbrev xs : List Argument
   xs = arguments_of p k
 
-  abbrev view : Option ℕ
-  view = target_view p h.frame h.below h.state target (method_class p k)
-
-  abbrev called : Frame
-  called = frame_as k (target_home p h.frame h.below h.state target (method_class p k)) view height
-
-  -- nothing is overridden yet, so what is called runs
-  runs : record called { words = passed_words p h.frame h.below h.state xs first } ≡ entered p h.frame h.below h.state target k first height
-  runs = ap (λ j. record (frame_as j (target_home p h.frame h.below h.state target (method_class p k)) view height) { words = passed_words p h.frame h.below h.state xs first }) (sym (body_named p h.linked k view))
-
   abbrev this : ℕ
   this = target_here target (method_class p k) m
+
+  abbrev view : View
+  view = view_of target (method_class p k) m.stack.tasks
+
+  abbrev body : ℕ
+  body = body_on p k this view m.cells
+
+  abbrev called : Frame
+  called = frame_as body (target_home p h.frame h.below h.state target (method_class p k)) (viewed view (target_home p h.frame h.below h.state target (method_class p k))) height
+
+  -- the table tells what runs
+  runs : AllTrue (needs_target p h.frame h.below h.state target k (method_class p k) first (length xs)) → record called { words = passed_words p h.frame h.below h.state xs first } ≡ entered p h.frame h.below h.state target k first height
+  runs needs =
+      let home = target_home p h.frame h.below h.state target (method_class p k) in
+      ap (λ j. record (frame_as j home (viewed view home) height) { words = passed_words p h.frame h.below h.state xs first }) (body_told p m h target k first (length xs) needs)
+      ∙ ap (λ v. record (frame_as (run_by p h.frame h.below h.state target k) home v height) { words = passed_words p h.frame h.below h.state xs first }) (view_told p m h target (method_class p k))
 
   abbrev over : List Task
   over = tasks_over trapped (Run h.frame ∷ h.below)
@@ -314,7 +428,7 @@ module _ (p : Image) (m : Parts) (h : At_hand p m) (trapped : Bool) (target : Ta
   passed = passed_cells p h.frame h.below h.state (length over) xs first 0 h.state.cells
 
   enters : (more : List Need) → AllTrue (needs_entering p h.frame h.below h.state target k first more) → (f : Held_frame) (ms : List Held_task) (top : Top m h.state h.frame h.below f ms)
-      → Passing p trapped m.cells m.entries.items (others m) ms h.below h.frame called h.state top.deep (passed_on xs first f) (given xs first 0 f (fresh k this)) passed (passed_words p h.frame h.below h.state xs first) (0 + length xs)
+      → Passing p trapped m.cells m.entries.items (others m) ms h.below h.frame called h.state top.deep (passed_on xs first f) (given xs first 0 f (callee_here p target k m)) passed (passed_words p h.frame h.below h.state xs first) (0 + length xs)
   enters more needs f ms top =
       let parts = all_parts (needs_target p h.frame h.below h.state target k (method_class p k) first (length xs)) _ needs in
       let fits = entering_fits p h.frame h.below h.state target k first more needs in
@@ -327,16 +441,16 @@ module _ (p : Image) (m : Parts) (h : At_hand p m) (trapped : Bool) (target : Ta
       let us = held_over trapped (Runs_frame f ∷ ms) in
       let layers = ap length h.top in
       let above = higher trapped (Run fr ∷ ts) {n = length ts} (omega arith) in
-      let begun : Passing p trapped m.cells m.entries.items (others m) ms ts fr called s top.deep f (fresh k this) s.cells [] 0 = record {
-        values = λ r. subst (λ n. Shows n (word_at (Run called ∷ over) r) (held s.cells r)) (sym (fresh_value k this us m.cells m.entries.items (others m) r ∙ over_value trapped (Runs_frame f ∷ ms) m.cells m.entries.items (others m) r))
-            (subst (λ w. Shows (value_in (Runs_frame f ∷ ms) m.cells m.entries.items (others m) r) w (held s.cells r)) (sym (fresh_as k (target_home p fr ts s target (method_class p k)) view height over r ∙ over_words trapped (Run fr ∷ ts) r)) (top.values r));
+      let begun : Passing p trapped m.cells m.entries.items (others m) ms ts fr called s top.deep f (callee_here p target k m) s.cells [] 0 = record {
+        values = λ r. subst (λ n. Shows n (word_at (Run called ∷ over) r) (held s.cells r)) (sym (fresh_with body this view us m.cells m.entries.items (others m) r ∙ over_value trapped (Runs_frame f ∷ ms) m.cells m.entries.items (others m) r))
+            (subst (λ w. Shows (value_in (Runs_frame f ∷ ms) m.cells m.entries.items (others m) r) w (held s.cells r)) (sym (fresh_as body (target_home p fr ts s target (method_class p k)) (viewed view (target_home p fr ts s target (method_class p k))) height over r ∙ over_words trapped (Run fr ∷ ts) r)) (top.values r));
         cells = h.agrees.cells;
         free = λ i le. none_above p h.typing s (length over) i h.typed (omega arith);
         even = refl;
         caller = top.frame;
-        called = begun_as k this (target_home p fr ts s target (method_class p k)) view height home housed;
+        called = begun_as body this (target_home p fr ts s target (method_class p k)) view height home housed;
       } in
-      all_go p trapped m.cells m.entries.items (others m) ms ts fr called s top.deep xs first 0 f (fresh k this) s.cells [] fits (omega arith) each begun
+      all_go p trapped m.cells m.entries.items (others m) ms ts fr called s top.deep xs first 0 f (callee_here p target k m) s.cells [] fits (omega arith) each begun
 
   -- all but the tasks, once the arguments have gone
   aside_passed : SameCells p m.cells passed → Aside p m (record h.state { cells = passed })
@@ -348,11 +462,12 @@ module _ (p : Image) (m : Parts) (h : At_hand p m) (trapped : Bool) (target : Ta
 
   -- so it begins there
   agrees_entered : (more : List Need) → AllTrue (needs_entering p h.frame h.below h.state target k first more) → (f : Held_frame) (ms : List Held_task) → Top m h.state h.frame h.below f ms
-      → Agrees p (with_tasks (Runs_frame (given xs first 0 f (fresh k this)) ∷ held_over trapped (Runs_frame (passed_on xs first f) ∷ ms)) m) (record h.state { cells = passed; tasks = Run (entered p h.frame h.below h.state target k first height) ∷ over })
+      → Agrees p (with_tasks (Runs_frame (given xs first 0 f (callee_here p target k m)) ∷ held_over trapped (Runs_frame (passed_on xs first f) ∷ ms)) m) (record h.state { cells = passed; tasks = Run (entered p h.frame h.below h.state target k first height) ∷ over })
   agrees_entered more needs f ms top =
       let done = enters more needs f ms top in
-      let us = Runs_frame (given xs first 0 f (fresh k this)) ∷ held_over trapped (Runs_frame (passed_on xs first f) ∷ ms) in
-      subst (λ fr. Agrees p (with_tasks us m) (record h.state { cells = passed; tasks = Run fr ∷ over })) runs
+      let us = Runs_frame (given xs first 0 f (callee_here p target k m)) ∷ held_over trapped (Runs_frame (passed_on xs first f) ∷ ms) in
+      let parts = all_parts (needs_target p h.frame h.below h.state target k (method_class p k) first (length xs)) _ needs in
+      subst (λ fr. Agrees p (with_tasks us m) (record h.state { cells = passed; tasks = Run fr ∷ over })) (runs parts.0)
       (agrees_with p m (record h.state { cells = passed }) us (Run (record called { words = passed_words p h.frame h.below h.state xs first }) ∷ over)
       (aside_passed done.cells) (done.called, over_same trapped _ _ done.caller top.below) done.values)
     where
@@ -363,7 +478,7 @@ module _ (p : Image) (m : Parts) (h : At_hand p m) (trapped : Bool) (target : Ta
 -- the tasks once a method is called by the one on top, over it or over a trap on it
 abbrev pub calling : Image → Parts → Target → ℕ → ℕ → Bool → List Held_task → List Held_task
 calling p m target k first trapped us =
-    Runs_frame (given_here (arguments_of p k) first us (fresh k (target_here target (method_class p k) m))) ∷ held_over trapped (on_top (passed_on (arguments_of p k) first) us)
+    Runs_frame (given_here (arguments_of p k) first us (callee_here p target k m)) ∷ held_over trapped (on_top (passed_on (arguments_of p k) first) us)
 
 pub call_does : (p : Image) (m : Parts) (refused : List ℕ) (target : Target) (k first x : ℕ) → DoesIn p refused (Call target k first x) m (with_tasks (calling p m target k first false m.stack.tasks) m)
 call_does p m refused target k first x h here =
@@ -410,3 +525,48 @@ traps_well p m target k first x next = (
   (next.stands.1.sound.wired.trapped (method_here m.stack.tasks) (place_here m.stack.tasks) target k first x next.here).there,
   needs_say p m (Trap target k first x) _ (λ c fr ts s n. entering_fits p fr ts s target k first _ n) next,
 )
+
+-- what a target asks hangs on cells and items alone
+needs_kept :
+    (p : Image) (fr : Frame) (ts : List Task) (s : State) (r : Rest) (target : Target) (k : ℕ) (class : Option ℕ) (first count : ℕ) →
+    AllTrue (needs_target p fr ts (record s { rest = r }) target k class first count) → AllTrue (needs_target p fr ts s target k class first count)
+needs_kept p fr ts s r This k class first count n = n
+needs_kept p fr ts s r (On_register x) k class first count n = n
+needs_kept p fr ts s r (On_field f) k class first count n = n
+needs_kept p fr ts s r (On_entry e) k class first count n = n
+
+target_kept : (m : Parts) (r : Rest) (target : Target) (class : Option ℕ) → target_here target class (counting r m) ≡ target_here target class m
+target_kept m r This None = refl
+target_kept m r This (Some c) = refl
+target_kept m r (On_register x) class = refl
+target_kept m r (On_field f) class = refl
+target_kept m r (On_entry e) class = refl
+
+-- and what it works on lives, and is of a class
+abbrev TargetLives : Image → Parts → Target → ℕ → Type 0
+TargetLives p m target k =
+    let n = target_here target (method_class p k) m in
+    (n ≢ null → Lives m.cells n) × IfSome (class_at m.cells n) (λ class. class < 256)
+
+lives_on :
+    (p : Image) (m : Parts) (r : Rest) (h : At_hand p (counting r m)) (q : Rest) (target : Target) (k first : ℕ) →
+    AllTrue (needs_target p h.frame h.below (record h.state { rest = q }) target k (method_class p k) first (length (arguments_of p k))) → TargetLives p m target k
+lives_on p m r h q target k first needs = (
+  subst (λ n. n ≢ null → Lives m.cells n) (target_kept m r target (method_class p k))
+      (target_lives p (counting r m) h target k first (length (arguments_of p k)) (needs_kept p h.frame h.below h.state q target k (method_class p k) first (length (arguments_of p k)) needs)),
+  class_fits p (counting r m) h.state h.agrees (target_here target (method_class p k) m),
+)
+
+pub call_lives : (p : Image) (m : Parts) (target : Target) (k first x : ℕ) → IsNext p (Call target k first x) m → TargetLives p m target k
+call_lives p m target k first x next =
+    let h = at_hand p (counting next.counts m) next.stands next.runs in
+    let s = requested (Call target k first x) (at_step h.state) in
+    let n = needs_met p m (Call target k first x) next in
+    lives_on p m next.counts h s.rest target k first (all_parts (needs_target p h.frame h.below s target k (method_class p k) first (length (arguments_of p k))) _ n.1).0
+
+pub trap_lives : (p : Image) (m : Parts) (target : Target) (k first x : ℕ) → IsNext p (Trap target k first x) m → TargetLives p m target k
+trap_lives p m target k first x next =
+    let h = at_hand p (counting next.counts m) next.stands next.runs in
+    let s = requested (Trap target k first x) (at_step h.state) in
+    let n = needs_met p m (Trap target k first x) next in
+    lives_on p m next.counts h s.rest target k first (all_parts (needs_target p h.frame h.below s target k (method_class p k) first (length (arguments_of p k))) _ n.1).0

@@ -1,4 +1,9 @@
 -- How a destruction begins, and the going of a cell.
+use Rattle.aom_families.proofs.Inheriting.{families_inherit}
+use Rattle.aom_image.specs.declared.method.Role.TheVariants.{Destruct}
+use Rattle.aom_image.specs.Views.{method_class, class_in}
+use Rattle.aom_frames.specs.declared.view.View.{View}
+use Rattle.aom_frames.specs.Views.{view_in, own}
 use Rattle.std.proofs.Common.{Bool, suc, ◌≡◌, ℕ, ℤ, ◌<◌, true, cond, not, ◌==◌, length, List, [], ◌∷◌, Option, Some, None, slice_set, slice_index_or, refl, sym, ap, ◌∙◌, subst, arith, false}
 use Rattle.aom_image.proofs.Given.{some_given}
 use Rattle.std.proofs.lemmas.Option.{none-some, same_Some}
@@ -7,7 +12,7 @@ use Rattle.std.proofs.lemmas.List.{length-set}
 use Rattle.aom_image.specs.Image.{Image}
 use Rattle.aom_instructions.specs.declared.instr.Instr.TheVariants.{Delete}
 use Rattle.aom_image.specs.declared.method.Thing.{Thing}
-use Rattle.aom_image.specs.declared.method.Thing.TheVariants.{Object as An_object_of}
+use Rattle.aom_image.specs.declared.method.Thing.TheVariants.{Message, Object as An_object_of}
 use Rattle.aom_cells.specs.Heap.{Heap, null, cell_at, class_at, class_of, field_of, field_at, Changes}
 use Rattle.aom_cells.specs.declared.cell.Cell.{Cell as Held_cell}
 use Rattle.aom_rules.specs.Typing.{Typing}
@@ -27,7 +32,7 @@ use Rattle.aom_sound.specs.Moves.{goes_line}
 use Rattle.aom_sound.specs.WellTyped.{WellTyped}
 use Rattle.aom_transcript.specs.declared.line.Line.TheVariants.{Gone}
 use Rattle.aom_sound.proofs.Maps.{same_place-true, held_moved, held_lives}
-use Rattle.aom_frames.specs.Tasks.{fresh, on_top, with_place, with_register, place_here, register_here, below_first}
+use Rattle.aom_frames.specs.Tasks.{with_view, fresh, on_top, with_place, with_register, place_here, register_here, below_first}
 use Rattle.aom_frames.specs.declared.frame.Frame.{Frame as Held_frame}
 use Rattle.aom_frames.specs.declared.task.Task.{Task as Held_task}
 use Rattle.aom_frames.specs.declared.task.Task.TheVariants.{Run as Runs_frame, Destroy as Destroys, Closing as Closes, Dispatched as Ends}
@@ -36,10 +41,10 @@ use Rattle.aom_frames.specs.declared.dispatch.Dispatch.TheVariants.{Root as End_
 use Rattle.aom_parts.specs.declared.parts.Parts.{Parts}
 use Rattle.aom_parts.specs.Places.{others, Others, value_in, register_in, going_in, with_tasks}
 use Rattle.aom_acts.specs.Going.{begun, destructed, destructor_in, destructor_at, dying, is_server_class, uprooted}
-use Rattle.aom_parts.specs.Agrees.{word_in, word_at, Shows, SameTasks, thing_in, number, Agrees}
+use Rattle.aom_parts.specs.Agrees.{SameFrame, viewed, word_in, word_at, Shows, SameTasks, thing_in, number, Agrees}
 use Rattle.aom_acts.specs.Acts.{requested, In_going, DoesIn}
 use Rattle.aom_parts.proofs.Values.{cases, same_length, kept, moves, at_depth, register_past, going_past, word_past, value_here, value_kept, value_written, word_next, word_written, destroys_value, destroys_word}
-use Rattle.aom_acts.proofs.Running.{Aside, agrees_with, aside_moved, object_class, object_small, object_there, Top, by_top, reframed, moved_on, begun_frame, begun_registers, word_here, no_word, nothing_held, some_held}
+use Rattle.aom_acts.proofs.Running.{begun_as, Aside, agrees_with, aside_moved, object_class, object_small, object_there, Top, by_top, reframed, moved_on, begun_frame, begun_registers, word_here, no_word, nothing_held, some_held}
 use Rattle.aom_parts.proofs.Cells.{unowned}
 use Rattle.aom_acts.proofs.ObjectActs.{shown}
 use Rattle.aom_acts.proofs.WordActs.{plain_at}
@@ -47,11 +52,14 @@ use Rattle.aom_cleanup.specs.declared.item.Item.{Item}
 use Rattle.aom_parts.proofs.Alike.{Alike, both_go, alike, by_task, by_tasks}
 
 -- a method at its first place shows nothing, and has no word
-pub fresh_value : (method this : ℕ) (us : List Held_task) (h : Heap) (es : List Item) (rest : Others) (r : Place) → value_in (Runs_frame (fresh method this) ∷ us) h es rest r ≡ value_in us h es rest r
-fresh_value method this us h es rest (Register d i) =
+pub fresh_with : (method this : ℕ) (view : View) (us : List Held_task) (h : Heap) (es : List Item) (rest : Others) (r : Place) → value_in (Runs_frame (with_view view (fresh method this)) ∷ us) h es rest r ≡ value_in us h es rest r
+fresh_with method this view us h es rest (Register d i) =
     at_depth (length us) d (slice_index_or (fresh method this).registers i null) (register_in us d i) (λ k. register_past us d i (omega arith) ∙ sym (begun_registers method this i))
-fresh_value method this us h es rest (Going d) = at_depth (length us) d null (going_in us d) (λ k. going_past us d (omega arith))
-fresh_value method this us h es rest _ = refl
+fresh_with method this view us h es rest (Going d) = at_depth (length us) d null (going_in us d) (λ k. going_past us d (omega arith))
+fresh_with method this view us h es rest _ = refl
+
+pub fresh_value : (method this : ℕ) (us : List Held_task) (h : Heap) (es : List Item) (rest : Others) (r : Place) → value_in (Runs_frame (fresh method this) ∷ us) h es rest r ≡ value_in us h es rest r
+fresh_value method this us h es rest r = fresh_with method this own us h es rest r
 
 pub fresh_as : (method : ℕ) (home : Home) (view : Option ℕ) (height : ℕ) (ts : List Task) (r : Place) → word_at (Run (frame_as method home view height) ∷ ts) r ≡ word_at ts r
 fresh_as method home view height ts (Register d i) = at_depth (length ts) d None (word_in ts d i) (λ k. word_past ts d i (omega arith))
@@ -84,34 +92,44 @@ module _ (p : Image) (m : Parts) (s : State) (agrees : Agrees p m s) (o : Object
   pub server_same : is_server_class p (class_at m.cells o.name) ≡ is_server p o.thing
   server_same = (unfold_class p o.thing (cell_at m.cells o.name) (object_class p m s agrees o lives object)).1
 
+-- a destructor is of a class
+pub destructor_class : (p : Image) (x : Thing) (k : ℕ) → destructor_of p x ≡ Some k → (c : ℕ) × (method_class p k ≡ Some c)
+unfolding class_in
+destructor_class p (An_object_of c) k e = let w = families_inherit.roles p c k Destruct e in (w.class, ap class_in w.there ∙ w.of)
+destructor_class p Message k e = cc
+
 -- what a place owned is at hand to go, and the place is null
 module _ (p : Image) (m : Parts) (v : State) (us : List Held_task) (ts : List Task) (n : ℕ) where
   abbrev pub DyingShows : Type 0
   DyingShows = (q : Place) → Shows (value_in (Destroys n ∷ us) m.cells m.entries.items (others m) q) (word_at (Destroy ∷ ts) q) (held v.cells q)
 
   -- its destructor runs, if there is one
-  pub destructs : (d : Option ℕ) (o : Object) (height : ℕ) → n ≡ o.name → n < 4096 → SameTasks us ts → Aside p m v → DyingShows
-      → Agrees p (with_tasks (destructed d n (Destroys n ∷ us)) m) (record v { tasks = begun_by p d o height ts })
-  destructs None o height name small same aside values = agrees_with p m v (Destroys n ∷ us) (Destroy ∷ ts) aside (small, same) values
-  destructs (Some k) o height name small same aside values =
+  pub destructs : (d : Option ℕ) (o : Object) (height : ℕ) → ((k : ℕ) → d ≡ Some k → (c : ℕ) × (method_class p k ≡ Some c)) → n ≡ o.name → n < 4096 → SameTasks us ts → Aside p m v → DyingShows
+      → Agrees p (with_tasks (destructed p d n (Destroys n ∷ us)) m) (record v { tasks = begun_by p d o height ts })
+  destructs None o height of name small same aside values = agrees_with p m v (Destroys n ∷ us) (Destroy ∷ ts) aside (small, same) values
+  destructs (Some k) o height of name small same aside values =
       let home = Inside o (Going (length ts)) in
-      agrees_with p m v (Runs_frame (fresh k n) ∷ Destroys n ∷ us) (Run (frame_of k home height) ∷ Destroy ∷ ts) aside (begun_frame k n home height name (λ there. small), (small, same))
+      let view = view_in (method_class p k) in
+      let class = of k refl in
+      let counts : viewed view home ≡ method_class p k = ap (λ x. viewed (view_in x) home) class.1 ∙ sym class.1 in
+      let frame = subst (λ x. SameFrame (with_view view (fresh k n)) (frame_as k home x height)) counts (begun_as k n home view height name (λ there. small)) in
+      agrees_with p m v (Runs_frame (with_view view (fresh k n)) ∷ Destroys n ∷ us) (Run (frame_as k home (method_class p k) height) ∷ Destroy ∷ ts) aside (frame, (small, same))
       (λ q.
-      subst (λ x. Shows x (word_at (Run (frame_of k home height) ∷ Destroy ∷ ts) q) (held v.cells q)) (sym (fresh_value k n (Destroys n ∷ us) m.cells m.entries.items (others m) q))
-      (subst (λ w. Shows (value_in (Destroys n ∷ us) m.cells m.entries.items (others m) q) w (held v.cells q)) (sym (fresh_word k home height (Destroy ∷ ts) q)) (values q)))
+      subst (λ x. Shows x (word_at (Run (frame_as k home (method_class p k) height) ∷ Destroy ∷ ts) q) (held v.cells q)) (sym (fresh_with k n view (Destroys n ∷ us) m.cells m.entries.items (others m) q))
+      (subst (λ w. Shows (value_in (Destroys n ∷ us) m.cells m.entries.items (others m) q) w (held v.cells q)) (sym (fresh_as k home (method_class p k) height (Destroy ∷ ts) q)) (values q)))
 
   -- or the sessions with it go first, where it is a server
   pub begins : (class : Option ℕ) (o : Object) (height : ℕ) → n ≡ o.name → n < 4096 → is_server_class p class ≡ is_server p o.thing → destructor_in p class ≡ destructor_of p o.thing → SameTasks us ts → Aside p m v → DyingShows
       → Agrees p (with_tasks (begun p class n us) m) (record v { tasks = checked.begun p o height ts })
   begins class o height name small serves destructor same aside values =
-      subst (λ b. Agrees p (with_tasks (cond b (Closes ∷ Destroys n ∷ us) (destructed (destructor_in p class) n (Destroys n ∷ us))) m) (record v { tasks = checked.begun p o height ts })) (sym serves) (go (is_server p o.thing))
+      subst (λ b. Agrees p (with_tasks (cond b (Closes ∷ Destroys n ∷ us) (destructed p (destructor_in p class) n (Destroys n ∷ us))) m) (record v { tasks = checked.begun p o height ts })) (sym serves) (go (is_server p o.thing))
     where
-      go : (b : Bool) → Agrees p (with_tasks (cond b (Closes ∷ Destroys n ∷ us) (destructed (destructor_in p class) n (Destroys n ∷ us))) m) (record v { tasks = cond b (Closing ∷ Destroy ∷ ts) (checked.destructed p o height ts) })
+      go : (b : Bool) → Agrees p (with_tasks (cond b (Closes ∷ Destroys n ∷ us) (destructed p (destructor_in p class) n (Destroys n ∷ us))) m) (record v { tasks = cond b (Closing ∷ Destroy ∷ ts) (checked.destructed p o height ts) })
       go true = agrees_with p m v (Closes ∷ Destroys n ∷ us) (Closing ∷ Destroy ∷ ts) aside (tt, (small, same))
           (λ q.
           subst (λ x. Shows x (word_at (Closing ∷ Destroy ∷ ts) q) (held v.cells q)) (sym (closes_value (Destroys n ∷ us) m.cells m.entries.items (others m) q))
           (subst (λ w. Shows (value_in (Destroys n ∷ us) m.cells m.entries.items (others m) q) w (held v.cells q)) (sym (closes_word (Destroy ∷ ts) q)) (values q)))
-      go false = subst (λ d. Agrees p (with_tasks (destructed d n (Destroys n ∷ us)) m) (record v { tasks = checked.destructed p o height ts })) (sym destructor) (destructs (destructor_of p o.thing) o height name small same aside values)
+      go false = subst (λ d. Agrees p (with_tasks (destructed p d n (Destroys n ∷ us)) m) (record v { tasks = checked.destructed p o height ts })) (sym destructor) (destructs (destructor_of p o.thing) o height (destructor_class p o.thing) name small same aside values)
 
   pub dying_shows : (cs : List Cell) (from : Place) (u : Place → ℕ) (w : Place → Option ℤ) → v.cells ≡ moved from (Going (length ts)) cs → ((q : Place) → Shows (u q) (w q) (held cs q)) → length us ≡ length ts → w from ≡ None → u from ≡ n → held cs (Going (length ts)) ≡ None
       → ((q : Place) → value_in us m.cells m.entries.items (others m) q ≡ changed u from null q) → ((q : Place) → word_at ts q ≡ w q) → DyingShows

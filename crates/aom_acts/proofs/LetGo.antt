@@ -35,7 +35,7 @@ use Rattle.aom_parts.specs.declared.parts.Parts.{Parts}
 use Rattle.aom_acts.proofs.Ends.{at_close}
 use Rattle.aom_acts.proofs.Firsts.{IsSeat, closing_found, its_session, no_session, session_lives}
 use Rattle.aom_sound.proofs.Owned.{session_object}
-use Rattle.aom_acts.proofs.GoingActs.{begins, closes_value, closes_word, destructor_same, destructs, dying_shows, server_same}
+use Rattle.aom_acts.proofs.GoingActs.{begins, closes_value, closes_word, destructor_class, destructor_same, destructs, dying_shows, server_same}
 use Rattle.aom_acts.proofs.ReturnActs.{lives_within}
 use Rattle.aom_acts.proofs.Running.{Aside, an_open, aside_counted, aside_moved, aside_of, nothing_held, object_lives_at, object_small, object_there}
 use Rattle.aom_acts.proofs.Stepping.{counted_by, moved_so}
@@ -131,12 +131,12 @@ module _ (p : Image) (formed : WellFormed p) (m : Parts) (announced : m.rest.ann
 
   -- no session is there: its destructor runs
   pub none_left : kept.first_there m.clients (kept.sessions_at m.clients x) ≡ None
-      → Agrees p (with_tasks (destructed (destructor_at p m.cells x) x (Destroys x ∷ ms)) m) (parting p o (first_session s.cells o.name (service_of s.cells o.name).sessions) ts (at_close s))
+      → Agrees p (with_tasks (destructed p (destructor_at p m.cells x) x (Destroys x ∷ ms)) m) (parting p o (first_session s.cells o.name (service_of s.cells o.name).sessions) ts (at_close s))
   none_left none =
       let first = no_session p m t s typed agrees o.name fits.fit (ap (λ i. kept.first_there m.clients (kept.sessions_at m.clients i)) (sym number_is) ∙ none) in
-      subst (λ f. Agrees p (with_tasks (destructed (destructor_at p m.cells x) x (Destroys x ∷ ms)) m) (parting p o f ts (at_close s))) (sym first)
-      (subst (λ d. Agrees p (with_tasks (destructed d x (Destroys x ∷ ms)) m) (record (at_close s) { tasks = checked.destructed p o (length s.items) ts })) (sym (ap (destructor_at p m.cells) number_is ∙ destructor_same p m s agrees o lives cell))
-      (destructs p m (at_close s) ms ts x (destructor_of p o.thing) o (length s.items) number_is e.small e.same aside under))
+      subst (λ f. Agrees p (with_tasks (destructed p (destructor_at p m.cells x) x (Destroys x ∷ ms)) m) (parting p o f ts (at_close s))) (sym first)
+      (subst (λ d. Agrees p (with_tasks (destructed p d x (Destroys x ∷ ms)) m) (record (at_close s) { tasks = checked.destructed p o (length s.items) ts })) (sym (ap (destructor_at p m.cells) number_is ∙ destructor_same p m s agrees o lives cell))
+      (destructs p m (at_close s) ms ts x (destructor_of p o.thing) o (length s.items) (destructor_class p o.thing) number_is e.small e.same aside under))
 
   -- the session of that client is the first that is there: it goes
   module _ (c r : ℕ) (first : kept.first_there m.clients (kept.sessions_at m.clients x) ≡ Some c) (its : session_of (kept.client_at m.clients c) ≡ Some r) (small : r < 65536) where
@@ -247,13 +247,13 @@ module _ (p : Image) (m : Parts) (announced : m.rest.announced ≡ true) where
       )
 
   pub destructor_moves : (told : Turn) (n : ℕ) (ms : List Held_task) → m.stack.tasks ≡ Closes ∷ Destroys n ∷ ms → kept.first_there m.clients (kept.sessions_at m.clients n) ≡ None
-      → Moves p m told told (with_tasks (destructed (destructor_at p m.cells n) n (Destroys n ∷ ms)) m)
+      → Moves p m told told (with_tasks (destructed p (destructor_at p m.cells n) n (Destroys n ∷ ms)) m)
   destructor_moves told n ms tasks none = by_closing _ told (subst IsClosing (sym tasks) tt) (λ t s formed typed fits agrees e.
       let same : Closes ∷ Destroys n ∷ ms ≡ Closes ∷ Destroys e.number ∷ e.held_below = sym tasks ∙ e.held_top in
       let is : n ≡ e.number = cc in
       let below : ms ≡ e.held_below = cc in
-      subst (λ k. Agrees p (with_tasks (destructed (destructor_at p m.cells k) k (Destroys k ∷ ms)) m) (parting p e.object (first_session s.cells e.object.name (service_of s.cells e.object.name).sessions) e.below (at_close s))) (sym is)
-      (subst (λ l. Agrees p (with_tasks (destructed (destructor_at p m.cells e.number) e.number (Destroys e.number ∷ l)) m) (parting p e.object (first_session s.cells e.object.name (service_of s.cells e.object.name).sessions) e.below (at_close s))) (sym below)
+      subst (λ k. Agrees p (with_tasks (destructed p (destructor_at p m.cells k) k (Destroys k ∷ ms)) m) (parting p e.object (first_session s.cells e.object.name (service_of s.cells e.object.name).sessions) e.below (at_close s))) (sym is)
+      (subst (λ l. Agrees p (with_tasks (destructed p (destructor_at p m.cells e.number) e.number (Destroys e.number ∷ l)) m) (parting p e.object (first_session s.cells e.object.name (service_of s.cells e.object.name).sessions) e.below (at_close s))) (sym below)
       (none_left p formed m announced t s typed fits agrees e (ap (λ i. kept.first_there m.clients (kept.sessions_at m.clients i)) (sym is) ∙ none))))
 
   pub session_moves : (told : Turn) (n c r : ℕ) (ms : List Held_task) → m.stack.tasks ≡ Closes ∷ Destroys n ∷ ms → kept.first_there m.clients (kept.sessions_at m.clients n) ≡ Some c → session_of (kept.client_at m.clients c) ≡ Some r → r < 65536
@@ -378,11 +378,11 @@ module _ (p : Image) (m : Parts) (st : Stands (record { image = p; parts = m }))
       pub taken_none : result ≡ None → taken ≡ with_tasks (below_first m.stack.tasks) m
       taken_none none = takes_here ∙ ap (λ o. record (with_tasks (below_first m.stack.tasks) m) { clients = released_by o m.clients }) (first_none none)
 
-      pub moves_none : (turn : Turn) (class : ℕ) (new : Parts) → result ≡ None → class_at taken.cells number ≡ Some class → new ≡ with_tasks (destructed (destructor_in p (Some class)) number taken.stack.tasks) taken → Moves p m turn turn new
+      pub moves_none : (turn : Turn) (class : ℕ) (new : Parts) → result ≡ None → class_at taken.cells number ≡ Some class → new ≡ with_tasks (destructed p (destructor_in p (Some class)) number taken.stack.tasks) taken → Moves p m turn turn new
       moves_none turn class new none its new_is =
           let same = taken_none none in
           let class_is : class_at m.cells number ≡ Some class = ap (λ h. class_at h number) (sym cells_taken) ∙ its in
-          subst (λ k. Moves p m turn turn k) (sym (new_is ∙ ap (λ (k : Parts). with_tasks (destructed (destructor_in p (Some class)) number k.stack.tasks) k) same ∙ ap (λ o. with_tasks (destructed (destructor_in p o) number (below_first m.stack.tasks)) m) (sym class_is) ∙ ap (λ us. with_tasks (destructed (destructor_at p m.cells number) number us) m) below_is))
+          subst (λ k. Moves p m turn turn k) (sym (new_is ∙ ap (λ (k : Parts). with_tasks (destructed p (destructor_in p (Some class)) number k.stack.tasks) k) same ∙ ap (λ o. with_tasks (destructed p (destructor_in p o) number (below_first m.stack.tasks)) m) (sym class_is) ∙ ap (λ us. with_tasks (destructed p (destructor_at p m.cells number) number us) m) below_is))
           (destructor_moves p m announced turn number found.below tasks_are (first_none none))
 
       pub session_found : (r : ℕ) → result ≡ Some r → r < 65536 → Lives taken.cells r

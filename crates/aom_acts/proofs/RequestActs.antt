@@ -1,4 +1,5 @@
 -- Instructions on the request of what a method works on: the machine's table stands for the requests that the checked machine then has.
+use Rattle.aom_frames.specs.Views.{class_above}
 use Rattle.aom_shape.specs.Things.{holder_of}
 use Rattle.std.proofs.Common.{◌≡◌, ◌≢◌, ◌<◌, ◌==◌, ℕ, ℤ, Bool, true, false, cond, length, List, ◌∷◌, Option, Some, None, IsSome, refl, sym, ap, ◌∙◌, subst, arith}
 use Rattle.std.specs.Prelude.{is_some, option_map}
@@ -20,7 +21,7 @@ use Rattle.aom_instructions.specs.declared.instr.Instr.{Instr}
 use Rattle.aom_instructions.specs.declared.instr.Instr.TheVariants.{Abort, Cancel, Enlist, Issue, JumpActive, JumpAdded, SetActive, Status}
 use Rattle.aom_sessions.specs.Sessions.{is_killed, is_open}
 use Rattle.aom_sound.specs.Natives.{has_died, is_served_by_dead, native_of, own_session, started}
-use Rattle.aom_classes.specs.Roles.{role_of}
+use Rattle.aom_classes.specs.Roles.{or_else, role_of}
 use Rattle.aom_cells.specs.Heap.{null, Heap, Lives, cell_at, class_at, class_of}
 use Rattle.aom_cells.specs.declared.cell.Cell.{Cell as Held_cell}
 use Rattle.aom_roles.specs.Classes.{kind_in, sessions_in, sessions_of}
@@ -37,11 +38,10 @@ use Rattle.aom_active.proofs.Asking.{asked_set, newest, newest_timer, queued_sam
 use Rattle.aom_active.proofs.Telling.{held_state, standing_follows, told_active, told_busy, told_cancelling, told_enlisted, told_fresh, told_state, told_status}
 use Rattle.aom_sound.specs.Effects.{applied, cancels_if, jumps_if, updates, Cancels, Requested, writes as writes_word, asking_with, heard}
 use Rattle.aom_parts.proofs.Heights.{stands_here}
-use Rattle.aom_sound.proofs.Plain.{viewed_home}
 use Rattle.aom_sound.specs.Enlisted as enlisted
 use Rattle.aom_sound.specs.Enlisted.{aborted, begun_cells, cancel_method, cancel_of, cancelling, due_after, first_request, home_kind, in_phase, is_cancelling, is_idle, is_issued, issued_by, issued_of, next_order, next_timer, on_request, own_request, rerequested, status_of, thing_kind, waits, Asking, completed_at_once}
 use Rattle.aom_sound.specs.Places.{Register, Service, service_of, Cell, Idle, Issued, Object, Phase, Place, Request, held, in_session, named, requested, set_request}
-use Rattle.aom_sound.specs.State.{AtRoot, Choice, Frame, Home, Inside, Rest, Run, State, Static, Task, frame_as, home_view, thing_view}
+use Rattle.aom_sound.specs.State.{thing_holder, home_holder, AtRoot, Choice, Frame, Home, Inside, Rest, Run, State, Static, Task, frame_as, home_view, thing_view}
 use Rattle.aom_sound.specs.Moves.{needs}
 use Rattle.aom_sound.specs.Words.{read, word_or_zero}
 use Rattle.aom_sound.proofs.Requesting.{active_listed}
@@ -51,14 +51,14 @@ use Rattle.aom_sound.specs.Servers.{has_more}
 use Rattle.aom_queues.specs.Lists.{Table}
 use Rattle.aom_parts.proofs.Services.{services_rerequested}
 use Rattle.aom_parts.specs.Services.{SameServices}
-use Rattle.aom_frames.specs.Tasks.{fresh, register_here, this_here}
+use Rattle.aom_frames.specs.Tasks.{with_view, view_here, fresh, register_here, this_here}
 use Rattle.aom_frames.specs.declared.task.Task.TheVariants.{Run as Runs_frame}
 use Rattle.aom_parts.specs.declared.parts.Parts.{Parts}
 use Rattle.aom_acts.specs.Acts.{At_hand, Does, DoesIn}
 use Rattle.aom_parts.specs.Places.{others, WritesWord, value_in, with_tasks}
 use Rattle.aom_parts.specs.Places as places
 use Rattle.aom_acts.specs.Acts as acts
-use Rattle.aom_parts.specs.Agrees.{Agrees, SameCells, SameRequests, Shows, home_number, thing_in, word_at, heard_by}
+use Rattle.aom_parts.specs.Agrees.{SameFrame, viewed, Agrees, SameCells, SameRequests, Shows, home_number, thing_in, word_at, heard_by}
 use Rattle.aom_parts.specs.Fields.{this}
 use Rattle.aom_acts.specs.Next.{IsNext, counting}
 use Rattle.aom_parts.specs.Stands.{Stands}
@@ -66,7 +66,7 @@ use Rattle.aom_acts.specs.Requests.{Issues, kind_here, provider_of}
 use Rattle.aom_parts.proofs.CellFields.{cell_of}
 use Rattle.aom_acts.proofs.FieldActs.{housed, inside_number, inside_object}
 use Rattle.aom_shape.specs.Kinds.{is_object}
-use Rattle.aom_acts.proofs.GoingActs.{fresh_as, fresh_value, thing_is}
+use Rattle.aom_acts.proofs.GoingActs.{fresh_as, fresh_with, thing_is}
 use Rattle.aom_acts.proofs.GoingOn.{goes_on_as}
 use Rattle.aom_acts.proofs.Housing.{at_hand, needs_met}
 use Rattle.aom_acts.proofs.Running.{begun_as, by_top, free, object_class}
@@ -197,11 +197,25 @@ module _ (p : Image) (m : Parts) (h : At_hand p m) where
     kind_told = ap (home_kind p) x.home ∙ kind_same p _ x.object.thing thing_here
 
     -- the method that cancels is the one that the machine finds
-    -- no class has a parent yet, so the object counts as its own
-    pub cancel_told : (class : ℕ) → class_at m.cells (this m) ≡ Some class → cancel_method p h.frame ≡ role_of p class Cancels_role
-    cancel_told class is =
-        let viewed = viewed_home p h.linked.parents.none h.frame.home h.frame.view (holder_of p h.frame.method) (stands_here p h.typing h.state h.frame h.below h.typed h.top).view in
-        ap (cancel_of p) (viewed ∙ ap home_view x.home ∙ ap thing_view (thing_is x.object.thing class _ is thing_here))
+    -- what it counts as for the method that runs
+    pub counts_told : (class counted : ℕ) → class_at m.cells (this m) ≡ Some class → Some counted ≡ or_else (class_above (view_here m.stack.tasks)) (Some class) → h.frame.view ≡ Some counted
+    counts_told class counted is counts =
+        by_top p m h (λ us. h.frame.view ≡ viewed (view_here us) h.frame.home) (λ f ms top. top.frame.view)
+        ∙ ap (λ o. or_else (class_above (view_here m.stack.tasks)) o) (ap home_view x.home ∙ ap thing_view (thing_is x.object.thing class _ is thing_here)) ∙ sym counts
+
+    pub cancel_told :
+        (class counted : ℕ) → class_at m.cells (this m) ≡ Some class → Some counted ≡ or_else (class_above (view_here m.stack.tasks)) (Some class) →
+        cancel_method p h.frame ≡ role_of p counted Cancels_role
+    cancel_told class counted is counts = ap (cancel_of p) (counts_told class counted is counts)
+
+    -- which is of the same kind
+    pub counted_kind :
+        (class counted : ℕ) → class_at m.cells (this m) ≡ Some class → Some counted ≡ or_else (class_above (view_here m.stack.tasks)) (Some class) →
+        kind_of p (Some class) ≡ kind_of p (Some counted)
+    counted_kind class counted is counts =
+        let between = (stands_here p h.typing h.state h.frame h.below h.typed h.top).view.between counted (counts_told class counted is counts) in
+        let same : between.0 ≡ class = let both = sym between.1 ∙ ap home_holder x.home ∙ ap thing_holder (thing_is x.object.thing class _ is thing_here) in cc in
+        ap (λ c. kind_of p (Some c)) (sym same) ∙ h.wired.family.kinds between.0 counted between.2
 
     -- what the table tells of it
     pub active_told : is_waited_for (request_at m.active.table (this m)) ≡ in_phase enlisted.is_active (own_request h.state.cells h.frame.home)
@@ -353,9 +367,13 @@ module _ (p : Image) (m : Parts) where
       let x = finds_object p m Cancel next (λ c fr ts s n. active_listed (home_kind p fr.home) n.0) in
       ap is_active_kind (sym (kind_told p _ _ x)) ∙ n.1.0
 
-  pub cancel_there : (class : ℕ) → IsNext p Cancel m → class_at m.cells (this m) ≡ Some class → role_of p class Cancels_role ≡ None → ⊥
-  cancel_there class next is none =
-      let found = next.stands.1.sound.wired.cancel class (ap (λ k. is_active_kind (kind_of p k)) (sym is) ∙ cancel_kind next) in
+  pub cancel_there :
+      (class counted : ℕ) → IsNext p Cancel m → class_at m.cells (this m) ≡ Some class → Some counted ≡ or_else (class_above (view_here m.stack.tasks)) (Some class) →
+      role_of p counted Cancels_role ≡ None → ⊥
+  cancel_there class counted next is counts none =
+      let x = finds_object p m Cancel next (λ c fr ts s n. active_listed (home_kind p fr.home) n.0) in
+      let kind = counted_kind p (counting next.counts m) _ x class counted is counts in
+      let found = next.stands.1.sound.wired.cancel counted (ap is_active_kind (sym kind) ∙ ap (λ k. is_active_kind (kind_of p k)) (sym is) ∙ cancel_kind next) in
       none-some _ (sym none ∙ found.1)
 
   -- one that is aborted is being cancelled
@@ -449,7 +467,7 @@ cancel_idle_does m refused idle =
 -- and else the method that cancels begins over the one that runs
 module _ (p : Image) (m : Parts) (refused : List ℕ) (a : Active) (k : ℕ) where
   abbrev cancels : Parts
-  cancels = with_tasks (Runs_frame (fresh k (this m)) ∷ m.stack.tasks) (record m { active = a })
+  cancels = with_tasks (Runs_frame (with_view (view_here m.stack.tasks) (fresh k (this m))) ∷ m.stack.tasks) (record m { active = a })
 
   cancel_begins : (h : At_hand p m) → this m ≡ home_number h.frame.home → SameRequests p a (begun_cells h.frame h.state.cells) → Agrees p cancels (applied p h.frame h.below h.state (Cancels k))
   cancel_begins h number requests =
@@ -457,15 +475,17 @@ module _ (p : Image) (m : Parts) (refused : List ℕ) (a : Active) (k : ℕ) whe
       let fr = h.frame in
       let ts = h.below in
       let n = this m in
+      let v = view_here m.stack.tasks in
+      let seen : fr.view ≡ viewed v fr.home = by_top p m h (λ us. fr.view ≡ viewed (view_here us) fr.home) (λ f ms top. top.frame.view) in
       let r = on_request cancelling (own_request s.cells fr.home) in
       let cs = begun_cells fr s.cells in
       let called = frame_as k fr.home fr.view (length s.items) in
       let top_housed = by_top p m h (λ us. this_here us ≢ null → this_here us < 4096) (λ f ms top. top.frame.housed) in
-      by_top p m h (λ us. Agrees p (record m { stack = record m.stack { tasks = Runs_frame (fresh k n) ∷ us }; active = a }) (record s { cells = cs; tasks = Run called ∷ Run fr ∷ ts }))
+      by_top p m h (λ us. Agrees p (record m { stack = record m.stack { tasks = Runs_frame (with_view v (fresh k n)) ∷ us }; active = a }) (record s { cells = cs; tasks = Run called ∷ Run fr ∷ ts }))
       (λ f ms top. record {
-        tasks = (begun_as k n fr.home fr.view (length s.items) number top_housed, (top.frame, top.below));
+        tasks = (subst (λ x. SameFrame (with_view v (fresh k n)) (frame_as k fr.home x (length s.items))) (sym seen) (begun_as k n fr.home v (length s.items) number top_housed), (top.frame, top.below));
         values = λ q.
-            subst (λ x. Shows x (word_at (Run called ∷ Run fr ∷ ts) q) (held cs q)) (sym (fresh_value k n (Runs_frame f ∷ ms) m.cells m.entries.items (others m) q))
+            subst (λ x. Shows x (word_at (Run called ∷ Run fr ∷ ts) q) (held cs q)) (sym (fresh_with k n v (Runs_frame f ∷ ms) m.cells m.entries.items (others m) q))
             (subst (λ w. Shows (value_in (Runs_frame f ∷ ms) m.cells m.entries.items (others m) q) w (held cs q)) (sym (fresh_as k fr.home fr.view (length s.items) (Run fr ∷ ts) q))
             (subst (λ o. Shows (value_in (Runs_frame f ∷ ms) m.cells m.entries.items (others m) q) (word_at (Run fr ∷ ts) q) o) (sym ((rerequested_alike s.cells fr.home r).held_so q)) (top.values q)));
         cells = cells_rerequested p m.cells s.cells fr.home r h.agrees.cells;
@@ -478,12 +498,12 @@ module _ (p : Image) (m : Parts) (refused : List ℕ) (a : Active) (k : ℕ) whe
         entry_room = h.agrees.entry_room;
       })
 
-  pub cancel_does : (class : ℕ) → class_at m.cells (this m) ≡ Some class → role_of p class Cancels_role ≡ Some k → is_waited_for (request_at m.active.table (this m)) ≡ true → Makes m.active a (this m) cancelling → DoesIn p refused Cancel m cancels
-  cancel_does class is role waited makes h here =
+  pub cancel_does : (class counted : ℕ) → class_at m.cells (this m) ≡ Some class → Some counted ≡ or_else (class_above (view_here m.stack.tasks)) (Some class) → role_of p counted Cancels_role ≡ Some k → is_waited_for (request_at m.active.table (this m)) ≡ true → Makes m.active a (this m) cancelling → DoesIn p refused Cancel m cancels
+  cancel_does class counted is counts role waited makes h here =
       plain_at p m _ refused Cancel refl h (λ c met typed.
       let on = on_object p m h (active_listed _ met.0) in
       let active = sym (active_told p m h on) ∙ waited in
       let r = in_one enlisted.is_active _ active in
       subst (λ b. Agrees p cancels (applied p h.frame h.below h.state (cancels_if h.frame b (cancel_method p h.frame)))) (sym active)
-      (subst (λ o. Agrees p cancels (applied p h.frame h.below h.state (cancels_if h.frame true o))) (sym (cancel_told p m h on class is ∙ role))
+      (subst (λ o. Agrees p cancels (applied p h.frame h.below h.state (cancels_if h.frame true o))) (sym (cancel_told p m h on class counted is counts ∙ role))
       (cancel_begins h (on.number ∙ sym (ap home_number on.home)) (requests_become p m h on a cancelling r.0 r.1 makes))))

@@ -246,7 +246,7 @@ module _ (p : Image) (t : Typing) (depth heights : ℕ → ℕ) (tables : Tables
     where
       -- what a move counts is no part of it
       again : Stands_here p t s fr ts → Stands_here p t (counted p s) fr ts
-      again h = record { shape = h.shape; below = h.below; there = h.there; items = h.items; height = h.height; view = h.view; low = h.low; low_under = h.low_under; fits = h.fits; free = h.free }
+      again h = record { shape = h.shape; below = h.below; there = h.there; items = h.items; height = h.height; holder = h.holder; view = h.view; low = h.low; low_under = h.low_under; fits = h.fits; free = h.free }
 
   -- under a leave, with its last item
   with_top :

@@ -1,13 +1,16 @@
 -- Where a destruction begins.
 use Rattle.std.specs.Prelude.{ℕ, Bool, cond, is_some, List, [], ◌∷◌, Option, Some, None}
 use Rattle.aom_image.specs.Image.{Image}
+use Rattle.aom_image.specs.Views.{method_class}
 use Rattle.aom_image.specs.declared.method.Role.TheVariants.{Destruct}
 use Rattle.aom_classes.specs.Roles.{role_of}
 use Rattle.aom_roles.specs.Classes.{sessions_in}
 use Rattle.aom_roles.specs.Shapes.{kind_of}
 use Rattle.aom_cells.specs.Heap.{Heap, null, class_at}
 use Rattle.aom_sound.specs.State.{raised}
-use Rattle.aom_frames.specs.Tasks.{fresh, below_first}
+use Rattle.aom_frames.specs.Tasks.{fresh, below_first, with_view}
+use Rattle.aom_frames.specs.Views.{view_in}
+use Rattle.aom_frames.specs.declared.frame.Frame.{Frame}
 use Rattle.aom_frames.specs.declared.task.Task.{Task}
 use Rattle.aom_frames.specs.declared.task.Task.TheVariants.{Run, Trapped, Destroy, Closing, Unwind, Dispatched}
 use Rattle.aom_frames.specs.declared.dispatch.Dispatch.{Dispatch}
@@ -23,10 +26,14 @@ destructor_in p (Some class) = role_of p class Destruct
 abbrev pub destructor_at : Image → Heap → ℕ → Option ℕ
 destructor_at p h n = destructor_in p (class_at h n)
 
+-- while it runs the object counts as the class that the destructor is of
+abbrev pub destructor_frame : Image → ℕ → ℕ → Frame
+destructor_frame p method n = with_view (view_in (method_class p method)) (fresh method n)
+
 -- over these tasks the destructor of a cell runs, if there is one
-abbrev pub destructed : Option ℕ → ℕ → List Task → List Task
-destructed None n ts = ts
-destructed (Some method) n ts = Run (fresh method n) ∷ ts
+abbrev pub destructed : Image → Option ℕ → ℕ → List Task → List Task
+destructed p None n ts = ts
+destructed p (Some method) n ts = Run (destructor_frame p method n) ∷ ts
 
 -- objects of that class are servers
 abbrev pub is_server_class : Image → Option ℕ → Bool
@@ -34,7 +41,7 @@ is_server_class p class = is_some (sessions_in (kind_of p class))
 
 -- the destruction of a cell of that class begins over these tasks: of a server the sessions with it go first
 abbrev pub begun : Image → Option ℕ → ℕ → List Task → List Task
-begun p class n ts = cond (is_server_class p class) (Closing ∷ Destroy n ∷ ts) (destructed (destructor_in p class) n (Destroy n ∷ ts))
+begun p class n ts = cond (is_server_class p class) (Closing ∷ Destroy n ∷ ts) (destructed p (destructor_in p class) n (Destroy n ∷ ts))
 
 -- the destruction of the cell at a number begins
 abbrev pub dying : Image → Heap → ℕ → List Task → List Task

@@ -7,20 +7,22 @@ ghost use Rattle.aom_parts.specs.Room.{ReturnsTo};
 ghost use Rattle.aom_acts.specs.Requests.{EndsCancel, IsCancelled, IsOver};
 ghost use Rattle.aom_parts.specs.Fields.{this, ThisLives};
 ghost use Rattle.aom_frames.specs.declared.task.Task.TheVariants.{Dispatched};
-ghost use Rattle.aom_frames.specs.Tasks.{below_first, Runs, fresh, method_here, place_here};
-ghost use Rattle.std.specs.Prelude.{ℕ, suc, List, ◌<◌, ◌≤◌, ◌+◌, ◌^◌, ◌∷◌, ◌≡◌, IsSome, Some, length};
+ghost use Rattle.aom_frames.specs.Tasks.{below_first, Runs, fresh, method_here, place_here, with_view};
+ghost use Rattle.std.specs.Prelude.{ℕ, suc, List, ◌<◌, ◌≤◌, ◌+◌, ◌^◌, ◌∷◌, ◌≡◌, ◌≢◌, IfSome, IsSome, Some, length};
 ghost use Rattle.aom_image.specs.Image.{Image};
 ghost use Rattle.aom_image.specs.Views.{arguments_of, gives_of, instr_at, method_at, method_class};
 ghost use Rattle.aom_instructions.specs.declared.instr.Instr.TheVariants.{Call, Return, Stop, Trap};
 ghost use Rattle.aom_sound.specs.Calls.{result_register};
 ghost use Rattle.aom_acts.specs.Acts.{Does, DoesIn, resulted};
-ghost use Rattle.aom_acts.specs.Calls.{target_here};
+ghost use Rattle.aom_acts.specs.Calls.{body_on, callee_here, target_here, view_on};
+ghost use Rattle.aom_cells.specs.Heap.{Lives, class_at, null};
 ghost use Rattle.aom_acts.specs.Next.{IsNext};
 
+use crate::requests::counted;
 use crate::serving;
 use aom_cells::NULL;
 use aom_cleanup::Item;
-use aom_frames::{Dispatch, Frame, Task, TaskKind};
+use aom_frames::{Dispatch, Frame, Task, TaskKind, View};
 use aom_image::{Argument, ClassNumber, Gives, Instr, MethodNumber, Register, Role, Target};
 use aom_linked::Linked;
 use aom_parts::Parts;
@@ -66,6 +68,52 @@ fn target_of(parts: &Parts, target: Target, class: Option<ClassNumber>) -> u32
     }
 }
 
+/// What a call of a method runs on that cell, by the table; on none the method itself.
+fn body_on(
+    parts: &Parts,
+    this: u32,
+    view: View,
+    method: MethodNumber,
+    linked: &Linked,
+) -> MethodNumber
+    requires there { IsSome (method_at linked.now method) }
+    requires lives { this ≢ null → Lives parts.now.cells this }
+    requires small { IfSome (class_at parts.now.cells this) (λ class. class < 256) }
+    ensures { result ≡ body_on linked.now method this view parts.now.cells }
+{
+    if this == NULL {
+        return method;
+    }
+    let class = parts.class(this);
+    linked.body(method, counted(view, class))
+}
+
+/// The frame in which what a call of a method runs on that cell begins.
+fn begun(parts: &Parts, this: u32, view: View, method: MethodNumber, linked: &Linked) -> Frame
+    requires there { IsSome (method_at linked.now method) }
+    requires lives { this ≢ null → Lives parts.now.cells this }
+    requires small { IfSome (class_at parts.now.cells this) (λ class. class < 256) }
+    ensures { result ≡ with_view view (fresh (body_on linked.now method this view parts.now.cells) this) }
+{
+    let body = body_on(parts, this, view, method, linked);
+    Frame::begin(body, this).counting_as(view)
+}
+
+/// The same, on the object of the method that runs or on another.
+fn frame_on(parts: &Parts, on_self: bool, this: u32, method: MethodNumber, linked: &Linked) -> Frame
+    requires there { IsSome (method_at linked.now method) }
+    requires runs { Runs parts.now.stack.tasks }
+    requires lives { this ≢ null → Lives parts.now.cells this }
+    requires small { IfSome (class_at parts.now.cells this) (λ class. class < 256) }
+    ensures { result ≡ with_view (view_on on_self parts.now.stack.tasks) (fresh (body_on linked.now method this (view_on on_self parts.now.stack.tasks) parts.now.cells) this) }
+{
+    if on_self {
+        begun(parts, this, parts.stack.view(), method, linked)
+    } else {
+        begun(parts, this, View::own(), method, linked)
+    }
+}
+
 /// The frame in which a method that is called begins, and what it takes.
 #[inline(always)]
 fn callee<'a>(
@@ -77,12 +125,16 @@ fn callee<'a>(
     requires there { IsSome (method_at linked.now method) }
     requires runs { Runs parts.now.stack.tasks }
     requires housed { ThisLives parts.now }
-    ensures frame { result.0 ≡ fresh method (target_here target (method_class linked.now method) parts.now) }
+    requires lives { target_here target (method_class linked.now method) parts.now ≢ null → Lives parts.now.cells (target_here target (method_class linked.now method) parts.now) }
+    requires small { IfSome (class_at parts.now.cells (target_here target (method_class linked.now method) parts.now)) (λ class. class < 256) }
+    ensures frame { result.0 ≡ callee_here linked.now target method parts.now }
     ensures arguments { result.1.now ≡ arguments_of linked.now method }
 {
     let called = linked.method(method);
+    let on_self = matches!(target, Target::This) && called.class.is_some();
     let this = target_of(parts, target, called.class);
-    (Frame::begin(method, this), called.arguments.as_slice())
+    let frame = frame_on(parts, on_self, this, method, linked);
+    (frame, called.arguments.as_slice())
 }
 
 /// Calls a method, with its arguments from a register on.

@@ -1,12 +1,14 @@
 //! Destruction: a cell is at hand, of a server the sessions with it go first, its destructor runs, and then it goes.
-ghost use Rattle.std.specs.Prelude.{◌≡◌, ◌<◌, ◌+◌, ◌^◌, ℕ, List, IfSome, Some, length, true};
+ghost use Rattle.std.specs.Prelude.{◌≡◌, ◌<◌, ◌+◌, ◌^◌, ℕ, List, IfSome, IsSome, Some, length, true};
+ghost use Rattle.aom_image.specs.Views.{method_at};
 ghost use Rattle.aom_cells.specs.Heap.{Lives, class_at};
 ghost use Rattle.aom_instructions.specs.declared.instr.Instr.TheVariants.{Delete};
 ghost use Rattle.aom_clients.specs.Clients.{queue_at};
 ghost use Rattle.aom_frames.specs.Tasks.{place_here, below_first};
+ghost use Rattle.aom_frames.specs.Views.{view_in};
 ghost use Rattle.aom_acts.specs.Acts.{DoesIn, GoesAway};
 ghost use Rattle.aom_parts.specs.Places.{next, with_tasks, IsClosing, IsDestroying, going_here};
-ghost use Rattle.aom_acts.specs.Going.{destructed, destructor_in, dying, is_server_class, uprooted};
+ghost use Rattle.aom_acts.specs.Going.{destructed, destructor_frame, destructor_in, dying, is_server_class, uprooted};
 ghost use Rattle.aom_acts.specs.Moves.{Moves};
 ghost use Rattle.aom_acts.specs.Next.{IsNext};
 ghost use Rattle.aom_acts.specs.Serving.{CanVanish, answers};
@@ -15,23 +17,42 @@ ghost use Rattle.aom_parts.specs.Stands.{Stands};
 
 use crate::serving;
 use aom_cells::NULL;
-use aom_frames::{Dispatch, Frame, Task, TaskKind};
-use aom_image::{ClassNumber, Register, Role};
+use aom_frames::{Dispatch, Frame, Task, TaskKind, View};
+use aom_image::{ClassNumber, MethodNumber, Register, Role};
 use aom_lines::Turn;
 use aom_linked::Linked;
 use aom_parts::Parts;
 use aom_roles::sessions_at;
 use aom_transcript::Line;
 
+/// As the class that a method is of.
+fn view_in(class: Option<ClassNumber>) -> View
+    ensures { result ≡ view_in class }
+{
+    match class {
+        Some(class) => View::above(class),
+        None => View::own(),
+    }
+}
+
+/// The frame of a destructor: while it runs the object counts as the class that the destructor is of.
+fn destructor_frame(destructor: MethodNumber, number: u32, linked: &Linked) -> Frame
+    requires there { IsSome (method_at linked.now destructor) }
+    ensures { result ≡ destructor_frame linked.now destructor number }
+{
+    let view = view_in(linked.method(destructor).class);
+    Frame::begin(destructor, number).counting_as(view)
+}
+
 /// The destructor of a cell of that class runs over the tasks at hand, if it has one.
 fn destruct(parts: &mut Parts, number: u32, class: ClassNumber, linked: &Linked)
     requires room { length parts.old.stack.tasks < parts.old.stack.depth }
-    ensures { parts.new ≡ with_tasks (destructed (destructor_in linked.now (Some class)) number parts.old.stack.tasks) parts.old }
+    ensures { parts.new ≡ with_tasks (destructed linked.now (destructor_in linked.now (Some class)) number parts.old.stack.tasks) parts.old }
 {
     if let Some(destructor) = linked.role(class, Role::Destruct) {
         parts
             .stack
-            .push(Task::Run(Frame::begin(destructor, number)));
+            .push(Task::Run(destructor_frame(destructor, number, linked)));
     }
 }
 

@@ -2,7 +2,9 @@
 ghost use Rattle.aom_sound.specs.Enlisted.{due_after};
 ghost use Rattle.std.specs.Prelude.{◌≡◌, ◌<◌, ◌+◌, ◌^◌, ℕ, IfSome, List, Some, cond, true};
 ghost use Rattle.aom_cells.specs.Heap.{class_at};
+ghost use Rattle.aom_classes.specs.Roles.{or_else};
 ghost use Rattle.aom_frames.specs.Tasks.{Runs, place_here};
+ghost use Rattle.aom_frames.specs.Views.{class_above};
 ghost use Rattle.aom_image.specs.Image.{Image};
 ghost use Rattle.aom_instructions.specs.declared.instr.Instr.TheVariants.{Abort, Cancel, Enlist, Issue, JumpActive, JumpAdded, SetActive, Status};
 ghost use Rattle.aom_acts.specs.Acts.{Does, DoesIn};
@@ -18,8 +20,8 @@ ghost use Rattle.aom_rules.specs.Requests.{is_active_kind};
 
 use crate::{going, natives};
 use aom_cells::CellId;
-use aom_frames::{Frame, Task};
-use aom_image::{ClassKind, Place, Provider, Register, Role};
+use aom_frames::{Frame, Task, View};
+use aom_image::{ClassKind, ClassNumber, Place, Provider, Register, Role};
 use aom_linked::Linked;
 use aom_parts::Parts;
 
@@ -144,6 +146,16 @@ pub fn set_active(parts: &mut Parts)
     parts.next();
 }
 
+/// The class as which an object of that class counts.
+pub fn counted(view: View, class: ClassNumber) -> ClassNumber
+    ensures { Some result ≡ or_else (class_above view) (Some class) }
+{
+    match view.class() {
+        Some(above) => above,
+        None => class,
+    }
+}
+
 /// Where the object waits for its request, the method that cancels it is called.
 pub fn cancel(parts: &mut Parts, linked: &Linked)
     requires { IsNext linked.now Cancel parts.old }
@@ -155,13 +167,12 @@ pub fn cancel(parts: &mut Parts, linked: &Linked)
         parts.next();
         return;
     }
-    let Some(method) = linked.role(class, Role::Cancel) else {
+    let view = parts.stack.view();
+    let Some(method) = linked.role(counted(view, class), Role::Cancel) else {
         unreachable!();
     };
     parts.active.cancelling(id);
-    parts
-        .stack
-        .push(Task::Run(Frame::begin(method, id.number())));
+    parts.stack.push(Task::Run(Frame::begin(method, id.number()).counting_as(view)));
 }
 
 pub fn abort(parts: &mut Parts)

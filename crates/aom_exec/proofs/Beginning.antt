@@ -102,10 +102,10 @@ module _ (s : Store) (place : ℕ) where
               by (inr more) = absurd (apart (omega (arith, above, more)))
 
   pub told_frame : (many : ℕ) (f : Held_frame) (fr : Frame) (ws : List (Option ℤ)) → SameFrame f fr → SameFrame (told_first s place many f) (record fr { words = ws })
-  told_frame zero f fr ws same = record { method = same.method; place = same.place; this = same.this; housed = same.housed; wide = same.wide; counters = same.counters; loops = same.loops }
+  told_frame zero f fr ws same = record { method = same.method; place = same.place; this = same.this; view = same.view; housed = same.housed; wide = same.wide; counters = same.counters; loops = same.loops }
   told_frame (suc n) f fr ws same =
       let g = told_frame n f fr ws same in
-      record { method = g.method; place = g.place; this = g.this; housed = g.housed; wide = length-set (told_first s place n f).registers n (number_of n) ∙ g.wide; counters = g.counters; loops = g.loops }
+      record { method = g.method; place = g.place; this = g.this; view = g.view; housed = g.housed; wide = length-set (told_first s place n f).registers n (number_of n) ∙ g.wide; counters = g.counters; loops = g.loops }
 
   -- each word is read again as it was
   module _ (cs : List Cell) (name : ℕ) (f : Held_frame) (wide : length f.registers ≡ 16) (bare : (i : ℕ) → slice_index_or f.registers i null ≡ null) (reads : (w : ℕ) → w < 5 → cast_signed w32 (number_of w) ≡ word_field cs name w) where

@@ -1,6 +1,6 @@
 //! As what an object counts.
-ghost use Rattle.std.specs.Prelude.{◌≡◌, Some};
-ghost use Rattle.aom_frames.specs.Views.{class_above, own};
+ghost use Rattle.std.specs.Prelude.{◌≡◌};
+ghost use Rattle.aom_frames.specs.Views.{above, class_above, own};
 
 use aom_image::ClassNumber;
 
@@ -26,7 +26,7 @@ impl View {
 
     /// That class, which stands above its own.
     pub fn above(class: ClassNumber) -> View
-        ensures { class_above result ≡ Some class }
+        ensures { result ≡ above class }
     {
         View {
             is_above: true,

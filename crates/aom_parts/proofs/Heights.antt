@@ -13,7 +13,7 @@ use Rattle.aom_sound.proofs.Straight.{fits_unowning, register_fits}
 use Rattle.aom_sound.specs.Claims.{Dispatching, Dying, Ending, Form, Layer, Mark, Method, Unwinding, forms, items_of, objects, tasks_of}
 use Rattle.aom_sound.specs.Places.{Cell, Entry, Register, held, seen}
 use Rattle.aom_sound.specs.State.{An_object, An_operation, Closing, Destroy, Dispatched, Frame, Item, Run, State, Task, Trapped, Unwind, home_holder}
-use Rattle.aom_sound.specs.WellTyped.{Back, Caught, Fits, Gone, Good, CountsAs, Leaves, Now, Returns, Stack, WellTyped}
+use Rattle.aom_sound.specs.WellTyped.{Houses, Back, Caught, Fits, Gone, Good, CountsAs, Leaves, Now, Returns, Stack, WellTyped}
 use Rattle.aom_sound.proofs.Layers.{leave_layer, method_layer}
 use Rattle.aom_parts.specs.Room.{below_height, entries_in}
 use Rattle.aom_parts.proofs.Depths.{AllLow, below_all, below_pushed}
@@ -53,6 +53,7 @@ pub record Stands_here (p : Image) (t : Typing) (s : State) (fr : Frame) (ts : L
   pub there : shape_at t fr.method fr.place ≡ Some shape
   pub items : forms s.items ≡ objects shape.entries below
   pub height : fr.height ≡ length below
+  pub holder : Houses p (home_holder fr.home) (holder_of p fr.method)
   pub view : CountsAs p (home_holder fr.home) fr.view (holder_of p fr.method)
   pub low : AllLow fr.height ts
   pub low_under : LowUnder fr.height ts
@@ -70,6 +71,7 @@ stands_here p t s fr ts w at = method_layer (λ ls. (forms s.items ≡ items_of 
       there = h.1.stack.0;
       items = h.0;
       height = high;
+      holder = h.1.stack.1.holder;
       view = h.1.stack.1.view;
       low = subst (λ us. AllLow fr.height us) under (low_stack p t s.cells (Returns fr.method fr.home) ls fr.height h.1.stack.4 (omega (arith, high)));
       low_under = subst (λ us. LowUnder fr.height us) under (subst (λ n. LowUnder n (tasks_of ls)) (sym high) (low_under p t s.cells (Returns fr.method fr.home) ls h.1.stack.4));

@@ -9,9 +9,12 @@ use Rattle.aom_cells.specs.Heap.{Heap, null, cell_at, count}
 use Rattle.aom_cells.specs.Heap.{word_at as cell_word}
 use Rattle.aom_cells.specs.declared.cell.Cell.{Cell as Held_cell}
 use Rattle.aom_sound.specs.Places.{Place, Register, Entry, Field, Going, Elsewhere, Object, Cell, held, in_session, named, requested, word_field, count_cells}
-use Rattle.aom_sound.specs.State.{Home, Static, AtRoot, Inside, Frame, Seat, Dispatch, Of_main, Main_left, Of_root, Of_object, Object_left, Asks, Answered, Of_server, Stage, word, counter, Task, Run, Trapped, Destroy, Closing, Unwind, Dispatched, Item, An_object, An_operation, A_mark, State}
+use Rattle.aom_sound.specs.State.{home_view, Home, Static, AtRoot, Inside, Frame, Seat, Dispatch, Of_main, Main_left, Of_root, Of_object, Object_left, Asks, Answered, Of_server, Stage, word, counter, Task, Run, Trapped, Destroy, Closing, Unwind, Dispatched, Item, An_object, An_operation, A_mark, State}
 use Rattle.aom_sound.specs.State as checked
 use Rattle.aom_active.specs.Agrees.{Active, StandsFor, queued}
+use Rattle.aom_classes.specs.Roles.{or_else}
+use Rattle.aom_frames.specs.Views.{class_above}
+use Rattle.aom_frames.specs.declared.view.View.{View}
 use Rattle.aom_frames.specs.declared.frame.Frame.{Frame as Held_frame}
 use Rattle.aom_frames.specs.declared.task.Task.{Task as Held_task}
 use Rattle.aom_frames.specs.declared.task.Task.TheVariants.{Run as Runs_frame, Trapped as Is_trap, Destroy as Destroys, Closing as Closes, Unwind as Unwinds, Dispatched as Ends}
@@ -64,10 +67,15 @@ home_number Static = null
 home_number AtRoot = null
 home_number (Inside o from) = o.name
 
+-- the class as which the object of a method counts
+abbrev pub viewed : View → Home → Option ℕ
+viewed v home = or_else (class_above v) (home_view home)
+
 pub record SameFrame (f : Held_frame) (fr : Frame) : Type 0 where
   pub method : f.method ≡ fr.method
   pub place : f.place ≡ fr.place
   pub this : f.this ≡ home_number fr.home
+  pub view : fr.view ≡ viewed f.view fr.home
   -- which is no message
   pub housed : f.this ≢ null → f.this < 4096
   pub wide : length f.registers ≡ 16

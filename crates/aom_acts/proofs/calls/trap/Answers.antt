@@ -1,9 +1,15 @@
-use Rattle.aom_acts.proofs.EnterActs.{trap_does, traps_well}
+use Rattle.aom_acts.proofs.EnterActs.{trap_does, trap_lives, traps_well}
 use Rattle.aom_acts.proofs.Rooms.{mark_room}
 use Rattle.aom_acts.proofs.calls.trap.Goals as goal
 
 pub callee-frame-requires-clause-there : goal.callee-frame-requires-clause-there
 callee-frame-requires-clause-there c = (traps_well c.args.linked.now c.args.parts.now c.args.on c.args.method c.args.first c.requires.0 c.requires.1).0
+
+pub callee-frame-requires-clause-lives : goal.callee-frame-requires-clause-lives
+callee-frame-requires-clause-lives c = (trap_lives c.args.linked.now c.args.parts.now c.args.on c.args.method c.args.first c.requires.0 c.requires.1).0
+
+pub callee-frame-requires-clause-small : goal.callee-frame-requires-clause-small
+callee-frame-requires-clause-small c = (trap_lives c.args.linked.now c.args.parts.now c.args.on c.args.method c.args.first c.requires.0 c.requires.1).1
 
 pub mark-requires : goal.mark-requires
 mark-requires c = mark_room c.args.linked.now c.args.parts.now c.args.on c.args.method c.args.first c.requires.0 c.requires.1

@@ -14,7 +14,8 @@ cancelling-requires c = waits_active _ (sym c.is_active.ensures ∙ c.if-not-is_
 pub unreachable-requires : goal.unreachable-requires
 unreachable-requires c =
     let class = rw (c.number.ensures.value, c.cell-id.ensures) at c.class-class.ensures in
-    cancel_there c.args.linked.now c.args.parts.now c.class-class.result c.requires class (sym c.role.ensures ∙ c.in_default.is)
+    let counts = rw c.view-view.ensures at c.counted.ensures in
+    cancel_there c.args.linked.now c.args.parts.now c.class-class.result c.counted.result c.requires class counts (sym c.role.ensures ∙ c.in_default.is)
 
 pub returns : goal.returns
 returns c = λ refused.
@@ -22,4 +23,5 @@ returns c = λ refused.
     let waited = rw c.cell-id.ensures at (sym c.is_active.ensures ∙ c.if-not-is_active.false) in
     let makes = rw c.cell-id.ensures at c.cancelling.ensures in
     let role = sym c.role.ensures ∙ c.in-Some.is in
-    rw (c.push.ensures, c.begin.ensures, c.number-2.ensures.value, c.cell-id.ensures) (cancel_does c.args.linked.now c.args.parts.now refused c.cancelling.new.self c.in-Some.method c.class-class.result class role waited makes)
+    let counts = rw c.view-view.ensures at c.counted.ensures in
+    rw (c.push.ensures, c.counting_as.ensures, c.view-view.ensures, c.begin.ensures, c.number-2.ensures.value, c.cell-id.ensures) (cancel_does c.args.linked.now c.args.parts.now refused c.cancelling.new.self c.in-Some.method c.class-class.result c.counted.result class counts role waited makes)
