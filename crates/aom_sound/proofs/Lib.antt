@@ -55,7 +55,6 @@ pub mod Closing
 pub mod Passing
 pub mod Callees
 pub mod Overriders
-pub mod Plain
 pub mod Cancelled
 pub mod Raising
 pub mod Calling
