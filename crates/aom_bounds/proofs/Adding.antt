@@ -274,7 +274,7 @@ in_code p m d here place i at =
     slice_get_within d.code place i (subst (λ x. slice_get x.code place ≡ Some i) same w.2)
 
 pub law_is_price : SweptIsPrice
-law_is_price p t c a formed linked typed swept = record { methods = methods; classes = ruled_of p linked c swept.classes }
+law_is_price p t c a formed linked typed swept = record { methods = methods; classes = ruled_of p formed linked c swept.classes }
   where
     methods : (m : ℕ) → IsSome (method_at p m) → IsPrice p t c m (price c m)
     methods m some = some_given (λ o. IsSome o) (method_at p m) some (λ s. cc) (λ d e s.

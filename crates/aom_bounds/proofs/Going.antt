@@ -2,6 +2,7 @@
 use Rattle.std.proofs.Common.{◌≡◌, ◌+◌, ◌*◌, ℕ, true, Option, Some, None, inl, inr, refl, sym, ap, arith, ◌∙◌}
 use Rattle.std.specs.Prelude.{max, min}
 use Rattle.aom_image.specs.Image.{Image}
+use Rattle.aom_image.specs.WellFormed.{WellFormed}
 use Rattle.aom_image.specs.Views.{class_at}
 use Rattle.aom_image.specs.declared.class.ClassDecl.{ClassDecl}
 use Rattle.aom_image.specs.declared.class.ClassKind.{ClassKind}
@@ -100,7 +101,7 @@ IsRuled p c = (x : Thing) → c.destruction x ≡ most_standing p (by_rule p c) 
 abbrev pub IsFound : Image → Prices → Type 0
 IsFound p c = (x : Thing) → c.destruction x ≡ all_going p (destructor_price c) x
 
-module _ (p : Image) (linked : IsLinked p) (c : Prices) where
+module _ (p : Image) (formed : WellFormed p) (linked : IsLinked p) (c : Prices) where
   -- sessions that cost their going cost the same by both
   as_going : ((x : Thing) (s : ℕ) → thing_sessions p x ≡ Some s → c.destruction (Object s) ≡ going p (destructor_price c) (Object s)) → (x : Thing) →
       sessions_cost p (λ k. c.destruction (Object k)) x ≡ sessions_cost p (λ k. going p (destructor_price c) (Object k)) x
@@ -118,7 +119,7 @@ module _ (p : Image) (linked : IsLinked p) (c : Prices) where
       alone : (y : Thing) (s : ℕ) → thing_sessions p y ≡ Some s → c.destruction (Object s) ≡ going p (destructor_price c) (Object s)
       alone y s is =
           let one = ruled (Object s) in
-          let most = session_most p (sessions_end p linked) (by_rule p c) s (their_class p linked y s is) in
+          let most = session_most p (sessions_end p formed linked) (by_rule p c) s (their_class p linked y s is) in
           let none = no_sessions p linked y s is (λ k. c.destruction (Object k)) in
           omega (arith, one, most, none)
 
@@ -128,7 +129,7 @@ module _ (p : Image) (linked : IsLinked p) (c : Prices) where
       alone : (y : Thing) (s : ℕ) → thing_sessions p y ≡ Some s → c.destruction (Object s) ≡ going p (destructor_price c) (Object s)
       alone y s is =
           let one = found (Object s) in
-          let most = session_most p (sessions_end p linked) (whole_going p (destructor_price c)) s (their_class p linked y s is) in
+          let most = session_most p (sessions_end p formed linked) (whole_going p (destructor_price c)) s (their_class p linked y s is) in
           let none = no_sessions p linked y s is (λ k. going p (destructor_price c) (Object k)) in
           omega (arith, one, most, none)
 

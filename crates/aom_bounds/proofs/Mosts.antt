@@ -1,18 +1,22 @@
 -- The most of numbers: it is no less than each that counts, no more than what all are within, and related where they are.
-use Rattle.std.proofs.Common.{◌≡◌, ◌<◌, ◌≤◌, ◌+◌, ◌∙◌, ◌==◌, ◌||◌, ℕ, zero, suc, Bool, true, false, cond, length, Option, Some, None, inl, inr, ⊎_elim, refl, sym, ap, arith, subst}
+use Rattle.std.proofs.Common.{◌≡◌, ◌<◌, ◌≤◌, ◌+◌, ◌∙◌, ◌==◌, ◌||◌, ℕ, zero, suc, Bool, true, false, cond, length, Option, Some, None, inl, inr, ⊎_elim, refl, sym, ap, arith, subst, IfSome, slice_get}
 use Rattle.std.specs.Prelude.{max}
 use Rattle.std.proofs.lemmas.Bool.{cases_lt, eqb-true}
 use Rattle.std.proofs.lemmas.Option.{slice_get_within}
 use Rattle.aom_image.proofs.Given.{some_given}
 use Rattle.aom_image.specs.Image.{Image}
 use Rattle.aom_image.specs.Views.{class_at}
+use Rattle.aom_image.specs.WellFormed.{ParentFits, WellFormed, may_descend}
+use Rattle.aom_image.specs.declared.class.ClassKind.{ClassKind}
 use Rattle.aom_image.specs.declared.class.ClassDecl.{ClassDecl}
 use Rattle.aom_image.specs.declared.method.Role.TheVariants.{Destruct}
 use Rattle.aom_image.specs.declared.method.Thing.{Thing}
 use Rattle.aom_image.specs.declared.method.Thing.TheVariants.{Object, Message}
 use Rattle.aom_roles.specs.Families.{descends, descends_in, lower, parent_in, parent_of}
-use Rattle.aom_roles.specs.Classes.{is_session}
+use Rattle.aom_roles.specs.Classes.{is_session, is_session_in, is_session_kind, kind_in}
 use Rattle.aom_roles.proofs.Descending.{along, child, from_none, itself, one_class, parent_below, through}
+use Rattle.aom_classes.proofs.Facts.{all_there}
+use Rattle.aom_classes.specs.Families.{Continues, ContinuesParent}
 use Rattle.aom_classes.specs.Linked.{IsLinked}
 use Rattle.aom_classes.specs.Overriding.{overrides}
 use Rattle.aom_classes.specs.Roles.{own_role}
@@ -111,12 +115,37 @@ run_has p f j k (inr over) lt = let most = most_has (λ b. overrides p b j) f (l
 abbrev pub SessionsEnd : Image → Type 0
 SessionsEnd p = (c e : ℕ) → parent_of p c ≡ Some e → is_session p e ≡ false
 
--- an image that is linked has no parents yet
-pub sessions_end : (p : Image) → IsLinked p → SessionsEnd p
-sessions_end p linked c e parent =
-    let same = one_class p linked.parents.none c e (child p c e e parent (itself p e)) in
-    let lower = parent_below p c e parent in
-    absurd (omega (arith, same, lower))
+-- a class with a parent declares it
+parent_named : (p : Image) (c e : ℕ) → parent_of p c ≡ Some e → (d : ClassDecl) × (class_at p c ≡ Some d) × (d.parent ≡ Some e)
+unfolding parent_in
+parent_named p c e is = go (class_at p c) refl is
+  where
+    named : (o : Option ℕ) → lower c o ≡ Some e → o ≡ Some e
+    named None is = cc
+    named (Some f) is = grind arith
+
+    go : (o : Option ClassDecl) → class_at p c ≡ o → lower c (parent_in o) ≡ Some e → (d : ClassDecl) × (class_at p c ≡ Some d) × (d.parent ≡ Some e)
+    go None at is = cc
+    go (Some d) at is = (d, at, named d.parent is)
+
+descends_plainly : (k : ClassKind) → may_descend k ≡ true → is_session_kind k ≡ false
+unfolding is_session_kind
+descends_plainly k may = grind arith
+
+-- in a file no class of sessions has a child: what has a parent is of another kind, and its parent's
+pub sessions_end : (p : Image) → WellFormed p → IsLinked p → SessionsEnd p
+unfolding class_at is_session_in kind_in
+sessions_end p formed linked c e parent =
+    let own = parent_named p c e parent in
+    let d = own.0 in
+    let fits = all_there (λ d. ParentFits p.header.version (length p.classes) d.kind d.parent) p.classes c d formed.families.parents own.1 in
+    let may = subst (λ o. ParentFits p.header.version (length p.classes) d.kind o) own.2 fits in
+    let goes : IfSome (slice_get p.classes e) (Continues d) = subst (λ o. IfSome o (λ e. IfSome (slice_get p.classes e) (Continues d))) own.2 (all_there (ContinuesParent p) p.classes c d linked.parents.each own.1) in
+    of (slice_get p.classes e) refl goes may.1
+  where
+    of : (o : Option ClassDecl) → slice_get p.classes e ≡ o → IfSome o (Continues (parent_named p c e parent).0) → may_descend (parent_named p c e parent).0.kind ≡ true → is_session p e ≡ false
+    of None at goes may = ap (λ o. is_session_in (kind_in o)) at
+    of (Some f) at goes may = ap (λ o. is_session_in (kind_in o)) at ∙ sym (ap is_session_kind goes.kind) ∙ descends_plainly (parent_named p c e parent).0.kind may
 
 pub session_alone : (p : Image) → SessionsEnd p → (s x : ℕ) → is_session p s ≡ true → descends p x s ≡ true → x ≡ s
 session_alone p ends s x is h = along p (λ c. c ≡ s) s (λ c e parent same. absurd (clash c e parent same)) refl x h

@@ -1,6 +1,7 @@
 -- What one pass finds pays for each move.
 use Rattle.std.proofs.Common.{◌≡◌, ◌≤◌, ◌+◌, ℕ, suc, true, List, [], ◌∷◌, Some, None, inl, inr, refl, ap, arith, subst}
 use Rattle.aom_image.specs.Image.{Image}
+use Rattle.aom_image.specs.WellFormed.{WellFormed}
 use Rattle.aom_instructions.specs.declared.instr.Instr.{Instr}
 use Rattle.aom_instructions.specs.declared.instr.Instr.TheVariants.{Loop, Next}
 use Rattle.aom_image.specs.declared.method.Thing.{Thing}
@@ -35,7 +36,7 @@ each_paid c m pays here (f ∷ fs) paid = (paid f.0 (inl refl), each_paid c m pa
 at_most : (x y : ℕ) → y ≡ x → x ≤ y
 at_most x y e = omega (arith, e)
 
-module _ (p : Image) (t : Typing) (c : Prices) (a : Afters) (looped : IsLooped p) (linked : IsLinked p) (typed : IsTyped p t) (swept : IsSwept p t c a) where
+module _ (p : Image) (t : Typing) (c : Prices) (a : Afters) (looped : IsLooped p) (formed : WellFormed p) (linked : IsLinked p) (typed : IsTyped p t) (swept : IsSwept p t c a) where
   -- what a region goes out to is paid for by what follows it
   out_paid : (m place to : ℕ) (sh : Shape) (i : Instr) (r : Region) → Stands p t m place sh i → AmongFlows to (flows p m place sh i) → IsInnermost p m place r →
       is_past r to ≡ true → c.from m to ≤ after a m r
@@ -109,7 +110,7 @@ module _ (p : Image) (t : Typing) (c : Prices) (a : Afters) (looped : IsLooped p
           omega (arith, paid, one)
 
   ruled : (x : Thing) → c.destruction x ≡ most_standing p (by_rule p c) x
-  ruled = ruled_of p linked c swept.classes
+  ruled = ruled_of p formed linked c swept.classes
 
   lines_paid : (x : Thing) → 1 + line p (perhaps_price c) x + sessions_cost p (λ k. c.destruction (Object k)) x ≤ c.destruction x
   lines_paid x =
@@ -128,4 +129,4 @@ module _ (p : Image) (t : Typing) (c : Prices) (a : Afters) (looped : IsLooped p
   }
 
 pub law_pays : SweptPays
-law_pays p t c a formed linked typed swept = priced p t c a (linked_is_looped p formed linked) linked typed swept
+law_pays p t c a formed linked typed swept = priced p t c a (linked_is_looped p formed linked) formed linked typed swept

@@ -2,6 +2,7 @@
 use Rattle.std.proofs.Common.{◌≡◌, ◌<◌, ◌+◌, ◌∙◌, ℕ, suc, length, refl, sym, arith, subst}
 use Rattle.std.specs.Prelude.{IsSome}
 use Rattle.aom_image.specs.Image.{Image}
+use Rattle.aom_image.specs.WellFormed.{WellFormed}
 use Rattle.aom_image.specs.Views.{method_at}
 use Rattle.aom_instructions.specs.declared.instr.Instr.{Instr}
 use Rattle.aom_classes.specs.Linked.{IsLinked}
@@ -28,7 +29,7 @@ module _ (p : Image) (t : Typing) (c d : Prices) (m : ℕ) (same : (place : ℕ)
       loops inside at body (costs_same _ (suc place) b round) out_there (costs_same r out e rest)
   costs_same r place k (loops_in {to = to} {b = b} inside at body round) = loops_in inside at body (costs_same _ (suc place) b round)
 
-module _ (p : Image) (t : Typing) (c d : Prices) (linked : IsLinked p) (layered : PaysBefore p t) (are : ArePrices p t c) (also : ArePrices p t d) where
+module _ (p : Image) (t : Typing) (c d : Prices) (formed : WellFormed p) (linked : IsLinked p) (layered : PaysBefore p t) (are : ArePrices p t c) (also : ArePrices p t d) where
   method_same : (m : ℕ) → IsSome (method_at p m) → ((k : ℕ) → k < m → price d k ≡ price c k) → price d m ≡ price c m
   method_same m some before =
       let one = are.methods m some in
@@ -38,15 +39,15 @@ module _ (p : Image) (t : Typing) (c d : Prices) (linked : IsLinked p) (layered 
       omega (arith, up, down)
     where
       owned : (place : ℕ) (sh : Shape) (i : Instr) → Stands p t m place sh i → own p m d sh i ≡ own p m c sh i
-      owned place sh i at = own_same (λ n. n) p c d (found_of p linked c are.classes) (found_of p linked d also.classes) m sh i (λ k paid. before k (layered.each m place k sh i at paid))
+      owned place sh i at = own_same (λ n. n) p c d (found_of p formed linked c are.classes) (found_of p formed linked d also.classes) m sh i (λ k paid. before k (layered.each m place k sh i at paid))
 
   same_there : (k : ℕ) → k < length p.methods → price c k ≡ price d k
   same_there k lt = sym (each_below (λ j. price d j ≡ price c j) (length p.methods) (λ j less before. method_same j (method_is_some p j less) before) k lt)
 
 pub law_one : PricesAreOne
-law_one p t c d linked layered are also = record {
-  methods = λ m some. same_there p t c d linked layered are also m (method_there p m some);
+law_one p t c d formed linked layered are also = record {
+  methods = λ m some. same_there p t c d formed linked layered are also m (method_there p m some);
   classes = λ x.
-      let same = going_same p (destructor_price c) (destructor_price d) refl x (λ k runs. same_there p t c d linked layered are also k (destructs_within p x k runs)) in
-      found_of p linked c are.classes x ∙ (same ∙ sym (found_of p linked d also.classes x));
+      let same = going_same p (destructor_price c) (destructor_price d) refl x (λ k runs. same_there p t c d formed linked layered are also k (destructs_within p x k runs)) in
+      found_of p formed linked c are.classes x ∙ (same ∙ sym (found_of p formed linked d also.classes x));
 }

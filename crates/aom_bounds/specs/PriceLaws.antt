@@ -23,7 +23,7 @@ PricesAreFound = (p : Image) (t : Typing) → WellFormed p → IsLinked p → Is
 
 -- and no other
 abbrev pub PricesAreOne : Type 0
-PricesAreOne = (p : Image) (t : Typing) (c d : Prices) → IsLinked p → PaysBefore p t → ArePrices p t c → ArePrices p t d → SayTheSame p c d
+PricesAreOne = (p : Image) (t : Typing) (c d : Prices) → WellFormed p → IsLinked p → PaysBefore p t → ArePrices p t c → ArePrices p t d → SayTheSame p c d
 
 -- what one pass finds with each sum kept up to a limit is that table up to the limit
 abbrev pub SweptUpToIsPrice : Type 0

@@ -67,9 +67,9 @@ covered p t d one other = record {
 }
 
 -- so the prices by the one are those by the other
-module _ (p : Image) (linked : IsLinked p) (t d : Typing) (one : IsStrongest p t) (other : IsStrongest p d) (c e : Prices) (are : ArePrices p t c) (also : ArePrices p d e) where
+module _ (p : Image) (formed : WellFormed p) (linked : IsLinked p) (t d : Typing) (one : IsStrongest p t) (other : IsStrongest p d) (c e : Prices) (are : ArePrices p t c) (also : ArePrices p d e) where
   same : SayTheSame p c e
-  same = law_one p d c e linked (pays_before p d linked other) (prices_alike p t d c one.typed other.typed (covered p t d one other) (covered p d t other one) are) also
+  same = law_one p d c e formed linked (pays_before p d linked other) (prices_alike p t d c one.typed other.typed (covered p t d one other) (covered p d t other one) are) also
 
   same_role : (k : ℕ) (role : Role) → role_price p c k role ≡ role_price p e k role
   same_role k role = go (role_of p k role) refl
@@ -116,11 +116,11 @@ module _ (p : Image) (prices : List ℕ) (h : ArePriced p prices) where
       go None e = refl
       go (Some m) e = price_found m (role_there p k m role e)
 
-  module _ (linked : IsLinked p) where
+  module _ (formed : WellFormed p) (linked : IsLinked p) where
     destruction_found : (x : Thing) → destruction_by p prices x ≡ min 4294967296 (whole.destruction x)
     destruction_found x = omega (
       arith,
-      found_of p linked whole h.told.whole.are.classes x,
+      found_of p formed linked whole h.told.whole.are.classes x,
       going_alike 4294967296 p (price_by prices) (destructor_price whole) refl x (λ k runs. omega (arith, price_found k (method_is_some p k (destructs_within p x k runs)))),
     )
 
@@ -215,7 +215,7 @@ classes_more p prices count below here k within = elim (eqb_tells k count) [
 
 module _ (p : Image) (prices : List ℕ) (formed : WellFormed p) (linked : IsLinked p) (h : ArePriced p prices) where
   costs_within : (payer : Payer) → IsWithin p prices payer → (most : ℕ) → declared_by p payer ≡ Some most → payer_price p (whole p prices h) payer ≤ most
-  costs_within payer within most e = omega (arith, found p prices h linked payer, within most e, declared_below p payer most formed e)
+  costs_within payer within most e = omega (arith, found p prices h formed linked payer, within most e, declared_below p payer most formed e)
 
   pub budgets_within : IsWithin p prices Main → ClassesWithin p prices (length p.classes) → BudgetsWithin p
   budgets_within main classes = record { typing = h.typing; strongest = h.strongest; prices = whole p prices h; are = h.told.whole.are; within = within }
@@ -232,8 +232,8 @@ module _ (p : Image) (prices : List ℕ) (formed : WellFormed p) (linked : IsLin
     prices = whole p prices h;
     are = h.told.whole.are;
     declares = tells.declares;
-    is = found p prices h linked payer;
-    over = omega (arith, tells.over, found p prices h linked payer);
+    is = found p prices h formed linked payer;
+    over = omega (arith, tells.over, found p prices h formed linked payer);
     first = λ before enough is_before e. costs_within before (earlier before is_before) enough e;
   })
 
@@ -253,26 +253,26 @@ module _ (p : Image) (prices : List ℕ) (formed : WellFormed p) (linked : IsLin
 -- ---- what an accepted image keeps to
 
 -- a table pays for each dispatch within what is declared of it
-pub affordable : (p : Image) (prices : List ℕ) → IsLinked p → BudgetsWithin p → ArePriced p prices → (t : Typing) × IsStrongest p t × (c : Prices) × IsAffordable p t c × CostsWithin p c
-affordable p prices linked b h = (h.typing, h.strongest, whole p prices h, record { priced = h.told.whole.pays; declared = within Main p.header.budget refl }, within)
+pub affordable : (p : Image) (prices : List ℕ) → WellFormed p → IsLinked p → BudgetsWithin p → ArePriced p prices → (t : Typing) × IsStrongest p t × (c : Prices) × IsAffordable p t c × CostsWithin p c
+affordable p prices formed linked b h = (h.typing, h.strongest, whole p prices h, record { priced = h.told.whole.pays; declared = within Main p.header.budget refl }, within)
   where
     within : CostsWithin p (whole p prices h)
     within payer most e =
-        let is = same_payer p linked h.typing b.typing h.strongest b.strongest (whole p prices h) b.prices h.told.whole.are b.are payer in
+        let is = same_payer p formed linked h.typing b.typing h.strongest b.strongest (whole p prices h) b.prices h.told.whole.are b.are payer in
         omega (arith, is, b.within payer most e)
 
 -- an image that keeps its budgets is over none
-none_over : (p : Image) (payer : Payer) (found most : ℕ) → IsLinked p → BudgetsWithin p → IsOver p payer found most → ⊥
-none_over p payer found most linked b h =
-    let is = same_payer p linked b.typing h.typing b.strongest h.strongest b.prices h.prices b.are h.are payer in
+none_over : (p : Image) (payer : Payer) (found most : ℕ) → WellFormed p → IsLinked p → BudgetsWithin p → IsOver p payer found most → ⊥
+none_over p payer found most formed linked b h =
+    let is = same_payer p formed linked b.typing h.typing b.strongest h.strongest b.prices h.prices b.are h.are payer in
     omega (arith, is, h.over, b.within payer most h.declares)
 
 -- an image within its limits is refused for nothing
-pub refuses_none : (p : Image) (fault : BudgetFault) → IsLinked p → Refuses p fault → BudgetsWithin p → DepthsWithin p → HeightsWithin p → ⊥
-refuses_none p (OverBudget payer found most) linked h budgets within low = none_over p payer found most linked budgets h
-refuses_none p TooDeep linked h budgets within low = omega (arith, within.within h.1.method h.1.count h.1.frames, h.1.many)
-refuses_none p CleanupTooDeep linked h budgets within low = omega (arith, low.within h.2.method h.2.count h.2.heights, h.2.many)
-refuses_none p OutOfMemory linked h budgets within low = h
+pub refuses_none : (p : Image) (fault : BudgetFault) → WellFormed p → IsLinked p → Refuses p fault → BudgetsWithin p → DepthsWithin p → HeightsWithin p → ⊥
+refuses_none p (OverBudget payer found most) formed linked h budgets within low = none_over p payer found most formed linked budgets h
+refuses_none p TooDeep formed linked h budgets within low = omega (arith, within.within h.1.method h.1.count h.1.frames, h.1.many)
+refuses_none p CleanupTooDeep formed linked h budgets within low = omega (arith, low.within h.2.method h.2.count h.2.heights, h.2.many)
+refuses_none p OutOfMemory formed linked h budgets within low = h
 
 -- what an image is refused for is told, and where it is within its limits memory was wanting
 pub told_or_wants : (p : Image) (fault : BudgetFault) → Refuses p fault → RefusesOrWants p fault
@@ -281,8 +281,8 @@ told_or_wants p TooDeep h = h
 told_or_wants p CleanupTooDeep h = h
 told_or_wants p OutOfMemory h = tt
 
-pub wants_memory : (p : Image) (fault : BudgetFault) → IsLinked p → RefusesOrWants p fault → BudgetsWithin p → DepthsWithin p → HeightsWithin p → fault ≡ OutOfMemory
-wants_memory p (OverBudget payer found most) linked h budgets within low = absurd (refuses_none p (OverBudget payer found most) linked h budgets within low)
-wants_memory p TooDeep linked h budgets within low = absurd (refuses_none p TooDeep linked h budgets within low)
-wants_memory p CleanupTooDeep linked h budgets within low = absurd (refuses_none p CleanupTooDeep linked h budgets within low)
-wants_memory p OutOfMemory linked h budgets within low = refl
+pub wants_memory : (p : Image) (fault : BudgetFault) → WellFormed p → IsLinked p → RefusesOrWants p fault → BudgetsWithin p → DepthsWithin p → HeightsWithin p → fault ≡ OutOfMemory
+wants_memory p (OverBudget payer found most) formed linked h budgets within low = absurd (refuses_none p (OverBudget payer found most) formed linked h budgets within low)
+wants_memory p TooDeep formed linked h budgets within low = absurd (refuses_none p TooDeep formed linked h budgets within low)
+wants_memory p CleanupTooDeep formed linked h budgets within low = absurd (refuses_none p CleanupTooDeep formed linked h budgets within low)
+wants_memory p OutOfMemory formed linked h budgets within low = refl

@@ -18,7 +18,7 @@ use Rattle.aom_roles.specs.Classes.{kind_at, kind_in, sessions_at, sessions_in}
 use Rattle.aom_roles.specs.Families.{descends, descends_in, parent_of}
 use Rattle.aom_classes.proofs.Keeping.{child_there, keeper_own, none_there}
 use Rattle.aom_classes.proofs.Playing.{own_found, role_inherits}
-use Rattle.aom_classes.proofs.Rows.{no_player}
+use Rattle.aom_linked.proofs.Rows.{no_player}
 use Rattle.aom_classes.specs.Roles.{keeper_of, own_role, role_by, role_of}
 use Rattle.aom_shape.specs.Tables.{at}
 use Rattle.aom_bounds.specs.Calls.{Among, cancels, destructors, lines, lines_of, listed}

@@ -74,7 +74,9 @@ impl Accepted {
         ensures heights { HasHeights self.now }
         ensures high { HeightsWithin self.now }
     {
-        self.linked().facts();
+        let linked = self.linked();
+        let _formed = linked.image().methods();
+        linked.facts();
         self.checked.typed();
     }
 
@@ -112,7 +114,9 @@ pub fn accept(alloc: Global, checked: Checked) -> Result<Accepted, BudgetFault>
     ensures refused { IfErr result (λ fault. RefusesOrWants checked fault) }
     ensures complete { BudgetsWithin checked → DepthsWithin checked → HeightsWithin checked → IfErr result (λ fault. fault ≡ BudgetFault.OutOfMemory) }
 {
-    checked.linked().facts();
+    let linked = checked.linked();
+    let _formed = linked.image().methods();
+    linked.facts();
     match kept_figures(alloc, &checked) {
         Ok(figures) => Ok(Accepted { checked, figures }),
         Err(fault) => {

@@ -1,5 +1,6 @@
 -- An image within its limits is refused for want of memory alone.
 use Rattle.std.proofs.Common.{refl}
+use Rattle.aom_image.specs.WellFormed.{WellFormed}
 use Rattle.aom_classes.specs.Linked.{IsLinked}
 use Rattle.aom_budget.proofs.Budgeting.{wants_memory}
 use Rattle.aom_budget.proofs.accepted.accept.Goals as goal
@@ -18,5 +19,6 @@ returns-in-Err-clause-refused c = c.in-Err.ensures.refused
 
 pub returns-in-Err-clause-complete : goal.returns-in-Err-clause-complete
 returns-in-Err-clause-complete c =
-    let linked : IsLinked c.args.checked = rw c.linked.ensures at c.facts.ensures.linked in
-    wants_memory _ _ linked c.in-Err.ensures.refused
+    let linked : IsLinked c.args.checked = rw c.linked-linked.ensures at c.facts.ensures.linked in
+    let formed : WellFormed c.args.checked = rw (c.image.ensures, c.linked-linked.ensures) at c.methods-formed.ensures.well_formed in
+    wants_memory _ _ formed linked c.in-Err.ensures.refused

@@ -8,6 +8,7 @@ use Rattle.aom_bounds.specs.Heights.{HeightsWithin}
 use Rattle.aom_bounds.proofs.Within.{all_within, all_high}
 use Rattle.aom_bounds.specs.Dispatches.{IsAffordable}
 use Rattle.aom_bounds.specs.Prices.{Prices}
+use Rattle.aom_image.specs.WellFormed.{WellFormed}
 use Rattle.aom_classes.specs.Linked.{IsLinked}
 use Rattle.aom_budget.specs.Budgets.{CostsWithin}
 use Rattle.aom_budget.proofs.Budgeting.{affordable}
@@ -15,8 +16,9 @@ use Rattle.aom_budget.proofs.accepted.Accepted.facts.Goals as goal
 
 pub returns-clause-affordable : goal.returns-clause-affordable
 returns-clause-affordable c =
-    let linked : IsLinked c.self.inside.checked = subst IsLinked (c.linked.ensures ∙ sym c.self.view_is) c.facts.ensures.linked in
-    subst (λ (p : Image). (t : Typing) × IsStrongest p t × (prices : Prices) × IsAffordable p t prices × CostsWithin p prices) c.self.view_is (affordable _ _ linked c.self.invariant.0 c.self.invariant.3.priced)
+    let linked : IsLinked c.self.inside.checked = subst IsLinked (c.linked-linked.ensures ∙ sym c.self.view_is) c.facts.ensures.linked in
+    let formed : WellFormed c.self.inside.checked = subst WellFormed (c.image.ensures ∙ (c.linked-linked.ensures ∙ sym c.self.view_is)) c.methods-formed.ensures.well_formed in
+    subst (λ (p : Image). (t : Typing) × IsStrongest p t × (prices : Prices) × IsAffordable p t prices × CostsWithin p prices) c.self.view_is (affordable _ _ formed linked c.self.invariant.0 c.self.invariant.3.priced)
 
 pub returns-clause-within : goal.returns-clause-within
 returns-clause-within c = subst DepthsWithin c.self.view_is (all_within _ c.self.invariant.1)
