@@ -15,7 +15,8 @@ use Rattle.aom_frames.specs.declared.task.Task.{Task as Held_task}
 use Rattle.aom_frames.specs.declared.task.Task.TheVariants.{Trapped as Is_trap, Closing as Closes, Destroy as Destroys, Unwind as Unwinds, Dispatched as Ends}
 use Rattle.aom_cleanup.specs.declared.item.Item.{Item as Held_item}
 use Rattle.aom_steps.specs.Within.{rounds_weight, weight}
-use Rattle.aom_steps.specs.Ranks.{closing_rank, price, left_in, frame_rank, end_rank, waiting_rank, tasks_rank, standing, destructions, operations, cell_rank, rank}
+use Rattle.aom_steps.specs.Worths.{over_worth}
+use Rattle.aom_steps.specs.Ranks.{closing_rank, price, rank_worths, left_in, end_rank, waiting_rank, tasks_rank, standing, destructions, operations, cell_rank, rank}
 use Rattle.aom_steps.proofs.Goings.{cells_stand_or_go}
 use Rattle.aom_steps.proofs.Ranking.{moves_lower_ranks}
 use Rattle.aom_steps.proofs.Rounds.{worth_alike}
@@ -68,10 +69,34 @@ placed_alike p q r (One_served x client stage) = refl
 end_alike : (p : Image) (x : Held_dispatch) (d : Dispatch) → SameDispatch x d → end_rank p (dispatch_of (Elsewhere Root) x) ≡ end_rank p d
 end_alike p x d same = placed_alike p (Elsewhere Root) same.0 x ∙ ap (end_rank p) same.1
 
+-- what a method begins as it ends hangs on what it stands over
+over_alike : (p : Image) (k : ℕ) (ms : List Held_task) (us : List Task) → SameTasks ms us → over_worth (rank_worths p) k (map ranked ms) ≡ over_worth (rank_worths p) k us
+over_alike p k = by_tasks (λ ms us. over_worth (rank_worths p) k (map ranked ms) ≡ over_worth (rank_worths p) k us) refl (λ m u ms us same _ e.
+    by_task (λ m u. over_worth (rank_worths p) k (map ranked (m ∷ ms)) ≡ over_worth (rank_worths p) k (u ∷ us)) (record {
+      runs = λ f fr same. refl;
+      trapped = refl;
+      destroys = λ x small. refl;
+      closes = refl;
+      unwinds = λ code c same. refl;
+      ends = λ x d same. refl;
+    }) m u same)
+
+-- a method, what it begins as it ends, and what waits
+runs_alike :
+    (p : Image) (f : Held_frame) (fr : Frame) (place place' : ℕ) (ms : List Held_task) (us : List Task) → SameFrame f fr → place ≡ place' → SameTasks ms us →
+    waiting_rank p (map ranked ms) ≡ waiting_rank p us →
+    left_in (method_at p f.method) f.counters place * price p f.method + (over_worth (rank_worths p) f.method (map ranked ms) + waiting_rank p (map ranked ms))
+    ≡ left_in (method_at p fr.method) fr.counters place' * price p fr.method + (over_worth (rank_worths p) fr.method us + waiting_rank p us)
+runs_alike p f fr place place' ms us same there below waits =
+    ap (λ k. k + (over_worth (rank_worths p) f.method (map ranked ms) + waiting_rank p (map ranked ms))) (frame_alike p f fr place place' same there)
+    ∙ ap (λ k. left_in (method_at p fr.method) fr.counters place' * price p fr.method + (k + waiting_rank p (map ranked ms)))
+    (ap (λ j. over_worth (rank_worths p) j (map ranked ms)) same.method ∙ over_alike p fr.method ms us below)
+    ∙ ap (λ k. left_in (method_at p fr.method) fr.counters place' * price p fr.method + (over_worth (rank_worths p) fr.method us + k)) waits
+
 waits_alike : (p : Image) (ms : List Held_task) (us : List Task) → SameTasks ms us → waiting_rank p (map ranked ms) ≡ waiting_rank p us
-waits_alike p = by_tasks (λ ms us. waiting_rank p (map ranked ms) ≡ waiting_rank p us) refl (λ m u ms us same _ e.
+waits_alike p = by_tasks (λ ms us. waiting_rank p (map ranked ms) ≡ waiting_rank p us) refl (λ m u ms us same rest e.
     by_task (λ m u. waiting_rank p (map ranked (m ∷ ms)) ≡ waiting_rank p (u ∷ us)) (record {
-      runs = λ f fr same. ap (λ k. k + waiting_rank p (map ranked ms)) (frame_alike p f fr (suc f.place) (suc fr.place) same (ap suc same.place)) ∙ ap (λ k. frame_rank p (next fr) + k) e;
+      runs = λ f fr same. runs_alike p f fr (suc f.place) (suc fr.place) ms us same (ap suc same.place) rest e;
       trapped = ap (λ k. 1 + k) e;
       destroys = λ x small. ap (λ k. 1 + k) e;
       closes = ap (λ k. closing_rank p + k) e;
@@ -82,7 +107,7 @@ waits_alike p = by_tasks (λ ms us. waiting_rank p (map ranked ms) ≡ waiting_r
 tasks_alike : (p : Image) (ms : List Held_task) (us : List Task) → SameTasks ms us → tasks_rank p (map ranked ms) ≡ tasks_rank p us
 tasks_alike p = by_tasks (λ ms us. tasks_rank p (map ranked ms) ≡ tasks_rank p us) refl (λ m u ms us same rest _.
     by_task (λ m u. tasks_rank p (map ranked (m ∷ ms)) ≡ tasks_rank p (u ∷ us)) (record {
-      runs = λ f fr same. ap (λ k. k + waiting_rank p (map ranked ms)) (frame_alike p f fr f.place fr.place same same.place) ∙ ap (λ k. frame_rank p fr + k) (waits_alike p ms us rest);
+      runs = λ f fr same. runs_alike p f fr f.place fr.place ms us same same.place rest (waits_alike p ms us rest);
       trapped = waits_alike p (Is_trap ∷ ms) (Trapped ∷ us) (tt, rest);
       destroys = λ x small. waits_alike p (Destroys x ∷ ms) (Destroy ∷ us) (small, rest);
       closes = waits_alike p (Closes ∷ ms) (Closing ∷ us) (tt, rest);
