@@ -29,6 +29,7 @@ pub mod LetGo
 pub mod EnterActs
 pub mod Traps
 pub mod LeavingActs
+pub mod LineActs
 pub mod EntryActs
 pub mod DealActs
 pub mod Topping

@@ -23,7 +23,6 @@ use Rattle.aom_sound.specs.State.{Accepted, Accepts, Of_server, Seat, Answered, 
 use Rattle.aom_sound.specs.WellTyped.{Awaits, Fits, Good, WellTyped, WordFits}
 use Rattle.aom_sound.proofs.Claimed.{claim_register_above}
 use Rattle.aom_sound.proofs.Finishing.{all_parts}
-use Rattle.aom_sound.proofs.Lines.{line_none}
 use Rattle.aom_sound.proofs.Maps.{at-put_at, held_lives, held_moved}
 use Rattle.aom_sound.proofs.Straight.{claim_register, fits_unowning}
 use Rattle.aom_sound.proofs.Layers.{mark_layer, method_layer}
@@ -213,7 +212,7 @@ wordless p fr ts s _ a met = tt
 
 module _ (p : Image) (m : Parts) (t : Typing) (s : State) (fr : Frame) (agrees : Agrees p m s) (f : Held_frame) (a : ℕ) where
   -- to the going of a cell, to an unwinding or to a dispatch: nothing goes over
-  to_waiting : (ms : List Held_task) (ts : List Task) → Top m s fr ts f ms → ((i : ℕ) → held s.cells (Register (length ts) i) ≡ None)
+  pub to_waiting : (ms : List Held_task) (ts : List Task) → Top m s fr ts f ms → ((i : ℕ) → held s.cells (Register (length ts) i) ≡ None)
       → Agrees p (with_tasks ms m) (record s { tasks = ts })
   to_waiting ms ts top clear =
       retasked p m s ms ts agrees top.below
@@ -584,12 +583,6 @@ module _ (p : Image) (m : Parts) (refused : List ℕ) (a : ℕ) (act : Active) (
       let is = waits ms h.below has same h in
       subst (Agrees p (with_tasks ms mid)) (sym is)
       (to_waiting p mid h.typing (past h) h.frame (agree h) f a ms h.below top (λ i. none_above p h.typing (record (past h) { tasks = h.below }) _ i (subst (WellTyped p h.typing) is typed) (omega arith))))
-
-  pub return_to_going : IsDestroying (below_first m.stack.tasks) → DoesIn p refused (Return a) m (with_tasks (below_first m.stack.tasks) mid)
-  return_to_going = to_waits IsDestroying (λ ms ts has same h. go h (tops A_going ms has) same)
-    where
-      go : (h : At_hand p m) {ms : List Held_task} {ts : List Task} → Tops A_going ms → Alike ms ts → after h ts ≡ record (past h) { tasks = ts }
-      go h (going_on_top x ms) (both_go _ _ ts _ _ _) = ap (λ us. record (past h) { tasks = us }) (line_none p h.linked.parents.none h.frame.method h.frame.home h.frame.height ts)
 
   pub return_to_unwinding : IsUnwinding (below_first m.stack.tasks) → DoesIn p refused (Return a) m (with_tasks (below_first m.stack.tasks) mid)
   return_to_unwinding = to_waits IsUnwinding (λ ms ts has same h. go h (tops A_leave ms has) same)

@@ -19,7 +19,7 @@ ghost use Rattle.aom_cells.specs.Heap.{Lives, class_at, null};
 ghost use Rattle.aom_acts.specs.Next.{IsNext};
 
 use crate::requests::counted;
-use crate::serving;
+use crate::{going, serving};
 use aom_cells::NULL;
 use aom_cleanup::Item;
 use aom_frames::{Dispatch, Frame, Task, TaskKind, View};
@@ -251,6 +251,7 @@ pub fn give_back(parts: &mut Parts, from: Register, linked: &Linked)
     ensures { (refused : List ℕ) → DoesIn linked.now refused (Return from) parts.old parts.new }
 {
     let number = parts.register(from);
+    let method = parts.stack.method();
     let gives = end_method(parts, linked);
     match parts.stack.top() {
         Some(TaskKind::Run) => receive(parts, gives, number, linked),
@@ -263,7 +264,7 @@ pub fn give_back(parts: &mut Parts, from: Register, linked: &Linked)
                 serving::serve(parts, number);
             }
         }
-        Some(TaskKind::Destroy(_)) => {}
+        Some(TaskKind::Destroy(cell)) => going::go_up(parts, method, cell, linked),
         Some(TaskKind::Unwind(_)) => {}
         Some(TaskKind::Dispatched(dispatch)) => hear(parts, dispatch, gives, number),
         Some(TaskKind::Closing) => unreachable!(),

@@ -6,6 +6,7 @@ ghost use Rattle.aom_instructions.specs.declared.instr.Instr.TheVariants.{Delete
 ghost use Rattle.aom_clients.specs.Clients.{queue_at};
 ghost use Rattle.aom_frames.specs.Tasks.{place_here, below_first};
 ghost use Rattle.aom_frames.specs.Views.{view_in};
+ghost use Rattle.aom_sound.specs.Destruction.{next_destructor};
 ghost use Rattle.aom_acts.specs.Acts.{DoesIn, GoesAway};
 ghost use Rattle.aom_parts.specs.Places.{next, with_tasks, IsClosing, IsDestroying, going_here};
 ghost use Rattle.aom_acts.specs.Going.{destructed, destructor_frame, destructor_in, dying, is_server_class, uprooted};
@@ -22,7 +23,7 @@ use aom_image::{ClassNumber, MethodNumber, Register, Role};
 use aom_lines::Turn;
 use aom_linked::Linked;
 use aom_parts::Parts;
-use aom_roles::sessions_at;
+use aom_roles::{parent_of, sessions_at};
 use aom_transcript::Line;
 
 /// As the class that a method is of.
@@ -53,6 +54,33 @@ fn destruct(parts: &mut Parts, number: u32, class: ClassNumber, linked: &Linked)
         parts
             .stack
             .push(Task::Run(destructor_frame(destructor, number, linked)));
+    }
+}
+
+/// The destructor that follows one in its line: that of the nearest class above its own which has one.
+fn next_destructor(destructor: MethodNumber, linked: &Linked) -> Option<MethodNumber>
+    requires { IsSome (method_at linked.now destructor) }
+    ensures { result ≡ next_destructor linked.now destructor }
+{
+    match linked.method(destructor).class {
+        Some(class) => match parent_of(linked.image(), class) {
+            Some(parent) => linked.role(parent, Role::Destruct),
+            None => None,
+        },
+        None => None,
+    }
+}
+
+/// A destructor of a cell is over: the next of its line runs, if there is one.
+pub fn go_up(parts: &mut Parts, destructor: MethodNumber, number: u32, linked: &Linked)
+    requires there { IsSome (method_at linked.now destructor) }
+    requires room { length parts.old.stack.tasks < parts.old.stack.depth }
+    ensures { parts.new ≡ with_tasks (destructed linked.now (next_destructor linked.now destructor) number parts.old.stack.tasks) parts.old }
+{
+    if let Some(next) = next_destructor(destructor, linked) {
+        parts
+            .stack
+            .push(Task::Run(destructor_frame(next, number, linked)));
     }
 }
 

@@ -1,4 +1,3 @@
-pub mod Lines
 pub mod Waiting
 pub mod Altering
 pub mod Maps

@@ -4,8 +4,11 @@ use Rattle.aom_image.specs.Views.{instr_at}
 use Rattle.aom_sound.specs.Calls.{result_register}
 use Rattle.aom_frames.specs.Tasks.{Runs, method_here, place_here, below_first}
 use Rattle.aom_parts.specs.Room.{ReturnsTo}
-use Rattle.aom_acts.proofs.OnTop.{closes_on_top, closing_not_returned, ends_on_top, goes_on_top, leaves_on_top, runs_on, trapped_on_top}
-use Rattle.aom_acts.proofs.ReturnActs.{can_serve, return_to_dispatch, return_to_end, return_to_going, return_through, return_to_method, return_to_unwinding}
+use Rattle.aom_acts.proofs.OnTop.{closes_on_top, closing_not_returned, ends_on_top, goes_on_top, leaves_on_top, number_on_top, runs_on, trapped_on_top}
+use Rattle.aom_acts.specs.Next.{counting}
+use Rattle.aom_acts.proofs.Finding.{finds_method}
+use Rattle.aom_acts.proofs.LineActs.{return_to_going}
+use Rattle.aom_acts.proofs.ReturnActs.{can_serve, return_to_dispatch, return_to_end, return_through, return_to_method, return_to_unwinding}
 use Rattle.aom_acts.proofs.Topping.{coded_through, ends_under, returns_within, returns_within_through}
 use Rattle.aom_acts.proofs.calls.give_back.Goals as goal
 
@@ -70,10 +73,16 @@ returns-else-is_running c = λ refused.
 
 -- ---- to the going of a cell, to a leave, or to a dispatch
 
+pub go_up-requires-clause-there : goal.go_up-requires-clause-there
+go_up-requires-clause-there c =
+    rw c.method-method.ensures (finds_method c.args.linked.now (counting c.requires.counts c.args.parts.now) c.requires.stands c.requires.runs)
+
 pub returns-in-Some-Destroy : goal.returns-in-Some-Destroy
 returns-in-Some-Destroy c = λ refused.
     let e = c.end_method-gives.ensures in
-    rw e.rest (return_to_going c.args.linked.now c.args.parts.now refused c.args.from c.end_method-gives.new.parts.active e.over (rw e.rest at (goes_on_top _ _ c.in-Some-Destroy.ensures.some c.in-Some-Destroy.field-0-is)))
+    let going = rw e.rest at (goes_on_top _ _ c.in-Some-Destroy.ensures.some c.in-Some-Destroy.field-0-is) in
+    let number = number_on_top _ _ c.in-Some-Destroy.ensures.some c.in-Some-Destroy.field-0-is in
+    rw (c.go_up.ensures, c.method-method.ensures, number, e.rest) (return_to_going c.args.linked.now c.args.parts.now refused c.args.from c.end_method-gives.new.parts.active e.over going)
 
 pub returns-in-Some-Unwind : goal.returns-in-Some-Unwind
 returns-in-Some-Unwind c = λ refused.
