@@ -1,5 +1,5 @@
 -- A line of destructors costs its first, and then the line from the parent of the first's class: by an induction over the classes above.
-use Rattle.std.proofs.Common.{IfSome, None, Option, Some, ap, arith, refl, subst, suc, sym, zero, ℕ, ◌+◌, ◌<◌, ◌∙◌, ◌≡◌, ◌≤◌, ◌*◌}
+use Rattle.std.proofs.Common.{IfSome, None, Option, Some, ap, arith, refl, suc, sym, zero, ℕ, ◌+◌, ◌∙◌, ◌≡◌, ◌≤◌}
 use Rattle.aom_image.specs.Image.{Image}
 use Rattle.aom_image.specs.Views.{class_in, method_class}
 use Rattle.aom_image.specs.declared.method.Role.TheVariants.{Destruct}

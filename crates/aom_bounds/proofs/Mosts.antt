@@ -3,7 +3,6 @@ use Rattle.std.proofs.Common.{◌≡◌, ◌<◌, ◌≤◌, ◌+◌, ◌∙◌,
 use Rattle.std.specs.Prelude.{max}
 use Rattle.std.proofs.lemmas.Bool.{cases_lt, eqb-true}
 use Rattle.std.proofs.lemmas.Option.{slice_get_within}
-use Rattle.aom_image.proofs.Given.{some_given}
 use Rattle.aom_image.specs.Image.{Image}
 use Rattle.aom_image.specs.Views.{class_at}
 use Rattle.aom_image.specs.WellFormed.{ParentFits, WellFormed, may_descend}
@@ -14,7 +13,7 @@ use Rattle.aom_image.specs.declared.method.Thing.{Thing}
 use Rattle.aom_image.specs.declared.method.Thing.TheVariants.{Object, Message}
 use Rattle.aom_roles.specs.Families.{descends, descends_in, lower, parent_in, parent_of}
 use Rattle.aom_roles.specs.Classes.{is_session, is_session_in, is_session_kind, kind_in}
-use Rattle.aom_roles.proofs.Descending.{along, child, from_none, itself, one_class, parent_below, through}
+use Rattle.aom_roles.proofs.Descending.{along, child, from_none, itself, through}
 use Rattle.aom_classes.proofs.Facts.{all_there}
 use Rattle.aom_classes.specs.Families.{Continues, ContinuesParent}
 use Rattle.aom_classes.specs.Linked.{IsLinked}

@@ -1,5 +1,5 @@
 -- A line of destructors, class by class from below, and what is in it.
-use Rattle.std.proofs.Common.{Bool, IfSome, List, None, Option, Some, [], ap, ap₂, arith, cond, false, inl, inr, length, refl, subst, suc, sym, true, zero, ℕ, ◌++◌, ◌+◌, ◌<◌, ◌==◌, ◌||◌, ◌∙◌, ◌∷◌, ◌≡◌, ◌≤◌, ◌⊎◌}
+use Rattle.std.proofs.Common.{Bool, IfSome, List, None, Option, Some, [], ap, ap₂, arith, inl, inr, length, refl, subst, suc, sym, true, zero, ℕ, ◌++◌, ◌+◌, ◌==◌, ◌||◌, ◌∙◌, ◌∷◌, ◌≡◌, ◌≤◌}
 use Rattle.std.specs.Prelude.{max}
 use Rattle.std.proofs.lemmas.Bool.{eq-eqb}
 use Rattle.std.proofs.lemmas.Option.{slice_get_past, same_Some}
@@ -7,7 +7,6 @@ use Rattle.aom_image.proofs.Given.{some_given}
 use Rattle.aom_image.specs.Image.{Image}
 use Rattle.aom_image.specs.Views.{class_at, class_in, method_at, method_class}
 use Rattle.aom_image.specs.WellFormed.{WellFormed}
-use Rattle.aom_image.specs.declared.class.ClassDecl.{ClassDecl}
 use Rattle.aom_image.specs.declared.method.Method.{Method}
 use Rattle.aom_image.specs.declared.method.Role.{Role}
 use Rattle.aom_image.specs.declared.method.Role.TheVariants.{Cancel, Destruct}
@@ -23,7 +22,8 @@ use Rattle.aom_classes.specs.Roles.{keeper_of, own_role, role_by, role_of}
 use Rattle.aom_shape.specs.Tables.{at}
 use Rattle.aom_bounds.specs.Calls.{Among, cancels, destructors, lines, lines_of, listed}
 use Rattle.aom_bounds.specs.Layers.{Destructs, InLine, Runs}
-use Rattle.aom_bounds.specs.Most.{line, line_in}
+use Rattle.aom_bounds.proofs.Lines.{line_step}
+use Rattle.aom_bounds.specs.Most.{line, line_from}
 use Rattle.aom_bounds.proofs.Listed.{among_either, below_from, gone_with}
 use Rattle.aom_budget.specs.Greatest.{most_at}
 use Rattle.aom_budget.specs.Pricing.{kept, price_by}
@@ -66,47 +66,14 @@ module _ (p : Image) where
 -- ---- what a line costs, one class first
 
 module _ (p : Image) (cost : Option ℕ → ℕ) where
-  -- from a class on, or from none
-  abbrev pub line_from : Option ℕ → ℕ
-  line_from None = 0
-  line_from (Some c) = line p cost (Object c)
-
-  none_in : (n : ℕ) → line_in p cost n None ≡ 0
-  none_in zero = refl
-  none_in (suc n) = refl
-
-  last_in : (n c : ℕ) → c ≤ 0 → cost (own_role p c Destruct) + line_in p cost n (parent_of p c) ≡ cost (own_role p c Destruct)
-  last_in n c le =
-      let first : c ≡ 0 = omega (arith, le) in
-      let none : line_in p cost n (parent_of p c) ≡ 0 = ap (line_in p cost n) (ap (parent_of p) first ∙ none_below p) ∙ none_in n in
-      omega (arith, none)
-
-  enough_in : (n m : ℕ) (o : Option ℕ) → IfSome o (λ c. c ≤ n) → IfSome o (λ c. c ≤ m) → line_in p cost n o ≡ line_in p cost m o
-  enough_in zero zero None a b = refl
-  enough_in zero (suc m) None a b = refl
-  enough_in (suc n) zero None a b = refl
-  enough_in (suc n) (suc m) None a b = refl
-  enough_in zero zero (Some c) a b = refl
-  enough_in zero (suc m) (Some c) a b = sym (last_in m c a)
-  enough_in (suc n) zero (Some c) a b = last_in n c b
-  enough_in (suc n) (suc m) (Some c) a b = ap (λ x. cost (own_role p c Destruct) + x) (enough_in n m (parent_of p c) (fewer p c n a) (fewer p c m b))
-
-  pub line_step : (c : ℕ) → line p cost (Object c) ≡ cost (own_role p c Destruct) + line_from (parent_of p c)
-  line_step zero = let none = ap line_from (none_below p) in omega (arith, none)
-  line_step (suc n) = ap (λ x. cost (own_role p (suc n) Destruct) + x) (go (parent_of p (suc n)) refl)
-    where
-      go : (o : Option ℕ) → parent_of p (suc n) ≡ o → line_in p cost n o ≡ line_from o
-      go None is = none_in n
-      go (Some e) is = let lt = parent_below p (suc n) e is in enough_in n e (Some e) (omega (arith, lt)) (omega arith)
-
   -- one class more
   pub line_goes :
       (x own t y : ℕ) (o next : Option ℕ) (w : ℕ) → o ≡ Some x → own ≡ cost (own_role p x Destruct) → y ≡ kept (t + own) → next ≡ parent_of p x →
-      kept (t + line_from o) ≡ w → kept (y + line_from next) ≡ w
+      kept (t + line_from p cost o) ≡ w → kept (y + line_from p cost next) ≡ w
   line_goes x own t y o next w is price sum parent h =
-      let step = line_step x in
-      let from = ap line_from is in
-      let to = ap line_from parent in
+      let step = line_step p cost x in
+      let from = ap (line_from p cost) is in
+      let to = ap (line_from p cost) parent in
       omega (arith, step, from, to, price, sum, h)
 
 -- ---- and what is listed of it

@@ -20,7 +20,6 @@ use Rattle.aom_sound.proofs.Straight.{At, Fitted, Law, claim_field, claim_regist
 use Rattle.aom_sound.proofs.Housing.{houses_field}
 use Rattle.aom_sound.specs.Claims.{Layer, Method, claim, declared, tasks_of}
 use Rattle.aom_sound.specs.Moves.{does}
-use Rattle.aom_sound.specs.Objects.{is_declared_thing}
 use Rattle.aom_sound.specs.Places.{Field, Object, Place, changed, held, moved, same_place, seen}
 use Rattle.aom_sound.specs.State.{Choice, Frame, State, field_place, home_holder, next, set_word, word}
 use Rattle.aom_sound.specs.WellTyped.{WordFits}

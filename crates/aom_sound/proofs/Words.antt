@@ -1,13 +1,11 @@
 -- The laws of the instructions on words.
 use Rattle.std.proofs.Common.{Bool, List, Option, Some, ap, refl, true, ℕ, ℤ, ◌≡◌, arith, None}
-use Rattle.std.specs.Prelude.{is_none, is_some, length, nat_lt, int_lt}
-use Rattle.std.proofs.lemmas.Bool.{lt-ltb, ltb-true}
+use Rattle.std.specs.Prelude.{is_none, is_some, length, int_lt}
 use Rattle.aom_image.specs.Image.{Image}
 use Rattle.aom_instructions.specs.declared.instr.Instr.TheVariants.{Const, Copy, Load, Print, Store, Add, And, JumpEqual, JumpLess, Mul, Or, Sub, Xor}
 use Rattle.aom_shape.specs.Kinds.{is_unowning, is_word, register, set_register}
 use Rattle.aom_shape.specs.Needs.{AllTrue}
 use Rattle.aom_shape.specs.Shape.{Shape}
-use Rattle.aom_shape.specs.Things.{holder_of, word_count}
 use Rattle.aom_rules.specs.Typing.{AllLead, Typing}
 use Rattle.aom_rules.specs.Words.{flow_compare, flow_word, rule_combine, rule_compare}
 use Rattle.aom_shape.specs.declared.kind.Kind.{Kind}
@@ -18,7 +16,7 @@ use Rattle.aom_sound.proofs.Straight.{At, Law, fitted, free_register, settle, st
 use Rattle.aom_sound.specs.Claims.{Layer, tasks_of}
 use Rattle.aom_sound.specs.Moves.{does}
 use Rattle.aom_sound.specs.Places.{Register, held}
-use Rattle.aom_sound.specs.State.{Choice, Frame, State, home_holder, next, set_word, word}
+use Rattle.aom_sound.specs.State.{Choice, Frame, State, next, set_word, word}
 use Rattle.aom_sound.specs.WellTyped.{WellTyped, WordFits}
 use Rattle.aom_sound.specs.Effects.{applied, computes, jumps_if, writes}
 use Rattle.aom_sound.specs.Words.{loaded, needs_binary, needs_compare, read, stored}

@@ -35,7 +35,7 @@ use Rattle.aom_image.specs.declared.method.Thing.TheVariants.{Message, Object as
 use Rattle.aom_steps.specs.Within.{left}
 use Rattle.aom_steps.proofs.Sums.{double_le, one_beside, one_of, pow_less, pow_more, pow_some, pow_step, pow_twice, scaled_le, whole_run}
 use Rattle.aom_image.proofs.Given.{cons_given, some_given}
-use Rattle.aom_classes.proofs.Playing.{destroyed, role_inherits}
+use Rattle.aom_classes.proofs.Playing.{role_inherits}
 use Rattle.aom_steps.proofs.Sums.{one_of_all}
 
 left_below : (ms : List Method) (k : ℕ) (m : Method) → slice_get ms k ≡ Some m → left m.code [] 0 ≤ all_left ms

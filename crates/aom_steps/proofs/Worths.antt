@@ -1,5 +1,5 @@
 -- What the tasks come to after a leave, a return, an arrival and the going of a cell; and what of the cells is only passed on.
-use Rattle.std.proofs.Common.{ap, Bool, List, None, Option, Some, [], arith, cond, false, length, refl, suc, true, ℕ, ℤ, ◌+◌, ◌∷◌, ◌≡◌, ◌≤◌}
+use Rattle.std.proofs.Common.{Bool, List, None, Option, Some, [], arith, cond, false, length, refl, suc, true, ℕ, ℤ, ◌+◌, ◌∷◌, ◌≡◌, ◌≤◌}
 use Rattle.aom_image.specs.Image.{Image}
 use Rattle.aom_image.specs.Views.{instr_at, method_role}
 use Rattle.aom_image.specs.declared.method.Argument.{Argument}
