@@ -20,7 +20,7 @@ use Rattle.aom_sound.specs.Objects.{is_declared_thing, is_no_message, is_thing, 
 use Rattle.aom_sound.specs.Places.{Cell, Elsewhere, Entry, In_service, Object, Place, Register, Session, held, moved}
 use Rattle.aom_sound.specs.Destruction.{needs_past, needs_emptied}
 use Rattle.aom_sound.specs.Servers.{without_queue}
-use Rattle.aom_sound.specs.State.{A_mark, Accepts, An_object, An_operation, Asks, AtRoot, Choice, Destroy, Dispatch, Dispatched, Frame, Home, Inside, IsStuck, Item, MessageLost, Need, Of_server, Orphan, Run, Serves, State, Static, Task, Trapped, Unbalanced, field_place, guarded, home_holder, home_view}
+use Rattle.aom_sound.specs.State.{A_mark, Accepts, An_object, An_operation, Asks, AtRoot, Choice, Destroy, Dispatch, Dispatched, Frame, Home, Inside, IsStuck, Item, MessageLost, Need, Of_server, Orphan, Run, Serves, State, Static, Task, Trapped, Unbalanced, field_place, guarded, home_view}
 use Rattle.aom_sound.specs.Words.{needs_word}
 use Rattle.aom_endings.proofs.NamedCells.{held_renamed, past_kept, moved_renamed, none_owns_kept, requested_kept, tasks_counted}
 use Rattle.aom_endings.proofs.Serving.{without_queue_renamed}
@@ -56,11 +56,6 @@ module _ (names : ℕ → ℕ) where
 
   pub target_object_kept : (p : Image) (class : Option ℕ) (o : Option Object) → needs_target_object p class (option_map (renamed_object names) o) ≡ needs_target_object p class o
   target_object_kept p class o = rw (some_kept o, worked_kept p class o)
-
-  pub holder_kept : (h : Home) → home_holder (renamed_home names h) ≡ home_holder h
-  holder_kept Static = refl
-  holder_kept AtRoot = refl
-  holder_kept (Inside o from) = refl
 
   pub view_kept : (h : Home) → home_view (renamed_home names h) ≡ home_view h
   view_kept Static = refl
