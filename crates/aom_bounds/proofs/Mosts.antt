@@ -139,7 +139,7 @@ sessions_end p formed linked c e parent =
     let d = own.0 in
     let fits = all_there (λ d. ParentFits p.header.version (length p.classes) d.kind d.parent) p.classes c d formed.families.parents own.1 in
     let may = subst (λ o. ParentFits p.header.version (length p.classes) d.kind o) own.2 fits in
-    let goes : IfSome (slice_get p.classes e) (Continues d) = subst (λ o. IfSome o (λ e. IfSome (slice_get p.classes e) (Continues d))) own.2 (all_there (ContinuesParent p) p.classes c d linked.parents.each own.1) in
+    let goes : IfSome (slice_get p.classes e) (Continues d) = subst (λ o. IfSome o (λ e. IfSome (slice_get p.classes e) (Continues d))) own.2 (all_there (ContinuesParent p) p.classes c d linked.parents own.1) in
     of (slice_get p.classes e) refl goes may.1
   where
     of : (o : Option ClassDecl) → slice_get p.classes e ≡ o → IfSome o (Continues (parent_named p c e parent).0) → may_descend (parent_named p c e parent).0.kind ≡ true → is_session p e ≡ false

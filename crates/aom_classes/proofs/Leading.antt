@@ -1,7 +1,9 @@
 -- Whether what overrides leads to a method, step by step.
-use Rattle.std.proofs.Common.{◌≡◌, ◌==◌, ◌||◌, ℕ, zero, suc, true, false, Some, None, refl, ap}
+use Rattle.std.proofs.Common.{◌≡◌, ◌==◌, ◌||◌, ◌∙◌, ℕ, zero, suc, true, false, IfSome, Option, Some, None, length, refl, slice_get, ap}
 use Rattle.aom_image.specs.Image.{Image}
-use Rattle.aom_classes.specs.Overriding.{leads_in, over_of}
+use Rattle.aom_image.specs.declared.method.Method.{Method}
+use Rattle.aom_classes.specs.Overriding.{AllOverriddenOnce, IsOnly, OverriddenOnce, OverridesNothing, leads_in, leads_to, over_of}
+use Rattle.aom_classes.proofs.Facts.{all_there}
 
 pub none_leads : (p : Image) (n m : ℕ) → leads_in p n None m ≡ false
 unfolding leads_in
@@ -20,3 +22,18 @@ last_leads p x m e = e
 pub next_leads : (p : Image) (n x m : ℕ) → (x == m) ≡ false → leads_in p (suc n) (Some x) m ≡ leads_in p n (over_of p x) m
 unfolding leads_in
 next_leads p n x m e = ap (λ b. b || leads_in p n (over_of p x) m) e
+
+-- where no method overrides, none is overridden twice
+pub nothing_once : (p : Image) → OverridesNothing p → AllOverriddenOnce p
+nothing_once p plain m = every (slice_get p.methods m)
+  where
+    each : (k : ℕ) (o : Option Method) → slice_get p.methods k ≡ o → IfSome o (IsOnly p m k)
+    each k None is = tt
+    each k (Some d) is = λ leads.
+        let none = all_there (λ (e : Method). e.over ≡ None) p.methods k d plain is in
+        let nowhere : leads_to p d.over m ≡ false = ap (λ o. leads_in p (length p.methods) o m) none ∙ none_leads p (length p.methods) m in
+        absurd cc
+
+    every : (o : Option Method) → IfSome o (λ e. OverriddenOnce p m)
+    every None = tt
+    every (Some e) = λ k. each k (slice_get p.methods k) refl

@@ -3,7 +3,6 @@ use Rattle.std.specs.Prelude.{◌≡◌, ◌≤◌, ℕ, List, All, Some, IfSome
 use Rattle.aom_image.specs.Image.{Image}
 use Rattle.aom_image.specs.Views.{class_at}
 use Rattle.aom_image.specs.declared.class.ClassDecl.{ClassDecl}
-use Rattle.aom_roles.specs.Families.{HasNoParents}
 
 -- a list begins with what another has
 abbrev pub BeginsWith : {X : Type 0} → List X → List X → Type 0
@@ -22,8 +21,3 @@ ContinuesParent p c = IfSome c.parent (λ e. IfSome (class_at p e) (Continues c)
 -- each class continues its parent
 abbrev pub AllContinue : Image → Type 0
 AllContinue p = All (ContinuesParent p) p.classes
-
--- what parents ask; there are none yet
-pub record ParentsFit (p : Image) : Type 0 where
-  pub each : AllContinue p
-  pub none : HasNoParents p

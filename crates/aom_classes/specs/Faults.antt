@@ -3,7 +3,7 @@ use Rattle.std.specs.Prelude.{ℕ}
 use Rattle.aom_image.specs.Image.{Image}
 use Rattle.aom_classes.specs.Calls.{AllCallsOrdered}
 use Rattle.aom_roles.specs.Classes.{ClassesOrdered}
-use Rattle.aom_classes.specs.Families.{ParentsFit}
+use Rattle.aom_classes.specs.Families.{AllContinue}
 use Rattle.aom_classes.specs.Linked.{AllJumpWell, AllLoopsNest, HasMain, IsLinked}
 use Rattle.aom_classes.specs.Overriding.{OverridersFit}
 use Rattle.aom_classes.specs.Needs.{AllNeedsMet, RolesSingle}
@@ -27,9 +27,9 @@ Fails p BadJump = ClassesOrdered p × AllCallsOrdered p × AllNeedsMet p × Role
 Fails p BadLoop = ClassesOrdered p × AllCallsOrdered p × AllNeedsMet p × RolesSingle p × AllShaped p × AllJumpWell p × ¬ AllLoopsNest p
 Fails p NoMain = ClassesOrdered p × AllCallsOrdered p × AllNeedsMet p × RolesSingle p × AllShaped p × AllJumpWell p × AllLoopsNest p × ¬ HasMain p
 Fails p BadParent =
-    ClassesOrdered p × AllCallsOrdered p × AllNeedsMet p × RolesSingle p × AllShaped p × AllJumpWell p × AllLoopsNest p × HasMain p × ¬ ParentsFit p
+    ClassesOrdered p × AllCallsOrdered p × AllNeedsMet p × RolesSingle p × AllShaped p × AllJumpWell p × AllLoopsNest p × HasMain p × ¬ AllContinue p
 Fails p BadOverride =
-    ClassesOrdered p × AllCallsOrdered p × AllNeedsMet p × RolesSingle p × AllShaped p × AllJumpWell p × AllLoopsNest p × HasMain p × ParentsFit p × ¬ OverridersFit p
+    ClassesOrdered p × AllCallsOrdered p × AllNeedsMet p × RolesSingle p × AllShaped p × AllJumpWell p × AllLoopsNest p × HasMain p × AllContinue p × ¬ OverridersFit p
 Fails p _ = ⊥
 
 -- what a fault says of the image: the condition that it fails, or that memory was wanting once it was found linked

@@ -3,7 +3,7 @@ use Rattle.std.specs.Prelude.{ℕ, IfSome, IsSome, slice_get}
 use Rattle.aom_image.specs.Image.{Image}
 use Rattle.aom_classes.specs.Calls.{AllCallsOrdered}
 use Rattle.aom_roles.specs.Classes.{ClassesOrdered}
-use Rattle.aom_classes.specs.Families.{ParentsFit}
+use Rattle.aom_classes.specs.Families.{AllContinue}
 use Rattle.aom_classes.specs.Overriding.{OverridersFit}
 use Rattle.aom_classes.specs.Jumps.{JumpsWell}
 use Rattle.aom_classes.specs.Loops.{LoopsNest}
@@ -23,7 +23,7 @@ AllLoopsNest p = (m : ℕ) → IfSome (slice_get p.methods m) (λ d. LoopsNest d
 abbrev pub HasMain : Image → Type 0
 HasMain p = IsSome (main_of p)
 
--- a linked image: what it names comes before, each class has its methods, and each method its shape; it has no parents and no overriders yet
+-- a linked image: what it names comes before, each class has its methods and what its parent has, and each method its shape and what it needs to stand for another
 pub record IsLinked (p : Image) : Type 0 where
   pub classes : ClassesOrdered p
   pub calls : AllCallsOrdered p
@@ -33,5 +33,5 @@ pub record IsLinked (p : Image) : Type 0 where
   pub jumps : AllJumpWell p
   pub loops : AllLoopsNest p
   pub main : HasMain p
-  pub parents : ParentsFit p
+  pub parents : AllContinue p
   pub overriders : OverridersFit p

@@ -102,8 +102,7 @@ AllOverriddenOnce p = (m : ℕ) → IfSome (slice_get p.methods m) (λ e. Overri
 abbrev pub OverridesNothing : Image → Type 0
 OverridesNothing p = All (λ d. d.over ≡ None) p.methods
 
--- what overriders ask; there are none yet
+-- what overriders ask
 pub record OverridersFit (p : Image) : Type 0 where
   pub each : AllStandIn p
   pub once : AllOverriddenOnce p
-  pub none : OverridesNothing p

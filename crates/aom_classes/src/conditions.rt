@@ -6,7 +6,7 @@ ghost use Rattle.aom_classes.specs.Faults.{Fails};
 
 use crate::LinkFault;
 use crate::call_order::calls_are_ordered;
-use crate::families::parents_fit;
+use crate::families::all_continue;
 use crate::jumps::all_jump_well;
 use crate::loops::all_loops_nest;
 use crate::needs::{needs_are_met, roles_are_single};
@@ -44,7 +44,7 @@ pub fn check_conditions(image: &Image) -> Result<MethodNumber, LinkFault>
     let Some(main) = find_main(image.methods().as_slice()) else {
         return Err(LinkFault::NoMain);
     };
-    if !parents_fit(image) {
+    if !all_continue(image) {
         return Err(LinkFault::BadParent);
     }
     if !overriders_fit(image) {

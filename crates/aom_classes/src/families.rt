@@ -1,7 +1,6 @@
 //! What a class has of its parent.
 ghost use Rattle.std.specs.Prelude.{◌≡◌, ◌↔◌, IsTrue, Some, slice_get};
-ghost use Rattle.aom_roles.specs.Families.{HasNoParents};
-ghost use Rattle.aom_classes.specs.Families.{AllContinue, BeginsWith, Continues, ContinuesParent, ParentsFit};
+ghost use Rattle.aom_classes.specs.Families.{AllContinue, BeginsWith, Continues, ContinuesParent};
 
 use crate::same::{same_kind, same_thing};
 use aom_image::{ClassDecl, Image, Thing};
@@ -49,7 +48,7 @@ fn continues_parent(image: &Image, class: &ClassDecl) -> bool
 }
 
 /// Whether each class has what its parent has.
-fn all_continue(image: &Image) -> bool
+pub fn all_continue(image: &Image) -> bool
     ensures { IsTrue result ↔ AllContinue image.now }
 {
     image
@@ -57,22 +56,4 @@ fn all_continue(image: &Image) -> bool
         .as_slice()
         .iter()
         .all(|class| continues_parent(image, class))
-}
-
-/// Whether no class has a parent.
-fn has_no_parents(image: &Image) -> bool
-    ensures { IsTrue result ↔ HasNoParents image.now }
-{
-    let classes = image.classes();
-    classes
-        .as_slice()
-        .iter()
-        .all(|class| class.parent.is_none())
-}
-
-/// Whether the parents of classes are as they may be.
-pub fn parents_fit(image: &Image) -> bool
-    ensures { IsTrue result ↔ ParentsFit image.now }
-{
-    all_continue(image) && has_no_parents(image)
 }

@@ -204,9 +204,19 @@ fn overrides_nothing(image: &Image) -> bool
         .all(|method| method.over.is_none())
 }
 
+/// Whether no two methods of a class override the same one. Where none overrides nothing more is looked at.
+fn overriders_are_single(image: &Image) -> bool
+    ensures { IsTrue result ↔ AllOverriddenOnce image.now }
+{
+    if overrides_nothing(image) {
+        return true;
+    }
+    all_overridden_once(image)
+}
+
 /// Whether what overrides is as it may be.
 pub fn overriders_fit(image: &Image) -> bool
     ensures { IsTrue result ↔ OverridersFit image.now }
 {
-    overrides_nothing(image) && all_stand_in(image) && all_overridden_once(image)
+    all_stand_in(image) && overriders_are_single(image)
 }

@@ -109,13 +109,13 @@ asm_texts kind = elim kind [
 abbrev pub link_texts : LinkFault → Texts
 link_texts fault = elim fault [
   | links.ClassOrder ↦ texts "order of classes"
-      "A class owns objects of a class that does not come before it (its own is none that does), or owns sessions; the sessions of a server are of a class that does not come before it, or is none of sessions; or the root is a session."
+      "A class owns objects of a class that does not come before it (its own is none that does), or owns sessions; the sessions of a server are of a class that does not come before it, or is none of sessions; a class comes before its parent; or the root is a session."
       "Declare what is owned first, and the class of its sessions before a server. A class cannot own its like, so chains are made of several classes."
   | links.CallOrder ↦ texts "order of calls"
-      "A method calls, traps or pushes one that does not come before it, has to do with a class whose destructor, or that of whose sessions, does not come before it, or cancels before the cancel method of its class."
+      "A method calls, traps or pushes one that does not come before it, or that such a one overrides; has to do with a class whose destructor, or that of one below it, of one above these, or of its sessions, does not come before it; or cancels before the cancel method of its class or of one below."
       "Put destructors first, then each method before those that call it, and main last. A method cannot call itself: use a loop."
   | links.MissingRole ↦ texts "missing method"
-      "A class with owning fields has no destruct method; one of active objects lacks run, cancel or destruct; a server has no accept method, or a session no service."
+      "A class with owning fields has no destruct method, or owns more than its parent and has none of its own; one of active objects lacks run, cancel or destruct; a server has no accept method, or a session no service."
       "Write it. A destructor takes what each field owns and deletes it, accept gives a new session, and service takes its message."
   | links.DoubleRole ↦ texts "one method too many"
       "A class has two methods of one role, do aside, or there are two mains."
@@ -134,11 +134,11 @@ link_texts fault = elim fault [
       "Declare one as main."
   | links.OutOfMemory ↦ memory_texts
   | links.BadParent ↦ texts "wrong parent"
-      "A class has a parent, and no class may have one yet."
-      "Write the words, the fields and the methods of the parent in the class itself."
+      "A class is of another kind than its parent, has fewer words, or its owning fields do not begin with its parent's."
+      "Give the class the parent's kind, and list the parent's words and fields first."
   | links.BadOverride ↦ texts "wrong overrider"
-      "A method overrides another, and no method may yet."
-      "Take over away, and call the method that is meant."
+      "A method overrides one in whose place it may not run. Both are do methods, its class descends from the other's, and they take and give the same; it leaves only where the other may, is quiet where that is, and begins and ends in no other states; and no two of a class override the same."
+      "Compare the two statements, or take over away and call the method that is meant."
 ]
 
 -- ---- methods without a typing

@@ -4,19 +4,19 @@ use crate::Entry;
 
 pub(crate) const CLASS_ORDER: Entry = Entry {
     name: b"order of classes",
-    meaning: b"A class owns objects of a class that does not come before it (its own is none that does), or owns sessions; the sessions of a server are of a class that does not come before it, or is none of sessions; or the root is a session.",
+    meaning: b"A class owns objects of a class that does not come before it (its own is none that does), or owns sessions; the sessions of a server are of a class that does not come before it, or is none of sessions; a class comes before its parent; or the root is a session.",
     mend: b"Declare what is owned first, and the class of its sessions before a server. A class cannot own its like, so chains are made of several classes.",
 };
 
 pub(crate) const CALL_ORDER: Entry = Entry {
     name: b"order of calls",
-    meaning: b"A method calls, traps or pushes one that does not come before it, has to do with a class whose destructor, or that of whose sessions, does not come before it, or cancels before the cancel method of its class.",
+    meaning: b"A method calls, traps or pushes one that does not come before it, or that such a one overrides; has to do with a class whose destructor, or that of one below it, of one above these, or of its sessions, does not come before it; or cancels before the cancel method of its class or of one below.",
     mend: b"Put destructors first, then each method before those that call it, and main last. A method cannot call itself: use a loop.",
 };
 
 pub(crate) const MISSING_ROLE: Entry = Entry {
     name: b"missing method",
-    meaning: b"A class with owning fields has no destruct method; one of active objects lacks run, cancel or destruct; a server has no accept method, or a session no service.",
+    meaning: b"A class with owning fields has no destruct method, or owns more than its parent and has none of its own; one of active objects lacks run, cancel or destruct; a server has no accept method, or a session no service.",
     mend: b"Write it. A destructor takes what each field owns and deletes it, accept gives a new session, and service takes its message.",
 };
 
@@ -52,12 +52,12 @@ pub(crate) const NO_MAIN: Entry = Entry {
 
 pub(crate) const BAD_PARENT: Entry = Entry {
     name: b"wrong parent",
-    meaning: b"A class has a parent, and no class may have one yet.",
-    mend: b"Write the words, the fields and the methods of the parent in the class itself.",
+    meaning: b"A class is of another kind than its parent, has fewer words, or its owning fields do not begin with its parent's.",
+    mend: b"Give the class the parent's kind, and list the parent's words and fields first.",
 };
 
 pub(crate) const BAD_OVERRIDE: Entry = Entry {
     name: b"wrong overrider",
-    meaning: b"A method overrides another, and no method may yet.",
-    mend: b"Take over away, and call the method that is meant.",
+    meaning: b"A method overrides one in whose place it may not run. Both are do methods, its class descends from the other's, and they take and give the same; it leaves only where the other may, is quiet where that is, and begins and ends in no other states; and no two of a class override the same.",
+    mend: b"Compare the two statements, or take over away and call the method that is meant.",
 };

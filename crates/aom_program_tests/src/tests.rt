@@ -2,6 +2,7 @@ mod backlog;
 mod bell;
 mod cut;
 mod explaining;
+mod family;
 mod faults;
 mod input;
 mod memory;

@@ -68,19 +68,19 @@ module _ (p : Image) (linked : IsLinked p) where
   unfolding words_in
   words_so c d h =
       along p (λ x. word_count p (Member d) ≤ word_count p (Member x)) d
-      (λ x e is up. let k = continued p linked.parents.each x e is in omega (arith, up, k.continues.words, ap words_in k.at, ap words_in k.above)) (omega arith) c h
+      (λ x e is up. let k = continued p linked.parents x e is in omega (arith, up, k.continues.words, ap words_in k.at, ap words_in k.above)) (omega arith) c h
 
   -- what descends from a class is of its kind
   pub family_kinds : (c d : ℕ) → descends p c d ≡ true → kind_of p (Some c) ≡ kind_of p (Some d)
   unfolding kind_of
-  family_kinds c d h = families_inherit.kinds p linked.parents.each c d h
+  family_kinds c d h = families_inherit.kinds p linked.parents c d h
 
   module _ (formed : WellFormed p) where
     -- no class has one of sessions for its parent: in the file such a class has none, and a child is of its parent's kind
     no_child : (c e : ℕ) → parent_of p c ≡ Some e → is_session p e ≡ true → ⊥
     unfolding class_at is_session_in kind_in
     no_child c e is session =
-        let w = continued p linked.parents.each c e is in
+        let w = continued p linked.parents c e is in
         let fits : ParentFits p.header.version (length p.classes) w.child.kind w.child.parent = all_there (λ d. ParentFits p.header.version (length p.classes) d.kind d.parent) p.classes c w.child formed.families.parents w.at in
         let may = subst (λ o. ParentFits p.header.version (length p.classes) w.child.kind o) w.named fits in
         let above : is_session_kind w.parent.kind ≡ true = sym (ap (λ o. is_session_in (kind_in o)) w.above) ∙ session in
@@ -94,14 +94,14 @@ module _ (p : Image) (linked : IsLinked p) where
     unfolding kind_of
     linked_is_family = record {
       kinds = family_kinds;
-      inherits = λ c d f t h e. families_inherit.fields p linked.parents.each c d h f t e;
+      inherits = λ c d f t h e. families_inherit.fields p linked.parents c d h f t e;
       words = words_so;
       alone = sessions_alone;
       weight = λ c. generation p c;
       lighter = λ c d f x e h.
           let there = owner_there c f (An_object_of d) e in
           let before = owned_before c d f e in
-          weights_fall.generations p x c (descendant_there x d h (omega (arith, there, before))) (weights_fall.fields p linked.parents.each linked.calls linked.needs c d f x e h);
+          weights_fall.generations p x c (descendant_there x d h (omega (arith, there, before))) (weights_fall.fields p linked.parents linked.calls linked.needs c d f x e h);
       served = λ c s e.
           let there = server_there c s e in
           let before = session_before c s e in

@@ -164,7 +164,7 @@ module _ (p : Image) (formed : WellFormed p) (linked : IsLinked p) where
   -- a class has no fields but those of the class whose destructor it has
   destructor_empties : (c m : ℕ) → role_of p c Destruct ≡ Some m → (f : ℕ) → field_thing p (Member c) f ≡ field_thing p (holder_of p m) f
   destructor_empties c m e f =
-      let k = keeper p linked.parents.each linked.calls linked.needs c m e in
+      let k = keeper p linked.parents linked.calls linked.needs c m e in
       let holder : holder_of p m ≡ Member k.0 = ap (λ r. holder_by r (method_class p m)) (destructor_is c m e).1 ∙ ap (λ k. holder_by (Some Destruct) k) k.1 in
       ap (λ ts. slice_get ts f) k.2 ∙ ap (λ h. field_thing p h f) (sym holder)
 

@@ -87,9 +87,9 @@ returns-in_default-clause-err c =
       λ some. false≢true (rw main at some),
     )
 
-pub returns-then-not-parents_fit-clause-err : goal.returns-then-not-parents_fit-clause-err
+pub returns-then-not-all_continue-clause-err : goal.returns-then-not-all_continue-clause-err
 unfolding Fails
-returns-then-not-parents_fit-clause-err c =
+returns-then-not-all_continue-clause-err c =
     let main = found_as c.args.image.now _ _ c.find_main.ensures (c.as_slice.ensures ∙ c.methods.ensures.value) ∙ c.in-Some.is in (
       c.classes_are_ordered.ensures.0 c.if-not-classes_are_ordered.false,
       c.calls_are_ordered.ensures.0 c.if-not-calls_are_ordered.false,
@@ -99,7 +99,7 @@ returns-then-not-parents_fit-clause-err c =
       c.all_jump_well.ensures.0 c.if-not-all_jump_well.false,
       c.all_loops_nest.ensures.0 c.if-not-all_loops_nest.false,
       rw main refl,
-      refused _ c.parents_fit.ensures c.if-not-parents_fit.true,
+      refused _ c.all_continue.ensures c.if-not-all_continue.true,
     )
 
 pub returns-then-not-overriders_fit-clause-err : goal.returns-then-not-overriders_fit-clause-err
@@ -114,7 +114,7 @@ returns-then-not-overriders_fit-clause-err c =
       c.all_jump_well.ensures.0 c.if-not-all_jump_well.false,
       c.all_loops_nest.ensures.0 c.if-not-all_loops_nest.false,
       rw main refl,
-      c.parents_fit.ensures.0 c.if-not-parents_fit.false,
+      c.all_continue.ensures.0 c.if-not-all_continue.false,
       refused _ c.overriders_fit.ensures c.if-not-overriders_fit.true,
     )
 
@@ -130,7 +130,7 @@ returns-clause-ok c =
         jumps = c.all_jump_well.ensures.0 c.if-not-all_jump_well.false;
         loops = c.all_loops_nest.ensures.0 c.if-not-all_loops_nest.false;
         main = rw main refl;
-        parents = c.parents_fit.ensures.0 c.if-not-parents_fit.false;
+        parents = c.all_continue.ensures.0 c.if-not-all_continue.false;
         overriders = c.overriders_fit.ensures.0 c.if-not-overriders_fit.false;
       },
       main,
