@@ -40,7 +40,7 @@ pub(crate) const LEAVE_NOT_ALLOWED: Entry = Entry {
 
 pub(crate) const FIELD_NOT_NULL: Entry = Entry {
     name: b"field still owns",
-    meaning: b"put into a field that may own something, which would be lost.",
+    meaning: b"put into a field that may own something, which would be lost. Or a construct method calls that of its class's parent on self, and a field of the parent's may own something.",
     mend: b"take from the field and delete that first, or ask by jempty. After a call on the same object all its fields may own.",
 };
 
@@ -52,8 +52,8 @@ pub(crate) const FIELDS_LEFT: Entry = Entry {
 
 pub(crate) const NOT_FRESH: Entry = Entry {
     name: b"not fresh",
-    meaning: b"A construct method is called on an object that is constructed already; what self or a field has always is.",
-    mend: b"Construct each object once, right after new or newl.",
+    meaning: b"A construct method is called on an object that is constructed already, as what self or a field has always is, or on one whose class has another; on self a construct method may call that of its class's parent.",
+    mend: b"Construct each object once, right after new or newl, by the construct method that its class has.",
 };
 
 pub(crate) const STILL_FRESH: Entry = Entry {
