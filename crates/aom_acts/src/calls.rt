@@ -131,10 +131,14 @@ fn callee<'a>(
     ensures arguments { result.1.now ≡ arguments_of linked.now method }
 {
     let called = linked.method(method);
-    let on_self = matches!(target, Target::This) && called.class.is_some();
+    let arguments = called.arguments.as_slice();
+    let on_self = matches!(target, Target::This);
+    if on_self && called.class.is_none() {
+        return (Frame::begin(method, NULL), arguments);
+    }
     let this = target_of(parts, target, called.class);
     let frame = frame_on(parts, on_self, this, method, linked);
-    (frame, called.arguments.as_slice())
+    (frame, arguments)
 }
 
 /// Calls a method, with its arguments from a register on.
