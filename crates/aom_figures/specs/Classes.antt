@@ -37,9 +37,12 @@ abbrev pub fields_text : ℕ → List Thing → List ℕ
 fields_text k fields = each (field_line k) 0 fields
 
 -- its parent, if it has one
+abbrev pub parent_line : ℕ → ℕ → List ℕ
+parent_line k parent = numbered (codes "c") k ++ numbered (codes " -> c") parent ++ (codes " [arrowhead=empty" ++ line_end)
+
 abbrev pub parent_text : ℕ → Option ℕ → List ℕ
 parent_text k None = []
-parent_text k (Some parent) = numbered (codes "c") k ++ numbered (codes " -> c") parent ++ codes " [arrowhead=empty" ++ line_end
+parent_text k (Some parent) = parent_line k parent
 
 -- a class, its parent, and what each of its owning fields may own
 abbrev pub class_text : Image → List ℕ → ℕ → ClassDecl → List ℕ

@@ -7,7 +7,7 @@ use Rattle.aom_image.specs.declared.method.Role.{Role}
 use Rattle.aom_image.specs.declared.method.Role.TheVariants as roles
 use Rattle.aom_shape.specs.Tables.{at}
 use Rattle.aom_budget.specs.Figures.{Figures}
-use Rattle.aom_figures.specs.Each.{each, line_end}
+use Rattle.aom_figures.specs.Each.{each, line_end, numbered}
 use Rattle.aom_figures.specs.Edges.{code_text}
 use Rattle.aom_figures.specs.Over.{color_text, method_is_over}
 
@@ -34,9 +34,12 @@ abbrev pub method_line : Image → Figures → ℕ → Method → List ℕ
 method_line p f m method = heading_text m method ++ figures_label f m ++ color_text (method_is_over p f m) ++ line_end
 
 -- the method that it overrides, if there is one
+abbrev pub over_line : ℕ → ℕ → List ℕ
+over_line m over = numbered (codes "m") m ++ numbered (codes " -> m") over ++ (codes " [key=over arrowhead=empty" ++ line_end)
+
 abbrev pub over_text : ℕ → Option ℕ → List ℕ
 over_text m None = []
-over_text m (Some over) = codes "m" ++ decimal m ++ codes " -> m" ++ decimal over ++ codes " [key=over arrowhead=empty" ++ line_end
+over_text m (Some over) = over_line m over
 
 -- a method, the one that it overrides, and what its instructions lead to
 abbrev pub method_text : Image → Figures → ℕ → Method → List ℕ

@@ -1,7 +1,7 @@
 //! Classes, what they descend from, and what their objects own.
 ghost use Rattle.std.specs.Prelude.{◌≡◌, ◌≤◌, ◌<◌, ◌++◌, OnOk, length};
 ghost use Rattle.aom_figures.specs.Each.{numbered};
-ghost use Rattle.aom_figures.specs.Classes.{kind_word, class_heading, thing_text, field_line, fields_text, parent_text, class_text, classes_text};
+ghost use Rattle.aom_figures.specs.Classes.{kind_word, class_heading, thing_text, field_line, fields_text, parent_line, parent_text, class_text, classes_text};
 
 use crate::Writer;
 use crate::over::{class_is_over, put_color};
@@ -82,6 +82,18 @@ fn put_fields(out: &mut Writer, class: ClassNumber, fields: &[Thing]) -> Result<
     Ok(())
 }
 
+fn put_parent_line(
+    out: &mut Writer,
+    class: ClassNumber,
+    parent: ClassNumber,
+) -> Result<(), AllocError>
+    ensures { OnOk result (out.new ≡ out.old ++ parent_line class parent) }
+{
+    put_class_number(out, b"c", class)?;
+    put_class_number(out, b" -> c", parent)?;
+    out.words(b" [arrowhead=empty]\n")
+}
+
 /// The class's parent, if it has one.
 fn put_parent(
     out: &mut Writer,
@@ -90,12 +102,10 @@ fn put_parent(
 ) -> Result<(), AllocError>
     ensures { OnOk result (out.new ≡ out.old ++ parent_text class parent) }
 {
-    let Some(parent) = parent else {
-        return Ok(());
-    };
-    put_class_number(out, b"c", class)?;
-    put_class_number(out, b" -> c", parent)?;
-    out.words(b" [arrowhead=empty]\n")
+    match parent {
+        Some(parent) => put_parent_line(out, class, parent),
+        None => Ok(()),
+    }
 }
 
 /// A class, red where its dispatches are over what is declared of them, its parent, and what each of its owning fields may own.

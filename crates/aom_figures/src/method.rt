@@ -1,6 +1,7 @@
 //! Methods, with their figures, what they override and what leads from them to others.
 ghost use Rattle.std.specs.Prelude.{◌≡◌, ◌≤◌, ◌++◌, OnOk, length};
-ghost use Rattle.aom_figures.specs.Methods.{role_word, of_text, heading_text, figures_label, over_text, method_text, methods_text};
+ghost use Rattle.aom_figures.specs.Each.{numbered};
+ghost use Rattle.aom_figures.specs.Methods.{role_word, of_text, heading_text, figures_label, over_line, over_text, method_text, methods_text};
 
 use crate::edge::put_code;
 use crate::over::{method_is_over, put_color};
@@ -56,6 +57,25 @@ fn put_heading(out: &mut Writer, number: MethodNumber, method: &Method) -> Resul
     put_class_of(out, method.class)
 }
 
+/// Words, and a method behind them.
+fn put_method_number(out: &mut Writer, words: &[u8], method: MethodNumber) -> Result<(), AllocError>
+    ensures { OnOk result (out.new ≡ out.old ++ numbered words.now method) }
+{
+    out.count(words, u64::from(method.number()))
+}
+
+fn put_over_line(
+    out: &mut Writer,
+    method: MethodNumber,
+    over: MethodNumber,
+) -> Result<(), AllocError>
+    ensures { OnOk result (out.new ≡ out.old ++ over_line method over) }
+{
+    put_method_number(out, b"m", method)?;
+    put_method_number(out, b" -> m", over)?;
+    out.words(b" [key=over arrowhead=empty]\n")
+}
+
 /// The method that one overrides, if there is one.
 fn put_over(
     out: &mut Writer,
@@ -64,12 +84,10 @@ fn put_over(
 ) -> Result<(), AllocError>
     ensures { OnOk result (out.new ≡ out.old ++ over_text method over) }
 {
-    let Some(over) = over else {
-        return Ok(());
-    };
-    out.count(b"m", u64::from(method.number()))?;
-    out.count(b" -> m", u64::from(over.number()))?;
-    out.words(b" [key=over arrowhead=empty]\n")
+    match over {
+        Some(over) => put_over_line(out, method, over),
+        None => Ok(()),
+    }
 }
 
 /// A method with its figures, red where it is over a limit, the one that it overrides, and what its instructions lead to.
