@@ -1,7 +1,6 @@
 //! A child in its parent's place, from the bytes of an image to the transcript.
-use super::pages::{Call, tells};
+use super::pages::{Call, Case, all_tell};
 use aom_main::ExitStatus;
-use std::process::Abort;
 
 /// The image of `examples/shapes.aom`: a square, which is a shape, answers its area in its own way.
 const SHAPES: [u8; 548] = [
@@ -27,28 +26,19 @@ const SHAPES: [u8; 548] = [
     5, 0x30, 0, 0, 0, 0, 0, 0, 0, 0x22, 0, 0, 0, 0, 0, 0, 0,
 ];
 
+const FAMILY: [Case<'static>; 2] = [
+    (Call::Check(&SHAPES), 100, b"accepted\n"),
+    (
+        Call::Run(&SHAPES, b""),
+        100,
+        b"@0 main\nout 16\nout 2\nout 1\ngone 0\ngone 2\nend stopped cells 0\n",
+    ),
+];
+
 /// It is accepted, and a call on the square runs what the square has. It goes by its own destructor, and then by that of a shape.
 #[test]
 fn a_child_stands_for_its_parent(rt: HostRuntime) {
-    let run = b"@0 main\nout 16\nout 2\nout 1\ngone 0\ngone 2\nend stopped cells 0\n";
-    assert!(&rt;
-        tells(
-            rt.alloc(),
-            &Call::Check(&SHAPES),
-            100,
-            ExitStatus::Done,
-            b"accepted\n"
-        )
-    );
-    assert!(&rt;
-        tells(
-            rt.alloc(),
-            &Call::Run(&SHAPES, b""),
-            100,
-            ExitStatus::Done,
-            run
-        )
-    );
+    all_tell(&rt, rt.alloc(), ExitStatus::Done, &FAMILY);
 }
 
 /// Where the square is no shape it has nothing to override.
@@ -57,13 +47,10 @@ fn a_stranger_overrides_nothing(rt: HostRuntime) {
     let mut image = SHAPES;
     image[116] = 0xff;
     image[117] = 0xff;
-    assert!(&rt;
-        tells(
-            rt.alloc(),
-            &Call::Check(&image),
-            100,
-            ExitStatus::ImageRefused,
-            b"link 11\n"
-        )
+    all_tell(
+        &rt,
+        rt.alloc(),
+        ExitStatus::ImageRefused,
+        &[(Call::Check(&image), 100, b"link 11\n")],
     );
 }
