@@ -109,7 +109,7 @@ asm_texts kind = elim kind [
 abbrev pub link_texts : LinkFault → Texts
 link_texts fault = elim fault [
   | links.ClassOrder ↦ texts "order of classes"
-      "A class owns objects of a class that does not come before it (its own is none that does), or owns sessions; the sessions of a server are of a class that does not come before it, or is none of sessions; a class comes before its parent; or the root is a session."
+      "A class owns objects of a class that does not come before it (its own is none that does), or owns sessions; a server's sessions are of one that does not, or is none of sessions; a class comes before its parent; or the root is a session."
       "Declare what is owned first, and the class of its sessions before a server. A class cannot own its like, so chains are made of several classes."
   | links.CallOrder ↦ texts "order of calls"
       "A method calls, traps or pushes one that does not come before it, or that such a one overrides; has to do with a class whose destructor, or that of one below it, of one above these, or of its sessions, does not come before it; or cancels before the cancel method of its class or of one below."

@@ -4,7 +4,7 @@ use crate::Entry;
 
 pub(crate) const CLASS_ORDER: Entry = Entry {
     name: b"order of classes",
-    meaning: b"A class owns objects of a class that does not come before it (its own is none that does), or owns sessions; the sessions of a server are of a class that does not come before it, or is none of sessions; a class comes before its parent; or the root is a session.",
+    meaning: b"A class owns objects of a class that does not come before it (its own is none that does), or owns sessions; a server's sessions are of one that does not, or is none of sessions; a class comes before its parent; or the root is a session.",
     mend: b"Declare what is owned first, and the class of its sessions before a server. A class cannot own its like, so chains are made of several classes.",
 };
 

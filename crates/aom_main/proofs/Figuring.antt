@@ -62,7 +62,7 @@ beyond bytes text r fault only refuses = record {
   refuses = refuses;
   none = λ p spelled acceptable.
       let a : IsAcceptable r.image = subst IsAcceptable (sym (only p spelled)) acceptable in
-      refuses_none r.image fault r.linked refuses a.budgets a.depths a.heights;
+      refuses_none r.image fault r.spelled.formed r.linked refuses a.budgets a.depths a.heights;
 }
 
 -- so what is written of the image is what is written of the bytes
