@@ -93,10 +93,10 @@ module _ (p : Image) (formed : WellFormed p) (linked : IsLinked p) (m : ℕ) (k 
   rounds : (place d n : ℕ) → slice_get k.code place ≡ Some (Loop d n) → 0 < n
   unfolding method_at
   rounds place d n at =
-      let fits = all_there (MethodFits (length p.classes) (length p.methods)) p.methods m k formed.methods.each here in
-      let limit = limits (length p.classes) (length p.methods) (length k.code) in
+      let fits = all_there (MethodFits p.header.version (length p.classes) (length p.methods)) p.methods m k formed.methods.each here in
+      let limit = limits p.header.version (length p.classes) (length p.methods) (length k.code) in
       let w = all_there (InstrFits limit) k.code place (Loop d n) fits.code at in
-      omega (arith, w.d.0)
+      omega (arith, w.operands.d.0)
 
   begun : (place d n : ℕ) → slice_get k.code place ≡ Some (Loop d n) → (0 < n) × (to : ℕ) × Body p m place to d n
   unfolding loop_in

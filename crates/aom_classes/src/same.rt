@@ -19,6 +19,7 @@ fn same_provider(one: Provider, other: Provider) -> bool
         Provider::Own => matches!(other, Provider::Own),
         Provider::Timer => matches!(other, Provider::Timer),
         Provider::Native(native) => is_native(native, other),
+        Provider::Token => matches!(other, Provider::Token),
     }
 }
 

@@ -5,16 +5,17 @@ use Rattle.std.proofs.lemmas.Bool.Decides.{nat_tests}
 use Rattle.std.proofs.lemmas.List.Elements.{All-nil, All-cons}
 use Rattle.std.proofs.lemmas.List.Sums.{sum_by-cons}
 use Rattle.aom_image.specs.Image.{Image}
-use Rattle.aom_codec.specs.Spelling.{class_number, thing_number, argument_number, role_number, gives_byte, result_number, kind_byte}
+use Rattle.aom_codec.specs.Spelling.{provider_sort, class_number, thing_number, argument_number, role_number, gives_byte, result_number, kind_byte}
 use Rattle.aom_image.specs.WellFormed.{ThingFits, ProviderFits, KindFits, ClassFits, ParentFits, OverFits, FamiliesFit, may_descend, is_server_kind, is_server, ArgumentFits, GivesFits, MethodFits, HeaderFits, ClassesFit, MethodsFit}
 use Rattle.aom_instructions.specs.Fits.{InstrFits, limits}
-use Rattle.aom_codec.specs.Codec.{Codec, ◌>>=◌, byte, pair, always, keep, FitMany, limited}
+use Rattle.aom_instructions.specs.Versions.{includes}
+use Rattle.aom_codec.specs.Codec.{Codec, ◌>>=◌, byte, is_between, pair, always, keep, FitMany, limited}
 use Rattle.aom_codec.specs.Instructions.{Bounded, instruction}
-use Rattle.aom_codec.specs.Format.{version as version_format, parent_from, parent, over, index_from, class_from, class_or_none, thing_from, thing, argument_from, argument, provider, kind, kind_sort, class, count_server, role, flags, states, result, gives_from, method, image}
+use Rattle.aom_codec.specs.Format.{version as version_format, parent_from, parent, over, index_from, class_from, class_or_none, thing_from, thing, argument_from, argument, last_provider, sort_of_provider, provider, kind, kind_sort, class, count_server, role, flags, states, result, gives_from, method, image}
 use Rattle.aom_codec.specs.declared.fault.LoadFault.{LoadFault}
 use Rattle.aom_codec.specs.declared.fault.LoadFault.TheVariants.{BadIndex, BadOperand}
-use Rattle.aom_image.specs.declared.image.Version.{Version}
-use Rattle.aom_image.specs.declared.image.Version.TheVariants as versions
+use Rattle.aom_instructions.specs.declared.version.Version.{Version}
+use Rattle.aom_instructions.specs.declared.version.Version.TheVariants as versions
 use Rattle.aom_image.specs.declared.class.ClassDecl.{ClassDecl}
 use Rattle.aom_image.specs.declared.class.ClassKind.{ClassKind}
 use Rattle.aom_image.specs.declared.class.ClassKind.TheVariants as kinds
@@ -143,35 +144,54 @@ gives_number_fits classes (gives.Left c) few h =
 
 -- ---- classes
 
-provider_in : (natives : ℕ) (p : Provider) → (provider natives).Fits p → ProviderFits natives p
-provider_in natives providers.Own f = tt
-provider_in natives providers.Timer f = tt
-provider_in natives (providers.Native n) f = ltb-true n natives f.0.1.1
+-- a version that reads the last sort has tokens
+has_tokens : (version : Version) → is_between 0 (last_provider version) 3 ≡ true → includes version versions.Two ≡ true
+has_tokens versions.One h = absurd cc
+has_tokens versions.Two h = refl
 
-provider_fits : (natives : ℕ) (p : Provider) → natives ≤ 16 → ProviderFits natives p → (provider natives).Fits p
-provider_fits natives providers.Own few h = (((lit< tt, refl), (lit< tt, refl)), refl)
-provider_fits natives providers.Timer few h = (((lit< tt, refl), (lit< tt, refl)), refl)
-provider_fits natives (providers.Native n) few h = (((lit< tt, refl), (omega arith, lt-ltb n natives h)), refl)
+provider_in : (version : Version) (natives : ℕ) (p : Provider) → (provider version natives).Fits p → ProviderFits version natives p
+provider_in version natives providers.Own f = tt
+provider_in version natives providers.Timer f = tt
+provider_in version natives (providers.Native n) f = ltb-true n natives f.0.1.1
+provider_in version natives providers.Token f = has_tokens version f.0.0.1
 
-kind_in : (classes natives : ℕ) (k : ClassKind) → (kind classes natives (kind_byte k)).Fits k → KindFits classes natives k
-kind_in classes natives kinds.Plain f = tt
-kind_in classes natives (kinds.Active p) f = provider_in natives p f.0.0
-kind_in classes natives (kinds.Server sessions session) f =
+-- each version reads the sorts of its providers
+sort_fits : (version : Version) (natives : ℕ) (p : Provider) → ProviderFits version natives p → (sort_of_provider version).Fits (provider_sort p)
+sort_fits versions.One natives providers.Own h = (lit< tt, refl)
+sort_fits versions.One natives providers.Timer h = (lit< tt, refl)
+sort_fits versions.One natives (providers.Native n) h = (lit< tt, refl)
+sort_fits versions.One natives providers.Token h = absurd cc
+sort_fits versions.Two natives providers.Own h = (lit< tt, refl)
+sort_fits versions.Two natives providers.Timer h = (lit< tt, refl)
+sort_fits versions.Two natives (providers.Native n) h = (lit< tt, refl)
+sort_fits versions.Two natives providers.Token h = (lit< tt, refl)
+
+provider_fits : (version : Version) (natives : ℕ) (p : Provider) → natives ≤ 16 → ProviderFits version natives p → (provider version natives).Fits p
+provider_fits version natives providers.Own few h = ((sort_fits version natives providers.Own h, (lit< tt, refl)), refl)
+provider_fits version natives providers.Timer few h = ((sort_fits version natives providers.Timer h, (lit< tt, refl)), refl)
+provider_fits version natives (providers.Native n) few h = ((sort_fits version natives (providers.Native n) h, (omega arith, lt-ltb n natives h)), refl)
+provider_fits version natives providers.Token few h = ((sort_fits version natives providers.Token h, (lit< tt, refl)), refl)
+
+kind_in : (version : Version) (classes natives : ℕ) (k : ClassKind) → (kind version classes natives (kind_byte k)).Fits k → KindFits version classes natives k
+kind_in version classes natives kinds.Plain f = tt
+kind_in version classes natives (kinds.Active p) f = provider_in version natives p f.0.0
+kind_in version classes natives (kinds.Server sessions session) f =
     let low = between_true 1 64 sessions f.0.0.1 in
     (low.0, low.1, (index_returns classes session session f.0.1.1).1)
-kind_in classes natives kinds.Session f = tt
+kind_in version classes natives kinds.Session f = tt
 
-kind_fits : (classes natives : ℕ) (k : ClassKind) → classes ≤ 256 → natives ≤ 16 → KindFits classes natives k → (kind classes natives (kind_byte k)).Fits k
-kind_fits classes natives kinds.Plain few some_natives h = (tt, refl)
-kind_fits classes natives (kinds.Active p) few some_natives h = ((provider_fits natives p some_natives h, tt), refl)
-kind_fits classes natives (kinds.Server sessions session) few some_natives h =
+kind_fits : (version : Version) (classes natives : ℕ) (k : ClassKind) → classes ≤ 256 → natives ≤ 16 → KindFits version classes natives k
+    → (kind version classes natives (kind_byte k)).Fits k
+kind_fits version classes natives kinds.Plain few some_natives h = (tt, refl)
+kind_fits version classes natives (kinds.Active p) few some_natives h = ((provider_fits version natives p some_natives h, tt), refl)
+kind_fits version classes natives (kinds.Server sessions session) few some_natives h =
     let lt : session < classes = h.2 in
     ((limited_byte_fits 1 64 sessions (lit< tt) h.0 h.1, (omega arith, index_is classes session lt)), refl)
-kind_fits classes natives kinds.Session few some_natives h = (tt, refl)
+kind_fits version classes natives kinds.Session few some_natives h = (tt, refl)
 
-class_in_range : (version : Version) (classes natives servers : ℕ) (c : ClassDecl) → (class version classes natives servers).Fits c → ClassFits classes natives c
+class_in_range : (version : Version) (classes natives servers : ℕ) (c : ClassDecl) → (class version classes natives servers).Fits c → ClassFits version classes natives c
 class_in_range version classes natives servers c f = record {
-  kind = kind_in classes natives c.kind f.0.1.1.1.0;
+  kind = kind_in version classes natives c.kind f.0.1.1.1.0;
   words = (between_true 0 8 c.words f.0.1.0.1).1;
   field_count = (between_true 0 8 (length c.fields) f.0.1.1.0.1).1;
   fields = each (thing classes).Fits (ThingFits classes) c.fields (λ t h. thing_in classes (thing_number t) t h.1) (all_fit (thing classes) (length c.fields) c.fields f.0.1.1.1.1.0);
@@ -242,7 +262,7 @@ kind_sort_fits : (servers : ℕ) (k : ClassKind) → first_ok servers k ≡ true
 kind_sort_fits servers kinds.Plain h = ((lit< tt, refl), h)
 kind_sort_fits servers _ h = ((lit< tt, refl), h)
 
-class_fits : (version : Version) (classes natives servers : ℕ) (c : ClassDecl) → classes ≤ 256 → natives ≤ 16 → first_ok servers c.kind ≡ true → ClassFits classes natives c
+class_fits : (version : Version) (classes natives servers : ℕ) (c : ClassDecl) → classes ≤ 256 → natives ≤ 16 → first_ok servers c.kind ≡ true → ClassFits version classes natives c
     → ParentFits version classes c.kind c.parent → (class version classes natives servers).Fits c
 class_fits version classes natives servers c few some_natives first h above = (
   (
@@ -252,7 +272,7 @@ class_fits version classes natives servers c few some_natives first h above = (
       (
         limited_byte_fits 0 8 (length c.fields) (lit< tt) (omega arith) h.field_count,
         (
-          kind_fits classes natives c.kind few some_natives h.kind,
+          kind_fits version classes natives c.kind few some_natives h.kind,
           (
             fit_all (thing classes) c.fields (each (ThingFits classes) (thing classes).Fits c.fields (λ t k. thing_number_fits classes t few k) h.fields),
             ((h.budget, h.budgeted), parent_fits version c.kind classes c.parent few above),
@@ -278,21 +298,21 @@ count-cons c cs = sum_by-cons (λ x. cond (is_server x) 1 0) c cs
 
 -- what is known of the classes that were read
 record ClassesIn (version : Version) (classes natives servers : ℕ) (cs : List ClassDecl) : Type 0 where
-  each : All (ClassFits classes natives) cs
+  each : All (ClassFits version classes natives) cs
   parents : All (λ c. ParentFits version classes c.kind c.parent) cs
   few : servers + count_by is_server cs ≤ 8
 
 classes_in : (version : Version) (classes natives n servers : ℕ) (cs : List ClassDecl) → servers ≤ 8 → FitEach (class version classes natives) count_server servers n cs
     → ClassesIn version classes natives servers cs
 classes_in version classes natives _ servers _ low no_more = record {
-  each = All-nil (ClassFits classes natives);
+  each = All-nil (ClassFits version classes natives);
   parents = All-nil (λ c. ParentFits version classes c.kind c.parent);
   few = omega arith;
 }
 classes_in version classes natives _ servers _ low (one_more {n = n} c cs fit more) =
     let first = first_in servers c.kind fit.0.0.1 in
     let rest = classes_in version classes natives n (count_server servers c) cs (next_low (is_server c) servers low first) more in record {
-      each = All-cons (ClassFits classes natives) c cs (class_in_range version classes natives servers c fit) rest.each;
+      each = All-cons (ClassFits version classes natives) c cs (class_in_range version classes natives servers c fit) rest.each;
       parents = All-cons (λ c. ParentFits version classes c.kind c.parent) c cs (parent_in version c.kind classes c.parent fit.0.1.1.1.1.1.1) rest.parents;
       few = omega (arith, rest.few, next_is (is_server c) servers, count-cons c cs);
     }
@@ -300,15 +320,15 @@ classes_in version classes natives _ servers _ low (one_more {n = n} c cs fit mo
 some_server : (b : Bool) (servers n : ℕ) → servers + (cond b 1 0 + n) ≤ 8 → b ≡ true → servers < 8
 some_server b servers n h is = omega (arith, ap {B = ℕ} (λ c. cond c 1 0) is)
 
-classes_fit : (version : Version) (classes natives servers : ℕ) (cs : List ClassDecl) → classes ≤ 256 → natives ≤ 16 → All (ClassFits classes natives) cs
+classes_fit : (version : Version) (classes natives servers : ℕ) (cs : List ClassDecl) → classes ≤ 256 → natives ≤ 16 → All (ClassFits version classes natives) cs
     → All (λ c. ParentFits version classes c.kind c.parent) cs → servers + count_by is_server cs ≤ 8 → FitMany (class version classes natives) count_server servers (length cs) cs
 classes_fit version classes natives servers [] few some_natives h parents low = tt
 classes_fit version classes natives servers (c ∷ cs) few some_natives h parents low =
     let count = count-cons c cs in
     let next = next_is (is_server c) servers in (
       class_fits version classes natives servers c few some_natives (first_fits servers c.kind (some_server (is_server c) servers (count_by is_server cs) (omega arith)))
-          (head_of (ClassFits classes natives) c cs h) (head_of (λ c. ParentFits version classes c.kind c.parent) c cs parents),
-      classes_fit version classes natives (count_server servers c) cs few some_natives (rest_of (ClassFits classes natives) c cs h)
+          (head_of (ClassFits version classes natives) c cs h) (head_of (λ c. ParentFits version classes c.kind c.parent) c cs parents),
+      classes_fit version classes natives (count_server servers c) cs few some_natives (rest_of (ClassFits version classes natives) c cs h)
           (rest_of (λ c. ParentFits version classes c.kind c.parent) c cs parents) (omega arith),
     )
 
@@ -341,9 +361,9 @@ gives_small : (g : Gives) → gives_byte g ≤ 4
 gives_small gives.Nothing = lit≤ tt
 gives_small _ = lit≤ tt
 
-method_in_range : (version : Version) (classes methods : ℕ) (m : Method) → (method version classes methods).Fits m → MethodFits classes methods m
+method_in_range : (version : Version) (classes methods : ℕ) (m : Method) → (method version classes methods).Fits m → MethodFits version classes methods m
 method_in_range version classes methods m f =
-    let l = limits classes methods (length m.code) in
+    let l = limits version classes methods (length m.code) in
     let places = between_true 1 1024 (length m.code) f.0.1.1.1.1.1.1.1.1.1.0.1 in
     record {
       class = class_in classes (class_number m.class) m.class f.0.0.1;
@@ -359,10 +379,10 @@ method_in_range version classes methods m f =
       code = each (instruction l).Fits (InstrFits l) m.code (λ i h. in_range l i h) (all_fit (instruction l) (length m.code) m.code f.0.1.1.1.1.1.1.1.1.1.1.1);
     }
 
-method_fits : (version : Version) (classes methods : ℕ) (m : Method) → classes ≤ 256 → methods ≤ 1024 → MethodFits classes methods m → OverFits version methods m.over
+method_fits : (version : Version) (classes methods : ℕ) (m : Method) → classes ≤ 256 → methods ≤ 1024 → MethodFits version classes methods m → OverFits version methods m.over
     → (method version classes methods).Fits m
 method_fits version classes methods m few some_methods h overs =
-    let l = limits classes methods (length m.code) in
+    let l = limits version classes methods (length m.code) in
     let bounded : Bounded l = record { classes = few; methods = some_methods; places = h.code_length } in
     let small = gives_small m.gives in (
       (
@@ -411,8 +431,8 @@ version_fits versions.Two = (lit< tt, refl)
 -- the parts of an image that was read are in their ranges
 pub record InRange (i : Image) : Type 0 where
   pub header : HeaderFits (length i.classes) i.header
-  pub classes : ClassesFit i.header.natives i.classes
-  pub methods : MethodsFit (length i.classes) i.methods
+  pub classes : ClassesFit i.header.version i.header.natives i.classes
+  pub methods : MethodsFit i.header.version (length i.classes) i.methods
   pub families : FamiliesFit i.header.version i.classes i.methods
 
 pub image_in_range : (i : Image) → image.Fits i → InRange i
@@ -435,7 +455,7 @@ image_in_range i f =
       methods = record {
         some = (between_true 1 1024 methods o.1.0.1).0;
         count = (between_true 1 1024 methods o.1.0.1).1;
-        each = each (method v classes methods).Fits (MethodFits classes methods) i.methods (λ m h. method_in_range v classes methods m h) ms;
+        each = each (method v classes methods).Fits (MethodFits v classes methods) i.methods (λ m h. method_in_range v classes methods m h) ms;
       };
       families = record {
         parents = cs.parents;
@@ -443,7 +463,7 @@ image_in_range i f =
       };
     }
 
-pub image_fits : (i : Image) → HeaderFits (length i.classes) i.header → ClassesFit i.header.natives i.classes → MethodsFit (length i.classes) i.methods → FamiliesFit i.header.version i.classes i.methods → image.Fits i
+pub image_fits : (i : Image) → HeaderFits (length i.classes) i.header → ClassesFit i.header.version i.header.natives i.classes → MethodsFit i.header.version (length i.classes) i.methods → FamiliesFit i.header.version i.classes i.methods → image.Fits i
 image_fits i header cs ms families =
     let v = i.header.version in
     let classes = length i.classes in

@@ -1,11 +1,11 @@
 -- The two laws of each format of an image, from those of its parts.
 use Rattle.std.proofs.lemmas.Option.{same_Some}
-use Rattle.std.proofs.Common.{◌≡◌, ℕ, zero, suc, ◌-◌, ◌<◌, ◌≤◌, Bool, true, false, cond, eqb, ltb, leb, List, [], ◌∷◌, length, Option, Some, None, Result, Ok, refl, sym, ap, subst, ◌∙◌, arith, eqb-true, lit<, ◌&&◌}
+use Rattle.std.proofs.Common.{◌≡◌, ℕ, zero, suc, ◌-◌, ◌<◌, ◌≤◌, Bool, true, false, cond, eqb, ltb, leb, List, [], ◌∷◌, length, Option, Some, None, Result, Ok, refl, sym, ap, subst, ◌∙◌, arith, eqb-true, lit<, lit≤, ◌&&◌}
 use Rattle.std.proofs.lemmas.Bool.{leb-true, le-leb, and_parts}
 use Rattle.aom_image.specs.Image.{Image}
 use Rattle.std.specs.List.{find}
 use Rattle.aom_instructions.proofs.Again.{making_parts_again}
-use Rattle.aom_instructions.specs.Mnemonics.{with_opcode}
+use Rattle.aom_instructions.specs.Mnemonics.{is_in, with_opcode}
 use Rattle.aom_instructions.specs.Parts.{mnemonic, operands}
 use Rattle.aom_instructions.specs.Rows.{mnemonics, row}
 use Rattle.aom_instructions.specs.declared.kinds.Kinds.{Kinds}
@@ -18,13 +18,13 @@ use Rattle.aom_codec.specs.Codec.{Codec, byte, pair, quad, nothing, fixed, alway
 use Rattle.aom_codec.specs.Instructions.{all_operands, instruction, known, large_operand, opcode, small_operand}
 use Rattle.aom_codec.specs.Spelling.{provider_sort, native_number}
 use Rattle.aom_instructions.specs.Fits.{limits}
-use Rattle.aom_codec.specs.Format.{class_from, class_or_none, version, untold, of_family, parent_from, parent, over, thing, argument, opening_fields, opening, provider_from, provider, no_session, bare, session_class, active_part, active_provider, server_part, server_numbers, kind, budget, kind_sort, class_parts, class, count_server, role, flags, states, result_sort, gives_from, result, method_parts, method, image_parts, opening_of, image}
+use Rattle.aom_codec.specs.Format.{class_from, class_or_none, version, untold, of_family, parent_from, parent, over, thing, argument, opening_fields, opening, last_provider, provider_from, provider, no_session, bare, session_class, active_part, active_provider, server_part, server_numbers, kind, budget, kind_sort, class_parts, class, count_server, role, flags, states, result_sort, gives_from, result, method_parts, method, image_parts, opening_of, image}
 use Rattle.aom_codec.specs.declared.fault.LoadFault.{LoadFault}
-use Rattle.aom_codec.specs.declared.fault.LoadFault.TheVariants.{BadMagic, LimitPassed, NotZero}
+use Rattle.aom_codec.specs.declared.fault.LoadFault.TheVariants.{BadMagic, BadOpcode, LimitPassed, NotZero}
 use Rattle.aom_instructions.specs.declared.limits.Limits.{Limits}
 use Rattle.aom_codec.specs.declared.header.Opening.{Opening}
-use Rattle.aom_image.specs.declared.image.Version.{Version}
-use Rattle.aom_image.specs.declared.image.Version.TheVariants as versions
+use Rattle.aom_instructions.specs.declared.version.Version.{Version}
+use Rattle.aom_instructions.specs.declared.version.Version.TheVariants as versions
 use Rattle.aom_image.specs.declared.class.ClassDecl.{ClassDecl}
 use Rattle.aom_image.specs.declared.class.ClassKind.{ClassKind}
 use Rattle.aom_image.specs.declared.class.ClassKind.TheVariants as kinds
@@ -32,7 +32,7 @@ use Rattle.aom_image.specs.declared.class.Provider.{Provider}
 use Rattle.aom_image.specs.declared.method.Method.{Method}
 use Rattle.aom_image.specs.declared.method.Gives.{Gives}
 use Rattle.aom_instructions.specs.declared.instr.Instr.{Instr}
-use Rattle.aom_codec.proofs.Laws.{IsCodec, ok_is, of_byte, of_pair, of_quad, of_nothing, of_fixed, of_checked, of_next, of_after, of_seen, of_choose, of_many_from, of_many, of_unused, unused_fits, FitEach, fit_each, no_more, one_more}
+use Rattle.aom_codec.proofs.Laws.{IsCodec, guard_ok, ok_is, of_byte, of_pair, of_quad, of_nothing, of_fixed, of_checked, of_next, of_after, of_seen, of_choose, of_many_from, of_many, of_unused, unused_fits, FitEach, fit_each, no_more, one_more}
 use Rattle.aom_codec.proofs.Returning.{version_returns, parent_returns, index_returns, class_returns, thing_returns, argument_returns, role_returns, flags_returns, states_returns, gives_returns, result_number_returns}
 use Rattle.aom_codec.proofs.InstructionFits.{operands_in_range}
 use Rattle.aom_codec.proofs.OperandLaws.{large_reads, small_reads}
@@ -88,12 +88,18 @@ opening_laws = of_seen _ _ opening_fields
 pair_is : {A B : Type 0} {a a1 : A} {b b1 : B} → a ≡ a1 → b ≡ b1 → ◌≡◌ {A = A × B} (a, b) (a1, b1)
 pair_is p q = cc
 
-provider_back : (natives sort n : ℕ) → sort ≤ 2 → cond (eqb sort 2) (ltb n natives) (eqb n 0) ≡ true
+provider_back : (natives sort n : ℕ) → sort ≤ 3 → cond (eqb sort 2) (ltb n natives) (eqb n 0) ≡ true
     → ◌≡◌ {A = ℕ × ℕ} (provider_sort (provider_from sort n), native_number (provider_from sort n)) (sort, n)
 provider_back natives zero n low h = pair_is refl (sym (eqb-true n 0 h))
 provider_back natives (suc zero) n low h = pair_is refl (sym (eqb-true n 0 h))
 provider_back natives (suc (suc zero)) n low h = refl
-provider_back natives (suc (suc (suc k))) n low h = absurd (omega arith)
+provider_back natives (suc (suc (suc zero))) n low h = pair_is refl (sym (eqb-true n 0 h))
+provider_back natives (suc (suc (suc (suc k)))) n low h = absurd (omega arith)
+
+-- each version has four sorts at most
+few_providers : (version : Version) → last_provider version ≤ 3
+few_providers versions.One = lit≤ tt
+few_providers versions.Two = lit≤ tt
 
 pub between_true : (low high n : ℕ) → is_between low high n ≡ true → (low ≤ n) × (n ≤ high)
 between_true low high n h = let p = and_parts (leb low n) (leb n high) h in (leb-true _ _ p.0, leb-true _ _ p.1)
@@ -101,12 +107,12 @@ between_true low high n h = let p = and_parts (leb low n) (leb n high) h in (leb
 pub between_is : (low high n : ℕ) → low ≤ n → n ≤ high → is_between low high n ≡ true
 between_is low high n p q = ap (λ b. b && leb n high) (le-leb low n p) ∙ le-leb n high q
 
-provider_laws : (natives : ℕ) → IsCodec (provider natives)
-provider_laws natives = of_seen _ _ _
+provider_laws : (version : Version) (natives : ℕ) → IsCodec (provider version natives)
+provider_laws version natives = of_seen _ _ _
     (record {
       at = λ x y fits e.
           ap (λ (p : Provider). (provider_sort p, native_number p)) (sym (ok_is _ y e))
-          ∙ provider_back natives x.0 x.1 (between_true 0 2 x.0 fits.0.1).1 fits.1.1;
+          ∙ provider_back natives x.0 x.1 (omega (arith, (between_true 0 (last_provider version) x.0 fits.0.1).1, few_providers version)) fits.1.1;
     })
     (of_next _ _ (of_checked _ _ _ of_byte) (λ sort. of_checked _ _ _ of_byte))
 
@@ -119,8 +125,8 @@ bare_laws = of_after (unused 3 byte NotZero) _ (unused_fits 3 byte NotZero) (of_
 session_class_laws : (classes : ℕ) → IsCodec (session_class classes)
 session_class_laws classes = of_seen _ _ pair (record { at = λ x y fits e. (index_returns classes x y e).0 }) of_pair
 
-active_part_laws : (natives : ℕ) → IsCodec (active_part natives)
-active_part_laws natives = of_next _ _ (provider_laws natives) (λ _. of_after (fixed byte 0 NotZero) _ tt (fixed_byte_laws _ _ (lit< tt)) no_session_laws)
+active_part_laws : (version : Version) (natives : ℕ) → IsCodec (active_part version natives)
+active_part_laws version natives = of_next _ _ (provider_laws version natives) (λ _. of_after (fixed byte 0 NotZero) _ tt (fixed_byte_laws _ _ (lit< tt)) no_session_laws)
 
 server_part_laws : (classes : ℕ) → IsCodec (server_part classes)
 server_part_laws classes =
@@ -130,11 +136,11 @@ server_part_laws classes =
 abbrev active_only : ClassKind → Provider × Unit {0}
 active_only k = (active_provider k, tt)
 
-kind_laws : (classes natives sort : ℕ) → IsCodec (kind classes natives sort)
-kind_laws classes natives sort =
+kind_laws : (version : Version) (classes natives sort : ℕ) → IsCodec (kind version classes natives sort)
+kind_laws version classes natives sort =
     of_choose (eqb sort 0) _ _ (of_seen (λ _. Ok kinds.Plain) (λ _. tt) bare (record { at = λ x y fits e. refl }) bare_laws)
-    (of_choose (eqb sort 1) _ _ (of_seen (λ p. Ok (kinds.Active p.0)) (λ k. (active_provider k, tt)) (active_part natives)
-    (record { at = λ x y fits e. ap active_only (sym (ok_is (kinds.Active x.0) y e)) }) (active_part_laws natives))
+    (of_choose (eqb sort 1) _ _ (of_seen (λ p. Ok (kinds.Active p.0)) (λ k. (active_provider k, tt)) (active_part version natives)
+    (record { at = λ x y fits e. ap active_only (sym (ok_is (kinds.Active x.0) y e)) }) (active_part_laws version natives))
     (of_choose (eqb sort 2) _ _ (of_seen (λ p. Ok (kinds.Server p.0 p.1)) server_numbers (server_part classes)
     (record { at = λ x y fits e. ap server_numbers (sym (ok_is (kinds.Server x.0 x.1) y e)) }) (server_part_laws classes))
     (of_seen (λ _. Ok kinds.Session) (λ _. tt) bare (record { at = λ x y fits e. refl }) bare_laws)))
@@ -166,18 +172,18 @@ class_parts_laws version classes natives servers =
     of_next _ _ (kind_sort_laws servers) (λ sort.
     of_next _ _ (limited_laws byte 0 8 of_byte) (λ _.
     of_next _ _ (limited_laws byte 0 8 of_byte) (λ count.
-    of_next _ _ (kind_laws classes natives sort) (λ k.
+    of_next _ _ (kind_laws version classes natives sort) (λ k.
     of_next _ _ (of_many count (thing classes) (thing_laws classes)) (λ _.
     of_after (unused (8 - count) pair NotZero) _ (unused_fits (8 - count) pair NotZero) (of_unused (8 - count) pair NotZero of_pair (lit< tt))
     (of_next _ _ (budget_laws k) (λ _. parent_laws version k classes)))))))
 
 -- the kind that was read is of the byte before it
-kind_of_byte : (classes natives sort : ℕ) (k : ClassKind) → sort ≤ 3 → (kind classes natives sort).Fits k → kind_byte k ≡ sort
-kind_of_byte classes natives zero k small fits = ap kind_byte (sym (ok_is _ k fits.1))
-kind_of_byte classes natives (suc zero) k small fits = ap kind_byte (sym (ok_is _ k fits.1))
-kind_of_byte classes natives (suc (suc zero)) k small fits = ap kind_byte (sym (ok_is _ k fits.1))
-kind_of_byte classes natives (suc (suc (suc zero))) k small fits = ap kind_byte (sym (ok_is _ k fits.1))
-kind_of_byte classes natives (suc (suc (suc (suc n)))) k small fits = absurd (omega arith)
+kind_of_byte : (version : Version) (classes natives sort : ℕ) (k : ClassKind) → sort ≤ 3 → (kind version classes natives sort).Fits k → kind_byte k ≡ sort
+kind_of_byte version classes natives zero k small fits = ap kind_byte (sym (ok_is _ k fits.1))
+kind_of_byte version classes natives (suc zero) k small fits = ap kind_byte (sym (ok_is _ k fits.1))
+kind_of_byte version classes natives (suc (suc zero)) k small fits = ap kind_byte (sym (ok_is _ k fits.1))
+kind_of_byte version classes natives (suc (suc (suc zero))) k small fits = ap kind_byte (sym (ok_is _ k fits.1))
+kind_of_byte version classes natives (suc (suc (suc (suc n)))) k small fits = absurd (omega arith)
 
 pub many_length : {S X : Type 0} (c : S → Codec X) (add : S → X → S) (s : S) (n : ℕ) (xs : List X) → FitMany c add s n xs → length xs ≡ n
 many_length {S} {X} c add s n xs fits = by_each s n xs (fit_each c add s n xs fits)
@@ -191,7 +197,7 @@ class_laws version classes natives servers = of_seen _ _ (class_parts version cl
     (record {
       at = λ x y fits e.
           let small : x.0 ≤ 3 = (between_true 0 3 x.0 fits.0.0.1).1 in
-          let sort_is = kind_of_byte classes natives x.0 x.1.1.1.0 small fits.1.1.1.0 in
+          let sort_is = kind_of_byte version classes natives x.0 x.1.1.1.0 small fits.1.1.1.0 in
           let count_is = many_length (always (thing classes)) keep tt x.1.1.0 x.1.1.1.1.0 fits.1.1.1.1.0 in
           ap (λ (c : ClassDecl). (kind_byte c.kind, (c.words, (length c.fields, (c.kind, (c.fields, (c.budget, c.parent))))))) (sym (ok_is _ y e))
           ∙ pair_is sort_is (pair_is refl (pair_is count_is refl));
@@ -219,12 +225,13 @@ found_passes {X} p (y ∷ ys) x e =
       | false ↦ λ is found. found_passes p ys x found
     ] refl e
 
-known_ok : (o : Option Mnemonic) (m : Mnemonic) → known o ≡ Ok m → o ≡ Some m
-known_ok o m e = some_given (λ o. known o ≡ Ok m) o e (λ f. cc) (λ k same f. same ∙ ap Some (ok_is k m f))
+known_ok : (version : Version) (o : Option Mnemonic) (m : Mnemonic) → known version o ≡ Ok m → o ≡ Some m
+known_ok version o m e =
+    some_given (λ o. known version o ≡ Ok m) o e (λ f. cc) (λ k same f. same ∙ ap Some (guard_ok (is_in version k) BadOpcode k m f).1)
 
-opcode_laws : IsCodec opcode
-opcode_laws = of_seen _ _ byte
-    (record { at = λ n m fits e. eqb-true _ _ (found_passes (λ k. eqb (row k).opcode n) mnemonics m (known_ok (with_opcode n) m e)) })
+opcode_laws : (version : Version) → IsCodec (opcode version)
+opcode_laws version = of_seen _ _ byte
+    (record { at = λ n m fits e. eqb-true _ _ (found_passes (λ k. eqb (row k).opcode n) mnemonics m (known_ok version (with_opcode n) m e)) })
     of_byte
 
 instruction_laws : (l : Limits) → IsCodec (instruction l)
@@ -234,7 +241,7 @@ instruction_laws l = of_seen _ _ _
           let again = making_parts_again l x.0 x.1 (operands_in_range l (row x.0).kinds x.1 fits.1) in
           ap (λ (i : Instr). (mnemonic i, operands i)) (sym (ok_is _ y e)) ∙ pair_is again.0 again.1;
     })
-    (of_next _ _ opcode_laws (λ m. operands_laws l (row m).kinds))
+    (of_next _ _ (opcode_laws l.version) (λ m. operands_laws l (row m).kinds))
 
 -- ---- methods
 
@@ -271,7 +278,7 @@ method_parts_laws version classes methods =
     (of_next _ _ (result_laws classes sort) (λ _.
     of_next _ _ (limited_laws pair 1 1024 of_pair) (λ places.
     of_next _ _ (over_laws version methods) (λ _.
-    of_many places (instruction (limits classes methods places)) (instruction_laws (limits classes methods places))))))))))))))
+    of_many places (instruction (limits version classes methods places)) (instruction_laws (limits version classes methods places))))))))))))))
 
 method_laws : (version : Version) (classes methods : ℕ) → IsCodec (method version classes methods)
 method_laws version classes methods = of_seen _ _ (method_parts version classes methods)
@@ -283,7 +290,7 @@ method_laws version classes methods = of_seen _ _ (method_parts version classes 
           let sort_is = (gives_returns classes sort (result_number gives) gives small fits.1.1.1.1.1.1.1.1.0.1).1 in
           let count_is = many_length (always (argument classes)) keep tt x.1.1.1.1.1.0 x.1.1.1.1.1.1.1.0 fits.1.1.1.1.1.1.1.0 in
           let places = x.1.1.1.1.1.1.1.1.1.0 in
-          let places_is = many_length (always (instruction (limits classes methods places))) keep tt places x.1.1.1.1.1.1.1.1.1.1.1 fits.1.1.1.1.1.1.1.1.1.1.1 in
+          let places_is = many_length (always (instruction (limits version classes methods places))) keep tt places x.1.1.1.1.1.1.1.1.1.1.1 fits.1.1.1.1.1.1.1.1.1.1.1 in
           ap (λ (m : Method). (m.class, (m.role, (m.flags, (m.before, (m.after, (length m.arguments, (gives_byte m.gives, (m.arguments, (m.gives, (length m.code, (m.over, m.code)))))))))))) (sym (ok_is _ y e))
           ∙ pair_is refl (pair_is refl (pair_is refl (pair_is refl (pair_is refl (pair_is count_is (pair_is sort_is (pair_is refl (pair_is refl (pair_is places_is refl)))))))));
     })

@@ -1,8 +1,9 @@
 -- An instruction fits its format exactly where its operands are of the kinds that its row asks, each in its range.
-use Rattle.std.proofs.Common.{◌<◌, Ok, refl, ap, lit<}
+use Rattle.std.proofs.Common.{◌≡◌, ◌∙◌, ◌<◌, Err, Ok, Result, cond, refl, sym, true, ap, lit<}
 use Rattle.aom_instructions.proofs.Again.{parts_make_again, rows_are_one}
 use Rattle.aom_instructions.specs.Operands.{OperandsFit}
 use Rattle.aom_instructions.specs.Parts.{mnemonic, operands}
+use Rattle.aom_instructions.specs.Mnemonics.{is_in, with_opcode}
 use Rattle.aom_instructions.specs.Rows.{row}
 use Rattle.aom_instructions.specs.Fits.{InstrFits}
 use Rattle.aom_instructions.specs.declared.instr.Instr.{Instr}
@@ -11,8 +12,12 @@ use Rattle.aom_instructions.specs.declared.limits.Limits.{Limits}
 use Rattle.aom_instructions.specs.declared.mnemonic.Mnemonic.{Mnemonic}
 use Rattle.aom_instructions.specs.declared.mnemonic.Mnemonic.TheVariants as m
 use Rattle.aom_instructions.specs.declared.operand.Operands.{Operands}
+use Rattle.aom_instructions.specs.declared.version.Version.{Version}
 use Rattle.aom_codec.specs.Instructions.{Bounded, all_operands, instruction, known, opcode}
 use Rattle.aom_codec.specs.Spelling.{large_number, small_byte}
+use Rattle.aom_codec.specs.declared.fault.LoadFault.{LoadFault}
+use Rattle.aom_codec.specs.declared.fault.LoadFault.TheVariants.{BadOpcode}
+use Rattle.aom_codec.proofs.Laws.{guard_ok}
 use Rattle.aom_codec.proofs.OperandLaws.{large_reads, large_takes, small_reads, small_takes}
 
 pub operands_in_range : (l : Limits) (k : Kinds) (o : Operands) → (all_operands l k).Fits o → OperandsFit l k o
@@ -30,11 +35,22 @@ opcode_is_byte : (m : Mnemonic) → (row m).opcode < 256
 opcode_is_byte m.Const = lit< tt
 opcode_is_byte _ = lit< tt
 
-opcode_fits : (m : Mnemonic) → opcode.Fits m
-opcode_fits m = (opcode_is_byte m, ap known (rows_are_one m).0)
+-- the opcode of a mnemonic stands for it where the version has it
+known_is : (version : Version) (m : Mnemonic) → known version (with_opcode (row m).opcode) ≡ cond (is_in version m) (Ok m) (Err BadOpcode)
+known_is version m = ap (known version) (rows_are_one m).0
+
+opcode_fits : (version : Version) (m : Mnemonic) → is_in version m ≡ true → (opcode version).Fits m
+opcode_fits version m h = (opcode_is_byte m, known_is version m ∙ ap (λ b. cond b (okay m) (Err BadOpcode)) h)
+  where
+    okay : Mnemonic → Result Mnemonic LoadFault
+    okay k = Ok k
 
 pub in_range : (l : Limits) (i : Instr) → (instruction l).Fits i → InstrFits l i
-in_range l i f = operands_in_range l (row (mnemonic i)).kinds (operands i) f.0.1
+in_range l i f = record {
+  version = (guard_ok (is_in l.version (mnemonic i)) BadOpcode (mnemonic i) (mnemonic i) (sym (known_is l.version (mnemonic i)) ∙ f.0.0.1)).0;
+  operands = operands_in_range l (row (mnemonic i)).kinds (operands i) f.0.1;
+}
 
 pub fits : (l : Limits) (i : Instr) → Bounded l → InstrFits l i → (instruction l).Fits i
-fits l i few h = ((opcode_fits (mnemonic i), operands_fit l (row (mnemonic i)).kinds (operands i) few h), ap (λ j. Ok j) (parts_make_again i))
+fits l i few h =
+    ((opcode_fits l.version (mnemonic i) h.version, operands_fit l (row (mnemonic i)).kinds (operands i) few h.operands), ap (λ j. Ok j) (parts_make_again i))

@@ -6,9 +6,10 @@ use Rattle.aom_image.specs.Image.{Image}
 use Rattle.aom_image.specs.declared.class.ClassDecl.{ClassDecl}
 use Rattle.aom_image.specs.declared.method.Method.{Method}
 use Rattle.aom_codec.specs.Spelling.{pair, quad, unused_pairs, thing_number, argument_number, result_number, family_bytes, class, method, instruction, spell}
-use Rattle.aom_image.specs.WellFormed.{ClassesFit, MethodsFit, family_bytes as family_size, spelled_size}
-use Rattle.aom_image.specs.declared.image.Version.{Version}
-use Rattle.aom_image.specs.declared.image.Version.TheVariants as versions
+use Rattle.aom_image.specs.WellFormed.{ClassesFit, MethodsFit, spelled_size}
+use Rattle.aom_instructions.specs.Versions.{family_bytes as family_size}
+use Rattle.aom_instructions.specs.declared.version.Version.{Version}
+use Rattle.aom_instructions.specs.declared.version.Version.TheVariants as versions
 
 pub head_of : {X : Type 0} (P : X → Type 0) (x : X) (xs : List X) → All P (x ∷ xs) → P x
 head_of P x xs h = h 0 x (omega arith)
@@ -70,7 +71,7 @@ length_method version m le =
       sum_by-constant 8 m.code,
     )
 
-pub length_spell : (i : Image) → ClassesFit i.header.natives i.classes → MethodsFit (length i.classes) i.methods
+pub length_spell : (i : Image) → ClassesFit i.header.version i.header.natives i.classes → MethodsFit i.header.version (length i.classes) i.methods
     → length (spell i) ≡ spelled_size i.header.version (length i.classes) i.methods
 length_spell i classes methods =
     let v = i.header.version in

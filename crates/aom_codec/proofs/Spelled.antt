@@ -8,8 +8,8 @@ use Rattle.aom_instructions.specs.Fits.{limits}
 use Rattle.aom_codec.specs.Format.{thing, argument, class, count_server, parent, over, method, image}
 use Rattle.aom_codec.specs.declared.fault.LoadFault.TheVariants.{NotZero}
 use Rattle.aom_instructions.specs.declared.limits.Limits.{Limits}
-use Rattle.aom_image.specs.declared.image.Version.{Version}
-use Rattle.aom_image.specs.declared.image.Version.TheVariants as versions
+use Rattle.aom_instructions.specs.declared.version.Version.{Version}
+use Rattle.aom_instructions.specs.declared.version.Version.TheVariants as versions
 use Rattle.aom_image.specs.declared.class.ClassDecl.{ClassDecl}
 use Rattle.aom_image.specs.declared.class.ClassKind.{ClassKind}
 use Rattle.aom_image.specs.declared.class.ClassKind.TheVariants as kinds
@@ -63,6 +63,7 @@ class_spelled version classes natives servers kind above words fields budget = e
     ended (kinds.Active providers.Own) = ap (λ t. front (kinds.Active providers.Own) (behind t)) (parent_spelled version (kinds.Active providers.Own) classes above)
     ended (kinds.Active providers.Timer) = ap (λ t. front (kinds.Active providers.Timer) (behind t)) (parent_spelled version (kinds.Active providers.Timer) classes above)
     ended (kinds.Active (providers.Native n)) = ap (λ t. front (kinds.Active (providers.Native n)) (behind t)) (parent_spelled version (kinds.Active (providers.Native n)) classes above)
+    ended (kinds.Active providers.Token) = ap (λ t. front (kinds.Active providers.Token) (behind t)) (parent_spelled version (kinds.Active providers.Token) classes above)
     ended (kinds.Server sessions session) = ap (λ t. front (kinds.Server sessions session) (behind t)) (parent_spelled version (kinds.Server sessions session) classes above)
     ended kinds.Session = ap (λ t. front kinds.Session (behind t)) (parent_spelled version kinds.Session classes above)
 
@@ -79,14 +80,14 @@ method_spelled : (version : Version) (classes methods : ℕ) (m : Method) → (m
 method_spelled version classes methods m =
     let front = λ (t : List ℕ). text.pair (text.class_number m.class) ++ (text.role_number m.role ∷ m.flags.0 ∷ m.before.0 ∷ m.after.0 ∷ length m.arguments ∷ text.gives_byte m.gives ∷ t) in
     let last = λ (family t : List ℕ). text.pair (text.result_number m.gives) ++ (text.pair (length m.code) ++ (family ++ t)) in
-    let code = spell_many (always (instruction (limits classes methods (length m.code)))) keep tt m.code in
+    let code = spell_many (always (instruction (limits version classes methods (length m.code)))) keep tt m.code in
     let arguments = flat_map (λ a. text.pair (text.argument_number a)) m.arguments in
     let family = (over version methods).spell m.over in
     let n = 6 - length m.arguments in
     ap (λ t. front (t ++ ((unused n pair NotZero).spell tt ++ last family code))) (arguments_spelled classes m.arguments)
     ∙ ap (λ t. front (arguments ++ (t ++ last family code))) (unused_spelled n)
     ∙ ap (λ t. front (arguments ++ (text.unused_pairs n ++ last t code))) (over_spelled version methods m.over)
-    ∙ ap (λ t. front (arguments ++ (text.unused_pairs n ++ last (text.family_bytes version m.over) t))) (code_spelled (limits classes methods (length m.code)) m.code)
+    ∙ ap (λ t. front (arguments ++ (text.unused_pairs n ++ last (text.family_bytes version m.over) t))) (code_spelled (limits version classes methods (length m.code)) m.code)
 
 pub image_spelled : (i : Image) → image.spell i ≡ text.spell i
 image_spelled i =

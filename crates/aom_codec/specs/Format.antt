@@ -10,8 +10,8 @@ use Rattle.aom_codec.specs.declared.fault.LoadFault.{LoadFault}
 use Rattle.aom_codec.specs.declared.fault.LoadFault.TheVariants.{BadMagic, BadVersion, Trailing, LimitPassed, BadOperand, BadIndex, NotZero}
 use Rattle.aom_codec.specs.declared.header.Opening.{Opening}
 use Rattle.aom_image.specs.declared.class.ClassDecl.{ClassDecl}
-use Rattle.aom_image.specs.declared.image.Version.{Version}
-use Rattle.aom_image.specs.declared.image.Version.TheVariants as versions
+use Rattle.aom_instructions.specs.declared.version.Version.{Version}
+use Rattle.aom_instructions.specs.declared.version.Version.TheVariants as versions
 use Rattle.aom_image.specs.declared.class.ClassKind.{ClassKind}
 use Rattle.aom_image.specs.declared.class.ClassKind.TheVariants as kinds
 use Rattle.aom_image.specs.declared.class.Provider.{Provider}
@@ -102,18 +102,26 @@ opening = seen
 
 -- ---- classes
 
--- the provider of a sort from 0 to 2
+-- the last sort of provider that a version has
+abbrev pub last_provider : Version → ℕ
+last_provider versions.One = 2
+last_provider versions.Two = 3
+
+-- the sort of a provider
+abbrev pub sort_of_provider : Version → Codec ℕ
+sort_of_provider version = checked byte (is_between 0 (last_provider version)) BadOperand
+
+-- the provider of a sort from 0 to 3
 abbrev pub provider_from : ℕ → ℕ → Provider
-provider_from sort n = if sort == 0 then providers.Own else if sort == 1 then providers.Timer else providers.Native n
+provider_from sort n = if sort == 0 then providers.Own else if sort == 1 then providers.Timer else if sort == 2 then providers.Native n else providers.Token
 
 -- the number of a native, or nothing
 abbrev pub native : ℕ → ℕ → Codec ℕ
 native natives sort = checked byte (λ n. if sort == 2 then nat_lt n natives else n == 0) (if sort == 2 then BadIndex else NotZero)
 
 -- the provider of an active class
-abbrev pub provider : ℕ → Codec Provider
-provider natives = seen (λ p. Ok (provider_from p.0 p.1)) (λ p. (provider_sort p, native_number p))
-    (next (checked byte (is_between 0 2) BadOperand) (native natives))
+abbrev pub provider : Version → ℕ → Codec Provider
+provider version natives = seen (λ p. Ok (provider_from p.0 p.1)) (λ p. (provider_sort p, native_number p)) (next (sort_of_provider version) (native natives))
 
 -- no class of sessions
 abbrev pub no_session : Codec (Unit {0})
@@ -128,8 +136,8 @@ abbrev pub session_class : ℕ → Codec ℕ
 session_class classes = seen (index_from classes) (λ c. c) pair
 
 -- what stands between the counts and the fields of an active class
-abbrev pub active_part : ℕ → Codec (Provider × Unit {0})
-active_part natives = next (provider natives) (λ _. after (fixed byte 0 NotZero) no_session)
+abbrev pub active_part : Version → ℕ → Codec (Provider × Unit {0})
+active_part version natives = next (provider version natives) (λ _. after (fixed byte 0 NotZero) no_session)
 
 -- the same of a server
 abbrev pub server_part : ℕ → Codec (ℕ × ℕ)
@@ -146,10 +154,10 @@ server_numbers (kinds.Server sessions session) = (sessions, session)
 server_numbers _ = (0, 0)
 
 -- what stands between the counts and the fields, by the kind's byte
-abbrev pub kind : ℕ → ℕ → ℕ → Codec ClassKind
-kind classes natives sort =
+abbrev pub kind : Version → ℕ → ℕ → ℕ → Codec ClassKind
+kind version classes natives sort =
     choose (sort == 0) (seen (λ _. Ok kinds.Plain) (λ _. tt) bare) (
-    choose (sort == 1) (seen (λ p. Ok (kinds.Active p.0)) (λ k. (active_provider k, tt)) (active_part natives)) (
+    choose (sort == 1) (seen (λ p. Ok (kinds.Active p.0)) (λ k. (active_provider k, tt)) (active_part version natives)) (
     choose (sort == 2) (seen (λ p. Ok (kinds.Server p.0 p.1)) server_numbers (server_part classes))
     (seen (λ _. Ok kinds.Session) (λ _. tt) bare)))
 
@@ -189,7 +197,7 @@ class_parts version classes natives servers =
     next (kind_sort servers) (λ sort.
     next (limited byte 0 8) (λ _.
     next (limited byte 0 8) (λ count.
-    next (kind classes natives sort) (λ k.
+    next (kind version classes natives sort) (λ k.
     next (many count (thing classes)) (λ _.
     after (unused (8 - count) pair NotZero) (
     next (budget k) (λ _.
@@ -267,7 +275,7 @@ method_parts version classes methods =
     next (result classes sort) (λ _.
     next (limited pair 1 1024) (λ places.
     next (over version methods) (λ _.
-    many places (instruction (limits classes methods places))))))))))))))
+    many places (instruction (limits version classes methods places))))))))))))))
 
 -- a method and its code
 abbrev pub method : Version → ℕ → ℕ → Codec Method

@@ -5,7 +5,7 @@ use Rattle.aom_codec.specs.Codec.{Codec, byte, quad, next, seen}
 use Rattle.aom_codec.specs.Spelling.{small_byte, large_number}
 use Rattle.aom_codec.specs.declared.fault.LoadFault.{LoadFault}
 use Rattle.aom_codec.specs.declared.fault.LoadFault.TheVariants.{BadOpcode, BadOperand, BadIndex, NotZero}
-use Rattle.aom_instructions.specs.Mnemonics.{with_opcode}
+use Rattle.aom_instructions.specs.Mnemonics.{is_in, with_opcode}
 use Rattle.aom_instructions.specs.Parts.{make, mnemonic, operands, operands_of}
 use Rattle.aom_instructions.specs.Rows.{row}
 use Rattle.aom_instructions.specs.declared.instr.Instr.{Instr}
@@ -22,6 +22,7 @@ use Rattle.aom_instructions.specs.declared.operand.Large.TheVariants as large
 use Rattle.aom_instructions.specs.declared.operand.Operands.{Operands}
 use Rattle.aom_instructions.specs.declared.operand.Small.{Small}
 use Rattle.aom_instructions.specs.declared.operand.Small.TheVariants as small
+use Rattle.aom_instructions.specs.declared.version.Version.{Version}
 
 -- limits that an image can have
 pub record Bounded (l : Limits) : Type 0 where
@@ -78,15 +79,15 @@ abbrev pub all_operands : Limits → Kinds → Codec Operands
 all_operands l k = seen (λ p. Ok (operands_of p.0 p.1.0 p.1.1.0 p.1.1.1)) (λ o. (o.a, (o.b, (o.c, o.d))))
     (next (small_operand k.a) (λ _. next (small_operand k.b) (λ _. next (small_operand k.c) (λ _. large_operand l k.d))))
 
--- an opcode that has a row
-abbrev pub known : Option Mnemonic → Result Mnemonic LoadFault
-known None = Err BadOpcode
-known (Some m) = Ok m
+-- an opcode that has a row in that version
+abbrev pub known : Version → Option Mnemonic → Result Mnemonic LoadFault
+known version None = Err BadOpcode
+known version (Some m) = if is_in version m then Ok m else Err BadOpcode
 
 -- the opcode
-abbrev pub opcode : Codec Mnemonic
-opcode = seen (λ n. known (with_opcode n)) (λ m. (row m).opcode) byte
+abbrev pub opcode : Version → Codec Mnemonic
+opcode version = seen (λ n. known version (with_opcode n)) (λ m. (row m).opcode) byte
 
 -- an opcode and what its row asks
 abbrev pub instruction : Limits → Codec Instr
-instruction l = seen (λ p. Ok (make p.0 p.1)) (λ i. (mnemonic i, operands i)) (next opcode (λ m. all_operands l (row m).kinds))
+instruction l = seen (λ p. Ok (make p.0 p.1)) (λ i. (mnemonic i, operands i)) (next (opcode l.version) (λ m. all_operands l (row m).kinds))

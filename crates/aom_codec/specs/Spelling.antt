@@ -4,8 +4,8 @@ use Rattle.std.specs.Int.{w16, w32, cast_unsigned, to_be_bytes}
 use Rattle.aom_image.specs.Image.{Image}
 unfoldable pub use Rattle.aom_image.specs.Roles.{role_number}
 use Rattle.aom_image.specs.declared.image.Header.{Header}
-use Rattle.aom_image.specs.declared.image.Version.{Version}
-use Rattle.aom_image.specs.declared.image.Version.TheVariants as versions
+use Rattle.aom_instructions.specs.declared.version.Version.{Version}
+use Rattle.aom_instructions.specs.declared.version.Version.TheVariants as versions
 use Rattle.aom_image.specs.declared.class.ClassDecl.{ClassDecl}
 use Rattle.aom_image.specs.declared.class.ClassKind.{ClassKind}
 use Rattle.aom_image.specs.declared.class.ClassKind.TheVariants as kinds
@@ -95,11 +95,12 @@ kind_byte (kinds.Active provider) = 1
 kind_byte (kinds.Server sessions session) = 2
 kind_byte kinds.Session = 3
 
--- the provider of a native class has its number beside it
+-- the sort of a provider
 abbrev pub provider_sort : Provider → ℕ
 provider_sort providers.Own = 0
 provider_sort providers.Timer = 1
 provider_sort (providers.Native n) = 2
+provider_sort providers.Token = 3
 
 -- the provider, of active classes alone
 abbrev pub provider_byte : ClassKind → ℕ

@@ -1,6 +1,6 @@
 //! Classes, as they are read.
 ghost use Rattle.std.specs.Prelude.{◌≡◌, ◌≤◌, ◌<◌, ◌+◌};
-ghost use Rattle.aom_codec.specs.Format.{thing_from, thing, provider, bare, kind, budget, parent_from, parent, kind_sort, class, no_session, active_part, server_part, count_server};
+ghost use Rattle.aom_codec.specs.Format.{thing_from, thing, last_provider, sort_of_provider, provider, bare, kind, budget, parent_from, parent, kind_sort, class, no_session, active_part, server_part, count_server};
 ghost use Rattle.aom_codec.specs.Reads.{Reads, ReadsOrNoMemory};
 ghost use Rattle.aom_codec.specs.Codec.{many, many_from};
 
@@ -20,6 +20,16 @@ fn count_server(servers: u16, class: &ClassDecl) -> u16
         servers + 1
     } else {
         servers
+    }
+}
+
+/// The last sort of provider that a version has.
+fn last_provider(version: Version) -> u8
+    ensures { result ≡ last_provider version }
+{
+    match version {
+        Version::One => 2,
+        Version::Two => 3,
     }
 }
 
@@ -53,11 +63,20 @@ impl<'a> Reader<'a> {
         thing_of(self.pair()?, classes)
     }
 
-    fn provider(&mut self, natives: u8) -> Result<Provider, LoadFault>
-        requires { natives ≤ 16 }
-        ensures { Reads (λ x. (x, self.new)) result ((provider natives).read self.old) }
+    fn provider_sort(&mut self, version: Version) -> Result<u8, LoadFault>
+        ensures { Reads (λ x. (x, self.new)) result ((sort_of_provider version).read self.old) }
     {
         match self.byte()? {
+            sort if sort <= last_provider(version) => Ok(sort),
+            _ => Err(LoadFault::BadOperand),
+        }
+    }
+
+    fn provider(&mut self, version: Version, natives: u8) -> Result<Provider, LoadFault>
+        requires { natives ≤ 16 }
+        ensures { Reads (λ x. (x, self.new)) result ((provider version natives).read self.old) }
+    {
+        match self.provider_sort(version)? {
             0 => {
                 self.fixed_byte(0, LoadFault::NotZero)?;
                 Ok(Provider::Own)
@@ -70,7 +89,10 @@ impl<'a> Reader<'a> {
                 Some(native) if native.number() < natives => Ok(Provider::Native(native)),
                 _ => Err(LoadFault::BadIndex),
             },
-            _ => Err(LoadFault::BadOperand),
+            _ => {
+                self.fixed_byte(0, LoadFault::NotZero)?;
+                Ok(Provider::Token)
+            }
         }
     }
 
@@ -89,11 +111,11 @@ impl<'a> Reader<'a> {
         self.no_session()
     }
 
-    fn active(&mut self, natives: u8) -> Result<Provider, LoadFault>
+    fn active(&mut self, version: Version, natives: u8) -> Result<Provider, LoadFault>
         requires { natives ≤ 16 }
-        ensures { Reads (λ x. ((x, tt), self.new)) result ((active_part natives).read self.old) }
+        ensures { Reads (λ x. ((x, tt), self.new)) result ((active_part version natives).read self.old) }
     {
-        let provider = self.provider(natives)?;
+        let provider = self.provider(version, natives)?;
         self.fixed_byte(0, LoadFault::NotZero)?;
         self.no_session()?;
         Ok(provider)
@@ -111,10 +133,16 @@ impl<'a> Reader<'a> {
     }
 
     /// What stands between the counts and the fields.
-    fn kind(&mut self, sort: u8, classes: u16, natives: u8) -> Result<ClassKind, LoadFault>
+    fn kind(
+        &mut self,
+        version: Version,
+        sort: u8,
+        classes: u16,
+        natives: u8,
+    ) -> Result<ClassKind, LoadFault>
         requires classes { classes ≤ 256 }
         requires natives { natives ≤ 16 }
-        ensures { Reads (λ x. (x, self.new)) result ((kind classes natives sort).read self.old) }
+        ensures { Reads (λ x. (x, self.new)) result ((kind version classes natives sort).read self.old) }
     {
         match sort {
             0 => {
@@ -122,7 +150,7 @@ impl<'a> Reader<'a> {
                 Ok(ClassKind::Plain)
             }
             1 => {
-                let provider = self.active(natives)?;
+                let provider = self.active(version, natives)?;
                 Ok(ClassKind::Active { provider })
             }
             2 => {
@@ -206,7 +234,7 @@ impl<'a> Reader<'a> {
         let sort = self.kind_sort(servers)?;
         let words = self.limited_byte(0, 8)?;
         let count = self.limited_byte(0, 8)?;
-        let kind = self.kind(sort, classes, natives)?;
+        let kind = self.kind(version, sort, classes, natives)?;
         let fields = self.things(alloc, count, classes)?;
         self.unused_pairs(8 - count)?;
         let mut class = ClassDecl {

@@ -79,6 +79,7 @@ fn provider_and_number(kind: ClassKind) -> (u8, u8)
             Provider::Own => (0, 0),
             Provider::Timer => (1, 0),
             Provider::Native(native) => (2, native.number()),
+            Provider::Token => (3, 0),
         },
         ClassKind::Server { sessions, .. } => (0, sessions),
     }

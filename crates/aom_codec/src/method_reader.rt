@@ -186,6 +186,7 @@ impl<'a> Reader<'a> {
         let length = self.limited_pair(1, 1024)?;
         let over = self.over(version, methods)?;
         let limits = Limits {
+            version,
             classes: classes as usize,
             methods: methods as usize,
             places: length as usize,

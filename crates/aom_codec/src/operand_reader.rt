@@ -7,7 +7,8 @@ use crate::LoadFault;
 use crate::reader::Reader;
 use aom_image::{
     ClassNumber, EntryDepth, FieldIndex, Instr, Kinds, Large, LargeKind, Limits, LoopDepth,
-    MethodNumber, Mnemonic, Operands, Place, Register, Small, SmallKind, Target, WordIndex,
+    MethodNumber, Mnemonic, Operands, Place, Register, Small, SmallKind, Target, Version,
+    WordIndex,
 };
 
 /// What a call is made on, by the halves of a byte.
@@ -95,12 +96,12 @@ impl<'a> Reader<'a> {
         Ok(Operands { a, b, c, d })
     }
 
-    fn opcode(&mut self) -> Result<Mnemonic, LoadFault>
-        ensures { Reads (λ x. (x, self.new)) result (opcode.read self.old) }
+    fn opcode(&mut self, version: Version) -> Result<Mnemonic, LoadFault>
+        ensures { Reads (λ x. (x, self.new)) result ((opcode version).read self.old) }
     {
         match Mnemonic::with_opcode(self.byte()?) {
-            Some(mnemonic) => Ok(mnemonic),
-            None => Err(LoadFault::BadOpcode),
+            Some(mnemonic) if mnemonic.is_in(version) => Ok(mnemonic),
+            _ => Err(LoadFault::BadOpcode),
         }
     }
 
@@ -112,7 +113,7 @@ impl<'a> Reader<'a> {
         let _small: Option<Small> = None;
         let _large: Option<Large> = None;
         let _target: Option<Target> = None;
-        let mnemonic = self.opcode()?;
+        let mnemonic = self.opcode(limits.version)?;
         let row = mnemonic.row();
         let operands = self.operands(row.kinds(), limits)?;
         Ok(Instr::make(mnemonic, operands))

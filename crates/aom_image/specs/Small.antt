@@ -4,7 +4,7 @@ use Rattle.aom_instructions.specs.declared.instr.Instr.{Instr}
 use Rattle.aom_image.specs.declared.class.ClassDecl.{ClassDecl}
 use Rattle.aom_image.specs.declared.class.ClassKind.{ClassKind}
 use Rattle.aom_image.specs.declared.image.Header.{Header}
-use Rattle.aom_image.specs.declared.image.Version.TheVariants.{One}
+use Rattle.aom_instructions.specs.declared.version.Version.TheVariants.{One}
 use Rattle.aom_image.specs.declared.method.Argument.{Argument}
 use Rattle.aom_image.specs.declared.method.Gives.{Gives}
 use Rattle.aom_image.specs.declared.method.Method.{Method}

@@ -2,9 +2,10 @@
 use Rattle.std.specs.Prelude.{◌≡◌, ℕ, ◌+◌, ◌*◌, ◌<◌, ◌≤◌, ◌^◌, ◌||◌, ◌==◌, Bool, true, false, List, length, All, count_by, sum_by, Option, Some, None, IfSome}
 use Rattle.aom_image.specs.Image.{Image}
 use Rattle.aom_instructions.specs.Fits.{InstrFits, limits}
+use Rattle.aom_instructions.specs.Versions.{family_bytes, has_families, includes}
 use Rattle.aom_image.specs.declared.image.Header.{Header}
-use Rattle.aom_image.specs.declared.image.Version.{Version}
-use Rattle.aom_image.specs.declared.image.Version.TheVariants as versions
+use Rattle.aom_instructions.specs.declared.version.Version.{Version}
+use Rattle.aom_instructions.specs.declared.version.Version.TheVariants.{Two}
 use Rattle.aom_image.specs.declared.class.ClassDecl.{ClassDecl}
 use Rattle.aom_image.specs.declared.class.ClassKind.{ClassKind}
 use Rattle.aom_image.specs.declared.class.ClassKind.TheVariants as kinds
@@ -25,18 +26,19 @@ abbrev pub ThingFits : ℕ → Thing → Type 0
 ThingFits classes (Object c) = c < classes
 ThingFits classes Message = Unit {0}
 
--- a native is one of those that the image names
-abbrev pub ProviderFits : ℕ → Provider → Type 0
-ProviderFits natives providers.Own = Unit {0}
-ProviderFits natives providers.Timer = Unit {0}
-ProviderFits natives (providers.Native n) = n < natives
+-- a native is one of those that the image names, and the first version has no tokens
+abbrev pub ProviderFits : Version → ℕ → Provider → Type 0
+ProviderFits version natives providers.Own = Unit {0}
+ProviderFits version natives providers.Timer = Unit {0}
+ProviderFits version natives (providers.Native n) = n < natives
+ProviderFits version natives providers.Token = includes version Two ≡ true
 
--- a kind of class, beside so many classes and natives
-abbrev pub KindFits : ℕ → ℕ → ClassKind → Type 0
-KindFits classes natives kinds.Plain = Unit {0}
-KindFits classes natives (kinds.Active provider) = ProviderFits natives provider
-KindFits classes natives (kinds.Server sessions session) = (1 ≤ sessions) × (sessions ≤ 64) × (session < classes)
-KindFits classes natives kinds.Session = Unit {0}
+-- a kind of class, in an image of that version beside so many classes and natives
+abbrev pub KindFits : Version → ℕ → ℕ → ClassKind → Type 0
+KindFits version classes natives kinds.Plain = Unit {0}
+KindFits version classes natives (kinds.Active provider) = ProviderFits version natives provider
+KindFits version classes natives (kinds.Server sessions session) = (1 ≤ sessions) × (sessions ≤ 64) × (session < classes)
+KindFits version classes natives kinds.Session = Unit {0}
 
 -- objects of such a class are dispatched, and each dispatch has a budget
 abbrev pub is_dispatched : ClassKind → Bool
@@ -49,9 +51,9 @@ is_dispatched kinds.Session = false
 abbrev pub may_declare : ClassKind → ℕ → Bool
 may_declare kind budget = is_dispatched kind || (budget == 0)
 
--- a class, beside so many classes and natives
-pub record ClassFits (classes natives : ℕ) (c : ClassDecl) : Type 0 where
-  pub kind : KindFits classes natives c.kind
+-- a class, in an image of that version beside so many classes and natives
+pub record ClassFits (version : Version) (classes natives : ℕ) (c : ClassDecl) : Type 0 where
+  pub kind : KindFits version classes natives c.kind
   pub words : c.words ≤ 8
   pub field_count : length c.fields ≤ 8
   pub fields : All (ThingFits classes) c.fields
@@ -84,8 +86,8 @@ GivesFits classes (gives.Own t) = ThingFits classes t
 GivesFits classes (gives.Maybe t) = ThingFits classes t
 GivesFits classes (gives.Left c) = c < classes
 
--- a method, beside so many classes and methods
-pub record MethodFits (classes methods : ℕ) (m : Method) : Type 0 where
+-- a method, in an image of that version beside so many classes and methods
+pub record MethodFits (version : Version) (classes methods : ℕ) (m : Method) : Type 0 where
   pub class : IfSome m.class (λ c. c < classes)
   pub flags : m.flags.0 < 4
   pub before : m.before.0 < 64
@@ -95,14 +97,9 @@ pub record MethodFits (classes methods : ℕ) (m : Method) : Type 0 where
   pub gives : GivesFits classes m.gives
   pub some_code : 1 ≤ length m.code
   pub code_length : length m.code ≤ 1024
-  pub code : All (InstrFits (limits classes methods (length m.code))) m.code
+  pub code : All (InstrFits (limits version classes methods (length m.code))) m.code
 
 -- ---- families
-
--- the first version has no parents and no overriders
-abbrev pub has_families : Version → Bool
-has_families versions.One = false
-has_families versions.Two = true
 
 -- servers and sessions have no parents
 abbrev pub may_descend : ClassKind → Bool
@@ -126,11 +123,6 @@ pub record FamiliesFit (version : Version) (classes : List ClassDecl) (methods :
   pub parents : All (λ c. ParentFits version (length classes) c.kind c.parent) classes
   pub overs : All (λ m. OverFits version (length methods) m.over) methods
 
--- four bytes more of a class and of a method tell of them
-abbrev pub family_bytes : Version → ℕ
-family_bytes versions.One = 0
-family_bytes versions.Two = 4
-
 -- ---- the whole
 
 -- a header, beside so many classes
@@ -141,17 +133,17 @@ pub record HeaderFits (classes : ℕ) (h : Header) : Type 0 where
   pub root : IfSome h.root (λ c. c < classes)
   pub budget : h.budget < 2 ^ 32
 
--- the classes, beside so many natives
-pub record ClassesFit (natives : ℕ) (classes : List ClassDecl) : Type 0 where
+-- the classes of an image of that version, beside so many natives
+pub record ClassesFit (version : Version) (natives : ℕ) (classes : List ClassDecl) : Type 0 where
   pub count : length classes ≤ 256
-  pub each : All (ClassFits (length classes) natives) classes
+  pub each : All (ClassFits version (length classes) natives) classes
   pub servers : count_by is_server classes ≤ 8
 
--- the methods, beside so many classes
-pub record MethodsFit (classes : ℕ) (methods : List Method) : Type 0 where
+-- its methods, beside so many classes
+pub record MethodsFit (version : Version) (classes : ℕ) (methods : List Method) : Type 0 where
   pub some : 1 ≤ length methods
   pub count : length methods ≤ 1024
-  pub each : All (MethodFits classes (length methods)) methods
+  pub each : All (MethodFits version classes (length methods)) methods
 
 -- how many bytes so many classes and these methods take: 24 for the header, 28 a class, 24 a method and 8 an instruction, and what tells of families
 abbrev pub spelled_size : Version → ℕ → List Method → ℕ
@@ -160,7 +152,7 @@ spelled_size version classes methods = 24 + (28 + family_bytes version) * classe
 -- an image with every field in its range
 pub record WellFormed (i : Image) : Type 0 where
   pub header : HeaderFits (length i.classes) i.header
-  pub classes : ClassesFit i.header.natives i.classes
-  pub methods : MethodsFit (length i.classes) i.methods
+  pub classes : ClassesFit i.header.version i.header.natives i.classes
+  pub methods : MethodsFit i.header.version (length i.classes) i.methods
   pub families : FamiliesFit i.header.version i.classes i.methods
   pub size : spelled_size i.header.version (length i.classes) i.methods ≤ 2 ^ 20

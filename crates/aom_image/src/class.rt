@@ -9,6 +9,8 @@ pub enum Provider {
     Own,
     Timer,
     Native(NativeNumber),
+    /// A token that the object hands out, where somebody replies to it.
+    Token,
 }
 
 /// What a class is for.

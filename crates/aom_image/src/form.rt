@@ -51,21 +51,22 @@ fn gives_fits(gives: Gives, classes: usize) -> bool
     }
 }
 
-fn provider_fits(provider: Provider, natives: u8) -> bool
-    ensures { IsTrue result ↔ ProviderFits natives provider }
+fn provider_fits(provider: Provider, version: Version, natives: u8) -> bool
+    ensures { IsTrue result ↔ ProviderFits version natives provider }
 {
     match provider {
         Provider::Own | Provider::Timer => true,
         Provider::Native(native) => native.number() < natives,
+        Provider::Token => version.includes(Version::Two),
     }
 }
 
-fn kind_fits(kind: ClassKind, classes: usize, natives: u8) -> bool
-    ensures { IsTrue result ↔ KindFits classes natives kind }
+fn kind_fits(kind: ClassKind, version: Version, classes: usize, natives: u8) -> bool
+    ensures { IsTrue result ↔ KindFits version classes natives kind }
 {
     match kind {
         ClassKind::Plain | ClassKind::Session => true,
-        ClassKind::Active { provider } => provider_fits(provider, natives),
+        ClassKind::Active { provider } => provider_fits(provider, version, natives),
         ClassKind::Server { sessions, session } => {
             1 <= sessions && sessions <= 64 && class_fits(session, classes)
         }
@@ -78,11 +79,11 @@ fn fields_fit(fields: &[Thing], classes: usize) -> bool
     fields.iter().all(|field| thing_fits(*field, classes))
 }
 
-fn class_ok(class: &ClassDecl, classes: usize, natives: u8) -> bool
-    ensures { IsTrue result ↔ ClassFits classes natives class.now }
+fn class_ok(class: &ClassDecl, version: Version, classes: usize, natives: u8) -> bool
+    ensures { IsTrue result ↔ ClassFits version classes natives class.now }
 {
     let fields = class.fields.as_slice();
-    kind_fits(class.kind, classes, natives)
+    kind_fits(class.kind, version, classes, natives)
         && class.words <= 8
         && fields.len() <= 8
         && fields_fit(fields, classes)
@@ -118,10 +119,11 @@ fn code_fits(code: &[Instr], limits: Limits) -> bool
     code.iter().all(|instr| fits(instr, limits))
 }
 
-fn method_ok(method: &Method, classes: usize, methods: usize) -> bool
-    ensures { IsTrue result ↔ MethodFits classes methods method.now }
+fn method_ok(method: &Method, version: Version, classes: usize, methods: usize) -> bool
+    ensures { IsTrue result ↔ MethodFits version classes methods method.now }
 {
     let limits = Limits {
+        version,
         classes,
         methods,
         places: method.code.len(),
@@ -168,10 +170,12 @@ pub fn spelled_len(version: Version, classes: usize, methods: &[Method]) -> usiz
     len
 }
 
-fn each_class_ok(classes: &[ClassDecl], count: usize, natives: u8) -> bool
-    ensures { IsTrue result ↔ All (ClassFits count natives) classes.now }
+fn each_class_ok(classes: &[ClassDecl], version: Version, count: usize, natives: u8) -> bool
+    ensures { IsTrue result ↔ All (ClassFits version count natives) classes.now }
 {
-    classes.iter().all(|class| class_ok(class, count, natives))
+    classes
+        .iter()
+        .all(|class| class_ok(class, version, count, natives))
 }
 
 /// How many of the classes are of servers.
@@ -187,26 +191,28 @@ fn servers_in(classes: &[ClassDecl]) -> usize
     count
 }
 
-fn classes_ok(classes: &[ClassDecl], natives: u8) -> bool
-    ensures { IsTrue result ↔ ClassesFit natives classes.now }
+fn classes_ok(classes: &[ClassDecl], version: Version, natives: u8) -> bool
+    ensures { IsTrue result ↔ ClassesFit version natives classes.now }
 {
     classes.len() <= 256
-        && each_class_ok(classes, classes.len(), natives)
+        && each_class_ok(classes, version, classes.len(), natives)
         && servers_in(classes) <= 8
 }
 
-fn each_method_ok(methods: &[Method], classes: usize, count: usize) -> bool
-    ensures { IsTrue result ↔ All (MethodFits classes count) methods.now }
+fn each_method_ok(methods: &[Method], version: Version, classes: usize, count: usize) -> bool
+    ensures { IsTrue result ↔ All (MethodFits version classes count) methods.now }
 {
     methods
         .iter()
-        .all(|method| method_ok(method, classes, count))
+        .all(|method| method_ok(method, version, classes, count))
 }
 
-fn methods_ok(methods: &[Method], classes: usize) -> bool
-    ensures { IsTrue result ↔ MethodsFit classes methods.now }
+fn methods_ok(methods: &[Method], version: Version, classes: usize) -> bool
+    ensures { IsTrue result ↔ MethodsFit version classes methods.now }
 {
-    1 <= methods.len() && methods.len() <= 1024 && each_method_ok(methods, classes, methods.len())
+    1 <= methods.len()
+        && methods.len() <= 1024
+        && each_method_ok(methods, version, classes, methods.len())
 }
 
 fn parents_fit(classes: &[ClassDecl], version: Version, count: usize) -> bool
@@ -233,12 +239,13 @@ fn families_ok(version: Version, classes: &[ClassDecl], methods: &[Method]) -> b
 pub fn form_ok(header: &Header, classes: &[ClassDecl], methods: &[Method]) -> bool
     ensures { IsTrue result ↔ WellFormed (record { header = header.now; classes = classes.now; methods = methods.now }) }
 {
+    let version = header.version;
     if !header_ok(header, classes.len())
-        || !classes_ok(classes, header.natives)
-        || !methods_ok(methods, classes.len())
-        || !families_ok(header.version, classes, methods)
+        || !classes_ok(classes, version, header.natives)
+        || !methods_ok(methods, version, classes.len())
+        || !families_ok(version, classes, methods)
     {
         return false;
     }
-    spelled_len(header.version, classes.len(), methods) <= 1 << 20
+    spelled_len(version, classes.len(), methods) <= 1 << 20
 }

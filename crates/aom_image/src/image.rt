@@ -1,41 +1,8 @@
 //! A whole image.
-ghost use Rattle.std.specs.Prelude.{◌≡◌, ◌≤◌};
+ghost use Rattle.std.specs.Prelude.{◌≡◌};
 
-use crate::{ClassDecl, ClassNumber, Items, Method};
+use crate::{ClassDecl, ClassNumber, Items, Method, Version};
 use std::marker::Model;
-
-/// Which of the two formats an image has.
-#[derive(Clone, Copy)]
-pub enum Version {
-    One,
-    /// Its classes may have parents, and its methods may override others.
-    Two,
-}
-
-impl Version {
-    ghost use Rattle.aom_image.specs.WellFormed.{has_families, family_bytes};
-
-    /// Whether an image of that version may have parents and overriders.
-    pub fn has_families(self) -> bool
-        ensures { result ≡ has_families self }
-    {
-        match self {
-            Version::One => false,
-            Version::Two => true,
-        }
-    }
-
-    /// How many bytes of a class and of a method tell of families.
-    pub fn family_bytes(self) -> usize
-        ensures value { result ≡ family_bytes self }
-        ensures small { result ≤ 4 }
-    {
-        match self {
-            Version::One => 0,
-            Version::Two => 4,
-        }
-    }
-}
 
 /// What an image says of the whole program.
 #[derive(Clone, Copy)]

@@ -10,10 +10,10 @@ mod method;
 pub use aom_instructions::{
     ClassNumber, EntryDepth, FieldIndex, Instr, Kinds, Large, LargeKind, Limits, LoopDepth,
     MethodNumber, Mnemonic, NativeNumber, Operands, Order, Place, Register, Row, Small, SmallKind,
-    Target, WordIndex, instructions_and_rows,
+    Target, Version, WordIndex, instructions_and_rows,
 };
 pub use class::{ClassDecl, ClassKind, Provider};
 pub use form::{form_ok, spelled_len};
-pub use image::{Header, Image, Version};
+pub use image::{Header, Image};
 pub use items::Items;
 pub use method::{Argument, Gives, Method, MethodFlags, Role, States, Thing};

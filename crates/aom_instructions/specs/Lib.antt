@@ -1,3 +1,4 @@
+pub mod Versions
 pub mod Operands
 pub mod Parts
 pub mod Rows

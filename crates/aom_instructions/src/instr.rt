@@ -67,4 +67,5 @@ pub enum Instr {
     TakeMessage(Register),
     Reply(Register, Register),
     Stop,
+    Hand(Register),
 }

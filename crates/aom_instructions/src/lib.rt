@@ -1,7 +1,7 @@
-//! The instruction set: the numbers that instructions name, the instructions, and the table of their rows.
+//! The instruction set: the numbers that instructions name, the instructions, the versions of the format, and the table of their rows.
 //!
-//! An operand is a number with a range of its own. A row of the table has an instruction's opcode, its mnemonic and the kinds of its operands;
-//! `Instr::make` and its views are the two ways between an instruction and its parts, and `instructions_and_rows` says that they are
+//! An operand is a number with a range of its own. A row of the table has an instruction's opcode, its mnemonic, the kinds of its operands and
+//! the version from which on it is there; `Instr::make` and its views are the two ways between an instruction and its parts, and `instructions_and_rows` says that they are
 //! one. Whoever reads, spells or lists instructions goes over rows and kinds. This room knows nothing of images, bytes and texts.
 #![tactic(auto)]
 
@@ -13,6 +13,7 @@ mod mnemonic;
 mod operand;
 mod operands;
 mod parts;
+mod version;
 
 pub use instr::{Instr, Target};
 pub use kinds::{Kinds, LargeKind, Order, SmallKind};
@@ -24,3 +25,4 @@ pub use operands::{
     ClassNumber, EntryDepth, FieldIndex, LoopDepth, MethodNumber, NativeNumber, Place, Register,
     WordIndex,
 };
+pub use version::Version;

@@ -5,12 +5,13 @@ ghost use Rattle.aom_instructions.specs.Fits.{InstrFits};
 
 use crate::{
     ClassNumber, Instr, Kinds, Large, LargeKind, MethodNumber, Operands, Place, Small, SmallKind,
-    Target,
+    Target, Version,
 };
 
-/// The counts of classes, of methods and of the method's own instructions.
+/// The version of the image, and its counts of classes, of methods and of the method's own instructions.
 #[derive(Clone, Copy)]
 pub struct Limits {
+    pub version: Version,
     pub classes: usize,
     pub methods: usize,
     pub places: usize,
@@ -85,10 +86,10 @@ fn small_fits(kind: SmallKind, operand: Small) -> bool
     }
 }
 
-/// Whether an instruction has the operands that its row asks.
+/// Whether the version has an instruction, and it has the operands that its row asks.
 pub fn fits(instr: &Instr, limits: Limits) -> bool
     ensures { IsTrue result ↔ InstrFits limits instr.now }
 {
-    let kinds = instr.mnemonic().row().kinds();
-    limits.admit(kinds, &instr.operands())
+    let mnemonic = instr.mnemonic();
+    mnemonic.is_in(limits.version) && limits.admit(mnemonic.row().kinds(), &instr.operands())
 }

@@ -2,14 +2,14 @@
 ghost use Rattle.std.specs.Prelude.{◌≡◌, ◌==◌};
 ghost use Rattle.std.specs.List.{find};
 ghost use Rattle.std.specs.Str.{bytes_eq};
-ghost use Rattle.aom_instructions.specs.Rows.{mnemonics, row, kinds, call_kinds};
+ghost use Rattle.aom_instructions.specs.Rows.{mnemonics, row, line, kinds, call_kinds};
 ghost use Rattle.aom_instructions.specs.declared.kinds.SmallKind.TheVariants.{Register, Unused};
 ghost use Rattle.aom_instructions.specs.declared.kinds.LargeKind.TheVariants.{Nothing};
-ghost use Rattle.aom_instructions.specs.Mnemonics.{mnemonic_of, mnemonic_text, with_opcode};
+ghost use Rattle.aom_instructions.specs.Mnemonics.{is_in, mnemonic_of, mnemonic_text, with_opcode};
 
 use crate::LargeKind::{Class, Method, Nothing, Number, Place, Rounds};
 use crate::SmallKind::{CallTarget, Depth, Field, Register, TrapResult, Unused, Word};
-use crate::{Kinds, LargeKind, Order, SmallKind};
+use crate::{Kinds, LargeKind, Order, SmallKind, Version};
 use std::marker::Model;
 
 /// What an instruction is called, one for each instruction.
@@ -63,10 +63,11 @@ pub enum Mnemonic {
     TakeMessage,
     Reply,
     Stop,
+    Hand,
 }
 
 /// All of them.
-const MNEMONICS: [Mnemonic; 48] = [
+const MNEMONICS: [Mnemonic; 49] = [
     Mnemonic::Const,
     Mnemonic::Copy,
     Mnemonic::Move,
@@ -115,14 +116,16 @@ const MNEMONICS: [Mnemonic; 48] = [
     Mnemonic::TakeMessage,
     Mnemonic::Reply,
     Mnemonic::Stop,
+    Mnemonic::Hand,
 ];
 
-/// An instruction's opcode, what it is called in texts, and what its operands are.
+/// An instruction's opcode, what it is called in texts, what its operands are, and the version from which on it is there.
 #[derive(Drop)]
 pub struct Row {
     opcode: u8,
     text: &'static [u8],
     kinds: Kinds,
+    since: Version,
 }
 
 impl Model for Row {
@@ -130,7 +133,7 @@ impl Model for Row {
 
     ghost Value = { InstrRow };
 
-    ghost view = { λ r. record { opcode = r.opcode; text = r.text.now; kinds = r.kinds } };
+    ghost view = { λ r. record { opcode = r.opcode; text = r.text.now; kinds = r.kinds; since = r.since } };
 }
 
 impl Row {
@@ -142,61 +145,62 @@ impl Row {
         c: SmallKind,
         d: LargeKind,
     ) -> Row
-        ensures { result ≡ record { opcode = opcode; text = text.now; kinds = kinds a b c d } }
+        ensures { result ≡ line opcode text.now (kinds a b c d) }
     {
         let order = Order::LargeLast;
         Row {
             opcode,
             text,
             kinds: Kinds { a, b, c, d, order },
+            since: Version::One,
         }
     }
 
     /// No operands.
     fn of_none(opcode: u8, text: &'static [u8]) -> Row
-        ensures { result ≡ record { opcode = opcode; text = text.now; kinds = kinds Unused Unused Unused Nothing } }
+        ensures { result ≡ line opcode text.now (kinds Unused Unused Unused Nothing) }
     {
         Row::of(opcode, text, Unused, Unused, Unused, Nothing)
     }
 
     /// One small operand.
     fn of_one(opcode: u8, text: &'static [u8], a: SmallKind) -> Row
-        ensures { result ≡ record { opcode = opcode; text = text.now; kinds = kinds a Unused Unused Nothing } }
+        ensures { result ≡ line opcode text.now (kinds a Unused Unused Nothing) }
     {
         Row::of(opcode, text, a, Unused, Unused, Nothing)
     }
 
     /// Two small operands.
     fn of_two(opcode: u8, text: &'static [u8], a: SmallKind, b: SmallKind) -> Row
-        ensures { result ≡ record { opcode = opcode; text = text.now; kinds = kinds a b Unused Nothing } }
+        ensures { result ≡ line opcode text.now (kinds a b Unused Nothing) }
     {
         Row::of(opcode, text, a, b, Unused, Nothing)
     }
 
     /// Three registers.
     fn of_registers(opcode: u8, text: &'static [u8]) -> Row
-        ensures { result ≡ record { opcode = opcode; text = text.now; kinds = kinds Register Register Register Nothing } }
+        ensures { result ≡ line opcode text.now (kinds Register Register Register Nothing) }
     {
         Row::of(opcode, text, Register, Register, Register, Nothing)
     }
 
     /// A large operand.
     fn of_large(opcode: u8, text: &'static [u8], d: LargeKind) -> Row
-        ensures { result ≡ record { opcode = opcode; text = text.now; kinds = kinds Unused Unused Unused d } }
+        ensures { result ≡ line opcode text.now (kinds Unused Unused Unused d) }
     {
         Row::of(opcode, text, Unused, Unused, Unused, d)
     }
 
     /// A small operand and a large one.
     fn of_one_and_large(opcode: u8, text: &'static [u8], a: SmallKind, d: LargeKind) -> Row
-        ensures { result ≡ record { opcode = opcode; text = text.now; kinds = kinds a Unused Unused d } }
+        ensures { result ≡ line opcode text.now (kinds a Unused Unused d) }
     {
         Row::of(opcode, text, a, Unused, Unused, d)
     }
 
     /// What a call is made on, a method, the first argument and what becomes of the result.
     fn of_call(opcode: u8, text: &'static [u8], c: SmallKind) -> Row
-        ensures { result ≡ record { opcode = opcode; text = text.now; kinds = call_kinds c } }
+        ensures { result ≡ line opcode text.now (call_kinds c) }
     {
         let order = Order::LargeSecond;
         Row {
@@ -209,6 +213,19 @@ impl Row {
                 d: Method,
                 order,
             },
+            since: Version::One,
+        }
+    }
+
+    /// The row of an instruction that is there from that version on.
+    fn from_version(self, since: Version) -> Row
+        ensures { result ≡ record self { since = since } }
+    {
+        Row {
+            opcode: self.opcode,
+            text: self.text,
+            kinds: self.kinds,
+            since,
         }
     }
 
@@ -229,6 +246,12 @@ impl Row {
     {
         self.kinds
     }
+
+    pub fn since(&self) -> Version
+        ensures { result ≡ self.now.since }
+    {
+        self.since
+    }
 }
 
 impl Mnemonic {
@@ -236,6 +259,13 @@ impl Mnemonic {
         ensures { result.now ≡ mnemonic_text self }
     {
         self.row().text()
+    }
+
+    /// Whether an image of that version may have the instruction.
+    pub fn is_in(self, version: Version) -> bool
+        ensures { result ≡ is_in version self }
+    {
+        version.includes(self.row().since())
     }
 
     /// The mnemonic that a word is.
@@ -321,6 +351,7 @@ impl Mnemonic {
             Mnemonic::TakeMessage => Row::of_one(0x2e, b"takemsg", Register),
             Mnemonic::Reply => Row::of_two(0x2f, b"reply", Register, Register),
             Mnemonic::Stop => Row::of_none(0x30, b"stop"),
+            Mnemonic::Hand => Row::of_one(0x31, b"hand", Register).from_version(Version::Two),
         }
     }
 }

@@ -58,6 +58,7 @@ impl Instr {
             Instr::TakeMessage(..) => Mnemonic::TakeMessage,
             Instr::Reply(..) => Mnemonic::Reply,
             Instr::Stop => Mnemonic::Stop,
+            Instr::Hand(..) => Mnemonic::Hand,
         }
     }
 
@@ -106,7 +107,8 @@ impl Instr {
             | Instr::LeaveIf(a)
             | Instr::Status(a)
             | Instr::Connect(a)
-            | Instr::TakeMessage(a) => Operands::of_one(Small::Register(a)),
+            | Instr::TakeMessage(a)
+            | Instr::Hand(a) => Operands::of_one(Small::Register(a)),
             Instr::Load(a, b) => Operands::of_two(Small::Register(a), Small::Word(b)),
             Instr::Store(a, b) => Operands::of_two(Small::Word(a), Small::Register(b)),
             Instr::Take(a, b) => Operands::of_two(Small::Register(a), Small::Field(b)),
@@ -193,6 +195,7 @@ impl Instr {
             Mnemonic::TakeMessage => Instr::TakeMessage(first),
             Mnemonic::Reply => Instr::Reply(first, second),
             Mnemonic::Stop => Instr::Stop,
+            Mnemonic::Hand => Instr::Hand(first),
         }
     }
 }

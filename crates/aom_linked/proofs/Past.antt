@@ -12,11 +12,11 @@ use Rattle.aom_classes.specs.Overriding.{body_by, body_of, found_in, leads_to, o
 use Rattle.aom_linked.proofs.Rows.{other_class}
 use Rattle.aom_linked.proofs.Unoverridden.{none_passes}
 
-module _ (p : Image) (methods : ℕ) (fits : All (MethodFits (length p.classes) methods) p.methods) (c : ℕ) (past : length p.classes ≤ c) where
+module _ (p : Image) (methods : ℕ) (fits : All (MethodFits p.header.version (length p.classes) methods) p.methods) (c : ℕ) (past : length p.classes ≤ c) where
   -- it has nothing itself
   class_of : (k : ℕ) (d : Method) → slice_get p.methods k ≡ Some d → is_class c d.class ≡ false
   class_of k d at =
-      let fit = All-get_or (MethodFits (length p.classes) methods) p.methods k d (slice_get_within p.methods k d at) fits in
+      let fit = All-get_or (MethodFits p.header.version (length p.classes) methods) p.methods k d (slice_get_within p.methods k d at) fits in
       let same = get_or_from_slice_get p.methods k d d at in
       other_class (length p.classes) c d.class (rw (← same) fit.class) past
 

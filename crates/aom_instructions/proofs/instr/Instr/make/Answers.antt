@@ -139,3 +139,6 @@ returns-in-Reply c = rw (c.in-Reply.is, c.register-first.ensures, c.register-sec
 
 pub returns-in-Stop : goal.returns-in-Stop
 returns-in-Stop c = rw c.in-Stop.is refl
+
+pub returns-in-Hand : goal.returns-in-Hand
+returns-in-Hand c = rw (c.in-Hand.is, c.register-first.ensures) refl

@@ -25,5 +25,5 @@ returns c =
       rows = c.loop-class.invariant.rows;
       others = λ k r le.
           let past : length c.args.image.now.classes ≤ k = (let s = c.loop-class.invariant.size in let t = c.loop-class-test.false in omega (arith, s, t, count, le)) in
-          none_there c.args.image.now r k past (no_player _ _ k r c.args.image.now.methods well_formed.methods.each past);
+          none_there c.args.image.now r k past (no_player _ _ _ k r c.args.image.now.methods well_formed.methods.each past);
     }
