@@ -8,6 +8,7 @@ use Rattle.std.specs.Str.{bytes_eq}
 use Rattle.std.proofs.lemmas.Slice.Eq.{bytes_eq-Decides}
 use Rattle.aom_text.specs.declared.text.Statement.{Statement}
 use Rattle.aom_image.specs.declared.image.Header.{Header}
+use Rattle.aom_instructions.specs.declared.version.Version.{Version}
 use Rattle.aom_instructions.specs.declared.instr.Instr.{Instr}
 use Rattle.aom_syntax.specs.Headers.{image_statement}
 use Rattle.aom_syntax.specs.Keywords.{keyword_of, keyword_text, keywords}
@@ -148,11 +149,11 @@ module _ (scope : Scope) where
     method = names_none k.Method ws (λ n rest e. no_ok _ x (ap (image_statement scope) (sym e) ∙ is));
   }
 
-  module _ (labels : List (List ℕ)) (place : ℕ) where
-    pub code_silent : (ws : List (List ℕ)) (x : Instr × List (List ℕ)) → instruction scope labels place ws ≡ Ok x → Silent ws
+  module _ (version : Version) (labels : List (List ℕ)) (place : ℕ) where
+    pub code_silent : (ws : List (List ℕ)) (x : Instr × List (List ℕ)) → instruction scope version labels place ws ≡ Ok x → Silent ws
     code_silent ws x is = record {
-      class = names_none k.Class ws (λ n rest e. no_ok _ x (ap (instruction scope labels place) (sym e) ∙ is));
-      method = names_none k.Method ws (λ n rest e. no_ok _ x (ap (instruction scope labels place) (sym e) ∙ is));
+      class = names_none k.Class ws (λ n rest e. no_ok _ x (ap (instruction scope version labels place) (sym e) ∙ is));
+      method = names_none k.Method ws (λ n rest e. no_ok _ x (ap (instruction scope version labels place) (sym e) ∙ is));
     }
 
 -- what declares a class declares no method, and the other way round

@@ -13,5 +13,5 @@ pub reads_well : (text : List ℕ) (i : Image) → denoted text ≡ Ok i → Wel
 reads_well text i is =
     text_well (λ scope strict. (header_within scope strict).each)
     (λ scope version natives place servers. (class_within scope version natives place servers).each)
-    (λ natives scope version settled place. (heading_within natives scope version settled place).each)
-    (λ scope strict labels place. (instruction_within scope strict labels place).each) text i is
+    (λ before natives scope version settled place. (heading_within before natives scope version settled place).each)
+    (λ scope version strict labels place. (instruction_within scope version strict labels place).each) text i is

@@ -10,12 +10,13 @@ use Rattle.aom_text.specs.declared.fault.AsmFaultKind.{AsmFaultKind}
 use Rattle.aom_text.specs.declared.fault.AsmFaultKind.TheVariants.{BadShape, LimitPassed}
 use Rattle.aom_text.specs.declared.text.Statement.{Statement}
 use Rattle.aom_image.specs.Image.{Image}
-use Rattle.aom_image.specs.WellFormed.{ClassFits, ClassesFit, FamiliesFit, HeaderFits, MethodFits, MethodsFit, OverFits, ParentFits, WellFormed, family_bytes, is_server}
+use Rattle.aom_image.specs.WellFormed.{ClassFits, ClassesFit, FamiliesFit, HeaderFits, MethodFits, MethodsFit, OverFits, ParentFits, WellFormed, is_server}
+use Rattle.aom_instructions.specs.Versions.{family_bytes}
 use Rattle.aom_instructions.specs.Fits.{InstrFits, limits}
 use Rattle.aom_image.specs.declared.class.ClassDecl.{ClassDecl}
 use Rattle.aom_image.specs.declared.image.Header.{Header}
-use Rattle.aom_image.specs.declared.image.Version.{Version}
-use Rattle.aom_image.specs.declared.image.Version.TheVariants as versions
+use Rattle.aom_instructions.specs.declared.version.Version.{Version}
+use Rattle.aom_instructions.specs.declared.version.Version.TheVariants as versions
 use Rattle.aom_instructions.specs.declared.instr.Instr.{Instr}
 use Rattle.aom_image.specs.declared.method.Method.{Method}
 use Rattle.aom_syntax.specs.Classes.{class_statement}
@@ -81,11 +82,11 @@ if_true r s y b is e = ap (λ c. if c then r else s) (sym is) ∙ e
 record Done (scope : Scope) (h : Header) (cs : List ClassDecl) (ms : List Method) : Type 0 where
   few_classes : length cs ≤ 256
   header : scope.is_strict ≡ true → HeaderFits (length scope.classes) h
-  classes : All (ClassFits (length scope.classes) h.natives) cs
+  classes : All (ClassFits h.version (length scope.classes) h.natives) cs
   parents : All (λ c. ParentFits h.version (length scope.classes) c.kind c.parent) cs
   servers : count_by is_server cs ≤ 8
   overs : scope.is_strict ≡ true → All (λ m. OverFits h.version (length scope.methods) m.over) ms
-  methods : scope.is_strict ≡ true → All (MethodFits (length scope.classes) (length scope.methods)) ms
+  methods : scope.is_strict ≡ true → All (MethodFits h.version (length scope.classes) (length scope.methods)) ms
 
 -- and of the method that is open, with the names of classes and methods that are still to come
 record Holds (scope : Scope) (h : Header) (cs : List ClassDecl) (ms : List Method) (size : ℕ) (o : Option Body) (classes_left methods_left : ℕ) : Type 0 where
@@ -101,7 +102,7 @@ record BodyHolds (scope : Scope) (version : Version) (b : Body) (left : ℕ) : T
   labels : length b.code + left ≡ length b.labels
   few : length b.code ≤ 1024
   heading : scope.is_strict ≡ true → HeadingFits version (length scope.classes) (length scope.methods) b.heading
-  code : scope.is_strict ≡ true → All (InstrFits (limits (length scope.classes) (length scope.methods) (length b.labels))) b.code
+  code : scope.is_strict ≡ true → All (InstrFits (limits version (length scope.classes) (length scope.methods) (length b.labels))) b.code
 
 abbrev OpenHolds : Scope → Version → Option Body → List Statement → Type 0
 OpenHolds scope version None ss = Unit {0}
@@ -114,7 +115,7 @@ record Read (scope : Scope) (p : Program) (ss : List Statement) : Type 0 where
 
 -- ---- one statement
 
-module _ (headers : HeadersInRange) (classes_in : ClassesInRange) (headings : HeadingsInRange) (instructions : InstructionsInRange) (scope : Scope) (natives : ℕ) (settled : scope.is_strict ≡ true → All (ClassFits (length scope.classes) natives) scope.kinds) where
+module _ (headers : HeadersInRange) (classes_in : ClassesInRange) (headings : HeadingsInRange) (instructions : InstructionsInRange) (scope : Scope) (before : Version) (natives : ℕ) (settled : scope.is_strict ≡ true → All (ClassFits before (length scope.classes) natives) scope.kinds) where
   -- a class
   class_step : (ss : List Statement) (h : Header) (cs : List ClassDecl) (ms : List Method) (size cl ml : ℕ) (ws : List (List ℕ)) (q : Program)
       → cl ≡ suc (declares k.Class ss) → ml ≡ declares k.Method ss → Holds scope h cs ms size None cl ml → with_class scope (program h cs ms None size) ws ≡ Ok q → Read scope q ss
@@ -142,7 +143,7 @@ module _ (headers : HeadersInRange) (classes_in : ClassesInRange) (headings : He
           done = record {
             few_classes = omega arith;
             header = holds.done.header;
-            classes = All-push (ClassFits (length scope.classes) h.natives) cs c holds.done.classes range.class;
+            classes = All-push (ClassFits h.version (length scope.classes) h.natives) cs c holds.done.classes range.class;
             parents = All-push (λ c. ParentFits h.version (length scope.classes) c.kind c.parent) cs c holds.done.parents range.parent;
             servers = servers;
             overs = holds.done.overs;
@@ -163,7 +164,7 @@ module _ (headers : HeadersInRange) (classes_in : ClassesInRange) (headings : He
       let t = steps (grown (24 + family_bytes h.version) size) (λ n. Ok (program h cs ms (begun m) n)) q s.second in
       let g = grown_is (24 + family_bytes h.version) size t.first t.read in
       let less : length ms < 1024 = ltb-true (length ms) 1024 i.0 in
-      let range = λ (strict : scope.is_strict ≡ true). (headings natives scope h.version (record { is_strict = strict; kinds = settled strict }) (length ms) ws m s.first.1 s.read).heading in
+      let range = λ (strict : scope.is_strict ≡ true). (headings before natives scope h.version (record { is_strict = strict; kinds = settled strict }) (length ms) ws m s.first.1 s.read).heading in
       let names = holds.class_names in
       let methods = holds.method_names in
       let spelling = holds.spelling in
@@ -173,25 +174,25 @@ module _ (headers : HeadersInRange) (classes_in : ClassesInRange) (headings : He
           labels = sym (length_labels [] ss);
           few = omega arith;
           heading = range;
-          code = λ strict. All-nil (InstrFits (limits (length scope.classes) (length scope.methods) (length (labels_of [] ss))));
+          code = λ strict. All-nil (InstrFits (limits h.version (length scope.classes) (length scope.methods) (length (labels_of [] ss))));
         };
       })
 
   -- an instruction
   code_step : (ss : List Statement) (h : Header) (cs : List ClassDecl) (ms : List Method) (size left : ℕ) (b : Body) (ws : List (List ℕ)) (q : Program)
       → left ≡ suc (before_end ss) → Holds scope h cs ms size (Some b) (declares k.Class ss) (declares k.Method ss) → BodyHolds scope h.version b left
-      → (with_instruction scope b ws >>= λ c. grown 8 size >>= λ n. Ok (program h cs ms (Some c) n)) ≡ Ok q → Read scope q ss
+      → (with_instruction scope h.version b ws >>= λ c. grown 8 size >>= λ n. Ok (program h cs ms (Some c) n)) ≡ Ok q → Read scope q ss
   code_step ss h cs ms size left b ws q one holds body is =
       let longer_by : Instr → Body = λ i. record b { code = b.code ++ i ∷ [] } in
-      let s = steps (with_instruction scope b ws) (λ c. grown 8 size >>= λ n. Ok (program h cs ms (Some c) n)) q is in
+      let s = steps (with_instruction scope h.version b ws) (λ c. grown 8 size >>= λ n. Ok (program h cs ms (Some c) n)) q is in
       let t = steps (grown 8 size) (λ n. Ok (program h cs ms (Some s.first) n)) q s.second in
       let g = grown_is 8 size t.first t.read in
-      let i = passed (nat_lt (length b.code) 1024) (instruction scope b.labels (length b.code) ws >>= λ i. Ok (longer_by i.0)) LimitPassed s.first s.read in
-      let u = steps (instruction scope b.labels (length b.code) ws) (λ i. Ok (longer_by i.0)) s.first i.1 in
+      let i = passed (nat_lt (length b.code) 1024) (instruction scope h.version b.labels (length b.code) ws >>= λ i. Ok (longer_by i.0)) LimitPassed s.first s.read in
+      let u = steps (instruction scope h.version b.labels (length b.code) ws) (λ i. Ok (longer_by i.0)) s.first i.1 in
       let less : length b.code < 1024 = ltb-true (length b.code) 1024 i.0 in
       let added = u.first.0 in
       let longer : length (b.code ++ added ∷ []) ≡ length b.code + 1 = length-append b.code (added ∷ []) in
-      let fits = InstrFits (limits (length scope.classes) (length scope.methods) (length b.labels)) in
+      let fits = InstrFits (limits h.version (length scope.classes) (length scope.methods) (length b.labels)) in
       let labels = body.labels in
       let spelling = holds.spelling in
       let same : program h cs ms (Some (longer_by added)) t.first ≡ q = ap (λ c. program h cs ms (Some c) t.first) (ok_is (longer_by added) s.first u.second) ∙ ok_is (program h cs ms (Some s.first) t.first) q t.second in
@@ -201,7 +202,7 @@ module _ (headers : HeadersInRange) (classes_in : ClassesInRange) (headings : He
           labels = omega arith;
           few = omega arith;
           heading = body.heading;
-          code = λ strict. All-push fits b.code added (body.code strict) (instructions scope strict b.labels (length b.code) ws added u.first.1 u.read);
+          code = λ strict. All-push fits b.code added (body.code strict) (instructions scope h.version strict b.labels (length b.code) ws added u.first.1 u.read);
         };
       })
 
@@ -209,10 +210,10 @@ module _ (headers : HeadersInRange) (classes_in : ClassesInRange) (headings : He
   abbrev whole_of : Body → Method
   whole_of b = record { class = b.heading.class; over = b.heading.over; role = b.heading.role; flags = b.heading.flags; before = b.heading.before; after = b.heading.after; arguments = b.heading.arguments; gives = b.heading.gives; code = b.code }
 
-  method_fits : (version : Version) (b : Body) (left : ℕ) → BodyHolds scope version b left → scope.is_strict ≡ true → length b.labels ≡ length b.code → 1 ≤ length b.code → MethodFits (length scope.classes) (length scope.methods) (whole_of b)
+  method_fits : (version : Version) (b : Body) (left : ℕ) → BodyHolds scope version b left → scope.is_strict ≡ true → length b.labels ≡ length b.code → 1 ≤ length b.code → MethodFits version (length scope.classes) (length scope.methods) (whole_of b)
   method_fits version b left body strict places some =
       let range = body.heading strict in
-      let code = subst (λ n. All (InstrFits (limits (length scope.classes) (length scope.methods) n)) b.code) places (body.code strict) in
+      let code = subst (λ n. All (InstrFits (limits version (length scope.classes) (length scope.methods) n)) b.code) places (body.code strict) in
       record { class = range.class; flags = range.flags; before = range.before; after = range.after; argument_count = range.argument_count; arguments = range.arguments; gives = range.gives; some_code = some; code_length = body.few; code = code }
 
   -- the end of a method
@@ -247,7 +248,7 @@ module _ (headers : HeadersInRange) (classes_in : ClassesInRange) (headings : He
             parents = holds.done.parents;
             servers = holds.done.servers;
             overs = λ strict. All-push (λ m. OverFits h.version (length scope.methods) m.over) ms whole (holds.done.overs strict) (body.heading strict).over;
-            methods = λ strict. All-push (MethodFits (length scope.classes) (length scope.methods)) ms whole (holds.done.methods strict) (method_fits h.version b left body strict places (omega (arith, some)));
+            methods = λ strict. All-push (MethodFits h.version (length scope.classes) (length scope.methods)) ms whole (holds.done.methods strict) (method_fits h.version b left body strict places (omega (arith, some)));
           };
         };
         body = tt;
@@ -286,19 +287,19 @@ module _ (headers : HeadersInRange) (classes_in : ClassesInRange) (headings : He
 
     -- an instruction, which declares no name
     spoken : (b : Body) → Holds scope h cs ms size (Some b) (declares k.Class (s ∷ ss)) (declares k.Method (s ∷ ss)) → BodyHolds scope h.version b (before_end (s ∷ ss)) → is_end s.words ≡ false
-        → (with_instruction scope b s.words >>= λ c. grown 8 size >>= λ n. Ok (program h cs ms (Some c) n)) ≡ Ok q → Read scope q ss
+        → (with_instruction scope h.version b s.words >>= λ c. grown 8 size >>= λ n. Ok (program h cs ms (Some c) n)) ≡ Ok q → Read scope q ss
     spoken b holds body goes_on is =
         let added : Instr → Body = λ i. record b { code = b.code ++ i ∷ [] } in
-        let first = steps (with_instruction scope b s.words) (λ c. grown 8 size >>= λ n. Ok (program h cs ms (Some c) n)) q is in
-        let i = passed (nat_lt (length b.code) 1024) (instruction scope b.labels (length b.code) s.words >>= λ i. Ok (added i.0)) LimitPassed first.first first.read in
-        let said = steps (instruction scope b.labels (length b.code) s.words) (λ i. Ok (added i.0)) first.first i.1 in
-        code_step ss h cs ms size (before_end (s ∷ ss)) b s.words q (not_at_end s ss goes_on) (none_declared (Some b) (code_silent scope b.labels (length b.code) s.words said.first said.read) holds) body is
+        let first = steps (with_instruction scope h.version b s.words) (λ c. grown 8 size >>= λ n. Ok (program h cs ms (Some c) n)) q is in
+        let i = passed (nat_lt (length b.code) 1024) (instruction scope h.version b.labels (length b.code) s.words >>= λ i. Ok (added i.0)) LimitPassed first.first first.read in
+        let said = steps (instruction scope h.version b.labels (length b.code) s.words) (λ i. Ok (added i.0)) first.first i.1 in
+        code_step ss h cs ms size (before_end (s ∷ ss)) b s.words q (not_at_end s ss goes_on) (none_declared (Some b) (code_silent scope h.version b.labels (length b.code) s.words said.first said.read) holds) body is
 
     body_step : (b : Body) → Holds scope h cs ms size (Some b) (declares k.Class (s ∷ ss)) (declares k.Method (s ∷ ss)) → BodyHolds scope h.version b (before_end (s ∷ ss)) → in_body scope (program h cs ms None size) b s.words ≡ Ok q → Read scope q ss
     body_step b holds body is = go (is_end s.words) refl
       where
         one : Bool × List (List ℕ) → Result Program AsmFaultKind
-        one t = if t.0 then with_method (program h cs ms None size) b t.1 else (with_instruction scope b t.1 >>= λ c. grown 8 size >>= λ n. Ok (program h cs ms (Some c) n))
+        one t = if t.0 then with_method (program h cs ms None size) b t.1 else (with_instruction scope h.version b t.1 >>= λ c. grown 8 size >>= λ n. Ok (program h cs ms (Some c) n))
 
         go : (e : Bool) → is_end s.words ≡ e → Read scope q ss
         go true ends = end_step ss h cs ms size (before_end (s ∷ ss)) b (took k.End s.words).1 q (at_end s ss ends) (none_declared (Some b) (end_silent s.words ends) holds) body (if_true _ _ (Ok q) (took k.End s.words).0 (takes_end s.words ends) is)
@@ -350,11 +351,11 @@ module _ (headers : HeadersInRange) (classes_in : ClassesInRange) (headings : He
           done = record {
             few_classes = omega arith;
             header = λ strict. headers scope strict s.words t.first.0 t.first.1 t.read;
-            classes = All-nil (ClassFits (length scope.classes) t.first.0.natives);
+            classes = All-nil (ClassFits t.first.0.version (length scope.classes) t.first.0.natives);
             parents = All-nil (λ c. ParentFits t.first.0.version (length scope.classes) c.kind c.parent);
             servers = omega arith;
             overs = λ strict. All-nil (λ m. OverFits t.first.0.version (length scope.methods) m.over);
-            methods = λ strict. All-nil (MethodFits (length scope.classes) (length scope.methods));
+            methods = λ strict. All-nil (MethodFits t.first.0.version (length scope.classes) (length scope.methods));
           };
         };
         body = tt;
@@ -374,9 +375,9 @@ module _ (headers : HeadersInRange) (classes_in : ClassesInRange) (headings : He
       let spelling = parts.spelling in
       let class_count : length scope.classes ≡ length q.classes = omega (arith, declares_none k.Class) in
       let method_count : length scope.methods ≡ length q.methods = omega (arith, declares_none k.Method) in
-      let classes : ClassesFit q.header.natives q.classes = record { count = parts.done.few_classes; each = subst (λ n. All (ClassFits n q.header.natives) q.classes) class_count parts.done.classes; servers = parts.done.servers } in
-      let each : All (MethodFits (length q.classes) (length q.methods)) q.methods = subst (λ n. All (MethodFits n (length q.methods)) q.methods) class_count (subst (λ n. All (MethodFits (length scope.classes) n) q.methods) method_count (parts.done.methods strict)) in
-      let methods : MethodsFit (length q.classes) q.methods = record { some = at.some; count = omega arith; each = each } in
+      let classes : ClassesFit q.header.version q.header.natives q.classes = record { count = parts.done.few_classes; each = subst (λ n. All (ClassFits q.header.version n q.header.natives) q.classes) class_count parts.done.classes; servers = parts.done.servers } in
+      let each : All (MethodFits q.header.version (length q.classes) (length q.methods)) q.methods = subst (λ n. All (MethodFits q.header.version n (length q.methods)) q.methods) class_count (subst (λ n. All (MethodFits q.header.version (length scope.classes) n) q.methods) method_count (parts.done.methods strict)) in
+      let methods : MethodsFit q.header.version (length q.classes) q.methods = record { some = at.some; count = omega arith; each = each } in
       let v = q.header.version in
       let families : FamiliesFit v q.classes q.methods = record {
         parents = subst (λ n. All (λ c. ParentFits v n c.kind c.parent) q.classes) class_count parts.done.parents;
@@ -394,9 +395,9 @@ module _ (headers : HeadersInRange) (classes_in : ClassesInRange) (headings : He
 
 module _ (headers : HeadersInRange) (classes_in : ClassesInRange) (headings : HeadingsInRange) (instructions : InstructionsInRange) where
   -- the classes of the first reading are in range for the second
-  first_classes : (last : ℕ) (ss : List Statement) (q : Program) → read_program last (scope_of false ss []) ss ≡ Ok q → All (ClassFits (length (declared_names k.Class [] ss)) q.header.natives) q.classes
+  first_classes : (last : ℕ) (ss : List Statement) (q : Program) → read_program last (scope_of false ss []) ss ≡ Ok q → All (ClassFits q.header.version (length (declared_names k.Class [] ss)) q.header.natives) q.classes
   first_classes last ss q is =
-      let at = program_read headers classes_in headings instructions (scope_of false ss []) 0 (λ strict. absurd (false≢true strict)) last ss q (count_declared k.Class ss) (count_declared k.Method ss)
+      let at = program_read headers classes_in headings instructions (scope_of false ss []) q.header.version 0 (λ strict. absurd (false≢true strict)) last ss q (count_declared k.Class ss) (count_declared k.Method ss)
       (program_starts last (scope_of false ss []) ss q is) in
       at.read.parts.done.classes
 
@@ -407,9 +408,9 @@ module _ (headers : HeadersInRange) (classes_in : ClassesInRange) (headings : He
       let first = s.first in
       let t = steps_then (read_program last (second first) ss) (λ p. Ok (image_of p)) i s.second in
       let kinds = first_classes last ss first s.read in
-      let at = program_read headers classes_in headings instructions (second first) first.header.natives (λ strict. kinds) last ss t.first (count_declared k.Class ss) (count_declared k.Method ss)
+      let at = program_read headers classes_in headings instructions (second first) first.header.version first.header.natives (λ strict. kinds) last ss t.first (count_declared k.Class ss) (count_declared k.Method ss)
       (program_starts last (second first) ss t.first t.read) in
-      subst WellFormed (ok_is (image_of t.first) i t.second) (well_formed headers classes_in headings instructions (second first) first.header.natives (λ strict. kinds) t.first refl at)
+      subst WellFormed (ok_is (image_of t.first) i t.second) (well_formed headers classes_in headings instructions (second first) first.header.version first.header.natives (λ strict. kinds) t.first refl at)
 
   pub text_well : (text : List ℕ) (i : Image) → denoted text ≡ Ok i → WellFormed i
   text_well text i is = statements_well (last_line_of text) (statements text) i (passed (nat_le (length text) (2 ^ 20)) (read_statements (last_line_of text) (statements text)) (record { line = 1; kind = LimitPassed }) i is).1

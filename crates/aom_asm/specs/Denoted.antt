@@ -6,7 +6,9 @@ use Rattle.aom_text.specs.declared.fault.AsmFault.{AsmFault}
 use Rattle.aom_text.specs.declared.fault.AsmFaultKind.{AsmFaultKind}
 use Rattle.aom_text.specs.declared.fault.AsmFaultKind.TheVariants.{BadShape, LimitPassed, OutOfMemory}
 use Rattle.aom_image.specs.Image.{Image}
-use Rattle.aom_image.specs.WellFormed.{family_bytes, is_server}
+use Rattle.aom_image.specs.WellFormed.{is_server}
+use Rattle.aom_instructions.specs.Versions.{family_bytes}
+use Rattle.aom_instructions.specs.declared.version.Version.{Version}
 use Rattle.aom_image.specs.declared.class.ClassDecl.{ClassDecl}
 use Rattle.aom_image.specs.declared.method.Method.{Method}
 use Rattle.aom_syntax.specs.Reading.{◌>>=◌, took, any_keyword, nothing_more}
@@ -45,9 +47,9 @@ grown bytes size = if nat_le (size + bytes) (2 ^ 20) then Ok (size + bytes) else
 -- ---- methods
 
 -- the code with one more instruction
-abbrev pub with_instruction : Scope → Body → List (List ℕ) → Result Body AsmFaultKind
-with_instruction scope b ws =
-    if nat_lt (length b.code) 1024 then (instruction scope b.labels (length b.code) ws >>= λ i. Ok (record b { code = b.code ++ i.0 ∷ [] }))
+abbrev pub with_instruction : Scope → Version → Body → List (List ℕ) → Result Body AsmFaultKind
+with_instruction scope version b ws =
+    if nat_lt (length b.code) 1024 then (instruction scope version b.labels (length b.code) ws >>= λ i. Ok (record b { code = b.code ++ i.0 ∷ [] }))
     else Err LimitPassed
 
 -- a method at its end, of which there is an instruction at least
@@ -90,7 +92,7 @@ with_method p b ws = method_of b >>= λ m. nothing_more false ws >>= λ u. Ok (r
 abbrev pub in_body : Scope → Program → Body → List (List ℕ) → Result Program AsmFaultKind
 in_body scope p b ws =
     if (took k.End ws).0 then with_method p b (took k.End ws).1
-    else (with_instruction scope b (took k.End ws).1 >>= λ c. grown 8 p.size >>= λ size. Ok (record p { body = Some c; size = size }))
+    else (with_instruction scope p.header.version b (took k.End ws).1 >>= λ c. grown 8 p.size >>= λ size. Ok (record p { body = Some c; size = size }))
 
 -- a statement, with those after it
 abbrev pub step_by : Option Body → Scope → List Statement → Program → List (List ℕ) → Result Program AsmFaultKind

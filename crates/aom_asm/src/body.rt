@@ -3,7 +3,7 @@ ghost use Rattle.std.specs.Prelude.{◌≡◌, ◌<◌, [], ◌∷◌, ◌++◌,
 ghost use Rattle.aom_syntax.specs.Reading.{ReadsOrNoMemory};
 ghost use Rattle.aom_asm.specs.Denoted.{with_instruction, method_of};
 
-use aom_image::{Instr, Items, Method, Target};
+use aom_image::{Instr, Items, Method, Target, Version};
 use aom_syntax::{Heading, Names, Reader, Scope};
 use aom_text::AsmFaultKind;
 use std::alloc::Global;
@@ -38,15 +38,20 @@ impl<'a> Body<'a> {
     }
 
     /// Adds the instruction of a statement.
-    pub fn add(&mut self, scope: &Scope, mut reader: Reader) -> Result<(), AsmFaultKind>
-        ensures { ReadsOrNoMemory (λ _. self.new) result (with_instruction scope.now self.old reader.entry) }
+    pub fn add(
+        &mut self,
+        scope: &Scope,
+        version: Version,
+        mut reader: Reader,
+    ) -> Result<(), AsmFaultKind>
+        ensures { ReadsOrNoMemory (λ _. self.new) result (with_instruction scope.now version self.old reader.entry) }
     {
         let _told: Option<Target> = None;
         let place = self.code.len();
         if place >= 1024 {
             return Err(AsmFaultKind::LimitPassed);
         }
-        let instr = reader.instruction(scope, &self.labels, place)?;
+        let instr = reader.instruction(scope, version, &self.labels, place)?;
         self.code.push(instr)?;
         Ok(())
     }

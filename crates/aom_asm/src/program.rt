@@ -140,7 +140,7 @@ impl<'a> Program<'a> {
         if reader.took(Keyword::End) {
             self.add_method(body, reader)
         } else {
-            let added = body.add(scope, reader);
+            let added = body.add(scope, self.header.version, reader);
             self.hold(body);
             added?;
             self.size = grown(8, self.size)?;

@@ -142,7 +142,6 @@ keyword_is_word k.Maybe = record { some = refl; bytes = refl }
 keyword_is_word k.Left = record { some = refl; bytes = refl }
 keyword_is_word k.This = record { some = refl; bytes = refl }
 keyword_is_word k.Message = record { some = refl; bytes = refl }
-keyword_is_word k.Hand = record { some = refl; bytes = refl }
 keyword_is_word k.Token = record { some = refl; bytes = refl }
 
 pub mnemonic_is_word : (mnemonic : Mnemonic) → IsWord (mnemonic_text mnemonic)

@@ -14,8 +14,8 @@ use Rattle.aom_image.specs.declared.class.ClassKind.TheVariants as kinds
 use Rattle.aom_image.specs.declared.class.Provider.{Provider}
 use Rattle.aom_image.specs.declared.class.Provider.TheVariants as providers
 use Rattle.aom_image.specs.declared.image.Header.{Header}
-use Rattle.aom_image.specs.declared.image.Version.{Version}
-use Rattle.aom_image.specs.declared.image.Version.TheVariants as versions
+use Rattle.aom_instructions.specs.declared.version.Version.{Version}
+use Rattle.aom_instructions.specs.declared.version.Version.TheVariants as versions
 use Rattle.aom_instructions.specs.declared.instr.Instr.{Instr}
 use Rattle.aom_instructions.specs.declared.instr.Target.{Target}
 use Rattle.aom_instructions.specs.declared.instr.Target.TheVariants as targets
@@ -144,6 +144,7 @@ provider_are_words : (p : Provider) → AreWords (provider_words p)
 provider_are_words providers.Own = (keyword_is_word k.This, tt)
 provider_are_words providers.Timer = (keyword_is_word k.Timer, tt)
 provider_are_words (providers.Native n) = (keyword_is_word k.Native, (decimal_is_word n, tt))
+provider_are_words providers.Token = (keyword_is_word k.Token, tt)
 
 kind_are_words : (kind : ClassKind) → AreWords (kind_words kind)
 kind_are_words kinds.Plain = (keyword_is_word k.Plain, tt)
@@ -216,11 +217,11 @@ method_is_stated place method before after =
     let code : AreStated (placed (instr_words method.code) 0 method.code) = code_is_stated method.code 0 method.code in
     (heading_is_stated place method before after, stated_append (placed (instr_words method.code) 0 method.code) (end_words ∷ []) code (record { some = refl; words = (keyword_is_word k.End, tt) }, tt))
 
-methods_are_stated : (classes methods place : ℕ) (ms : List Method) → All (MethodFits classes methods) ms → AreStated (flat_map (λ statements. statements) (placed method_statements place ms))
-methods_are_stated classes methods place [] fit = tt
-methods_are_stated classes methods place (method ∷ ms) fit =
-    let first : MethodFits classes methods method = All-head (MethodFits classes methods) method ms fit in
-    stated_append (method_statements place method) (flat_map (λ statements. statements) (placed method_statements (place + 1) ms)) (method_is_stated place method first.before first.after) (methods_are_stated classes methods (place + 1) ms (All-tail (MethodFits classes methods) method ms fit))
+methods_are_stated : (version : Version) (classes methods place : ℕ) (ms : List Method) → All (MethodFits version classes methods) ms → AreStated (flat_map (λ statements. statements) (placed method_statements place ms))
+methods_are_stated version classes methods place [] fit = tt
+methods_are_stated version classes methods place (method ∷ ms) fit =
+    let first : MethodFits version classes methods method = All-head (MethodFits version classes methods) method ms fit in
+    stated_append (method_statements place method) (flat_map (λ statements. statements) (placed method_statements (place + 1) ms)) (method_is_stated place method first.before first.after) (methods_are_stated version classes methods (place + 1) ms (All-tail (MethodFits version classes methods) method ms fit))
 
 -- ---- the whole
 
@@ -228,5 +229,5 @@ pub listing_is_stated : (i : Image) → WellFormed i → AreStated (listing i)
 listing_is_stated i fits = (
   header_is_stated i.header,
   stated_append (placed class_words 0 i.classes) (flat_map (λ statements. statements) (placed method_statements 0 i.methods)) (classes_are_stated 0 i.classes)
-      (methods_are_stated (length i.classes) (length i.methods) 0 i.methods fits.methods.each),
+      (methods_are_stated i.header.version (length i.classes) (length i.methods) 0 i.methods fits.methods.each),
 )

@@ -23,6 +23,7 @@ abbrev pub provider_words : Provider → List (List ℕ)
 provider_words providers.Own = keyword_text k.This ∷ []
 provider_words providers.Timer = keyword_text k.Timer ∷ []
 provider_words (providers.Native n) = keyword_text k.Native ∷ decimal n ∷ []
+provider_words providers.Token = keyword_text k.Token ∷ []
 
 -- what a class is for
 abbrev pub kind_words : ClassKind → List (List ℕ)

@@ -1,8 +1,8 @@
 -- The statement that opens a listing.
 use Rattle.std.specs.Prelude.{ℕ, List, [], ◌∷◌, ◌++◌, decimal}
 use Rattle.aom_image.specs.declared.image.Header.{Header}
-use Rattle.aom_image.specs.declared.image.Version.{Version}
-use Rattle.aom_image.specs.declared.image.Version.TheVariants as versions
+use Rattle.aom_instructions.specs.declared.version.Version.{Version}
+use Rattle.aom_instructions.specs.declared.version.Version.TheVariants as versions
 use Rattle.aom_syntax.specs.Keywords.{keyword_text}
 use Rattle.aom_syntax.specs.declared.keyword.Keyword.TheVariants as k
 use Rattle.aom_listing.specs.Operands.{class_after}

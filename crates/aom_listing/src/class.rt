@@ -27,6 +27,7 @@ impl Writer {
             Provider::Own => self.keyword(Keyword::This),
             Provider::Timer => self.keyword(Keyword::Timer),
             Provider::Native(native) => self.counted(Keyword::Native, u32::from(native.number())),
+            Provider::Token => self.keyword(Keyword::Token),
         }
     }
 

@@ -4,8 +4,9 @@ use Rattle.std.specs.Prelude.{if◌then◌else◌}
 use Rattle.std.proofs.lemmas.Bool.{false≢true, lt-ltb, ltb-true}
 use Rattle.aom_text.specs.declared.fault.AsmFaultKind.TheVariants.{BadShape, LimitPassed}
 use Rattle.aom_image.specs.WellFormed.{is_dispatched, is_server, is_server_kind, may_descend}
-use Rattle.aom_image.specs.declared.image.Version.{Version}
-use Rattle.aom_image.specs.declared.image.Version.TheVariants as versions
+use Rattle.aom_instructions.specs.Versions.{includes}
+use Rattle.aom_instructions.specs.declared.version.Version.{Version}
+use Rattle.aom_instructions.specs.declared.version.Version.TheVariants as versions
 use Rattle.aom_image.specs.declared.class.ClassDecl.{ClassDecl}
 use Rattle.aom_image.specs.declared.class.ClassKind.{ClassKind}
 use Rattle.aom_image.specs.declared.class.Provider.{Provider}
@@ -36,21 +37,25 @@ use Rattle.aom_image.proofs.Given.{true_given}
 abbrev provided : ℕ → List (List ℕ) → Provider × List (List ℕ)
 provided n ws = (providers.Native n, ws)
 
+abbrev by_tokens : List (List ℕ) → Provider × List (List ℕ)
+by_tokens ws = (providers.Token, ws)
+
 abbrev unowned : List (List ℕ) → List Thing × List (List ℕ)
 unowned ws = ([], ws)
 
 -- ---- what was read
 
-record ProviderSays (natives : ℕ) (ws : List (List ℕ)) (p : Provider) (rest : List (List ℕ)) : Type 0 where
+record ProviderSays (version : Version) (natives : ℕ) (ws : List (List ℕ)) (p : Provider) (rest : List (List ℕ)) : Type 0 where
   said : ProviderText
   words : ws ≡ provider_words said ++ rest
-  means : ProviderMeans natives said p
+  means : ProviderMeans version natives said p
 
-provider_sound : (natives : ℕ) (key : Keyword) (vs : List (List ℕ)) → Sound (provider natives key) vs (λ p rest. ProviderSays natives (keyword_text key ∷ vs) p rest)
-provider_sound natives k.This vs = giving_sound _ providers.Own vs (record { said = source.by_itself; words = refl; means = tt })
-provider_sound natives k.Timer vs = giving_sound _ providers.Timer vs (record { said = source.by_timer; words = refl; means = tt })
-provider_sound natives k.Native vs =
-    let Q = λ (p : Provider) (rest : List (List ℕ)). ProviderSays natives (keyword_text k.Native ∷ vs) p rest in
+provider_sound : (version : Version) (natives : ℕ) (key : Keyword) (vs : List (List ℕ))
+    → Sound (provider version natives key) vs (λ p rest. ProviderSays version natives (keyword_text key ∷ vs) p rest)
+provider_sound version natives k.This vs = giving_sound _ providers.Own vs (record { said = source.by_itself; words = refl; means = tt })
+provider_sound version natives k.Timer vs = giving_sound _ providers.Timer vs (record { said = source.by_timer; words = refl; means = tt })
+provider_sound version natives k.Native vs =
+    let Q = λ (p : Provider) (rest : List (List ℕ)). ProviderSays version natives (keyword_text k.Native ∷ vs) p rest in
     next_sound Q (number 0 15) _ vs (λ n us read.
     let s = saw (number_in 0 15) vs n us read in
     record {
@@ -60,20 +65,30 @@ provider_sound natives k.Native vs =
           record {
             said = source.by_native s.w;
             words = ap (λ v. keyword_text k.Native ∷ v) (s.words ∙ ap (λ v. s.w ∷ v) (ap (λ q. q.1) same));
-            means = subst (ProviderMeans natives (source.by_native s.w)) (ap (λ q. q.0) same) (s.says, ltb-true n natives below);
+            means = subst (ProviderMeans version natives (source.by_native s.w)) (ap (λ q. q.0) same) (s.says, ltb-true n natives below);
           });
     })
-provider_sound natives key vs = record { each = λ p rest is. cc }
+provider_sound version natives k.Token vs = record {
+  each = λ p rest is.
+      true_given (λ b. (if b then giving providers.Token else failing BadShape) vs ≡ Ok (p, rest)) (includes version versions.Two) is (λ e. cc) (λ two e.
+      let same = ok_is (by_tokens vs) (p, rest) e in
+      record {
+        said = source.by_token;
+        words = ap (λ q. keyword_text k.Token ∷ q.1) same;
+        means = subst (ProviderMeans version natives source.by_token) (ap (λ q. q.0) same) two;
+      });
+}
+provider_sound version natives key vs = record { each = λ p rest is. cc }
 
 module _ (names : Names) (kinds_before : List ClassDecl) (natives servers : ℕ) where
-  record KindSays (ws : List (List ℕ)) (K : ClassKind) (rest : List (List ℕ)) : Type 0 where
+  record KindSays (version : Version) (ws : List (List ℕ)) (K : ClassKind) (rest : List (List ℕ)) : Type 0 where
     said : KindText
     words : ws ≡ kind_words said ++ rest
-    means : KindMeans names natives said K
+    means : KindMeans names version natives said K
 
-  server_sound : (vs : List (List ℕ)) → Sound (server (told names kinds_before)) vs (λ K rest. KindSays (keyword_text k.Server ∷ vs) K rest)
-  server_sound vs =
-      let Q = λ (K : ClassKind) (rest : List (List ℕ)). KindSays (keyword_text k.Server ∷ vs) K rest in
+  server_sound : (version : Version) (vs : List (List ℕ)) → Sound (server (told names kinds_before)) vs (λ K rest. KindSays version (keyword_text k.Server ∷ vs) K rest)
+  server_sound version vs =
+      let Q = λ (K : ClassKind) (rest : List (List ℕ)). KindSays version (keyword_text k.Server ∷ vs) K rest in
       next_sound Q (class (told names kinds_before)) _ vs (λ c us r1.
       next_sound Q (keyword k.Max) _ us (λ u ts r2.
       next_sound Q (number 1 64) _ ts (λ n rest r3.
@@ -86,22 +101,22 @@ module _ (names : Names) (kinds_before : List ClassDecl) (natives servers : ℕ)
         means = (s.numbered, n_said.says);
       }))))
 
-  if_few : (b : Bool) (vs : List (List ℕ)) → Sound (if b then server (told names kinds_before) else failing LimitPassed) vs (λ K rest. KindSays (keyword_text k.Server ∷ vs) K rest)
-  if_few true vs = server_sound vs
-  if_few false vs = record { each = λ p rest is. cc }
+  if_few : (version : Version) (b : Bool) (vs : List (List ℕ)) → Sound (if b then server (told names kinds_before) else failing LimitPassed) vs (λ K rest. KindSays version (keyword_text k.Server ∷ vs) K rest)
+  if_few version true vs = server_sound version vs
+  if_few version false vs = record { each = λ p rest is. cc }
 
-  kind_sound : (key : Keyword) (vs : List (List ℕ)) → Sound (kind (told names kinds_before) natives servers key) vs (λ K rest. KindSays (keyword_text key ∷ vs) K rest)
-  kind_sound k.Plain vs = giving_sound _ kinds.Plain vs (record { said = source.plain; words = refl; means = tt })
-  kind_sound k.Session vs = giving_sound _ kinds.Session vs (record { said = source.session; words = refl; means = tt })
-  kind_sound k.Active vs =
-      let Q = λ (K : ClassKind) (rest : List (List ℕ)). KindSays (keyword_text k.Active ∷ vs) K rest in
+  kind_sound : (version : Version) (key : Keyword) (vs : List (List ℕ)) → Sound (kind (told names kinds_before) version natives servers key) vs (λ K rest. KindSays version (keyword_text key ∷ vs) K rest)
+  kind_sound version k.Plain vs = giving_sound _ kinds.Plain vs (record { said = source.plain; words = refl; means = tt })
+  kind_sound version k.Session vs = giving_sound _ kinds.Session vs (record { said = source.session; words = refl; means = tt })
+  kind_sound version k.Active vs =
+      let Q = λ (K : ClassKind) (rest : List (List ℕ)). KindSays version (keyword_text k.Active ∷ vs) K rest in
       next_sound Q any_keyword _ vs (λ key us r1.
-      next_sound Q (provider natives key) _ us (λ p rest r2.
+      next_sound Q (provider version natives key) _ us (λ p rest r2.
       let e = begins_with vs key us r1 in
-      let s = (provider_sound natives key us).each p rest r2 in
+      let s = (provider_sound version natives key us).each p rest r2 in
       giving_sound Q (kinds.Active p) rest (record { said = source.active s.said; words = ap (λ v. keyword_text k.Active ∷ v) (e ∙ s.words); means = s.means })))
-  kind_sound k.Server vs = if_few (nat_lt servers 8) vs
-  kind_sound key vs = record { each = λ p rest is. cc }
+  kind_sound version k.Server vs = if_few version (nat_lt servers 8) vs
+  kind_sound version key vs = record { each = λ p rest is. cc }
 
   -- a parent, where one is said
   record ParentSays (version : Version) (kind : ClassKind) (ws : List (List ℕ)) (parent : Option ℕ) (rest : List (List ℕ)) : Type 0 where
@@ -187,7 +202,7 @@ module _ (names : Names) (kinds_before : List ClassDecl) (natives servers : ℕ)
       let scope = told names kinds_before in
       next_sound Q (declared place names.classes) _ ws (λ u v1 r1.
       next_sound Q any_keyword _ v1 (λ key v2 r2.
-      next_sound Q (kind scope natives servers key) _ v2 (λ K v3 r3.
+      next_sound Q (kind scope version natives servers key) _ v2 (λ K v3 r3.
       next_sound Q (optional_parent scope version K) _ v3 (λ parent v3b r3b.
       next_sound Q (optional_number k.Words 8) _ v3b (λ words v4 r4.
       next_sound Q (flag k.Own) _ v4 (λ owns v5 r5.
@@ -195,7 +210,7 @@ module _ (names : Names) (kinds_before : List ClassDecl) (natives servers : ℕ)
       next_sound Q (budget owns (is_dispatched K)) _ v6 (λ most v7 r7.
       let d = saw_declared names.classes place ws u v1 r1 in
       let e = begins_with v1 key v2 r2 in
-      let s = (kind_sound key v2).each K v3 r3 in
+      let s = (kind_sound version key v2).each K v3 r3 in
       let p = parent_says version K v3 parent v3b r3b in
       let n = saw_part k.Words (number_in 0 8) (IsNumber 0 8) 0 (λ w n is. is) v3b words v4 r4 in
       let o = owns_says owns v4 v5 list v6 r5 r6 in
@@ -220,20 +235,23 @@ module _ {names : Names} {scope : Scope} (looks : LooksUp names scope) where
   own_reads g (Some w) list rest y says other later =
       first (λ owns. next (fields scope owns) (g owns)) (takes_flag k.Own) (first (g true) (takes_seen (list_reads 8 (thing_of scope) (IsThing names) (thing_reads looks) w list says)) (later true))
 
-  module _ (natives servers : ℕ) where
-    takes_provider : (said : ProviderText) (p : Provider) → ProviderMeans natives said p → Takes (next any_keyword (provider natives)) (provider_words said) p
+  module _ (version : Version) (natives servers : ℕ) where
+    takes_provider : (said : ProviderText) (p : Provider) → ProviderMeans version natives said p → Takes (next any_keyword (provider version natives)) (provider_words said) p
     takes_provider source.by_itself providers.Own means = in_turn _ (takes_any_keyword k.This) (gives _)
     takes_provider source.by_timer providers.Timer means = in_turn _ (takes_any_keyword k.Timer) (gives _)
     takes_provider (source.by_native w) (providers.Native n) means = in_turn _ (takes_any_keyword k.Native) (in_turn _ (takes_seen (number_reads 0 15 w n means.0)) (record {
       reads = λ rest. ap (λ b. (if b then giving (providers.Native n) else failing LimitPassed) rest) (lt-ltb n natives means.1);
     }))
+    takes_provider source.by_token providers.Token means = in_turn _ (takes_any_keyword k.Token) (record {
+      reads = λ rest. ap (λ b. (if b then giving providers.Token else failing BadShape) rest) means;
+    })
     takes_provider said p means = absurd means
 
-    takes_kind : (said : KindText) (K : ClassKind) → KindMeans names natives said K → (is_server_kind K ≡ true → servers < 8)
-        → Takes (next any_keyword (kind scope natives servers)) (kind_words said) K
+    takes_kind : (said : KindText) (K : ClassKind) → KindMeans names version natives said K → (is_server_kind K ≡ true → servers < 8)
+        → Takes (next any_keyword (kind scope version natives servers)) (kind_words said) K
     takes_kind source.plain kinds.Plain means few = in_turn _ (takes_any_keyword k.Plain) (gives _)
     takes_kind source.session kinds.Session means few = in_turn _ (takes_any_keyword k.Session) (gives _)
-    takes_kind (source.active said) (kinds.Active p) means few = in_turn _ (takes_any_keyword k.Active) (made any_keyword (provider natives) kinds.Active (takes_provider said p means))
+    takes_kind (source.active said) (kinds.Active p) means few = in_turn _ (takes_any_keyword k.Active) (made any_keyword (provider version natives) kinds.Active (takes_provider said p means))
     takes_kind (source.server class most) (kinds.Server sessions of_class) means few = in_turn _ (takes_any_keyword k.Server) (record {
       reads = λ rest. ap (λ b. (if b then server scope else failing LimitPassed) (class ∷ keyword_text k.Max ∷ most ∷ rest)) (lt-ltb servers 8 (few refl))
           ∙ (in_turn _ (takes_class looks class of_class means.0) (in_turn _ (takes_keyword k.Max)
@@ -256,31 +274,31 @@ module _ {names : Names} {scope : Scope} (looks : LooksUp names scope) where
     abbrev rest_of_class : ClassKind → Option ℕ → Reading ClassDecl
     rest_of_class K parent = next (optional_number k.Words 8) (λ words. next (flag k.Own) (λ owns. next (fields scope owns) (rest_of_fields K parent words owns)))
 
-    abbrev behind_kind : Version → ClassKind → Reading ClassDecl
-    behind_kind version K = next (optional_parent scope version K) (rest_of_class K)
+    abbrev behind_kind : ClassKind → Reading ClassDecl
+    behind_kind K = next (optional_parent scope version K) (rest_of_class K)
 
-    said_parent_reads : (version : Version) (K : ClassKind) (w : List ℕ) (c : ℕ) → ParentMeans names version K (Some w) (Some c) → (ws : List (List ℕ)) → said_parent scope version K (w ∷ ws) ≡ Ok (Some c, ws)
+    said_parent_reads : (v : Version) (K : ClassKind) (w : List ℕ) (c : ℕ) → ParentMeans names v K (Some w) (Some c) → (ws : List (List ℕ)) → said_parent scope v K (w ∷ ws) ≡ Ok (Some c, ws)
     said_parent_reads versions.One K w c means ws = absurd (false≢true means.0)
     said_parent_reads versions.Two K w c means ws =
         ap (λ b. (if b then next (class scope) (λ c. giving (Some c)) else failing BadShape) (w ∷ ws)) means.1 ∙ (in_turn _ (takes_class looks w c means.2) (gives (Some c))).reads ws
 
-    parent_reads : (version : Version) (K : ClassKind) (said : Option (List ℕ)) (parent : Option ℕ) (ws : List (List ℕ)) → ParentMeans names version K said parent → NotNext k.From ws
+    parent_reads : (K : ClassKind) (said : Option (List ℕ)) (parent : Option ℕ) (ws : List (List ℕ)) → ParentMeans names version K said parent → NotNext k.From ws
         → Leaves (optional_parent scope version K) (part k.From said ++ ws) parent ws
-    parent_reads version K None None ws means other = record { reads = ap (λ p. if p.0 then said_parent scope version K p.1 else Ok (None, p.1)) other.left }
-    parent_reads version K (Some w) (Some c) ws means other = record {
+    parent_reads K None None ws means other = record { reads = ap (λ p. if p.0 then said_parent scope version K p.1 else Ok (None, p.1)) other.left }
+    parent_reads K (Some w) (Some c) ws means other = record {
       reads = ap (λ p. if p.0 then said_parent scope version K p.1 else Ok (None, p.1)) (took_same k.From (w ∷ ws)) ∙ said_parent_reads version K w c means ws;
     }
-    parent_reads version K said parent ws means other = absurd means
+    parent_reads K said parent ws means other = absurd means
 
     -- what stands behind the keyword
-    pub class_reads : (version : Version) (place : ℕ) (t : ClassText) (c : ClassDecl) → ClassMeans names version natives t c → place_of t.name scope.classes ≡ Some place → (is_server c ≡ true → servers < 8)
+    pub class_reads : (place : ℕ) (t : ClassText) (c : ClassDecl) → ClassMeans names version natives t c → place_of t.name scope.classes ≡ Some place → (is_server c ≡ true → servers < 8)
         → Whole (class_statement scope version natives place servers) (t.name ∷ (kind_words t.kind ++ (part k.From t.parent ++ (part k.Words t.words ++ (part k.Own t.own ++ part k.Budget t.budget))))) c
-    class_reads version place t c means placed few =
+    class_reads place t c means placed few =
         let budget_words = part k.Budget t.budget in
         let own_words = part k.Own t.own ++ budget_words in
         first _ (takes_declared scope.classes place t.name means.name placed) (
-        first_two any_keyword (kind scope natives servers) (behind_kind version) (takes_kind t.kind c.kind means.kind few) (
-        then_reads (rest_of_class c.kind) (parent_reads version c.kind t.parent c.parent (part k.Words t.words ++ own_words) means.parent
+        first_two any_keyword (kind scope version natives servers) behind_kind (takes_kind t.kind c.kind means.kind few) (
+        then_reads (rest_of_class c.kind) (parent_reads c.kind t.parent c.parent (part k.Words t.words ++ own_words) means.parent
         (not_part k.From k.Words t.words own_words refl (not_part k.From k.Own t.own budget_words refl (not_last k.From k.Budget t.budget refl)))) (
         then_reads _ (reads_part k.Words (number_in 0 8) (IsNumber 0 8) 0 (number_reads 0 8) t.words c.words own_words means.words
         (not_part k.Words k.Own t.own budget_words refl (not_last k.Words k.Budget t.budget refl))) (

@@ -11,8 +11,8 @@ use Rattle.aom_image.specs.declared.class.ClassKind.{ClassKind}
 use Rattle.aom_image.specs.declared.class.ClassKind.TheVariants as kinds
 use Rattle.aom_image.specs.declared.class.Provider.{Provider}
 use Rattle.aom_image.specs.declared.class.Provider.TheVariants as providers
-use Rattle.aom_image.specs.declared.image.Version.{Version}
-use Rattle.aom_image.specs.declared.image.Version.TheVariants as versions
+use Rattle.aom_instructions.specs.declared.version.Version.{Version}
+use Rattle.aom_instructions.specs.declared.version.Version.TheVariants as versions
 use Rattle.aom_image.specs.declared.method.Thing.{Thing}
 use Rattle.aom_image.specs.declared.method.Thing.TheVariants as owned
 use Rattle.aom_syntax.specs.Classes.{budget, class_of, class_statement, fields, flag, kind, optional_parent, provider, said_budget, said_parent, server, thing, thing_of}
@@ -72,17 +72,20 @@ module _ {classes methods : ℕ} {scope : Scope} (names : HasNames classes metho
 
   -- ---- kinds
 
-  module _ (natives servers : ℕ) (few_natives : natives ≤ 16) where
-    takes_provider : (p : Provider) → ProviderFits natives p → Takes (next any_keyword (provider natives)) (provider_words p) p
+  module _ (version : Version) (natives servers : ℕ) (few_natives : natives ≤ 16) where
+    takes_provider : (p : Provider) → ProviderFits version natives p → Takes (next any_keyword (provider version natives)) (provider_words p) p
     takes_provider providers.Own fits = in_turn _ (takes_any_keyword k.This) (gives _)
     takes_provider providers.Timer fits = in_turn _ (takes_any_keyword k.Timer) (gives _)
     takes_provider (providers.Native n) fits = in_turn _ (takes_any_keyword k.Native) (in_turn _ (takes_number 0 15 n (omega arith) (omega arith) (omega arith)) (record {
       reads = λ rest. ap (λ b. (if b then giving (providers.Native n) else failing LimitPassed) rest) (lt-ltb n natives fits);
     }))
+    takes_provider providers.Token fits = in_turn _ (takes_any_keyword k.Token) (record {
+      reads = λ rest. ap (λ b. (if b then giving providers.Token else failing BadShape) rest) fits;
+    })
 
-    takes_kind : (K : ClassKind) → KindFits classes natives K → (is_server_kind K ≡ true → servers < 8) → Takes (next any_keyword (kind scope natives servers)) (kind_words K) K
+    takes_kind : (K : ClassKind) → KindFits version classes natives K → (is_server_kind K ≡ true → servers < 8) → Takes (next any_keyword (kind scope version natives servers)) (kind_words K) K
     takes_kind kinds.Plain fits few = in_turn _ (takes_any_keyword k.Plain) (gives _)
-    takes_kind (kinds.Active p) fits few = in_turn _ (takes_any_keyword k.Active) (made any_keyword (provider natives) kinds.Active (takes_provider p fits))
+    takes_kind (kinds.Active p) fits few = in_turn _ (takes_any_keyword k.Active) (made any_keyword (provider version natives) kinds.Active (takes_provider p fits))
     takes_kind (kinds.Server sessions session) fits few = in_turn _ (takes_any_keyword k.Server) (record {
       reads = λ rest. ap (λ b. (if b then server scope else failing LimitPassed) (class_name session ∷ keyword_text k.Max ∷ decimal sessions ∷ rest)) (lt-ltb servers 8 (few refl))
           ∙ (in_turn _ (takes_class names session fits.2) (in_turn _ (takes_keyword k.Max) (in_turn _ (takes_number 1 64 sessions fits.0 fits.1 (omega (arith, fits.1))) (gives (kinds.Server sessions session))))).reads rest;
@@ -108,30 +111,30 @@ module _ {classes methods : ℕ} {scope : Scope} (names : HasNames classes metho
     abbrev rest_of_class : ClassKind → Option ℕ → Reading ClassDecl
     rest_of_class K parent = next (optional_number k.Words 8) (λ words. next (flag k.Own) (rest_of_fields K parent words))
 
-    abbrev behind_kind : Version → ClassKind → Reading ClassDecl
-    behind_kind version K = next (optional_parent scope version K) (rest_of_class K)
+    abbrev behind_kind : ClassKind → Reading ClassDecl
+    behind_kind K = next (optional_parent scope version K) (rest_of_class K)
 
-    whole_rest : (c : ClassDecl) → ClassFits classes natives c → Whole (rest_of_class c.kind c.parent) (field_words c ++ budget_words (is_dispatched c.kind) c.budget) c
+    whole_rest : (c : ClassDecl) → ClassFits version classes natives c → Whole (rest_of_class c.kind c.parent) (field_words c ++ budget_words (is_dispatched c.kind) c.budget) c
     whole_rest c fits =
         first _ (takes_optional k.Words 8 c.words fits.words (omega (arith, fits.words))) (
         first (rest_of_fields c.kind c.parent c.words) (takes_flag k.Own) (
         first _ (takes_list 8 (thing_of scope) thing_word c.fields fits.field_count (λ i d less. thing_element _ (fits.fields i d less))) (
         last _ (whole_budget (is_dispatched c.kind) c.budget fits.budget fits.budgeted) (done _))))
 
-    whole_parent : (version : Version) (c : ClassDecl) → ClassFits classes natives c → ParentFits version classes c.kind c.parent
-        → Whole (behind_kind version c.kind) (class_after k.From c.parent ++ (field_words c ++ budget_words (is_dispatched c.kind) c.budget)) c
-    whole_parent version c fits parent = record {
+    whole_parent : (c : ClassDecl) → ClassFits version classes natives c → ParentFits version classes c.kind c.parent
+        → Whole (behind_kind c.kind) (class_after k.From c.parent ++ (field_words c ++ budget_words (is_dispatched c.kind) c.budget)) c
+    whole_parent c fits parent = record {
       reads = reads_on (optional_parent scope version c.kind) (rest_of_class c.kind) {ws = class_after k.From c.parent ++ (field_words c ++ budget_words (is_dispatched c.kind) c.budget)}
           (parent_before version c.kind c.parent parent (others_of (field_words c ++ budget_words (is_dispatched c.kind) c.budget)))
           (whole_rest c fits).reads;
     }
 
-    whole_class : (version : Version) (place : ℕ) (c : ClassDecl) → place < classes → ClassFits classes natives c → ParentFits version classes c.kind c.parent → (is_server c ≡ true → servers < 8)
+    whole_class : (place : ℕ) (c : ClassDecl) → place < classes → ClassFits version classes natives c → ParentFits version classes c.kind c.parent → (is_server c ≡ true → servers < 8)
         → Whole (class_statement scope version natives place servers) (others_of (class_words place c)) c
-    whole_class version place c there fits parent few =
+    whole_class place c there fits parent few =
         let few_classes = names.few_classes in
         first _ (takes_declared 99 place scope.classes refl (omega arith) (names.class place there)) (
-        first_two any_keyword (kind scope natives servers) (behind_kind version) (takes_kind c.kind fits.kind few) (whole_parent version c fits parent))
+        first_two any_keyword (kind scope version natives servers) behind_kind (takes_kind c.kind fits.kind few) (whole_parent c fits parent))
 
 pub class_statement_reads : ClassesReadBack
-class_statement_reads classes methods scope names version natives servers place c few_natives there fits parent few = (whole_class names natives servers few_natives version place c there fits parent few).reads
+class_statement_reads classes methods scope names version natives servers place c few_natives there fits parent few = (whole_class names version natives servers few_natives place c there fits parent few).reads

@@ -11,7 +11,7 @@ use Rattle.aom_image.specs.Image.{Image}
 use Rattle.aom_image.specs.WellFormed.{WellFormed, is_server}
 use Rattle.aom_image.specs.declared.class.ClassDecl.{ClassDecl}
 use Rattle.aom_image.specs.declared.image.Header.{Header}
-use Rattle.aom_image.specs.declared.image.Version.{Version}
+use Rattle.aom_instructions.specs.declared.version.Version.{Version}
 use Rattle.aom_image.specs.declared.method.Method.{Method}
 use Rattle.aom_syntax.specs.Reading.{◌>>=◌}
 use Rattle.aom_asm.specs.Body.{Program}

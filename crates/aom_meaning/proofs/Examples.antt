@@ -5,7 +5,7 @@ use Rattle.aom_text.specs.declared.fault.AsmFaultKind.TheVariants.{BadShape}
 use Rattle.aom_image.specs.Image.{Image}
 use Rattle.aom_image.specs.Small.{a_class, a_header, a_method}
 use Rattle.aom_image.specs.declared.class.ClassKind.TheVariants.{Plain}
-use Rattle.aom_image.specs.declared.image.Version.TheVariants.{Two}
+use Rattle.aom_instructions.specs.declared.version.Version.TheVariants.{Two}
 use Rattle.aom_image.specs.declared.method.Gives.TheVariants.{Nothing}
 use Rattle.aom_image.specs.declared.method.Role.TheVariants.{Do}
 use Rattle.aom_instructions.specs.declared.instr.Instr.TheVariants.{Return}

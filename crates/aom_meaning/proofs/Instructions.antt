@@ -1,6 +1,7 @@
 -- A statement of a method's code is read where its words mean an instruction, and as that instruction.
 use Rattle.std.proofs.lemmas.Option.{same_Some}
-use Rattle.std.proofs.Common.{◌≡◌, ℕ, suc, ◌-◌, ◌==◌, ◌<◌, ◌≤◌, Bool, true, false, List, [], ◌∷◌, ◌++◌, length, take, drop, get_or, Option, Some, None, Ok, Err, refl, sym, ap, ◌∙◌, arith}
+use Rattle.std.proofs.Common.{◌≡◌, ℕ, suc, ◌-◌, ◌==◌, ◌<◌, ◌≤◌, Bool, true, false, List, [], ◌∷◌, ◌++◌, length, take, drop, get_or, Option, Some, None, Ok, Err, refl, sym, ap, subst, ◌∙◌, arith}
+use Rattle.aom_instructions.specs.declared.version.Version.{Version}
 use Rattle.aom_image.proofs.Given.{true_given, some_given}
 use Rattle.std.specs.Prelude.{IfSome, if◌then◌else◌}
 use Rattle.std.specs.List.{list_all}
@@ -12,12 +13,12 @@ use Rattle.std.proofs.lemmas.List.Folds.{list_all-append}
 use Rattle.std.proofs.lemmas.Slice.Eq.{bytes_eq-Decides}
 use Rattle.aom_text.specs.Names.{is_name}
 use Rattle.aom_text.specs.Words.{is_plain}
-use Rattle.aom_text.specs.declared.fault.AsmFaultKind.TheVariants.{DoubleName}
+use Rattle.aom_text.specs.declared.fault.AsmFaultKind.TheVariants.{BadShape, DoubleName}
 use Rattle.aom_image.specs.declared.class.ClassDecl.{ClassDecl}
 use Rattle.aom_instructions.specs.declared.instr.Instr.{Instr}
 use Rattle.aom_syntax.specs.Classes.{declared_at, is_at}
 use Rattle.aom_syntax.specs.Methods.{after_label, check_label, instruction, known_mnemonic, label_of, named_mnemonic, skip_label}
-use Rattle.aom_instructions.specs.Mnemonics.{mnemonic_of, mnemonic_text}
+use Rattle.aom_instructions.specs.Mnemonics.{is_in, mnemonic_of, mnemonic_text}
 use Rattle.aom_instructions.specs.Rows.{mnemonics}
 use Rattle.aom_syntax.specs.Names.{place_of}
 use Rattle.aom_syntax.specs.Reading.{◌>>=◌, as_name, giving, next, nothing_more, seen, word}
@@ -56,8 +57,16 @@ label_is (b ∷ bs) l is = true_given (λ c. (if c then Some (take (length (b �
 
 -- ---- what was read
 
-known_is : (w : List ℕ) (o : Option Mnemonic) (m : Mnemonic) → known_mnemonic w o ≡ Ok m → o ≡ Some m
-known_is w o m is = some_given (λ o. known_mnemonic w o ≡ Ok m) o is (λ e. cc) (λ n same e. same ∙ ap Some (ok_is n m e))
+record IsKnown (version : Version) (o : Option Mnemonic) (m : Mnemonic) : Type 0 where
+  found : o ≡ Some m
+  there : is_in version m ≡ true
+
+known_is : (version : Version) (w : List ℕ) (o : Option Mnemonic) (m : Mnemonic) → known_mnemonic version w o ≡ Ok m → IsKnown version o m
+known_is version w o m is =
+    some_given (λ o. known_mnemonic version w o ≡ Ok m) o is (λ e. cc) (λ n same e.
+    let p = passed (is_in version n) (Ok n) BadShape m e in
+    let one = ok_is n m p.1 in
+    record { found = same ∙ ap Some one; there = subst (λ x. is_in version x ≡ true) one p.0 })
 
 module _ (place : ℕ) (labels : List (List ℕ)) where
   abbrev IsPlaced : Option (List ℕ) → Type 0
@@ -92,56 +101,59 @@ module _ (place : ℕ) (labels : List (List ℕ)) where
       let s = steps (word ws) (λ x. skip_label place labels x.0 (label_of x.0) x.1) (w, rest) is in
       past ws s.first.0 s.first.1 (label_of s.first.0) w rest (saw_word ws s.first.0 s.first.1 s.read) refl s.second
 
-  record Begins (ws : List (List ℕ)) (m : Mnemonic) (rest : List (List ℕ)) : Type 0 where
+  record Begins (version : Version) (ws : List (List ℕ)) (m : Mnemonic) (rest : List (List ℕ)) : Type 0 where
     label : Option (List ℕ)
     words : ws ≡ label_words label ++ (mnemonic_text m ∷ rest)
     is_named : IsNamed label
     is_placed : IsPlaced label
+    there : is_in version m ≡ true
 
-  begins : (ws : List (List ℕ)) (m : Mnemonic) (rest : List (List ℕ)) → seen named_mnemonic (after_label place labels) ws ≡ Ok (m, rest) → Begins ws m rest
-  begins ws m rest is =
-      let s = steps (after_label place labels ws) (λ x. named_mnemonic x.0 >>= λ y. Ok (y, x.1)) (m, rest) is in
-      let t = steps (named_mnemonic s.first.0) (λ y. Ok (y, s.first.1)) (m, rest) s.second in
+  begins : (version : Version) (ws : List (List ℕ)) (m : Mnemonic) (rest : List (List ℕ)) → seen (named_mnemonic version) (after_label place labels) ws ≡ Ok (m, rest) → Begins version ws m rest
+  begins version ws m rest is =
+      let s = steps (after_label place labels ws) (λ x. named_mnemonic version x.0 >>= λ y. Ok (y, x.1)) (m, rest) is in
+      let t = steps (named_mnemonic version s.first.0) (λ y. Ok (y, s.first.1)) (m, rest) s.second in
       let l = labelled ws s.first.0 s.first.1 s.read in
       let both : pair t.first s.first.1 ≡ (m, rest) = ok_is (pair t.first s.first.1) (m, rest) t.second in
-      let found : mnemonic_of s.first.0 ≡ Some m = known_is s.first.0 (mnemonic_of s.first.0) t.first t.read ∙ ap (λ p. Some p.0) both in
+      let known = known_is version s.first.0 (mnemonic_of s.first.0) t.first t.read in
+      let found : mnemonic_of s.first.0 ≡ Some m = known.found ∙ ap (λ p. Some p.0) both in
       let text : mnemonic_text m ≡ s.first.0 = (bytes_eq-Decides (mnemonic_text m) s.first.0).0 (found_passes (λ n. bytes_eq (mnemonic_text n) s.first.0) mnemonics m found) in
       record {
         label = l.label;
         words = l.words ∙ ap (λ v. label_words l.label ++ (v ∷ s.first.1)) (sym text) ∙ ap (λ p. label_words l.label ++ (mnemonic_text m ∷ p.1)) both;
         is_named = l.is_named;
         is_placed = l.is_placed;
+        there = subst (λ (p : Mnemonic × List (List ℕ)). is_in version p.0 ≡ true) both known.there;
       }
 
-  module _ (names : Names) (kinds : List ClassDecl) where
+  module _ (version : Version) (names : Names) (kinds : List ClassDecl) where
     -- the words of an instruction, and what they mean at its place
     pub record InstructionSays (ws : List (List ℕ)) (i : Instr) : Type 0 where
       pub said : InstructionText
       pub words : ws ≡ instruction_words said
-      pub means : InstructionMeans names labels said i
+      pub means : InstructionMeans names version labels said i
       pub placed : IsPlaced said.label
 
-    pub instruction_sound : (ws : List (List ℕ)) → Sound (instruction (scoped true names kinds) labels place) ws (λ i rest. InstructionSays ws i)
+    pub instruction_sound : (ws : List (List ℕ)) → Sound (instruction (scoped true names kinds) version labels place) ws (λ i rest. InstructionSays ws i)
     instruction_sound ws =
         let Q = λ (i : Instr) (rest : List (List ℕ)). InstructionSays ws i in
         let scope = scoped true names kinds in
-        next_sound Q (seen named_mnemonic (after_label place labels)) _ ws (λ m v1 r1.
+        next_sound Q (seen (named_mnemonic version) (after_label place labels)) _ ws (λ m v1 r1.
         next_sound Q (words_operands scope labels m) _ v1 (λ i v2 r2.
         next_sound Q (nothing_more false) _ v2 (λ u v3 r3.
-        let b = begins ws m v1 r1 in
+        let b = begins version ws m v1 r1 in
         let none = (none_left false v2 u v3 r3).0 in
         let found = (operands_follow scope (lookup names) labels (finds_more true 256 names [] kinds names.classes) (finds_more true 1024 names [] kinds names.methods)
         (finds_more true 1024 names [] kinds labels) m).each v1 i v2 r2 in
         giving_sound Q i v3 (record {
           said = record { label = b.label; mnemonic = m; operands = v1 };
           words = b.words;
-          means = record { label = b.is_named; operands = found ∙ ap (λ v. Ok (i, v)) none };
+          means = record { label = b.is_named; there = b.there; operands = found ∙ ap (λ v. Ok (i, v)) none };
           placed = b.is_placed;
         }))))
 
 -- ---- what is read
 
-module _ (place : ℕ) (labels : List (List ℕ)) where
+module _ (version : Version) (place : ℕ) (labels : List (List ℕ)) where
   colon_is_plain : (l : List ℕ) → is_name l ≡ true → list_all is_plain (l ++ 58 ∷ []) ≡ true
   colon_is_plain l is = list_all-append is_plain l (58 ∷ []) ∙ rw (plain_name l is)
 
@@ -167,12 +179,15 @@ module _ (place : ℕ) (labels : List (List ℕ)) where
   spread None w ws = refl
   spread (Some l) w ws = refl
 
-  pub instruction_reads : (b : Bool) (names : Names) (kinds : List ClassDecl) (t : InstructionText) (i : Instr) → InstructionMeans names labels t i → IsPlaced place labels t.label
-      → Whole (instruction (scoped b names kinds) labels place) (instruction_words t) i
+  known_reads : (m : Mnemonic) → is_in version m ≡ true → named_mnemonic version (mnemonic_text m) ≡ Ok m
+  known_reads m there = ap (known_mnemonic version (mnemonic_text m)) (mnemonic_reads m) ∙ ap (λ b. if b then Ok m else Err BadShape) there
+
+  pub instruction_reads : (b : Bool) (names : Names) (kinds : List ClassDecl) (t : InstructionText) (i : Instr) → InstructionMeans names version labels t i → IsPlaced place labels t.label
+      → Whole (instruction (scoped b names kinds) version labels place) (instruction_words t) i
   instruction_reads b names kinds t i means placed =
       let found = (operands_follow (lookup names) (scoped b names kinds) labels (finds_more b 256 names kinds [] names.classes) (finds_more b 1024 names kinds [] names.methods)
       (finds_more b 1024 names kinds [] labels) t.mnemonic).each t.operands i [] means.operands in
       let operands : Whole (words_operands (scoped b names kinds) labels t.mnemonic) t.operands i = record { reads = found } in
       regroup (spread t.label (mnemonic_text t.mnemonic) t.operands) (
-      first _ (sees named_mnemonic (takes_label t.label t.mnemonic means.label placed) (ap (known_mnemonic (mnemonic_text t.mnemonic)) (mnemonic_reads t.mnemonic))) (
+      first _ (sees (named_mnemonic version) (takes_label t.label t.mnemonic means.label placed) (known_reads t.mnemonic means.there)) (
       last (λ x. next (nothing_more false) (λ u. giving x)) operands (record { reads = refl })))

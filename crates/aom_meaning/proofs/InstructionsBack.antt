@@ -1,7 +1,8 @@
 -- Each instruction reads back, by the kinds of its operands.
-use Rattle.std.proofs.Common.{◌≡◌, ℕ, ◌<◌, List, ◌∷◌, refl, ap, ◌∙◌, arith, Some, Ok}
+use Rattle.std.proofs.Common.{◌≡◌, ℕ, ◌<◌, List, ◌∷◌, refl, ap, ◌∙◌, arith, Some, Ok, true}
+use Rattle.aom_instructions.specs.declared.version.Version.{Version}
 use Rattle.aom_instructions.proofs.Again.{parts_make_again}
-use Rattle.aom_instructions.specs.Mnemonics.{mnemonic_text}
+use Rattle.aom_instructions.specs.Mnemonics.{is_in, mnemonic_text}
 use Rattle.aom_instructions.specs.Operands.{LargeFits, OperandsFit, SmallFits}
 use Rattle.aom_instructions.specs.Parts.{make, mnemonic, operands, operands_of}
 use Rattle.aom_instructions.specs.Rows.{row}
@@ -31,9 +32,10 @@ use Rattle.aom_meaning.specs.Naming.{HasLabel, HasNames}
 use Rattle.aom_meaning.proofs.OperandsBack.{takes_class, takes_depth, takes_field, takes_label, takes_last, takes_method, takes_rounds, takes_signed, takes_target, takes_word_field}
 use Rattle.aom_meaning.proofs.Readings.{Takes, gives, in_turn}
 
--- its words are a mnemonic and operands, which read back
-pub record Says (scope : Scope) (labels : List (List ℕ)) (i : Instr) : Type 0 where
+-- its words are a mnemonic that the version has and operands, which read back
+pub record Says (scope : Scope) (version : Version) (labels : List (List ℕ)) (i : Instr) : Type 0 where
   pub mnemonic : Mnemonic
+  pub there : is_in version mnemonic ≡ true
   pub operands : List (List ℕ)
   pub words : words_statement i ≡ mnemonic_text mnemonic ∷ operands
   pub takes : Takes (words_operands scope labels mnemonic) operands i
@@ -72,8 +74,8 @@ labelled labels (instr.JumpAdded d) to = to
 labelled labels (instr.Next e d) to = to
 labelled labels _ to = tt
 
-module _ {classes methods : ℕ} {scope : Scope} (names : HasNames classes methods scope) (labels : List (List ℕ)) (places : ℕ) where
-  takes_large : (k : LargeKind) (o : Large) → LargeFits (limits classes methods places) k o → Labelled labels o → Takes (large_operand scope labels k) (large_words o) o
+module _ {classes methods : ℕ} {scope : Scope} (names : HasNames classes methods scope) (version : Version) (labels : List (List ℕ)) (places : ℕ) where
+  takes_large : (k : LargeKind) (o : Large) → LargeFits (limits version classes methods places) k o → Labelled labels o → Takes (large_operand scope labels k) (large_words o) o
   takes_large lk.Nothing large.Nothing fits to = gives large.Nothing
   takes_large lk.Number (large.Number z) fits to = makes (λ z. large.Number z) (takes_signed z fits)
   takes_large lk.Rounds (large.Rounds n) fits to = makes (λ n. large.Rounds n) (takes_rounds n fits.0 fits.1)
@@ -82,7 +84,7 @@ module _ {classes methods : ℕ} {scope : Scope} (names : HasNames classes metho
   takes_large lk.Method (large.Method m) fits to = makes (λ m. large.Method m) (takes_method names m fits)
   takes_large _ _ fits to = absurd fits
 
-  takes_in_order : (k : Kinds) (order : Order) (o : Operands) → OperandsFit (limits classes methods places) k o → Labelled labels o.d
+  takes_in_order : (k : Kinds) (order : Order) (o : Operands) → OperandsFit (limits version classes methods places) k o → Labelled labels o.d
       → Takes (in_order order (small_operand k.a) (small_operand k.b) (small_operand k.c) (large_operand scope labels k.d)) (in_text order o) o
   takes_in_order k LargeLast o fits to =
       in_turn _ (takes_small k.a o.a fits.a)
@@ -94,11 +96,12 @@ module _ {classes methods : ℕ} {scope : Scope} (names : HasNames classes metho
   same_value : {X : Type 0} {r : Reading X} {us : List (List ℕ)} {x y : X} → x ≡ y → Takes r us x → Takes r us y
   same_value is takes = record { reads = λ rest. takes.reads rest ∙ ap (λ x. Ok (x, rest)) is }
 
-  pub says : (i : Instr) → InstrFits (limits classes methods places) i → HasLabel labels i → Says scope labels i
+  pub says : (i : Instr) → InstrFits (limits version classes methods places) i → HasLabel labels i → Says scope version labels i
   says i fits to = record {
     mnemonic = mnemonic i;
+    there = fits.version;
     operands = in_text (row (mnemonic i)).kinds.order (operands i);
     words = refl;
     takes = same_value (parts_make_again i)
-        (makes (λ o. make (mnemonic i) o) (takes_in_order (row (mnemonic i)).kinds (row (mnemonic i)).kinds.order (operands i) fits (labelled labels i to)));
+        (makes (λ o. make (mnemonic i) o) (takes_in_order (row (mnemonic i)).kinds (row (mnemonic i)).kinds.order (operands i) fits.operands (labelled labels i to)));
   }

@@ -2,6 +2,7 @@
 use Rattle.std.proofs.Common.{◌≡◌, ℕ, ◌<◌, ◌≤◌, ◌⊎◌, inl, inr, Bool, true, false, List, [], length, get_or, slice_get, Option, Some, None, refl, sym, ap, subst, ◌∙◌, arith}
 use Rattle.std.specs.Prelude.{IfSome}
 use Rattle.std.proofs.lemmas.Bool.{eq-eqb}
+use Rattle.aom_instructions.specs.declared.version.Version.{Version}
 use Rattle.aom_instructions.specs.Fits.{InstrFits, limits}
 use Rattle.aom_instructions.specs.declared.instr.Instr.{Instr}
 use Rattle.aom_instructions.specs.declared.instr.Instr.TheVariants as instr
@@ -40,19 +41,19 @@ jump_is_target code place d i there jumps =
     (ap (λ i. is_at d (jump_of i)) (get_or_from_slice_get code place i i there) ∙ ap (is_at d) jumps ∙ eq-eqb d d refl)
 
 -- an instruction that fits jumps into the code
-jump_within : (classes methods places : ℕ) (i : Instr) → InstrFits (limits classes methods places) i → IfSome (jump_of i) (λ d. d < places)
-jump_within classes methods places (instr.Jump d) fits = fits.d
-jump_within classes methods places (instr.JumpEqual a b d) fits = fits.d
-jump_within classes methods places (instr.JumpLess a b d) fits = fits.d
-jump_within classes methods places (instr.JumpNull a d) fits = fits.d
-jump_within classes methods places (instr.JumpEmpty f d) fits = fits.d
-jump_within classes methods places (instr.JumpActive d) fits = fits.d
-jump_within classes methods places (instr.JumpAdded d) fits = fits.d
-jump_within classes methods places (instr.Next e d) fits = fits.d
-jump_within classes methods places _ fits = tt
+jump_within : (version : Version) (classes methods places : ℕ) (i : Instr) → InstrFits (limits version classes methods places) i → IfSome (jump_of i) (λ d. d < places)
+jump_within version classes methods places (instr.Jump d) fits = fits.operands.d
+jump_within version classes methods places (instr.JumpEqual a b d) fits = fits.operands.d
+jump_within version classes methods places (instr.JumpLess a b d) fits = fits.operands.d
+jump_within version classes methods places (instr.JumpNull a d) fits = fits.operands.d
+jump_within version classes methods places (instr.JumpEmpty f d) fits = fits.operands.d
+jump_within version classes methods places (instr.JumpActive d) fits = fits.operands.d
+jump_within version classes methods places (instr.JumpAdded d) fits = fits.operands.d
+jump_within version classes methods places (instr.Next e d) fits = fits.operands.d
+jump_within version classes methods places _ fits = tt
 
-pub has_label : (classes methods : ℕ) (code : List Instr) (place : ℕ) (i : Instr) → length code ≤ 1024 → slice_get code place ≡ Some i → InstrFits (limits classes methods (length code)) i → HasLabel (code_labels code) i
-has_label classes methods code place i few there fits = go (jump_of i) refl (jump_within classes methods (length code) i fits)
+pub has_label : (version : Version) (classes methods : ℕ) (code : List Instr) (place : ℕ) (i : Instr) → length code ≤ 1024 → slice_get code place ≡ Some i → InstrFits (limits version classes methods (length code)) i → HasLabel (code_labels code) i
+has_label version classes methods code place i few there fits = go (jump_of i) refl (jump_within version classes methods (length code) i fits)
   where
     go : (o : Option ℕ) → jump_of i ≡ o → IfSome o (λ d. d < length code) → IfSome o (λ d. (d < 1024) × (place_of (label_name d) (code_labels code) ≡ Some d))
     go None jumps within = tt

@@ -8,8 +8,8 @@ use Rattle.aom_text.specs.declared.fault.AsmFaultKind.{AsmFaultKind}
 use Rattle.aom_image.specs.Views.{has}
 use Rattle.aom_meaning.specs.ReadbackLaws.{HeadingsReadBack}
 use Rattle.aom_image.specs.WellFormed.{ArgumentFits, GivesFits, MethodFits, OverFits}
-use Rattle.aom_image.specs.declared.image.Version.{Version}
-use Rattle.aom_image.specs.declared.image.Version.TheVariants as versions
+use Rattle.aom_instructions.specs.declared.version.Version.{Version}
+use Rattle.aom_instructions.specs.declared.version.Version.TheVariants as versions
 use Rattle.aom_image.specs.declared.method.Argument.{Argument}
 use Rattle.aom_image.specs.declared.method.Argument.TheVariants as arg
 use Rattle.aom_image.specs.declared.method.Gives.{Gives}
@@ -153,18 +153,18 @@ module _ {classes methods : ℕ} {scope : Scope} (names : HasNames classes metho
   abbrev with_flags : Method → MethodFlags → Heading
   with_flags m flags = record { class = m.class; over = m.over; role = m.role; flags = flags; before = m.before; after = m.after; arguments = m.arguments; gives = m.gives }
 
-  whole_promise : (m : Method) → MethodFits classes methods m → (leaves quiet : Bool) → Whole (promised scope m.role m.class m.over leaves quiet) (promise_words m) (with_flags m (flags_of leaves (quiet || is_quiet_role m.role)))
-  whole_promise m fits leaves quiet =
+  whole_promise : (version : Version) (m : Method) → MethodFits version classes methods m → (leaves quiet : Bool) → Whole (promised scope m.role m.class m.over leaves quiet) (promise_words m) (with_flags m (flags_of leaves (quiet || is_quiet_role m.role)))
+  whole_promise version m fits leaves quiet =
       first _ (takes_states_in (usual_before m.role (all_states (kind_of scope.kinds m.class))) m.before fits.before) (
       first _ (takes_states_out (usual_after m.role (all_states (kind_of scope.kinds m.class))) m.after fits.after) (
       first _ (takes_arguments (usual_words m.role) m.arguments fits.argument_count fits.arguments) (
       last _ (whole_gives (usual_gives scope.is_strict m.role (kind_of scope.kinds m.class)) m.gives fits.gives) (done _))))
 
-  whole_flags : (m : Method) → MethodFits classes methods m → (is_quiet_role m.role ≡ true → has m.flags.0 2 ≡ true)
+  whole_flags : (version : Version) (m : Method) → MethodFits version classes methods m → (is_quiet_role m.role ≡ true → has m.flags.0 2 ≡ true)
       → Whole (next (flag k.Leaves) (λ leaves. next (flag k.Quiet) (promised scope m.role m.class m.over leaves))) (flag_words m.flags.0 ++ promise_words m) (heading_of m)
-  whole_flags m fits quiet =
+  whole_flags version m fits quiet =
       flags_before (has m.flags.0 1) (has m.flags.0 2) (promised scope m.role m.class m.over) (others_of (promise_words m)) (heading_of m)
-      (settle (ap (with_flags m) (flags_read m.role m.flags fits.flags quiet)) (whole_promise m fits (has m.flags.0 1) (has m.flags.0 2)))
+      (settle (ap (with_flags m) (flags_read m.role m.flags fits.flags quiet)) (whole_promise version m fits (has m.flags.0 1) (has m.flags.0 2)))
 
   -- what is read behind the class, and behind the role
   abbrev behind_class : Version → Role → Option ℕ → Reading Heading
@@ -173,7 +173,7 @@ module _ {classes methods : ℕ} {scope : Scope} (names : HasNames classes metho
   abbrev behind_role : Version → Role → Reading Heading
   behind_role version role = next (optional_class scope) (behind_class version role)
 
-  module _ (version : Version) (m : Method) (fits : MethodFits classes methods m) (over_fits : OverFits version methods m.over) (quiet : is_quiet_role m.role ≡ true → has m.flags.0 2 ≡ true) where
+  module _ (version : Version) (m : Method) (fits : MethodFits version classes methods m) (over_fits : OverFits version methods m.over) (quiet : is_quiet_role m.role ≡ true → has m.flags.0 2 ≡ true) where
     abbrev words_flagged : List (List ℕ)
     words_flagged = flag_words m.flags.0 ++ promise_words m
 
@@ -181,7 +181,7 @@ module _ {classes methods : ℕ} {scope : Scope} (names : HasNames classes metho
     whole_over = record {
       reads = reads_on (optional_over scope version) (λ over. next (flag k.Leaves) (λ leaves. next (flag k.Quiet) (promised scope m.role m.class over leaves))) {ws = method_after k.Over m.over ++ words_flagged}
           (over_before version m.over over_fits words_flagged (no_over (has m.flags.0 1) (has m.flags.0 2) (others_of (promise_words m))))
-          (whole_flags m fits quiet).reads;
+          (whole_flags version m fits quiet).reads;
     }
 
     whole_of_class : Whole (behind_role version m.role) (class_after k.Of m.class ++ (method_after k.Over m.over ++ words_flagged)) (heading_of m)
@@ -196,7 +196,7 @@ module _ {classes methods : ℕ} {scope : Scope} (names : HasNames classes metho
         let few = names.few_methods in
         first _ (takes_declared 109 place scope.methods refl (omega arith) (names.method place there)) (first (behind_role version) (takes_role m.role) whole_of_class)
 
-  pub heading_reads : (version : Version) (place : ℕ) (m : Method) → place < methods → MethodFits classes methods m → OverFits version methods m.over → SaysQuiet m
+  pub heading_reads : (version : Version) (place : ℕ) (m : Method) → place < methods → MethodFits version classes methods m → OverFits version methods m.over → SaysQuiet m
       → heading scope version place (others_of (heading_words place m)) ≡ Ok (heading_of m, [])
   heading_reads version place m there fits over quiet = (whole_heading version m fits over quiet place there).reads
 

@@ -7,7 +7,8 @@ use Rattle.std.proofs.lemmas.List.{length_push}
 use Rattle.aom_text.specs.declared.fault.AsmFaultKind.{AsmFaultKind}
 use Rattle.aom_text.specs.declared.fault.AsmFaultKind.TheVariants.{BadShape, LimitPassed}
 use Rattle.aom_text.specs.declared.text.Statement.{Statement}
-use Rattle.aom_image.specs.WellFormed.{family_bytes, is_server}
+use Rattle.aom_image.specs.WellFormed.{is_server}
+use Rattle.aom_instructions.specs.Versions.{family_bytes}
 use Rattle.aom_image.specs.declared.class.ClassDecl.{ClassDecl}
 use Rattle.aom_image.specs.declared.image.Header.{Header}
 use Rattle.aom_instructions.specs.declared.instr.Instr.{Instr}
@@ -97,22 +98,22 @@ module _ (last : ℕ) (names : Names) (kinds : List ClassDecl) where
     instr : Instr
     size : ℕ
     few : length b.code < 1024
-    says : InstructionSays (length b.code) b.labels names kinds ws instr
+    says : InstructionSays (length b.code) b.labels h.version names kinds ws instr
     same : q ≡ read_so_far h cs ms (Some (with_code b (b.code ++ instr ∷ []))) size
 
   code_taken : (h : Header) (cs : List ClassDecl) (ms : List Method) (size : ℕ) (b : Body) (ws : List (List ℕ)) (q : Program)
-      → (with_instruction scope b ws >>= λ c. grown 8 size >>= λ n. Ok (read_so_far h cs ms (Some c) n)) ≡ Ok q → CodeStep h cs ms b ws q
+      → (with_instruction scope h.version b ws >>= λ c. grown 8 size >>= λ n. Ok (read_so_far h cs ms (Some c) n)) ≡ Ok q → CodeStep h cs ms b ws q
   code_taken h cs ms size b ws q is =
       let added : Instr → Body = λ i. with_code b (b.code ++ i ∷ []) in
-      let s = steps (with_instruction scope b ws) (λ c. grown 8 size >>= λ n. Ok (read_so_far h cs ms (Some c) n)) q is in
+      let s = steps (with_instruction scope h.version b ws) (λ c. grown 8 size >>= λ n. Ok (read_so_far h cs ms (Some c) n)) q is in
       let t = steps (grown 8 size) (λ n. Ok (read_so_far h cs ms (Some s.first) n)) q s.second in
-      let i = passed (nat_lt (length b.code) 1024) (instruction scope b.labels (length b.code) ws >>= λ i. Ok (added i.0)) LimitPassed s.first s.read in
-      let u = steps (instruction scope b.labels (length b.code) ws) (λ i. Ok (added i.0)) s.first i.1 in
+      let i = passed (nat_lt (length b.code) 1024) (instruction scope h.version b.labels (length b.code) ws >>= λ i. Ok (added i.0)) LimitPassed s.first s.read in
+      let u = steps (instruction scope h.version b.labels (length b.code) ws) (λ i. Ok (added i.0)) s.first i.1 in
       record {
         instr = u.first.0;
         size = t.first;
         few = ltb-true (length b.code) 1024 i.0;
-        says = (instruction_sound (length b.code) b.labels names kinds ws).each u.first.0 u.first.1 u.read;
+        says = (instruction_sound (length b.code) b.labels h.version names kinds ws).each u.first.0 u.first.1 u.read;
         same = sym (ap (λ c. read_so_far h cs ms (Some c) t.first) (ok_is (added u.first.0) s.first u.second) ∙ ok_is (read_so_far h cs ms (Some s.first) t.first) q t.second);
       }
 
@@ -154,7 +155,7 @@ module _ (last : ℕ) (names : Names) (kinds : List ClassDecl) where
   record Inside (h : Header) (ss : List Statement) (b : Body) (cs : List ClassDecl) (ms : List Method) (q : Program) : Type 0 where
     code : List InstructionText
     more : List Instr
-    means : Pairwise (InstructionMeans names b.labels) code more
+    means : Pairwise (InstructionMeans names h.version b.labels) code more
     places : LabelsPlaced b.labels (length b.code) code
     rest : List Statement
     words : all_words ss ≡ map instruction_words code ++ (end_words ∷ all_words rest)
@@ -234,7 +235,7 @@ module _ (last : ℕ) (names : Names) (kinds : List ClassDecl) where
             record {
               heading = says.means;
               labels = labels_once inside.code (subst (λ l. LabelsPlaced l 0 inside.code) labels inside.places);
-              code = subst (λ l. Pairwise (InstructionMeans names l) inside.code inside.more) labels inside.means;
+              code = subst (λ l. Pairwise (InstructionMeans names h.version l) inside.code inside.more) labels inside.means;
               some = inside.some;
               few = inside.few;
             },
@@ -259,7 +260,7 @@ module _ (last : ℕ) (names : Names) (kinds : List ClassDecl) where
           later = subst (λ (l : List Instr). Later h ss cs (ms ++ whole_of (with_code b l) ∷ []) q) same later;
         }
 
-    add_code : (b : Body) (i : Instr) → InstructionSays (length b.code) b.labels names kinds s.words i → Inside h ss (with_code b (b.code ++ i ∷ [])) cs ms q → Inside h (s ∷ ss) b cs ms q
+    add_code : (b : Body) (i : Instr) → InstructionSays (length b.code) b.labels h.version names kinds s.words i → Inside h ss (with_code b (b.code ++ i ∷ [])) cs ms q → Inside h (s ∷ ss) b cs ms q
     add_code b i says inside =
         let same : (b.code ++ i ∷ []) ++ inside.more ≡ b.code ++ i ∷ inside.more = append_assoc b.code (i ∷ []) inside.more in
         record {
@@ -288,7 +289,7 @@ module _ (last : ℕ) (names : Names) (kinds : List ClassDecl) where
 
     -- an instruction, or the end of a method
     abbrev in_method : ℕ → Body → Bool × List (List ℕ) → Result Program AsmFaultKind
-    in_method size b t = if t.0 then with_method (read_so_far h cs ms None size) b t.1 else (with_instruction scope b t.1 >>= λ c. grown 8 size >>= λ n. Ok (read_so_far h cs ms (Some c) n))
+    in_method size b t = if t.0 then with_method (read_so_far h cs ms None size) b t.1 else (with_instruction scope h.version b t.1 >>= λ c. grown 8 size >>= λ n. Ok (read_so_far h cs ms (Some c) n))
 
     spoken_after : AllAfter ss → (size : ℕ) (b : Body) → length b.code ≤ 1024 → (p : Program) → read_rest last scope p ss ≡ Ok q → Took k.End s.words
         → in_method size b (took k.End s.words) ≡ Ok p → Inside h (s ∷ ss) b cs ms q

@@ -10,7 +10,8 @@ use Rattle.aom_text.specs.Words.{others_of}
 use Rattle.aom_text.specs.declared.fault.AsmFaultKind.{AsmFaultKind}
 use Rattle.aom_text.specs.declared.fault.AsmFaultKind.TheVariants.{LimitPassed}
 use Rattle.aom_text.specs.declared.text.Statement.{Statement}
-use Rattle.aom_image.specs.WellFormed.{ClassFits, MethodFits, OverFits, ParentFits, family_bytes, is_server}
+use Rattle.aom_image.specs.WellFormed.{ClassFits, MethodFits, OverFits, ParentFits, is_server}
+use Rattle.aom_instructions.specs.Versions.{family_bytes}
 use Rattle.aom_instructions.specs.Fits.{InstrFits, limits}
 use Rattle.aom_image.specs.declared.class.ClassDecl.{ClassDecl}
 use Rattle.aom_image.specs.declared.image.Header.{Header}
@@ -110,7 +111,7 @@ module _ (last : ℕ) (h : Header) (classes methods : ℕ) (scope : Scope) (name
 
   -- ---- classes
 
-  class_steps : (cs : List ClassDecl) (c : ClassDecl) (size : ℕ) (rest : List Statement) → length cs < classes → ClassFits classes h.natives c → fits_parent c → (is_server c ≡ true → count_by is_server cs < 8) → size + (28 + more) ≤ 2 ^ 20
+  class_steps : (cs : List ClassDecl) (c : ClassDecl) (size : ℕ) (rest : List Statement) → length cs < classes → ClassFits h.version classes h.natives c → fits_parent c → (is_server c ≡ true → count_by is_server cs < 8) → size + (28 + more) ≤ 2 ^ 20
       → step scope rest (read_so_far h cs [] None size) (class_words (length cs) c) ≡ Ok (read_so_far h (cs ++ c ∷ []) [] None (size + (28 + more)))
   class_steps cs c size rest there fits parent few enough =
       let few_classes = names.few_classes in
@@ -123,7 +124,7 @@ module _ (last : ℕ) (h : Header) (classes methods : ℕ) (scope : Scope) (name
       ∙ ap (λ e. e >>= λ n. Ok (read_so_far h (cs ++ c ∷ []) [] None n)) (room (28 + more) size enough)
 
   pub classes_go : (cs todo : List ClassDecl) (size : ℕ) (left : List (List (List ℕ))) (ss : List Statement)
-      → length cs + length todo ≤ classes → All (ClassFits classes h.natives) todo → All fits_parent todo → count_by is_server (cs ++ todo) ≤ 8 → size + sum_by (class_bytes h.version) todo ≤ 2 ^ 20
+      → length cs + length todo ≤ classes → All (ClassFits h.version classes h.natives) todo → All fits_parent todo → count_by is_server (cs ++ todo) ≤ 8 → size + sum_by (class_bytes h.version) todo ≤ 2 ^ 20
       → all_words ss ≡ classes_statements (length cs) todo ++ left
       → Goes last scope (read_so_far h cs [] None size) ss (read_so_far h (cs ++ todo) [] None (size + sum_by (class_bytes h.version) todo)) left
   classes_go cs [] size left ss there fits parents few enough words =
@@ -136,9 +137,9 @@ module _ (last : ℕ) (h : Header) (classes methods : ℕ) (scope : Scope) (name
       let summed : (size + (28 + more)) + sum_by (class_bytes h.version) todo ≡ size + sum_by (class_bytes h.version) (c ∷ todo) = omega arith in
       goes_on
       (steps {q = read_so_far h (cs ++ c ∷ []) [] None (size + (28 + more))} {left = classes_statements (length cs + 1) todo ++ left} ss words
-      (λ rest behind. class_steps cs c size rest (omega arith) (All-head (ClassFits classes h.natives) c todo fits) (All-head fits_parent c todo parents) (few_before cs c todo few) (omega arith)))
+      (λ rest behind. class_steps cs c size rest (omega arith) (All-head (ClassFits h.version classes h.natives) c todo fits) (All-head fits_parent c todo parents) (few_before cs c todo few) (omega arith)))
       (λ rest behind. arrives (ap (λ l. read_so_far h l [] None ((size + (28 + more)) + sum_by (class_bytes h.version) todo)) regrouped ∙ ap (λ n. read_so_far h (cs ++ c ∷ todo) [] None n) summed)
-      (classes_go (cs ++ c ∷ []) todo (size + (28 + more)) left rest (omega arith) (All-tail (ClassFits classes h.natives) c todo fits) (All-tail fits_parent c todo parents) (subst (λ l. count_by is_server l ≤ 8) (sym regrouped) few) (omega arith)
+      (classes_go (cs ++ c ∷ []) todo (size + (28 + more)) left rest (omega arith) (All-tail (ClassFits h.version classes h.natives) c todo fits) (All-tail fits_parent c todo parents) (subst (λ l. count_by is_server l ≤ 8) (sym regrouped) few) (omega arith)
       (behind ∙ ap (λ n. classes_statements n todo ++ left) (sym longer))))
 
   -- ---- methods
@@ -151,7 +152,7 @@ module _ (last : ℕ) (h : Header) (classes methods : ℕ) (scope : Scope) (name
     abbrev opened : List Method → Method → List Instr → ℕ → Program
     opened ms m code size = read_so_far h cs ms (Some (body_of m code)) size
 
-    heading_steps : (ms : List Method) (m : Method) (size : ℕ) (left : List (List (List ℕ))) (rest : List Statement) → length ms < methods → MethodFits classes methods m → OverFits h.version methods m.over → SaysQuiet m → size + (24 + more) ≤ 2 ^ 20
+    heading_steps : (ms : List Method) (m : Method) (size : ℕ) (left : List (List (List ℕ))) (rest : List Statement) → length ms < methods → MethodFits h.version classes methods m → OverFits h.version methods m.over → SaysQuiet m → size + (24 + more) ≤ 2 ^ 20
         → all_words rest ≡ instr_statements m.code 0 m.code ++ end_words ∷ left
         → step scope rest (read_so_far h cs ms None size) (heading_words (length ms) m) ≡ Ok (opened ms m [] (size + (24 + more)))
     heading_steps ms m size left rest there fits over quiet enough words =
@@ -168,7 +169,7 @@ module _ (last : ℕ) (h : Header) (classes methods : ℕ) (scope : Scope) (name
     abbrev added : List Method → Method → List Instr → ℕ → Result (Instr × List (List ℕ)) AsmFaultKind → Result Program AsmFaultKind
     added ms m done size read = (read >>= λ x. Ok (body_of m (done ++ x.0 ∷ []))) >>= λ b. grown 8 size >>= λ n. Ok (read_so_far h cs ms (Some b) n)
 
-    instruction_steps : (ms : List Method) (m : Method) (done : List Instr) (i : Instr) (todo : List Instr) (size : ℕ) (rest : List Statement) → MethodFits classes methods m → m.code ≡ done ++ i ∷ todo → InstrFits (limits classes methods (length m.code)) i → size + 8 ≤ 2 ^ 20
+    instruction_steps : (ms : List Method) (m : Method) (done : List Instr) (i : Instr) (todo : List Instr) (size : ℕ) (rest : List Statement) → MethodFits h.version classes methods m → m.code ≡ done ++ i ∷ todo → InstrFits (limits h.version classes methods (length m.code)) i → size + 8 ≤ 2 ^ 20
         → step scope rest (opened ms m done size) (instr_words m.code (length done) i) ≡ Ok (opened ms m (done ++ i ∷ []) (size + 8))
     instruction_steps ms m done i todo size rest fits whole fit enough =
         let place : ℕ = length done in
@@ -176,13 +177,13 @@ module _ (last : ℕ) (h : Header) (classes methods : ℕ) (scope : Scope) (name
         let count : length m.code ≡ length done + length (i ∷ todo) = ap (λ (l : List Instr). length l) whole ∙ length-append done (i ∷ todo) in
         let within : place < length m.code = omega arith in
         let there : slice_get m.code place ≡ Some i = ap (λ l. slice_get l place) whole ∙ at_seam done i todo in
-        ap (λ t. if t.0 then with_method (read_so_far h cs ms None size) (body_of m done) t.1 else (with_instruction scope (body_of m done) t.1 >>= λ b. grown 8 size >>= λ n. Ok (read_so_far h cs ms (Some b) n))) (takes_no_end (is_target m.code place) place i)
-        ∙ ap (λ t. (if t then (instruction scope (code_labels m.code) place ws >>= λ x. Ok (body_of m (done ++ x.0 ∷ []))) else Err LimitPassed) >>= λ b. grown 8 size >>= λ n. Ok (read_so_far h cs ms (Some b) n)) (lt-ltb place 1024 (omega (arith, fits.code_length)))
-        ∙ ap (added ms m done size) (instruction_reads names m.code fits.code_length place i within there fit)
+        ap (λ t. if t.0 then with_method (read_so_far h cs ms None size) (body_of m done) t.1 else (with_instruction scope h.version (body_of m done) t.1 >>= λ b. grown 8 size >>= λ n. Ok (read_so_far h cs ms (Some b) n))) (takes_no_end (is_target m.code place) place i)
+        ∙ ap (λ t. (if t then (instruction scope h.version (code_labels m.code) place ws >>= λ x. Ok (body_of m (done ++ x.0 ∷ []))) else Err LimitPassed) >>= λ b. grown 8 size >>= λ n. Ok (read_so_far h cs ms (Some b) n)) (lt-ltb place 1024 (omega (arith, fits.code_length)))
+        ∙ ap (added ms m done size) (instruction_reads names h.version m.code fits.code_length place i within there fit)
         ∙ ap (λ e. e >>= λ n. Ok (opened ms m (done ++ i ∷ []) n)) (room 8 size enough)
 
     instructions_go : (ms : List Method) (m : Method) (done todo : List Instr) (size : ℕ) (left : List (List (List ℕ))) (ss : List Statement)
-        → MethodFits classes methods m → m.code ≡ done ++ todo → All (InstrFits (limits classes methods (length m.code))) todo → size + 8 * length todo ≤ 2 ^ 20
+        → MethodFits h.version classes methods m → m.code ≡ done ++ todo → All (InstrFits (limits h.version classes methods (length m.code))) todo → size + 8 * length todo ≤ 2 ^ 20
         → all_words ss ≡ instr_statements m.code (length done) todo ++ left
         → Goes last scope (opened ms m done size) ss (opened ms m (done ++ todo) (size + 8 * length todo)) left
     instructions_go ms m done [] size left ss fits whole each enough words =
@@ -194,16 +195,16 @@ module _ (last : ℕ) (h : Header) (classes methods : ℕ) (scope : Scope) (name
         let summed : (size + 8) + 8 * length todo ≡ size + 8 * suc (length todo) = omega arith in
         goes_on
         (steps {q = opened ms m (done ++ i ∷ []) (size + 8)} {left = instr_statements m.code (length done + 1) todo ++ left} ss words
-        (λ rest behind. instruction_steps ms m done i todo size rest fits whole (All-head (InstrFits (limits classes methods (length m.code))) i todo each) (omega arith)))
+        (λ rest behind. instruction_steps ms m done i todo size rest fits whole (All-head (InstrFits (limits h.version classes methods (length m.code))) i todo each) (omega arith)))
         (λ rest behind. arrives (ap (λ l. opened ms m l ((size + 8) + 8 * length todo)) regrouped ∙ ap (λ n. opened ms m (done ++ i ∷ todo) n) summed)
-        (instructions_go ms m (done ++ i ∷ []) todo (size + 8) left rest fits (whole ∙ sym regrouped) (All-tail (InstrFits (limits classes methods (length m.code))) i todo each) (omega arith)
+        (instructions_go ms m (done ++ i ∷ []) todo (size + 8) left rest fits (whole ∙ sym regrouped) (All-tail (InstrFits (limits h.version classes methods (length m.code))) i todo each) (omega arith)
         (behind ∙ ap (λ n. instr_statements m.code n todo ++ left) (sym longer))))
 
     end_steps : (ms : List Method) (m : Method) (size : ℕ) (rest : List Statement) → 1 ≤ length m.code → step scope rest (opened ms m m.code size) end_words ≡ Ok (read_so_far h cs (ms ++ m ∷ []) None size)
     end_steps ms m size rest some =
         ap (λ t. (if t then Err LimitPassed else Ok m) >>= λ x. Ok (read_so_far h cs (ms ++ x ∷ []) None size)) (ne_eqb (length m.code) 0 (λ none. omega arith))
 
-    method_goes : (ms : List Method) (m : Method) (size : ℕ) (left : List (List (List ℕ))) (ss : List Statement) → length ms < methods → MethodFits classes methods m → OverFits h.version methods m.over → SaysQuiet m → size + spelled h.version m ≤ 2 ^ 20
+    method_goes : (ms : List Method) (m : Method) (size : ℕ) (left : List (List (List ℕ))) (ss : List Statement) → length ms < methods → MethodFits h.version classes methods m → OverFits h.version methods m.over → SaysQuiet m → size + spelled h.version m ≤ 2 ^ 20
         → all_words ss ≡ method_statements (length ms) m ++ left
         → Goes last scope (read_so_far h cs ms None size) ss (read_so_far h cs (ms ++ m ∷ []) None (size + spelled h.version m)) left
     method_goes ms m size left ss there fits over quiet enough words =
@@ -220,7 +221,7 @@ module _ (last : ℕ) (h : Header) (classes methods : ℕ) (scope : Scope) (name
         (λ rest behind. steps rest behind (λ rest behind. end_steps ms m ((size + (24 + more)) + 8 * length m.code) rest fits.some_code))))
 
     pub methods_go : (ms todo : List Method) (size : ℕ) (left : List (List (List ℕ))) (ss : List Statement)
-        → length ms + length todo ≤ methods → All (MethodFits classes methods) todo → All (λ m. OverFits h.version methods m.over) todo → All SaysQuiet todo → size + sum_by (spelled h.version) todo ≤ 2 ^ 20
+        → length ms + length todo ≤ methods → All (MethodFits h.version classes methods) todo → All (λ m. OverFits h.version methods m.over) todo → All SaysQuiet todo → size + sum_by (spelled h.version) todo ≤ 2 ^ 20
         → all_words ss ≡ methods_statements (length ms) todo ++ left
         → Goes last scope (read_so_far h cs ms None size) ss (read_so_far h cs (ms ++ todo) None (size + sum_by (spelled h.version) todo)) left
     methods_go ms [] size left ss there fits overs quiet enough words =
@@ -233,8 +234,8 @@ module _ (last : ℕ) (h : Header) (classes methods : ℕ) (scope : Scope) (name
         let total : sum_by bytes (m ∷ todo) ≡ bytes m + sum_by bytes todo = sum_by-cons bytes m todo in
         let summed : (size + bytes m) + sum_by bytes todo ≡ size + sum_by bytes (m ∷ todo) = omega arith in
         goes_on
-        (method_goes ms m size (methods_statements (length ms + 1) todo ++ left) ss (omega arith) (All-head (MethodFits classes methods) m todo fits) (All-head (λ m. OverFits h.version methods m.over) m todo overs) (All-head SaysQuiet m todo quiet) (omega arith)
+        (method_goes ms m size (methods_statements (length ms + 1) todo ++ left) ss (omega arith) (All-head (MethodFits h.version classes methods) m todo fits) (All-head (λ m. OverFits h.version methods m.over) m todo overs) (All-head SaysQuiet m todo quiet) (omega arith)
         (words ∙ append_assoc (method_statements (length ms) m) (methods_statements (length ms + 1) todo) left))
         (λ rest behind. arrives (ap (λ l. read_so_far h cs l None ((size + bytes m) + sum_by bytes todo)) regrouped ∙ ap (λ n. read_so_far h cs (ms ++ m ∷ todo) None n) summed)
-        (methods_go (ms ++ m ∷ []) todo (size + bytes m) left rest (omega arith) (All-tail (MethodFits classes methods) m todo fits) (All-tail (λ m. OverFits h.version methods m.over) m todo overs) (All-tail SaysQuiet m todo quiet) (omega arith)
+        (methods_go (ms ++ m ∷ []) todo (size + bytes m) left rest (omega arith) (All-tail (MethodFits h.version classes methods) m todo fits) (All-tail (λ m. OverFits h.version methods m.over) m todo overs) (All-tail SaysQuiet m todo quiet) (omega arith)
         (behind ∙ ap (λ n. methods_statements n todo ++ left) (sym longer))))

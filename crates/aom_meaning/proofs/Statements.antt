@@ -5,11 +5,12 @@ use Rattle.std.specs.List.{list_all}
 use Rattle.std.proofs.Math.ListN.{length-append}
 use Rattle.std.proofs.Math.Seq.{get_or-append_seam, take-append_seam}
 use Rattle.std.proofs.lemmas.List.Folds.{list_all-append}
+use Rattle.aom_instructions.specs.declared.version.Version.{Version}
 use Rattle.aom_text.specs.Words.{is_plain}
 use Rattle.aom_text.specs.declared.fault.AsmFaultKind.TheVariants.{BadShape}
 use Rattle.aom_instructions.specs.Fits.{InstrFits, limits}
 use Rattle.aom_instructions.specs.declared.instr.Instr.{Instr}
-use Rattle.aom_instructions.specs.Mnemonics.{mnemonic_text}
+use Rattle.aom_instructions.specs.Mnemonics.{is_in, mnemonic_text}
 use Rattle.aom_syntax.specs.Methods.{after_label, check_label, instruction, known_mnemonic, label_of, named_mnemonic, skip_label}
 use Rattle.aom_syntax.specs.Classes.{declared_at}
 use Rattle.aom_syntax.specs.Names.{place_of}
@@ -38,9 +39,9 @@ label_cut l =
 colon_is_plain : (place : ℕ) → place < 1024 → list_all is_plain (label_name place ++ 58 ∷ []) ≡ true
 colon_is_plain place few = list_all-append is_plain (label_name place) (58 ∷ []) ∙ rw (plain_lettered 76 place refl (omega arith))
 
-module _ (place : ℕ) (labels : List (List ℕ)) (m : Mnemonic) where
-  reads_mnemonic : named_mnemonic (mnemonic_text m) ≡ Ok m
-  reads_mnemonic = ap (known_mnemonic (mnemonic_text m)) (mnemonic_reads m)
+module _ (version : Version) (place : ℕ) (labels : List (List ℕ)) (m : Mnemonic) where
+  reads_mnemonic : is_in version m ≡ true → named_mnemonic version (mnemonic_text m) ≡ Ok m
+  reads_mnemonic there = ap (known_mnemonic version (mnemonic_text m)) (mnemonic_reads m) ∙ ap (λ b. if b then Ok m else Err BadShape) there
 
   -- a word without a colon is no label
   plainly : Takes (after_label place labels) (mnemonic_text m ∷ []) (mnemonic_text m)
@@ -62,19 +63,20 @@ module _ (place : ℕ) (labels : List (List ℕ)) (m : Mnemonic) where
           ap (λ b. (if b then Ok (label_name place) else Err BadShape) >>= λ n. declared_at place labels n) (name_lettered 76 place refl (omega arith))
           ∙ declared_there 76 place labels there
 
-  pub takes_mnemonic : (b : Bool) → (b ≡ true → (place < 1024) × (place_of (label_name place) labels ≡ Some place)) → Takes (seen named_mnemonic (after_label place labels)) (label_words b place ++ mnemonic_text m ∷ []) m
-  takes_mnemonic true labelled = let there = labelled refl in sees named_mnemonic (past_label there.0 there.1) reads_mnemonic
-  takes_mnemonic false labelled = sees named_mnemonic plainly reads_mnemonic
+  pub takes_mnemonic : is_in version m ≡ true → (b : Bool) → (b ≡ true → (place < 1024) × (place_of (label_name place) labels ≡ Some place)) → Takes (seen (named_mnemonic version) (after_label place labels)) (label_words b place ++ mnemonic_text m ∷ []) m
+  takes_mnemonic known true labelled = let there = labelled refl in sees (named_mnemonic version) (past_label there.0 there.1) (reads_mnemonic known)
+  takes_mnemonic known false labelled = sees (named_mnemonic version) plainly (reads_mnemonic known)
 
 -- ---- instructions
 
-module _ {classes methods : ℕ} {scope : Scope} (names : HasNames classes methods scope) (code : List Instr) (few : length code ≤ 1024) where
-  pub instruction_reads : (place : ℕ) (i : Instr) → place < length code → slice_get code place ≡ Some i → InstrFits (limits classes methods (length code)) i → instruction scope (code_labels code) place (instr_words code place i) ≡ Ok (i, [])
+module _ {classes methods : ℕ} {scope : Scope} (names : HasNames classes methods scope) (version : Version) (code : List Instr) (few : length code ≤ 1024) where
+  pub instruction_reads : (place : ℕ) (i : Instr) → place < length code → slice_get code place ≡ Some i → InstrFits (limits version classes methods (length code)) i
+      → instruction scope version (code_labels code) place (instr_words code place i) ≡ Ok (i, [])
   instruction_reads place i within there fits =
       let labels = code_labels code in
-      let said = says names labels (length code) i fits (has_label classes methods code place i few there fits) in
+      let said = says names version labels (length code) i fits (has_label version classes methods code place i few there fits) in
       let front = label_words (is_target code place) place in
-      let labelled = takes_mnemonic place labels said.mnemonic (is_target code place) (λ jumped. (omega arith, label_placed code place few within jumped)) in
-      ap (λ ws. instruction scope labels place (front ++ ws)) said.words
-      ∙ ap (instruction scope labels place) (sym (append_assoc front (mnemonic_text said.mnemonic ∷ []) said.operands))
+      let labelled = takes_mnemonic version place labels said.mnemonic said.there (is_target code place) (λ jumped. (omega arith, label_placed code place few within jumped)) in
+      ap (λ ws. instruction scope version labels place (front ++ ws)) said.words
+      ∙ ap (instruction scope version labels place) (sym (append_assoc front (mnemonic_text said.mnemonic ∷ []) said.operands))
       ∙ before _ labelled (ends _ said.takes refl)

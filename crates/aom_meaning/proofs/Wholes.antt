@@ -9,8 +9,9 @@ use Rattle.aom_text.specs.Names.{is_name}
 use Rattle.aom_text.specs.declared.fault.AsmFaultKind.{AsmFaultKind}
 use Rattle.aom_text.specs.declared.fault.AsmFaultKind.TheVariants.{LimitPassed}
 use Rattle.aom_text.specs.declared.text.Statement.{Statement}
-use Rattle.aom_image.specs.WellFormed.{family_bytes, is_server}
-use Rattle.aom_image.specs.declared.image.Version.{Version}
+use Rattle.aom_image.specs.WellFormed.{is_server}
+use Rattle.aom_instructions.specs.Versions.{family_bytes}
+use Rattle.aom_instructions.specs.declared.version.Version.{Version}
 use Rattle.aom_image.specs.declared.class.ClassDecl.{ClassDecl}
 use Rattle.aom_image.specs.declared.image.Header.{Header}
 use Rattle.aom_instructions.specs.declared.instr.Instr.{Instr}
@@ -73,12 +74,12 @@ one_label : (labels front : List (List ℕ)) (label : Option (List ℕ)) (rest :
 one_label labels front None rest once whole is = tt
 one_label labels front (Some l) rest once whole is = at_place labels front l rest once whole is
 
-labels_placed : (names : Names) (all labels : List (List ℕ)) → DeclaredOnce labels → (front : List (List ℕ)) (ts : List InstructionText) (is : List Instr)
-    → Pairs (InstructionMeans names all) ts is → labels ≡ front ++ labels_of ts → LabelsPlaced labels (length front) ts
-labels_placed names all labels once front _ _ no_pair whole = tt
-labels_placed names all labels once front _ _ (a_pair t ts i is here more) whole = (
+labels_placed : (names : Names) (version : Version) (all labels : List (List ℕ)) → DeclaredOnce labels → (front : List (List ℕ)) (ts : List InstructionText) (is : List Instr)
+    → Pairs (InstructionMeans names version all) ts is → labels ≡ front ++ labels_of ts → LabelsPlaced labels (length front) ts
+labels_placed names version all labels once front _ _ no_pair whole = tt
+labels_placed names version all labels once front _ _ (a_pair t ts i is here more) whole = (
   one_label labels front t.label (labels_of ts) once whole here.label,
-  subst (λ n. LabelsPlaced labels n ts) (length_push front (label_or_none t.label)) (labels_placed names all labels once (front ++ label_or_none t.label ∷ []) ts is more
+  subst (λ n. LabelsPlaced labels n ts) (length_push front (label_or_none t.label)) (labels_placed names version all labels once (front ++ label_or_none t.label ∷ []) ts is more
       (whole ∙ regrouped front (label_or_none t.label) (labels_of ts))),
 )
 
@@ -101,7 +102,7 @@ module _ (last : ℕ) (names : Names) (h : Header) (b : Bool) (kinds : List Clas
       ap (λ e. e >>= λ key. declaration scope rest p key.0 key.1) ((takes_any_keyword k.Class).reads words)
       ∙ ap (λ b. if b then (class_statement scope h.version h.natives (length cs) (count_by is_server cs) words >>= λ x. grown (28 + more) size >>= λ n. Ok
       (read_so_far h (cs ++ x.0 ∷ []) ms None n)) else Err LimitPassed) (lt-ltb (length cs) 256 few)
-      ∙ ap (λ e. e >>= λ x. grown (28 + more) size >>= λ n. Ok (read_so_far h (cs ++ x.0 ∷ []) ms None n)) (class_reads looks h.natives (count_by is_server cs) h.version (length cs) t c means placed servers).reads
+      ∙ ap (λ e. e >>= λ x. grown (28 + more) size >>= λ n. Ok (read_so_far h (cs ++ x.0 ∷ []) ms None n)) (class_reads looks h.version h.natives (count_by is_server cs) (length cs) t c means placed servers).reads
       ∙ ap (λ e. e >>= λ n. Ok (read_so_far h (cs ++ c ∷ []) ms None n)) (room (28 + more) size enough)
 
   module _ (cs : List ClassDecl) where
@@ -132,15 +133,15 @@ module _ (last : ℕ) (names : Names) (h : Header) (b : Bool) (kinds : List Clas
     added ms t m done size read = (read >>= λ x. Ok (body_of t m (done ++ x.0 ∷ []))) >>= λ b. grown 8 size >>= λ n. Ok (read_so_far h cs ms (Some b) n)
 
     code_step : (ms : List Method) (t : MethodText) (m : Method) (done : List Instr) (one : InstructionText) (i : Instr) (size : ℕ) (rest : List Statement) → length done < 1024
-        → InstructionMeans names (labels_of t.code) one i → IfSome one.label (λ l. place_of l (labels_of t.code) ≡ Some (length done)) → size + 8 ≤ 2 ^ 20
+        → InstructionMeans names h.version (labels_of t.code) one i → IfSome one.label (λ l. place_of l (labels_of t.code) ≡ Some (length done)) → size + 8 ≤ 2 ^ 20
         → step scope rest (open_method ms t m done size) (instruction_words one) ≡ Ok (open_method ms t m (done ++ i ∷ []) (size + 8))
     code_step ms t m done one i size rest few means placed enough =
         let ws = instruction_words one in
         ap (λ t'. if t'.0 then with_method (read_so_far h cs ms None size) (body_of t m done) t'.1 else
-        (with_instruction scope (body_of t m done) t'.1 >>= λ b. grown 8 size >>= λ n. Ok (read_so_far h cs ms (Some b) n))) (takes_no_end one).left
-        ∙ ap (λ t'. (if t' then (instruction scope (labels_of t.code) (length done) ws >>= λ x. Ok (body_of t m (done ++ x.0 ∷ []))) else Err LimitPassed) >>= λ b. grown 8 size >>= λ n. Ok
+        (with_instruction scope h.version (body_of t m done) t'.1 >>= λ b. grown 8 size >>= λ n. Ok (read_so_far h cs ms (Some b) n))) (takes_no_end one).left
+        ∙ ap (λ t'. (if t' then (instruction scope h.version (labels_of t.code) (length done) ws >>= λ x. Ok (body_of t m (done ++ x.0 ∷ []))) else Err LimitPassed) >>= λ b. grown 8 size >>= λ n. Ok
         (read_so_far h cs ms (Some b) n)) (lt-ltb (length done) 1024 few)
-        ∙ ap (added ms t m done size) (instruction_reads (length done) (labels_of t.code) b names kinds one i means placed).reads
+        ∙ ap (added ms t m done size) (instruction_reads h.version (length done) (labels_of t.code) b names kinds one i means placed).reads
         ∙ ap (λ e. e >>= λ n. Ok (open_method ms t m (done ++ i ∷ []) n)) (room 8 size enough)
 
     end_step : (ms : List Method) (t : MethodText) (m : Method) (size : ℕ) (rest : List Statement) → 1 ≤ length m.code
@@ -149,7 +150,7 @@ module _ (last : ℕ) (names : Names) (h : Header) (b : Bool) (kinds : List Clas
         ap (λ (b : Bool). (if b then Err LimitPassed else Ok m) >>= λ m. nothing_more false [] >>= λ u. Ok (read_so_far h cs (ms ++ m ∷ []) None size)) (ne_eqb (length m.code) 0 (λ none. omega arith))
 
     code_goes : (ms : List Method) (t : MethodText) (m : Method) (done : List Instr) (ts : List InstructionText) (todo : List Instr) (size : ℕ) (left : List (List (List ℕ))) (ss : List Statement)
-        → length done + length todo ≤ 1024 → Pairs (InstructionMeans names (labels_of t.code)) ts todo → LabelsPlaced (labels_of t.code) (length done) ts → size + 8 * length todo ≤ 2 ^ 20
+        → length done + length todo ≤ 1024 → Pairs (InstructionMeans names h.version (labels_of t.code)) ts todo → LabelsPlaced (labels_of t.code) (length done) ts → size + 8 * length todo ≤ 2 ^ 20
         → all_words ss ≡ map instruction_words ts ++ left
         → Goes last scope (open_method ms t m done size) ss (open_method ms t m (done ++ todo) (size + 8 * length todo)) left
     code_goes ms t m done _ _ size left ss few no_pair placed enough words =
@@ -171,14 +172,14 @@ module _ (last : ℕ) (names : Names) (h : Header) (b : Bool) (kinds : List Clas
     method_goes ms t m size left ss few means placed enough words =
         let some = means.some in
         let short = means.few in
-        let code = pairs (InstructionMeans names (labels_of t.code)) t.code m.code means.code in
+        let code = pairs (InstructionMeans names h.version (labels_of t.code)) t.code m.code means.code in
         let summed : (size + (24 + more)) + 8 * length m.code ≡ size + spelled h.version m = omega arith in
         goes_on
         (steps {q = open_method ms t m [] (size + (24 + more))} {left = map instruction_words t.code ++ (end_words ∷ left)} ss words
         (λ rest behind. heading_step ms t m size left rest few means.heading placed (omega arith) behind))
         (λ rest behind. goes_on
         (code_goes ms t m [] t.code m.code (size + (24 + more)) (end_words ∷ left) rest (omega arith) code
-        (labels_placed names (labels_of t.code) (labels_of t.code) means.labels [] t.code m.code code refl) (omega arith) behind)
+        (labels_placed names h.version (labels_of t.code) (labels_of t.code) means.labels [] t.code m.code code refl) (omega arith) behind)
         (λ later others. arrives (ap (λ n. read_so_far h cs (ms ++ m ∷ []) None n) summed)
         (goes_on (steps {q = read_so_far h cs (ms ++ m ∷ []) None ((size + (24 + more)) + 8 * length m.code)} {left = left} later others
         (λ rest behind. end_step ms t m ((size + (24 + more)) + 8 * length m.code) rest some)) (λ rest behind. stays rest refl behind))))

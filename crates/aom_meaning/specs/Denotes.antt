@@ -3,7 +3,8 @@ use Rattle.std.specs.Prelude.{ℕ, true, ◌≡◌, ◌≤◌, ◌+◌, ◌*◌,
 use Rattle.std.specs.List.{sum_by}
 use Rattle.aom_text.specs.Text.{statements}
 use Rattle.aom_image.specs.Image.{Image}
-use Rattle.aom_image.specs.WellFormed.{family_bytes, is_server}
+use Rattle.aom_image.specs.WellFormed.{is_server}
+use Rattle.aom_instructions.specs.Versions.{family_bytes}
 use Rattle.aom_meaning.specs.Texts.{all_words}
 use Rattle.aom_meaning.specs.Source.{Source, source_statements, classes_of, methods_of}
 use Rattle.aom_meaning.specs.Meaning.{Names, DeclaredOnce, Pairwise, HeaderMeans, ClassMeans, MethodMeans}

@@ -3,15 +3,17 @@ use Rattle.std.specs.Prelude.{ℕ, ◌≡◌, ◌<◌, ◌≤◌, ◌==◌, ◌|
 use Rattle.std.specs.List.{slice_split}
 use Rattle.std.specs.Str.{bytes_eq}
 use Rattle.aom_text.specs.Names.{is_name}
-use Rattle.aom_image.specs.WellFormed.{has_families, is_dispatched, may_descend}
+use Rattle.aom_image.specs.WellFormed.{is_dispatched, may_descend}
+use Rattle.aom_instructions.specs.Mnemonics.{is_in}
+use Rattle.aom_instructions.specs.Versions.{has_families, includes}
 use Rattle.aom_image.specs.declared.class.ClassDecl.{ClassDecl}
 use Rattle.aom_image.specs.declared.class.ClassKind.{ClassKind}
 use Rattle.aom_image.specs.declared.class.ClassKind.TheVariants as kinds
 use Rattle.aom_image.specs.declared.class.Provider.{Provider}
 use Rattle.aom_image.specs.declared.class.Provider.TheVariants as providers
 use Rattle.aom_image.specs.declared.image.Header.{Header}
-use Rattle.aom_image.specs.declared.image.Version.{Version}
-use Rattle.aom_image.specs.declared.image.Version.TheVariants as versions
+use Rattle.aom_instructions.specs.declared.version.Version.{Version}
+use Rattle.aom_instructions.specs.declared.version.Version.TheVariants as versions
 use Rattle.aom_instructions.specs.declared.instr.Instr.{Instr}
 use Rattle.aom_image.specs.declared.method.Argument.{Argument}
 use Rattle.aom_image.specs.declared.method.Argument.TheVariants as arg
@@ -28,7 +30,7 @@ use Rattle.aom_syntax.specs.declared.scope.Scope.{Scope}
 use Rattle.aom_syntax.specs.declared.method.Heading.{Heading}
 use Rattle.aom_asm.specs.TextNames.{label_or_none}
 use Rattle.aom_meaning.specs.Naming.{heading_of}
-use Rattle.aom_meaning.specs.Source.{Word, HeaderText, ProviderText, by_itself, by_timer, by_native, KindText, plain, session, active, server, ClassText, GivesText, unsaid, nothing, word, own, maybe, left, HeadingText, InstructionText, MethodText}
+use Rattle.aom_meaning.specs.Source.{Word, HeaderText, ProviderText, by_itself, by_timer, by_native, by_token, KindText, plain, session, active, server, ClassText, GivesText, unsaid, nothing, word, own, maybe, left, HeadingText, InstructionText, MethodText}
 
 -- ---- names
 
@@ -114,24 +116,25 @@ pub record HeaderMeans (names : Names) (t : HeaderText) (h : Header) : Type 0 wh
 
 -- ---- classes
 
--- a native is one of those that the image names
-abbrev pub ProviderMeans : ℕ → ProviderText → Provider → Type 0
-ProviderMeans natives by_itself providers.Own = Unit {0}
-ProviderMeans natives by_timer providers.Timer = Unit {0}
-ProviderMeans natives (by_native number) (providers.Native n) = IsNumber 0 15 number n × (n < natives)
-ProviderMeans natives said provider = ⊥
+-- a native is one of those that the image names, and tokens are of the second version
+abbrev pub ProviderMeans : Version → ℕ → ProviderText → Provider → Type 0
+ProviderMeans version natives by_itself providers.Own = Unit {0}
+ProviderMeans version natives by_timer providers.Timer = Unit {0}
+ProviderMeans version natives (by_native number) (providers.Native n) = IsNumber 0 15 number n × (n < natives)
+ProviderMeans version natives by_token providers.Token = includes version versions.Two ≡ true
+ProviderMeans version natives said provider = ⊥
 
 -- the budget of active classes and servers
 abbrev pub IsBudget : Word → ℕ → Type 0
 IsBudget w n = IsNumber 0 4294967295 w n
 
 -- what a class is for
-abbrev pub KindMeans : Names → ℕ → KindText → ClassKind → Type 0
-KindMeans names natives plain kinds.Plain = Unit {0}
-KindMeans names natives session kinds.Session = Unit {0}
-KindMeans names natives (active said) (kinds.Active provider) = ProviderMeans natives said provider
-KindMeans names natives (server class most) (kinds.Server sessions of_class) = IsNumbered names.classes class of_class × IsNumber 1 64 most sessions
-KindMeans names natives said kind = ⊥
+abbrev pub KindMeans : Names → Version → ℕ → KindText → ClassKind → Type 0
+KindMeans names version natives plain kinds.Plain = Unit {0}
+KindMeans names version natives session kinds.Session = Unit {0}
+KindMeans names version natives (active said) (kinds.Active provider) = ProviderMeans version natives said provider
+KindMeans names version natives (server class most) (kinds.Server sessions of_class) = IsNumbered names.classes class of_class × IsNumber 1 64 most sessions
+KindMeans names version natives said kind = ⊥
 
 -- a parent is named in a text of the second version, of a class whose kind may have one
 abbrev pub ParentMeans : Names → Version → ClassKind → Option Word → Option ℕ → Type 0
@@ -148,7 +151,7 @@ BudgetMeans dispatched said n = ⊥
 -- a class of an image of that version with so many natives
 pub record ClassMeans (names : Names) (version : Version) (natives : ℕ) (t : ClassText) (c : ClassDecl) : Type 0 where
   pub name : is_name t.name ≡ true
-  pub kind : KindMeans names natives t.kind c.kind
+  pub kind : KindMeans names version natives t.kind c.kind
   pub parent : ParentMeans names version c.kind t.parent c.parent
   pub words : SaidOr (IsNumber 0 8) 0 t.words c.words
   pub own : SaidOr (IsList 8 (IsThing names)) [] t.own c.fields
@@ -196,15 +199,16 @@ labels_of code = map (λ t. label_or_none t.label) code
 abbrev pub lookup : Names → Scope
 lookup names = record { is_strict = true; classes = names.classes; methods = names.methods; kinds = [] }
 
--- an instruction of a method with these labels: its operands are what its mnemonic asks for
-pub record InstructionMeans (names : Names) (labels : List Word) (t : InstructionText) (i : Instr) : Type 0 where
+-- an instruction of a method with these labels: the version has it, and its operands are what its mnemonic asks for
+pub record InstructionMeans (names : Names) (version : Version) (labels : List Word) (t : InstructionText) (i : Instr) : Type 0 where
   pub label : IfSome t.label (λ l. is_name l ≡ true)
+  pub there : is_in version t.mnemonic ≡ true
   pub operands : words_operands (lookup names) labels t.mnemonic t.operands ≡ Ok (i, [])
 
 -- a method beside the classes: no label stands twice, and each of its instructions is of the image
 pub record MethodMeans (names : Names) (version : Version) (known : Bool) (classes : List ClassDecl) (t : MethodText) (m : Method) : Type 0 where
   pub heading : HeadingMeans names version known classes t.heading (heading_of m)
   pub labels : DeclaredOnce (labels_of t.code)
-  pub code : Pairwise (InstructionMeans names (labels_of t.code)) t.code m.code
+  pub code : Pairwise (InstructionMeans names version (labels_of t.code)) t.code m.code
   pub some : 1 ≤ length m.code
   pub few : length m.code ≤ 1024

@@ -13,7 +13,7 @@ use Rattle.aom_listing.specs.Methods.{heading_words}
 use Rattle.aom_text.specs.declared.text.Statement.{Statement}
 use Rattle.aom_text.specs.Numbers.{number_of}
 use Rattle.aom_image.specs.WellFormed.{ClassFits, HeaderFits, MethodFits, OverFits, ParentFits, WellFormed, is_server}
-use Rattle.aom_image.specs.declared.image.Version.{Version}
+use Rattle.aom_instructions.specs.declared.version.Version.{Version}
 use Rattle.aom_instructions.specs.Fits.{InstrFits, limits}
 use Rattle.aom_instructions.specs.declared.instr.Instr.{Instr}
 use Rattle.aom_syntax.specs.Keywords.{keyword_text, keyword_of}
@@ -39,7 +39,8 @@ pub record TablesReadBack : Type 0 where
 
 -- an instruction that fits reads as itself at its place in its method, whether names are told apart or not
 abbrev pub InstructionsReadBack : Type 0
-InstructionsReadBack = (classes methods : ℕ) (scope : Scope) → HasNames classes methods scope → (code : List Instr) (place : ℕ) (i : Instr) → length code ≤ 1024 → place < length code → slice_get code place ≡ Some i → InstrFits (limits classes methods (length code)) i → instruction scope (code_labels code) place (instr_words code place i) ≡ Ok (i, [])
+InstructionsReadBack = (classes methods : ℕ) (scope : Scope) → HasNames classes methods scope → (version : Version) (code : List Instr) (place : ℕ) (i : Instr) → length code ≤ 1024 → place < length code
+    → slice_get code place ≡ Some i → InstrFits (limits version classes methods (length code)) i → instruction scope version (code_labels code) place (instr_words code place i) ≡ Ok (i, [])
 
 -- a header that fits reads as itself
 abbrev pub HeadersReadBack : Type 0
@@ -48,13 +49,13 @@ HeadersReadBack = (classes methods : ℕ) (scope : Scope) → HasNames classes m
 -- a class that fits reads as itself at its place, after so few servers that it may be one
 abbrev pub ClassesReadBack : Type 0
 ClassesReadBack = (classes methods : ℕ) (scope : Scope) → HasNames classes methods scope → (version : Version) (natives servers place : ℕ) (c : ClassDecl) → natives ≤ 16 → place < classes
-    → ClassFits classes natives c → ParentFits version classes c.kind c.parent → (is_server c ≡ true → servers < 8)
+    → ClassFits version classes natives c → ParentFits version classes c.kind c.parent → (is_server c ≡ true → servers < 8)
     → class_statement scope version natives place servers (others_of (class_words place c)) ≡ Ok (c, [])
 
 -- the heading of a method that fits reads as itself at its place, where a method that is quiet by its role says so
 abbrev pub HeadingsReadBack : Type 0
 HeadingsReadBack = (classes methods : ℕ) (scope : Scope) → HasNames classes methods scope → (version : Version) (place : ℕ) (m : Method) → place < methods
-    → MethodFits classes methods m → OverFits version methods m.over → SaysQuiet m → heading scope version place (others_of (heading_words place m)) ≡ Ok (heading_of m, [])
+    → MethodFits version classes methods m → OverFits version methods m.over → SaysQuiet m → heading scope version place (others_of (heading_words place m)) ≡ Ok (heading_of m, [])
 
 -- where each method has the shape that its role asks, each that is quiet by its role says so
 abbrev pub ShapedSayQuiet : Type 0

@@ -47,11 +47,13 @@ pub data ProviderText : Type 0 where
   by_itself : ProviderText
   by_timer : ProviderText
   by_native : Word → ProviderText
+  by_token : ProviderText
 
 abbrev pub provider_words : ProviderText → Words
 provider_words by_itself = keyword_text k.This ∷ []
 provider_words by_timer = keyword_text k.Timer ∷ []
 provider_words (by_native number) = keyword_text k.Native ∷ number ∷ []
+provider_words by_token = keyword_text k.Token ∷ []
 
 -- what a class is for: a server with the class of its sessions and the most of them
 pub data KindText : Type 0 where

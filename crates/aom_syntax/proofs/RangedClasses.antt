@@ -5,8 +5,9 @@ use Rattle.std.proofs.lemmas.Bool.{ltb-true}
 use Rattle.std.proofs.lemmas.List.Elements.{All-nil}
 use Rattle.aom_text.specs.declared.fault.AsmFaultKind.TheVariants.{BadShape, LimitPassed}
 use Rattle.aom_image.specs.WellFormed.{KindFits, ParentFits, ProviderFits, ThingFits, is_dispatched, is_server_kind, may_declare, may_descend}
-use Rattle.aom_image.specs.declared.image.Version.{Version}
-use Rattle.aom_image.specs.declared.image.Version.TheVariants as versions
+use Rattle.aom_instructions.specs.Versions.{includes}
+use Rattle.aom_instructions.specs.declared.version.Version.{Version}
+use Rattle.aom_instructions.specs.declared.version.Version.TheVariants as versions
 use Rattle.aom_image.specs.declared.class.ClassDecl.{ClassDecl}
 use Rattle.aom_image.specs.declared.class.ClassKind.{ClassKind}
 use Rattle.aom_image.specs.declared.class.ClassKind.TheVariants as kinds
@@ -26,19 +27,25 @@ use Rattle.aom_syntax.proofs.RangedLists.{ListFits, listed_fits, thing_fits}
 
 -- ---- kinds
 
-native_within : (natives n : ℕ) (b : Bool) → nat_lt n natives ≡ b → Within (ProviderFits natives) (if b then giving (providers.Native n) else failing LimitPassed)
-native_within natives n true below = giving_within (ProviderFits natives) (providers.Native n) (ltb-true n natives below)
-native_within natives n false above = failing_within (ProviderFits natives) LimitPassed
+native_within : (version : Version) (natives n : ℕ) (b : Bool) → nat_lt n natives ≡ b → Within (ProviderFits version natives) (if b then giving (providers.Native n) else failing LimitPassed)
+native_within version natives n true below = giving_within (ProviderFits version natives) (providers.Native n) (ltb-true n natives below)
+native_within version natives n false above = failing_within (ProviderFits version natives) LimitPassed
 
-provider_within : (natives : ℕ) (key : Keyword) → Within (ProviderFits natives) (provider natives key)
-provider_within natives k.This = giving_within (ProviderFits natives) providers.Own tt
-provider_within natives k.Timer = giving_within (ProviderFits natives) providers.Timer tt
-provider_within natives k.Native = after (ProviderFits natives) (number 0 15) (λ n. if nat_lt n natives then giving (providers.Native n) else failing LimitPassed) (λ n. native_within natives n (nat_lt n natives) refl)
-provider_within natives key = failing_within (ProviderFits natives) BadShape
+token_within : (version : Version) (natives : ℕ) (b : Bool) → includes version versions.Two ≡ b
+    → Within (ProviderFits version natives) (if b then giving providers.Token else failing BadShape)
+token_within version natives true is = giving_within (ProviderFits version natives) providers.Token is
+token_within version natives false is = failing_within (ProviderFits version natives) BadShape
+
+provider_within : (version : Version) (natives : ℕ) (key : Keyword) → Within (ProviderFits version natives) (provider version natives key)
+provider_within version natives k.This = giving_within (ProviderFits version natives) providers.Own tt
+provider_within version natives k.Timer = giving_within (ProviderFits version natives) providers.Timer tt
+provider_within version natives k.Token = token_within version natives (includes version versions.Two) refl
+provider_within version natives k.Native = after (ProviderFits version natives) (number 0 15) (λ n. if nat_lt n natives then giving (providers.Native n) else failing LimitPassed) (λ n. native_within version natives n (nat_lt n natives) refl)
+provider_within version natives key = failing_within (ProviderFits version natives) BadShape
 
 -- a kind, and a server only after so few others
-record KindIsRead (classes natives servers : ℕ) (kind : ClassKind) : Type 0 where
-  pub kind_fits : KindFits classes natives kind
+record KindIsRead (version : Version) (classes natives servers : ℕ) (kind : ClassKind) : Type 0 where
+  pub kind_fits : KindFits version classes natives kind
   pub server : is_server_kind kind ≡ true → servers < 8
 
 -- a budget that a class of such a kind may declare
@@ -59,9 +66,9 @@ budget_within kind has_fields false is =
     after (IsBudgetOf kind) (nothing_more (not has_fields)) (λ u. giving 0) (λ u.
     giving_within (IsBudgetOf kind) 0 (record { small = omega arith; declared = ap (λ b. b || eqb 0 0) is }))
 
-module _ (scope : Scope) (natives servers : ℕ) (known : IsKnown scope.is_strict (length scope.classes)) where
+module _ (scope : Scope) (version : Version) (natives servers : ℕ) (known : IsKnown scope.is_strict (length scope.classes)) where
   abbrev IsOfKind : ClassKind → Type 0
-  IsOfKind kind = KindIsRead (length scope.classes) natives servers kind
+  IsOfKind kind = KindIsRead version (length scope.classes) natives servers kind
 
   abbrev AreOwned : List Thing → Type 0
   AreOwned ts = ListFits (ThingFits (length scope.classes)) 8 ts
@@ -78,18 +85,18 @@ module _ (scope : Scope) (natives servers : ℕ) (known : IsKnown scope.is_stric
   next_server true room = server_within (ltb-true servers 8 room)
   next_server false room = failing_within IsOfKind LimitPassed
 
-  kind_within : (key : Keyword) → Within IsOfKind (kind scope natives servers key)
+  kind_within : (key : Keyword) → Within IsOfKind (kind scope version natives servers key)
   kind_within k.Plain = giving_within IsOfKind kinds.Plain (record { kind_fits = tt; server = λ is. absurd cc })
   kind_within k.Session = giving_within IsOfKind kinds.Session (record { kind_fits = tt; server = λ is. absurd cc })
   kind_within k.Active =
-      after IsOfKind any_keyword (λ key. next (provider natives key) (λ p. giving (kinds.Active p))) (λ key.
-      next_within (ProviderFits natives) IsOfKind (provider natives key) (λ p. giving (kinds.Active p)) (provider_within natives key) (λ p fits.
+      after IsOfKind any_keyword (λ key. next (provider version natives key) (λ p. giving (kinds.Active p))) (λ key.
+      next_within (ProviderFits version natives) IsOfKind (provider version natives key) (λ p. giving (kinds.Active p)) (provider_within version natives key) (λ p fits.
       giving_within IsOfKind (kinds.Active p) (record { kind_fits = fits; server = λ is. absurd cc })))
   kind_within k.Server = next_server (nat_lt servers 8) refl
   kind_within key = failing_within IsOfKind BadShape
 
   abbrev IsParent : Version → ClassKind → Option ℕ → Type 0
-  IsParent version kind parent = ParentFits version (length scope.classes) kind parent
+  IsParent v kind parent = ParentFits v (length scope.classes) kind parent
 
   named_parent : (kind : ClassKind) (b : Bool) → may_descend kind ≡ b
       → Within (IsParent versions.Two kind) (if b then next (class scope) (λ c. giving (Some c)) else failing BadShape)
@@ -98,12 +105,12 @@ module _ (scope : Scope) (natives servers : ℕ) (known : IsKnown scope.is_stric
       giving_within (IsParent versions.Two kind) (Some c) (refl, is, below))
   named_parent kind false is = failing_within (IsParent versions.Two kind) BadShape
 
-  said_parent_within : (version : Version) (kind : ClassKind) → Within (IsParent version kind) (said_parent scope version kind)
+  said_parent_within : (v : Version) (kind : ClassKind) → Within (IsParent v kind) (said_parent scope v kind)
   said_parent_within versions.One kind = failing_within (IsParent versions.One kind) BadShape
   said_parent_within versions.Two kind = named_parent kind (may_descend kind) refl
 
-  parent_within : (version : Version) (kind : ClassKind) → Within (IsParent version kind) (optional_parent scope version kind)
-  parent_within version kind =
+  parent_within : (kind : ClassKind) → Within (IsParent version kind) (optional_parent scope version kind)
+  parent_within kind =
       either (IsParent version kind) (λ ws. (took k.From ws).0) (λ ws. (took k.From ws).1) (said_parent scope version kind) (giving None)
       (said_parent_within version kind) (giving_within (IsParent version kind) None tt)
 
@@ -125,11 +132,11 @@ module _ (scope : Scope) (version : Version) (natives place servers : ℕ) where
   behind_within below =
       let known = some_names scope.is_strict place (length scope.classes) below in
       after IsRead any_keyword _ (λ key.
-      next_within (IsOfKind scope natives servers known) IsRead (kind scope natives servers key) _ (kind_within scope natives servers known key) (λ kind is_read.
-      next_within (IsParent scope natives servers known version kind) IsRead (optional_parent scope version kind) _ (parent_within scope natives servers known version kind) (λ parent is_parent.
+      next_within (IsOfKind scope version natives servers known) IsRead (kind scope version natives servers key) _ (kind_within scope version natives servers known key) (λ kind is_read.
+      next_within (IsParent scope version natives servers known version kind) IsRead (optional_parent scope version kind) _ (parent_within scope version natives servers known kind) (λ parent is_parent.
       next_within (Between 0 8) IsRead (optional_number k.Words 8) _ (optional_between k.Words 8) (λ words few.
       after IsRead (flag k.Own) _ (λ owns.
-      next_within (AreOwned scope natives servers known) IsRead (fields scope owns) _ (fields_within scope natives servers known owns) (λ list owned.
+      next_within (AreOwned scope version natives servers known) IsRead (fields scope owns) _ (fields_within scope version natives servers known owns) (λ list owned.
       next_within (IsBudgetOf kind) IsRead (budget owns (is_dispatched kind)) _ (budget_within kind owns (is_dispatched kind) refl) (λ n is_budget.
       giving_within IsRead _ (record {
         declared = below;

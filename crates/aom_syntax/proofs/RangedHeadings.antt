@@ -7,8 +7,8 @@ use Rattle.std.proofs.lemmas.List.Elements.{All-replicate}
 use Rattle.std.proofs.lemmas.Option.{get_or_from_slice_get, slice_get_within}
 use Rattle.aom_text.specs.declared.fault.AsmFaultKind.TheVariants.{BadShape}
 use Rattle.aom_image.specs.WellFormed.{ArgumentFits, ClassFits, GivesFits, KindFits, OverFits, ThingFits}
-use Rattle.aom_image.specs.declared.image.Version.{Version}
-use Rattle.aom_image.specs.declared.image.Version.TheVariants as versions
+use Rattle.aom_instructions.specs.declared.version.Version.{Version}
+use Rattle.aom_instructions.specs.declared.version.Version.TheVariants as versions
 use Rattle.aom_image.specs.declared.class.ClassDecl.{ClassDecl}
 use Rattle.aom_image.specs.declared.class.ClassKind.{ClassKind}
 use Rattle.aom_image.specs.declared.class.ClassKind.TheVariants as kinds
@@ -42,13 +42,13 @@ not_served_fits : (classes : ℕ) (known : Bool) → MayGive classes (not_served
 not_served_fits classes true = tt
 not_served_fits classes false = tt
 
-accepted_fits : (classes natives : ℕ) (known : Bool) (kind : ClassKind) → KindFits classes natives kind → MayGive classes (accepted known kind)
-accepted_fits classes natives known (kinds.Server sessions session) fits = fits.2
-accepted_fits classes natives known _ fits = not_served_fits classes known
+accepted_fits : (version : Version) (classes natives : ℕ) (known : Bool) (kind : ClassKind) → KindFits version classes natives kind → MayGive classes (accepted known kind)
+accepted_fits version classes natives known (kinds.Server sessions session) fits = fits.2
+accepted_fits version classes natives known _ fits = not_served_fits classes known
 
-usual_fits : (classes natives : ℕ) (known : Bool) (role : Role) (kind : ClassKind) → KindFits classes natives kind → MayGive classes (usual_gives known role kind)
-usual_fits classes natives known roles.Accept kind fits = accepted_fits classes natives known kind fits
-usual_fits classes natives known _ kind fits = tt
+usual_fits : (version : Version) (classes natives : ℕ) (known : Bool) (role : Role) (kind : ClassKind) → KindFits version classes natives kind → MayGive classes (usual_gives known role kind)
+usual_fits version classes natives known roles.Accept kind fits = accepted_fits version classes natives known kind fits
+usual_fits version classes natives known _ kind fits = tt
 
 -- what is not said is what stands for it
 pub stands_for : (usual : Option Gives) (g : Gives) → unsaid_gives usual ≡ Ok g → usual ≡ Some g
@@ -58,13 +58,14 @@ unsaid_fits : (classes : ℕ) (usual : Option Gives) (g : Gives) → MayGive cla
 unsaid_fits classes usual g fits is = subst (MayGive classes) (stands_for usual g is) fits
 
 -- a class among those that were read before
-kind_fits : (classes natives : ℕ) (decls : List ClassDecl) (class : Option ℕ) → All (ClassFits classes natives) decls → KindFits classes natives (kind_of decls class)
-kind_fits classes natives decls None all = tt
-kind_fits classes natives decls (Some c) all = go (slice_get decls c) refl
+kind_fits : (version : Version) (classes natives : ℕ) (decls : List ClassDecl) (class : Option ℕ) → All (ClassFits version classes natives) decls
+    → KindFits version classes natives (kind_of decls class)
+kind_fits version classes natives decls None all = tt
+kind_fits version classes natives decls (Some c) all = go (slice_get decls c) refl
   where
-    go : (o : Option ClassDecl) → slice_get decls c ≡ o → KindFits classes natives (elim o [ None ↦ kinds.Plain | Some decl ↦ decl.kind ])
+    go : (o : Option ClassDecl) → slice_get decls c ≡ o → KindFits version classes natives (elim o [ None ↦ kinds.Plain | Some decl ↦ decl.kind ])
     go None there = tt
-    go (Some decl) there = (subst (ClassFits classes natives) (get_or_from_slice_get decls c decl decl there) (all c decl (slice_get_within decls c decl there))).kind
+    go (Some decl) there = (subst (ClassFits version classes natives) (get_or_from_slice_get decls c decl decl there) (all c decl (slice_get_within decls c decl there))).kind
 
 -- ---- parts of the statement
 
@@ -118,7 +119,7 @@ module _ (scope : Scope) (known : IsKnown scope.is_strict (length scope.classes)
 
 -- ---- the statement
 
-module _ (natives : ℕ) (scope : Scope) (version : Version) (settled : IsSettled natives scope) (place : ℕ) where
+module _ (before_version : Version) (natives : ℕ) (scope : Scope) (version : Version) (settled : IsSettled before_version natives scope) (place : ℕ) where
   known : IsKnown scope.is_strict (length scope.classes)
   known = all_known scope.is_strict (length scope.classes) settled.is_strict
 
@@ -148,7 +149,7 @@ module _ (natives : ℕ) (scope : Scope) (version : Version) (settled : IsSettle
       next_within AreStates IsRead (optional_states k.Out (usual_after role (all_states (kind_of scope.kinds class)))) _ (states_within k.Out _ (after_below role _ few)) (λ after out_states.
       next_within (AreArguments scope known) IsRead (optional_arguments scope (usual_words role)) _ (arguments_within scope known (usual_words role) (words_few role)) (λ arguments are_few.
       next_within (IsGiven scope known) IsRead (optional_gives scope (usual_gives scope.is_strict role (kind_of scope.kinds class))) _
-      (optional_within scope known (usual_gives scope.is_strict role (kind_of scope.kinds class)) (usual_fits (length scope.classes) natives scope.is_strict role (kind_of scope.kinds class) (kind_fits (length scope.classes) natives scope.kinds class settled.kinds))) (λ gives is_given.
+      (optional_within scope known (usual_gives scope.is_strict role (kind_of scope.kinds class)) (usual_fits before_version (length scope.classes) natives scope.is_strict role (kind_of scope.kinds class) (kind_fits before_version (length scope.classes) natives scope.kinds class settled.kinds))) (λ gives is_given.
       giving_within IsRead (record { class = class; over = over; role = role; flags = flags_of leaves (quiet || is_quiet_role role); before = before; after = after; arguments = arguments; gives = gives }) (record {
         declared = below;
         heading = record {

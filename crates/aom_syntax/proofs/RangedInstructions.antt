@@ -1,5 +1,9 @@
 -- Whatever instruction is read has its operands in their ranges.
-use Rattle.std.proofs.Common.{◌≡◌, ℕ, ◌≤◌, ◌<◌, true, false, FitsSigned, w32, List, length, sym, subst}
+use Rattle.std.proofs.Common.{◌≡◌, ℕ, ◌≤◌, ◌<◌, Bool, Err, None, Ok, Option, Some, true, false, FitsSigned, w32, List, ap, length, refl, sym, subst, ◌∙◌}
+use Rattle.std.specs.Prelude.{if◌then◌else◌}
+use Rattle.aom_text.specs.declared.fault.AsmFaultKind.TheVariants.{BadShape}
+use Rattle.aom_instructions.specs.Mnemonics.{is_in, mnemonic_of}
+use Rattle.aom_instructions.specs.declared.version.Version.{Version}
 use Rattle.aom_instructions.specs.Operands.{IsDepth, IsField, IsRegister, IsWord, LargeFits, OperandsFit, SmallFits, TargetFits}
 use Rattle.aom_instructions.specs.declared.kinds.Kinds.{Kinds}
 use Rattle.aom_instructions.specs.declared.limits.Limits.{Limits}
@@ -20,17 +24,17 @@ use Rattle.aom_instructions.specs.declared.operand.Small.TheVariants as small
 use Rattle.aom_syntax.specs.Reading.{Reading, giving, next, nothing_more, seen}
 use Rattle.aom_syntax.specs.Operands.{class, depth, field, label, last_register, method, rounds, signed, target, word_field}
 use Rattle.aom_syntax.specs.Words.{in_order, large_operand, operands_read, small_operand, words_operands}
-use Rattle.aom_syntax.specs.Methods.{after_label, instruction, named_mnemonic}
+use Rattle.aom_syntax.specs.Methods.{after_label, instruction, known_mnemonic, named_mnemonic}
 use Rattle.aom_syntax.specs.declared.scope.Scope.{Scope}
 use Rattle.aom_instructions.specs.declared.mnemonic.Mnemonic.{Mnemonic}
-use Rattle.aom_syntax.proofs.Within.{Within, after, giving_within, next_within}
+use Rattle.aom_syntax.proofs.Within.{Within, after, giving_within, next_within, ok_is, seen_within}
 use Rattle.aom_syntax.proofs.RangedNames.{all_known, used_below}
 use Rattle.aom_syntax.proofs.Numbers.{signed_within}
 use Rattle.aom_syntax.proofs.RangedOperands.{AreRounds, depth_within, field_within, last_most, last_within, rounds_within, target_within, word_field_within}
 
-module _ (scope : Scope) (strict : scope.is_strict ≡ true) (labels : List (List ℕ)) where
+module _ (scope : Scope) (version : Version) (strict : scope.is_strict ≡ true) (labels : List (List ℕ)) where
   abbrev bounds : Limits
-  bounds = limits (length scope.classes) (length scope.methods) (length labels)
+  bounds = limits version (length scope.classes) (length scope.methods) (length labels)
 
   abbrev Fits : Instr → Type 0
   Fits i = InstrFits bounds i
@@ -90,17 +94,37 @@ module _ (scope : Scope) (strict : scope.is_strict ≡ true) (labels : List (Lis
       said (SmallFits k.c) (OperandsFit bounds k) (small_operand k.c) (λ c. operands_of a b c d) (small_within k.c) (λ c pc. record { a = pa; b = pb; c = pc; d = pd }))))
 
   -- what is made of operands that a row asks
-  made_fits : (m : Mnemonic) (o : Operands) → OperandsFit bounds (row m).kinds o → Fits (make m o)
-  made_fits m o fits =
+  made_fits : (m : Mnemonic) (o : Operands) → is_in version m ≡ true → OperandsFit bounds (row m).kinds o → Fits (make m o)
+  made_fits m o known fits =
       let again = making_parts_again bounds m o fits in
-      subst (λ n. OperandsFit bounds (row n).kinds (operands (make m o))) (sym again.0) (subst (OperandsFit bounds (row m).kinds) (sym again.1) fits)
+      record {
+        version = ap (is_in version) again.0 ∙ known;
+        operands = subst (λ n. OperandsFit bounds (row n).kinds (operands (make m o))) (sym again.0) (subst (OperandsFit bounds (row m).kinds) (sym again.1) fits);
+      }
 
-  operands_within : (m : Mnemonic) → Within Fits (words_operands scope labels m)
-  operands_within m =
-      said (OperandsFit bounds (row m).kinds) Fits (operands_read scope labels (row m).kinds) (λ o. make m o) (in_order_within (row m).kinds (row m).kinds.order) (λ o fits. made_fits m o fits)
+  operands_within : (m : Mnemonic) → is_in version m ≡ true → Within Fits (words_operands scope labels m)
+  operands_within m known =
+      said (OperandsFit bounds (row m).kinds) Fits (operands_read scope labels (row m).kinds) (λ o. make m o)
+      (in_order_within (row m).kinds (row m).kinds.order) (λ o fits. made_fits m o known fits)
 
-  pub instruction_within : (place : ℕ) → Within Fits (instruction scope labels place)
+  -- the version has what a mnemonic says
+  abbrev IsThere : Mnemonic → Type 0
+  IsThere m = is_in version m ≡ true
+
+  known_there : (w : List ℕ) (o : Option Mnemonic) (m : Mnemonic) → known_mnemonic version w o ≡ Ok m → IsThere m
+  known_there w None m is = absurd cc
+  known_there w (Some k) m is = there (is_in version k) refl is
+    where
+      there : (b : Bool) → is_in version k ≡ b → (if b then Ok k else Err BadShape) ≡ Ok m → IsThere m
+      there true known is = subst IsThere (ok_is k m is) known
+      there false known is = absurd cc
+
+  mnemonic_within : (place : ℕ) → Within IsThere (seen (named_mnemonic version) (after_label place labels))
+  mnemonic_within place = seen_within IsThere (named_mnemonic version) (after_label place labels) (λ w m is. known_there w (mnemonic_of w) m is)
+
+  pub instruction_within : (place : ℕ) → Within Fits (instruction scope version labels place)
   instruction_within place =
-      after Fits (seen named_mnemonic (after_label place labels)) (λ m. next (words_operands scope labels m) (λ i. next (nothing_more false) (λ u. giving i))) (λ m.
-      next_within Fits Fits (words_operands scope labels m) (λ i. next (nothing_more false) (λ u. giving i)) (operands_within m) (λ i fits.
+      next_within IsThere Fits (seen (named_mnemonic version) (after_label place labels)) (λ m. next (words_operands scope labels m) (λ i. next (nothing_more false) (λ u. giving i)))
+      (mnemonic_within place) (λ m known.
+      next_within Fits Fits (words_operands scope labels m) (λ i. next (nothing_more false) (λ u. giving i)) (operands_within m known) (λ i fits.
       after Fits (nothing_more false) (λ u. giving i) (λ u. giving_within Fits i fits)))

@@ -5,8 +5,9 @@ use Rattle.std.specs.Str.{bytes_eq}
 use Rattle.aom_text.specs.declared.fault.AsmFaultKind.{AsmFaultKind}
 use Rattle.aom_text.specs.declared.fault.AsmFaultKind.TheVariants.{DoubleName, BadShape, LimitPassed}
 use Rattle.aom_image.specs.WellFormed.{is_dispatched, may_descend}
-use Rattle.aom_image.specs.declared.image.Version.{Version}
-use Rattle.aom_image.specs.declared.image.Version.TheVariants as versions
+use Rattle.aom_instructions.specs.Versions.{includes}
+use Rattle.aom_instructions.specs.declared.version.Version.{Version}
+use Rattle.aom_instructions.specs.declared.version.Version.TheVariants as versions
 use Rattle.aom_image.specs.declared.class.ClassDecl.{ClassDecl}
 use Rattle.aom_image.specs.declared.class.ClassKind.{ClassKind}
 use Rattle.aom_image.specs.declared.class.ClassKind.TheVariants as kinds
@@ -67,24 +68,25 @@ things scope = seen (listed 8 (thing_of scope)) word
 
 -- ---- kinds
 
--- what completes an active object's requests
-abbrev pub provider : ℕ → Keyword → Reading Provider
-provider natives k.This = giving providers.Own
-provider natives k.Timer = giving providers.Timer
-provider natives k.Native = next (number 0 15) (λ n. if nat_lt n natives then giving (providers.Native n) else failing LimitPassed)
-provider natives key = failing BadShape
+-- what completes an active object's requests: tokens in a text of the second version alone
+abbrev pub provider : Version → ℕ → Keyword → Reading Provider
+provider version natives k.This = giving providers.Own
+provider version natives k.Timer = giving providers.Timer
+provider version natives k.Token = if includes version versions.Two then giving providers.Token else failing BadShape
+provider version natives k.Native = next (number 0 15) (λ n. if nat_lt n natives then giving (providers.Native n) else failing LimitPassed)
+provider version natives key = failing BadShape
 
 -- a server: the class of its sessions and how many there may be
 abbrev pub server : Scope → Reading ClassKind
 server scope = next (class scope) (λ c. next (keyword k.Max) (λ u. next (number 1 64) (λ n. giving (kinds.Server n c))))
 
 -- what a class is for, after so many servers
-abbrev pub kind : Scope → ℕ → ℕ → Keyword → Reading ClassKind
-kind scope natives servers k.Plain = giving kinds.Plain
-kind scope natives servers k.Session = giving kinds.Session
-kind scope natives servers k.Active = next any_keyword (λ key. next (provider natives key) (λ p. giving (kinds.Active p)))
-kind scope natives servers k.Server = if nat_lt servers 8 then server scope else failing LimitPassed
-kind scope natives servers key = failing BadShape
+abbrev pub kind : Scope → Version → ℕ → ℕ → Keyword → Reading ClassKind
+kind scope version natives servers k.Plain = giving kinds.Plain
+kind scope version natives servers k.Session = giving kinds.Session
+kind scope version natives servers k.Active = next any_keyword (λ key. next (provider version natives key) (λ p. giving (kinds.Active p)))
+kind scope version natives servers k.Server = if nat_lt servers 8 then server scope else failing LimitPassed
+kind scope version natives servers key = failing BadShape
 
 -- a parent, in a text of the second version and of a class that may have one
 abbrev pub said_parent : Scope → Version → ClassKind → Reading (Option ℕ)
@@ -118,7 +120,7 @@ flag key ws = Ok (took key ws)
 abbrev pub class_parts : Scope → Version → ℕ → ℕ → Reading ClassDecl
 class_parts scope version natives servers =
     next any_keyword (λ key.
-    next (kind scope natives servers key) (λ kind.
+    next (kind scope version natives servers key) (λ kind.
     next (optional_parent scope version kind) (λ parent.
     next (optional_number k.Words 8) (λ words.
     next (flag k.Own) (λ owns.

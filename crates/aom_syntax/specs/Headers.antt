@@ -1,8 +1,8 @@
 -- The statement that opens a text.
 use Rattle.std.specs.Prelude.{ℕ, true, false, if◌then◌else◌, Option, Some, None, Ok}
 use Rattle.aom_image.specs.declared.image.Header.{Header}
-use Rattle.aom_image.specs.declared.image.Version.{Version}
-use Rattle.aom_image.specs.declared.image.Version.TheVariants as versions
+use Rattle.aom_instructions.specs.declared.version.Version.{Version}
+use Rattle.aom_instructions.specs.declared.version.Version.TheVariants as versions
 use Rattle.aom_syntax.specs.Reading.{Reading, next, giving, took, keyword, nothing_more, number, optional_number}
 use Rattle.aom_syntax.specs.Operands.{class}
 use Rattle.aom_syntax.specs.declared.keyword.Keyword.TheVariants as k

@@ -54,7 +54,6 @@ keyword_text k.Maybe = codes "maybe"
 keyword_text k.Left = codes "left"
 keyword_text k.This = codes "self"
 keyword_text k.Message = codes "msg"
-keyword_text k.Hand = codes "hand"
 keyword_text k.Token = codes "token"
 
 -- all of them
@@ -104,7 +103,6 @@ keywords =
     ∷ k.Left
     ∷ k.This
     ∷ k.Message
-    ∷ k.Hand
     ∷ k.Token
     ∷ []
 

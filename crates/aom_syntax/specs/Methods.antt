@@ -18,9 +18,9 @@ use Rattle.aom_image.specs.declared.method.MethodFlags.{MethodFlags}
 use Rattle.aom_instructions.specs.declared.instr.Instr.{Instr}
 use Rattle.aom_syntax.specs.Reading.{◌>>=◌, Reading, next, seen, giving, failing, word, as_name, took, any_keyword, nothing_more}
 use Rattle.aom_syntax.specs.Keywords.{strange}
-use Rattle.aom_instructions.specs.Mnemonics.{mnemonic_of}
-use Rattle.aom_image.specs.declared.image.Version.{Version}
-use Rattle.aom_image.specs.declared.image.Version.TheVariants as versions
+use Rattle.aom_instructions.specs.Mnemonics.{is_in, mnemonic_of}
+use Rattle.aom_instructions.specs.declared.version.Version.{Version}
+use Rattle.aom_instructions.specs.declared.version.Version.TheVariants as versions
 use Rattle.aom_syntax.specs.Operands.{class, method}
 use Rattle.aom_syntax.specs.Words.{words_operands}
 use Rattle.aom_syntax.specs.Classes.{declared, declared_at, listed, thing_of, thing, flag}
@@ -216,12 +216,13 @@ heading scope version place =
 abbrev pub label_of : List ℕ → Option (List ℕ)
 label_of w = if slice_index_or w (length w - 1) 0 == 58 then Some (take (length w - 1) w) else None
 
-abbrev pub known_mnemonic : List ℕ → Option Mnemonic → Result Mnemonic AsmFaultKind
-known_mnemonic w None = Err (strange w)
-known_mnemonic w (Some m) = Ok m
+-- the mnemonic that a word is, of which the version has the instruction
+abbrev pub known_mnemonic : Version → List ℕ → Option Mnemonic → Result Mnemonic AsmFaultKind
+known_mnemonic version w None = Err (strange w)
+known_mnemonic version w (Some m) = if is_in version m then Ok m else Err BadShape
 
-abbrev pub named_mnemonic : List ℕ → Result Mnemonic AsmFaultKind
-named_mnemonic w = known_mnemonic w (mnemonic_of w)
+abbrev pub named_mnemonic : Version → List ℕ → Result Mnemonic AsmFaultKind
+named_mnemonic version w = known_mnemonic version w (mnemonic_of w)
 
 -- a label is a name, and is declared first at this place
 abbrev pub check_label : ℕ → List (List ℕ) → List ℕ → Result (Unit {0}) AsmFaultKind
@@ -237,8 +238,8 @@ abbrev pub after_label : ℕ → List (List ℕ) → Reading (List ℕ)
 after_label place labels = next word (λ w. skip_label place labels w (label_of w))
 
 -- an instruction with its label, at its place in a method
-abbrev pub instruction : Scope → List (List ℕ) → ℕ → Reading Instr
-instruction scope labels place =
-    next (seen named_mnemonic (after_label place labels)) (λ m.
+abbrev pub instruction : Scope → Version → List (List ℕ) → ℕ → Reading Instr
+instruction scope version labels place =
+    next (seen (named_mnemonic version) (after_label place labels)) (λ m.
     next (words_operands scope labels m) (λ i.
     next (nothing_more false) (λ u. giving i)))

@@ -1,7 +1,7 @@
 -- The laws: what a statement says is in its range, whatever its words are.
 use Rattle.std.specs.Prelude.{◌≡◌, ◌<◌, ◌≤◌, ℕ, true, List, length, All, IfSome, Ok}
 use Rattle.aom_image.specs.WellFormed.{ArgumentFits, ClassFits, GivesFits, HeaderFits, OverFits, ParentFits, is_server}
-use Rattle.aom_image.specs.declared.image.Version.{Version}
+use Rattle.aom_instructions.specs.declared.version.Version.{Version}
 use Rattle.aom_instructions.specs.Fits.{InstrFits, limits}
 use Rattle.aom_image.specs.declared.class.ClassDecl.{ClassDecl}
 use Rattle.aom_image.specs.declared.image.Header.{Header}
@@ -26,14 +26,14 @@ pub record HeadingFits (version : Version) (classes methods : ℕ) (h : Heading)
   pub gives : GivesFits classes h.gives
 
 -- names are told apart, and the classes that were read before are in their ranges
-pub record IsSettled (natives : ℕ) (scope : Scope) : Type 0 where
+pub record IsSettled (version : Version) (natives : ℕ) (scope : Scope) : Type 0 where
   pub is_strict : scope.is_strict ≡ true
-  pub kinds : All (ClassFits (length scope.classes) natives) scope.kinds
+  pub kinds : All (ClassFits version (length scope.classes) natives) scope.kinds
 
 -- a class at its place among the names of classes, after so many servers
 pub record ClassIsRead (scope : Scope) (version : Version) (natives place servers : ℕ) (c : ClassDecl) : Type 0 where
   pub declared : place < length scope.classes
-  pub class : ClassFits (length scope.classes) natives c
+  pub class : ClassFits version (length scope.classes) natives c
   pub parent : ParentFits version (length scope.classes) c.kind c.parent
   pub server : is_server c ≡ true → servers < 8
 
@@ -54,8 +54,12 @@ ClassesInRange = (scope : Scope) (version : Version) (natives place servers : �
 
 -- the beginning of a method, beside classes that were read before
 abbrev pub HeadingsInRange : Type 0
-HeadingsInRange = (natives : ℕ) (scope : Scope) (version : Version) → IsSettled natives scope → (place : ℕ) (ws : List (List ℕ)) (h : Heading) (rest : List (List ℕ)) → heading scope version place ws ≡ Ok (h, rest) → HeadingIsRead scope version place h
+HeadingsInRange =
+    (before : Version) (natives : ℕ) (scope : Scope) (version : Version) → IsSettled before natives scope → (place : ℕ) (ws : List (List ℕ)) (h : Heading) (rest : List (List ℕ))
+    → heading scope version place ws ≡ Ok (h, rest) → HeadingIsRead scope version place h
 
 -- an instruction, where names are told apart: it jumps to labels, and names classes and methods, that are declared
 abbrev pub InstructionsInRange : Type 0
-InstructionsInRange = (scope : Scope) → scope.is_strict ≡ true → (labels : List (List ℕ)) (place : ℕ) (ws : List (List ℕ)) (i : Instr) (rest : List (List ℕ)) → instruction scope labels place ws ≡ Ok (i, rest) → InstrFits (limits (length scope.classes) (length scope.methods) (length labels)) i
+InstructionsInRange =
+    (scope : Scope) (version : Version) → scope.is_strict ≡ true → (labels : List (List ℕ)) (place : ℕ) (ws : List (List ℕ)) (i : Instr) (rest : List (List ℕ))
+    → instruction scope version labels place ws ≡ Ok (i, rest) → InstrFits (limits version (length scope.classes) (length scope.methods) (length labels)) i

@@ -73,12 +73,18 @@ impl<'a> Reader<'a> {
     }
 
     /// The provider that a keyword says.
-    fn provider(&mut self, key: Keyword, natives: u8) -> Result<Provider, AsmFaultKind>
-        ensures { Reads (λ x. (x, self.new)) result (provider natives key self.old) }
+    fn provider(
+        &mut self,
+        key: Keyword,
+        version: Version,
+        natives: u8,
+    ) -> Result<Provider, AsmFaultKind>
+        ensures { Reads (λ x. (x, self.new)) result (provider version natives key self.old) }
     {
         match key {
             Keyword::This => Ok(Provider::Own),
             Keyword::Timer => Ok(Provider::Timer),
+            Keyword::Token if version.includes(Version::Two) => Ok(Provider::Token),
             Keyword::Native => match NativeNumber::new(self.number(0, 15)? as u8) {
                 Some(native) if native.number() < natives => Ok(Provider::Native(native)),
                 _ => Err(AsmFaultKind::LimitPassed),
@@ -101,17 +107,18 @@ impl<'a> Reader<'a> {
         &mut self,
         key: Keyword,
         scope: &Scope,
+        version: Version,
         natives: u8,
         servers: usize,
     ) -> Result<ClassKind, AsmFaultKind>
-        ensures { Reads (λ x. (x, self.new)) result (kind scope.now natives servers key self.old) }
+        ensures { Reads (λ x. (x, self.new)) result (kind scope.now version natives servers key self.old) }
     {
         match key {
             Keyword::Plain => Ok(ClassKind::Plain),
             Keyword::Session => Ok(ClassKind::Session),
             Keyword::Active => {
                 let key = self.any_keyword()?;
-                let provider = self.provider(key, natives)?;
+                let provider = self.provider(key, version, natives)?;
                 Ok(ClassKind::Active { provider })
             }
             Keyword::Server if servers < 8 => self.server(scope),
@@ -188,7 +195,7 @@ impl<'a> Reader<'a> {
     {
         self.declared(place, &scope.classes)?;
         let key = self.any_keyword()?;
-        let kind = self.kind(key, scope, natives, servers)?;
+        let kind = self.kind(key, scope, version, natives, servers)?;
         let mut class = ClassDecl {
             kind,
             parent: None,

@@ -5,7 +5,7 @@ ghost use Rattle.aom_syntax.specs.Methods.{label_of, named_mnemonic, check_label
 
 use crate::keyword::strange;
 use crate::{Names, Reader, Scope};
-use aom_image::{Instr, Mnemonic};
+use aom_image::{Instr, Mnemonic, Version};
 use aom_text::{AsmFaultKind, is_name};
 
 /// The label that a word is, if it ends with a colon.
@@ -18,11 +18,13 @@ pub fn label_of(word: &[u8]) -> Option<&[u8]>
     }
 }
 
-fn mnemonic_of(word: &[u8]) -> Result<Mnemonic, AsmFaultKind>
-    ensures { result ≡ named_mnemonic word.now }
+/// The mnemonic that a word is, of which the version has the instruction.
+fn mnemonic_of(word: &[u8], version: Version) -> Result<Mnemonic, AsmFaultKind>
+    ensures { result ≡ named_mnemonic version word.now }
 {
     match Mnemonic::of(word) {
-        Some(mnemonic) => Ok(mnemonic),
+        Some(mnemonic) if mnemonic.is_in(version) => Ok(mnemonic),
+        Some(_) => Err(AsmFaultKind::BadShape),
         None => Err(strange(word)),
     }
 }
@@ -56,22 +58,28 @@ impl<'a> Reader<'a> {
     }
 
     /// The mnemonic of an instruction, behind its label.
-    fn mnemonic(&mut self, labels: &Names, place: usize) -> Result<Mnemonic, AsmFaultKind>
-        ensures { Reads (λ x. (x, self.new)) result (seen named_mnemonic (after_label place labels.now) self.old) }
+    fn mnemonic(
+        &mut self,
+        version: Version,
+        labels: &Names,
+        place: usize,
+    ) -> Result<Mnemonic, AsmFaultKind>
+        ensures { Reads (λ x. (x, self.new)) result (seen (named_mnemonic version) (after_label place labels.now) self.old) }
     {
-        mnemonic_of(self.after_label(labels, place)?)
+        mnemonic_of(self.after_label(labels, place)?, version)
     }
 
     /// An instruction with its label, at its place in a method.
     pub fn instruction(
         &mut self,
         scope: &Scope,
+        version: Version,
         labels: &Names,
         place: usize,
     ) -> Result<Instr, AsmFaultKind>
-        ensures { Reads (λ x. (x, self.new)) result (instruction scope.now labels.now place self.old) }
+        ensures { Reads (λ x. (x, self.new)) result (instruction scope.now version labels.now place self.old) }
     {
-        let mnemonic = self.mnemonic(labels, place)?;
+        let mnemonic = self.mnemonic(version, labels, place)?;
         let instr = self.behind(mnemonic, scope, labels)?;
         self.nothing_more(false)?;
         Ok(instr)

@@ -7,7 +7,7 @@ ghost use Rattle.aom_syntax.specs.Keywords.{keyword_text, keyword_of, strange};
 use aom_image::Mnemonic;
 use aom_text::AsmFaultKind;
 
-/// A word of the language. Some are for later versions alone.
+/// A word of the language. Some are for the second version alone.
 #[derive(Clone, Copy)]
 pub enum Keyword {
     Image,
@@ -54,12 +54,11 @@ pub enum Keyword {
     Left,
     This,
     Message,
-    Hand,
     Token,
 }
 
 /// All of them.
-const KEYWORDS: [Keyword; 46] = [
+const KEYWORDS: [Keyword; 45] = [
     Keyword::Image,
     Keyword::Version,
     Keyword::Cells,
@@ -104,7 +103,6 @@ const KEYWORDS: [Keyword; 46] = [
     Keyword::Left,
     Keyword::This,
     Keyword::Message,
-    Keyword::Hand,
     Keyword::Token,
 ];
 
@@ -157,7 +155,6 @@ impl Keyword {
             Keyword::Left => b"left".as_slice(),
             Keyword::This => b"self".as_slice(),
             Keyword::Message => b"msg".as_slice(),
-            Keyword::Hand => b"hand".as_slice(),
             Keyword::Token => b"token".as_slice(),
         }
     }

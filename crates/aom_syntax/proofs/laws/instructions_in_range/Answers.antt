@@ -2,4 +2,4 @@ use Rattle.aom_syntax.proofs.RangedInstructions.{instruction_within}
 use Rattle.aom_syntax.proofs.laws.instructions_in_range.Goals as goal
 
 pub returns : goal.returns
-returns c scope strict labels place = (instruction_within scope strict labels place).each
+returns c scope version strict labels place = (instruction_within scope version strict labels place).each
