@@ -7,7 +7,7 @@ use Rattle.aom_instructions.specs.declared.instr.Instr.TheVariants.{Call, Cancel
 use Rattle.aom_instructions.specs.declared.instr.Target.TheVariants.{This}
 use Rattle.aom_image.specs.declared.class.ClassKind.TheVariants.{Active, Plain, Server, Session}
 use Rattle.aom_image.specs.declared.class.Provider.TheVariants as providers
-use Rattle.aom_image.specs.declared.image.Version.TheVariants.{Two}
+use Rattle.aom_instructions.specs.declared.version.Version.TheVariants.{Two}
 use Rattle.aom_image.specs.declared.method.Argument.TheVariants as arguments
 use Rattle.aom_image.specs.declared.method.Gives.TheVariants as gives
 use Rattle.aom_image.specs.declared.method.Method.{Method}

@@ -7,6 +7,7 @@ use Rattle.std.proofs.lemmas.Option.{slice_get_within, same_Some}
 use Rattle.aom_image.specs.Image.{Image}
 use Rattle.aom_image.specs.Views.{class_at, method_at}
 use Rattle.aom_image.specs.WellFormed.{ClassFits, WellFormed, is_dispatched}
+use Rattle.aom_instructions.specs.declared.version.Version.{Version}
 use Rattle.aom_image.specs.declared.class.ClassDecl.{ClassDecl}
 use Rattle.aom_image.specs.declared.class.ClassKind.{ClassKind}
 use Rattle.aom_image.specs.declared.class.ClassKind.TheVariants.{Plain, Active, Server, Session}
@@ -148,8 +149,8 @@ module _ (p : Image) (prices : List ℕ) (h : ArePriced p prices) where
 -- ---- what is declared
 
 -- a budget is below 2^32, so what counts for 2^32 is more
-class_below : (classes natives : ℕ) (class : ClassDecl) (most : ℕ) → ClassFits classes natives class → budget_of class ≡ Some most → most < 4294967296
-class_below classes natives class most fits e = go (is_dispatched class.kind) e
+class_below : (version : Version) (classes natives : ℕ) (class : ClassDecl) (most : ℕ) → ClassFits version classes natives class → budget_of class ≡ Some most → most < 4294967296
+class_below version classes natives class most fits e = go (is_dispatched class.kind) e
   where
     go : (b : Bool) → (if b then Some class.budget else None) ≡ Some most → most < 4294967296
     go true e = omega (arith, fits.budget, same_Some class.budget most e)
@@ -162,7 +163,7 @@ declared_below p (Class k) most formed e = go (slice_get p.classes k) refl e
   where
     go : (o : Option ClassDecl) → slice_get p.classes k ≡ o → class_declares o ≡ Some most → most < 4294967296
     go None is e = absurd cc
-    go (Some d) is e = class_below (length p.classes) p.header.natives d most (all_there (ClassFits (length p.classes) p.header.natives) p.classes k d formed.classes.each is) e
+    go (Some d) is e = class_below p.header.version (length p.classes) p.header.natives d most (all_there (ClassFits p.header.version (length p.classes) p.header.natives) p.classes k d formed.classes.each is) e
 
 -- what is past the classes declares nothing
 declares_within : (p : Image) (k most : ℕ) → declared_by p (Class k) ≡ Some most → k < length p.classes

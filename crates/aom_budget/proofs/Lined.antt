@@ -197,7 +197,7 @@ plays_not p k d r is other w = other (ap (λ (e : Method). e.role) (same_Some d 
 module _ (p : Image) (formed : WellFormed p) (c : ℕ) (past : length p.classes ≤ c) where
   absent_own : (r : Role) → own_role p c r ≡ None
   unfolding own_role
-  absent_own r = no_player (length p.classes) (length p.methods) c r p.methods formed.methods.each past
+  absent_own r = no_player p.header.version (length p.classes) (length p.methods) c r p.methods formed.methods.each past
 
   pub absent_role : (r : Role) → role_of p c r ≡ None
   absent_role r = none_there p r c past (absent_own r)

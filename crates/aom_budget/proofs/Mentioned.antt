@@ -43,7 +43,7 @@ use Rattle.aom_shape.specs.Order.WeakerFilling.{alike_filling}
 use Rattle.aom_shape.specs.Order.Weaker.{alike, unset_word, unset_null, maybe_null, maybe_own}
 use Rattle.aom_rules.specs.Rules.{flows, ways_of}
 use Rattle.aom_shape.specs.Shape.{Shape}
-use Rattle.aom_rules.specs.Ways.{As_before, Branches, Branches_in, Branches_on_empty, Branches_on_null, Called, Cancelled, Caught, Dropped, Ends, Filled, Goes_back, Goes_on, Goes_to, Holding, Left_in, Moved, News, Popped, Pushed, Pushed_operation, Taken, Taken_message, Ways, after, flowing}
+use Rattle.aom_rules.specs.Ways.{As_before, Branches, Branches_in, Branches_on_empty, Branches_on_null, Called, Cancelled, Caught, Dropped, Ends, Filled, Goes_back, Handed, Goes_on, Goes_to, Holding, Left_in, Moved, News, Popped, Pushed, Pushed_operation, Taken, Taken_message, Ways, after, flowing}
 use Rattle.aom_shape.specs.Tables.{at}
 use Rattle.aom_shape.specs.Things.{Holder, Member, root_thing, field_thing, holder_by, holder_of}
 use Rattle.aom_shape.specs.declared.kind.Entry.{Entry}
@@ -276,6 +276,7 @@ module _ (p : Image) (m : ℕ) where
     after_low pc sh (Caught target called first c) low h = caught_low (gives_of p called) c _ low (lasting_low target called first (resting p (method_class p called)) sh h)
     after_low pc sh (Left_in states) low h = record { registers = h.registers; entries = h.entries }
     after_low pc sh Cancelled low h = record { registers = h.registers; entries = h.entries }
+    after_low pc sh (Handed a) low h = let held = set_low sh a (Maybe Message Ready) h refl in record { registers = held.registers; entries = h.entries }
     after_low pc sh (Taken_message a) low h = let held = set_low sh a (Own Message Ready) h refl in record { registers = held.registers; entries = h.entries }
 
     ways_low : (pc : ℕ) (sh : Shape) (ways : Ways) → NamesLow ways → IsLow p m sh → AllLow p m (flowing p m pc sh ways)

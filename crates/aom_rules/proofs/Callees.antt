@@ -11,28 +11,28 @@ use Rattle.aom_classes.proofs.Facts.{all_there, of_method}
 use Rattle.aom_shape.proofs.Lists.{there}
 use Rattle.aom_site.specs.Calls.{HasCallee, HasCodeRegister}
 
-has_callee : (p : Image) (n : ℕ) (i : Instr) → InstrFits (limits (length p.classes) (length p.methods) n) i → HasCallee p i
+has_callee : (p : Image) (n : ℕ) (i : Instr) → InstrFits (limits p.header.version (length p.classes) (length p.methods) n) i → HasCallee p i
 unfolding method_at
-has_callee p n (Call target m first c) fits = there p.methods m fits.d
-has_callee p n (Trap target m first c) fits = there p.methods m fits.d
-has_callee p n (PushOperation a m) fits = there p.methods m fits.d
+has_callee p n (Call target m first c) fits = there p.methods m fits.operands.d
+has_callee p n (Trap target m first c) fits = there p.methods m fits.operands.d
+has_callee p n (PushOperation a m) fits = there p.methods m fits.operands.d
 has_callee p n _ fits = tt
 
 pub callee_there : (p : Image) (m pc : ℕ) (i : Instr) → WellFormed p → instr_at p m pc ≡ Some i → HasCallee p i
 unfolding method_at
 callee_there p m pc i formed e =
     let w = of_method p m pc i e in
-    let method = all_there (MethodFits (length p.classes) (length p.methods)) p.methods m w.0 formed.methods.each w.1 in
-    has_callee p (length w.0.code) i (all_there (InstrFits (limits (length p.classes) (length p.methods) (length w.0.code))) w.0.code pc i method.code w.2)
+    let method = all_there (MethodFits p.header.version (length p.classes) (length p.methods)) p.methods m w.0 formed.methods.each w.1 in
+    has_callee p (length w.0.code) i (all_there (InstrFits (limits p.header.version (length p.classes) (length p.methods) (length w.0.code))) w.0.code pc i method.code w.2)
 
 code_register : (l : Limits) (i : Instr) → InstrFits l i → HasCodeRegister i
-code_register l (Trap target m first c) fits = fits.c
+code_register l (Trap target m first c) fits = fits.operands.c
 code_register l _ fits = tt
 
 pub code_register_there : (p : Image) (m pc : ℕ) (i : Instr) → WellFormed p → instr_at p m pc ≡ Some i → HasCodeRegister i
 unfolding method_at
 code_register_there p m pc i formed e =
     let w = of_method p m pc i e in
-    let method = all_there (MethodFits (length p.classes) (length p.methods)) p.methods m w.0 formed.methods.each w.1 in
-    let l = limits (length p.classes) (length p.methods) (length w.0.code) in
+    let method = all_there (MethodFits p.header.version (length p.classes) (length p.methods)) p.methods m w.0 formed.methods.each w.1 in
+    let l = limits p.header.version (length p.classes) (length p.methods) (length w.0.code) in
     code_register l i (all_there (InstrFits l) w.0.code pc i method.code w.2)

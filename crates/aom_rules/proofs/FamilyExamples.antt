@@ -5,7 +5,7 @@ use Rattle.aom_image.specs.Small.{a_class, a_header, a_method}
 use Rattle.aom_image.specs.Views.{method_at, class_at, arguments_in, gives_in, leaves_in, quiet_in, role_in, class_in, fields_in}
 use Rattle.aom_image.specs.declared.class.ClassDecl.{ClassDecl}
 use Rattle.aom_image.specs.declared.class.ClassKind.TheVariants.{Plain}
-use Rattle.aom_image.specs.declared.image.Version.TheVariants.{Two}
+use Rattle.aom_instructions.specs.declared.version.Version.TheVariants.{Two}
 use Rattle.aom_image.specs.declared.method.Argument.{Argument}
 use Rattle.aom_image.specs.declared.method.Argument.TheVariants.{Own as An_own_argument}
 use Rattle.aom_image.specs.declared.method.Gives.{Gives}

@@ -5,7 +5,7 @@ use Rattle.std.specs.Prelude.{bit_and, bit_or}
 use Rattle.aom_image.specs.Image.{Image}
 use Rattle.aom_image.specs.Views.{arguments_of, gives_of, fields_of, has, leaves, method_class, method_role}
 use Rattle.aom_instructions.specs.declared.instr.Instr.{Instr}
-use Rattle.aom_instructions.specs.declared.instr.Instr.TheVariants.{Const, Copy, Move, Add, Sub, Mul, And, Or, Xor, JumpEqual, JumpLess, JumpNull, JumpEmpty, Print, Load, Store, Take, Put, New, NewOrLeave, Delete, Push, PushOperation, Pop, Call, Trap, TakeMessage, Reply, Return, Leave, LeaveIf, Enlist, Issue, SetActive, Cancel, Abort, Status, Connect, Ask, Close}
+use Rattle.aom_instructions.specs.declared.instr.Instr.TheVariants.{Const, Copy, Move, Add, Sub, Mul, And, Or, Xor, JumpEqual, JumpLess, JumpNull, JumpEmpty, Print, Load, Store, Take, Put, New, NewOrLeave, Delete, Push, PushOperation, Pop, Call, Trap, TakeMessage, Reply, Return, Leave, LeaveIf, Enlist, Issue, SetActive, Cancel, Abort, Status, Connect, Ask, Close, Hand}
 use Rattle.aom_instructions.specs.declared.instr.Target.{Target}
 use Rattle.aom_instructions.specs.declared.instr.Target.TheVariants.{This, Register, Field, Entry as On_entry}
 use Rattle.aom_image.specs.declared.method.Argument.{Argument}
@@ -32,7 +32,7 @@ use Rattle.aom_shape.specs.Order.Weaker.{alike, unset_word, unset_null, maybe_nu
 use Rattle.aom_shape.specs.Order.WeakerFilling.{alike_filling, perhaps_empty, perhaps_full}
 use Rattle.aom_rules.specs.Rules.{rule_needs, flows, ways_of}
 use Rattle.aom_shape.specs.Shape.{Shape}
-use Rattle.aom_rules.specs.Ways.{As_before, Branches, Branches_in, Branches_on_empty, Branches_on_null, Called, Cancelled, Caught, Dropped, Ends, Filled, Goes_back, Goes_on, Goes_to, Holding, Left_in, Moved, News, Popped, Pushed, Pushed_operation, Taken, Taken_message, Ways, after, flowing}
+use Rattle.aom_rules.specs.Ways.{As_before, Branches, Branches_in, Branches_on_empty, Branches_on_null, Called, Cancelled, Caught, Dropped, Ends, Filled, Goes_back, Handed, Goes_on, Goes_to, Holding, Left_in, Moved, News, Popped, Pushed, Pushed_operation, Taken, Taken_message, Ways, after, flowing}
 use Rattle.aom_shape.specs.Things.{Holder, Nobody, Program, Member, field_thing, holder_of}
 use Rattle.aom_shape.specs.declared.kind.Age.TheVariants.{Ready}
 use Rattle.aom_shape.specs.declared.kind.Entry.{Entry}
@@ -406,6 +406,10 @@ needs_more p m pc a b (Ask r s t) h n = (
 )
 needs_more p m pc a b Close h n = (n.0, (has_along server_states a.states b.states n.1.0 h.states, tt))
 needs_more p m pc a b (TakeMessage r) h n = (unowning_more (register a r) (register b r) (h.registers r) n.0, (n.1.0, (here_more a b h n.1.1.0, tt)))
+needs_more p m pc a b (Hand r) h n = (
+  unowning_more (register a r) (register b r) (h.registers r) n.0,
+  (n.1.0, (has_not_more a.states b.states unlisted h.states n.1.1.0, (has_along idle a.states b.states n.1.1.1.0 h.states, tt))),
+)
 needs_more p m pc a b (Reply r s) h n = (own_more p Message (register a r) (register b r) (h.registers r) n.0, (word_more (register a s) (register b s) (h.registers s) n.1.0, tt))
 -- of the entries or of the method alone, or of nothing
 needs_more p m pc a b _ h n = grind (arith, n, h.entries)
@@ -531,6 +535,7 @@ module _ (p : Image) (m pc : ℕ) (a b : Shape) (h : SaysNoMore a b) where
       caught_more (gives_of p m') c (lasting p m pc a target m' first ended) (lasting p m pc b target m' first ended) (lasting_more target m' first ended)
   after_more (Left_in states) n = states_more a b states states h (has_itself states)
   after_more Cancelled n = record { registers = h.registers; fields = λ i. alike_filling; entries = h.entries; states = cancelled_more a.states b.states h.states; delivery = h.delivery }
+  after_more (Handed r) n = states_more (set_register a r (Maybe Message Ready)) (set_register b r (Maybe Message Ready)) issued issued (register_more a b r (Maybe Message Ready) (Maybe Message Ready) h alike) (has_itself issued)
   after_more (Taken_message r) n =
       let held = register_more a b r (Own Message Ready) (Own Message Ready) h alike in
       record { registers = held.registers; fields = h.fields; entries = h.entries; states = h.states; delivery = refl }

@@ -1,16 +1,17 @@
 -- The rules of messages.
-use Rattle.std.specs.Prelude.{ℕ, List, [], ◌∷◌}
+use Rattle.std.specs.Prelude.{ℕ, not, List, [], ◌∷◌}
 use Rattle.aom_image.specs.Image.{Image}
-use Rattle.aom_image.specs.Views.{method_role}
+use Rattle.aom_image.specs.Views.{has, method_role}
 use Rattle.aom_image.specs.declared.method.Thing.TheVariants.{Message}
-use Rattle.aom_rules.specs.Requests.{is_service}
+use Rattle.aom_roles.specs.States.{idle, issued, unlisted}
+use Rattle.aom_rules.specs.Requests.{is_service, is_token_kind, own_kind}
 use Rattle.aom_shape.specs.Kinds.{is_here, is_own_for, is_unowning, is_word, register, set_register}
 use Rattle.aom_shape.specs.Needs.{Need}
 use Rattle.aom_shape.specs.Shape.{Shape}
 use Rattle.aom_shape.specs.declared.kind.Delivery.TheVariants.{Gone}
 use Rattle.aom_shape.specs.declared.kind.Age.TheVariants.{Ready}
-use Rattle.aom_shape.specs.declared.kind.Kind.TheVariants.{Own}
-use Rattle.aom_shape.specs.declared.why.Why.TheVariants.{RegisterKind}
+use Rattle.aom_shape.specs.declared.kind.Kind.TheVariants.{Maybe, Own}
+use Rattle.aom_shape.specs.declared.why.Why.TheVariants.{NotAdded, NotIdle, RegisterKind}
 
 module _ (p : Image) (m : ℕ) (sh : Shape) where
   -- the method serves a message, which it has not taken yet, and the register is free for it
@@ -24,3 +25,16 @@ module _ (p : Image) (m : ℕ) (sh : Shape) where
   -- the first register owns a message, and the other holds the word with which it is completed
   abbrev pub rule_reply : ℕ → ℕ → List Need
   rule_reply a b = (is_own_for p Message (register sh a), RegisterKind) ∷ (is_word (register sh b), RegisterKind) ∷ []
+
+  -- the object is idle, and its class is one that hands tokens
+  abbrev pub rule_hand : ℕ → List Need
+  rule_hand a =
+      (is_unowning (register sh a), RegisterKind)
+      ∷ (is_token_kind (own_kind p m), RegisterKind)
+      ∷ (not (has sh.states unlisted), NotAdded)
+      ∷ (has idle sh.states, NotIdle)
+      ∷ []
+
+  -- its request is made then, and the register has the token, or null where there was no room for one
+  abbrev pub after_hand : ℕ → Shape
+  after_hand a = record (set_register sh a (Maybe Message Ready)) { states = issued }

@@ -1,9 +1,10 @@
 -- The rules of instructions on the request of the method's own object.
-use Rattle.std.specs.Prelude.{ℕ, Bool, true, false, not, cond, ◌==◌, List, [], ◌∷◌, Option, Some, bit_and, bit_or, replicate}
+use Rattle.std.specs.Prelude.{ℕ, Bool, true, false, not, cond, ◌&&◌, ◌==◌, List, [], ◌∷◌, Option, Some, bit_and, bit_or, replicate}
 use Rattle.aom_image.specs.Image.{Image}
 use Rattle.aom_image.specs.Views.{has, method_class}
 use Rattle.aom_image.specs.declared.class.ClassKind.{ClassKind}
 use Rattle.aom_image.specs.declared.class.ClassKind.TheVariants.{Active, Server}
+use Rattle.aom_image.specs.declared.class.Provider.TheVariants.{Token}
 use Rattle.aom_roles.specs.Shapes.{kind_of}
 use Rattle.aom_roles.specs.States.{unlisted, idle, issued, active, cancel_open, cancel_done, server_states, active_states}
 use Rattle.aom_shape.specs.Kinds.{register, is_unowning, is_word}
@@ -17,6 +18,15 @@ use Rattle.aom_shape.specs.declared.why.Why.TheVariants.{EntryState, NotAdded, N
 abbrev pub is_active_kind : Option ClassKind → Bool
 is_active_kind (Some (Active provider)) = true
 is_active_kind _ = false
+
+-- objects of a class of active objects whose requests are completed by the tokens that they hand out
+abbrev pub is_token_kind : Option ClassKind → Bool
+is_token_kind (Some (Active Token)) = true
+is_token_kind _ = false
+
+-- and those that issue their requests
+abbrev pub is_issuing_kind : Option ClassKind → Bool
+is_issuing_kind k = is_active_kind k && not (is_token_kind k)
 
 -- objects of a class whose objects are enlisted
 abbrev pub is_listed_kind : Option ClassKind → Bool
@@ -73,7 +83,7 @@ module _ (p : Image) (m : ℕ) (sh : Shape) where
   rule_issue a b =
       (is_word (register sh a), RegisterKind)
       ∷ (is_word (register sh b), RegisterKind)
-      ∷ (is_active_kind (own_kind p m), RegisterKind)
+      ∷ (is_issuing_kind (own_kind p m), RegisterKind)
       ∷ (not (has sh.states unlisted), NotAdded)
       ∷ (has idle sh.states, NotIdle)
       ∷ []

@@ -3,7 +3,7 @@ use Rattle.std.specs.Prelude.{ℕ, ◌≡◌, List, [], Result}
 use Rattle.aom_image.specs.Image.{Image}
 use Rattle.aom_roles.specs.States.{unlisted, idle, issued, active, cancel_done}
 use Rattle.aom_instructions.specs.declared.instr.Instr.{Instr}
-use Rattle.aom_instructions.specs.declared.instr.Instr.TheVariants.{Const, Copy, Move, Add, Sub, Mul, And, Or, Xor, Jump, JumpEqual, JumpLess, JumpNull, JumpEmpty, JumpActive, JumpAdded, Loop, Next, Print, Load, Store, Take, Put, New, NewOrLeave, Delete, Push, PushOperation, Pop, PopOperation, PopDelete, Call, Trap, Return, Leave, LeaveIf, Enlist, Issue, SetActive, Cancel, Abort, Status, Connect, Ask, Close, TakeMessage, Reply, Stop}
+use Rattle.aom_instructions.specs.declared.instr.Instr.TheVariants.{Const, Copy, Move, Add, Sub, Mul, And, Or, Xor, Jump, JumpEqual, JumpLess, JumpNull, JumpEmpty, JumpActive, JumpAdded, Loop, Next, Print, Load, Store, Take, Put, New, NewOrLeave, Delete, Push, PushOperation, Pop, PopOperation, PopDelete, Call, Trap, Return, Leave, LeaveIf, Enlist, Issue, SetActive, Cancel, Abort, Status, Connect, Ask, Close, TakeMessage, Reply, Stop, Hand}
 use Rattle.aom_image.specs.declared.method.Thing.TheVariants.{Object}
 use Rattle.aom_shape.specs.Changes.{told}
 use Rattle.aom_shape.specs.Shape.{Shape}
@@ -15,8 +15,8 @@ use Rattle.aom_site.specs.Calls.{rule_call, rule_trap, rule_return}
 use Rattle.aom_rules.specs.Cleanup.{rule_new_or_leave, rule_push, rule_push_operation, rule_pop, rule_pop_operation, rule_pop_delete, rule_leave}
 use Rattle.aom_rules.specs.Requests.{enlisted, inactive, outstanding, rule_abort, rule_cancel, rule_enlist, rule_issue, rule_jump_active, rule_jump_added, rule_set_active, rule_status}
 use Rattle.aom_rules.specs.Natives.{rule_ask, rule_close, rule_connect}
-use Rattle.aom_rules.specs.Messages.{rule_reply, rule_take_message}
-use Rattle.aom_rules.specs.Ways.{Ways, Ends, Goes_on, Goes_to, Branches, Goes_back, Branches_on_null, Branches_on_empty, Branches_in, As_before, Holding, Moved, Taken, Taken_message, Filled, Pushed, Pushed_operation, Popped, Dropped, Called, Caught, Left_in, Cancelled, flowing}
+use Rattle.aom_rules.specs.Messages.{rule_hand, rule_reply, rule_take_message}
+use Rattle.aom_rules.specs.Ways.{Ways, Ends, Goes_on, Goes_to, Branches, Goes_back, Branches_on_null, Branches_on_empty, Branches_in, As_before, Holding, Moved, Taken, Taken_message, Filled, Pushed, Pushed_operation, Popped, Dropped, Called, Caught, Left_in, Cancelled, Handed, flowing}
 use Rattle.aom_shape.specs.declared.flow.Flow.{Flow as Answer}
 use Rattle.aom_shape.specs.declared.kind.Kind.TheVariants.{Word, Null, Own, Maybe}
 use Rattle.aom_shape.specs.declared.why.Why.{Why}
@@ -71,6 +71,7 @@ ways_of p Close = Goes_on As_before
 ways_of p (TakeMessage a) = Goes_on (Taken_message a)
 ways_of p (Reply a b) = Goes_on (Holding a Null)
 ways_of p Stop = Goes_on As_before
+ways_of p (Hand a) = Goes_on (Handed a)
 
 module _ (p : Image) (m : ℕ) (pc : ℕ) (sh : Shape) where
   abbrev pub rule_needs : Instr → List Need
@@ -122,6 +123,7 @@ module _ (p : Image) (m : ℕ) (pc : ℕ) (sh : Shape) where
   rule_needs (TakeMessage a) = rule_take_message p m sh a
   rule_needs (Reply a b) = rule_reply p m sh a b
   rule_needs Stop = []
+  rule_needs (Hand a) = rule_hand p m sh a
 
   abbrev pub flows : Instr → List Flow
   flows i = flowing p m pc sh (ways_of p i)

@@ -7,7 +7,7 @@ use Rattle.aom_rules.specs.Cleanup.{after_pop, after_push}
 use Rattle.aom_shape.specs.Entries.{with_entry, without_entry}
 use Rattle.aom_shape.specs.Kinds.{field, register, set_register}
 use Rattle.aom_shape.specs.Needs.{Flow, to_next}
-use Rattle.aom_rules.specs.Messages.{after_take_message}
+use Rattle.aom_rules.specs.Messages.{after_hand, after_take_message}
 use Rattle.aom_rules.specs.Objects.{after_move, after_put, after_take, flow_jump_empty, flow_jump_null}
 use Rattle.aom_rules.specs.Requests.{after_cancel, flow_narrowed}
 use Rattle.aom_shape.specs.Shape.{Shape}
@@ -36,6 +36,8 @@ pub data News : Type 0 where
   Cancelled : News
   -- a register has the message in service
   Taken_message : (register : ℕ) → News
+  -- a register has a token of the request that is made, or null
+  Handed : (register : ℕ) → News
 
 -- where a run may go on
 pub data Ways : Type 0 where
@@ -67,6 +69,7 @@ module _ (p : Image) (m : ℕ) (pc : ℕ) (sh : Shape) where
   after (Left_in states) = record sh { states = states }
   after Cancelled = after_cancel sh
   after (Taken_message a) = after_take_message p m sh a
+  after (Handed a) = after_hand p m sh a
 
   abbrev pub flowing : Ways → List Flow
   flowing Ends = []

@@ -3,12 +3,13 @@ ghost use Rattle.std.specs.Prelude.{◌≡◌, ◌++◌, ◌∷◌, [], ℤ, not
 ghost use Rattle.aom_image.specs.Views.{has};
 ghost use Rattle.aom_instructions.specs.declared.instr.Instr.TheVariants.{Abort, Cancel, Enlist, Issue, JumpActive, JumpAdded, SetActive, Status};
 ghost use Rattle.aom_roles.specs.States.{active_states, server_states, unlisted};
-ghost use Rattle.aom_rules.specs.Requests.{enlisted, flow_narrowed, inactive, is_active_kind, is_listed_kind, once_cancelled, outstanding, own_kind, resting};
+ghost use Rattle.aom_rules.specs.Requests.{enlisted, flow_narrowed, inactive, is_active_kind, is_issuing_kind, is_listed_kind, once_cancelled, outstanding, own_kind, resting};
 ghost use Rattle.aom_rules.specs.Rules.{Tells};
 ghost use Rattle.aom_shape.specs.Changes.{ways_from};
 ghost use Rattle.aom_shape.specs.Needs.{to_next};
 ghost use Rattle.aom_shape.specs.declared.why.Why.TheVariants.{NotAdded, NotIdle, RegisterKind};
 
+use crate::messages::needs_token_kind;
 use crate::rules::Ruling;
 use crate::words::with_word;
 use aom_image::{Place, Register, States};
@@ -71,6 +72,16 @@ fn needs_active_kind(site: &Site<'_>) -> (bool, Why)
     (site.resting().contains(States::ACTIVE), Why::RegisterKind)
 }
 
+/// The method works on an active object that hands no tokens.
+#[tactic(auto, using(crate::proofs::Resting::active_kind_rests))]
+fn needs_issuing_kind(site: &Site<'_>) -> (bool, Why)
+    ensures { result ≡ (is_issuing_kind (own_kind site.now.image site.now.method), RegisterKind) }
+{
+    let active = needs_active_kind(site).0;
+    let token = needs_token_kind(site).0;
+    (active && !token, Why::RegisterKind)
+}
+
 /// The method works on an object of a class whose objects are enlisted.
 #[tactic(auto, using(crate::proofs::Resting::listed_kind_rests))]
 fn needs_listed_kind(site: &Site<'_>) -> (bool, Why)
@@ -94,7 +105,7 @@ fn needs_active_in(site: &Site<'_>, states: States, why: Why) -> [(bool, Why); 2
 }
 
 /// The object is enlisted.
-fn needs_added(site: &Site<'_>) -> (bool, Why)
+pub(crate) fn needs_added(site: &Site<'_>) -> (bool, Why)
     ensures { result ≡ (not (has site.now.shape.states unlisted), NotAdded) }
 {
     let unlisted = site.shape.states().contains(States::UNLISTED);
@@ -155,7 +166,7 @@ pub(crate) fn rule_issue(site: &Site<'_>, a: Register, b: Register) -> Ruling
     let needs = [
         site.needs_word(a),
         site.needs_word(b),
-        needs_active_kind(site),
+        needs_issuing_kind(site),
         needs_added(site),
         needs_states(site, States::IDLE, Why::NotIdle),
     ];

@@ -1,13 +1,18 @@
 //! The rules of messages.
-ghost use Rattle.std.specs.Prelude.{◌≡◌};
+ghost use Rattle.std.specs.Prelude.{◌≡◌, Some};
 ghost use Rattle.aom_image.specs.declared.method.Thing.TheVariants.{Message};
-ghost use Rattle.aom_instructions.specs.declared.instr.Instr.TheVariants.{Reply, TakeMessage};
-ghost use Rattle.aom_rules.specs.Messages.{after_take_message};
+ghost use Rattle.aom_instructions.specs.declared.instr.Instr.TheVariants.{Hand, Reply, TakeMessage};
+ghost use Rattle.aom_roles.specs.Classes.{kind_at};
+ghost use Rattle.aom_roles.specs.Shapes.{kind_of};
+ghost use Rattle.aom_rules.specs.Messages.{after_hand, after_take_message};
+ghost use Rattle.aom_rules.specs.Requests.{is_token_kind, own_kind};
 ghost use Rattle.aom_rules.specs.Rules.{Tells};
 ghost use Rattle.aom_shape.specs.declared.why.Why.TheVariants.{RegisterKind};
 
+use crate::active::{needs_added, needs_states};
 use crate::rules::Ruling;
-use aom_image::{Register, Thing};
+use aom_image::{ClassKind, ClassNumber, Provider, Register, States, Thing};
+use aom_linked::Linked;
 use aom_shape::{Age, Delivery, Flow, Kind, Shape, Why, judge};
 use aom_site::Site;
 
@@ -37,4 +42,66 @@ pub(crate) fn rule_reply(site: &Site<'_>, a: Register, b: Register) -> Ruling
 {
     let needs = [site.needs_message(a), site.needs_word(b)];
     judge(&needs, site.next(&site.shape.with_register(a, Kind::Null)))
+}
+
+fn is_token_kind(kind: ClassKind) -> bool
+    ensures { result ≡ is_token_kind (Some kind) }
+{
+    match kind {
+        ClassKind::Active { provider } => matches!(provider, Provider::Token),
+        _ => false,
+    }
+}
+
+/// The objects of the class hand tokens.
+fn is_token(linked: &Linked, class: ClassNumber) -> bool
+    ensures { result ≡ is_token_kind (kind_at linked.now class) }
+{
+    let classes = linked.image().classes();
+    match classes.as_slice().get(class.number() as usize) {
+        None => false,
+        Some(declared) => is_token_kind(declared.kind),
+    }
+}
+
+/// What a method of that class works on hands tokens.
+#[tactic(auto, unfolding(aom_roles::specs::Shapes::kind_of))]
+fn is_token_of(linked: &Linked, class: Option<ClassNumber>) -> bool
+    ensures { result ≡ is_token_kind (kind_of linked.now class) }
+{
+    match class {
+        None => false,
+        Some(class) => is_token(linked, class),
+    }
+}
+
+/// The method works on an object that hands tokens.
+#[tactic(auto, using(aom_shape::proofs::Views::class_there))]
+pub(crate) fn needs_token_kind(site: &Site<'_>) -> (bool, Why)
+    ensures { result ≡ (is_token_kind (own_kind site.now.image site.now.method), RegisterKind) }
+{
+    let class = site.linked.method(site.method).class;
+    (is_token_of(site.linked, class), Why::RegisterKind)
+}
+
+/// The state once a request is made, with the token or null in that register.
+fn with_token<'a>(site: &Site<'a>, a: Register) -> Shape<'a>
+    ensures { result ≡ after_hand site.now.image site.now.method site.now.shape a }
+{
+    let token = Kind::Maybe(Thing::Message, Age::Ready);
+    site.shape
+        .with_register(a, token)
+        .with_states(States::ISSUED)
+}
+
+pub(crate) fn rule_hand(site: &Site<'_>, a: Register) -> Ruling
+    ensures { Tells site.now (Hand a) result }
+{
+    let needs = [
+        site.needs_unowning(a),
+        needs_token_kind(site),
+        needs_added(site),
+        needs_states(site, States::IDLE, Why::NotIdle),
+    ];
+    judge(&needs, site.next(&with_token(site, a)))
 }

@@ -13,7 +13,7 @@ use crate::cleanup::{
     rule_leave, rule_leave_if, rule_new_or_leave, rule_pop, rule_pop_delete, rule_pop_operation,
     rule_push, rule_push_operation,
 };
-use crate::messages::{rule_reply, rule_take_message};
+use crate::messages::{rule_hand, rule_reply, rule_take_message};
 use crate::natives::{rule_ask, rule_close, rule_connect};
 use crate::objects::{
     rule_delete, rule_jump_empty, rule_jump_null, rule_move, rule_new, rule_put, rule_take,
@@ -113,5 +113,6 @@ fn rule_of(site: &Site<'_>, instr: Instr) -> Ruling
         Instr::Close => rule_close(site),
         Instr::TakeMessage(a) => rule_take_message(site, a),
         Instr::Reply(a, b) => rule_reply(site, a, b),
+        Instr::Hand(a) => rule_hand(site, a),
     }
 }

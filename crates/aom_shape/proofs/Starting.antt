@@ -91,4 +91,4 @@ begun p m d known e registers fields states here =
 -- a method takes six arguments at most
 pub few_arguments : (p : Image) (m : ℕ) (d : Method) → WellFormed p → method_at p m ≡ Some d → length d.arguments ≤ 6
 unfolding method_at
-few_arguments p m d formed e = (all_there (MethodFits (length p.classes) (length p.methods)) p.methods m d formed.methods.each e).argument_count
+few_arguments p m d formed e = (all_there (MethodFits p.header.version (length p.classes) (length p.methods)) p.methods m d formed.methods.each e).argument_count
