@@ -15,7 +15,8 @@ use Rattle.aom_scheduler.specs.declared.timer.Timer.{Timer as Held_timer}
 use Rattle.aom_scheduler.proofs.Items.{AreDistinct, IsAbsent, place-absent}
 use Rattle.aom_sound.specs.Enlisted.{aborted, cancelled, cancelling, completed_at_once, completed_with, recorded, taken_up, timed_out, waits}
 use Rattle.aom_sound.specs.Natives.{is_owed}
-use Rattle.aom_sound.specs.Places.{Request}
+use Rattle.aom_sound.specs.Places.{Issued, Request}
+use Rattle.aom_sound.specs.Tokens.{promised}
 use Rattle.aom_active.specs.Aborts.{aborted_request}
 use Rattle.aom_active.specs.Agrees.{Active, IsWhole, StandsFor, Tells, due_in, may_stand, phase_of, timer_in}
 use Rattle.aom_active.specs.Meanings.{Asks, Completes, Enlists, IsFirstDue, IsFirstReady, IsNewest, IsNewestTimer, Makes, Picks, Removes, TakesUp, Times, asked_anew, queued_anew, begun_with, enlisted_with, is_being_cancelled, timed_for}
@@ -250,16 +251,28 @@ module _ {old : Active} (a : Active) (same : a ≡ old) (w : IsWhole a) (id : �
       (runs_without a w t id q ch) (retimes_without a.pending.timers id timed_out (λ x. refl))
       (λ x v e. object_tells o.state o.state o.in_it.status (pos 0) x (timed_out x) v (λ phase status. (phase, refl)) (subst (λ h. Tells h (Some x) v) o.in_it.is e)) (λ x. (refl, refl))))
 
-  pub issues_native :
-      (t : Table) → state_at old.table id ≡ Some Held_idle → Changes a.table t id (Some (Held_object Held_issued pending)) → Made old (parts t a.roster a.pending) id (begun_with pending)
-  issues_native t state ch =
+  -- one that is not completed, as long as no timer runs for it, and it stands where it stood
+  issues_as :
+      (f : Request → Request) → ((r : Request) → (f r).phase ≡ Issued) → ((r : Request) → (f r).status ≡ pending) → ((r : Request) → (f r).timer ≡ None) →
+      ((r : Request) → IsKept (Some r) (Some (f r))) →
+      (t : Table) → state_at old.table id ≡ Some Held_idle → Changes a.table t id (Some (Held_object Held_issued pending)) → Made old (parts t a.roster a.pending) id f
+  issues_as f phase_so status_so timer_so stays t state ch =
       let o = state_here Held_idle state in
       let q = Some (Held_object Held_issued pending) in
       let over : is_pending (request_at a.table id) ≡ false = ap is_pending o.is in
-      subst (λ x. Made x (parts t a.roster a.pending) id (begun_with pending)) same
-      (made a (parts t a.roster a.pending) id q (begun_with pending) w ch refl (follows_same a w t id q ch (ap is_some o.is) refl (sym (ap is_ready o.is)))
-      (runs_same a w t id q ch (λ e. absurd (false≢true (sym over ∙ e)))) (retimes_none a.pending.timers id (begun_with pending) (no_timer a w t id q ch over) (λ x. refl))
-      (λ x v e. object_tells Held_idle Held_issued o.status pending x (begun_with pending x) v (λ phase status. (refl, refl)) (subst (λ h. Tells h (Some x) v) o.is e)) (λ x. (refl, refl)))
+      subst (λ x. Made x (parts t a.roster a.pending) id f) same
+      (made a (parts t a.roster a.pending) id q f w ch refl (follows_same a w t id q ch (ap is_some o.is) refl (sym (ap is_ready o.is)))
+      (runs_same a w t id q ch (λ e. absurd (false≢true (sym over ∙ e)))) (retimes_none a.pending.timers id f (no_timer a w t id q ch over) timer_so)
+      (λ x v e. object_tells Held_idle Held_issued o.status pending x (f x) v (λ phase status. (sym (phase_so x), sym (status_so x))) (subst (λ h. Tells h (Some x) v) o.is e)) stays)
+
+  pub issues_native :
+      (t : Table) → state_at old.table id ≡ Some Held_idle → Changes a.table t id (Some (Held_object Held_issued pending)) → Made old (parts t a.roster a.pending) id (begun_with pending)
+  issues_native = issues_as (begun_with pending) (λ r. refl) (λ r. refl) (λ r. refl) (λ r. (refl, refl))
+
+  -- whichever token completes it
+  pub issues_token :
+      (order : ℕ) (t : Table) → state_at old.table id ≡ Some Held_idle → Changes a.table t id (Some (Held_object Held_issued pending)) → Made old (parts t a.roster a.pending) id (promised order)
+  issues_token order = issues_as (promised order) (λ r. refl) (λ r. refl) (λ r. refl) (λ r. (refl, refl))
 
   pub completes_it :
       (t : Table) (r : Roster) (p : Pending) (code given : ℤ) (ready : Bool) → given ≡ code → is_pending (request_at old.table id) ≡ true →

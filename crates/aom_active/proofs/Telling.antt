@@ -1,6 +1,6 @@
 -- What the requests that the active objects stand for tell of the table: what each call requires of it.
 use Rattle.std.proofs.Common.{◌≡◌, ℕ, Bool, false, true, Option, Some, None, subst, arith}
-use Rattle.std.specs.Prelude.{IsSome, is_some}
+use Rattle.std.specs.Prelude.{is_some}
 use mathlib.Core.Path.{fun_ext}
 use Rattle.std.specs.Ordering.{int_eq}
 use Rattle.aom_requests.specs.Requests.{is_pending, is_server, pending, request_at, state_at, state_of, status_at, status_of}

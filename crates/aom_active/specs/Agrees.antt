@@ -1,5 +1,5 @@
 -- The active objects of a machine, and when they stand for the requests of the checked machine.
-use Rattle.std.specs.Prelude.{◌≡◌, ℕ, ℤ, Bool, true, false, not, cond, is_some, List, [], Option, Some, None, option_map, All, AllPairs, replicate}
+use Rattle.std.specs.Prelude.{◌≡◌, ℕ, ℤ, Bool, true, not, cond, is_some, List, [], Option, Some, None, option_map, All, AllPairs, replicate}
 use Rattle.std.specs.Ordering.{int_eq}
 use Rattle.aom_requests.specs.Requests.{Table, request_at, is_pending, is_ready, pending}
 use Rattle.aom_requests.specs.declared.request.State.{State}

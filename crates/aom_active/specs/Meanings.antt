@@ -61,7 +61,7 @@ IsNewest order asked = (n : ℕ) (r : Request) → asked n ≡ Some r → r.orde
 
 -- the request of an object as it is enlisted
 abbrev pub enlisted_with : ℕ → ℤ → Request
-enlisted_with order priority = record { order = order; priority = priority; phase = Idle; status = pos 0; timer = None }
+enlisted_with order priority = record { order = order; priority = priority; phase = Idle; status = pos 0; timer = None; token = None }
 
 -- the object is enlisted, after all that are; a server with nothing in its queue
 pub record Enlists (old new : Active) (id : ℕ) (priority : ℤ) (waits : Option Bool) : Type 0 where
@@ -75,7 +75,7 @@ IsNewestTimer order asked = (n : ℕ) (t : Timer) → timer_in (asked n) ≡ Som
 
 -- a request as a timer is set for it, as `issued_by` of a timer makes it
 abbrev pub timed_for : (due order : ℕ) → Request → Request
-timed_for due order r = record r { phase = Issued; status = pending; timer = Some (record { due = due; order = order }) }
+timed_for due order r = record r { phase = Issued; status = pending; timer = Some (record { due = due; order = order }); token = None }
 
 -- a timer is set for the request of the object, after all that run
 pub record Times (old new : Active) (id due : ℕ) : Type 0 where
@@ -85,7 +85,7 @@ pub record Times (old new : Active) (id due : ℕ) : Type 0 where
 
 -- a request as it begins at a native with that status, as `issued_by` of a native makes it
 abbrev pub begun_with : ℤ → Request → Request
-begun_with status r = record r { phase = Issued; status = status; timer = None }
+begun_with status r = record r { phase = Issued; status = status; timer = None; token = None }
 
 -- ---- the timer that is due first
 

@@ -7,6 +7,7 @@ ghost use Rattle.aom_image.specs.declared.class.Provider.TheVariants.{Own};
 ghost use Rattle.aom_sound.specs.Enlisted.{completed_at_once, completed_with, pending, recorded, waits, cancelling, aborted, cancelled};
 ghost use Rattle.aom_sound.specs.Natives.{is_owed};
 ghost use Rattle.aom_sound.specs.Places.{Request as RequestRecord};
+ghost use Rattle.aom_sound.specs.Tokens.{promised};
 ghost use Rattle.aom_active.specs.Agrees.{StandsFor};
 ghost use Rattle.aom_active.specs.Meanings.{is_waited_for, is_being_cancelled, is_busy, begun_with, Makes, Removes, Enlists, Asks, Times, Completes, IsNextDue, IsSignalCount, Picks};
 
@@ -117,6 +118,15 @@ impl ActiveObjects {
         ensures { Makes self.old self.new id (begun_with pending) }
     {
         // It is not completed, so its object is not ready.
+        self.requests.issue(id);
+    }
+
+    /// An idle object makes a request that a token completes. It does not wait for it yet.
+    pub fn issue_token(&mut self, id: CellId)
+        requires { state_at self.old.table id ≡ Some State.Idle }
+        ensures { (order : ℕ) → Makes self.old self.new id (promised order) }
+    {
+        // It is pending, so its object is not ready.
         self.requests.issue(id);
     }
 

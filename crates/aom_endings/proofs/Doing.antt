@@ -1,10 +1,11 @@
 -- What an instruction needs and does it needs and does under other names too: its effect is the same under these names, and so is what each effect does.
+use Rattle.aom_sound.specs.Tokens.{home_class, is_crowded, next_token, promised, redeemed_by, token_of}
 use Rattle.std.proofs.Common.{Bool, List, None, Option, Some, [], ap, cond, false, length, refl, suc, true, zero, ℕ, ℤ, ◌-◌, ◌∙◌, ◌∷◌, ◌≡◌}
-use Rattle.std.specs.Prelude.{is_some, option_map}
+use Rattle.std.specs.Prelude.{is_some, option_map, nat_le}
 use Rattle.aom_image.specs.Image.{Image}
 use Rattle.aom_image.specs.Views.{instr_at, method_class, method_role}
 use Rattle.aom_instructions.specs.declared.instr.Instr.{Instr}
-use Rattle.aom_instructions.specs.declared.instr.Instr.TheVariants.{Abort, Add, And, Call, Cancel, Const, Copy, Delete, Enlist, Issue, JumpActive, JumpAdded, JumpEmpty, JumpNull, Load, Move, Mul, New, NewOrLeave, Next, Or, Pop, Push, PushOperation, Put, Return, SetActive, Status, Connect, Ask, Close, Store, Sub, Take, TakeMessage, Trap, Reply, Xor}
+use Rattle.aom_instructions.specs.declared.instr.Instr.TheVariants.{Abort, Add, And, Call, Cancel, Const, Copy, Delete, Enlist, Issue, JumpActive, JumpAdded, JumpEmpty, JumpNull, Load, Move, Mul, New, NewOrLeave, Next, Or, Pop, Push, PushOperation, Put, Return, SetActive, Status, Connect, Ask, Close, Store, Sub, Take, TakeMessage, Trap, Reply, Xor, Hand}
 use Rattle.aom_instructions.specs.declared.instr.Target.{Target}
 use Rattle.aom_instructions.specs.declared.instr.Target.TheVariants.{Entry as On_entry, Field as On_field, Register as On_register, This}
 use Rattle.aom_image.specs.declared.method.Gives.{Gives}
@@ -15,14 +16,14 @@ use Rattle.aom_sound.specs.Cleanup.{code_told, dealt_with, destroyed, to_trap, t
 use Rattle.aom_classes.specs.Roles.{destructor_of}
 use Rattle.aom_sound.specs.Destruction.{begun, begun_by, destructed, line_on, next_destructor}
 use Rattle.aom_sound.specs.Servers.{is_server, opened, reserved}
-use Rattle.aom_sound.specs.Effects.{Calls, Cancels, Carried, Destroys, Destroys_last, Effect, Goes_on, In_field, In_register, Jumps, Leaves, Made, Popped, Popped_operation, Pushed, Pushed_operation, Requested, Returns, Same, Sets_trap, Spot, Update, Written, applied, cancels_if, cells_after, deals, deletes, effect, items_after, jumps_if, jumps_unless, makes_unless, round, sets, spot_place, updates, with_words, writes, Replied, Sessioned, The_message}
+use Rattle.aom_sound.specs.Effects.{Calls, Cancels, Carried, Destroys, Destroys_last, Effect, Goes_on, In_field, In_register, Jumps, Leaves, Made, Popped, Popped_operation, Pushed, Pushed_operation, Requested, Returns, Same, Sets_trap, Spot, Update, Written, applied, cancels_if, cells_after, deals, deletes, effect, items_after, jumps_if, jumps_unless, makes_unless, round, sets, spot_place, updates, with_words, writes, Replied, Sessioned, The_message, Handed, hands_unless}
 use Rattle.aom_sound.specs.Enlisted.{cancel_method, cancelled, cancelling, ended_cells, in_phase, is_active, is_busy, on_request, own_request, rerequested}
 use Rattle.aom_sound.specs.Moves.{does, needs}
-use Rattle.aom_sound.specs.Places.{Cell, Elsewhere, Entry, Going, Object, Place, Register, Request, Session, held, moved}
+use Rattle.aom_sound.specs.Places.{Cell, Elsewhere, Entry, Going, Object, Place, Register, Request, Session, held, moved, without}
 use Rattle.aom_sound.specs.State.{A_mark, Accepts, An_object, An_operation, Asks, AtRoot, Choice, Closing, Destroy, Dispatch, Dispatched, Frame, Home, Inside, Item, Of_server, Run, Serves, State, Static, Task, Trapped, counter, field_place, home_view}
 use Rattle.aom_sound.specs.Words.{loaded, stored}
-use Rattle.aom_endings.proofs.NamedCells.{held_renamed, moved_renamed, order_kept, set_request_renamed, set_word_field_renamed, tasks_counted, timer_kept, word_field_kept, in_session_kept, set_session_renamed, cond_applied, without_renamed}
-use Rattle.aom_endings.proofs.Serving.{opened_client_renamed, opens_renamed}
+use Rattle.aom_endings.proofs.NamedCells.{held_renamed, messages_kept, moved_renamed, order_kept, redeemed_renamed, set_request_renamed, set_word_field_renamed, tasks_counted, timer_kept, token_kept, word_field_kept, in_session_kept, set_session_renamed, cond_applied, without_renamed}
+use Rattle.aom_endings.proofs.Serving.{opened_client_renamed, opens_renamed, token_named}
 use Rattle.aom_endings.proofs.Needs.{call_kept, field_renamed, free_at, given_renamed, held_field, kind_kept, leave_kept, message_at, own_request_kept, push_kept, pushed_renamed, put_kept, refusal_kept, register_renamed, reply_kept, return_kept, take_message_kept, trap_kept, under_trap_kept, view_kept, whole_kept}
 use Rattle.aom_endings.specs.Names.{IsOneToOne, renamed, renamed_cells, renamed_clients, renamed_choice, renamed_dispatch, renamed_frame, renamed_home, renamed_object, renamed_place, renamed_tasks}
 use Rattle.aom_rules.specs.Requests.{is_cancel}
@@ -33,6 +34,7 @@ use Rattle.aom_sound.specs.Natives.{own_session, resessioned}
 module _ (names : ℕ → ℕ) where
   abbrev renamed_update : Update → Update
   renamed_update (Made name class a) = Made (names name) class a
+  renamed_update (Handed name a) = Handed (names name) a
   renamed_update u = u
 
   abbrev renamed_effect : Effect → Effect
@@ -256,6 +258,11 @@ module _ (names : ℕ → ℕ) (one_to_one : IsOneToOne names) (p : Image) (c : 
   place_renamed (In_field f) = field_renamed names fr.home f
   place_renamed The_message = refl
 
+  class_kept : (h : Home) → home_class (renamed_home names h) ≡ home_class h
+  class_kept Static = refl
+  class_kept AtRoot = refl
+  class_kept (Inside o from) = refl
+
   cells_renamed : (u : Update) → cells_after p fr' ts' s' (renamed_update names u) ≡ renamed_cells names (cells_after p fr ts s u)
   cells_renamed Same = refl
   cells_renamed (Carried from to) = rw (place_renamed from, place_renamed to, moved_renamed names one_to_one (spot_place p fr ts s from) (spot_place p fr ts s to) s.cells)
@@ -263,7 +270,22 @@ module _ (names : ℕ → ℕ) (one_to_one : IsOneToOne names) (p : Image) (c : 
   cells_renamed (Written w v) = stored_renamed names one_to_one s.cells fr.home w v
   cells_renamed (Requested r) = rerequested_renamed names one_to_one s.cells fr.home r
   cells_renamed (Sessioned session) = resessioned_renamed names one_to_one s.cells fr.home session
-  cells_renamed (Replied a) = rw (tasks_counted names ts, without_renamed names one_to_one (Register (length ts) a) s.cells)
+  cells_renamed (Replied a code) =
+      let there = held s.cells (Register (length ts) a) in
+      let cs = redeemed_by (token_of s.cells there) code s.cells in
+      ap (λ o. without (Register (length ts') a) (redeemed_by (token_of s'.cells o) code s'.cells)) (register_renamed names one_to_one s.cells ts a)
+      ∙ ap (λ k. without (Register (length ts') a) (redeemed_by k code s'.cells)) (token_named names one_to_one s.cells there)
+      ∙ ap (λ l. without (Register (length ts') a) l) (redeemed_renamed names (token_of s.cells there) code s.cells)
+      ∙ ap (λ n. without (Register n a) (renamed_cells names cs)) (tasks_counted names ts)
+      ∙ without_renamed names one_to_one (Register (length ts) a) cs
+  cells_renamed (Handed name a) =
+      rw (
+        tasks_counted names ts,
+        class_kept fr.home,
+        token_kept names s.cells,
+        own_request_kept names one_to_one s.cells fr.home,
+        rerequested_renamed names one_to_one s.cells fr.home (on_request (promised (next_token s.cells)) (own_request s.cells fr.home)),
+      )
   cells_renamed (Pushed a) = pushed_renamed names one_to_one p c fr ts s a
   cells_renamed (Pushed_operation m w) = refl
   cells_renamed (Popped a) = rw (tasks_counted names ts, moved_renamed names one_to_one (top_place s.items) (Register (length ts) a) s.cells)
@@ -271,6 +293,7 @@ module _ (names : ℕ → ℕ) (one_to_one : IsOneToOne names) (p : Image) (c : 
 
   items_kept : (u : Update) (items : List Item) → items_after (renamed_update names u) items ≡ items_after u items
   items_kept (Made name class a) items = refl
+  items_kept (Handed name a) items = refl
   items_kept _ items = refl
 
   applied_renamed : (e : Effect) → applied p fr' ts' s' (renamed_effect names e) ≡ renamed names (applied p fr ts s e)
@@ -333,6 +356,10 @@ module _ (names : ℕ → ℕ) (one_to_one : IsOneToOne names) (p : Image) (c : 
   made_renamed true a x = refl
   made_renamed false a x = refl
 
+  handed_renamed : (b : Bool) (a : ℕ) (own : Option Request) → hands_unless b (names c.name) a own ≡ renamed_update names (hands_unless b c.name a own)
+  handed_renamed true a own = refl
+  handed_renamed false a own = refl
+
   -- one effect or the other
   either_renamed : (b : Bool) (x y x' y' : Effect) → x' ≡ renamed_effect names x → y' ≡ renamed_effect names y → cond b x' y' ≡ renamed_effect names (cond b x y)
   either_renamed true x y x' y' e f = e
@@ -371,6 +398,10 @@ module _ (names : ℕ → ℕ) (one_to_one : IsOneToOne names) (p : Image) (c : 
   effect_renamed (JumpActive to) = branch_renamed (in_phase is_busy) to
   effect_renamed (JumpAdded to) = branch_renamed is_some to
   effect_renamed (Enlist priority) = rw (order_kept names s.cells)
+  effect_renamed (Hand a) =
+      ap (λ n. sets fr' a None (hands_unless (nat_le p.header.messages n) (names c.name) a (own_request s'.cells fr'.home))) (messages_kept names s.cells)
+      ∙ ap (λ r. sets fr' a None (hands_unless (is_crowded p s.cells) (names c.name) a r)) (own_request_kept names one_to_one s.cells fr.home)
+      ∙ ap (sets fr' a None) (handed_renamed (is_crowded p s.cells) a (own_request s.cells fr.home))
   effect_renamed (Issue a b) = rw (kind_kept names p fr.home, timer_kept names s.cells, own_session_kept names one_to_one s.cells fr.home, own_request_kept names one_to_one s.cells fr.home)
   effect_renamed SetActive = rw (own_request_kept names one_to_one s.cells fr.home)
   effect_renamed Cancel = cancel_renamed
@@ -418,6 +449,7 @@ module _ (names : ℕ → ℕ) (one_to_one : IsOneToOne names) (p : Image) (c : 
   needs_kept Close = rw (kind_kept names p fr.home, own_request_kept names one_to_one s.cells fr.home)
   needs_kept (TakeMessage a) = take_message_kept names one_to_one p c fr ts s a
   needs_kept (Reply a b) = reply_kept names one_to_one p c fr ts s a b
+  needs_kept (Hand a) = rw (free_at names one_to_one s.cells ts a, kind_kept names p fr.home, own_request_kept names one_to_one s.cells fr.home)
   needs_kept (Return a) = return_kept names one_to_one p c fr ts s a
   needs_kept _ = first_of (cc, rw (leave_kept names s.cells (Run fr ∷ ts)), rw (whole_kept names one_to_one s.cells s.items))
 

@@ -11,7 +11,7 @@ use Rattle.aom_endings.proofs.Cells.{Unchanged, unchanged_along, unchanged_itsel
 use Rattle.aom_endings.proofs.Services.{unchanged_served}
 use Rattle.aom_sound.specs.Calls.{accepted_cells, passed_cells, result_cells, result_register, returned}
 use Rattle.aom_sound.specs.Cleanup.{top_place}
-use Rattle.aom_sound.specs.Effects.{Calls, Cancels, Carried, Destroys, Destroys_last, Effect, Goes_on, Leaves, Made, Popped, Popped_operation, Pushed, Pushed_operation, Replied, Requested, Returns, Same, Sessioned, Sets_trap, Update, Written, applied, cells_after, spot_place}
+use Rattle.aom_sound.specs.Effects.{Calls, Cancels, Carried, Destroys, Destroys_last, Effect, Goes_on, Leaves, Made, Popped, Popped_operation, Pushed, Pushed_operation, Replied, Requested, Returns, Same, Sessioned, Sets_trap, Update, Written, applied, cells_after, spot_place, Handed}
 use Rattle.aom_sound.specs.Enlisted.{ended_cells}
 use Rattle.aom_sound.specs.Objects.{no_words}
 use Rattle.aom_sound.specs.Places.{Cell, Elsewhere, Entry, Going, Place, Register, Session, moved, named}
@@ -23,7 +23,8 @@ abbrev pub LeavesAlone : ℕ → Update → Type 0
 LeavesAlone name (Made n class a) = n ≡ name
 LeavesAlone name (Requested r) = ⊥
 LeavesAlone name (Sessioned session) = ⊥
-LeavesAlone name (Replied a) = ⊥
+LeavesAlone name (Replied a code) = ⊥
+LeavesAlone name (Handed n a) = ⊥
 LeavesAlone name _ = Unit {0}
 
 abbrev pub IsAside : ℕ → Effect → Type 0

@@ -68,15 +68,15 @@ module _ (c : Cell) (cs : List Cell) (x : Timed) (tidy : Tidy (c ∷ cs)) (rest 
       go true e = due_later (same ∙ e)
       go false e = due_here r asked t timed cc
 
-  by_its_timer : (order : ℕ) (priority : ℤ) (phase : Phase) (status : ℤ) (timer : Option Timer) →
-      c.request ≡ Some (record { order = order; priority = priority; phase = phase; status = status; timer = timer }) →
-      among_timers c.object (Some (record { order = order; priority = priority; phase = phase; status = status; timer = timer })) (first_due cs) ≡ Some x → IsDue (c ∷ cs) x
-  by_its_timer order priority phase status None asked e = due_later e
-  by_its_timer order priority phase status (Some t) asked e = sooner_due _ asked t refl (first_due cs) refl e
+  by_its_timer : (order : ℕ) (priority : ℤ) (phase : Phase) (status : ℤ) (timer : Option Timer) (token : Option ℕ) →
+      c.request ≡ Some (record { order = order; priority = priority; phase = phase; status = status; timer = timer; token = token }) →
+      among_timers c.object (Some (record { order = order; priority = priority; phase = phase; status = status; timer = timer; token = token })) (first_due cs) ≡ Some x → IsDue (c ∷ cs) x
+  by_its_timer order priority phase status None token asked e = due_later e
+  by_its_timer order priority phase status (Some t) token asked e = sooner_due _ asked t refl (first_due cs) refl e
 
   by_its_request : (r : Option Request) → c.request ≡ r → among_timers c.object r (first_due cs) ≡ Some x → IsDue (c ∷ cs) x
   by_its_request None asked e = due_later e
-  by_its_request (Some r) asked e = by_its_timer r.order r.priority r.phase r.status r.timer asked e
+  by_its_request (Some r) asked e = by_its_timer r.order r.priority r.phase r.status r.timer r.token asked e
 
 pub is_due : (cs : List Cell) → Tidy cs → (x : Timed) → first_due cs ≡ Some x → IsDue cs x
 is_due [] tidy x e = cc

@@ -80,10 +80,10 @@ module _ (p : Image) (natives : HasNoNative p) where
   none_heard _ = refl
 
 -- a class of an image without natives has none
-class_unserved : (p : Image) (c : ClassDecl) → p.header.natives ≡ 0 → ClassFits (length p.classes) p.header.natives c → is_native_kind (Some c.kind) ≡ false
+class_unserved : (p : Image) (c : ClassDecl) → p.header.natives ≡ 0 → ClassFits p.header.version (length p.classes) p.header.natives c → is_native_kind (Some c.kind) ≡ false
 class_unserved p c none fits = go c.kind fits.kind
   where
-    go : (k : ClassKind) → KindFits (length p.classes) p.header.natives k → is_native_kind (Some k) ≡ false
+    go : (k : ClassKind) → KindFits p.header.version (length p.classes) p.header.natives k → is_native_kind (Some k) ≡ false
     go (An_active (Native n)) h = absurd (let some : n < p.header.natives = h in omega (arith, some, none))
     go _ h = refl
 
@@ -93,7 +93,7 @@ unnamed_unserved p formed none = record { none = go }
   where
     there : (o : Option ClassDecl) (c : ℕ) → slice_get p.classes c ≡ o → is_native_kind (kind_in o) ≡ false
     there None c is = refl
-    there (Some d) c is = class_unserved p d none (all_there (ClassFits (length p.classes) p.header.natives) p.classes c d formed.classes.each is)
+    there (Some d) c is = class_unserved p d none (all_there (ClassFits p.header.version (length p.classes) p.header.natives) p.classes c d formed.classes.each is)
 
     go : (class : Option ℕ) → is_native_kind (kind_of p class) ≡ false
     go None = refl

@@ -1,4 +1,5 @@
 -- As cells change no connect is lost, and no session's place changes: by the queues that stay, and by what moves and goes.
+use Rattle.aom_sound.specs.Tokens.{next_token, promised}
 use Rattle.std.proofs.Common.{arith, Bool, List, None, Option, Some, [], ap, cond, false, length, refl, subst, suc, sym, true, ℕ, ℤ, ⊎_elim, ◌==◌, ◌∙◌, ◌∷◌, ◌≡◌}
 use Rattle.std.proofs.lemmas.Bool.{eqb-true, true≢false}
 use Rattle.std.specs.List.{list_any}
@@ -19,8 +20,8 @@ use Rattle.aom_sound.proofs.Unslotting.{each_unslotted_alike}
 use Rattle.aom_sound.specs.Calls.{passed_cells, result_cells}
 use Rattle.aom_sound.specs.Clients.{each_unslotted}
 use Rattle.aom_sound.specs.Cleanup.{top_place}
-use Rattle.aom_sound.specs.Effects.{Carried, In_field, In_register, Made, Popped, Popped_operation, Pushed, Pushed_operation, Replied, Requested, Same as Unchanged, Sessioned, Spot, The_message, Update, Written, cells_after, spot_place}
-use Rattle.aom_sound.specs.Enlisted.{ended_cells}
+use Rattle.aom_sound.specs.Effects.{Carried, In_field, In_register, Made, Popped, Popped_operation, Pushed, Pushed_operation, Replied, Requested, Same as Unchanged, Sessioned, Spot, The_message, Update, Written, cells_after, spot_place, Handed}
+use Rattle.aom_sound.specs.Enlisted.{ended_cells, on_request, own_request}
 use Rattle.aom_sound.specs.Kept.{is_connect_of}
 use Rattle.aom_sound.specs.Places.{Cell, Elsewhere, Entry, Object, Place, Queued, Register, Service, Session, Tidy, held, moved, named, same_place, service_of}
 use Rattle.aom_sound.specs.Servers.{reserved}
@@ -34,6 +35,9 @@ pub record Calm (cs cs' : List Cell) : Type 0 where
 
 pub calm_itself : (cs : List Cell) → Calm cs cs
 calm_itself cs = record { connects = λ n c h. h; places = λ n c. refl }
+
+pub calm_along : (cs us vs : List Cell) → Calm cs us → Calm us vs → Calm cs vs
+calm_along cs us vs a b = record { connects = λ n c h. b.connects n c (a.connects n c h); places = λ n c. b.places n c ∙ a.places n c }
 
 pub calm_steady : (cs cs' : List Cell) → Steady cs cs' → ((n c : ℕ) → held cs' (Elsewhere (Session n c)) ≡ held cs (Elsewhere (Session n c))) → Calm cs cs'
 calm_steady cs cs' still places = record { connects = λ n c h. ap (λ q. list_any (is_connect_of c) q) (still.queues n) ∙ h; places = places }
@@ -91,7 +95,9 @@ module _ (p : Image) (fr : Frame) (ts : List Task) (s : State) where
   calm_update (Written w v) f = calm_steady s.cells _ (steady_update p fr ts s (Written w v) tt) (λ n c. place_stored fr.home w v (Elsewhere (Session n c)))
   calm_update (Requested r) f = calm_steady s.cells _ (steady_update p fr ts s (Requested r) f) (λ n c. (rerequested_alike s.cells fr.home r).held_so (Elsewhere (Session n c)))
   calm_update (Sessioned b) f = calm_steady s.cells _ (steady_update p fr ts s (Sessioned b) tt) (λ n c. (resessioned_alike s.cells fr.home b).held_so (Elsewhere (Session n c)))
-  calm_update (Replied a) f = absurd f
+  calm_update (Replied a code) f = absurd f
+  calm_update (Handed name a) f =
+      calm_steady s.cells _ (steady_update p fr ts s (Handed name a) f) (λ n c. (rerequested_alike s.cells fr.home (on_request (promised (next_token s.cells)) (own_request s.cells fr.home))).held_so (Elsewhere (Session n c)))
   calm_update (Pushed a) f = calm_steady s.cells _ (steady_update p fr ts s (Pushed a) tt) (place_moved s.cells (here fr ts s a) (Entry (length s.items)) (λ n c. refl) (λ n c. refl))
   calm_update (Popped a) f = calm_steady s.cells _ (steady_update p fr ts s (Popped a) tt) (place_moved s.cells (top_place s.items) (here fr ts s a) (λ n c. refl) (λ n c. refl))
   calm_update Unchanged f = calm_itself s.cells

@@ -1,4 +1,11 @@
 -- Each move tells what the call does that it makes: instructions on requests and sessions, the going of a cell, and all others, which make none.
+use Rattle.aom_image.specs.declared.class.ClassKind.{ClassKind}
+use Rattle.aom_rules.specs.Requests.{is_token_kind}
+use Rattle.aom_sound.proofs.Altering.{read_kept, sessions}
+use Rattle.aom_sound.proofs.Redeeming.{redeemed_by_alike, redeemed_good, redeeming, requested_redeemed}
+use Rattle.aom_sound.proofs.Storing.{rerequested_alike}
+use Rattle.aom_sound.specs.Requests.{Known, Suits, states_claim}
+use Rattle.aom_sound.specs.Tokens.{all_redeemed, awaits, busy, is_crowded, next_token, promised, redeemed_by, redeemed_with, token_of}
 use Rattle.std.proofs.Common.{Bool, List, None, Option, Some, [], ap, cond, false, length, refl, subst, suc, sym, true, zero, ℕ, ℤ, ◌&&◌, ◌==◌, ◌∙◌, ◌∷◌, ◌≡◌, pos, arith}
 use Rattle.std.proofs.lemmas.Bool.{not-true, and_right, eqb-true}
 use Rattle.std.specs.Ordering.{int_eq}
@@ -7,9 +14,9 @@ use Rattle.aom_image.specs.Image.{Image}
 use Rattle.aom_image.specs.Views.{gives_of, instr_at}
 use Rattle.aom_image.specs.declared.method.Role.TheVariants.{Error}
 use Rattle.aom_instructions.specs.declared.instr.Instr.{Instr}
-use Rattle.aom_instructions.specs.declared.instr.Instr.TheVariants.{Cancel, Enlist, Reply, Return, SetActive}
-use Rattle.aom_endings.proofs.Calls.{IsAlive, Told, abort_told, alive_in, at_it, found, ask_told, asked_same, close_told, connect_told, ended_same, issue_told, sessions_after, sessions_along, taken_off, told_along, told_before, told_none}
-use Rattle.aom_endings.proofs.Cells.{Unchanged, meets_gone, owes_gone, served_none, unchanged_along, unchanged_itself, unchanged_moved}
+use Rattle.aom_instructions.specs.declared.instr.Instr.TheVariants.{Cancel, Enlist, Reply, Return, SetActive, Hand}
+use Rattle.aom_endings.proofs.Calls.{IsAlive, Told, abort_told, alive_in, at_it, found, ask_told, asked_same, close_told, connect_told, ended_same, issue_told, sessions_after, sessions_along, taken_off, told_along, told_before, told_none, still}
+use Rattle.aom_endings.proofs.Cells.{Unchanged, meets_gone, owes_gone, served_none, unchanged_along, unchanged_itself, unchanged_moved, unchanged_alike, unchanged_asked, unchanged_new}
 use Rattle.aom_endings.proofs.Effects.{IsAside, applied_killed, applied_unchanged, returned_unchanged}
 use Rattle.aom_endings.proofs.Requests.{cancelling_owed, none_owed, rests_owed, waits_owed}
 use Rattle.aom_endings.specs.Laws.{FollowsCall, MovesFollowCalls}
@@ -20,28 +27,65 @@ use Rattle.aom_sound.proofs.Exchanging.{by_exchange, none_wanted}
 use Rattle.aom_sound.proofs.Finishing.{all_parts}
 use Rattle.aom_sound.proofs.Guarded.{guarded_goes, guarded_met}
 use Rattle.aom_sound.proofs.Layers.{dispatch_layer, method_layer}
-use Rattle.aom_sound.proofs.Maps.{tidy_without, held_lives}
+use Rattle.aom_sound.proofs.Maps.{tidy_without, held_lives, named_name}
 use Rattle.aom_sound.proofs.Moving.{acted, steps_are_moves}
 use Rattle.aom_sound.specs.Calls.{result_needs, returned}
 use Rattle.aom_sound.specs.Claims.{Dispatching, Layer}
 use Rattle.aom_sound.specs.Destruction.{first_session, vanished, parting, gone, is_at_rest, needs_gone}
-use Rattle.aom_sound.specs.Effects.{Effect, Leaves, Same, applied, cancels_if, deals, deletes, effect, jumps_if, jumps_unless, makes_unless, round, sets, unless_refused, updates}
-use Rattle.aom_sound.specs.Enlisted.{cancel_method, cancelling, ended_cells, first_request, in_phase, is_active, next_timer, on_request, own_request, part_of, thing_kind, waits}
+use Rattle.aom_sound.specs.Effects.{Effect, Leaves, Same, applied, cancels_if, deals, deletes, effect, jumps_if, jumps_unless, makes_unless, round, sets, unless_refused, updates, cells_after, hands_unless}
+use Rattle.aom_sound.specs.Enlisted.{cancel_method, cancelling, ended_cells, first_request, in_phase, is_active, next_timer, on_request, own_request, part_of, thing_kind, waits, completed_at_once, home_kind, rerequested}
 use Rattle.aom_sound.specs.Moves.{stage_ends, answered, asking, counted, dispatch_ends, failed, handled, main_ends, needs, object_ends, step, step_instr, step_task}
 use Rattle.aom_sound.specs.Natives.{is_owed, native_of}
-use Rattle.aom_sound.specs.Places.{service_of, seen, In_service, Tidy, Cell, Elsewhere, Entry, Going, Object, Root, held, in_session, named, requested, without}
+use Rattle.aom_sound.specs.Places.{service_of, seen, In_service, Tidy, Cell, Elsewhere, Entry, Going, Object, Root, held, in_session, named, requested, without, Request, with_new}
 use Rattle.aom_sound.specs.State.{Parts, Service_left, Of_server, Closing, Stage, Seat, An_object, An_operation, Answered, Asks, AtRoot, Choice, Destroy, Dispatch, Dispatched, Frame, Goes, Home, Inside, Item, Main_left, Object_left, Of_main, Of_object, Of_root, Run, State, Static, Task, Unwind}
 use Rattle.aom_sound.specs.Steps.{Empties, Acts, Arrives, Clears, Comes_out, Ends, Fits, IsStill, Move, Rests, Undoes, Vanishes}
 use Rattle.aom_sound.specs.Wanted.{Exchange, Nothing, exchange, exchange_at, Closes, wanted, wanted_by, wanted_going, wanted_gone, wanted_if, wanted_task}
 use Rattle.aom_sound.specs.WellTyped.{Fits as FitsKind, Good, IsHoused, WellTyped}
 use Rattle.aom_sound.specs.Servers.{without_queue}
-use Rattle.aom_sound.specs.Words.{here}
+use Rattle.aom_sound.specs.Words.{here, read}
 use Rattle.aom_sound.specs.Objects.{is_thing}
 use Rattle.aom_image.specs.declared.method.Thing.TheVariants.{Message}
 use Rattle.aom_endings.proofs.Services.{serves_unqueued, unchanged_unslotted, unchanged_served, session_unqueued, unchanged_completed, going_unqueued, tidy_unqueued, unchanged_unqueued}
 use Rattle.aom_sound.proofs.Things.{stands_message}
 use Rattle.aom_shape.specs.declared.kind.Kind.TheVariants.{Own}
 use Rattle.aom_shape.specs.declared.kind.Age.TheVariants.{Ready}
+
+-- ---- what tokens complete
+
+pub token_served : (k : Option ClassKind) → is_token_kind k ≡ true → native_of k ≡ None
+token_served k e = grind arith
+
+awaits_token : (order : ℕ) (k : Option ClassKind) (n : Known) (r : Option Request) → Suits k n r → awaits order r ≡ true → native_of k ≡ None
+awaits_token order k n r s e = grind arith
+
+-- no native serves what waits for a token
+unchanged_redeemed : (p : Image) (t : Typing) (cs : List Cell) (ls : List Layer) → Good p t cs ls → (order : Option ℕ) (code : ℤ) → Unchanged p cs (redeemed_by order code cs)
+unchanged_redeemed p t cs ls good None code = unchanged_itself p cs
+unchanged_redeemed p t cs ls good (Some order) code = record { owes = λ n m. owing n m (awaits order (requested cs m)) refl; meets = meeting }
+  where
+    us : List Cell
+    us = all_redeemed order code cs
+
+    objects : (m : ℕ) → named us m ≡ named cs m
+    objects m = (redeemed_by_alike (Some order) code cs).named_so m
+
+    unserved : (n m : ℕ) → awaits order (requested cs m) ≡ true → (o : Option Object) → named cs m ≡ o → serves_object p n o ≡ false
+    unserved n m e None lives = refl
+    unserved n m e (Some o) lives =
+        let name : o.name ≡ m = named_name cs m o lives in
+        let here : named cs o.name ≡ Some o = ap (named cs) name ∙ lives in
+        served_none p n o.thing (awaits_token order (thing_kind p o.thing) (states_claim p o ls) (requested cs o.name) (good.suits o here) (ap (λ k. awaits order (requested cs k)) name ∙ e))
+
+    owing : (n m : ℕ) (b : Bool) → awaits order (requested cs m) ≡ b → owes p us n m ≡ owes p cs n m
+    owing n m true e =
+        let none = unserved n m e (named cs m) refl in
+        ap (λ o. serves_object p n o && is_owed (requested us m)) (objects m) ∙ ap (λ b. b && is_owed (requested us m)) none ∙ sym (ap (λ b. b && is_owed (requested cs m)) none)
+    owing n m false e =
+        ap (λ o. serves_object p n o && is_owed (requested us m)) (objects m)
+        ∙ ap (λ r. serves p cs n m && is_owed r) (requested_redeemed order code cs m ∙ ap (λ b. cond b (on_request (redeemed_with code) (requested cs m)) (requested cs m)) e)
+
+    meeting : (n m : ℕ) → meets p us n m ≡ meets p cs n m
+    meeting n m = ap (λ o. serves_object p n o && in_session us m) (objects m) ∙ ap (λ b. serves p cs n m && b) (read_kept (redeeming order code) sessions (λ c. refl) cs m)
 
 -- ---- an instruction
 
@@ -113,12 +157,36 @@ module _ (p : Image) (t : Typing) (c : Choice) (fr : Frame) (ts : List Task) (s 
   is_message : (a : ℕ) (x : Object) → held s.cells (here fr ts (counted p s) a) ≡ Some x → is_thing p Message (held s.cells (here fr ts (counted p s) a)) ≡ true → x.thing ≡ Message
   is_message a x there thing = stands_message p x.thing (sym (ap (is_thing p Message) there) ∙ thing)
 
+  -- the request of an object that hands tokens is owed by no native
+  handing : (h : Home) → IsAlive s.cells h → is_token_kind (home_kind p h) ≡ true → (r : Option Request) → Unchanged p s.cells (rerequested s.cells h r)
+  handing Static living kind r = unchanged_itself p s.cells
+  handing AtRoot living kind r = unchanged_itself p s.cells
+  handing (Inside o from) living kind r = unchanged_asked p s.cells o r (λ k. still p c.answer s o living (token_served (thing_kind p o.thing) kind) k (is_owed r) (is_owed (requested s.cells o.name)))
+
+  hands : (b : Bool) (a : ℕ) → is_token_kind (home_kind p fr.home) ≡ true → Unchanged p s.cells (cells_after p fr ts (counted p s) (hands_unless b c.name a (own_request s.cells fr.home)))
+  hands true a kind = handing fr.home alive kind (on_request (completed_at_once busy) (own_request s.cells fr.home))
+  hands false a kind =
+      let r = on_request (promised (next_token s.cells)) (own_request s.cells fr.home) in
+      let asked = rerequested s.cells fr.home r in
+      unchanged_along p s.cells asked _ (handing fr.home alive kind r)
+      (unchanged_along p asked (with_new c.name Message [] (here fr ts (counted p s) a) asked) _
+      (unchanged_new p c.name Message [] (here fr ts (counted p s) a) asked ((rerequested_alike s.cells fr.home r).named_so c.name ∙ unused))
+      (unchanged_alike p _ _ (λ m. refl) (λ m. refl) (λ m. refl)))
+
   silently : (i : Instr) → exchange i ≡ Nothing → AllTrue (needs p c fr ts (counted p s) i) → Tells Nothing i
   silently (Enlist priority) none met = silent (Enlist priority) (asked_same p c.answer s fr.home (Some (first_request s.cells priority)) (sym (none_owed (own_request s.cells fr.home) met.1.0)))
   silently SetActive none met = silent SetActive (asked_same p c.answer s fr.home (on_request waits (own_request s.cells fr.home)) (waits_owed (own_request s.cells fr.home) met.1.1.1.0))
   silently Cancel none met = silent Cancel (cancels (in_phase is_active (own_request s.cells fr.home)) refl (cancel_method p fr))
   silently (Return a) none met = silent (Return a) (returns a met)
-  silently (Reply a b) none met = silent (Reply a b) (unchanged_completed p t s.cells ls good (here fr ts (counted p s) a) (λ x there. is_message a x there met.1.1.0))
+  silently (Reply a b) none met =
+      let order = token_of s.cells (held s.cells (here fr ts (counted p s) a)) in
+      let code = read fr ts (counted p s) b in
+      let cs = redeemed_by order code s.cells in
+      silent (Reply a b)
+      (unchanged_along p s.cells cs _ (unchanged_redeemed p t s.cells ls good order code)
+      (unchanged_completed p t cs ls (redeemed_good p t order code s.cells ls good) (here fr ts (counted p s) a)
+      (λ x there. is_message a x (sym ((redeemed_by_alike order code s.cells).held_so (here fr ts (counted p s) a)) ∙ there) met.1.1.0)))
+  silently (Hand a) none met = silent (Hand a) (hands (is_crowded p s.cells) a met.1.0)
   -- the others leave all as it is, whatever a test of theirs decides
   silently i none met =
       let nothing : IsNothing (exchange i) = subst IsNothing (sym none) tt in

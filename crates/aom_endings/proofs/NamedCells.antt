@@ -1,4 +1,7 @@
 -- What is read of cells and done to them, under other names: the same, renamed.
+use Rattle.aom_sound.specs.Clients.{count_messages}
+use Rattle.aom_sound.specs.Natives.{is_owed}
+use Rattle.aom_sound.specs.Tokens.{awaited, awaits, is_redeemable, next_token, order_in, order_past, redeemed, redeemed_by}
 use Rattle.std.proofs.Common.{Bool, List, None, Option, Some, [], ap, cond, false, length, refl, suc, true, zero, ℕ, ℤ, ◌&&◌, ◌==◌, ◌∙◌, ◌∷◌, ◌≡◌}
 use Rattle.std.proofs.lemmas.Bool.{eq-eqb, eqb-false, eqb-true, ne_eqb}
 use Rattle.std.proofs.lemmas.List.{length-map}
@@ -149,6 +152,24 @@ order_kept names (c ∷ cs) = ap (max (order_after c.request)) (order_kept names
 pub timer_kept : (names : ℕ → ℕ) (cs : List Cell) → next_timer (renamed_cells names cs) ≡ next_timer cs
 timer_kept names [] = refl
 timer_kept names (c ∷ cs) = ap (max (request_after c.request)) (timer_kept names cs)
+
+-- nor a token's
+pub token_kept : (names : ℕ → ℕ) (cs : List Cell) → next_token (renamed_cells names cs) ≡ next_token cs
+token_kept names [] = refl
+token_kept names (c ∷ cs) = ap (λ n. max (order_past (order_in c.service.token)) (max (order_past (awaited c.request)) n)) (token_kept names cs)
+
+pub messages_kept : (names : ℕ → ℕ) (cs : List Cell) → count_messages (renamed_cells names cs) ≡ count_messages cs
+messages_kept names [] = refl
+messages_kept names (c ∷ cs) = ap (λ n. cond (is_object c.object.thing) n (suc n)) (messages_kept names cs)
+
+pub redeemed_renamed : (names : ℕ → ℕ) (order : Option ℕ) (code : ℤ) (cs : List Cell) → redeemed_by order code (renamed_cells names cs) ≡ renamed_cells names (redeemed_by order code cs)
+redeemed_renamed names None code cs = refl
+redeemed_renamed names (Some order) code cs = each_renamed names (redeemed order code) (λ c. refl) cs
+
+pub redeemable_kept : (names : ℕ → ℕ) (order : Option ℕ) (cs : List Cell) → is_redeemable order (renamed_cells names cs) ≡ is_redeemable order cs
+redeemable_kept names None cs = refl
+redeemable_kept names (Some order) [] = refl
+redeemable_kept names (Some order) (c ∷ cs) = ap (λ b. cond (awaits order c.request) (is_owed c.request && b) b) (redeemable_kept names (Some order) cs)
 
 is_register_kept : (names : ℕ → ℕ) (d : ℕ) (spared : Option ℕ) (q : Place) → is_register_but d spared (renamed_place names q) ≡ is_register_but d spared q
 is_register_kept names d None (Field n f) = refl

@@ -1,5 +1,6 @@
 -- What is asked is asked under other names too: no need looks at a name but to compare it with another.
 use Rattle.aom_rules.specs.Calls.{fields_above, parent_above}
+use Rattle.aom_sound.specs.Tokens.{is_redeemable, token_of}
 use Rattle.std.proofs.Common.{zero, Bool, List, None, Option, Some, [], ap, cond, false, length, refl, suc, true, ℕ, ◌&&◌, ◌==◌, ◌∙◌, ◌∷◌, ◌≡◌}
 use Rattle.std.specs.Prelude.{is_none, is_some, option_map, ◌++◌}
 use Rattle.aom_image.specs.Image.{Image}
@@ -20,10 +21,10 @@ use Rattle.aom_sound.specs.Objects.{is_declared_thing, is_no_message, is_thing, 
 use Rattle.aom_sound.specs.Places.{Cell, Elsewhere, Entry, In_service, Object, Place, Register, Session, held, moved}
 use Rattle.aom_sound.specs.Destruction.{needs_past, needs_emptied}
 use Rattle.aom_sound.specs.Servers.{without_queue}
-use Rattle.aom_sound.specs.State.{A_mark, Accepts, An_object, An_operation, Asks, AtRoot, Choice, Destroy, Dispatch, Dispatched, Frame, Home, Inside, IsStuck, Item, MessageLost, Need, Of_server, Orphan, Run, Serves, State, Static, Task, Trapped, Unbalanced, field_place, guarded, home_view}
+use Rattle.aom_sound.specs.State.{A_mark, Accepts, An_object, An_operation, Asks, AtRoot, Choice, CompletedTwice, Destroy, Dispatch, Dispatched, Frame, Home, Inside, IsStuck, Item, MessageLost, Need, Of_server, Orphan, Run, Serves, State, Static, Task, Trapped, Unbalanced, field_place, guarded, home_view}
 use Rattle.aom_sound.specs.Words.{needs_word}
-use Rattle.aom_endings.proofs.NamedCells.{held_renamed, past_kept, moved_renamed, none_owns_kept, requested_kept, tasks_counted}
-use Rattle.aom_endings.proofs.Serving.{without_queue_renamed}
+use Rattle.aom_endings.proofs.NamedCells.{held_renamed, past_kept, moved_renamed, none_owns_kept, redeemable_kept, requested_kept, tasks_counted}
+use Rattle.aom_endings.proofs.Serving.{token_named, without_queue_renamed}
 use Rattle.aom_endings.specs.Names.{IsOneToOne, renamed, renamed_cells, renamed_choice, renamed_dispatch, renamed_frame, renamed_home, renamed_object, renamed_outcome, renamed_place, renamed_tasks}
 
 -- ---- what is asked of an object, none of which is its name
@@ -295,7 +296,14 @@ module _ (names : ℕ → ℕ) (one_to_one : IsOneToOne names) (p : Image) (c : 
   take_message_kept a = rw (place_owns names one_to_one s.cells (Elsewhere In_service), free_at names one_to_one s.cells ts a)
 
   pub reply_kept : (a b : ℕ) → needs_reply p fr' ts' s' a b ≡ needs_reply p fr ts s a b
-  reply_kept a b = ap (λ ns. ns ++ (needs_word fr ts s b ∷ [])) (argument_kept (Takes_own Message) a)
+  reply_kept a b =
+      let there = held s.cells (Register (length ts) a) in
+      let redeems : is_redeemable (token_of (renamed_cells names s.cells) (held (renamed_cells names s.cells) (Register (length ts') a))) (renamed_cells names s.cells) ≡ is_redeemable (token_of s.cells there) s.cells =
+      ap (λ o. is_redeemable (token_of (renamed_cells names s.cells) o) (renamed_cells names s.cells)) (register_renamed names one_to_one s.cells ts a)
+      ∙ ap (λ k. is_redeemable k (renamed_cells names s.cells)) (token_named names one_to_one s.cells there)
+      ∙ redeemable_kept names (token_of s.cells there) s.cells in
+      ap (λ ns. ns ++ (needs_word fr ts s b ∷ (is_redeemable (token_of (renamed_cells names s.cells) (held (renamed_cells names s.cells) (Register (length ts') a))) (renamed_cells names s.cells), CompletedTwice) ∷ [])) (argument_kept (Takes_own Message) a)
+      ∙ ap (λ x. needs_argument p fr ts s (Takes_own Message) a ++ (needs_word fr ts s b ∷ (x, CompletedTwice) ∷ [])) redeems
 
   pub put_kept : (f b : ℕ) → needs_put p c' fr' ts' s' f b ≡ needs_put p c fr ts s f b
   put_kept f b = rw (

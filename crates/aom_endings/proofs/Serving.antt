@@ -1,4 +1,5 @@
 -- What clients are at, and what they have at servers, under other names: the same, renamed.
+use Rattle.aom_sound.specs.Tokens.{order_in, token_of}
 use Rattle.std.proofs.Common.{List, None, Option, Some, [], ap, cond, refl, suc, zero, ℕ, ◌==◌, ◌∙◌, ◌∷◌, ◌≡◌, sym}
 use Rattle.std.proofs.lemmas.List.{map-append}
 use Rattle.std.specs.Prelude.{option_map}
@@ -105,6 +106,10 @@ module _ (names : ℕ → ℕ) (one_to_one : IsOneToOne names) where
       ap (λ b. cond b (renamed_service names c.service) (service_of (renamed_cells names cs) (names n))) (same_name names one_to_one c.object.name n)
       ∙ ap (λ v. cond (c.object.name == n) (renamed_service names c.service) v) (service_renamed cs n)
       ∙ cond_applied (renamed_service names) (c.object.name == n) c.service (service_of cs n)
+
+  pub token_named : (cs : List Cell) (o : Option Object) → token_of (renamed_cells names cs) (option_map (renamed_object names) o) ≡ token_of cs o
+  token_named cs None = refl
+  token_named cs (Some o) = ap (λ (v : Service). order_in v.token) (service_renamed cs o.name)
 
   set_service_renamed : (n : ℕ) (v : Service) (cs : List Cell) → set_service (names n) (renamed_service names v) (renamed_cells names cs) ≡ renamed_cells names (set_service n v cs)
   set_service_renamed n v [] = refl

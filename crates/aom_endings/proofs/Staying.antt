@@ -1,4 +1,10 @@
 -- What clients and the dispatch at hand say stays of cells that are there: as a run begins, in each move by the task at hand, and in each turn.
+use Rattle.aom_sound.proofs.ClientsFit.{IsFit}
+use Rattle.aom_sound.proofs.ClientsMoves.{Steady, fit_steady, steady_redeemed}
+use Rattle.aom_sound.proofs.Redeeming.{redeemed_by_alike}
+use Rattle.aom_sound.proofs.Storing.{Alike}
+use Rattle.aom_sound.specs.Places.{Elsewhere, Session}
+use Rattle.aom_sound.specs.Tokens.{redeemed_by, token_of}
 use Rattle.std.proofs.Common.{List, None, Option, Some, [], ap, false, length, refl, subst, sym, ℕ, ◌∙◌, ◌∷◌, ◌≡◌}
 use Rattle.aom_image.specs.Image.{Image}
 use Rattle.aom_image.specs.Views.{gives_of, instr_at}
@@ -24,14 +30,14 @@ use Rattle.aom_sound.specs.Laws.{IsWired}
 use Rattle.aom_sound.specs.Moves.{counted, needs_end, step_instr, step_task}
 use Rattle.aom_sound.specs.Natives.{all_bereaved}
 use Rattle.aom_sound.specs.Objects.{is_thing}
-use Rattle.aom_sound.specs.Places.{Cell, Going, Object, Request, held, named, requested}
+use Rattle.aom_sound.specs.Places.{Cell, Going, Object, Request, held, named, requested, without}
 use Rattle.aom_sound.specs.Servers.{is_server, without_queue}
 use Rattle.aom_sound.specs.State.{Choice, Closing, Destroy, Dispatched, Frame, Goes, Run, State, Task, Trapped, Unwind}
 use Rattle.aom_sound.specs.WellTyped.{WellTyped}
-use Rattle.aom_sound.specs.Words.{here}
+use Rattle.aom_sound.specs.Words.{here, read}
 use Rattle.aom_sound.specs.World.{Completes, Kills, Obeys, Picks, Polls, Strays, Turning, boot_state, heard_one, main_tasks, turned, turning, with_request}
 use Rattle.aom_endings.proofs.Remaining.{AllWait, all_wait, closing_there, dispatch_there, gone_apart, plain_there}
-use Rattle.aom_endings.proofs.Keeping.{calm_ended, there_by}
+use Rattle.aom_endings.proofs.Keeping.{calm_ended, there_by, Calm, calm_along, calm_steady}
 use Rattle.aom_endings.proofs.Moving.{dispatch_resumed, effect_there, returned_there, unwound_there}
 use Rattle.aom_endings.proofs.Asking.{commanded_waits, picked_there, same_waits}
 use Rattle.aom_endings.proofs.Vanishing.{calm_without, there_vanished}
@@ -56,10 +62,26 @@ module _ (p : Image) (t : Typing) (wired : IsWired p) (c : Choice) (s : State) (
 
     -- a message is completed
     reply_there : (a b : ℕ) → AllTrue (needs p c fr ts (counted p s) (instrs.Reply a b)) → AllThere (applied p fr ts (counted p s) (effect p c fr ts (counted p s) (instrs.Reply a b)))
-    reply_there a b met = there_by s.clients s.cells (dispatch_of ts) s.clients _ _ refl (calm_without p s.clients s.cells w.good.tidy kept.fit (here fr ts s a) (λ n c. refl) plain) refl below
+    reply_there a b met = there_by s.clients s.cells (dispatch_of ts) s.clients _ _ refl calm refl below
       where
         plain : (o : Object) → held s.cells (here fr ts s a) ≡ Some o → is_server p o.thing ≡ false
         plain o e = message_plain p o.thing (stands_message p o.thing (sym (ap (is_thing p Message) e) ∙ met.1.1.0))
+
+        order : Option ℕ
+        order = token_of s.cells (held s.cells (here fr ts s a))
+
+        cs : List Cell
+        cs = redeemed_by order (read fr ts (counted p s) b) s.cells
+
+        like : Alike s.cells cs
+        like = redeemed_by_alike order (read fr ts (counted p s) b) s.cells
+
+        still : Steady s.cells cs
+        still = steady_redeemed order (read fr ts (counted p s) b) s.cells
+
+        calm : Calm s.cells (without (here fr ts s a) cs)
+        calm = calm_along s.cells cs (without (here fr ts s a) cs) (calm_steady s.cells cs still (λ n c. like.held_so (Elsewhere (Session n c))))
+            (calm_without p s.clients cs (like.tidy w.good.tidy) (fit_steady p s.clients s.cells cs still kept.fit) (here fr ts s a) (λ n c. refl) (λ o e. plain o (sym (like.held_so (here fr ts s a)) ∙ e)))
 
     -- a method returns
     returns_there : (g : Gives) (a : ℕ) → AllThere (applied p fr ts (counted p s) (Returns g a))
@@ -103,7 +125,7 @@ module _ (p : Image) (t : Typing) (wired : IsWired p) (c : Choice) (s : State) (
 
 -- ---- each turn
 
-module _ (p : Image) (t : Typing) (wired : IsWired p) (s : State) (w : WellTyped p t s) (idle : s.tasks ≡ []) (kept : IsKept p s) (there : AllThere s) where
+module _ (p : Image) (t : Typing) (wired : IsWired p) (s : State) (w : WellTyped p t s) (idle : s.tasks ≡ []) (kept : IsFit p s) (there : AllThere s) where
   waiting : AllWait s.clients s.cells
   waiting = all_wait s.clients s.cells None (λ n c. refl) (subst (λ l. AreThere s.clients s.cells (dispatch_of l)) idle there)
 
@@ -136,5 +158,7 @@ pub all_stays_there : AllStaysThere
 all_stays_there = record {
   boot = boot_there;
   moves = λ p t wired typed c s u w free kept there e. moved_there p t wired c s w free kept there s.tasks refl u e;
-  turns = λ p t outside wired typed heard s u w between hears kept there e. turned_there p t wired s w between.idle kept there (turning outside heard s) (turning_found p t wired s w between.idle kept outside heard hears.name) u e;
+  turns = λ p t outside wired typed heard s u w between hears kept there e.
+      let fit : IsFit p s = record { fit = kept.fit; stage = kept.stage } in
+      turned_there p t wired s w between.idle fit there (turning outside heard s) (turning_found p t wired s w between.idle fit outside heard hears.name) u e;
 }

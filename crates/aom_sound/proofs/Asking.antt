@@ -2,7 +2,6 @@
 use Rattle.std.proofs.Common.{[], inr, false, inl, List, None, Option, Some, ap, length, refl, subst, suc, sym, true, zero, ℕ, ℤ, ◌∙◌, ◌∷◌, ◌≡◌, arith}
 use Rattle.std.specs.Prelude.{bit_or, is_some, map}
 use Rattle.aom_image.specs.Image.{Image}
-use Rattle.aom_image.specs.Views.{method_class}
 use Rattle.aom_image.specs.declared.class.ClassKind.{ClassKind}
 use Rattle.aom_image.specs.declared.method.Argument.TheVariants.{Word as Takes_word}
 use Rattle.aom_image.specs.declared.method.Role.TheVariants.{Error}
@@ -26,7 +25,7 @@ use Rattle.aom_sound.specs.Laws.{IsAnswerer, IsWired}
 use Rattle.aom_sound.specs.Moves.{asking}
 use Rattle.aom_sound.specs.Places.{Elsewhere, Place, Request, Root, held, requested, seen}
 use Rattle.aom_sound.specs.Requests.{Suits, resting_in, thing_kind}
-use Rattle.aom_sound.specs.State.{Asks, Object_left, Seat, State, thing_holder}
+use Rattle.aom_sound.specs.State.{Asks, Object_left, Seat, State}
 use Rattle.aom_sound.specs.WellTyped.{AllUndo, Fits, Good, WellTyped, WordFits}
 use Rattle.aom_sound.proofs.Attending.{with_message}
 use Rattle.std.proofs.lemmas.Bool.{true≢false}

@@ -17,6 +17,7 @@ use Rattle.aom_sound.specs.Cases.Objects.{ObjectsBite}
 use Rattle.aom_sound.specs.Cases.Requests.{RequestsBite}
 use Rattle.aom_sound.specs.Cases.Returns.{ReturnsBite}
 use Rattle.aom_sound.specs.Cases.Servers.{ServersBite}
+use Rattle.aom_sound.specs.Cases.Tokens.{TokensBite}
 use Rattle.aom_sound.specs.Cases.Turns.{TurnsBite}
 use Rattle.aom_sound.specs.Cases.Events.{EventsBite}
 use Rattle.aom_sound.specs.Cases.Words.{WordsBite}
@@ -53,6 +54,10 @@ cleanup_bites = record { leaves = refl; leave = refl; leave_if = refl; news = re
 pub requests_bite : RequestsBite
 unfolding class_at gives_in instr_in kind_in kind_of method_at descends_in parent_in
 requests_bite = record { reading = refl; enlisting = refl; issuing = refl; waiting = refl; cancelling = refl; aborting = refl }
+
+pub tokens_bite : TokensBite
+unfolding class_at class_in gives_in instr_in kind_in kind_of method_at role_in descends_in parent_in
+tokens_bite = record { handing = refl; issuing = refl; replying = refl }
 
 no_answer : (w : ℤ) → (FitsWord w → ⊥) → IsNoAnswer w
 no_answer w none = (λ p refused name refuses s opened. none opened.answer, λ p s n cell well. none well.3)

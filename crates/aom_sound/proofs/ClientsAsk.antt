@@ -4,7 +4,7 @@ use Rattle.std.proofs.Common.{[], Bool, List, None, Option, Some, ap, arith, con
 use Rattle.std.proofs.lemmas.Bool.{eq-eqb, eqb-true, le-ltb, ne_eqb, true≢false, ltb-true, and_parts}
 use Rattle.std.proofs.lemmas.List.Folds.{list_any-append}
 use Rattle.std.specs.List.{list_any}
-use Rattle.std.specs.Prelude.{is_some, nat_lt, not, ◌||◌}
+use Rattle.std.specs.Prelude.{is_some, nat_lt, ◌||◌}
 use Rattle.aom_image.specs.Image.{Image}
 use Rattle.aom_image.specs.declared.class.ClassKind.{ClassKind}
 use Rattle.aom_image.specs.declared.class.ClassKind.TheVariants.{Server as A_server}
@@ -25,7 +25,7 @@ use Rattle.aom_sound.proofs.Seated.{seats_asked, seats_none}
 use Rattle.aom_sound.proofs.Services.{service_unnamed}
 use Rattle.aom_sound.specs.Clients.{Listed, among_listed, asked_of, asked_server, client_at, earlier, first_listed, is_of_class, most_of, with_client}
 use Rattle.aom_sound.specs.Enlisted.{thing_kind}
-use Rattle.aom_sound.specs.Kept.{ClientsFit, EntryFits, QueueFits, is_connect_of, is_message_of, asked_again}
+use Rattle.aom_sound.specs.Kept.{ClientsFit, EntryFits, QueueFits, is_connect_of, is_message_of, asked_again, sources_of}
 use Rattle.aom_sound.specs.Places.{Asked, Cell, Connect_of, Elsewhere, In_service, Message_of, Object, Queued, Request, Service, Tidy, held, named, same_place, service_of, requested}
 use Rattle.aom_sound.specs.Servers.{asked_last, has_session, is_from, is_message, is_server, reserved, seats_taken}
 
@@ -182,7 +182,7 @@ module _ (p : Image) (clients : List Client) (cs : List Cell) (fit : ClientsFit 
 
 pub fit_with :
     (p : Image) (clients : List Client) (cs : List Cell) (x : Cell) → named cs x.object.name ≡ None → x.service.queue ≡ [] → x.service.sessions ≡ [] →
-    ((n m : ℕ) → x.owner ≡ Elsewhere (Queued n m) → x.object.name ≡ m) → is_some x.service.sender ≡ not (is_object x.object.thing) →
+    ((n m : ℕ) → x.owner ≡ Elsewhere (Queued n m) → x.object.name ≡ m) → sources_of x.service ≡ cond (is_object x.object.thing) 0 1 →
     same_place x.owner (Elsewhere In_service) ≡ false → ClientsFit p clients cs → ClientsFit p clients (x ∷ cs)
 fit_with p clients cs x free no_queue no_sessions named_so sent unserved_yet fit = record {
   queues = λ n. queues n (x.object.name == n);
@@ -223,8 +223,8 @@ fit_with p clients cs x free no_queue no_sessions named_so sent unserved_yet fit
     seats o true h = let none = seats_none x.service no_queue no_sessions in omega (arith, none)
     seats o false h = fit.seats o h
 
-    sources : (o : Object) (b : Bool) → cond b (Some x.object) (named cs o.name) ≡ Some o → is_some (cond b x.service (service_of cs o.name)).sender ≡ not (is_object o.thing)
-    sources o true h = let same : x.object ≡ o = cc in sent ∙ ap (λ y. not (is_object y.thing)) same
+    sources : (o : Object) (b : Bool) → cond b (Some x.object) (named cs o.name) ≡ Some o → sources_of (cond b x.service (service_of cs o.name)) ≡ cond (is_object o.thing) 0 1
+    sources o true h = let same : x.object ≡ o = cc in sent ∙ ap (λ y. cond (is_object y.thing) 0 1) same
     sources o false h = fit.sources o h
 
     -- the new one's name was free

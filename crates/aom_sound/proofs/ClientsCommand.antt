@@ -4,7 +4,6 @@ use Rattle.std.proofs.lemmas.Bool.{eq-eqb, ne_eqb, true≢false, or_parts}
 use Rattle.std.specs.List.{list_any}
 use Rattle.std.specs.Prelude.{nat_lt, ◌||◌, is_some}
 use Rattle.aom_image.specs.Image.{Image}
-use Rattle.aom_image.specs.declared.method.Thing.TheVariants.{Message}
 use Rattle.aom_clients.specs.Nodes.{is_leaving, is_open_at}
 use Rattle.aom_clients.specs.Table.{row, server_of}
 use Rattle.aom_clients.specs.declared.client.Client.{Client}
@@ -19,7 +18,7 @@ use Rattle.aom_sound.proofs.Services.{service_unnamed}
 use Rattle.aom_sound.proofs.Sifted.{a_cell_of, cell_of, named_cell, named_sifted, service_cell, service_in, withdrawn_so, requested_before}
 use Rattle.aom_sound.specs.Clients.{sent_message, asked_server, Listed, asked_of, client_at, commanded, connecting, leaving, most_of, refusal, sending, told, with_client, with_message}
 use Rattle.aom_sound.specs.Kept.{ClientsFit, EntryFits, is_close_of, is_message_of}
-use Rattle.aom_sound.specs.Places.{Asked, Cell, Close_of, Connect_of, Elsewhere, Message_of, Object, Queued, Tidy, held, named, service_of, set_service, unserved, requested, Request}
+use Rattle.aom_sound.specs.Places.{Asked, Cell, Close_of, Connect_of, Elsewhere, Message_of, Object, Queued, Tidy, held, named, service_of, set_service, requested, Request}
 use Rattle.aom_sound.specs.Servers.{asked_last, has_session, is_from, is_message, is_queue, is_server, left_by, reserved, seats_taken, stays, withdrawn}
 use Rattle.aom_sound.specs.State.{State}
 use Rattle.aom_transcript.specs.declared.event.Command.{Command}

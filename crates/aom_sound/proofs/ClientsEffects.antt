@@ -1,16 +1,18 @@
 -- What is kept of clients stays so in each effect of an instruction: by the cells that it changes, and the tasks below it.
-use Rattle.std.proofs.Common.{Bool, List, None, Option, Some, cond, false, length, refl, subst, suc, sym, true, zero, ℕ, ◌∷◌, ◌≡◌, arith}
+use Rattle.std.proofs.Common.{Bool, List, None, Option, Some, cond, false, length, refl, subst, suc, sym, true, zero, ℕ, ◌∙◌, ◌∷◌, ◌≡◌, arith}
 use Rattle.aom_image.specs.Image.{Image}
 use Rattle.aom_image.specs.Views.{arguments_of}
 use Rattle.aom_clients.specs.declared.client.Client.{Client}
 use Rattle.aom_instructions.specs.declared.instr.Instr.{Instr}
 use Rattle.aom_instructions.specs.declared.instr.Instr.TheVariants as instrs
+use Rattle.aom_sound.proofs.ClientsFit.{IsFit}
 use Rattle.aom_sound.proofs.ClientsMoves.{Steady, fit_steady, steady_asked, steady_moved, steady_passed, steady_update, tasks_steady}
 use Rattle.aom_sound.proofs.ClientsTurn.{tasks_begun, on_none}
 use Rattle.aom_sound.specs.Cleanup.{to_trap, top_place}
-use Rattle.aom_sound.specs.Effects.{Calls, Cancels, Carried, Destroys, Destroys_last, Effect, Goes_on, Leaves, Made, Replied, Requested, Returns, Same as Unchanged, Sets_trap, The_message, Update, applied, cancels_if, cells_after, deals, deletes, effect, jumps_unless, makes_unless, round}
-use Rattle.aom_sound.specs.Enlisted.{cancelling, on_request, own_request}
-use Rattle.aom_sound.specs.Kept.{ClientsFit, IsKept, TasksKept}
+use Rattle.aom_sound.specs.Effects.{Calls, Cancels, Carried, Destroys, Destroys_last, Effect, Goes_on, Handed, Leaves, Made, Replied, Requested, Returns, Same as Unchanged, Sets_trap, The_message, Update, applied, cancels_if, cells_after, deals, deletes, effect, hands_unless, jumps_unless, makes_unless, round}
+use Rattle.aom_sound.specs.Enlisted.{cancelling, completed_at_once, on_request, own_request}
+use Rattle.aom_sound.specs.Tokens.{busy, is_crowded}
+use Rattle.aom_sound.specs.Kept.{ClientsFit, TasksKept}
 use Rattle.aom_sound.specs.Places.{Cell, Going, Object, Request, named}
 use Rattle.aom_sound.specs.State.{An_object, Choice, Frame, Item, Run, State, Task}
 use Rattle.aom_sound.specs.Words.{here}
@@ -23,7 +25,8 @@ module _ (fr : Frame) (s : State) where
   IsFine (Carried from The_message) = ⊥
   IsFine (Made name class a) = named s.cells name ≡ None
   IsFine (Requested r) = r ≡ None → own_request s.cells fr.home ≡ None
-  IsFine (Replied a) = ⊥
+  IsFine (Replied a code) = ⊥
+  IsFine (Handed name a) = named s.cells name ≡ None
   IsFine _ = Unit {0}
 
   abbrev pub Fine : Effect → Type 0
@@ -67,12 +70,17 @@ module _ (p : Image) (c : Choice) (fr : Frame) (ts : List Task) (s : State) (fre
   fine_makes true x a = tt
   fine_makes false x a = free
 
+  fine_hands : (b : Bool) (a : ℕ) (own : Option Request) → own ≡ own_request s.cells fr.home → IsFine fr s (hands_unless b c.name a own)
+  fine_hands true a own e = λ none. sym e ∙ on_none (completed_at_once busy) own none
+  fine_hands false a own e = free
+
   fine_some : (r : Request) → IsFine fr s (Requested (Some r))
   fine_some r = λ e. cc
 
   pub fine_effect : (i : Instr) → IsUsual i → Fine fr s (effect p c fr ts s i)
   fine_effect (instrs.Reply a b) usual = absurd usual
   fine_effect (instrs.Return a) usual = absurd usual
+  fine_effect (instrs.Hand a) usual = fine_hands (is_crowded p s.cells) a (own_request s.cells fr.home) refl
   -- by the form of its effect
   fine_effect _ usual = search (free, fine_cond, fine_unless, fine_round, fine_makes, fine_deletes, fine_deals, fine_cancels, fine_some, on_none)
 
@@ -87,13 +95,13 @@ module _ (p : Image) (fr : Frame) (ts : List Task) (s : State) (fit : ClientsFit
   steady u f = grind (arith, steady_update)
 
   -- with those cells, and tasks over these
-  kept_by : (u : State) → u.clients ≡ s.clients → Steady s.cells u.cells → (TasksKept p s.clients u.cells ts → TasksKept p s.clients u.cells u.tasks) → IsKept p u
+  kept_by : (u : State) → u.clients ≡ s.clients → Steady s.cells u.cells → (TasksKept p s.clients u.cells ts → TasksKept p s.clients u.cells u.tasks) → IsFit p u
   kept_by u clients still over = record {
     fit = subst (λ l. ClientsFit p l u.cells) (sym clients) (fit_steady p s.clients s.cells u.cells still fit);
     stage = subst (λ l. TasksKept p l u.cells u.tasks) (sym clients) (over (tasks_steady p s.clients s.cells u.cells still ts stage));
   }
 
-  pub effect_kept : (e : Effect) → Fine fr s e → IsKept p (applied p fr ts s e)
+  pub effect_kept : (e : Effect) → Fine fr s e → IsFit p (applied p fr ts s e)
   effect_kept (Goes_on ch) f = kept_by (applied p fr ts s (Goes_on ch)) refl (steady ch.update f) (λ k. k)
   effect_kept (Calls target m first) f = kept_by (applied p fr ts s (Calls target m first)) refl (steady_passed p fr ts s _ (arguments_of p m) first 0 s.cells) (λ k. k)
   effect_kept (Sets_trap target m first) f = kept_by (applied p fr ts s (Sets_trap target m first)) refl (steady_passed p fr ts s _ (arguments_of p m) first 0 s.cells) (λ k. k)

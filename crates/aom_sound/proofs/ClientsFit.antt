@@ -13,12 +13,18 @@ use Rattle.aom_clients.specs.declared.client.Client.{Client}
 use Rattle.aom_sound.proofs.Queues.{client_here, client_of, client_there, is_of, none_passes, queue_other}
 use Rattle.aom_sound.proofs.Seated.{seats_opened, seats_parted}
 use Rattle.aom_sound.proofs.Services.{held_served, named_served, service_here, service_there, requested_served}
-use Rattle.aom_sound.proofs.Sources.{has_sender, served_as, sources_as}
+use Rattle.aom_sound.proofs.Sources.{has_sender, served_as, sources_as, sources_at}
 use Rattle.aom_sound.specs.Clients.{at_opening, at_parting, client_at, most_of, with_client}
 use Rattle.aom_sound.specs.Enlisted.{thing_kind}
-use Rattle.aom_sound.specs.Kept.{ClientsFit, EntryFits, HasSources, QueueFits, ServesSent, is_close_of, is_connect_of, is_message_of}
+use Rattle.aom_sound.specs.Kept.{ClientsFit, EntryFits, HasSources, QueueFits, ServesSent, TasksKept, is_close_of, is_connect_of, is_message_of, sources_of}
 use Rattle.aom_sound.specs.Places.{Asked, Cell, Close_of, Connect_of, Elsewhere, In_service, Message_of, Object, Queued, Service, held, named, service_of, requested}
 use Rattle.aom_sound.specs.Servers.{has_session, is_from, is_other, is_server, opened, parted, reserved, seats_taken}
+use Rattle.aom_sound.specs.State.{State}
+
+-- what is kept of a state but for its tokens
+pub record IsFit (p : Image) (s : State) : Type 0 where
+  pub fit : ClientsFit p s.clients s.cells
+  pub stage : TasksKept p s.clients s.cells s.tasks
 
 -- ---- what a client that connects, closes or has its session open is not
 
@@ -178,13 +184,14 @@ module _ (p : Image) (cs : List Cell) (o : Object) (lives : named cs o.name ≡ 
       still : is_from d (service_of cs m).sender ≡ true → is_from d (service_of then m).sender ≡ true
       still = by_server cs o lives f (λ m v. is_from d (service_of cs m).sender ≡ true → is_from d v.sender ≡ true) (keeps d) (λ n other h. h) m
 
-  -- and what had a sender has it, and nothing else has one
+  -- and what had a sender, or was a token, has one or is one, and nothing else
+  pub sources_then : sources_of (f (service_of cs o.name)) ≡ sources_of (service_of cs o.name) → HasSources cs → HasSources then
+  sources_then keeps =
+      sources_as cs then (by_server cs o lives f (λ n v. sources_of v ≡ sources_at cs n) keeps (λ n other. refl)) (λ x there. sym (named_served cs o.name (f (service_of cs o.name)) x.name) ∙ there)
+
   module _ (keeps : is_some (f (service_of cs o.name)).sender ≡ is_some (service_of cs o.name).sender) where
     pub sent_then : (n : ℕ) → has_sender then n ≡ has_sender cs n
     sent_then = by_server cs o lives f (λ n v. is_some v.sender ≡ has_sender cs n) keeps (λ n other. refl)
-
-    pub sources_then : HasSources cs → HasSources then
-    sources_then = sources_as cs then sent_then (λ x there. sym (named_served cs o.name (f (service_of cs o.name)) x.name) ∙ there)
 
     pub served_then : ServesSent cs → ServesSent then
     served_then = served_as cs then sent_then (λ x there. sym (held_served cs o.name (f (service_of cs o.name)) (Elsewhere In_service)) ∙ there)

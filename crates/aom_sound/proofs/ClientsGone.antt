@@ -1,5 +1,5 @@
 -- A server that goes lets go of all clients that are at it, and what is kept of all others stays.
-use Rattle.std.proofs.Common.{[], Bool, List, None, Option, Some, ap, cond, false, refl, subst, sym, true, ℕ, ◌==◌, ◌∙◌, ◌∷◌, ◌≡◌, ◌<◌, ◌≤◌, arith}
+use Rattle.std.proofs.Common.{[], Bool, List, None, Option, Some, ap, cond, false, refl, subst, sym, true, ℕ, ◌+◌, ◌==◌, ◌∙◌, ◌∷◌, ◌≡◌, ◌<◌, ◌≤◌, arith}
 use Rattle.std.proofs.lemmas.Bool.{eq-eqb, eqb-true, ne_eqb, true≢false}
 use Rattle.std.specs.List.{list_any}
 use Rattle.std.specs.Prelude.{is_some, ◌||◌}
@@ -13,10 +13,10 @@ use Rattle.aom_sound.proofs.ClientsFit.{connecting_only, leaving_only}
 use Rattle.aom_sound.proofs.Maps.{cond_same, same_place-true, same_place_comm, same_place_refl}
 use Rattle.aom_sound.proofs.Queues.{client_here, client_there, none_passes}
 use Rattle.aom_sound.proofs.Sifted.{a_cell_of, cell_in, cell_lives, cell_name, cell_of, cell_owner, cell_placed, held_cell, held_sifted, named_before, named_cell, object_in, service_cell, service_gone, service_in, service_sifted, sifted, unheld_sifted, requested_before, clients_sifted}
-use Rattle.aom_sound.proofs.Sources.{has_sender, served_as, served_sifted, sources_as, sources_sifted, unslotted_some}
+use Rattle.aom_sound.proofs.Sources.{has_sender, served_as, served_sifted, sources_as, sources_at, sources_sifted, unslotted_one, unslotted_some}
 use Rattle.aom_sound.proofs.Unslotting.{each_unslotted_alike, service_unslotted}
 use Rattle.aom_sound.specs.Clients.{client_at, each_unslotted, queue_ended, sessions_ended, with_client, most_of}
-use Rattle.aom_sound.specs.Kept.{ClientsFit, EntryFits, QueueFits, ConnectKept, StageKept, is_close_of, is_connect_of, is_message_of}
+use Rattle.aom_sound.specs.Kept.{ClientsFit, EntryFits, QueueFits, ConnectKept, StageKept, is_close_of, is_connect_of, is_message_of, one_if_some, sources_of}
 use Rattle.aom_sound.specs.Places.{Asked, Cell, Service, Close_of, Connect_of, Elsewhere, In_service, Message_of, Object, Place, Queued, Sender, Tidy, held, named, same_place, service_of, unserved, without, requested}
 use Rattle.aom_sound.specs.State.{Accept_left, Accepted, Accepts, Parts, Service_left, Serves, Stage}
 use Rattle.aom_sound.specs.Servers.{all_unslotted, has_session, is_from, is_queue_of, is_server, unslotted, without_queue, seats_taken}
@@ -100,7 +100,7 @@ module _ (p : Image) (clients : List Client) (c : ℕ) where
     servers = λ o h plain. subst (λ v. (v.queue ≡ []) × (v.sessions ≡ [])) (sym (service_unslotted c cs o.name)) (fit.servers o (sym (named_unslotted cs o.name) ∙ h) plain);
     names = λ n m o h. fit.names n m o (sym (held_unslotted cs (Elsewhere (Queued n m))) ∙ h);
     senders = λ n d m h. subst (λ v. is_from d v.sender ≡ true) (sym (service_unslotted c cs m)) (from_unslotted d (service_of cs m).sender (fit.senders n d m (ap (λ v. list_any (is_message_of d m) v.queue) (sym (service_unslotted c cs n)) ∙ h)));
-    sources = sources_as cs (all_unslotted c cs) sent (λ o h. sym (named_unslotted cs o.name) ∙ h) fit.sources;
+    sources = sources_as cs (all_unslotted c cs) sources (λ o h. sym (named_unslotted cs o.name) ∙ h) fit.sources;
     served = served_as cs (all_unslotted c cs) sent (λ o h. sym (held_unslotted cs (Elsewhere In_service)) ∙ h) fit.served;
     seats = λ o h. subst (λ v. seats_taken v ≤ most_of (thing_kind p o.thing)) (sym (service_unslotted c cs o.name)) (fit.seats o (sym (named_unslotted cs o.name) ∙ h));
     enlisted = λ o h e. subst (λ v. (v.queue ≡ []) × (v.sessions ≡ [])) (sym (service_unslotted c cs o.name)) (fit.enlisted o (sym (named_unslotted cs o.name) ∙ h) (sym (requested_unslotted cs o.name) ∙ e));
@@ -108,6 +108,9 @@ module _ (p : Image) (clients : List Client) (c : ℕ) where
     where
       sent : (n : ℕ) → has_sender (all_unslotted c cs) n ≡ has_sender cs n
       sent n = ap (λ v. is_some v.sender) (service_unslotted c cs n) ∙ unslotted_some c (service_of cs n).sender
+
+      sources : (n : ℕ) → sources_at (all_unslotted c cs) n ≡ sources_at cs n
+      sources n = ap sources_of (service_unslotted c cs n) ∙ ap (λ i. i + one_if_some (service_of cs n).token) (unslotted_one c (service_of cs n).sender)
 
 pub fit_each_unslotted : (p : Image) (clients : List Client) (xs : List ℕ) (cs : List Cell) → ClientsFit p clients cs → ClientsFit p clients (each_unslotted xs cs)
 fit_each_unslotted p clients [] cs fit = fit

@@ -1,4 +1,4 @@
--- Clients, and what they have at servers, say the same in each state of a run: as it boots, in each move and in each turn.
+-- Clients, and what they have at servers, say the same in each state of a run, and tokens stay apart: as it boots, in each move and in each turn.
 use Rattle.std.proofs.Common.{[], Bool, List, None, Option, Some, ap, cond, false, length, pos, refl, subst, sym, true, ℕ, ℤ, ◌∙◌, ◌∷◌, ◌≡◌}
 use Rattle.std.specs.List.{list_any}
 use Rattle.std.specs.Ordering.{int_eq}
@@ -13,19 +13,22 @@ use Rattle.aom_clients.specs.declared.client.Client.{Client}
 use Rattle.aom_rules.specs.Typing.{Typing}
 use Rattle.aom_sound.proofs.ClientsEffects.{IsUsual, effect_kept, fine_effect}
 use Rattle.aom_sound.proofs.ClientsFacts.{IsAt, goes_apart, queued_well, server_lives, serving_plain, waiting_well}
-use Rattle.aom_sound.proofs.ClientsFit.{fit_parted}
+use Rattle.aom_sound.proofs.ClientsFit.{IsFit, fit_parted}
 use Rattle.aom_sound.proofs.ClientsGone.{fit_gone, stage_gone}
-use Rattle.aom_sound.proofs.ClientsMoves.{fit_steady, fit_unconnected, steady_ended, steady_moved, tasks_steady}
+use Rattle.aom_sound.proofs.ClientsMoves.{Steady, fit_steady, fit_unconnected, steady_ended, steady_moved, steady_redeemed, tasks_steady}
+use Rattle.aom_sound.proofs.Redeeming.{redeemed_by_alike}
+use Rattle.aom_sound.proofs.TokensKeep.{boot_apart, moved_apart, turned_apart}
 use Rattle.aom_sound.proofs.ClientsReturn.{fit_without, return_kept, tasks_without}
 use Rattle.aom_sound.proofs.ClientsTurn.{tasks_begun, turn_kept}
 use Rattle.aom_sound.proofs.Maps.{without_none}
-use Rattle.aom_sound.proofs.Storing.{ended_alike}
+use Rattle.aom_sound.proofs.Storing.{Alike, ended_alike}
 use Rattle.aom_sound.proofs.Things.{stands_message, message_plain}
 use Rattle.aom_shape.specs.Needs.{AllTrue}
 use Rattle.aom_image.specs.declared.method.Gives.{Gives}
 use Rattle.aom_sound.specs.Calls.{returned}
 use Rattle.aom_sound.specs.Objects.{is_thing}
-use Rattle.aom_sound.specs.Words.{here}
+use Rattle.aom_sound.specs.Tokens.{TokensApart, redeemed_by, token_of}
+use Rattle.aom_sound.specs.Words.{here, read}
 use Rattle.aom_sound.proofs.Moving.{steps_are_moves}
 use Rattle.aom_sound.specs.Steps.{Acts, Arrives, Clears, Comes_out, Empties, Ends, Move, Rests, Undoes, Vanishes}
 use Rattle.aom_sound.proofs.Guarded.{acts_at}
@@ -46,7 +49,7 @@ use Rattle.std.proofs.lemmas.Bool.{true≢false}
 
 -- ---- as it boots
 
-boot_kept : (p : Image) → IsKept p (boot_state p)
+boot_kept : (p : Image) → IsFit p (boot_state p)
 boot_kept p = record {
   fit = record { queues = λ n. tt; sessions = λ n c h. cc; listed = λ n c h. cc; servers = λ o h plain. cc; names = λ n m o h. cc; senders = λ n c m h. cc; sources = λ o h. cc; served = λ o h. cc; seats = λ o h. cc; enlisted = λ o h e. cc };
   stage = stage (main_of p);
@@ -65,7 +68,7 @@ stays_listed old (Some r) keeps some = refl
 
 module _ (p : Image) (s : State) (fit : ClientsFit p s.clients s.cells) where
   -- with the same cells
-  same_cells : (u : State) → u.cells ≡ s.cells → u.clients ≡ s.clients → TasksKept p s.clients s.cells u.tasks → IsKept p u
+  same_cells : (u : State) → u.cells ≡ s.cells → u.clients ≡ s.clients → TasksKept p s.clients s.cells u.tasks → IsFit p u
   same_cells u cells clients stage = record {
     fit = subst (λ l. ClientsFit p l u.cells) (sym clients) (subst (λ l. ClientsFit p s.clients l) (sym cells) fit);
     stage = subst (λ l. TasksKept p l u.cells u.tasks) (sym clients) (subst (λ l. TasksKept p s.clients l u.tasks) (sym cells) stage);
@@ -74,7 +77,7 @@ module _ (p : Image) (s : State) (fit : ClientsFit p s.clients s.cells) where
   -- a cell is at hand to go
   begun_kept :
       (a : Place) (k : ℕ) (o : Object) (height : ℕ) (ts : List Task) (u : State) → u.cells ≡ moved a (Going k) s.cells → u.clients ≡ s.clients → u.tasks ≡ begun p o height ts →
-      TasksKept p s.clients s.cells ts → IsKept p u
+      TasksKept p s.clients s.cells ts → IsFit p u
   begun_kept a k o height ts u cells clients tasks stage =
       let still = steady_moved s.cells a (Going k) (λ n m. refl) refl in
       record {
@@ -95,7 +98,7 @@ module _ (p : Image) (s : State) (fit : ClientsFit p s.clients s.cells) where
 
   -- ---- a server lets go of a session
 
-  parting_kept : (o : Object) (x : Option Seat) (below : List Task) → TasksKept p s.clients s.cells below → IsKept p (parting p o x below s)
+  parting_kept : (o : Object) (x : Option Seat) (below : List Task) → TasksKept p s.clients s.cells below → IsFit p (parting p o x below s)
   parting_kept o None below stage = same_cells _ refl refl (go (destructor_of p o.thing))
     where
       go : (m : Option ℕ) → TasksKept p s.clients s.cells (begun_by p m o (length s.items) below)
@@ -105,23 +108,23 @@ module _ (p : Image) (s : State) (fit : ClientsFit p s.clients s.cells) where
 
   -- ---- a dispatch ends
 
-  main_kept : (b : Bool) (root : Option Object) → IsKept p (main_ends p b root s)
+  main_kept : (b : Bool) (root : Option Object) → IsFit p (main_ends p b root s)
   main_kept true (Some o) = begun_kept (Elsewhere Root) _ o (length s.items) (Dispatched Of_root ∷ []) _ refl refl refl tt
   main_kept true None = same_cells _ refl refl tt
   main_kept false root = same_cells _ refl refl tt
 
 module _ (p : Image) (s : State) (fit : ClientsFit p s.clients s.cells) where
-  object_kept : IsKept p (object_ends p s)
+  object_kept : IsFit p (object_ends p s)
   object_kept = main_kept p (handled s) fit s.rest.stopped (held s.cells (Elsewhere Root))
 
-  answered_kept : (answer : ℤ) → IsKept p (answered p answer s)
+  answered_kept : (answer : ℤ) → IsFit p (answered p answer s)
   answered_kept answer = go (int_eq answer (pos 0))
     where
-      go : (b : Bool) → IsKept p (cond b (object_ends p s) (failed answer s))
+      go : (b : Bool) → IsFit p (cond b (object_ends p s) (failed answer s))
       go true = object_kept
       go false = same_cells p s fit (failed answer s) refl refl tt
 
-  asking_kept : (m : Option ℕ) (x : Seat) (code : ℤ) → IsKept p (asking p m x code s)
+  asking_kept : (m : Option ℕ) (x : Seat) (code : ℤ) → IsFit p (asking p m x code s)
   asking_kept None x code = answered_kept code
   asking_kept (Some m) x code = same_cells p s fit _ refl refl tt
 
@@ -137,7 +140,7 @@ module _ (p : Image) (s : State) (fit : ClientsFit p s.clients s.cells) where
 
     stage_kept :
         (x : Seat) (c : ℕ) (stage : Stage) → named s.cells x.object.name ≡ Some x.object → is_server p x.object.thing ≡ true → is_some (requested s.cells x.object.name) ≡ true →
-        StageKept p s.clients s.cells x.object c stage → IsKept p (stage_ends x c stage s)
+        StageKept p s.clients s.cells x.object c stage → IsFit p (stage_ends x c stage s)
     stage_kept x c Accepts lives serves listed k = same_cells p s fit _ refl refl tt
     stage_kept x c Accepted lives serves listed k = same_cells p s fit _ refl refl tt
     stage_kept x c (Serves o) lives serves listed k = same_cells p s fit _ refl refl tt
@@ -145,7 +148,7 @@ module _ (p : Image) (s : State) (fit : ClientsFit p s.clients s.cells) where
     stage_kept x c (Service_left code) lives serves listed k = record { fit = service_gone_kept; stage = tt }
     stage_kept x c Parts lives serves listed k = record { fit = fit_parted p s.clients s.cells fit x.object lives serves listed c k.0 k.1; stage = tt }
 
-    dispatch_kept : (d : Dispatch) (ts : List Task) → ((x : Seat) (c : ℕ) (stage : Stage) → d ≡ Of_server x c stage → (named s.cells x.object.name ≡ Some x.object) × (is_server p x.object.thing ≡ true) × (is_some (requested s.cells x.object.name) ≡ true)) → TasksKept p s.clients s.cells (Dispatched d ∷ ts) → IsKept p (dispatch_ends p d s)
+    dispatch_kept : (d : Dispatch) (ts : List Task) → ((x : Seat) (c : ℕ) (stage : Stage) → d ≡ Of_server x c stage → (named s.cells x.object.name ≡ Some x.object) × (is_server p x.object.thing ≡ true) × (is_some (requested s.cells x.object.name) ≡ true)) → TasksKept p s.clients s.cells (Dispatched d ∷ ts) → IsFit p (dispatch_ends p d s)
     dispatch_kept Of_main ts there k = main_kept p s fit s.rest.stopped (held s.cells (Elsewhere Root))
     dispatch_kept (Main_left code) ts there k = same_cells p s fit _ refl refl tt
     dispatch_kept Of_root ts there k = same_cells p s fit _ refl refl tt
@@ -177,7 +180,7 @@ tasks_staged p clients clients' cs cs' (Dispatched _ ∷ ts) still k = tt
 
 -- ---- each move
 
-module _ (p : Image) (t : Typing) (wired : IsWired p) (c : Choice) (s : State) (w : WellTyped p t s) (free : named s.cells c.name ≡ None) (kept : IsKept p s) where
+module _ (p : Image) (t : Typing) (wired : IsWired p) (c : Choice) (s : State) (w : WellTyped p t s) (free : named s.cells c.name ≡ None) (kept : IsFit p s) where
   tidy : Tidy s.cells
   tidy = w.good.tidy
 
@@ -195,38 +198,62 @@ module _ (p : Image) (t : Typing) (wired : IsWired p) (c : Choice) (s : State) (
     stage_below = subst (λ l. TasksKept p s.clients s.cells l) tasks kept.stage
 
     -- a message is completed
-    reply_kept : (a b : ℕ) → AllTrue (needs p c fr ts (counted p s) (instrs.Reply a b)) → IsKept p (applied p fr ts (counted p s) (effect p c fr ts (counted p s) (instrs.Reply a b)))
+    reply_kept : (a b : ℕ) → AllTrue (needs p c fr ts (counted p s) (instrs.Reply a b)) → IsFit p (applied p fr ts (counted p s) (effect p c fr ts (counted p s) (instrs.Reply a b)))
     reply_kept a b met = go (held s.cells (here fr ts (counted p s) a)) refl met.1.1.0
       where
+        cs : List Cell
+        cs = redeemed_by (token_of s.cells (held s.cells (here fr ts (counted p s) a))) (read fr ts (counted p s) b) s.cells
+
+        like : Alike s.cells cs
+        like = redeemed_by_alike (token_of s.cells (held s.cells (here fr ts (counted p s) a))) (read fr ts (counted p s) b) s.cells
+
+        still : Steady s.cells cs
+        still = steady_redeemed (token_of s.cells (held s.cells (here fr ts (counted p s) a))) (read fr ts (counted p s) b) s.cells
+
+        fit : ClientsFit p s.clients cs
+        fit = fit_steady p s.clients s.cells cs still kept.fit
+
+        stage : TasksKept p s.clients cs ts
+        stage = tasks_steady p s.clients s.cells cs still ts stage_below
+
+        waiting : (n c m : ℕ) → list_any (is_message_of c m) (service_of cs n).queue ≡ true → (x : Object) × (held cs (Elsewhere (Queued n m)) ≡ Some x)
+        waiting n c m h = let x = queued n c m (ap (λ q. list_any (is_message_of c m) q) (sym (still.queues n)) ∙ h) in (x.0, like.held_so (Elsewhere (Queued n m)) ∙ x.1)
+
         go :
             (o : Option Object) → held s.cells (here fr ts (counted p s) a) ≡ o → is_thing p Message (held s.cells (here fr ts (counted p s) a)) ≡ true →
-            IsKept p (applied p fr ts (counted p s) (effect p c fr ts (counted p s) (instrs.Reply a b)))
-        go None e thing = same_cells p s kept.fit _ (without_none s.cells (here fr ts (counted p s) a) e) refl stage_below
-        go (Some o) e thing = record {
-          fit = fit_without p s.clients s.cells tidy kept.fit o (here fr ts (counted p s) a) e (λ n m. refl) (message_plain p o.thing (stands_message p o.thing (sym (ap (is_thing p Message) e) ∙ thing))) queued;
-          stage = tasks_without p s.clients s.cells tidy kept.fit o (here fr ts (counted p s) a) e (λ n m. refl) (message_plain p o.thing (stands_message p o.thing (sym (ap (is_thing p Message) e) ∙ thing))) queued ts stage_below;
+            IsFit p (applied p fr ts (counted p s) (effect p c fr ts (counted p s) (instrs.Reply a b)))
+        go None e thing = record {
+          fit = subst (λ l. ClientsFit p s.clients l) (sym (without_none cs (here fr ts (counted p s) a) (like.held_so (here fr ts (counted p s) a) ∙ e))) fit;
+          stage = subst (λ l. TasksKept p s.clients l ts) (sym (without_none cs (here fr ts (counted p s) a) (like.held_so (here fr ts (counted p s) a) ∙ e))) stage;
         }
+        go (Some o) e thing =
+            let plain = message_plain p o.thing (stands_message p o.thing (sym (ap (is_thing p Message) e) ∙ thing)) in
+            let there = like.held_so (here fr ts (counted p s) a) ∙ e in
+            record {
+              fit = fit_without p s.clients cs (like.tidy tidy) fit o (here fr ts (counted p s) a) there (λ n m. refl) plain waiting;
+              stage = tasks_without p s.clients cs (like.tidy tidy) fit o (here fr ts (counted p s) a) there (λ n m. refl) plain waiting ts stage;
+            }
 
     -- a method returns
-    returns_kept : (g : Gives) (a : ℕ) → IsKept p (returned p fr ts (record (counted p s) { cells = ended_cells p fr s.cells }) g a ts)
+    returns_kept : (g : Gives) (a : ℕ) → IsFit p (returned p fr ts (record (counted p s) { cells = ended_cells p fr s.cells }) g a ts)
     returns_kept g a =
         let still = steady_ended p fr s.cells in
         return_kept p fr ts (record (counted p s) { cells = ended_cells p fr s.cells }) (fit_steady p s.clients s.cells (ended_cells p fr s.cells) still kept.fit) g a ts
         (λ x d at. let l = there (Run fr ∷ ts) tasks x d Accepts at in ((ended_alike p fr s.cells).named_so x.object.name ∙ l.0, l.1, stays_listed (requested s.cells x.object.name) (requested (ended_cells p fr s.cells) x.object.name) (still.listed x.object.name) l.2))
         tasks (tasks_steady p s.clients s.cells (ended_cells p fr s.cells) still ts stage_below) (tasks_steady p s.clients s.cells (ended_cells p fr s.cells) still ts stage_below)
 
-    act_kept : (i : Instr) → AllTrue (needs p c fr ts (counted p s) i) → IsKept p (applied p fr ts (counted p s) (effect p c fr ts (counted p s) i))
+    act_kept : (i : Instr) → AllTrue (needs p c fr ts (counted p s) i) → IsFit p (applied p fr ts (counted p s) (effect p c fr ts (counted p s) i))
     act_kept (instrs.Reply a b) met = reply_kept a b met
     act_kept (instrs.Return a) met = returns_kept (gives_of p fr.method) a
     act_kept i met = usual i tt
       where
-        usual : (i : Instr) → IsUsual i → IsKept p (applied p fr ts (counted p s) (effect p c fr ts (counted p s) i))
+        usual : (i : Instr) → IsUsual i → IsFit p (applied p fr ts (counted p s) (effect p c fr ts (counted p s) i))
         usual i u = effect_kept p fr ts (counted p s) kept.fit stage_below (effect p c fr ts (counted p s) i) (fine_effect p c fr ts (counted p s) free i u)
 
   stage_at : (ts : List Task) → s.tasks ≡ ts → TasksKept p s.clients s.cells ts
   stage_at ts at = subst (λ l. TasksKept p s.clients s.cells l) at kept.stage
 
-  gone_kept : (ts : List Task) (o : Object) → s.tasks ≡ Destroy ∷ ts → held s.cells (Going (length ts)) ≡ Some o → IsKept p (vanished o ts (counted p s))
+  gone_kept : (ts : List Task) (o : Object) → s.tasks ≡ Destroy ∷ ts → held s.cells (Going (length ts)) ≡ Some o → IsFit p (vanished o ts (counted p s))
   gone_kept ts o tasks at = record {
     fit = fit_gone p s.clients s.cells tidy kept.fit o (Going (length ts)) at (λ n m. refl) (waiting_well p t wired s w) queued;
     stage = tasks_resumed p _ _ ts (tasks_staged p s.clients _ s.cells _ ts
@@ -234,16 +261,16 @@ module _ (p : Image) (t : Typing) (wired : IsWired p) (c : Choice) (s : State) (
         (stage_at (Destroy ∷ ts) tasks));
   }
 
-  moved_kept : (u : State) → step p c s ≡ Goes u → IsKept p u
+  moved_kept : (u : State) → step p c s ≡ Goes u → IsFit p u
   moved_kept u e = of (steps_are_moves p c s u e)
     where
       v : State
       v = counted p s
 
-      along : (w : State) → u ≡ w → IsKept p w → IsKept p u
-      along w same k = subst (λ v. IsKept p v) (sym same) k
+      along : (w : State) → u ≡ w → IsFit p w → IsFit p u
+      along w same k = subst (λ v. IsFit p v) (sym same) k
 
-      of : Move p c s u → IsKept p u
+      of : Move p c s u → IsFit p u
       of (Rests still same) = along _ same (same_cells p v kept.fit _ refl refl kept.stage)
       of (Acts fr ts i x tasks there met may same) = let a = acts_at p c s u fr ts i tasks there e in along _ (sym a.1) (act_kept fr ts tasks i a.0)
       of (Vanishes ts o tasks there none same) = along _ same (gone_kept ts o tasks there)
@@ -258,9 +285,18 @@ module _ (p : Image) (t : Typing) (wired : IsWired p) (c : Choice) (s : State) (
       of (Ends d ts tasks same) =
           along _ same (dispatch_kept p v kept.fit tidy queued (serving_plain p t s w) d ts (λ x k stage same. there (Dispatched d ∷ ts) tasks x k stage same) (stage_at (Dispatched d ∷ ts) tasks))
 
+-- ---- and tokens with them
+
+with_tokens : (p : Image) (s : State) → IsFit p s → TokensApart s.cells → IsKept p s
+with_tokens p s it apart = record { fit = it.fit; stage = it.stage; tokens = apart }
+
+without_tokens : (p : Image) (s : State) → IsKept p s → IsFit p s
+without_tokens p s kept = record { fit = kept.fit; stage = kept.stage }
+
 pub clients_keep : ClientsKeep
 clients_keep = record {
-  boot = boot_kept;
-  moves = λ p t wired typed c s u w free kept e. moved_kept p t wired c s w free kept u e;
-  turns = λ p t outside wired typed heard s u w between hears kept e. turn_kept p t wired s w between.idle kept outside heard u hears.name e;
+  boot = λ p. with_tokens p (boot_state p) (boot_kept p) boot_apart;
+  moves = λ p t wired typed c s u w free kept e. with_tokens p u (moved_kept p t wired c s w free (without_tokens p s kept) u e) (moved_apart p c s u w.good.tidy kept.tokens e);
+  turns = λ p t outside wired typed heard s u w between hears kept e. with_tokens p u (turn_kept p t wired s w between.idle (without_tokens p s kept) outside heard u hears.name e)
+      (turned_apart p outside heard s u w.good.tidy kept.tokens e);
 }

@@ -1,6 +1,6 @@
 -- A client that closes or dies leaves what is kept: its messages that wait go, and where its session was open a close is asked last.
 use Rattle.std.proofs.Math.Bool.{and-false}
-use Rattle.std.proofs.Common.{[], Bool, List, None, Option, Some, ap, arith, cond, false, refl, subst, sym, true, ℕ, ◌&&◌, ◌==◌, ◌∙◌, ◌∷◌, ◌≡◌, ◌≤◌}
+use Rattle.std.proofs.Common.{[], Bool, List, None, Option, Some, ap, arith, cond, false, refl, subst, sym, true, ℕ, ◌+◌, ◌&&◌, ◌==◌, ◌∙◌, ◌∷◌, ◌≡◌, ◌≤◌}
 use Rattle.std.proofs.lemmas.Bool.{eq-eqb, eqb-true, ne_eqb, true≢false}
 use Rattle.std.specs.List.{list_any}
 use Rattle.std.specs.Prelude.{filter, not, ◌||◌, is_some}
@@ -14,10 +14,10 @@ use Rattle.aom_sound.proofs.ClientsFit.{fit_changed}
 use Rattle.aom_sound.proofs.Queues.{client_here, client_of, entry_other, is_of, none_stays, queue_other, queue_stays}
 use Rattle.aom_sound.proofs.Seated.{seats_asked, seats_left}
 use Rattle.aom_sound.proofs.Sifted.{cell_of_sifted, kept, cell_lives, cell_of, cell_placed, held_cell, named_before, named_cell, object_in, service_cell, service_gone, service_in, service_sifted, sifted, withdrawn_so, requested_before}
-use Rattle.aom_sound.proofs.Sources.{discarded_some, served_sifted, sources_sifted}
+use Rattle.aom_sound.proofs.Sources.{discarded_one, discarded_some, served_sifted, sources_sifted}
 use Rattle.aom_sound.specs.Clients.{client_at, most_of, with_client}
 use Rattle.aom_sound.specs.Enlisted.{thing_kind}
-use Rattle.aom_sound.specs.Kept.{ClientsFit, EntryFits, HasSources, QueueFits, ServesSent, asked_again, is_close_of, is_message_of}
+use Rattle.aom_sound.specs.Kept.{ClientsFit, EntryFits, HasSources, QueueFits, ServesSent, asked_again, is_close_of, is_message_of, one_if_some}
 use Rattle.aom_sound.specs.Places.{Asked, Cell, Close_of, Connect_of, Elsewhere, Message_of, Object, Place, Queued, Sender, Service, Tidy, held, named, service_of, unserved, requested}
 use Rattle.aom_sound.specs.Servers.{asked_last, discarded, reserved, is_from, is_queue, is_server, left_by, seats_taken, stays, withdrawn}
 
@@ -170,7 +170,7 @@ module _ (p : Image) (clients : List Client) (cs : List Cell) (tidy : Tidy cs) (
       servers = servers;
       names = names;
       senders = λ n d m h. let parts = message_stays c d m (service_of cs n).queue (ap (λ q. list_any (is_message_of d m) q) (sym (service_left n).0) ∙ h) in sender_left d m parts.0 (fit.senders n d m parts.1);
-      sources = subst (λ l. HasSources l) (sym (withdrawn_so c cs)) (sources_sifted drops left (λ x. discarded_some c x.service.sender) cs tidy fit.sources);
+      sources = subst (λ l. HasSources l) (sym (withdrawn_so c cs)) (sources_sifted drops left (λ x. ap (λ n. n + one_if_some x.service.token) (discarded_one c x.service.sender)) cs tidy fit.sources);
       served = subst (λ l. ServesSent l) (sym (withdrawn_so c cs)) (served_sifted drops left (λ x. discarded_some c x.service.sender) cs tidy fit.served);
       enlisted = λ o there none. enlisted o there none;
       seats = seats;

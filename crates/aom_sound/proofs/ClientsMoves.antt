@@ -2,7 +2,7 @@
 use Rattle.std.proofs.Common.{[], Bool, List, None, Option, Some, ap, cond, false, inl, inr, length, refl, subst, suc, sym, true, ℕ, ℤ, ◌==◌, ◌∙◌, ◌∷◌, ◌≡◌, ◌<◌, ◌≤◌, arith}
 use Rattle.std.proofs.lemmas.Bool.{eqb-true}
 use Rattle.std.specs.List.{list_any}
-use Rattle.std.specs.Prelude.{is_some, not, ◌⊎◌}
+use Rattle.std.specs.Prelude.{is_some, ◌⊎◌}
 use Rattle.aom_image.specs.Image.{Image}
 use Rattle.aom_image.specs.Views.{method_role}
 use Rattle.aom_image.specs.declared.method.Argument.{Argument}
@@ -10,6 +10,7 @@ use Rattle.aom_image.specs.declared.method.Argument.TheVariants.{Own as Takes_ow
 use Rattle.aom_image.specs.declared.method.Gives.{Gives}
 use Rattle.aom_image.specs.declared.method.Gives.TheVariants.{Left, Maybe as A_maybe, Nothing, Own as An_own, Word as A_word}
 use Rattle.aom_image.specs.declared.method.Thing.{Thing}
+use Rattle.aom_image.specs.declared.method.Thing.TheVariants.{Message}
 use Rattle.aom_clients.specs.Nodes.{is_connecting_at}
 use Rattle.aom_clients.specs.declared.client.Client.{Client}
 use Rattle.aom_clients.specs.declared.client.Client.TheVariants.{Unconnected}
@@ -21,14 +22,17 @@ use Rattle.aom_sound.proofs.ClientsTurn.{Same, on_none, same_requested}
 use Rattle.aom_sound.proofs.Maps.{named_moved, same_place-true, same_place_along, requested_moved, requested_unnamed}
 use Rattle.aom_sound.proofs.Queues.{queue_other}
 use Rattle.aom_sound.proofs.Services.{service_moved, service_unnamed}
-use Rattle.aom_sound.proofs.Sources.{has_sender, served_as}
+use Rattle.aom_sound.proofs.Sources.{has_sender, served_as, sources_as}
 use Rattle.aom_sound.specs.Calls.{passed_cells, result_cells}
 use Rattle.aom_sound.specs.Clients.{client_at, with_client, most_of}
-use Rattle.aom_sound.specs.Effects.{Carried, In_field, In_register, Made, Replied, Requested, Spot, The_message, Update, cells_after, spot_place}
+use Rattle.aom_sound.proofs.Redeeming.{redeeming, requested_redeemed}
+use Rattle.aom_sound.proofs.Storing.{rerequested_alike}
+use Rattle.aom_sound.specs.Tokens.{all_redeemed, handed_cells, handed_out, home_class, next_token, promised, redeemed_by, redeemed_request, with_token}
+use Rattle.aom_sound.specs.Effects.{Carried, Handed, In_field, In_register, Made, Replied, Requested, The_message, Update, cells_after, spot_place}
 use Rattle.aom_sound.specs.Enlisted.{cancelled, ended_cells, on_request, own_request, rerequested, thing_kind}
-use Rattle.aom_sound.specs.Kept.{ClientsFit, QueueFits, ConnectKept, StageKept, TasksKept, is_close_of, is_connect_of, is_message_of}
+use Rattle.aom_sound.specs.Kept.{ClientsFit, HasSources, QueueFits, ConnectKept, StageKept, TasksKept, is_close_of, is_connect_of, is_message_of, sources_of}
 use Rattle.aom_sound.specs.Natives.{resessioned}
-use Rattle.aom_sound.specs.Places.{Cell, Elsewhere, In_service, Object, Place, Queued, Register, Request, held, moved, named, same_place, service_of, set_request, unserved, with_new, requested}
+use Rattle.aom_sound.specs.Places.{Cell, Elsewhere, In_service, Object, Place, Queued, Register, Request, Token, held, moved, named, same_place, service_of, set_request, unserved, with_new, requested}
 use Rattle.aom_sound.specs.Servers.{is_from, is_server, seats_taken}
 use Rattle.aom_sound.specs.State.{Accept_left, Accepted, Accepts, AtRoot, Closing, Destroy, Dispatched, Frame, Home, Inside, Of_server, Parts, Run, Service_left, Serves, Stage, State, Static, Task, Trapped, Unwind, field_place}
 use Rattle.aom_sound.specs.Words.{here, stored}
@@ -37,15 +41,17 @@ use Rattle.aom_sound.proofs.Seated.{seats_none, seats_same}
 -- ---- cells of which servers have the same
 
 abbrev pub Lived : List Cell → Object → Type 0
-Lived cs o = (named cs o.name ≡ Some o) ⊎ ((named cs o.name ≡ None) × (is_object o.thing ≡ true))
+Lived cs o = (named cs o.name ≡ Some o) ⊎ (named cs o.name ≡ None)
 
 pub record Steady (cs cs' : List Cell) : Type 0 where
   pub queues : (n : ℕ) → (service_of cs' n).queue ≡ (service_of cs n).queue
   pub sessions : (n : ℕ) → (service_of cs' n).sessions ≡ (service_of cs n).sessions
-  -- each cell was there, or is a new object and no other had its name
+  -- each cell was there, or is new and no other had its name
   pub lived : (o : Object) → named cs' o.name ≡ Some o → Lived cs o
   pub queued : (n m : ℕ) (o : Object) → held cs' (Elsewhere (Queued n m)) ≡ Some o → held cs (Elsewhere (Queued n m)) ≡ Some o
   pub senders : (c m : ℕ) → is_from c (service_of cs m).sender ≡ true → is_from c (service_of cs' m).sender ≡ true
+  -- messages alone have a sender or are tokens still
+  pub sources : HasSources cs → HasSources cs'
   -- the same have a sender, and nothing is served that was not
   pub sent : (n : ℕ) → has_sender cs' n ≡ has_sender cs n
   pub served : (o : Object) → held cs' (Elsewhere In_service) ≡ Some o → held cs (Elsewhere In_service) ≡ Some o
@@ -60,30 +66,26 @@ fit_steady p clients cs cs' still fit = record {
   servers = λ o h plain. servers o plain (still.lived o h);
   names = λ n m o h. fit.names n m o (still.queued n m o h);
   senders = λ n c m h. still.senders c m (fit.senders n c m (ap (λ q. list_any (is_message_of c m) q) (sym (still.queues n)) ∙ h));
-  sources = λ o h. sources o (still.lived o h);
+  sources = still.sources fit.sources;
   served = served_as cs cs' still.sent still.served fit.served;
   seats = λ o h. seats o (still.lived o h);
   enlisted = λ o h e. enlisted o (still.listed o.name e) (still.lived o h);
 }
   where
-    sources : (o : Object) → Lived cs o → has_sender cs' o.name ≡ not (is_object o.thing)
-    sources o (inl h) = still.sent o.name ∙ fit.sources o h
-    sources o (inr h) = still.sent o.name ∙ ap (λ v. is_some v.sender) (service_unnamed cs o.name h.0) ∙ sym (ap not h.1)
-
     enlisted : (o : Object) → requested cs o.name ≡ None → Lived cs o → ((service_of cs' o.name).queue ≡ []) × ((service_of cs' o.name).sessions ≡ [])
     enlisted o e (inl h) = let none = fit.enlisted o h e in (still.queues o.name ∙ none.0, still.sessions o.name ∙ none.1)
-    enlisted o e (inr h) = (still.queues o.name ∙ ap (λ v. v.queue) (service_unnamed cs o.name h.0), still.sessions o.name ∙ ap (λ v. v.sessions) (service_unnamed cs o.name h.0))
+    enlisted o e (inr h) = (still.queues o.name ∙ ap (λ v. v.queue) (service_unnamed cs o.name h), still.sessions o.name ∙ ap (λ v. v.sessions) (service_unnamed cs o.name h))
 
     seats : (o : Object) → Lived cs o → seats_taken (service_of cs' o.name) ≤ most_of (thing_kind p o.thing)
     seats o (inl e) = let was = fit.seats o e in let same = seats_same (service_of cs' o.name) (service_of cs o.name) (still.queues o.name) (still.sessions o.name) in omega (arith, was, same)
     seats o (inr e) =
         let none =
-        seats_none (service_of cs' o.name) (still.queues o.name ∙ ap (λ v. v.queue) (service_unnamed cs o.name e.0)) (still.sessions o.name ∙ ap (λ v. v.sessions) (service_unnamed cs o.name e.0)) in
+        seats_none (service_of cs' o.name) (still.queues o.name ∙ ap (λ v. v.queue) (service_unnamed cs o.name e)) (still.sessions o.name ∙ ap (λ v. v.sessions) (service_unnamed cs o.name e)) in
         omega (arith, none)
 
     servers : (o : Object) → is_server p o.thing ≡ false → Lived cs o → ((service_of cs' o.name).queue ≡ []) × ((service_of cs' o.name).sessions ≡ [])
     servers o plain (inl e) = let none = fit.servers o e plain in (still.queues o.name ∙ none.0, still.sessions o.name ∙ none.1)
-    servers o plain (inr e) = (still.queues o.name ∙ ap (λ v. v.queue) (service_unnamed cs o.name e.0), still.sessions o.name ∙ ap (λ v. v.sessions) (service_unnamed cs o.name e.0))
+    servers o plain (inr e) = (still.queues o.name ∙ ap (λ v. v.queue) (service_unnamed cs o.name e), still.sessions o.name ∙ ap (λ v. v.sessions) (service_unnamed cs o.name e))
 
 module _ (p : Image) (clients : List Client) (cs cs' : List Cell) (queues : (n : ℕ) → (service_of cs' n).queue ≡ (service_of cs n).queue)
     (sessions : (n : ℕ) → (service_of cs' n).sessions ≡ (service_of cs n).sessions) where
@@ -112,7 +114,7 @@ pub tasks_steady : (p : Image) (clients : List Client) (cs cs' : List Cell) → 
 tasks_steady p clients cs cs' still ts k = tasks_queues p clients cs cs' still.queues still.sessions ts k
 
 pub steady_itself : (cs : List Cell) → Steady cs cs
-steady_itself cs = record { queues = λ n. refl; sessions = λ n. refl; lived = λ o h. inl h; queued = λ n m o h. h; senders = λ c m h. h; sent = λ n. refl; served = λ o h. h; listed = λ n e. e }
+steady_itself cs = record { queues = λ n. refl; sessions = λ n. refl; lived = λ o h. inl h; queued = λ n m o h. h; senders = λ c m h. h; sources = λ h. h; sent = λ n. refl; served = λ o h. h; listed = λ n e. e }
 
 pub steady_same : (cs cs' : List Cell) → Same cs cs' → Steady cs cs'
 steady_same cs cs' like = record {
@@ -121,6 +123,7 @@ steady_same cs cs' like = record {
   lived = λ o h. inl (sym (like.named_so o.name) ∙ h);
   queued = λ n m o h. sym (like.held_so (Elsewhere (Queued n m))) ∙ h;
   senders = λ c m h. ap (λ v. is_from c v.sender) (like.service_so m) ∙ h;
+  sources = sources_as cs cs' (λ n. ap sources_of (like.service_so n)) (λ o h. sym (like.named_so o.name) ∙ h);
   sent = λ n. ap (λ v. is_some v.sender) (like.service_so n);
   served = λ o h. sym (like.held_so (Elsewhere In_service)) ∙ h;
   listed = like.listed_so;
@@ -134,6 +137,7 @@ steady_moved_then cs cs' cs'' a b names = record {
   lived = λ o h. lived o (b.lived o h);
   queued = λ n m o h. a.queued n m o (b.queued n m o h);
   senders = λ c m h. b.senders c m (a.senders c m h);
+  sources = λ h. b.sources (a.sources h);
   sent = λ n. b.sent n ∙ a.sent n;
   served = λ o h. a.served o (b.served o h);
   listed = λ n e. a.listed n (b.listed n e);
@@ -141,7 +145,7 @@ steady_moved_then cs cs' cs'' a b names = record {
   where
     lived : (o : Object) → Lived cs' o → Lived cs o
     lived o (inl e) = inl (sym (names o.name) ∙ e)
-    lived o (inr e) = inr (sym (names o.name) ∙ e.0, e.1)
+    lived o (inr e) = inr (sym (names o.name) ∙ e)
 
 -- what moves to another place is not in this one, whatever was there
 pub held_elsewhere : (cs : List Cell) (a b r : Place) → same_place b r ≡ false → held (moved a b cs) r ≡ cond (same_place a r) None (held cs r)
@@ -173,6 +177,7 @@ steady_moved cs a b apart aside = record {
   lived = λ o h. inl (sym (named_moved cs a b o.name) ∙ h);
   queued = λ n m o h. unless_moved o (same_place a (Elsewhere (Queued n m))) (held cs (Elsewhere (Queued n m))) (sym (held_elsewhere cs a b (Elsewhere (Queued n m)) (apart n m)) ∙ h);
   senders = λ c m h. ap (λ v. is_from c v.sender) (service_moved cs a b m) ∙ h;
+  sources = sources_as cs (moved a b cs) (λ n. ap sources_of (service_moved cs a b n)) (λ o h. sym (named_moved cs a b o.name) ∙ h);
   sent = λ n. ap (λ v. is_some v.sender) (service_moved cs a b n);
   served = λ o h. unless_moved o (same_place a (Elsewhere In_service)) (held cs (Elsewhere In_service)) (sym (held_elsewhere cs a b (Elsewhere In_service) aside) ∙ h);
   listed = λ n e. sym (requested_moved cs a b n) ∙ e;
@@ -188,6 +193,7 @@ steady_new cs name x ws owner apart aside object free = record {
   lived = λ o h. lived o (name == o.name) refl h;
   queued = λ n m o h. sym (ap (λ b. cond b (Some (record { name = name; thing = x })) (held cs (Elsewhere (Queued n m)))) (apart n m)) ∙ h;
   senders = λ c m h. ap (λ v. is_from c v.sender) (same m (name == m) refl) ∙ h;
+  sources = λ had o h. sources had o (name == o.name) h;
   sent = λ n. ap (λ v. is_some v.sender) (same n (name == n) refl);
   served = λ o h. sym (ap (λ b. cond b (Some (record { name = name; thing = x })) (held cs (Elsewhere In_service))) aside) ∙ h;
   listed = λ n e. listed n (name == n) refl e;
@@ -202,9 +208,59 @@ steady_new cs name x ws owner apart aside object free = record {
     listed n false other e = e
 
     lived : (o : Object) (b : Bool) → (name == o.name) ≡ b → cond b (Some (record { name = name; thing = x })) (named cs o.name) ≡ Some o → Lived cs o
-    lived o true e h =
+    lived o true e h = inr (ap (λ k. named cs k) (sym (eqb-true name o.name e)) ∙ free)
+    lived o false e h = inl h
+
+    sources : HasSources cs → (o : Object) (b : Bool) → cond b (Some (record { name = name; thing = x })) (named cs o.name) ≡ Some o → sources_of (cond b unserved (service_of cs o.name)) ≡ cond (is_object o.thing) 0 1
+    sources had o true h =
         let it : record { name = name; thing = x } ≡ o = cc in
-        inr (ap (λ k. named cs k) (sym (eqb-true name o.name e)) ∙ free, ap (λ y. is_object y.thing) (sym it) ∙ object)
+        sym (ap (λ b. cond b 0 1) (ap (λ y. is_object y.thing) (sym it) ∙ object))
+    sources had o false h = had o h
+
+pub steady_token : (cs : List Cell) (name : ℕ) (token : Token) (owner : Place) → NoQueue owner → NoService owner → named cs name ≡ None → Steady cs (with_token name token owner cs)
+steady_token cs name token owner apart aside free = record {
+  queues = λ n. queue n (name == n) refl;
+  sessions = λ n. session n (name == n) refl;
+  lived = λ o h. lived o (name == o.name) refl h;
+  queued = λ n m o h. sym (ap (λ b. cond b (Some (record { name = name; thing = Message })) (held cs (Elsewhere (Queued n m)))) (apart n m)) ∙ h;
+  senders = λ c m h. sender c m (name == m) refl h;
+  sources = λ had o h. sources had o (name == o.name) h;
+  sent = λ n. sent n (name == n) refl;
+  served = λ o h. sym (ap (λ b. cond b (Some (record { name = name; thing = Message })) (held cs (Elsewhere In_service))) aside) ∙ h;
+  listed = λ n e. listed n (name == n) refl e;
+}
+  where
+    none : (n : ℕ) → (name == n) ≡ true → service_of cs n ≡ unserved
+    none n e = ap (λ k. service_of cs k) (sym (eqb-true name n e)) ∙ service_unnamed cs name free
+
+    queue : (n : ℕ) (b : Bool) → (name == n) ≡ b → (cond b (handed_out token) (service_of cs n)).queue ≡ (service_of cs n).queue
+    queue n true e = sym (ap (λ v. v.queue) (none n e))
+    queue n false e = refl
+
+    session : (n : ℕ) (b : Bool) → (name == n) ≡ b → (cond b (handed_out token) (service_of cs n)).sessions ≡ (service_of cs n).sessions
+    session n true e = sym (ap (λ v. v.sessions) (none n e))
+    session n false e = refl
+
+    sender : (c m : ℕ) (b : Bool) → (name == m) ≡ b → is_from c (service_of cs m).sender ≡ true → is_from c (cond b (handed_out token) (service_of cs m)).sender ≡ true
+    sender c m true e h = sym (ap (λ v. is_from c v.sender) (none m e)) ∙ h
+    sender c m false e h = h
+
+    sent : (n : ℕ) (b : Bool) → (name == n) ≡ b → is_some (cond b (handed_out token) (service_of cs n)).sender ≡ has_sender cs n
+    sent n true e = sym (ap (λ v. is_some v.sender) (none n e))
+    sent n false e = refl
+
+    sources :
+        HasSources cs → (o : Object) (b : Bool) → cond b (Some (record { name = name; thing = Message })) (named cs o.name) ≡ Some o →
+        sources_of (cond b (handed_out token) (service_of cs o.name)) ≡ cond (is_object o.thing) 0 1
+    sources had o true h = let it : record { name = name; thing = Message } ≡ o = cc in subst (λ (y : Object). sources_of (handed_out token) ≡ cond (is_object y.thing) 0 1) it refl
+    sources had o false h = had o h
+
+    listed : (n : ℕ) (b : Bool) → (name == n) ≡ b → cond b None (requested cs n) ≡ None → requested cs n ≡ None
+    listed n true same e = requested_unnamed cs n (ap (λ k. named cs k) (sym (eqb-true name n same)) ∙ free)
+    listed n false other e = e
+
+    lived : (o : Object) (b : Bool) → (name == o.name) ≡ b → cond b (Some (record { name = name; thing = Message })) (named cs o.name) ≡ Some o → Lived cs o
+    lived o true e h = inr (ap (λ k. named cs k) (sym (eqb-true name o.name e)) ∙ free)
     lived o false e h = inl h
 
 -- ---- what an update changes
@@ -213,6 +269,27 @@ pub steady_asked : (cs : List Cell) (home : Home) (r : Option Request) → (r �
 steady_asked cs Static r keeps = steady_itself cs
 steady_asked cs AtRoot r keeps = steady_itself cs
 steady_asked cs (Inside o from) r keeps = steady_same cs (set_request o.name r cs) (same_requested cs o r keeps)
+
+-- a token is handed out
+pub steady_handed : (cs : List Cell) (name : ℕ) (home : Home) (owner : Place) → NoQueue owner → NoService owner → named cs name ≡ None → Steady cs (handed_cells name home owner cs)
+steady_handed cs name home owner apart aside free =
+    let r = on_request (promised (next_token cs)) (own_request cs home) in
+    let like = rerequested_alike cs home r in
+    steady_moved_then cs (rerequested cs home r) _ (steady_asked cs home r (λ e. on_none (promised (next_token cs)) (own_request cs home) e))
+    (steady_token (rerequested cs home r) name (record { class = home_class home; order = next_token cs }) owner apart aside (like.named_so name ∙ free)) like.named_so
+
+-- and replied to
+listed_redeemed : (order : ℕ) (code : ℤ) (r : Option Request) → redeemed_request order code r ≡ None → r ≡ None
+listed_redeemed order code r e = grind arith
+
+pub steady_redeemed : (order : Option ℕ) (code : ℤ) (cs : List Cell) → Steady cs (redeemed_by order code cs)
+steady_redeemed None code cs = steady_itself cs
+steady_redeemed (Some order) code cs = steady_same cs (all_redeemed order code cs) (record {
+  service_so = read_kept (redeeming order code) services (λ c. refl) cs;
+  named_so = named_kept (redeeming order code) cs;
+  held_so = held_kept (redeeming order code) (λ c. refl) cs;
+  listed_so = λ n e. listed_redeemed order code (requested cs n) (sym (requested_redeemed order code cs n) ∙ e);
+})
 
 -- each cell is changed by itself, and stays in its place, with its request and for its clients
 steady_altered :
@@ -258,13 +335,15 @@ module _ (p : Image) (fr : Frame) (ts : List Task) (s : State) where
   IsSteady (Carried from The_message) = ⊥
   IsSteady (Made name class a) = named s.cells name ≡ None
   IsSteady (Requested r) = r ≡ None → own_request s.cells fr.home ≡ None
-  IsSteady (Replied a) = ⊥
+  IsSteady (Replied a code) = ⊥
+  IsSteady (Handed name a) = named s.cells name ≡ None
   IsSteady _ = Unit {0}
 
   pub steady_update : (u : Update) → IsSteady u → Steady s.cells (cells_after p fr ts s u)
   steady_update (Carried from The_message) h = absurd h
   steady_update (Carried from (In_register a)) h = steady_moved s.cells (spot_place p fr ts s from) (here fr ts s a) (λ n m. refl) refl
   steady_update (Carried from (In_field f)) h = steady_moved s.cells (spot_place p fr ts s from) (field_place fr.home f) (field_apart fr.home f) (field_aside fr.home f)
+  steady_update (Handed name a) h = steady_handed s.cells name fr.home (here fr ts s a) (λ n m. refl) refl h
   steady_update x h = grind (arith, steady_moved, steady_new, steady_stored, steady_asked, steady_opened, steady_itself)
 
   -- arguments are passed, and a result is brought

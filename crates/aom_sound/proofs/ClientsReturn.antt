@@ -6,14 +6,14 @@ use Rattle.aom_image.specs.Image.{Image}
 use Rattle.aom_image.specs.declared.method.Gives.{Gives}
 use Rattle.aom_clients.specs.declared.client.Client.{Client}
 use Rattle.aom_sound.proofs.ClientsFacts.{IsAt}
-use Rattle.aom_sound.proofs.ClientsFit.{fit_accepted}
+use Rattle.aom_sound.proofs.ClientsFit.{IsFit, fit_accepted}
 use Rattle.aom_sound.proofs.ClientsMoves.{NoQueue, fit_steady, steady_moved, steady_result, tasks_queues, tasks_steady}
 use Rattle.aom_sound.proofs.Maps.{held_without, named_moved, same_place-true, same_place_comm, requested_moved}
 use Rattle.aom_sound.proofs.Sifted.{a_cell_of, cell_in, cell_lives, cell_of, cell_owner, cell_placed, held_cell, named_before, named_cell, object_in, service_cell, service_in, service_sifted, sifted, requested_before, clients_sifted}
 use Rattle.aom_sound.proofs.Sources.{served_sifted, sources_sifted}
 use Rattle.aom_sound.specs.Calls.{answered_by, result_cells, returned}
 use Rattle.aom_sound.specs.Clients.{most_of}
-use Rattle.aom_sound.specs.Kept.{ClientsFit, IsKept, QueueFits, TasksKept, is_connect_of, is_message_of}
+use Rattle.aom_sound.specs.Kept.{ClientsFit, QueueFits, TasksKept, is_connect_of, is_message_of}
 use Rattle.aom_sound.specs.Places.{Cell, Elsewhere, Object, Place, Queued, Session, Tidy, held, moved, named, same_place, service_of, without, requested}
 use Rattle.aom_sound.specs.Servers.{is_from, is_server, seats_taken}
 use Rattle.aom_sound.specs.State.{Static, Inside, AtRoot, Home, Accept_left, Accepts, Destroy, Dispatch, Dispatched, Frame, Of_server, Parts, Run, Seat, State, Task, Trapped, Unwind}
@@ -25,7 +25,7 @@ use Rattle.std.specs.Prelude.{is_some}
 -- ---- a method returns
 
 module _ (p : Image) (fr : Frame) (ts : List Task) (s : State) (fit : ClientsFit p s.clients s.cells) where
-  same_tasks : (u : State) → u.cells ≡ s.cells → u.clients ≡ s.clients → TasksKept p s.clients s.cells u.tasks → IsKept p u
+  same_tasks : (u : State) → u.cells ≡ s.cells → u.clients ≡ s.clients → TasksKept p s.clients s.cells u.tasks → IsFit p u
   same_tasks u cells clients stage = record {
     fit = subst (λ l. ClientsFit p l u.cells) (sym clients) (subst (λ l. ClientsFit p s.clients l) (sym cells) fit);
     stage = subst (λ l. TasksKept p l u.cells u.tasks) (sym clients) (subst (λ l. TasksKept p s.clients l u.tasks) (sym cells) stage);
@@ -33,7 +33,7 @@ module _ (p : Image) (fr : Frame) (ts : List Task) (s : State) (fit : ClientsFit
 
   result_kept :
       (g : Gives) (a c : ℕ) (below : List Task) (u : State) → u.cells ≡ result_cells p fr ts s g a c below → u.clients ≡ s.clients → (u.tasks ≡ u.tasks) →
-      ((cs : List Cell) → TasksKept p s.clients cs below → TasksKept p s.clients cs u.tasks) → TasksKept p s.clients s.cells below → IsKept p u
+      ((cs : List Cell) → TasksKept p s.clients cs below → TasksKept p s.clients cs u.tasks) → TasksKept p s.clients s.cells below → IsFit p u
   result_kept g a c below u cells clients same over stage =
       let still = steady_result p fr ts s g a c below in
       record {
@@ -45,7 +45,7 @@ module _ (p : Image) (fr : Frame) (ts : List Task) (s : State) (fit : ClientsFit
   module _ (g : Gives) (a : ℕ) (below : List Task) where
     accept_kept :
         (x : Seat) (c : ℕ) → named s.cells x.object.name ≡ Some x.object → is_server p x.object.thing ≡ true → is_some (requested s.cells x.object.name) ≡ true →
-        TasksKept p s.clients s.cells (Dispatched (Of_server x c Accepts) ∷ below) → IsKept p (returned p fr ts s g a (Trapped ∷ Dispatched (Of_server x c Accepts) ∷ below))
+        TasksKept p s.clients s.cells (Dispatched (Of_server x c Accepts) ∷ below) → IsFit p (returned p fr ts s g a (Trapped ∷ Dispatched (Of_server x c Accepts) ∷ below))
     accept_kept x c lives serves listed stage =
         let still = steady_moved s.cells (here fr ts s a) (Elsewhere (Session x.object.name c)) (λ n m. refl) refl in
         record {
@@ -59,7 +59,7 @@ module _ (p : Image) (fr : Frame) (ts : List Task) (s : State) (fit : ClientsFit
     ended_kept :
         (d : Dispatch) →
         ((x : Seat) (c : ℕ) → d ≡ Of_server x c Accepts → (named s.cells x.object.name ≡ Some x.object) × (is_server p x.object.thing ≡ true) × (is_some (requested s.cells x.object.name) ≡ true)) →
-        TasksKept p s.clients s.cells (Dispatched d ∷ below) → IsKept p (returned p fr ts s g a (Trapped ∷ Dispatched d ∷ below))
+        TasksKept p s.clients s.cells (Dispatched d ∷ below) → IsFit p (returned p fr ts s g a (Trapped ∷ Dispatched d ∷ below))
     ended_kept (Of_server x c Accepts) there stage = let l = there x c refl in accept_kept x c l.0 l.1 l.2 stage
     ended_kept (Of_server x c (Accept_left code)) there stage = same_tasks _ refl refl stage
     ended_kept (Of_server x c Parts) there stage = same_tasks _ refl refl stage
@@ -80,7 +80,7 @@ module _ (p : Image) (fr : Frame) (ts : List Task) (s : State) (fit : ClientsFit
       go (Some x) = k
 
   -- to whatever is below; where it is the end of `accept`, its server stands
-  pub return_kept : (g : Gives) (a : ℕ) (below : List Task) → ((x : Seat) (c : ℕ) → IsAt (Of_server x c Accepts) below → (named s.cells x.object.name ≡ Some x.object) × (is_server p x.object.thing ≡ true) × (is_some (requested s.cells x.object.name) ≡ true)) → s.tasks ≡ Run fr ∷ ts → TasksKept p s.clients s.cells below → TasksKept p s.clients s.cells ts → IsKept p (returned p fr ts s g a below)
+  pub return_kept : (g : Gives) (a : ℕ) (below : List Task) → ((x : Seat) (c : ℕ) → IsAt (Of_server x c Accepts) below → (named s.cells x.object.name ≡ Some x.object) × (is_server p x.object.thing ≡ true) × (is_some (requested s.cells x.object.name) ≡ true)) → s.tasks ≡ Run fr ∷ ts → TasksKept p s.clients s.cells below → TasksKept p s.clients s.cells ts → IsFit p (returned p fr ts s g a below)
   return_kept g a (Run caller ∷ below) there tasks stage all = result_kept g a _ below _ refl refl refl (λ cs k. k) stage
   return_kept g a (Trapped ∷ Run caller ∷ below) there tasks stage all = result_kept g a _ below _ refl refl refl (λ cs k. k) stage
   return_kept g a (Trapped ∷ Dispatched d ∷ below) there tasks stage all = ended_kept g a below d there stage
@@ -91,7 +91,7 @@ module _ (p : Image) (fr : Frame) (ts : List Task) (s : State) (fit : ClientsFit
 
 -- ---- a cell goes of which clients have nothing
 
-without_so : (g : Place) (cs : List Cell) → without g cs ≡ sifted (λ c. same_place c.owner g) (λ c. c.service) cs
+pub without_so : (g : Place) (cs : List Cell) → without g cs ≡ sifted (λ c. same_place c.owner g) (λ c. c.service) cs
 without_so g [] = refl
 without_so g (c ∷ cs) = ap (λ l. cond (same_place c.owner g) l (c ∷ l)) (without_so g cs)
 

@@ -9,7 +9,7 @@ use Rattle.aom_clients.specs.Table.{server_of}
 use Rattle.aom_clients.specs.declared.client.Client.{Client}
 use Rattle.aom_rules.specs.Typing.{Typing}
 use Rattle.aom_sound.proofs.ClientsCommand.{fit_commanded}
-use Rattle.aom_sound.proofs.ClientsFit.{senders_then, by_server, seats_then, enlisted_then, sent_then, served_then, sources_then}
+use Rattle.aom_sound.proofs.ClientsFit.{IsFit, senders_then, by_server, seats_then, enlisted_then, sent_then, served_then, sources_then}
 use Rattle.aom_sound.proofs.Maps.{held_moved, named_moved, requested_moved, requested_unnamed}
 use Rattle.aom_sound.proofs.Owners.{IsQueuedAt, in_queue, queued_lower}
 use Rattle.aom_sound.proofs.Services.{held_served, named_served, service_asked, service_bereaved, service_here, service_moved}
@@ -25,7 +25,7 @@ use Rattle.aom_sound.specs.Destruction.{begun, begun_by}
 use Rattle.aom_classes.specs.Roles.{destructor_of}
 use Rattle.aom_sound.specs.Enlisted.{completed_with, on_request, part_of, recorded, timed_out, thing_kind, taken_up}
 use Rattle.aom_sound.specs.Natives.{all_bereaved, is_served_by, terminated_request, is_owed, terminated}
-use Rattle.aom_sound.specs.Kept.{ClientsFit, IsKept, QueueFits, TasksKept, is_close_of, is_connect_of, is_message_of}
+use Rattle.aom_sound.specs.Kept.{ClientsFit, QueueFits, TasksKept, is_close_of, is_connect_of, is_message_of, sources_of}
 use Rattle.aom_sound.specs.Laws.{IsWired}
 use Rattle.aom_sound.specs.Places.{Asked, Cell, Close_of, Connect_of, Elsewhere, Going, In_service, Message_of, Object, Place, Queued, Request, Root, Session, held, moved, named, requested, same_place, seen, service_of, set_request}
 use Rattle.aom_sound.specs.Servers.{has_session, is_from, is_server, reserved, rest_of as rest, taken_first, seats_taken}
@@ -57,7 +57,7 @@ fit_same p clients cs cs' like fit = record {
   servers = λ o h plain. subst (λ v. (v.queue ≡ []) × (v.sessions ≡ [])) (sym (like.service_so o.name)) (fit.servers o (sym (like.named_so o.name) ∙ h) plain);
   names = λ n m o h. fit.names n m o (sym (like.held_so (Elsewhere (Queued n m))) ∙ h);
   senders = λ n c m h. subst (λ v. is_from c v.sender ≡ true) (sym (like.service_so m)) (fit.senders n c m (ap (λ v. list_any (is_message_of c m) v.queue) (sym (like.service_so n)) ∙ h));
-  sources = sources_as cs cs' (λ n. ap (λ v. is_some v.sender) (like.service_so n)) (λ o h. sym (like.named_so o.name) ∙ h) fit.sources;
+  sources = sources_as cs cs' (λ n. ap sources_of (like.service_so n)) (λ o h. sym (like.named_so o.name) ∙ h) fit.sources;
   served = served_as cs cs' (λ n. ap (λ v. is_some v.sender) (like.service_so n)) (λ o h. sym (like.held_so (Elsewhere In_service)) ∙ h) fit.served;
   seats = λ o h. subst (λ v. seats_taken v ≤ most_of (thing_kind p o.thing)) (sym (like.service_so o.name)) (fit.seats o (sym (like.named_so o.name) ∙ h));
   enlisted = λ o h e. subst (λ v. (v.queue ≡ []) × (v.sessions ≡ [])) (sym (like.service_so o.name)) (fit.enlisted o (sym (like.named_so o.name) ∙ h) (like.listed_so o.name e));
@@ -117,7 +117,7 @@ fit_moved p clients cs a b free apart sent fit = record {
   servers = λ o h plain. subst (λ v. (v.queue ≡ []) × (v.sessions ≡ [])) (sym (service_moved cs a b o.name)) (fit.servers o (sym (named_moved cs a b o.name) ∙ h) plain);
   names = λ n m o h. names n m o (same_place a (Elsewhere (Queued n m))) (sym (ap (λ x. cond x (held cs a) (cond (same_place a (Elsewhere (Queued n m))) None (held cs (Elsewhere (Queued n m))))) (apart n m)) ∙ sym (held_moved cs a b (Elsewhere (Queued n m)) free) ∙ h);
   senders = λ n c m h. subst (λ v. is_from c v.sender ≡ true) (sym (service_moved cs a b m)) (fit.senders n c m (ap (λ v. list_any (is_message_of c m) v.queue) (sym (service_moved cs a b n)) ∙ h));
-  sources = sources_as cs (moved a b cs) same (λ o h. sym (named_moved cs a b o.name) ∙ h) fit.sources;
+  sources = sources_as cs (moved a b cs) (λ n. ap sources_of (service_moved cs a b n)) (λ o h. sym (named_moved cs a b o.name) ∙ h) fit.sources;
   served = λ o h. same o.name ∙ served o (same_place b (Elsewhere In_service)) refl (same_place a (Elsewhere In_service)) (sym (held_moved cs a b (Elsewhere In_service) free) ∙ h);
   seats = λ o h. subst (λ v. seats_taken v ≤ most_of (thing_kind p o.thing)) (sym (service_moved cs a b o.name)) (fit.seats o (sym (named_moved cs a b o.name) ∙ h));
   enlisted = λ o h e. subst (λ v. (v.queue ≡ []) × (v.sessions ≡ [])) (sym (service_moved cs a b o.name)) (fit.enlisted o (sym (named_moved cs a b o.name) ∙ h) (sym (requested_moved cs a b o.name) ∙ e));
@@ -185,7 +185,7 @@ tasks_begun p clients cs o height ts kept = go (is_server p o.thing)
 
 -- ---- turns
 
-module _ (p : Image) (t : Typing) (wired : IsWired p) (s : State) (w : WellTyped p t s) (idle_now : s.tasks ≡ []) (kept : IsKept p s) where
+module _ (p : Image) (t : Typing) (wired : IsWired p) (s : State) (w : WellTyped p t s) (idle_now : s.tasks ≡ []) (kept : IsFit p s) where
   good : Good p t s.cells []
   good = subst (λ ls. Good p t s.cells ls) (at_rest p t s w idle_now) w.good
 
@@ -224,11 +224,11 @@ module _ (p : Image) (t : Typing) (wired : IsWired p) (s : State) (w : WellTyped
       queue_now : (service_of cs n).queue ≡ es
       queue_now = ap (λ v. v.queue) (service_here s.cells n (taken_first (service_of s.cells n)) x.object there) ∙ ap rest queue
 
-    connect_kept : (c : ℕ) (es : List Asked) → (service_of s.cells n).queue ≡ Connect_of c ∷ es → (m : Option ℕ) → accepting m x c (taken_from n s) ≡ Goes u → IsKept p u
+    connect_kept : (c : ℕ) (es : List Asked) → (service_of s.cells n).queue ≡ Connect_of c ∷ es → (m : Option ℕ) → accepting m x c (taken_from n s) ≡ Goes u → IsFit p u
     connect_kept c es queue m e =
         let first = first_fits (Connect_of c) es queue in
         let method = goes_some m (λ m. accepting m x c (taken_from n s)) WrongKind u refl e in
-        subst (λ v. IsKept p v) (goes_same _ u method.2)
+        subst (λ v. IsFit p v) (goes_same _ u method.2)
         (record { fit = taken (Connect_of c) es queue; stage = (first.0.0, ap (λ q. list_any (is_connect_of c) q) (queue_now (Connect_of c) es queue) ∙ first.0.1, room) })
       where
         room : seats_taken (service_of cs n) < most_of (thing_kind p x.object.thing)
@@ -237,40 +237,40 @@ module _ (p : Image) (t : Typing) (wired : IsWired p) (s : State) (w : WellTyped
             let one = seats_first (service_of s.cells n) (Connect_of c) es queue in
             subst (λ v. seats_taken v < most_of (thing_kind p x.object.thing)) (sym (service_here s.cells n (taken_first (service_of s.cells n)) x.object there)) (omega (arith, was, one))
 
-    message_kept : (c m : ℕ) (es : List Asked) → (service_of s.cells n).queue ≡ Message_of c m ∷ es → (o : Option Object) → attended p x c o m (taken_from n s) ≡ Goes u → IsKept p u
+    message_kept : (c m : ℕ) (es : List Asked) → (service_of s.cells n).queue ≡ Message_of c m ∷ es → (o : Option Object) → attended p x c o m (taken_from n s) ≡ Goes u → IsFit p u
     message_kept c m es queue o e =
         let session = goes_some o (λ o. attended p x c o m (taken_from n s)) NullOrDead u refl e in
         let method = goes_some (part_of p Attends_role session.0.thing) (λ k. attending k x c session.0 m (taken_from n s)) WrongKind u refl session.2 in
-        subst (λ v. IsKept p v) (goes_same _ u method.2)
+        subst (λ v. IsFit p v) (goes_same _ u method.2)
         (record { fit = fit_moved p s.clients cs (Elsewhere (Queued n m)) (Elsewhere In_service) (empty_now (Elsewhere In_service) refl) (λ i j. refl) (λ b. first_sent p s.clients s.cells x.object there c m es queue kept.fit) (taken (Message_of c m) es queue); stage = tt })
 
-    close_kept : (c : ℕ) (es : List Asked) → (service_of s.cells n).queue ≡ Close_of c ∷ es → (o : Option Object) → parting_with p x c o (taken_from n s) ≡ Goes u → IsKept p u
+    close_kept : (c : ℕ) (es : List Asked) → (service_of s.cells n).queue ≡ Close_of c ∷ es → (o : Option Object) → parting_with p x c o (taken_from n s) ≡ Goes u → IsFit p u
     close_kept c es queue o e =
         let first = first_fits (Close_of c) es queue in
         let then = moved (Elsewhere (Session n c)) (Going 1) cs in
         let session = goes_some o (λ o. parting_with p x c o (taken_from n s)) NullOrDead u refl e in
-        subst (λ v. IsKept p v) (goes_same _ u session.2) (record {
+        subst (λ v. IsFit p v) (goes_same _ u session.2) (record {
           fit = fit_moved p s.clients cs (Elsewhere (Session n c)) (Going 1) (empty_now (Going 1) refl) (λ i j. refl) (λ b. cc) (taken (Close_of c) es queue);
           stage = tasks_begun p s.clients then session.0 (length s.items) (Dispatched (Of_server x c Parts) ∷ [])
               (first.0.0, ap (λ q. list_any (is_close_of c) q) (ap (λ v. v.queue) (service_moved cs (Elsewhere (Session n c)) (Going 1) n) ∙ queue_now (Close_of c) es queue) ∙ first.0.1);
         })
 
-    serves_kept : (queue : List Asked) → (service_of s.cells n).queue ≡ queue → serves_first p x queue s ≡ Goes u → IsKept p u
+    serves_kept : (queue : List Asked) → (service_of s.cells n).queue ≡ queue → serves_first p x queue s ≡ Goes u → IsFit p u
     serves_kept [] queue e = cc
     serves_kept (Connect_of c ∷ es) queue e = connect_kept c es queue (part_of p Accepts_role x.object.thing) e
     serves_kept (Message_of c m ∷ es) queue e = message_kept c m es queue (held s.cells (Elsewhere (Session n c))) e
     serves_kept (Close_of c ∷ es) queue e = close_kept c es queue (held s.cells (Elsewhere (Session n c))) e
 
-    picked_kept : picked p x s ≡ Goes u → IsKept p u
+    picked_kept : picked p x s ≡ Goes u → IsFit p u
     picked_kept e = go (is_server p x.object.thing) e
       where
         requested_fit : (o : Object) (f : Request → Request) → ClientsFit p s.clients (with_request f o s.cells)
         requested_fit o f =
             fit_same p s.clients s.cells (with_request f o s.cells) (same_requested s.cells o (on_request f (requested s.cells o.name)) (λ e. on_none f (requested s.cells o.name) e)) kept.fit
 
-        go : (b : Bool) → cond b (serves_first p x (service_of s.cells n).queue s) (dispatched (part_of p Handles x.object.thing) x s) ≡ Goes u → IsKept p u
+        go : (b : Bool) → cond b (serves_first p x (service_of s.cells n).queue s) (dispatched (part_of p Handles x.object.thing) x s) ≡ Goes u → IsFit p u
         go true e = serves_kept (service_of s.cells n).queue refl e
-        go false e = let d = dispatched_so p s u x e in subst (λ v. IsKept p v) (sym d.2) (record { fit = requested_fit x.object taken_up; stage = tt })
+        go false e = let d = dispatched_so p s u x e in subst (λ v. IsFit p v) (sym d.2) (record { fit = requested_fit x.object taken_up; stage = tt })
 
   -- ---- the others
 
@@ -280,40 +280,40 @@ module _ (p : Image) (t : Typing) (wired : IsWired p) (s : State) (w : WellTyped
   IsFound (Picks x) = (named s.cells x.object.name ≡ Some x.object) × (is_some (requested s.cells x.object.name) ≡ true)
   IsFound _ = Unit {0}
 
-  same_kept : (u : State) → u.cells ≡ s.cells → u.clients ≡ s.clients → u.tasks ≡ [] → IsKept p u
+  same_kept : (u : State) → u.cells ≡ s.cells → u.clients ≡ s.clients → u.tasks ≡ [] → IsFit p u
   same_kept u cells clients tasks = record {
     fit = subst (λ l. ClientsFit p l u.cells) (sym clients) (subst (λ l. ClientsFit p s.clients l) (sym cells) kept.fit);
     stage = stage_idle u.clients u.cells u.tasks tasks;
   }
 
-  requested_kept : (f : Request → Request) (o : Object) (u : State) → u.cells ≡ with_request f o s.cells → u.clients ≡ s.clients → u.tasks ≡ [] → IsKept p u
+  requested_kept : (f : Request → Request) (o : Object) (u : State) → u.cells ≡ with_request f o s.cells → u.clients ≡ s.clients → u.tasks ≡ [] → IsFit p u
   requested_kept f o u cells clients tasks = record {
     fit = subst (λ l. ClientsFit p l u.cells) (sym clients) (subst (λ l. ClientsFit p s.clients l) (sym cells) (fit_same p s.clients s.cells (with_request f o s.cells) (same_requested s.cells o (on_request f (requested s.cells o.name)) (λ e. on_none f (requested s.cells o.name) e)) kept.fit));
     stage = stage_idle u.clients u.cells u.tasks tasks;
   }
 
-  turned_kept : (k : Turning) → IsFound k → (u : State) → turned p s k ≡ Goes u → IsKept p u
-  turned_kept Cuts f u e = subst (λ v. IsKept p v) (goes_same _ u e) (same_kept _ refl refl idle_now)
-  turned_kept (Completes o) f u e = subst (λ v. IsKept p v) (goes_same _ u e) (requested_kept timed_out o _ refl refl idle_now)
-  turned_kept Hears f u e = subst (λ v. IsKept p v) (goes_same _ u e) (same_kept _ refl refl idle_now)
+  turned_kept : (k : Turning) → IsFound k → (u : State) → turned p s k ≡ Goes u → IsFit p u
+  turned_kept Cuts f u e = subst (λ v. IsFit p v) (goes_same _ u e) (same_kept _ refl refl idle_now)
+  turned_kept (Completes o) f u e = subst (λ v. IsFit p v) (goes_same _ u e) (requested_kept timed_out o _ refl refl idle_now)
+  turned_kept Hears f u e = subst (λ v. IsFit p v) (goes_same _ u e) (same_kept _ refl refl idle_now)
   turned_kept (Kills n) f u e =
-      subst (λ v. IsKept p v) (goes_same _ u e)
+      subst (λ v. IsFit p v) (goes_same _ u e)
       (record { fit = fit_same p s.clients s.cells (all_bereaved p n s.cells) (same_bereaved p n s.cells) kept.fit; stage = stage_idle s.clients (all_bereaved p n s.cells) s.tasks idle_now })
   turned_kept (Polls n answer) f u e = go u (polled_so p s u n answer e)
     where
-      go : (u : State) → Polled n s u → IsKept p u
-      go u d = elim d as (λ v d. IsKept p v) [
+      go : (u : State) → Polled n s u → IsFit p u
+      go u d = elim d as (λ v d. IsFit p v) [
         | nothing ↦ same_kept _ refl refl idle_now
         | answers o code ↦ requested_kept (completed_with (recorded code)) o _ refl refl idle_now
       ]
-  turned_kept (Obeys client command name) f u e = subst (λ v. IsKept p v) (goes_same _ u e) (record {
+  turned_kept (Obeys client command name) f u e = subst (λ v. IsFit p v) (goes_same _ u e) (record {
     fit = fit_commanded p client (heard_one s) good.tidy kept.fit waiting command name f;
     stage = stage_idle _ _ _ ((commanded_kept p client (heard_one s) command name).1 ∙ idle_now);
   })
   turned_kept (Picks x) f u e = picked_kept x f.0 f.1 u e
   turned_kept Strays f u e = cc
-  turned_kept (Passes time) f u e = subst (λ v. IsKept p v) (goes_same _ u e) (same_kept _ refl refl idle_now)
-  turned_kept Waits f u e = subst (λ v. IsKept p v) (goes_same _ u e) (same_kept _ refl refl idle_now)
+  turned_kept (Passes time) f u e = subst (λ v. IsFit p v) (goes_same _ u e) (same_kept _ refl refl idle_now)
+  turned_kept Waits f u e = subst (λ v. IsFit p v) (goes_same _ u e) (same_kept _ refl refl idle_now)
 
   -- each turn is such
   picks_found : (b : Bool) (y : Option Candidate) → first_ready s.cells ≡ y → (next : Option ℕ) → IsFound (picks b y next)
@@ -362,5 +362,5 @@ module _ (p : Image) (t : Typing) (wired : IsWired p) (s : State) (w : WellTyped
       go true = tt
       go false = timer_found (first_due s.cells) _ (event_found outside heard.name (next_event outside s) _ free (polls_found (next_native outside s) heard.completion _ (picks_found (has_signal s.cells) (first_ready s.cells) refl (next_time outside s))))
 
-  pub turn_kept : (outside : Outside) (heard : Heard) (u : State) → named s.cells heard.name ≡ None → turn p outside heard s ≡ Goes u → IsKept p u
+  pub turn_kept : (outside : Outside) (heard : Heard) (u : State) → named s.cells heard.name ≡ None → turn p outside heard s ≡ Goes u → IsFit p u
   turn_kept outside heard u free e = turned_kept (turning outside heard s) (turning_found outside heard free) u e

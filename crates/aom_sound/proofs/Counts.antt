@@ -8,7 +8,7 @@ use Rattle.aom_shape.specs.Kinds.{is_object}
 use Rattle.aom_sound.proofs.Altering.{asking, bereaving, count_kept, moving, opening, storing}
 use Rattle.aom_sound.proofs.Maps.{same_place-true, without_none}
 use Rattle.aom_sound.specs.Natives.{all_bereaved}
-use Rattle.aom_sound.specs.Places.{Cell, Object, Place, Request, Tidy, count_cells, held, moved, named, same_place, set_request, set_session, set_word_field, with_new, without}
+use Rattle.aom_sound.specs.Places.{Cell, Object, Place, Request, Tidy, count_cells, held, moved, named, same_place, set_request, set_session, set_word_field, without}
 
 -- ---- what changes no thing changes no count
 

@@ -8,7 +8,7 @@ use Rattle.aom_instructions.specs.Operands.{IsRegister}
 use Rattle.aom_image.specs.Views.{arguments_of, method_class}
 use Rattle.aom_instructions.specs.Fits.{InstrFits}
 use Rattle.aom_instructions.specs.declared.instr.Instr.{Instr}
-use Rattle.aom_instructions.specs.declared.instr.Instr.TheVariants.{TakeMessage, Call, Cancel, Delete, Jump, JumpActive, JumpAdded, JumpEmpty, JumpEqual, JumpLess, JumpNull, Leave, LeaveIf, Loop, Move, New, NewOrLeave, Next, Pop, PopDelete, PopOperation, Push, PushOperation, Return, Take, Trap}
+use Rattle.aom_instructions.specs.declared.instr.Instr.TheVariants.{Hand, TakeMessage, Call, Cancel, Delete, Jump, JumpActive, JumpAdded, JumpEmpty, JumpEqual, JumpLess, JumpNull, Leave, LeaveIf, Loop, Move, New, NewOrLeave, Next, Pop, PopDelete, PopOperation, Push, PushOperation, Return, Take, Trap}
 use Rattle.aom_instructions.specs.declared.instr.Target.{Target}
 use Rattle.aom_instructions.specs.declared.limits.Limits.{Limits}
 use Rattle.aom_classes.specs.Jumps.{jump_of}
@@ -17,13 +17,14 @@ use Rattle.aom_shape.specs.Needs.{AllTrue}
 use Rattle.aom_sound.proofs.Finishing.{all_parts}
 use Rattle.aom_sound.specs.Calls.{below_top, needs_entering, needs_target}
 use Rattle.aom_sound.specs.Cleanup.{has_trap, is_negative, leave_needs, no_memory, top_is_whole, top_place, tops_entry, tops_object, tops_operation}
-use Rattle.aom_sound.specs.Effects.{The_message, Calls, Cancels, Carried, Destroys, Destroys_last, Effect, Goes_on, In_field, In_register, Leaves, Made, Operates, Popped, Pushed, Pushed_operation, Same, Sets_trap, Spot, Update, cancels_if, deals, deletes, effect, jumps_if, jumps_unless, makes_unless, round, sets}
+use Rattle.aom_sound.specs.Effects.{The_message, Calls, Cancels, Carried, Destroys, Destroys_last, Effect, Goes_on, In_field, In_register, Leaves, Handed, Made, Operates, Popped, Pushed, Pushed_operation, Same, Sets_trap, Spot, Update, cancels_if, deals, deletes, effect, hands_unless, jumps_if, jumps_unless, makes_unless, round, sets}
 use Rattle.aom_sound.specs.Enlisted.{cancel_method, in_phase, is_active, is_busy, own_request}
 use Rattle.aom_sound.specs.Leaves.{LeavesWith}
 use Rattle.aom_sound.specs.Moves.{needs}
-use Rattle.aom_sound.specs.Places.{Cell, Object, held}
+use Rattle.aom_sound.specs.Places.{Cell, Object, Request, held}
 use Rattle.aom_sound.specs.State.{An_object, An_operation, Choice, Frame, Item, Need, Run, State, Task, counter, field_place, word}
 use Rattle.aom_sound.specs.Steps.{Fits, IsStraight}
+use Rattle.aom_sound.specs.Tokens.{is_crowded}
 use Rattle.aom_sound.specs.Words.{here, read, word_or_zero}
 
 -- the word that a register has
@@ -49,6 +50,7 @@ module _ (p : Image) where
   UpdateFits (Carried from to) = SpotFits to
   UpdateFits (Made name class a) = IsRegister a
   UpdateFits (Popped a) = IsRegister a
+  UpdateFits (Handed name a) = IsRegister a
   UpdateFits _ = Unit {0}
 
   -- and so do the arguments of a method that is called
@@ -78,7 +80,12 @@ module _ (p : Image) (c : Choice) (fr : Frame) (ts : List Task) (s : State) wher
   making : (refused : Bool) (a x : ℕ) → May (New a x) (sets fr a None (makes_unless refused c.name x a))
   unfolding loop_in
   making true a x = ((refl, tt), λ l f. tt)
-  making false a x = ((refl, refl), λ l f. f.a)
+  making false a x = ((refl, refl), λ l f. f.operands.a)
+
+  handing : (crowded : Bool) (a : ℕ) (own : Option Request) → May (Hand a) (sets fr a None (hands_unless crowded c.name a own))
+  unfolding loop_in
+  handing true a own = ((refl, tt), λ l f. tt)
+  handing false a own = ((refl, tt), λ l f. f.operands.a)
 
   deleting : (o : Option Object) (a : ℕ) → held s.cells (here fr ts s a) ≡ o → May (Delete a) (deletes fr o a)
   unfolding loop_in
@@ -122,18 +129,19 @@ module _ (p : Image) (c : Choice) (fr : Frame) (ts : List Task) (s : State) wher
   fits (JumpEmpty f to) n = jumps (JumpEmpty f to) (held s.cells (field_place fr.home f)) to refl refl
   fits (Loop depth rounds) n = (inl refl, λ l f. tt)
   fits (Next depth to) n = loops (counter fr depth - 1) depth to refl
-  fits (Move a b) n = ((refl, tt), λ l f. f.a)
-  fits (Take a field) n = ((refl, tt), λ l f. f.a)
-  fits (TakeMessage a) n = ((refl, tt), λ l f. f.a)
+  fits (Move a b) n = ((refl, tt), λ l f. f.operands.a)
+  fits (Take a field) n = ((refl, tt), λ l f. f.operands.a)
+  fits (TakeMessage a) n = ((refl, tt), λ l f. f.operands.a)
   fits (New a x) n = making c.refused a x
+  fits (Hand a) n = handing (is_crowded p s.cells) a (own_request s.cells fr.home)
   fits (Delete a) n = deleting (held s.cells (here fr ts s a)) a refl
   fits (Call target m first x) n = ((x, refl), λ l f. few_arguments target m first _ n)
   fits (Trap target m first x) n = ((x, refl), λ l f. few_arguments target m first _ n)
-  fits (NewOrLeave a x) n = either (NewOrLeave a x) c.refused no_memory Same _ (λ e. ((may_leave c.refused s.cells n.1 e, (e, refl), tt), λ l f. tt)) ((refl, refl), λ l f. f.a)
+  fits (NewOrLeave a x) n = either (NewOrLeave a x) c.refused no_memory Same _ (λ e. ((may_leave c.refused s.cells n.1 e, (e, refl), tt), λ l f. tt)) ((refl, refl), λ l f. f.operands.a)
   fits (Push a) n = either (Push a) c.refused no_memory (Pushed a) _ (λ e. ((n.1.1.1.0, (e, refl), (refl, n.1.1.1.0)), λ l f. tt)) ((refl, (refl, n.1.1.1.0)), λ l f. tt)
   fits (PushOperation a m) n =
       either (PushOperation a m) c.refused no_memory (Pushed_operation m (read fr ts s a)) _ (λ e. ((n.1.0, (e, refl), (a, refl, n.1.0)), λ l f. tt)) ((refl, (a, refl, n.1.0)), λ l f. tt)
-  fits (Pop a) n = ((refl, (refl, object_on_top s.items n.1.1.0)), λ l f. f.a)
+  fits (Pop a) n = ((refl, (refl, object_on_top s.items n.1.1.0)), λ l f. f.operands.a)
   fits PopOperation n = let o = operation_on_top s.items n.1.0 in ((refl, (refl, o.0, o.1, o.2)), λ l f. tt)
   fits PopDelete n = dealing s.items (held s.cells (top_place s.items)) refl refl n.0 n.1.0
   fits (Leave a) n = ((n.1.0, read_word (word fr a) n.0, tt), λ l f. tt)

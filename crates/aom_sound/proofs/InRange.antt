@@ -18,15 +18,16 @@ use Rattle.aom_sound.proofs.Moving.{steps_are_moves}
 use Rattle.aom_sound.specs.Steps.{Acts, Arrives, Clears, Comes_out, Empties, Ends, Move, Rests, Undoes, Vanishes}
 use Rattle.aom_sound.proofs.Guarded.{acts_at}
 use Rattle.aom_sound.specs.Calls.{accepted_cells, passed_cells, result_cells, result_register, returned}
-use Rattle.aom_sound.specs.Cleanup.{dealt_with, destroyed, top_place}
+use Rattle.aom_sound.specs.Cleanup.{top_place}
 use Rattle.aom_sound.specs.Destruction.{parting, first_session}
-use Rattle.aom_sound.specs.Effects.{Replied, The_message, Calls, Cancels, Carried, Destroys, Destroys_last, Effect, Goes_on, In_field, In_register, Leaves, Made, Popped, Pushed, Requested, Returns, Sets_trap, Spot, Update, Written, applied, cells_after, effect, spot_place, Sessioned}
+use Rattle.aom_sound.specs.Tokens.{all_redeemed, next_token, promised, redeemed_by, token_of}
+use Rattle.aom_sound.specs.Effects.{Handed, Replied, The_message, Calls, Cancels, Carried, Destroys, Destroys_last, Effect, Goes_on, In_field, In_register, Leaves, Made, Popped, Pushed, Requested, Returns, Sets_trap, Spot, Update, Written, applied, cells_after, effect, spot_place, Sessioned}
 use Rattle.aom_sound.specs.Enlisted.{cancelled, cancelling, ended_cells, on_request, own_request, rerequested, part_of}
 use Rattle.aom_sound.specs.Laws.{IsWired, RegistersKeep}
 use Rattle.aom_sound.specs.Moves.{counted, dispatch_ends, main_ends, step, answered, asking, failed, handled, object_ends}
 use Rattle.aom_sound.specs.Places.{Service, set_service, Session, In_service, Queued, Cell, Elsewhere, Entry, Going, Object, Place, Register, Request, Root, held, moved, same_place, set_request, set_word_field, without, set_session, service_of}
 use Rattle.aom_sound.specs.Registers.{AllInRange, IsInRange}
-use Rattle.aom_sound.specs.State.{Seat, Of_server, Accepts, Service_left, Parts, A_mark, An_object, An_operation, AtRoot, Choice, Dispatch, Dispatched, Frame, Goes, Home, Inside, Item, Of_main, Run, State, Static, Task, Trapped, field_place, Answered, Asks, Object_left, Of_object}
+use Rattle.aom_sound.specs.State.{Seat, Of_server, Accepts, Service_left, Parts, AtRoot, Choice, Dispatch, Dispatched, Frame, Goes, Home, Inside, Of_main, Run, State, Static, Task, Trapped, field_place, Answered, Asks, Object_left, Of_object}
 use Rattle.aom_sound.specs.Words.{here, stored}
 use Rattle.aom_rules.specs.Requests.{is_cancel}
 use Rattle.aom_sound.specs.Natives.{all_bereaved, resessioned}
@@ -71,6 +72,14 @@ bereaved_in_range : (p : Image) (n : ℕ) (cs : List Cell) → AllInRange cs →
 bereaved_in_range p n [] all = tt
 bereaved_in_range p n (c ∷ cs) all = (all.0, bereaved_in_range p n cs all.1)
 
+redeemed_in_range : (order : ℕ) (code : ℤ) (cs : List Cell) → AllInRange cs → AllInRange (all_redeemed order code cs)
+redeemed_in_range order code [] all = tt
+redeemed_in_range order code (c ∷ cs) all = (all.0, redeemed_in_range order code cs all.1)
+
+redeems_in_range : (order : Option ℕ) (code : ℤ) (cs : List Cell) → AllInRange cs → AllInRange (redeemed_by order code cs)
+redeems_in_range None code cs all = all
+redeems_in_range (Some order) code cs all = redeemed_in_range order code cs all
+
 -- what clients have at cells changes no owner but where a message goes
 serve_in_range : (n : ℕ) (v : Service) (cs : List Cell) → AllInRange cs → AllInRange (set_service n v cs)
 serve_in_range n v [] all = tt
@@ -108,8 +117,8 @@ result_in_range p wired m place = go (instr_at p m place) refl
   where
     go : (i : Option Instr) → instr_at p m place ≡ i → IsRegister (result_register i)
     go None e = omega arith
-    go (Some (Call target m' first c)) e = (wired.operands m place (Call target m' first c) e).1.c
-    go (Some (Trap target m' first c)) e = let fits = (wired.operands m place (Trap target m' first c) e).1.c in omega arith
+    go (Some (Call target m' first c)) e = (wired.operands m place (Call target m' first c) e).1.operands.c
+    go (Some (Trap target m' first c)) e = let fits = (wired.operands m place (Trap target m' first c) e).1.operands.c in omega arith
     go (Some _) e = omega arith
 
 module _ (p : Image) (wired : IsWired p) (fr : Frame) (ts : List Task) (s : State) (all : AllInRange s.cells) where
@@ -140,7 +149,8 @@ module _ (p : Image) (wired : IsWired p) (fr : Frame) (ts : List Task) (s : Stat
   update_in_range (Requested r) fits = request_in_range fr.home r
   update_in_range (Sessioned session) fits = session_in_range fr.home session
   update_in_range (Pushed a) fits = move_in_range (here fr ts s a) (Entry (length s.items)) s.cells tt all
-  update_in_range (Replied a) fits = end_in_range (here fr ts s a) s.cells all
+  update_in_range (Replied a code) fits = end_in_range (here fr ts s a) _ (redeems_in_range (token_of s.cells (held s.cells (here fr ts s a))) code s.cells all)
+  update_in_range (Handed name a) fits = (fits, request_in_range fr.home (on_request (promised (next_token s.cells)) (own_request s.cells fr.home)))
   update_in_range (Popped a) fits = move_in_range (top_place s.items) (here fr ts s a) s.cells fits all
   update_in_range _ fits = all
 

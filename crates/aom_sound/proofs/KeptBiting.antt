@@ -8,19 +8,20 @@ use Rattle.aom_roles.specs.Shapes.{kind_of}
 use Rattle.aom_image.specs.declared.method.Thing.TheVariants.{Message}
 use Rattle.aom_roles.specs.Families.{descends_in, parent_in}
 use Rattle.aom_shape.specs.Kinds.{is_object}
-use Rattle.aom_sound.proofs.Sources.{has_sender}
-use Rattle.aom_sound.specs.Cases.Building.{keeper, leaf, pair}
-use Rattle.aom_sound.specs.Cases.Kept.{Fit, KeptBites, by_client, opened, sent, serves, waits}
+use Rattle.aom_sound.proofs.Seated.{seats_none}
+use Rattle.aom_sound.proofs.Sources.{has_sender, sources_at}
+use Rattle.aom_sound.specs.Cases.Building.{a_cell, keeper, leaf, pair}
+use Rattle.aom_sound.specs.Cases.Kept.{Fit, KeptBites, a_token, by_client, opened, sent, serves, waits}
 use Rattle.aom_sound.specs.Cases.Moves.{an_image}
 use Rattle.aom_sound.specs.Cases.Servers.{a_session}
 use Rattle.aom_sound.specs.Clients.{client_at}
 use Rattle.aom_sound.specs.Enlisted.{thing_kind}
-use Rattle.aom_sound.specs.Kept.{HasSources, QueueFits, is_message_of}
+use Rattle.aom_sound.specs.Kept.{HasSources, QueueFits, is_message_of, sources_of}
 use Rattle.aom_sound.specs.Clients.{most_of}
-use Rattle.aom_sound.specs.Places.{Cell, Connect_of, Elsewhere, In_service, Message_of, Object, Queued, held, named, requested, service_of, unserved}
+use Rattle.aom_sound.specs.Places.{Cell, Connect_of, Elsewhere, In_service, Message_of, Object, Place, Queued, Root, Service, held, named, requested, same_place, service_of, unserved}
 use Rattle.aom_sound.specs.Servers.{has_session, is_from, is_server, seats_taken}
 use Rattle.std.specs.List.{list_any}
-use Rattle.std.specs.Prelude.{is_some, not, ◌&&◌, ◌||◌}
+use Rattle.std.specs.Prelude.{is_some, ◌&&◌, ◌||◌}
 
 -- ---- the state in which they say the same
 
@@ -100,11 +101,14 @@ unnamed_at n e f g =
     ∙ ap (λ b. cond b (Some (record { name = 7; thing = Message })) (named (a_session ∷ []) n)) f
     ∙ ap (λ b. cond b (Some (record { name = 2; thing = leaf })) None) g
 
+abbrev Counts : ℕ → Object → Type 0
+Counts n o = n ≡ cond (is_object o.thing) 0 1
+
 has_sources : HasSources cells
-has_sources o there = by_name (λ n. named cells n ≡ Some o → has_sender cells n ≡ not (is_object o.thing))
-    (λ h. let same : record { name = 5; thing = keeper } ≡ o = cc in subst (λ (y : Object). false ≡ not (is_object y.thing)) same refl)
-    (λ h. let same : record { name = 7; thing = Message } ≡ o = cc in subst (λ (y : Object). true ≡ not (is_object y.thing)) same refl)
-    (λ h. let same : record { name = 2; thing = leaf } ≡ o = cc in subst (λ (y : Object). false ≡ not (is_object y.thing)) same refl)
+has_sources o there = by_name (λ n. named cells n ≡ Some o → sources_at cells n ≡ cond (is_object o.thing) 0 1)
+    (λ h. let same : record { name = 5; thing = keeper } ≡ o = cc in subst (Counts 0) same refl)
+    (λ h. let same : record { name = 7; thing = Message } ≡ o = cc in subst (Counts 1) same refl)
+    (λ h. let same : record { name = 2; thing = leaf } ≡ o = cc in subst (Counts 0) same refl)
     (λ n e f g h. let clash : None ≡ Some o = sym (unnamed_at n e f g) ∙ h in cc) o.name there
 
 they_fit : Fit opened cells
@@ -121,41 +125,58 @@ they_fit = record {
   seats = seats_so;
 }
 
--- ---- a message that is served, of a client that is at no server
+-- ---- one message in all, of which servers have nothing
 
-abbrev in_service : List Cell
-in_service = sent Message (by_client 0) (Elsewhere In_service) ∷ []
+-- a message with that service, in that place
+abbrev alone : Service → Place → Cell
+alone v owner = record (a_cell 7 Message owner) { service = v }
 
--- clients have nothing at it, whatever its name
-at_it : (b : Bool) → (cond b (sent Message (by_client 0) (Elsewhere In_service)).service unserved).queue ≡ []
-at_it true = refl
-at_it false = refl
+module _ (v : Service) (owner : Place) (queue : v.queue ≡ []) (sessions : v.sessions ≡ []) (source : sources_of v ≡ 1)
+    (unqueued : (n m : ℕ) → same_place owner (Elsewhere (Queued n m)) ≡ false) (sent_so_far : same_place owner (Elsewhere In_service) ≡ true → is_some v.sender ≡ true) where
+  abbrev its : List Cell
+  its = alone v owner ∷ []
 
-none_of_it : (b : Bool) → (cond b (sent Message (by_client 0) (Elsewhere In_service)).service unserved).sessions ≡ []
-none_of_it true = refl
-none_of_it false = refl
+  -- clients have nothing at it, whatever its name
+  at_it : (b : Bool) → (cond b v unserved).queue ≡ []
+  at_it true = queue
+  at_it false = refl
 
-no_seat : (b : Bool) (n : ℕ) → seats_taken (cond b (sent Message (by_client 0) (Elsewhere In_service)).service unserved) ≤ n
-no_seat true n = omega arith
-no_seat false n = omega arith
+  none_of_it : (b : Bool) → (cond b v unserved).sessions ≡ []
+  none_of_it true = sessions
+  none_of_it false = refl
 
-it_is_sent : (o : Object) (b : Bool) → cond b (Some (record { name = 7; thing = Message })) None ≡ Some o → is_some (cond b (sent Message (by_client 0) (Elsewhere In_service)).service unserved).sender ≡ not (is_object o.thing)
-it_is_sent o true h = let same : record { name = 7; thing = Message } ≡ o = cc in subst (λ (y : Object). true ≡ not (is_object y.thing)) same refl
-it_is_sent o false h = cc
+  no_seat : (b : Bool) (n : ℕ) → seats_taken (cond b v unserved) ≤ n
+  no_seat b n = let none = seats_none (cond b v unserved) (at_it b) (none_of_it b) in omega (arith, none)
 
-it_fits : Fit [] in_service
-it_fits = record {
-  queues = λ n. subst (λ q. QueueFits [] n q) (sym (at_it (7 == n))) tt;
-  sessions = λ n c h. let clash : false ≡ true = ap (λ xs. list_any (λ d. d == c) xs) (sym (none_of_it (7 == n))) ∙ h in cc;
-  listed = λ n c h. cc;
-  servers = λ o h plain. (at_it (7 == o.name), none_of_it (7 == o.name));
-  enlisted = λ o h e. (at_it (7 == o.name), none_of_it (7 == o.name));
-  names = λ n m o h. cc;
-  senders = λ n c m h. let clash : false ≡ true = ap (λ q. list_any (is_message_of c m) q) (sym (at_it (7 == n))) ∙ h in cc;
-  sources = λ o h. it_is_sent o (7 == o.name) h;
-  served = λ o h. let same : record { name = 7; thing = Message } ≡ o = cc in subst (λ (y : Object). has_sender in_service y.name ≡ true) same refl;
-  seats = λ o h. no_seat (7 == o.name) (most_of (thing_kind an_image o.thing));
-}
+  its_source : (o : Object) (b : Bool) → cond b (Some (record { name = 7; thing = Message })) None ≡ Some o → sources_of (cond b v unserved) ≡ cond (is_object o.thing) 0 1
+  its_source o true h = let same : record { name = 7; thing = Message } ≡ o = cc in subst (λ (y : Object). sources_of v ≡ cond (is_object y.thing) 0 1) same source
+  its_source o false h = cc
+
+  its_sender : (o : Object) (b : Bool) → same_place owner (Elsewhere In_service) ≡ b → cond b (Some (record { name = 7; thing = Message })) None ≡ Some o → has_sender its o.name ≡ true
+  its_sender o true e h = let same : record { name = 7; thing = Message } ≡ o = cc in subst (λ (y : Object). has_sender its y.name ≡ true) same (sent_so_far e)
+  its_sender o false e h = cc
+
+  it_fits : Fit [] its
+  it_fits = record {
+    queues = λ n. subst (λ q. QueueFits [] n q) (sym (at_it (7 == n))) tt;
+    sessions = λ n c h. let clash : false ≡ true = ap (λ xs. list_any (λ d. d == c) xs) (sym (none_of_it (7 == n))) ∙ h in cc;
+    listed = λ n c h. cc;
+    servers = λ o h plain. (at_it (7 == o.name), none_of_it (7 == o.name));
+    enlisted = λ o h e. (at_it (7 == o.name), none_of_it (7 == o.name));
+    names = λ n m o h. let clash : None ≡ Some o = sym (ap (λ b. cond b (Some (record { name = 7; thing = Message })) None) (unqueued n m)) ∙ h in cc;
+    senders = λ n c m h. let clash : false ≡ true = ap (λ q. list_any (is_message_of c m) q) (sym (at_it (7 == n))) ∙ h in cc;
+    sources = λ o h. its_source o (7 == o.name) h;
+    served = λ o h. its_sender o (same_place owner (Elsewhere In_service)) refl h;
+    seats = λ o h. no_seat (7 == o.name) (most_of (thing_kind an_image o.thing));
+  }
+
+-- a message that is served, of a client that is at no server
+served_fits : Fit [] (sent Message (by_client 0) (Elsewhere In_service) ∷ [])
+served_fits = it_fits (record unserved { sender = by_client 0 }) (Elsewhere In_service) refl refl refl (λ n m. refl) (λ e. refl)
+
+-- and a token, wherever else
+token_fits : Fit [] (a_token None Message (Elsewhere Root) ∷ [])
+token_fits = it_fits (record unserved { token = Some (record { class = 2; order = 0 }) }) (Elsewhere Root) refl refl refl (λ n m. refl) (λ e. cc)
 
 -- ---- and those in which they do not
 
@@ -178,10 +199,16 @@ kept_bites = record {
   unlisted_sessions = λ fit. let clash : 0 ∷ [] ≡ [] = (fit.enlisted (record { name = 5; thing = keeper }) refl refl).1 in cc;
   misplaced = λ fit. let clash : 7 ≡ 8 = fit.names 5 8 (record { name = 7; thing = Message }) refl in omega arith;
   sent_by_another = λ fit. let clash : false ≡ true = fit.senders 5 0 7 refl in cc;
-  serves_sent = it_fits;
-  unsent = λ fit. let clash : false ≡ true = fit.sources (record { name = 7; thing = Message }) refl in cc;
-  sent_no_message = λ fit. let clash : true ≡ false = fit.sources (record { name = 7; thing = pair }) refl in cc;
+  serves_sent = served_fits;
+  unsent = λ fit. let clash : 0 ≡ 1 = fit.sources (record { name = 7; thing = Message }) refl in cc;
+  sent_no_message = λ fit. let clash : 1 ≡ 0 = fit.sources (record { name = 7; thing = pair }) refl in cc;
   serves_no_message = λ fit. let clash : false ≡ true = fit.served (record { name = 7; thing = pair }) refl in cc;
+  has_token = token_fits;
+  token_is_sent = λ fit. let clash : 2 ≡ 1 = fit.sources (record { name = 7; thing = Message }) refl in cc;
+  token_no_message = λ fit. let clash : 1 ≡ 0 = fit.sources (record { name = 7; thing = pair }) refl in cc;
+  serves_token = λ fit. let clash : false ≡ true = fit.served (record { name = 7; thing = Message }) refl in cc;
+  waits_alone = λ apart. let clash : 1 ≡ 2 = apart.waits 1 2 0 refl refl in cc;
+  tokens_alike = λ apart. let clash : 1 ≡ 2 = apart.told 1 2 0 refl refl in cc;
   too_many = λ fit. let many : 2 ≤ 1 = fit.seats (record { name = 5; thing = keeper }) refl in omega arith;
   accepts = (refl, refl, omega arith);
   accepts_nobody = λ k. let clash : false ≡ true = k.0 in cc;

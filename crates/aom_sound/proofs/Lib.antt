@@ -63,7 +63,10 @@ pub mod Dealing
 pub mod Entries
 pub mod Arrival
 pub mod Unwinding
+pub mod Redeeming
+pub mod Apart
 pub mod Messages
+pub mod Handing
 pub mod Steps
 pub mod Booting
 pub mod Owners
@@ -95,6 +98,8 @@ pub mod ClientsMoves
 pub mod ClientsEffects
 pub mod ClientsFacts
 pub mod ClientsReturn
+pub mod Orders
+pub mod TokensKeep
 pub mod ClientsKeep
 pub mod Commanding
 pub mod Sending

@@ -1,5 +1,5 @@
 -- The laws of the instructions on messages: the message in service comes to a register, and a message that is replied to goes.
-use Rattle.std.proofs.Common.{Bool, List, None, Option, Some, ap, arith, cond, false, refl, subst, sym, true, ℕ, ℤ, [], ◌∙◌, ◌∷◌, ◌≡◌}
+use Rattle.std.proofs.Common.{Bool, List, None, Option, Some, ap, arith, cond, false, refl, subst, suc, sym, true, ℕ, ℤ, [], ◌∙◌, ◌∷◌, ◌≡◌}
 use Rattle.std.specs.Prelude.{is_none, is_some}
 use Rattle.aom_image.specs.Image.{Image}
 use Rattle.aom_image.specs.Views.{method_role}
@@ -11,7 +11,7 @@ use Rattle.aom_instructions.specs.declared.instr.Instr.TheVariants.{Reply, TakeM
 use Rattle.aom_classes.specs.Roles.{role_number}
 use Rattle.aom_roles.specs.Shapes.{is_role}
 use Rattle.aom_rules.specs.Requests.{is_service}
-use Rattle.aom_rules.specs.Typing.{Typing}
+use Rattle.aom_rules.specs.Typing.{Leads, Typing}
 use Rattle.aom_shape.specs.Kinds.{is_here, is_object_or_null, is_own_for, is_word, register, set_register}
 use Rattle.aom_shape.specs.Shape.{Shape}
 use Rattle.aom_shape.specs.Things.{holder_of, stands_for}
@@ -25,13 +25,16 @@ use Rattle.aom_sound.proofs.Dropping.{declared_dropped, dropped, fits_dropped, h
 use Rattle.aom_sound.proofs.Going.{housed_without, stack_without}
 use Rattle.aom_sound.proofs.Maps.{same_place-true, same_place_comm}
 use Rattle.aom_sound.proofs.Picking.{own_held}
+use Rattle.aom_sound.proofs.Redeeming.{redeemable, redeemed_by_alike, redeemed_good}
 use Rattle.aom_sound.proofs.Straight.{At, Fitted, Law, fitted, free_register, kind_fits, no_word, relocate, same_suits, settle, top, well, words_set}
 use Rattle.aom_sound.specs.Claims.{Layer, Method, claim, declared, delivered, home_claim, root_claim, serves, tasks_of}
 use Rattle.aom_sound.specs.Moves.{does}
 use Rattle.aom_sound.specs.Objects.{is_thing}
 use Rattle.aom_sound.specs.Places.{Cell, Elsewhere, Field, In_service, Object, Place, Root, Sight, changed, held, moved, same_place, seen, without}
-use Rattle.aom_sound.specs.State.{AtRoot, Choice, Frame, Home, Inside, Seat, State, Static, next, set_word, word}
-use Rattle.aom_sound.specs.WellTyped.{AllSit, Back, Fits, IsBelow, IsHoused, IsServed, NoSeatAt, NoneFrom, Returns, SitsIn, Stack, WordFits}
+use Rattle.aom_sound.specs.State.{AtRoot, Choice, Frame, Home, Inside, Run, Seat, State, Static, next, set_word, word}
+use Rattle.aom_sound.specs.Tokens.{redeemed_by, token_of}
+use Rattle.aom_sound.specs.WellTyped.{AllSit, Back, Fits, IsBelow, IsHoused, IsServed, NoSeatAt, NoneFrom, Returns, SitsIn, Stack, WellTyped, WordFits}
+use Rattle.aom_sound.specs.Words.{read}
 use Rattle.aom_instructions.specs.declared.instr.Instr.{Instr}
 
 -- ---- the message in service
@@ -137,64 +140,76 @@ module _ (p : Image) (t : Typing) (c : Choice) (s : State) (fr : Frame) (sh : Sh
           (λ r x e k f. refl) claims
           (words_set fr.words sh a None (Own Message Ready) at_hand.good.stack.1.words refl)
 
-  -- ---- a message is replied to
+-- ---- a message goes from a register
+
+module _ (p : Image) (t : Typing) (s : State) (fr : Frame) (sh : Shape) (ls : List Layer) (at_hand : At p t s fr sh ls) (a : ℕ) (it : Object) (there : held s.cells (top ls a) ≡ Some it) (message : it.thing ≡ Message) where
+  abbrev after : Shape
+  after = set_register sh a Null
+
+  abbrev left : List Cell
+  left = dropped (λ r. same_place r (top ls a)) s.cells
+
+  messages : (r : Place) (x : Object) → same_place r (top ls a) ≡ true → held s.cells r ≡ Some x → x.thing ≡ Message
+  messages r x e h =
+      let one : Some x ≡ Some it = sym h ∙ ap (λ y. held s.cells y) (same_place-true r (top ls a) e) ∙ there in
+      let same : x ≡ it = cc in
+      ap (λ (y : Object). y.thing) same ∙ message
+
+  fits : (r : Place) → Fits p (seen left) (held left r) (claim p (declared p left) (Method (next (set_word fr a None)) after ∷ ls) r)
+  fits r = subst (λ k. Fits p (seen left) (held left r) k) (sym claims) (go (same_place r (top ls a)) refl)
+    where
+      claims : claim p (declared p left) (Method (next (set_word fr a None)) after ∷ ls) r ≡ changed (claim p (declared p left) (Method fr sh ∷ ls)) (top ls a) Null r
+      claims = claim_frame p (declared p left) fr (next (set_word fr a None)) after ls r refl refl ∙ claim-set_register p (declared p left) fr sh ls a Null r
+
+      go : (b : Bool) → same_place r (top ls a) ≡ b → Fits p (seen left) (held left r) (cond (same_place (top ls a) r) Null (claim p (declared p left) (Method fr sh ∷ ls) r))
+      go true e =
+          subst (λ x. Fits p (seen left) x (cond (same_place (top ls a) r) Null (claim p (declared p left) (Method fr sh ∷ ls) r))) (sym (held_dropped (λ r. same_place r (top ls a)) s.cells r ∙ ap (λ b. cond b None (held s.cells r)) e))
+          (subst (λ b. Fits p (seen left) None (cond b Null (claim p (declared p left) (Method fr sh ∷ ls) r))) (sym (same_place_comm (top ls a) r ∙ e)) tt)
+      go false e =
+          subst (λ b. Fits p (seen left) (held left r) (cond b Null (claim p (declared p left) (Method fr sh ∷ ls) r))) (sym (same_place_comm (top ls a) r ∙ e))
+          (subst (λ k. Fits p (seen left) (held left r) k) (claim_rel (λ x y. x ≡ y) (λ k. refl) p (declared p s.cells) (declared p left) (Method fr sh ∷ ls) r (sym (declared_dropped (λ r. same_place r (top ls a)) p s.cells at_hand.good.tidy messages r)))
+          (fits_dropped (λ r. same_place r (top ls a)) p s.cells at_hand.good.tidy messages r _ e (at_hand.good.fits r)))
+
+  replied : Fitted p t left (next (set_word fr a None)) after ls
+  replied = record {
+    fits = fits;
+    suits = same_suits p left fr (next (set_word fr a None)) sh after ls refl refl refl (suits_dropped (λ r. same_place r (top ls a)) p s.cells at_hand.good.tidy messages (Method fr sh ∷ ls) at_hand.good.suits);
+    tidy = tidy_dropped (λ r. same_place r (top ls a)) s.cells at_hand.good.tidy;
+    frames = record { words = words_set fr.words sh a None Null at_hand.good.stack.1.words refl; holder = at_hand.good.stack.1.holder; view = at_hand.good.stack.1.view; height = at_hand.good.stack.1.height; alone = at_hand.good.stack.1.alone; message = at_hand.good.stack.1.message };
+    housed = subst (λ l. IsHoused p l ls fr.home) (place_dropped (top ls a) s.cells) (housed_without p t s.cells (top ls a) it at_hand.good.tidy there ls fr.home (omega arith) (λ from. tt) at_hand.good.stack.2);
+    apart = at_hand.good.stack.3;
+    stack = subst (λ l. Stack p t l (Returns fr.method fr.home) ls) (place_dropped (top ls a) s.cells) (stack_without p t s.cells (top ls a) it at_hand.good.tidy there ls (Returns fr.method fr.home) (omega arith) (λ from. tt) at_hand.good.stack.4);
+  }
+
+  goes_from : Fitted p t (without (top ls a) s.cells) (next (set_word fr a None)) after ls
+  goes_from = subst (λ l. Fitted p t l (next (set_word fr a None)) after ls) (sym (place_dropped (top ls a) s.cells)) replied
+
+module _ (p : Image) (t : Typing) (c : Choice) (s : State) (fr : Frame) (sh : Shape) (ls : List Layer) (at_hand : At p t s fr sh ls) where
+  -- ---- a message is replied to, once what waits for it is completed
+
+  replies : (a : ℕ) (code : ℤ) → word fr a ≡ None → (it : Object) → held s.cells (top ls a) ≡ Some it → it.thing ≡ Message → Leads t fr.method (suc fr.place) (set_register sh a Null) →
+      WellTyped p t (record s { cells = without (top ls a) (redeemed_by (token_of s.cells (held s.cells (top ls a))) code s.cells); tasks = Run (next (set_word fr a None)) ∷ tasks_of ls })
+  replies a code none it there message leads =
+      let order = token_of s.cells (held s.cells (top ls a)) in
+      let cs = redeemed_by order code s.cells in
+      let at_then : At p t (record s { cells = cs }) fr sh ls = record { tasks = at_hand.tasks; items = at_hand.items; undos = at_hand.undos; good = redeemed_good p t order code s.cells (Method fr sh ∷ ls) at_hand.good } in
+      well p t c s fr sh ls at_hand _ (next (set_word fr a None)) (set_register sh a Null) refl at_hand.items at_hand.undos
+      (settle p t (without (top ls a) cs) (next (set_word fr a None)) (set_register sh a Null) ls (goes_from p t (record s { cells = cs }) fr sh ls at_then a it ((redeemed_by_alike order code s.cells).held_so (top ls a) ∙ there) message) leads)
 
   pub law_reply : (a b : ℕ) → Law p t c s fr sh ls at_hand (Reply a b)
   law_reply a b n leads = (
-    (ap is_none none, (ap is_some it.1, (ap (is_thing p Message) it.1 ∙ message_stands p it.0.thing it.2, (word_there (word fr b) (register sh b) n.1.0 (at_hand.good.stack.1.words b), tt)))),
-    well p t c s fr sh ls at_hand (does p c fr (tasks_of ls) s (Reply a b)) (next (set_word fr a None)) after refl at_hand.items at_hand.undos
-        (settle p t (without q s.cells) (next (set_word fr a None)) after ls (subst (λ l. Fitted p t l (next (set_word fr a None)) after ls) (sym (place_dropped q s.cells)) replied) leads.0),
+    (ap is_none none, (ap is_some it.1, (ap (is_thing p Message) it.1 ∙ message_stands p it.0.thing it.2, (word_there (word fr b) (register sh b) n.1.0 (at_hand.good.stack.1.words b), (redeemable p t (token_of s.cells (held s.cells (top ls a))) s.cells (Method fr sh ∷ ls) at_hand.good, tt))))),
+    replies a (read fr (tasks_of ls) s b) none it.0 it.1 it.2 leads.0,
   )
     where
-      after : Shape
-      after = set_register sh a Null
-
-      q : Place
-      q = top ls a
-
       it : (x : Object) × (held s.cells (top ls a) ≡ Some x) × (x.thing ≡ Message)
       it = message_held p (seen s.cells) (held s.cells (top ls a)) (register sh a) n.0 (kind_fits p t c s fr sh ls at_hand a)
 
       none : word fr a ≡ None
       none = no_word p t c s fr sh ls at_hand a (own_object p (register sh a) n.0)
 
-      left : List Cell
-      left = dropped (λ r. same_place r (top ls a)) s.cells
-
-      messages : (r : Place) (x : Object) → same_place r (top ls a) ≡ true → held s.cells r ≡ Some x → x.thing ≡ Message
-      messages r x e h =
-          let one : Some x ≡ Some it.0 = sym h ∙ ap (λ y. held s.cells y) (same_place-true r (top ls a) e) ∙ it.1 in
-          let same : x ≡ it.0 = cc in
-          ap (λ (y : Object). y.thing) same ∙ it.2
-
-      fits : (r : Place) → Fits p (seen left) (held left r) (claim p (declared p left) (Method (next (set_word fr a None)) after ∷ ls) r)
-      fits r = subst (λ k. Fits p (seen left) (held left r) k) (sym claims) (go (same_place r (top ls a)) refl)
-        where
-          claims : claim p (declared p left) (Method (next (set_word fr a None)) after ∷ ls) r ≡ changed (claim p (declared p left) (Method fr sh ∷ ls)) (top ls a) Null r
-          claims = claim_frame p (declared p left) fr (next (set_word fr a None)) after ls r refl refl ∙ claim-set_register p (declared p left) fr sh ls a Null r
-
-          go : (b : Bool) → same_place r (top ls a) ≡ b → Fits p (seen left) (held left r) (cond (same_place (top ls a) r) Null (claim p (declared p left) (Method fr sh ∷ ls) r))
-          go true e =
-              subst (λ x. Fits p (seen left) x (cond (same_place (top ls a) r) Null (claim p (declared p left) (Method fr sh ∷ ls) r))) (sym (held_dropped (λ r. same_place r (top ls a)) s.cells r ∙ ap (λ b. cond b None (held s.cells r)) e))
-              (subst (λ b. Fits p (seen left) None (cond b Null (claim p (declared p left) (Method fr sh ∷ ls) r))) (sym (same_place_comm (top ls a) r ∙ e)) tt)
-          go false e =
-              subst (λ b. Fits p (seen left) (held left r) (cond b Null (claim p (declared p left) (Method fr sh ∷ ls) r))) (sym (same_place_comm (top ls a) r ∙ e))
-              (subst (λ k. Fits p (seen left) (held left r) k) (claim_rel (λ x y. x ≡ y) (λ k. refl) p (declared p s.cells) (declared p left) (Method fr sh ∷ ls) r (sym (declared_dropped (λ r. same_place r (top ls a)) p s.cells at_hand.good.tidy messages r)))
-              (fits_dropped (λ r. same_place r (top ls a)) p s.cells at_hand.good.tidy messages r _ e (at_hand.good.fits r)))
-
-      replied : Fitted p t left (next (set_word fr a None)) after ls
-      replied = record {
-        fits = fits;
-        suits = same_suits p left fr (next (set_word fr a None)) sh after ls refl refl refl (suits_dropped (λ r. same_place r (top ls a)) p s.cells at_hand.good.tidy messages (Method fr sh ∷ ls) at_hand.good.suits);
-        tidy = tidy_dropped (λ r. same_place r (top ls a)) s.cells at_hand.good.tidy;
-        frames = record { words = words_set fr.words sh a None Null at_hand.good.stack.1.words refl; holder = at_hand.good.stack.1.holder; view = at_hand.good.stack.1.view; height = at_hand.good.stack.1.height; alone = at_hand.good.stack.1.alone; message = at_hand.good.stack.1.message };
-        housed = subst (λ l. IsHoused p l ls fr.home) (place_dropped (top ls a) s.cells) (housed_without p t s.cells (top ls a) it.0 at_hand.good.tidy it.1 ls fr.home (omega arith) (λ from. tt) at_hand.good.stack.2);
-        apart = at_hand.good.stack.3;
-        stack = subst (λ l. Stack p t l (Returns fr.method fr.home) ls) (place_dropped (top ls a) s.cells) (stack_without p t s.cells (top ls a) it.0 at_hand.good.tidy it.1 ls (Returns fr.method fr.home) (omega arith) (λ from. tt) at_hand.good.stack.4);
-      }
-
   -- each instruction of this file by its law
   abbrev pub of_messages : (i : Instr) → Option (Law p t c s fr sh ls at_hand i)
-  of_messages (TakeMessage a) = Some (law_take_message a)
+  of_messages (TakeMessage a) = Some (law_take_message p t c s fr sh ls at_hand a)
   of_messages (Reply a b) = Some (law_reply a b)
   of_messages _ = None

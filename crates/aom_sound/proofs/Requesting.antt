@@ -11,7 +11,7 @@ use Rattle.aom_image.specs.declared.method.Role.TheVariants.{Main}
 use Rattle.aom_instructions.specs.declared.instr.Instr.TheVariants.{Abort, Enlist, Issue, JumpActive, JumpAdded, SetActive, Status}
 use Rattle.aom_roles.specs.Shapes.{kind_of}
 use Rattle.aom_roles.specs.States.{cancel_done, cancel_open, idle, issued, active, unlisted}
-use Rattle.aom_rules.specs.Requests.{enlisted, flow_narrowed, inactive, is_active_kind, is_listed_kind, outstanding, own_kind}
+use Rattle.aom_rules.specs.Requests.{enlisted, flow_narrowed, inactive, is_active_kind, is_issuing_kind, is_listed_kind, outstanding, own_kind}
 use Rattle.aom_rules.specs.Typing.{AllLead, Leads, Typing}
 use Rattle.aom_shape.proofs.Sets.{has_along}
 use Rattle.aom_shape.specs.Kinds.{is_ready_kind}
@@ -97,6 +97,9 @@ suits_within k b n r e h s = grind arith
 pub active_listed : (k : Option ClassKind) → is_active_kind k ≡ true → is_listed_kind k ≡ true
 active_listed k e = grind arith
 
+pub issuing_active : (k : Option ClassKind) → is_issuing_kind k ≡ true → is_active_kind k ≡ true
+issuing_active k e = grind arith
+
 -- the state of a request is one, and in the set that its phase is tested for
 pub busy_in : (r : Option Request) → in_phase is_busy r ≡ true → IsTrue (has outstanding (state_of r))
 busy_in r e = grind arith
@@ -117,7 +120,7 @@ no_state_is_none r = grind arith
 only_unlisted : (r : Option Request) → IsTrue (has unlisted (state_of r)) → r ≡ None
 only_unlisted r h = grind arith
 
-only_idle : (r : Option Request) → IsTrue (has idle (state_of r)) → (is_some r ≡ true) × (in_phase is_idle r ≡ true)
+pub only_idle : (r : Option Request) → IsTrue (has idle (state_of r)) → (is_some r ≡ true) × (in_phase is_idle r ≡ true)
 only_idle r h = grind arith
 
 only_issued : (r : Option Request) → IsTrue (has issued (state_of r)) → (is_some r ≡ true) × (not (in_phase is_active r) ≡ true) × (in_phase is_issued r ≡ true)
@@ -233,7 +236,7 @@ module _ (p : Image) (t : Typing) (main_none : (m : ℕ) → method_role p m ≡
       go true e h = sym (ap (λ b. b && true) e) ∙ h
 
   -- it has that request, and is known to be in these states
-  asked : (listed : is_listed_kind (own_kind p fr.method) ≡ true) (states : ℕ) (r : Option Request) → (is_some own ≡ true → is_some r ≡ true) → Suits (own_kind p fr.method) (its listed states) r → Fitted p t (rerequested s.cells fr.home r) fr (record sh { states = states }) ls
+  pub asked : (listed : is_listed_kind (own_kind p fr.method) ≡ true) (states : ℕ) (r : Option Request) → (is_some own ≡ true → is_some r ≡ true) → Suits (own_kind p fr.method) (its listed states) r → Fitted p t (rerequested s.cells fr.home r) fr (record sh { states = states }) ls
   asked listed states r more suit =
       let it = of_object listed in
       let others : (m : ℕ) → (it.object.name == m) ≡ false → requested (rerequested s.cells fr.home r) m ≡ requested s.cells m = λ m other.
@@ -311,14 +314,14 @@ module _ (p : Image) (t : Typing) (main_none : (m : ℕ) → method_role p m ≡
 
   pub law_issue : (a b : ℕ) → Law p t c s fr sh ls at_hand (Issue a b)
   law_issue a b n leads =
-      let active = n.1.1.0 in
+      let active = issuing_active (own_kind p fr.method) n.1.1.0 in
       let listed = active_listed (own_kind p fr.method) active in
       let it = of_object listed in
       let free = only_idle own (in_state listed idle n.1.1.1.1.0) in
       let code = read fr (tasks_of ls) s a in
       let asking = asking_with p c fr (tasks_of ls) s in
       let suit = subst (λ k. Suits (own_kind p fr.method) (its listed issued) (on_request (issued_of k asking code) own)) (sym (home_is_own listed)) (suits_issued (own_kind p fr.method) (its listed sh.states) asking code own active free.1 it.suits) in (
-        (has_word p t c s fr sh ls at_hand a n.0, (has_word p t c s fr sh ls at_hand b n.1.0, (active_home active, (free.0, (free.1, tt))))),
+        (has_word p t c s fr sh ls at_hand a n.0, (has_word p t c s fr sh ls at_hand b n.1.0, (ap is_issuing_kind (home_is_own listed) ∙ n.1.1.0, (free.0, (free.1, tt))))),
         asks listed issued (on_request (issued_of (home_kind p fr.home) asking code) own) (on_some (issued_of (home_kind p fr.home) asking code) own) suit leads.0,
       )
 

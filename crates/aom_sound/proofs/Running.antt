@@ -10,6 +10,7 @@ use Rattle.aom_shape.specs.Things.{words_in}
 use Rattle.aom_sound.specs.Cases.Constructs.{ConstructsRun}
 use Rattle.aom_sound.specs.Cases.Families.{LinesRun, OverridersRun}
 use Rattle.aom_sound.specs.Cases.Further.{ServersRun}
+use Rattle.aom_sound.specs.Cases.Tokens.{TokensRun}
 
 pub servers_run : ServersRun
 unfolding arguments_in class_at class_in fields_in gives_in instr_in is_role kind_in kind_of main_of method_at plays role_in role_number role_of own_role keeper_in sessions_in sessions_of words_in descends_in parent_in body_of found_in overrider_of replaces over_in leads_in
@@ -45,3 +46,7 @@ lines_run = record { past_a_gap = refl; emptied = refl; left = refl; parent = re
 pub constructs_run : ConstructsRun
 unfolding arguments_in class_at class_in fields_in gives_in instr_in is_role kind_in kind_of main_of method_at plays role_in role_number role_of own_role keeper_in sessions_in sessions_of words_in descends_in parent_in body_of found_in overrider_of replaces over_in leads_in
 constructs_run = record { parent = refl; own = refl; filled = refl; again = refl }
+
+pub tokens_run : TokensRun
+unfolding arguments_in class_at class_in fields_in gives_in instr_in is_role kind_in kind_of main_of method_at plays role_in role_number role_of own_role keeper_in sessions_in sessions_of words_in descends_in parent_in body_of found_in overrider_of replaces over_in leads_in
+tokens_run = record { living = refl; full = refl; own = refl; elsewhere = refl; ancestor = refl; class = refl; class_still = refl }

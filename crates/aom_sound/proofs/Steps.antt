@@ -14,6 +14,7 @@ use Rattle.aom_sound.proofs.Destructors.{law_destructor}
 use Rattle.aom_sound.proofs.Closing.{dispatch_keeps}
 use Rattle.aom_sound.proofs.Entries.{of_entries}
 use Rattle.aom_sound.proofs.Going.{going_keeps}
+use Rattle.aom_sound.proofs.Handing.{of_tokens}
 use Rattle.aom_sound.proofs.Jumps.{of_jumps}
 use Rattle.aom_sound.proofs.Words.{of_words}
 use Rattle.aom_sound.proofs.Leaving.{of_leaves}
@@ -72,6 +73,7 @@ module _ (p : Image) (t : Typing) (wired : IsWired p) (typed : IsTyped p t) (c :
       ∷ of_requests p t (main_of_none p wired) c s fr sh ls at_hand i
       ∷ of_natives p t (main_of_none p wired) c s fr sh ls at_hand i
       ∷ of_messages p t c s fr sh ls at_hand i
+      ∷ of_tokens p t (main_of_none p wired) c s fr sh ls at_hand unused i
       ∷ of_others i back
       ∷ []
 

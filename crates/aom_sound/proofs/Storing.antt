@@ -8,7 +8,7 @@ use Rattle.aom_sound.proofs.Altering.{Alters, asking, bereaving, held_kept, name
 use Rattle.aom_sound.proofs.Services.{attended_kept, sessions_kept}
 use Rattle.aom_sound.specs.Servers.{is_among, is_message, message_thing, has_message, has_session, session_thing}
 use Rattle.aom_sound.proofs.Seats.{first_kept}
-use Rattle.std.proofs.Common.{arith, Bool, List, Option, Some, [], ap, cond, false, refl, subst, sym, true, ℕ, ℤ, ◌==◌, ◌∙◌, ◌∷◌, ◌≡◌}
+use Rattle.std.proofs.Common.{arith, Bool, List, Option, Some, [], ap, cond, false, refl, subst, sym, true, ℕ, ℤ, ◌==◌, ◌∙◌, ◌∷◌, ◌≡◌, None}
 use Rattle.aom_image.specs.Image.{Image}
 use Rattle.aom_shape.specs.Kinds.{is_ready_kind, filled}
 use Rattle.aom_shape.specs.Shape.{Shape}
@@ -37,7 +37,7 @@ pub record Alike (cs cs' : List Cell) : Type 0 where
   pub tidy : Tidy cs → Tidy cs'
 
 -- each is changed by itself, and stays in its place and for its clients
-altered_alike : {change : List Cell → List Cell} (a : Alters change) → ((c : Cell) → (a.each c).owner ≡ c.owner) → ((c : Cell) → (a.each c).service ≡ c.service) → (cs : List Cell) → Alike cs (change cs)
+pub altered_alike : {change : List Cell → List Cell} (a : Alters change) → ((c : Cell) → (a.each c).owner ≡ c.owner) → ((c : Cell) → (a.each c).service ≡ c.service) → (cs : List Cell) → Alike cs (change cs)
 altered_alike a stays serves cs = record {
   held_so = held_kept a stays cs;
   named_so = named_kept a cs;
@@ -161,6 +161,14 @@ module _ (p : Image) (t : Typing) (cs cs' : List Cell) (alike : Alike cs cs') wh
       subst (λ k. Fits p (seen cs') (held cs' r) k) (sym (claim_rel (λ x y. x ≡ y) (λ k. refl) p (declared p cs') (declared p cs) ls r (declared_alike r)))
       (subst (λ o. Fits p (seen cs') o (claim p (declared p cs) ls r)) (sym (alike.held_so r)) (fits_age p (seen cs) (seen cs') (held cs r) _ (λ x e fresh age. (λ f. alike.held_so _ ∙ age.0 f, requests x e fresh ∙ age.1)) f))
 
+  -- or where what has none gets none
+  pub fits_listed :
+      (ls : List Layer) (r : Place) → ((x : Object) → requested cs x.name ≡ None → requested cs' x.name ≡ None) →
+      Fits p (seen cs) (held cs r) (claim p (declared p cs) ls r) → Fits p (seen cs') (held cs' r) (claim p (declared p cs') ls r)
+  fits_listed ls r none f =
+      subst (λ k. Fits p (seen cs') (held cs' r) k) (sym (claim_rel (λ x y. x ≡ y) (λ k. refl) p (declared p cs') (declared p cs) ls r (declared_alike r)))
+      (subst (λ o. Fits p (seen cs') o (claim p (declared p cs) ls r)) (sym (alike.held_so r)) (fits_age p (seen cs) (seen cs') (held cs r) _ (λ x e fresh age. (λ f. alike.held_so _ ∙ age.0 f, none x age.1)) f))
+
 -- the cells with a session of one of them open or not
 pub resessioned_alike : (cs : List Cell) (home : Home) (b : Bool) → Alike cs (resessioned cs home b)
 resessioned_alike cs Static b = alike_itself cs
@@ -173,7 +181,7 @@ resessioned_requests cs AtRoot b n = refl
 resessioned_requests cs (Inside o from) b n = read_kept (opening o.name b) requests (λ c. refl) cs n
 
 -- other cells in the same places, with the same requests
-alike_fitted :
+pub alike_fitted :
     (p : Image) (t : Typing) (cs cs' : List Cell) → Alike cs cs' → ((n : ℕ) → requested cs' n ≡ requested cs n) → (fr : Frame) (sh : Shape) (ls : List Layer) → Fitted p t cs fr sh ls →
     Fitted p t cs' fr sh ls
 alike_fitted p t cs cs' alike requests fr sh ls g =

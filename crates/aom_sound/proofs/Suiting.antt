@@ -1,23 +1,21 @@
 -- How what is known of requests changes with the layers, and how it goes on to hold.
-use Rattle.std.proofs.Common.{arith, Bool, IsTrue, List, None, Option, Some, [], ap, cond, false, inl, inr, refl, subst, sym, true, ℕ, ◌&&◌, ◌==◌, ◌∙◌, ◌∷◌, ◌≡◌}
+use Rattle.std.proofs.Common.{arith, Bool, IsTrue, List, None, Option, Some, [], ap, cond, false, inl, inr, refl, subst, sym, true, ℕ, ◌==◌, ◌∙◌, ◌∷◌, ◌≡◌}
 use Rattle.std.proofs.lemmas.Bool.{eqb-true}
-use Rattle.std.specs.Prelude.{is_none, is_some, not, ◌||◌}
+use Rattle.std.specs.Prelude.{◌||◌}
 use Rattle.aom_image.specs.Image.{Image}
 use Rattle.aom_image.specs.Views.{has, method_role}
 use Rattle.aom_image.specs.declared.class.ClassKind.{ClassKind}
 use Rattle.aom_image.specs.declared.class.ClassKind.TheVariants.{Active as An_active, Server as A_server}
-use Rattle.aom_image.specs.declared.class.Provider.{Provider}
-use Rattle.aom_image.specs.declared.class.Provider.TheVariants.{Timer as A_timer}
 use Rattle.aom_roles.specs.States.{active_states, cancel_done, first_of, idle, last_of, server_states, states_of}
 use Rattle.aom_rules.specs.Requests.{is_cancel, unissued}
 use Rattle.aom_shape.proofs.Sets.{has_along, has_itself}
 use Rattle.aom_shape.specs.Shape.{Shape}
 use Rattle.aom_sound.proofs.Maps.{named_moved, requested_moved}
 use Rattle.aom_sound.specs.Claims.{Dispatching, Dying, Layer, Mark, Method, Unwinding, Ending}
-use Rattle.aom_sound.specs.Places.{Cell, Idle, Object, Phase, Place, Request, moved, named, requested}
-use Rattle.aom_sound.specs.Enlisted.{cancelled, in_phase, is_cancelling, is_idle, is_unanswered, on_request, pending, status_of}
+use Rattle.aom_sound.specs.Places.{Cell, Object, Phase, Place, Request, moved, named, requested}
+use Rattle.aom_sound.specs.Enlisted.{cancelled, in_phase, is_cancelling, is_unanswered, on_request, pending, status_of}
 use Rattle.std.specs.Ordering.{int_eq}
-use Rattle.aom_sound.specs.Requests.{AllSuit, Joins, Known, Suits, Unworked, is_timed, known_at, phase_state, resting_in, rests_in, state_of, states_claim, thing_kind, works_at}
+use Rattle.aom_sound.specs.Requests.{AllSuit, Joins, Known, Suits, Unworked, is_free, is_pledged, is_timed, known_at, phase_state, resting_in, rests_in, state_of, states_claim, thing_kind, works_at}
 use Rattle.aom_sound.specs.State.{AtRoot, Frame, Home, Inside, Static}
 use Rattle.aom_sound.specs.WellTyped.{IsHoused}
 use Rattle.aom_image.specs.declared.method.Gives.{Gives}
@@ -25,14 +23,14 @@ use Rattle.aom_image.specs.declared.method.Gives.{Gives}
 -- a larger set
 pub suits_less :
     (k : Option ClassKind) (a b : ℕ) (c : Bool) (r : Option Request) → IsTrue (has a b) → Suits k (record { states = b; cancelled = c }) r → Suits k (record { states = a; cancelled = c }) r
-suits_less (Some (An_active v)) a b' c r h s = (has_along a b' (state_of r) h s.0, s.1, s.2, s.3)
-suits_less (Some (A_server m x)) a b' c r h s = (has_along a b' (state_of r) h s.0, s.1)
+suits_less (Some (An_active v)) a b' c r h s = (has_along a b' (state_of r) h s.0, s.1, s.2, s.3, s.4)
+suits_less (Some (A_server m x)) a b' c r h s = (has_along a b' (state_of r) h s.0, s.1, s.2)
 suits_less _ a b c r h s = s
 
 -- what is not issued, nor being cancelled, may rest
 pub suits_rests : (k : Option ClassKind) (states : ℕ) (r : Option Request) → unissued states ≡ true → Suits k (resting_in states) r → Suits k (resting_in (states_of k)) r
 unfolding states_of
-suits_rests (Some (An_active v)) states r u s = (go r s.0 s.1, s.1, s.2, s.3)
+suits_rests (Some (An_active v)) states r u s = (go r s.0 s.1, s.1, s.2, s.3, s.4)
   where
     phase : (q : Phase) → IsTrue (has states (phase_state q)) → is_cancelling q ≡ false → IsTrue (has active_states (phase_state q))
     phase q h g = grind arith
@@ -40,7 +38,7 @@ suits_rests (Some (An_active v)) states r u s = (go r s.0 s.1, s.1, s.2, s.3)
     go : (r : Option Request) → IsTrue (has states (state_of r)) → in_phase is_cancelling r ≡ false → IsTrue (has active_states (state_of r))
     go None h g = refl
     go (Some q) h g = phase q.phase h g
-suits_rests (Some (A_server m x)) states r u s = (s.1, s.1)
+suits_rests (Some (A_server m x)) states r u s = (s.1, s.1, s.2)
 suits_rests _ states r u s = s
 
 pub rests_unissued : (k : Option ClassKind) → unissued (states_of k) ≡ true
@@ -52,14 +50,14 @@ rests_unissued _ = refl
 -- what is not enlisted may be under construction, and may rest
 pub suits_new : (k : Option ClassKind) → Suits k (resting_in (states_of k)) None
 unfolding states_of
-suits_new (Some (An_active v)) = (refl, refl, refl, refl)
-suits_new (Some (A_server m x)) = (refl, refl)
+suits_new (Some (An_active v)) = (refl, refl, refl, refl, refl)
+suits_new (Some (A_server m x)) = (refl, refl, refl)
 suits_new _ = refl
 
 begins_new : (k : Option ClassKind) → Suits k (resting_in (first_of k)) None
 unfolding first_of
-begins_new (Some (An_active v)) = (refl, refl, refl, refl)
-begins_new (Some (A_server m x)) = (refl, refl)
+begins_new (Some (An_active v)) = (refl, refl, refl, refl, refl)
+begins_new (Some (A_server m x)) = (refl, refl, refl)
 begins_new _ = refl
 
 pub suits_first : (k : Option ClassKind) (r : Option Request) → r ≡ None → Suits k (resting_in (first_of k)) r
@@ -131,14 +129,14 @@ completed _ n r h s = ap (λ r. int_eq (status_of r) pending) s
 
 -- and leaves its object idle
 pub cancel_ends : (k : Option ClassKind) (n : Known) (r : Option Request) → IsTrue (has cancel_done n.states) → Suits k n r → Suits k (resting_in idle) (on_request cancelled r)
-cancel_ends (Some (An_active v)) n r h s = go r (has_along cancel_done n.states (state_of r) h s.0) s.2 s.3
+cancel_ends (Some (An_active v)) n r h s = go r (has_along cancel_done n.states (state_of r) h s.0) s.2 s.3 s.4
   where
-    go : (r : Option Request) → IsTrue (has cancel_done (state_of r)) → is_unanswered r ≡ false → is_timed v r ≡ true → Suits (Some (An_active v)) (resting_in idle) (on_request cancelled r)
-    go r h u t = grind arith
-cancel_ends (Some (A_server m x)) n r h s = go r (has_along cancel_done n.states (state_of r) h s.0)
+    go : (r : Option Request) → IsTrue (has cancel_done (state_of r)) → is_unanswered r ≡ false → is_timed v r ≡ true → is_pledged v r ≡ true → Suits (Some (An_active v)) (resting_in idle) (on_request cancelled r)
+    go r h u t q = grind arith
+cancel_ends (Some (A_server m x)) n r h s = go r (has_along cancel_done n.states (state_of r) h s.0) s.2
   where
-    go : (r : Option Request) → IsTrue (has cancel_done (state_of r)) → Suits (Some (A_server m x)) (resting_in idle) (on_request cancelled r)
-    go r h = grind arith
+    go : (r : Option Request) → IsTrue (has cancel_done (state_of r)) → is_free r ≡ true → Suits (Some (A_server m x)) (resting_in idle) (on_request cancelled r)
+    go r h f = grind arith
 cancel_ends _ n r h s = ap (λ r. on_request cancelled r) s
 
 -- the object that a method worked on, by what stands below it; one that cancelled has left it idle

@@ -4,7 +4,6 @@ use Rattle.std.proofs.lemmas.Bool.{eq-eqb, eqb-true, ne_eqb, true≢false}
 use Rattle.std.specs.Prelude.{is_some, map, nat_le, ◌||◌, nat_lt}
 use Rattle.std.specs.Ordering.{int_eq}
 use Rattle.aom_image.specs.Image.{Image}
-use Rattle.aom_image.specs.Views.{method_class}
 use Rattle.aom_image.specs.declared.class.ClassKind.{ClassKind}
 use Rattle.aom_image.specs.declared.method.Gives.TheVariants.{Nothing}
 use Rattle.aom_image.specs.declared.method.Role.TheVariants.{Run as Handles}
@@ -40,7 +39,7 @@ use Rattle.aom_sound.specs.Laws.{IsHandler, IsWired, TurnGoesOn}
 use Rattle.aom_sound.specs.Places.{Asked, Cell, Close_of, Connect_of, Elsewhere, Message_of, Object, Place, Request, Root, Tidy, held, named, requested, seen, service_of}
 use Rattle.aom_sound.specs.Servers.{has_more, is_server}
 use Rattle.aom_sound.specs.Requests.{AllSuit, Known, Suits, resting_in, rests_in, thing_kind}
-use Rattle.aom_sound.specs.State.{A_mark, Inside, Of_object, Rest, Seat, State, thing_holder, Goes, IsStuck, CompletedTwice}
+use Rattle.aom_sound.specs.State.{A_mark, Inside, Of_object, Rest, Seat, State, Goes, IsStuck, CompletedTwice}
 use Rattle.aom_sound.specs.WellTyped.{AllSit, Fits, Good, Keeps, WellTyped, WordFits}
 use Rattle.aom_sound.specs.World.{AnswersWell, Candidate, Completes, Completion, Cuts, Outside, Timed, Turning, among_ready, before_others, by_timer, dispatched, first_due, first_ready, goes_before, goes_now, has_signal, is_ready, picks, turned, with_request, Hears, Kills, Polls, answered_by, by_event, delivers, lives, next_event, next_native, next_time, past_native, picked as any_picked, polled, polls, serves_first, Obeys, heard_one}
 use Rattle.aom_sound.specs.Natives.{all_bereaved, is_outstanding_at, is_owed, is_served_by, terminated, terminated_request}

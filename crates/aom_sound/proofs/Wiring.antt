@@ -142,7 +142,7 @@ module _ (p : Image) (formed : WellFormed p) (linked : IsLinked p) where
   unfolding class_in method_at
   static_main m e =
       let d = role_at p m Main e in
-      let fits = all_there (MethodFits (length p.classes) (length p.methods)) p.methods m d.0 formed.methods.each d.1 in
+      let fits = all_there (MethodFits p.header.version (length p.classes) (length p.methods)) p.methods m d.0 formed.methods.each d.1 in
       let s : IsMain (kind_of p d.0.class) d.0 = of_role m d.0 Main d.1 d.2 in
       ap class_in d.1 ∙ of_none p d.0.class fits.class s.of
 
@@ -289,8 +289,8 @@ module _ (p : Image) (formed : WellFormed p) (linked : IsLinked p) where
   unfolding method_at
   operands_fit m place i e =
       let w = of_method p m place i e in
-      let fits = all_there (MethodFits (length p.classes) (length p.methods)) p.methods m w.0 formed.methods.each w.1 in
-      let l = limits (length p.classes) (length p.methods) (length w.0.code) in
+      let fits = all_there (MethodFits p.header.version (length p.classes) (length p.methods)) p.methods m w.0 formed.methods.each w.1 in
+      let l = limits p.header.version (length p.classes) (length p.methods) (length w.0.code) in
       (l, all_there (InstrFits l) w.0.code place i fits.code w.2)
 
   -- what may be called ends with no request issued
@@ -376,7 +376,7 @@ module _ (p : Image) (formed : WellFormed p) (linked : IsLinked p) where
       let names = all_there (NamesRoles p) w.0.code place (PushOperation a m') (shaped m w.0 w.1).code w.2 in
       some_given (λ o. IsTrue (is_role Undo (role_in o))) (method_at p m') names (λ names. cc) (λ d f names.
       let role : d.role ≡ Undo = same_roles d.role Undo names in
-      let fits = all_there (MethodFits (length p.classes) (length p.methods)) p.methods m' d formed.methods.each f in
+      let fits = all_there (MethodFits p.header.version (length p.classes) (length p.methods)) p.methods m' d formed.methods.each f in
       let u : ShapedUndo (kind_of p d.class) d = of_role m' d Undo f role in record {
         there = rw f refl;
         role = ap role_in f ∙ ap (λ r. Some r) role;

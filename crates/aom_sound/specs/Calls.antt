@@ -21,9 +21,10 @@ use Rattle.aom_clients.specs.declared.client.Client.{Client}
 use Rattle.aom_sound.specs.Clients.{at_opening, client_at, with_client}
 use Rattle.aom_sound.specs.Servers.{without_queue, opened, reserved}
 use Rattle.aom_sound.specs.Places.{Object, Place, Register, Entry, Field, Going, Elsewhere, Cell, held, moved, Session, In_service}
-use Rattle.aom_sound.specs.State.{Home, Static, AtRoot, Inside, Frame, Dispatch, Asks, Answered, Task, Run, Trapped, Destroy, Unwind, Dispatched, Item, An_object, An_operation, A_mark, State, Need, Unbalanced, PopUnder, Orphan, NullOrDead, WrongKind, word, set_word, next, field_place, home_view, frame_as, Of_server, Of_object, Accepts, Accepted, Serves, MessageLost}
+use Rattle.aom_sound.specs.State.{Home, Static, AtRoot, Inside, Frame, Dispatch, Asks, Answered, Task, Run, Trapped, Destroy, Unwind, Dispatched, Item, An_object, An_operation, A_mark, State, Need, Unbalanced, PopUnder, Orphan, NullOrDead, WrongKind, word, set_word, next, field_place, home_view, frame_as, Of_server, Of_object, Accepts, Accepted, Serves, MessageLost, CompletedTwice}
 use Rattle.aom_sound.specs.Destruction.{line_on, needs_past}
 use Rattle.aom_sound.specs.Enlisted.{needs_cancelled}
+use Rattle.aom_sound.specs.Tokens.{is_redeemable, token_of}
 use Rattle.aom_sound.specs.Words.{here, needs_word, word_or_zero}
 use Rattle.aom_sound.specs.Objects.{is_thing}
 
@@ -90,9 +91,9 @@ module _ (p : Image) (fr : Frame) (ts : List Task) (s : State) where
       ∷ (is_thing p t (held s.cells (here fr ts s a)), WrongKind)
       ∷ []
 
-  -- a register owns a message, which is completed with the word of another
+  -- a register owns a message, which is completed with the word of another; what waits for a token is pending
   abbrev pub needs_reply : ℕ → ℕ → List Need
-  needs_reply a b = needs_own Message a ++ (needs_word fr ts s b ∷ [])
+  needs_reply a b = needs_own Message a ++ (needs_word fr ts s b ∷ (is_redeemable (token_of s.cells (held s.cells (here fr ts s a))) s.cells, CompletedTwice) ∷ [])
 
   -- where a construct calls its parent's on its own object, no field that the parent declares owns
   abbrev pub parents_empty : ℕ → Need

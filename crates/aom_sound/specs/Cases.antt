@@ -19,3 +19,4 @@ pub mod Served
 pub mod Constructs
 pub mod Further
 pub mod Families
+pub mod Tokens

@@ -6,14 +6,14 @@ use Rattle.aom_image.specs.Views.{method_role}
 use Rattle.aom_image.specs.declared.class.ClassKind.{ClassKind}
 use Rattle.aom_image.specs.declared.class.ClassKind.TheVariants.{Active as An_active}
 use Rattle.aom_image.specs.declared.class.Provider.{Provider}
-use Rattle.aom_image.specs.declared.class.Provider.TheVariants.{Own, Timer as A_timer, Native}
+use Rattle.aom_image.specs.declared.class.Provider.TheVariants.{Own, Timer as A_timer, Native, Token as A_token}
 use Rattle.aom_image.specs.declared.method.Thing.{Thing}
 use Rattle.aom_image.specs.declared.method.Thing.TheVariants.{Object as An_object_of, Message}
 use Rattle.aom_classes.specs.Roles.{role_of}
 use Rattle.aom_image.specs.declared.method.Role.{Role}
 use Rattle.aom_image.specs.declared.method.Role.TheVariants.{Cancel as Cancels}
 use Rattle.aom_roles.specs.Shapes.{kind_of}
-use Rattle.aom_rules.specs.Requests.{is_active_kind, is_cancel, is_listed_kind}
+use Rattle.aom_rules.specs.Requests.{is_active_kind, is_cancel, is_issuing_kind, is_listed_kind}
 use Rattle.aom_sound.specs.Places.{Cell, Phase, Idle, Issued, Active, Cancelling, Aborted, Request, Timer, requested, set_request}
 use Rattle.aom_sound.specs.State.{AddedWrong, AlreadyActive, CancelHang, Frame, Home, Static, AtRoot, Inside, Need, RequestOverlap, State, Task, WrongKind}
 use Rattle.aom_sound.specs.Words.{needs_word, needs_written}
@@ -116,7 +116,7 @@ next_order [] = 0
 next_order (c ∷ cs) = max (order_after c.request) (next_order cs)
 
 abbrev pub first_request : List Cell → ℤ → Request
-first_request cs priority = record { order = next_order cs; priority = priority; phase = Idle; status = pos 0; timer = None }
+first_request cs priority = record { order = next_order cs; priority = priority; phase = Idle; status = pos 0; timer = None; token = None }
 
 -- the order of the next timer, after all that run
 abbrev pub timer_after : Option Timer → ℕ
@@ -148,13 +148,15 @@ pub record Asking : Type 0 where
 
 -- a request that is completed as it is made
 abbrev pub completed_at_once : ℤ → Request → Request
-completed_at_once code r = record r { phase = Issued; status = recorded code; timer = None }
+completed_at_once code r = record r { phase = Issued; status = recorded code; timer = None; token = None }
 
 -- a request is made at a provider: one's own completes at once, with that code, a timer once that interval is over, and a native as it answers
 abbrev pub issued_by : Provider → Asking → ℤ → Request → Request
 issued_by Own asking a r = completed_at_once a r
-issued_by A_timer asking a r = record r { phase = Issued; status = pending; timer = Some (record { due = due_after asking.clock a; order = asking.order }) }
-issued_by (Native n) asking a r = record r { phase = Issued; status = asking.started; timer = None }
+issued_by A_timer asking a r = record r { phase = Issued; status = pending; timer = Some (record { due = due_after asking.clock a; order = asking.order }); token = None }
+issued_by (Native n) asking a r = record r { phase = Issued; status = asking.started; timer = None; token = None }
+-- no request is made so at a token: it is handed out
+issued_by A_token asking a r = completed_at_once a r
 
 abbrev pub issued_of : Option ClassKind → Asking → ℤ → Request → Request
 issued_of (Some (An_active provider)) asking a r = issued_by provider asking a r
@@ -176,9 +178,9 @@ cancelling r = record r { phase = Cancelling }
 abbrev pub cancelled : Request → Request
 cancelled r = record r { phase = Idle }
 
--- a request that is still pending is completed as cancelled, and its timer goes
+-- a request that is still pending is completed as cancelled, its timer goes, and its token is void
 abbrev pub aborted : Request → Request
-aborted r = record r { phase = Aborted; status = cond (int_eq r.status pending) cancelled_code r.status; timer = None }
+aborted r = record r { phase = Aborted; status = cond (int_eq r.status pending) cancelled_code r.status; timer = None; token = None }
 
 -- its object is picked
 abbrev pub taken_up : Request → Request
@@ -186,7 +188,7 @@ taken_up r = record r { phase = Idle }
 
 -- it is completed with that code
 abbrev pub completed_with : ℤ → Request → Request
-completed_with code r = record r { status = code; timer = None }
+completed_with code r = record r { status = code; timer = None; token = None }
 
 -- its timer completes it, with KErrNone
 abbrev pub timed_out : Request → Request
@@ -226,6 +228,10 @@ module _ (p : Image) (fr : Frame) (ts : List Task) (s : State) where
   abbrev pub needs_active : Need
   needs_active = (is_active_kind (home_kind p fr.home), WrongKind)
 
+  -- its requests are none that tokens complete
+  abbrev pub needs_issuing : Need
+  needs_issuing = (is_issuing_kind (home_kind p fr.home), WrongKind)
+
   abbrev pub needs_listed : Need
   needs_listed = (is_listed_kind (home_kind p fr.home), WrongKind)
 
@@ -247,7 +253,7 @@ module _ (p : Image) (fr : Frame) (ts : List Task) (s : State) where
 
   -- no request is made
   abbrev pub needs_issue : ℕ → ℕ → List Need
-  needs_issue a b = needs_word fr ts s a ∷ needs_word fr ts s b ∷ needs_active ∷ needs_added ∷ (in_phase is_idle own, RequestOverlap) ∷ []
+  needs_issue a b = needs_word fr ts s a ∷ needs_word fr ts s b ∷ needs_issuing ∷ needs_added ∷ (in_phase is_idle own, RequestOverlap) ∷ []
 
   -- one is made, and not waited for yet
   abbrev pub needs_set_active : List Need

@@ -1,5 +1,5 @@
 -- What clients are at, and what they have at servers, say the same.
-use Rattle.std.specs.Prelude.{ℕ, Bool, true, false, is_some, not, ◌&&◌, ◌<◌, ◌==◌, ◌≡◌, ◌≤◌, List, [], ◌∷◌, Some, None}
+use Rattle.std.specs.Prelude.{ℕ, ◌+◌, Bool, true, false, cond, is_some, ◌&&◌, ◌<◌, ◌==◌, ◌≡◌, ◌≤◌, List, [], ◌∷◌, Option, Some, None}
 use Rattle.std.specs.List.{list_any}
 use Rattle.aom_image.specs.Image.{Image}
 use Rattle.aom_clients.specs.declared.client.Client.{Client}
@@ -8,9 +8,10 @@ use Rattle.aom_clients.specs.Table.{server_of}
 use Rattle.aom_shape.specs.Kinds.{is_object}
 use Rattle.aom_sound.specs.Clients.{client_at, most_of}
 use Rattle.aom_sound.specs.Enlisted.{thing_kind}
-use Rattle.aom_sound.specs.Places.{Asked, Cell, Close_of, Connect_of, Elsewhere, In_service, Message_of, Object, Queued, held, named, service_of, requested}
+use Rattle.aom_sound.specs.Places.{Asked, Cell, Close_of, Connect_of, Elsewhere, In_service, Message_of, Object, Queued, Service, held, named, service_of, requested}
 use Rattle.aom_sound.specs.Servers.{has_session, is_from, is_message, is_server, seats_taken}
 use Rattle.aom_sound.specs.State.{Accept_left, Accepted, Accepts, Dispatched, Of_server, Parts, Run, Service_left, Serves, Stage, State, Task, Trapped, Destroy, Closing, Unwind}
+use Rattle.aom_sound.specs.Tokens.{TokensApart}
 
 -- what waits in the queue of a server is of a client that is at it
 abbrev pub EntryFits : List Client → ℕ → Asked → Type 0
@@ -45,11 +46,19 @@ abbrev pub QueueFits : List Client → ℕ → List Asked → Type 0
 QueueFits clients n [] = Unit {0}
 QueueFits clients n (e ∷ es) = (EntryFits clients n e × (list_any (asked_again e) es ≡ false)) × QueueFits clients n es
 
--- a message has a sender, and nothing else has one
-abbrev pub HasSources : List Cell → Type 0
-HasSources cs = (o : Object) → named cs o.name ≡ Some o → is_some (service_of cs o.name).sender ≡ not (is_object o.thing)
+-- how many have given something out: the client that sent it, and the object whose token it is
+abbrev pub one_if_some : {A : Type 0} → Option A → ℕ
+one_if_some None = 0
+one_if_some (Some x) = 1
 
--- what is served has one
+abbrev pub sources_of : Service → ℕ
+sources_of v = one_if_some v.sender + one_if_some v.token
+
+-- a message has a sender or is a token, and never both, and nothing else has or is one
+abbrev pub HasSources : List Cell → Type 0
+HasSources cs = (o : Object) → named cs o.name ≡ Some o → sources_of (service_of cs o.name) ≡ cond (is_object o.thing) 0 1
+
+-- what is served has a sender
 abbrev pub ServesSent : List Cell → Type 0
 ServesSent cs = (o : Object) → held cs (Elsewhere In_service) ≡ Some o → is_some (service_of cs o.name).sender ≡ true
 
@@ -64,7 +73,7 @@ pub record ClientsFit (p : Image) (clients : List Client) (cs : List Cell) : Typ
   -- a message in a queue stands at its name, and is of the client that sent it
   pub names : (n m : ℕ) (o : Object) → held cs (Elsewhere (Queued n m)) ≡ Some o → o.name ≡ m
   pub senders : (n c m : ℕ) → list_any (is_message_of c m) (service_of cs n).queue ≡ true → is_from c (service_of cs m).sender ≡ true
-  -- wherever it is, a message has a sender, and what is served is such
+  -- wherever it is, a message has a sender or is a token, and what is served has a sender
   pub sources : HasSources cs
   pub served : ServesSent cs
   -- nothing has more sessions, and connects that wait, than its class takes
@@ -97,3 +106,5 @@ TasksKept p clients cs (Dispatched d ∷ ts) = Unit {0}
 pub record IsKept (p : Image) (s : State) : Type 0 where
   pub fit : ClientsFit p s.clients s.cells
   pub stage : TasksKept p s.clients s.cells s.tasks
+  -- a token that is not void is the only one of its request
+  pub tokens : TokensApart s.cells

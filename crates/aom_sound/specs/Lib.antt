@@ -9,6 +9,7 @@ pub mod Enlisted
 pub mod Natives
 pub mod Servers
 pub mod Clients
+pub mod Tokens
 pub mod Lines
 pub mod Wanted
 pub mod Effects

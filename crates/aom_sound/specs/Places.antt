@@ -110,6 +110,8 @@ pub record Request : Type 0 where
   pub status : ℤ
   -- none where it waits for no time
   pub timer : Option Timer
+  -- the order of the token that completes it, and none where it waits for none
+  pub token : Option ℕ
 
 -- what a client asked of a server: for a session, to serve the message of that name, or to close its session
 pub data Asked : Type 0 where
@@ -123,15 +125,21 @@ pub record Sender : Type 0 where
   pub holds_slot : Bool
   pub is_told : Bool
 
--- what clients have at a cell: of a server its queue, first in, first out, and the clients that have a session with it, in order of connection; of a message its sender
+-- of a message that an object has handed out: the class of the object, and how many were handed before it
+pub record Token : Type 0 where
+  pub class : ℕ
+  pub order : ℕ
+
+-- what clients have at a cell: of a server its queue, first in, first out, and the clients that have a session with it, in order of connection; of a message its sender, or of which object it is a token
 pub record Service : Type 0 where
   pub queue : List Asked
   pub sessions : List ℕ
   pub sender : Option Sender
+  pub token : Option Token
 
 -- nothing
 abbrev pub unserved : Service
-unserved = record { queue = []; sessions = []; sender = None }
+unserved = record { queue = []; sessions = []; sender = None; token = None }
 
 pub record Cell : Type 0 where
   pub object : Object

@@ -6,7 +6,7 @@ use Rattle.aom_image.specs.declared.class.ClassKind.{ClassKind}
 use Rattle.aom_image.specs.declared.class.ClassKind.TheVariants.{Active as An_active, Server as A_server}
 use Rattle.std.specs.Ordering.{int_eq}
 use Rattle.aom_image.specs.declared.class.Provider.{Provider}
-use Rattle.aom_image.specs.declared.class.Provider.TheVariants.{Timer as A_timer}
+use Rattle.aom_image.specs.declared.class.Provider.TheVariants.{Timer as A_timer, Token as A_token}
 use Rattle.aom_roles.specs.States.{unlisted, idle, issued, active, cancel_open, cancel_done, server_states, states_of, last_of}
 use Rattle.aom_rules.specs.Requests.{is_cancel}
 use Rattle.aom_sound.specs.Claims.{Layer, Method, Mark, Dying, Unwinding, Dispatching, Ending}
@@ -42,10 +42,25 @@ abbrev pub is_timed : Provider → Option Request → Bool
 is_timed provider None = true
 is_timed provider (Some r) = cond (ticks provider r) (is_some r.timer) (is_none r.timer)
 
--- an object that may be enlisted is as it is known to be, what is aborted has its code, and timers run for what is pending; an object of another class is not enlisted
+-- that request waits for a token
+abbrev pub pledges : Provider → Request → Bool
+pledges A_token r = not (is_idle r.phase) && int_eq r.status pending
+pledges _ r = false
+
+-- a pending request of an object that hands tokens has one, and no other has
+abbrev pub is_pledged : Provider → Option Request → Bool
+is_pledged provider None = true
+is_pledged provider (Some r) = cond (pledges provider r) (is_some r.token) (is_none r.token)
+
+-- nothing that a server has waits for a token
+abbrev pub is_free : Option Request → Bool
+is_free None = true
+is_free (Some r) = is_none r.token
+
+-- an object that may be enlisted is as it is known to be, what is aborted has its code, timers run for what is pending, and so do tokens; an object of another class is not enlisted
 abbrev pub Suits : Option ClassKind → Known → Option Request → Type 0
-Suits (Some (An_active provider)) k r = IsTrue (has k.states (state_of r)) × (in_phase is_cancelling r ≡ k.cancelled) × (is_unanswered r ≡ false) × (is_timed provider r ≡ true)
-Suits (Some (A_server most session)) k r = IsTrue (has k.states (state_of r)) × IsTrue (has server_states (state_of r))
+Suits (Some (An_active provider)) k r = IsTrue (has k.states (state_of r)) × (in_phase is_cancelling r ≡ k.cancelled) × (is_unanswered r ≡ false) × (is_timed provider r ≡ true) × (is_pledged provider r ≡ true)
+Suits (Some (A_server most session)) k r = IsTrue (has k.states (state_of r)) × IsTrue (has server_states (state_of r)) × (is_free r ≡ true)
 Suits _ k r = r ≡ None
 
 -- a method with that home works on the cell of that name

@@ -15,7 +15,7 @@ use Rattle.aom_sound.specs.Calls.{below_top, called, result_register}
 use Rattle.aom_sound.specs.Cleanup.{code_told, ended_by, has_trap, operation_frame, top_place}
 use Rattle.aom_sound.specs.Moves.{counted, dispatch_ends, makes, needs, step}
 use Rattle.aom_sound.specs.Leaves.{LeavesWith}
-use Rattle.aom_sound.specs.Effects.{Update, Same, Carried, Made, Written, Requested, Sessioned, Pushed, Pushed_operation, Popped, Popped_operation, Effect, Goes_on, Jumps, Counts, Repeats, Calls, Cancels, Sets_trap, Returns, Leaves, Destroys, Destroys_last, Operates, applied, Replied}
+use Rattle.aom_sound.specs.Effects.{Update, Same, Carried, Made, Written, Requested, Sessioned, Pushed, Pushed_operation, Popped, Popped_operation, Effect, Goes_on, Jumps, Counts, Repeats, Calls, Cancels, Sets_trap, Returns, Leaves, Destroys, Destroys_last, Operates, applied, Replied, Handed}
 use Rattle.aom_sound.specs.Enlisted.{cancel_method}
 use Rattle.aom_sound.specs.Servers.{without_queue}
 
@@ -40,7 +40,8 @@ FitsUpdate ts items i (Sessioned session) = Unit {0}
 FitsUpdate ts items i (Pushed a) = (i ≡ Push a) × (has_trap ts ≡ true)
 FitsUpdate ts items i (Pushed_operation m w) = (a : ℕ) × (i ≡ PushOperation a m) × (has_trap ts ≡ true)
 FitsUpdate ts items i (Popped a) = (i ≡ Pop a) × (items ≡ An_object ∷ below_top items)
-FitsUpdate ts items i (Replied a) = Unit {0}
+FitsUpdate ts items i (Replied a code) = Unit {0}
+FitsUpdate ts items i (Handed name a) = Unit {0}
 FitsUpdate ts items i Popped_operation = (i ≡ PopOperation) × (m : ℕ) × (w : ℤ) × (items ≡ An_operation m w ∷ below_top items)
 
 abbrev pub Fits : Image → Choice → Frame → List Task → State → Instr → Effect → Type 0

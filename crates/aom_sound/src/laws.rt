@@ -22,6 +22,7 @@ ghost use Rattle.aom_sound.specs.Cases.Owners.{OwnersBite};
 ghost use Rattle.aom_sound.specs.Cases.Constructs.{ConstructsRun};
 ghost use Rattle.aom_sound.specs.Cases.Families.{LinesRun, OverridersRun};
 ghost use Rattle.aom_sound.specs.Cases.Further.{ServersRun};
+ghost use Rattle.aom_sound.specs.Cases.Tokens.{TokensBite, TokensRun};
 
 /// A run of a typed image begins well typed.
 pub fn boot_keeps()
@@ -211,6 +212,16 @@ pub fn overriders_run()
 /// A construct calls its parent's on its own object while the parent's fields are empty, as these runs write.
 pub fn constructs_run()
     ensures { ConstructsRun }
+{}
+
+/// Each need of an instruction that hands out a token, and of a reply to one, bites.
+pub fn tokens_bite()
+    ensures { TokensBite }
+{}
+
+/// Tokens are handed out, become void and are replied to as these runs write.
+pub fn tokens_run()
+    ensures { TokensRun }
 {}
 
 /// Runs with servers and clients write, line by line, what their examples say.

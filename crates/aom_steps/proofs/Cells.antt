@@ -1,5 +1,5 @@
 -- How many cells stand, after each change of the cells.
-use Rattle.std.proofs.Common.{◌≡◌, ◌≤◌, ◌∙◌, ℕ, ℤ, suc, Bool, true, false, cond, List, [], ◌∷◌, Option, Some, refl, ap, arith}
+use Rattle.std.proofs.Common.{◌≡◌, ◌≤◌, ◌∙◌, ℕ, ℤ, suc, Bool, true, false, cond, List, [], ◌∷◌, Option, None, Some, refl, ap, arith}
 use Rattle.aom_image.specs.declared.method.Thing.{Thing}
 use Rattle.aom_sound.specs.Enlisted.{rerequested}
 use Rattle.aom_sound.specs.Places.{Cell, Elsewhere, Going, Object, Place, Register, Request, Service, Session, held, moved, same_place, service_of, set_request, set_service, set_session, set_word_field, with_new, without}
@@ -8,6 +8,7 @@ use Rattle.aom_sound.specs.Calls.{accepted_cells, below_top}
 use Rattle.aom_sound.specs.Clients.{each_unslotted}
 use Rattle.aom_sound.specs.Servers.{all_unslotted, opened, reserved, without_queue}
 use Rattle.aom_shape.specs.Kinds.{is_object}
+use Rattle.aom_sound.specs.Tokens.{all_redeemed, redeemed_by}
 use Rattle.aom_sound.specs.Words.{stored}
 use Rattle.aom_sound.proofs.Maps.{same_place-true}
 use Rattle.aom_steps.specs.Ranks.{is_going, standing, operations}
@@ -64,6 +65,14 @@ asked_same n r (c ∷ cs) = ap (λ x. cond (is_object c.object.thing) (cond (is_
 
 pub standing_asked : (cs : List Cell) (h : Home) (r : Option Request) → standing (rerequested cs h r) ≡ standing cs
 standing_asked cs h r = grind (arith, asked_same)
+
+redeemed_same : (order : ℕ) (code : ℤ) (cs : List Cell) → standing (all_redeemed order code cs) ≡ standing cs
+redeemed_same order code [] = refl
+redeemed_same order code (c ∷ cs) = ap (λ x. cond (is_object c.object.thing) (cond (is_going c.owner) x (suc x)) x) (redeemed_same order code cs)
+
+pub standing_redeemed : (order : Option ℕ) (code : ℤ) (cs : List Cell) → standing (redeemed_by order code cs) ≡ standing cs
+standing_redeemed None code cs = refl
+standing_redeemed (Some order) code cs = redeemed_same order code cs
 
 opened_same : (n : ℕ) (b : Bool) (cs : List Cell) → standing (set_session n b cs) ≡ standing cs
 opened_same n b [] = refl

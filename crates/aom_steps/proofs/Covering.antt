@@ -5,7 +5,7 @@ use Rattle.std.specs.Ordering.{int_eq}
 use Rattle.std.specs.Prelude.{bit_and, int_lt, is_some}
 use Rattle.aom_image.specs.Image.{Image}
 use Rattle.aom_instructions.specs.declared.instr.Instr.{Instr}
-use Rattle.aom_instructions.specs.declared.instr.Instr.TheVariants.{Call, Cancel, JumpActive, JumpAdded, JumpEmpty, JumpEqual, JumpLess, JumpNull, Leave, Loop, New, Next, Return, Trap}
+use Rattle.aom_instructions.specs.declared.instr.Instr.TheVariants.{Call, Cancel, Hand, JumpActive, JumpAdded, JumpEmpty, JumpEqual, JumpLess, JumpNull, Leave, Loop, New, Next, Return, Trap}
 use Rattle.aom_image.specs.Views.{method_at, method_class, method_role}
 use Rattle.aom_image.specs.declared.method.Role.TheVariants.{Main}
 use Rattle.aom_image.specs.declared.method.Thing.{Thing}
@@ -31,11 +31,12 @@ use Rattle.aom_sound.proofs.Jumps.{not_empty, not_full}
 use Rattle.aom_sound.proofs.Requesting.{active_listed, busy_in, free_in, listed_in, some_left, unlisted_in}
 use Rattle.aom_sound.proofs.Straight.{At, field_fits, kind_fits}
 use Rattle.aom_sound.specs.Claims.{Layer, tasks_of}
-use Rattle.aom_sound.specs.Effects.{Calls, Cancels, Counts, Destroys, Destroys_last, Effect, Goes_on, Jumps, Leaves, Operates, Pushed, Pushed_operation, Repeats, Returns, Sets_trap, Update, cancels_if, deals, deletes, effect, jumps_if, jumps_unless, makes_unless, round}
+use Rattle.aom_sound.specs.Effects.{hands_unless, Calls, Cancels, Counts, Destroys, Destroys_last, Effect, Goes_on, Jumps, Leaves, Operates, Pushed, Pushed_operation, Repeats, Returns, Sets_trap, Update, cancels_if, deals, deletes, effect, jumps_if, jumps_unless, makes_unless, round}
 use Rattle.aom_sound.specs.Enlisted.{cancel_method, in_phase, is_active, is_busy, own_request}
 use Rattle.aom_sound.specs.Places.{Object, held, seen}
 use Rattle.aom_sound.specs.State.{An_object, An_operation, Choice, Frame, Item, State, Task, counter, field_place, home_holder}
 use Rattle.aom_sound.specs.WellTyped.{Fits}
+use Rattle.aom_sound.specs.Tokens.{is_crowded}
 use Rattle.aom_sound.specs.Words.{here, read}
 use Rattle.aom_bounds.specs.Prices.{AllPaid, IsPriced, Prices, Stands, call_price, cancel_price, kind_price, own, price}
 use Rattle.aom_sound.proofs.Callees.{cancel_family}
@@ -195,6 +196,11 @@ module _ (p : Image) (t : Typing) (c : Prices) (main_none : (m : ℕ) → method
       made false pays = pays
   covers (Call target k first x) it rule = (paid (Call target k first x) it refl refl).0
   covers (Trap target k first x) it rule = (paid (Trap target k first x) it refl refl).0
+  covers (Hand a) it rule = handed (is_crowded p s.cells) (paid (Hand a) it refl refl).0
+    where
+      handed : (b : Bool) → Affords p c fr sh 1 (suc fr.place) → Affords p c fr sh (1 + pushes p c fr sh (hands_unless b ch.name a (own_request s.cells fr.home))) (suc fr.place)
+      handed true pays = pays
+      handed false pays = pays
   covers Cancel it rule = on_cancel (in_phase is_active (own_request s.cells fr.home)) (cancel_method p fr) refl (paid Cancel it refl refl).0
   covers (Leave a) it rule = some (Leave a) it
   covers (Return a) it rule = some (Return a) it

@@ -24,7 +24,7 @@ use Rattle.aom_sound.proofs.Finishing.{all_parts}
 use Rattle.aom_sound.proofs.Fitting.{straight_by}
 use Rattle.aom_sound.specs.Calls.{run_by, target_view, below_top, passed_cells, returned}
 use Rattle.aom_sound.specs.Cleanup.{to_trap, top_place}
-use Rattle.aom_sound.specs.Effects.{Calls, Cancels, Carried, Counts, Destroys, Destroys_last, Effect, Goes_on, In_field, In_register, The_message, Replied, Jumps, Leaves, Made, Operates, Popped, Popped_operation, Pushed, Pushed_operation, Repeats, Requested, Returns, Same, Sets_trap, Spot, Update, Written, applied, cells_after, items_after, spot_place, with_words, Sessioned}
+use Rattle.aom_sound.specs.Effects.{Calls, Cancels, Carried, Counts, Destroys, Destroys_last, Effect, Goes_on, In_field, In_register, The_message, Handed, Replied, Jumps, Leaves, Made, Operates, Popped, Popped_operation, Pushed, Pushed_operation, Repeats, Requested, Returns, Same, Sets_trap, Spot, Update, Written, applied, cells_after, items_after, spot_place, with_words, Sessioned}
 use Rattle.aom_sound.specs.Leaves.{LeavesWith}
 use Rattle.aom_sound.specs.Moves.{makes}
 use Rattle.aom_sound.specs.Objects.{no_words}
@@ -38,12 +38,13 @@ use Rattle.aom_steps.specs.Ranks.{cell_rank, frame_rank, is_going, left_in, oper
 use Rattle.aom_steps.specs.Within.{left}
 use Rattle.aom_steps.proofs.Levels.{begun_paid, called_before, called_lower, cell_paid, cell_some, cell_two, loud_leaver, price_some, run_paid, trapped_before, undo_paid}
 use Rattle.aom_steps.proofs.Places.{back, enters, jumps, leaves, straight_on}
-use Rattle.aom_steps.proofs.Cells.{field_stands, operations_below, standing_asked, standing_goes, standing_moved, standing_new, standing_passes, standing_stored, standing_opened, standing_without}
+use Rattle.aom_steps.proofs.Cells.{field_stands, operations_below, standing_asked, standing_goes, standing_moved, standing_new, standing_passes, standing_stored, standing_opened, standing_redeemed, standing_without}
 use Rattle.aom_steps.proofs.Worths.{passed_less, to_trap_less}
 use Rattle.aom_steps.proofs.Sums.{one_less, one_more, scaled, scaled_le}
 use Rattle.aom_image.proofs.Given.{false_given}
 use Rattle.std.proofs.lemmas.Bool.{true≢false}
 use Rattle.aom_shape.specs.Kinds.{is_object}
+use Rattle.aom_sound.specs.Tokens.{next_token, promised, redeemed_by, token_of}
 use Rattle.aom_sound.specs.Enlisted.{begun_cells, cancel_method, cancelling, ended_cells, on_request, own_request}
 
 -- ---- an instruction
@@ -167,7 +168,8 @@ module _ (p : Image) (linked : IsLinked p) (c : Choice) (s : State) (fr : Frame)
   more (Written w v) = omega (arith, standing_stored s.cells fr.home w v)
   more (Requested r) = omega (arith, standing_asked s.cells fr.home r)
   more (Sessioned b) = omega (arith, standing_opened s.cells fr.home b)
-  more (Replied a) = omega (arith, standing_without (here fr ts s a) s.cells)
+  more (Replied a code) = omega (arith, standing_without (here fr ts s a) (redeemed_by (token_of s.cells (held s.cells (here fr ts s a))) code s.cells), standing_redeemed (token_of s.cells (held s.cells (here fr ts s a))) code s.cells)
+  more (Handed name a) = omega (arith, standing_asked s.cells fr.home (on_request (promised (next_token s.cells)) (own_request s.cells fr.home)))
   more (Pushed a) = omega (arith, standing_moved (here fr ts s a) (Entry (length s.items)) s.cells refl)
   more (Pushed_operation m w) = omega arith
   more (Popped a) = omega (arith, standing_moved (top_place s.items) (here fr ts s a) s.cells refl, operations_below s.items)
@@ -204,7 +206,8 @@ module _ (p : Image) (linked : IsLinked p) (c : Choice) (s : State) (fr : Frame)
     goes_after i stands plain r (Written w v) f = on i stands plain (count_after (Written w v)) (omega (arith, standing_stored s.cells fr.home w v))
     goes_after i stands plain r (Requested q) f = on i stands plain (count_after (Requested q)) (omega (arith, standing_asked s.cells fr.home q))
     goes_after i stands plain r (Sessioned b) f = on i stands plain (count_after (Sessioned b)) (omega (arith, standing_opened s.cells fr.home b))
-    goes_after i stands plain r (Replied a) f = on i stands plain (count_after (Replied a)) (omega (arith, standing_without (here fr ts s a) s.cells))
+    goes_after i stands plain r (Replied a code) f = on i stands plain (count_after (Replied a code)) (omega (arith, standing_without (here fr ts s a) (redeemed_by (token_of s.cells (held s.cells (here fr ts s a))) code s.cells), standing_redeemed (token_of s.cells (held s.cells (here fr ts s a))) code s.cells))
+    goes_after i stands plain r (Handed name a) f = on i stands plain (count_after (Handed name a)) (omega (arith, standing_asked s.cells fr.home (on_request (promised (next_token s.cells)) (own_request s.cells fr.home))))
     goes_after i stands plain r (Popped a) f = on i stands plain (count_after (Popped a)) (omega (arith, standing_moved (top_place s.items) (here fr ts s a) s.cells refl, operations_below s.items))
     goes_after i stands plain r Popped_operation f = on i stands plain (count_after Popped_operation) (omega (arith, operations_below s.items))
 

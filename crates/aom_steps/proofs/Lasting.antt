@@ -12,11 +12,13 @@ use Rattle.aom_rules.specs.Requests.{is_cancel}
 use Rattle.aom_sound.proofs.ClientsMoves.{held_elsewhere}
 use Rattle.aom_sound.proofs.Dropping.{held_dropped, queue_dropped}
 use Rattle.aom_sound.proofs.Maps.{held_without}
+use Rattle.aom_sound.proofs.Redeeming.{redeemed_by_alike}
+use Rattle.aom_sound.specs.Tokens.{next_token, promised, redeemed_by, token_of}
 use Rattle.aom_sound.proofs.Storing.{held_set_word, rerequested_alike, resessioned_alike}
 use Rattle.aom_sound.specs.Calls.{passed_cells, result_cells}
 use Rattle.aom_sound.specs.Cleanup.{to_trap, top_place}
 use Rattle.aom_sound.specs.Clients.{each_unslotted}
-use Rattle.aom_sound.specs.Effects.{Carried, In_field, In_register, Made, Popped, Popped_operation, Pushed, Pushed_operation, Replied, Requested, Same, Sessioned, Spot, The_message, Update, Written, cells_after, spot_place}
+use Rattle.aom_sound.specs.Effects.{Carried, In_field, In_register, Made, Popped, Popped_operation, Pushed, Pushed_operation, Replied, Handed, Requested, Same, Sessioned, Spot, The_message, Update, Written, cells_after, spot_place}
 use Rattle.aom_sound.specs.Enlisted.{cancelled, ended_cells, on_request, own_request, rerequested}
 use Rattle.aom_sound.specs.Places.{Cell, Entry, Going, Object, Place, Register, Request, held, moved, same_place, without}
 use Rattle.aom_sound.specs.Servers.{all_unslotted, is_queue_of, without_queue}
@@ -24,7 +26,7 @@ use Rattle.aom_sound.specs.State.{AtRoot, Closing, Destroy, Dispatched, Frame, H
 use Rattle.aom_sound.specs.Words.{here, stored}
 use Rattle.aom_bounds.specs.Prices.{Prices}
 use Rattle.aom_steps.specs.Left.{closing_left, closings_left, goes_below, is_session_with, sessions_left}
-use Rattle.aom_steps.proofs.Pushed.{each_unslotted_same, field_no_session, moved_less, queue_less, rerequested_same, resessioned_same, stored_same, without_less}
+use Rattle.aom_steps.proofs.Pushed.{each_unslotted_same, field_no_session, moved_less, queue_less, redeemed_same, rerequested_same, resessioned_same, stored_same, without_less}
 
 -- below that depth the same cells go, and with no server there are more sessions
 pub record Lasts (depth : ℕ) (cs us : List Cell) : Type 0 where
@@ -104,6 +106,9 @@ stored_held cs (Inside o from) w v q = held_set_word cs o.name w v q
 lasts_asked : (depth : ℕ) (cs : List Cell) (h : Home) (r : Option Request) → Lasts depth cs (rerequested cs h r)
 lasts_asked depth cs h r = record { going = λ k lt. (rerequested_alike cs h r).held_so (Going k); sessions = λ c n. omega (arith, rerequested_same c (is_session_with n) cs h r) }
 
+lasts_redeemed : (depth : ℕ) (order : Option ℕ) (code : ℤ) (cs : List Cell) → Lasts depth cs (redeemed_by order code cs)
+lasts_redeemed depth order code cs = record { going = λ k lt. (redeemed_by_alike order code cs).held_so (Going k); sessions = λ c n. omega (arith, redeemed_same c (is_session_with n) order code cs) }
+
 pub lasts_ended : (depth : ℕ) (p : Image) (fr : Frame) (cs : List Cell) → Lasts depth cs (ended_cells p fr cs)
 lasts_ended depth p fr cs = go (is_cancel (method_role p fr.method))
   where
@@ -139,7 +144,12 @@ module _ (depth : ℕ) (p : Image) (fr : Frame) (ts : List Task) (s : State) whe
   lasts_update (Pushed_operation m w) = lasts_itself depth s.cells
   lasts_update (Popped a) = lasts_moved depth (top_place s.items) (here fr ts s a) s.cells (λ k lt. refl) (λ k lt. refl) (λ n. refl)
   lasts_update Popped_operation = lasts_itself depth s.cells
-  lasts_update (Replied a) = lasts_without depth (here fr ts s a) s.cells (λ k lt. refl)
+  lasts_update (Replied a code) =
+      let order = token_of s.cells (held s.cells (here fr ts s a)) in
+      lasts_then depth s.cells (redeemed_by order code s.cells) _ (lasts_redeemed depth order code s.cells) (lasts_without depth (here fr ts s a) (redeemed_by order code s.cells) (λ k lt. refl))
+  lasts_update (Handed name a) =
+      let r = on_request (promised (next_token s.cells)) (own_request s.cells fr.home) in
+      record { going = (lasts_asked depth s.cells fr.home r).going; sessions = λ c n. omega (arith, (lasts_asked depth s.cells fr.home r).sessions c n) }
 
   pub lasts_passed : (to_depth : ℕ) (xs : List Argument) (first to : ℕ) (cs : List Cell) → Lasts depth cs (passed_cells p fr ts s to_depth xs first to cs)
   lasts_passed to_depth [] first to cs = lasts_itself depth cs

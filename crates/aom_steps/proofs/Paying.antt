@@ -28,7 +28,7 @@ use Rattle.aom_sound.specs.Calls.{run_by, target_view, below_top, accepted_cells
 use Rattle.aom_sound.specs.Claims.{Layer, tasks_of, Dispatching, Dying, Mark, Method, Unwinding}
 use Rattle.aom_sound.specs.Cleanup.{top_place}
 use Rattle.aom_sound.specs.Destruction.{begun, begun_by, class_destructor, destructed, line_on, next_destructor}
-use Rattle.aom_sound.specs.Effects.{Calls, Cancels, Carried, Counts, Destroys, Destroys_last, Effect, Goes_on, In_field, In_register, Jumps, Leaves, Made, Operates, Popped, Popped_operation, Pushed, Pushed_operation, Repeats, Requested, Returns, Same, Sets_trap, Spot, Update, Written, applied, cells_after, items_after, spot_place, with_words, Sessioned, Replied, The_message}
+use Rattle.aom_sound.specs.Effects.{Calls, Cancels, Carried, Counts, Destroys, Destroys_last, Effect, Goes_on, In_field, In_register, Jumps, Leaves, Made, Operates, Popped, Popped_operation, Pushed, Pushed_operation, Repeats, Requested, Returns, Same, Sets_trap, Spot, Update, Written, applied, cells_after, items_after, spot_place, with_words, Sessioned, Replied, Handed, The_message}
 use Rattle.aom_sound.specs.Places.{service_of, Entry, Going, Object, Sight, held, seen, Cell, Elsewhere, Place, Register, Session, moved}
 use Rattle.aom_sound.specs.State.{An_object, An_operation, AtRoot, Choice, Frame, Home, Inside, Static, Run, State, Task, Trapped, counter, Accepts, Closing, Destroy, Dispatch, Of_server, Serves}
 use Rattle.aom_sound.specs.Steps.{Fits, Sets}
@@ -42,7 +42,8 @@ use Rattle.aom_bounds.specs.Prices.{call_price, IsPriced, Prices, Stands, kind_p
 use Rattle.aom_steps.specs.Worths.{over_worth}
 use Rattle.aom_steps.specs.Left.{is_entry, left, left_worths, method_left, objects_left, operations_left, rounds_left, rounds_price, tasks_left, waiting_left, closing_left, closings_left, end_left, sessions_left}
 use Rattle.aom_steps.proofs.Covering.{Affords, Covers, body_paid, pushes}
-use Rattle.aom_steps.proofs.Pushed.{enters_place, field_no_entry, leaves_place, moved_less, none_moves, operations_below, rerequested_same, stored_same, resessioned_same, enters_place, served_same, without_less}
+use Rattle.aom_steps.proofs.Pushed.{enters_place, field_no_entry, leaves_place, moved_less, none_moves, operations_below, redeemed_same, rerequested_same, stored_same, resessioned_same, enters_place, served_same, without_less}
+use Rattle.aom_sound.specs.Tokens.{next_token, promised, redeemed_by, token_of}
 use Rattle.aom_sound.specs.Enlisted.{cancelling, on_request, own_request, ended_cells}
 use Rattle.aom_sound.specs.Servers.{is_server, opened}
 use Rattle.aom_steps.proofs.Lasting.{IsApart, going_apart, lasting, lasts_ended, lasts_moved, lasts_passed, lasts_result, lasts_update, to_trap_closings}
@@ -183,7 +184,10 @@ module _ (p : Image) (t : Typing) (c : Prices) (linked : IsLinked p) (priced : I
   after (Pushed_operation m w) = omega arith
   after (Popped a) = omega (arith, moved_less c is_entry (top_place s.items) (here fr ts s a) s.cells refl, operations_below c s.items)
   after Popped_operation = omega (arith, operations_below c s.items)
-  after (Replied a) = omega (arith, without_less c is_entry (here fr ts s a) s.cells)
+  after (Replied a code) =
+      let order = token_of s.cells (held s.cells (here fr ts s a)) in
+      omega (arith, without_less c is_entry (here fr ts s a) (redeemed_by order code s.cells), redeemed_same c is_entry order code s.cells)
+  after (Handed name a) = omega (arith, rerequested_same c is_entry s.cells fr.home (on_request (promised (next_token s.cells)) (own_request s.cells fr.home)))
 
   -- and no more goes before servers
   closings_after : (u : Update) → closings_left p c (cells_after p fr ts s u) ts ≤ closings

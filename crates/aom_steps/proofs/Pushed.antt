@@ -1,5 +1,6 @@
 -- What the objects at some kinds of places, and the operations on the cleanup stack, may still cost, after each change of the cells and of the items.
 use Rattle.std.proofs.Common.{◌≡◌, ◌≤◌, ◌+◌, ◌∙◌, ℕ, ℤ, Bool, true, false, cond, List, [], ◌∷◌, Option, Some, None, refl, ap, arith}
+use Rattle.aom_sound.specs.Tokens.{all_redeemed, redeemed_by}
 use Rattle.aom_sound.specs.Enlisted.{rerequested}
 use Rattle.aom_sound.specs.Clients.{each_unslotted}
 use Rattle.aom_sound.specs.Places.{Cell, Object, Place, Request, Service, Tidy, held, moved, set_request, set_service, set_session, set_word_field, without}
@@ -75,6 +76,14 @@ module _ (c : Prices) (counts : Place → Bool) where
 
   pub rerequested_same : (cs : List Cell) (h : Home) (r : Option Request) → owned_left c counts (rerequested cs h r) ≡ owned_left c counts cs
   rerequested_same cs h r = grind (arith, asked_same)
+
+  completed_same : (order : ℕ) (code : ℤ) (cs : List Cell) → owned_left c counts (all_redeemed order code cs) ≡ owned_left c counts cs
+  completed_same order code [] = refl
+  completed_same order code (x ∷ cs) = ap (λ y. due c counts x.owner x.object + y) (completed_same order code cs)
+
+  pub redeemed_same : (order : Option ℕ) (code : ℤ) (cs : List Cell) → owned_left c counts (redeemed_by order code cs) ≡ owned_left c counts cs
+  redeemed_same None code cs = refl
+  redeemed_same (Some order) code cs = completed_same order code cs
 
   opened_same : (n : ℕ) (b : Bool) (cs : List Cell) → owned_left c counts (set_session n b cs) ≡ owned_left c counts cs
   opened_same n b [] = refl

@@ -11,7 +11,7 @@ use Rattle.aom_sound.specs.Destruction.{class_destructor, next_destructor}
 use Rattle.aom_image.specs.Image.{Image}
 use Rattle.aom_image.specs.Views.{class_in, instr_at, is_quiet, method_at}
 use Rattle.aom_instructions.specs.declared.instr.Instr.{Instr}
-use Rattle.aom_instructions.specs.declared.instr.Instr.TheVariants.{Cancel, Return}
+use Rattle.aom_instructions.specs.declared.instr.Instr.TheVariants.{Cancel, Delete, Return}
 use Rattle.aom_image.specs.declared.method.Gives.{Gives}
 use Rattle.aom_image.specs.declared.method.Method.{Method as Method_declared}
 use Rattle.aom_classes.specs.Linked.{IsLinked}

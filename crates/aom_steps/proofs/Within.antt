@@ -389,7 +389,7 @@ declared_fits p formed (Some x) = of_class (slice_get p.classes x) refl
   where
     of_class : (o : Option ClassDecl) → slice_get p.classes x ≡ o → class_budget o < 2 ^ 32
     of_class None e = omega arith
-    of_class (Some d) e = (all_there (ClassFits (length p.classes) p.header.natives) p.classes x d formed.classes.each e).budget
+    of_class (Some d) e = (all_there (ClassFits p.header.version (length p.classes) p.header.natives) p.classes x d formed.classes.each e).budget
 
 -- a price up to a limit that is below the limit is the price
 module _ (limit : ℕ) (p : Image) (t : Typing) (c : Prices) (wired : IsWired p) (are : ArePricesUpTo limit p t c) where

@@ -4,7 +4,7 @@ use Rattle.aom_image.specs.Image.{Image}
 use Rattle.aom_image.specs.Small.{a_class, a_header, a_method as a_method_with}
 use Rattle.aom_image.specs.declared.class.ClassDecl.{ClassDecl}
 use Rattle.aom_image.specs.declared.class.ClassKind.TheVariants.{Active, Plain, Server}
-use Rattle.aom_image.specs.declared.class.Provider.TheVariants.{Native, Own}
+use Rattle.aom_image.specs.declared.class.Provider.TheVariants.{Native, Own, Token}
 use Rattle.aom_instructions.specs.declared.instr.Instr.{Instr}
 use Rattle.aom_image.specs.declared.method.Argument.{Argument}
 use Rattle.aom_image.specs.declared.method.Gives.{Gives}
@@ -43,6 +43,10 @@ served = An_object_of 4
 abbrev pub child : Thing
 child = An_object_of 5
 
+-- and one of active objects that hand out tokens
+abbrev pub handing : Thing
+handing = An_object_of 6
+
 abbrev pub small_classes : List ClassDecl
 small_classes =
     a_class Plain 0 0 []
@@ -51,6 +55,7 @@ small_classes =
     ∷ a_class (Server 1 0) 1 0 []
     ∷ a_class (Active (Native 0)) 1 0 []
     ∷ record (a_class Plain 0 2 (leaf ∷ Message ∷ leaf ∷ [])) { parent = Some 1 }
+    ∷ a_class (Active Token) 1 0 []
     ∷ []
 
 abbrev pub a_method : Option ℕ → List Argument → Gives → List Instr → Method

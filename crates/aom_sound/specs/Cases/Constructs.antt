@@ -1,11 +1,10 @@
 -- Runs of construct methods over classes with parents: one that a child has from above, and one that calls its parent's on its own object.
-use Rattle.std.specs.Prelude.{ℕ, pos, ◌≡◌, List, [], ◌∷◌, Some, None}
+use Rattle.std.specs.Prelude.{pos, ◌≡◌, List, [], ◌∷◌, Some, None}
 use Rattle.aom_image.specs.Image.{Image}
 use Rattle.aom_image.specs.Small.{a_class, a_header}
 use Rattle.aom_image.specs.declared.class.ClassKind.TheVariants.{Plain}
-use Rattle.aom_image.specs.declared.image.Version.TheVariants.{Two}
+use Rattle.aom_instructions.specs.declared.version.Version.TheVariants.{Two}
 use Rattle.aom_image.specs.declared.method.Gives.TheVariants.{Nothing}
-use Rattle.aom_image.specs.declared.method.Method.{Method}
 use Rattle.aom_image.specs.declared.method.Role.TheVariants.{Construct, Do, Main as Is_main}
 use Rattle.aom_image.specs.declared.method.Thing.TheVariants.{Object as An_object_of}
 use Rattle.aom_instructions.specs.declared.instr.Instr.{Instr}

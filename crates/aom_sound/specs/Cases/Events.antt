@@ -82,7 +82,7 @@ time_cases =
 -- ---- what is left
 
 abbrev pub request_of : Phase → ℤ → Option Request
-request_of phase status = Some (record { order = 0; priority = pos 0; phase = phase; status = status; timer = None })
+request_of phase status = Some (record { order = 0; priority = pos 0; phase = phase; status = status; timer = None; token = None })
 
 -- an object with its request so far and a session, of a class that the native 0 serves, and of another
 abbrev pub with_session : Cell → Phase → ℤ → Cell

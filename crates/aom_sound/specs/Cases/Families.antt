@@ -5,7 +5,7 @@ use Rattle.aom_image.specs.Small.{a_class, a_header}
 use Rattle.aom_image.specs.declared.class.ClassDecl.{ClassDecl}
 use Rattle.aom_image.specs.declared.class.ClassKind.TheVariants.{Active, Plain}
 use Rattle.aom_image.specs.declared.class.Provider.TheVariants.{Own}
-use Rattle.aom_image.specs.declared.image.Version.TheVariants.{Two}
+use Rattle.aom_instructions.specs.declared.version.Version.TheVariants.{Two}
 use Rattle.aom_image.specs.declared.method.Argument.TheVariants.{Own as Takes_own}
 use Rattle.aom_image.specs.declared.method.Gives.TheVariants.{Nothing}
 use Rattle.aom_image.specs.declared.method.Method.{Method}

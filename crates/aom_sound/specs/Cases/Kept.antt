@@ -5,7 +5,9 @@ use Rattle.aom_clients.specs.declared.client.Client.TheVariants.{Closing, Connec
 use Rattle.aom_image.specs.declared.method.Thing.{Thing}
 use Rattle.aom_image.specs.declared.method.Thing.TheVariants.{Message}
 use Rattle.aom_sound.specs.Kept.{ClientsFit, TasksKept}
-use Rattle.aom_sound.specs.Places.{Asked, Cell, Close_of, Connect_of, Elsewhere, In_service, Message_of, Place, Queued, Root, Sender, unserved}
+use Rattle.aom_sound.specs.Places.{Asked, Cell, Close_of, Connect_of, Elsewhere, In_service, Issued, Message_of, Place, Queued, Root, Sender, unserved}
+use Rattle.aom_sound.specs.Tokens.{TokensApart}
+use Rattle.aom_sound.specs.Enlisted.{pending}
 use Rattle.aom_sound.specs.State.{Accept_left, Accepts, Dispatched, Of_server, Parts, Stage}
 use Rattle.aom_sound.specs.Cases.Building.{a_cell, pair}
 use Rattle.aom_sound.specs.Cases.Moves.{an_image}
@@ -27,7 +29,7 @@ leaving = Closing 5 2 ∷ []
 
 -- enlisted, with that queue, and sessions of these clients
 abbrev pub serves : List Asked → List ℕ → Cell
-serves queue sessions = listed (a_server (record { queue = queue; sessions = sessions; sender = None }))
+serves queue sessions = listed (a_server (record { queue = queue; sessions = sessions; sender = None; token = None }))
 
 abbrev pub by_client : ℕ → Option Sender
 by_client client = Some (record { client = client; holds_slot = true; is_told = true })
@@ -39,6 +41,17 @@ sent thing sender owner = record (a_cell 7 thing owner) { service = record unser
 -- a message of that client, by that name, in the server's queue where the number says
 abbrev pub waits : (name client place : ℕ) → Cell
 waits name client place = record (a_cell name Message (Elsewhere (Queued 5 place))) { service = record unserved { sender = by_client client } }
+
+-- a token with that sender, of such a thing in that place
+abbrev pub a_token : Option Sender → Thing → Place → Cell
+a_token sender thing owner = record (a_cell 7 thing owner) { service = record unserved { sender = sender; token = Some (record { class = 2; order = 0 }) } }
+
+-- a token by that name with that order, and an object that waits for the one of that order
+abbrev pub of_order : ℕ → ℕ → Cell
+of_order name order = record (a_cell name Message (Elsewhere Root)) { service = record unserved { token = Some (record { class = 2; order = order }) } }
+
+abbrev pub awaiting : ℕ → ℕ → Cell
+awaiting name order = record (a_cell name pair (Elsewhere Root)) { request = Some (record { order = 0; priority = pos 0; phase = Issued; status = pending; timer = None; token = Some order }) }
 
 -- that stage of the server's dispatch is at hand for client 0
 abbrev pub Serving : List Client → Cell → Stage → Type 0
@@ -73,6 +86,14 @@ pub record KeptBites : Type 0 where
   pub unsent : Fit [] (sent Message None (Elsewhere Root) ∷ []) → ⊥
   pub sent_no_message : Fit [] (sent pair (by_client 0) (Elsewhere Root) ∷ []) → ⊥
   pub serves_no_message : Fit [] (sent pair None (Elsewhere In_service) ∷ []) → ⊥
+  -- a token has none, is a message, and is not served
+  pub has_token : Fit [] (a_token None Message (Elsewhere Root) ∷ [])
+  pub token_is_sent : Fit [] (a_token (by_client 0) Message (Elsewhere Root) ∷ []) → ⊥
+  pub token_no_message : Fit [] (a_token None pair (Elsewhere Root) ∷ []) → ⊥
+  pub serves_token : Fit [] (a_token None Message (Elsewhere In_service) ∷ []) → ⊥
+  -- no two requests wait for one token, and no two tokens have one order
+  pub waits_alone : TokensApart (awaiting 1 0 ∷ awaiting 2 0 ∷ []) → ⊥
+  pub tokens_alike : TokensApart (of_order 1 0 ∷ of_order 2 0 ∷ []) → ⊥
   -- sessions and connects that wait are no more than the server takes
   pub too_many : Fit (Open 5 2 4 ∷ Connecting 5 4 ∷ []) (serves (Connect_of 1 ∷ []) (0 ∷ []) ∷ a_session ∷ []) → ⊥
   -- the client whose connect or close is served is at it, and asks for it no more

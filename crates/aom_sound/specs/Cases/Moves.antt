@@ -36,7 +36,7 @@ goes_beside c others kinds = at kinds (state_of (Destroy ∷ at_bottom) (c ∷ o
 
 -- an object that is enlisted, with its request in that phase
 abbrev pub requesting : Phase → Cell
-requesting phase = record (a_cell 1 waiter (Going 2)) { request = Some (record { order = 0; priority = pos 0; phase = phase; status = pos 0; timer = None }) }
+requesting phase = record (a_cell 1 waiter (Going 2)) { request = Some (record { order = 0; priority = pos 0; phase = phase; status = pos 0; timer = None; token = None }) }
 
 abbrev pub goes_in : Phase → List Stuck → Turning
 goes_in phase kinds = goes_beside (requesting phase) [] kinds

@@ -15,7 +15,7 @@ use Rattle.aom_sound.specs.Cases.Requests.{elsewhere_cases}
 
 -- the object that a method works on, with its request so far
 abbrev pub owing : Phase → ℤ → List Cell
-owing phase status = record (a_cell 9 served (Elsewhere Root)) { request = Some (record { order = 0; priority = pos 0; phase = phase; status = status; timer = None }) } ∷ []
+owing phase status = record (a_cell 9 served (Elsewhere Root)) { request = Some (record { order = 0; priority = pos 0; phase = phase; status = status; timer = None; token = None }) } ∷ []
 
 -- a method of an object that a native serves and that is not enlisted, and of one whose request is so far
 abbrev pub served_case : Instr → List Stuck → Case
@@ -90,7 +90,7 @@ hears i killed session answer found = record { instr = i; killed = killed; sessi
 
 -- the object is enlisted and idle
 abbrev pub case_of : Heard_case → Case
-case_of h = record (served_case h.instr []) { cells = record (a_cell 9 served (Elsewhere Root)) { request = Some (record { order = 0; priority = pos 0; phase = Idle; status = pos 0; timer = None }); session = h.session } ∷ [] }
+case_of h = record (served_case h.instr []) { cells = record (a_cell 9 served (Elsewhere Root)) { request = Some (record { order = 0; priority = pos 0; phase = Idle; status = pos 0; timer = None; token = None }); session = h.session } ∷ [] }
 
 abbrev pub heard_in : Heard_case → State
 heard_in h = let s = begins (case_of h) in record s { killed = h.killed }

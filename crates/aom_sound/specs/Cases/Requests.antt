@@ -8,7 +8,7 @@ use Rattle.aom_sound.specs.Cases.Building.{leaf, pair, waiter, keeper, seven, a_
 
 -- the object that a method works on, enlisted with its request so far
 abbrev pub listed : Phase → List Cell
-listed phase = record (a_cell 9 waiter (Elsewhere Root)) { request = Some (record { order = 0; priority = pos 0; phase = phase; status = pos 0; timer = None }) } ∷ []
+listed phase = record (a_cell 9 waiter (Elsewhere Root)) { request = Some (record { order = 0; priority = pos 0; phase = phase; status = pos 0; timer = None; token = None }) } ∷ []
 
 -- a method of an active object that is not enlisted, and of one whose request is so far
 abbrev pub unlisted_case : Instr → List Stuck → Case

@@ -120,7 +120,7 @@ asked role phase status kinds =
     record (gives_back Nothing kinds) {
       role = role;
       home = inside waiter;
-      cells = record (a_cell 9 waiter (Elsewhere Root)) { request = Some (record { order = 0; priority = pos 0; phase = phase; status = status; timer = None }) } ∷ [];
+      cells = record (a_cell 9 waiter (Elsewhere Root)) { request = Some (record { order = 0; priority = pos 0; phase = phase; status = status; timer = None; token = None }) } ∷ [];
     }
 
 -- a method that cancels has its request completed

@@ -111,7 +111,7 @@ closing_cases =
 
 -- enlisted, and idle
 abbrev pub listed : Cell → Cell
-listed c = record c { request = Some (record { order = 0; priority = pos 0; phase = Idle; status = pos 0; timer = None }) }
+listed c = record c { request = Some (record { order = 0; priority = pos 0; phase = Idle; status = pos 0; timer = None; token = None }) }
 
 -- a server that is enlisted signals while something waits in its queue
 abbrev pub signal_cases : List Turn_case

@@ -10,12 +10,12 @@ use Rattle.aom_sound.specs.Cases.Moves.{an_image}
 -- an object that is enlisted, with its place among those enlisted, its priority, its request and that request's status
 abbrev pub listed : (name order : ℕ) (priority : ℤ) → Phase → (status : ℤ) → Cell
 listed name order priority phase status =
-    record (a_cell name waiter (Elsewhere Root)) { request = Some (record { order = order; priority = priority; phase = phase; status = status; timer = None }) }
+    record (a_cell name waiter (Elsewhere Root)) { request = Some (record { order = order; priority = priority; phase = phase; status = status; timer = None; token = None }) }
 
 -- one that waits for a timer
 abbrev pub timed : (name order : ℕ) → Timer → Cell
 timed name order timer =
-    record (a_cell name waiter (Elsewhere Root)) { request = Some (record { order = order; priority = pos 0; phase = Active; status = pending; timer = Some timer }) }
+    record (a_cell name waiter (Elsewhere Root)) { request = Some (record { order = order; priority = pos 0; phase = Active; status = pending; timer = Some timer; token = None }) }
 
 abbrev pub named_so : ℕ → Object
 named_so name = record { name = name; thing = waiter }
