@@ -3,7 +3,7 @@ use Rattle.std.proofs.Common.{Bool, List, None, Option, Some, [], ap, arith, con
 use Rattle.std.specs.Prelude.{is_some, ◌||◌}
 use Rattle.std.proofs.lemmas.Bool.{eq-eqb, eqb-true, false≢true}
 use Rattle.std.proofs.lemmas.List.Folds.{list_any_at}
-use Rattle.aom_active.proofs.Asking.{newest}
+use Rattle.aom_active.proofs.Asking.{asked_set, newest}
 use Rattle.aom_active.specs.Agrees.{Active, queue_in, queued}
 use Rattle.aom_active.specs.Meanings.{Enlists}
 use Rattle.aom_cells.specs.Heap.{class_at}
@@ -12,12 +12,17 @@ use Rattle.aom_image.specs.declared.method.Thing.TheVariants.{Object as An_objec
 use Rattle.aom_instructions.specs.declared.instr.Instr.TheVariants.{Enlist}
 use Rattle.aom_queues.specs.Lists.{IsFree, IsIn, Table, list_at, with_list}
 use Rattle.aom_roles.specs.Classes.{sessions_in}
+use Rattle.aom_sound.proofs.Services.{service_asked}
 use Rattle.aom_sound.proofs.Storing.{requested_here, requested_there, rerequested_alike}
 use Rattle.aom_sound.specs.Clients.{is_of_class}
 use Rattle.aom_sound.specs.Enlisted.{first_request, home_kind, next_order, rerequested}
-use Rattle.aom_sound.specs.Places.{Cell, Object, Register, Request, Tidy, named, requested, service_of, set_request}
+use Rattle.aom_sound.specs.Places.{Cell, Object, Register, Request, Service, Tidy, named, requested, service_of, set_request}
 use Rattle.aom_sound.specs.Servers.{has_more, is_among, is_server}
 use Rattle.aom_sound.specs.State.{Inside}
+use Rattle.aom_sound.specs.Tokens.{awaited}
+use Rattle.aom_parts.proofs.Tokens.{tokens_still}
+use Rattle.aom_parts.specs.Serving.{message_name}
+use Rattle.aom_parts.specs.Tokens.{SameTokens}
 use Rattle.aom_parts.proofs.Listing.{listed_last}
 use Rattle.aom_parts.proofs.Messages.{messages_asked}
 use Rattle.aom_parts.proofs.Still.{same_still, still_requested}
@@ -142,12 +147,22 @@ module _ (p : Image) (m : Parts) (h : At_hand p m) (x : OnObject p m h) (priorit
       ap (λ o. queue_in p o (service_of cs (this m))) (named_here p m h x) ∙ ap (λ b. cond b (Some (has_more (service_of cs (this m)).queue)) None) e
       ∙ ap (λ q. cond b (Some (has_more q)) None) (ap (λ n. (service_of cs n).queue) x.number ∙ (h.kept.fit.enlisted x.object x.lives fresh).0)
 
-  services_enlisted : (t : Table) → (SameListed p m.listed cs → SameListed p t (set_request x.object.name (Some r) cs)) → SameServices p m.clients m.messages t (rerequested cs h.frame.home (Some r)) h.state.clients
+  services_enlisted : (t : Table) → (SameListed p m.listed cs → SameListed p t (set_request x.object.name (Some r) cs)) → SameServices p m.clients m.messages m.tokens t (rerequested cs h.frame.home (Some r)) h.state.clients
   services_enlisted t listed =
       let same = h.agrees.services in
       let ds = set_request x.object.name (Some r) cs in
-      subst (λ home. SameServices p m.clients m.messages t (rerequested cs home (Some r)) h.state.clients) (sym x.home)
-      (record { clients = same_still m.clients cs ds h.state.clients (still_requested cs x.object.name (Some r)) same.clients; sized = same.sized; messages = messages_asked p m.messages cs x.object.name (Some r) same.messages; listed = listed same.listed })
+      subst (λ home. SameServices p m.clients m.messages m.tokens t (rerequested cs home (Some r)) h.state.clients) (sym x.home)
+      (record { clients = same_still m.clients cs ds h.state.clients (still_requested cs x.object.name (Some r)) same.clients; sized = same.sized; messages = messages_asked p m.messages cs x.object.name (Some r) same.messages; tokens = tokens_enlisted; listed = listed same.listed })
+    where
+      -- it waits for no token before and after
+      tokens_enlisted : SameTokens p m.tokens (set_request x.object.name (Some r) cs)
+      tokens_enlisted =
+          tokens_still p m.tokens cs (set_request x.object.name (Some r) cs) (λ n. ap awaited (sym (asked_set cs x.object.name (Some r) (ap is_some x.lives) n)) ∙ go n (x.object.name == n) refl)
+          (λ k. ap (λ (v : Service). v.token) (service_asked cs x.object.name (Some r) (message_name k))) h.agrees.services.tokens
+        where
+          go : (n : ℕ) (b : Bool) → (x.object.name == n) ≡ b → awaited (cond b (Some r) (requested cs n)) ≡ awaited (requested cs n)
+          go n true e = sym (ap awaited (ap (requested cs) (sym (eqb-true x.object.name n e)) ∙ fresh))
+          go n false e = refl
 
 module _ (p : Image) (m : Parts) (refused : List ℕ) (a : Active) (priority : ℤ) where
   pub enlist_plain_does : is_server_class p (class_at m.cells (this m)) ≡ false → Enlists m.active a (this m) priority None → DoesIn p refused (Enlist priority) m (places.next (record m { active = a }))
@@ -156,7 +171,7 @@ module _ (p : Image) (m : Parts) (refused : List ℕ) (a : Active) (priority : �
       let x = on_object p m h met.0 in
       let none = sym (own_told p m h x ∙ ap (requested h.state.cells) x.number) ∙ free _ met.1.0 in
       let is = serving_told p m h x priority none ∙ plain in
-      asks_on p m h a m.listed (Some (first_request h.state.cells priority))
+      asks_on p m h a m.tokens m.listed (Some (first_request h.state.cells priority))
       (requests_enlisted p m h x a priority None (queue_told p m h x priority none false is) enlists)
       (services_enlisted p m h x priority none m.listed (listed_plain p m.listed h.state.cells x.object (first_request h.state.cells priority) x.lives none is)))
 
@@ -170,6 +185,6 @@ module _ (p : Image) (m : Parts) (refused : List ℕ) (a : Active) (priority : �
       let thing = thing_is x.object.thing class _ told (thing_here p m h x) in
       let t = with_list class (list_at m.listed class ++ this m ∷ []) m.listed in
       let listed = listed_server p m.listed h.state.cells x.object (first_request h.state.cells priority) x.lives none class is thing small h.typed.good.tidy refl in
-      asks_on p m h a t (Some (first_request h.state.cells priority))
+      asks_on p m h a m.tokens t (Some (first_request h.state.cells priority))
       (requests_enlisted p m h x a priority (Some false) (queue_told p m h x priority none true is) enlists)
       (services_enlisted p m h x priority none t (λ same. subst (λ n. SameListed p (with_list class (list_at m.listed class ++ n ∷ []) m.listed) (set_request x.object.name (Some (first_request h.state.cells priority)) h.state.cells)) (sym x.number) (listed same))))

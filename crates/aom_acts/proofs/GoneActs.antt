@@ -30,17 +30,18 @@ use Rattle.aom_sound.specs.Destruction.{is_field_of, owns_nothing, vanished}
 use Rattle.aom_sound.specs.Kept.{IsKept, QueueFits}
 use Rattle.aom_sound.specs.Lines.{queue_lines}
 use Rattle.aom_sound.specs.Moves.{goes_line}
-use Rattle.aom_sound.specs.Places.{Cell, Elsewhere, Entry as Entry_at, Field, Going, In_service, Object, Place, Queued, Register, Root, Service, Session, Tidy, changed, held, named, requested, service_of, without}
+use Rattle.aom_sound.specs.Places.{Cell, Elsewhere, Entry as Entry_at, Field, Going, In_service, Object, Place, Queued, Register, Request, Root, Service, Session, Tidy, changed, held, named, requested, service_of, without}
+use Rattle.aom_sound.specs.Requests.{Suits, resting_in, states_claim, thing_kind}
 use Rattle.aom_sound.specs.Servers.{is_among, is_queue, is_queue_of, without_queue}
 use Rattle.aom_sound.specs.State.{Destroy, State, Task, resumed}
-use Rattle.aom_sound.specs.WellTyped.{WellTyped}
+use Rattle.aom_sound.specs.WellTyped.{Good, WellTyped}
 use Rattle.aom_transcript.specs.declared.line.Line.TheVariants.{Gone}
 use Rattle.aom_parts.proofs.Asking.{requests_gone, requests_unslotted}
 use Rattle.aom_parts.proofs.Beside.{Beside, NamedBeside, cells_beside, listed_beside, natives_beside, requests_beside}
 use Rattle.aom_parts.proofs.Cells.{cells_without, unowned}
 use Rattle.aom_parts.proofs.Departing.{at_set_or}
 use Rattle.aom_parts.proofs.Elsewhere.{SessionsSame, shows_again}
-use Rattle.aom_parts.proofs.Leaving.{beside_unqueued, holds_unqueued, messages_unqueued, places_in, waiting_kept, waiting_once}
+use Rattle.aom_parts.proofs.Leaving.{beside_unqueued, holds_unqueued, messages_unqueued, places_in, told_unqueued, waiting_kept, waiting_once}
 use Rattle.aom_parts.proofs.Listing.{listed_gone}
 use Rattle.aom_parts.proofs.Messages.{messages_unslotted, messages_without}
 use Rattle.aom_parts.proofs.Premises.{messages_wait}
@@ -48,6 +49,7 @@ use Rattle.aom_parts.proofs.Servicing.{connecting_here, same_gone}
 use Rattle.aom_parts.proofs.Sessions.{natives_gone}
 use Rattle.aom_parts.proofs.Sizing.{sized_gone}
 use Rattle.aom_parts.proofs.Telling.{gone_lines as lines_of_entry, queue_told}
+use Rattle.aom_parts.proofs.Told.{tokens_beside, tokens_unslotted, tokens_without}
 use Rattle.aom_parts.proofs.Unslotted.{cells_unslotted, natives_unslotted}
 use Rattle.aom_parts.proofs.Values.{destroys_value, destroys_word, going_past, writes}
 use Rattle.aom_parts.specs.Agrees.{Agrees, Shows, number, word_at}
@@ -58,6 +60,12 @@ use Rattle.aom_parts.specs.Places as places
 use Rattle.aom_parts.specs.Places.{going_here, others, session_number, session_with, value_in, with_tasks}
 use Rattle.aom_parts.specs.Serving.{Once, SameClients, asked_by, sessionless}
 use Rattle.aom_parts.specs.Stands.{Stands}
+use Rattle.aom_parts.specs.Tokens.{SameTokens}
+use Rattle.aom_image.specs.declared.class.ClassKind.{ClassKind}
+use Rattle.aom_roles.specs.States.{last_of}
+use Rattle.aom_sound.proofs.Layers.{going_layer}
+use Rattle.aom_sound.specs.Tokens.{awaited}
+use Rattle.std.proofs.lemmas.Option.{same_Some}
 use Rattle.aom_parts.specs.declared.parts.Parts.{Parts}
 use Rattle.aom_acts.proofs.GoingActs.{Ends_cell, by_going, fields_gone, going_object, going_on, going_small, line_of, nothing_owned, number_of, over, same_resumed, thing_of_it, value_resumed, word_resumed}
 use Rattle.aom_acts.proofs.ReturnActs.{lives_within}
@@ -162,6 +170,11 @@ sessions_same n (c ∷ cs) s none = λ i d. sessions_same n cs (kept.session_gon
     one : SessionsSame s (kept.session_gone n (c ∷ cs) s)
     one = set_same s (kept.session_gone n (c ∷ cs) s) c (at_gone (kept.client_at s c)) refl (λ large. ap at_gone (get_or_past s.clients c Unconnected large)) none.0 (λ i. gone_none (kept.client_at s c) i (none.0 i))
 
+-- what is about to go waits for no token
+last_untold : (k : Option ClassKind) (r : Option Request) → Suits k (resting_in (last_of k)) r → awaited r ≡ None
+unfolding last_of
+last_untold k r s = grind arith
+
 -- ---- the going of a cell
 
 module _ (p : Image) (m : Parts) (h : In_going p m) (o : Object) (holds : held h.state.cells (Going (length h.below)) ≡ Some o) (free : owns_nothing (without_queue o.name h.state.cells) o.name ≡ true) where
@@ -216,6 +229,15 @@ module _ (p : Image) (m : Parts) (h : In_going p m) (o : Object) (holds : held h
 
   lives_there : named unqueued o.name ≡ Some o
   lives_there = held_lives unqueued g o tidy there
+
+  -- it waits for no token
+  going_untold : awaited (requested s.cells o.name) ≡ None
+  going_untold = going_layer (λ ls. Good p h.typing s.cells ls) ts h.typed.layers (sym h.typed.tasks ∙ h.top) h.typed.good (λ x ls under good.
+      let held_there : held s.cells g ≡ Some x = ap (λ us. held s.cells (Going (length us))) (sym under) ∙ good.stack.0.1 in
+      let is : x ≡ o = same_Some x o (sym held_there ∙ holds) in
+      let last = resting_in (last_of (thing_kind p x.thing)) in
+      let suits = subst (λ b. Suits (thing_kind p x.thing) (cond b last (states_claim p x ls)) (requested s.cells x.name)) (eq-eqb x.name x.name refl) (good.suits x good.stack.0.0) in
+      ap (λ (y : Object). awaited (requested s.cells y.name)) (sym is) ∙ last_untold (thing_kind p x.thing) (requested s.cells x.name) suits)
 
   -- no session is there
   no_session_there : (c : ℕ) → held s.cells (Elsewhere (Session n c)) ≡ None
@@ -369,6 +391,12 @@ module _ (p : Image) (m : Parts) (h : In_going p m) (o : Object) (holds : held h
         (ap (λ i. count_kept store + i) (many_there (kept.queue_at k n)) ∙ drops.count)
         h.agrees.services.messages))
 
+    tokens_so : SameTokens p m.tokens after
+    tokens_so =
+        tokens_unslotted p m.tokens xs gone
+        (tokens_without p m.tokens unqueued g o tidy there small (ap awaited (beside.requests o.name) ∙ going_untold)
+        (tokens_beside p m.tokens s.cells unqueued beside (told_unqueued p h.typing h.wired s h.typed h.kept.fit k same m.messages h.agrees.services.messages n) h.agrees.services.tokens))
+
     pub goes_away : Agrees p (places.next (record (with_tasks ms m) { cells = heap; active = a; sessions = w; clients = k'; messages = store; listed = unlisted n m.listed })) (vanished o ts s)
     goes_away = record {
       tasks = same_resumed ms ts top.below;
@@ -381,6 +409,7 @@ module _ (p : Image) (m : Parts) (h : In_going p m) (o : Object) (holds : held h
         clients = clients_gone;
         sized = sized_gone p.header.cells k h.agrees.services.sized n;
         messages = messages_so;
+        tokens = tokens_so;
         listed = listed_so;
       };
       rest = h.agrees.rest;

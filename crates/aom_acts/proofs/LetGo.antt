@@ -208,6 +208,7 @@ module _ (p : Image) (formed : WellFormed p) (m : Parts) (announced : m.rest.ann
             clients = same_released m.clients (moved from to s.cells) s.clients a.services.clients c;
             sized = sized_released p.header.cells m.clients agrees.services.sized c;
             messages = a.services.messages;
+            tokens = a.services.tokens;
             listed = a.services.listed;
           };
           rest = counts;

@@ -37,3 +37,4 @@ pub mod Resulting
 pub mod UnwindActs
 mod Vanishing
 pub mod MessageActs
+pub mod TokenActs

@@ -1,4 +1,4 @@
--- Instructions on messages: the one that is served comes to a register, and a message is completed.
+-- Instructions on messages: the one that is served comes to a register, and a client's message is completed.
 use Rattle.std.proofs.Common.{List, None, Option, Some, ap, arith, length, refl, subst, sym, true, ℕ, ℤ, ◌+◌, ◌++◌, ◌<◌, ◌∙◌, ◌∷◌, ◌≡◌}
 use Rattle.std.specs.Prelude.{is_some}
 use Rattle.std.proofs.lemmas.Bool.{false≢true}
@@ -24,26 +24,30 @@ use Rattle.aom_sound.proofs.Things.{stands_message}
 use Rattle.aom_sound.specs.Lines.{message_line}
 use Rattle.aom_sound.specs.Moves.{needs}
 use Rattle.aom_sound.specs.Objects.{is_thing}
-use Rattle.aom_sound.specs.Places.{Elsewhere, In_service, Object, Place, Register, changed, held, moved, without}
-use Rattle.aom_sound.specs.State.{Choice}
+use Rattle.aom_sound.specs.Places.{Elsewhere, In_service, Object, Place, Register, Token, changed, held, moved, service_of, without}
+use Rattle.aom_sound.specs.State.{Choice, Run, State, next, set_word}
+use Rattle.aom_sound.specs.Tokens.{order_in, redeemed_by, token_of}
+use Rattle.aom_sound.specs.Words.{read}
+use Rattle.aom_sound.proofs.Sources.{has_sender}
+use Rattle.std.proofs.lemmas.Option.{none-some}
+use Rattle.aom_parts.specs.Tokens.{class_in}
+use Rattle.aom_tokens.specs.Tokens.{class_at}
 use Rattle.aom_parts.specs.declared.parts.Parts.{Parts}
 use Rattle.aom_parts.specs.Places as places
 use Rattle.aom_parts.specs.Places.{Others, others, set_register, value_in}
-use Rattle.aom_parts.specs.Agrees.{number}
+use Rattle.aom_parts.specs.Agrees.{Agrees, number}
 use Rattle.aom_parts.specs.Serving.{message_name}
 use Rattle.aom_parts.proofs.Asking.{requests_moved}
 use Rattle.aom_parts.proofs.CellFields.{served_written}
 use Rattle.aom_parts.proofs.Cells.{cells_moved}
-use Rattle.aom_parts.proofs.Replying.{cells_completed, completion_told, message_kept, message_sent, natives_completed, place_below, place_of, requests_completed, services_completed, was_taken}
+use Rattle.aom_parts.proofs.Replying.{cells_completed, message_sent, natives_completed, requests_completed, services_completed, was_taken}
 use Rattle.aom_parts.proofs.Services.{services_moved}
 use Rattle.aom_parts.proofs.Sessions.{natives_moved}
 use Rattle.aom_parts.proofs.Telling.{completed_lines, message_told}
 use Rattle.aom_parts.proofs.Values.{moves, value_written, word_written}
 use Rattle.aom_acts.specs.Acts.{At_hand, Does, Tells}
-use Rattle.aom_acts.specs.Next.{IsNext, counting}
-use Rattle.aom_acts.specs.Serving.{Completes, IsTaken, completion_lines}
+use Rattle.aom_acts.specs.Serving.{Completes, completion_lines}
 use Rattle.aom_acts.proofs.GoingOn.{framed, goes_on_with, written}
-use Rattle.aom_acts.proofs.Housing.{at_hand, needs_met}
 use Rattle.aom_acts.proofs.ObjectActs.{shown_here}
 use Rattle.aom_acts.proofs.Running.{free, no_word}
 use Rattle.aom_acts.proofs.WordActs.{plain_does, word_read}
@@ -78,13 +82,13 @@ module _ (m : Parts) (refused : List ℕ) where
 -- ---- a message is completed
 
 -- what is in the register is a message, with the number that the register shows
-record InRegister (p : Image) (m : Parts) (h : At_hand p m) (a : ℕ) : Type 0 where
-  object : Object
-  there : held h.state.cells (Register (length h.below) a) ≡ Some object
-  message : object.thing ≡ Message
-  number : object.name ≡ register_here m.stack.tasks a
+pub record InRegister (p : Image) (m : Parts) (h : At_hand p m) (a : ℕ) : Type 0 where
+  pub object : Object
+  pub there : held h.state.cells (Register (length h.below) a) ≡ Some object
+  pub message : object.thing ≡ Message
+  pub number : object.name ≡ register_here m.stack.tasks a
 
-in_register : (p : Image) (m : Parts) (h : At_hand p m) (a b : ℕ) (c : Choice) → AllTrue (needs p c h.frame h.below h.state (Reply a b)) → InRegister p m h a
+pub in_register : (p : Image) (m : Parts) (h : At_hand p m) (a b : ℕ) (c : Choice) → AllTrue (needs p c h.frame h.below h.state (Reply a b)) → InRegister p m h a
 in_register p m h a b c met = go (held h.state.cells (Register (length h.below) a)) refl met.1.0 met.1.1.0
   where
     go : (x : Option Object) → held h.state.cells (Register (length h.below) a) ≡ x → is_some (held h.state.cells (Register (length h.below) a)) ≡ true → is_thing p Message (held h.state.cells (Register (length h.below) a)) ≡ true → InRegister p m h a
@@ -96,28 +100,52 @@ in_register p m h a b c met = go (held h.state.cells (Register (length h.below) 
       number = sym (shown_here p m h a (no_word _ met.0) ∙ ap number e);
     }
 
+-- the state once it is replied to, where it is a token of that order
+abbrev pub replied : (p : Image) {m : Parts} (h : At_hand p m) → ℕ → ℕ → Option ℕ → State
+replied p h a b order =
+    let code = read h.frame h.below h.state b in
+    record h.state { cells = without (Register (length h.below) a) (redeemed_by order code h.state.cells); tasks = Run (next (set_word h.frame a None)) ∷ h.below }
+
+-- where no token is at its place it is none
+module _ (p : Image) (m : Parts) (h : At_hand p m) (a : ℕ) (x : InRegister p m h a) (place : ℕ) (name : x.object.name ≡ message_name place) (sent : class_at m.tokens place ≡ None) where
+  no_token_there : (service_of h.state.cells x.object.name).token ≡ None
+  no_token_there =
+      ap (λ n. (service_of h.state.cells n).token) name ∙ go (service_of h.state.cells (message_name place)).token (sym (h.agrees.services.tokens.classes place) ∙ sent)
+    where
+      go : (t : Option Token) → class_in t ≡ None → t ≡ None
+      go None e = refl
+      go (Some t) e = absurd (none-some t.class (sym e))
+
+  -- so no request waits for it, and it has a sender
+  nothing_told : token_of h.state.cells (held h.state.cells (Register (length h.below) a)) ≡ None
+  nothing_told = ap (token_of h.state.cells) x.there ∙ ap order_in no_token_there
+
+  pub it_was_sent : has_sender h.state.cells x.object.name ≡ true
+  it_was_sent = message_sent p h.typing h.state h.typed (Register (length h.below) a) x.object x.there x.message h.kept.fit.sources no_token_there
+
 module _ (m : Parts) where
-  pub reply_does : (refused : List ℕ) (a b place : ℕ) (store : Store) → a < 16 → first_number + place ≡ register_here m.stack.tasks a → Changes m.messages store place None → count store + 1 ≡ count m.messages →
+  pub reply_does : (refused : List ℕ) (a b place : ℕ) (store : Store) → a < 16 → first_number + place ≡ register_here m.stack.tasks a → class_at m.tokens place ≡ None → Changes m.messages store place None → count store + 1 ≡ count m.messages →
       Does refused (Reply a b) m (places.next (record (set_register a null m) { clients = after_complete place m.clients; messages = store }))
-  reply_does refused a b place store small named gone fewer =
+  reply_does refused a b place store small named sent gone fewer =
       plain_does m (places.next (record (set_register a null m) { clients = after_complete place m.clients; messages = store })) refused (Reply a b) refl (λ p h c met.
       let s = h.state in
       let x = in_register p m h a b c met in
       let g = Register (length h.below) a in
       let name : x.object.name ≡ message_name place = x.number ∙ sym named in
       let mid = record m { clients = after_complete place m.clients; messages = store } in
-      goes_on_with p m h mid (without g s.cells) s.items s.rest (put_at None h.frame.words a None) (on_top (with_register a null)) (with_register a null) (λ f ms. refl)
+      subst (λ order. Agrees p (places.next (record (set_register a null m) { clients = after_complete place m.clients; messages = store })) (replied p h a b order)) (sym (nothing_told p m h a x place name sent))
+      (goes_on_with p m h mid (without g s.cells) s.items s.rest (put_at None h.frame.words a None) (on_top (with_register a null)) (with_register a null) (λ f ms. refl)
       (record {
         stack = refl;
         cells = cells_completed p h.typing s h.typed g x.object x.there x.message place name m.cells h.agrees.cells;
         entries = h.agrees.entries;
         requests = requests_completed p h.typing s h.typed g x.object x.there x.message place name m.active h.agrees.requests;
         natives = natives_completed p h.typing s h.typed g x.object x.there x.message place name m.sessions h.formed.header.cells h.agrees.natives;
-        services = services_completed p h.typing s h.typed g x.object x.there x.message place name h.wired h.kept refl (message_sent p h.typing s h.typed g x.object x.there x.message h.kept.fit.sources) m.clients m.messages m.listed h.agrees.services store gone fewer;
+        services = services_completed p h.typing s h.typed g x.object x.there x.message place name h.wired h.kept refl (it_was_sent p m h a x place name sent) m.clients m.messages m.tokens m.listed h.agrees.services store gone fewer;
         rest = h.agrees.rest;
         room = h.agrees.entry_room;
       })
-      (λ f ms e top. written p m h mid (without g s.cells) a null None None small refl f ms top (completed_values (Runs_frame f ∷ ms) m.cells m.entries.items (others m) place) (held_without s.cells g)))
+      (λ f ms e top. written p m h mid (without g s.cells) a null None None small refl f ms top (completed_values (Runs_frame f ∷ ms) m.cells m.entries.items (others m) place) (held_without s.cells g))))
 
   -- its line
   pub reply_tells : (told : Turn) (a b place : ℕ) (code : ℤ) → first_number + place ≡ register_here m.stack.tasks a → code ≡ cast_signed w32 (register_here m.stack.tasks b) →
@@ -127,7 +155,7 @@ module _ (m : Parts) where
       let x = in_register p m h a b c met in
       let g = Register (length h.below) a in
       let name : x.object.name ≡ message_name place = x.number ∙ sym named in
-      let taken = was_taken p h.typing s h.typed g x.object x.there x.message place name h.wired h.kept refl (message_sent p h.typing s h.typed g x.object x.there x.message h.kept.fit.sources) m.clients m.messages m.listed h.agrees.services in
+      let taken = was_taken p h.typing s h.typed g x.object x.there x.message place name h.wired h.kept refl m.clients h.agrees.services.clients in
       ap (λ l. record told { lines = told.lines ++ l })
       (lines_so (completion (place_at m.clients place)) code ∙ sym (message_told m.clients s.cells s.clients h.agrees.services.clients x.object place code name taken) ∙ ap (λ o. message_line s.cells o code) (sym x.there) ∙ ap (message_line s.cells (held s.cells g)) (read ∙ word_read p m h b met.1.1.1.0))
     where
@@ -139,34 +167,13 @@ module _ (m : Parts) where
 
 -- the register is null, the message is completed, and the method goes on
 module _ (m mid new : Parts) (told now : Turn) (n : ℕ) (code : ℤ) (a b : ℕ) (emptied : mid ≡ set_register a null m) (number_so : n ≡ register_here m.stack.tasks a) (completes : Completes n code mid new told now) where
-  pub reply_done : (refused : List ℕ) (last : Parts) → a < 16 → last ≡ places.next new → Does refused (Reply a b) m last
-  reply_done refused last small goes_on =
+  pub reply_done : (refused : List ℕ) (last : Parts) → class_at mid.tokens completes.place ≡ None → a < 16 → last ≡ places.next new → Does refused (Reply a b) m last
+  reply_done refused last sent small goes_on =
       subst (λ x. Does refused (Reply a b) m x) (sym (goes_on ∙ ap places.next (completes.rest ∙ ap (λ (x : Parts). record x { clients = after_complete completes.place x.clients; messages = new.messages }) emptied)))
-      (reply_does m refused a b completes.place new.messages small (completes.number ∙ number_so) (subst (λ (x : Parts). Changes x.messages new.messages completes.place None) emptied completes.released)
+      (reply_does m refused a b completes.place new.messages small (completes.number ∙ number_so) (subst (λ (x : Parts). class_at x.tokens completes.place ≡ None) emptied sent) (subst (λ (x : Parts). Changes x.messages new.messages completes.place None) emptied completes.released)
       (completes.count ∙ ap (λ (x : Parts). count x.messages) emptied))
 
   pub reply_told : code ≡ cast_signed w32 (register_here m.stack.tasks b) → Tells (Reply a b) m told now
   reply_told read =
       subst (λ x. Tells (Reply a b) m told x) (sym (completes.line ∙ ap (λ (x : Parts). record told { lines = told.lines ++ completion_lines (completion (place_at x.clients completes.place)) code }) emptied))
       (reply_tells m told a b completes.place code (completes.number ∙ number_so) read)
-
--- ---- what the code needs to know of an instruction that is next
-
-module _ (p : Image) (m : Parts) where
-  -- the register has a message that was taken, also once it is null
-  pub reply_taken : (a b : ℕ) → IsNext p (Reply a b) m → IsTaken (register_here m.stack.tasks a) (set_register a null m)
-  unfolding at_hand
-  reply_taken a b next =
-      let n = needs_met p m (Reply a b) next in
-      let h = at_hand p (counting next.counts m) next.stands next.runs in
-      let x = in_register p (counting next.counts m) h a b n.0 n.1 in
-      let g = Register (length h.below) a in
-      let place = place_of p h.typing h.state h.typed g x.object x.there x.message m.messages h.agrees.services.messages in
-      let sent = message_sent p h.typing h.state h.typed g x.object x.there x.message h.kept.fit.sources in
-      record {
-        place = place.0;
-        number = sym place.1 ∙ x.number;
-        below = place_below p h.typing h.state h.typed g x.object x.there x.message place.0 place.1 h.wired h.kept refl sent m.clients m.messages m.listed h.agrees.services;
-        kept = message_kept p h.typing h.state h.typed g x.object x.there x.message place.0 place.1 h.wired h.kept refl sent m.clients m.messages m.listed h.agrees.services;
-        taken = completion_told p h.typing h.state h.typed g x.object x.there x.message place.0 place.1 h.wired h.kept refl sent m.clients m.messages m.listed h.agrees.services;
-      }

@@ -5,7 +5,7 @@ use Rattle.std.proofs.Common.{◌≡◌, ◌≢◌, ◌<◌, ◌==◌, ℕ, ℤ,
 use Rattle.std.specs.Prelude.{is_some, option_map}
 use Rattle.std.specs.Int.{w32, cast_signed}
 use Rattle.std.specs.List.{list_any}
-use Rattle.std.proofs.lemmas.Bool.{false≢true}
+use Rattle.std.proofs.lemmas.Bool.{eq-eqb, false≢true}
 use Rattle.std.proofs.lemmas.Option.{none-some, same_Some}
 use Rattle.aom_image.proofs.Given.{some_given}
 use Rattle.aom_image.specs.Image.{Image}
@@ -14,7 +14,7 @@ use Rattle.aom_image.specs.declared.class.ClassDecl.{ClassDecl}
 use Rattle.aom_image.specs.declared.class.ClassKind.{ClassKind}
 use Rattle.aom_image.specs.declared.class.ClassKind.TheVariants.{Active as An_active}
 use Rattle.aom_image.specs.declared.class.Provider.{Provider}
-use Rattle.aom_image.specs.declared.class.Provider.TheVariants.{Own, Timer as A_timer, Native}
+use Rattle.aom_image.specs.declared.class.Provider.TheVariants.{Own, Timer as A_timer, Native, Token as A_token}
 use Rattle.aom_image.specs.declared.method.Role.TheVariants.{Cancel as Cancels_role}
 use Rattle.aom_image.specs.declared.method.Thing.{Thing}
 use Rattle.aom_instructions.specs.declared.instr.Instr.{Instr}
@@ -44,12 +44,17 @@ use Rattle.aom_sound.specs.Places.{Register, Service, service_of, Cell, Idle, Is
 use Rattle.aom_sound.specs.State.{thing_holder, home_holder, AtRoot, Choice, Frame, Home, Inside, Rest, Run, State, Static, Task, frame_as, home_view, thing_view}
 use Rattle.aom_sound.specs.Moves.{needs}
 use Rattle.aom_sound.specs.Words.{read, word_or_zero}
-use Rattle.aom_sound.proofs.Requesting.{active_listed}
+use Rattle.aom_sound.proofs.Requesting.{active_listed, issuing_active}
 use Rattle.aom_sound.proofs.Storing.{rerequested_alike}
 use Rattle.aom_sound.proofs.Services.{service_asked}
+use Rattle.aom_sound.specs.Requests.{Known, Suits}
+use Rattle.aom_sound.specs.Tokens.{awaited}
 use Rattle.aom_sound.specs.Servers.{has_more}
 use Rattle.aom_queues.specs.Lists.{Table}
-use Rattle.aom_parts.proofs.Services.{services_rerequested}
+use Rattle.aom_parts.proofs.Services.{services_rerequested, services_rerequested_with}
+use Rattle.aom_parts.proofs.Tokens.{tokens_forgotten}
+use Rattle.aom_parts.specs.Serving.{message_name}
+use Rattle.aom_tokens.specs.Tokens.{Kept, Sets}
 use Rattle.aom_parts.specs.Services.{SameServices}
 use Rattle.aom_frames.specs.Tasks.{with_view, view_here, fresh, register_here, this_here}
 use Rattle.aom_frames.specs.declared.task.Task.TheVariants.{Run as Runs_frame}
@@ -96,7 +101,7 @@ pub in_one : (test : Phase → Bool) (o : Option Request) → in_phase test o �
 in_one test None e = absurd (false≢true e)
 in_one test (Some r) e = (r, refl, e)
 
-idle_only : (x : Phase) → is_idle x ≡ true → x ≡ Idle
+pub idle_only : (x : Phase) → is_idle x ≡ true → x ≡ Idle
 idle_only x e = grind arith
 
 issued_only : (x : Phase) → is_issued x ≡ true → x ≡ Issued
@@ -110,6 +115,19 @@ waits_active h e = grind arith
 order_kept : (f : Request → Request) → ((r : Request) → (f r).order ≡ r.order) → (o : Option Request) → option_map (λ x. x.order) (on_request f o) ≡ option_map (λ x. x.order) o
 order_kept f same None = refl
 order_kept f same (Some r) = ap (λ n. Some n) (same r)
+
+-- and one that keeps what it waits for
+pub token_kept : (f : Request → Request) → ((r : Request) → (f r).token ≡ r.token) → (o : Option Request) → awaited (on_request f o) ≡ awaited o
+token_kept f same None = refl
+token_kept f same (Some r) = same r
+
+-- a request that is made so waits for no token
+issued_untold : (q : Provider) (asking : Asking) (w : ℤ) (o : Option Request) → awaited (on_request (issued_by q asking w) o) ≡ None
+issued_untold q asking w o = grind arith
+
+-- and one that is idle waits for none
+untold_idle : (k : Option ClassKind) (n : Known) (o : Option Request) → Suits k n o → in_phase is_idle o ≡ true → awaited o ≡ None
+untold_idle k n o suits idle = grind arith
 
 issued_order : (q : Provider) (asking : Asking) (w : ℤ) (r : Request) → (issued_by q asking w r).order ≡ r.order
 issued_order q asking w r = grind arith
@@ -264,9 +282,46 @@ module _ (p : Image) (m : Parts) (h : At_hand p m) where
         requests_asked a (Some (first_request h.state.cells priority)) enlists.limit
         (enlists.stands (requested h.state.cells) (queued p h.state.cells) (next_order h.state.cells) h.agrees.requests.stands (newest h.state.cells h.typed.good.tidy) is)
 
-    -- and so what clients have, where it keeps its order
-    pub services_become : (f : Request → Request) → ((r : Request) → (f r).order ≡ r.order) → SameServices p m.clients m.messages m.listed (rerequested h.state.cells h.frame.home (on_request f (own_request h.state.cells h.frame.home))) h.state.clients
-    services_become f same = services_rerequested p h.state.cells h.frame.home (on_request f (own_request h.state.cells h.frame.home)) (housed p m h) (order_kept f same (own_request h.state.cells h.frame.home)) h.agrees.services
+    -- the cells then
+    abbrev pub become : (Request → Request) → List Cell
+    become f = rerequested h.state.cells h.frame.home (on_request f (own_request h.state.cells h.frame.home))
+
+    -- and so what clients have, where it keeps its order, and waits for a token as before
+    pub services_become :
+        (f : Request → Request) → ((r : Request) → (f r).order ≡ r.order) → awaited (on_request f (own_request h.state.cells h.frame.home)) ≡ awaited (own_request h.state.cells h.frame.home) →
+        SameServices p m.clients m.messages m.tokens m.listed (become f) h.state.clients
+    services_become f same token =
+        services_rerequested p h.state.cells h.frame.home (on_request f (own_request h.state.cells h.frame.home)) (housed p m h) (order_kept f same (own_request h.state.cells h.frame.home)) token h.agrees.services
+
+    -- each request but its own is as it was
+    own_asked : (r : Option Request) (n : ℕ) → requested (rerequested h.state.cells h.frame.home r) n ≡ cond (this m == n) r (requested h.state.cells n)
+    own_asked r n =
+        ap (λ home. requested (rerequested h.state.cells home r) n) x.home ∙ sym (asked_set h.state.cells x.object.name r (ap is_some x.lives) n)
+        ∙ ap (λ i. cond (i == n) r (requested h.state.cells n)) (sym x.number)
+
+    -- where it waits for no token any more
+    pub services_forget :
+        (w : Kept) (f : Request → Request) → ((r : Request) → (f r).order ≡ r.order) → ((r : Request) → (f r).token ≡ None) → w.places ≡ m.tokens.places → Sets m.tokens.living w.living (this m) None →
+        SameServices p m.clients m.messages w m.listed (become f) h.state.clients
+    services_forget w f same none places forgets =
+        let own = own_request h.state.cells h.frame.home in
+        services_rerequested_with p h.state.cells h.frame.home (on_request f own) (housed p m h) (order_kept f same own) w
+        (tokens_forgotten p m.tokens w h.state.cells (become f) h.agrees.services.tokens (this m)
+        (λ n other. ap awaited (own_asked (on_request f own) n) ∙ ap (λ b. awaited (cond b (on_request f own) (requested h.state.cells n))) other)
+        (ap awaited (own_asked (on_request f own) (this m)) ∙ ap (λ b. awaited (cond b (on_request f own) (requested h.state.cells (this m)))) (eq-eqb (this m) (this m) refl) ∙ over own)
+        (λ n. ap (λ home. (service_of (rerequested h.state.cells home (on_request f own)) (message_name n)).token) x.home ∙ ap (λ (v : Service). v.token) (service_asked h.state.cells x.object.name (on_request f own) (message_name n)))
+        places forgets)
+        h.agrees.services
+      where
+        over : (o : Option Request) → awaited (on_request f o) ≡ None
+        over None = refl
+        over (Some r) = none r
+
+    -- an idle request waits for none
+    pub idle_untold : in_phase is_idle (own_request h.state.cells h.frame.home) ≡ true → awaited (own_request h.state.cells h.frame.home) ≡ None
+    idle_untold idle =
+        ap awaited (ap (own_request h.state.cells) x.home)
+        ∙ untold_idle (thing_kind p x.object.thing) _ (requested h.state.cells x.object.name) (h.typed.good.suits x.object x.lives) (ap (in_phase is_idle) (sym (ap (own_request h.state.cells) x.home)) ∙ idle)
 
     -- what a request is made with, and with which status a native would begin it
     abbrev pub made_with : ℤ → Asking
@@ -280,10 +335,12 @@ module _ (p : Image) (m : Parts) (h : At_hand p m) where
         (times.stands (requested h.state.cells) (queued p h.state.cells) r (next_timer h.state.cells) h.agrees.requests.stands (sym own_told ∙ is) (newest_timer h.state.cells h.typed.good.tidy)))
 
   -- the object's request is another, and the method goes on
-  pub asks_on : (a : Active) (t : Table) (r : Option Request) → SameRequests p a (rerequested h.state.cells h.frame.home r) → SameServices p m.clients m.messages t (rerequested h.state.cells h.frame.home r) h.state.clients → Agrees p (places.next (record m { active = a; listed = t })) (applied p h.frame h.below h.state (updates h.frame (Requested r)))
-  asks_on a t r requests services =
+  pub asks_on :
+      (a : Active) (w : Kept) (t : Table) (r : Option Request) → SameRequests p a (rerequested h.state.cells h.frame.home r) → SameServices p m.clients m.messages w t (rerequested h.state.cells h.frame.home r) h.state.clients →
+      Agrees p (places.next (record m { active = a; tokens = w; listed = t })) (applied p h.frame h.below h.state (updates h.frame (Requested r)))
+  asks_on a w t r requests services =
       let cs = rerequested h.state.cells h.frame.home r in
-      goes_on_as p m h (record m { active = a; listed = t }) cs h.state.items h.state.rest
+      goes_on_as p m h (record m { active = a; tokens = w; listed = t }) cs h.state.items h.state.rest
       (record { stack = refl; cells = cells_rerequested p m.cells h.state.cells h.frame.home r h.agrees.cells; entries = h.agrees.entries; requests = requests; natives = natives_rerequested p m.sessions h.state.killed h.state.cells h.frame.home r h.agrees.natives; services = services; rest = h.agrees.rest; room = h.agrees.entry_room })
       (λ f ms e top q. subst (λ o. Shows (value_in (Runs_frame f ∷ ms) m.cells m.entries.items (others m) q) (word_at (Run h.frame ∷ h.below) q) o) (sym ((rerequested_alike h.state.cells h.frame.home r).held_so q)) (top.values q))
 
@@ -316,7 +373,7 @@ module _ (p : Image) (m : Parts) where
   enlist_lives priority next = finds_cell p m (Enlist priority) next (λ c fr ts s n. n.0)
 
   pub issue_lives : (a b : ℕ) → IsNext p (Issue a b) m → Lives m.cells (this m)
-  issue_lives a b next = finds_cell p m (Issue a b) next (λ c fr ts s n. active_listed (home_kind p fr.home) n.1.1.0)
+  issue_lives a b next = finds_cell p m (Issue a b) next (λ c fr ts s n. active_listed (home_kind p fr.home) (issuing_active (home_kind p fr.home) n.1.1.0))
 
   pub set_active_lives : IsNext p SetActive m → Lives m.cells (this m)
   set_active_lives next = finds_cell p m SetActive next (λ c fr ts s n. active_listed (home_kind p fr.home) n.0)
@@ -342,15 +399,15 @@ module _ (p : Image) (m : Parts) where
   pub issue_idle : (a b : ℕ) → IsNext p (Issue a b) m → state_at m.active.table (this m) ≡ Some (held_state Idle)
   issue_idle a b next =
       let n = needs_met p m (Issue a b) next in
-      let x = finds_object p m (Issue a b) next (λ c fr ts s n. active_listed (home_kind p fr.home) n.1.1.0) in
+      let x = finds_object p m (Issue a b) next (λ c fr ts s n. active_listed (home_kind p fr.home) (issuing_active (home_kind p fr.home) n.1.1.0)) in
       let r = in_one is_idle _ n.1.1.1.1.1.0 in
-      state_told p _ _ x n.1.1.1.0 r.0 r.1 ∙ ap (λ x. Some (held_state x)) (idle_only r.0.phase r.2)
+      state_told p _ _ x (issuing_active _ n.1.1.1.0) r.0 r.1 ∙ ap (λ x. Some (held_state x)) (idle_only r.0.phase r.2)
 
   pub issue_provided : (a b : ℕ) → IsNext p (Issue a b) m → is_active_kind (kind_here p m) ≡ true
   issue_provided a b next =
       let n = needs_met p m (Issue a b) next in
-      let x = finds_object p m (Issue a b) next (λ c fr ts s n. active_listed (home_kind p fr.home) n.1.1.0) in
-      ap is_active_kind (sym (kind_told p _ _ x)) ∙ n.1.1.1.0
+      let x = finds_object p m (Issue a b) next (λ c fr ts s n. active_listed (home_kind p fr.home) (issuing_active (home_kind p fr.home) n.1.1.0)) in
+      ap is_active_kind (sym (kind_told p _ _ x)) ∙ issuing_active _ n.1.1.1.0
 
   -- one that waits from then on has a request
   pub set_active_issued : IsNext p SetActive m → state_at m.active.table (this m) ≡ Some (held_state Issued)
@@ -405,19 +462,25 @@ module _ (m : Parts) (refused : List ℕ) where
 
 module _ (m : Parts) (refused : List ℕ) (a : Active) where
   -- the request of the object that works becomes another at the same place of the list
-  becomes : (test : Phase → Bool) (f : Request → Request) → ((r : Request) → (f r).order ≡ r.order) → Makes m.active a (this m) f → (p : Image) (h : At_hand p m)
+  becomes : (test : Phase → Bool) (f : Request → Request) (w : Kept) → Makes m.active a (this m) f → (p : Image) (h : At_hand p m)
+      → ((on : OnObject p m h) → SameServices p m.clients m.messages w m.listed (become p m h on f) h.state.clients)
       → is_active_kind (home_kind p h.frame.home) ≡ true → in_phase test (own_request h.state.cells h.frame.home) ≡ true
-      → Agrees p (places.next (record m { active = a })) (applied p h.frame h.below h.state (updates h.frame (Requested (on_request f (own_request h.state.cells h.frame.home)))))
-  becomes test f same makes p h kind phase =
+      → Agrees p (places.next (record m { active = a; tokens = w })) (applied p h.frame h.below h.state (updates h.frame (Requested (on_request f (own_request h.state.cells h.frame.home)))))
+  becomes test f w makes p h services kind phase =
       let r = in_one test _ phase in
       let on = on_object p m h (active_listed _ kind) in
-      asks_on p m h a m.listed _ (requests_become p m h on a f r.0 r.1 makes) (services_become p m h on f same)
+      asks_on p m h a w m.listed _ (requests_become p m h on a f r.0 r.1 makes) (services on)
 
   pub set_active_does : Makes m.active a (this m) waits → Does refused SetActive m (places.next (record m { active = a }))
-  set_active_does makes = plain_does m _ refused SetActive refl (λ p h c met. becomes is_issued waits (λ r. refl) makes p h met.0 met.1.1.1.0)
+  set_active_does makes =
+      plain_does m _ refused SetActive refl (λ p h c met.
+      becomes is_issued waits m.tokens makes p h (λ on. services_become p m h on waits (λ r. refl) (token_kept waits (λ r. refl) (own_request h.state.cells h.frame.home))) met.0 met.1.1.1.0)
 
-  pub abort_does : Makes m.active a (this m) aborted → Does refused Abort m (places.next (record m { active = a }))
-  abort_does makes = plain_does m _ refused Abort refl (λ p h c met. becomes is_cancelling aborted (λ r. refl) makes p h met.0 met.1.0)
+  -- its token, if it waits for one, is void
+  pub abort_does :
+      (w : Kept) → Makes m.active a (this m) aborted → w.places ≡ m.tokens.places → Sets m.tokens.living w.living (this m) None → Does refused Abort m (places.next (record m { active = a; tokens = w }))
+  abort_does w makes places forgets =
+      plain_does m _ refused Abort refl (λ p h c met. becomes is_cancelling aborted w makes p h (λ on. services_forget p m h on w aborted (λ r. refl) (λ r. refl) places forgets) met.0 met.1.0)
 
 -- what a native has answered is what the checked machine hears
 module _ (p : Image) (m : Parts) (h : At_hand p m) (on : OnObject p m h) (n : ℕ) (serves : native_of (kind_here p m) ≡ Some n) where
@@ -439,6 +502,7 @@ requests_made : (p : Image) (m : Parts) (h : At_hand p m) (on : OnObject p m h) 
     → SameRequests p a (rerequested h.state.cells h.frame.home (on_request (issued_by q (made_with p m h on status) w) (own_request h.state.cells h.frame.home)))
 requests_made p m h on a Own w status r is begins issues = requests_become p m h on a (completed_at_once w) r is issues
 requests_made p m h on a A_timer w status r is begins issues = requests_timed p m h on a w status r is issues
+requests_made p m h on a A_token w status r is begins issues = requests_become p m h on a (completed_at_once w) r is issues
 requests_made p m h on a (Native n) w status r is begins issues = requests_become p m h on a (begun_with status) r is (subst (λ v. Makes m.active a (this m) (begun_with v)) (begins n refl) issues)
 
 pub issue_does : (p : Image) (m : Parts) (refused : List ℕ) (a : Active) (q : Provider) (b x : ℕ) → provider_of (kind_here p m) ≡ Some q
@@ -448,14 +512,14 @@ issue_does p m refused a q b x provider issues h here =
     let clock = h.state.rest.clock in
     let asking = asking_with p c h.frame h.below h.state in
     let w = read h.frame h.below h.state b in
-    let on = on_object p m h (active_listed _ met.1.1.0) in
+    let on = on_object p m h (active_listed _ (issuing_active _ met.1.1.0)) in
     let r = in_one is_idle _ met.1.1.1.1.0 in
     let made = issued_as (home_kind p h.frame.home) q asking w (ap provider_of (kind_told p m h on) ∙ provider) in
     let same : m.rest.clock ≡ clock = ap (λ r. r.clock) h.agrees.rest in
     let it = subst (λ n. Issues q m.sessions (heard_by m) n w m.active a (this m)) same (subst (λ v. Issues q m.sessions (heard_by m) m.rest.clock v m.active a (this m)) (word_read p m h b met.0) issues) in
     subst (λ f. Agrees p (places.next (record m { active = a })) (applied p h.frame h.below h.state (updates h.frame (Requested (on_request f (own_request h.state.cells h.frame.home)))))) (sym made)
-    (asks_on p m h a m.listed _ (requests_made p m h on a q w asking.started r.0 r.1
-    (λ n native. heard_told p m h on n (native_provided (kind_here p m) n (provider ∙ ap (λ v. Some v) native)) started c hears) it) (services_become p m h on (issued_by q asking w) (issued_order q asking w))))
+    (asks_on p m h a m.tokens m.listed _ (requests_made p m h on a q w asking.started r.0 r.1
+    (λ n native. heard_told p m h on n (native_provided (kind_here p m) n (provider ∙ ap (λ v. Some v) native)) started c hears) it) (services_become p m h on (issued_by q asking w) (issued_order q asking w) (issued_untold q asking w (own_request h.state.cells h.frame.home) ∙ sym (idle_untold p m h on met.1.1.1.1.0)))))
 
 -- a request that is not active is left alone
 pub cancel_idle_does : (m : Parts) (refused : List ℕ) → is_waited_for (request_at m.active.table (this m)) ≡ false → Does refused Cancel m (places.next m)
@@ -492,7 +556,7 @@ module _ (p : Image) (m : Parts) (refused : List ℕ) (a : Active) (k : ℕ) whe
         entries = h.agrees.entries;
         requests = requests;
         natives = natives_rerequested p m.sessions s.killed s.cells fr.home r h.agrees.natives;
-        services = services_rerequested p s.cells fr.home r (housed p m h) (order_kept cancelling (λ r. refl) (own_request s.cells fr.home)) h.agrees.services;
+        services = services_rerequested p s.cells fr.home r (housed p m h) (order_kept cancelling (λ r. refl) (own_request s.cells fr.home)) (token_kept cancelling (λ r. refl) (own_request s.cells fr.home)) h.agrees.services;
         rest = h.agrees.rest;
         room = h.agrees.room;
         entry_room = h.agrees.entry_room;

@@ -37,6 +37,7 @@ use Rattle.aom_sound.proofs.Destroying.{destroys}
 use Rattle.aom_sound.proofs.Finishing.{all_parts, none_left, returnable}
 use Rattle.aom_sound.proofs.Items.{length_forms}
 use Rattle.aom_sound.proofs.Maps.{held_without, held_moved, same_place_refl}
+use Rattle.aom_sound.proofs.Redeeming.{redeemed_by_alike}
 use Rattle.aom_sound.proofs.Storing.{ended_alike, held_set_word, rerequested_alike, resessioned_alike}
 use Rattle.aom_bounds.proofs.Listed.{run_among, cancel_among, kept_in_line, runs_among, stands_among}
 use Rattle.aom_roles.proofs.Descending.{itself}
@@ -45,17 +46,18 @@ use Rattle.aom_sound.specs.Claims.{objects}
 use Rattle.aom_sound.specs.Cleanup.{operation_frame, top_place}
 use Rattle.aom_classes.specs.Roles.{destructor_of}
 use Rattle.aom_sound.specs.Destruction.{destructor_frame, begun, begun_by, destructed, line_on, next_destructor}
-use Rattle.aom_sound.specs.Effects.{The_message, Replied, Calls, Cancels, Carried, Counts, Destroys, Destroys_last, Effect, Goes_on, In_field, In_register, Jumps, Leaves, Made, Operates, Popped, Popped_operation, Pushed, Pushed_operation, Repeats, Requested, Returns, Same, Sets_trap, Spot, Update, Written, applied, cells_after, items_after, spot_place, with_words, Sessioned}
+use Rattle.aom_sound.specs.Effects.{The_message, Handed, Replied, Calls, Cancels, Carried, Counts, Destroys, Destroys_last, Effect, Goes_on, In_field, In_register, Jumps, Leaves, Made, Operates, Popped, Popped_operation, Pushed, Pushed_operation, Repeats, Requested, Returns, Same, Sets_trap, Spot, Update, Written, applied, cells_after, items_after, spot_place, with_words, Sessioned}
 use Rattle.aom_sound.specs.Laws.{IsWired}
 use Rattle.aom_sound.specs.Steps.{Fits as May, FitsUpdate}
-use Rattle.aom_sound.specs.Places.{service_of, Session, Place, Elsewhere, Cell, Entry, Going, Object, Register, Sight, held, moved, same_place, seen}
+use Rattle.aom_sound.specs.Places.{service_of, Session, Place, Elsewhere, Cell, Entry, Going, Object, Register, Request, Sight, held, moved, same_place, seen, without}
 use Rattle.aom_sound.specs.State.{Of_server, Dispatch, Accepts, A_mark, An_object, An_operation, AtRoot, Choice, Closing, Destroy, Dispatched, Frame, Home, Inside, Item, Run, State, Static, Task, Trapped, Unwind, field_place, frame_as, frame_of, next, set_word}
 use Rattle.aom_sound.specs.WellTyped.{AllUndo, Fits, IsUndo}
 use Rattle.aom_sound.specs.Words.{here, stored}
 use Rattle.aom_parts.specs.Room.{Destructs, IsUnder, NoClosing, below_height, entries_in, may_push}
 use Rattle.aom_parts.proofs.Depths.{AllLow, Roomy, SameBelow, begins, closing_begins, dropped, going_begins, held_apart, item_pushed, lower, off_to_trap, popped, popped_top, recelled, top_under}
 use Rattle.aom_parts.proofs.Heights.{LowUnder, Stands_here, own_entries}
-use Rattle.aom_sound.specs.Enlisted.{begun_cells, cancel_method, cancelling, ended_cells, on_request, own_request}
+use Rattle.aom_sound.specs.Enlisted.{begun_cells, cancel_method, cancelling, ended_cells, on_request, own_request, rerequested}
+use Rattle.aom_sound.specs.Tokens.{next_token, promised, redeemed_by, token_of}
 use Rattle.aom_families.proofs.Running.{body_runs}
 use Rattle.aom_sound.proofs.Callees.{cancel_family, cancel_quiet, only_then}
 use Rattle.aom_sound.proofs.Overriders.{body_leaves, body_quiet}
@@ -486,10 +488,27 @@ module _ (p : Image) (t : Typing) (depth heights : ℕ → ℕ) (tables : Tables
     made_same name x a (Going k) dealt = refl
     made_same name x a _ dealt = absurd (assumption tt)
 
-    replied_same : (a : ℕ) (e : Place) → IsDealt e → held (cells_after p fr ts s (Replied a)) e ≡ held s.cells e
-    replied_same a (Entry k) dealt = held_without s.cells (here fr ts s a) (Entry k)
-    replied_same a (Going k) dealt = held_without s.cells (here fr ts s a) (Going k)
-    replied_same a _ dealt = absurd (assumption tt)
+    replied_same : (a : ℕ) (code : ℤ) (e : Place) → IsDealt e → held (cells_after p fr ts s (Replied a code)) e ≡ held s.cells e
+    replied_same a code e dealt = go e dealt ∙ (redeemed_by_alike order code s.cells).held_so e
+      where
+        order : Option ℕ
+        order = token_of s.cells (held s.cells (here fr ts s a))
+
+        go : (e : Place) → IsDealt e → held (without (here fr ts s a) (redeemed_by order code s.cells)) e ≡ held (redeemed_by order code s.cells) e
+        go (Entry k) dealt = held_without (redeemed_by order code s.cells) (here fr ts s a) (Entry k)
+        go (Going k) dealt = held_without (redeemed_by order code s.cells) (here fr ts s a) (Going k)
+        go _ dealt = absurd (assumption tt)
+
+    handed_same : (name a : ℕ) (e : Place) → IsDealt e → held (cells_after p fr ts s (Handed name a)) e ≡ held s.cells e
+    handed_same name a e dealt = go e dealt ∙ (rerequested_alike s.cells fr.home asked).held_so e
+      where
+        asked : Option Request
+        asked = on_request (promised (next_token s.cells)) (own_request s.cells fr.home)
+
+        go : (e : Place) → IsDealt e → held (cells_after p fr ts s (Handed name a)) e ≡ held (rerequested s.cells fr.home asked) e
+        go (Entry k) dealt = refl
+        go (Going k) dealt = refl
+        go _ dealt = absurd (assumption tt)
 
     -- after an update, with the method on top
     updated_room : (i : Instr) → instr_at p fr.method fr.place ≡ Some i → Ruled i → Leading i → (u : Update) → FitsUpdate ts s.items i u → After u
@@ -499,7 +518,8 @@ module _ (p : Image) (t : Typing) (depth heights : ℕ → ℕ) (tables : Tables
     updated_room i stands r n (Written x v) f = moves (cells_after p fr ts s (Written x v)) (λ e dealt. stored_same s.cells fr.home x v e)
     updated_room i stands r n (Requested q) f = moves (cells_after p fr ts s (Requested q)) (λ e dealt. (rerequested_alike s.cells fr.home q).held_so e)
     updated_room i stands r n (Sessioned b) f = moves (cells_after p fr ts s (Sessioned b)) (λ e dealt. (resessioned_alike s.cells fr.home b).held_so e)
-    updated_room i stands r n (Replied a) f = moves (cells_after p fr ts s (Replied a)) (replied_same a)
+    updated_room i stands r n (Replied a code) f = moves (cells_after p fr ts s (Replied a code)) (replied_same a code)
+    updated_room i stands r n (Handed name a) f = moves (cells_after p fr ts s (Handed name a)) (handed_same name a)
     updated_room i stands r n (Pushed a) f = push_room a (stands_as i _ stands f.0) (subst Ruled f.0 r).1.0 (subst Leading f.0 n).0
     updated_room i stands r n (Pushed_operation m v) f = push_operation_room f.0 m v (stands_as i _ stands f.1) (subst Ruled f.1 r).1.0 (subst Leading f.1 n).0
     updated_room i stands r n (Popped a) f = pop_room a (subst Ruled f.0 r).1.0

@@ -27,6 +27,7 @@ use Rattle.aom_parts.proofs.Entries.{mark_shows_none, unmarked}
 use Rattle.aom_parts.proofs.Messages.{messages_moved, messages_served}
 use Rattle.aom_parts.proofs.Premises.{connecting_below, connects_nowhere}
 use Rattle.aom_parts.proofs.Services.{services_moved}
+use Rattle.aom_parts.proofs.Told.{told_served, tokens_beside}
 use Rattle.aom_parts.proofs.Serving.{same_opened}
 use Rattle.aom_parts.proofs.Servicing.{connecting_here, reserved_moved}
 use Rattle.aom_parts.proofs.Sessions.{natives_moved}
@@ -104,6 +105,8 @@ module _ (p : Image) (few : p.header.cells ≤ 4096) (m : Parts) (s : State) (ti
         clients = same_clients;
         sized = sized_connected p.header.cells m.clients agrees.services.sized c (Some n);
         messages = messages_served p m.messages between x.number (opened c (service_of between x.number)) (messages_moved p m.messages s.cells from to agrees.services.messages);
+        tokens = tokens_beside p m.tokens between after (beside_served between x.number (opened c (service_of between x.number))) (told_served between x.number (opened c (service_of between x.number)) refl)
+            ((services_moved p s.cells from to refl refl agrees.services).tokens);
         listed = listed_beside p m.listed between after (beside_served between x.number (opened c (service_of between x.number))) ((services_moved p s.cells from to refl refl agrees.services).listed);
       };
       rest = agrees.rest;

@@ -45,6 +45,7 @@ use Rattle.aom_parts.proofs.CellFields.{served_written}
 use Rattle.aom_parts.proofs.Elsewhere.{connect_left, session_closed}
 use Rattle.aom_parts.proofs.Messages.{messages_served}
 use Rattle.aom_parts.proofs.Premises.{connecting_below, leaving_below}
+use Rattle.aom_parts.proofs.Told.{told_served, tokens_beside}
 use Rattle.aom_parts.proofs.Replying.{cells_completed, completion_told, message_kept, natives_completed, place_below, place_of, requests_completed, services_completed, was_taken}
 use Rattle.aom_parts.proofs.Servicing.{connecting_here, same_closed, same_unaccepted}
 use Rattle.aom_parts.proofs.Sizing.{sized_closed, sized_connected}
@@ -110,7 +111,7 @@ module _ (p : Image) (formed : WellFormed p) (m : Parts) (announced : m.rest.ann
     cells : SameCells p m.cells cs
     requests : SameRequests p m.active cs
     natives : SameNatives p m.sessions cs s.killed
-    services : SameServices p k store m.listed cs at
+    services : SameServices p k store m.tokens m.listed cs at
     values : (q : Place) → Shows (value_in (Ends (Of_one x) ∷ []) m.cells m.entries.items (record (others m) { clients = k; served = served }) q) (word_at (Dispatched (Of_object seat) ∷ []) q) (held cs q)
 
   -- the dispatch is one of an object then
@@ -170,6 +171,7 @@ module _ (p : Image) (formed : WellFormed p) (m : Parts) (announced : m.rest.ann
           clients = same_unaccepted p t wired s typed fits.fit m.clients same p.header.cells agrees.services.sized (seat_of e.place x) c (lives stage e) (below stage e) connects;
           sized = sized_connected p.header.cells m.clients agrees.services.sized c None;
           messages = agrees.services.messages;
+          tokens = agrees.services.tokens;
           listed = agrees.services.listed;
         };
         values = λ q. subst (λ v. Shows v (word_at (Dispatched (Of_object (seat_of e.place x)) ∷ []) q) (held s.cells q)) (sym (connect_left (others m) (Ends (Of_one x) ∷ []) m.cells m.entries.items c x.number (subst (λ i. c < i) (sym same.many) client) at.0 at.1 q)) (base stage e q);
@@ -194,6 +196,7 @@ module _ (p : Image) (formed : WellFormed p) (m : Parts) (announced : m.rest.ann
           clients = same_closed p t wired s typed fits.fit m.clients same p.header.cells agrees.services.sized (seat_of e.place x) c (lives stage e) leaves;
           sized = sized_closed p.header.cells m.clients agrees.services.sized c;
           messages = messages_served p m.messages s.cells x.number v agrees.services.messages;
+          tokens = tokens_beside p m.tokens s.cells _ beside (told_served s.cells x.number v refl) agrees.services.tokens;
           listed = listed_beside p m.listed s.cells _ beside agrees.services.listed;
         };
         values = λ q.
@@ -243,7 +246,7 @@ module _ (p : Image) (formed : WellFormed p) (m : Parts) (announced : m.rest.ann
         cells = cells_completed p t s typed q its.object its.there its.message does.place name m.cells agrees.cells;
         requests = requests_completed p t s typed q its.object its.there its.message does.place name m.active agrees.requests;
         natives = natives_completed p t s typed q its.object its.there its.message does.place name m.sessions formed.header.cells agrees.natives;
-        services = services_completed p t s typed q its.object its.there its.message does.place name wired fits refl sent m.clients m.messages m.listed agrees.services mid.messages does.released does.count;
+        services = services_completed p t s typed q its.object its.there its.message does.place name wired fits refl sent m.clients m.messages m.tokens m.listed agrees.services mid.messages does.released does.count;
         values = writes _ _ _ _ (held s.cells) _ q null None None (base stage e) refl
             (λ r. served_written (Ends (Of_one x) ∷ []) m.cells m.entries.items (record (others m) { clients = k }) null r ∙ ap (λ n. changed (λ i. n) q null r) (same_values r))
             (stays (word_at (Dispatched (Of_object (seat_of e.place x)) ∷ [])) q)
@@ -257,7 +260,7 @@ module _ (p : Image) (formed : WellFormed p) (m : Parts) (announced : m.rest.ann
       told =
           same_lines (completion (kept.place_at m.clients does.place))
           ∙ sym (ap (λ o. message_line s.cells o code) its.there ∙ message_told m.clients s.cells s.clients agrees.services.clients its.object does.place code name
-          (was_taken p t s typed q its.object its.there its.message does.place name wired fits refl sent m.clients m.messages m.listed agrees.services))
+          (was_taken p t s typed q its.object its.there its.message does.place name wired fits refl m.clients agrees.services.clients))
         where
           same_lines : (o : Option Completion) → completion_lines o code ≡ completed_lines code o
           same_lines None = refl
@@ -269,9 +272,9 @@ module _ (p : Image) (formed : WellFormed p) (m : Parts) (announced : m.rest.ann
         record {
           place = at.0;
           number = sym (number_is ∙ at.1);
-          below = place_below p t s typed q its.object its.there its.message at.0 at.1 wired fits refl sent m.clients m.messages m.listed agrees.services;
-          kept = message_kept p t s typed q its.object its.there its.message at.0 at.1 wired fits refl sent m.clients m.messages m.listed agrees.services;
-          taken = completion_told p t s typed q its.object its.there its.message at.0 at.1 wired fits refl sent m.clients m.messages m.listed agrees.services;
+          below = place_below p t s typed q its.object its.there its.message at.0 at.1 m.messages agrees.services.messages;
+          kept = message_kept p t s typed q its.object its.there its.message at.0 at.1 m.messages agrees.services.messages;
+          taken = completion_told p t s typed q its.object its.there its.message at.0 at.1 wired fits refl m.clients agrees.services.clients sent;
         }
 
   -- ---- each stage

@@ -11,16 +11,16 @@ use Rattle.aom_sound.specs.Calls.{result_register}
 use Rattle.aom_sound.specs.State.{Frame, Run, Task}
 use Rattle.aom_sound.specs.Traps.{IsAtTrap}
 
-instr_fits : (p : Image) → WellFormed p → (m place : ℕ) (i : Instr) → instr_at p m place ≡ Some i → (d : Method) × InstrFits (limits (length p.classes) (length p.methods) (length d.code)) i
+instr_fits : (p : Image) → WellFormed p → (m place : ℕ) (i : Instr) → instr_at p m place ≡ Some i → (d : Method) × InstrFits (limits p.header.version (length p.classes) (length p.methods) (length d.code)) i
 unfolding method_at
 instr_fits p formed m place i e =
     let w = of_method p m place i e in
-    let d = all_there (MethodFits (length p.classes) (length p.methods)) p.methods m w.0 formed.methods.each w.1 in
-    (w.0, all_there (InstrFits (limits (length p.classes) (length p.methods) (length w.0.code))) w.0.code place i d.code w.2)
+    let d = all_there (MethodFits p.header.version (length p.classes) (length p.methods)) p.methods m w.0 formed.methods.each w.1 in
+    (w.0, all_there (InstrFits (limits p.header.version (length p.classes) (length p.methods) (length w.0.code))) w.0.code place i d.code w.2)
 
 pub code_register : (p : Image) → WellFormed p → (fr : Frame) (ts : List Task) → IsAtTrap p (Run fr ∷ ts) → suc (result_register (instr_at p fr.method fr.place)) < 16
 code_register p formed fr ts at =
     let fits = instr_fits p formed fr.method fr.place _ at.4 in
     let is = ap result_register at.4 in
-    let small = fits.1.c in
+    let small = fits.1.operands.c in
     omega arith

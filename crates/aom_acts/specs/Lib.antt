@@ -8,3 +8,4 @@ pub mod Cleanup
 pub mod Requests
 pub mod Natives
 pub mod Serving
+pub mod Tokens

@@ -5,7 +5,7 @@ use Rattle.aom_image.specs.Views.{method_role}
 use Rattle.aom_image.specs.declared.class.ClassKind.{ClassKind}
 use Rattle.aom_image.specs.declared.class.ClassKind.TheVariants.{Active as An_active}
 use Rattle.aom_image.specs.declared.class.Provider.{Provider}
-use Rattle.aom_image.specs.declared.class.Provider.TheVariants.{Native, Own, Timer}
+use Rattle.aom_image.specs.declared.class.Provider.TheVariants.{Native, Own, Timer, Token as A_token}
 use Rattle.aom_image.specs.declared.method.Role.{Role}
 use Rattle.aom_image.specs.declared.method.Role.TheVariants.{Cancel}
 use Rattle.aom_roles.specs.Shapes.{kind_of}
@@ -51,4 +51,5 @@ provider_of _ = None
 abbrev pub Issues : Provider → Standing → (heard : ℤ) → (clock : ℕ) → ℤ → Active → Active → ℕ → Type 0
 Issues Own w heard clock a old new id = Makes old new id (completed_at_once a)
 Issues Timer w heard clock a old new id = Times old new id (due_after clock a)
+Issues A_token w heard clock a old new id = Makes old new id (completed_at_once a)
 Issues (Native n) w heard clock a old new id = Makes old new id (begun_with (started (is_killed w n) (is_open w id) heard))

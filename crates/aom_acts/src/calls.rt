@@ -10,11 +10,12 @@ ghost use Rattle.aom_frames.specs.declared.task.Task.TheVariants.{Dispatched};
 ghost use Rattle.aom_frames.specs.Tasks.{below_first, Runs, fresh, method_here, place_here, with_view};
 ghost use Rattle.std.specs.Prelude.{ℕ, suc, List, ◌<◌, ◌≤◌, ◌+◌, ◌^◌, ◌∷◌, ◌≡◌, ◌≢◌, IfSome, IsSome, Some, length};
 ghost use Rattle.aom_image.specs.Image.{Image};
-ghost use Rattle.aom_image.specs.Views.{arguments_of, gives_of, instr_at, method_at, method_class};
+ghost use Rattle.aom_image.specs.Views.{gives_of, instr_at, method_at, method_class};
 ghost use Rattle.aom_instructions.specs.declared.instr.Instr.TheVariants.{Call, Return, Stop, Trap};
 ghost use Rattle.aom_sound.specs.Calls.{result_register};
 ghost use Rattle.aom_acts.specs.Acts.{Does, DoesIn, resulted};
-ghost use Rattle.aom_acts.specs.Calls.{body_on, callee_here, target_here, view_on};
+ghost use Rattle.aom_acts.specs.Calls.{body_on, callee_here, is_this, target_here, view_on};
+ghost use Rattle.aom_frames.specs.Views.{own};
 ghost use Rattle.aom_cells.specs.Heap.{Lives, class_at, null};
 ghost use Rattle.aom_acts.specs.Next.{IsNext};
 
@@ -22,8 +23,8 @@ use crate::requests::counted;
 use crate::{going, serving};
 use aom_cells::NULL;
 use aom_cleanup::Item;
-use aom_frames::{Dispatch, Frame, Task, TaskKind, View};
-use aom_image::{Argument, ClassNumber, Gives, Instr, MethodNumber, Register, Role, Target};
+use aom_frames::{Dispatch, Frame, Task, TaskKind};
+use aom_image::{ClassNumber, Gives, Instr, MethodNumber, Register, Role, Target};
 use aom_linked::Linked;
 use aom_parts::Parts;
 
@@ -68,77 +69,66 @@ fn target_of(parts: &Parts, target: Target, class: Option<ClassNumber>) -> u32
     }
 }
 
-/// What a call of a method runs on that cell, by the table; on none the method itself.
-fn body_on(
+/// The frame runs what a call of its method runs on its cell, by the table; on none the method itself.
+fn run_body(frame: &mut Frame, parts: &Parts, linked: &Linked)
+    requires there { IsSome (method_at linked.now frame.old.method) }
+    requires lives { frame.old.this ≢ null → Lives parts.now.cells frame.old.this }
+    requires small { IfSome (class_at parts.now.cells frame.old.this) (λ class. class < 256) }
+    ensures { frame.new ≡ record frame.old { method = body_on linked.now frame.old.method frame.old.this frame.old.view parts.now.cells } }
+{
+    if frame.this != NULL {
+        let class = parts.class(frame.this);
+        frame.method = linked.body(frame.method, counted(frame.view, class));
+    }
+}
+
+/// The frame works on what the call names, and runs what a call of its method runs there.
+#[inline(never)]
+fn work_on(
+    frame: &mut Frame,
     parts: &Parts,
-    this: u32,
-    view: View,
-    method: MethodNumber,
+    target: Target,
+    class: Option<ClassNumber>,
     linked: &Linked,
-) -> MethodNumber
-    requires there { IsSome (method_at linked.now method) }
-    requires lives { this ≢ null → Lives parts.now.cells this }
-    requires small { IfSome (class_at parts.now.cells this) (λ class. class < 256) }
-    ensures { result ≡ body_on linked.now method this view parts.now.cells }
-{
-    if this == NULL {
-        return method;
-    }
-    let class = parts.class(this);
-    linked.body(method, counted(view, class))
-}
-
-/// The frame in which what a call of a method runs on that cell begins.
-fn begun(parts: &Parts, this: u32, view: View, method: MethodNumber, linked: &Linked) -> Frame
-    requires there { IsSome (method_at linked.now method) }
-    requires lives { this ≢ null → Lives parts.now.cells this }
-    requires small { IfSome (class_at parts.now.cells this) (λ class. class < 256) }
-    ensures { result ≡ with_view view (fresh (body_on linked.now method this view parts.now.cells) this) }
-{
-    let body = body_on(parts, this, view, method, linked);
-    Frame::begin(body, this).counting_as(view)
-}
-
-/// The same, on the object of the method that runs or on another.
-fn frame_on(parts: &Parts, on_self: bool, this: u32, method: MethodNumber, linked: &Linked) -> Frame
-    requires there { IsSome (method_at linked.now method) }
+)
+    requires there { IsSome (method_at linked.now frame.old.method) }
+    requires plain { frame.old.view ≡ own }
     requires runs { Runs parts.now.stack.tasks }
-    requires lives { this ≢ null → Lives parts.now.cells this }
-    requires small { IfSome (class_at parts.now.cells this) (λ class. class < 256) }
-    ensures { result ≡ with_view (view_on on_self parts.now.stack.tasks) (fresh (body_on linked.now method this (view_on on_self parts.now.stack.tasks) parts.now.cells) this) }
+    requires housed { ThisLives parts.now }
+    requires lives { target_here target class parts.now ≢ null → Lives parts.now.cells (target_here target class parts.now) }
+    requires small { IfSome (class_at parts.now.cells (target_here target class parts.now)) (λ class. class < 256) }
+    ensures { frame.new ≡ with_view (view_on (is_this target) parts.now.stack.tasks) (record frame.old { this = target_here target class parts.now; method = body_on linked.now frame.old.method (target_here target class parts.now) (view_on (is_this target) parts.now.stack.tasks) parts.now.cells }) }
 {
+    let on_self = matches!(target, Target::This);
+    frame.this = target_of(parts, target, class);
     if on_self {
-        begun(parts, this, parts.stack.view(), method, linked)
-    } else {
-        begun(parts, this, View::own(), method, linked)
+        frame.view = parts.stack.view();
     }
+    run_body(frame, parts, linked);
 }
 
-/// The frame in which a method that is called begins, and what it takes.
+/// The frame in which a method that is called begins. A static method called on self works on nothing.
 #[inline(always)]
-fn callee<'a>(
+fn callee(
     parts: &Parts,
     target: Target,
     method: MethodNumber,
-    linked: &'a Linked,
-) -> (Frame, &'a [Argument])
+    class: Option<ClassNumber>,
+    linked: &Linked,
+) -> Frame
     requires there { IsSome (method_at linked.now method) }
+    requires class { class ≡ method_class linked.now method }
     requires runs { Runs parts.now.stack.tasks }
     requires housed { ThisLives parts.now }
     requires lives { target_here target (method_class linked.now method) parts.now ≢ null → Lives parts.now.cells (target_here target (method_class linked.now method) parts.now) }
     requires small { IfSome (class_at parts.now.cells (target_here target (method_class linked.now method) parts.now)) (λ class. class < 256) }
-    ensures frame { result.0 ≡ callee_here linked.now target method parts.now }
-    ensures arguments { result.1.now ≡ arguments_of linked.now method }
+    ensures { result ≡ callee_here linked.now target method parts.now }
 {
-    let called = linked.method(method);
-    let arguments = called.arguments.as_slice();
-    let on_self = matches!(target, Target::This);
-    if on_self && called.class.is_none() {
-        return (Frame::begin(method, NULL), arguments);
+    let mut frame = Frame::begin(method, NULL);
+    if !matches!(target, Target::This) || class.is_some() {
+        work_on(&mut frame, parts, target, class, linked);
     }
-    let this = target_of(parts, target, called.class);
-    let frame = frame_on(parts, on_self, this, method, linked);
-    (frame, arguments)
+    frame
 }
 
 /// Calls a method, with its arguments from a register on.
@@ -147,8 +137,11 @@ pub fn call(parts: &mut Parts, on: Target, method: MethodNumber, first: Register
     requires { (to : ℕ) × IsNext linked.now (Call on method first to) parts.old }
     ensures { (refused : List ℕ) (to : ℕ) → DoesIn linked.now refused (Call on method first to) parts.old parts.new }
 {
-    let (frame, arguments) = callee(parts, on, method, linked);
-    parts.stack.enter(frame, first.number(), arguments);
+    let called = linked.method(method);
+    let frame = callee(parts, on, method, called.class, linked);
+    parts
+        .stack
+        .enter(frame, first.number(), called.arguments.as_slice());
 }
 
 /// The same under a trap, whose mark lies on the cleanup stack.
@@ -157,8 +150,11 @@ pub fn trap(parts: &mut Parts, on: Target, method: MethodNumber, first: Register
     requires { (to : ℕ) × IsNext linked.now (Trap on method first to) parts.old }
     ensures { (refused : List ℕ) (to : ℕ) → DoesIn linked.now refused (Trap on method first to) parts.old parts.new }
 {
-    let (frame, arguments) = callee(parts, on, method, linked);
-    parts.stack.enter_trap(frame, first.number(), arguments);
+    let called = linked.method(method);
+    let frame = callee(parts, on, method, called.class, linked);
+    parts
+        .stack
+        .enter_trap(frame, first.number(), called.arguments.as_slice());
     parts.entries.mark();
 }
 

@@ -117,7 +117,8 @@ fn make_request(parts: &mut Parts, id: CellId, provider: Provider, word: i32)
     ensures rest { parts.new ≡ record parts.old { active = parts.new.active } }
 {
     match provider {
-        Provider::Own => parts.active.issue_own(id, word),
+        // No request is made so where tokens complete them: it is handed out.
+        Provider::Own | Provider::Token => parts.active.issue_own(id, word),
         Provider::Timer => {
             let due = due_after(parts.rest.clock(), word);
             parts.active.issue_timer(id, due);
@@ -181,5 +182,6 @@ pub fn abort(parts: &mut Parts)
 {
     let id = parts.cell();
     parts.active.abort(id);
+    parts.tokens.forget(id);
     parts.next();
 }

@@ -15,6 +15,7 @@ use Rattle.aom_clients.specs.declared.refusal.Refusal.TheVariants.{ServerTermina
 use Rattle.aom_image.specs.Image.{Image}
 use Rattle.aom_image.specs.Views.{class_at}
 use Rattle.aom_image.specs.WellFormed.{ClassFits, KindFits, WellFormed}
+use Rattle.aom_instructions.specs.declared.version.Version.{Version}
 use Rattle.aom_image.specs.declared.class.ClassDecl.{ClassDecl}
 use Rattle.aom_image.specs.declared.class.ClassKind.{ClassKind}
 use Rattle.aom_image.specs.declared.class.ClassKind.TheVariants as kinds
@@ -109,11 +110,11 @@ few_answers places (Close c ∷ es) = few_answers places es
 
 -- ---- the seats of a class
 
-kind_few : (classes natives : ℕ) (k : ClassKind) → KindFits classes natives k → most_of (Some k) ≤ 64
-kind_few classes natives kinds.Plain fits = omega arith
-kind_few classes natives (kinds.Active provider) fits = omega arith
-kind_few classes natives (kinds.Server sessions session) fits = fits.1
-kind_few classes natives kinds.Session fits = omega arith
+kind_few : (version : Version) (classes natives : ℕ) (k : ClassKind) → KindFits version classes natives k → most_of (Some k) ≤ 64
+kind_few version classes natives kinds.Plain fits = omega arith
+kind_few version classes natives (kinds.Active provider) fits = omega arith
+kind_few version classes natives (kinds.Server sessions session) fits = fits.1
+kind_few version classes natives kinds.Session fits = omega arith
 
 most_few : (p : Image) → WellFormed p → (t : Thing) → most_of (thing_kind p t) ≤ 64
 unfolding class_at kind_in kind_of
@@ -122,7 +123,7 @@ most_few p formed (An_object_of class) = go (class_at p class) refl
   where
     go : (o : Option ClassDecl) → class_at p class ≡ o → most_of (kind_in o) ≤ 64
     go None e = omega arith
-    go (Some d) e = let fits = all_there (ClassFits (length p.classes) p.header.natives) p.classes class d formed.classes.each e in kind_few (length p.classes) p.header.natives d.kind fits.kind
+    go (Some d) e = let fits = all_there (ClassFits p.header.version (length p.classes) p.header.natives) p.classes class d formed.classes.each e in kind_few p.header.version (length p.classes) p.header.natives d.kind fits.kind
 
 -- ---- a server
 

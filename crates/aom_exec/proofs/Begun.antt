@@ -22,6 +22,8 @@ use Rattle.aom_messages.specs.Store.{Store, word_at}
 use Rattle.aom_shape.specs.Tables.{at}
 use Rattle.aom_shape.specs.declared.kind.Kind.TheVariants.{Null}
 use Rattle.aom_sound.proofs.ClientsTurn.{first_sent, fit_moved, fit_taken, tasks_begun}
+use Rattle.aom_sound.proofs.Orders.{apart_still, comes_moved, comes_served}
+use Rattle.aom_sound.specs.Tokens.{TokensApart}
 use Rattle.aom_sound.proofs.Destroying.{destroys}
 use Rattle.aom_sound.proofs.Seated.{seats_first}
 use Rattle.aom_sound.proofs.Services.{held_served, service_here, service_moved}
@@ -171,6 +173,13 @@ module _ (p : Image) (m : Machine_parts) (s : State) (st : StandsFor (record { i
       ∙ fits_unowning p (seen s.cells) (held s.cells q) Null refl
       (subst (λ k. Fits p (seen s.cells) (held s.cells q) k) e (subst (λ ls. Fits p (seen s.cells) (held s.cells q) (claim p (declared p s.cells) ls q)) (at_rest p st.typing s st.typed idle) (st.typed.good.fits q)))
 
+  -- no token comes as the first is taken, nor as what it is moves
+  taken_apart : TokensApart cs
+  taken_apart = apart_still s.cells cs (comes_served s.cells n (taken_first (service_of s.cells n)) refl) st.kept.tokens
+
+  moved_apart : (from to : Place) → TokensApart (moved from to cs)
+  moved_apart from to = apart_still cs (moved from to cs) (comes_moved cs from to) taken_apart
+
   module _ (e : Entry) (es : List Entry) (at : queue ≡ e ∷ es) where
     fit_now : ClientsFit p s.clients cs
     fit_now = fit_taken p s.clients s.cells x.object lives asked (asked_by m.clients.places e) (map (asked_by m.clients.places) es) (queue_so (e ∷ es) at) st.kept.fit
@@ -228,6 +237,7 @@ module _ (p : Image) (m : Machine_parts) (s : State) (st : StandsFor (record { i
         (record {
           fit = fit_now (Connect c) es at_first;
           stage = (first_fits p m s st idle x lives serves keeps (Connect c) es at_first, ap (λ q. list_any (is_connect_of c) q) (queue_now (Connect c) es at_first) ∙ not_again, seat_left);
+          tokens = taken_apart;
         })
         (accept_agrees p m s st idle x lives serves class is active noted c es at_first method accepts)
       where
@@ -263,7 +273,7 @@ module _ (p : Image) (m : Machine_parts) (s : State) (st : StandsFor (record { i
         let r = dispatches_with_room p (at 0 st.sound.depths.depths) st.sound.heights attended.cells method (Inside o home) (Of_server x c (Serves o)) s.items (checked_taken n s).rest s.killed s.clients (none_pushed p m s st idle) in
         method_stands c method (Serves o) (Inside o home) (message_words cs (message_name j)) (record (checked_taken n s) { cells = attended.cells }) (attending method (record { number = o.name; class = class' }) subject c j taken) refl attended_goes
         (record { under = r.under; runs = r.runs; fit = r.fit; entries = r.entries })
-        (record { fit = fit_moved p s.clients cs (Elsewhere (Queued n (message_name j))) (Elsewhere In_service) (empty_now (Elsewhere In_service) refl) (λ i k. refl) (λ b. first_sent p s.clients s.cells x.object lives c (message_name j) (map (asked_by m.clients.places) es) (queue_so (Message j ∷ es) at_first) st.kept.fit) (fit_now (Message j) es at_first); stage = tt })
+        (record { fit = fit_moved p s.clients cs (Elsewhere (Queued n (message_name j))) (Elsewhere In_service) (empty_now (Elsewhere In_service) refl) (λ i k. refl) (λ b. first_sent p s.clients s.cells x.object lives c (message_name j) (map (asked_by m.clients.places) es) (queue_so (Message j ∷ es) at_first) st.kept.fit) (fit_now (Message j) es at_first); stage = tt; tokens = moved_apart (Elsewhere (Queued n (message_name j))) (Elsewhere In_service) })
         (attend_agrees p m s st idle x lives serves class is active noted j es at_first below o class' is' there method attends words)
 
   -- ---- a close
@@ -297,6 +307,7 @@ module _ (p : Image) (m : Machine_parts) (s : State) (st : StandsFor (record { i
         fit = fit_moved p s.clients cs (Elsewhere (Session n c)) (Going 1) (empty_now (Going 1) refl) (λ i k. refl) (λ b. cc) (fit_now (Close c) es at_first);
         stage = tasks_begun p s.clients parted_cells o (length s.items) (Dispatched d ∷ [])
             (first_fits p m s st idle x lives serves keeps (Close c) es at_first, ap (λ q. list_any (is_close_of c) q) (ap (λ (v : Service). v.queue) (service_moved cs (Elsewhere (Session n c)) (Going 1) n) ∙ queue_now (Close c) es at_first) ∙ not_again);
+        tokens = moved_apart (Elsewhere (Session n c)) (Going 1);
       };
       within = record { within = omega (arith, pays parted parted_goes, affords, ap (λ y. price_of p st.sound.prices y) (begun_payer p o (length s.items) (Dispatched d ∷ [])), ap (λ y. declared_of p y) (begun_payer p o (length s.items) (Dispatched d ∷ []))) };
       agrees = part_agrees p m s st idle x lives serves class is active noted c es at_first o there client;

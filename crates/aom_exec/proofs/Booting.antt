@@ -98,7 +98,7 @@ module _ (p : Image) (m : Parts) (booted : Booted p m) where
       dead = ap (λ (w : Standing). w.killed) booted.sessions;
       limit = ap (λ (w : Standing). length w.flags) booted.sessions ∙ length-replicate p.header.cells false;
     };
-    services = services_begin p m.clients m.messages m.listed booted.clients booted.messages booted.listed;
+    services = services_begin p m.clients m.messages m.tokens m.listed booted.clients booted.messages booted.tokens booted.listed;
     rest = booted.rest;
     room = (let d = booted.depth in omega arith);
     entry_room = (let d = ap (λ (e : Held_items). e.depth) booted.entries in omega arith);

@@ -14,7 +14,7 @@ use Rattle.aom_image.specs.declared.method.Thing.TheVariants.{Message}
 use Rattle.aom_sound.proofs.Services.{held_served, named_served, service_there, service_unnamed}
 use Rattle.aom_sound.proofs.Sifted.{cell_of, cell_of_sifted, kept as kept_cell, service_cell, service_in, sifted, withdrawn_so}
 use Rattle.aom_sound.specs.Kept.{ClientsFit, QueueFits}
-use Rattle.aom_sound.specs.Clients.{Listed, asked_server, client_at, commanded, leaving, refusal, with_message}
+use Rattle.aom_sound.specs.Clients.{Listed, asked_server, client_at, commanded, leaving, refusal, sent_message, with_message}
 use Rattle.aom_sound.specs.Places.{Asked, Cell, Close_of, Connect_of, Elsewhere, Message_of, Place, Queued, Service, Tidy, held, named, same_place, service_of}
 use Rattle.aom_sound.specs.Servers.{asked_last, is_from, is_queue, left_by, reserved, stays, withdrawn}
 use Rattle.aom_sound.specs.State.{State}
@@ -24,11 +24,20 @@ use Rattle.aom_exec.proofs.ByCommand.{by_command, by_connecting, by_leaving, by_
 use Rattle.aom_parts.proofs.Beside.{Beside, beside_itself, beside_message, beside_served, beside_then}
 use Rattle.aom_parts.proofs.Elsewhere.{SessionsSame}
 use Rattle.aom_parts.proofs.Serving.{at_set}
+use Rattle.aom_parts.proofs.Told.{Told_alike, told_served}
 use Rattle.aom_parts.specs.Places.{session_with}
 
 -- a place in a queue is none that is not
 apart_queue : (n k : ℕ) (r : Place) → is_queue r ≡ false → same_place (Elsewhere (Queued n k)) r ≡ false
 apart_queue n k r e = grind arith
+
+-- a new cell that is no token
+told_fresh : (x : Cell) (cs : List Cell) → named cs x.object.name ≡ None → x.service.token ≡ None → Told_alike cs (x ∷ cs)
+told_fresh x cs free none n = go (x.object.name == n) refl
+  where
+    go : (b : Bool) → (x.object.name == n) ≡ b → (cond b x.service (service_of cs n)).token ≡ (service_of cs n).token
+    go true e = none ∙ sym (ap (λ (v : Service). v.token) (ap (service_of cs) (sym (eqb-true x.object.name n e)) ∙ service_unnamed cs x.object.name free))
+    go false e = refl
 
 -- ---- the sessions of clients
 
@@ -113,6 +122,19 @@ module _ (p : Image) (c : ℕ) (s : State) where
       closes = λ to server. beside_then s.cells (withdrawn c s.cells) _ withdraws (beside_served (withdrawn c s.cells) server _);
     }) command
 
+  -- and none of these is a token
+  module _ (withdraws : Told_alike s.cells (withdrawn c s.cells)) where
+    pub commanded_told : (command : Command) (name : ℕ) → named s.cells name ≡ None → Told_alike s.cells (commanded p c s command name).cells
+    commanded_told command name free = by_command p c s (λ t. Told_alike s.cells t.cells) name (record {
+      same = λ n. refl;
+      connects = λ x slots. told_served s.cells x.name _ refl;
+      sends = λ words server n.
+          let us = reserved (asked_last (Message_of c name)) server s.cells in
+          told_fresh (sent_message c name words server) us (named_served s.cells server _ name ∙ free) refl n ∙ told_served s.cells server _ refl n;
+      leaves = λ to. withdraws;
+      closes = λ to server n. told_served (withdrawn c s.cells) server _ refl n ∙ withdraws n;
+    }) command
+
   -- what is in no queue stays where it is
   module _ (stay : (r : Place) → is_queue r ≡ false → held (withdrawn c s.cells) r ≡ held s.cells r) (r : Place) (apart : is_queue r ≡ false) where
     pub commanded_holds : (command : Command) (name : ℕ) → held (commanded p c s command name).cells r ≡ held s.cells r
@@ -186,7 +208,7 @@ module _ (p : Image) (c : ℕ) (s : State) (tidy : Tidy s.cells) (fit : ClientsF
 
   -- the queue at a number, which may be the message's
   abbrev queue_beside : (name n server : ℕ) → Bool → List Asked
-  queue_beside name n server b = (cond b (record { queue = []; sessions = []; sender = Some (record { client = c; holds_slot = true; is_told = true }) }) (service_of (reserved (asked_last (Message_of c name)) server s.cells) n)).queue
+  queue_beside name n server b = (cond b (record { queue = []; sessions = []; sender = Some (record { client = c; holds_slot = true; is_told = true }); token = None }) (service_of (reserved (asked_last (Message_of c name)) server s.cells) n)).queue
 
   pub commanded_queue : (command : Command) (name : ℕ) → named s.cells name ≡ None → (n : ℕ) → Untouched p c s command n → SameQueue (commanded p c s command name).cells n
   commanded_queue (Connect class slots) name free n away = by_connecting p c s (λ t. SameQueue t.cells n) refl (refusal p c s (Connect class slots)) (asked_server p class s.cells) slots (λ x e.

@@ -44,8 +44,12 @@ use Rattle.aom_parts.specs.Agrees.{Agrees, SameRequests, Shows, number, word_at}
 use Rattle.aom_parts.specs.Places.{others, session_number, session_with, value, value_in, with_tasks, is_numbered}
 use Rattle.aom_parts.specs.Services.{SameServices}
 use Rattle.aom_parts.specs.Serving.{SameClients, asked_by, message_name, Once}
+use Rattle.aom_parts.specs.Tokens.{SameTokens}
+use Rattle.aom_sound.specs.Tokens.{awaited}
 use Rattle.aom_parts.specs.Stands.{StandsFor}
 use Rattle.aom_parts.proofs.Beside.{beside_served, cells_beside, listed_beside, natives_beside}
+use Rattle.aom_parts.proofs.Tokens.{tokens_still}
+use Rattle.aom_parts.proofs.Told.{told_served, tokens_beside}
 use Rattle.aom_parts.proofs.CellFields.{served_written}
 use Rattle.aom_parts.proofs.Cells.{cells_moved}
 use Rattle.aom_parts.proofs.Elsewhere.{entry_taken, message_taken, session_released}
@@ -155,11 +159,16 @@ module _ (p : Image) (m : Machine_parts) (s : State) (st : StandsFor (record { i
   requests_taken : is_queued k' n ≡ has_more (service_of cs n).queue → SameRequests p active cs
   requests_taken waits = noted_requests p m.active active s.cells cs (beside_served s.cells n (taken_first (service_of s.cells n))) st.agrees.requests n (λ i other. ap (λ (v : Service). v.queue) (service_there s.cells n i (taken_first (service_of s.cells n)) other)) (is_queued k' n) waits noted
 
-  services_with : SameClients k' cs s.clients → SameServices p k' m.messages m.listed cs s.clients
+  tokens_taken : SameTokens p m.tokens cs
+  tokens_taken =
+      tokens_beside p m.tokens s.cells cs (beside_served s.cells n (taken_first (service_of s.cells n))) (told_served s.cells n (taken_first (service_of s.cells n)) refl) st.agrees.services.tokens
+
+  services_with : SameClients k' cs s.clients → SameServices p k' m.messages m.tokens m.listed cs s.clients
   services_with clients = record {
     clients = clients;
     sized = sized_next p.header.cells m.clients st.agrees.services.sized n;
     messages = messages_served p m.messages s.cells n (taken_first (service_of s.cells n)) st.agrees.services.messages;
+    tokens = tokens_taken;
     listed = listed_beside p m.listed s.cells cs (beside_served s.cells n (taken_first (service_of s.cells n))) st.agrees.services.listed;
   }
 
@@ -247,6 +256,7 @@ module _ (p : Image) (m : Machine_parts) (s : State) (st : StandsFor (record { i
         clients = clients_served;
         sized = sized_next p.header.cells m.clients st.agrees.services.sized n;
         messages = messages_moved p m.messages cs from (Elsewhere In_service) (messages_served p m.messages s.cells n (taken_first (service_of s.cells n)) st.agrees.services.messages);
+        tokens = tokens_still p m.tokens cs serving_cells (λ i. ap awaited (requested_moved cs from (Elsewhere In_service) i)) (λ i. ap (λ (v : Service). v.token) (service_moved cs from (Elsewhere In_service) (message_name i))) tokens_taken;
         listed = listed_alike p m.listed cs serving_cells (named_moved cs from (Elsewhere In_service)) (λ i. ap (option_map (λ r. r.order)) (requested_moved cs from (Elsewhere In_service) i))
             (listed_beside p m.listed s.cells cs (beside_served s.cells n (taken_first (service_of s.cells n))) st.agrees.services.listed);
       };
@@ -370,7 +380,7 @@ module _ (p : Image) (m : Machine_parts) (s : State) (st : StandsFor (record { i
           entries = a.entries;
           requests = requests_moved p active cs gone_from (Going 1) a.requests;
           natives = natives_moved p m.sessions s.killed cs gone_from (Going 1) a.natives;
-          services = services_moved p cs gone_from (Going 1) refl refl (record { clients = same_released k' cs s.clients a.services.clients c; sized = sized_released p.header.cells k' a.services.sized c; messages = a.services.messages; listed = a.services.listed });
+          services = services_moved p cs gone_from (Going 1) refl refl (record { clients = same_released k' cs s.clients a.services.clients c; sized = sized_released p.header.cells k' a.services.sized c; messages = a.services.messages; tokens = a.services.tokens; listed = a.services.listed });
           rest = a.rest;
           room = a.room;
           entry_room = a.entry_room;

@@ -21,12 +21,15 @@ use Rattle.aom_sessions.specs.Sessions.{Sets, Standing, is_open}
 use Rattle.aom_shape.specs.Tables.{at}
 use Rattle.aom_sound.proofs.ClientsTurn.{fit_same, same_bereaved}
 use Rattle.aom_sound.proofs.Counts.{count_bereaved}
+use Rattle.aom_sound.proofs.Orders.{comes_bereaved}
 use Rattle.aom_sound.proofs.Storing.{bereaved_alike}
 use Rattle.aom_sound.proofs.Turning.{bereaved_well}
 use Rattle.aom_sound.specs.Enlisted.{completed_with, is_unanswered, on_request}
 use Rattle.aom_sound.specs.Natives.{all_bereaved, bereaved, is_owed, is_served_by, terminated, terminated_request}
 use Rattle.aom_sound.specs.Places.{Cell, Object, Request, in_session, named, requested, word_field}
 use Rattle.aom_sound.specs.State.{Rest, State}
+use Rattle.aom_sound.specs.Tokens.{awaited}
+use Rattle.aom_tokens.specs.Tokens.{Kept as Kept_tokens}
 use Rattle.aom_sound.specs.World.{Kills, heard_one, without_native}
 use Rattle.aom_steps.specs.Left.{is_entry}
 use Rattle.aom_steps.proofs.Pushed.{reset_same}
@@ -39,7 +42,7 @@ use Rattle.aom_parts.specs.Progress.{progress_by}
 use Rattle.aom_exec.specs.Serving.{Bereaves, KeepsOthers, serves_class}
 use Rattle.aom_parts.specs.Stands.{Machine, Stands, StandsFor}
 use Rattle.aom_exec.specs.Turns.{Takes}
-use Rattle.aom_exec.proofs.Served.{class_told, coded, message_silent, unserved_message, untimed}
+use Rattle.aom_exec.proofs.Served.{class_told, coded, message_silent, unserved_message, untimed, untold}
 use Rattle.aom_clients.specs.Clients.{State as Kept_state}
 use Rattle.aom_clients.specs.declared.client.Client.{Client}
 use Rattle.aom_messages.specs.Store.{Store}
@@ -162,11 +165,24 @@ module _ (p : Image) (native : ℕ) where
       go true (Some r) = ended (is_owed (Some r)) r
       go false q = refl
 
-  services_bereaved : (k : Kept_state) (store : Store) (table : Table) (clients : List Client) (cs : List Cell) → SameServices p k store table cs clients → SameServices p k store table (after cs) clients
-  services_bereaved k store table clients cs same =
+  -- what the native served waits for no token, before and after
+  waits_after : (cs : List Cell) → ((id : ℕ) → serves p cs native id ≡ true → awaited (requested cs id) ≡ None) → (id : ℕ) → awaited (requested (after cs) id) ≡ awaited (requested cs id)
+  waits_after cs untold id = ap awaited (request_after cs id) ∙ go (serves p cs native id) refl
+    where
+      ended : (b : Bool) (q : Option Request) → awaited q ≡ None → awaited (cond b (on_request (completed_with terminated) q) q) ≡ None
+      ended b q e = grind arith
+
+      go : (b : Bool) → serves p cs native id ≡ b → awaited (cond b (terminated_request (requested cs id)) (requested cs id)) ≡ awaited (requested cs id)
+      go true e = ended (is_owed (requested cs id)) (requested cs id) (untold id e) ∙ sym (untold id e)
+      go false e = refl
+
+  services_bereaved :
+      (k : Kept_state) (store : Store) (tokens : Kept_tokens) (table : Table) (clients : List Client) (cs : List Cell) → ((id : ℕ) → serves p cs native id ≡ true → awaited (requested cs id) ≡ None) →
+      SameServices p k store tokens table cs clients → SameServices p k store tokens table (after cs) clients
+  services_bereaved k store tokens table clients cs untold same =
       services_still p cs (after cs) (still_bereaved p native cs)
       (messages_as p store cs (after cs) (λ n. ap is_a_message ((bereaved_alike p native cs).named_so n)) (λ m w. words_after cs (message_name m) w) (many_after cs))
-      (listed_alike p table cs (after cs) (bereaved_alike p native cs).named_so (order_after cs)) same
+      (listed_alike p table cs (after cs) (bereaved_alike p native cs).named_so (order_after cs)) (waits_after cs untold) same
 
 -- ---- one cell after another
 
@@ -393,7 +409,7 @@ module _ (p : Image) (native : ℕ) (m b : Parts) (bereaves : Bereaves p native 
         dead = ap (λ ks. ks ++ native ∷ []) st.agrees.natives.dead;
         limit = bereaves.others.places ∙ st.agrees.natives.limit;
       };
-      services = services_bereaved p native m.clients m.messages m.listed s.clients s.cells st.agrees.services;
+      services = services_bereaved p native m.clients m.messages m.tokens m.listed s.clients s.cells (λ id served. untold p m s st native id served) st.agrees.services;
       rest = ap (λ (r : Rest). record r { delivered = suc r.delivered }) st.agrees.rest;
       room = st.agrees.room;
       entry_room = st.agrees.entry_room;
@@ -402,7 +418,7 @@ module _ (p : Image) (native : ℕ) (m b : Parts) (bereaves : Bereaves p native 
     killed_stands : s.tasks ≡ [] → StandsFor (record { image = p; parts = killed_parts }) (without_native p native (heard_one s))
     killed_stands idle =
         stands_idle p m s st idle killed_parts cs s.clients (heard_one s).rest (s.killed ++ native ∷ []) (bereaved_well p st.typing s st.typed idle native (heard_one s).rest (s.killed ++ native ∷ []))
-        (fit_same p s.clients s.cells cs (same_bereaved p native s.cells) st.kept.fit)
+        (fit_same p s.clients s.cells cs (same_bereaved p native s.cells) st.kept.fit) (comes_bereaved p native s.cells)
         (reset_same st.sound.prices is_entry (λ c. (bereaved p native c).request) (λ c. (bereaved p native c).session) s.cells) refl killed_agrees
 
     -- what the native served has no timer

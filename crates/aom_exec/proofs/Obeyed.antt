@@ -14,12 +14,14 @@ use Rattle.aom_shape.specs.Kinds.{is_object}
 use Rattle.aom_sound.proofs.ClientsCommand.{fit_commanded}
 use Rattle.aom_sound.proofs.ClientsFacts.{waiting_well}
 use Rattle.aom_sound.proofs.Obeying.{commanded_well}
+use Rattle.aom_sound.proofs.Orders.{NoneComes}
 use Rattle.aom_sound.proofs.Things.{message_plain}
 use Rattle.aom_sound.specs.Clients.{commanded}
 use Rattle.aom_sound.specs.Kept.{ClientsFit}
 use Rattle.aom_sound.specs.Places.{Elsewhere, Message_of, Object, Place, Queued, held, named, service_of}
 use Rattle.aom_sound.specs.Servers.{asked_last, is_queue, is_server, withdrawn}
 use Rattle.aom_sound.specs.State.{Rest, State}
+use Rattle.aom_sound.specs.Tokens.{awaited, order_in}
 use Rattle.aom_sound.specs.WellTyped.{WellTyped}
 use Rattle.aom_sound.specs.World.{heard_one}
 use Rattle.aom_steps.proofs.Pushed.{served_same, withdrawn_same}
@@ -28,8 +30,9 @@ use Rattle.aom_bounds.specs.Prices.{Prices}
 use Rattle.aom_transcript.specs.declared.event.Command.{Command}
 use Rattle.aom_parts.proofs.Beside.{Beside, cells_beside, listed_beside, natives_beside, requests_beside}
 use Rattle.aom_parts.proofs.Elsewhere.{SessionsSame, shows_again}
-use Rattle.aom_parts.proofs.Leaving.{beside_withdrawn, holds_withdrawn}
+use Rattle.aom_parts.proofs.Leaving.{beside_withdrawn, holds_withdrawn, told_withdrawn}
 use Rattle.aom_parts.proofs.Premises.{queue_empty}
+use Rattle.aom_parts.proofs.Told.{Told_alike, tokens_beside}
 use Rattle.aom_parts.specs.Agrees.{Agrees, SameRequests, Shows, thing_in, thing_of, word_at}
 use Rattle.aom_parts.specs.Messages.{SameMessages}
 use Rattle.aom_parts.specs.Places.{others, value}
@@ -37,7 +40,7 @@ use Rattle.aom_parts.specs.Serving.{AreSized, SameClients}
 use Rattle.aom_parts.specs.Stands.{StandsFor}
 use Rattle.aom_parts.specs.declared.parts.Parts.{Parts}
 use Rattle.aom_exec.proofs.ByCommand.{by_command}
-use Rattle.aom_exec.proofs.Commanded.{Untouched, commanded_beside, commanded_form, commanded_holds, commanded_queue}
+use Rattle.aom_exec.proofs.Commanded.{Untouched, commanded_beside, commanded_form, commanded_holds, commanded_queue, commanded_told}
 use Rattle.aom_exec.proofs.Idle.{stands_idle}
 use Rattle.aom_exec.proofs.Noting.{noted_requests, waits_alike}
 use Rattle.aom_exec.specs.Servers.{NotesIf, is_queued}
@@ -99,6 +102,12 @@ module _ (p : Image) (m : Parts) (s : State) (st : StandsFor (record { image = p
     beside : Beside s.cells then.cells
     beside = commanded_beside p c v (beside_withdrawn p st.typing st.sound.wired v typed_now st.kept.fit m.clients st.agrees.services.clients m.messages st.agrees.services.messages c) command name free high
 
+    tells : Told_alike s.cells then.cells
+    tells = commanded_told p c v (told_withdrawn p st.typing st.sound.wired v typed_now st.kept.fit m.clients st.agrees.services.clients c) command name free
+
+    no_token : NoneComes s.cells then.cells
+    no_token = record { waits = λ n k e. sym (ap awaited (beside.requests n)) ∙ e; told = λ n k e. sym (ap order_in (tells n)) ∙ e }
+
     typed : WellTyped p st.typing there
     typed = subst (WellTyped p st.typing) form (commanded_well p st.typing st.sound.wired v typed_now idle st.kept.fit c command name free)
 
@@ -119,7 +128,13 @@ module _ (p : Image) (m : Parts) (s : State) (st : StandsFor (record { image = p
       entries = st.agrees.entries;
       requests = requests;
       natives = natives_beside p m.sessions s.killed s.cells then.cells st.sound.formed.header.cells beside st.agrees.natives;
-      services = record { clients = clients; sized = sized; messages = messages; listed = listed_beside p m.listed s.cells then.cells beside st.agrees.services.listed };
+      services = record {
+        clients = clients;
+        sized = sized;
+        messages = messages;
+        tokens = tokens_beside p m.tokens s.cells then.cells beside tells st.agrees.services.tokens;
+        listed = listed_beside p m.listed s.cells then.cells beside st.agrees.services.listed;
+      };
       rest = ap (λ (r : Rest). record r { delivered = suc r.delivered }) st.agrees.rest;
       room = st.agrees.room;
       entry_room = st.agrees.entry_room;
@@ -146,4 +161,4 @@ module _ (p : Image) (m : Parts) (s : State) (st : StandsFor (record { image = p
     -- and so it stands for the state
     pub obeyed_stands : StandsFor (record { image = p; parts = new }) then
     obeyed_stands = subst (StandsFor (record { image = p; parts = new })) (sym form)
-        (stands_idle p m s st idle new then.cells then.clients v.rest s.killed typed fit (commanded_left st.sound.prices p c v command name) refl agrees_now)
+        (stands_idle p m s st idle new then.cells then.clients v.rest s.killed typed fit no_token (commanded_left st.sound.prices p c v command name) refl agrees_now)

@@ -96,7 +96,7 @@ module _ (p : Image) (c : ℕ) (v : State) (k : kept.State) (same : SameClients 
           let o = only_open (client_at v.clients c) (unrefused p c v (row (client_at v.clients c)).send e) in
           let from = messages_served p before v.cells o.0 _ messages in
           subst (λ x. SameMessages p after (sending p c v None x (message_name m) words).cells) (sym o.3)
-          (message_made p before after (reserved (asked_last (Message_of c (message_name m))) o.0 v.cells) _ m from refl (λ w. at_read words w) low is_kept.0 is_kept.1)
+          (message_made p before after (reserved (asked_last (Message_of c (message_name m))) o.0 v.cells) _ m words from refl (λ w. at_read words w) low is_kept.0 is_kept.1)
 
       go : (r : Option Refusal) → refusal p c v (Send words) ≡ r → (y : Option ℕ) → place ≡ y → IfSome y (λ m. (m < 1024) × (message_at before m ≡ None)) → Keeps_sent r y words before after → SameMessages p after (sending p c v r (client_at v.clients c) (sent_name y) words).cells
       go (Some r) e y f free is_kept = still_kept p before after v.cells is_kept messages

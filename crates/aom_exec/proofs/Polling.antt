@@ -29,7 +29,10 @@ use Rattle.aom_exec.specs.Serving.{Finishes}
 use Rattle.aom_parts.specs.Stands.{Machine, Stands, StandsFor}
 use Rattle.aom_exec.specs.Turns.{Answers, Takes}
 use Rattle.aom_parts.proofs.CellFields.{cell_of}
-use Rattle.aom_exec.proofs.Served.{Placed, coded, its_place, owes_in_all, pending_told, served_object, untimed}
+use Rattle.aom_exec.proofs.Served.{Placed, coded, its_place, owes_in_all, served_object, untimed, untold}
+use Rattle.aom_parts.proofs.Owed.{pending_told}
+use Rattle.aom_sound.proofs.Orders.{comes_asked}
+use Rattle.aom_sound.specs.Tokens.{awaited}
 use Rattle.aom_parts.proofs.Services.{services_asked}
 use Rattle.aom_parts.proofs.Sessions.{natives_asked}
 use Rattle.aom_exec.proofs.Idle.{stands_idle}
@@ -102,6 +105,10 @@ module _ (p : Image) (m : Parts) (native : ℕ) where
         asked : requested s.cells object.name ≡ Some request.0
         asked = ap (requested s.cells) it.name ∙ request.1
 
+        -- it waited for no token, and waits for none
+        waits_for_none : awaited (on_request f (requested s.cells object.name)) ≡ awaited (requested s.cells object.name)
+        waits_for_none = ap (λ q. awaited (on_request f q)) asked ∙ sym (ap (λ n. awaited (requested s.cells n)) it.name ∙ untold p m s st native id both.0)
+
         polled_agrees : Agrees p (now a).parts then
         polled_agrees = record {
           tasks = st.agrees.tasks;
@@ -110,7 +117,7 @@ module _ (p : Image) (m : Parts) (native : ℕ) where
           entries = st.agrees.entries;
           requests = requests_asked s.cells object f p m.active a request.0 lives asked (subst (λ n. Makes m.active a n f) (sym it.name) makes) st.agrees.requests;
           natives = natives_asked p m.sessions s.killed s.cells object.name _ st.agrees.natives;
-          services = services_asked p s.cells object (on_request f (requested s.cells object.name)) lives (order_same f (λ r. refl) (requested s.cells object.name)) st.agrees.services;
+          services = services_asked p s.cells object (on_request f (requested s.cells object.name)) lives (order_same f (λ r. refl) (requested s.cells object.name)) waits_for_none st.agrees.services;
           rest = ap (λ (r : Rest). record r { polled = suc native }) st.agrees.rest;
           room = st.agrees.room;
           entry_room = st.agrees.entry_room;
@@ -120,6 +127,7 @@ module _ (p : Image) (m : Parts) (native : ℕ) where
         polled_stands =
             stands_idle p m s st idle (now a).parts (with_request f object s.cells) s.clients counts s.killed (completed p st.typing s st.typed idle (recorded code) (recorded_so code) object counts)
             (fit_same p s.clients s.cells _ (same_requested s.cells object (on_request f (requested s.cells object.name)) (λ e. on_none f (requested s.cells object.name) e)) st.kept.fit)
+            (comes_asked s.cells object.name (on_request f (requested s.cells object.name)) (λ k e. sym waits_for_none ∙ e))
             (asked_same st.sound.prices is_entry object.name (on_request f (requested s.cells object.name)) s.cells) refl polled_agrees
 
         outstanding : is_outstanding_at p native it.cell ≡ true

@@ -25,7 +25,9 @@ use Rattle.aom_sound.specs.Natives.{is_owed, is_served_by, native_of}
 use Rattle.aom_sound.specs.Places.{Cell, Object, Request, Timer, in_session, named, requested}
 use Rattle.aom_sound.specs.Requests.{Known, Suits, states_claim}
 use Rattle.aom_sound.specs.State.{State}
+use Rattle.aom_sound.specs.Tokens.{awaited}
 use Rattle.aom_sound.specs.World.{cell_at as standing_at}
+use Rattle.aom_parts.proofs.Owed.{held_owed, told_alike}
 use Rattle.aom_parts.specs.declared.parts.Parts.{Parts}
 use Rattle.aom_parts.specs.Agrees.{thing_in, thing_of}
 use Rattle.aom_parts.specs.Messages.{is_a_message}
@@ -69,16 +71,24 @@ placed (c ∷ cs) id e = go (c.object.name == id) refl e (placed cs id)
 
 -- ---- its request
 
--- of what a native serves it has its code once it is aborted, and no timer
+-- of what a native serves it has its code once it is aborted, no timer, and no token that it waits for
 record Answered (q : Option Request) : Type 0 where
   code : is_unanswered q ≡ false
   timer : timer_in q ≡ None
+  token : awaited q ≡ None
 
 no_timer : (t : Option Timer) → is_none t ≡ true → t ≡ None
 no_timer t e = grind arith
 
+no_order : (t : Option ℕ) → is_none t ≡ true → t ≡ None
+no_order t e = grind arith
+
 answered_by : (k : Option ClassKind) (n : ℕ) (known : Known) (q : Option Request) → native_of k ≡ Some n → Suits k known q → Answered q
-answered_by k n known q native suits = record { code = grind arith; timer = grind (arith, no_timer) }
+answered_by k n known q native suits = record { code = grind arith; timer = grind (arith, no_timer); token = grind (arith, no_order) }
+
+-- and what waits for a time waits for no token
+pub ticks_untold : (k : Option ClassKind) (known : Known) (q : Option Request) → Suits k known q → is_some (timer_in q) ≡ true → awaited q ≡ None
+ticks_untold k known q suits runs = grind (arith, no_order)
 
 -- the objects of a class are served by the one native that does
 pub served_class : (p : Image) (native n : ℕ) (class : Option ℕ) → native_of (kind_of p class) ≡ Some n → (n == native) ≡ serves_class p native class
@@ -130,6 +140,9 @@ module _ (p : Image) (m : Parts) (s : State) (st : StandsFor (record { image = p
   pub untimed : serves p s.cells native id ≡ true → timer_in (requested s.cells id) ≡ None
   untimed served = (answered served).timer
 
+  pub untold : serves p s.cells native id ≡ true → awaited (requested s.cells id) ≡ None
+  untold served = (answered served).token
+
   -- the machine finds its class
   pub class_told : serves_class p native (class_at m.cells id) ≡ serves p s.cells native id
   class_told = go (cell_at m.cells id) (named s.cells id) (st.agrees.cells.things id)
@@ -170,28 +183,6 @@ module _ (p : Image) (m : Parts) (s : State) (st : StandsFor (record { image = p
           sym (st.agrees.natives.sessions id) ∙ get_or_past m.sessions.flags id false (omega (arith, many, long))
 
 -- ---- what the table tells of it
-
--- what is outstanding, and what is aborted and has no code
-held_owed : Option Held_request → Bool
-held_owed (Some (Held_object x status)) = not (is_idle (phase_of x)) && int_eq status pending
-held_owed _ = false
-
-held_unanswered : Option Held_request → Bool
-held_unanswered (Some (Held_object x status)) = is_aborted (phase_of x) && int_eq status pending
-held_unanswered _ = false
-
--- the same is in each state that the machine stands for
-told_alike : (h : Option Held_request) (q : Option Request) (waits : Option Bool) → Tells h q waits → (is_owed q ≡ held_owed h) × (is_unanswered q ≡ held_unanswered h)
-unfolding held_owed held_unanswered
-told_alike x y waits tells = grind arith
-
--- a request that is outstanding is pending
-pending_held : (h : Option Held_request) → held_unanswered h ≡ false → held_owed h ≡ true → is_pending h ≡ true
-unfolding held_owed held_unanswered
-pending_held h coded owed = grind arith
-
-pub pending_told : (h : Option Held_request) (q : Option Request) (waits : Option Bool) → Tells h q waits → is_unanswered q ≡ false → is_owed q ≡ true → is_pending h ≡ true
-pending_told h q waits tells coded owed = let same = told_alike h q waits tells in pending_held h (sym same.1 ∙ coded) (sym same.0 ∙ owed)
 
 module _ (p : Image) (m : Parts) (native id : ℕ) where
   owes_told : (s : State) → StandsFor (record { image = p; parts = m }) s → owes p s.cells native id ≡ (serves_class p native (class_at m.cells id) && held_owed (request_at m.active.table id))

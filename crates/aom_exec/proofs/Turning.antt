@@ -38,7 +38,10 @@ use Rattle.aom_sound.proofs.Turned.{picked}
 use Rattle.aom_sound.proofs.Turning.{completed, picked_well}
 use Rattle.aom_sound.specs.Claims.{items_of}
 use Rattle.aom_sound.specs.Lines.{serve_line}
-use Rattle.aom_sound.specs.Enlisted.{on_request, part_of, status_of, taken_up, timed_out}
+use Rattle.aom_sound.proofs.Orders.{apart_still, comes_asked}
+use Rattle.aom_sound.specs.Enlisted.{on_request, part_of, status_of, taken_up, thing_kind, timed_out}
+use Rattle.aom_sound.specs.Requests.{states_claim}
+use Rattle.aom_sound.specs.Tokens.{awaited}
 use Rattle.aom_shape.specs.Kinds.{is_object}
 use Rattle.aom_sound.specs.Servers.{has_more, is_server}
 use Rattle.aom_sound.specs.Places.{Cell, Elsewhere, Entry, Object, Going, Place, Register, Request, Root, Timer, held, named, requested, service_of}
@@ -64,6 +67,7 @@ use Rattle.aom_acts.proofs.GoingActs.{fresh_value, fresh_word, thing_is}
 use Rattle.aom_parts.proofs.Overs.{over_value, over_words}
 use Rattle.aom_exec.proofs.Idle.{stands_idle}
 use Rattle.aom_exec.proofs.Progressing.{between, is_as_far}
+use Rattle.aom_exec.proofs.Served.{ticks_untold}
 use Rattle.aom_acts.proofs.RoomMoves.{dispatches_with_room, none_formed}
 use Rattle.aom_acts.proofs.Running.{begun_frame, lives_below}
 use Rattle.aom_acts.proofs.Stepping.{agrees_rest, room_rest, typed_rest, within_rest}
@@ -116,7 +120,7 @@ stands_rest p m s r r' same steps st = record {
   traps = st.traps;
   room = room_rest p _ _ s r' st.room;
   waits = st.waits;
-  kept = record { fit = st.kept.fit; stage = st.kept.stage };
+  kept = record { fit = st.kept.fit; stage = st.kept.stage; tokens = st.kept.tokens };
   within = within_rest p st.sound.prices (declared_of p (payer s.tasks)) s r' steps st.within;
   agrees = agrees_rest p m s r r' same st.agrees;
 }
@@ -190,9 +194,14 @@ module _ (p : Image) (m : Parts) (a : Active) (turned : progress_by m.rest.ended
   abbrev after : Machine
   after = record { image = p; parts = record m { active = a } }
 
-  module _ (s : State) (st : StandsFor before s) (o : Object) (r : Request) (lives : named s.cells o.name ≡ Some o) (is : requested s.cells o.name ≡ Some r) (makes : Makes m.active a o.name timed_out) where
+  module _ (s : State) (st : StandsFor before s) (o : Object) (r : Request) (lives : named s.cells o.name ≡ Some o) (is : requested s.cells o.name ≡ Some r) (untold : awaited (requested s.cells o.name) ≡ None)
+      (makes : Makes m.active a o.name timed_out) where
     abbrev timed : State
     timed = record s { cells = with_request timed_out o s.cells }
+
+    -- it waited for no token, and waits for none
+    waits_for_none : awaited (on_request timed_out (requested s.cells o.name)) ≡ awaited (requested s.cells o.name)
+    waits_for_none = ap (λ q. awaited (on_request timed_out q)) is ∙ sym untold
 
     timed_agrees : Agrees p (record m { active = a }) timed
     timed_agrees = record {
@@ -202,7 +211,7 @@ module _ (p : Image) (m : Parts) (a : Active) (turned : progress_by m.rest.ended
       entries = st.agrees.entries;
       requests = requests_asked s.cells o timed_out p m.active a r lives is makes st.agrees.requests;
       natives = natives_asked p m.sessions s.killed s.cells o.name _ st.agrees.natives;
-      services = services_asked p s.cells o (on_request timed_out (requested s.cells o.name)) lives (order_same timed_out (λ r. refl) (requested s.cells o.name)) st.agrees.services;
+      services = services_asked p s.cells o (on_request timed_out (requested s.cells o.name)) lives (order_same timed_out (λ r. refl) (requested s.cells o.name)) waits_for_none st.agrees.services;
       rest = st.agrees.rest;
       room = st.agrees.room;
       entry_room = st.agrees.entry_room;
@@ -214,6 +223,7 @@ module _ (p : Image) (m : Parts) (a : Active) (turned : progress_by m.rest.ended
         let cs = with_request timed_out o s.cells in
         stands_idle p m s st idle (record m { active = a }) cs s.clients s.rest s.killed (completed p st.typing s st.typed idle (pos 0) refl o s.rest)
         (fit_same p s.clients s.cells cs (same_requested s.cells o (on_request timed_out (requested s.cells o.name)) (λ e. on_none timed_out (requested s.cells o.name) e)) st.kept.fit)
+        (comes_asked s.cells o.name (on_request timed_out (requested s.cells o.name)) (λ k e. sym waits_for_none ∙ e))
         (asked_same st.sound.prices is_entry o.name (on_request timed_out (requested s.cells o.name)) s.cells) refl timed_agrees
 
   timer_completes : (id : ℕ) → Makes m.active a id timed_out → ((asked : ℕ → Option Request) (queues : ℕ → Option Bool) → Asks_for m.active asked queues → IsFirstDue m.rest.clock id asked) → Completed before true after
@@ -225,16 +235,18 @@ module _ (p : Image) (m : Parts) (a : Active) (turned : progress_by m.rest.ended
       let same : o.name ≡ id = d.2 in
       let lives : named s.cells o.name ≡ Some o = ap (named s.cells) same ∙ d.3 in
       let is : requested s.cells o.name ≡ Some r.0 = ap (requested s.cells) same ∙ r.1 in
+      let untold : awaited (requested s.cells o.name) ≡ None =
+      ticks_untold (thing_kind p o.thing) (states_claim p o st.typed.layers) (requested s.cells o.name) (st.typed.good.suits o lives) (ap (λ n. is_some (timer_in (requested s.cells n))) same ∙ ap is_some f.runs) in
       let made = subst (λ n. Makes m.active a n timed_out) (sym same) makes in (
         d.0,
         d.1,
         omega (arith, d.4, ap (λ (r : Rest). r.clock) st.agrees.rest),
         record {
           between = machine_between before s st turned;
-          state = timed s st o r.0 lives is made;
+          state = timed s st o r.0 lives is untold made;
           goes = refl;
           lines = silent told;
-          stands = timed_stands s st o r.0 lives is made;
+          stands = timed_stands s st o r.0 lives is untold made;
         },
       )
     where
@@ -367,6 +379,11 @@ module _ (p : Image) (m : Parts) (s : State) (st : StandsFor (record { image = p
     unqueued : queued p s.cells id ≡ None
     keeps : Keeps p st.typing (dispatched (part_of p Handles found.candidate.seat.object.thing) found.candidate.seat s)
 
+  -- what is taken up waits for the token that it waited for
+  same_waits : (q : Option Request) → awaited (on_request taken_up q) ≡ awaited q
+  same_waits None = refl
+  same_waits (Some r) = refl
+
   or_false : (b : Bool) → (b || false) ≡ b
   or_false true = refl
   or_false false = refl
@@ -453,7 +470,7 @@ module _ (p : Image) (m : Parts) (s : State) (st : StandsFor (record { image = p
         entries = (tt, st.agrees.entries);
         requests = requests_asked s.cells object taken_up p m.active a k.found.candidate.request lives asked made st.agrees.requests;
         natives = natives_asked p m.sessions s.killed s.cells object.name _ st.agrees.natives;
-        services = services_asked p s.cells object (on_request taken_up (requested s.cells object.name)) lives (order_same taken_up (λ r. refl) (requested s.cells object.name)) st.agrees.services;
+        services = services_asked p s.cells object (on_request taken_up (requested s.cells object.name)) lives (order_same taken_up (λ r. refl) (requested s.cells object.name)) (same_waits (requested s.cells object.name)) st.agrees.services;
         rest = ap (λ (r : Rest). record r { steps = 0; polled = 0 }) st.agrees.rest;
         room = st.agrees.room;
         entry_room = st.agrees.entry_room;
@@ -502,7 +519,11 @@ module _ (p : Image) (m : Parts) (s : State) (st : StandsFor (record { image = p
         traps = (tt, (tt, tt));
         room = dispatches_with_room p (at 0 st.sound.depths.depths) st.sound.heights then.cells d.method (Inside object k.found.candidate.seat.place) (Of_object k.found.candidate.seat) s.items then.rest s.killed s.clients none_pushed;
         waits = tt;
-        kept = record { fit = fit_same p s.clients s.cells then.cells (same_requested s.cells object (on_request taken_up (requested s.cells object.name)) (λ e. on_none taken_up (requested s.cells object.name) e)) st.kept.fit; stage = tt };
+        kept = record {
+          fit = fit_same p s.clients s.cells then.cells (same_requested s.cells object (on_request taken_up (requested s.cells object.name)) (λ e. on_none taken_up (requested s.cells object.name) e)) st.kept.fit;
+          stage = tt;
+          tokens = apart_still s.cells then.cells (comes_asked s.cells object.name (on_request taken_up (requested s.cells object.name)) (λ k e. sym (same_waits (requested s.cells object.name)) ∙ e)) st.kept.tokens;
+        };
         within = dispatch_within;
         agrees = dispatch_agrees;
       }

@@ -20,7 +20,7 @@ use Rattle.aom_sound.specs.State.{AtRoot, Closing, Destroy, Dispatched, Frame, H
 use Rattle.aom_sound.specs.Wanted.{Exchange, exchange_at, wanted, wanted_at, wanted_by, wanted_going, wanted_gone, wanted_task}
 
 module _ (p : Image) (none_named : p.header.natives ≡ 0) (formed : WellFormed p) where
-  kind_no_native : (k : ClassKind) → KindFits (length p.classes) p.header.natives k → native_of (Some k) ≡ None
+  kind_no_native : (k : ClassKind) → KindFits p.header.version (length p.classes) p.header.natives k → native_of (Some k) ≡ None
   kind_no_native (An_active (Native n)) fits = absurd (let below : n < p.header.natives = fits in omega (arith, below, none_named))
   kind_no_native (An_active Own) fits = refl
   kind_no_native (An_active Timer) fits = refl
@@ -33,7 +33,7 @@ module _ (p : Image) (none_named : p.header.natives ≡ 0) (formed : WellFormed 
     where
       go : (o : Option ClassDecl) → slice_get p.classes c ≡ o → native_of (kind_in o) ≡ None
       go None e = refl
-      go (Some d) e = kind_no_native d.kind (all_there (ClassFits (length p.classes) p.header.natives) p.classes c d formed.classes.each e).kind
+      go (Some d) e = kind_no_native d.kind (all_there (ClassFits p.header.version (length p.classes) p.header.natives) p.classes c d formed.classes.each e).kind
 
   thing_no_native : (t : Thing) → native_of (thing_kind p t) ≡ None
   thing_no_native (An_object_of c) = class_no_native (Some c)

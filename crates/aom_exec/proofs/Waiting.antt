@@ -12,7 +12,7 @@ use Rattle.aom_image.specs.declared.method.Argument.{Argument}
 use Rattle.aom_image.specs.declared.method.Argument.TheVariants.{Own as Takes_own, Word as Takes_word}
 use Rattle.aom_image.specs.declared.method.Gives.{Gives}
 use Rattle.aom_image.specs.declared.method.Gives.TheVariants.{Maybe as A_maybe, Own as An_own}
-use Rattle.aom_image.specs.declared.method.Thing.TheVariants.{Object as An_object_of}
+use Rattle.aom_image.specs.declared.method.Thing.TheVariants.{Message, Object as An_object_of}
 use Rattle.aom_classes.specs.Roles.{main_of}
 use Rattle.aom_shape.specs.Entries.{without_entry}
 use Rattle.aom_shape.specs.Arguments.{after_of, arguments_moved}
@@ -28,6 +28,7 @@ use Rattle.aom_shape.specs.declared.kind.Kind.TheVariants.{Maybe, Null, Own, Uns
 use Rattle.aom_sound.proofs.Finishing.{all_parts}
 use Rattle.aom_sound.proofs.Guarded.{guarded_goes, guarded_met}
 use Rattle.aom_sound.proofs.Maps.{at-put_at, held_without, same_place-true}
+use Rattle.aom_sound.proofs.Redeeming.{redeemed_by_alike}
 use Rattle.aom_sound.proofs.Moving.{steps_are_moves}
 use Rattle.aom_sound.proofs.Storing.{ended_alike, held_set_word, rerequested_alike, resessioned_alike}
 use Rattle.aom_sound.proofs.Straight.{register_fits}
@@ -40,7 +41,7 @@ use Rattle.aom_sound.proofs.Unslotting.{each_unslotted_alike}
 use Rattle.aom_sound.specs.Clients.{each_unslotted}
 use Rattle.aom_sound.specs.Servers.{is_queue_of, is_server, opened, without_queue}
 use Rattle.aom_classes.specs.Roles.{destructor_of}
-use Rattle.aom_sound.specs.Effects.{Calls, Cancels, Carried, Counts, Destroys, Destroys_last, Effect, Goes_on, In_field, In_register, Jumps, Replied, The_message, Leaves, Made, Operates, Popped, Pushed, Repeats, Requested, Returns, Sets_trap, Spot, Update, Written, applied, cells_after, deletes, spot_place, with_words, Sessioned}
+use Rattle.aom_sound.specs.Effects.{Calls, Cancels, Carried, Counts, Destroys, Destroys_last, Effect, Goes_on, Handed, In_field, In_register, Jumps, Replied, The_message, Leaves, Made, Operates, Popped, Pushed, Repeats, Requested, Returns, Sets_trap, Spot, Update, Written, applied, cells_after, deletes, spot_place, with_words, Sessioned}
 use Rattle.aom_sound.specs.Moves.{answered, asking, counted, dispatch_ends, does, failed, handled, main_ends, needs, object_ends, stage_ends, step}
 use Rattle.aom_sound.specs.Places.{Cell, Elsewhere, Entry, Going, Object, Place, Register, Root, Session, Sight, held, moved, same_place, seen, service_of, without}
 use Rattle.aom_sound.specs.State.{Accept_left, Accepted, Accepts, Answered, Asks, AtRoot, Choice, Closing, Destroy, Dispatch, Dispatched, Frame, Goes, Home, Inside, Main_left, Need, Object_left, Of_main, Of_object, Of_root, Of_server, Parts, Run, Seat, Serves, Service_left, Stage, State, Static, Task, Trapped, Unwind, field_place, guarded, resumed, word}
@@ -56,7 +57,8 @@ use Rattle.aom_acts.proofs.Running.{no_word}
 use Rattle.aom_acts.proofs.Stepping.{at_step, step_of_instr}
 use Rattle.std.specs.Ordering.{int_eq}
 use Rattle.aom_image.specs.declared.method.Role.TheVariants.{Error as Answers}
-use Rattle.aom_sound.specs.Enlisted.{begun_cells, cancelling, ended_cells, on_request, own_request, part_of}
+use Rattle.aom_sound.specs.Enlisted.{begun_cells, cancelling, ended_cells, on_request, own_request, part_of, rerequested}
+use Rattle.aom_sound.specs.Tokens.{next_token, promised, redeemed_by, token_of}
 
 -- ---- kinds
 
@@ -138,7 +140,14 @@ module _ (p : Image) (fr : Frame) (ts : List Task) (s : State) where
   updated_same (Written w v) d i lt = stored_same s.cells fr.home w v (length ts) d i lt
   updated_same (Requested r) d i lt = (rerequested_alike s.cells fr.home r).held_so (Register d i)
   updated_same (Sessioned b) d i lt = (resessioned_alike s.cells fr.home b).held_so (Register d i)
-  updated_same (Replied a) d i lt = held_without s.cells (here fr ts s a) (Register d i) ∙ ap (λ b. cond b None (held s.cells (Register d i))) (higher_apart (length ts) a d i lt)
+  updated_same (Replied a code) d i lt =
+      let order = token_of s.cells (held s.cells (here fr ts s a)) in
+      held_without (redeemed_by order code s.cells) (here fr ts s a) (Register d i) ∙ ap (λ b. cond b None (held (redeemed_by order code s.cells) (Register d i))) (higher_apart (length ts) a d i lt)
+      ∙ (redeemed_by_alike order code s.cells).held_so (Register d i)
+  updated_same (Handed name a) d i lt =
+      let r = on_request (promised (next_token s.cells)) (own_request s.cells fr.home) in
+      ap (λ b. cond b (Some (record { name = name; thing = Message })) (held (rerequested s.cells fr.home r) (Register d i))) (higher_apart (length ts) a d i lt)
+      ∙ (rerequested_alike s.cells fr.home r).held_so (Register d i)
   updated_same (Pushed a) d i lt = held_apart s.cells (here fr ts s a) (Entry (length s.items)) (Register d i) (higher_apart (length ts) a d i lt) refl
   updated_same (Popped a) d i lt = held_apart s.cells (top_place s.items) (here fr ts s a) (Register d i) refl (higher_apart (length ts) a d i lt)
   updated_same _ d i lt = refl

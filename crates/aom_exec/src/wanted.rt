@@ -60,6 +60,7 @@ fn native_of(kind: ClassKind) -> Option<usize>
             Provider::Native(native) => Some(native.number() as usize),
             Provider::Own => None,
             Provider::Timer => None,
+            Provider::Token => None,
         },
         ClassKind::Plain => None,
         ClassKind::Server { .. } => None,

@@ -74,6 +74,7 @@ impl Messages {
         ensures fresh { IfSome result (λ id. message_at self.old id ≡ None) }
         ensures added { IfSome result (λ id. Changes self.old self.new id (Some words)) }
         ensures in_range { IfSome result (λ id. id < 1024) }
+        ensures below { IfSome result (λ id. id < self.old.limit) }
         ensures count { OnSome result (count self.new ≡ count self.old + 1) }
         ensures full { IsNone result → count self.old ≡ self.old.limit }
         ensures refused { IsNone result → self.new ≡ self.old }

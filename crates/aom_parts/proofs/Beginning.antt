@@ -1,6 +1,7 @@
 -- What the machine keeps of clients and servers as it begins: nobody asked for anything, and there is no message.
-use Rattle.std.proofs.Common.{List, [], ap, arith, length, refl, subst, sym, ℕ, ◌∙◌, ◌≡◌}
+use Rattle.std.proofs.Common.{List, None, Option, [], ap, arith, length, refl, subst, sym, ℕ, ◌∙◌, ◌≡◌}
 use Rattle.std.proofs.lemmas.List.{length-replicate}
+use Rattle.std.proofs.lemmas.Option.{none-some}
 use Rattle.std.specs.Prelude.{AllPairs, map, ◌<◌}
 use Rattle.aom_clients.specs.Clients as kept
 use Rattle.aom_clients.specs.Clients.{State, at_first, client_at, queue_at}
@@ -17,7 +18,10 @@ use Rattle.aom_parts.specs.Listing.{SameListed, order_in}
 use Rattle.aom_parts.specs.Messages.{SameMessages}
 use Rattle.aom_parts.specs.Services.{SameServices}
 use Rattle.aom_parts.specs.Serving.{AreSized, Once, SameClients, asked_by, holds, sent_by, sessionless}
+use Rattle.aom_parts.specs.Tokens.{SameTokens}
 use Rattle.aom_parts.proofs.CellWords.{all_same}
+use Rattle.aom_tokens.specs.Tokens.{Kept, class_kept, none_of}
+use Rattle.aom_tokens.specs.declared.tokens.Token.{Token}
 
 -- each client is unconnected, and nothing waits anywhere
 pub first_client : (cells c : ℕ) → client_at (at_first cells) c ≡ Unconnected
@@ -81,9 +85,22 @@ listed_begin p = record {
   nodes = refl;
 }
 
-pub services_begin : (p : Image) (s : State) (store : Store) (table : Table) → s ≡ at_first p.header.cells → store ≡ record { slots = []; limit = p.header.messages } → table ≡ no_list p.header.cells 256 → SameServices p s store table [] []
-services_begin p s store table clients messages listed =
-    subst (λ x. SameServices p x store table [] []) (sym clients)
-    (subst (λ x. SameServices p (at_first p.header.cells) x table [] []) (sym messages)
-    (subst (λ x. SameServices p (at_first p.header.cells) (record { slots = []; limit = p.header.messages }) x [] []) (sym listed)
-    (record { clients = clients_begin p.header.cells; sized = first_sized p.header.cells; messages = messages_begin p; listed = listed_begin p })))
+-- no message is a token
+tokens_begin : (p : Image) → SameTokens p (none_of p.header.messages p.header.cells) []
+tokens_begin p = record {
+  classes = λ m. ap class_kept (all_same p.header.messages m None);
+  waits = λ n k e. absurd (none-some k e);
+  lives = λ n m e. absurd (none-some m (sym (all_same p.header.cells n None) ∙ e));
+  places = length-replicate {A = Option Token} p.header.messages None;
+  cells = length-replicate {A = Option ℕ} p.header.cells None;
+}
+
+module _ (p : Image) (s : State) (store : Store) (tokens : Kept) (table : Table) where
+  pub services_begin :
+      s ≡ at_first p.header.cells → store ≡ record { slots = []; limit = p.header.messages } → tokens ≡ none_of p.header.messages p.header.cells → table ≡ no_list p.header.cells 256 → SameServices p s store tokens table [] []
+  services_begin clients messages handed listed =
+      subst (λ x. SameServices p x store tokens table [] []) (sym clients)
+      (subst (λ x. SameServices p (at_first p.header.cells) x tokens table [] []) (sym messages)
+      (subst (λ x. SameServices p (at_first p.header.cells) (record { slots = []; limit = p.header.messages }) x table [] []) (sym handed)
+      (subst (λ x. SameServices p (at_first p.header.cells) (record { slots = []; limit = p.header.messages }) (none_of p.header.messages p.header.cells) x [] []) (sym listed)
+      (record { clients = clients_begin p.header.cells; sized = first_sized p.header.cells; messages = messages_begin p; tokens = tokens_begin p; listed = listed_begin p }))))

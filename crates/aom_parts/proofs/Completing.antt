@@ -47,7 +47,7 @@ once_without m (k ∷ ms) once = go (k == m) refl (once_without m ms once.1)
 
 -- ---- a cell goes
 
-owner_unnamed : (cs : List Cell) (n : ℕ) → named cs n ≡ None → owner_of cs n ≡ None
+pub owner_unnamed : (cs : List Cell) (n : ℕ) → named cs n ≡ None → owner_of cs n ≡ None
 owner_unnamed [] n e = refl
 owner_unnamed (c ∷ cs) n e =
     let f = front_free (c.object.name == n) c.object (named cs n) e in
@@ -60,7 +60,7 @@ nothing_goes (c ∷ cs) g e =
     ap (λ b. cond b (without g cs) (c ∷ without g cs)) f.0 ∙ ap (λ l. c ∷ l) (nothing_goes cs g f.1)
 
 module _ (g : Owner) (o : Object) where
-  owner_without : (cs : List Cell) (n : ℕ) → Tidy cs → held cs g ≡ Some o → (o.name == n) ≡ false → owner_of (without g cs) n ≡ owner_of cs n
+  pub owner_without : (cs : List Cell) (n : ℕ) → Tidy cs → held cs g ≡ Some o → (o.name == n) ≡ false → owner_of (without g cs) n ≡ owner_of cs n
   owner_without [] n tidy e other = refl
   owner_without (c ∷ cs) n tidy e other = go (same_place c.owner g) refl e (owner_without cs n tidy.2)
     where

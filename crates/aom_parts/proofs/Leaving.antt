@@ -20,9 +20,10 @@ use Rattle.aom_rules.specs.Typing.{Typing}
 use Rattle.aom_shape.specs.Kinds.{is_object}
 use Rattle.aom_sound.proofs.ClientsFacts.{waiting_message as queued_message}
 use Rattle.aom_sound.proofs.Sifted.{a_cell_of, cell_in, cell_lives, cell_name, cell_of, cell_owner, cell_placed, held_cell, named_cell, object_in, request_in, requested_cell, service_cell, service_in, unqueued_so, withdrawn_so}
+use Rattle.aom_sound.proofs.Sources.{from_some}
 use Rattle.aom_sound.specs.Enlisted.{thing_kind}
 use Rattle.aom_sound.specs.Requests.{Suits, states_claim}
-use Rattle.aom_sound.specs.Kept.{ClientsFit, QueueFits}
+use Rattle.aom_sound.specs.Kept.{ClientsFit, QueueFits, sources_of}
 use Rattle.aom_sound.specs.Laws.{IsWired}
 use Rattle.aom_sound.specs.Places.{Cell, Elsewhere, Object, Place as Owner, Queued as Waits_at, Sender, Service, held, requested, service_of}
 use Rattle.aom_sound.specs.Servers.{has_message, holds_slot, is_among, is_from, is_message, is_queue, is_queue_of, left_by, withdrawn, without_queue}
@@ -31,7 +32,8 @@ use Rattle.aom_sound.specs.WellTyped.{WellTyped}
 use Rattle.aom_parts.proofs.Beside.{Beside, beside_sifted, holds_sifted}
 use Rattle.aom_parts.proofs.Departing.{is_at}
 use Rattle.aom_parts.proofs.Forgetting.{Forgets, messages_sifted}
-use Rattle.aom_parts.proofs.Premises.{asked_there, waiting_there}
+use Rattle.aom_parts.proofs.Premises.{asked_there, asking, waiting_there}
+use Rattle.aom_parts.proofs.Told.{Told_alike, told_sifted, untold_sent}
 use Rattle.aom_parts.proofs.Vanishing.{asks_message}
 use Rattle.aom_parts.proofs.Withdrawing.{owner_cell, owner_in, queue_owner, queue_of_owner, queue_of_queue}
 use Rattle.aom_parts.specs.Messages.{SameMessages, is_a_message}
@@ -246,6 +248,35 @@ module _ (p : Image) (t : Typing) (wired : IsWired p) (s : State) (w : WellTyped
     where
       queued : (q : Owner) → is_queue_of n q ≡ true → is_queue q ≡ true
       queued x h = grind arith
+
+  -- what waits was sent, and is no token
+  sent_untold : (n : ℕ) (x : Cell) → cell_of s.cells n ≡ Some x → is_queue x.owner ≡ true → is_some x.service.sender ≡ true → x.service.token ≡ None
+  sent_untold n x e h sent = untold_sent x.service one sent
+    where
+      lives : cell_of s.cells x.object.name ≡ Some x
+      lives = cell_lives s.cells x.owner x w.good.tidy (cell_placed s.cells n x w.good.tidy e)
+
+      one : sources_of x.service ≡ 1
+      one =
+          ap sources_of (sym (service_cell s.cells x.object.name ∙ ap service_in lives)) ∙ fit.sources x.object (named_cell s.cells x.object.name ∙ ap object_in lives)
+          ∙ ap {B = ℕ} (λ b. cond b 0 1) (waiting_message n x e h)
+
+  pub told_withdrawn : (c : ℕ) → Told_alike s.cells (withdrawn c s.cells)
+  told_withdrawn c =
+      subst (Told_alike s.cells) (sym (withdrawn_so c s.cells))
+      (told_sifted (drops c) (λ x. left_by c x.service) s.cells w.good.tidy
+      (λ n x e h. let b = and_parts (is_queue x.owner) (is_from c x.service.sender) h in sent_untold n x e b.0 (from_some c x.service.sender b.1)) (λ x. refl))
+
+  pub told_unqueued : (before : Store) → SameMessages p before s.cells → (n : ℕ) → Told_alike s.cells (without_queue n s.cells)
+  told_unqueued before kept_so n = subst (Told_alike s.cells) (sym (unqueued_so n s.cells)) (told_sifted (λ x. is_queue_of n x.owner) (λ x. x.service) s.cells w.good.tidy none (λ x. refl))
+    where
+      none : (i : ℕ) (x : Cell) → cell_of s.cells i ≡ Some x → is_queue_of n x.owner ≡ true → x.service.token ≡ None
+      none i x e h =
+          let m = (unqueues n before kept_so).gone i x e h in
+          let c = asking (message_name m.0) (service_of s.cells n).queue (sym (asked_so n m.0) ∙ m.2) in
+          let from = fit.senders n c.0 (message_name m.0) c.1 in
+          let its : service_of s.cells (message_name m.0) ≡ x.service = service_cell s.cells (message_name m.0) ∙ ap service_in (ap (cell_of s.cells) (sym m.1) ∙ e) in
+          sent_untold i x e (queue_of_queue n x.owner h) (from_some c.0 x.service.sender (ap (λ (v : Service). is_from c.0 v.sender) (sym its) ∙ from))
 
   -- and what no queue owns
   pub holds_withdrawn : (c : ℕ) (r : Owner) → is_queue r ≡ false → held (withdrawn c s.cells) r ≡ held s.cells r

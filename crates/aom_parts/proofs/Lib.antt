@@ -20,6 +20,7 @@ pub mod Vanishing
 pub mod Elsewhere
 pub mod Still
 pub mod Premises
+pub mod Tokens
 pub mod Services
 pub mod Servicing
 pub mod Sizing
@@ -28,5 +29,9 @@ pub mod Forgetting
 pub mod Leaving
 pub mod Telling
 pub mod Beside
+pub mod Told
 pub mod Replying
+pub mod Redeeming
+pub mod Handing
 pub mod Beginning
+pub mod Owed

@@ -197,9 +197,10 @@ message_gone p old new cs g o m h tidy holds message name ch less = record {
     words k w false e = ap (λ x. word_of x w) (other k e) ∙ h.words k w ∙ sym (words_without cs g o (message_name k) w tidy holds (apart k e))
 
 -- a message of these words comes
-pub message_made : (p : Image) (old new : Store) (cs : List Cell) (c : Cell) (m : ℕ) → SameMessages p old cs → c.object ≡ record { name = message_name m; thing = Message } → ((w : ℕ) → word_of (Some c.words) w ≡ at (pos 0) c.words w)
-    → m < 1024 → Changes old new m (Some c.words) → count new ≡ count old + 1 → SameMessages p new (c ∷ cs)
-message_made p old new cs c m h is told low ch more = record {
+pub message_made :
+    (p : Image) (old new : Store) (cs : List Cell) (c : Cell) (m : ℕ) (ws : List ℤ) → SameMessages p old cs → c.object ≡ record { name = message_name m; thing = Message } → ((w : ℕ) → word_of (Some ws) w ≡ at (pos 0) c.words w)
+    → m < 1024 → Changes old new m (Some ws) → count new ≡ count old + 1 → SameMessages p new (c ∷ cs)
+message_made p old new cs c m ws h is told low ch more = record {
   there = λ k. by k (m == k) refl;
   within = λ k high. other k (ne_eqb m k (λ same. absurd (omega (arith, same, high, low)))) ∙ h.within k high;
   past = λ n small. ap (λ b. is_a_message (cond b (Some c.object) (named cs n))) (ap (λ i. i == n) its_name ∙ ne_eqb (message_name m) n (λ e. absurd (omega (arith, small, e)))) ∙ h.past n small;
@@ -217,7 +218,7 @@ message_made p old new cs c m h is told low ch more = record {
     there : (k : ℕ) → (m == k) ≡ false → (c.object.name == message_name k) ≡ false
     there k e = ap (λ i. i == message_name k) its_name ∙ ne_eqb (message_name m) (message_name k) (λ same. false≢true (sym e ∙ eq-eqb m k (omega (arith, same))))
 
-    kept_here : (k : ℕ) → (m == k) ≡ true → message_at new k ≡ Some c.words
+    kept_here : (k : ℕ) → (m == k) ≡ true → message_at new k ≡ Some ws
     kept_here k e = ap (message_at new) (sym (eqb-true m k e)) ∙ ch.here
 
     other : (k : ℕ) → (m == k) ≡ false → message_at new k ≡ message_at old k

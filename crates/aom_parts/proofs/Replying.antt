@@ -1,13 +1,11 @@
 -- A message that was taken is completed: it is kept, it waits in no queue, and all that the machine keeps goes on standing for the cells without it.
-use Rattle.std.proofs.Common.{Bool, List, None, Some, ap, arith, false, inl, inr, not, refl, subst, sym, true, ℕ, ◌+◌, ◌<◌, ◌==◌, ◌≤◌, ◌∙◌, ◌≡◌, ◌⊎◌}
+use Rattle.std.proofs.Common.{Bool, List, None, Option, Some, ap, arith, cond, false, inl, inr, not, refl, subst, sym, true, ℕ, ◌+◌, ◌<◌, ◌==◌, ◌≤◌, ◌∙◌, ◌≡◌, ◌⊎◌}
 use Rattle.std.specs.Prelude.{IsSome, is_some, ◌-◌}
 use Rattle.std.proofs.lemmas.Bool.{cases_lt, eqb-true, false≢true}
-use Rattle.std.proofs.lemmas.List.{get_or_past}
 use Rattle.aom_active.specs.Agrees.{Active}
 use Rattle.aom_cells.specs.Heap.{Heap}
 use Rattle.aom_clients.specs.Clients as kept
 use Rattle.aom_clients.specs.Table.{completion, is_queued}
-use Rattle.aom_clients.specs.declared.place.Place.TheVariants.{Free}
 use Rattle.aom_image.specs.Image.{Image}
 use Rattle.aom_image.specs.declared.method.Thing.TheVariants.{Message}
 use Rattle.aom_messages.specs.Store.{Changes, Store, count, message_at}
@@ -16,13 +14,13 @@ use Rattle.aom_roles.specs.Shapes.{kind_of}
 use Rattle.aom_rules.specs.Typing.{Typing}
 use Rattle.aom_sessions.specs.Sessions.{Standing}
 use Rattle.aom_shape.specs.Kinds.{is_object}
-use Rattle.aom_sound.proofs.Maps.{held_lives, same_place-true}
-use Rattle.aom_sound.proofs.Services.{service_without}
+use Rattle.aom_sound.proofs.Maps.{held_lives, same_place-true, unnamed}
+use Rattle.aom_sound.proofs.Services.{service_unnamed, service_without}
 use Rattle.aom_sound.proofs.Sifted.{cell_name, cell_of, cell_placed, held_cell, object_in, request_in, requested_cell}
 use Rattle.aom_sound.proofs.Sources.{has_sender}
 use Rattle.aom_sound.proofs.Things.{message_plain}
 use Rattle.aom_sound.specs.Enlisted.{thing_kind}
-use Rattle.aom_sound.specs.Kept.{HasSources, IsKept}
+use Rattle.aom_sound.specs.Kept.{HasSources, IsKept, sources_of}
 use Rattle.aom_sound.specs.Laws.{IsWired}
 use Rattle.aom_sound.specs.Places.{Cell, Object, Place, Service, held, named, requested, same_place, service_of, without}
 use Rattle.aom_sound.specs.Requests.{Suits, states_claim}
@@ -33,13 +31,18 @@ use Rattle.aom_parts.proofs.Beside.{Beside, beside_sifted, cells_beside, listed_
 use Rattle.aom_parts.proofs.Forgetting.{without_sifted}
 use Rattle.aom_parts.proofs.Messages.{message_gone}
 use Rattle.aom_parts.proofs.Premises.{completes_at, owner_held}
-use Rattle.aom_parts.proofs.Serving.{taken_sent}
 use Rattle.aom_parts.proofs.Servicing.{same_replied}
 use Rattle.aom_parts.proofs.Sizing.{sized_completed}
 use Rattle.aom_parts.specs.Agrees.{SameCells, SameNatives, SameRequests}
 use Rattle.aom_parts.specs.Messages.{SameMessages, is_a_message}
 use Rattle.aom_parts.specs.Services.{SameServices}
-use Rattle.aom_parts.specs.Serving.{is_taken, message_name, owner_of, waits_in}
+use Rattle.aom_parts.specs.Serving.{SameClients, message_name, owner_of, waits_in}
+use Rattle.aom_parts.specs.Tokens.{SameTokens}
+use Rattle.aom_parts.proofs.Serving.{names_apart}
+use Rattle.aom_parts.proofs.Told.{sent_untold, token_unsent, untold_sent}
+use Rattle.aom_parts.proofs.Tokens.{tokens_still}
+use Rattle.aom_sound.specs.Tokens.{awaited}
+use Rattle.aom_tokens.specs.Tokens.{Kept}
 
 module _ (p : Image) (t : Typing) (s : State) (w : WellTyped p t s) (g : Place) (o : Object) (there : held s.cells g ≡ Some o) (message : o.thing ≡ Message) where
   abbrev pub left : List Cell
@@ -51,9 +54,20 @@ module _ (p : Image) (t : Typing) (s : State) (w : WellTyped p t s) (g : Place) 
   no_object : is_object o.thing ≡ false
   no_object = ap is_object message
 
-  -- it has a sender
-  pub message_sent : HasSources s.cells → has_sender s.cells o.name ≡ true
-  message_sent sources = sources o lives ∙ ap not no_object
+  one_source : HasSources s.cells → sources_of (service_of s.cells o.name) ≡ 1
+  one_source sources = sources o lives ∙ ap {B = ℕ} (λ b. cond b 0 1) no_object
+
+  -- where it is no token it has a sender
+  pub message_sent : HasSources s.cells → (service_of s.cells o.name).token ≡ None → has_sender s.cells o.name ≡ true
+  message_sent sources none = sent_untold (service_of s.cells o.name) (one_source sources) none
+
+  -- and where it has one it is no token
+  pub sent_no_token : HasSources s.cells → has_sender s.cells o.name ≡ true → (service_of s.cells o.name).token ≡ None
+  sent_no_token sources sent = untold_sent (service_of s.cells o.name) (one_source sources) sent
+
+  -- a token has no sender
+  pub told_no_sender : HasSources s.cells → is_some (service_of s.cells o.name).token ≡ true → (service_of s.cells o.name).sender ≡ None
+  told_no_sender sources told = token_unsent (service_of s.cells o.name) (one_source sources) told
 
   -- it is not enlisted
   pub message_unasked : requested s.cells o.name ≡ None
@@ -69,7 +83,7 @@ module _ (p : Image) (t : Typing) (s : State) (w : WellTyped p t s) (g : Place) 
       go (inr large) = (o.name - message_name 0, omega (arith, large))
 
   module _ (place : ℕ) (name : o.name ≡ message_name place) where
-    beside_completed : Beside s.cells left
+    pub beside_completed : Beside s.cells left
     beside_completed = subst (Beside s.cells) (sym (without_sifted g s.cells)) (beside_sifted (λ c. same_place c.owner g) (λ c. c.service) s.cells w.good.tidy goes)
       where
         goes : (n : ℕ) (x : Cell) → cell_of s.cells n ≡ Some x → same_place x.owner g ≡ true → (4096 ≤ n) × (is_object x.object.thing ≡ false) × (x.request ≡ None)
@@ -92,30 +106,45 @@ module _ (p : Image) (t : Typing) (s : State) (w : WellTyped p t s) (g : Place) 
         queues n asked true e = absurd (false≢true (ap is_some (sym message_unasked ∙ ap (requested s.cells) (eqb-true o.name n e)) ∙ asked))
         queues n asked false e = ap (λ (v : Service). v.queue) (service_without s.cells g o n w.good.tidy there e)
 
-    -- it is kept, and where it waits in no queue and has a sender its completion is told
-    module _ (wired : IsWired p) (kept_so : IsKept p s) (apart : is_queue g ≡ false) (sent : has_sender s.cells o.name ≡ true) (k : kept.State) (store : Store) (table : Table) (same : SameServices p k store table s.cells s.clients) where
+    -- it is kept, at a place that there is
+    module _ (store : Store) (same : SameMessages p store s.cells) where
       pub message_kept : is_some (message_at store place) ≡ true
-      message_kept = same.messages.there place ∙ ap is_a_message (ap (named s.cells) (sym name) ∙ lives) ∙ ap not no_object
+      message_kept = same.there place ∙ ap is_a_message (ap (named s.cells) (sym name) ∙ lives) ∙ ap not no_object
 
       pub place_below : place < 1024
       place_below = go (cases_lt place 1024)
         where
           go : (place < 1024) ⊎ (1024 ≤ place) → place < 1024
           go (inl small) = small
-          go (inr large) =
-              let past = get_or_past k.places place Free (subst (λ n. n ≤ place) (sym same.sized.places) large) in
-              absurd (false≢true (sym (ap is_taken past) ∙ taken_sent k s.cells s.clients same.clients place ∙ ap (has_sender s.cells) (sym name) ∙ sent))
+          go (inr large) = absurd (false≢true (ap is_some (sym (same.within place large)) ∙ message_kept))
 
-      pub completion_told : IsSome (completion (kept.place_at k place))
-      completion_told = completes_at p t wired s w s.clients kept_so.fit k same.clients g o place there apart sent name
-
+    -- where it waits in no queue and has a sender its completion is told
+    module _ (wired : IsWired p) (kept_so : IsKept p s) (apart : is_queue g ≡ false) (k : kept.State) (same : SameClients k s.cells s.clients) where
       pub was_taken : is_queued (kept.place_at k place) ≡ false
-      was_taken = same.clients.waits place ∙ ap waits_in (ap (owner_of s.cells) (sym name) ∙ owner_held s.cells w.good.tidy g o there) ∙ apart
+      was_taken = same.waits place ∙ ap waits_in (ap (owner_of s.cells) (sym name) ∙ owner_held s.cells w.good.tidy g o there) ∙ apart
 
-      pub services_completed : (after : Store) → Changes store after place None → count after + 1 ≡ count store → SameServices p (kept.after_complete place k) after table left s.clients
+      pub completion_told : has_sender s.cells o.name ≡ true → IsSome (completion (kept.place_at k place))
+      completion_told sent = completes_at p t wired s w s.clients kept_so.fit k same g o place there apart sent name
+
+    module _
+        (wired : IsWired p) (kept_so : IsKept p s) (apart : is_queue g ≡ false) (sent : has_sender s.cells o.name ≡ true)
+        (k : kept.State) (store : Store) (tokens : Kept) (table : Table) (same : SameServices p k store tokens table s.cells s.clients) where
+      -- no token goes
+      tokens_completed : SameTokens p tokens left
+      tokens_completed = tokens_still p tokens s.cells left (λ n. ap awaited (beside_completed.requests n)) (λ m. tells m (place == m) refl) same.tokens
+        where
+          tells : (m : ℕ) (b : Bool) → (place == m) ≡ b → (service_of left (message_name m)).token ≡ (service_of s.cells (message_name m)).token
+          tells m true e =
+              let one : message_name m ≡ o.name = ap message_name (sym (eqb-true place m e)) ∙ sym name in
+              ap (λ n. (service_of left n).token) one ∙ ap (λ (v : Service). v.token) (service_unnamed left o.name (unnamed s.cells g o w.good.tidy there))
+              ∙ sym (sent_no_token kept_so.fit.sources sent) ∙ ap (λ n. (service_of s.cells n).token) (sym one)
+          tells m false e = ap (λ (v : Service). v.token) (service_without s.cells g o (message_name m) w.good.tidy there (ap (λ n. n == message_name m) name ∙ names_apart place m e))
+
+      pub services_completed : (after : Store) → Changes store after place None → count after + 1 ≡ count store → SameServices p (kept.after_complete place k) after tokens table left s.clients
       services_completed after gone fewer = record {
-        clients = same_replied p t wired s w kept_so.fit k same.clients p.header.cells same.sized g o place there apart (message_plain p o.thing message) name place_below;
+        clients = same_replied p t wired s w kept_so.fit k same.clients p.header.cells same.sized g o place there apart (message_plain p o.thing message) name (place_below store same.messages);
         sized = sized_completed p.header.cells k same.sized place;
         messages = message_gone p store after s.cells g o place same.messages w.good.tidy there no_object name gone fewer;
+        tokens = tokens_completed;
         listed = listed_beside p table s.cells left beside_completed same.listed;
       }

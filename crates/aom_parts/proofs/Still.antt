@@ -22,23 +22,34 @@ pub record Still (cs cs' : List Cell) : Type 0 where
   pub owners : (m : ℕ) → waits_in (owner_of cs' (message_name m)) ≡ waits_in (owner_of cs (message_name m))
   pub slots : (c : ℕ) → slots_taken c cs' ≡ slots_taken c cs
 
+-- what clients have at a cell, whether or not it is a token
+abbrev pub untold : Service → Service
+untold v = record v { token = None }
+
 pub still_itself : (cs : List Cell) → Still cs cs
 still_itself cs = record { services = λ n. refl; owners = λ m. refl; slots = λ c. refl }
 
-pub same_still : (s : kept.State) (cs cs' : List Cell) (clients : List Client) → Still cs cs' → SameClients s cs clients → SameClients s cs' clients
-same_still s cs cs' clients still same = record {
-  at = same.at;
-  queues = λ n. same.queues n ∙ ap (λ (v : Service). v.queue) (sym (still.services n));
-  sessions = λ n. same.sessions n ∙ ap (λ (v : Service). v.sessions) (sym (still.services n));
-  senders = λ m. same.senders m ∙ ap (λ (v : Service). v.sender) (sym (still.services (message_name m)));
-  waits = λ m. same.waits m ∙ sym (still.owners m);
-  slots_of = λ c m. same.slots_of c m ∙ ap (λ (v : Service). holds_slot c v.sender) (sym (still.services (message_name m)));
-  slotted = same.slotted;
-  once = same.once;
-  slots = λ c. same.slots c ∙ sym (still.slots c);
-  many = same.many;
-  lists = same.lists;
-}
+-- which messages are tokens is no matter of clients
+module _ (s : kept.State) (cs cs' : List Cell) (clients : List Client) where
+  pub same_untold :
+      ((n : ℕ) → untold (service_of cs' n) ≡ untold (service_of cs n)) → ((m : ℕ) → waits_in (owner_of cs' (message_name m)) ≡ waits_in (owner_of cs (message_name m))) →
+      ((c : ℕ) → slots_taken c cs' ≡ slots_taken c cs) → SameClients s cs clients → SameClients s cs' clients
+  same_untold services owners slots same = record {
+    at = same.at;
+    queues = λ n. same.queues n ∙ ap (λ (v : Service). v.queue) (sym (services n));
+    sessions = λ n. same.sessions n ∙ ap (λ (v : Service). v.sessions) (sym (services n));
+    senders = λ m. same.senders m ∙ ap (λ (v : Service). v.sender) (sym (services (message_name m)));
+    waits = λ m. same.waits m ∙ sym (owners m);
+    slots_of = λ c m. same.slots_of c m ∙ ap (λ (v : Service). holds_slot c v.sender) (sym (services (message_name m)));
+    slotted = same.slotted;
+    once = same.once;
+    slots = λ c. same.slots c ∙ sym (slots c);
+    many = same.many;
+    lists = same.lists;
+  }
+
+  pub same_still : Still cs cs' → SameClients s cs clients → SameClients s cs' clients
+  same_still still same = same_untold (λ n. ap untold (still.services n)) still.owners still.slots same
 
 -- ---- a cell moves
 
@@ -97,7 +108,7 @@ module _
   slots_each (c ∷ cs) d =
       ap (slots_taken d) (each c cs) ∙ ap (λ (v : Service). cond (holds_slot d v.sender) (suc (slots_taken d (then cs))) (slots_taken d (then cs))) (service c) ∙ ap (λ k. cond (holds_slot d c.service.sender) (suc k) k) (slots_each cs d)
 
-  still_each : (cs : List Cell) → Still cs (then cs)
+  pub still_each : (cs : List Cell) → Still cs (then cs)
   still_each cs = record { services = services_each cs; owners = λ m. ap waits_in (owners_each cs (message_name m)); slots = slots_each cs }
 
 pub still_requested : (cs : List Cell) (n : ℕ) (r : Option Request) → Still cs (set_request n r cs)

@@ -84,7 +84,7 @@ service_unslotted c (x ∷ cs) n = go (x.object.name == n) (service_unslotted c 
     go true e = refl
     go false e = e
 
-service_lost : (xs : List ℕ) (cs : List Cell) (n : ℕ) → service_of (each_unslotted xs cs) n ≡ record (service_of cs n) { sender = lost xs (service_of cs n).sender }
+pub service_lost : (xs : List ℕ) (cs : List Cell) (n : ℕ) → service_of (each_unslotted xs cs) n ≡ record (service_of cs n) { sender = lost xs (service_of cs n).sender }
 service_lost [] cs n = refl
 service_lost (c ∷ xs) cs n = service_lost xs (all_unslotted c cs) n ∙ ap (λ (v : Service). record v { sender = lost xs v.sender }) (service_unslotted c cs n)
 

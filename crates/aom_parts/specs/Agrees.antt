@@ -181,7 +181,7 @@ pub record Agrees (p : Image) (m : Parts) (s : State) : Type 0 where
   pub entries : SameItems m.entries.items s.items
   pub requests : SameRequests p m.active s.cells
   pub natives : SameNatives p m.sessions s.cells s.killed
-  pub services : SameServices p m.clients m.messages m.listed s.cells s.clients
+  pub services : SameServices p m.clients m.messages m.tokens m.listed s.cells s.clients
   pub rest : m.rest ≡ s.rest
   pub room : 2048 ≤ m.stack.depth
   pub entry_room : 1024 ≤ m.entries.depth

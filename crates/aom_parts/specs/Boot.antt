@@ -11,6 +11,7 @@ use Rattle.aom_cleanup.specs.declared.item.Item.TheVariants.{Mark}
 use Rattle.aom_active.specs.Agrees.{StandsFor}
 use Rattle.aom_clients.specs.Clients.{at_first}
 use Rattle.aom_queues.specs.Lists.{empty as no_list}
+use Rattle.aom_tokens.specs.Tokens.{none_of}
 use Rattle.aom_parts.specs.declared.parts.Parts.{Parts}
 
 -- time 0, main at hand under its trap, the mark of the trap, no cell, no message, and no client that asked for anything
@@ -28,6 +29,7 @@ pub record Booted (p : Image) (m : Parts) : Type 0 where
   pub root : m.root ≡ null
   pub clients : m.clients ≡ at_first p.header.cells
   pub messages : m.messages ≡ record { slots = []; limit = p.header.messages }
+  pub tokens : m.tokens ≡ none_of p.header.messages p.header.cells
   pub listed : m.listed ≡ no_list p.header.cells 256
   pub served : m.served ≡ null
   pub rest : m.rest ≡ record { clock = 0; requests = 0; steps = 0; dispatches = 0; announced = false; stopped = false; delivered = 0; polled = 0; ended = None }

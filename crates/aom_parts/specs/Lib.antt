@@ -11,4 +11,5 @@ pub mod Boot
 pub mod Serving
 pub mod Messages
 pub mod Listing
+pub mod Tokens
 pub mod Services

@@ -9,10 +9,13 @@ use Rattle.aom_sound.specs.Places.{Cell}
 use Rattle.aom_parts.specs.Listing.{SameListed}
 use Rattle.aom_parts.specs.Messages.{SameMessages}
 use Rattle.aom_parts.specs.Serving.{AreSized, SameClients}
+use Rattle.aom_parts.specs.Tokens.{SameTokens}
+use Rattle.aom_tokens.specs.Tokens.{Kept}
 
--- what clients are at and what waits at servers, the messages, and the servers of each class are those of the checked machine
-pub record SameServices (p : Image) (s : State) (store : Store) (table : Table) (cs : List Cell) (at : List Client) : Type 0 where
+-- what clients are at and what waits at servers, the messages and the tokens among them, and the servers of each class are those of the checked machine
+pub record SameServices (p : Image) (s : State) (store : Store) (handed : Kept) (table : Table) (cs : List Cell) (at : List Client) : Type 0 where
   pub clients : SameClients s cs at
   pub sized : AreSized p.header.cells s
   pub messages : SameMessages p store cs
+  pub tokens : SameTokens p handed cs
   pub listed : SameListed p table cs

@@ -12,7 +12,7 @@ use Rattle.aom_rules.specs.Rules.{ways_of}
 use Rattle.aom_shape.specs.Shape.{Shape}
 use Rattle.aom_shape.specs.Things.{stands_for}
 use Rattle.aom_rules.specs.Typing.{Typing, shape_at}
-use Rattle.aom_rules.specs.Ways.{As_before, Branches, Branches_in, Branches_on_empty, Branches_on_null, Called, Cancelled, Caught, Dropped, Ends, Filled, Goes_back, Goes_on, Goes_to, Holding, Left_in, Moved, News, Popped, Pushed, Pushed_operation, Taken, Taken_message, Ways}
+use Rattle.aom_rules.specs.Ways.{As_before, Branches, Branches_in, Branches_on_empty, Branches_on_null, Called, Cancelled, Caught, Dropped, Ends, Filled, Goes_back, Goes_on, Goes_to, Holding, Left_in, Moved, News, Popped, Pushed, Pushed_operation, Taken, Taken_message, Handed, Ways}
 use Rattle.aom_shape.specs.declared.kind.Kind.{Kind}
 use Rattle.aom_shape.specs.declared.kind.Kind.TheVariants.{Maybe, Null, Own, Unset, Word}
 use Rattle.aom_sound.specs.Places.{Cell, Object, Register, held}
@@ -38,6 +38,7 @@ waiting_for p As_before sh = sh
 waiting_for p (Moved a b) sh = sh
 waiting_for p (Taken a f) sh = sh
 waiting_for p (Taken_message a) sh = sh
+waiting_for p (Handed a) sh = sh
 waiting_for p (Filled f a) sh = sh
 waiting_for p (Pushed a) sh = sh
 waiting_for p Pushed_operation sh = sh

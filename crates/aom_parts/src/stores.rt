@@ -8,6 +8,7 @@ ghost use Rattle.aom_frames.specs.Tasks.{fresh};
 ghost use Rattle.aom_frames.specs.declared.dispatch.Dispatch.TheVariants.{Main};
 ghost use Rattle.aom_frames.specs.declared.task.Task.TheVariants.{Dispatched, Run, Trapped};
 ghost use Rattle.aom_queues.specs.Lists.{empty as no_list};
+ghost use Rattle.aom_tokens.specs.Tokens.{none_of};
 
 use aom_active::ActiveObjects;
 use aom_cells::{Cells, NULL};
@@ -18,6 +19,7 @@ use aom_image::MethodNumber;
 use aom_messages::Messages;
 use aom_queues::Lists;
 use aom_sessions::Sessions;
+use aom_tokens::Tokens;
 use std::alloc::{AllocError, Global};
 
 /// How many tasks may be at hand. Methods are at most 257, each over at most three tasks that are none.
@@ -87,11 +89,12 @@ fn none_enlisted(alloc: Global, cells: usize) -> Result<ActiveObjects, AllocErro
     ActiveObjects::with_limit(alloc, cells)
 }
 
-/// The clients, their messages, and the servers of each class.
+/// The clients, the messages and which of them are tokens, and the servers of each class.
 #[derive(Drop)]
 pub(crate) struct Services {
     pub(crate) clients: Clients,
     pub(crate) messages: Messages,
+    pub(crate) tokens: Tokens,
     pub(crate) listed: Lists,
 }
 
@@ -105,13 +108,16 @@ pub(crate) fn no_services(
     requires messages { messages ≤ 1024 }
     ensures clients { IfOk result (λ s. s.clients ≡ at_first cells) }
     ensures messages { IfOk result (λ s. s.messages ≡ record { slots = []; limit = messages }) }
+    ensures tokens { IfOk result (λ s. s.tokens ≡ none_of messages cells) }
     ensures listed { IfOk result (λ s. s.listed ≡ no_list cells 256) }
 {
     let listed = Lists::with_limit(alloc, cells, CLASSES)?;
+    let tokens = Tokens::with_limit(alloc, messages, cells)?;
     let messages = Messages::with_limit(alloc, messages)?;
     Ok(Services {
         clients: Clients::with_limit(alloc, cells)?,
         messages,
+        tokens,
         listed,
     })
 }

@@ -24,7 +24,7 @@ use Rattle.aom_endings.specs.Endings.{one_where}
 use Rattle.aom_natives.specs.Owed.{IsNew, times}
 
 module _ (p : Image) (formed : WellFormed p) where
-  kind_names : (k : ClassKind) (n : ℕ) → KindFits (length p.classes) p.header.natives k → native_of (Some k) ≡ Some n → n < p.header.natives
+  kind_names : (k : ClassKind) (n : ℕ) → KindFits p.header.version (length p.classes) p.header.natives k → native_of (Some k) ≡ Some n → n < p.header.natives
   kind_names x n fits e = grind arith
 
   class_names : (class : Option ℕ) (n : ℕ) → native_of (kind_of p class) ≡ Some n → n < p.header.natives
@@ -34,7 +34,7 @@ module _ (p : Image) (formed : WellFormed p) where
     where
       go : (o : Option ClassDecl) → slice_get p.classes c ≡ o → native_of (kind_in o) ≡ Some n → n < p.header.natives
       go None at e = cc
-      go (Some d) at e = kind_names d.kind n (all_there (ClassFits (length p.classes) p.header.natives) p.classes c d formed.classes.each at).kind e
+      go (Some d) at e = kind_names d.kind n (all_there (ClassFits p.header.version (length p.classes) p.header.natives) p.classes c d formed.classes.each at).kind e
 
   thing_names : (t : Thing) (n : ℕ) → native_of (thing_kind p t) ≡ Some n → n < p.header.natives
   thing_names (An_object_of c) n e = class_names (Some c) n e

@@ -1,9 +1,13 @@
-use Rattle.aom_acts.proofs.EnterActs.{trap_does, trap_lives, traps_well}
+use Rattle.std.proofs.Common.{◌∙◌, sym}
+use Rattle.aom_acts.proofs.EnterActs.{arguments_here, class_here, trap_does, trap_lives, traps_well}
 use Rattle.aom_acts.proofs.Rooms.{mark_room}
 use Rattle.aom_acts.proofs.calls.trap.Goals as goal
 
 pub callee-frame-requires-clause-there : goal.callee-frame-requires-clause-there
 callee-frame-requires-clause-there c = (traps_well c.args.linked.now c.args.parts.now c.args.on c.args.method c.args.first c.requires.0 c.requires.1).0
+
+pub callee-frame-requires-clause-class : goal.callee-frame-requires-clause-class
+callee-frame-requires-clause-class c = sym (class_here c.args.linked.now c.args.method c.method-called.result.now c.method-called.ensures)
 
 pub callee-frame-requires-clause-lives : goal.callee-frame-requires-clause-lives
 callee-frame-requires-clause-lives c = (trap_lives c.args.linked.now c.args.parts.now c.args.on c.args.method c.args.first c.requires.0 c.requires.1).0
@@ -16,9 +20,9 @@ mark-requires c = mark_room c.args.linked.now c.args.parts.now c.args.on c.args.
 
 pub enter_trap-requires-clause-within : goal.enter_trap-requires-clause-within
 enter_trap-requires-clause-within c =
-    rw (c.number.ensures.value, c.callee-frame.ensures.arguments) (traps_well c.args.linked.now c.args.parts.now c.args.on c.args.method c.args.first c.requires.0 c.requires.1).1
+    rw (c.number.ensures.value, c.as_slice.ensures, sym (arguments_here c.args.linked.now c.args.method c.method-called.result.now c.method-called.ensures)) (traps_well c.args.linked.now c.args.parts.now c.args.on c.args.method c.args.first c.requires.0 c.requires.1).1
 
 pub returns : goal.returns
 returns c = λ refused to.
-    rw (c.mark.ensures, c.enter_trap.ensures, c.callee-frame.ensures.frame, c.number.ensures.value, c.callee-frame.ensures.arguments)
+    rw (c.mark.ensures, c.enter_trap.ensures, c.callee-frame.ensures, c.number.ensures.value, c.as_slice.ensures, sym (arguments_here c.args.linked.now c.args.method c.method-called.result.now c.method-called.ensures))
     (trap_does c.args.linked.now c.args.parts.now refused c.args.on c.args.method c.args.first to)

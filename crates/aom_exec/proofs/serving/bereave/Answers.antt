@@ -2,7 +2,7 @@
 use Rattle.std.proofs.Common.{sym, ◌∙◌, rules}
 use Rattle.aom_requests.specs.Requests.{request_at}
 use Rattle.aom_exec.proofs.Killing.{spares, terminates}
-use Rattle.aom_exec.proofs.Served.{pending_told}
+use Rattle.aom_parts.proofs.Owed.{pending_told}
 use Rattle.aom_exec.proofs.serving.bereave.Goals as goal
 use Rattle.aom_exec.proofs.serving.bereave.Goals.{then-is_pending, else-is_pending}
 

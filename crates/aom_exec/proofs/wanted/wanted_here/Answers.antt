@@ -3,7 +3,7 @@ use Rattle.std.specs.Prelude.{option_map}
 use Rattle.aom_active.specs.Agrees.{queued}
 use Rattle.aom_sound.specs.Places.{requested}
 use Rattle.aom_exec.specs.Wanted.{as_wanted}
-use Rattle.aom_acts.proofs.Finding.{finds_instr}
+use Rattle.aom_acts.proofs.Finding.{class_fits, finds_instr}
 use Rattle.aom_acts.proofs.Housing.{finds_home}
 use Rattle.aom_exec.proofs.Wanting.{null_wants, served_wants, unserved_wants}
 use Rattle.aom_exec.proofs.wanted.wanted_here.Goals as goal
@@ -16,6 +16,9 @@ living-id-requires c = rw c.this-number.ensures (finds_home c.args.linked.now c.
 
 pub serving-requires-clause-lives : goal.serving-requires-clause-lives
 serving-requires-clause-lives c = rw c.this-number.ensures (finds_home c.args.linked.now c.args.parts.now c.requires.stands c.requires.runs (λ e. c.if-number.false (c.this-number.ensures ∙ e)))
+
+pub serving-requires-clause-small : goal.serving-requires-clause-small
+serving-requires-clause-small c = class_fits c.args.linked.now c.args.parts.now c.requires.stands.0 c.requires.stands.1.agrees _
 
 pub fetch-requires-clause-there : goal.fetch-requires-clause-there
 fetch-requires-clause-there c = finds_instr c.args.linked.now c.args.parts.now c.requires.stands c.requires.runs

@@ -19,6 +19,7 @@ returns c =
       root = refl;
       clients = rw (c.in_ok-services.ensures.clients, head) refl;
       messages = rw (c.in_ok-services.ensures.messages, head) refl;
+      tokens = rw (c.in_ok-services.ensures.tokens, head) refl;
       served = refl;
       listed = rw (c.in_ok-services.ensures.listed, head) refl;
       rest = c.new.ensures;

@@ -1,0 +1,103 @@
+-- Tokens stay what they are where what clients have changes, where messages of clients come and go, and where an object goes whose request is at rest: by the cells that stay.
+use Rattle.std.proofs.Common.{Bool, List, None, Option, Some, ap, arith, cond, false, refl, sym, true, ℕ, ◌+◌, ◌<◌, ◌==◌, ◌∙◌, ◌≡◌}
+use Rattle.std.specs.Prelude.{is_some}
+use Rattle.std.proofs.lemmas.Bool.{eqb-true, false≢true, ne_eqb}
+use Rattle.aom_image.specs.Image.{Image}
+use Rattle.aom_sound.proofs.Maps.{requested_unnamed, requested_without, unnamed}
+use Rattle.aom_sound.proofs.Services.{service_here, service_there, service_unnamed, service_without}
+use Rattle.aom_sound.proofs.Sifted.{cell_of, cell_of_sifted, kept as left_cell, service_cell, service_in, sifted}
+use Rattle.aom_sound.proofs.Unslotting.{each_unslotted_requests}
+use Rattle.aom_sound.specs.Clients.{each_unslotted}
+use Rattle.aom_sound.specs.Kept.{one_if_some, sources_of}
+use Rattle.aom_sound.specs.Places.{Cell, Object, Place, Sender, Service, Tidy, Token, held, named, requested, service_of, set_service, without}
+use Rattle.aom_sound.specs.Tokens.{awaited}
+use Rattle.aom_parts.proofs.Beside.{Beside}
+use Rattle.aom_parts.proofs.Serving.{absent_served}
+use Rattle.aom_parts.proofs.Tokens.{tokens_still}
+use Rattle.aom_parts.proofs.Vanishing.{service_lost}
+use Rattle.aom_parts.specs.Serving.{message_name}
+use Rattle.aom_parts.specs.Tokens.{SameTokens}
+use Rattle.aom_tokens.specs.Tokens.{Kept}
+
+-- ---- what one source tells
+
+-- what has one source has a sender just where it is no token
+pub sent_untold : (v : Service) → sources_of v ≡ 1 → v.token ≡ None → is_some v.sender ≡ true
+sent_untold v one none = go v.sender (ap (λ t. one_if_some v.sender + one_if_some t) (sym none) ∙ one)
+  where
+    go : (x : Option Sender) → one_if_some x + 0 ≡ 1 → is_some x ≡ true
+    go None e = absurd (omega (arith, e))
+    go (Some x) e = refl
+
+pub untold_sent : (v : Service) → sources_of v ≡ 1 → is_some v.sender ≡ true → v.token ≡ None
+untold_sent v one sent = go v.sender v.token one sent
+  where
+    go : (x : Option Sender) (t : Option Token) → one_if_some x + one_if_some t ≡ 1 → is_some x ≡ true → t ≡ None
+    go x None e sent = refl
+    go None (Some t) e sent = absurd (false≢true sent)
+    go (Some x) (Some t) e sent = absurd (omega (arith, e))
+
+pub token_unsent : (v : Service) → sources_of v ≡ 1 → is_some v.token ≡ true → v.sender ≡ None
+token_unsent v one told = go v.sender v.token one told
+  where
+    go : (x : Option Sender) (t : Option Token) → one_if_some x + one_if_some t ≡ 1 → is_some t ≡ true → x ≡ None
+    go None t e told = refl
+    go (Some x) None e told = absurd (false≢true told)
+    go (Some x) (Some t) e told = absurd (omega (arith, e))
+
+-- ---- tokens go on
+
+-- the token under a name, if one is there
+abbrev pub token_under : List Cell → ℕ → Option Token
+token_under cs n = (service_of cs n).token
+
+-- under each name is the same token, or none
+abbrev pub Told_alike : List Cell → List Cell → Type 0
+Told_alike cs ds = (n : ℕ) → token_under ds n ≡ token_under cs n
+
+-- messages of clients come and go
+pub tokens_beside : (p : Image) (w : Kept) (cs ds : List Cell) → Beside cs ds → Told_alike cs ds → SameTokens p w cs → SameTokens p w ds
+tokens_beside p w cs ds beside tells same = tokens_still p w cs ds (λ n. ap awaited (beside.requests n)) (λ m. tells (message_name m)) same
+
+-- what clients have at a cell changes
+pub told_served : (cs : List Cell) (n : ℕ) (v : Service) → v.token ≡ token_under cs n → Told_alike cs (set_service n v cs)
+told_served cs n v same k = go (n == k) refl (named cs n) refl
+  where
+    go : (b : Bool) → (n == k) ≡ b → (o : Option Object) → named cs n ≡ o → token_under (set_service n v cs) k ≡ token_under cs k
+    go false e o there = ap (λ (x : Service). x.token) (service_there cs n k v e)
+    go true e (Some o) there =
+        let is = eqb-true n k e in
+        ap (λ i. token_under (set_service n v cs) i) (sym is) ∙ ap (λ (x : Service). x.token) (service_here cs n v o there) ∙ same ∙ ap (λ i. token_under cs i) is
+    go true e None there = ap (λ l. token_under l k) (absent_served cs n v there)
+
+-- some cells go, none of which is a token
+pub told_sifted :
+    (drops : Cell → Bool) (f : Cell → Service) (cs : List Cell) → Tidy cs → ((n : ℕ) (x : Cell) → cell_of cs n ≡ Some x → drops x ≡ true → x.service.token ≡ None) → ((x : Cell) → (f x).token ≡ x.service.token) → Told_alike cs (sifted drops f cs)
+told_sifted drops f cs tidy none keeps n =
+    ap (λ (v : Service). v.token) (service_cell (sifted drops f cs) n ∙ ap service_in (cell_of_sifted drops f cs n tidy)) ∙ go (cell_of cs n) refl ∙ sym (ap (λ (v : Service). v.token) (service_cell cs n))
+  where
+    go : (x : Option Cell) → cell_of cs n ≡ x → (service_in (left_cell drops f x)).token ≡ (service_in x).token
+    go None e = refl
+    go (Some x) e = by (drops x) refl
+      where
+        by : (b : Bool) → drops x ≡ b → (service_in (cond b None (Some (record x { service = f x })))).token ≡ x.service.token
+        by true d = sym (none n x e d)
+        by false d = keeps x
+
+-- no message holds a slot any more
+pub tokens_unslotted : (p : Image) (w : Kept) (clients : List ℕ) (cs : List Cell) → SameTokens p w cs → SameTokens p w (each_unslotted clients cs)
+tokens_unslotted p w clients cs same =
+    tokens_still p w cs (each_unslotted clients cs) (λ n. ap awaited (each_unslotted_requests clients cs n)) (λ m. ap (λ (v : Service). v.token) (service_lost clients cs (message_name m))) same
+
+-- an object goes that waits for no token
+pub tokens_without : (p : Image) (w : Kept) (cs : List Cell) (g : Place) (o : Object) → Tidy cs → held cs g ≡ Some o → o.name < 4096 → awaited (requested cs o.name) ≡ None → SameTokens p w cs → SameTokens p w (without g cs)
+tokens_without p w cs g o tidy there small rests same = tokens_still p w cs (without g cs) (λ n. asks n (o.name == n) refl) tells same
+  where
+    asks : (n : ℕ) (b : Bool) → (o.name == n) ≡ b → awaited (requested (without g cs) n) ≡ awaited (requested cs n)
+    asks n true e =
+        let one = eqb-true o.name n e in
+        ap awaited (requested_unnamed (without g cs) n (ap (named (without g cs)) (sym one) ∙ unnamed cs g o tidy there)) ∙ sym rests ∙ ap (λ i. awaited (requested cs i)) one
+    asks n false e = ap awaited (requested_without cs g o n tidy there e)
+
+    tells : (m : ℕ) → token_under (without g cs) (message_name m) ≡ token_under cs (message_name m)
+    tells m = ap (λ (v : Service). v.token) (service_without cs g o (message_name m) tidy there (ne_eqb o.name (message_name m) (λ e. absurd (omega (arith, e, small)))))
