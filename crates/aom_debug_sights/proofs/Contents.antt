@@ -29,10 +29,11 @@ use Rattle.aom_acts.proofs.Running.{not_null}
 use Rattle.aom_exec.specs.Agreement.{AgreesInAll}
 use Rattle.aom_debug_words.specs.declared.answer.Answer.{Answer}
 use Rattle.aom_debug_words.specs.declared.answer.Answer.TheVariants.{Frame as A_frame, Register as A_register}
+use Rattle.aom_debug_words.specs.declared.answer.Source.{Source}
 use Rattle.aom_debug_words.specs.declared.answer.Content.{Content}
 use Rattle.aom_debug_words.specs.declared.answer.Content.TheVariants as contents
 use Rattle.aom_debug_sights.specs.Frames.{RegisterShows, ShowsFrame, content_by, frame_answers, frame_lines, kind_in, kinds_of, loop_answer, loop_in, loops_in, owned_content, place_in, register_in, thing_content, trap_by, trap_held, trap_in, trap_under}
-use Rattle.aom_debug_sights.specs.Owners.{Shows, ShowsIf, ShowsNone, is_frame, may_own, sender_at}
+use Rattle.aom_debug_sights.specs.Owners.{Shows, ShowsIf, ShowsNone, is_frame, may_own, source_at, source_in}
 use Rattle.aom_debug_sights.specs.Sights.{class_of}
 use Rattle.aom_debug_sights.specs.Telling.{IsCut, Tells, TellsPart, answers_text, gathered, listed}
 use Rattle.aom_debug_words.specs.declared.fault.DebugFault.{DebugFault}
@@ -49,7 +50,7 @@ use Rattle.aom_debug_sights.proofs.Words.{kind_there, word_shown}
 
 class_content : (cs : List Cell) (o : Option Object) (class : ℕ) → class_of o ≡ Some class → Some (contents.Own class) ≡ owned_content cs o
 class_content cs None class is = absurd (none-some class is)
-class_content cs (Some o) class is = sym (ap (λ th. thing_content th (service_of cs o.name).sender) (thing_is o.thing class is))
+class_content cs (Some o) class is = sym (ap (λ th. thing_content th (source_in (service_of cs o.name))) (thing_is o.thing class is))
 
 module _ (p : Image) (m : Parts) (n : ℕ) (r : Place) (shows : Shows (record { image = p; parts = m }) n r) (s : State) (st : StandsFor (record { image = p; parts = m }) s) where
   pub null_content : n ≡ null → Some contents.Null ≡ owned_content s.cells (held s.cells r)
@@ -62,25 +63,25 @@ module _ (p : Image) (m : Parts) (n : ℕ) (r : Place) (shows : Shows (record { 
   pub own_content : (class : ℕ) → Some class ≡ class_at m.cells n → Some (contents.Own class) ≡ owned_content s.cells (held s.cells r)
   own_content class is = class_content s.cells (held s.cells r) class (sym (class_held p m s st r n (shows.each s st)) ∙ sym is)
 
-  pub message_content : (client : ℕ) → None ≡ class_at m.cells n → Some client ≡ sender_at m.clients n → Some (contents.Message client) ≡ owned_content s.cells (held s.cells r)
-  message_content client none sent =
-      let x = message_found p m n client r s st shows (sym none) (sym sent) in
-      sym (ap (owned_content s.cells) x.1 ∙ ap (λ th. thing_content th (service_of s.cells x.0.name).sender) x.2 ∙ ap (thing_content Message) x.4 ∙ ap (λ k. Some (contents.Message k)) x.5)
+  pub message_content : (source : Source) → None ≡ class_at m.cells n → Some source ≡ source_at m n → Some (contents.Message source) ≡ owned_content s.cells (held s.cells r)
+  message_content source none told =
+      let x = message_found p m n source r s st shows (sym none) (sym told) in
+      sym (ap (owned_content s.cells) x.1 ∙ ap (λ th. thing_content th (source_in (service_of s.cells x.0.name))) x.2 ∙ ap (thing_content Message) x.3)
 
-  pub no_content : n ≢ null → (Lives m.cells n → ⊥) → None ≡ sender_at m.clients n → None ≡ owned_content s.cells (held s.cells r)
+  pub no_content : n ≢ null → (Lives m.cells n → ⊥) → None ≡ source_at m n → None ≡ owned_content s.cells (held s.cells r)
   no_content some dead unsent = absurd (some (shows.each s st ∙ ap number ((none_sends p m n r dead (sym unsent) shows).each s st)))
 
   -- what has a number and no class is a message
-  pub unclassed_content : n ≢ null → None ≡ class_at m.cells n → option_map (λ client. contents.Message client) (sender_at m.clients n) ≡ owned_content s.cells (held s.cells r)
-  unclassed_content some none = go (sender_at m.clients n) refl
+  pub unclassed_content : n ≢ null → None ≡ class_at m.cells n → option_map (λ source. contents.Message source) (source_at m n) ≡ owned_content s.cells (held s.cells r)
+  unclassed_content some none = go (source_at m n) refl
     where
       dead : (c : Option Held_cell) → None ≡ class_of_cell c → IsSome c → ⊥
       dead None is lives = absurd (false≢true lives)
       dead (Some c) is lives = none-some c.class is
 
-      go : (sent : Option ℕ) → sender_at m.clients n ≡ sent → option_map (λ client. contents.Message client) sent ≡ owned_content s.cells (held s.cells r)
+      go : (told : Option Source) → source_at m n ≡ told → option_map (λ source. contents.Message source) told ≡ owned_content s.cells (held s.cells r)
       go None is = no_content some (dead (cell_at m.cells n) none) (sym is)
-      go (Some client) is = message_content client none (sym is)
+      go (Some source) is = message_content source none (sym is)
 
 -- ---- the registers of a frame
 

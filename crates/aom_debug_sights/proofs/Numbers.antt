@@ -43,4 +43,4 @@ holds_so p m n r holds.Nothing shows has s st = (none_sends p m n r (classless (
 holds_so p m n r (holds.Object cell class) shows has s st =
     let o = found p m n class r s st shows has.1 in
     (o.0, o.1, o.2, o.3 ∙ sym has.0)
-holds_so p m n r (holds.Message client) shows has s st = message_found p m n client r s st shows has.0 has.1
+holds_so p m n r (holds.Message source) shows has s st = message_found p m n source r s st shows has.0 has.1

@@ -17,7 +17,7 @@ use Rattle.aom_frames.specs.declared.task.Task.TheVariants.{Run as Runs_frame}
 use Rattle.aom_rules.specs.Calls.{while_called}
 use Rattle.aom_rules.specs.Requests.{resting}
 use Rattle.aom_rules.specs.Rules.{ways_of}
-use Rattle.aom_rules.specs.Ways.{As_before, Branches, Branches_in, Branches_on_empty, Branches_on_null, Called, Cancelled, Caught, Dropped, Ends, Filled, Goes_back, Goes_on, Goes_to, Holding, Left_in, Moved, News, Popped, Pushed, Pushed_operation, Taken, Taken_message, Ways}
+use Rattle.aom_rules.specs.Ways.{As_before, Branches, Branches_in, Branches_on_empty, Branches_on_null, Called, Cancelled, Caught, Dropped, Ends, Filled, Goes_back, Handed, Goes_on, Goes_to, Holding, Left_in, Moved, News, Popped, Pushed, Pushed_operation, Taken, Taken_message, Ways}
 use Rattle.aom_shape.specs.Arguments.{after_of, arguments_moved}
 use Rattle.aom_shape.specs.Kinds.{is_object_or_null, is_unowning, readied, register, set_register}
 use Rattle.aom_shape.specs.Order.{SaysNoMore, Weaker, alike, maybe_null, maybe_own, unset_null, unset_word}
@@ -94,6 +94,7 @@ module _ (p : Image) (j : ℕ) (sh : Shape) where
   news_keep (Moved a b) = inr refl
   news_keep (Taken a f) = inr refl
   news_keep (Taken_message a) = inr refl
+  news_keep (Handed a) = inr refl
   news_keep (Filled f a) = inr refl
   news_keep (Pushed a) = inr refl
   news_keep Pushed_operation = inr refl

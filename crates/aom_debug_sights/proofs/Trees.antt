@@ -1,5 +1,5 @@
 -- What hangs from a place: the line of what it holds, and then what hangs from its fields, is what goes out.
-use Rattle.std.proofs.Common.{◌≡◌, ◌∙◌, ◌<◌, ◌-◌, ℕ, zero, suc, Bool, true, false, cond, nat_lt, List, [], ◌∷◌, ◌++◌, Option, Some, None, codes, decimal, length, take, refl, sym, ap, append_assoc, arith}
+use Rattle.std.proofs.Common.{◌≡◌, ◌∙◌, ◌<◌, ◌≤◌, ◌+◌, ◌-◌, ℕ, zero, suc, Bool, true, false, cond, nat_lt, List, [], ◌∷◌, ◌++◌, Option, Some, None, codes, decimal, length, take, refl, sym, ap, append_assoc, arith}
 use Rattle.std.specs.Prelude.{is_some, not}
 use Rattle.std.proofs.lemmas.Bool.{false≢true, ltb-false, ltb-true}
 use Rattle.std.specs.List.{flat_map}
@@ -18,23 +18,29 @@ use Rattle.aom_clients.specs.declared.place.Place.TheVariants.{Discarded, Free, 
 use Rattle.aom_shape.specs.Kinds.{is_object}
 use Rattle.aom_transcript.specs.Text.{ended}
 use Rattle.aom_sound.proofs.Maps.{held_lives}
-use Rattle.aom_sound.specs.Places.{Cell, Elsewhere, Field, Object, Place, Register, Sender, Session, held, named, service_of, Service}
+use Rattle.aom_sound.specs.Places.{Cell, Elsewhere, Field, Object, Place, Register, Sender, Session, Token, held, named, service_of, Service}
 use Rattle.aom_sound.specs.State.{State}
 use Rattle.aom_sound.proofs.Services.{service_unnamed}
+use Rattle.aom_sound.specs.Kept.{one_if_some, sources_of}
 use Rattle.aom_sound.proofs.Sources.{has_sender}
 use Rattle.aom_parts.specs.declared.parts.Parts.{Parts}
 use Rattle.aom_parts.specs.Agrees.{number}
 use Rattle.aom_parts.specs.Messages.{is_a_message}
 use Rattle.aom_parts.specs.Places.{session_with}
-use Rattle.aom_parts.specs.Serving.{SameClients, holds, is_taken, message_name, sent_by}
+use Rattle.aom_parts.specs.Serving.{holds, is_taken, message_name, sent_by}
 use Rattle.aom_parts.specs.Stands.{Machine, StandsFor}
+use Rattle.aom_parts.specs.Tokens.{class_in as class_of_token}
+use Rattle.aom_tokens.specs.Tokens.{class_at as token_class}
+use Rattle.aom_debug_words.specs.Answers.{source_text}
+use Rattle.aom_debug_words.specs.declared.answer.Source.{Source}
+use Rattle.aom_debug_words.specs.declared.answer.Source.TheVariants as sources
 use Rattle.aom_parts.proofs.Serving.{taken_sent}
 use Rattle.aom_run.specs.Runs.{after}
 use Rattle.aom_acts.proofs.Finding.{object_lives}
 use Rattle.aom_acts.proofs.Running.{null_unnamed}
 use Rattle.aom_debug_words.specs.declared.fault.DebugFault.{DebugFault}
 use Rattle.aom_debug_sights.specs.Sights.{class_in, class_of}
-use Rattle.aom_debug_sights.specs.Owners.{Branch, By_field, By_session, In_register, Outer, Owned, Shows, ShowsNone, Way, beneath, branch_text, frame_registers, further, generations, grown, message_text, outer_text, owned_line, owners_text, sender_at, sender_of, thing_text, tree, way_text}
+use Rattle.aom_debug_sights.specs.Owners.{Branch, By_field, By_session, In_register, Outer, Owned, Shows, ShowsNone, Way, beneath, branch_text, frame_registers, further, generations, grown, message_text, outer_text, owned_line, owners_text, thing_text, tree, way_text, source_at, source_by, source_in, source_of}
 use Rattle.aom_debug_sights.specs.Telling.{IsCut, Tells, TellsPart, gathered}
 use Rattle.aom_debug_sights.proofs.Telling.{cut_on, none_sent, sent_on}
 use Rattle.aom_debug_sights.proofs.Showing.{class_held}
@@ -65,47 +71,74 @@ pub tree_none : (cs : List Cell) (n : ℕ) (w : Way) (o : Option Object) → o �
 tree_none cs zero w o none = refl
 tree_none cs (suc n) w o none = ap (tree cs (suc n) w) none
 
--- a message has a sender
-message_sent : (p : Image) (m : Parts) (s : State) → StandsFor (record { image = p; parts = m }) s → (o : Object) → named s.cells o.name ≡ Some o → o.thing ≡ Message → sender_at m.clients o.name ≡ None → ⊥
-message_sent p m s st o lives message unsent = low (nat_lt o.name 4096) refl unsent
+-- ---- who hears when a message is completed
+
+-- where a place is told to have nothing, it has no token and no client's message
+unsourced : (c : Option ℕ) (x : Message_place) → source_of c x ≡ None → (c ≡ None) × (is_taken x ≡ false)
+unsourced (Some c) x none = absurd (none-some (sources.Token c) (sym none))
+unsourced None Free none = (refl, refl)
+unsourced None (Queued d) none = absurd (none-some (sources.Client d) (sym none))
+unsourced None (Held d) none = absurd (none-some (sources.Client d) (sym none))
+unsourced None (Discarded d) none = absurd (none-some (sources.Client d) (sym none))
+
+-- no message is without either
+uncounted : (sd : Option Sender) (t : Option Token) → is_some sd ≡ false → class_of_token t ≡ None → one_if_some sd + one_if_some t ≡ 1 → ⊥
+uncounted (Some sd) t unsent untold one = false≢true (sym unsent)
+uncounted None (Some t) unsent untold one = none-some t.class (sym untold)
+uncounted None None unsent untold one = omega (arith, one)
+
+-- what is told of a place is who hears of the message there
+told_source : (c : Option ℕ) (slot : Bool) (x : Message_place) (sd : Option Sender) (t : Option Token) (source : Source) →
+    class_of_token t ≡ c → sent_by slot x ≡ sd → one_if_some sd + one_if_some t ≡ 1 → source_of c x ≡ Some source → source_by sd t ≡ Some source
+told_source (Some k) slot x (Some sd) (Some t) source class sent one is = absurd (omega (arith, one))
+told_source (Some k) slot x None (Some t) source class sent one is = ap (λ c. Some (sources.Token c)) (same_Some t.class k class) ∙ is
+told_source (Some k) slot x sd None source class sent one is = absurd (none-some k class)
+told_source None slot x sd (Some t) source class sent one is = absurd (none-some t.class (sym class))
+told_source None slot Free sd None source class sent one is = absurd (none-some source is)
+told_source None slot (Queued d) sd None source class sent one is = ap (λ z. source_by z None) (sym sent) ∙ is
+told_source None slot (Held d) sd None source class sent one is = ap (λ z. source_by z None) (sym sent) ∙ is
+told_source None slot (Discarded d) sd None source class sent one is = ap (λ z. source_by z None) (sym sent) ∙ is
+
+-- and where there is neither, nothing is told
+untold_source : (c : Option ℕ) (slot : Bool) (x : Message_place) (source : Source) → c ≡ None → sent_by slot x ≡ None → source_of c x ≡ Some source → ⊥
+untold_source (Some k) slot x source none unsent is = none-some k (sym none)
+untold_source None slot Free source none unsent is = none-some source is
+untold_source None slot (Queued d) source none unsent is = none-some _ (sym unsent)
+untold_source None slot (Held d) source none unsent is = none-some _ (sym unsent)
+untold_source None slot (Discarded d) source none unsent is = none-some _ (sym unsent)
+
+-- of each message it is told
+message_sourced : (p : Image) (m : Parts) (s : State) → StandsFor (record { image = p; parts = m }) s → (o : Object) → named s.cells o.name ≡ Some o → o.thing ≡ Message → source_at m o.name ≡ None → ⊥
+message_sourced p m s st o lives message untold = low (nat_lt o.name 4096) refl untold
   where
     said : is_a_message (named s.cells o.name) ≡ true
     said = ap is_a_message lives ∙ ap (λ th. not (is_object th)) message
 
-    same : SameClients m.clients s.cells s.clients
-    same = st.agrees.services.clients
+    one : sources_of (service_of s.cells o.name) ≡ 1
+    one = st.kept.fit.sources o lives ∙ ap (λ th. cond (is_object th) 0 1) message
 
-    taken : (j : ℕ) → o.name ≡ message_name j → is_taken (place_at m.clients j) ≡ true
-    taken j name = taken_sent m.clients s.cells s.clients same j ∙ ap (has_sender s.cells) (sym name) ∙ st.kept.fit.sources o lives ∙ ap (λ th. not (is_object th)) message
+    named_so : (j : ℕ) → o.name ≡ message_name j → source_of (token_class m.tokens j) (place_at m.clients j) ≡ None → ⊥
+    named_so j name none =
+        let both = unsourced (token_class m.tokens j) (place_at m.clients j) none in
+        let unsent = ap (has_sender s.cells) name ∙ sym (taken_sent m.clients s.cells s.clients st.agrees.services.clients j) ∙ both.1 in
+        let untold_class = ap (λ n. class_of_token (service_of s.cells n).token) name ∙ sym (st.agrees.services.tokens.classes j) ∙ both.0 in
+        uncounted (service_of s.cells o.name).sender (service_of s.cells o.name).token unsent untold_class one
 
-    sends : (x : Message_place) → is_taken x ≡ true → sender_of x ≡ None → ⊥
-    sends Free some none = false≢true some
-    sends (Queued d) some none = none-some d (sym none)
-    sends (Held d) some none = none-some d (sym none)
-    sends (Discarded d) some none = none-some d (sym none)
+    -- a message place is below 1,024
+    within : (j : ℕ) → o.name ≡ message_name j → 1024 ≤ j → ⊥
+    within j name past =
+        false≢true (sym (ap is_some (st.agrees.services.messages.within j past)) ∙ st.agrees.services.messages.there j ∙ ap (λ n. is_a_message (named s.cells n)) (sym name) ∙ said)
 
-    -- a message place is below 1,024, since others are free
-    within : (j : ℕ) → is_taken (place_at m.clients j) ≡ true → j < 1024
-    within j some = go (nat_lt j 1024) refl
-      where
-        go : (b : Bool) → nat_lt j 1024 ≡ b → j < 1024
-        go true less = ltb-true j 1024 less
-        go false past =
-            let sized = st.agrees.services.sized.places in
-            let free = get_or_past m.clients.places j Free (omega (arith, sized, ltb-false j 1024 past)) in
-            absurd (false≢true (sym (ap is_taken free) ∙ some))
-
-    high : (b : Bool) → nat_lt o.name 5120 ≡ b → nat_lt o.name 4096 ≡ false → cond b (sender_of (place_at m.clients (o.name - 4096))) None ≡ None → ⊥
+    high : (b : Bool) → nat_lt o.name 5120 ≡ b → nat_lt o.name 4096 ≡ false → cond b (source_of (token_class m.tokens (o.name - 4096)) (place_at m.clients (o.name - 4096))) None ≡ None → ⊥
     high true less past none =
         let most = ltb-false o.name 4096 past in
-        sends (place_at m.clients (o.name - 4096)) (taken (o.name - 4096) (omega (arith, most))) none
+        named_so (o.name - 4096) (omega (arith, most)) none
     high false more past none =
         let most = ltb-false o.name 4096 past in
         let beyond = ltb-false o.name 5120 more in
-        let less = within (o.name - 4096) (taken (o.name - 4096) (omega (arith, most))) in
-        omega (arith, less, most, beyond)
+        within (o.name - 4096) (omega (arith, most)) (omega (arith, most, beyond))
 
-    low : (b : Bool) → nat_lt o.name 4096 ≡ b → cond b None (cond (nat_lt o.name 5120) (sender_of (place_at m.clients (o.name - 4096))) None) ≡ None → ⊥
+    low : (b : Bool) → nat_lt o.name 4096 ≡ b → cond b None (cond (nat_lt o.name 5120) (source_of (token_class m.tokens (o.name - 4096)) (place_at m.clients (o.name - 4096))) None) ≡ None → ⊥
     low true less none = false≢true (sym (st.agrees.services.messages.past o.name (ltb-true o.name 4096 less)) ∙ said)
     low false past none = high (nat_lt o.name 5120) refl past none
 
@@ -147,70 +180,74 @@ module _ (p : Image) (m : Parts) where
       owners_text (tree s.cells (suc depth) w (held s.cells r)) ≡ ended (t ++ codes " " ++ decimal class) ++ (flat_map owned_line (gathered (below n depth w s) 8) ++ flat_map owned_line (flat_map (beyond n depth w s) (seats_of n s)))
   tree_found n class depth w r t s st shows told is =
       let x = found n class r s st shows told in
-      let sender = (service_of s.cells x.0.name).sender in
+      let from = source_in (service_of s.cells x.0.name) in
       ap (λ o. owners_text (tree s.cells (suc depth) w o)) x.1
-      ∙ ap (λ th. ended (way_text w ++ codes " " ++ thing_text th sender) ++ flat_map owned_line (beneath th (under x.0.name depth w s))) x.2
+      ∙ ap (λ th. ended (way_text w ++ codes " " ++ thing_text th from) ++ flat_map owned_line (beneath th (under x.0.name depth w s))) x.2
       ∙ ap (λ k. ended (way_text w ++ codes " " ++ decimal class) ++ flat_map owned_line (under k depth w s)) x.3
       ∙ ap (λ (u : List ℕ). ended (way_text w ++ codes " " ++ decimal class) ++ u) (flat_map-append owned_line (gathered (below n depth w s) 8) (flat_map (beyond n depth w s) (seats_of n s)))
       ∙ ap (λ (u : List ℕ). ended (u ++ codes " " ++ decimal class) ++ (flat_map owned_line (gathered (below n depth w s) 8) ++ flat_map owned_line (flat_map (beyond n depth w s) (seats_of n s)))) (sym is)
 
   -- ---- messages
 
-  -- the place that a message is kept at has a sender
-  at_place : (n client : ℕ) → sender_at m.clients n ≡ Some client → (j : ℕ) × (n ≡ message_name j) × (sender_of (place_at m.clients j) ≡ Some client)
-  at_place n client is = low (nat_lt n 4096) refl is
+  -- the number of a message is that of its place
+  at_place : (n : ℕ) (source : Source) → source_at m n ≡ Some source → (j : ℕ) × (n ≡ message_name j) × (source_of (token_class m.tokens j) (place_at m.clients j) ≡ Some source)
+  at_place n source is = low (nat_lt n 4096) refl is
     where
-      high : (b : Bool) → (nat_lt n 4096 ≡ false) → cond b (sender_of (place_at m.clients (n - 4096))) None ≡ Some client → (j : ℕ) × (n ≡ message_name j) × (sender_of (place_at m.clients j) ≡ Some client)
+      high : (b : Bool) → (nat_lt n 4096 ≡ false) → cond b (source_of (token_class m.tokens (n - 4096)) (place_at m.clients (n - 4096))) None ≡ Some source → (j : ℕ) × (n ≡ message_name j) × (source_of (token_class m.tokens j) (place_at m.clients j) ≡ Some source)
       high true past is = let most = ltb-false n 4096 past in (n - 4096, omega (arith, most), is)
-      high false past is = absurd (none-some client is)
+      high false past is = absurd (none-some source is)
 
-      low : (b : Bool) → nat_lt n 4096 ≡ b → cond b None (cond (nat_lt n 5120) (sender_of (place_at m.clients (n - 4096))) None) ≡ Some client → (j : ℕ) × (n ≡ message_name j) × (sender_of (place_at m.clients j) ≡ Some client)
-      low true less is = absurd (none-some client is)
+      low : (b : Bool) → nat_lt n 4096 ≡ b → cond b None (cond (nat_lt n 5120) (source_of (token_class m.tokens (n - 4096)) (place_at m.clients (n - 4096))) None) ≡ Some source → (j : ℕ) × (n ≡ message_name j) × (source_of (token_class m.tokens j) (place_at m.clients j) ≡ Some source)
+      low true less is = absurd (none-some source is)
       low false past is = high (nat_lt n 5120) past is
 
-  sent_client : (slot : Bool) (x : Message_place) (client : ℕ) → sender_of x ≡ Some client → (sd : Sender) × (sent_by slot x ≡ Some sd) × (sd.client ≡ client)
-  sent_client slot Free client is = absurd (none-some client is)
-  sent_client slot (Queued d) client is = (record { client = d; holds_slot = slot; is_told = true }, refl, same_Some d client is)
-  sent_client slot (Held d) client is = (record { client = d; holds_slot = slot; is_told = true }, refl, same_Some d client is)
-  sent_client slot (Discarded d) client is = (record { client = d; holds_slot = slot; is_told = false }, refl, same_Some d client is)
-
-  -- so a number that no cell has, and that a sender has, is that of a place that holds a message of that name
-  pub message_found : (n client : ℕ) (r : Place) (s : State) → StandsFor M s → Shows M n r → class_at m.cells n ≡ None → sender_at m.clients n ≡ Some client →
-      (o : Object) × (held s.cells r ≡ Some o) × (o.thing ≡ Message) × (sd : Sender) × ((service_of s.cells o.name).sender ≡ Some sd) × (sd.client ≡ client)
-  message_found n client r s st shows none is =
-      let at = at_place n client is in
-      let same = st.agrees.services.clients in
-      let sent = sent_client (holds m.clients at.0) (place_at m.clients at.0) client at.2 in
-      let sender : (service_of s.cells n).sender ≡ Some sent.0 = ap (λ k. (service_of s.cells k).sender) at.1 ∙ sym (same.senders at.0) ∙ sent.1 in
-      go sent.0 sender sent.2 (held s.cells r) refl (shows.each s st) (sym (class_held p m s st r n (shows.each s st)) ∙ none)
+  -- so a number that no cell has, and of which it is told who hears, is that of a place that holds a message of that name
+  pub message_found : (n : ℕ) (source : Source) (r : Place) (s : State) → StandsFor M s → Shows M n r → class_at m.cells n ≡ None → source_at m n ≡ Some source →
+      (o : Object) × (held s.cells r ≡ Some o) × (o.thing ≡ Message) × (source_in (service_of s.cells o.name) ≡ Some source)
+  message_found n source r s st shows none is = go (held s.cells r) refl (shows.each s st) (sym (class_held p m s st r n (shows.each s st)) ∙ none)
     where
+      at : (j : ℕ) × (n ≡ message_name j) × (source_of (token_class m.tokens j) (place_at m.clients j) ≡ Some source)
+      at = at_place n source is
+
       plain : (th : Thing) → class_in th ≡ None → th ≡ Message
       plain (An_object_of c) told = absurd (none-some c (sym told))
       plain Message told = refl
 
-      go : (sd : Sender) → (service_of s.cells n).sender ≡ Some sd → sd.client ≡ client → (o : Option Object) → held s.cells r ≡ o → n ≡ number o → class_of o ≡ None →
-          (x : Object) × (held s.cells r ≡ Some x) × (x.thing ≡ Message) × (sd : Sender) × ((service_of s.cells x.name).sender ≡ Some sd) × (sd.client ≡ client)
-      go sd sender by None is_held same told = absurd (none-some sd (sym (ap (λ (v : Service). v.sender) (service_unnamed s.cells n (ap (named s.cells) same ∙ null_unnamed p m s st.agrees))) ∙ sender))
-      go sd sender by (Some o) is_held same told = (o, is_held, plain o.thing told, sd, ap (λ k. (service_of s.cells k).sender) (sym same) ∙ sender, by)
+      sent : sent_by (holds m.clients at.0) (place_at m.clients at.0) ≡ (service_of s.cells n).sender
+      sent = st.agrees.services.clients.senders at.0 ∙ ap (λ k. (service_of s.cells k).sender) (sym at.1)
 
-  tree_message : (n client depth : ℕ) (w : Way) (r : Place) (t : List ℕ) (s : State) → StandsFor M s → Shows M n r → class_at m.cells n ≡ None → sender_at m.clients n ≡ Some client → t ≡ way_text w →
-      owners_text (tree s.cells (suc depth) w (held s.cells r)) ≡ ended (t ++ codes " " ++ (codes "msg " ++ decimal client))
-  tree_message n client depth w r t s st shows none sent is =
-      let x = message_found n client r s st shows none sent in
-      let sender = (service_of s.cells x.0.name).sender in
+      told : class_of_token (service_of s.cells n).token ≡ token_class m.tokens at.0
+      told = ap (λ k. class_of_token (service_of s.cells k).token) at.1 ∙ sym (st.agrees.services.tokens.classes at.0)
+
+      go : (o : Option Object) → held s.cells r ≡ o → n ≡ number o → class_of o ≡ None →
+          (x : Object) × (held s.cells r ≡ Some x) × (x.thing ≡ Message) × (source_in (service_of s.cells x.name) ≡ Some source)
+      go None is_held same class =
+          let unnamed = service_unnamed s.cells n (ap (named s.cells) same ∙ null_unnamed p m s st.agrees) in
+          absurd (untold_source (token_class m.tokens at.0) (holds m.clients at.0) (place_at m.clients at.0) source (sym told ∙ ap (λ (v : Service). class_of_token v.token) unnamed) (sent ∙ ap (λ (v : Service). v.sender) unnamed) at.2)
+      go (Some o) is_held same class =
+          let message = plain o.thing class in
+          let lives = held_lives s.cells r o st.typed.good.tidy is_held in
+          let one = ap (λ k. sources_of (service_of s.cells k)) same ∙ st.kept.fit.sources o lives ∙ ap (λ th. cond (is_object th) 0 1) message in
+          let v = service_of s.cells n in
+          (o, is_held, message, ap (λ k. source_in (service_of s.cells k)) (sym same) ∙ told_source (token_class m.tokens at.0) (holds m.clients at.0) (place_at m.clients at.0) v.sender v.token source told sent one at.2)
+
+  tree_message : (n : ℕ) (source : Source) (depth : ℕ) (w : Way) (r : Place) (t : List ℕ) (s : State) → StandsFor M s → Shows M n r → class_at m.cells n ≡ None → source_at m n ≡ Some source → t ≡ way_text w →
+      owners_text (tree s.cells (suc depth) w (held s.cells r)) ≡ ended (t ++ codes " " ++ source_text source)
+  tree_message n source depth w r t s st shows none told is =
+      let x = message_found n source r s st shows none told in
+      let from = source_in (service_of s.cells x.0.name) in
       ap (λ o. owners_text (tree s.cells (suc depth) w o)) x.1
-      ∙ ap (λ th. ended (way_text w ++ codes " " ++ thing_text th sender) ++ flat_map owned_line (beneath th (under x.0.name depth w s))) x.2
-      ∙ append-nil (ended (way_text w ++ codes " " ++ thing_text Message sender))
-      ∙ ap (λ sd. ended (way_text w ++ codes " " ++ thing_text Message sd)) x.4
-      ∙ ap (λ k. ended (way_text w ++ codes " " ++ (codes "msg " ++ decimal k))) x.5
-      ∙ ap (λ (u : List ℕ). ended (u ++ codes " " ++ (codes "msg " ++ decimal client))) (sym is)
+      ∙ ap (λ th. ended (way_text w ++ codes " " ++ thing_text th from) ++ flat_map owned_line (beneath th (under x.0.name depth w s))) x.2
+      ∙ append-nil (ended (way_text w ++ codes " " ++ thing_text Message from))
+      ∙ ap (λ sd. ended (way_text w ++ codes " " ++ thing_text Message sd)) x.3
+      ∙ ap (λ (u : List ℕ). ended (u ++ codes " " ++ source_text source)) (sym is)
 
   -- a number that neither has is that of a place that holds nothing
-  pub none_sends : (n : ℕ) (r : Place) → (Lives m.cells n → ⊥) → sender_at m.clients n ≡ None → Shows M n r → ShowsNone M r
+  pub none_sends : (n : ℕ) (r : Place) → (Lives m.cells n → ⊥) → source_at m n ≡ None → Shows M n r → ShowsNone M r
   none_sends n r none unsent shows = record { each = λ s st. go s st (held s.cells r) refl (shows.each s st) }
     where
       placed : (s : State) → StandsFor M s → (o : Object) → named s.cells o.name ≡ Some o → o.thing ≡ Message → n ≡ o.name → ⊥
-      placed s st o lives message same = message_sent p m s st o lives message (ap (sender_at m.clients) (sym same) ∙ unsent)
+      placed s st o lives message same = message_sourced p m s st o lives message (ap (source_at m) (sym same) ∙ unsent)
 
       go : (s : State) → StandsFor M s → (o : Option Object) → held s.cells r ≡ o → n ≡ number o → o ≡ None
       go s st None holds is = refl
@@ -226,18 +263,18 @@ module _ (p : Image) (m : Parts) where
   -- ---- what is out
 
   -- the line of a message is all that hangs there
-  pub message_told : (n client depth d : ℕ) (w : Way) (r : Place) (t : List ℕ) → Shows M n r → class_at m.cells n ≡ None → sender_at m.clients n ≡ Some client → t ≡ way_text w → d ≡ suc depth → (before now : Option (List ℕ)) →
-      now ≡ after before (ended (t ++ codes " " ++ (codes "msg " ++ decimal client))) → Tells M (λ s. owners_text (tree s.cells d w (held s.cells r))) before now
-  message_told n client depth d w r t shows none sent is deep before now put = record {
-    out = λ s st. put ∙ ap (λ u. after before u) (sym (ap (λ k. owners_text (tree s.cells k w (held s.cells r))) deep ∙ tree_message n client depth w r t s st shows none sent is));
+  pub message_told : (n : ℕ) (source : Source) (depth d : ℕ) (w : Way) (r : Place) (t : List ℕ) → Shows M n r → class_at m.cells n ≡ None → source_at m n ≡ Some source → t ≡ way_text w → d ≡ suc depth → (before now : Option (List ℕ)) →
+      now ≡ after before (ended (t ++ codes " " ++ source_text source)) → Tells M (λ s. owners_text (tree s.cells d w (held s.cells r))) before now
+  message_told n source depth d w r t shows none sent is deep before now put = record {
+    out = λ s st. put ∙ ap (λ u. after before u) (sym (ap (λ k. owners_text (tree s.cells k w (held s.cells r))) deep ∙ tree_message n source depth w r t s st shows none sent is));
   }
 
-  pub message_unsent : (n client depth d : ℕ) (w : Way) (r : Place) (t : List ℕ) → Shows M n r → class_at m.cells n ≡ None → sender_at m.clients n ≡ Some client → t ≡ way_text w → d ≡ suc depth → (before now : Option (List ℕ)) (fault : DebugFault) (failed : Bool) →
-      IsCut (ended (t ++ codes " " ++ (codes "msg " ++ decimal client))) fault failed before now → TellsPart M (λ s. owners_text (tree s.cells d w (held s.cells r))) fault failed before now
-  message_unsent n client depth d w r t shows none sent is deep before now fault failed cut = record {
+  pub message_unsent : (n : ℕ) (source : Source) (depth d : ℕ) (w : Way) (r : Place) (t : List ℕ) → Shows M n r → class_at m.cells n ≡ None → source_at m n ≡ Some source → t ≡ way_text w → d ≡ suc depth → (before now : Option (List ℕ)) (fault : DebugFault) (failed : Bool) →
+      IsCut (ended (t ++ codes " " ++ source_text source)) fault failed before now → TellsPart M (λ s. owners_text (tree s.cells d w (held s.cells r))) fault failed before now
+  message_unsent n source depth d w r t shows none sent is deep before now fault failed cut = record {
     told = cut.told;
     fails = cut.fails;
-    out = λ s st. (cut.sent, cut.out ∙ ap (λ u. after before (take cut.sent u)) (sym (ap (λ k. owners_text (tree s.cells k w (held s.cells r))) deep ∙ tree_message n client depth w r t s st shows none sent is)));
+    out = λ s st. (cut.sent, cut.out ∙ ap (λ u. after before (take cut.sent u)) (sym (ap (λ k. owners_text (tree s.cells k w (held s.cells r))) deep ∙ tree_message n source depth w r t s st shows none sent is)));
   }
 
   -- where no cell has the number, a message's line is all that hangs there, if there is one
@@ -249,23 +286,23 @@ module _ (p : Image) (m : Parts) where
         go None at = refl
         go (Some c) at = absurd (none (ap is_some at))
 
-    pub uncelled_told : now ≡ after before (message_text t (sender_at m.clients n)) → Tells M (λ s. owners_text (tree s.cells d w (held s.cells r))) before now
-    uncelled_told put = go (sender_at m.clients n) refl put
+    pub uncelled_told : now ≡ after before (message_text t (source_at m n)) → Tells M (λ s. owners_text (tree s.cells d w (held s.cells r))) before now
+    uncelled_told put = go (source_at m n) refl put
       where
-        go : (o : Option ℕ) → sender_at m.clients n ≡ o → now ≡ after before (message_text t o) → Tells M (λ s. owners_text (tree s.cells d w (held s.cells r))) before now
+        go : (o : Option Source) → source_at m n ≡ o → now ≡ after before (message_text t o) → Tells M (λ s. owners_text (tree s.cells d w (held s.cells r))) before now
         go None unsent put = record { out = λ s st. put ∙ ap (λ xs. after before (owners_text xs)) (sym (tree_none s.cells d w (held s.cells r) ((none_sends n r none unsent shows).each s st))) }
-        go (Some client) sent put = message_told n client depth d w r t shows classless sent is deep before now put
+        go (Some source) sent put = message_told n source depth d w r t shows classless sent is deep before now put
 
-    pub uncelled_cut : (fault : DebugFault) (failed : Bool) → IsCut (message_text t (sender_at m.clients n)) fault failed before now → TellsPart M (λ s. owners_text (tree s.cells d w (held s.cells r))) fault failed before now
-    uncelled_cut fault failed cut = go (sender_at m.clients n) refl cut
+    pub uncelled_cut : (fault : DebugFault) (failed : Bool) → IsCut (message_text t (source_at m n)) fault failed before now → TellsPart M (λ s. owners_text (tree s.cells d w (held s.cells r))) fault failed before now
+    uncelled_cut fault failed cut = go (source_at m n) refl cut
       where
-        go : (o : Option ℕ) → sender_at m.clients n ≡ o → IsCut (message_text t o) fault failed before now → TellsPart M (λ s. owners_text (tree s.cells d w (held s.cells r))) fault failed before now
+        go : (o : Option Source) → source_at m n ≡ o → IsCut (message_text t o) fault failed before now → TellsPart M (λ s. owners_text (tree s.cells d w (held s.cells r))) fault failed before now
         go None unsent cut = record {
           told = cut.told;
           fails = cut.fails;
           out = λ s st. (cut.sent, cut.out ∙ ap (λ xs. after before (take cut.sent (owners_text xs))) (sym (tree_none s.cells d w (held s.cells r) ((none_sends n r none unsent shows).each s st))));
         }
-        go (Some client) sent cut = message_unsent n client depth d w r t shows classless sent is deep before now fault failed cut
+        go (Some source) sent cut = message_unsent n source depth d w r t shows classless sent is deep before now fault failed cut
 
   -- all that hangs from an object is out, or a beginning of it, by the line, by what hangs from the fields, and by what hangs from the sessions
   module _ (n class depth d : ℕ) (w : Way) (r : Place) (t : List ℕ) (shows : Shows M n r) (told : class_at m.cells n ≡ Some class) (is : t ≡ way_text w) (deep : d ≡ suc depth) where

@@ -15,29 +15,30 @@ use Rattle.aom_shape.specs.declared.kind.Kind.TheVariants.{Maybe, Null, Own, Uns
 use Rattle.aom_rules.specs.Typing.{Typing, shape_at}
 use Rattle.aom_bounds.specs.Strongest.{IsStrongest}
 use Rattle.aom_sound.specs.Owned.{over}
-use Rattle.aom_sound.specs.Places.{Cell, Object, Register, Sender, held, service_of}
+use Rattle.aom_sound.specs.Places.{Cell, Object, Register, held, service_of}
 use Rattle.aom_sound.specs.State.{Frame, Run, State, Task, Trapped, counter, word}
 use Rattle.aom_parts.specs.Agrees.{SameFrame}
 use Rattle.aom_parts.specs.Stands.{Machine, StandsFor}
 use Rattle.aom_debug_words.specs.declared.answer.Answer.{Answer}
 use Rattle.aom_debug_words.specs.declared.answer.Answer.TheVariants.{Frame as A_frame, Loop, Register as A_register, Trap}
+use Rattle.aom_debug_words.specs.declared.answer.Source.{Source}
 use Rattle.aom_debug_words.specs.declared.answer.Content.{Content}
 use Rattle.aom_debug_words.specs.declared.answer.Content.TheVariants as contents
-use Rattle.aom_debug_sights.specs.Owners.{Shows, ShowsNone}
+use Rattle.aom_debug_sights.specs.Owners.{Shows, ShowsNone, source_in}
 use Rattle.aom_debug_sights.specs.Telling.{gathered, listed}
 
 -- ---- registers
 
--- an object by its class, and a message by the client that sent it
-abbrev pub thing_content : Thing → Option Sender → Option Content
-thing_content (An_object_of class) sender = Some (contents.Own class)
-thing_content Message (Some m) = Some (contents.Message m.client)
+-- an object by its class, and a message by who hears when it is completed
+abbrev pub thing_content : Thing → Option Source → Option Content
+thing_content (An_object_of class) source = Some (contents.Own class)
+thing_content Message (Some source) = Some (contents.Message source)
 thing_content Message None = None
 
 -- what a register owns, or null
 abbrev pub owned_content : List Cell → Option Object → Option Content
 owned_content cs None = Some contents.Null
-owned_content cs (Some o) = thing_content o.thing (service_of cs o.name).sender
+owned_content cs (Some o) = thing_content o.thing (source_in (service_of cs o.name))
 
 -- by what the typing says that it is, of its word and of what it owns; one that is not set has nothing
 abbrev pub content_by : List Cell → Kind → Option ℤ → Option Object → Option Content

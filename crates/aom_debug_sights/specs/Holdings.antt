@@ -2,10 +2,10 @@
 use Rattle.std.specs.Prelude.{ℕ, ◌≡◌, ◌<◌, List, Option, Some, None}
 use Rattle.aom_image.specs.declared.method.Thing.TheVariants.{Object as An_object_of, Message as A_message}
 use Rattle.aom_cells.specs.Heap.{class_at}
-use Rattle.aom_sound.specs.Places.{Elsewhere, Entry as At_entry, Field as In_field, Going as Goes, In_service, Object as Held_object, Place, Register as In_register_of, Root as Of_image, Sender, Session as Of_session, held, service_of}
+use Rattle.aom_sound.specs.Places.{Elsewhere, Entry as At_entry, Field as In_field, Going as Goes, In_service, Object as Held_object, Place, Register as In_register_of, Root as Of_image, Session as Of_session, held, service_of}
 use Rattle.aom_sound.specs.State.{State}
 use Rattle.aom_parts.specs.declared.parts.Parts.{Parts}
-use Rattle.aom_debug_sights.specs.Owners.{sender_at}
+use Rattle.aom_debug_sights.specs.Owners.{source_at, source_in}
 use Rattle.aom_debug_sights.specs.declared.holding.Holding.{Holding}
 use Rattle.aom_debug_sights.specs.declared.holding.Holding.TheVariants as holds
 use Rattle.aom_debug_sights.specs.declared.holding.Owner.{Owner}
@@ -28,12 +28,12 @@ IsOwner _ = Unit {0}
 
 -- what the machine has by that number
 abbrev pub HasNumber : Parts → ℕ → Holding → Type 0
-HasNumber m n holds.Nothing = (class_at m.cells n ≡ None) × (sender_at m.clients n ≡ None)
+HasNumber m n holds.Nothing = (class_at m.cells n ≡ None) × (source_at m n ≡ None)
 HasNumber m n (holds.Object cell class) = (cell ≡ n) × (class_at m.cells n ≡ Some class)
-HasNumber m n (holds.Message client) = (class_at m.cells n ≡ None) × (sender_at m.clients n ≡ Some client)
+HasNumber m n (holds.Message source) = (class_at m.cells n ≡ None) × (source_at m n ≡ Some source)
 
--- what a place of a state holds: nothing, the object of that name and class, or a message of that client
+-- what a place of a state holds: nothing, the object of that name and class, or a message, by who hears when it is completed
 abbrev pub HoldsSo : State → Place → Holding → Type 0
 HoldsSo s r holds.Nothing = held s.cells r ≡ None
 HoldsSo s r (holds.Object cell class) = (o : Held_object) × (held s.cells r ≡ Some o) × (o.thing ≡ An_object_of class) × (o.name ≡ cell)
-HoldsSo s r (holds.Message client) = (o : Held_object) × (held s.cells r ≡ Some o) × (o.thing ≡ A_message) × (sd : Sender) × ((service_of s.cells o.name).sender ≡ Some sd) × (sd.client ≡ client)
+HoldsSo s r (holds.Message source) = (o : Held_object) × (held s.cells r ≡ Some o) × (o.thing ≡ A_message) × (source_in (service_of s.cells o.name) ≡ Some source)

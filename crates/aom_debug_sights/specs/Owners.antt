@@ -4,7 +4,7 @@ use Rattle.std.specs.List.{flat_map}
 use Rattle.aom_image.specs.declared.method.Thing.{Thing}
 use Rattle.aom_image.specs.declared.method.Thing.TheVariants.{Object as An_object_of, Message}
 use Rattle.aom_cells.specs.Heap.{null}
-use Rattle.aom_clients.specs.Clients.{State as Kept_clients, place_at}
+use Rattle.aom_clients.specs.Clients.{place_at}
 use Rattle.aom_clients.specs.declared.place.Place.{Place as Message_place}
 use Rattle.aom_clients.specs.declared.place.Place.TheVariants.{Discarded, Free, Held, Queued}
 use Rattle.aom_cleanup.specs.declared.item.Item.{Item as Held_item}
@@ -18,8 +18,13 @@ use Rattle.aom_shape.specs.declared.kind.Kind.{Kind}
 use Rattle.aom_shape.specs.declared.kind.Kind.TheVariants.{Maybe, Own}
 use Rattle.aom_transcript.specs.Text.{ended}
 use Rattle.aom_sound.specs.Owned.{over}
-use Rattle.aom_sound.specs.Places.{Cell, Elsewhere, Entry, Field, Going, In_service, Object, Place, Register, Root, Sender, Session, held, service_of}
+use Rattle.aom_sound.specs.Places.{Cell, Elsewhere, Entry, Field, Going, In_service, Object, Place, Register, Root, Sender, Service, Session, Token, held, service_of}
 use Rattle.aom_sound.specs.State.{A_mark, An_object, An_operation, Destroy, Item, Run, State, Task}
+use Rattle.aom_parts.specs.declared.parts.Parts.{Parts}
+use Rattle.aom_tokens.specs.Tokens.{class_at}
+use Rattle.aom_debug_words.specs.Answers.{source_text}
+use Rattle.aom_debug_words.specs.declared.answer.Source.{Source}
+use Rattle.aom_debug_words.specs.declared.answer.Source.TheVariants as sources
 use Rattle.aom_parts.specs.Agrees.{number}
 use Rattle.aom_parts.specs.Stands.{Machine, StandsFor}
 use Rattle.aom_debug_sights.specs.Sights.{counted}
@@ -49,11 +54,20 @@ pub record Way : Type 0 where
 abbrev pub further : Way → Branch → Way
 further w b = record w { branches = w.branches ++ b ∷ [] }
 
--- what is owned, by the way to it; of a message also who sent it
+-- who hears when a message is completed: the client that sent it, or else the object that handed it out, by its class
+abbrev pub source_by : Option Sender → Option Token → Option Source
+source_by (Some m) t = Some (sources.Client m.client)
+source_by None (Some t) = Some (sources.Token t.class)
+source_by None None = None
+
+abbrev pub source_in : Service → Option Source
+source_in v = source_by v.sender v.token
+
+-- what is owned, by the way to it; of a message also who hears when it is completed
 pub record Owned : Type 0 where
   pub way : Way
   pub object : Object
-  pub sender : Option Sender
+  pub source : Option Source
 
 -- ---- how they are spelled
 
@@ -71,14 +85,14 @@ branch_text (By_session c) = codes ".s" ++ decimal c
 abbrev pub way_text : Way → List ℕ
 way_text w = outer_text w.outer ++ flat_map branch_text w.branches
 
--- an object by its class, and a message by the client that sent it
-abbrev pub thing_text : Thing → Option Sender → List ℕ
-thing_text (An_object_of class) sender = decimal class
-thing_text Message (Some m) = codes "msg " ++ decimal m.client
+-- an object by its class, and a message by who hears when it is completed
+abbrev pub thing_text : Thing → Option Source → List ℕ
+thing_text (An_object_of class) source = decimal class
+thing_text Message (Some source) = source_text source
 thing_text Message None = codes "msg"
 
 abbrev pub owned_line : Owned → List ℕ
-owned_line x = ended (way_text x.way ++ codes " " ++ thing_text x.object.thing x.sender)
+owned_line x = ended (way_text x.way ++ codes " " ++ thing_text x.object.thing x.source)
 
 abbrev pub owners_text : List Owned → List ℕ
 owners_text xs = flat_map owned_line xs
@@ -93,7 +107,7 @@ beneath Message xs = []
 -- nothing where it holds nothing, and else what it holds, and then what that owns, field by field, and session by session in the order in which they were connected
 abbrev pub hanging : List Cell → (fields sessions : Object → ℕ → List Owned) → Way → Option Object → List Owned
 hanging cs fields sessions w None = []
-hanging cs fields sessions w (Some o) = record { way = w; object = o; sender = (service_of cs o.name).sender } ∷ beneath o.thing (gathered (fields o) 8 ++ flat_map (sessions o) (service_of cs o.name).sessions)
+hanging cs fields sessions w (Some o) = record { way = w; object = o; source = source_in (service_of cs o.name) } ∷ beneath o.thing (gathered (fields o) 8 ++ flat_map (sessions o) (service_of cs o.name).sessions)
 
 -- so many generations of it
 abbrev pub tree : List Cell → ℕ → Way → Option Object → List Owned
@@ -149,20 +163,25 @@ owners s =
 -- ---- what a machine shows of them
 
 -- the line of a message at the end of a way, if there is one
-abbrev pub message_text : List ℕ → Option ℕ → List ℕ
+abbrev pub message_text : List ℕ → Option Source → List ℕ
 message_text way None = []
-message_text way (Some client) = ended (way ++ codes " " ++ (codes "msg " ++ decimal client))
+message_text way (Some source) = ended (way ++ codes " " ++ source_text source)
 
 -- the client that sent what a message place has
-abbrev pub sender_of : Message_place → Option ℕ
+abbrev pub sender_of : Message_place → Option Source
 sender_of Free = None
-sender_of (Queued client) = Some client
-sender_of (Held client) = Some client
-sender_of (Discarded client) = Some client
+sender_of (Queued client) = Some (sources.Client client)
+sender_of (Held client) = Some (sources.Client client)
+sender_of (Discarded client) = Some (sources.Client client)
+
+-- a place that has a token has no client's message
+abbrev pub source_of : Option ℕ → Message_place → Option Source
+source_of (Some class) place = Some (sources.Token class)
+source_of None place = sender_of place
 
 -- and the message of that number, if there is one; the numbers of messages are those past the numbers of cells
-abbrev pub sender_at : Kept_clients → ℕ → Option ℕ
-sender_at s n = cond (nat_lt n 4096) None (cond (nat_lt n 5120) (sender_of (place_at s (n - 4096))) None)
+abbrev pub source_at : Parts → ℕ → Option Source
+source_at m n = cond (nat_lt n 4096) None (cond (nat_lt n 5120) (source_of (class_at m.tokens (n - 4096)) (place_at m.clients (n - 4096))) None)
 
 -- the number of what a place owns, and null where it owns nothing
 pub record Shows (m : Machine) (n : ℕ) (r : Place) : Type 0 where

@@ -14,13 +14,13 @@ ghost use Rattle.aom_sound.specs.Places.{Place, Register, held};
 ghost use Rattle.aom_sound.specs.State.{Frame as FrameRecord, Run, State, word};
 ghost use Rattle.aom_debug_words.specs.declared.answer.Content.TheVariants.{Message, Word};
 ghost use Rattle.aom_debug_sights.specs.Frames.{RegisterShows, ShowsFrame, content_by, frame_answers, frame_lines, frames_answers, loop_answer, loops_in, owned_content, register_in, registers_in, place_in, trap_held, trap_in, trap_under};
-ghost use Rattle.aom_debug_sights.specs.Owners.{Shows, sender_at};
+ghost use Rattle.aom_debug_sights.specs.Owners.{Shows, source_at};
 ghost use Rattle.aom_debug_sights.specs.Telling.{Tells, TellsPart, answers_text, listed};
 
 use crate::cleanup::class_of;
 use crate::owners::frame_at;
 use crate::sending::tell_any;
-use crate::tree::sender_at;
+use crate::tree::source_at;
 use aom_budget::Accepted;
 use aom_cells::NULL;
 use aom_debug_words::{Answer, Content, DebugFault, Spot};
@@ -33,10 +33,10 @@ use aom_verify::Checked;
 /// The message of that number, if there is one.
 fn message_content(parts: &Parts, number: u32) -> Option<Content>
     requires { (p : Image) × Stands (record { image = p; parts = parts.now }) }
-    ensures { result ≡ option_map (λ client. Message client) (sender_at parts.now.clients number) }
+    ensures { result ≡ option_map (λ source. Message source) (source_at parts.now number) }
 {
-    match sender_at(parts, number) {
-        Some(client) => Some(Content::Message(client)),
+    match source_at(parts, number) {
+        Some(source) => Some(Content::Message(source)),
         None => None,
     }
 }

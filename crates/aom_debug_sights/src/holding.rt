@@ -15,9 +15,10 @@ ghost use Rattle.aom_debug_sights.specs.Owners.{Shows, may_own};
 
 use crate::cleanup::class_of;
 use crate::owners::{frame_at, going_number, item_number, may_own};
-use crate::tree::{sender_at, session_in};
+use crate::tree::{session_in, source_at};
 use aom_budget::Accepted;
 use aom_cells::NULL;
+use aom_debug_words::Source;
 use aom_frames::Frame;
 use aom_instructions::{FieldIndex, Register};
 use aom_parts::Parts;
@@ -49,8 +50,8 @@ pub enum Holding {
     Nothing,
     /// The object in that cell, of that class.
     Object { cell: u32, class: u16 },
-    /// A message of that client.
-    Message { client: u8 },
+    /// A message, and who hears when it is completed.
+    Message { source: Source },
 }
 
 /// The number in a register, and null where it may own nothing.
@@ -131,8 +132,8 @@ fn holding_of(parts: &Parts, number: u32) -> Holding
             cell: number,
             class,
         },
-        None => match sender_at(parts, number) {
-            Some(client) => Holding::Message { client },
+        None => match source_at(parts, number) {
+            Some(source) => Holding::Message { source },
             None => Holding::Nothing,
         },
     }

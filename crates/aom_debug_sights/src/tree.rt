@@ -9,14 +9,16 @@ ghost use Rattle.aom_queues.specs.Lists.{IsIn};
 ghost use Rattle.aom_run.specs.Runs.{after};
 ghost use Rattle.aom_sound.specs.Places.{Place as PlaceOf, held};
 ghost use Rattle.aom_transcript.specs.Text.{ended};
-ghost use Rattle.aom_debug_sights.specs.Owners.{Outer, Shows, Way as WayRecord, grown, message_text, outer_text, owners_text, sender_at, tree, way_text};
+ghost use Rattle.aom_debug_words.specs.Answers.{source_text};
+ghost use Rattle.aom_debug_sights.specs.Owners.{Outer, Shows, Way as WayRecord, grown, message_text, outer_text, owners_text, sender_of, source_at, tree, way_text};
 ghost use Rattle.aom_debug_sights.specs.Telling.{IsCut, Tells, TellsPart};
 
 use crate::sending::send;
 use crate::way::{Way, add_class, add_message, enter, enter_session};
 use aom_cells::{CellId, NULL};
 use aom_clients::{Client, NO_CELL, Place};
-use aom_debug_words::DebugFault;
+use aom_debug_words::{DebugFault, Source};
+use aom_messages::MessageId;
 use aom_parts::Parts;
 use aom_run::Sink;
 
@@ -37,33 +39,44 @@ fn tell_owned<W: Sink>(way: &mut Way, class: u16, out: &mut W) -> Result<(), Deb
     done
 }
 
-/// Writes the line of a message of a client.
-fn tell_sent<W: Sink>(way: &mut Way, client: u8, out: &mut W) -> Result<(), DebugFault>
-    requires { length way.old + 11 ≤ 1536 }
+/// Writes the line of a message.
+fn tell_sent<W: Sink>(way: &mut Way, source: Source, out: &mut W) -> Result<(), DebugFault>
+    requires { length way.old + 13 ≤ 1536 }
     ensures same { way.new ≡ way.old }
-    ensures ok { IfOk result (λ _. W.out out.new ≡ after (W.out out.old) (ended (way.old ++ codes " " ++ (codes "msg " ++ decimal client)))) }
-    ensures err { IfErr result (λ fault. IsCut (ended (way.old ++ codes " " ++ (codes "msg " ++ decimal client))) fault (W.failed out.new) (W.out out.old) (W.out out.new)) }
+    ensures ok { IfOk result (λ _. W.out out.new ≡ after (W.out out.old) (ended (way.old ++ codes " " ++ source_text source))) }
+    ensures err { IfErr result (λ fault. IsCut (ended (way.old ++ codes " " ++ source_text source)) fault (W.failed out.new) (W.out out.old) (W.out out.new)) }
 {
     let length = way.len();
-    add_message(way, client);
+    add_message(way, source);
     let done = send(way.as_bytes(), out);
     way.cut(length);
     done
 }
 
-/// The client that sent the message of that number, if there is one. The numbers of messages are those past the numbers of cells.
-pub(crate) fn sender_at(parts: &Parts, number: u32) -> Option<u8>
+/// Who sent what a message place has.
+fn sender_of(place: Place) -> Option<Source>
+    ensures { result ≡ sender_of place }
+{
+    match place {
+        Place::Free => None,
+        Place::Queued { client } | Place::Held { client } | Place::Discarded { client } => {
+            Some(Source::Client(client))
+        }
+    }
+}
+
+/// Who hears when the message of that number is completed, if there is one. The numbers of messages are those past the numbers of
+/// cells.
+pub(crate) fn source_at(parts: &Parts, number: u32) -> Option<Source>
     requires { (p : Image) × Stands (record { image = p; parts = parts.now }) }
-    ensures { result ≡ sender_at parts.now.clients number }
+    ensures { result ≡ source_at parts.now number }
 {
     if number < 4096 || number >= 5120 {
         return None;
     }
-    match parts.clients.place((number - 4096) as u16) {
-        Place::Free => None,
-        Place::Queued { client } | Place::Held { client } | Place::Discarded { client } => {
-            Some(client)
-        }
+    match parts.tokens.class(MessageId::numbered(number)) {
+        Some(class) => Some(Source::Token(u16::from(class))),
+        None => sender_of(parts.clients.place((number - 4096) as u16)),
     }
 }
 
@@ -74,14 +87,14 @@ fn tell_message<W: Sink>(
     number: u32,
     out: &mut W,
 ) -> Result<(), DebugFault>
-    requires room { length way.old + 11 ≤ 1536 }
+    requires room { length way.old + 13 ≤ 1536 }
     requires stands { (p : Image) × Stands (record { image = p; parts = parts.now }) }
     ensures same { way.new ≡ way.old }
-    ensures ok { IfOk result (λ _. W.out out.new ≡ after (W.out out.old) (message_text way.old (sender_at parts.now.clients number))) }
-    ensures err { IfErr result (λ fault. IsCut (message_text way.old (sender_at parts.now.clients number)) fault (W.failed out.new) (W.out out.old) (W.out out.new)) }
+    ensures ok { IfOk result (λ _. W.out out.new ≡ after (W.out out.old) (message_text way.old (source_at parts.now number))) }
+    ensures err { IfErr result (λ fault. IsCut (message_text way.old (source_at parts.now number)) fault (W.failed out.new) (W.out out.old) (W.out out.new)) }
 {
-    match sender_at(parts, number) {
-        Some(client) => tell_sent(way, client, out),
+    match source_at(parts, number) {
+        Some(source) => tell_sent(way, source, out),
         None => Ok(()),
     }
 }
@@ -145,7 +158,7 @@ fn tell_tree<W: Sink>(
     depth: usize,
     out: &mut W,
 ) -> Result<(), DebugFault>
-    requires room { length way.old + 5 * depth + 11 ≤ 1536 }
+    requires room { length way.old + 5 * depth + 13 ≤ 1536 }
     requires stands { (p : Image) × Stands (record { image = p; parts = parts.now }) }
     ensures same { IfOk result (λ _. way.new ≡ way.old) }
     ensures ok { IfOk result (λ _. (p : Image) (w : WayRecord) (r : PlaceOf) → way.old ≡ way_text w → Shows (record { image = p; parts = parts.now }) number r → Tells (record { image = p; parts = parts.now }) (λ s. owners_text (tree s.cells depth w (held s.cells r))) (W.out out.old) (W.out out.new)) }

@@ -1,12 +1,14 @@
 //! The way to an object, as its line begins.
 ghost use Rattle.std.specs.Prelude.{◌≡◌, ◌≤◌, ◌<◌, ◌+◌, ◌++◌, codes, decimal, length, take};
 ghost use Rattle.aom_transcript.specs.Text.{ended};
+ghost use Rattle.aom_debug_words.specs.Answers.{source_text};
 ghost use Rattle.aom_debug_sights.specs.Owners.{branch_text, outer_text};
 ghost use Rattle.aom_debug_sights.specs.Owners.{At_root, At_service, By_field, By_session, In_entry, In_going, In_register};
 
 use aom_buffers::Text;
+use aom_debug_words::Source;
 
-/// An outer place takes at most 48 bytes, each of 257 fields or sessions at most 5, and what is there at most 11.
+/// An outer place takes at most 48 bytes, each of 257 fields or sessions at most 5, and what is there at most 13.
 const LONGEST: usize = 1536;
 
 /// The text of a way, with room for any.
@@ -91,12 +93,15 @@ pub(crate) fn enter_session(way: &mut Way, client: u8)
     way.add_count(b".s", client);
 }
 
-/// The client that sent the message which is there, behind the way, and the end of its line.
-pub(crate) fn add_message(way: &mut Way, client: u8)
-    requires { length way.old + 11 ≤ 1536 }
-    ensures { way.new ≡ ended (way.old ++ codes " " ++ (codes "msg " ++ decimal client)) }
+/// Who hears when the message that is there is completed, behind the way, and the end of its line.
+pub(crate) fn add_message(way: &mut Way, source: Source)
+    requires { length way.old + 13 ≤ 1536 }
+    ensures { way.new ≡ ended (way.old ++ codes " " ++ source_text source) }
 {
-    way.add_count(b" msg ", client);
+    match source {
+        Source::Client(client) => way.add_count(b" msg ", client),
+        Source::Token(class) => way.add_count(b" token ", class),
+    }
     way.add(b"\n");
 }
 

@@ -7,6 +7,8 @@ use Rattle.aom_debug_words.specs.declared.answer.Phase.{Phase}
 use Rattle.aom_debug_words.specs.declared.answer.Phase.TheVariants as phases
 use Rattle.aom_debug_words.specs.declared.answer.Content.{Content}
 use Rattle.aom_debug_words.specs.declared.answer.Content.TheVariants as contents
+use Rattle.aom_debug_words.specs.declared.answer.Source.{Source}
+use Rattle.aom_debug_words.specs.declared.answer.Source.TheVariants as sources
 use Rattle.aom_debug_words.specs.declared.answer.Answer.{Answer}
 use Rattle.aom_debug_words.specs.declared.answer.Answer.TheVariants.{Done, Fault, At, Gone, Between, Ended, Cells, OfClass, Trap, Object, Operation, Active, Server, Clock, Break, Frame, Register, Loop, Ran}
 
@@ -30,12 +32,17 @@ active_text class priority phase status = decimal class ++ codes " " ++ signed_d
 abbrev pub server_text : ℕ → ℤ → ℕ → List ℕ
 server_text class priority queued = decimal class ++ codes " " ++ signed_decimal priority ++ codes " server " ++ decimal queued
 
+-- a message is told by the client that sent it, and a token by the class of the object whose request it completes
+abbrev pub source_text : Source → List ℕ
+source_text (sources.Client client) = codes "msg " ++ decimal client
+source_text (sources.Token class) = codes "token " ++ decimal class
+
 -- with a space before it
 abbrev pub content_text : Content → List ℕ
 content_text (contents.Word word) = codes " word " ++ signed_decimal word
 content_text (contents.Own class) = codes " own " ++ decimal class
 content_text contents.Null = codes " null"
-content_text (contents.Message client) = codes " msg " ++ decimal client
+content_text (contents.Message source) = codes " " ++ source_text source
 
 abbrev pub register_text : ℕ → Content → List ℕ
 register_text i content = codes "r" ++ decimal i ++ content_text content

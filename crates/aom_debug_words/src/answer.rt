@@ -10,6 +10,15 @@ pub enum Phase {
     Active,
 }
 
+/// Who hears when a message is completed.
+#[derive(Clone, Copy, PartialEq, Eq)]
+pub enum Source {
+    /// The client that sent it.
+    Client(u8),
+    /// An active object of that class: the message is a completion token that it handed out.
+    Token(u16),
+}
+
 /// What a register has.
 #[derive(Clone, Copy)]
 pub enum Content {
@@ -17,8 +26,8 @@ pub enum Content {
     /// An object of a class.
     Own(u16),
     Null,
-    /// A message of a client.
-    Message(u8),
+    /// A message, and who hears when it is completed.
+    Message(Source),
 }
 
 /// A line that a debugger answers.

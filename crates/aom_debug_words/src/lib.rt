@@ -20,7 +20,7 @@ mod pending;
 mod recent;
 mod spot;
 
-pub use answer::{Answer, Content, Phase};
+pub use answer::{Answer, Content, Phase, Source};
 pub use breakpoints::{Breakpoints, unbreak_undoes_break};
 pub use command::{Command, read_command};
 pub use fault::DebugFault;

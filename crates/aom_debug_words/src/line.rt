@@ -2,9 +2,9 @@
 ghost use Rattle.std.specs.Prelude.{◌≡◌, ◌+◌, ◌≤◌, [], ◌++◌, length, decimal, codes};
 ghost use Rattle.std.specs.Fmt.{signed_decimal};
 ghost use Rattle.aom_transcript.specs.Text.{ended};
-ghost use Rattle.aom_debug_words.specs.Answers.{active_text, answer_text, content_text, numbers_text, phase_text, register_text, server_text, spot_text};
+ghost use Rattle.aom_debug_words.specs.Answers.{active_text, answer_text, content_text, numbers_text, phase_text, register_text, server_text, source_text, spot_text};
 
-use crate::{Answer, Content, Phase, Spot};
+use crate::{Answer, Content, Phase, Source, Spot};
 use aom_buffers::Text;
 
 /// No answer's line is longer.
@@ -88,7 +88,19 @@ fn add_content(line: &mut AnswerLine, content: Content)
         Content::Word(word) => line.add_count(b" word ", word),
         Content::Own(class) => line.add_count(b" own ", class),
         Content::Null => line.add(b" null"),
-        Content::Message(client) => line.add_count(b" msg ", client),
+        Content::Message(source) => add_source(line, source),
+    }
+}
+
+/// With a space before it.
+fn add_source(line: &mut AnswerLine, source: Source)
+    requires { length line.old ≤ 22 }
+    ensures text { line.new ≡ line.old ++ (codes " " ++ source_text source) }
+    ensures short { length line.new ≤ length line.old + 18 }
+{
+    match source {
+        Source::Client(client) => line.add_count(b" msg ", client),
+        Source::Token(class) => line.add_count(b" token ", class),
     }
 }
 

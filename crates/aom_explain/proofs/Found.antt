@@ -65,6 +65,6 @@ found_method text i d number m there =
       there = there_by k.Method text i d method_words (methods_of d.source.declarations) number said.other refl (method_passes d.source.declarations) said.there;
       means = said.holds;
       code = λ place instr here. (
-          let held = pair_at (InstructionMeans (names_of d.source) (labels_of said.other.code)) said.other.code m.code place instr said.holds.code here in
+          let held = pair_at (InstructionMeans (names_of d.source) i.header.version (labels_of said.other.code)) said.other.code m.code place instr said.holds.code here in
           record { said = held.other; there = found_instruction text i d number place said.other held.other said.there held.there; means = held.holds });
     }

@@ -2,7 +2,7 @@
 use Rattle.std.specs.Prelude.{ℕ, true, ◌≡◌, List, Option, Some, option_map, slice_get}
 use Rattle.aom_image.specs.Image.{Image}
 use Rattle.aom_image.specs.declared.class.ClassDecl.{ClassDecl}
-use Rattle.aom_image.specs.declared.image.Version.{Version}
+use Rattle.aom_instructions.specs.declared.version.Version.{Version}
 use Rattle.aom_image.specs.declared.method.Method.{Method}
 use Rattle.aom_instructions.specs.declared.instr.Instr.{Instr}
 use Rattle.aom_text.specs.declared.text.Statement.{Statement}
@@ -22,17 +22,17 @@ pub record DeclaresClass (text : List ℕ) (names : Names) (version : Version) (
   pub means : ClassMeans names version natives said c
 
 -- the statement that is found for a place of a method is there, and says the instruction
-pub record HoldsInstruction (text : List ℕ) (names : Names) (labels : List (List ℕ)) (number place : ℕ) (i : Instr) : Type 0 where
+pub record HoldsInstruction (text : List ℕ) (names : Names) (version : Version) (labels : List (List ℕ)) (number place : ℕ) (i : Instr) : Type 0 where
   pub said : InstructionText
   pub there : words_of (instruction_statement text number place) ≡ Some (instruction_words said)
-  pub means : InstructionMeans names labels said i
+  pub means : InstructionMeans names version labels said i
 
 -- the statement that is found for a method is there, and says what the method is, with those of its instructions
 pub record DeclaresMethod (text : List ℕ) (names : Names) (version : Version) (classes : List ClassDecl) (number : ℕ) (m : Method) : Type 0 where
   pub said : MethodText
   pub there : words_of (method_statement text number) ≡ Some (heading_words said.heading)
   pub means : MethodMeans names version true classes said m
-  pub code : (place : ℕ) (i : Instr) → slice_get m.code place ≡ Some i → HoldsInstruction text names (labels_of said.code) number place i
+  pub code : (place : ℕ) (i : Instr) → slice_get m.code place ≡ Some i → HoldsInstruction text names version (labels_of said.code) number place i
 
 pub record StatementsDeclare : Type 0 where
   pub image : (text : List ℕ) (i : Image) (d : Denotes text i) → words_of (image_statement text) ≡ Some (header_words d.source.header)

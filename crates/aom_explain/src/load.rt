@@ -35,7 +35,7 @@ pub(crate) const LIMIT_PASSED: Entry = Entry {
 pub(crate) const BAD_OPCODE: Entry = Entry {
     name: b"no instruction",
     meaning: b"An opcode is none of the table.",
-    mend: b"Take an opcode from 01 to 30; look whether an instruction has its 8 bytes.",
+    mend: b"Take an opcode from 01 to 30, in version 2 to 31; look whether an instruction has its 8 bytes.",
 };
 
 pub(crate) const BAD_OPERAND: Entry = Entry {

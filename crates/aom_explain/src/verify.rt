@@ -64,26 +64,26 @@ pub(crate) const STILL_FRESH: Entry = Entry {
 
 pub(crate) const NOT_IDLE: Entry = Entry {
     name: b"not idle",
-    meaning: b"issue, and the request may not be idle; cancel, and it may be issued or in a cancel already; or close, and it may be anything but idle or not enlisted.",
-    mend: b"Ask by jactive and issue on the way where it is not active, or cancel before, also before close; each issue wants its setactive before the next.",
+    meaning: b"issue or hand, and the request may not be idle; cancel, and it may be issued or in a cancel already; or close, and it may be anything but idle or not enlisted.",
+    mend: b"Ask by jactive and issue or hand on the way where it is not active, or cancel before, also before close; each issue or hand wants its setactive before the next.",
 };
 
 pub(crate) const NOT_ISSUED: Entry = Entry {
     name: b"not issued",
     meaning: b"setactive, and the request may not be issued.",
-    mend: b"issue right before it, on each way.",
+    mend: b"issue or hand right before it, on each way.",
 };
 
 pub(crate) const ISSUED_AT_LEAVE: Entry = Entry {
     name: b"issued at a leave",
     meaning: b"The instruction may leave, and the request of the method's object may be issued and not set active.",
-    mend: b"setactive right after issue, and leave before or after both.",
+    mend: b"setactive right after issue or hand, and leave before or after both.",
 };
 
 pub(crate) const ISSUED_AT_RETURN: Entry = Entry {
     name: b"issued at a return",
     meaning: b"The method ends, and the request of its object may be issued and not set active.",
-    mend: b"setactive on each way after issue.",
+    mend: b"setactive on each way after issue or hand, also where there was no room for the token.",
 };
 
 pub(crate) const STILL_ACTIVE: Entry = Entry {
@@ -112,8 +112,8 @@ pub(crate) const MESSAGE_AT_RETURN: Entry = Entry {
 
 pub(crate) const NOT_ADDED: Entry = Entry {
     name: b"not enlisted",
-    meaning: b"issue, and the object may not be enlisted; or enlist, and it may be.",
-    mend: b"enlist once, in the construct method, before the first issue; or ask by jadded.",
+    meaning: b"issue or hand, and the object may not be enlisted; or enlist, and it may be.",
+    mend: b"enlist once, in the construct method, before the first issue or hand; or ask by jadded.",
 };
 
 pub(crate) const ENTRY_STATE: Entry = Entry {
