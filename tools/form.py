@@ -154,7 +154,7 @@ def instruction_of(text, own, kinds):
 
 def instructions():
     """The instructions in the order of their opcodes, of which there are as many as the sources count."""
-    rows = all_found(rf"\nrow m\.\w+ = line 0x\w+ \(codes {TEXT}\) \((\w+) ([\w ]+)\)", read(ROWS), "rows of instructions")
+    rows = all_found(rf"\nrow m\.\w+ = (?:record \()?line 0x\w+ \(codes {TEXT}\) \((\w+) ([\w ]+)\)", read(ROWS), "rows of instructions")
     count = int(found(r"const MNEMONICS: \[Mnemonic; (\d+)\]", read(MNEMONICS), "the count of instructions")[0])
     if len(rows) != count:
         raise Unreadable(f"{count} instructions, and {len(rows)} rows of the table")
