@@ -280,22 +280,12 @@ impl Mnemonic {
         None
     }
 
-    fn has_opcode(self, opcode: u8) -> bool
-        ensures { result ≡ ((row self).opcode == opcode) }
-    {
-        self.row().opcode() == opcode
-    }
-
-    /// The mnemonic of an opcode.
+    /// The mnemonic of an opcode: they stand in the order of their opcodes, which begin at 1.
     pub fn with_opcode(opcode: u8) -> Option<Mnemonic>
         ensures { result ≡ with_opcode opcode }
     {
-        for mnemonic in &MNEMONICS {
-            if mnemonic.has_opcode(opcode) {
-                return Some(*mnemonic);
-            }
-        }
-        None
+        let index = (opcode as usize).checked_sub(1)?;
+        MNEMONICS.get(index).copied()
     }
 
     /// The table itself.
