@@ -7,7 +7,7 @@ ghost use Rattle.aom_parts.specs.Room.{ReturnsTo};
 ghost use Rattle.aom_acts.specs.Requests.{EndsCancel, IsCancelled, IsOver};
 ghost use Rattle.aom_parts.specs.Fields.{this, ThisLives};
 ghost use Rattle.aom_frames.specs.declared.task.Task.TheVariants.{Dispatched};
-ghost use Rattle.aom_frames.specs.Tasks.{below_first, Runs, fresh, method_here, place_here, with_view};
+ghost use Rattle.aom_frames.specs.Tasks.{Runs, begun, below_first, fresh, method_here, place_here, with_view};
 ghost use Rattle.std.specs.Prelude.{ℕ, suc, List, ◌<◌, ◌≤◌, ◌+◌, ◌^◌, ◌∷◌, ◌≡◌, ◌≢◌, IfSome, IsSome, Some, length};
 ghost use Rattle.aom_image.specs.Image.{Image};
 ghost use Rattle.aom_image.specs.Views.{gives_of, instr_at, method_at, method_class};
@@ -15,7 +15,6 @@ ghost use Rattle.aom_instructions.specs.declared.instr.Instr.TheVariants.{Call, 
 ghost use Rattle.aom_sound.specs.Calls.{result_register};
 ghost use Rattle.aom_acts.specs.Acts.{Does, DoesIn, resulted};
 ghost use Rattle.aom_acts.specs.Calls.{body_on, callee_here, is_this, target_here, view_on};
-ghost use Rattle.aom_frames.specs.Views.{own};
 ghost use Rattle.aom_cells.specs.Heap.{Lives, class_at, null};
 ghost use Rattle.aom_acts.specs.Next.{IsNext};
 
@@ -23,7 +22,7 @@ use crate::requests::counted;
 use crate::{going, serving};
 use aom_cells::NULL;
 use aom_cleanup::Item;
-use aom_frames::{Dispatch, Frame, Task, TaskKind};
+use aom_frames::{Callee, Dispatch, Task, TaskKind, View};
 use aom_image::{ClassNumber, Gives, Instr, MethodNumber, Register, Role, Target};
 use aom_linked::Linked;
 use aom_parts::Parts;
@@ -69,45 +68,62 @@ fn target_of(parts: &Parts, target: Target, class: Option<ClassNumber>) -> u32
     }
 }
 
-/// The frame runs what a call of its method runs on its cell, by the table; on none the method itself.
-fn run_body(frame: &mut Frame, parts: &Parts, linked: &Linked)
-    requires there { IsSome (method_at linked.now frame.old.method) }
-    requires lives { frame.old.this ≢ null → Lives parts.now.cells frame.old.this }
-    requires small { IfSome (class_at parts.now.cells frame.old.this) (λ class. class < 256) }
-    ensures { frame.new ≡ record frame.old { method = body_on linked.now frame.old.method frame.old.this frame.old.view parts.now.cells } }
+/// What a call of a method runs on that cell, by the table; on none the method itself.
+fn body_on(
+    parts: &Parts,
+    this: u32,
+    view: View,
+    method: MethodNumber,
+    linked: &Linked,
+) -> MethodNumber
+    requires there { IsSome (method_at linked.now method) }
+    requires lives { this ≢ null → Lives parts.now.cells this }
+    requires small { IfSome (class_at parts.now.cells this) (λ class. class < 256) }
+    ensures { result ≡ body_on linked.now method this view parts.now.cells }
 {
-    if frame.this != NULL {
-        let class = parts.class(frame.this);
-        frame.method = linked.body(frame.method, counted(frame.view, class));
+    if this == NULL {
+        return method;
+    }
+    let class = parts.class(this);
+    linked.body(method, counted(view, class))
+}
+
+/// As what the object of a call counts: on self as it does for the method that runs, and else as its own class.
+fn view_on(parts: &Parts, on_self: bool) -> View
+    requires { Runs parts.now.stack.tasks }
+    ensures { result ≡ view_on on_self parts.now.stack.tasks }
+{
+    if on_self {
+        parts.stack.view()
+    } else {
+        View::own()
     }
 }
 
-/// The frame works on what the call names, and runs what a call of its method runs there.
+/// Whom a call reaches on what it names.
 #[inline(never)]
-fn work_on(
-    frame: &mut Frame,
+fn reached(
     parts: &Parts,
     target: Target,
+    method: MethodNumber,
     class: Option<ClassNumber>,
     linked: &Linked,
-)
-    requires there { IsSome (method_at linked.now frame.old.method) }
-    requires plain { frame.old.view ≡ own }
+) -> Callee
+    requires there { IsSome (method_at linked.now method) }
     requires runs { Runs parts.now.stack.tasks }
     requires housed { ThisLives parts.now }
     requires lives { target_here target class parts.now ≢ null → Lives parts.now.cells (target_here target class parts.now) }
     requires small { IfSome (class_at parts.now.cells (target_here target class parts.now)) (λ class. class < 256) }
-    ensures { frame.new ≡ with_view (view_on (is_this target) parts.now.stack.tasks) (record frame.old { this = target_here target class parts.now; method = body_on linked.now frame.old.method (target_here target class parts.now) (view_on (is_this target) parts.now.stack.tasks) parts.now.cells }) }
+    ensures { begun result ≡ with_view (view_on (is_this target) parts.now.stack.tasks) (fresh (body_on linked.now method (target_here target class parts.now) (view_on (is_this target) parts.now.stack.tasks) parts.now.cells) (target_here target class parts.now)) }
 {
     let on_self = matches!(target, Target::This);
-    frame.this = target_of(parts, target, class);
-    if on_self {
-        frame.view = parts.stack.view();
-    }
-    run_body(frame, parts, linked);
+    let this = target_of(parts, target, class);
+    let view = view_on(parts, on_self);
+    let method = body_on(parts, this, view, method, linked);
+    Callee { method, this, view }
 }
 
-/// The frame in which a method that is called begins. A static method called on self works on nothing.
+/// Whom a call reaches. A static method called on self works on nothing.
 #[inline(always)]
 fn callee(
     parts: &Parts,
@@ -115,20 +131,23 @@ fn callee(
     method: MethodNumber,
     class: Option<ClassNumber>,
     linked: &Linked,
-) -> Frame
+) -> Callee
     requires there { IsSome (method_at linked.now method) }
     requires class { class ≡ method_class linked.now method }
     requires runs { Runs parts.now.stack.tasks }
     requires housed { ThisLives parts.now }
     requires lives { target_here target (method_class linked.now method) parts.now ≢ null → Lives parts.now.cells (target_here target (method_class linked.now method) parts.now) }
     requires small { IfSome (class_at parts.now.cells (target_here target (method_class linked.now method) parts.now)) (λ class. class < 256) }
-    ensures { result ≡ callee_here linked.now target method parts.now }
+    ensures { begun result ≡ callee_here linked.now target method parts.now }
 {
-    let mut frame = Frame::begin(method, NULL);
-    if !matches!(target, Target::This) || class.is_some() {
-        work_on(&mut frame, parts, target, class, linked);
+    if matches!(target, Target::This) && class.is_none() {
+        return Callee {
+            method,
+            this: NULL,
+            view: View::own(),
+        };
     }
-    frame
+    reached(parts, target, method, class, linked)
 }
 
 /// Calls a method, with its arguments from a register on.
@@ -138,10 +157,10 @@ pub fn call(parts: &mut Parts, on: Target, method: MethodNumber, first: Register
     ensures { (refused : List ℕ) (to : ℕ) → DoesIn linked.now refused (Call on method first to) parts.old parts.new }
 {
     let called = linked.method(method);
-    let frame = callee(parts, on, method, called.class, linked);
+    let whom = callee(parts, on, method, called.class, linked);
     parts
         .stack
-        .enter(frame, first.number(), called.arguments.as_slice());
+        .enter(whom, first.number(), called.arguments.as_slice());
 }
 
 /// The same under a trap, whose mark lies on the cleanup stack.
@@ -151,10 +170,10 @@ pub fn trap(parts: &mut Parts, on: Target, method: MethodNumber, first: Register
     ensures { (refused : List ℕ) (to : ℕ) → DoesIn linked.now refused (Trap on method first to) parts.old parts.new }
 {
     let called = linked.method(method);
-    let frame = callee(parts, on, method, called.class, linked);
+    let whom = callee(parts, on, method, called.class, linked);
     parts
         .stack
-        .enter_trap(frame, first.number(), called.arguments.as_slice());
+        .enter_trap(whom, first.number(), called.arguments.as_slice());
     parts.entries.mark();
 }
 
@@ -186,6 +205,7 @@ fn receive(parts: &mut Parts, gives: Gives, number: u32, linked: &Linked)
 }
 
 /// The same through its trap, with 0 for the code in the next register.
+#[inline]
 fn receive_trapped(parts: &mut Parts, gives: Gives, number: u32, linked: &Linked)
     requires runs { Runs parts.old.stack.tasks }
     requires there { IsSome (instr_at linked.now (method_here parts.old.stack.tasks) (place_here parts.old.stack.tasks)) }
@@ -239,7 +259,7 @@ fn end_method(parts: &mut Parts, linked: &Linked) -> Gives
     let method = linked.method(parts.stack.method());
     let gives = method.gives;
     end_cancel(parts, method.role);
-    parts.drop_task();
+    parts.end_method();
     gives
 }
 

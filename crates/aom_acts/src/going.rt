@@ -194,7 +194,7 @@ pub fn go(parts: &mut Parts, number: u32, turn: &mut Turn)
     requires room { length turn.old.lines + answers (queue_at parts.old.clients (going_here parts.old.stack.tasks)) < turn.old.room }
     ensures { GoesAway parts.old parts.new turn.old turn.new }
 {
-    parts.drop_task();
+    parts.end_other();
     serving::end_server(parts, number as u16, turn);
     let class = parts.release(number);
     turn.push(Line::Gone(class));

@@ -90,8 +90,8 @@ fn arrive(parts: &mut Parts, code: i32, linked: &Linked, turn: &mut Turn)
     requires room { length turn.old.lines < turn.old.room }
     ensures { Unwinds linked.now parts.old parts.new turn.old turn.new }
 {
-    parts.drop_task();
-    parts.drop_task();
+    parts.end_other();
+    parts.end_other();
     parts.entries.unmark();
     turn.push(Line::Leave(code));
     if parts.is_running() {

@@ -1,2 +1,4 @@
-pub mod Tops
-pub mod Working
+pub mod Boxed
+pub mod Lists
+pub mod Slots
+pub mod There

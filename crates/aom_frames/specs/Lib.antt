@@ -1,3 +1,4 @@
+pub mod Slots
 pub mod Tasks
 pub mod Views
 pub mod Words

@@ -1,5 +1,5 @@
 //! The text of lines, in a buffer of its own.
-ghost use Rattle.std.specs.Prelude.{◌≡◌, ◌+◌, ◌≤◌, ◌↔◌, IsTrue, [], ◌∷◌, ◌++◌, length, decimal, codes};
+ghost use Rattle.std.specs.Prelude.{◌≡◌, ◌<◌, ◌+◌, ◌≤◌, ◌↔◌, IsTrue, [], ◌∷◌, ◌++◌, length, decimal, codes};
 ghost use Rattle.std.specs.Fmt.{signed_decimal};
 ghost use Rattle.aom_transcript.specs.Text.{answer_text, asked_text, line_text, end_text, ending_text, ended, tried_text};
 
@@ -50,13 +50,13 @@ impl Page {
                 self.0.add_count(b"@", *time);
                 self.0.add(b" main\n");
             }
-            Line::Out(word) => self.add_one(b"out ", *word),
-            Line::Leave(code) => self.add_one(b"leave ", *code),
+            Line::Out(word) => self.add_code(b"out ", *word),
+            Line::Leave(code) => self.add_code(b"leave ", *code),
             Line::Gone(class) => self.add_gone(class.number()),
             Line::Run(time, class, status) => {
                 self.0.add_count(b"@", *time);
                 self.0.add_count(b" run ", class.number());
-                self.add_one(b" ", *status);
+                self.add_code(b" ", *status);
             }
             Line::Killed(native) => self.add_one(b"killed ", *native),
             Line::Serve(time, class, asked, client) => {
@@ -104,7 +104,7 @@ impl Page {
         self.0.cut(0);
     }
 
-    /// Adds that a cell of a class went, the most frequent of lines: a number of one digit is its own text.
+    /// Adds that a cell of a class went, the most frequent of lines.
     #[inline(always)]
     fn add_gone(&mut self, class: u16)
         requires { length self.old + 11 ≤ 4096 }
@@ -112,10 +112,39 @@ impl Page {
     {
         if class < 10 {
             self.0.add(b"gone ");
-            self.0.add(&[b'0' + class as u8, b'\n']);
+            self.end_with(class as u8);
         } else {
             self.add_one(b"gone ", class);
         }
+    }
+
+    /// Adds words and a code, and ends the line.
+    #[inline(always)]
+    fn add_code(&mut self, words: &[u8], code: i32)
+        requires { length self.old + length words.now + 12 ≤ 4096 }
+        ensures { self.new ≡ self.old ++ ended (words.now ++ signed_decimal code) }
+    {
+        let size = code.unsigned_abs();
+        if size >= 10 {
+            self.add_one(words, code);
+        } else if code < 0 {
+            self.0.add(words);
+            self.0.add(b"-");
+            self.end_with(size as u8);
+        } else {
+            self.0.add(words);
+            self.end_with(size as u8);
+        }
+    }
+
+    /// Adds a number of one digit, which is its own text, and ends the line.
+    #[inline(always)]
+    fn end_with(&mut self, digit: u8)
+        requires small { digit < 10 }
+        requires room { length self.old + 2 ≤ 4096 }
+        ensures { self.new ≡ self.old ++ ended (decimal digit) }
+    {
+        self.0.add(&[b'0' + digit, b'\n']);
     }
 
     /// Adds words and a number, and ends the line.

@@ -17,10 +17,10 @@ returns-then-is_running c =
     let under = below_first (below_first m.stack.tasks) in
     let i = instr_at p (method_here under) (place_here under) in
     let code = told_code c.args.code (code_here m.stack.tasks) (search rules) c.requires.coded in
-    let marked = rw (c.drop_task-2.ensures, c.drop_task.ensures) at c.unmark.ensures in
-    let runs : Runs under = rw (c.drop_task-2.ensures, c.drop_task.ensures) at (c.is_running.ensures.0 c.if-is_running.true) in
+    let marked = rw (c.end_other-2.ensures, c.end_other.ensures) at c.unmark.ensures in
+    let runs : Runs under = rw (c.end_other-2.ensures, c.end_other.ensures) at (c.is_running.ensures.0 c.if-is_running.true) in
     let coded = coded_through p (below_first m.stack.tasks) c.requires.below c.requires.trapped runs in
-    let received : c.receive_code.new.parts ≡ told p i (to_z w32 (of_z w32 c.args.code)) (record (with_tasks under m) { entries = c.unmark.new.self }) = rw (c.drop_task-2.ensures, c.drop_task.ensures) at c.receive_code.ensures in
+    let received : c.receive_code.new.parts ≡ told p i (to_z w32 (of_z w32 c.args.code)) (record (with_tasks under m) { entries = c.unmark.new.self }) = rw (c.end_other-2.ensures, c.end_other.ensures) at c.receive_code.ensures in
     rw (received, c.push.ensures)
     (subst (λ w. Unwinds p m (told p i w (record (with_tasks under m) { entries = c.unmark.new.self })) c.args.turn.now (record c.args.turn.now { lines = c.args.turn.now.lines ++ Leave w ∷ [] })) (sym code.0)
     (arrives_method p m c.unmark.new.self marked c.args.turn.now code.1 c.requires.unwinding c.requires.trapped runs coded))
@@ -29,30 +29,30 @@ pub returns-else-is_running : goal.returns-else-is_running
 returns-else-is_running c =
     let m = c.args.parts.now in
     let code = told_code c.args.code (code_here m.stack.tasks) (search rules) c.requires.coded in
-    let marked = rw (c.drop_task-2.ensures, c.drop_task.ensures) at c.unmark.ensures in
-    let ending = ends_under c.args.linked.now (below_first m.stack.tasks) c.requires.below c.requires.trapped (λ runs. false≢true (sym c.if-is_running.false ∙ c.is_running.ensures.1 (rw (c.drop_task-2.ensures, c.drop_task.ensures) runs))) in
-    let left : c.leave_dispatch.new.parts ≡ record (with_tasks (left_by (to_z w32 (of_z w32 c.args.code)) (below_first (below_first m.stack.tasks))) m) { entries = c.unmark.new.self } = rw (c.drop_task-2.ensures, c.drop_task.ensures) at c.leave_dispatch.ensures in
+    let marked = rw (c.end_other-2.ensures, c.end_other.ensures) at c.unmark.ensures in
+    let ending = ends_under c.args.linked.now (below_first m.stack.tasks) c.requires.below c.requires.trapped (λ runs. false≢true (sym c.if-is_running.false ∙ c.is_running.ensures.1 (rw (c.end_other-2.ensures, c.end_other.ensures) runs))) in
+    let left : c.leave_dispatch.new.parts ≡ record (with_tasks (left_by (to_z w32 (of_z w32 c.args.code)) (below_first (below_first m.stack.tasks))) m) { entries = c.unmark.new.self } = rw (c.end_other-2.ensures, c.end_other.ensures) at c.leave_dispatch.ensures in
     rw (left, c.push.ensures)
     (subst (λ w. Unwinds c.args.linked.now m (record (with_tasks (left_by w (below_first (below_first m.stack.tasks))) m) { entries = c.unmark.new.self }) c.args.turn.now (record c.args.turn.now { lines = c.args.turn.now.lines ++ Leave w ∷ [] })) (sym code.0)
     (arrives_end c.args.linked.now m c.unmark.new.self marked c.args.turn.now code.1 c.requires.unwinding c.requires.trapped ending))
 
 pub unmark-requires : goal.unmark-requires
-unmark-requires c = rw (c.drop_task-2.ensures, c.drop_task.ensures) c.requires.marked
+unmark-requires c = rw (c.end_other-2.ensures, c.end_other.ensures) c.requires.marked
 
 pub receive_code-requires-clause-runs : goal.receive_code-requires-clause-runs
 receive_code-requires-clause-runs c = c.is_running.ensures.0 c.if-is_running.true
 
 pub receive_code-requires-clause-within : goal.receive_code-requires-clause-within
 receive_code-requires-clause-within c =
-    let runs = rw (c.drop_task-2.ensures, c.drop_task.ensures) at (c.is_running.ensures.0 c.if-is_running.true) in
-    rw (c.drop_task-2.ensures, c.drop_task.ensures) (returns_within_through c.args.linked.now (below_first c.args.parts.now.stack.tasks) c.requires.below c.requires.trapped runs)
+    let runs = rw (c.end_other-2.ensures, c.end_other.ensures) at (c.is_running.ensures.0 c.if-is_running.true) in
+    rw (c.end_other-2.ensures, c.end_other.ensures) (returns_within_through c.args.linked.now (below_first c.args.parts.now.stack.tasks) c.requires.below c.requires.trapped runs)
 
 pub receive_code-requires-clause-coded : goal.receive_code-requires-clause-coded
 receive_code-requires-clause-coded c =
-    let runs = rw (c.drop_task-2.ensures, c.drop_task.ensures) at (c.is_running.ensures.0 c.if-is_running.true) in
-    rw (c.drop_task-2.ensures, c.drop_task.ensures) (coded_through c.args.linked.now (below_first c.args.parts.now.stack.tasks) c.requires.below c.requires.trapped runs)
+    let runs = rw (c.end_other-2.ensures, c.end_other.ensures) at (c.is_running.ensures.0 c.if-is_running.true) in
+    rw (c.end_other-2.ensures, c.end_other.ensures) (coded_through c.args.linked.now (below_first c.args.parts.now.stack.tasks) c.requires.below c.requires.trapped runs)
 
 pub leave_dispatch-requires-clause-ending : goal.leave_dispatch-requires-clause-ending
 leave_dispatch-requires-clause-ending c =
-    let stops : Runs _ → ⊥ = λ runs. false≢true (sym c.if-is_running.false ∙ c.is_running.ensures.1 (rw (c.drop_task-2.ensures, c.drop_task.ensures) runs)) in
-    rw (c.drop_task-2.ensures, c.drop_task.ensures) (ends_under c.args.linked.now (below_first c.args.parts.now.stack.tasks) c.requires.below c.requires.trapped stops)
+    let stops : Runs _ → ⊥ = λ runs. false≢true (sym c.if-is_running.false ∙ c.is_running.ensures.1 (rw (c.end_other-2.ensures, c.end_other.ensures) runs)) in
+    rw (c.end_other-2.ensures, c.end_other.ensures) (ends_under c.args.linked.now (below_first c.args.parts.now.stack.tasks) c.requires.below c.requires.trapped stops)

@@ -1,0 +1,80 @@
+//! What each of the tasks is.
+ghost use Rattle.std.specs.Prelude.{◌≡◌, ◌<◌, [], ◌∷◌, length, slice_index_or};
+ghost use Rattle.aom_frames.specs.declared.task.TaskKind.TheVariants.{Trapped};
+ghost use Rattle.aom_frames.specs.Slots.{first, rest};
+
+use crate::TaskKind;
+use std::marker::Model;
+
+/// The kinds of the tasks, the innermost last. What lies above is of tasks that are over.
+#[derive(Drop)]
+pub(crate) struct Kinds {
+    kinds: [TaskKind; 2048],
+    count: usize,
+}
+
+impl Model for Kinds {
+    ghost use Rattle.std.specs.Prelude.{List, ◌≤◌};
+    ghost use Rattle.aom_frames.specs.declared.task.TaskKind.{TaskKind};
+    ghost use Rattle.aom_frames.specs.declared.task.TaskKind.TheVariants.{Trapped};
+    ghost use Rattle.aom_frames.specs.Slots.{down};
+
+    ghost Value = { List TaskKind };
+
+    ghost view = { λ k. down Trapped k.kinds k.count };
+
+    ghost invariant = { λ k. k.count ≤ 2048 };
+}
+
+impl Kinds {
+    pub(crate) fn new() -> Kinds
+        ensures { result ≡ [] }
+    {
+        Kinds {
+            kinds: [TaskKind::Trapped; 2048],
+            count: 0,
+        }
+    }
+
+    pub(crate) fn len(&self) -> usize
+        ensures { result ≡ length self.now }
+    {
+        self.count
+    }
+
+    /// The innermost.
+    pub(crate) fn last(&self) -> Option<TaskKind>
+        ensures { result ≡ first self.now }
+    {
+        if self.count == 0 {
+            return None;
+        }
+        Some(self.kinds[self.count - 1])
+    }
+
+    /// The one that so many lie above.
+    pub(crate) fn under(&self, above: usize) -> TaskKind
+        requires { above < length self.now }
+        ensures { result ≡ slice_index_or self.now above Trapped }
+    {
+        self.kinds[self.count - 1 - above]
+    }
+
+    #[inline]
+    pub(crate) fn push(&mut self, kind: TaskKind)
+        requires { length self.old < 2048 }
+        ensures { self.new ≡ kind ∷ self.old }
+    {
+        let count = self.count;
+        self.kinds[count] = kind;
+        self.count = count + 1;
+    }
+
+    /// The innermost is over.
+    pub(crate) fn drop_last(&mut self)
+        requires { 0 < length self.old }
+        ensures { self.new ≡ rest self.old }
+    {
+        self.count -= 1;
+    }
+}
