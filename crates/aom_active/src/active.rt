@@ -1,7 +1,7 @@
 //! The active objects of a machine.
-ghost use Rattle.std.specs.Prelude.{◌≡◌, ◌<◌, ◌≤◌, ℕ, Bool, false, Option, Some, None, IfOk, IfSome, IsSome, IsTrue, IsFalse, is_some, length, slice_get};
+ghost use Rattle.std.specs.Prelude.{◌≡◌, ◌<◌, ◌≤◌, ℕ, All, Bool, false, Option, Some, None, IfOk, IfSome, IsSome, IsTrue, IsFalse, is_some, length, slice_get};
 ghost use Rattle.aom_requests.specs.Requests.{request_at, IsEnlisted, state_at, status_at, is_pending, is_server};
-ghost use Rattle.aom_scheduler.specs.Pending.{first_due, AreInOrder};
+ghost use Rattle.aom_scheduler.specs.Pending.{first_due, due_of, AreInOrder};
 ghost use Rattle.aom_scheduler.specs.Roster.{IsSound, place};
 ghost use Rattle.aom_image.specs.declared.class.Provider.TheVariants.{Own};
 ghost use Rattle.aom_sound.specs.Enlisted.{completed_at_once, completed_with, pending, recorded, waits, cancelling, aborted, cancelled};
@@ -14,7 +14,7 @@ ghost use Rattle.aom_active.specs.Meanings.{is_waited_for, is_being_cancelled, i
 use crate::parts::{abort_request, mark, signal, stop_timer};
 use aom_cells::CellId;
 use aom_requests::{Requests, State};
-use aom_scheduler::{Entry, Schedule, Timers};
+use aom_scheduler::{Entry, Schedule, Timer, Timers};
 use std::alloc::{AllocError, Global};
 use std::marker::Model;
 
@@ -232,6 +232,23 @@ impl ActiveObjects {
         ensures { result ≡ slice_get self.now.roster.entries place }
     {
         self.schedule.entry(place)
+    }
+
+    /// How many timers run. Each object has one at most.
+    pub fn timers(&self) -> usize
+        ensures value { result ≡ length self.now.pending.timers }
+        ensures each { All (λ t. due_of t.id self.now.pending.timers ≡ Some t.due) self.now.pending.timers }
+    {
+        self.timers.in_order();
+        self.timers.count()
+    }
+
+    /// The timer at that place in the order in which they are due.
+    pub fn timer(&self, place: usize) -> Option<Timer>
+        ensures value { result ≡ slice_get self.now.pending.timers place }
+        ensures due { IfSome result (λ t. due_of t.id self.now.pending.timers ≡ Some t.due) }
+    {
+        self.timers.timer(place)
     }
 
     /// Whether a request of the object is made, and not completed.

@@ -14,3 +14,4 @@ pub mod Draining
 pub mod Same
 pub mod Answering
 mod Examples
+pub mod Waiting

@@ -1,16 +1,16 @@
 //! The calls.
 ghost use Rattle.aom_queues.specs.Lists.{IsIn, IsOnce};
-ghost use Rattle.std.specs.Prelude.{ℕ, ◌≡◌, ◌<◌, ◌≤◌, ◌++◌, ◌∷◌, [], true, false, Some, None, IfOk, IfSome, IsSome, IsNone, All, length, replicate, is_some};
+ghost use Rattle.std.specs.Prelude.{ℕ, ◌≡◌, ◌<◌, ◌≤◌, ◌++◌, ◌∷◌, [], true, false, Some, None, IfOk, IfSome, IsSome, IsNone, All, length, option_map, replicate, is_some, slice_get};
 ghost use Rattle.aom_clients.specs.Table.{row, completion, session_of, server_of};
 ghost use Rattle.aom_clients.specs.declared.entry.Entry.{Entry};
-ghost use Rattle.aom_clients.specs.Clients.{at_first, IsNumbered, client_at, place_at, queue_at, sessions_at, sent_at, with_client, with_place, with_sent, queued, answer, has_room, connect_refusal, after_connect, has_slot, send_refusal, after_send, leaving, after_close, after_die, freed, first_entry, after_next, opened, after_connected, after_release, parted, after_closed, after_complete, after_next_gone, after_session_gone, first_client, client_after, first_there};
+ghost use Rattle.aom_clients.specs.Clients.{at_first, IsNumbered, client_at, place_at, queue_at, sessions_at, sent_at, with_client, with_place, with_sent, queued, answer, has_room, connect_refusal, after_connect, has_slot, send_refusal, after_send, leaving, after_close, after_die, freed, first_entry, after_next, opened, after_connected, after_release, parted, after_closed, after_complete, after_next_gone, after_session_gone, first_client, client_after, first_there, taken_entry, MessageBelow};
 ghost use Rattle.aom_clients.specs.Nodes.{is_open_at, named_by};
 ghost use Rattle.aom_clients.specs.Parts.{IsLeft, is_connecting, is_ending, is_apart};
 
 use crate::entry::{CLIENTS, PLACES, close_node, connect_node};
-use crate::parts::{free_place, free_slot, give_up, hold, queue_close, take};
+use crate::parts::{client_of, free_place, free_slot, give_up, hold, queue_close, take};
 use crate::withdrawal::{SLOTS, release, withdraw_all};
-use crate::{Client, Completion, Place, Refusal, Server, Taken};
+use crate::{Client, Completion, Entry, Place, Refusal, Server, Taken};
 use aom_queues::Lists;
 use arrayvec::ArrayVec;
 use std::alloc::{AllocError, Global};
@@ -113,6 +113,19 @@ impl Clients {
         ensures { result ≡ length (queue_at self.now server) }
     {
         usize::from(self.queues.count(server))
+    }
+
+    /// What waits in the server's queue behind so many others, and the client that it is of.
+    pub fn waiting(&self, server: u16, ahead: usize) -> Option<Taken>
+        requires { server < length self.now.queues }
+        ensures value { result ≡ option_map (taken_entry self.now) (slice_get (queue_at self.now server) ahead) }
+        ensures place { IfSome result (λ t. MessageBelow 1024 t.entry) }
+    {
+        self.queues.in_order();
+        let node = self.queues.at(server, ahead)?;
+        let entry = Entry::of_node(node);
+        let client = client_of(&self.places, entry);
+        Some(Taken { entry, client })
     }
 
     /// Whether the server takes one session more.

@@ -33,7 +33,7 @@ pub fn take(
 }
 
 /// The client that an entry is of.
-fn client_of(places: &[Place], entry: Entry) -> u8
+pub fn client_of(places: &[Place], entry: Entry) -> u8
     requires { MessageBelow (length places.now) entry }
     ensures { result ≡ client_in places.now entry }
 {

@@ -2,3 +2,4 @@ pub mod Members
 pub mod Chains
 pub mod Rings
 pub mod Steps
+pub mod Places

@@ -1,5 +1,5 @@
 //! Lists as rings of links in one table.
-ghost use Rattle.std.specs.Prelude.{◌≡◌, ◌<◌, ◌≤◌, ◌+◌, ◌==◌, ◌∷◌, ◌++◌, [], ℕ, Some, None, IfOk, IfSome, length, map, replicate, slice_index};
+ghost use Rattle.std.specs.Prelude.{◌≡◌, ◌<◌, ◌≤◌, ◌+◌, ◌==◌, ◌∷◌, ◌++◌, [], ℕ, Some, None, IfOk, IfSome, length, map, replicate, slice_get, slice_index};
 ghost use Rattle.aom_queues.specs.Rings.{AreOwn, node_at};
 ghost use Rattle.aom_queues.specs.Lists.{IsIn, IsFree, IsSound, empty, list_at, with_list, without, first_of, rest_of, after_node};
 
@@ -95,6 +95,20 @@ impl Lists {
         ensures { result ≡ after_node node (list_at self.now list) }
     {
         node_after(&self.after, self.homes.len(), node as usize)
+    }
+
+    /// The node of the list behind so many others.
+    pub fn at(&self, list: u16, ahead: usize) -> Option<u16>
+        requires { list < length self.now.lists }
+        ensures value { result ≡ slice_get (list_at self.now list) ahead }
+        ensures within { IfSome result (λ node. IsIn node (list_at self.now list)) }
+    {
+        self.in_order();
+        let mut node = self.first(list);
+        for _ in 0..ahead {
+            node = self.next(list, node?);
+        }
+        node
     }
 
     /// Puts a node that is in no list behind all others of the list.

@@ -1,16 +1,17 @@
 -- The list of due times after each change of the timers.
-use Rattle.std.proofs.Common.{◌≡◌, ◌≢◌, ◌<◌, ◌≤◌, ◌==◌, ℕ, true, false, cond, List, [], ◌∷◌, Option, Some, None, length, set, get_or, refl, sym, ap, ◌∙◌, subst, inl, inr, arith}
-use Rattle.std.specs.Prelude.{AllPairs, remove, insert, not, IsNone, Result, Ok, Err, OnErr, IsOk, IsSome, OnSome, nat_lt, is_some}
+use Rattle.std.proofs.Common.{◌≡◌, ◌≢◌, ◌<◌, ◌≤◌, ◌==◌, ℕ, suc, true, false, cond, List, [], ◌∷◌, Option, Some, None, length, set, get_or, slice_get, refl, sym, ap, ◌∙◌, subst, inl, inr, arith}
+use Rattle.std.specs.Prelude.{All, AllPairs, IfSome, remove, insert, not, IsNone, Result, Ok, Err, OnErr, IsOk, IsSome, OnSome, nat_lt, is_some}
 use Rattle.std.proofs.lemmas.Bool.{cases_Bool, cases_eq, eq-eqb, ne_eqb, cond-true, cond-false, leb-true, leb-false, le-leb, ltb-true, lt-ltb, cases_lt}
 use Rattle.std.proofs.lemmas.List.{get_or-set_same, get_or-set_other, length-set}
 use Rattle.std.proofs.lemmas.List.Edits.{length-insert}
+use Rattle.std.proofs.lemmas.List.Elements.{All-cons, All-nil}
 use Rattle.std.specs.List.Sorted.{IsPartitionPoint, IsPartitionedBy}
 use Rattle.aom_scheduler.specs.Order.{placed, without, place_of, IsOrdered}
 use Rattle.aom_scheduler.specs.Pending.{Pending, no_later, due_of}
 use Rattle.aom_scheduler.specs.Dues.{IsTimed}
 use Rattle.aom_scheduler.specs.declared.timer.Timer.{Timer}
-use Rattle.aom_scheduler.proofs.Items.{IsAt, IsAbsent, Found, there, nowhere, find_it, place-at, absent-head, absent-tail, at-within, at-number, IsRanking, ordered-placed, ordered-without, without-at, few, placed-point, at_head, in_tail, none_is, some_is, place-absent}
-use Rattle.std.proofs.lemmas.Option.{same_Some}
+use Rattle.aom_scheduler.proofs.Items.{IsAt, IsAbsent, Found, there, nowhere, find_it, place-at, absent-head, absent-tail, at-within, at-number, IsRanking, ordered-placed, ordered-without, without-at, few, pairs-head, pairs-tail, placed-point, at_head, in_tail, none_is, some_is, place-absent}
+use Rattle.std.proofs.lemmas.Option.{get_or_from_slice_get, same_Some, slice_get_within}
 
 -- the number of a timer
 abbrev pub id_of : Timer → ℕ
@@ -40,6 +41,17 @@ due-at id _ _ d (in_tail t ts other at) = due-later id t ts other ∙ due-at id 
 
 abbrev blank : ℕ → Timer
 blank id = record { id = id; due = 0 }
+
+-- what stands at a place is its object's one timer
+pub due-each : (ts : List Timer) → AllPairs (λ x y. id_of x ≢ id_of y) ts → All (λ t. due_of t.id ts ≡ Some t.due) ts
+due-each [] pairs = All-nil (λ t. due_of t.id [] ≡ Some t.due)
+due-each (x ∷ xs) pairs = All-cons (λ t. due_of t.id (x ∷ xs) ≡ Some t.due) x xs (due-here x.id x xs refl) (λ k d within.
+    due-later (get_or xs k d).id x xs (pairs-head (λ y z. id_of y ≢ id_of z) x xs pairs k d within) ∙ due-each xs (pairs-tail (λ y z. id_of y ≢ id_of z) x xs pairs) k d within)
+
+pub due-of_place : (ts : List Timer) → AllPairs (λ x y. id_of x ≢ id_of y) ts → (place : ℕ) (o : Option Timer) → o ≡ slice_get ts place → IfSome o (λ t. due_of t.id ts ≡ Some t.due)
+due-of_place ts pairs place None is = tt
+due-of_place ts pairs place (Some t) is =
+    subst (λ x. due_of x.id ts ≡ Some x.due) (get_or_from_slice_get ts place t t (sym is)) (due-each ts pairs place t (slice_get_within ts place t (sym is)))
 
 -- an object has a timer exactly if it stands somewhere
 set-stands : (id : ℕ) (ts : List Timer) → is_some (due_of id ts) ≡ is_some (place_of id_of id ts)

@@ -16,4 +16,5 @@ mod timers;
 
 pub use entry::Entry;
 pub use schedule::Schedule;
+pub use timer::Timer;
 pub use timers::Timers;

@@ -1,5 +1,5 @@
 //! The timers that are set.
-ghost use Rattle.std.specs.Prelude.{◌≡◌, ◌<◌, ◌≤◌, ℕ, [], true, false, IfOk, IsSome, IsNone, Some, length, is_some, AllPairs, ◌≢◌};
+ghost use Rattle.std.specs.Prelude.{◌≡◌, ◌<◌, ◌≤◌, ℕ, [], true, false, IfOk, IfSome, IsSome, IsNone, Some, length, is_some, slice_get, AllPairs, ◌≢◌};
 ghost use Rattle.std.specs.List.Sorted.{IsPartitionPoint};
 ghost use Rattle.aom_scheduler.specs.Order.{placed, without, place_of};
 ghost use Rattle.aom_scheduler.specs.Pending.{no_later, timer_of, due_of, IsSet, first_due, due_by, left_by, AreInOrder};
@@ -72,6 +72,15 @@ impl Timers {
         self.queue.len()
     }
 
+    /// The timer at that place in the order in which they are due.
+    pub fn timer(&self, place: usize) -> Option<Timer>
+        ensures value { result ≡ slice_get self.now.timers place }
+        ensures due { IfSome result (λ t. due_of t.id self.now.timers ≡ Some t.due) }
+    {
+        self.in_order();
+        self.at(place)
+    }
+
     /// Sets the object's timer, after all that are due at the same time or earlier.
     pub fn after(&mut self, id: CellId, due: u64)
         requires below { id < self.old.limit }
@@ -113,6 +122,12 @@ impl Timers {
         ensures { AreInOrder self.now }
     {
         let _ = &self.dues;
+    }
+
+    fn at(&self, place: usize) -> Option<Timer>
+        ensures { result ≡ slice_get self.now.timers place }
+    {
+        self.queue.get(place).copied()
     }
 
     fn due_time(&self, id: CellId) -> Option<u64>

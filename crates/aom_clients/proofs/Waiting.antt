@@ -1,0 +1,36 @@
+-- What waits in a queue behind so many others is the entry of the node there, with the client that it is of.
+use Rattle.std.proofs.Common.{◌≡◌, ◌∙◌, ℕ, List, Option, Some, refl, sym, ap}
+use Rattle.std.specs.Prelude.{option_map, slice_get}
+use Rattle.std.proofs.lemmas.Option.{slice_get-map}
+use Rattle.aom_queues.specs.Lists.{Table, list_at}
+use Rattle.aom_clients.specs.declared.client.Client.{Client}
+use Rattle.aom_clients.specs.declared.place.Place.{Place}
+use Rattle.aom_clients.specs.declared.entry.Entry.{Entry}
+use Rattle.aom_clients.specs.declared.entry.Entry.TheVariants.{Connect, Message, Close}
+use Rattle.aom_clients.specs.Table.{sender}
+use Rattle.aom_clients.specs.Clients.{State, queue_at, taken_entry}
+use Rattle.aom_clients.specs.Nodes.{IsKept, entry_of, state_of}
+use Rattle.aom_clients.specs.Parts.{client_in}
+use Rattle.aom_clients.proofs.Steps.{place-is, queue-is}
+
+module _ (cl : List Client) (pl : List Place) (q cn ss st : Table) (r : IsKept cl pl q cn ss st) (s : State) (is : state_of cl pl q ss st ≡ s) where
+  client-told : (e : Entry) → client_in pl e ≡ (taken_entry s e).client
+  client-told (Connect c) = refl
+  client-told (Message m) = ap sender (place-is cl pl q cn ss st r s is m)
+  client-told (Close c) = refl
+
+  entry-told : (e : Entry) → e ≡ (taken_entry s e).entry
+  entry-told (Connect c) = refl
+  entry-told (Message m) = refl
+  entry-told (Close c) = refl
+
+  -- the places of a queue are those of its nodes
+  places-are : (k ahead : ℕ) → option_map entry_of (slice_get (list_at q k) ahead) ≡ slice_get (queue_at s k) ahead
+  places-are k ahead = sym (slice_get-map entry_of (list_at q k) ahead) ∙ ap (λ es. slice_get es ahead) (queue-is cl pl q cn ss st r s is k)
+
+  pub waits-there : (k ahead n : ℕ) → Some n ≡ slice_get (list_at q k) ahead →
+      Some (record { entry = entry_of n; client = client_in pl (entry_of n) }) ≡ option_map (taken_entry s) (slice_get (queue_at s k) ahead)
+  waits-there k ahead n there =
+      let e = entry_of n in
+      ap (λ x. Some (record { entry = e; client = x })) (client-told e) ∙ ap (λ x. Some (record { entry = x; client = (taken_entry s e).client })) (entry-told e)
+      ∙ ap (option_map (taken_entry s)) (ap (option_map entry_of) there ∙ places-are k ahead)
