@@ -2,3 +2,4 @@ pub mod Faulting
 pub mod Lines
 pub mod Timely
 pub mod Messages
+pub mod Further

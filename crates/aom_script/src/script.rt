@@ -1,7 +1,8 @@
 //! A script, and how its text is read.
-ghost use Rattle.std.specs.Prelude.{◌≡◌, ◌⊎◌, [], IfOk, IfErr, Ok, Err};
+ghost use Rattle.std.specs.Prelude.{◌≡◌, ◌≤◌, ◌⊎◌, [], length, IfOk, IfErr, Ok, Err};
 ghost use Rattle.aom_text.specs.Text.{lines_of};
-ghost use Rattle.aom_script.specs.Script.{denoted, denoted_by, last_time, Adds, IsTimely, Keeps, LinesWantMemory, RefusesOrWants};
+ghost use Rattle.aom_script.specs.Script.{denoted, denoted_by, last_time, Adds, InRange, IsTimely, Keeps, LinesWantMemory, RefusesOrWants};
+ghost use Rattle.aom_script.specs.Further.{hearing_too, place_after, refusing_too};
 
 use crate::line::{ScriptLine, read_line};
 use crate::{ScriptFault, ScriptFaultKind};
@@ -41,6 +42,39 @@ impl Script {
         ensures { result.now ≡ self.now.timed }
     {
         self.timed.as_slice()
+    }
+
+    /// The same script, by which the request of that number is refused too.
+    pub fn refusing_too(&self, alloc: Global, number: u32) -> Result<Script, AllocError>
+        ensures { IfOk result (λ script. script ≡ refusing_too number self.now) }
+    {
+        let mut refused = Vec::from_slice(alloc, self.refused())?;
+        refused.push(number)?;
+        let timed = Vec::from_slice(alloc, self.events())?;
+        Ok(Script { refused, timed })
+    }
+
+    /// The same script with one event more, which comes after all that come by its time.
+    pub fn hearing_too(&self, alloc: Global, event: TimedEvent) -> Result<Script, AllocError>
+        ensures script { IfOk result (λ script. script ≡ hearing_too event self.now) }
+        ensures timely { InRange event → IsTimely self.now.timed → IfOk result (λ script. IsTimely script.timed) }
+    {
+        let refused = Vec::from_slice(alloc, self.refused())?;
+        let mut timed = Vec::from_slice(alloc, self.events())?;
+        timed.insert(self.place_after(event.time), event)?;
+        Ok(Script { refused, timed })
+    }
+
+    /// How many of the first events come by that time.
+    fn place_after(&self, time: u64) -> usize
+        ensures place { result ≡ place_after time self.now.timed }
+        ensures within { result ≤ length self.now.timed }
+    {
+        let mut place = 0;
+        while place < self.timed.len() && self.timed[place].time <= time {
+            place += 1;
+        }
+        place
     }
 
     fn empty(alloc: Global) -> Script
