@@ -1,5 +1,5 @@
 -- What `clap` answers of the words of a command line.
-use Rattle.std.proofs.Common.{◌≡◌, ◌≢◌, ◌∙◌, ℕ, ◌+◌, Bool, ◌||◌, true, false, ◌<◌, ◌^◌, ◌⊎◌, List, [], ◌∷◌, ◌++◌, Contains, IfOk, IsOkAnd, length, map, take, slice_index_or, Option, Some, None, Result, Ok, Err, option_map, unwrap_or, codes, refl, sym, ap, ap₂, inl, inr, subst, arith}
+use Rattle.std.proofs.Common.{◌≡◌, ◌≢◌, ◌∙◌, ℕ, ◌+◌, Bool, ◌||◌, true, false, ◌<◌, ◌^◌, ◌⊎◌, List, [], ◌∷◌, ◌++◌, Contains, IfErr, IfOk, IsOkAnd, length, map, take, slice_index_or, Option, Some, None, Result, Ok, Err, option_map, unwrap_or, codes, refl, sym, ap, ap₂, inl, inr, subst, arith}
 use Rattle.std.proofs.lemmas.List.{get_or-map, length-map, map-append, map_more, take-map}
 use Rattle.std.proofs.lemmas.List.Elements.{Contains-get_or}
 use Rattle.std.specs.Borrow.{Bor}
@@ -18,7 +18,7 @@ use Rattle.aom_command_line.specs.declared.words.WordsFault.{WordsFault}
 use Rattle.aom_command_line.specs.declared.words.WordsFault.TheVariants as faults
 use Rattle.aom_natives.specs.Kinds.{word_of as word_of_kind}
 use Rattle.aom_natives.specs.declared.kind.NativeKind.{NativeKind}
-use Rattle.aom_command_line.specs.CommandLine.{IsCommand, HasNoUseForText, Declines, AsksLines, AsksText, DeclinesLines, DeclinesText, HasForm, IsFlag, NamesTwoTexts, NamesKinds, NamesNoKinds, Says, form, texts_in, word_of}
+use Rattle.aom_command_line.specs.CommandLine.{IsCommand, HasNoUseForText, Declines, AsksLines, AsksNames, AsksText, DeclinesLines, DeclinesText, DeclinesTextless, HasForm, IsFlag, NamesTwoTexts, NamesKinds, NamesNoKinds, Says, form, texts_in, word_of}
 
 same : {E : Type 0} (v n : ℕ) (r : Result ℕ E) → r ≡ Ok v → r ≡ Ok n → Some v ≡ Some n
 same v n r a b = cc
@@ -99,15 +99,41 @@ unlined rows explain asm lines is none = record { set = is; textual = λ some. a
     both : (f : Bool) → f ≡ false → f ≡ true → ⊥
     both f a b = cc
 
+-- lines that are asked for where there is a text, and nothing is explained
+pub lines_textual : {A E : Type 0} (rows : List Row) (explain asm lines : Bool) (fits : Result A E) → IsFlag (one_of (codes "lines") rows) lines → explain ≡ false
+    → IfOk fits (λ _. (asm ≡ true) ⊎ (first_of (codes "text") rows ≢ None)) → IfOk fits (λ _. AsksLines rows explain asm lines)
+lines_textual rows explain asm lines (Ok unit) is alone textual = record { set = is; textual = λ some. textual; alone = λ some. alone }
+lines_textual rows explain asm lines (Err e) is alone textual = tt
+
+pub lines_lack : {A : Type 0} (rows : List Row) (fits : Result A WordsFault) → IfErr fits (λ fault. DeclinesTextless (codes "lines") rows fault) → IfErr fits (λ fault. DeclinesLines rows fault)
+lines_lack rows (Ok unit) lacks = tt
+lines_lack rows (Err (faults.Text text)) lacks = inr lacks
+lines_lack rows (Err faults.Native) lacks = lacks
+lines_lack rows (Err faults.Memory) lacks = lacks
+
+-- names that are asked for where there is a text
+pub names_textual : {A E : Type 0} (rows : List Row) (asm names : Bool) (fits : Result A E) → IsFlag (one_of (codes "names") rows) names
+    → IfOk fits (λ _. (asm ≡ true) ⊎ (first_of (codes "text") rows ≢ None)) → IfOk fits (λ _. AsksNames rows asm names)
+names_textual rows asm names (Ok unit) is textual = record { set = is; textual = λ some. textual }
+names_textual rows asm names (Err e) is textual = tt
+
+-- names that nobody asks for
+pub unnamed : (rows : List Row) (asm names : Bool) → IsFlag (one_of (codes "names") rows) names → names ≡ false → AsksNames rows asm names
+unnamed rows asm names is none = record { set = is; textual = λ some. absurd (both names none some) }
+  where
+    both : (f : Bool) → f ≡ false → f ≡ true → ⊥
+    both f a b = cc
+
 -- `check` declines a text that it has no use for, and lines that it cannot tell
-pub check_declines : (rows : List Row) (explain lines : Bool) (fault : WordsFault) → IsFlag (one_of (codes "explain") rows) explain → IsFlag (one_of (codes "lines") rows) lines
-    → DeclinesText rows (explain || lines) fault → Declines true (Some (codes "check", rows)) fault
-check_declines rows explain lines (faults.Text text) e l (inl (named, unused)) = λ taken command.
-    let (unexplained, unlined) = neither explain lines unused in
-    inl (refl, inl (record { explained = record { named = named; unasked = unset rows _ explain e unexplained }; unlined = unset rows _ lines l unlined }))
-check_declines rows explain lines (faults.Text text) e l (inr two) = λ taken command. inl (refl, inr (inl two))
-check_declines rows explain lines faults.Native e l declines = elim declines [ ]
-check_declines rows explain lines faults.Memory e l declines = declines
+pub check_declines : (rows : List Row) (explain lines prices : Bool) (fault : WordsFault) → IsFlag (one_of (codes "explain") rows) explain → IsFlag (one_of (codes "lines") rows) lines
+    → IsFlag (one_of (codes "prices") rows) prices → DeclinesText rows ((explain || lines) || prices) fault → Declines true (Some (codes "check", rows)) fault
+check_declines rows explain lines prices (faults.Text text) e l p (inl (named, unused)) = λ taken command.
+    let (untold, unpriced) = neither (explain || lines) prices unused in
+    let (unexplained, unlined) = neither explain lines untold in
+    inl (refl, inl (record { named = named; unasked = (unset rows _ explain e unexplained, (unset rows _ lines l unlined, (unset rows _ prices p unpriced, tt))) }))
+check_declines rows explain lines prices (faults.Text text) e l p (inr two) = λ taken command. inl (refl, inr (inl two))
+check_declines rows explain lines prices faults.Native e l p declines = elim declines [ ]
+check_declines rows explain lines prices faults.Memory e l p declines = declines
 
 pub lines_decline : (rows : List Row) (fault : WordsFault) → DeclinesLines rows fault → Declines true (Some (codes "check", rows)) fault
 lines_decline rows (faults.Text text) (inl both) = λ taken command. inl (refl, inr (inr (inr both)))
@@ -115,13 +141,30 @@ lines_decline rows (faults.Text text) (inr lacks) = λ taken command. inl (refl,
 lines_decline rows faults.Native declines = elim declines [ ]
 lines_decline rows faults.Memory declines = declines
 
--- and `run` one without an explanation
-pub run_declines : (rows : List Row) (explain : Bool) (fault : WordsFault) → IsFlag (one_of (codes "explain") rows) explain → DeclinesText rows explain fault
-    → Declines true (Some (codes "run", rows)) fault
-run_declines rows explain (faults.Text text) e (inl (named, unused)) = λ taken command. inr (refl, inl (record { named = named; unasked = unset rows _ explain e unused }))
-run_declines rows explain (faults.Text text) e (inr two) = λ taken command. inr (refl, inr two)
-run_declines rows explain faults.Native e declines = elim declines [ ]
-run_declines rows explain faults.Memory e declines = declines
+-- `run` declines a text that it has no use for, and names where there is none
+pub run_declines : (rows : List Row) (explain names : Bool) (fault : WordsFault) → IsFlag (one_of (codes "explain") rows) explain → IsFlag (one_of (codes "names") rows) names
+    → DeclinesText rows (explain || names) fault → Declines true (Some (codes "run", rows)) fault
+run_declines rows explain names (faults.Text text) e n (inl (named, unused)) = λ taken command.
+    let (unexplained, unspelled) = neither explain names unused in
+    inr (inl (refl, inl (record { named = named; unasked = (unset rows _ explain e unexplained, (unset rows _ names n unspelled, tt)) })))
+run_declines rows explain names (faults.Text text) e n (inr two) = λ taken command. inr (inl (refl, inr (inl two)))
+run_declines rows explain names faults.Native e n declines = elim declines [ ]
+run_declines rows explain names faults.Memory e n declines = declines
+
+pub names_decline : (rows : List Row) (fault : WordsFault) → DeclinesTextless (codes "names") rows fault → Declines true (Some (codes "run", rows)) fault
+names_decline rows (faults.Text text) lacks = λ taken command. inr (inl (refl, inr (inr lacks)))
+names_decline rows faults.Native declines = elim declines [ ]
+names_decline rows faults.Memory declines = declines
+
+-- `dot` declines a text beside another
+pub dot_declines : (rows : List Row) (fault : WordsFault) → DeclinesText rows true fault → Declines true (Some (codes "dot", rows)) fault
+dot_declines rows (faults.Text text) (inl (named, unused)) = absurd (true_is_used unused)
+  where
+    true_is_used : true ≡ false → ⊥
+    true_is_used a = cc
+dot_declines rows (faults.Text text) (inr two) = λ taken command. inr (inr (refl, two))
+dot_declines rows faults.Native declines = elim declines [ ]
+dot_declines rows faults.Memory declines = declines
 
 -- what `clap` takes, and what it does not
 pub declines : (taken : Bool) (met : Option (Text × List Row)) (fault : WordsFault) → Declines true met fault → Declines taken met fault

@@ -16,6 +16,7 @@ use Rattle.clap.specs.declared.error.kind.ErrorKind.TheVariants.{OutOfMemory}
 use Rattle.aom_natives.specs.Kinds.{word_of as word_of_kind}
 use Rattle.aom_natives.specs.declared.kind.NativeKind.{NativeKind}
 use Rattle.aom_command_line.specs.declared.words.RunWords.{RunWords}
+use Rattle.aom_command_line.specs.declared.words.TriesWords.{TriesWords}
 use Rattle.aom_command_line.specs.declared.words.Words.{Words}
 use Rattle.aom_command_line.specs.declared.words.Words.TheVariants.{Check, Run, Explore, Debug, Asm, Dis, Dot}
 use Rattle.aom_command_line.specs.declared.words.WordsFault.{WordsFault}
@@ -52,6 +53,10 @@ from_rule = number_rule (codes "from") (Signed (pos 1) (pos 4294967295)) (codes 
 abbrev pub to_rule : Rule
 to_rule = number_rule (codes "to") (Signed (pos 1) (pos 4294967295)) (codes "4294967295")
 
+-- `--tries N`, a number of pairs; where it is left out, 10000
+abbrev pub tries_rule : Rule
+tries_rule = number_rule (codes "tries") (Signed (pos 1) (pos 4294967295)) (codes "10000")
+
 -- an option that stands alone
 abbrev pub flag_rule : Text → Rule
 flag_rule id =
@@ -71,6 +76,22 @@ explain_rule = flag_rule (codes "explain")
 -- `--lines`
 abbrev pub lines_rule : Rule
 lines_rule = flag_rule (codes "lines")
+
+-- `--kills`
+abbrev pub kills_rule : Rule
+kills_rule = flag_rule (codes "kills")
+
+-- `--deaths`
+abbrev pub deaths_rule : Rule
+deaths_rule = flag_rule (codes "deaths")
+
+-- `--pairs`
+abbrev pub pairs_rule : Rule
+pairs_rule = flag_rule (codes "pairs")
+
+-- `--names`
+abbrev pub names_rule : Rule
+names_rule = flag_rule (codes "names")
 
 -- `--asm`
 abbrev pub asm_rule : Rule
@@ -105,21 +126,22 @@ asm_form = with_rule (with_rule (new_app (codes "asm")) explain_rule) (file_rule
 abbrev pub dis_form : App
 dis_form = with_rule (new_app (codes "dis")) (file_rule (codes "IMAGE"))
 
--- dot [--asm] IMAGE
+-- dot [--text TEXT] [--asm] IMAGE
 abbrev pub dot_form : App
-dot_form = with_rule (with_rule (new_app (codes "dot")) asm_rule) (file_rule (codes "IMAGE"))
+dot_form = with_rule (with_rule (with_rule (new_app (codes "dot")) text_rule) asm_rule) (file_rule (codes "IMAGE"))
 
 -- [--asm] IMAGE SCRIPT [NATIVE].., the last words of each command that runs an image
 abbrev pub with_files : App → App
 with_files command = with_rule (with_rule (with_rule (with_rule command asm_rule) (file_rule (codes "IMAGE"))) (file_rule (codes "SCRIPT"))) native_rule
 
--- run [--limit N] [--explain] [--text TEXT] [--asm] IMAGE SCRIPT [NATIVE]..
+-- run [--limit N] [--explain] [--names] [--text TEXT] [--asm] IMAGE SCRIPT [NATIVE]..
 abbrev pub run_form : App
-run_form = with_files (with_rule (with_rule (with_rule (new_app (codes "run")) limit_rule) explain_rule) text_rule)
+run_form = with_files (with_rule (with_rule (with_rule (with_rule (new_app (codes "run")) limit_rule) explain_rule) names_rule) text_rule)
 
--- explore [--limit N] [--from N] [--to N] [--asm] IMAGE SCRIPT [NATIVE]..
+-- explore [--limit N] [--from N] [--to N] [--kills] [--deaths] [--pairs] [--tries N] [--asm] IMAGE SCRIPT [NATIVE]..
 abbrev pub explore_form : App
-explore_form = with_files (with_rule (with_rule (with_rule (new_app (codes "explore")) limit_rule) from_rule) to_rule)
+explore_form =
+    with_files (with_rule (with_rule (with_rule (with_rule (with_rule (with_rule (with_rule (new_app (codes "explore")) limit_rule) from_rule) to_rule) kills_rule) deaths_rule) pairs_rule) tries_rule)
 
 -- debug [--limit N] [--asm] IMAGE SCRIPT [NATIVE]..
 abbrev pub debug_form : App
@@ -197,24 +219,29 @@ pub record AsksLines (rows : List Row) (explain asm lines : Bool) : Type 0 where
   pub textual : lines ≡ true → (asm ≡ true) ⊎ (first_of (codes "text") rows ≢ None)
   pub alone : lines ≡ true → explain ≡ false
 
--- the words found for a command name a text, and do not ask that a fault be explained
-pub record LacksExplain (rows : List Row) : Type 0 where
-  pub named : first_of (codes "text") rows ≢ None
-  pub unasked : one_of (codes "explain") rows ≢ Some (codes "true")
+-- where the words found for a command ask for names, there is a text
+pub record AsksNames (rows : List Row) (asm names : Bool) : Type 0 where
+  pub set : IsFlag (one_of (codes "names") rows) names
+  pub textual : names ≡ true → (asm ≡ true) ⊎ (first_of (codes "text") rows ≢ None)
 
--- and do not ask for its lines either
-pub record LacksUse (rows : List Row) : Type 0 where
-  pub explained : LacksExplain rows
-  pub unlined : one_of (codes "lines") rows ≢ Some (codes "true")
+-- none of these flags is set
+abbrev pub AllUnset : List Text → List Row → Type 0
+AllUnset [] rows = Unit {0}
+AllUnset (id ∷ ids) rows = (one_of id rows ≢ Some (codes "true")) × AllUnset ids rows
+
+-- the words found for a command name a text, and ask for none of what it is of use for
+pub record LacksUse (uses : List Text) (rows : List Row) : Type 0 where
+  pub named : first_of (codes "text") rows ≢ None
+  pub unasked : AllUnset uses rows
 
 -- the words found for a command name a text beside one that is to be assembled
 pub record NamesTwoTexts (rows : List Row) : Type 0 where
   pub named : first_of (codes "text") rows ≢ None
   pub assembled : one_of (codes "asm") rows ≢ Some (codes "false")
 
--- the words found for a command ask for the lines of no text
-pub record LacksText (rows : List Row) : Type 0 where
-  pub lined : one_of (codes "lines") rows ≢ Some (codes "false")
+-- the words found for a command ask for what only a text can give, and name none
+pub record LacksText (id : Text) (rows : List Row) : Type 0 where
+  pub asked : one_of id rows ≢ Some (codes "false")
   pub unnamed : first_of (codes "text") rows ≡ None
   pub unassembled : one_of (codes "asm") rows ≢ Some (codes "true")
 
@@ -231,9 +258,24 @@ DeclinesText rows used faults.Memory = Unit {0}
 
 -- why lines are refused
 abbrev pub DeclinesLines : List Row → WordsFault → Type 0
-DeclinesLines rows (faults.Text text) = AsksTwoTellings rows ⊎ LacksText rows
+DeclinesLines rows (faults.Text text) = AsksTwoTellings rows ⊎ LacksText (codes "lines") rows
 DeclinesLines rows faults.Native = ⊥
 DeclinesLines rows faults.Memory = Unit {0}
+
+-- the words found ask for these tries
+pub record AsksTries (rows : List Row) (tries : TriesWords) : Type 0 where
+  pub first : IsNumberUpTo 4294967295 (one_of (codes "from") rows) tries.first
+  pub last : IsNumberUpTo 4294967295 (one_of (codes "to") rows) tries.last
+  pub kills : IsFlag (one_of (codes "kills") rows) tries.kills
+  pub deaths : IsFlag (one_of (codes "deaths") rows) tries.deaths
+  pub pairs : IsFlag (one_of (codes "pairs") rows) tries.pairs
+  pub most : IsNumberUpTo 4294967295 (one_of (codes "tries") rows) tries.most
+
+-- why what only a text can give is refused
+abbrev pub DeclinesTextless : Text → List Row → WordsFault → Type 0
+DeclinesTextless id rows (faults.Text text) = LacksText id rows
+DeclinesTextless id rows faults.Native = ⊥
+DeclinesTextless id rows faults.Memory = Unit {0}
 
 -- a command and the words found for it ask this
 abbrev pub Asks : Option (Text × List Row) → Words → Type 0
@@ -241,15 +283,15 @@ Asks None words = ⊥
 Asks (Some met) (Check image asm prices explain lines text) =
     (met.0 ≡ codes "check") × (string_bytes image ≡ word_of (codes "IMAGE") met.1) × IsFlag (one_of (codes "asm") met.1) asm
     × IsFlag (one_of (codes "prices") met.1) prices × IsFlag (one_of (codes "explain") met.1) explain
-    × AsksLines met.1 explain asm lines × AsksText met.1 (explain || lines) asm text
-Asks (Some met) (Run run explain text) = (met.0 ≡ codes "run") × AsksRun met.1 run × IsFlag (one_of (codes "explain") met.1) explain × AsksText met.1 explain run.asm text
-Asks (Some met) (Explore run first last) =
-    (met.0 ≡ codes "explore") × AsksRun met.1 run
-    × IsNumberUpTo 4294967295 (one_of (codes "from") met.1) first × IsNumberUpTo 4294967295 (one_of (codes "to") met.1) last
+    × AsksLines met.1 explain asm lines × AsksText met.1 ((explain || lines) || prices) asm text
+Asks (Some met) (Run run explain names text) =
+    (met.0 ≡ codes "run") × AsksRun met.1 run × IsFlag (one_of (codes "explain") met.1) explain
+    × AsksNames met.1 run.asm names × AsksText met.1 (explain || names) run.asm text
+Asks (Some met) (Explore run tries) = (met.0 ≡ codes "explore") × AsksRun met.1 run × AsksTries met.1 tries
 Asks (Some met) (Debug run) = (met.0 ≡ codes "debug") × AsksRun met.1 run
 Asks (Some met) (Asm text explain) = (met.0 ≡ codes "asm") × (string_bytes text ≡ word_of (codes "TEXT") met.1) × IsFlag (one_of (codes "explain") met.1) explain
 Asks (Some met) (Dis image) = (met.0 ≡ codes "dis") × (string_bytes image ≡ word_of (codes "IMAGE") met.1)
-Asks (Some met) (Dot image asm) = (met.0 ≡ codes "dot") × (string_bytes image ≡ word_of (codes "IMAGE") met.1) × IsFlag (one_of (codes "asm") met.1) asm
+Asks (Some met) (Dot image asm text) = (met.0 ≡ codes "dot") × (string_bytes image ≡ word_of (codes "IMAGE") met.1) × IsFlag (one_of (codes "asm") met.1) asm × AsksText met.1 true asm text
 
 -- it is one of the program's commands
 abbrev pub IsCommand : Option (Text × List Row) → Type 0
@@ -261,12 +303,13 @@ abbrev pub NamesNoNatives : Option (Text × List Row) → Type 0
 NamesNoNatives None = ⊥
 NamesNoNatives (Some met) = ((met.0 ≡ codes "run") ⊎ (met.0 ≡ codes "explore") ⊎ (met.0 ≡ codes "debug")) × NamesNoKinds (all_of (codes "NATIVE") met.1)
 
--- it is a command that tells faults by a text, with words that do not fit together: a text that is of no use, two texts, lines of no text, or lines beside an explanation
+-- it is a command that tells by a text, with words that do not fit together: a text that is of no use, two texts, lines or names of no text, or lines beside an explanation
 abbrev pub HasNoUseForText : Option (Text × List Row) → Type 0
 HasNoUseForText None = ⊥
 HasNoUseForText (Some met) =
-    ((met.0 ≡ codes "check") × (LacksUse met.1 ⊎ NamesTwoTexts met.1 ⊎ LacksText met.1 ⊎ AsksTwoTellings met.1))
-    ⊎ ((met.0 ≡ codes "run") × (LacksExplain met.1 ⊎ NamesTwoTexts met.1))
+    ((met.0 ≡ codes "check") × (LacksUse (codes "explain" ∷ codes "lines" ∷ codes "prices" ∷ []) met.1 ⊎ NamesTwoTexts met.1 ⊎ LacksText (codes "lines") met.1 ⊎ AsksTwoTellings met.1))
+    ⊎ ((met.0 ≡ codes "run") × (LacksUse (codes "explain" ∷ codes "names" ∷ []) met.1 ⊎ NamesTwoTexts met.1 ⊎ LacksText (codes "names") met.1))
+    ⊎ ((met.0 ≡ codes "dot") × NamesTwoTexts met.1)
 
 -- why words ask nothing: `clap` does not take them, or they do not fit together, or they do not name natives where they should, or memory is wanting
 abbrev pub Declines : Bool → Option (Text × List Row) → WordsFault → Type 0
@@ -287,9 +330,9 @@ Says kind faults.Memory = Unit {0}
 -- what is known of the limit of runs
 abbrev pub KeepsLimit : Words → Type 0
 KeepsLimit (Check image asm prices explain lines text) = Unit {0}
-KeepsLimit (Run run explain text) = (1 ≤ run.limit) × (run.limit ≤ 1000000000)
-KeepsLimit (Explore run first last) = (1 ≤ run.limit) × (run.limit ≤ 1000000000)
+KeepsLimit (Run run explain names text) = (1 ≤ run.limit) × (run.limit ≤ 1000000000)
+KeepsLimit (Explore run tries) = (1 ≤ run.limit) × (run.limit ≤ 1000000000)
 KeepsLimit (Debug run) = (1 ≤ run.limit) × (run.limit ≤ 1000000000)
 KeepsLimit (Asm text explain) = Unit {0}
 KeepsLimit (Dis image) = Unit {0}
-KeepsLimit (Dot image asm) = Unit {0}
+KeepsLimit (Dot image asm text) = Unit {0}

@@ -5,6 +5,7 @@
 //! and no edit of a command waits for it.
 #![tactic(auto)]
 
+mod args;
 mod words;
 
-pub use words::{RunWords, Words, WordsFault, read_words};
+pub use words::{RunWords, TriesWords, Words, WordsFault, read_words};

@@ -1,13 +1,16 @@
 //! The command line.
-ghost use Rattle.std.specs.Prelude.{◌≡◌, ◌≤◌, IfOk, IfErr, IsOkAnd, Some, false, true, codes, length};
+ghost use Rattle.std.specs.Prelude.{◌≡◌, ◌≢◌, ◌≤◌, ◌⊎◌, IfOk, IfErr, IsOkAnd, None, Some, false, true, codes, length};
 ghost use Rattle.std.specs.String.{string_bytes};
-ghost use Rattle.clap.specs.Words.{AddsArg, AddsSubcommand, App, all_of, app_of, found_of, kind_of, one_of, rows_of, rule_of, subcommand_of, subcommand_rows_of, takes, with_subcommand};
-ghost use Rattle.aom_command_line.specs.CommandLine.{asm_form, check_form, debug_form, dis_form, dot_form, explain_rule, explore_form, run_form, form, asm_rule, file_rule, flag_rule, from_rule, limit_rule, lines_rule, native_rule, number_rule, prices_rule, text_rule, to_rule, texts_of, with_files, word_of, Asks, AsksLines, AsksRun, AsksText, Declines, DeclinesLines, DeclinesNatives, DeclinesRun, DeclinesText, HasForm, IsFlag, IsNumberUpTo, KeepsLimit, NamesKinds, Says, texts_in};
+ghost use Rattle.clap.specs.Words.{AddsArg, AddsSubcommand, App, all_of, app_of, first_of, found_of, kind_of, one_of, rows_of, subcommand_of, subcommand_rows_of, takes, with_subcommand};
+ghost use Rattle.aom_command_line.specs.CommandLine.{asm_form, check_form, debug_form, dis_form, dot_form, explore_form, run_form, form, texts_of, with_files, word_of, Asks, AsksLines, AsksNames, AsksRun, AsksText, AsksTries, Declines, DeclinesLines, DeclinesNatives, DeclinesRun, DeclinesText, DeclinesTextless, HasForm, IsFlag, IsNumberUpTo, KeepsLimit, NamesKinds, Says, texts_in};
 
+use crate::args::{
+    asm_arg, deaths_arg, explain_arg, file_arg, from_arg, kills_arg, limit_arg, lines_arg,
+    names_arg, native_arg, pairs_arg, prices_arg, text_arg, to_arg, tries_arg,
+};
 use aom_natives::NativeKind;
-use clap::builder::ValueParser;
 use clap::error::ErrorKind;
-use clap::{Arg, ArgAction, ArgMatches, Command, Error, value_parser};
+use clap::{Arg, ArgMatches, Command, Error};
 use std::alloc::{AllocError, AllocFailed, Global};
 use thiserror::Error as FaultText;
 
@@ -31,16 +34,15 @@ pub enum Words {
         run: RunWords,
         /// Whether a fault is to be explained.
         explain: bool,
+        /// Whether the transcript has the names of a text in place of the numbers of classes.
+        names: bool,
         /// The text that the image is of, whose lines an explanation names.
         text: Option<String>,
     },
-    /// Run again and again, each time with one more allocation request refused.
+    /// Run again and again, each time with a fault injected.
     Explore {
         run: RunWords,
-        /// The number of the first request that is refused so.
-        first: u32,
-        /// The number of the last one.
-        last: u32,
+        tries: TriesWords,
     },
     /// Run as commands say that come in.
     Debug {
@@ -58,13 +60,15 @@ pub enum Words {
         image: String,
         /// Whether the file is an assembly text, and not an image.
         asm: bool,
+        /// The text that the image is of, whose names are told.
+        text: Option<String>,
     },
 }
 
 /// Why a command line is refused.
 #[derive(Debug, Drop, FaultText)]
 pub enum WordsFault {
-    /// What `clap` has to say, a fault, or the help or the version that was asked for; or that `--text`, `--asm`, `--explain` and `--lines` do not fit together.
+    /// What `clap` has to say, a fault, or the help or the version that was asked for; or that `--text`, `--asm`, `--explain`, `--lines` and `--names` do not fit together.
     #[error("{0}")]
     Text(String),
     /// No native of that name, or one too many.
@@ -105,6 +109,23 @@ pub struct RunWords {
     pub limit: u32,
     /// The natives, from number 0 on.
     pub natives: Vec<NativeKind>,
+}
+
+/// Which faults are injected, one after the other.
+#[derive(Clone, Copy)]
+pub struct TriesWords {
+    /// The number of the first allocation request that is refused.
+    pub first: u32,
+    /// The number of the last one.
+    pub last: u32,
+    /// Whether natives are killed too.
+    pub kills: bool,
+    /// Whether clients die too.
+    pub deaths: bool,
+    /// Whether two requests are refused too.
+    pub pairs: bool,
+    /// The most pairs of them.
+    pub most: u32,
 }
 
 /// The most natives that a command line may name.
@@ -261,7 +282,8 @@ fn dot_command<'a>(alloc: Global) -> Result<Command<'a>, AllocError>
 {
     let command = Command::new(alloc, "dot")
         .about("Writes an image as a graph in Graphviz's language")
-        .arg(asm_arg(alloc));
+        .arg(text_arg(alloc));
+    let command = with_arg(command, asm_arg(alloc));
     with_arg(command, file_arg(alloc, "IMAGE", "The file of an image"))
 }
 
@@ -272,6 +294,7 @@ fn run_command<'a>(alloc: Global) -> Result<Command<'a>, AllocError>
         .about("Runs an image under a script and writes the transcript")
         .arg(limit_arg(alloc));
     let command = with_arg(command, explain_arg(alloc));
+    let command = with_arg(command, names_arg(alloc));
     let command = with_arg(command, text_arg(alloc));
     with_files(alloc, command)
 }
@@ -284,6 +307,10 @@ fn explore_command<'a>(alloc: Global) -> Result<Command<'a>, AllocError>
         .arg(limit_arg(alloc));
     let command = with_arg(command, from_arg(alloc));
     let command = with_arg(command, to_arg(alloc));
+    let command = with_arg(command, kills_arg(alloc));
+    let command = with_arg(command, deaths_arg(alloc));
+    let command = with_arg(command, pairs_arg(alloc));
+    let command = with_arg(command, tries_arg(alloc));
     with_files(alloc, command)
 }
 
@@ -307,146 +334,6 @@ fn with_files<'a>(
     let command = with_arg(command, file_arg(alloc, "IMAGE", "The file of an image"));
     let command = with_arg(command, file_arg(alloc, "SCRIPT", "The file of a script"));
     with_arg(command, native_arg(alloc))
-}
-
-/// A file that has to be named.
-fn file_arg<'a>(alloc: Global, id: &'a str, help: &'a str) -> Arg<'a>
-    ensures rule { rule_of result ≡ file_rule id.entry.now }
-    ensures own { result.global ≡ false }
-{
-    Arg::new(alloc, id).help(help).required(true)
-}
-
-fn native_arg<'a>(alloc: Global) -> Arg<'a>
-    ensures rule { rule_of result ≡ native_rule }
-    ensures own { result.global ≡ false }
-{
-    Arg::new(alloc, "NATIVE")
-        .help("The natives, from number 0 on")
-        .action(ArgAction::Append)
-        .num_args(0..)
-}
-
-fn limit_arg<'a>(alloc: Global) -> Arg<'a>
-    ensures rule { rule_of result ≡ limit_rule }
-    ensures own { result.global ≡ false }
-{
-    number_arg(
-        alloc,
-        "limit",
-        "The most dispatches after main's",
-        value_parser!(u32).range(1..=1_000_000_000),
-        "1000000",
-    )
-}
-
-fn from_arg<'a>(alloc: Global) -> Arg<'a>
-    ensures rule { rule_of result ≡ from_rule }
-    ensures own { result.global ≡ false }
-{
-    number_arg(
-        alloc,
-        "from",
-        "The first allocation request that is refused",
-        value_parser!(u32).range(1..),
-        "1",
-    )
-}
-
-fn to_arg<'a>(alloc: Global) -> Arg<'a>
-    ensures rule { rule_of result ≡ to_rule }
-    ensures own { result.global ≡ false }
-{
-    number_arg(
-        alloc,
-        "to",
-        "The last allocation request that is refused",
-        value_parser!(u32).range(1..),
-        "4294967295",
-    )
-}
-
-/// An option with a number, which is `standard` where the option is left out.
-fn number_arg<'a>(
-    alloc: Global,
-    id: &'a str,
-    help: &'a str,
-    range: ValueParser<'a>,
-    standard: &'a str,
-) -> Arg<'a>
-    ensures rule { rule_of result ≡ number_rule id.entry.now range.entry standard.entry.now }
-    ensures own { result.global ≡ false }
-{
-    Arg::new(alloc, id)
-        .long(id)
-        .value_name("N")
-        .help(help)
-        .value_parser(range)
-        .default_value(standard)
-}
-
-fn prices_arg<'a>(alloc: Global) -> Arg<'a>
-    ensures rule { rule_of result ≡ prices_rule }
-    ensures own { result.global ≡ false }
-{
-    flag_arg(
-        alloc,
-        "prices",
-        "Tells too what the methods come to and cost, accepted or not",
-    )
-}
-
-fn explain_arg<'a>(alloc: Global) -> Arg<'a>
-    ensures rule { rule_of result ≡ explain_rule }
-    ensures own { result.global ≡ false }
-{
-    flag_arg(
-        alloc,
-        "explain",
-        "Tells too what a fault means and what usually mends it",
-    )
-}
-
-fn lines_arg<'a>(alloc: Global) -> Arg<'a>
-    ensures rule { rule_of result ≡ lines_rule }
-    ensures own { result.global ≡ false }
-{
-    flag_arg(
-        alloc,
-        "lines",
-        "Tells a fault in one line with its place in the text, as compilers do",
-    )
-}
-
-fn asm_arg<'a>(alloc: Global) -> Arg<'a>
-    ensures rule { rule_of result ≡ asm_rule }
-    ensures own { result.global ≡ false }
-{
-    flag_arg(
-        alloc,
-        "asm",
-        "The file is an assembly text, and the image is what it denotes",
-    )
-}
-
-fn text_arg<'a>(alloc: Global) -> Arg<'a>
-    ensures rule { rule_of result ≡ text_rule }
-    ensures own { result.global ≡ false }
-{
-    Arg::new(alloc, "text").long("text").value_name("TEXT").help(
-        "The text that the image is of, whose lines --explain and --lines name",
-    )
-}
-
-/// An option that stands alone.
-fn flag_arg<'a>(alloc: Global, id: &'a str, help: &'a str) -> Arg<'a>
-    ensures rule { rule_of result ≡ flag_rule id.entry.now }
-    ensures own { result.global ≡ false }
-{
-    Arg::new(alloc, id)
-        .long(id)
-        .help(help)
-        .action(ArgAction::SetTrue)
 }
 
 /// What `clap` has to say of the words, unless it had no memory for that.
@@ -496,12 +383,13 @@ fn check_words(alloc: Global, own: &ArgMatches) -> Result<Words, WordsFault>
 {
     let explain = is_set(own, "explain");
     let lines = is_set(own, "lines");
+    let prices = is_set(own, "prices");
     let asm = is_set(own, "asm");
     fit_lines(alloc, own, explain, asm, lines)?;
     Ok(Words::Check {
-        text: text_of(alloc, own, explain | lines, asm)?,
+        text: text_of(alloc, own, explain | lines | prices, asm)?,
         image: word_of(alloc, own, "IMAGE")?,
-        prices: is_set(own, "prices"),
+        prices,
         asm,
         explain,
         lines,
@@ -531,15 +419,53 @@ fn fit_lines(
             "error: --lines has no use beside --explain\n",
         )?));
     }
+    fit_text(
+        alloc,
+        own,
+        "lines",
+        asm,
+        "error: --lines asks for --asm or --text\n",
+    )
+}
+
+/// Refuses so what only a text can give where there is none.
+fn fit_text(
+    alloc: Global,
+    own: &ArgMatches,
+    id: &str,
+    asm: bool,
+    refusal: &str,
+) -> Result<(), WordsFault>
+    requires asked { one_of id.now (rows_of (found_of own.now)) ≢ Some (codes "false") }
+    requires asm { IsFlag (one_of (codes "asm") (rows_of (found_of own.now))) asm }
+    ensures asks { IfOk result (λ _. (asm ≡ true) ⊎ (first_of (codes "text") (rows_of (found_of own.now)) ≢ None)) }
+    ensures declines { IfErr result (λ fault. DeclinesTextless id.now (rows_of (found_of own.now)) fault) }
+{
     let text = own.get_str("text");
     match text {
         Some(_) => Ok(()),
         None if asm => Ok(()),
-        None => Err(WordsFault::Text(String::from_str(
-            alloc,
-            "error: --lines asks for --asm or --text\n",
-        )?)),
+        None => Err(WordsFault::Text(String::from_str(alloc, refusal)?)),
     }
+}
+
+/// Refuses names where there is no text that has them.
+fn fit_names(alloc: Global, own: &ArgMatches, asm: bool, names: bool) -> Result<(), WordsFault>
+    requires asm { IsFlag (one_of (codes "asm") (rows_of (found_of own.now))) asm }
+    requires names { IsFlag (one_of (codes "names") (rows_of (found_of own.now))) names }
+    ensures asks { IfOk result (λ _. AsksNames (rows_of (found_of own.now)) asm names) }
+    ensures declines { IfErr result (λ fault. DeclinesTextless (codes "names") (rows_of (found_of own.now)) fault) }
+{
+    if !names {
+        return Ok(());
+    }
+    fit_text(
+        alloc,
+        own,
+        "names",
+        asm,
+        "error: --names asks for --asm or --text\n",
+    )
 }
 
 fn running_words(alloc: Global, own: &ArgMatches) -> Result<Words, WordsFault>
@@ -547,11 +473,14 @@ fn running_words(alloc: Global, own: &ArgMatches) -> Result<Words, WordsFault>
     ensures declines { IfErr result (λ fault. Declines true (Some (codes "run", rows_of (found_of own.now))) fault) }
 {
     let explain = is_set(own, "explain");
+    let names = is_set(own, "names");
     let asm = is_set(own, "asm");
+    fit_names(alloc, own, asm, names)?;
     Ok(Words::Run {
-        text: text_of(alloc, own, explain, asm)?,
+        text: text_of(alloc, own, explain | names, asm)?,
         run: run_words(alloc, own, asm)?,
         explain,
+        names,
     })
 }
 
@@ -574,7 +503,7 @@ fn text_of(
         Some(name) if used => Ok(Some(String::from_str(alloc, name)?)),
         Some(_) => Err(WordsFault::Text(String::from_str(
             alloc,
-            "error: --text asks for --explain or --lines\n",
+            "error: --text asks for --explain, --lines, --prices or --names\n",
         )?)),
         None => Ok(None),
     }
@@ -584,11 +513,25 @@ fn explore_words(alloc: Global, own: &ArgMatches) -> Result<Words, WordsFault>
     ensures asks { IfOk result (λ asked. Asks (Some (codes "explore", rows_of (found_of own.now))) asked) }
     ensures declines { IfErr result (λ fault. Declines true (Some (codes "explore", rows_of (found_of own.now))) fault) }
 {
+    let run = run_words(alloc, own, is_set(own, "asm"))?;
     Ok(Words::Explore {
-        run: run_words(alloc, own, is_set(own, "asm"))?,
+        run,
+        tries: tries_words(own),
+    })
+}
+
+/// What `explore` is to try.
+fn tries_words(own: &ArgMatches) -> TriesWords
+    ensures { AsksTries (rows_of (found_of own.now)) result }
+{
+    TriesWords {
         first: number_of(own, "from", 1, u32::MAX),
         last: number_of(own, "to", u32::MAX, u32::MAX),
-    })
+        kills: is_set(own, "kills"),
+        deaths: is_set(own, "deaths"),
+        pairs: is_set(own, "pairs"),
+        most: number_of(own, "tries", 10_000, u32::MAX),
+    }
 }
 
 fn debug_words(alloc: Global, own: &ArgMatches) -> Result<Words, WordsFault>
@@ -623,9 +566,11 @@ fn dot_words(alloc: Global, own: &ArgMatches) -> Result<Words, WordsFault>
     ensures declines { IfErr result (λ fault. Declines true (Some (codes "dot", rows_of (found_of own.now))) fault) }
 {
     let image = word_of(alloc, own, "IMAGE")?;
+    let asm = is_set(own, "asm");
     Ok(Words::Dot {
+        text: text_of(alloc, own, true, asm)?,
         image,
-        asm: is_set(own, "asm"),
+        asm,
     })
 }
 

@@ -1,5 +1,5 @@
 -- What is found in a text that denotes an image, from the program that it is written from.
-use Rattle.std.proofs.Common.{◌≡◌, ◌∙◌, ℕ, suc, ◌+◌, List, Some, refl, sym, ap, slice_get, arith}
+use Rattle.std.proofs.Common.{◌≡◌, ◌∙◌, ℕ, suc, ◌+◌, List, [], ◌∷◌, Some, refl, sym, ap, slice_get, arith}
 use Rattle.std.specs.Prelude.{option_map, true, false, map}
 use Rattle.std.specs.List.{filter}
 use Rattle.std.proofs.lemmas.Option.{slice_get-map}
@@ -14,7 +14,7 @@ use Rattle.aom_meaning.specs.Texts.{all_words}
 use Rattle.aom_meaning.specs.Denotes.{Denotes, names_of}
 use Rattle.aom_meaning.specs.Meaning.{ClassMeans, InstructionMeans, MethodMeans, labels_of}
 use Rattle.aom_meaning.specs.Source.{InstructionText, MethodText, class_words, classes_of, declared_statements, header_words, instruction_words, methods_of}
-use Rattle.aom_explain.specs.Declarations.{begins, begins_with, image_statement, instruction_statement, part}
+use Rattle.aom_explain.specs.Declarations.{begins, begins_with, class_names, image_statement, instruction_statement, method_names, name_in, names_in, part}
 use Rattle.aom_explain.specs.Laws.{DeclaresClass, DeclaresMethod, words_of}
 use Rattle.aom_explain.proofs.Cuts.{filter_map, filter_no, part_map, part_no}
 use Rattle.aom_explain.proofs.Sources.{class_passes, code_found, method_passes, method_words, pair_at}
@@ -68,3 +68,24 @@ found_method text i d number m there =
           let held = pair_at (InstructionMeans (names_of d.source) i.header.version (labels_of said.other.code)) said.other.code m.code place instr said.holds.code here in
           record { said = held.other; there = found_instruction text i d number place said.other held.other said.there held.there; means = held.holds });
     }
+
+-- ---- the names that are found
+
+named_each : {A B : Type 0} (f : A → B) (name : B → List ℕ) (xs : List A) → map (λ x. name (f x)) xs ≡ map name (map f xs)
+named_each f name [] = refl
+named_each f name (x ∷ xs) = ap (λ ns. name (f x) ∷ ns) (named_each f name xs)
+
+names_by : {A : Type 0} (key : Keyword) (text : List ℕ) (i : Image) (d : Denotes text i) (spell : A → List (List ℕ)) (said : List A)
+    → begins_with key (header_words d.source.header) ≡ false → filter (begins_with key) (declared_statements d.source.declarations) ≡ map spell said
+    → names_in key (statements text) ≡ map (λ x. name_in (spell x)) said
+names_by key text i d spell said headed passes =
+    named_each words name_in (filter (begins key) (statements text))
+    ∙ ap (map name_in) (filter_map (begins_with key) words (statements text) ∙ ap (filter (begins_with key)) d.written
+    ∙ filter_no (begins_with key) (header_words d.source.header) (declared_statements d.source.declarations) headed ∙ passes)
+    ∙ sym (named_each spell name_in said)
+
+pub found_classes : (text : List ℕ) (i : Image) (d : Denotes text i) → class_names text ≡ (names_of d.source).classes
+found_classes text i d = names_by k.Class text i d class_words (classes_of d.source.declarations) refl (class_passes d.source.declarations)
+
+pub found_methods : (text : List ℕ) (i : Image) (d : Denotes text i) → method_names text ≡ (names_of d.source).methods
+found_methods text i d = names_by k.Method text i d method_words (methods_of d.source.declarations) refl (method_passes d.source.declarations)

@@ -1,5 +1,5 @@
 -- Which statements of a text declare what its image has.
-use Rattle.std.specs.Prelude.{ℕ, ◌+◌, Bool, false, List, [], ◌∷◌, Option, slice_get, slice_index_or}
+use Rattle.std.specs.Prelude.{ℕ, ◌+◌, Bool, false, List, [], ◌∷◌, Option, map, slice_get, slice_index_or}
 use Rattle.std.specs.List.{filter, slice_split}
 use Rattle.std.specs.Str.{bytes_eq}
 use Rattle.aom_syntax.specs.Keywords.{keyword_text}
@@ -40,3 +40,21 @@ method_body text number = part (begins k.Method) (statements text) (number + 1)
 -- of the instruction at a place of a method: the one at that place of them
 abbrev pub instruction_statement : List ℕ → ℕ → ℕ → Option Statement
 instruction_statement text number place = slice_get (method_body text number) place
+
+-- the name in a statement that declares one: its second word
+abbrev pub name_in : List (List ℕ) → List ℕ
+name_in [] = []
+name_in (w ∷ []) = []
+name_in (w ∷ name ∷ ws) = name
+
+-- the names in those of the statements that begin with that keyword, in their order
+abbrev pub names_in : Keyword → List Statement → List (List ℕ)
+names_in key ss = map (λ s. name_in s.words) (filter (begins key) ss)
+
+-- the names of a text's classes, that of class 0 first
+abbrev pub class_names : List ℕ → List (List ℕ)
+class_names text = names_in k.Class (statements text)
+
+-- the names of a text's methods, that of method 0 first
+abbrev pub method_names : List ℕ → List (List ℕ)
+method_names text = names_in k.Method (statements text)

@@ -9,7 +9,7 @@ use Rattle.aom_text.specs.declared.text.Statement.{Statement}
 use Rattle.aom_meaning.specs.Denotes.{Denotes, names_of}
 use Rattle.aom_meaning.specs.Meaning.{ClassMeans, InstructionMeans, MethodMeans, Names, labels_of}
 use Rattle.aom_meaning.specs.Source.{ClassText, InstructionText, MethodText, class_words, header_words, heading_words, instruction_words}
-use Rattle.aom_explain.specs.Declarations.{class_statement, image_statement, instruction_statement, method_statement}
+use Rattle.aom_explain.specs.Declarations.{class_names, class_statement, image_statement, instruction_statement, method_names, method_statement}
 
 -- the words of a statement, where one was found
 abbrev pub words_of : Option Statement → Option (List (List ℕ))
@@ -35,6 +35,9 @@ pub record DeclaresMethod (text : List ℕ) (names : Names) (version : Version) 
   pub code : (place : ℕ) (i : Instr) → slice_get m.code place ≡ Some i → HoldsInstruction text names version (labels_of said.code) number place i
 
 pub record StatementsDeclare : Type 0 where
+  -- the names that are found are those that the text's own names stand for, each at its number
+  pub class_names : (text : List ℕ) (i : Image) (d : Denotes text i) → class_names text ≡ (names_of d.source).classes
+  pub method_names : (text : List ℕ) (i : Image) (d : Denotes text i) → method_names text ≡ (names_of d.source).methods
   pub image : (text : List ℕ) (i : Image) (d : Denotes text i) → words_of (image_statement text) ≡ Some (header_words d.source.header)
   pub classes : (text : List ℕ) (i : Image) (d : Denotes text i) (number : ℕ) (c : ClassDecl) → slice_get i.classes number ≡ Some c → DeclaresClass text (names_of d.source) i.header.version i.header.natives number c
   pub methods : (text : List ℕ) (i : Image) (d : Denotes text i) (number : ℕ) (m : Method) → slice_get i.methods number ≡ Some m → DeclaresMethod text (names_of d.source) i.header.version i.classes number m

@@ -8,7 +8,8 @@
 //! `specs/Sources.antt` says, and `put_lined` all in one line, as `specs/Lines.antt` says. `put_known` writes what is known where a method stands (`specs/Known.antt`).
 //!
 //! The way back from an image to its text: `image_statement`, `class_statement`, `method_statement` and `instruction_statement` answer
-//! the statements, with their lines, that `specs/Declarations.antt` finds in a text by counting those that begin with `class` or `method`.
+//! the statements, with their lines, that `specs/Declarations.antt` finds in a text by counting those that begin with `class` or `method`;
+//! `class_names` and `method_names` the names in them.
 //! That they are the right ones where the text denotes the image is the law `statements_declare`. Nothing here knows which command was
 //! refused, nor where a text goes.
 #![tactic(auto)]
@@ -24,6 +25,7 @@ mod laws;
 mod lined;
 mod link;
 mod load;
+mod naming;
 mod place;
 mod script;
 mod source;
@@ -36,6 +38,7 @@ pub use entry::{Entry, put_entry};
 pub use known::put_known;
 pub use laws::statements_declare;
 pub use lined::{budget_line, put_lined, refusal_line};
+pub use naming::{class_names, method_names};
 pub use place::{put_line, put_method};
 pub use source::{put_declared, put_source};
 pub use table::{

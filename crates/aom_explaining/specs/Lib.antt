@@ -1,3 +1,4 @@
 pub mod Explained
 pub mod Explaining
 pub mod Lined
+pub mod Naming

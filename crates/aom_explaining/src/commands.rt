@@ -1,8 +1,9 @@
 //! The commands that explain, alone or by the text that the image is of.
 ghost use Rattle.std.specs.Prelude.{◌≤◌, [], length};
 ghost use Rattle.aom_natives.specs.Owed.{OweNothing};
-ghost use Rattle.aom_main.specs.Headline.{RunAnswers};
-ghost use Rattle.aom_main.specs.Prices.{Checks};
+ghost use Rattle.aom_main.specs.Headline.{RunAnswers, RunAnswersBy};
+ghost use Rattle.aom_explaining.specs.Naming.{line_by, text_names};
+ghost use Rattle.aom_main.specs.Prices.{Checks, ChecksBy};
 ghost use Rattle.aom_main.specs.Translations.{Translates};
 ghost use Rattle.aom_main.specs.declared.commands.Translation.TheVariants.{Asm};
 ghost use Rattle.aom_explaining.specs.Explained.{Explains, ExplainsByText};
@@ -11,6 +12,7 @@ ghost use Rattle.aom_explaining.specs.Explaining.{Beside, Explaining, TellsText}
 
 use crate::beside::ImageText;
 use crate::lining::{answer_lined, line_text};
+use crate::naming::{try_check_by_names, try_run_told};
 use crate::telling::answer_explained;
 use crate::telling_by_text::{answer_by_text, refuse_text};
 use aom_main::{ExitStatus, Translation, try_check, try_run, try_translate};
@@ -72,12 +74,12 @@ pub fn check_by_text<W: Sink, E: Sink>(
     out: &mut W,
     errors: &mut E,
 ) -> ExitStatus
-    ensures { Beside (λ status. Explaining (Checks prices image.now (record { before = W.out out.old; now = W.out out.new; failed = W.failed out.new })) (ExplainsByText image.now text.now []) (record { before = E.out errors.old; now = E.out errors.new; failed = E.failed errors.new }) status) (TellsText text.now) text.now image.now (record { before = W.out out.old; now = W.out out.new; failed = W.failed out.new }) (record { before = E.out errors.old; now = E.out errors.new; failed = E.failed errors.new }) result }
+    ensures { Beside (λ status. Explaining (ChecksBy (text_names text.now) prices image.now (record { before = W.out out.old; now = W.out out.new; failed = W.failed out.new })) (ExplainsByText image.now text.now []) (record { before = E.out errors.old; now = E.out errors.new; failed = E.failed errors.new }) status) (TellsText text.now) text.now image.now (record { before = W.out out.old; now = W.out out.new; failed = W.failed out.new }) (record { before = E.out errors.old; now = E.out errors.new; failed = E.failed errors.new }) result }
 {
     match ImageText::beside(alloc, text, image) {
         Err(fault) => refuse_text(alloc, &fault, text, errors),
         Ok(text) => {
-            let found = try_check(alloc, image, prices, out);
+            let found = try_check_by_names(alloc, image, &text, prices, out);
             answer_by_text(alloc, found, image, &text, b"", errors)
         }
     }
@@ -93,22 +95,24 @@ pub fn check_lined<W: Sink, E: Sink>(
     out: &mut W,
     errors: &mut E,
 ) -> ExitStatus
-    ensures { Beside (λ status. Lining (Checks prices image.now (record { before = W.out out.old; now = W.out out.new; failed = W.failed out.new })) (fault_lined file.now text.now) (record { before = E.out errors.old; now = E.out errors.new; failed = E.failed errors.new }) status) (LinesText file.now text.now) text.now image.now (record { before = W.out out.old; now = W.out out.new; failed = W.failed out.new }) (record { before = E.out errors.old; now = E.out errors.new; failed = E.failed errors.new }) result }
+    ensures { Beside (λ status. Lining (ChecksBy (text_names text.now) prices image.now (record { before = W.out out.old; now = W.out out.new; failed = W.failed out.new })) (fault_lined file.now text.now) (record { before = E.out errors.old; now = E.out errors.new; failed = E.failed errors.new }) status) (LinesText file.now text.now) text.now image.now (record { before = W.out out.old; now = W.out out.new; failed = W.failed out.new }) (record { before = E.out errors.old; now = E.out errors.new; failed = E.failed errors.new }) result }
 {
     match ImageText::beside(alloc, text, image) {
         Err(fault) => line_text(alloc, &fault, file, errors),
         Ok(text) => {
-            let found = try_check(alloc, image, prices, out);
+            let found = try_check_by_names(alloc, image, &text, prices, out);
             answer_lined(alloc, found, file, &text, errors)
         }
     }
 }
 
-/// Runs an image under a script beside those natives, and explains by its text why it is not run. Of a script the line is told.
+/// Runs an image under a script beside those natives, and explains by its text why it is not run. Of a script the line is told. Where
+/// names are asked for, the transcript has those of the text in place of the numbers of classes.
 pub fn run_by_text<W: Sink, E: Sink>(
     alloc: Global,
     image: &[u8],
     text: &[u8],
+    names: bool,
     script: &[u8],
     limit: u32,
     boxes: Vec<Box<dyn Native>>,
@@ -117,12 +121,12 @@ pub fn run_by_text<W: Sink, E: Sink>(
 ) -> ExitStatus
     requires limit { (1 ≤ limit) × (limit ≤ 1000000000) }
     requires owed { OweNothing (λ b. (⟦<dyn Native as Native>⟧ b.vtable).owed b.value) boxes.items }
-    ensures { Beside (λ status. Explaining (RunAnswers image.now script.now limit (length boxes.items) (record { before = W.out out.old; now = W.out out.new; failed = W.failed out.new })) (ExplainsByText image.now text.now script.now) (record { before = E.out errors.old; now = E.out errors.new; failed = E.failed errors.new }) status) (TellsText text.now) text.now image.now (record { before = W.out out.old; now = W.out out.new; failed = W.failed out.new }) (record { before = E.out errors.old; now = E.out errors.new; failed = E.failed errors.new }) result }
+    ensures { Beside (λ status. Explaining (RunAnswersBy (line_by names text.now) image.now script.now limit (length boxes.items) (record { before = W.out out.old; now = W.out out.new; failed = W.failed out.new })) (ExplainsByText image.now text.now script.now) (record { before = E.out errors.old; now = E.out errors.new; failed = E.failed errors.new }) status) (TellsText text.now) text.now image.now (record { before = W.out out.old; now = W.out out.new; failed = W.failed out.new }) (record { before = E.out errors.old; now = E.out errors.new; failed = E.failed errors.new }) result }
 {
     match ImageText::beside(alloc, text, image) {
         Err(fault) => refuse_text(alloc, &fault, text, errors),
         Ok(text) => {
-            let found = try_run(alloc, image, script, limit, boxes, out);
+            let found = try_run_told(alloc, image, &text, names, script, limit, boxes, out);
             answer_by_text(alloc, found, image, &text, script, errors)
         }
     }

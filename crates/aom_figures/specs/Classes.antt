@@ -8,6 +8,7 @@ use Rattle.aom_image.specs.declared.class.ClassKind.TheVariants.{Plain, Active, 
 use Rattle.aom_image.specs.declared.method.Thing.{Thing}
 use Rattle.aom_image.specs.declared.method.Thing.TheVariants.{Object, Message}
 use Rattle.aom_figures.specs.Each.{each, line_end, numbered}
+use Rattle.aom_figures.specs.Names.{Names, label}
 use Rattle.aom_figures.specs.Over.{class_is_over, color_text}
 
 -- what a class is for, and the end of its label
@@ -17,13 +18,13 @@ kind_word (Active provider) = codes " active\""
 kind_word (Server sessions session) = codes " server\""
 kind_word Session = codes " session\""
 
--- a box for a class, with its kind
-abbrev pub class_heading : ℕ → ClassKind → List ℕ
-class_heading k kind = numbered (codes "c") k ++ numbered (codes " [shape=box label=\"c") k ++ kind_word kind
+-- a box for a class, told by its name, with its kind
+abbrev pub class_heading : Names → ℕ → ClassKind → List ℕ
+class_heading names k kind = numbered (codes "c") k ++ codes " [shape=box label=\"" ++ label names.classes (codes "c") k ++ kind_word kind
 
 -- its line, red where its dispatches are over what is declared of them
-abbrev pub class_line : Image → List ℕ → ℕ → ClassDecl → List ℕ
-class_line p prices k class = class_heading k class.kind ++ color_text (class_is_over p prices k class) ++ line_end
+abbrev pub class_line : Names → Image → List ℕ → ℕ → ClassDecl → List ℕ
+class_line names p prices k class = class_heading names k class.kind ++ color_text (class_is_over p prices k class) ++ line_end
 
 -- what is owned
 abbrev pub thing_text : Thing → List ℕ
@@ -45,8 +46,8 @@ parent_text k None = []
 parent_text k (Some parent) = parent_line k parent
 
 -- a class, its parent, and what each of its owning fields may own
-abbrev pub class_text : Image → List ℕ → ℕ → ClassDecl → List ℕ
-class_text p prices k class = class_line p prices k class ++ parent_text k class.parent ++ fields_text k class.fields
+abbrev pub class_text : Names → Image → List ℕ → ℕ → ClassDecl → List ℕ
+class_text names p prices k class = class_line names p prices k class ++ parent_text k class.parent ++ fields_text k class.fields
 
-abbrev pub classes_text : Image → List ℕ → List ClassDecl → List ℕ
-classes_text p prices classes = each (class_text p prices) 0 classes
+abbrev pub classes_text : Names → Image → List ℕ → List ClassDecl → List ℕ
+classes_text names p prices classes = each (class_text names p prices) 0 classes

@@ -5,8 +5,9 @@ use Rattle.aom_classes.specs.Roles.{main_of}
 use Rattle.aom_budget.specs.Figures.{Figures}
 use Rattle.aom_figures.specs.Classes.{classes_text}
 use Rattle.aom_figures.specs.Methods.{methods_text}
+use Rattle.aom_figures.specs.Names.{Names}
 use Rattle.aom_figures.specs.Way.{way_of}
 
 -- the classes, the methods, and the way from main to the greatest price
-abbrev pub dot_text : Image → Figures → List ℕ
-dot_text p f = codes "digraph aom {" ++ 10 ∷ (classes_text p f.prices p.classes ++ methods_text p f p.methods ++ way_of p f.prices (main_of p) ++ codes "}" ++ 10 ∷ [])
+abbrev pub dot_text : Names → Image → Figures → List ℕ
+dot_text names p f = codes "digraph aom {" ++ 10 ∷ (classes_text names p f.prices p.classes ++ methods_text names p f p.methods ++ way_of p f.prices (main_of p) ++ codes "}" ++ 10 ∷ [])

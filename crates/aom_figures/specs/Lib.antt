@@ -1,4 +1,5 @@
 pub mod Each
+pub mod Names
 pub mod Edges
 pub mod Over
 pub mod Classes

@@ -3,8 +3,8 @@ ghost use Rattle.std.specs.Prelude.{◌≡◌, ◌≤◌, ◌<◌, ◌++◌, OnO
 ghost use Rattle.aom_figures.specs.Each.{numbered};
 ghost use Rattle.aom_figures.specs.Classes.{kind_word, class_heading, thing_text, field_line, fields_text, parent_line, parent_text, class_text, classes_text};
 
-use crate::Writer;
 use crate::over::{class_is_over, put_color};
+use crate::{Names, Writer};
 use aom_budget::Figures;
 use aom_image::{ClassDecl, ClassKind, ClassNumber, Thing};
 use aom_linked::Linked;
@@ -36,16 +36,18 @@ fn put_class_number(out: &mut Writer, words: &[u8], class: ClassNumber) -> Resul
     out.count(words, u64::from(class.number()))
 }
 
-/// A box for a class, with its kind.
+/// A box for a class, told by its name, with its kind.
 fn put_class_heading(
     out: &mut Writer,
+    names: &Names,
     class: ClassNumber,
     kind: ClassKind,
 ) -> Result<(), AllocError>
-    ensures { OnOk result (out.new ≡ out.old ++ class_heading class kind) }
+    ensures { OnOk result (out.new ≡ out.old ++ class_heading names.now class kind) }
 {
     put_class_number(out, b"c", class)?;
-    put_class_number(out, b" [shape=box label=\"c", class)?;
+    out.words(b" [shape=box label=\"")?;
+    names.put_class(out, b"c", class)?;
     put_kind_word(out, kind)
 }
 
@@ -111,14 +113,15 @@ fn put_parent(
 /// A class, red where its dispatches are over what is declared of them, its parent, and what each of its owning fields may own.
 fn put_class(
     out: &mut Writer,
+    names: &Names,
     linked: &Linked,
     figures: &Figures,
     class: ClassNumber,
     declaration: &ClassDecl,
 ) -> Result<(), AllocError>
-    ensures { OnOk result (out.new ≡ out.old ++ class_text linked.now figures.now.prices class declaration.now) }
+    ensures { OnOk result (out.new ≡ out.old ++ class_text names.now linked.now figures.now.prices class declaration.now) }
 {
-    put_class_heading(out, class, declaration.kind)?;
+    put_class_heading(out, names, class, declaration.kind)?;
     put_color(out, class_is_over(linked, figures, class, declaration))?;
     out.words(b"]\n")?;
     put_parent(out, class, declaration.parent)?;
@@ -127,15 +130,16 @@ fn put_class(
 
 pub(crate) fn put_classes(
     out: &mut Writer,
+    names: &Names,
     linked: &Linked,
     figures: &Figures,
     classes: &[ClassDecl],
 ) -> Result<(), AllocError>
     requires { length classes.now ≤ 256 }
-    ensures { OnOk result (out.new ≡ out.old ++ classes_text linked.now figures.now.prices classes.now) }
+    ensures { OnOk result (out.new ≡ out.old ++ classes_text names.now linked.now figures.now.prices classes.now) }
 {
     for (index, class) in classes.iter().enumerate() {
-        put_class(out, linked, figures, class_number(index), class)?;
+        put_class(out, names, linked, figures, class_number(index), class)?;
     }
     Ok(())
 }

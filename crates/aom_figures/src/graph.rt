@@ -2,23 +2,28 @@
 ghost use Rattle.std.specs.Prelude.{◌≡◌, IfOk};
 ghost use Rattle.aom_figures.specs.Dot.{dot_text};
 
-use crate::Writer;
 use crate::class::put_classes;
 use crate::method::put_methods;
 use crate::way::put_way;
+use crate::{Names, Writer};
 use aom_budget::Figures;
 use aom_linked::Linked;
 use std::alloc::{AllocError, Global};
 
-/// The graph of an image in Graphviz's language, with its figures.
-pub fn dot_text(alloc: Global, linked: &Linked, figures: &Figures) -> Result<Vec<u8>, AllocError>
-    ensures { IfOk result (λ text. text.items ≡ dot_text linked.now figures.now) }
+/// The graph of an image in Graphviz's language, with its figures, and with the names of classes and methods where there are some.
+pub fn dot_text(
+    alloc: Global,
+    names: &Names,
+    linked: &Linked,
+    figures: &Figures,
+) -> Result<Vec<u8>, AllocError>
+    ensures { IfOk result (λ text. text.items ≡ dot_text names.now linked.now figures.now) }
 {
     let mut out = Writer::new(alloc);
     let image = linked.image();
     out.words(b"digraph aom {\n")?;
-    put_classes(&mut out, linked, figures, image.classes().as_slice())?;
-    put_methods(&mut out, linked, figures, image.methods().as_slice())?;
+    put_classes(&mut out, names, linked, figures, image.classes().as_slice())?;
+    put_methods(&mut out, names, linked, figures, image.methods().as_slice())?;
     put_way(&mut out, linked, figures)?;
     out.words(b"}\n")?;
     Ok(out.into_text())

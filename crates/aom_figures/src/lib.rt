@@ -13,6 +13,7 @@ mod edge;
 mod graph;
 mod method;
 mod most;
+mod names;
 mod over;
 mod text;
 mod way;
@@ -20,5 +21,6 @@ mod writer;
 
 pub use graph::dot_text;
 pub use most::method_number;
+pub use names::Names;
 pub use text::figures_text;
 pub use writer::Writer;

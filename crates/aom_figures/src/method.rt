@@ -5,7 +5,7 @@ ghost use Rattle.aom_figures.specs.Methods.{role_word, of_text, heading_text, fi
 
 use crate::edge::put_code;
 use crate::over::{method_is_over, put_color};
-use crate::{Writer, method_number};
+use crate::{Names, Writer, method_number};
 use aom_budget::Figures;
 use aom_image::{ClassNumber, Method, MethodNumber, Role};
 use aom_linked::Linked;
@@ -29,11 +29,18 @@ fn put_role(out: &mut Writer, role: Role) -> Result<(), AllocError>
 }
 
 /// The class whose objects a method works on, where there is one.
-fn put_class_of(out: &mut Writer, class: Option<ClassNumber>) -> Result<(), AllocError>
-    ensures { OnOk result (out.new ≡ out.old ++ of_text class) }
+fn put_class_of(
+    out: &mut Writer,
+    names: &Names,
+    class: Option<ClassNumber>,
+) -> Result<(), AllocError>
+    ensures { OnOk result (out.new ≡ out.old ++ of_text names.now class) }
 {
     match class {
-        Some(class) => out.count(b" c", u64::from(class.number())),
+        Some(class) => {
+            out.words(b" ")?;
+            names.put_class(out, b"c", class)
+        }
         None => Ok(()),
     }
 }
@@ -47,14 +54,20 @@ fn put_figures(out: &mut Writer, figures: &Figures, method: MethodNumber) -> Res
     out.words(b"\"")
 }
 
-/// A method with its role and its class.
-fn put_heading(out: &mut Writer, number: MethodNumber, method: &Method) -> Result<(), AllocError>
-    ensures { OnOk result (out.new ≡ out.old ++ heading_text number method.now) }
+/// A method, told by its name, with its role and its class.
+fn put_heading(
+    out: &mut Writer,
+    names: &Names,
+    number: MethodNumber,
+    method: &Method,
+) -> Result<(), AllocError>
+    ensures { OnOk result (out.new ≡ out.old ++ heading_text names.now number method.now) }
 {
-    out.count(b"m", u64::from(number.number()))?;
-    out.count(b" [label=\"m", u64::from(number.number()))?;
+    put_method_number(out, b"m", number)?;
+    out.words(b" [label=\"")?;
+    names.put_method(out, b"m", number)?;
     put_role(out, method.role)?;
-    put_class_of(out, method.class)
+    put_class_of(out, names, method.class)
 }
 
 /// Words, and a method behind them.
@@ -93,14 +106,15 @@ fn put_over(
 /// A method with its figures, red where it is over a limit, the one that it overrides, and what its instructions lead to.
 fn put_method(
     out: &mut Writer,
+    names: &Names,
     linked: &Linked,
     figures: &Figures,
     number: MethodNumber,
     method: &Method,
 ) -> Result<(), AllocError>
-    ensures { OnOk result (out.new ≡ out.old ++ method_text linked.now figures.now number method.now) }
+    ensures { OnOk result (out.new ≡ out.old ++ method_text names.now linked.now figures.now number method.now) }
 {
-    put_heading(out, number, method)?;
+    put_heading(out, names, number, method)?;
     put_figures(out, figures, number)?;
     put_color(out, method_is_over(linked, figures, number))?;
     out.words(b"]\n")?;
@@ -110,15 +124,16 @@ fn put_method(
 
 pub(crate) fn put_methods(
     out: &mut Writer,
+    names: &Names,
     linked: &Linked,
     figures: &Figures,
     methods: &[Method],
 ) -> Result<(), AllocError>
     requires { length methods.now ≤ 1024 }
-    ensures { OnOk result (out.new ≡ out.old ++ methods_text linked.now figures.now methods.now) }
+    ensures { OnOk result (out.new ≡ out.old ++ methods_text names.now linked.now figures.now methods.now) }
 {
     for (index, method) in methods.iter().enumerate() {
-        put_method(out, linked, figures, method_number(index), method)?;
+        put_method(out, names, linked, figures, method_number(index), method)?;
     }
     Ok(())
 }

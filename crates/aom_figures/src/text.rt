@@ -2,10 +2,11 @@
 ghost use Rattle.std.specs.Prelude.{◌≡◌, ◌<◌, ◌++◌, length, IfOk, OnOk};
 ghost use Rattle.aom_budget.specs.Faults.{payer_text};
 ghost use Rattle.aom_budget.specs.declared.fault.Payer.TheVariants as payers;
-ghost use Rattle.aom_figures.specs.Text.{classes_text, declared_text, dispatch_line, entries_line, figures_text, frames_line, limits_text, method_line, methods_text, payer_lines};
+ghost use Rattle.aom_figures.specs.Text.{classes_text, declared_text, dispatch_line, entries_line, figures_text, frames_line, limits_text, method_line, methods_text, payer_lines, payer_word};
 ghost use Rattle.aom_budget.specs.Figures.{kind_by};
 ghost use Rattle.aom_budget.specs.Budgets.{budget_of};
 
+use crate::Names;
 use crate::most::{method_number, most_of};
 use crate::writer::Writer;
 use aom_budget::{Figures, Payer, budget_of};
@@ -32,10 +33,29 @@ impl Writer {
         }
     }
 
-    fn dispatch(&mut self, payer: Payer, price: u64, declared: u32) -> Result<(), AllocError>
-        ensures { OnOk result (self.new ≡ self.old ++ dispatch_line payer price declared) }
+    /// Whose dispatch it is, told by the name of its class.
+    fn payer_word(&mut self, names: &Names, payer: Payer) -> Result<(), AllocError>
+        ensures { OnOk result (self.new ≡ self.old ++ payer_word names.now payer) }
     {
-        self.payer(payer)?;
+        match payer {
+            Payer::Main => self.words(b"main"),
+            Payer::Class(class) => {
+                self.words(b"class ")?;
+                names.put_class(self, b"", class)
+            }
+        }
+    }
+
+    fn dispatch(
+        &mut self,
+        names: &Names,
+        payer: Payer,
+        price: u64,
+        declared: u32,
+    ) -> Result<(), AllocError>
+        ensures { OnOk result (self.new ≡ self.old ++ dispatch_line names.now payer price declared) }
+    {
+        self.payer_word(names, payer)?;
         self.count(b" price ", price)?;
         self.count(b" declared ", u64::from(declared))?;
         self.words(b"\n")
@@ -44,28 +64,40 @@ impl Writer {
     /// A line for a class whose objects are dispatched.
     fn class(
         &mut self,
+        names: &Names,
         linked: &Linked,
         figures: &Figures,
         class: ClassNumber,
         declaration: &ClassDecl,
     ) -> Result<(), AllocError>
-        ensures { OnOk result (self.new ≡ self.old ++ declared_text (payers.Class class) (kind_by linked.now figures.now.prices class declaration.now.kind) (budget_of declaration.now)) }
+        ensures { OnOk result (self.new ≡ self.old ++ declared_text names.now (payers.Class class) (kind_by linked.now figures.now.prices class declaration.now.kind) (budget_of declaration.now)) }
     {
         match budget_of(declaration) {
             Some(declared) => {
                 let price = figures.kind_price(linked, class, declaration.kind);
-                self.dispatch(Payer::Class(class), price, declared)
+                self.dispatch(names, Payer::Class(class), price, declared)
             }
             None => Ok(()),
         }
     }
 
-    fn classes(&mut self, linked: &Linked, figures: &Figures) -> Result<(), AllocError>
-        ensures { OnOk result (self.new ≡ self.old ++ classes_text linked.now figures.now.prices) }
+    fn classes(
+        &mut self,
+        names: &Names,
+        linked: &Linked,
+        figures: &Figures,
+    ) -> Result<(), AllocError>
+        ensures { OnOk result (self.new ≡ self.old ++ classes_text names.now linked.now figures.now.prices) }
     {
         let classes = linked.image().classes();
         for index in 0..classes.len() {
-            self.class(linked, figures, class_number(index), classes.at(index))?;
+            self.class(
+                names,
+                linked,
+                figures,
+                class_number(index),
+                classes.at(index),
+            )?;
         }
         Ok(())
     }
@@ -81,40 +113,52 @@ impl Writer {
         self.words(b" of 1024\n")
     }
 
-    fn method(&mut self, figures: &Figures, method: MethodNumber) -> Result<(), AllocError>
-        ensures { OnOk result (self.new ≡ self.old ++ method_line figures.now method) }
+    fn method(
+        &mut self,
+        names: &Names,
+        figures: &Figures,
+        method: MethodNumber,
+    ) -> Result<(), AllocError>
+        ensures { OnOk result (self.new ≡ self.old ++ method_line names.now figures.now method) }
     {
-        self.count(b"method ", u64::from(method.number()))?;
+        self.words(b"method ")?;
+        names.put_method(self, b"", method)?;
         self.count(b" price ", figures.price(method))?;
         self.count(b" frames ", u64::from(figures.frames(method)))?;
         self.count(b" entries ", u64::from(figures.entries(method)))?;
         self.words(b"\n")
     }
 
-    fn methods(&mut self, linked: &Linked, figures: &Figures) -> Result<(), AllocError>
-        ensures { OnOk result (self.new ≡ self.old ++ methods_text linked.now figures.now) }
+    fn methods(
+        &mut self,
+        names: &Names,
+        linked: &Linked,
+        figures: &Figures,
+    ) -> Result<(), AllocError>
+        ensures { OnOk result (self.new ≡ self.old ++ methods_text names.now linked.now figures.now) }
     {
         let methods = linked.image().methods();
         for index in 0..methods.len() {
-            self.method(figures, method_number(index))?;
+            self.method(names, figures, method_number(index))?;
         }
         Ok(())
     }
 }
 
-/// The text of the figures of an image.
+/// The text of the figures of an image, with the names of classes and methods where there are some.
 pub fn figures_text(
     alloc: Global,
+    names: &Names,
     linked: &Linked,
     figures: &Figures,
 ) -> Result<Vec<u8>, AllocError>
-    ensures { IfOk result (λ text. text.items ≡ figures_text linked.now figures.now) }
+    ensures { IfOk result (λ text. text.items ≡ figures_text names.now linked.now figures.now) }
 {
     let mut writer = Writer::new(alloc);
     let declared = linked.image().header().budget;
-    writer.dispatch(Payer::Main, figures.main_price(linked), declared)?;
-    writer.classes(linked, figures)?;
+    writer.dispatch(names, Payer::Main, figures.main_price(linked), declared)?;
+    writer.classes(names, linked, figures)?;
     writer.limits(linked, figures)?;
-    writer.methods(linked, figures)?;
+    writer.methods(names, linked, figures)?;
     Ok(writer.into_text())
 }

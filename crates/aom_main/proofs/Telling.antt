@@ -20,7 +20,7 @@ use Rattle.aom_endings.proofs.Polling.{nothing_is_heard}
 use Rattle.aom_endings.specs.Hearing.{Follows, Oracle}
 use Rattle.aom_endings.specs.Determined.{TextIsDetermined}
 use Rattle.aom_endings.proofs.Alike.{alike_counted}
-use Rattle.aom_transcript.specs.Text.{transcript}
+use Rattle.aom_run.specs.Naming.{transcript_by}
 use Rattle.aom_steps.specs.Runs.{TypedRunsWell}
 use Rattle.aom_steps.specs.Laws.{StepsWithin}
 use Rattle.aom_run.specs.declared.outcome.Outcome.{Outcome}
@@ -40,13 +40,13 @@ use Rattle.aom_run.specs.declared.fault.BootFault.{BootFault}
 use Rattle.aom_run.specs.declared.fault.BootFault.TheVariants as boots
 use Rattle.aom_main.specs.Status.{of_boot, of_script, of_script_kind, status_of}
 use Rattle.aom_main.specs.Acceptable.{IsSpelled, IsAcceptable, Refuses, RefusesOrWants as RefusesImage}
-use Rattle.aom_main.specs.Headline.{Sent, outside_of, IsSilent, Told, Shows, Accepts, AcceptedAnswers, AllRunWell, CheckAnswers, Ends, EndsAs, EndsOrFails, HasNatives, ImageWantsMemory, IsNoScript, IsOnly, IsRefused, RefusesBoot, RunAnswers, Runs, Shown, Tells, Transcribed}
+use Rattle.aom_main.specs.Headline.{Sent, outside_of, IsSilent, Told, Shows, Accepts, AcceptedAnswers, AllRunWell, CheckAnswers, Ends, EndsAs, EndsOrFails, HasNatives, ImageWantsMemory, IsNoScript, IsOnly, IsRefused, RefusesBoot, RunAnswersBy, Runs, Shown, Tells, Transcribed}
 use Rattle.aom_exec.proofs.Affording.{affords}
-use Rattle.aom_main.specs.Explored.{AcceptedExplores, BreaksOff, ExploreAnswers, Explored, RefusesTry}
+use Rattle.aom_main.specs.Explored.{AcceptedExplores, Begun, BreaksOff, ExploreAnswers, Explored, Plans, RefusesTry}
 use Rattle.aom_main.specs.Explored.ExploreBreaks.{script_wants_memory as wants_for_script, machine_wants_memory as wants_for_machine, output_fails as fails}
-use Rattle.aom_main.specs.declared.exploring.Part.{Part}
+use Rattle.aom_injection.specs.declared.injection.Injection.{Injection}
+use Rattle.aom_injection.specs.declared.tries.Tries.{Tries}
 use Rattle.aom_main.specs.Headline.RunBreaks.{machine_wants_memory, output_fails, script_wants_memory}
-use Rattle.aom_main.proofs.Tries.{nothing}
 
 -- ---- a run
 
@@ -79,7 +79,7 @@ runs_of bytes text limit natives p script acceptable well spelled denotes =
 silence : Oracle
 silence = record { answers = λ n. pos 0; completes = λ n. None }
 
-module _ (bytes text : List ℕ) (limit natives : ℕ) (r : Runs bytes text limit natives) where
+module _ (reads : Line → List ℕ) (bytes text : List ℕ) (limit natives : ℕ) (r : Runs bytes text limit natives) where
   abbrev around : Outside
   around = outside_of r.script limit natives
 
@@ -89,19 +89,19 @@ module _ (bytes text : List ℕ) (limit natives : ℕ) (r : Runs bytes text limi
   unheard none lines s reached = nothing_is_heard.idle r.image around (nothing_is_heard.unnamed r.image r.spelled.formed none) silence (λ n. refl) (boot_state r.image) lines s reached
 
   -- two runs that hear the same end alike
-  ends_as : (oracle : Oracle) (ending : Ending) (out : Sent) (shown : Transcribed r.image around ending out) (lines : List Line) (last : State) (other : Ending) (run : Run_of r.image around lines last other)
-      → Follows oracle shown.run.reaches → Follows oracle run.reaches → EndsAs ending out lines last other
+  ends_as : (oracle : Oracle) (ending : Ending) (out : Sent) (shown : Transcribed reads r.image around ending out) (lines : List Line) (last : State) (other : Ending) (run : Run_of r.image around lines last other)
+      → Follows oracle shown.run.reaches → Follows oracle run.reaches → EndsAs reads ending out lines last other
   ends_as oracle ending out shown lines last other run one another =
       let same = r.determined.ended oracle shown.lines lines shown.last last ending other shown.run run one another in (
         sym same.1,
         shown.out
-            ∙ ap (λ ls. after out.before (transcript ls ending (count_cells shown.last.cells))) same.0
-            ∙ ap (λ e. after out.before (transcript lines e (count_cells shown.last.cells))) same.1
-            ∙ ap (λ n. after out.before (transcript lines other n)) (alike_counted shown.last last same.2),
+            ∙ ap (λ ls. after out.before (transcript_by reads ls ending (count_cells shown.last.cells))) same.0
+            ∙ ap (λ e. after out.before (transcript_by reads lines e (count_cells shown.last.cells))) same.1
+            ∙ ap (λ n. after out.before (transcript_by reads lines other n)) (alike_counted shown.last last same.2),
       )
 
   -- what went out is what each run that ends and hears the same has written
-  only : (ending : Ending) (out : Sent) (shown : Transcribed r.image around ending out) → IsOnly r.image around ending out shown
+  only : (ending : Ending) (out : Sent) (shown : Transcribed reads r.image around ending out) → IsOnly reads r.image around ending out shown
   only ending out shown =
       let heard = each_run_follows r.image around (boot_state r.image) shown.lines shown.last shown.run.reaches in record {
         oracle = heard.0;
@@ -111,14 +111,14 @@ module _ (bytes text : List ℕ) (limit natives : ℕ) (r : Runs bytes text limi
             ends_as silence ending out shown lines last other run (unheard none shown.lines shown.last shown.run.reaches) (unheard none lines last run.reaches);
       }
 
-  so : (ending : Ending) (out : Sent) → HasNatives r.image natives → Transcribed r.image around ending out → Shown bytes text limit natives ending out
+  so : (ending : Ending) (out : Sent) → HasNatives r.image natives → Transcribed reads r.image around ending out → Shown reads bytes text limit natives ending out
   so ending out enough shown = record { runs = r; enough = enough; transcribed = shown; only = only ending out shown }
 
-  ran : (out errors : Sent) (outcome : Outcome) (status : ExitStatus) → HasNatives r.image natives → Shows r.image around outcome out → Ends outcome status errors
-      → AcceptedAnswers bytes text limit natives out errors status
-  ran out errors Stopped status enough shows ends = subst (AcceptedAnswers bytes text limit natives out errors) (sym ends.0) (so _ out enough shows, ends.1)
-  ran out errors WriteFault status enough shows ends = subst (AcceptedAnswers bytes text limit natives out errors) (sym ends.0) (output_fails r enough shows ends.1)
-  ran out errors _ status enough shows ends = subst (AcceptedAnswers bytes text limit natives out errors) (sym ends.0) (_, tt, so _ out enough shows, ends.1)
+  ran : (out errors : Sent) (outcome : Outcome) (status : ExitStatus) → HasNatives r.image natives → Shows reads r.image around outcome out → Ends outcome status errors
+      → AcceptedAnswers reads bytes text limit natives out errors status
+  ran out errors Stopped status enough shows ends = subst (AcceptedAnswers reads bytes text limit natives out errors) (sym ends.0) (so _ out enough shows, ends.1)
+  ran out errors WriteFault status enough shows ends = subst (AcceptedAnswers reads bytes text limit natives out errors) (sym ends.0) (output_fails r enough shows ends.1)
+  ran out errors _ status enough shows ends = subst (AcceptedAnswers reads bytes text limit natives out errors) (sym ends.0) (_, tt, so _ out enough shows, ends.1)
 
 -- the fault by which a machine does not boot
 pub boot_refused : (p : Image) (natives : ℕ) (fault : BootFault) → (fault ≡ boots.TooFewNatives) ↔ (natives < p.header.natives) → RefusesBoot p natives (of_boot fault)
@@ -129,30 +129,30 @@ boot_refused p natives boots.OutOfMemory tells = not_fewer (λ few. let other = 
     not_fewer none = omega (arith, none)
 
 -- what a run of a machine sends is what its outcome shows
-pub shown_by : {X : Type 0} {B : X → Type 0} (p : Image) (m new : Machine X B) (outside : Outside) (outcome : Outcome) (failed : Bool) (before now : Option (List ℕ)) → m.core.image ≡ p → Ran m outside outcome failed before now new
-    → Shows p outside outcome (record { before = before; now = now; failed = failed })
-shown_by p m new outside WriteFault failed before now image ran = rw (← image) (record { failed = ran.0; beginning = ran.1 })
-shown_by p m new outside _ failed before now image ran = rw (← image) (record { lines = ran.lines; last = ran.state; run = ran.run; out = ran.out })
+pub shown_by : {X : Type 0} {B : X → Type 0} (reads : Line → List ℕ) (p : Image) (m new : Machine X B) (outside : Outside) (outcome : Outcome) (failed : Bool) (before now : Option (List ℕ)) → m.core.image ≡ p → Ran reads m outside outcome failed before now new
+    → Shows reads p outside outcome (record { before = before; now = now; failed = failed })
+shown_by reads p m new outside WriteFault failed before now image ran = rw (← image) (record { failed = ran.0; beginning = ran.1 })
+shown_by reads p m new outside _ failed before now image ran = rw (← image) (record { lines = ran.lines; last = ran.state; run = ran.run; out = ran.out })
 
-module _ (bytes text : List ℕ) (limit natives : ℕ) (p : Image) (script : Script) (acceptable : IsAcceptable p) (well : AllRunWell p) (spelled : IsSpelled bytes p) (denotes : denoted text ≡ Ok script) (out errors : Sent) where
+module _ (reads : Line → List ℕ) (bytes text : List ℕ) (limit natives : ℕ) (p : Image) (script : Script) (acceptable : IsAcceptable p) (well : AllRunWell p) (spelled : IsSpelled bytes p) (denotes : denoted text ≡ Ok script) (out errors : Sent) where
   abbrev of_it : Runs bytes text limit natives
   of_it = runs_of bytes text limit natives p script acceptable well spelled denotes
 
   -- a run of an accepted image under a script ended so
-  ran_of : (outcome : Outcome) (status : ExitStatus) → HasNatives p natives → Shows p (outside_of script limit natives) outcome out → Ends outcome status errors → AcceptedAnswers bytes text limit natives out errors status
-  ran_of outcome status enough shows ends = ran bytes text limit natives of_it out errors outcome status enough shows ends
+  ran_of : (outcome : Outcome) (status : ExitStatus) → HasNatives p natives → Shows reads p (outside_of script limit natives) outcome out → Ends outcome status errors → AcceptedAnswers reads bytes text limit natives out errors status
+  ran_of outcome status enough shows ends = ran reads bytes text limit natives of_it out errors outcome status enough shows ends
 
   -- its machine did not boot, and that is told
-  unbooted : (fault : Fault) (status : ExitStatus) → RefusesBoot p natives fault → IsSilent out → Told fault status errors → AcceptedAnswers bytes text limit natives out errors status
+  unbooted : (fault : Fault) (status : ExitStatus) → RefusesBoot p natives fault → IsSilent out → Told fault status errors → AcceptedAnswers reads bytes text limit natives out errors status
   unbooted (faults.Boot boots.TooFewNatives) status few silent told =
       let accepts : Accepts bytes = record { image = p; spelled = spelled; acceptable = acceptable } in
-      subst (AcceptedAnswers bytes text limit natives out errors) (sym told.0) (inr (record { silent = silent; accepts = accepts; script = script; denotes = denotes; few = few; tells = told.1 }))
-  unbooted faults.Memory status enough silent told = subst (AcceptedAnswers bytes text limit natives out errors) (sym told.0) (machine_wants_memory silent of_it enough told.1)
+      subst (AcceptedAnswers reads bytes text limit natives out errors) (sym told.0) (inr (record { silent = silent; accepts = accepts; script = script; denotes = denotes; few = few; tells = told.1 }))
+  unbooted faults.Memory status enough silent told = subst (AcceptedAnswers reads bytes text limit natives out errors) (sym told.0) (machine_wants_memory silent of_it enough told.1)
   unbooted _ status refused silent told = absurd refused
 
   -- a run that may not have been made
-  pub ended_so : (found : Result Outcome Fault) (status : ExitStatus) → IfOk found (λ _. HasNatives p natives) → IfOk found (λ outcome. Shows p (outside_of script limit natives) outcome out)
-      → IfErr found (λ fault. RefusesBoot p natives fault × IsSilent out) → EndsOrFails found status errors → AcceptedAnswers bytes text limit natives out errors status
+  pub ended_so : (found : Result Outcome Fault) (status : ExitStatus) → IfOk found (λ _. HasNatives p natives) → IfOk found (λ outcome. Shows reads p (outside_of script limit natives) outcome out)
+      → IfErr found (λ fault. RefusesBoot p natives fault × IsSilent out) → EndsOrFails found status errors → AcceptedAnswers reads bytes text limit natives out errors status
   ended_so (Ok outcome) status enough shows refused ends = ran_of outcome status enough shows ends
   ended_so (Err fault) status enough shows refused told = unbooted fault status refused.0 refused.1 told
 
@@ -173,12 +173,12 @@ unread answers bytes text fault line out errors status accepts (inr wants) silen
     let memory : Told faults.Memory status errors = subst (λ f. Told f status errors) (is ∙ ap (of_script_kind fault) wants.lines.kind) told in
     subst answers (sym memory.0) (wanting wants memory.1)
 
-pub unscripted : (bytes text : List ℕ) (limit natives : ℕ) (fault : ScriptFault) (line : Fault) (out errors : Sent) (status : ExitStatus) → Accepts bytes → RefusesOrWants text fault → IsSilent out
-    → line ≡ of_script fault → Told line status errors → AcceptedAnswers bytes text limit natives out errors status
-unscripted bytes text limit natives fault line out errors status accepts refuses silent is told =
-    unread (AcceptedAnswers bytes text limit natives out errors) bytes text fault line out errors status accepts refuses silent is told inl (script_wants_memory silent accepts fault)
+pub unscripted : (reads : Line → List ℕ) (bytes text : List ℕ) (limit natives : ℕ) (fault : ScriptFault) (line : Fault) (out errors : Sent) (status : ExitStatus) → Accepts bytes → RefusesOrWants text fault → IsSilent out
+    → line ≡ of_script fault → Told line status errors → AcceptedAnswers reads bytes text limit natives out errors status
+unscripted reads bytes text limit natives fault line out errors status accepts refuses silent is told =
+    unread (AcceptedAnswers reads bytes text limit natives out errors) bytes text fault line out errors status accepts refuses silent is told inl (script_wants_memory silent accepts fault)
 
--- ---- runs with one more refusal
+-- ---- runs into which faults are injected
 
 -- with enough natives memory alone is wanting
 pub tried_refused : (p : Image) (natives : ℕ) (fault : Fault) → HasNatives p natives → RefusesTry p natives fault → fault ≡ faults.Memory
@@ -189,41 +189,49 @@ pub memory_refused : (p : Image) (natives : ℕ) (fault : Fault) → fault ≡ f
 memory_refused p natives fault is = rw is tt
 
 -- nothing was tried yet
-pub begin_refused : (p : Image) (script : Script) (limit natives first : ℕ) (sent : Sent) (fault : Fault) → IsSilent sent → RefusesTry p natives fault → BreaksOff p script limit natives first sent fault
-begin_refused p script limit natives first sent fault silent refused = grind (arith, nothing)
+pub begin_refused : (p : Image) (script : Script) (limit natives : ℕ) (tries : Tries) (sent : Sent) (fault : Fault) → IsSilent sent → RefusesTry p natives fault → BreaksOff p script limit natives tries sent fault
+begin_refused p script limit natives tries sent (faults.Boot boots.TooFewNatives) silent few = (few, silent)
+begin_refused p script limit natives tries sent faults.Memory silent wants = inl silent
+begin_refused p script limit natives tries sent _ silent refused = absurd refused
+
+-- some of what is planned was tried
+pub stopped_there : (p : Image) (script : Script) (limit natives : ℕ) (tries : Tries) (injections given : List Injection) (left : Option Injection) (sent : Sent) (fault other : Fault) → Plans p script limit natives tries injections left
+    → given ≡ injections → fault ≡ other → other ≡ faults.Memory → Begun p script limit natives given sent → BreaksOff p script limit natives tries sent fault
+stopped_there p script limit natives tries injections given left sent fault other plans same is memory begun =
+    subst (BreaksOff p script limit natives tries sent) (sym (is ∙ memory)) (inr (injections, left, plans, subst (λ xs. Begun p script limit natives xs sent) same begun))
 
 -- why a machine does not boot is why its run is not made
 pub run_refused : (p : Image) (natives : ℕ) (fault : Fault) → RefusesBoot p natives fault → RefusesTry p natives fault
 run_refused p natives fault refused = grind arith
 
-module _ (bytes text : List ℕ) (limit natives : ℕ) (p : Image) (script : Script) (acceptable : IsAcceptable p) (well : AllRunWell p) (spelled : IsSpelled bytes p) (denotes : denoted text ≡ Ok script) (part : Part) (out errors : Sent) where
+module _ (bytes text : List ℕ) (limit natives : ℕ) (p : Image) (script : Script) (acceptable : IsAcceptable p) (well : AllRunWell p) (spelled : IsSpelled bytes p) (denotes : denoted text ≡ Ok script) (tries : Tries) (out errors : Sent) where
   abbrev of_them : Runs bytes text limit natives
   of_them = runs_of bytes text limit natives p script acceptable well spelled denotes
 
   -- one of them was not made, and that is told
-  pub broken_off : (fault : Fault) (status : ExitStatus) → BreaksOff p script limit natives part.first out fault → Told fault status errors → AcceptedExplores bytes text limit natives part out errors status
+  pub broken_off : (fault : Fault) (status : ExitStatus) → BreaksOff p script limit natives tries out fault → Told fault status errors → AcceptedExplores bytes text limit natives tries out errors status
   broken_off (faults.Boot boots.TooFewNatives) status off told =
       let accepts : Accepts bytes = record { image = p; spelled = spelled; acceptable = acceptable } in
-      subst (AcceptedExplores bytes text limit natives part out errors) (sym told.0) (inr (record { silent = off.1; accepts = accepts; script = script; denotes = denotes; few = off.0; tells = told.1 }))
-  broken_off faults.Memory status off told = subst (AcceptedExplores bytes text limit natives part out errors) (sym told.0) (wants_for_machine of_them off.0 off.1 told.1)
+      subst (AcceptedExplores bytes text limit natives tries out errors) (sym told.0) (inr (record { silent = off.1; accepts = accepts; script = script; denotes = denotes; few = off.0; tells = told.1 }))
+  broken_off faults.Memory status off told = subst (AcceptedExplores bytes text limit natives tries out errors) (sym told.0) (wants_for_machine of_them off told.1)
   broken_off _ status off told = absurd off
 
   -- the output failed
-  pub cut_off : (status : ExitStatus) → HasNatives p natives → Explored p script limit natives part out → out.failed ≡ true → Told faults.Write status errors → AcceptedExplores bytes text limit natives part out errors status
-  cut_off status enough explored failed told = subst (AcceptedExplores bytes text limit natives part out errors) (sym told.0) (fails of_them enough explored failed told.1)
+  pub cut_off : (status : ExitStatus) → HasNatives p natives → Explored p script limit natives tries out → out.failed ≡ true → Told faults.Write status errors → AcceptedExplores bytes text limit natives tries out errors status
+  cut_off status enough explored failed told = subst (AcceptedExplores bytes text limit natives tries out errors) (sym told.0) (fails of_them enough explored failed told.1)
 
-  pub explored : HasNatives p natives → Explored p script limit natives part out → out.failed ≡ false → IsSilent errors → AcceptedExplores bytes text limit natives part out errors statuses.Done
+  pub explored : HasNatives p natives → Explored p script limit natives tries out → out.failed ≡ false → IsSilent errors → AcceptedExplores bytes text limit natives tries out errors statuses.Done
   explored enough all lives silent = (of_them, enough, all, lives, silent)
 
-pub untried : (bytes text : List ℕ) (limit natives : ℕ) (part : Part) (fault : ScriptFault) (line : Fault) (out errors : Sent) (status : ExitStatus) → Accepts bytes → RefusesOrWants text fault → IsSilent out
-    → line ≡ of_script fault → Told line status errors → AcceptedExplores bytes text limit natives part out errors status
-untried bytes text limit natives part fault line out errors status accepts refuses silent is told =
-    unread (AcceptedExplores bytes text limit natives part out errors) bytes text fault line out errors status accepts refuses silent is told inl (wants_for_script silent accepts fault)
+pub untried : (bytes text : List ℕ) (limit natives : ℕ) (tries : Tries) (fault : ScriptFault) (line : Fault) (out errors : Sent) (status : ExitStatus) → Accepts bytes → RefusesOrWants text fault → IsSilent out
+    → line ≡ of_script fault → Told line status errors → AcceptedExplores bytes text limit natives tries out errors status
+untried bytes text limit natives tries fault line out errors status accepts refuses silent is told =
+    unread (AcceptedExplores bytes text limit natives tries out errors) bytes text fault line out errors status accepts refuses silent is told inl (wants_for_script silent accepts fault)
 
-pub explores : (bytes text : List ℕ) (limit natives : ℕ) (part : Part) (out errors : Sent) (status : ExitStatus) → AcceptedExplores bytes text limit natives part out errors status → ExploreAnswers bytes text limit natives part out errors status
-explores bytes text limit natives part out errors statuses.ImageRefused a = absurd a
-explores bytes text limit natives part out errors statuses.Fault a = inr a
-explores bytes text limit natives part out errors _ a = a
+pub explores : (bytes text : List ℕ) (limit natives : ℕ) (tries : Tries) (out errors : Sent) (status : ExitStatus) → AcceptedExplores bytes text limit natives tries out errors status → ExploreAnswers bytes text limit natives tries out errors status
+explores bytes text limit natives tries out errors statuses.ImageRefused a = absurd a
+explores bytes text limit natives tries out errors statuses.Fault a = inr a
+explores bytes text limit natives tries out errors _ a = a
 
 -- ---- bytes that are no accepted image
 
@@ -243,10 +251,10 @@ turned answers bytes fault out errors status refuses complete silent told refuse
         subst answers (sym (told.0 ∙ is))
         (refused (record { silent = silent; fault = fault; refuses = why; none = λ p spelled acceptable. other (complete p spelled acceptable); status = is; tells = told.1 }) refl)
 
-pub unaccepted : (bytes text : List ℕ) (limit natives : ℕ) (fault : Fault) (out errors : Sent) (status : ExitStatus) → RefusesImage bytes fault
-    → ((p : Image) → IsSpelled bytes p → IsAcceptable p → fault ≡ faults.Memory) → IsSilent out → Told fault status errors → RunAnswers bytes text limit natives out errors status
-unaccepted bytes text limit natives fault out errors status refuses complete silent told =
-    turned (RunAnswers bytes text limit natives out errors) bytes fault out errors status refuses complete silent told (λ refused _. refused) inl
+pub unaccepted : (reads : Line → List ℕ) (bytes text : List ℕ) (limit natives : ℕ) (fault : Fault) (out errors : Sent) (status : ExitStatus) → RefusesImage bytes fault
+    → ((p : Image) → IsSpelled bytes p → IsAcceptable p → fault ≡ faults.Memory) → IsSilent out → Told fault status errors → RunAnswersBy reads bytes text limit natives out errors status
+unaccepted reads bytes text limit natives fault out errors status refuses complete silent told =
+    turned (RunAnswersBy reads bytes text limit natives out errors) bytes fault out errors status refuses complete silent told (λ refused _. refused) inl
 
 pub unchecked : (bytes : List ℕ) (fault : Fault) (out errors : Sent) (status : ExitStatus) → RefusesImage bytes fault
     → ((p : Image) → IsSpelled bytes p → IsAcceptable p → fault ≡ faults.Memory) → IsSilent out → Told fault status errors → CheckAnswers bytes out errors status
@@ -255,7 +263,7 @@ unchecked bytes fault out errors status refuses complete silent told = turned (C
 -- ---- an accepted image
 
 -- what is answered of an accepted image is an answer
-pub accepted : (bytes text : List ℕ) (limit natives : ℕ) (out errors : Sent) (status : ExitStatus) → AcceptedAnswers bytes text limit natives out errors status → RunAnswers bytes text limit natives out errors status
-accepted bytes text limit natives out errors statuses.ImageRefused answers = absurd answers
-accepted bytes text limit natives out errors statuses.Fault answers = inr answers
-accepted bytes text limit natives out errors _ answers = answers
+pub accepted : (reads : Line → List ℕ) (bytes text : List ℕ) (limit natives : ℕ) (out errors : Sent) (status : ExitStatus) → AcceptedAnswers reads bytes text limit natives out errors status → RunAnswersBy reads bytes text limit natives out errors status
+accepted reads bytes text limit natives out errors statuses.ImageRefused answers = absurd answers
+accepted reads bytes text limit natives out errors statuses.Fault answers = inr answers
+accepted reads bytes text limit natives out errors _ answers = answers

@@ -9,9 +9,11 @@ use Rattle.aom_main.specs.declared.commands.Translation.{Translation}
 use Rattle.aom_main.specs.declared.commands.Translation.TheVariants.{Asm, Dis, Dot}
 use Rattle.aom_main.specs.Acceptable.{IsSpelled}
 use Rattle.aom_main.specs.Assembly.{RefusesBytes, RefusesText}
-use Rattle.aom_main.specs.Drawn.{IsDrawn, IsGraph}
+use Rattle.aom_figures.specs.Names.{Names}
+use Rattle.aom_main.specs.Drawn.{IsDrawnBy, IsGraph}
 use Rattle.aom_main.specs.Headline.{Sent, Sends, IsSilent, Told}
-use Rattle.aom_main.specs.Translations.{IsTranslation, RefusesFile, Translates}
+use Rattle.aom_main.specs.Translations.{DrawsBy, IsTranslation, RefusesFile, Translates}
+use Rattle.aom_main.specs.Prices.{StopsEarly}
 use Rattle.aom_main.proofs.Figuring.{no_figures}
 use Rattle.aom_main.proofs.Sending.{due_sent}
 use Rattle.aom_main.proofs.Telling.{turned}
@@ -35,5 +37,14 @@ untranslated Dot bytes fault out errors status stops silent told =
     turned (Translates Dot bytes out errors) bytes fault out errors status stops.refuses stops.complete silent told (no_figures bytes fault out errors stops.early) inl
 
 -- the graph of the image that the bytes are
-pub drawn_of : (bytes text : List ℕ) (p : Image) (t : Typing) → IsSpelled bytes p → IsLinked p → IsTyped p t → IsGraph p text → IsDrawn bytes text
-drawn_of bytes text p t spelled linked typed graph = record { image = p; spelled = spelled; linked = linked; typing = t; typed = typed; graph = graph }
+pub drawn_of : (names : Names) (bytes text : List ℕ) (p : Image) (t : Typing) → IsSpelled bytes p → IsLinked p → IsTyped p t → IsGraph names p text → IsDrawnBy names bytes text
+drawn_of names bytes text p t spelled linked typed graph = record { image = p; spelled = spelled; linked = linked; typing = t; typed = typed; graph = graph }
+
+-- ---- a graph by names
+
+pub drawn_by : (names : Names) (bytes text : List ℕ) (out errors : Sent) (status : ExitStatus) → IsDrawnBy names bytes text → Sends text status out errors → DrawsBy names bytes out errors status
+drawn_by names bytes text out errors status is sends = due_sent (DrawsBy names bytes out errors) text out errors status (IsDrawnBy names bytes) is sends (λ all. all) inr
+
+pub undrawn : (names : Names) (bytes : List ℕ) (fault : Fault) (out errors : Sent) (status : ExitStatus) → StopsEarly bytes fault → IsSilent out → Told fault status errors → DrawsBy names bytes out errors status
+undrawn names bytes fault out errors status stops silent told =
+    turned (DrawsBy names bytes out errors) bytes fault out errors status stops.refuses stops.complete silent told (no_figures bytes fault out errors stops.early) inl

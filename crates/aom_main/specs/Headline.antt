@@ -1,4 +1,4 @@
--- What a call promises of its sinks and its status, from bytes to bytes.
+-- What a call promises of its sinks and its status, from bytes to bytes. `reads` says how a line of a transcript is written.
 use Rattle.std.specs.Prelude.{ℕ, ◌≡◌, ◌<◌, ◌≤◌, ◌⊎◌, Bool, true, false, List, Option, take, codes, Result, Ok, Err}
 use Rattle.aom_image.specs.Image.{Image}
 use Rattle.aom_sound.specs.Places.{count_cells}
@@ -12,7 +12,8 @@ use Rattle.aom_endings.specs.Hearing.{Follows, Oracle}
 use Rattle.aom_endings.specs.Determined.{IsDetermined}
 use Rattle.aom_run.specs.declared.fault.BootFault.TheVariants.{TooFewNatives}
 use Rattle.aom_run.specs.declared.machine.Machine.{Machine}
-use Rattle.aom_transcript.specs.Text.{ended, transcript}
+use Rattle.aom_transcript.specs.Text.{ended, line_text}
+use Rattle.aom_run.specs.Naming.{transcript_by}
 use Rattle.aom_steps.specs.Runs.{RunsWell}
 use Rattle.aom_steps.specs.Laws.{KeepsBudget}
 use Rattle.aom_run.specs.declared.outcome.Outcome.{Outcome}
@@ -82,36 +83,36 @@ pub record ImageWantsMemory (out errors : Sent) : Type 0 where
   pub tells : Tells faults.Memory errors
 
 -- the transcript of a run of the checked machine went out
-pub record Transcribed (p : Image) (outside : Outside) (ending : Ending) (sent : Sent) : Type 0 where
+pub record Transcribed (reads : Line → List ℕ) (p : Image) (outside : Outside) (ending : Ending) (sent : Sent) : Type 0 where
   pub lines : List Line
   pub last : State
   pub run : Run_of p outside lines last ending
-  pub out : sent.now ≡ after sent.before (transcript lines ending (count_cells last.cells))
+  pub out : sent.now ≡ after sent.before (transcript_by reads lines ending (count_cells last.cells))
 
 -- a run that ended so would have sent what went out
-abbrev pub EndsAs : Ending → Sent → List Line → State → Ending → Type 0
-EndsAs ending sent lines last other = (other ≡ ending) × (sent.now ≡ after sent.before (transcript lines other (count_cells last.cells)))
+abbrev pub EndsAs : (Line → List ℕ) → Ending → Sent → List Line → State → Ending → Type 0
+EndsAs reads ending sent lines last other = (other ≡ ending) × (sent.now ≡ after sent.before (transcript_by reads lines other (count_cells last.cells)))
 
 -- no other transcript could have gone out: some oracle says what the run heard of natives, and each run of the image that ends and hears the same ends so, with the transcript that went out. Of an image that names no native so does each run that ends
-pub record IsOnly (p : Image) (outside : Outside) (ending : Ending) (sent : Sent) (shown : Transcribed p outside ending sent) : Type 0 where
+pub record IsOnly (reads : Line → List ℕ) (p : Image) (outside : Outside) (ending : Ending) (sent : Sent) (shown : Transcribed reads p outside ending sent) : Type 0 where
   pub oracle : Oracle
   pub follows : Follows oracle shown.run.reaches
-  pub hearing_same : (lines : List Line) (last : State) (other : Ending) (run : Run_of p outside lines last other) → Follows oracle run.reaches → EndsAs ending sent lines last other
-  pub hearing_none : p.header.natives ≡ 0 → (lines : List Line) (last : State) (other : Ending) → Run_of p outside lines last other → EndsAs ending sent lines last other
+  pub hearing_same : (lines : List Line) (last : State) (other : Ending) (run : Run_of p outside lines last other) → Follows oracle run.reaches → EndsAs reads ending sent lines last other
+  pub hearing_none : p.header.natives ≡ 0 → (lines : List Line) (last : State) (other : Ending) → Run_of p outside lines last other → EndsAs reads ending sent lines last other
 
 -- the sink has failed, and a beginning of such a transcript went out
-pub record Cut (p : Image) (outside : Outside) (sent : Sent) : Type 0 where
+pub record Cut (reads : Line → List ℕ) (p : Image) (outside : Outside) (sent : Sent) : Type 0 where
   pub failed : sent.failed ≡ true
-  pub beginning : CutShort p outside sent.before sent.now
+  pub beginning : CutShort reads p outside sent.before sent.now
 
 -- what an outcome says of the transcript
-abbrev pub Shows : Image → Outside → Outcome → Sent → Type 0
-Shows p outside outcomes.Stopped out = Transcribed p outside endings.Stopped out
-Shows p outside outcomes.Waiting out = Transcribed p outside endings.Waiting out
-Shows p outside (outcomes.MainLeft code) out = Transcribed p outside (endings.MainLeft code) out
-Shows p outside outcomes.Limit out = Transcribed p outside endings.Limit out
-Shows p outside (outcomes.Error answer) out = Transcribed p outside (endings.Error answer) out
-Shows p outside outcomes.WriteFault out = Cut p outside out
+abbrev pub Shows : (Line → List ℕ) → Image → Outside → Outcome → Sent → Type 0
+Shows reads p outside outcomes.Stopped out = Transcribed reads p outside endings.Stopped out
+Shows reads p outside outcomes.Waiting out = Transcribed reads p outside endings.Waiting out
+Shows reads p outside (outcomes.MainLeft code) out = Transcribed reads p outside (endings.MainLeft code) out
+Shows reads p outside outcomes.Limit out = Transcribed reads p outside endings.Limit out
+Shows reads p outside (outcomes.Error answer) out = Transcribed reads p outside (endings.Error answer) out
+Shows reads p outside outcomes.WriteFault out = Cut reads p outside out
 
 -- the status of a run, and what the errors say of it
 abbrev pub Ends : Outcome → ExitStatus → Sent → Type 0
@@ -195,10 +196,10 @@ RefusesBoot p natives faults.Memory = HasNatives p natives
 RefusesBoot p natives _ = ⊥
 
 -- of an accepted image: memory was wanting before anything went out, for a request that the script refuses or for the machine, or the output failed
-pub data RunBreaks (bytes text : List ℕ) (limit natives : ℕ) (out errors : Sent) : Type 0 where
-  script_wants_memory : IsSilent out → Accepts bytes → (fault : ScriptFault) → WantsMemory text fault → Tells faults.Memory errors → RunBreaks bytes text limit natives out errors
-  machine_wants_memory : IsSilent out → (r : Runs bytes text limit natives) → HasNatives r.image natives → Tells faults.Memory errors → RunBreaks bytes text limit natives out errors
-  output_fails : (r : Runs bytes text limit natives) → HasNatives r.image natives → Cut r.image (outside_of r.script limit natives) out → Tells faults.Write errors → RunBreaks bytes text limit natives out errors
+pub data RunBreaks (reads : Line → List ℕ) (bytes text : List ℕ) (limit natives : ℕ) (out errors : Sent) : Type 0 where
+  script_wants_memory : IsSilent out → Accepts bytes → (fault : ScriptFault) → WantsMemory text fault → Tells faults.Memory errors → RunBreaks reads bytes text limit natives out errors
+  machine_wants_memory : IsSilent out → (r : Runs bytes text limit natives) → HasNatives r.image natives → Tells faults.Memory errors → RunBreaks reads bytes text limit natives out errors
+  output_fails : (r : Runs bytes text limit natives) → HasNatives r.image natives → Cut reads r.image (outside_of r.script limit natives) out → Tells faults.Write errors → RunBreaks reads bytes text limit natives out errors
 
 -- the run ended before it stopped: for nothing, or at the limit
 abbrev pub IsUnfinished : Ending → Type 0
@@ -213,26 +214,30 @@ IsBroken (endings.Error answer) = Unit {0}
 IsBroken _ = ⊥
 
 -- the transcript of a run that ended so went out, and no other could have
-pub record Shown (bytes text : List ℕ) (limit natives : ℕ) (ending : Ending) (out : Sent) : Type 0 where
+pub record Shown (reads : Line → List ℕ) (bytes text : List ℕ) (limit natives : ℕ) (ending : Ending) (out : Sent) : Type 0 where
   pub runs : Runs bytes text limit natives
   pub enough : HasNatives runs.image natives
-  pub transcribed : Transcribed runs.image (outside_of runs.script limit natives) ending out
-  pub only : IsOnly runs.image (outside_of runs.script limit natives) ending out transcribed
+  pub transcribed : Transcribed reads runs.image (outside_of runs.script limit natives) ending out
+  pub only : IsOnly reads runs.image (outside_of runs.script limit natives) ending out transcribed
 
 -- what each status says of a call of `run` whose image is accepted
-abbrev pub AcceptedAnswers : List ℕ → List ℕ → (limit natives : ℕ) → Sent → Sent → ExitStatus → Type 0
-AcceptedAnswers bytes text limit natives out errors Done = Shown bytes text limit natives endings.Stopped out × IsSilent errors
-AcceptedAnswers bytes text limit natives out errors Unfinished = (ending : Ending) × IsUnfinished ending × Shown bytes text limit natives ending out × IsSilent errors
-AcceptedAnswers bytes text limit natives out errors Broken = (ending : Ending) × IsBroken ending × Shown bytes text limit natives ending out × IsSilent errors
-AcceptedAnswers bytes text limit natives out errors ImageRefused = ⊥
-AcceptedAnswers bytes text limit natives out errors CallRefused = IsNoScript bytes text out errors ⊎ WantsNatives bytes text natives out errors
-AcceptedAnswers bytes text limit natives out errors Faulty = RunBreaks bytes text limit natives out errors
+abbrev pub AcceptedAnswers : (Line → List ℕ) → List ℕ → List ℕ → (limit natives : ℕ) → Sent → Sent → ExitStatus → Type 0
+AcceptedAnswers reads bytes text limit natives out errors Done = Shown reads bytes text limit natives endings.Stopped out × IsSilent errors
+AcceptedAnswers reads bytes text limit natives out errors Unfinished = (ending : Ending) × IsUnfinished ending × Shown reads bytes text limit natives ending out × IsSilent errors
+AcceptedAnswers reads bytes text limit natives out errors Broken = (ending : Ending) × IsBroken ending × Shown reads bytes text limit natives ending out × IsSilent errors
+AcceptedAnswers reads bytes text limit natives out errors ImageRefused = ⊥
+AcceptedAnswers reads bytes text limit natives out errors CallRefused = IsNoScript bytes text out errors ⊎ WantsNatives bytes text natives out errors
+AcceptedAnswers reads bytes text limit natives out errors Faulty = RunBreaks reads bytes text limit natives out errors
 
--- what each status says of a call of `run`, beside so many natives
+-- what each status says of a call of `run`, beside so many natives, whose lines are written so
+abbrev pub RunAnswersBy : (Line → List ℕ) → List ℕ → List ℕ → (limit natives : ℕ) → Sent → Sent → ExitStatus → Type 0
+RunAnswersBy reads bytes text limit natives out errors ImageRefused = IsRefused bytes out errors
+RunAnswersBy reads bytes text limit natives out errors Faulty = ImageWantsMemory out errors ⊎ RunBreaks reads bytes text limit natives out errors
+RunAnswersBy reads bytes text limit natives out errors status = AcceptedAnswers reads bytes text limit natives out errors status
+
+-- they are written with the numbers of classes
 abbrev pub RunAnswers : List ℕ → List ℕ → (limit natives : ℕ) → Sent → Sent → ExitStatus → Type 0
-RunAnswers bytes text limit natives out errors ImageRefused = IsRefused bytes out errors
-RunAnswers bytes text limit natives out errors Faulty = ImageWantsMemory out errors ⊎ RunBreaks bytes text limit natives out errors
-RunAnswers bytes text limit natives out errors status = AcceptedAnswers bytes text limit natives out errors status
+RunAnswers = RunAnswersBy line_text
 
 -- what `check` writes of an accepted image
 abbrev pub accepted_text : List ℕ

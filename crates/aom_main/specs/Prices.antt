@@ -9,6 +9,7 @@ use Rattle.aom_budget.specs.Budgets.{BudgetsWithin}
 use Rattle.aom_budget.specs.Faults.{Refuses}
 use Rattle.aom_budget.specs.Figures.{Figures, AreFigures}
 use Rattle.aom_budget.specs.declared.fault.BudgetFault.{BudgetFault}
+use Rattle.aom_figures.specs.Names.{Names, unnamed}
 use Rattle.aom_figures.specs.Text.{figures_text}
 use Rattle.aom_run.specs.Runs.{after}
 use Rattle.aom_main.specs.declared.status.ExitStatus.{ExitStatus}
@@ -19,7 +20,7 @@ use Rattle.aom_main.specs.Acceptable.{IsSpelled, IsAcceptable, RefusesOrWants}
 use Rattle.aom_main.specs.Headline.{CheckAnswers, Sent, IsSilent, Says, Tells, ImageWantsMemory, IsRefused, accepted_text}
 
 -- the bytes are an image of which its budgets and its limits alone are left to look at, and the text tells its figures
-pub record IsFigured (bytes text : List ℕ) : Type 0 where
+pub record IsFigured (names : Names) (bytes text : List ℕ) : Type 0 where
   pub image : Image
   pub spelled : IsSpelled bytes image
   pub linked : IsLinked image
@@ -27,34 +28,34 @@ pub record IsFigured (bytes text : List ℕ) : Type 0 where
   pub typed : IsTyped image typing
   pub figures : Figures
   pub are : AreFigures image figures
-  pub told : text ≡ figures_text image figures
+  pub told : text ≡ figures_text names image figures
 
 -- and it is an accepted one
-pub record IsWithin (bytes text : List ℕ) : Type 0 where
-  pub figured : IsFigured bytes text
+pub record IsWithin (names : Names) (bytes text : List ℕ) : Type 0 where
+  pub figured : IsFigured names bytes text
   pub acceptable : IsAcceptable figured.image
 
 -- or it is refused for its budgets or its limits
-pub record IsBeyond (bytes text : List ℕ) (fault : BudgetFault) : Type 0 where
-  pub figured : IsFigured bytes text
+pub record IsBeyond (names : Names) (bytes text : List ℕ) (fault : BudgetFault) : Type 0 where
+  pub figured : IsFigured names bytes text
   pub refuses : Refuses figured.image fault
   pub none : (p : Image) → IsSpelled bytes p → IsAcceptable p → ⊥
 
 -- what is written of it, by why it is refused, if it is
-abbrev pub IsWritten : List ℕ → List ℕ → Option BudgetFault → Type 0
-IsWritten bytes written None = (text : List ℕ) × IsWithin bytes text × (written ≡ accepted_text ++ text)
-IsWritten bytes written (Some fault) = IsBeyond bytes written fault
+abbrev pub IsWritten : Names → List ℕ → List ℕ → Option BudgetFault → Type 0
+IsWritten names bytes written None = (text : List ℕ) × IsWithin names bytes text × (written ≡ accepted_text ++ text)
+IsWritten names bytes written (Some fault) = IsBeyond names bytes written fault
 
 -- the text tells the image's figures
-pub record AreTold (p : Image) (text : List ℕ) : Type 0 where
+pub record AreTold (names : Names) (p : Image) (text : List ℕ) : Type 0 where
   pub figures : Figures
   pub are : AreFigures p figures
-  pub told : text ≡ figures_text p figures
+  pub told : text ≡ figures_text names p figures
 
 -- what is written of an image that is well-typed: its figures, behind the word of an accepted one where it keeps within all
-abbrev pub IsPriced : Image → List ℕ → Option BudgetFault → Type 0
-IsPriced p written None = (text : List ℕ) × AreTold p text × BudgetsWithin p × HasDepths p × HasHeights p × (written ≡ accepted_text ++ text)
-IsPriced p written (Some fault) = AreTold p written × Refuses p fault
+abbrev pub IsPriced : Names → Image → List ℕ → Option BudgetFault → Type 0
+IsPriced names p written None = (text : List ℕ) × AreTold names p text × BudgetsWithin p × HasDepths p × HasHeights p × (written ≡ accepted_text ++ text)
+IsPriced names p written (Some fault) = AreTold names p written × Refuses p fault
 
 -- the fault is none of budgets or limits
 abbrev pub IsEarly : Fault → Type 0
@@ -68,10 +69,10 @@ pub record StopsEarly (bytes : List ℕ) (fault : Fault) : Type 0 where
   pub complete : (p : Image) → IsSpelled bytes p → IsAcceptable p → fault ≡ Memory
 
 -- the image is refused for its budgets or its limits, its figures went out, and the errors say why
-pub record IsOverBudget (bytes : List ℕ) (out errors : Sent) : Type 0 where
+pub record IsOverBudget (names : Names) (bytes : List ℕ) (out errors : Sent) : Type 0 where
   pub text : List ℕ
   pub fault : BudgetFault
-  pub beyond : IsBeyond bytes text fault
+  pub beyond : IsBeyond names bytes text fault
   pub shows : out.now ≡ after out.before text
   pub tells : Tells (Budget fault) errors
 
@@ -81,20 +82,27 @@ pub record IsUnpriced (bytes : List ℕ) (out errors : Sent) : Type 0 where
   pub early : IsEarly refused.fault
 
 -- the output failed, at an accepted image or at the figures of a refused one
-pub data PricesBreaks (bytes : List ℕ) (out errors : Sent) : Type 0 where
-  accepted_fails : (text : List ℕ) → IsWithin bytes text → out.failed ≡ true → Says (accepted_text ++ text) out → Tells Write errors → PricesBreaks bytes out errors
-  refused_fails : (text : List ℕ) (fault : BudgetFault) → IsBeyond bytes text fault → out.failed ≡ true → Says text out → Tells Write errors → PricesBreaks bytes out errors
+pub data PricesBreaks (names : Names) (bytes : List ℕ) (out errors : Sent) : Type 0 where
+  accepted_fails : (text : List ℕ) → IsWithin names bytes text → out.failed ≡ true → Says (accepted_text ++ text) out → Tells Write errors → PricesBreaks names bytes out errors
+  refused_fails : (text : List ℕ) (fault : BudgetFault) → IsBeyond names bytes text fault → out.failed ≡ true → Says text out → Tells Write errors → PricesBreaks names bytes out errors
 
--- what each status says of a call of `check --prices`
-abbrev pub PricesAnswers : List ℕ → Sent → Sent → ExitStatus → Type 0
-PricesAnswers bytes out errors Done = (text : List ℕ) × IsWithin bytes text × (out.now ≡ after out.before (accepted_text ++ text)) × IsSilent errors
-PricesAnswers bytes out errors ImageRefused = IsOverBudget bytes out errors ⊎ IsUnpriced bytes out errors
-PricesAnswers bytes out errors Faulty = ImageWantsMemory out errors ⊎ PricesBreaks bytes out errors
-PricesAnswers bytes out errors _ = ⊥
+-- what each status says of a call of `check --prices` whose figures are told by these names
+abbrev pub PricesAnswersBy : Names → List ℕ → Sent → Sent → ExitStatus → Type 0
+PricesAnswersBy names bytes out errors Done = (text : List ℕ) × IsWithin names bytes text × (out.now ≡ after out.before (accepted_text ++ text)) × IsSilent errors
+PricesAnswersBy names bytes out errors ImageRefused = IsOverBudget names bytes out errors ⊎ IsUnpriced bytes out errors
+PricesAnswersBy names bytes out errors Faulty = ImageWantsMemory out errors ⊎ PricesBreaks names bytes out errors
+PricesAnswersBy names bytes out errors _ = ⊥
 
 -- and what each says of a call of `check`, with the image's figures or without
+abbrev pub ChecksBy : Names → Bool → List ℕ → Sent → Sent → ExitStatus → Type 0
+ChecksBy names prices = elim prices [ true ↦ PricesAnswersBy names | false ↦ CheckAnswers ]
+
+-- so where there are no names
+abbrev pub PricesAnswers : List ℕ → Sent → Sent → ExitStatus → Type 0
+PricesAnswers = PricesAnswersBy unnamed
+
 abbrev pub Checks : Bool → List ℕ → Sent → Sent → ExitStatus → Type 0
-Checks prices = elim prices [ true ↦ PricesAnswers | false ↦ CheckAnswers ]
+Checks = ChecksBy unnamed
 
 -- how a text goes out of which a fault is told, if there is one
 abbrev pub Passes : List ℕ → Option BudgetFault → ExitStatus → Sent → Sent → Type 0

@@ -8,7 +8,8 @@ use Rattle.aom_main.specs.declared.faults.Fault.TheVariants as faults
 use Rattle.aom_main.specs.declared.commands.Translation.{Translation}
 use Rattle.aom_main.specs.declared.commands.Translation.TheVariants.{Asm, Dis, Dot}
 use Rattle.aom_main.specs.Assembly.{IsFaulty, Lists, Makes, RefusesBytes, RefusesText}
-use Rattle.aom_main.specs.Drawn.{IsDrawn}
+use Rattle.aom_figures.specs.Names.{Names}
+use Rattle.aom_main.specs.Drawn.{IsDrawn, IsDrawnBy}
 use Rattle.aom_main.specs.Headline.{ImageWantsMemory, RefusedFor, Sent, WriteFails, Writes}
 use Rattle.aom_main.specs.Prices.{IsUnpriced, StopsEarly}
 
@@ -32,3 +33,10 @@ Translates to file out errors Done = Writes (IsTranslation to file) out errors
 Translates to file out errors ImageRefused = IsUntranslated to file out errors
 Translates to file out errors Faulty = ImageWantsMemory out errors ⊎ WriteFails (IsTranslation to file) out errors
 Translates to file out errors _ = ⊥
+
+-- and of a call of `dot` whose graph has these names
+abbrev pub DrawsBy : Names → List ℕ → Sent → Sent → ExitStatus → Type 0
+DrawsBy names bytes out errors Done = Writes (IsDrawnBy names bytes) out errors
+DrawsBy names bytes out errors ImageRefused = IsUnpriced bytes out errors
+DrawsBy names bytes out errors Faulty = ImageWantsMemory out errors ⊎ WriteFails (IsDrawnBy names bytes) out errors
+DrawsBy names bytes out errors _ = ⊥

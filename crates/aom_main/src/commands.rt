@@ -2,9 +2,10 @@
 ghost use Rattle.std.specs.Prelude.{ℕ, ◌≤◌, IfErr, IfOk, List, length};
 ghost use Rattle.aom_natives.specs.Owed.{OweNothing};
 ghost use Rattle.aom_main.specs.Acceptable.{IsSpelled};
-ghost use Rattle.aom_main.specs.Headline.{AcceptedAnswers, EndsOrFails, RunAnswers, CheckAnswers, Sends};
-ghost use Rattle.aom_main.specs.Prices.{Checks, PricesAnswers};
-ghost use Rattle.aom_main.specs.Translations.{IsTranslation, RefusesFile, Translates};
+ghost use Rattle.aom_run.specs.Naming.{named_by};
+ghost use Rattle.aom_main.specs.Headline.{AcceptedAnswers, EndsOrFails, RunAnswers, RunAnswersBy, CheckAnswers, Sends};
+ghost use Rattle.aom_main.specs.Prices.{Checks, ChecksBy, PricesAnswers};
+ghost use Rattle.aom_main.specs.Translations.{DrawsBy, IsTranslation, RefusesFile, Translates};
 ghost use Rattle.aom_main.specs.Untold.{Untold};
 ghost use Rattle.aom_main.specs.declared.commands.Translation.TheVariants.{Asm, Dis, Dot};
 
@@ -16,6 +17,7 @@ use crate::pricing::try_prices;
 use crate::running::{run_accepted, runs_well};
 use crate::{ExitStatus, Fault};
 use aom_budget::Accepted;
+use aom_figures::Names;
 use aom_natives::Native;
 use aom_run::{Outcome, Sink, write_text};
 use aom_script::read_script;
@@ -52,9 +54,27 @@ pub fn try_run<W: Sink>(
     requires owed { OweNothing (λ b. (⟦<dyn Native as Native>⟧ b.vtable).owed b.value) boxes.items }
     ensures { Untold (RunAnswers image.now script.now limit (length boxes.items) (record { before = W.out out.old; now = W.out out.new; failed = W.failed out.new })) result }
 {
+    try_run_named(alloc, image, script, limit, boxes, None, out)
+}
+
+/// Runs an image as `run_bytes` does, writes classes by these names, if there are some, and leaves its fault to be told. The first name
+/// is that of class 0; a class that has none is written by its number.
+pub fn try_run_named<W: Sink>(
+    alloc: Global,
+    image: &[u8],
+    script: &[u8],
+    limit: u32,
+    boxes: Vec<Box<dyn Native>>,
+    names: Option<&[&[u8]]>,
+    out: &mut W,
+) -> Result<ExitStatus, Fault>
+    requires limit { (1 ≤ limit) × (limit ≤ 1000000000) }
+    requires owed { OweNothing (λ b. (⟦<dyn Native as Native>⟧ b.vtable).owed b.value) boxes.items }
+    ensures { Untold (RunAnswersBy (named_by names.entry) image.now script.now limit (length boxes.items) (record { before = W.out out.old; now = W.out out.new; failed = W.failed out.new })) result }
+{
     match accept_bytes(alloc, image) {
         Ok(accepted) => {
-            let ended = run_text(alloc, &accepted, script, limit, boxes, out);
+            let ended = run_text(alloc, &accepted, script, limit, boxes, names, out);
             drop(accepted);
             ended
         }
@@ -69,16 +89,17 @@ fn run_text<W: Sink>(
     text: &[u8],
     limit: u32,
     boxes: Vec<Box<dyn Native>>,
+    names: Option<&[&[u8]]>,
     out: &mut W,
 ) -> Result<ExitStatus, Fault>
     requires limit { (1 ≤ limit) × (limit ≤ 1000000000) }
     requires owed { OweNothing (λ b. (⟦<dyn Native as Native>⟧ b.vtable).owed b.value) boxes.items }
-    ensures { (bytes : List ℕ) → IsSpelled bytes accepted.now → Untold (AcceptedAnswers bytes text.now limit (length boxes.items) (record { before = W.out out.old; now = W.out out.new; failed = W.failed out.new })) result }
+    ensures { (bytes : List ℕ) → IsSpelled bytes accepted.now → Untold (AcceptedAnswers (named_by names.entry) bytes text.now limit (length boxes.items) (record { before = W.out out.old; now = W.out out.new; failed = W.failed out.new })) result }
 {
     accepted.facts();
     runs_well(accepted);
     match read_script(alloc, text) {
-        Ok(script) => end(run_accepted(alloc, accepted, &script, limit, boxes, out)),
+        Ok(script) => end(run_accepted(alloc, accepted, &script, limit, boxes, names, out)),
         Err(fault) => Err(Fault::from(fault)),
     }
 }
@@ -143,8 +164,21 @@ pub fn try_check<W: Sink>(
 ) -> Result<ExitStatus, Fault>
     ensures { Untold (Checks prices image.now (record { before = W.out out.old; now = W.out out.new; failed = W.failed out.new })) result }
 {
+    try_check_named(alloc, image, &Names::none(), prices, out)
+}
+
+/// Checks an image so, and tells its figures by those names.
+pub fn try_check_named<W: Sink>(
+    alloc: Global,
+    image: &[u8],
+    names: &Names,
+    prices: bool,
+    out: &mut W,
+) -> Result<ExitStatus, Fault>
+    ensures { Untold (ChecksBy names.now prices image.now (record { before = W.out out.old; now = W.out out.new; failed = W.failed out.new })) result }
+{
     if prices {
-        return try_prices(alloc, image, out);
+        return try_prices(alloc, image, names, out);
     }
     try_verdict(alloc, image, out)
 }
@@ -234,6 +268,21 @@ pub fn try_translate<W: Sink>(
     }
 }
 
+/// Writes the graph of an image with those names, and leaves its fault to be told.
+pub fn try_draw<W: Sink>(
+    alloc: Global,
+    image: &[u8],
+    names: &Names,
+    out: &mut W,
+) -> Result<ExitStatus, Fault>
+    ensures { Untold (DrawsBy names.now image.now (record { before = W.out out.old; now = W.out out.new; failed = W.failed out.new })) result }
+{
+    match draw_bytes(alloc, names, image) {
+        Ok(graph) => try_send(&graph, out),
+        Err(fault) => Err(fault),
+    }
+}
+
 /// What a file is translated to, or its first fault.
 fn translated(alloc: Global, to: Translation, file: &[u8]) -> Result<Vec<u8>, Fault>
     ensures ok { IfOk result (λ text. IsTranslation to file.now text.items) }
@@ -242,7 +291,7 @@ fn translated(alloc: Global, to: Translation, file: &[u8]) -> Result<Vec<u8>, Fa
     match to {
         Translation::Asm => assemble_bytes(alloc, file),
         Translation::Dis => disassemble_bytes(alloc, file),
-        Translation::Dot => draw_bytes(alloc, file),
+        Translation::Dot => draw_bytes(alloc, &Names::none(), file),
     }
 }
 

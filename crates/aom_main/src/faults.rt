@@ -182,7 +182,7 @@ impl<T: Drop> From<AllocFailed<T>> for Fault {
 }
 
 /// Answers the status that a call has come to, or tells its fault.
-pub(crate) fn answer<E: Sink>(found: Result<ExitStatus, Fault>, errors: &mut E) -> ExitStatus
+pub fn answer<E: Sink>(found: Result<ExitStatus, Fault>, errors: &mut E) -> ExitStatus
     ensures { Answered found (record { before = E.out errors.old; now = E.out errors.new; failed = E.failed errors.new }) result }
 {
     match found {

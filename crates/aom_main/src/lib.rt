@@ -15,6 +15,7 @@ mod drawing;
 mod exploring;
 mod fault_line;
 mod faults;
+mod keeper;
 mod pricing;
 mod running;
 mod status;
@@ -23,9 +24,9 @@ pub use accepting::accept_bytes;
 pub use assembling::assemble_bytes;
 pub use commands::{
     Translation, asm_bytes, check_bytes, dis_bytes, dot_bytes, prices_bytes, run_bytes, try_check,
-    try_run, try_translate,
+    try_check_named, try_draw, try_run, try_run_named, try_translate,
 };
-pub use exploring::{Part, explore_bytes};
+pub use exploring::explore_bytes;
 pub use fault_line::{FaultLine, fault_text};
-pub use faults::{Fault, tell};
+pub use faults::{Fault, answer, tell};
 pub use status::ExitStatus;

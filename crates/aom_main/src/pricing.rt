@@ -6,13 +6,13 @@ ghost use Rattle.aom_rules.specs.Typing.{IsTyped, Typing};
 ghost use Rattle.aom_budget.specs.Figures.{AreFigures};
 ghost use Rattle.aom_main.specs.Acceptable.{IsSpelled};
 ghost use Rattle.aom_main.specs.Headline.{accepted_text};
-ghost use Rattle.aom_main.specs.Prices.{IsPriced, IsWritten, PricesAnswers, Shown, StopsEarly};
+ghost use Rattle.aom_main.specs.Prices.{IsPriced, IsWritten, PricesAnswersBy, Shown, StopsEarly};
 ghost use Rattle.aom_main.specs.Untold.{Untold};
 
 use crate::accepting::link_bytes;
 use crate::{ExitStatus, Fault};
 use aom_budget::{BudgetFault, Figures};
-use aom_figures::figures_text;
+use aom_figures::{Names, figures_text};
 use aom_run::{Sink, write_text};
 use aom_verify::{Checked, check};
 use std::alloc::{AllocError, Global};
@@ -24,15 +24,16 @@ struct Priced {
     refusal: Option<BudgetFault>,
 }
 
-/// Writes an image's figures, behind the word of an accepted one where it is one. A fault is left to be told.
+/// Writes an image's figures, by those names, behind the word of an accepted one where it is one. A fault is left to be told.
 pub(crate) fn try_prices<W: Sink>(
     alloc: Global,
     image: &[u8],
+    names: &Names,
     out: &mut W,
 ) -> Result<ExitStatus, Fault>
-    ensures { Untold (PricesAnswers image.now (record { before = W.out out.old; now = W.out out.new; failed = W.failed out.new })) result }
+    ensures { Untold (PricesAnswersBy names.now image.now (record { before = W.out out.old; now = W.out out.new; failed = W.failed out.new })) result }
 {
-    match price_bytes(alloc, image) {
+    match price_bytes(alloc, names, image) {
         Ok(priced) => show(&priced, out),
         Err(fault) => Err(fault),
     }
@@ -53,30 +54,35 @@ fn show<W: Sink>(priced: &Priced, out: &mut W) -> Result<ExitStatus, Fault>
 }
 
 /// What is written of the image that the bytes are, or the first fault on the way to its budgets.
-fn price_bytes(alloc: Global, bytes: &[u8]) -> Result<Priced, Fault>
-    ensures ok { IfOk result (λ priced. IsWritten bytes.now priced.text.items priced.refusal) }
+fn price_bytes(alloc: Global, names: &Names, bytes: &[u8]) -> Result<Priced, Fault>
+    ensures ok { IfOk result (λ priced. IsWritten names.now bytes.now priced.text.items priced.refusal) }
     ensures err { IfErr result (λ fault. StopsEarly bytes.now fault) }
 {
     let checked = check_image(alloc, bytes)?;
-    let priced = price_checked(alloc, &checked);
+    let priced = price_checked(alloc, names, &checked);
     drop(checked);
     Ok(priced?)
 }
 
 /// What is written of a checked image.
-fn price_checked(alloc: Global, checked: &Checked) -> Result<Priced, AllocError>
-    ensures { IfOk result (λ priced. IsPriced checked.now priced.text.items priced.refusal) }
+fn price_checked(alloc: Global, names: &Names, checked: &Checked) -> Result<Priced, AllocError>
+    ensures { IfOk result (λ priced. IsPriced names.now checked.now priced.text.items priced.refusal) }
 {
     let figures = Figures::of_image(alloc, checked)?;
-    price_figures(alloc, checked, &figures)
+    price_figures(alloc, names, checked, &figures)
 }
 
 /// What is written of a checked image that has those figures.
-fn price_figures(alloc: Global, checked: &Checked, figures: &Figures) -> Result<Priced, AllocError>
+fn price_figures(
+    alloc: Global,
+    names: &Names,
+    checked: &Checked,
+    figures: &Figures,
+) -> Result<Priced, AllocError>
     requires { AreFigures checked.now figures.now }
-    ensures { IfOk result (λ priced. IsPriced checked.now priced.text.items priced.refusal) }
+    ensures { IfOk result (λ priced. IsPriced names.now checked.now priced.text.items priced.refusal) }
 {
-    let text = figures_text(alloc, checked.linked(), figures)?;
+    let text = figures_text(alloc, names, checked.linked(), figures)?;
     match figures.keep(checked) {
         Ok(()) => accepted_beside(alloc, &text),
         Err(fault) => Ok(Priced {

@@ -4,6 +4,7 @@ ghost use Rattle.aom_natives.specs.Owed.{OweNothing};
 ghost use Rattle.aom_natives.specs.Slots.{AllAgree};
 ghost use Rattle.aom_run.specs.Calls.{natives_of};
 ghost use Rattle.aom_lines.specs.Turn.{step_lines};
+ghost use Rattle.aom_run.specs.Naming.{named_by};
 ghost use Rattle.aom_script.specs.Script.{IsTimely};
 ghost use Rattle.aom_main.specs.Headline.{AllRunWell, HasNatives, IsFreshOf, RefusesBoot, Shows, outside_of};
 ghost use Rattle.aom_main.specs.declared.faults.Fault.TheVariants.{Memory};
@@ -12,7 +13,7 @@ use crate::Fault;
 use aom_budget::Accepted;
 use aom_lines::Turn;
 use aom_natives::Native;
-use aom_run::{Machine, Outcome, Sink, run};
+use aom_run::{Machine, Outcome, Sink, run_named};
 use aom_script::Script;
 use std::alloc::{AllocError, Global};
 
@@ -37,7 +38,7 @@ pub fn booted<'a>(
 }
 
 /// What hears a run of an accepted image under a script.
-fn turn_of(alloc: Global, accepted: &Accepted, script: &Script) -> Result<Turn, AllocError>
+pub fn turn_of(alloc: Global, accepted: &Accepted, script: &Script) -> Result<Turn, AllocError>
     ensures lines { IfOk result (λ t. t.lines ≡ []) }
     ensures refused { IfOk result (λ t. t.refused ≡ script.now.refused) }
     ensures room { IfOk result (λ t. t.room ≡ 64 + step_lines accepted.now.header.messages) }
@@ -46,44 +47,46 @@ fn turn_of(alloc: Global, accepted: &Accepted, script: &Script) -> Result<Turn, 
     Turn::new(alloc, accepted.linked(), refused)
 }
 
-/// Runs a machine that has booted to its end. All memory is taken before anything is written.
+/// Runs a machine that has booted to its end, and writes classes by these names, if there are some. All memory is taken before anything is written.
 fn run_booted<W: Sink>(
     alloc: Global,
     accepted: &Accepted,
     machine: &mut Machine,
     script: &Script,
     limit: u32,
+    names: Option<&[&[u8]]>,
     out: &mut W,
 ) -> Result<Outcome, Fault>
     requires limit { (1 ≤ limit) × (limit ≤ 1000000000) }
     requires timely { IsTimely script.now.timed }
     requires agree { AllAgree (λ l. l.ids) (λ l. (⟦<dyn Native as Native>⟧ l.native.vtable).owed l.native.value) machine.old.natives.slots.items }
     requires fresh { IsFreshOf accepted.now machine.old }
-    ensures ok { IfOk result (λ outcome. Shows accepted.now (outside_of script.now limit (natives_of machine.old)) outcome (record { before = W.out out.old; now = W.out out.new; failed = W.failed out.new })) }
+    ensures ok { IfOk result (λ outcome. Shows (named_by names.entry) accepted.now (outside_of script.now limit (natives_of machine.old)) outcome (record { before = W.out out.old; now = W.out out.new; failed = W.failed out.new })) }
     ensures err { IfErr result (λ fault. (fault ≡ Memory) × (W.out out.new ≡ W.out out.old)) }
 {
     let mut turn = turn_of(alloc, accepted, script)?;
-    Ok(run(machine, script, &mut turn, limit, out))
+    Ok(run_named(machine, script, &mut turn, limit, names, out))
 }
 
-/// Boots a machine beside those natives and runs it to its end. All memory is taken before anything is written.
+/// Boots a machine beside those natives, runs it to its end, and writes classes by these names, if there are some. All memory is taken before anything is written.
 pub fn run_accepted<W: Sink>(
     alloc: Global,
     accepted: &Accepted,
     script: &Script,
     limit: u32,
     boxes: Vec<Box<dyn Native>>,
+    names: Option<&[&[u8]]>,
     out: &mut W,
 ) -> Result<Outcome, Fault>
     requires limit { (1 ≤ limit) × (limit ≤ 1000000000) }
     requires timely { IsTimely script.now.timed }
     requires owed { OweNothing (λ b. (⟦<dyn Native as Native>⟧ b.vtable).owed b.value) boxes.items }
-    ensures ok { IfOk result (λ outcome. Shows accepted.now (outside_of script.now limit (length boxes.items)) outcome (record { before = W.out out.old; now = W.out out.new; failed = W.failed out.new })) }
+    ensures ok { IfOk result (λ outcome. Shows (named_by names.entry) accepted.now (outside_of script.now limit (length boxes.items)) outcome (record { before = W.out out.old; now = W.out out.new; failed = W.failed out.new })) }
     ensures enough { IfOk result (λ _. HasNatives accepted.now (length boxes.items)) }
     ensures err { IfErr result (λ fault. RefusesBoot accepted.now (length boxes.items) fault × (W.out out.new ≡ W.out out.old)) }
 {
     let mut machine = booted(alloc, accepted, boxes)?;
-    let outcome = run_booted(alloc, accepted, &mut machine, script, limit, out);
+    let outcome = run_booted(alloc, accepted, &mut machine, script, limit, names, out);
     drop(machine);
     outcome
 }

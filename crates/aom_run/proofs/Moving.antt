@@ -14,7 +14,7 @@ use Rattle.aom_sound.specs.WellTyped.{Keeps, WellTyped}
 use Rattle.aom_endings.proofs.Ending.{above, top}
 use Rattle.aom_transcript.specs.declared.line.Line.{Line}
 use Rattle.aom_parts.specs.Progress.{progress_by}
-use Rattle.aom_exec.specs.Steps.{Hears, IsAtHand, IsDone, IsUncounted, Quiet, Settles, Steps}
+use Rattle.aom_exec.specs.Steps.{Hears, IsAtHand, IsDone, IsUncounted, Quiet, Quietly, Settles, Steps}
 use Rattle.aom_parts.specs.Stands.{Sound}
 use Rattle.aom_exec.specs.Steps as steps
 use Rattle.aom_run.specs.Answers.{asked_by, asked_of}
@@ -107,10 +107,11 @@ module _ (p : Image) (t : Typing) (sound : Sound p t) where
       let two = subst (λ a. Went p t v a heard u) (at_hand p v so.1 ∙ so.0) (stepped_so refused heard v u lines so.2.typed so.2.sessions next) in
       along s v u (asked_of p s) heard heard so.2 two
 
-  so_far : (refused : List ℕ) (heard : ℤ) (s v : State) → WellTyped p t s → SessionsHold p s → Quiet p refused heard s v → SoFar s v heard
-  so_far refused heard s v w holds steps.begins = inl refl
-  so_far refused heard s v w holds (steps.goes_on {v = x} before next hand none) = inr (none, hand, quietly refused heard s x v [] w holds (so_far refused heard s x w holds before) next)
+  so_far : (refused : List ℕ) (heard : ℤ) (s : State) (ls : List Line) (v : State) → WellTyped p t s → SessionsHold p s → Quiet p refused heard s ls v → SoFar s v heard
+  so_far refused heard s _ v w holds steps.begins = inl refl
+  so_far refused heard s _ v w holds (steps.goes_on {v = x} {before = ls} {lines = ks} before next hand none) =
+      inr (none, hand, quietly refused heard s x v ks w holds (so_far refused heard s ls x w holds before) next)
 
   -- several steps
-  pub went_on : (refused : List ℕ) (heard : ℤ) (s v u : State) (lines : List Line) → WellTyped p t s → SessionsHold p s → Quiet p refused heard s v → Steps p refused heard v lines u → Went p t s (asked_of p s) heard u
-  went_on refused heard s v u lines w holds quiet last = quietly refused heard s v u lines w holds (so_far refused heard s v w holds quiet) last
+  pub went_on : (refused : List ℕ) (heard : ℤ) (s v u : State) (lines : List Line) → WellTyped p t s → SessionsHold p s → Quietly p refused heard s v → Steps p refused heard v lines u → Went p t s (asked_of p s) heard u
+  went_on refused heard s v u lines w holds quiet last = quietly refused heard s v u lines w holds (so_far refused heard s quiet.0 v w holds quiet.1) last

@@ -30,11 +30,11 @@ steps_on p refused heard b lines s more u r (rests done) = subst (λ ls. Moving 
 steps_on p refused heard b lines s _ v r (moves {u = u} {lines = more} c hand free hears goes rest) =
     subst (λ ls. Moving p refused b ls v) (append_assoc lines _ more) (settled_on p refused b (lines ++ written p s) u more v (goes_on c r hand.busy free goes) rest)
 
--- quiet steps add no line
-quietly_on : (p : Image) (refused : List ℕ) (heard : ℤ) (b : State) (lines : List Line) (s v : State) → Moving p refused b lines s → Quiet p refused heard s v → Moving p refused b lines v
-quietly_on p refused heard b lines s _ r none = r
-quietly_on p refused heard b lines s _ r (then_on {v} {u} before last hand wants) =
-    subst (λ ls. Moving p refused b ls u) (append-nil lines) (steps_on p refused heard b lines v [] u (quietly_on p refused heard b lines s v r before) last)
+-- nor are several, of which the first alone hears a native
+quietly_on : (p : Image) (refused : List ℕ) (heard : ℤ) (b : State) (lines : List Line) (s : State) (more : List Line) (v : State) → Moving p refused b lines s → Quiet p refused heard s more v → Moving p refused b (lines ++ more) v
+quietly_on p refused heard b lines s _ _ r none = subst (λ ls. Moving p refused b ls s) (sym (append-nil lines)) r
+quietly_on p refused heard b lines s _ _ r (then_on {v} {u} {before = ls} {lines = ks} before last hand wants) =
+    subst (λ l. Moving p refused b l u) (append_assoc lines ls ks) (steps_on p refused heard b (lines ++ ls) v ks u (quietly_on p refused heard b lines s ls v r before) last)
 
 -- moves that go on from where others came to
 pub moving_both : (p : Image) (refused : List ℕ) (b : State) (lines : List Line) (s : State) (more : List Line) (u : State)
@@ -89,11 +89,14 @@ module _ {X : Type 0} {B : X → Type 0} where
       let x = h.1 in
       let same : mid.refused ≡ told.refused = ap (λ (t : Turn). t.refused) w.3 in
       let heard = h.0 in
-      let quiet = subst (λ q. Quiet q told.refused heard w.1 x.1) image (subst (λ r. Quiet m.core.image r heard w.1 x.1) same x.3) in
+      let quiet = subst (λ q. Quiet q told.refused heard w.1 x.3.0 x.1) image (subst (λ r. Quiet m.core.image r heard w.1 x.3.0 x.1) same x.3.1) in
       let steps = subst (λ q. Steps q told.refused heard x.1 x.0 x.2) image (subst (λ r. Steps m.core.image r heard x.1 x.0 x.2) same x.4) in
-      let moving = steps_on old.core.image told.refused heard s w.0 x.1 x.0 x.2 (quietly_on old.core.image told.refused heard s w.0 w.1 x.1 w.2 quiet) steps in
-      let turn = x.5 ∙ ap (λ (t : Turn). record t { lines = t.lines ++ x.0 }) w.3 ∙ ap (λ ls. record told { lines = ls }) (append_assoc told.lines w.0 x.0) in
-      (w.0 ++ x.0, x.2, moving, turn, x.6, x.7)
+      let ls = x.3.0 ++ x.0 in
+      let moving =
+      subst (λ l. Moving old.core.image told.refused s l x.2) (append_assoc w.0 x.3.0 x.0)
+      (steps_on old.core.image told.refused heard s (w.0 ++ x.3.0) x.1 x.0 x.2 (quietly_on old.core.image told.refused heard s w.0 w.1 x.3.0 x.1 w.2 quiet) steps) in
+      let turn = x.5 ∙ ap (λ (t : Turn). record t { lines = t.lines ++ ls }) w.3 ∙ ap (λ l. record told { lines = l }) (append_assoc told.lines w.0 ls) in
+      (w.0 ++ ls, x.2, moving, turn, x.6, x.7)
 
   pub stands_on : (m new : Machine X B) (told now : Turn) (progress : Progress) → Stands m → StepsOn m progress told now new → Stands new
   stands_on m new told now progress stands stepped = let x = (stepped stands.0 stands.1).1 in (x.2, x.7)

@@ -11,7 +11,8 @@ use Rattle.aom_transcript.specs.declared.line.Line.{Line}
 use Rattle.aom_transcript.specs.declared.line.Ending.{Ending}
 use Rattle.aom_transcript.specs.declared.line.Ending.TheVariants as endings
 use Rattle.aom_lines.specs.Turn.{Turn}
-use Rattle.aom_transcript.specs.Text.{text_of, ended, end_text, transcript}
+use Rattle.aom_transcript.specs.Text.{ended, end_text, line_text}
+use Rattle.aom_run.specs.Naming.{text_by, transcript_by}
 use Rattle.aom_run.specs.declared.outcome.Outcome.{Outcome}
 use Rattle.aom_run.specs.declared.outcome.Outcome.TheVariants.{Stopped, Waiting, MainLeft, Limit, Error, WriteFault}
 use Rattle.aom_parts.specs.declared.progress.Progress.{Progress}
@@ -30,21 +31,21 @@ use Rattle.aom_endings.specs.Endings.{CanEnd, one_where}
 use Rattle.aom_run.specs.Turns.{TakesTurns, hearing, to_come}
 use Rattle.aom_run.proofs.Spared.{idle_stays, moving_spares}
 use Rattle.aom_run.proofs.Reaching.{reaches_both, reaches_then}
-use Rattle.aom_run.proofs.Sending.{cut_short, after_both, after_none, text_of_both, cut_next}
+use Rattle.aom_run.proofs.Sending.{cut_short, after_both, after_none, text_by_both, cut_next}
 
 -- the beginning of the lines of a run is one of its transcript
-cut_of : (p : Image) (outside : Outside) (before now : Option (List ℕ)) (lines : List Line) → CanEnd p outside lines → (n : ℕ) → now ≡ after before (take n (text_of lines)) → CutShort p outside before now
-cut_of p outside before now lines all n out =
-    let rest = text_of all.more ++ ended (end_text all.ending (count_cells all.last.cells)) in
-    let whole : transcript (lines ++ all.more) all.ending (count_cells all.last.cells) ≡ text_of lines ++ rest = ap (λ t. t ++ ended (end_text all.ending (count_cells all.last.cells))) (text_of_both lines all.more) ∙ append_assoc (text_of lines) (text_of all.more) (ended (end_text all.ending (count_cells all.last.cells))) in
-    let short = cut_short n (text_of lines) rest in
+cut_of : (reads : Line → List ℕ) (p : Image) (outside : Outside) (before now : Option (List ℕ)) (lines : List Line) → CanEnd p outside lines → (n : ℕ) → now ≡ after before (take n (text_by reads lines)) → CutShort reads p outside before now
+cut_of reads p outside before now lines all n out =
+    let rest = text_by reads all.more ++ ended (end_text all.ending (count_cells all.last.cells)) in
+    let whole : transcript_by reads (lines ++ all.more) all.ending (count_cells all.last.cells) ≡ text_by reads lines ++ rest = ap (λ t. t ++ ended (end_text all.ending (count_cells all.last.cells))) (text_by_both reads lines all.more) ∙ append_assoc (text_by reads lines) (text_by reads all.more) (ended (end_text all.ending (count_cells all.last.cells))) in
+    let short = cut_short n (text_by reads lines) rest in
     record {
       lines = lines ++ all.more;
       state = all.last;
       ending = all.ending;
       run = all.run;
-      sent = min n (length (text_of lines));
-      out = out ∙ ap (after before) (short ∙ ap (take (min n (length (text_of lines)))) (sym whole));
+      sent = min n (length (text_by reads lines));
+      out = out ∙ ap (after before) (short ∙ ap (take (min n (length (text_by reads lines)))) (sym whole));
     }
 
 ended_by : (ended : Option Ending) (tasks : List Task) (ending : Ending) → progress_by ended tasks ≡ progresses.Ended ending → ended ≡ Some ending
@@ -86,15 +87,15 @@ same_outcome d e is = grind arith
 
 module _ {X : Type 0} {B : X → Type 0} where
   -- the machine stands for a state that a run comes to; all its lines are out but the last, which are told and not out yet
-  pub record SoFar (p : Image) (outside : Outside) (before now : Option (List ℕ)) (told : List Line) (m : Machine X B) : Type 0 where
+  pub record SoFar (reads : Line → List ℕ) (p : Image) (outside : Outside) (before now : Option (List ℕ)) (told : List Line) (m : Machine X B) : Type 0 where
     pub lines : List Line
     pub state : State
     pub reaches : Reaches p outside (boot_state p) (lines ++ told) state
     pub stands : StandsFor m state
-    pub out : now ≡ after before (text_of lines)
+    pub out : now ≡ after before (text_by reads lines)
 
-  pub starts : (outside : Outside) (out : Option (List ℕ)) (m : Machine X B) (told : List Line) → told ≡ [] → StandsFor m (boot_state m.core.image) → SoFar m.core.image outside out out told m
-  starts outside out m told none fresh =
+  pub starts : {reads : Line → List ℕ} (outside : Outside) (out : Option (List ℕ)) (m : Machine X B) (told : List Line) → told ≡ [] → StandsFor m (boot_state m.core.image) → SoFar reads m.core.image outside out out told m
+  starts {reads} outside out m told none fresh =
       record { lines = []; state = boot_state m.core.image; reaches = subst (λ ls. Reaches m.core.image outside (boot_state m.core.image) ls (boot_state m.core.image)) (sym none) begins; stands = fresh; out = after_none out }
 
   -- a run that has come to a state that the machine stands for can be brought to an end
@@ -106,18 +107,18 @@ module _ {X : Type 0} {B : X → Type 0} where
 
   -- ---- a run goes on
 
-  module _ (p : Image) (outside : Outside) (before mid now : Option (List ℕ)) (m new : Machine X B) (told turn : Turn) (far : SoFar p outside before mid told.lines m) (image : m.core.image ≡ p) where
+  module _ {reads : Line → List ℕ} (p : Image) (outside : Outside) (before mid now : Option (List ℕ)) (m new : Machine X B) (told turn : Turn) (far : SoFar reads p outside before mid told.lines m) (image : m.core.image ≡ p) where
     module _ (same : told.refused ≡ outside.refused) where
       more : (lines : List Line) (u : State) → Moving m.core.image told.refused far.state lines u → Reaches p outside (boot_state p) ((far.lines ++ told.lines) ++ lines) u
       more lines u moving =
           reaches_then p outside (boot_state p) (far.lines ++ told.lines) far.state lines u far.reaches
           (subst (λ q. Moving q outside.refused far.state lines u) image (subst (λ r. Moving m.core.image r far.state lines u) same moving))
 
-      text : (lines : List Line) → text_of far.lines ++ text_of (told.lines ++ lines) ≡ text_of ((far.lines ++ told.lines) ++ lines)
-      text lines = sym (text_of_both far.lines (told.lines ++ lines)) ∙ ap text_of (sym (append_assoc far.lines told.lines lines))
+      text : (lines : List Line) → text_by reads far.lines ++ text_by reads (told.lines ++ lines) ≡ text_by reads ((far.lines ++ told.lines) ++ lines)
+      text lines = sym (text_by_both reads far.lines (told.lines ++ lines)) ∙ ap (text_by reads) (sym (append_assoc far.lines told.lines lines))
 
       -- all that was told is out, and more
-      pub sent_on : (progress : Progress) → Sent m progress told turn mid now new → SoFar p outside before now turn.lines new
+      pub sent_on : (progress : Progress) → Sent reads m progress told turn mid now new → SoFar reads p outside before now turn.lines new
       sent_on progress sent =
           let x = sent far.state far.stands in
           let none : turn.lines ≡ [] = ap (λ (t : Turn). t.lines) x.3 in
@@ -127,17 +128,17 @@ module _ {X : Type 0} {B : X → Type 0} where
             state = x.1;
             reaches = subst (λ ls. Reaches p outside (boot_state p) (lines ++ ls) x.1) (sym none) (subst (λ ls. Reaches p outside (boot_state p) ls x.1) (sym (append-nil lines)) (more x.0 x.1 x.2));
             stands = x.7;
-            out = x.4 ∙ ap (λ o. after o (text_of (told.lines ++ x.0))) far.out ∙ after_both before (text_of far.lines) (text_of (told.lines ++ x.0)) ∙ ap (after before) (text x.0);
+            out = x.4 ∙ ap (λ o. after o (text_by reads (told.lines ++ x.0))) far.out ∙ after_both before (text_by reads far.lines) (text_by reads (told.lines ++ x.0)) ∙ ap (after before) (text x.0);
           }
 
       -- the sink failed
-      pub cut : outside.limit ≤ 2 ^ 64 - 1 → new.core.image ≡ p → CutOff m told mid now new → CutShort p outside before now
+      pub cut : outside.limit ≤ 2 ^ 64 - 1 → new.core.image ≡ p → CutOff reads m told mid now new → CutShort reads p outside before now
       cut few again cut_off =
           let x = cut_off far.state far.stands in
-          let b = text_of (told.lines ++ x.0) in
+          let b = text_by reads (told.lines ++ x.0) in
           let all = completed p outside few ((far.lines ++ told.lines) ++ x.0) x.1 new again (more x.0 x.1 x.2) x.4 in
-          cut_of p outside before now ((far.lines ++ told.lines) ++ x.0) all (length (text_of far.lines) + x.3.0)
-          (x.3.1 ∙ ap (λ o. after o (take x.3.0 b)) far.out ∙ cut_next before (text_of far.lines) b x.3.0 ∙ ap (λ t. after before (take (length (text_of far.lines) + x.3.0) t)) (text x.0))
+          cut_of reads p outside before now ((far.lines ++ told.lines) ++ x.0) all (length (text_by reads far.lines) + x.3.0)
+          (x.3.1 ∙ ap (λ o. after o (take x.3.0 b)) far.out ∙ cut_next before (text_by reads far.lines) b x.3.0 ∙ ap (λ t. after before (take (length (text_by reads far.lines) + x.3.0) t)) (text x.0))
 
     -- turns
     module _ (none : told.lines ≡ []) where
@@ -147,20 +148,20 @@ module _ {X : Type 0} {B : X → Type 0} where
           (subst (λ ls. Reaches p outside (boot_state p) ls far.state) (append-nil far.lines) (subst (λ ls. Reaches p outside (boot_state p) (far.lines ++ ls) far.state) none far.reaches))
           (subst (λ q. Reaches q outside far.state lines u) image turns)
 
-      pub turned_on : TakesTurns m outside None told turn new → SoFar p outside before mid turn.lines new
+      pub turned_on : TakesTurns m outside None told turn new → SoFar reads p outside before mid turn.lines new
       turned_on takes =
           let x = takes far.state far.stands in
           let is : turn.lines ≡ x.0 = ap (λ (t : Turn). t.lines) x.3 ∙ ap (λ ls. ls ++ x.0) none in
           record { lines = far.lines; state = x.1; reaches = subst (λ ls. Reaches p outside (boot_state p) (far.lines ++ ls) x.1) (sym is) (bare x.0 x.1 x.2); stands = x.5; out = far.out }
 
-      pub turned_end : (ending : Ending) → TakesTurns m outside (Some ending) told turn new → Ended p outside ending before mid new
+      pub turned_end : (ending : Ending) → TakesTurns m outside (Some ending) told turn new → Ended reads p outside ending before mid new
       turned_end ending takes =
           let x = takes far.state far.stands in
           let silent : far.lines ++ x.0 ≡ far.lines = ap (λ ls. far.lines ++ ls) x.4.0 ∙ append-nil far.lines in
           record { lines = far.lines; state = x.1; run = record { reaches = subst (λ ls. Reaches p outside (boot_state p) ls x.1) silent (bare x.0 x.1 x.2); ended = x.4.1 }; stands = x.5; out = far.out }
 
       -- the run is over
-      pub ends : (ending : Ending) → progresses.Ended ending ≡ reached m.core → Ended p outside ending before mid m
+      pub ends : (ending : Ending) → progresses.Ended ending ≡ reached m.core → Ended reads p outside ending before mid m
       ends ending is =
           record {
             lines = far.lines;
@@ -174,7 +175,7 @@ module _ {X : Type 0} {B : X → Type 0} where
           }
 
   -- what a dispatch leaves
-  module _ (m new : Machine X B) (told now : Turn) (progress : Progress) (before out : Option (List ℕ)) (stands : Stands m) (sent : Sent m progress told now before out new) where
+  module _ (reads : Line → List ℕ) (m new : Machine X B) (told now : Turn) (progress : Progress) (before out : Option (List ℕ)) (stands : Stands m) (sent : Sent reads m progress told now before out new) where
     pub sent_turn : now ≡ record told { lines = [] }
     sent_turn = (sent stands.0 stands.1).3
 
@@ -239,9 +240,9 @@ module _ {X : Type 0} {B : X → Type 0} where
       let comes = ap (λ r. r.delivered) now in
       omega (arith, rounds_same, came, comes, fewer)
 
-  pub fewer_left : (outside : Outside) → outside.limit ≤ 2 ^ 64 - 1 → (m mid new : Machine X B) (told turn now : Turn) (progress : Progress) (before out : Option (List ℕ))
-      → Stands m → reached m.core ≡ progresses.Turned → TakesTurns m outside None told turn mid → Sent mid progress turn now before out new → left outside.events outside.limit new < left outside.events outside.limit m
-  fewer_left outside few m mid new told turn now progress before out stands between takes sent =
+  pub fewer_left_by : (reads : Line → List ℕ) (outside : Outside) → outside.limit ≤ 2 ^ 64 - 1 → (m mid new : Machine X B) (told turn now : Turn) (progress : Progress) (before out : Option (List ℕ))
+      → Stands m → reached m.core ≡ progresses.Turned → TakesTurns m outside None told turn mid → Sent reads mid progress turn now before out new → left outside.events outside.limit new < left outside.events outside.limit m
+  fewer_left_by reads outside few m mid new told turn now progress before out stands between takes sent =
       let x = takes stands.0 stands.1 in
       let y = sent x.1 x.5 in
       go x.1 x.4.2 x.4.1 x.4.3 y.0 y.1 y.2 y.5 y.6 y.7
@@ -254,6 +255,11 @@ module _ {X : Type 0} {B : X → Type 0} where
       go u same below (inr told) lines v moving far rests then_stands =
           fewer_to_come outside.events outside.limit m new stands.0 u v stands.1 then_stands (idle_stays mid.core.image turn.refused u lines v told.0.idle moving) between same told.0.going told.1
 
+  pub fewer_left : (outside : Outside) → outside.limit ≤ 2 ^ 64 - 1 → (m mid new : Machine X B) (told turn now : Turn) (progress : Progress) (before out : Option (List ℕ))
+      → Stands m → reached m.core ≡ progresses.Turned → TakesTurns m outside None told turn mid → Sent line_text mid progress turn now before out new
+      → left outside.events outside.limit new < left outside.events outside.limit m
+  fewer_left outside = fewer_left_by line_text outside
+
   -- what the machine in the run has of natives and refused requests is what it had at first
   pub turns_as : (m new : Machine X B) (limit : ℕ) (events : List TimedEvent) (result : Option Ending) (told now : Turn) {refused : List ℕ} {natives : ℕ} → told.refused ≡ refused → natives_of m ≡ natives
       → TakesTurns m (hearing told.refused limit (natives_of m) events) result told now new → TakesTurns m (hearing refused limit natives events) result told now new
@@ -261,10 +267,10 @@ module _ {X : Type 0} {B : X → Type 0} where
       subst (λ n. TakesTurns m (hearing refused limit n events) result told now new) count (subst (λ r. TakesTurns m (hearing r limit (natives_of m) events) result told now new) same takes)
 
   -- once turns have dispatched: how far the run has come, with what turn, and that the machine stands for a state
-  pub after_turns : (p : Image) (events : List TimedEvent) (limit : ℕ) (before mid : Option (List ℕ)) (old m : Machine X B) (told turn first : Turn) {natives : ℕ} → (far : SoFar p (hearing first.refused limit natives events) before mid told.lines old) → old.core.image ≡ p →
+  pub after_turns : {reads : Line → List ℕ} (p : Image) (events : List TimedEvent) (limit : ℕ) (before mid : Option (List ℕ)) (old m : Machine X B) (told turn first : Turn) {natives : ℕ} → (far : SoFar reads p (hearing first.refused limit natives events) before mid told.lines old) → old.core.image ≡ p →
       told ≡ record first { lines = [] } → natives_of old ≡ natives → TakesTurns old (hearing told.refused limit (natives_of old) events) None told turn m →
-      SoFar p (hearing first.refused limit natives events) before mid turn.lines m × (turn ≡ record first { lines = turn.lines }) × Stands m
-  after_turns p events limit before mid old m told turn first {natives} far image is count takes =
+      SoFar reads p (hearing first.refused limit natives events) before mid turn.lines m × (turn ≡ record first { lines = turn.lines }) × Stands m
+  after_turns {reads} p events limit before mid old m told turn first {natives} far image is count takes =
       let outside = hearing first.refused limit natives events in
       let stands : Stands old = (far.state, far.stands) in
       let turns = turns_as old m limit events None told turn (ap (λ (t : Turn). t.refused) is) count takes in (
@@ -274,15 +280,15 @@ module _ {X : Type 0} {B : X → Type 0} where
       )
 
   -- the last line after the others
-  module _ (m new : Machine X B) (outside : Outside) (ending : Ending) (before mid now : Option (List ℕ)) (failed : Bool) (run : Ended m.core.image outside ending before mid new) where
+  module _ {reads : Line → List ℕ} (m new : Machine X B) (outside : Outside) (ending : Ending) (before mid now : Option (List ℕ)) (failed : Bool) (run : Ended reads m.core.image outside ending before mid new) where
     last : List ℕ
     last = ended (end_text ending (count_cells run.state.cells))
 
-    told : now ≡ after mid last → Told m.core.image outside ending before now new
+    told : now ≡ after mid last → Told reads m.core.image outside ending before now new
     unfolding last
-    told out = record { lines = run.lines; state = run.state; run = run.run; stands = run.stands; out = out ∙ ap (λ o. after o last) run.out ∙ after_both before (text_of run.lines) last }
+    told out = record { lines = run.lines; state = run.state; run = run.run; stands = run.stands; out = out ∙ ap (λ o. after o last) run.out ∙ after_both before (text_by reads run.lines) last }
 
-    cut_last : (n : ℕ) → now ≡ after mid (take n last) → CutShort m.core.image outside before now
+    cut_last : (n : ℕ) → now ≡ after mid (take n last) → CutShort reads m.core.image outside before now
     unfolding last
     cut_last n out =
         record {
@@ -290,20 +296,20 @@ module _ {X : Type 0} {B : X → Type 0} where
           state = run.state;
           ending = ending;
           run = run.run;
-          sent = length (text_of run.lines) + n;
-          out = out ∙ ap (λ o. after o (take n last)) run.out ∙ cut_next before (text_of run.lines) last n;
+          sent = length (text_by reads run.lines) + n;
+          out = out ∙ ap (λ o. after o (take n last)) run.out ∙ cut_next before (text_by reads run.lines) last n;
         }
 
     pub ran : (outcome : Outcome) → (outcome ≡ WriteFault → failed ≡ true) → ((outcome ≡ WriteFault → ⊥) → outcome ≡ outcome_of ending)
         → ((s : State) → StandsFor new s → (n : ℕ) × (now ≡ after mid (take n (ended (end_text ending (count_cells s.cells))))))
         → ((outcome ≡ WriteFault → ⊥) → (s : State) → StandsFor new s → now ≡ after mid (ended (end_text ending (count_cells s.cells))))
-        → Ran m outside outcome failed before now new
+        → Ran reads m outside outcome failed before now new
     unfolding last
-    ran Stopped fault is part whole = subst (λ e. Told m.core.image outside e before now new) (sym (same_outcome endings.Stopped ending (is (λ f. cc)))) (told (whole (λ f. cc) run.state run.stands))
-    ran Waiting fault is part whole = subst (λ e. Told m.core.image outside e before now new) (sym (same_outcome endings.Waiting ending (is (λ f. cc)))) (told (whole (λ f. cc) run.state run.stands))
-    ran (MainLeft n) fault is part whole = subst (λ e. Told m.core.image outside e before now new) (sym (same_outcome (endings.MainLeft n) ending (is (λ f. cc)))) (told (whole (λ f. cc) run.state run.stands))
-    ran Limit fault is part whole = subst (λ e. Told m.core.image outside e before now new) (sym (same_outcome endings.Limit ending (is (λ f. cc)))) (told (whole (λ f. cc) run.state run.stands))
-    ran (Error n) fault is part whole = subst (λ e. Told m.core.image outside e before now new) (sym (same_outcome (endings.Error n) ending (is (λ f. cc)))) (told (whole (λ f. cc) run.state run.stands))
+    ran Stopped fault is part whole = subst (λ e. Told reads m.core.image outside e before now new) (sym (same_outcome endings.Stopped ending (is (λ f. cc)))) (told (whole (λ f. cc) run.state run.stands))
+    ran Waiting fault is part whole = subst (λ e. Told reads m.core.image outside e before now new) (sym (same_outcome endings.Waiting ending (is (λ f. cc)))) (told (whole (λ f. cc) run.state run.stands))
+    ran (MainLeft n) fault is part whole = subst (λ e. Told reads m.core.image outside e before now new) (sym (same_outcome (endings.MainLeft n) ending (is (λ f. cc)))) (told (whole (λ f. cc) run.state run.stands))
+    ran Limit fault is part whole = subst (λ e. Told reads m.core.image outside e before now new) (sym (same_outcome endings.Limit ending (is (λ f. cc)))) (told (whole (λ f. cc) run.state run.stands))
+    ran (Error n) fault is part whole = subst (λ e. Told reads m.core.image outside e before now new) (sym (same_outcome (endings.Error n) ending (is (λ f. cc)))) (told (whole (λ f. cc) run.state run.stands))
     ran WriteFault fault is part whole =
         let sent = part run.state run.stands in
         (fault refl, cut_last sent.0 sent.1)

@@ -5,6 +5,7 @@ use Rattle.std.proofs.lemmas.List.{take-append-le, take-append-drop, take_min}
 use Rattle.std.proofs.lemmas.Grind.{flat_map-append}
 use Rattle.aom_transcript.specs.declared.line.Line.{Line}
 use Rattle.aom_transcript.specs.Text.{line_text, ended, text_of}
+use Rattle.aom_run.specs.Naming.{text_by}
 use Rattle.aom_run.specs.Runs.{after}
 
 pub after_both : (before : Option (List ℕ)) (a b : List ℕ) → after (after before a) b ≡ after before (a ++ b)
@@ -15,8 +16,11 @@ pub after_none : (out : Option (List ℕ)) → out ≡ after out []
 after_none None = refl
 after_none (Some t) = ap (λ (u : List ℕ). Some u) (sym (append-nil t))
 
+pub text_by_both : (reads : Line → List ℕ) (ls ks : List Line) → text_by reads (ls ++ ks) ≡ text_by reads ls ++ text_by reads ks
+text_by_both reads ls ks = flat_map-append (λ line. ended (reads line)) ls ks
+
 pub text_of_both : (ls ks : List Line) → text_of (ls ++ ks) ≡ text_of ls ++ text_of ks
-text_of_both ls ks = flat_map-append (λ line. ended (line_text line)) ls ks
+text_of_both ls ks = text_by_both line_text ls ks
 
 -- a whole text, and the beginning of the next
 pub cut_next : (before : Option (List ℕ)) (a b : List ℕ) (n : ℕ) → after (after before a) (take n b) ≡ after before (take (length a + n) (a ++ b))
@@ -27,31 +31,31 @@ pub cut_short : (n : ℕ) (a b : List ℕ) → take n a ≡ take (min n (length 
 cut_short n a b = sym (take-append-le (min n (length a)) a b (omega arith) ∙ take_min n a)
 
 -- what is out and what the page holds are the text of the lines, one after the other
-pub record Paged (before now : Option (List ℕ)) (page : List ℕ) (lines : List Line) : Type 0 where
+pub record Paged (reads : Line → List ℕ) (before now : Option (List ℕ)) (page : List ℕ) (lines : List Line) : Type 0 where
   pub sent : List ℕ
   pub out : now ≡ after before sent
-  pub whole : sent ++ page ≡ text_of lines
+  pub whole : sent ++ page ≡ text_by reads lines
 
 -- one line more
-pub line_added : (before now : Option (List ℕ)) (old page : List ℕ) (lines : List Line) (i : ℕ) (line : Line)
-    → i < length lines → line ≡ get_or lines i line → Paged before now old (take i lines) → page ≡ old ++ ended (line_text line) → Paged before now page (take (i + 1) lines)
-line_added before now old page lines i line within is p added =
+pub line_added : {reads : Line → List ℕ} (before now : Option (List ℕ)) (old page : List ℕ) (lines : List Line) (i : ℕ) (line : Line)
+    → i < length lines → line ≡ get_or lines i line → Paged reads before now old (take i lines) → page ≡ old ++ ended (reads line) → Paged reads before now page (take (i + 1) lines)
+line_added {reads} before now old page lines i line within is p added =
     let more : i + 1 ≡ suc i = omega arith in
-    let next : text_of (take (i + 1) lines) ≡ text_of (take i lines) ++ ended (line_text line) =
-    ap text_of (ap (λ n. take n lines) more ∙ take-suc lines i line within ∙ ap (λ l. take i lines ++ l ∷ []) (sym is)) ∙ text_of_both (take i lines) (line ∷ []) ∙ ap (λ t. text_of (take i lines) ++ t) (append-nil (ended (line_text line)))
+    let next : text_by reads (take (i + 1) lines) ≡ text_by reads (take i lines) ++ ended (reads line) =
+    ap (text_by reads) (ap (λ n. take n lines) more ∙ take-suc lines i line within ∙ ap (λ l. take i lines ++ l ∷ []) (sym is)) ∙ text_by_both reads (take i lines) (line ∷ []) ∙ ap (λ t. text_by reads (take i lines) ++ t) (append-nil (ended (reads line)))
     in
     record {
       sent = p.sent;
       out = p.out;
-      whole = ap (λ t. p.sent ++ t) added ∙ sym (append_assoc p.sent old (ended (line_text line))) ∙ ap (λ t. t ++ ended (line_text line)) p.whole ∙ sym next;
+      whole = ap (λ t. p.sent ++ t) added ∙ sym (append_assoc p.sent old (ended (reads line))) ∙ ap (λ t. t ++ ended (reads line)) p.whole ∙ sym next;
     }
 
-pub still_paged : (before mid now : Option (List ℕ)) (old page : List ℕ) (lines : List Line) → Paged before mid old lines → now ≡ mid → page ≡ old → Paged before now page lines
-still_paged before mid now old page lines p out is = record { sent = p.sent; out = out ∙ p.out; whole = ap (λ t. p.sent ++ t) is ∙ p.whole }
+pub still_paged : {reads : Line → List ℕ} (before mid now : Option (List ℕ)) (old page : List ℕ) (lines : List Line) → Paged reads before mid old lines → now ≡ mid → page ≡ old → Paged reads before now page lines
+still_paged {reads} before mid now old page lines p out is = record { sent = p.sent; out = out ∙ p.out; whole = ap (λ t. p.sent ++ t) is ∙ p.whole }
 
 -- the page is out
-pub page_sent : (before mid now : Option (List ℕ)) (old page : List ℕ) (lines : List Line) → Paged before mid old lines → now ≡ after mid old → page ≡ [] → Paged before now page lines
-page_sent before mid now old page lines p out is =
+pub page_sent : {reads : Line → List ℕ} (before mid now : Option (List ℕ)) (old page : List ℕ) (lines : List Line) → Paged reads before mid old lines → now ≡ after mid old → page ≡ [] → Paged reads before now page lines
+page_sent {reads} before mid now old page lines p out is =
     record {
       sent = p.sent ++ old;
       out = out ∙ ap (λ o. after o old) p.out ∙ after_both before p.sent old;
@@ -59,10 +63,10 @@ page_sent before mid now old page lines p out is =
     }
 
 -- the beginning of the page is out
-pub page_cut : (before mid now : Option (List ℕ)) (page : List ℕ) (lines : List Line) (i n : ℕ) → Paged before mid page (take i lines) → now ≡ after mid (take n page)
-    → (k : ℕ) × (now ≡ after before (take k (text_of lines)))
-page_cut before mid now page lines i n p out =
-    let told = text_of (take i lines) in
-    let all : told ++ text_of (drop i lines) ≡ text_of lines = sym (text_of_both (take i lines) (drop i lines)) ∙ ap text_of (take-append-drop i lines) in
+pub page_cut : {reads : Line → List ℕ} (before mid now : Option (List ℕ)) (page : List ℕ) (lines : List Line) (i n : ℕ) → Paged reads before mid page (take i lines) → now ≡ after mid (take n page)
+    → (k : ℕ) × (now ≡ after before (take k (text_by reads lines)))
+page_cut {reads} before mid now page lines i n p out =
+    let told = text_by reads (take i lines) in
+    let all : told ++ text_by reads (drop i lines) ≡ text_by reads lines = sym (text_by_both reads (take i lines) (drop i lines)) ∙ ap (text_by reads) (take-append-drop i lines) in
     let sent = length p.sent + n in
-    (min sent (length told), out ∙ ap (λ o. after o (take n page)) p.out ∙ cut_next before p.sent page n ∙ ap (λ t. after before (take sent t)) p.whole ∙ ap (after before) (cut_short sent told (text_of (drop i lines)) ∙ ap (take (min sent (length told))) all))
+    (min sent (length told), out ∙ ap (λ o. after o (take n page)) p.out ∙ cut_next before p.sent page n ∙ ap (λ t. after before (take sent t)) p.whole ∙ ap (after before) (cut_short sent told (text_by reads (drop i lines)) ∙ ap (take (min sent (length told))) all))

@@ -125,14 +125,14 @@ module _ {X : Type 0} {B : X → Type 0} (old : Machine X B) (s : State) (st : S
       Asked (λ l. l.ids) old.natives.slots.items (asked_of old.core.image s) heard new.natives.slots.items → Core_stepped_on mid progress told now new.core → SteppedOn old heard progress told now new s
   stepped_on new mid heard progress told now image same_heard stands kept asked steps =
       let d = steps s stands in
-      let quiet = subst (λ h. Quiet old.core.image told.refused h s d.1) same_heard (subst (λ q. Quiet q told.refused (heard_by mid.parts) s d.1) image d.3) in
+      let quiet = subst (λ h. Quiet old.core.image told.refused h s d.3.0 d.1) same_heard (subst (λ q. Quiet q told.refused (heard_by mid.parts) s d.3.0 d.1) image d.3.1) in
       let last = subst (λ h. Steps old.core.image told.refused h d.1 d.0 d.2) same_heard (subst (λ q. Steps q told.refused (heard_by mid.parts) d.1 d.0 d.2) image d.4) in
-      let went = went_on old.core.image st.stands.typing st.stands.sound told.refused heard s d.1 d.2 d.0 st.stands.typed st.serves.sessions quiet last in
+      let went = went_on old.core.image st.stands.typing st.stands.sound told.refused heard s d.1 d.2 d.0 st.stands.typed st.serves.sessions (d.3.0, quiet) last in
       let serves = serves_after (λ l. l.ids) old.core.image s old.natives.slots.items st.serves st.stands.sound.formed (session_small old.core s st.stands) st.stands.typing (asked_of old.core.image s) heard new.natives.slots.items d.2 (of_asked (progress_of s)) asked went in (
         d.0,
         d.1,
         d.2,
-        quiet,
+        (d.3.0, quiet),
         last,
         d.5,
         d.6,
@@ -148,7 +148,7 @@ module _ {X : Type 0} {B : X → Type 0} (old : Machine X B) (s : State) (st : S
       Asked (λ l. l.ids) old.natives.slots.items (asked_of old.core.image s) heard new.natives.slots.items → Core_stepped mid progress told now new.core → SteppedOnce old heard progress told now new s
   unfolding stepped_on
   stepped_once new mid heard progress told now image same_heard stands kept asked steps =
-      let d = stepped_on new mid heard progress told now image same_heard stands kept asked (λ v there. let x = steps v there in (x.0, v, x.1, begins, x.2, x.3, x.4, x.5)) in
+      let d = stepped_on new mid heard progress told now image same_heard stands kept asked (λ v there. let x = steps v there in (x.0, v, x.1, ([], begins), x.2, x.3, x.4, x.5)) in
       (d.0, d.2, d.4, d.5, d.6, d.7)
 
 -- where nothing is at hand nothing is asked, and the core stays as it was

@@ -2,7 +2,7 @@
 use Rattle.std.proofs.Common.{◌≡◌, ◌≢◌, ℕ, ◌+◌, List, [], ◌++◌, Option, length, take, sym, ap, subst, ◌∙◌, append-nil, append_assoc}
 use Rattle.aom_sound.specs.State.{State}
 use Rattle.aom_transcript.specs.declared.line.Line.{Line}
-use Rattle.aom_transcript.specs.Text.{text_of}
+use Rattle.aom_run.specs.Naming.{text_by}
 use Rattle.aom_lines.specs.Turn.{Turn}
 use Rattle.aom_parts.specs.declared.progress.Progress.{Progress}
 use Rattle.aom_parts.specs.declared.progress.Progress.TheVariants.{Running}
@@ -11,20 +11,20 @@ use Rattle.aom_run.specs.Calls.{Stands, StandsFor}
 use Rattle.aom_run.specs.declared.machine.Machine.{Machine}
 use Rattle.aom_run.specs.Runs.{after, begins, CutOff, Filled, Moving, Sent}
 use Rattle.aom_run.proofs.Reaching.{moving_both}
-use Rattle.aom_run.proofs.Sending.{after_both, after_none, cut_next, text_of_both}
+use Rattle.aom_run.proofs.Sending.{after_both, after_none, cut_next, text_by_both}
 
 -- of the lines so far, those that were told before among them, some are out, and the others are in the turn
-abbrev pub Part : Turn → Turn → Option (List ℕ) → Option (List ℕ) → List Line → Type 0
-Part told turn before out lines = (sent : List Line) × (sent ++ turn.lines ≡ told.lines ++ lines) × (out ≡ after before (text_of sent))
+abbrev pub Part : (Line → List ℕ) → Turn → Turn → Option (List ℕ) → Option (List ℕ) → List Line → Type 0
+Part reads told turn before out lines = (sent : List Line) × (sent ++ turn.lines ≡ told.lines ++ lines) × (out ≡ after before (text_by reads sent))
 
 module _ {X : Type 0} {B : X → Type 0} where
-  abbrev pub Underway : Machine X B → Turn → Option (List ℕ) → Option (List ℕ) → Turn → Machine X B → Type 0
-  Underway old told before out turn m =
+  abbrev pub Underway : (Line → List ℕ) → Machine X B → Turn → Option (List ℕ) → Option (List ℕ) → Turn → Machine X B → Type 0
+  Underway reads old told before out turn m =
       (s : State) → StandsFor old s
-      → (lines : List Line) × (u : State) × Moving old.core.image told.refused s lines u × Part told turn before out lines × StandsFor m u
+      → (lines : List Line) × (u : State) × Moving old.core.image told.refused s lines u × Part reads told turn before out lines × StandsFor m u
 
-  pub underway : (m : Machine X B) (told : Turn) (out : Option (List ℕ)) → Underway m told out out told m
-  underway m told out s stands = ([], s, begins, ([], sym (append-nil told.lines), after_none out), stands)
+  pub underway : (reads : Line → List ℕ) (m : Machine X B) (told : Turn) (out : Option (List ℕ)) → Underway reads m told out out told m
+  underway reads m told out s stands = ([], s, begins, ([], sym (append-nil told.lines), after_none out), stands)
 
   pub still_stands : (m new : Machine X B) (turn full : Turn) (progress : Progress) → Stands m → Filled m progress turn full new → Stands new
   still_stands m new turn full progress stands f = let y = f stands.0 stands.1 in (y.1, y.5)
@@ -36,11 +36,11 @@ module _ {X : Type 0} {B : X → Type 0} where
       let all : clear ≡ record told { lines = [] } = is ∙ ap (λ (t : Turn). record t { lines = [] }) y.3 ∙ ap (λ (t : Turn). record t { lines = [] }) same in
       all ∙ ap (λ ls. record told { lines = ls }) (sym (ap (λ (t : Turn). t.lines) all))
 
-  module _ (old m new : Machine X B) (told turn full : Turn) (before out : Option (List ℕ)) (progress : Progress)
-      (w : Underway old told before out turn m) (image : m.core.image ≡ old.core.image) (same : turn ≡ record told { lines = turn.lines }) (f : Filled m progress turn full new) where
+  module _ (reads : Line → List ℕ) (old m new : Machine X B) (told turn full : Turn) (before out : Option (List ℕ)) (progress : Progress)
+      (w : Underway reads old told before out turn m) (image : m.core.image ≡ old.core.image) (same : turn ≡ record told { lines = turn.lines }) (f : Filled m progress turn full new) where
     module _ (s : State) (stands : StandsFor old s) where
       -- steps that fill the turn
-      further : (lines : List Line) × (u : State) × Moving old.core.image told.refused s lines u × Part told full before out lines × (full ≡ record told { lines = full.lines }) × (progress ≡ progress_of u) × StandsFor new u
+      further : (lines : List Line) × (u : State) × Moving old.core.image told.refused s lines u × Part reads told full before out lines × (full ≡ record told { lines = full.lines }) × (progress ≡ progress_of u) × StandsFor new u
       further =
           let x = w s stands in
           let y = f x.1 x.4 in
@@ -52,27 +52,27 @@ module _ {X : Type 0} {B : X → Type 0} where
           (x.0 ++ y.0, y.1, moving_both old.core.image told.refused s x.0 x.1 y.0 y.1 x.2 moving, (x.3.0, all, x.3.2), frame, y.4, y.5)
 
     -- the sink failed
-    pub cut_off : (now : Option (List ℕ)) (n : ℕ) → now ≡ after out (take n (text_of full.lines)) → CutOff old told before now new
+    pub cut_off : (now : Option (List ℕ)) (n : ℕ) → now ≡ after out (take n (text_by reads full.lines)) → CutOff reads old told before now new
     cut_off now n e s stands =
         let x = further s stands in
-        let a = text_of x.3.0 in
-        let b = text_of full.lines in
-        let all = sym (text_of_both x.3.0 full.lines) ∙ ap text_of x.3.1 in
+        let a = text_by reads x.3.0 in
+        let b = text_by reads full.lines in
+        let all = sym (text_by_both reads x.3.0 full.lines) ∙ ap (text_by reads) x.3.1 in
         (x.0, x.1, x.2, (length a + n, e ∙ ap (λ o. after o (take n b)) x.3.2 ∙ cut_next before a b n ∙ ap (λ t. after before (take (length a + n) t)) all), x.6)
 
     -- all that the turn has is out, and it is cleared
-    module _ (now : Option (List ℕ)) (clear : Turn) (is : clear ≡ record full { lines = [] }) (e : now ≡ after out (text_of full.lines)) where
-      all_out : (sent lines : List Line) → sent ++ full.lines ≡ told.lines ++ lines → out ≡ after before (text_of sent) → now ≡ after before (text_of (told.lines ++ lines))
+    module _ (now : Option (List ℕ)) (clear : Turn) (is : clear ≡ record full { lines = [] }) (e : now ≡ after out (text_by reads full.lines)) where
+      all_out : (sent lines : List Line) → sent ++ full.lines ≡ told.lines ++ lines → out ≡ after before (text_by reads sent) → now ≡ after before (text_by reads (told.lines ++ lines))
       all_out sent lines all so_far =
-          e ∙ ap (λ o. after o (text_of full.lines)) so_far ∙ after_both before (text_of sent) (text_of full.lines) ∙ ap (after before) (sym (text_of_both sent full.lines) ∙ ap text_of all)
+          e ∙ ap (λ o. after o (text_by reads full.lines)) so_far ∙ after_both before (text_by reads sent) (text_by reads full.lines) ∙ ap (after before) (sym (text_by_both reads sent full.lines) ∙ ap (text_by reads) all)
 
-      pub underway_still : Underway old told before now clear new
+      pub underway_still : Underway reads old told before now clear new
       underway_still s stands =
           let x = further s stands in
           let none : (told.lines ++ x.0) ++ clear.lines ≡ told.lines ++ x.0 = ap (λ (t : Turn). (told.lines ++ x.0) ++ t.lines) is ∙ append-nil (told.lines ++ x.0) in
           (x.0, x.1, x.2, (told.lines ++ x.0, none, all_out x.3.0 x.0 x.3.1 x.3.2), x.6)
 
-      pub is_sent : progress ≢ Running → Sent old progress told clear before now new
+      pub is_sent : progress ≢ Running → Sent reads old progress told clear before now new
       is_sent rests s stands =
           let x = further s stands in
           (x.0, x.1, x.2, is ∙ ap (λ (t : Turn). record t { lines = [] }) x.4, all_out x.3.0 x.0 x.3.1 x.3.2, x.5, rests, x.6)

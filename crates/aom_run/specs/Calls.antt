@@ -11,7 +11,7 @@ use Rattle.aom_parts.specs.declared.progress.Progress.{Progress}
 use Rattle.aom_parts.specs.declared.progress.Progress.TheVariants.{Running, Turned}
 use Rattle.aom_parts.specs.Progress.{progress_of}
 use Rattle.aom_exec.specs.Clients.{IsInRange}
-use Rattle.aom_exec.specs.Steps.{Quiet, Steps, progress, timers}
+use Rattle.aom_exec.specs.Steps.{Quietly, Steps, progress, timers}
 use Rattle.aom_parts.specs.Stands.{StandsFor as Core_stands}
 use Rattle.aom_exec.specs.Turns.{Answers, NoneDue}
 use Rattle.aom_run.specs.declared.machine.Machine.{Machine}
@@ -46,11 +46,11 @@ module _ {X : Type 0} {B : X → Type 0} where
   abbrev pub NoneIsDue : Machine X B → Type 0
   NoneIsDue m = (s : State) → Core_stands m.core s → NoneDue s
 
-  -- one step, or several of which all but the last are quiet: the first of them hears that
+  -- one step or several, of which the first hears that and the others nothing
   abbrev pub SteppedOn : Machine X B → ℤ → Progress → Turn → Turn → Machine X B → State → Type 0
   SteppedOn old heard progress told now new s =
-      (lines : List Line) × (v u : State) × Quiet old.core.image told.refused heard s v × Steps old.core.image told.refused heard v lines u
-      × (now ≡ record told { lines = told.lines ++ lines })
+      (lines : List Line) × (v u : State) × (q : Quietly old.core.image told.refused heard s v) × Steps old.core.image told.refused heard v lines u
+      × (now ≡ record told { lines = told.lines ++ (q.0 ++ lines) })
       × (progress ≡ progress_of u)
       × StandsFor new u
 

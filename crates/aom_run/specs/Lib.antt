@@ -3,4 +3,5 @@ pub mod Calls
 pub mod Beside
 pub mod Outcomes
 pub mod Runs
+pub mod Naming
 pub mod Turns

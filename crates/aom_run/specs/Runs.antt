@@ -1,4 +1,4 @@
--- What a run of the machine tells of the checked machine.
+-- What a run of the machine tells of the checked machine. `reads` says how a line is written.
 use Rattle.std.specs.Prelude.{◌≡◌, ◌≢◌, ◌<◌, ◌≤◌, ◌+◌, ℕ, length, Bool, true, List, [], ◌++◌, Option, take, option_map}
 use Rattle.aom_image.specs.Image.{Image}
 use Rattle.aom_sound.specs.Places.{count_cells}
@@ -9,7 +9,7 @@ use Rattle.aom_transcript.specs.declared.line.Line.{Line}
 use Rattle.aom_transcript.specs.declared.line.Ending.{Ending}
 use Rattle.aom_transcript.specs.declared.line.Ending.TheVariants as endings
 use Rattle.aom_lines.specs.Turn.{Turn, step_lines}
-use Rattle.aom_transcript.specs.Text.{text_of, transcript}
+use Rattle.aom_run.specs.Naming.{text_by, transcript_by}
 use Rattle.aom_run.specs.declared.outcome.Outcome.{Outcome}
 use Rattle.aom_run.specs.declared.outcome.Outcome.TheVariants.{Stopped, Waiting, MainLeft, Limit, Error, WriteFault}
 use Rattle.aom_parts.specs.declared.progress.Progress.{Progress}
@@ -28,13 +28,13 @@ pub data Moving (p : Image) (refused : List ℕ) (from : State) : List Line → 
   goes_on : {lines : List Line} {s u : State} (c : Choice) → Moving p refused from lines s → IsBusy s → IsOpen p refused c s → step p c s ≡ Goes u → Moving p refused from (lines ++ written p s) u
 
 -- a run whose sink failed: a beginning of the transcript of a run is out
-pub record CutShort (p : Image) (outside : Outside) (before now : Option (List ℕ)) : Type 0 where
+pub record CutShort (reads : Line → List ℕ) (p : Image) (outside : Outside) (before now : Option (List ℕ)) : Type 0 where
   pub lines : List Line
   pub state : State
   pub ending : Ending
   pub run : Run_of p outside lines state ending
   pub sent : ℕ
-  pub out : now ≡ after before (take sent (transcript lines ending (count_cells state.cells)))
+  pub out : now ≡ after before (take sent (transcript_by reads lines ending (count_cells state.cells)))
 
 module _ {X : Type 0} {B : X → Type 0} where
   -- a machine that has not run: it stands for the boot state
@@ -60,45 +60,45 @@ module _ {X : Type 0} {B : X → Type 0} where
       × StandsFor new u
 
   -- so until nothing is at hand: what was in the turn is out, and their lines are out after it
-  abbrev pub Sent : Machine X B → Progress → Turn → Turn → Option (List ℕ) → Option (List ℕ) → Machine X B → Type 0
-  Sent old progress told now before out new =
+  abbrev pub Sent : (Line → List ℕ) → Machine X B → Progress → Turn → Turn → Option (List ℕ) → Option (List ℕ) → Machine X B → Type 0
+  Sent reads old progress told now before out new =
       (s : State) → StandsFor old s
       → (lines : List Line) × (u : State) × Moving old.core.image told.refused s lines u
       × (now ≡ record told { lines = [] })
-      × (out ≡ after before (text_of (told.lines ++ lines)))
+      × (out ≡ after before (text_by reads (told.lines ++ lines)))
       × (progress ≡ progress_of u)
       × (progress ≢ Running)
       × StandsFor new u
 
   -- or a beginning of all that, where the sink failed
-  abbrev pub CutOff : Machine X B → Turn → Option (List ℕ) → Option (List ℕ) → Machine X B → Type 0
-  CutOff old told before out new =
+  abbrev pub CutOff : (Line → List ℕ) → Machine X B → Turn → Option (List ℕ) → Option (List ℕ) → Machine X B → Type 0
+  CutOff reads old told before out new =
       (s : State) → StandsFor old s
       → (lines : List Line) × (u : State) × Moving old.core.image told.refused s lines u
-      × ((sent : ℕ) × (out ≡ after before (take sent (text_of (told.lines ++ lines)))))
+      × ((sent : ℕ) × (out ≡ after before (take sent (text_by reads (told.lines ++ lines)))))
       × StandsFor new u
 
   -- a run to its end: the machine stands for its last state, and its lines are out
-  pub record Ended (p : Image) (outside : Outside) (ending : Ending) (before now : Option (List ℕ)) (new : Machine X B) : Type 0 where
+  pub record Ended (reads : Line → List ℕ) (p : Image) (outside : Outside) (ending : Ending) (before now : Option (List ℕ)) (new : Machine X B) : Type 0 where
     pub lines : List Line
     pub state : State
     pub run : Run_of p outside lines state ending
     pub stands : StandsFor new state
-    pub out : now ≡ after before (text_of lines)
+    pub out : now ≡ after before (text_by reads lines)
 
   -- and its last line too
-  pub record Told (p : Image) (outside : Outside) (ending : Ending) (before now : Option (List ℕ)) (new : Machine X B) : Type 0 where
+  pub record Told (reads : Line → List ℕ) (p : Image) (outside : Outside) (ending : Ending) (before now : Option (List ℕ)) (new : Machine X B) : Type 0 where
     pub lines : List Line
     pub state : State
     pub run : Run_of p outside lines state ending
     pub stands : StandsFor new state
-    pub out : now ≡ after before (transcript lines ending (count_cells state.cells))
+    pub out : now ≡ after before (transcript_by reads lines ending (count_cells state.cells))
 
   -- what an outcome says of the run
-  abbrev pub Ran : Machine X B → Outside → Outcome → Bool → Option (List ℕ) → Option (List ℕ) → Machine X B → Type 0
-  Ran old outside Stopped failed before now new = Told old.core.image outside endings.Stopped before now new
-  Ran old outside Waiting failed before now new = Told old.core.image outside endings.Waiting before now new
-  Ran old outside (MainLeft code) failed before now new = Told old.core.image outside (endings.MainLeft code) before now new
-  Ran old outside Limit failed before now new = Told old.core.image outside endings.Limit before now new
-  Ran old outside (Error answer) failed before now new = Told old.core.image outside (endings.Error answer) before now new
-  Ran old outside WriteFault failed before now new = (failed ≡ true) × CutShort old.core.image outside before now
+  abbrev pub Ran : (Line → List ℕ) → Machine X B → Outside → Outcome → Bool → Option (List ℕ) → Option (List ℕ) → Machine X B → Type 0
+  Ran reads old outside Stopped failed before now new = Told reads old.core.image outside endings.Stopped before now new
+  Ran reads old outside Waiting failed before now new = Told reads old.core.image outside endings.Waiting before now new
+  Ran reads old outside (MainLeft code) failed before now new = Told reads old.core.image outside (endings.MainLeft code) before now new
+  Ran reads old outside Limit failed before now new = Told reads old.core.image outside endings.Limit before now new
+  Ran reads old outside (Error answer) failed before now new = Told reads old.core.image outside (endings.Error answer) before now new
+  Ran reads old outside WriteFault failed before now new = (failed ≡ true) × CutShort reads old.core.image outside before now

@@ -1,12 +1,14 @@
 //! A dispatch, from where it begins until nothing is at hand, and its lines.
 ghost use Rattle.std.specs.Prelude.{ℕ, true, false, ◌≡◌, ◌<◌, take, IfNone, IfSome};
 ghost use Rattle.aom_transcript.specs.Text.{text_of};
+ghost use Rattle.aom_run.specs.Naming.{named_by};
 ghost use Rattle.aom_run.specs.Runs.{CutOff, Filled, HasRoom, KeepsImage, Sent, after};
 ghost use Rattle.aom_exec.specs.Steps.{rank};
 ghost use Rattle.aom_run.specs.Beside.{KeepsUnnamed};
 ghost use Rattle.aom_run.specs.Calls.{Stands};
 ghost use Rattle.aom_natives.specs.Slots.{AllAgree};
 
+use crate::naming::put_lines;
 use crate::{Machine, Sink, write_text};
 use aom_exec::Progress;
 use aom_lines::Turn;
@@ -16,11 +18,13 @@ use aom_transcript::{Line, Page};
 /// How many lines the machine writes, at least, before they are sent out. A turn has room for them and for one step more.
 const MANY_LINES: usize = 64;
 
-/// Runs what is at hand until nothing is, and writes its lines after those of the turn, or gives up where the sink fails.
+/// Runs what is at hand until nothing is, and writes its lines after those of the turn, by the names of classes where there are some, or
+/// gives up where the sink fails.
 pub fn run_dispatch<W: Sink>(
     machine: &mut Machine,
     turn: &mut Turn,
     page: &mut Page,
+    names: Option<&[&[u8]]>,
     out: &mut W,
 ) -> Option<Progress>
     requires agree { AllAgree (λ l. l.ids) (λ l. (⟦<dyn Native as Native>⟧ l.native.vtable).owed l.native.value) machine.old.natives.slots.items }
@@ -29,12 +33,12 @@ pub fn run_dispatch<W: Sink>(
     ensures agree { AllAgree (λ l. l.ids) (λ l. (⟦<dyn Native as Native>⟧ l.native.vtable).owed l.native.value) machine.new.natives.slots.items }
     ensures kept { KeepsImage machine.old machine.new }
     ensures unnamed { KeepsUnnamed machine.old.core.image machine.old.natives.slots.items machine.new.natives.slots.items }
-    ensures none { IfNone result ((W.failed out.new ≡ true) × CutOff machine.old turn.old (W.out out.old) (W.out out.new) machine.new) }
-    ensures some { IfSome result (λ progress. Sent machine.old progress turn.old turn.new (W.out out.old) (W.out out.new) machine.new) }
+    ensures none { IfNone result ((W.failed out.new ≡ true) × CutOff (named_by names.entry) machine.old turn.old (W.out out.old) (W.out out.new) machine.new) }
+    ensures some { IfSome result (λ progress. Sent (named_by names.entry) machine.old progress turn.old turn.new (W.out out.old) (W.out out.new) machine.new) }
 {
     loop {
         let progress = fill(machine, turn);
-        write_lines(out, page, turn.lines());
+        put_lines(out, page, names, turn.lines());
         if out.has_failed() {
             return None;
         }

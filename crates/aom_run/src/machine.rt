@@ -76,12 +76,13 @@ impl<'a> Machine<'a> {
         }
     }
 
-    /// Steps until something is written, nothing is at hand, or the next step asks something of a native. What the first step asks is
+    /// Steps until the turn has many lines, nothing is at hand, or the next step asks something of a native. What the first step asks is
     /// asked of its native before.
     pub fn step_on(&mut self, turn: &mut Turn) -> Progress
         requires agree { AllAgree (λ l. l.ids) (λ l. (⟦<dyn Native as Native>⟧ l.native.vtable).owed l.native.value) self.old.natives.slots.items }
         requires stands { Stands self.old }
         requires room { length turn.old.lines + step_lines self.old.core.image.header.messages < turn.old.room }
+        requires many { 64 + step_lines self.old.core.image.header.messages ≤ turn.old.room }
         ensures agree { AllAgree (λ l. l.ids) (λ l. (⟦<dyn Native as Native>⟧ l.native.vtable).owed l.native.value) self.new.natives.slots.items }
         ensures image { self.new.core.image ≡ self.old.core.image }
         ensures natives { natives_of self.new ≡ natives_of self.old }

@@ -3,10 +3,11 @@ ghost use Rattle.std.specs.Prelude.{ℕ, true, ◌≡◌, ◌+◌, ◌<◌, ◌�
 ghost use Rattle.aom_sound.specs.Places.{count_cells};
 ghost use Rattle.aom_sound.specs.State.{State};
 ghost use Rattle.aom_endings.specs.Determined.{IsDetermined};
-ghost use Rattle.aom_transcript.specs.Text.{ended, end_text};
+ghost use Rattle.aom_transcript.specs.Text.{ended, end_text, line_text};
 ghost use Rattle.aom_lines.specs.Turn.{step_lines};
 ghost use Rattle.aom_run.specs.Outcomes.{outcome_of};
 ghost use Rattle.aom_run.specs.Turns.{hearing};
+ghost use Rattle.aom_run.specs.Naming.{named_by};
 ghost use Rattle.aom_run.specs.Runs.{IsFresh, Ran, Ended, CutShort, after};
 ghost use Rattle.aom_script.specs.Script.{IsTimely};
 ghost use Rattle.aom_run.specs.Calls.{EventInRange, StandsFor, natives_of};
@@ -40,11 +41,34 @@ pub fn run<W: Sink>(
     requires timely { IsTimely script.now.timed }
     ensures agree { AllAgree (λ l. l.ids) (λ l. (⟦<dyn Native as Native>⟧ l.native.vtable).owed l.native.value) machine.new.natives.slots.items }
     ensures image { machine.new.core.image ≡ machine.old.core.image }
-    ensures ran { Ran machine.old (hearing turn.old.refused limit (natives_of machine.old) script.now.timed) result (W.failed out.new) (W.out out.old) (W.out out.new) machine.new }
+    ensures ran { Ran line_text machine.old (hearing turn.old.refused limit (natives_of machine.old) script.now.timed) result (W.failed out.new) (W.out out.old) (W.out out.new) machine.new }
+    ensures determined { IsDetermined machine.old.core.image (hearing turn.old.refused limit (natives_of machine.old) script.now.timed) }
+{
+    run_named(machine, script, turn, limit, None, out)
+}
+
+/// Runs a machine as `run` does, and writes its classes by these names, of which the first is that of class 0. A class without a name, or
+/// with one that is longer than a name may be, is written by its number.
+pub fn run_named<W: Sink>(
+    machine: &mut Machine,
+    script: &Script,
+    turn: &mut Turn,
+    limit: u32,
+    names: Option<&[&[u8]]>,
+    out: &mut W,
+) -> Outcome
+    requires agree { AllAgree (λ l. l.ids) (λ l. (⟦<dyn Native as Native>⟧ l.native.vtable).owed l.native.value) machine.old.natives.slots.items }
+    requires fresh { IsFresh machine.old }
+    requires room { 64 + step_lines machine.old.core.image.header.messages ≤ turn.old.room }
+    requires limit { (1 ≤ limit) × (limit ≤ 1000000000) }
+    requires timely { IsTimely script.now.timed }
+    ensures agree { AllAgree (λ l. l.ids) (λ l. (⟦<dyn Native as Native>⟧ l.native.vtable).owed l.native.value) machine.new.natives.slots.items }
+    ensures image { machine.new.core.image ≡ machine.old.core.image }
+    ensures ran { Ran (named_by names.entry) machine.old (hearing turn.old.refused limit (natives_of machine.old) script.now.timed) result (W.failed out.new) (W.out out.old) (W.out out.new) machine.new }
     ensures determined { IsDetermined machine.old.core.image (hearing turn.old.refused limit (natives_of machine.old) script.now.timed) }
 {
     aom_endings::text_is_determined();
-    match run_lines(machine, script.events(), turn, limit, out) {
+    match run_lines(machine, script.events(), turn, limit, names, out) {
         None => Outcome::WriteFault,
         Some(ending) => finish(machine, ending, out),
     }
@@ -56,6 +80,7 @@ fn run_lines<W: Sink>(
     events: &[TimedEvent],
     turn: &mut Turn,
     limit: u32,
+    names: Option<&[&[u8]]>,
     out: &mut W,
 ) -> Option<Ending>
     requires agree { AllAgree (λ l. l.ids) (λ l. (⟦<dyn Native as Native>⟧ l.native.vtable).owed l.native.value) machine.old.natives.slots.items }
@@ -64,12 +89,12 @@ fn run_lines<W: Sink>(
     requires ranged { All (λ e. EventInRange e.event) events.now }
     ensures agree { AllAgree (λ l. l.ids) (λ l. (⟦<dyn Native as Native>⟧ l.native.vtable).owed l.native.value) machine.new.natives.slots.items }
     ensures image { machine.new.core.image ≡ machine.old.core.image }
-    ensures none { IfNone result ((W.failed out.new ≡ true) × CutShort machine.old.core.image (hearing turn.old.refused limit (natives_of machine.old) events.now) (W.out out.old) (W.out out.new)) }
-    ensures some { IfSome result (λ ending. Ended machine.old.core.image (hearing turn.old.refused limit (natives_of machine.old) events.now) ending (W.out out.old) (W.out out.new) machine.new) }
+    ensures none { IfNone result ((W.failed out.new ≡ true) × CutShort (named_by names.entry) machine.old.core.image (hearing turn.old.refused limit (natives_of machine.old) events.now) (W.out out.old) (W.out out.new)) }
+    ensures some { IfSome result (λ ending. Ended (named_by names.entry) machine.old.core.image (hearing turn.old.refused limit (natives_of machine.old) events.now) ending (W.out out.old) (W.out out.new) machine.new) }
 {
     turn.clear();
     let mut page = Page::new();
-    let mut progress = run_dispatch(machine, turn, &mut page, out)?;
+    let mut progress = run_dispatch(machine, turn, &mut page, names, out)?;
     loop {
         if let Progress::Ended(ending) = progress {
             return Some(ending);
@@ -77,7 +102,7 @@ fn run_lines<W: Sink>(
         if let Some(ending) = take_turns(machine, events, turn, limit) {
             return Some(ending);
         }
-        progress = run_dispatch(machine, turn, &mut page, out)?;
+        progress = run_dispatch(machine, turn, &mut page, names, out)?;
     }
 }
 

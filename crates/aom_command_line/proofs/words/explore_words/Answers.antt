@@ -2,4 +2,4 @@ use Rattle.std.proofs.Common.{refl}
 use Rattle.aom_command_line.proofs.words.explore_words.Goals as goal
 
 pub returns-clause-asks : goal.returns-clause-asks
-returns-clause-asks c = (refl, c.in_ok-run_words.ensures.asks, c.number_of.ensures, c.number_of-2.ensures)
+returns-clause-asks c = (refl, c.in_ok-run.ensures.asks, c.tries_words.ensures)

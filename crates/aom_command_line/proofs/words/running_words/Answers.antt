@@ -1,9 +1,12 @@
-use Rattle.std.proofs.Common.{refl, sym, subst}
+-- What is asked is as found; names are asked for only where there is a text, and a text where it is of use.
+use Rattle.std.proofs.Common.{◌||◌, refl, sym, subst}
 use Rattle.clap.specs.Words.{found_of, rows_of}
-use Rattle.aom_command_line.specs.CommandLine.{AsksText}
+use Rattle.aom_command_line.specs.CommandLine.{AsksNames, AsksText}
 use Rattle.aom_command_line.proofs.words.running_words.Goals as goal
 
 pub returns-clause-asks : goal.returns-clause-asks
 returns-clause-asks c =
-    let named = subst (λ asm. AsksText (rows_of (found_of c.args.own.now)) c.is_set-explain.result asm c.in_ok-text_of.field-0) (sym c.in_ok-run_words.ensures.asm) c.in_ok-text_of.ensures.asks in
-    (refl, c.in_ok-run_words.ensures.asks, c.is_set-explain.ensures, named)
+    let rows = rows_of (found_of c.args.own.now) in
+    let same = sym c.in_ok-run_words.ensures.asm in
+    let named = subst (λ asm. AsksText rows (c.is_set-explain.result || c.is_set-names.result) asm c.in_ok-text_of.field-0) same c.in_ok-text_of.ensures.asks in
+    (refl, c.in_ok-run_words.ensures.asks, c.is_set-explain.ensures, subst (λ asm. AsksNames rows asm c.is_set-names.result) same c.in_ok-fit_names.ensures.asks, named)

@@ -11,9 +11,9 @@ pub returns : goal.returns
 returns c =
     let text = c.args.out.now in
     let class = c.args.declaration.now in
-    let heading = class_heading c.args.class class.kind in
+    let heading = class_heading c.args.names.now c.args.class class.kind in
     let color = color_text (class_is_over c.args.linked.now c.args.figures.now.prices c.args.class class) in
-    let line = class_line c.args.linked.now c.args.figures.now.prices c.args.class class in
+    let line = class_line c.args.names.now c.args.linked.now c.args.figures.now.prices c.args.class class in
     let colored = c.in_ok-put_color.ensures ∙ ap (λ b. c.put_class_heading.new.out ++ color_text b) c.class_is_over.ensures in
     let parent = parent_text c.args.class class.parent in
     let ended = then text _ _ (heading ++ color) line_end (then text _ _ heading color c.in_ok-put_class_heading.ensures colored) c.in_ok-words.ensures in

@@ -3,11 +3,16 @@ use Rattle.std.proofs.Common.{◌++◌, codes}
 use Rattle.std.proofs.lemmas.Result.{IfOk-weaker}
 use Rattle.aom_figures.specs.Classes.{kind_word}
 use Rattle.aom_figures.specs.Each.{numbered}
+use Rattle.aom_figures.specs.Names.{label}
 use Rattle.aom_figures.proofs.GraphGrowing.{then}
 use Rattle.aom_figures.proofs.class.put_class_heading.Goals as goal
 
 pub returns : goal.returns
 returns c =
     let text = c.args.out.now in
-    let one = then text _ _ (numbered (codes "c") c.args.class) (numbered (codes " [shape=box label=\"c") c.args.class) c.in_ok-put_class_number.ensures c.in_ok-put_class_number-2.ensures in
-    IfOk-weaker c.put_kind_word.result _ _ (λ r written. then text _ _ (numbered (codes "c") c.args.class ++ numbered (codes " [shape=box label=\"c") c.args.class) (kind_word c.args.kind) one written) c.put_kind_word.ensures
+    let box = numbered (codes "c") c.args.class in
+    let shape = codes " [shape=box label=\"" in
+    let name = label c.args.names.now.classes (codes "c") c.args.class in
+    let shaped = then text _ _ box shape c.in_ok-put_class_number.ensures c.in_ok-words.ensures in
+    let named = then text _ _ (box ++ shape) name shaped c.in_ok-put_class.ensures in
+    IfOk-weaker c.put_kind_word.result _ _ (λ r written. then text _ _ (box ++ shape ++ name) (kind_word c.args.kind) named written) c.put_kind_word.ensures

@@ -12,10 +12,10 @@ pub returns : goal.returns
 returns c =
     let text = c.args.out.now in
     let number = c.args.number in
-    let heading = heading_text number c.args.method.now in
+    let heading = heading_text c.args.names.now number c.args.method.now in
     let figures = figures_label c.args.figures.now number in
     let color = color_text (method_is_over c.args.linked.now c.args.figures.now number) in
-    let line = method_line c.args.linked.now c.args.figures.now number c.args.method.now in
+    let line = method_line c.args.names.now c.args.linked.now c.args.figures.now number c.args.method.now in
     let colored = c.in_ok-put_color.ensures ∙ ap (λ b. c.put_figures.new.out ++ color_text b) c.method_is_over.ensures in
     let before = then text _ _ (heading ++ figures) color (then text _ _ heading figures c.in_ok-put_heading.ensures c.in_ok-put_figures.ensures) colored in
     let ended = then text _ _ (heading ++ figures ++ color) line_end before c.in_ok-words.ensures in

@@ -4,4 +4,4 @@ use Rattle.aom_figures.specs.Each.{each}
 use Rattle.aom_figures.proofs.method.put_methods.Given as goal
 
 abbrev pub invariant-loop-index : goal.invariant-loop-index
-invariant-loop-index l = l.out ≡ l.fn.out ++ each (method_text l.linked l.figures) 0 (take l.index l.methods)
+invariant-loop-index l = l.out ≡ l.fn.out ++ each (method_text l.names l.linked l.figures) 0 (take l.index l.methods)

@@ -10,5 +10,5 @@ returns c =
     IfOk-weaker c.dot_text.result _ _ (λ text drawn. record {
       figures = c.in_ok-figures.figures;
       are = c.in_ok-figures.ensures;
-      drawn = drawn ∙ ap (λ (p : Image). dot_text p c.in_ok-figures.figures) c.linked.ensures;
+      drawn = drawn ∙ ap (λ (p : Image). dot_text c.args.names.now p c.in_ok-figures.figures) c.linked.ensures;
     }) c.dot_text.ensures

@@ -1,11 +1,10 @@
 -- The machine has the boxes in its slots, as many as kinds; memory is wanting where it has booted.
-use Rattle.std.proofs.Common.{◌≡◌, ◌∙◌, length, subst, sym}
+use Rattle.std.proofs.Common.{◌≡◌, ◌∙◌, List, ℕ, length, subst, sym}
 use Rattle.std.specs.Prelude.{IfOk}
 use Rattle.std.proofs.lemmas.Result.{IfErr-weaker, IfOk-weaker, err_from_is_err_and}
-use Rattle.aom_run.specs.Calls.{natives_of}
-use Rattle.aom_run.specs.Turns.{hearing}
-use Rattle.aom_main.specs.Explored.{IsLast}
-use Rattle.aom_main.specs.Headline.{HasNatives, RefusesBoot}
+use Rattle.aom_run.specs.Runs.{after}
+use Rattle.aom_main.specs.Explored.{IsLast, kept_text}
+use Rattle.aom_main.specs.Headline.{HasNatives, RefusesBoot, outside_of}
 use Rattle.aom_main.proofs.Boxes.{all_new, as_many, owe_nothing}
 use Rattle.aom_main.proofs.Tries.{refuses_same, wants_memory}
 use Rattle.aom_main.proofs.exploring.last_beside.Goals as goal
@@ -26,7 +25,8 @@ last_booted-last-requires-clause-new g c =
 pub returns-clause-ok : goal.returns-clause-ok
 returns-clause-ok g c =
     let many = c.in_ok-machine.ensures.natives ∙ as_many _ c.args.trial.now.kinds.now c.args.boxes.items c.requires.new in
-    subst (λ n. IfOk c.last_booted-last.result (λ last. IsLast c.args.trial.now.accepted.now (hearing c.args.refused.items c.args.trial.now.limit n c.args.trial.now.script.now.timed) last)) many c.last_booted-last.ensures.ok
+    subst (λ n. IfOk c.last_booted-last.result (λ last. (text : List ℕ) × IsLast c.args.trial.now.accepted.now (outside_of c.args.trial.now.script.now c.args.trial.now.limit n) last text
+    × (kept_text c.last_booted-last.new.kept.keeps c.last_booted-last.new.kept.text.items ≡ after (kept_text c.args.kept.now.keeps c.args.kept.now.text.items) text))) many c.last_booted-last.ensures.ok
 
 pub returns-clause-enough : goal.returns-clause-enough
 returns-clause-enough g c =

@@ -1,13 +1,24 @@
--- The run is refused what the script refuses.
-use Rattle.std.proofs.Common.{length}
-use Rattle.std.proofs.lemmas.Result.{err_from_is_err_and}
-use Rattle.aom_main.proofs.Telling.{memory_refused}
+-- The run is that of the script as it is, and what is kept of it is its transcript.
+use Rattle.std.proofs.Common.{◌∙◌, [], List, ℕ, Bool, ap, refl}
+use Rattle.aom_run.specs.Runs.{after}
+use Rattle.aom_injection.specs.Planned.{times_in}
+use Rattle.aom_main.specs.Explored.{kept_text}
+use Rattle.aom_main.proofs.Tries.{kept_so}
 use Rattle.aom_main.proofs.exploring.plain_of.Goals as goal
 
 pub returns-clause-ok : goal.returns-clause-ok
-returns-clause-ok c = rw (c.in_ok-own.ensures.items, c.refused.ensures) at c.last_of.ensures.ok
-
-pub returns-in_err-own-clause-err : goal.returns-in_err-own-clause-err
-returns-in_err-own-clause-err c =
-    let p = err_from_is_err_and c.from_residual.result c.from_residual.ensures.1 in
-    rw p.1 (memory_refused c.args.trial.now.accepted.now (length c.args.trial.now.kinds.now) p.0 p.2)
+returns-clause-ok c =
+    let last = c.in_ok-last.ensures.ok in
+    let text = last.0 in
+    let kept = c.last_of.new.kept in
+    record {
+      last = c.in_ok-last.last;
+      text = text;
+      is = last.1;
+      asked = refl;
+      marked = λ marks.
+          c.in_ok-times.ensures.times
+          ∙ ap times_in (c.as_slice.ensures.value
+          ∙ kept_so kept.keeps kept.text.items text
+          (last.2 ∙ ap (λ (xs : List ℕ). after (kept_text c.new-kept.result.keeps xs) text) c.new-kept.ensures.empty ∙ ap (λ (b : Bool). after (kept_text b []) text) (c.new-kept.ensures.keeps ∙ marks)));
+    }

@@ -26,7 +26,7 @@ step_on-progress-requires g c =
     let few = i.few in
     let enough = c.requires.room.1 in
     let messages = ap (λ (p : Image). p.header.messages) i.kept.image in
-    record { agree = i.agree; stands = i.stands; room = omega (arith, room, few, enough, messages) }
+    record { agree = i.agree; stands = i.stands; room = omega (arith, room, few, enough, messages); many = omega (arith, room, enough, messages) }
 
 pub returns-then-lines-ge-MANY_LINES-clause-kept :
     goal.returns-then-lines-ge-MANY_LINES-clause-kept

@@ -4,12 +4,13 @@ use Rattle.aom_run.specs.Beside.{KeepsUnnamed}
 use Rattle.aom_run.specs.Calls.{Stands}
 use Rattle.aom_natives.specs.Slots.{AllAgree}
 use Rattle.aom_run.specs.Runs.{KeepsImage}
+use Rattle.aom_run.specs.Naming.{named_by}
 use Rattle.aom_run.proofs.Underway.{Underway}
 use Rattle.aom_run.proofs.dispatches.run_dispatch.Given as goal
 
 abbrev pub invariant-loop-progress : goal.invariant-loop-progress
 invariant-loop-progress g l = record {
-  underway : Underway l.fn.machine l.fn.turn (g.W.Sink.out l.fn.out) (g.W.Sink.out l.out) l.turn l.machine;
+  underway : Underway (named_by l.fn.names) l.fn.machine l.fn.turn (g.W.Sink.out l.fn.out) (g.W.Sink.out l.out) l.turn l.machine;
   stands : Stands l.machine;
   agree : AllAgree (λ x. x.ids) (λ x. (goal.Native-dyn g (x.native.vtable, x.native.value)).owed x.native.value) l.machine.natives.slots.items;
   kept : KeepsImage l.fn.machine l.machine;

@@ -1,5 +1,6 @@
 use Rattle.std.proofs.Common.{◌∙◌, ap, sym, take, arith}
 use Rattle.aom_run.specs.Runs.{after}
+use Rattle.aom_transcript.specs.Text.{line_text}
 use Rattle.aom_run.proofs.Sending.{Paged, line_added, still_paged, page_sent, page_cut}
 use Rattle.aom_run.proofs.dispatches.write_lines.Goals.{then-not-has_room+else-has_failed, else-not-has_room}
 use Rattle.aom_run.proofs.dispatches.write_lines.Goals as goal
@@ -13,7 +14,7 @@ pub loop-line-preserved : goal.loop-line-preserved
 loop-line-preserved g c =
     let lines = c.args.lines.now in
     let at = c.loop-line.line-index in
-    let paged : Paged (g.W.Sink.out c.args.out.now) (g.W.Sink.out c.if-not-has_room.out) c.if-not-has_room.page (take at lines) =
+    let paged : Paged line_text (g.W.Sink.out c.args.out.now) (g.W.Sink.out c.if-not-has_room.out) c.if-not-has_room.page (take at lines) =
     elim c.if-not-has_room.branch [
       | then-not-has_room+else-has_failed w ↦
           let live = sym w.has_failed.ensures ∙ w.if-has_failed.false in

@@ -3,8 +3,9 @@ use Rattle.aom_image.specs.Image.{Image}
 use Rattle.aom_lines.specs.Turn.{Turn}
 use Rattle.aom_sound.specs.World.{boot_state}
 use Rattle.aom_run.specs.Calls.{Stands, natives_of}
+use Rattle.aom_run.specs.Naming.{named_by}
 use Rattle.aom_run.specs.Turns.{hearing}
-use Rattle.aom_run.proofs.Running.{after_turns, cut, ends, fewer_left, given_up, sent_far, sent_on, sent_rests, sent_turn, starts, turned_end, turned_few, turned_now, turned_same, turned_stands, turns_as}
+use Rattle.aom_run.proofs.Running.{after_turns, cut, ends, fewer_left_by, given_up, sent_far, sent_on, sent_rests, sent_turn, starts, turned_end, turned_few, turned_now, turned_same, turned_stands, turns_as}
 use Rattle.aom_run.proofs.runs.run_lines.Goals as goal
 
 pub run_dispatch-requires : goal.run_dispatch-requires
@@ -36,9 +37,9 @@ loop-progress-init g c =
       agree = c.run_dispatch.ensures.agree;
       image = c.run_dispatch.ensures.kept.image;
       natives = c.run_dispatch.ensures.kept.natives;
-      turn = sent_turn c.args.machine.now c.run_dispatch.new.machine _ _ _ _ _ stands sent ∙ ap (λ (t : Turn). record t { lines = [] }) c.clear.ensures;
-      as_far = sent_far c.args.machine.now c.run_dispatch.new.machine _ _ _ _ _ stands sent;
-      rests = sent_rests c.args.machine.now c.run_dispatch.new.machine _ _ _ _ _ stands sent;
+      turn = sent_turn (named_by c.args.names) c.args.machine.now c.run_dispatch.new.machine _ _ _ _ _ stands sent ∙ ap (λ (t : Turn). record t { lines = [] }) c.clear.ensures;
+      as_far = sent_far (named_by c.args.names) c.args.machine.now c.run_dispatch.new.machine _ _ _ _ _ stands sent;
+      rests = sent_rests (named_by c.args.names) c.args.machine.now c.run_dispatch.new.machine _ _ _ _ _ stands sent;
     }
 
 pub returns-in-Ended : goal.returns-in-Ended
@@ -101,7 +102,7 @@ pub loop-progress-smaller : goal.loop-progress-smaller
 loop-progress-smaller g c =
     let i = c.loop-progress.invariant in
     let fits = c.ranges.limit.fits in
-    fewer_left (hearing c.loop-progress.turn.refused c.args.limit (natives_of c.loop-progress.machine) c.args.events.now) (omega (arith, fits)) c.loop-progress.machine c.take_turns.new.machine c.run_dispatch-in-loop-progress.new.machine c.loop-progress.turn c.take_turns.new.turn
+    fewer_left_by (named_by c.args.names) (hearing c.loop-progress.turn.refused c.args.limit (natives_of c.loop-progress.machine) c.args.events.now) (omega (arith, fits)) c.loop-progress.machine c.take_turns.new.machine c.run_dispatch-in-loop-progress.new.machine c.loop-progress.turn c.take_turns.new.turn
     c.run_dispatch-in-loop-progress.new.turn _ _ _ (i.so_far.state, i.so_far.stands) (sym i.as_far ∙ turned_now c.loop-progress.progress i.rests c.in_default.not-Ended) c.in_default-take_turns.ensures.turns c.in_ok-progress-2.ensures.some
 
 pub loop-progress-preserved : goal.loop-progress-preserved
@@ -117,7 +118,7 @@ loop-progress-preserved g c =
       agree = c.run_dispatch-in-loop-progress.ensures.agree;
       image = c.run_dispatch-in-loop-progress.ensures.kept.image ∙ image;
       natives = c.run_dispatch-in-loop-progress.ensures.kept.natives ∙ c.take_turns.ensures.natives ∙ i.natives;
-      turn = sent_turn m new _ _ _ _ _ turned.2 sent ∙ ap (λ (t : Turn). record t { lines = [] }) turned.1;
-      as_far = sent_far m new _ _ _ _ _ turned.2 sent;
-      rests = sent_rests m new _ _ _ _ _ turned.2 sent;
+      turn = sent_turn (named_by c.args.names) m new _ _ _ _ _ turned.2 sent ∙ ap (λ (t : Turn). record t { lines = [] }) turned.1;
+      as_far = sent_far (named_by c.args.names) m new _ _ _ _ _ turned.2 sent;
+      rests = sent_rests (named_by c.args.names) m new _ _ _ _ _ turned.2 sent;
     }

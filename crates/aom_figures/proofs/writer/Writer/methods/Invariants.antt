@@ -3,4 +3,4 @@ use Rattle.aom_figures.specs.Text.{by_number, method_line}
 use Rattle.aom_figures.proofs.writer.Writer.methods.Given as goal
 
 abbrev pub invariant-loop-index : goal.invariant-loop-index
-invariant-loop-index l = l.self ≡ l.fn.self ++ by_number (method_line l.figures) l.index
+invariant-loop-index l = l.self ≡ l.fn.self ++ by_number (method_line l.names l.figures) l.index

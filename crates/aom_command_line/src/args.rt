@@ -1,0 +1,201 @@
+//! The arguments of commands.
+ghost use Rattle.std.specs.Prelude.{◌≡◌, false};
+ghost use Rattle.clap.specs.Words.{rule_of};
+ghost use Rattle.aom_command_line.specs.CommandLine.{asm_rule, deaths_rule, explain_rule, file_rule, flag_rule, from_rule, kills_rule, limit_rule, lines_rule, names_rule, native_rule, number_rule, pairs_rule, prices_rule, text_rule, to_rule, tries_rule};
+
+use clap::builder::ValueParser;
+use clap::{Arg, ArgAction, value_parser};
+use std::alloc::Global;
+
+/// A file that has to be named.
+pub fn file_arg<'a>(alloc: Global, id: &'a str, help: &'a str) -> Arg<'a>
+    ensures rule { rule_of result ≡ file_rule id.entry.now }
+    ensures own { result.global ≡ false }
+{
+    Arg::new(alloc, id).help(help).required(true)
+}
+
+pub fn native_arg<'a>(alloc: Global) -> Arg<'a>
+    ensures rule { rule_of result ≡ native_rule }
+    ensures own { result.global ≡ false }
+{
+    Arg::new(alloc, "NATIVE")
+        .help("The natives, from number 0 on")
+        .action(ArgAction::Append)
+        .num_args(0..)
+}
+
+pub fn limit_arg<'a>(alloc: Global) -> Arg<'a>
+    ensures rule { rule_of result ≡ limit_rule }
+    ensures own { result.global ≡ false }
+{
+    number_arg(
+        alloc,
+        "limit",
+        "The most dispatches after main's",
+        value_parser!(u32).range(1..=1_000_000_000),
+        "1000000",
+    )
+}
+
+pub fn from_arg<'a>(alloc: Global) -> Arg<'a>
+    ensures rule { rule_of result ≡ from_rule }
+    ensures own { result.global ≡ false }
+{
+    number_arg(
+        alloc,
+        "from",
+        "The first allocation request that is refused",
+        value_parser!(u32).range(1..),
+        "1",
+    )
+}
+
+pub fn to_arg<'a>(alloc: Global) -> Arg<'a>
+    ensures rule { rule_of result ≡ to_rule }
+    ensures own { result.global ≡ false }
+{
+    number_arg(
+        alloc,
+        "to",
+        "The last allocation request that is refused",
+        value_parser!(u32).range(1..),
+        "4294967295",
+    )
+}
+
+pub fn tries_arg<'a>(alloc: Global) -> Arg<'a>
+    ensures rule { rule_of result ≡ tries_rule }
+    ensures own { result.global ≡ false }
+{
+    number_arg(
+        alloc,
+        "tries",
+        "The most pairs that --pairs tries",
+        value_parser!(u32).range(1..),
+        "10000",
+    )
+}
+
+/// An option with a number, which is `standard` where the option is left out.
+fn number_arg<'a>(
+    alloc: Global,
+    id: &'a str,
+    help: &'a str,
+    range: ValueParser<'a>,
+    standard: &'a str,
+) -> Arg<'a>
+    ensures rule { rule_of result ≡ number_rule id.entry.now range.entry standard.entry.now }
+    ensures own { result.global ≡ false }
+{
+    Arg::new(alloc, id)
+        .long(id)
+        .value_name("N")
+        .help(help)
+        .value_parser(range)
+        .default_value(standard)
+}
+
+pub fn prices_arg<'a>(alloc: Global) -> Arg<'a>
+    ensures rule { rule_of result ≡ prices_rule }
+    ensures own { result.global ≡ false }
+{
+    flag_arg(
+        alloc,
+        "prices",
+        "Tells too what the methods come to and cost, accepted or not",
+    )
+}
+
+pub fn explain_arg<'a>(alloc: Global) -> Arg<'a>
+    ensures rule { rule_of result ≡ explain_rule }
+    ensures own { result.global ≡ false }
+{
+    flag_arg(
+        alloc,
+        "explain",
+        "Tells too what a fault means and what usually mends it",
+    )
+}
+
+pub fn lines_arg<'a>(alloc: Global) -> Arg<'a>
+    ensures rule { rule_of result ≡ lines_rule }
+    ensures own { result.global ≡ false }
+{
+    flag_arg(
+        alloc,
+        "lines",
+        "Tells a fault in one line with its place in the text, as compilers do",
+    )
+}
+
+pub fn names_arg<'a>(alloc: Global) -> Arg<'a>
+    ensures rule { rule_of result ≡ names_rule }
+    ensures own { result.global ≡ false }
+{
+    flag_arg(
+        alloc,
+        "names",
+        "Writes the transcript with the names of a text in place of the numbers of classes",
+    )
+}
+
+pub fn asm_arg<'a>(alloc: Global) -> Arg<'a>
+    ensures rule { rule_of result ≡ asm_rule }
+    ensures own { result.global ≡ false }
+{
+    flag_arg(
+        alloc,
+        "asm",
+        "The file is an assembly text, and the image is what it denotes",
+    )
+}
+
+pub fn text_arg<'a>(alloc: Global) -> Arg<'a>
+    ensures rule { rule_of result ≡ text_rule }
+    ensures own { result.global ≡ false }
+{
+    Arg::new(alloc, "text").long("text").value_name("TEXT").help(
+        "The text that the image is of, whose lines and names are told",
+    )
+}
+
+pub fn kills_arg<'a>(alloc: Global) -> Arg<'a>
+    ensures rule { rule_of result ≡ kills_rule }
+    ensures own { result.global ≡ false }
+{
+    flag_arg(
+        alloc,
+        "kills",
+        "Kills too each native, at each time at which the run does something",
+    )
+}
+
+pub fn deaths_arg<'a>(alloc: Global) -> Arg<'a>
+    ensures rule { rule_of result ≡ deaths_rule }
+    ensures own { result.global ≡ false }
+{
+    flag_arg(
+        alloc,
+        "deaths",
+        "Lets die too each client that the script names, at each such time",
+    )
+}
+
+pub fn pairs_arg<'a>(alloc: Global) -> Arg<'a>
+    ensures rule { rule_of result ≡ pairs_rule }
+    ensures own { result.global ≡ false }
+{
+    flag_arg(alloc, "pairs", "Refuses too each two allocation requests")
+}
+
+/// An option that stands alone.
+fn flag_arg<'a>(alloc: Global, id: &'a str, help: &'a str) -> Arg<'a>
+    ensures rule { rule_of result ≡ flag_rule id.entry.now }
+    ensures own { result.global ≡ false }
+{
+    Arg::new(alloc, id)
+        .long(id)
+        .help(help)
+        .action(ArgAction::SetTrue)
+}

@@ -1,0 +1,25 @@
+-- The names that are lent are those of the text.
+use Rattle.std.proofs.Common.{◌≡◌, ◌∙◌, ℕ, List, ap, ap₂, map, subst}
+use Rattle.std.specs.Borrow.{Bor}
+use Rattle.aom_explain.specs.Declarations.{class_names, method_names}
+use Rattle.aom_figures.specs.Names.{Names}
+use Rattle.aom_main.specs.Prices.{ChecksBy}
+use Rattle.aom_main.specs.Untold.{Untold}
+use Rattle.aom_run.specs.Naming.{lent}
+use Rattle.aom_explaining.specs.Naming.{text_names}
+use Rattle.aom_explaining.proofs.naming.try_check_by_names.Goals as goal
+
+made : List (List ℕ) → List (List ℕ) → Names
+made classes methods = record { classes = classes; methods = methods }
+
+pub returns : goal.returns
+unfolding made
+returns g c =
+    let classes : lent c.deref.result.now ≡ class_names c.args.text.now = ap lent c.deref.ensures.value ∙ c.in_ok-classes.ensures ∙ ap class_names c.bytes.ensures.value in
+    let methods : lent c.deref-2.result.now ≡ method_names c.args.text.now = ap lent c.deref-2.ensures.value ∙ c.in_ok-methods.ensures ∙ ap method_names c.bytes-2.ensures.value in
+    let same : c.new.result ≡ text_names c.args.text.now = c.new.ensures ∙ ap₂ made classes methods in
+    subst (λ names. Untold (ChecksBy names c.args.prices c.args.image.now (record {
+      before = g.W.Sink.out c.args.out.now;
+      now = g.W.Sink.out c.try_check_named.new.out;
+      failed = g.W.Sink.failed c.try_check_named.new.out;
+    })) c.try_check_named.result) same c.try_check_named.ensures

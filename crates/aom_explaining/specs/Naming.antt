@@ -1,0 +1,31 @@
+-- What a command promises that tells by the names of a text.
+use Rattle.std.specs.Prelude.{ℕ, ◌≡◌, Bool, true, false, List, codes}
+use Rattle.aom_explain.specs.Declarations.{class_names, method_names}
+use Rattle.aom_figures.specs.Names.{Names}
+use Rattle.aom_main.specs.Headline.{Says, Sent, Tells}
+use Rattle.aom_main.specs.declared.status.ExitStatus.{ExitStatus}
+use Rattle.aom_main.specs.declared.status.ExitStatus.TheVariants.{CallRefused, Fault as Faulty}
+use Rattle.aom_main.specs.declared.faults.Fault.TheVariants as faults
+use Rattle.aom_run.specs.Naming.{class_word, named_text}
+use Rattle.aom_transcript.specs.Text.{ended, line_text}
+use Rattle.aom_transcript.specs.declared.line.Line.{Line}
+use Rattle.aom_explaining.specs.declared.beside.TextFault.{TextFault}
+use Rattle.aom_explaining.specs.declared.beside.TextFault.TheVariants.{Asm, Other, Memory}
+
+-- a line in which each class is written by its name in a text
+abbrev pub by_names : (text : List ℕ) → Line → List ℕ
+by_names text = named_text (class_word (class_names text))
+
+-- so where names are asked for, and else by its number
+abbrev pub line_by : (names : Bool) (text : List ℕ) → Line → List ℕ
+line_by names text = elim names [ true ↦ by_names text | false ↦ line_text ]
+
+-- the names of a text's classes and methods
+abbrev pub text_names : (text : List ℕ) → Names
+text_names text = record { classes = class_names text; methods = method_names text }
+
+-- how it is told why a text is refused beside an image, where nothing is explained
+abbrev pub SaysText : TextFault → ExitStatus → Sent → Type 0
+SaysText (Asm fault) status errors = (status ≡ CallRefused) × Tells (faults.Asm fault) errors
+SaysText Other status errors = (status ≡ CallRefused) × Says (ended (codes "text")) errors
+SaysText Memory status errors = (status ≡ Faulty) × Tells faults.Memory errors

@@ -1,0 +1,76 @@
+//! The names of classes and methods, or their numbers.
+ghost use Rattle.std.specs.Prelude.{◌≡◌, ◌++◌, OnOk, map};
+ghost use Rattle.aom_figures.specs.Names.{label, unnamed};
+
+use crate::Writer;
+use aom_image::{ClassNumber, MethodNumber};
+use std::alloc::AllocError;
+use std::marker::Model;
+
+/// The names of classes and of methods, that of number 0 first.
+#[derive(Drop)]
+pub struct Names<'a> {
+    classes: &'a [&'a [u8]],
+    methods: &'a [&'a [u8]],
+}
+
+impl<'a> Model for Names<'a> {
+    ghost use Rattle.std.specs.Prelude.{map};
+    ghost use Rattle.aom_figures.specs.Names.{Names as NamesRecord};
+
+    ghost Value = { NamesRecord };
+
+    ghost view = { λ n. record { classes = map (λ w. w.now) n.classes.now; methods = map (λ w. w.now) n.methods.now } };
+}
+
+/// Writes the name at a number or, where there is none, words and the number.
+fn put_label(out: &mut Writer, names: &[&[u8]], words: &[u8], number: u16) -> Result<(), AllocError>
+    ensures { OnOk result (out.new ≡ out.old ++ label (map (λ w. w.now) names.now) words.now number) }
+{
+    match names.get(number as usize) {
+        Some(name) => out.words(name),
+        None => out.count(words, u64::from(number)),
+    }
+}
+
+impl<'a> Names<'a> {
+    pub fn new(classes: &'a [&'a [u8]], methods: &'a [&'a [u8]]) -> Names<'a>
+        ensures { result ≡ record { classes = map (λ w. w.now) classes.entry.now; methods = map (λ w. w.now) methods.entry.now } }
+    {
+        Names { classes, methods }
+    }
+
+    /// No names: all is told by numbers.
+    pub fn none() -> Names<'a>
+        ensures { result ≡ unnamed }
+    {
+        Names {
+            classes: &[],
+            methods: &[],
+        }
+    }
+
+    /// Writes the name of a class or, where it has none, words and its number.
+    pub(crate) fn put_class(
+        &self,
+        out: &mut Writer,
+        words: &[u8],
+        class: ClassNumber,
+    ) -> Result<(), AllocError>
+        ensures { OnOk result (out.new ≡ out.old ++ label self.now.classes words.now class) }
+    {
+        put_label(out, self.classes, words, class.number())
+    }
+
+    /// Writes the name of a method or, where it has none, words and its number.
+    pub(crate) fn put_method(
+        &self,
+        out: &mut Writer,
+        words: &[u8],
+        method: MethodNumber,
+    ) -> Result<(), AllocError>
+        ensures { OnOk result (out.new ≡ out.old ++ label self.now.methods words.now method) }
+    {
+        put_label(out, self.methods, words, method.number())
+    }
+}
