@@ -2,16 +2,17 @@
 use Rattle.std.proofs.Common.{◌≡◌, ◌<◌, ◌≤◌, ◌||◌, ◌++◌, ◌∷◌, [], ℕ, Bool, true, false, List, Option, Some, None, Result, Ok, Err, arith, rules, ap, cond, inl, inr, length, nat_lt, refl}
 use Rattle.std.specs.Prelude.{IfErr, IfOk}
 use Rattle.std.proofs.lemmas.Bool.Decides.{nat_tests}
-use Rattle.aom_debug_words.specs.Commands.{command_said}
+use Rattle.aom_debug_words.specs.Commands.{command_said, known, line_says, words_say}
 use Rattle.aom_debug_words.specs.declared.command.Command.{Command}
 use Rattle.aom_debug_words.specs.declared.command.Command.TheVariants.{Step, Next, Finish, Turn, Go, Until, Break, Unbreak, Breaks, Clock, Frames, Help, Cells, Owners, Cleanup, Actives, Recent}
 use Rattle.aom_debug_words.specs.declared.fault.DebugFault.{DebugFault}
-use Rattle.aom_debug_words.specs.declared.fault.DebugFault.TheVariants.{Ended}
+use Rattle.aom_debug_words.specs.declared.fault.DebugFault.TheVariants.{BadCommand, Ended}
 use Rattle.aom_debug_words.specs.declared.fault.DebugFault.TheVariants as faults
 use Rattle.aom_debug_words.specs.declared.spot.Spot.{Spot}
 use Rattle.aom_debug_words.specs.Marks.{has_spot, is_set, with_spot}
 use Rattle.aom_parts.specs.Progress.{progress_by}
 use Rattle.aom_parts.specs.declared.progress.Progress.TheVariants as progress
+use Rattle.aom_text.specs.Words.{words}
 use Rattle.aom_text.specs.declared.number.Number.{Number}
 use Rattle.aom_transcript.specs.declared.line.Ending.{Ending}
 use Rattle.aom_debug.specs.Commands.{is_count, spot_named}
@@ -112,4 +113,16 @@ module _ {X : Type 0} {B : X → Type 0} where
 
 -- no line says that the run has ended
 pub says_no_end : (line : List ℕ) → command_said line ≡ Err Ended → ⊥
-says_no_end line is = search rules
+says_no_end line is = go (nat_lt 256 (length line)) is
+  where
+    by_command : (o : Option Command) → known o ≡ Err Ended → ⊥
+    by_command None e = cc
+    by_command (Some command) e = cc
+
+    by_words : (ws : List (List ℕ)) → line_says ws ≡ Err Ended → ⊥
+    by_words [] e = cc
+    by_words (w ∷ ws) e = by_command (words_say w ws) e
+
+    go : (b : Bool) → cond b (Err BadCommand) (line_says (words line)) ≡ Err Ended → ⊥
+    go true e = cc
+    go false e = by_words (words line) e

@@ -9,5 +9,7 @@ pub mod Moving
 pub mod Placing
 mod Declining
 pub mod Answering
+pub mod Reached
+pub mod ReadBack
 pub use Rattle.aom_debug_moves.proofs.Keeping
 pub use Rattle.aom_debug_moves.proofs.Sending

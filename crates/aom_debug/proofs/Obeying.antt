@@ -7,7 +7,7 @@ use Rattle.aom_run.specs.Calls.{StandsFor}
 use Rattle.aom_run.specs.declared.machine.Machine.{Machine}
 use Rattle.aom_debug.specs.Runs.{after}
 use Rattle.aom_debug_words.specs.declared.command.Command.{Command}
-use Rattle.aom_debug_words.specs.declared.command.Command.TheVariants.{Step, Next, Finish, Turn, Go, Until, Break, Unbreak, Breaks, Clock, Frames, Help, Cells, Owners, Cleanup, Actives, Recent}
+use Rattle.aom_debug_words.specs.declared.command.Command.TheVariants.{Step, Next, Finish, Turn, Go, Until, Break, Unbreak, Breaks, Clock, Frames, Help, Cells, Owners, Cleanup, Actives, Recent, Timers, Words, Queue}
 use Rattle.aom_debug_words.specs.declared.fault.DebugFault.{DebugFault}
 use Rattle.aom_debug_words.specs.declared.fault.DebugFault.TheVariants.{Ended, NoSuch, WriteFault}
 use Rattle.aom_debug.specs.Courses.{Courses, way_of}
@@ -15,7 +15,7 @@ use Rattle.aom_debug_words.specs.Marks.{has_spot, is_set, with_spot, without_spo
 use Rattle.aom_debug_words.specs.declared.spot.Spot.{Spot}
 use Rattle.aom_debug.specs.Commands.{NamesNone, is_count, moved_text, spot_named}
 use Rattle.aom_debug.specs.Movers.{outside_of}
-use Rattle.aom_debug.specs.Debugging.{Answer, CountsNot, Declined, Goes, GoesNamed, Looks, Marks, NamesNot, Outgoing, Sees, Steps, Untils, goes_of, has_ended, overs_of, places_of, runs_of, steps_of, turns_of}
+use Rattle.aom_debug.specs.Debugging.{Answer, CountsNot, Declined, Goes, GoesNamed, LacksQueue, LacksWords, Looks, LooksAt, Marks, NamesNot, Outgoing, Sees, SeesQueue, SeesWords, Steps, Untils, goes_of, has_ended, overs_of, places_of, runs_of, steps_of, turns_of}
 use Rattle.aom_debug_moves.specs.declared.courses.Course.{Course}
 use Rattle.aom_debug_moves.specs.declared.over.Scope.TheVariants as scopes
 use Rattle.aom_debug_moves.specs.declared.courses.Course.TheVariants as ways
@@ -113,7 +113,10 @@ module _ {X : Type 0} {B : X → Type 0} (old new : Debugger X B) (out : Outgoin
   is_done Owners x = looks_done (Sees look.Owners) x
   is_done Cleanup x = looks_done (Sees look.Cleanup) x
   is_done Actives x = looks_done (Sees look.Actives) x
+  is_done Timers x = looks_done (Sees look.Timers) x
   is_done Recent x = looks_done (Sees look.Recent) x
+  is_done (Words w) x = looks_done (SeesWords w) x
+  is_done (Queue w) x = looks_done (SeesQueue w) x
 
   well_goes : (leads : Debugger X B → Courses) → Goes leads old new out (Ok tt) → new.has_failed ≡ false
   well_goes leads x = let moved = x.1 in moved.well
@@ -138,7 +141,10 @@ module _ {X : Type 0} {B : X → Type 0} (old new : Debugger X B) (out : Outgoin
   still_well Owners x = well_same x.1
   still_well Cleanup x = well_same x.1
   still_well Actives x = well_same x.1
+  still_well Timers x = well_same x.1
   still_well Recent x = well_same x.1
+  still_well (Words w) x = well_same x.1
+  still_well (Queue w) x = well_same x.1
 
   -- ---- what is refused
 
@@ -191,6 +197,14 @@ module _ {X : Type 0} {B : X → Type 0} (old new : Debugger X B) (out : Outgoin
   marks_refused may marked method place WriteFault other x = absurd (other refl)
   marks_refused may marked method place _ other x = absurd x
 
+  -- no object is owned there
+  lacks_refused : (shows : Debugger X B → State → List ℕ → Type 0) (lacks : Debugger X B → State → Type 0) (fault : DebugFault) → fault ≢ WriteFault → LooksAt shows lacks old new out (Err fault)
+      → (fault ≡ NoSuch) × Declined old new out × ((s : State) → StandsFor old.mover.machine s → lacks old s)
+  lacks_refused shows lacks NoSuch other x = (refl, x.1, x.2)
+  lacks_refused shows lacks Ended other x = absurd (not_both old.has_failed x.0 well)
+  lacks_refused shows lacks WriteFault other x = absurd (other refl)
+  lacks_refused shows lacks _ other x = absurd x
+
   pub is_refused : (command : Command) (fault : DebugFault) → fault ≢ WriteFault → Obeys command old new out (Err fault) → Refused command fault
   is_refused (Step n) fault other x = steps_refused n fault other x
   is_refused Next fault other x = let r = goes_refused (overs_of scopes.Step) fault other x in subst (λ f. Refused Next f) (sym r.0) (r.1, r.2)
@@ -208,7 +222,10 @@ module _ {X : Type 0} {B : X → Type 0} (old new : Debugger X B) (out : Outgoin
   is_refused Owners fault other x = absurd (looks_refused (Sees look.Owners) fault other x)
   is_refused Cleanup fault other x = absurd (looks_refused (Sees look.Cleanup) fault other x)
   is_refused Actives fault other x = absurd (looks_refused (Sees look.Actives) fault other x)
+  is_refused Timers fault other x = absurd (looks_refused (Sees look.Timers) fault other x)
   is_refused Recent fault other x = absurd (looks_refused (Sees look.Recent) fault other x)
+  is_refused (Words w) fault other x = let r = lacks_refused (SeesWords w) (LacksWords w) fault other x in subst (λ f. Refused (Words w) f) (sym r.0) (r.1, r.2)
+  is_refused (Queue w) fault other x = let r = lacks_refused (SeesQueue w) (LacksQueue w) fault other x in subst (λ f. Refused (Queue w) f) (sym r.0) (r.1, r.2)
 
   -- ---- what is cut
 
@@ -257,4 +274,7 @@ module _ {X : Type 0} {B : X → Type 0} (old new : Debugger X B) (out : Outgoin
   is_cut Owners x = looks_cut Owners (Sees look.Owners) (λ s text y. (refl, y)) x
   is_cut Cleanup x = looks_cut Cleanup (Sees look.Cleanup) (λ s text y. (refl, y)) x
   is_cut Actives x = looks_cut Actives (Sees look.Actives) (λ s text y. (refl, y)) x
+  is_cut Timers x = looks_cut Timers (Sees look.Timers) (λ s text y. (refl, y)) x
   is_cut Recent x = looks_cut Recent (Sees look.Recent) (λ s text y. (refl, y)) x
+  is_cut (Words w) x = looks_cut (Words w) (SeesWords w) (λ s text y. (refl, y)) x
+  is_cut (Queue w) x = looks_cut (Queue w) (SeesQueue w) (λ s text y. (refl, y)) x

@@ -18,6 +18,7 @@ use Rattle.aom_main.specs.declared.faults.Fault.TheVariants as faults
 use Rattle.aom_main.specs.declared.status.ExitStatus.{ExitStatus}
 use Rattle.aom_main.specs.declared.status.ExitStatus.TheVariants as statuses
 use Rattle.aom_main.proofs.Telling.{unaccepted as not_run, unscripted as not_scripted}
+use Rattle.aom_transcript.specs.Text.{line_text}
 use Rattle.aom_debug.specs.Answers.{DebugAnswers, Debugs, start_of}
 use Rattle.aom_debug.specs.Answers.DebugBreaks.{input_fails, machine_wants_memory, output_fails, script_wants_memory}
 use Rattle.aom_debug.specs.Beginning.{IsBegun}
@@ -88,7 +89,7 @@ module _ (bytes text : List ℕ) (limit natives reads : ℕ) (given : Given) (ou
   pub unscripted : (fault : ScriptFault) (line : Fault) → Accepts bytes → RefusesOrWants text fault → line ≡ of_script fault → Told line status errors → So status
   unscripted fault line accepts (inl denotes) is told =
       let call : status_of line ≡ statuses.CallRefused = ap status_of is ∙ called fault fault.kind (is_of_text text fault denotes) in
-      subst So (sym (told.0 ∙ call)) (not_scripted bytes text limit natives fault line out errors statuses.CallRefused accepts (inl denotes) silent is (sym call, told.1), unread)
+      subst So (sym (told.0 ∙ call)) (not_scripted line_text bytes text limit natives fault line out errors statuses.CallRefused accepts (inl denotes) silent is (sym call, told.1), unread)
   unscripted fault line accepts (inr wants) is told =
       let memory : Told faults.Memory status errors = subst (λ f. Told f status errors) (is ∙ ap (of_script_kind fault) wants.lines.kind) told in
       subst So (sym memory.0) (inr (script_wants_memory unread silent accepts fault wants memory.1))
@@ -98,7 +99,7 @@ module _ (bytes text : List ℕ) (limit natives reads : ℕ) (given : Given) (ou
   -- they have a fault that is told with the status of a refused image
   refused_by : (fault : Fault) → RefusesImage bytes fault → ((p : Image) → IsSpelled bytes p → IsAcceptable p → fault ≡ faults.Memory) → status_of fault ≡ statuses.ImageRefused → Told fault status errors → So status
   refused_by fault refuses complete image told =
-      subst So (sym (told.0 ∙ image)) (not_run bytes text limit natives fault out errors statuses.ImageRefused refuses complete silent (sym image, told.1), unread)
+      subst So (sym (told.0 ∙ image)) (not_run line_text bytes text limit natives fault out errors statuses.ImageRefused refuses complete silent (sym image, told.1), unread)
 
   pub unaccepted : (fault : Fault) → RefusesImage bytes fault → ((p : Image) → IsSpelled bytes p → IsAcceptable p → fault ≡ faults.Memory) → Told fault status errors → So status
   unaccepted fault refuses complete told = grind arith

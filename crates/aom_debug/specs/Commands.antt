@@ -13,14 +13,18 @@ use Rattle.aom_debug_words.specs.Marks.{has_spot, is_set}
 use Rattle.aom_debug_words.specs.Help.{help_text}
 use Rattle.aom_debug_words.specs.declared.spot.Spot.{Spot}
 use Rattle.aom_debug_words.specs.Answers.{answer_text}
+use Rattle.aom_debug_words.specs.declared.answer.Answer.{Answer}
 use Rattle.aom_debug_moves.specs.Next.{next_of}
 use Rattle.aom_rules.specs.Typing.{Typing}
 use Rattle.aom_bounds.specs.Strongest.{IsStrongest}
 use Rattle.aom_debug_sights.specs.Frames.{frames_answers}
 use Rattle.aom_debug_sights.specs.Actives.{InOrderOfChoice, active_answers}
+use Rattle.aom_debug_sights.specs.Timers.{InOrderOfTime, timer_answers}
 use Rattle.aom_debug_sights.specs.Owners.{owners, owners_text}
 use Rattle.aom_debug_sights.specs.Sights.{breaks_answers, cells_answers, cleanup_answers, clock_text, recent_answers}
 use Rattle.aom_debug_sights.specs.Telling.{answers_text}
+use Rattle.aom_debug_paths.specs.Paths.{queue_answers, words_answers}
+use Rattle.aom_debug_words.specs.Ways.{Way}
 
 -- ---- where a run stands
 
@@ -94,6 +98,18 @@ ShowsBreaks spots text = text ≡ answers_text (breaks_answers spots)
 
 abbrev pub ShowsClock : State → List ℕ → Type 0
 ShowsClock s text = text ≡ clock_text s
+
+-- the timers that run, each on its line, the one that is due first before all others
+abbrev pub ShowsTimers : State → List ℕ → Type 0
+ShowsTimers s text = (names : List ℕ) × InOrderOfTime s.cells names × (text ≡ answers_text (timer_answers s.cells names))
+
+-- the words of the object that is owned at a path
+abbrev pub ShowsWords : Image → State → Way → List ℕ → Type 0
+ShowsWords p s w text = (xs : List Answer) × (words_answers p s w ≡ Some xs) × (text ≡ answers_text xs)
+
+-- and what waits at it, the first first
+abbrev pub ShowsQueue : State → Way → List ℕ → Type 0
+ShowsQueue s w text = (xs : List Answer) × (queue_answers s w ≡ Some xs) × (text ≡ answers_text xs)
 
 -- the methods at hand, the outermost first, by the strongest typing
 abbrev pub ShowsFrames : Image → State → List ℕ → Type 0

@@ -19,10 +19,12 @@ use Rattle.aom_debug_moves.specs.declared.courses.Course.{Course}
 use Rattle.aom_debug_moves.specs.declared.over.Scope.{Scope}
 use Rattle.aom_debug_moves.specs.declared.courses.Course.TheVariants as course
 use Rattle.aom_debug_sights.specs.Telling.{Tells, TellsPart}
-use Rattle.aom_debug.specs.Commands.{NamesNone, ShowsActives, ShowsBreaks, ShowsCells, ShowsCleanup, ShowsClock, ShowsFrames, ShowsHelp, ShowsOwners, ShowsRecent, is_count, moved_text, place_text, spot_named}
+use Rattle.aom_debug_paths.specs.Paths.{queue_answers, words_answers}
+use Rattle.aom_debug_words.specs.Ways.{Way}
+use Rattle.aom_debug.specs.Commands.{NamesNone, ShowsActives, ShowsBreaks, ShowsCells, ShowsCleanup, ShowsClock, ShowsFrames, ShowsHelp, ShowsOwners, ShowsQueue, ShowsRecent, ShowsTimers, ShowsWords, is_count, moved_text, place_text, spot_named}
 use Rattle.aom_debug.specs.declared.debugger.Debugger.{Debugger}
 use Rattle.aom_debug.specs.declared.looking.Look.{Look}
-use Rattle.aom_debug.specs.declared.looking.Look.TheVariants.{Cells as At_cells, Owners as At_owners, Cleanup as At_cleanup, Actives as At_actives, Recent as At_recent, Breaks as At_breaks, Clock as At_clock, Frames as At_frames, Help as At_help}
+use Rattle.aom_debug.specs.declared.looking.Look.TheVariants.{Cells as At_cells, Owners as At_owners, Cleanup as At_cleanup, Actives as At_actives, Recent as At_recent, Breaks as At_breaks, Clock as At_clock, Frames as At_frames, Help as At_help, Timers as At_timers}
 
 -- what a call answers
 abbrev pub Answer : Type 0
@@ -183,6 +185,7 @@ module _ {X : Type 0} {B : X → Type 0} where
   Sees At_clock d s text = ShowsClock s text
   Sees At_frames d s text = ShowsFrames d.mover.machine.core.image s text
   Sees At_help d s text = ShowsHelp text
+  Sees At_timers d s text = ShowsTimers s text
 
   -- what each state shows that the machine stands for is out
   abbrev pub Seen : (Debugger X B → State → List ℕ → Type 0) → Debugger X B → Option (List ℕ) → Option (List ℕ) → Type 0
@@ -202,3 +205,22 @@ module _ {X : Type 0} {B : X → Type 0} where
   Looks shows old new out (Err Ended) = (old.has_failed ≡ true) × Declined old new out
   Looks shows old new out (Err WriteFault) = (old.has_failed ≡ false) × (new ≡ record old { has_failed = true }) × (out.failed ≡ true) × SeenCut shows old out.before out.now
   Looks shows old new out (Err fault) = ⊥
+
+  -- ---- looks at what is owned at a path
+
+  -- one that is refused where no object is owned there
+  abbrev pub LooksAt : (Debugger X B → State → List ℕ → Type 0) → (Debugger X B → State → Type 0) → Debugger X B → Debugger X B → Outgoing → Answer → Type 0
+  LooksAt shows lacks old new out (Err NoSuch) = (old.has_failed ≡ false) × Declined old new out × ((s : State) → StandsFor old.mover.machine s → lacks old s)
+  LooksAt shows lacks old new out answer = Looks shows old new out answer
+
+  abbrev pub SeesWords : Way → Debugger X B → State → List ℕ → Type 0
+  SeesWords w d s text = ShowsWords d.mover.machine.core.image s w text
+
+  abbrev pub LacksWords : Way → Debugger X B → State → Type 0
+  LacksWords w d s = words_answers d.mover.machine.core.image s w ≡ None
+
+  abbrev pub SeesQueue : Way → Debugger X B → State → List ℕ → Type 0
+  SeesQueue w d s text = ShowsQueue s w text
+
+  abbrev pub LacksQueue : Way → Debugger X B → State → Type 0
+  LacksQueue w d s = queue_answers s w ≡ None

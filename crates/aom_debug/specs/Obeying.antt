@@ -1,10 +1,10 @@
 -- What each command asks of a debugger, and what a line of commands does.
 use Rattle.std.specs.Prelude.{◌≡◌, ℕ, List, Option, Some, None, Result, Ok, Err, true, false}
 use Rattle.aom_debug_words.specs.declared.command.Command.{Command}
-use Rattle.aom_debug_words.specs.declared.command.Command.TheVariants.{Step, Next, Finish, Turn, Go, Until, Break, Unbreak, Breaks, Clock, Frames, Help, Cells, Owners, Cleanup, Actives, Recent}
+use Rattle.aom_debug_words.specs.declared.command.Command.TheVariants.{Step, Next, Finish, Turn, Go, Until, Break, Unbreak, Breaks, Clock, Frames, Help, Cells, Owners, Cleanup, Actives, Recent, Timers, Words, Queue}
 use Rattle.aom_debug_words.specs.declared.fault.DebugFault.{DebugFault}
 use Rattle.aom_debug_words.specs.declared.fault.DebugFault.TheVariants.{Ended}
-use Rattle.aom_debug.specs.Debugging.{Answer, Declined, GoesOver, Looks, Outgoing, Runs, Sees, Sets, Steps, Turns, Unsets, Untils}
+use Rattle.aom_debug.specs.Debugging.{Answer, Declined, GoesOver, LacksQueue, LacksWords, Looks, LooksAt, Outgoing, Runs, Sees, SeesQueue, SeesWords, Sets, Steps, Turns, Unsets, Untils}
 use Rattle.aom_debug.specs.declared.debugger.Debugger.{Debugger}
 use Rattle.aom_debug.specs.declared.looking.Look.TheVariants as look
 use Rattle.aom_debug_moves.specs.declared.over.Scope.TheVariants as scopes
@@ -28,7 +28,10 @@ module _ {X : Type 0} {B : X → Type 0} where
   Obeys Owners = Looks (Sees look.Owners)
   Obeys Cleanup = Looks (Sees look.Cleanup)
   Obeys Actives = Looks (Sees look.Actives)
+  Obeys Timers = Looks (Sees look.Timers)
   Obeys Recent = Looks (Sees look.Recent)
+  Obeys (Words w) = LooksAt (SeesWords w) (LacksWords w)
+  Obeys (Queue w) = LooksAt (SeesQueue w) (LacksQueue w)
 
   -- nothing is asked, or nothing that there is
   abbrev pub Passes : Answer → Debugger X B → Debugger X B → Outgoing → Answer → Type 0

@@ -9,16 +9,17 @@ use Rattle.aom_transcript.specs.declared.line.Line.{Line}
 use Rattle.aom_transcript.specs.Text.{ended}
 use Rattle.aom_debug_words.specs.Commands.{command_said}
 use Rattle.aom_debug_words.specs.declared.command.Command.{Command}
-use Rattle.aom_debug_words.specs.declared.command.Command.TheVariants.{Step, Next, Finish, Turn, Go, Until, Break, Unbreak, Breaks, Clock, Frames, Help, Cells, Owners, Cleanup, Actives, Recent}
+use Rattle.aom_debug_words.specs.declared.command.Command.TheVariants.{Step, Next, Finish, Turn, Go, Until, Break, Unbreak, Breaks, Clock, Frames, Help, Cells, Owners, Cleanup, Actives, Recent, Timers, Words, Queue}
 use Rattle.aom_debug_words.specs.declared.fault.DebugFault.{DebugFault}
 use Rattle.aom_debug_words.specs.declared.fault.DebugFault.TheVariants as faults
 use Rattle.aom_debug_words.specs.Marks.{has_spot, is_set, with_spot, without_spot}
 use Rattle.aom_debug_words.specs.declared.spot.Spot.{Spot}
 use Rattle.aom_debug_words.specs.declared.answer.Answer.TheVariants.{Done, Fault}
 use Rattle.aom_debug_words.specs.Answers.{answer_text}
+use Rattle.aom_debug_paths.specs.Paths.{queue_answers, words_answers}
 use Rattle.aom_debug.specs.Courses.{Courses, GoesBy, GoesOver, GoesToBreakpoint, GoesToPlace, ToLimit, TurnsOver}
 use Rattle.aom_debug_moves.specs.declared.over.Scope.TheVariants as scopes
-use Rattle.aom_debug.specs.Commands.{NamesNoMark, NamesNoRoom, ShowsActives, ShowsBreaks, ShowsCells, ShowsCleanup, ShowsClock, ShowsFrames, ShowsHelp, ShowsOwners, ShowsRecent, is_count, moved_text, spot_named}
+use Rattle.aom_debug.specs.Commands.{NamesNoMark, NamesNoRoom, ShowsActives, ShowsBreaks, ShowsCells, ShowsCleanup, ShowsClock, ShowsFrames, ShowsHelp, ShowsOwners, ShowsQueue, ShowsRecent, ShowsTimers, ShowsWords, is_count, moved_text, spot_named}
 
 -- where a session stands: at a state, with these breakpoints, and these were the latest instructions
 pub record SessionState : Type 0 where
@@ -73,7 +74,10 @@ Does p outside Cells a text b = Shown (λ t. ShowsCells p a.state t) a text b
 Does p outside Owners a text b = Shown (λ t. ShowsOwners a.state t) a text b
 Does p outside Cleanup a text b = Shown (λ t. ShowsCleanup a.state t) a text b
 Does p outside Actives a text b = Shown (λ t. ShowsActives p a.state t) a text b
+Does p outside Timers a text b = Shown (λ t. ShowsTimers a.state t) a text b
 Does p outside Recent a text b = Shown (λ t. ShowsRecent a.recent t) a text b
+Does p outside (Words w) a text b = Shown (λ t. ShowsWords p a.state w t) a text b
+Does p outside (Queue w) a text b = Shown (λ t. ShowsQueue a.state w t) a text b
 
 -- a command that is refused, and why
 abbrev pub Refuses : Image → Command → SessionState → DebugFault → Type 0
@@ -87,6 +91,8 @@ Refuses p (Until method place) a faults.NoSuch = spot_named p method place ≡ N
 Refuses p (Until method place) a faults.Ended = (is_some (spot_named p method place) ≡ true) × (has_ended a ≡ true)
 Refuses p (Break method place) a faults.NoSuch = NamesNoRoom p method place a.spots
 Refuses p (Unbreak method place) a faults.NoSuch = NamesNoMark p method place a.spots
+Refuses p (Words w) a faults.NoSuch = words_answers p a.state w ≡ None
+Refuses p (Queue w) a faults.NoSuch = queue_answers a.state w ≡ None
 Refuses p command a fault = ⊥
 
 -- ---- what a line tells

@@ -55,6 +55,9 @@ impl<'a> Debugger<'a> {
             Command::Clock => self.clock(out),
             Command::Frames => self.frames(out),
             Command::Help => self.help(out),
+            Command::Timers => self.timers(out),
+            Command::Words(path) => self.words_at(path, out),
+            Command::Queue(path) => self.queue_at(path, out),
         }
     }
 }

@@ -7,7 +7,9 @@ ghost use Rattle.aom_debug.specs.Debugging.{Looks, Seen, SeenPart, Sees};
 use crate::Debugger;
 use crate::showing::{show_cells, show_frames, show_owners};
 use aom_debug_moves::Sink;
-use aom_debug_sights::{send, tell_actives, tell_breaks, tell_cleanup, tell_clock, tell_recent};
+use aom_debug_sights::{
+    send, tell_actives, tell_breaks, tell_cleanup, tell_clock, tell_recent, tell_timers,
+};
 use aom_debug_words::{DebugFault, help_text};
 use aom_natives::Native;
 
@@ -32,6 +34,8 @@ pub enum Look {
     Frames,
     /// The commands.
     Help,
+    /// The timers that run, the one that is due first before all others.
+    Timers,
 }
 
 impl<'a> Debugger<'a> {
@@ -50,6 +54,7 @@ impl<'a> Debugger<'a> {
             Look::Clock => tell_clock(self.mover.machine.core.parts(), out),
             Look::Frames => show_frames(&self.mover.machine, out),
             Look::Help => send(help_text(), out),
+            Look::Timers => tell_timers(self.mover.machine.core.parts(), out),
         }
     }
 

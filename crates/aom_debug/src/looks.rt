@@ -87,6 +87,17 @@ impl<'a> Debugger<'a> {
         self.look(Look::Clock, out)
     }
 
+    /// The timers that run, the one that is due first before all others.
+    pub fn timers<W: Sink>(&mut self, out: &mut W) -> Result<(), DebugFault>
+        requires agree { AllAgree (λ l. l.ids) (λ l. (⟦<dyn Native as Native>⟧ l.native.vtable).owed l.native.value) self.old.mover.machine.natives.slots.items }
+        requires ready { IsReady self.old.mover }
+        ensures agree { AllAgree (λ l. l.ids) (λ l. (⟦<dyn Native as Native>⟧ l.native.vtable).owed l.native.value) self.new.mover.machine.natives.slots.items }
+        ensures keeps { Keeps self.old.mover self.new.mover }
+        ensures answer { Looks (Sees looks.Timers) self.old self.new (record { before = W.out out.old; now = W.out out.new; failed = W.failed out.new }) result }
+    {
+        self.look(Look::Timers, out)
+    }
+
     /// The methods at hand, the outermost first.
     pub fn frames<W: Sink>(&mut self, out: &mut W) -> Result<(), DebugFault>
         requires agree { AllAgree (λ l. l.ids) (λ l. (⟦<dyn Native as Native>⟧ l.native.vtable).owed l.native.value) self.old.mover.machine.natives.slots.items }

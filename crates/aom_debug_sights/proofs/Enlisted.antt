@@ -116,7 +116,7 @@ names_of m = map (λ e. e.id) m.active.roster.entries
 some_by : (priority : ℤ) (r : Option Request) → HasPriority priority r → IsSome r
 some_by priority r has = grind arith
 
-pairs_by : {A : Type 0} (R : ℕ → ℕ → Type 0) (f : A → ℕ) (xs : List A) → AllPairs (λ x y. R (f x) (f y)) xs → AllPairs R (map f xs)
+pub pairs_by : {A : Type 0} (R : ℕ → ℕ → Type 0) (f : A → ℕ) (xs : List A) → AllPairs (λ x y. R (f x) (f y)) xs → AllPairs R (map f xs)
 pairs_by R f [] pairs = pairs-nil R
 pairs_by R f (x ∷ xs) pairs = AllPairs-cons R (f x) (map f xs) (All-map (R (f x)) f xs (pairs-head (λ y z. R (f y) (f z)) x xs pairs)) (pairs_by R f xs (pairs-tail (λ y z. R (f y) (f z)) x xs pairs))
 

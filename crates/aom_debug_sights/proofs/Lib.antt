@@ -3,6 +3,7 @@ pub mod Telling
 pub mod Showing
 pub mod Trees
 pub mod Enlisted
+pub mod Dues
 pub mod Orders
 pub mod Counting
 pub mod Tasks

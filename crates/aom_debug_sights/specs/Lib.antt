@@ -1,6 +1,7 @@
 pub mod Telling
 pub mod Sights
 pub mod Actives
+pub mod Timers
 pub mod Owners
 pub mod Holdings
 pub mod Laws

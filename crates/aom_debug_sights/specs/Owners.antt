@@ -25,34 +25,17 @@ use Rattle.aom_tokens.specs.Tokens.{class_at}
 use Rattle.aom_debug_words.specs.Answers.{source_text}
 use Rattle.aom_debug_words.specs.declared.answer.Source.{Source}
 use Rattle.aom_debug_words.specs.declared.answer.Source.TheVariants as sources
+pub use Rattle.aom_debug_words.specs.Ways.{Way, branch_text, further, outer_text, way_text}
+pub use Rattle.aom_debug_words.specs.declared.way.Branch.{Branch}
+pub use Rattle.aom_debug_words.specs.declared.way.Branch.TheVariants.{Field as By_field, Session as By_session}
+pub use Rattle.aom_debug_words.specs.declared.way.Outer.{Outer}
+pub use Rattle.aom_debug_words.specs.declared.way.Outer.TheVariants.{Entry as In_entry, Going as In_going, Register as In_register, Root as At_root, Service as At_service}
 use Rattle.aom_parts.specs.Agrees.{number}
 use Rattle.aom_parts.specs.Stands.{Machine, StandsFor}
 use Rattle.aom_debug_sights.specs.Sights.{counted}
 use Rattle.aom_debug_sights.specs.Telling.{gathered}
 
--- ---- ways
-
--- a place that is no cell's, as a debugger numbers it from the bottom
-pub data Outer : Type 0 where
-  At_root : Outer
-  In_register : (frame register : ℕ) → Outer
-  In_entry : (entry : ℕ) → Outer
-  At_service : Outer
-  In_going : (going : ℕ) → Outer
-
--- from an object to one that it owns: by a field, and from a server by the session of a client
-pub data Branch : Type 0 where
-  By_field : (field : ℕ) → Branch
-  By_session : (client : ℕ) → Branch
-
--- the way to an object
-pub record Way : Type 0 where
-  pub outer : Outer
-  -- the outermost first
-  pub branches : List Branch
-
-abbrev pub further : Way → Branch → Way
-further w b = record w { branches = w.branches ++ b ∷ [] }
+-- ---- who hears
 
 -- who hears when a message is completed: the client that sent it, or else the object that handed it out, by its class
 abbrev pub source_by : Option Sender → Option Token → Option Source
@@ -70,20 +53,6 @@ pub record Owned : Type 0 where
   pub source : Option Source
 
 -- ---- how they are spelled
-
-abbrev pub outer_text : Outer → List ℕ
-outer_text At_root = codes "root"
-outer_text (In_register frame i) = codes "reg " ++ decimal frame ++ codes " r" ++ decimal i
-outer_text (In_entry k) = codes "clean " ++ decimal k
-outer_text At_service = codes "service"
-outer_text (In_going k) = codes "going " ++ decimal k
-
-abbrev pub branch_text : Branch → List ℕ
-branch_text (By_field f) = codes ".f" ++ decimal f
-branch_text (By_session c) = codes ".s" ++ decimal c
-
-abbrev pub way_text : Way → List ℕ
-way_text w = outer_text w.outer ++ flat_map branch_text w.branches
 
 -- an object by its class, and a message by who hears when it is completed
 abbrev pub thing_text : Thing → Option Source → List ℕ

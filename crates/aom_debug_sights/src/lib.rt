@@ -19,6 +19,7 @@ mod laws;
 mod owners;
 mod recent;
 mod sending;
+mod timers;
 mod tree;
 mod way;
 
@@ -30,6 +31,7 @@ pub use clock::tell_clock;
 pub use frames::tell_frames;
 pub use holding::{Holding, Owner, held_at};
 pub use laws::{order_of_choice_is_one, owners_are_told_once};
-pub use owners::tell_owners;
+pub use owners::{entries_at, frames_at, goings_at, tell_owners};
 pub use recent::tell_recent;
-pub use sending::{send, tell};
+pub use sending::{send, tell, tell_any};
+pub use timers::tell_timers;

@@ -103,7 +103,7 @@ pub(crate) fn frame_at(parts: &Parts, depth: usize) -> Option<Frame>
 }
 
 /// How many frames stand at a depth.
-fn frames_at(parts: &Parts, depth: usize) -> usize
+pub fn frames_at(parts: &Parts, depth: usize) -> usize
     ensures few { result ≤ 1 }
     ensures value { (p : Image) (s : State) → StandsFor (record { image = p; parts = parts.now }) s → result ≡ cond (is_frame (over s.tasks depth)) 1 0 }
 {
@@ -182,7 +182,7 @@ pub(crate) fn item_number(parts: &Parts, height: usize) -> u32
 }
 
 /// How many entries that item is.
-fn entries_at(parts: &Parts, height: usize) -> usize
+pub fn entries_at(parts: &Parts, height: usize) -> usize
     requires { height < length parts.now.entries.items }
     ensures few { result ≤ 1 }
     ensures value { (p : Image) (s : State) → StandsFor (record { image = p; parts = parts.now }) s → result ≡ cond (is_entry (over s.items height)) 1 0 }
@@ -238,7 +238,7 @@ pub(crate) fn going_number(parts: &Parts, depth: usize) -> u32
 }
 
 /// How many destructions stand at a depth.
-fn goings_at(parts: &Parts, depth: usize) -> usize
+pub fn goings_at(parts: &Parts, depth: usize) -> usize
     ensures few { result ≤ 1 }
     ensures value { (p : Image) (s : State) → StandsFor (record { image = p; parts = parts.now }) s → result ≡ cond (is_going (over s.tasks depth)) 1 0 }
 {

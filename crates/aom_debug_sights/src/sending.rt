@@ -30,7 +30,7 @@ pub fn tell<W: Sink>(answer: Answer, out: &mut W) -> Result<(), DebugFault>
 }
 
 /// Writes it if there is one.
-pub(crate) fn tell_any<W: Sink>(answer: Option<Answer>, out: &mut W) -> Result<(), DebugFault>
+pub fn tell_any<W: Sink>(answer: Option<Answer>, out: &mut W) -> Result<(), DebugFault>
     ensures ok { IfOk result (λ _. W.out out.new ≡ after (W.out out.old) (answers_text (listed answer))) }
     ensures err { IfErr result (λ fault. IsCut (answers_text (listed answer)) fault (W.failed out.new) (W.out out.old) (W.out out.new)) }
 {

@@ -1,3 +1,4 @@
 pub mod Latest
 pub mod Keeping
 pub mod Marking
+pub mod Between

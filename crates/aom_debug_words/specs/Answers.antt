@@ -10,7 +10,7 @@ use Rattle.aom_debug_words.specs.declared.answer.Content.TheVariants as contents
 use Rattle.aom_debug_words.specs.declared.answer.Source.{Source}
 use Rattle.aom_debug_words.specs.declared.answer.Source.TheVariants as sources
 use Rattle.aom_debug_words.specs.declared.answer.Answer.{Answer}
-use Rattle.aom_debug_words.specs.declared.answer.Answer.TheVariants.{Done, Fault, At, Gone, Between, Ended, Cells, OfClass, Trap, Object, Operation, Active, Server, Clock, Break, Frame, Register, Loop, Ran}
+use Rattle.aom_debug_words.specs.declared.answer.Answer.TheVariants.{Done, Fault, At, Gone, Between, Ended, Cells, OfClass, Trap, Object, Operation, Active, Server, Clock, Timer, Break, Frame, Register, Loop, Ran, Word, Connect, Message, Close}
 
 -- two numbers, parted by a space
 abbrev pub numbers_text : ℕ → ℕ → List ℕ
@@ -63,8 +63,13 @@ answer_text (Operation method word) = codes "op " ++ decimal method ++ codes " "
 answer_text (Active class priority phase status) = active_text class priority phase status
 answer_text (Server class priority queued) = server_text class priority queued
 answer_text (Clock time) = codes "clock " ++ decimal time
+answer_text (Timer class due) = numbers_text class due
 answer_text (Break spot) = codes "break " ++ spot_text spot
 answer_text (Frame spot) = spot_text spot
 answer_text (Register i content) = register_text i content
 answer_text (Loop i rounds) = codes "loop " ++ numbers_text i rounds
 answer_text (Ran spot) = spot_text spot
+answer_text (Word i word) = codes "w" ++ decimal i ++ codes " " ++ signed_decimal word
+answer_text (Connect client) = codes "connect " ++ decimal client
+answer_text (Message client) = codes "message " ++ decimal client
+answer_text (Close client) = codes "close " ++ decimal client

@@ -4,8 +4,9 @@ use Rattle.std.specs.Str.{bytes_eq}
 use Rattle.aom_text.specs.Words.{words}
 use Rattle.aom_text.specs.Numbers.{number_of, number_within}
 use Rattle.aom_text.specs.declared.number.Number.{Number}
+use Rattle.aom_debug_words.specs.Ways.{Way, path_said}
 use Rattle.aom_debug_words.specs.declared.command.Command.{Command}
-use Rattle.aom_debug_words.specs.declared.command.Command.TheVariants.{Step, Next, Finish, Turn, Go, Until, Break, Unbreak, Breaks, Clock, Frames, Help, Cells, Owners, Cleanup, Actives, Recent}
+use Rattle.aom_debug_words.specs.declared.command.Command.TheVariants.{Step, Next, Finish, Turn, Go, Until, Break, Unbreak, Breaks, Clock, Frames, Help, Cells, Owners, Cleanup, Actives, Recent, Timers, Words, Queue}
 use Rattle.aom_debug_words.specs.declared.fault.DebugFault.{DebugFault}
 use Rattle.aom_debug_words.specs.declared.fault.DebugFault.TheVariants.{BadCommand}
 
@@ -26,6 +27,7 @@ named name =
     else if bytes_eq name (codes "cleanup") then Some Cleanup
     else if bytes_eq name (codes "actives") then Some Actives
     else if bytes_eq name (codes "recent") then Some Recent
+    else if bytes_eq name (codes "timers") then Some Timers
     else None
 
 abbrev pub alone : List ℕ → List (List ℕ) → Option Command
@@ -70,6 +72,16 @@ abbrev pub until_says : List (List ℕ) → Option Command
 until_says (method ∷ place ∷ []) = until_at (number_of method) (number_of place)
 until_says _ = None
 
+-- ---- names with a way
+
+abbrev pub words_at : Option Way → Option Command
+words_at None = None
+words_at (Some w) = Some (Words w)
+
+abbrev pub queue_at : Option Way → Option Command
+queue_at None = None
+queue_at (Some w) = Some (Queue w)
+
 -- ---- lines
 
 abbrev pub words_say : List ℕ → List (List ℕ) → Option Command
@@ -78,6 +90,8 @@ words_say name others =
     else if bytes_eq name (codes "break") then break_says others
     else if bytes_eq name (codes "unbreak") then unbreak_says others
     else if bytes_eq name (codes "until") then until_says others
+    else if bytes_eq name (codes "words") then words_at (path_said others)
+    else if bytes_eq name (codes "queue") then queue_at (path_said others)
     else alone name others
 
 -- a command, or none that there is

@@ -29,8 +29,11 @@ help_looks =
     ++ (help_line (codes "cleanup") (codes "the cleanup stack")
     ++ (help_line (codes "actives") (codes "who waits for what")
     ++ (help_line (codes "frames") (codes "the methods at hand")
+    ++ (help_line (codes "words PATH") (codes "the words of an object")
+    ++ (help_line (codes "queue PATH") (codes "what waits at a server")
     ++ (help_line (codes "recent") (codes "the latest instructions")
-    ++ (help_line (codes "clock") (codes "the time") ++ help_line (codes "help") (codes "all commands")))))))
+    ++ (help_line (codes "clock") (codes "the time")
+    ++ (help_line (codes "timers") (codes "who is due, and when") ++ help_line (codes "help") (codes "all commands"))))))))))
 
 -- all commands, each on a line
 abbrev pub help_text : List ℕ

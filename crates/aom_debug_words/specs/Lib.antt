@@ -1,5 +1,6 @@
 pub mod Answers
 pub mod Marks
+pub mod Ways
 pub mod Commands
 pub mod Faults
 pub mod Lines

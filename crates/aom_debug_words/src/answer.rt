@@ -58,6 +58,8 @@ pub enum Answer {
     Server(u16, i32, usize),
     /// The time.
     Clock(u64),
+    /// A timer of an object of a class, due at that time.
+    Timer(u16, u64),
     /// Where a breakpoint is, as the command that sets it.
     Break(Spot),
     /// Where a method at hand stands.
@@ -68,4 +70,12 @@ pub enum Answer {
     Loop(u8, u16),
     /// An instruction that ran.
     Ran(Spot),
+    /// A word of an object, by its number.
+    Word(u8, i32),
+    /// What waits at a server: a client's connect.
+    Connect(u8),
+    /// A client's message.
+    Message(u8),
+    /// A client's close.
+    Close(u8),
 }

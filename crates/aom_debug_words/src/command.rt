@@ -1,16 +1,18 @@
 //! What a line of commands says.
 ghost use Rattle.std.specs.Prelude.{◌≡◌};
 ghost use Rattle.aom_text.specs.Numbers.{number_of};
-ghost use Rattle.aom_debug_words.specs.Commands.{break_says, breaks_at, command_said, known, line_says, named, step_says, steps_by, unbreak_says, unbreaks_at, until_at, until_says, words_say};
+ghost use Rattle.aom_debug_words.specs.Commands.{break_says, breaks_at, command_said, known, line_says, named, step_says, steps_by, unbreak_says, unbreaks_at, until_at, until_says, words_at, queue_at, words_say};
 
 use crate::DebugFault;
+use crate::path::Path;
+use crate::reading::read_path;
 use aom_text::{Number, Words};
 
 /// The most bytes of a line, its line feed aside.
 const MOST_BYTES: usize = 256;
 
 /// What is asked of a debugger.
-#[derive(Clone, Copy)]
+#[derive(Drop)]
 pub enum Command {
     /// So many steps, from 1 to 1,000,000.
     Step(u32),
@@ -31,6 +33,8 @@ pub enum Command {
     /// Where the breakpoints are.
     Breaks,
     Clock,
+    /// The timers that run.
+    Timers,
     /// The methods at hand.
     Frames,
     /// The commands that there are.
@@ -40,6 +44,10 @@ pub enum Command {
     Cleanup,
     Actives,
     Recent,
+    /// The words of what is owned there.
+    Words(Path),
+    /// What waits at a server that is owned there.
+    Queue(Path),
 }
 
 /// What a line says, which is given without its line feed; nothing where it has no word.
@@ -84,10 +92,34 @@ fn read_words(name: &[u8], words: Words) -> Option<Command>
         read_unbreak(words)
     } else if name == b"until".as_slice() {
         read_until(words)
+    } else if name == b"words".as_slice() {
+        words_at(read_path(words))
+    } else if name == b"queue".as_slice() {
+        queue_at(read_path(words))
     } else if words.is_empty() {
         command_named(name)
     } else {
         None
+    }
+}
+
+/// The words of what is owned at a path.
+fn words_at(path: Option<Path>) -> Option<Command>
+    ensures { result ≡ words_at path }
+{
+    match path {
+        Some(path) => Some(Command::Words(path)),
+        None => None,
+    }
+}
+
+/// What waits at a server that is owned at a path.
+fn queue_at(path: Option<Path>) -> Option<Command>
+    ensures { result ≡ queue_at path }
+{
+    match path {
+        Some(path) => Some(Command::Queue(path)),
+        None => None,
     }
 }
 
@@ -121,6 +153,8 @@ fn command_named(name: &[u8]) -> Option<Command>
         Some(Command::Actives)
     } else if name == b"recent".as_slice() {
         Some(Command::Recent)
+    } else if name == b"timers".as_slice() {
+        Some(Command::Timers)
     } else {
         None
     }

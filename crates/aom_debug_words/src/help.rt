@@ -20,8 +20,11 @@ owners: who owns what
 cleanup: the cleanup stack
 actives: who waits for what
 frames: the methods at hand
+words PATH: the words of an object
+queue PATH: what waits at a server
 recent: the latest instructions
 clock: the time
+timers: who is due, and when
 help: all commands
 "
         .as_slice()

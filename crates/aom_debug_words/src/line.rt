@@ -44,11 +44,16 @@ fn add_answer(line: &mut AnswerLine, answer: Answer)
         }
         Answer::Server(class, priority, queued) => add_server(line, class, priority, queued),
         Answer::Clock(time) => line.add_count(b"clock ", time),
+        Answer::Timer(class, due) => add_timer(line, class, due),
         Answer::Break(spot) => add_break(line, spot),
         Answer::Frame(spot) => add_two(line, spot.method, spot.place),
         Answer::Register(register, content) => add_register(line, register, content),
         Answer::Loop(number, rounds) => add_loop(line, number, rounds),
         Answer::Ran(spot) => add_two(line, spot.method, spot.place),
+        Answer::Word(number, word) => add_word(line, number, word),
+        Answer::Connect(client) => line.add_count(b"connect ", client),
+        Answer::Message(client) => line.add_count(b"message ", client),
+        Answer::Close(client) => line.add_count(b"close ", client),
     }
 }
 
@@ -113,6 +118,15 @@ fn add_loop(line: &mut AnswerLine, number: u8, rounds: u16)
     line.add_count(b" ", rounds);
 }
 
+fn add_word(line: &mut AnswerLine, number: u8, word: i32)
+    requires { line.old ≡ [] }
+    ensures text { line.new ≡ codes "w" ++ decimal number ++ codes " " ++ signed_decimal word }
+    ensures short { length line.new ≤ 36 }
+{
+    line.add_count(b"w", number);
+    line.add_count(b" ", word);
+}
+
 fn add_operation(line: &mut AnswerLine, method: u16, word: i32)
     requires { line.old ≡ [] }
     ensures text { line.new ≡ codes "op " ++ decimal method ++ codes " " ++ signed_decimal word }
@@ -154,6 +168,16 @@ fn add_phase(line: &mut AnswerLine, phase: Phase)
         Phase::Issued => line.add(b" issued "),
         Phase::Active => line.add(b" active "),
     }
+}
+
+/// Adds a class and a time.
+fn add_timer(line: &mut AnswerLine, class: u16, due: u64)
+    requires { line.old ≡ [] }
+    ensures text { line.new ≡ numbers_text class due }
+    ensures short { length line.new ≤ 41 }
+{
+    line.add_number(class);
+    line.add_count(b" ", due);
 }
 
 /// Adds two numbers.

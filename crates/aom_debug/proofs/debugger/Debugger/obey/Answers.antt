@@ -255,3 +255,48 @@ returns-in-Frames-clause-keeps g c = c.frames.ensures.keeps
 
 pub returns-in-Frames-clause-answer : goal.returns-in-Frames-clause-answer
 returns-in-Frames-clause-answer g c = rw c.in-Frames.is c.frames.ensures.answer
+
+pub timers-requires-clause-agree : goal.timers-requires-clause-agree
+timers-requires-clause-agree g c = c.requires.agree
+
+pub timers-requires-clause-ready : goal.timers-requires-clause-ready
+timers-requires-clause-ready g c = c.requires.ready
+
+pub returns-in-Timers-clause-agree : goal.returns-in-Timers-clause-agree
+returns-in-Timers-clause-agree g c = c.timers.ensures.agree
+
+pub returns-in-Timers-clause-keeps : goal.returns-in-Timers-clause-keeps
+returns-in-Timers-clause-keeps g c = c.timers.ensures.keeps
+
+pub returns-in-Timers-clause-answer : goal.returns-in-Timers-clause-answer
+returns-in-Timers-clause-answer g c = rw c.in-Timers.is c.timers.ensures.answer
+
+pub words_at-requires-clause-agree : goal.words_at-requires-clause-agree
+words_at-requires-clause-agree g c = c.requires.agree
+
+pub words_at-requires-clause-ready : goal.words_at-requires-clause-ready
+words_at-requires-clause-ready g c = c.requires.ready
+
+pub returns-in-Words-clause-agree : goal.returns-in-Words-clause-agree
+returns-in-Words-clause-agree g c = c.words_at.ensures.agree
+
+pub returns-in-Words-clause-keeps : goal.returns-in-Words-clause-keeps
+returns-in-Words-clause-keeps g c = c.words_at.ensures.keeps
+
+pub returns-in-Words-clause-answer : goal.returns-in-Words-clause-answer
+returns-in-Words-clause-answer g c = rw c.in-Words.is c.words_at.ensures.answer
+
+pub queue_at-requires-clause-agree : goal.queue_at-requires-clause-agree
+queue_at-requires-clause-agree g c = c.requires.agree
+
+pub queue_at-requires-clause-ready : goal.queue_at-requires-clause-ready
+queue_at-requires-clause-ready g c = c.requires.ready
+
+pub returns-in-Queue-clause-agree : goal.returns-in-Queue-clause-agree
+returns-in-Queue-clause-agree g c = c.queue_at.ensures.agree
+
+pub returns-in-Queue-clause-keeps : goal.returns-in-Queue-clause-keeps
+returns-in-Queue-clause-keeps g c = c.queue_at.ensures.keeps
+
+pub returns-in-Queue-clause-answer : goal.returns-in-Queue-clause-answer
+returns-in-Queue-clause-answer g c = rw c.in-Queue.is c.queue_at.ensures.answer

@@ -79,3 +79,13 @@ returns-in-Frames-clause-err g c =
       (λ s st. (_, (st.stands.typing, st.stands.sound.strongest, refl), (part st.stands.typing st.stands.sound.strongest).out s st.stands)),
     ))
     c.show_frames.ensures.err)
+
+pub returns-in-Timers-clause-ok : goal.returns-in-Timers-clause-ok
+returns-in-Timers-clause-ok g c =
+    let p = c.args.self.now.mover.machine.core.image in
+    rw c.in-Timers.is (IfOk-weaker c.tell_timers.result _ _ (λ done tells s st. (_, (_, (tells p).order s st.stands, refl), (tells p).out s st.stands)) (rw c.parts-in-Timers.ensures.parts at c.tell_timers.ensures.ok))
+
+pub returns-in-Timers-clause-err : goal.returns-in-Timers-clause-err
+returns-in-Timers-clause-err g c =
+    let p = c.args.self.now.mover.machine.core.image in
+    rw c.in-Timers.is (IfErr-weaker c.tell_timers.result _ _ (λ fault part. ((part p).told, (part p).fails, (λ s st. (_, (_, (part p).order s st.stands, refl), (part p).out s st.stands)))) (rw c.parts-in-Timers.ensures.parts at c.tell_timers.ensures.err))

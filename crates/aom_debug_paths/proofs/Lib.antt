@@ -1,0 +1,4 @@
+pub mod Numbering
+pub mod Onward
+pub mod Worded
+pub mod Queues
