@@ -6,6 +6,7 @@ from typing import NamedTuple
 
 TOP = os.path.dirname(os.path.dirname(os.path.realpath(__file__)))
 WORDS = "crates/aom_command_line/src/words.rt"
+ARGS = "crates/aom_command_line/src/args.rt"
 KINDS = "crates/aom_natives/src/kind.rt"
 ROWS = "crates/aom_instructions/specs/Rows.antt"
 MNEMONICS = "crates/aom_instructions/src/mnemonic.rt"
@@ -78,7 +79,7 @@ def version():
 
 def functions_of(source):
     """The body of each function of a file, by its name."""
-    return dict(all_found(r"\nfn (\w+)[<(][^\n]*(?:\n[^{\n][^\n]*)*?\n?\{\n(.*?)\n\}\n", source, "functions"))
+    return dict(all_found(r"\n(?:pub )?fn (\w+)[<(][^\n]*(?:\n[^{\n][^\n]*)*?\n?\{\n(.*?)\n\}\n", source, "functions"))
 
 
 def option_of(name, body):
@@ -89,7 +90,7 @@ def option_of(name, body):
         return Option(number[1], "N", number[2], number[3])
     if flag:
         return Option(flag[1], "", flag[2], "")
-    long, value, text = found(rf"\.long\({TEXT}\).*?\.value_name\({TEXT}\).*?\.help\(\s*{TEXT}", body, f"the form of {name} in {WORDS}")
+    long, value, text = found(rf"\.long\({TEXT}\).*?\.value_name\({TEXT}\).*?\.help\(\s*{TEXT}", body, f"the form of {name} in {ARGS}")
     return Option(long, value, text, "")
 
 
@@ -115,7 +116,8 @@ def about():
 def commands():
     """The commands, in the order in which the program has them."""
     source = read(WORDS)
-    return [command_of(name, functions_of(source)) for name in all_found(r"\b(\w+)_command\(alloc\)\)", source, "commands")]
+    functions = functions_of(source + read(ARGS))
+    return [command_of(name, functions) for name in all_found(r"\b(\w+)_command\(alloc\)\)", source, "commands")]
 
 
 def natives():

@@ -10,16 +10,17 @@ ghost use Rattle.std.specs.Prelude.{◌≡◌, ◌≤◌};
 ghost use Rattle.aom_command_line.specs.CommandLine.{KeepsLimit};
 ghost use Rattle.aom_main.specs.Beside.{AreNew};
 
-use aom_command_line::{RunWords, Words, WordsFault, read_words};
+use aom_command_line::{RunWords, TriesWords, Words, WordsFault, read_words};
 use aom_debug::debug_bytes;
 use aom_explaining::{
-    asm_explained, check_by_text, check_explained, check_lined, run_by_text, run_explained,
-    tell_explained,
+    asm_explained, check_by_text, check_explained, check_lined, dot_named, prices_named,
+    run_by_text, run_explained, run_named, tell_explained,
 };
 use aom_host::{Input, Output, read_file};
+use aom_injection::{Part, Tries};
 use aom_main::{
-    ExitStatus, Fault, Part, asm_bytes, check_bytes, dis_bytes, dot_bytes, explore_bytes,
-    prices_bytes, run_bytes, tell,
+    ExitStatus, Fault, asm_bytes, check_bytes, dis_bytes, dot_bytes, explore_bytes, prices_bytes,
+    run_bytes, tell,
 };
 use aom_natives::{Counter, Delay, Line, Native, NativeKind};
 use aom_run::{Sink, write_text};
@@ -158,23 +159,26 @@ fn obey<W: Sink, E: Sink>(
                 Err(status) => Ok(status),
             }
         }
-        Words::Run { run, explain, text } => {
-            run_beside(rt, run, text, Purpose::of_run(*explain), out, errors)
+        Words::Run {
+            run,
+            explain,
+            names,
+            text,
+        } => {
+            let purpose = Purpose::of_run(*explain, *names);
+            run_beside(rt, run, text, purpose, out, errors)
         }
         Words::Debug { run } => run_beside(rt, run, &None, Purpose::Debug, out, errors),
-        Words::Explore { run, first, last } => {
-            let (first, last) = (*first, *last);
-            explore_beside(rt, run, Part { first, last }, out, errors)
-        }
+        Words::Explore { run, tries } => explore_beside(rt, run, tries_of(*tries), out, errors),
         Words::Asm { text, explain } if *explain => {
             Ok(asm_explained(alloc, &read_file(rt, text)?, out, errors))
         }
         Words::Asm { text, .. } => Ok(asm_bytes(alloc, &read_file(rt, text)?, out, errors)),
         Words::Dis { image } => Ok(dis_bytes(alloc, &read_file(rt, image)?, out, errors)),
-        Words::Dot { image, asm } => {
-            let program = Program::read(rt, image, &None)?;
+        Words::Dot { image, asm, text } => {
+            let program = Program::read(rt, image, text)?;
             match program.ready(alloc, *asm, Telling::Plain, errors) {
-                Ok(program) => Ok(dot_bytes(alloc, &program.image, out, errors)),
+                Ok(program) => Ok(draw_program(alloc, &program, out, errors)),
                 Err(status) => Ok(status),
             }
         }
@@ -206,8 +210,22 @@ fn check_program<W: Sink, E: Sink>(
         }
         (Telling::Explained, Some(text)) => check_by_text(alloc, image, text, prices, out, errors),
         (Telling::Explained, None) => check_explained(alloc, image, prices, out, errors),
+        (Telling::Plain, Some(text)) if prices => prices_named(alloc, image, text, out, errors),
         _ if prices => prices_bytes(alloc, image, out, errors),
         _ => check_bytes(alloc, image, out, errors),
+    }
+}
+
+/// Draws an image, with the names of its text where there is one.
+fn draw_program<W: Sink, E: Sink>(
+    alloc: Global,
+    program: &Program,
+    out: &mut W,
+    errors: &mut E,
+) -> ExitStatus {
+    match &program.text {
+        Some(text) => dot_named(alloc, &program.image, text, out, errors),
+        None => dot_bytes(alloc, &program.image, out, errors),
     }
 }
 
@@ -244,17 +262,21 @@ impl RunFiles {
 #[derive(Clone, Copy)]
 enum Purpose {
     Run,
-    /// To run, and to explain a fault, by the lines of the image's text where there is one.
-    Explain,
+    /// To run, and to write the transcript with the names of the image's text.
+    Names,
+    /// To run, and to explain a fault, by the lines of the image's text where there is one; and by its names where that is asked.
+    Explain { names: bool },
     /// To run as the commands say that come from standard input.
     Debug,
 }
 
 impl Purpose {
     /// The purpose of `aom run`.
-    fn of_run(explain: bool) -> Purpose {
+    fn of_run(explain: bool, names: bool) -> Purpose {
         if explain {
-            Purpose::Explain
+            Purpose::Explain { names }
+        } else if names {
+            Purpose::Names
         } else {
             Purpose::Run
         }
@@ -278,8 +300,14 @@ impl Purpose {
         let (image, script) = (&files.program.image, &files.script);
         match self {
             Purpose::Run => run_bytes(alloc, image, script, limit, boxes, out, errors),
-            Purpose::Explain => match &files.program.text {
-                Some(text) => run_by_text(alloc, image, text, script, limit, boxes, out, errors),
+            Purpose::Names => match &files.program.text {
+                Some(text) => run_named(alloc, image, text, script, limit, boxes, out, errors),
+                None => run_bytes(alloc, image, script, limit, boxes, out, errors),
+            },
+            Purpose::Explain { names } => match &files.program.text {
+                Some(text) => run_by_text(
+                    alloc, image, text, names, script, limit, boxes, out, errors,
+                ),
                 None => run_explained(alloc, image, script, limit, boxes, out, errors),
             },
             Purpose::Debug => {
@@ -305,7 +333,7 @@ fn run_beside<W: Sink, E: Sink>(
     requires limit { (1 ≤ run.now.limit) × (run.now.limit ≤ 1000000000) }
 {
     let files = RunFiles::read(rt, run, text)?;
-    let telling = Telling::of_flag(matches!(purpose, Purpose::Explain));
+    let telling = Telling::of_flag(matches!(purpose, Purpose::Explain { .. }));
     match files.ready(rt.alloc(), run.asm, telling, errors) {
         Ok(files) => {
             let kinds = run.natives.as_slice();
@@ -342,11 +370,24 @@ fn run_files<W: Sink, E: Sink>(
     Ok(purpose.run(rt, run, files, boxes, out, errors))
 }
 
-/// Reads the files of a run, and runs the image again and again, each time with one more allocation request refused.
+/// The tries that the words ask for.
+fn tries_of(words: TriesWords) -> Tries {
+    Tries {
+        part: Part {
+            first: words.first,
+            last: words.last,
+        },
+        kills: words.kills,
+        deaths: words.deaths,
+        pairs: if words.pairs { Some(words.most) } else { None },
+    }
+}
+
+/// Reads the files of a run, and runs the image again and again, each time with a fault injected.
 fn explore_beside<W: Sink, E: Sink>(
     rt: &HostRuntime,
     run: &RunWords,
-    part: Part,
+    tries: Tries,
     out: &mut W,
     errors: &mut E,
 ) -> Result<ExitStatus, Fault>
@@ -355,7 +396,7 @@ fn explore_beside<W: Sink, E: Sink>(
     let files = RunFiles::read(rt, run, &None)?;
     match files.ready(rt.alloc(), run.asm, Telling::Plain, errors) {
         Ok(files) => {
-            let ended = explore_files(rt.alloc(), run, part, &files, out, errors);
+            let ended = explore_files(rt.alloc(), run, tries, &files, out, errors);
             drop(files);
             Ok(ended)
         }
@@ -367,7 +408,7 @@ fn explore_beside<W: Sink, E: Sink>(
 fn explore_files<W: Sink, E: Sink>(
     alloc: Global,
     run: &RunWords,
-    part: Part,
+    tries: Tries,
     files: &RunFiles,
     out: &mut W,
     errors: &mut E,
@@ -382,7 +423,7 @@ fn explore_files<W: Sink, E: Sink>(
         &files.script,
         limit,
         kinds,
-        part,
+        tries,
         out,
         errors,
     )

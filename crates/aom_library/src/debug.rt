@@ -2,6 +2,6 @@
 
 pub use aom_debug::{Debugger, Holding, Look, Mover, Owner, Reader, Scope, tell_place};
 pub use aom_debug_words::{
-    Answer, AnswerLine, Breakpoints, Command, Content, DebugFault, Pending, Phase, Recent, Source,
-    Spot, help_text, line_of, read_command,
+    Answer, AnswerLine, Branch, Breakpoints, ClientNumber, Command, Content, DebugFault, Outer,
+    Path, Pending, Phase, Recent, Source, Spot, help_text, line_of, read_command,
 };

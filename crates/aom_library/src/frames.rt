@@ -1,3 +1,3 @@
 //! The stack of what is at hand: frames, traps, destructions, leaves, dispatches.
 
-pub use aom_frames::{Dispatch, Frame, Stage, Subject, Task, TaskKind, Tasks};
+pub use aom_frames::{Callee, Dispatch, Frame, Stage, Subject, Task, TaskKind, Tasks, View};

@@ -7,7 +7,7 @@ function __aom_arguments
     set -e words[1 2]
     while set -q words[1]
         switch $words[1]
-            case --from --limit --text --to
+            case --from --limit --text --to --tries
                 set -e words[1]
             case '-*'
             case '*'
@@ -33,14 +33,15 @@ complete -c aom -n __fish_use_subcommand -a check -d 'Tells whether an image is 
 complete -c aom -n '__fish_seen_subcommand_from check' -l prices -d 'Tells too what the methods come to and cost, accepted or not'
 complete -c aom -n '__fish_seen_subcommand_from check' -l explain -d 'Tells too what a fault means and what usually mends it'
 complete -c aom -n '__fish_seen_subcommand_from check' -l lines -d 'Tells a fault in one line with its place in the text, as compilers do'
-complete -c aom -n '__fish_seen_subcommand_from check' -l text -d 'The text that the image is of, whose lines --explain and --lines name' -r -k -a '(__fish_complete_suffix .aom)'
+complete -c aom -n '__fish_seen_subcommand_from check' -l text -d 'The text that the image is of, whose lines and names are told' -r -k -a '(__fish_complete_suffix .aom)'
 complete -c aom -n '__fish_seen_subcommand_from check' -l asm -d 'The file is an assembly text, and the image is what it denotes'
 complete -c aom -n '__aom_at check 0; and not __fish_contains_opt asm' -k -a '(__fish_complete_suffix .image)' -d 'The file of an image'
 complete -c aom -n '__aom_at check 0; and __fish_contains_opt asm' -k -a '(__fish_complete_suffix .aom)' -d 'The file of an image'
 complete -c aom -n __fish_use_subcommand -a run -d 'Runs an image under a script and writes the transcript'
 complete -c aom -n '__fish_seen_subcommand_from run' -l limit -d 'The most dispatches after main'\''s' -x
 complete -c aom -n '__fish_seen_subcommand_from run' -l explain -d 'Tells too what a fault means and what usually mends it'
-complete -c aom -n '__fish_seen_subcommand_from run' -l text -d 'The text that the image is of, whose lines --explain and --lines name' -r -k -a '(__fish_complete_suffix .aom)'
+complete -c aom -n '__fish_seen_subcommand_from run' -l names -d 'Writes the transcript with the names of a text in place of the numbers of classes'
+complete -c aom -n '__fish_seen_subcommand_from run' -l text -d 'The text that the image is of, whose lines and names are told' -r -k -a '(__fish_complete_suffix .aom)'
 complete -c aom -n '__fish_seen_subcommand_from run' -l asm -d 'The file is an assembly text, and the image is what it denotes'
 complete -c aom -n '__aom_at run 0; and not __fish_contains_opt asm' -k -a '(__fish_complete_suffix .image)' -d 'The file of an image'
 complete -c aom -n '__aom_at run 0; and __fish_contains_opt asm' -k -a '(__fish_complete_suffix .aom)' -d 'The file of an image'
@@ -50,6 +51,10 @@ complete -c aom -n __fish_use_subcommand -a explore -d 'Runs an image again with
 complete -c aom -n '__fish_seen_subcommand_from explore' -l limit -d 'The most dispatches after main'\''s' -x
 complete -c aom -n '__fish_seen_subcommand_from explore' -l from -d 'The first allocation request that is refused' -x
 complete -c aom -n '__fish_seen_subcommand_from explore' -l to -d 'The last allocation request that is refused' -x
+complete -c aom -n '__fish_seen_subcommand_from explore' -l kills -d 'Kills too each native, at each time at which the run does something'
+complete -c aom -n '__fish_seen_subcommand_from explore' -l deaths -d 'Lets die too each client that the script names, at each such time'
+complete -c aom -n '__fish_seen_subcommand_from explore' -l pairs -d 'Refuses too each two allocation requests'
+complete -c aom -n '__fish_seen_subcommand_from explore' -l tries -d 'The most pairs that --pairs tries' -x
 complete -c aom -n '__fish_seen_subcommand_from explore' -l asm -d 'The file is an assembly text, and the image is what it denotes'
 complete -c aom -n '__aom_at explore 0; and not __fish_contains_opt asm' -k -a '(__fish_complete_suffix .image)' -d 'The file of an image'
 complete -c aom -n '__aom_at explore 0; and __fish_contains_opt asm' -k -a '(__fish_complete_suffix .aom)' -d 'The file of an image'
@@ -68,6 +73,7 @@ complete -c aom -n '__aom_at asm 0' -k -a '(__fish_complete_suffix .aom)' -d 'Th
 complete -c aom -n __fish_use_subcommand -a dis -d 'Writes the listing of an image'
 complete -c aom -n '__aom_at dis 0' -k -a '(__fish_complete_suffix .image)' -d 'The file of an image'
 complete -c aom -n __fish_use_subcommand -a dot -d 'Writes an image as a graph in Graphviz'\''s language'
+complete -c aom -n '__fish_seen_subcommand_from dot' -l text -d 'The text that the image is of, whose lines and names are told' -r -k -a '(__fish_complete_suffix .aom)'
 complete -c aom -n '__fish_seen_subcommand_from dot' -l asm -d 'The file is an assembly text, and the image is what it denotes'
 complete -c aom -n '__aom_at dot 0; and not __fish_contains_opt asm' -k -a '(__fish_complete_suffix .image)' -d 'The file of an image'
 complete -c aom -n '__aom_at dot 0; and __fish_contains_opt asm' -k -a '(__fish_complete_suffix .aom)' -d 'The file of an image'

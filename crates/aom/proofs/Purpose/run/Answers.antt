@@ -5,6 +5,12 @@ use Rattle.aom.proofs.Purpose.run.Goals as goal
 pub run_bytes-requires-clause-owed : goal.run_bytes-requires-clause-owed
 run_bytes-requires-clause-owed g c = owe_nothing _ c.args.run.now.natives.items c.args.boxes.items c.requires.new
 
+pub run_named-requires-clause-owed : goal.run_named-requires-clause-owed
+run_named-requires-clause-owed g c = owe_nothing _ c.args.run.now.natives.items c.args.boxes.items c.requires.new
+
+pub run_bytes-requires-in-None-clause-owed : goal.run_bytes-requires-in-None-clause-owed
+run_bytes-requires-in-None-clause-owed g c = owe_nothing _ c.args.run.now.natives.items c.args.boxes.items c.requires.new
+
 pub run_explained-requires-clause-owed : goal.run_explained-requires-clause-owed
 run_explained-requires-clause-owed g c = owe_nothing _ c.args.run.now.natives.items c.args.boxes.items c.requires.new
 
