@@ -14,8 +14,9 @@ use Rattle.aom_meaning.specs.Texts.{all_words}
 use Rattle.aom_meaning.specs.Denotes.{Denotes, names_of}
 use Rattle.aom_meaning.specs.Meaning.{ClassMeans, InstructionMeans, MethodMeans, labels_of}
 use Rattle.aom_meaning.specs.Source.{InstructionText, MethodText, class_words, classes_of, declared_statements, header_words, instruction_words, methods_of}
-use Rattle.aom_explain.specs.Declarations.{begins, begins_with, class_names, image_statement, instruction_statement, method_names, name_in, names_in, part}
+use Rattle.aom_explain.specs.Declarations.{begins, begins_with, class_names, class_statement, image_statement, instruction_statement, method_names, method_statement, name_in, names_in, part}
 use Rattle.aom_explain.specs.Laws.{DeclaresClass, DeclaresMethod, words_of}
+use Rattle.aom_explain.specs.Lines.{class_lines, line_of, method_lines}
 use Rattle.aom_explain.proofs.Cuts.{filter_map, filter_no, part_map, part_no}
 use Rattle.aom_explain.proofs.Sources.{class_passes, code_found, method_passes, method_words, pair_at}
 
@@ -89,3 +90,10 @@ found_classes text i d = names_by k.Class text i d class_words (classes_of d.sou
 
 pub found_methods : (text : List ℕ) (i : Image) (d : Denotes text i) → method_names text ≡ (names_of d.source).methods
 found_methods text i d = names_by k.Method text i d method_words (methods_of d.source.declarations) refl (method_passes d.source.declarations)
+
+-- the lines found are those of the statements
+pub class_lines_found : (text : List ℕ) (number : ℕ) → slice_get (class_lines text) number ≡ line_of (class_statement text number)
+class_lines_found text number = slice_get-map (λ (s : Statement). s.line) (filter (begins k.Class) (statements text)) number
+
+pub method_lines_found : (text : List ℕ) (number : ℕ) → slice_get (method_lines text) number ≡ line_of (method_statement text number)
+method_lines_found text number = slice_get-map (λ (s : Statement). s.line) (filter (begins k.Method) (statements text)) number

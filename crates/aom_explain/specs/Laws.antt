@@ -10,6 +10,7 @@ use Rattle.aom_meaning.specs.Denotes.{Denotes, names_of}
 use Rattle.aom_meaning.specs.Meaning.{ClassMeans, InstructionMeans, MethodMeans, Names, labels_of}
 use Rattle.aom_meaning.specs.Source.{ClassText, InstructionText, MethodText, class_words, header_words, heading_words, instruction_words}
 use Rattle.aom_explain.specs.Declarations.{class_names, class_statement, image_statement, instruction_statement, method_names, method_statement}
+use Rattle.aom_explain.specs.Lines.{class_lines, line_of, method_lines}
 
 -- the words of a statement, where one was found
 abbrev pub words_of : Option Statement → Option (List (List ℕ))
@@ -38,6 +39,9 @@ pub record StatementsDeclare : Type 0 where
   -- the names that are found are those that the text's own names stand for, each at its number
   pub class_names : (text : List ℕ) (i : Image) (d : Denotes text i) → class_names text ≡ (names_of d.source).classes
   pub method_names : (text : List ℕ) (i : Image) (d : Denotes text i) → method_names text ≡ (names_of d.source).methods
+  -- and the lines of them those of the statements that are found, in any text
+  pub class_lines : (text : List ℕ) (number : ℕ) → slice_get (class_lines text) number ≡ line_of (class_statement text number)
+  pub method_lines : (text : List ℕ) (number : ℕ) → slice_get (method_lines text) number ≡ line_of (method_statement text number)
   pub image : (text : List ℕ) (i : Image) (d : Denotes text i) → words_of (image_statement text) ≡ Some (header_words d.source.header)
   pub classes : (text : List ℕ) (i : Image) (d : Denotes text i) (number : ℕ) (c : ClassDecl) → slice_get i.classes number ≡ Some c → DeclaresClass text (names_of d.source) i.header.version i.header.natives number c
   pub methods : (text : List ℕ) (i : Image) (d : Denotes text i) (number : ℕ) (m : Method) → slice_get i.methods number ≡ Some m → DeclaresMethod text (names_of d.source) i.header.version i.classes number m

@@ -1,9 +1,14 @@
--- A fault in one line with its place, as compilers write it.
-use Rattle.std.specs.Prelude.{ℕ, List, [], ◌∷◌, ◌++◌, Option, Some, None, codes, decimal, option_map}
+-- Lines of a text, and a fault in one line with its place, as compilers write it.
+use Rattle.std.specs.Prelude.{ℕ, List, [], ◌∷◌, ◌++◌, Option, Some, None, codes, map, option_map}
+use Rattle.std.specs.List.{filter}
 use Rattle.aom_budget.specs.declared.fault.BudgetFault.{BudgetFault}
 use Rattle.aom_budget.specs.declared.fault.BudgetFault.TheVariants.{OverBudget, TooDeep, CleanupTooDeep, OutOfMemory}
-use Rattle.aom_explain.specs.Declarations.{instruction_statement, method_statement}
+use Rattle.aom_explain.specs.Declarations.{begins, image_statement, instruction_statement, method_statement}
 use Rattle.aom_explain.specs.Sources.{budget_statement}
+use Rattle.aom_figures.specs.Places.{place_text}
+use Rattle.aom_syntax.specs.declared.keyword.Keyword.{Keyword}
+use Rattle.aom_syntax.specs.declared.keyword.Keyword.TheVariants as k
+use Rattle.aom_text.specs.Text.{statements}
 use Rattle.aom_text.specs.declared.text.Statement.{Statement}
 
 -- the number of a statement's line, where there is one
@@ -26,10 +31,21 @@ budget_line text TooDeep = None
 budget_line text CleanupTooDeep = None
 budget_line text OutOfMemory = None
 
--- the number of a line behind the name of its file
-abbrev pub place_text : Option ℕ → List ℕ
-place_text None = []
-place_text (Some line) = codes ":" ++ decimal line
+-- the line that declares the image
+abbrev pub image_line : List ℕ → Option ℕ
+image_line text = line_of (image_statement text)
+
+-- the lines of those of the statements that begin with that keyword, in their order
+abbrev pub lines_in : Keyword → List Statement → List ℕ
+lines_in key ss = map (λ s. s.line) (filter (begins key) ss)
+
+-- the lines that declare a text's classes, that of class 0 first
+abbrev pub class_lines : List ℕ → List ℕ
+class_lines text = lines_in k.Class (statements text)
+
+-- the lines that declare a text's methods, that of method 0 first
+abbrev pub method_lines : List ℕ → List ℕ
+method_lines text = lines_in k.Method (statements text)
 
 -- the file, the line, how a fault is told and what it is called
 abbrev pub lined_text : (file : List ℕ) → Option ℕ → (told name : List ℕ) → List ℕ

@@ -9,7 +9,7 @@
 //!
 //! The way back from an image to its text: `image_statement`, `class_statement`, `method_statement` and `instruction_statement` answer
 //! the statements, with their lines, that `specs/Declarations.antt` finds in a text by counting those that begin with `class` or `method`;
-//! `class_names` and `method_names` the names in them.
+//! `class_names` and `method_names` the names in them, `class_lines` and `method_lines` their lines.
 //! That they are the right ones where the text denotes the image is the law `statements_declare`. Nothing here knows which command was
 //! refused, nor where a text goes.
 #![tactic(auto)]
@@ -37,7 +37,7 @@ pub use compared::put_compared;
 pub use entry::{Entry, put_entry};
 pub use known::put_known;
 pub use laws::statements_declare;
-pub use lined::{budget_line, put_lined, refusal_line};
+pub use lined::{budget_line, class_lines, image_line, method_lines, put_lined, refusal_line};
 pub use naming::{class_names, method_names};
 pub use place::{put_line, put_method};
 pub use source::{put_declared, put_source};

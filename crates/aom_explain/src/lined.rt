@@ -1,15 +1,16 @@
-//! A fault in one line with its place, as compilers write it.
-ghost use Rattle.std.specs.Prelude.{◌≡◌, ◌≤◌, ◌++◌, ◌^◌, OnOk, length};
-ghost use Rattle.aom_explain.specs.Lines.{budget_line, line_of, lined_text, place_text, refusal_line};
+//! Lines of a text, and a fault in one line with its place, as compilers write it.
+ghost use Rattle.std.specs.Prelude.{◌≡◌, ◌≤◌, ◌++◌, ◌^◌, IfOk, OnOk, length};
+ghost use Rattle.aom_explain.specs.Lines.{budget_line, class_lines, image_line, line_of, lined_text, lines_in, method_lines, refusal_line};
 
 use crate::Entry;
-use crate::finding::{instruction_statement, method_statement};
+use crate::finding::{begins_with, image_statement, instruction_statement, method_statement};
 use crate::source::budget_statement;
 use aom_budget::BudgetFault;
 use aom_figures::Writer;
 use aom_image::MethodNumber;
-use aom_text::Statement;
-use std::alloc::AllocError;
+use aom_syntax::Keyword;
+use aom_text::{Statement, Text};
+use std::alloc::{AllocError, Global};
 
 fn line_of(found: Option<Statement>) -> Option<u32>
     ensures { result ≡ line_of found.entry }
@@ -43,13 +44,41 @@ pub fn budget_line(text: &[u8], fault: &BudgetFault) -> Option<u32>
     }
 }
 
-fn put_place(out: &mut Writer, line: Option<u32>) -> Result<(), AllocError>
-    ensures { OnOk result (out.new ≡ out.old ++ place_text line) }
+/// The line of a text that declares the image.
+pub fn image_line(text: &[u8]) -> Option<u32>
+    requires { length text.now ≤ 2 ^ 20 }
+    ensures { result ≡ image_line text.now }
 {
-    match line {
-        Some(line) => out.count(b":", u64::from(line)),
-        None => Ok(()),
+    line_of(image_statement(text))
+}
+
+/// The lines of the statements that begin with a keyword.
+fn lines_in(alloc: Global, key: Keyword, mut text: Text) -> Result<Vec<u32>, AllocError>
+    ensures { IfOk result (λ lines. lines.items ≡ lines_in key text.entry) }
+{
+    let mut lines = Vec::new(alloc);
+    while let Some(statement) = text.next() {
+        if begins_with(key, &statement.words) {
+            lines.push(statement.line)?;
+        }
     }
+    Ok(lines)
+}
+
+/// The lines that declare a text's classes, that of class 0 first.
+pub fn class_lines(alloc: Global, text: &[u8]) -> Result<Vec<u32>, AllocError>
+    requires { length text.now ≤ 2 ^ 20 }
+    ensures { IfOk result (λ lines. lines.items ≡ class_lines text.now) }
+{
+    lines_in(alloc, Keyword::Class, Text::of(text))
+}
+
+/// The lines that declare a text's methods, that of method 0 first.
+pub fn method_lines(alloc: Global, text: &[u8]) -> Result<Vec<u32>, AllocError>
+    requires { length text.now ≤ 2 ^ 20 }
+    ensures { IfOk result (λ lines. lines.items ≡ method_lines text.now) }
+{
+    lines_in(alloc, Keyword::Method, Text::of(text))
 }
 
 /// Writes a fault in one line: the name of the file, the number of the line where there is one, how the fault is told, and what
@@ -64,7 +93,7 @@ pub fn put_lined(
     ensures { OnOk result (out.new ≡ out.old ++ lined_text file.now line told.now entry.now.name) }
 {
     out.words(file)?;
-    put_place(out, line)?;
+    out.place(line)?;
     out.words(b": ")?;
     out.words(told)?;
     out.words(b": ")?;

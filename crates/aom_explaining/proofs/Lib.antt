@@ -1,3 +1,4 @@
 mod Behind
 mod Knowing
+mod Placing
 mod Saying

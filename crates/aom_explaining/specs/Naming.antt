@@ -1,7 +1,9 @@
--- What a command promises that tells by the names of a text.
-use Rattle.std.specs.Prelude.{ℕ, ◌≡◌, Bool, true, false, List, codes}
+-- What a command promises that tells by the names of a text, or by its lines too.
+use Rattle.std.specs.Prelude.{ℕ, ◌≡◌, Bool, true, false, List, None, Some, codes}
 use Rattle.aom_explain.specs.Declarations.{class_names, method_names}
+use Rattle.aom_explain.specs.Lines.{class_lines, image_line, method_lines}
 use Rattle.aom_figures.specs.Names.{Names}
+use Rattle.aom_figures.specs.Places.{Places}
 use Rattle.aom_main.specs.Headline.{Says, Sent, Tells}
 use Rattle.aom_main.specs.declared.status.ExitStatus.{ExitStatus}
 use Rattle.aom_main.specs.declared.status.ExitStatus.TheVariants.{CallRefused, Fault as Faulty}
@@ -22,7 +24,15 @@ line_by names text = elim names [ true ↦ by_names text | false ↦ line_text ]
 
 -- the names of a text's classes and methods
 abbrev pub text_names : (text : List ℕ) → Names
-text_names text = record { classes = class_names text; methods = method_names text }
+text_names text = record { classes = class_names text; methods = method_names text; places = None }
+
+-- where a text in a file of that name declares its image, its classes and its methods
+abbrev pub text_places : (file text : List ℕ) → Places
+text_places file text = record { file = file; image = image_line text; classes = class_lines text; methods = method_lines text }
+
+-- the names of them, with those places
+abbrev pub placed_names : (file text : List ℕ) → Names
+placed_names file text = record { classes = class_names text; methods = method_names text; places = Some (text_places file text) }
 
 -- how it is told why a text is refused beside an image, where nothing is explained
 abbrev pub SaysText : TextFault → ExitStatus → Sent → Type 0

@@ -2,7 +2,7 @@
 ghost use Rattle.std.specs.Prelude.{◌≤◌, [], length};
 ghost use Rattle.aom_natives.specs.Owed.{OweNothing};
 ghost use Rattle.aom_main.specs.Headline.{RunAnswers, RunAnswersBy};
-ghost use Rattle.aom_explaining.specs.Naming.{line_by, text_names};
+ghost use Rattle.aom_explaining.specs.Naming.{line_by, placed_names, text_names};
 ghost use Rattle.aom_main.specs.Prices.{Checks, ChecksBy};
 ghost use Rattle.aom_main.specs.Translations.{Translates};
 ghost use Rattle.aom_main.specs.declared.commands.Translation.TheVariants.{Asm};
@@ -12,7 +12,7 @@ ghost use Rattle.aom_explaining.specs.Explaining.{Beside, Explaining, TellsText}
 
 use crate::beside::ImageText;
 use crate::lining::{answer_lined, line_text};
-use crate::naming::{try_check_by_names, try_run_told};
+use crate::naming::{try_check_by_lines, try_check_by_names, try_run_told};
 use crate::telling::answer_explained;
 use crate::telling_by_text::{answer_by_text, refuse_text};
 use aom_main::{ExitStatus, Translation, try_check, try_run, try_translate};
@@ -85,7 +85,7 @@ pub fn check_by_text<W: Sink, E: Sink>(
     }
 }
 
-/// Tells whether an image is accepted, with its figures where they are asked, and in one line of its text's file why it is not.
+/// Tells whether an image is accepted, with its figures where they are asked, each in one line of its text's file, and so why it is not.
 pub fn check_lined<W: Sink, E: Sink>(
     alloc: Global,
     image: &[u8],
@@ -95,12 +95,12 @@ pub fn check_lined<W: Sink, E: Sink>(
     out: &mut W,
     errors: &mut E,
 ) -> ExitStatus
-    ensures { Beside (λ status. Lining (ChecksBy (text_names text.now) prices image.now (record { before = W.out out.old; now = W.out out.new; failed = W.failed out.new })) (fault_lined file.now text.now) (record { before = E.out errors.old; now = E.out errors.new; failed = E.failed errors.new }) status) (LinesText file.now text.now) text.now image.now (record { before = W.out out.old; now = W.out out.new; failed = W.failed out.new }) (record { before = E.out errors.old; now = E.out errors.new; failed = E.failed errors.new }) result }
+    ensures { Beside (λ status. Lining (ChecksBy (placed_names file.now text.now) prices image.now (record { before = W.out out.old; now = W.out out.new; failed = W.failed out.new })) (fault_lined file.now text.now) (record { before = E.out errors.old; now = E.out errors.new; failed = E.failed errors.new }) status) (LinesText file.now text.now) text.now image.now (record { before = W.out out.old; now = W.out out.new; failed = W.failed out.new }) (record { before = E.out errors.old; now = E.out errors.new; failed = E.failed errors.new }) result }
 {
     match ImageText::beside(alloc, text, image) {
         Err(fault) => line_text(alloc, &fault, file, errors),
         Ok(text) => {
-            let found = try_check_by_names(alloc, image, &text, prices, out);
+            let found = try_check_by_lines(alloc, image, &text, file, prices, out);
             answer_lined(alloc, found, file, &text, errors)
         }
     }

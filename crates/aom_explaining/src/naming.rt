@@ -1,4 +1,4 @@
-//! Runs, figures and graphs that are told by the names of their text.
+//! Runs, figures and graphs that are told by the names of their text, and figures by its lines too.
 ghost use Rattle.std.specs.Prelude.{◌≤◌, length};
 ghost use Rattle.aom_natives.specs.Owed.{OweNothing};
 ghost use Rattle.aom_main.specs.Headline.{RunAnswersBy};
@@ -6,11 +6,11 @@ ghost use Rattle.aom_main.specs.Untold.{Untold};
 ghost use Rattle.aom_explaining.specs.Explaining.{Beside};
 ghost use Rattle.aom_main.specs.Prices.{ChecksBy, PricesAnswersBy};
 ghost use Rattle.aom_main.specs.Translations.{DrawsBy};
-ghost use Rattle.aom_explaining.specs.Naming.{SaysText, by_names, line_by, text_names};
+ghost use Rattle.aom_explaining.specs.Naming.{SaysText, by_names, line_by, placed_names, text_names};
 
 use crate::beside::{ImageText, TextFault};
-use aom_explain::{class_names, method_names};
-use aom_figures::Names;
+use aom_explain::{class_lines, class_names, image_line, method_lines, method_names};
+use aom_figures::{Names, Places};
 use aom_main::{
     ExitStatus, Fault, answer, tell, try_check_named, try_draw, try_run, try_run_named,
 };
@@ -112,6 +112,27 @@ pub fn try_check_by_names<W: Sink>(
     let classes = class_names(alloc, text.bytes())?;
     let methods = method_names(alloc, text.bytes())?;
     try_check_named(alloc, image, &Names::new(&classes, &methods), prices, out)
+}
+
+/// Checks an image, tells its figures by the names and the lines of its text in a file of that name where they are asked, and leaves
+/// its fault to be told.
+pub fn try_check_by_lines<W: Sink>(
+    alloc: Global,
+    image: &[u8],
+    text: &ImageText,
+    file: &[u8],
+    prices: bool,
+    out: &mut W,
+) -> Result<ExitStatus, Fault>
+    ensures { Untold (ChecksBy (placed_names file.now text.now) prices image.now (record { before = W.out out.old; now = W.out out.new; failed = W.failed out.new })) result }
+{
+    let classes = class_names(alloc, text.bytes())?;
+    let methods = method_names(alloc, text.bytes())?;
+    let class_lines = class_lines(alloc, text.bytes())?;
+    let method_lines = method_lines(alloc, text.bytes())?;
+    let places = Places::new(file, image_line(text.bytes()), &class_lines, &method_lines);
+    let names = Names::placed(&classes, &methods, places);
+    try_check_named(alloc, image, &names, prices, out)
 }
 
 /// Draws an image with the names of its text, and leaves its fault to be told.

@@ -1,4 +1,5 @@
 pub mod Each
+pub mod Places
 pub mod Names
 pub mod Edges
 pub mod Over

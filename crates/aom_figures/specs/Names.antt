@@ -1,15 +1,17 @@
--- How classes and methods are told: by their names where there are some, and else by their numbers.
+-- How classes and methods are told: by their names where there are some, and else by their numbers; and with their places in a text where those are known.
 use Rattle.std.specs.Prelude.{ℕ, List, [], Option, Some, None, slice_get}
 use Rattle.aom_figures.specs.Each.{numbered}
+use Rattle.aom_figures.specs.Places.{Places}
 
--- names by number, that of number 0 first
+-- names by number, that of number 0 first, and their places in a text
 pub record Names : Type 0 where
   pub classes : List (List ℕ)
   pub methods : List (List ℕ)
+  pub places : Option Places
 
 -- no names
 abbrev pub unnamed : Names
-unnamed = record { classes = []; methods = [] }
+unnamed = record { classes = []; methods = []; places = None }
 
 -- a name, or other words where there is none
 abbrev pub name_or : List ℕ → Option (List ℕ) → List ℕ

@@ -1,4 +1,4 @@
--- The text of an image's figures, which tells classes and methods by their names where there are some.
+-- The text of an image's figures, which tells classes and methods by their names where there are some, and each line's place in a text where that is known.
 use Rattle.std.specs.Prelude.{ℕ, zero, suc, max, List, [], ◌∷◌, ◌++◌, Option, Some, None, codes, length}
 use Rattle.std.specs.Fmt.{decimal}
 use Rattle.aom_image.specs.Image.{Image}
@@ -8,6 +8,7 @@ use Rattle.aom_budget.specs.Figures.{Figures, payer_by}
 use Rattle.aom_budget.specs.declared.fault.Payer.{Payer}
 use Rattle.aom_budget.specs.declared.fault.Payer.TheVariants.{Main, Class}
 use Rattle.aom_figures.specs.Names.{Names, label}
+use Rattle.aom_figures.specs.Places.{Places, file_lead, lead, method_lead, payer_line}
 
 -- what is written for each number below that one, in their order
 abbrev pub by_number : (ℕ → List ℕ) → ℕ → List ℕ
@@ -21,9 +22,15 @@ abbrev pub payer_word : Names → Payer → List ℕ
 payer_word names Main = codes "main"
 payer_word names (Class k) = codes "class " ++ label names.classes [] k
 
--- what a dispatch costs, and what is declared of it
+-- what a dispatch costs, and what is declared of it: with the line that declares it, or without
+abbrev pub dispatch_at : Option Places → Names → Payer → ℕ → ℕ → List ℕ
+dispatch_at None names payer price declared = payer_word names payer ++ codes " price " ++ decimal price ++ codes " declared " ++ decimal declared ++ 10 ∷ []
+dispatch_at (Some places) names payer price declared =
+    lead places (payer_line places payer) ++ codes "price " ++ decimal price ++ codes " of " ++ payer_word names payer ++ codes "'s "
+    ++ decimal declared ++ 10 ∷ []
+
 abbrev pub dispatch_line : Names → Payer → ℕ → ℕ → List ℕ
-dispatch_line names payer price declared = payer_word names payer ++ codes " price " ++ decimal price ++ codes " declared " ++ decimal declared ++ 10 ∷ []
+dispatch_line names payer price declared = dispatch_at names.places names payer price declared
 
 -- nothing, where nothing is declared
 abbrev pub declared_text : Names → Payer → ℕ → Option ℕ → List ℕ
@@ -43,17 +50,19 @@ abbrev pub most_below : List ℕ → ℕ → ℕ
 most_below table zero = 0
 most_below table (suc n) = max (most_below table n) (at 0 table n)
 
-abbrev pub frames_line : ℕ → List ℕ
-frames_line most = codes "frames " ++ decimal most ++ codes " of 256" ++ 10 ∷ []
+abbrev pub frames_line : Names → ℕ → List ℕ
+frames_line names most = file_lead names.places ++ codes "frames " ++ decimal most ++ codes " of 256" ++ 10 ∷ []
 
-abbrev pub entries_line : ℕ → List ℕ
-entries_line most = codes "entries " ++ decimal most ++ codes " of 1024" ++ 10 ∷ []
+abbrev pub entries_line : Names → ℕ → List ℕ
+entries_line names most = file_lead names.places ++ codes "entries " ++ decimal most ++ codes " of 1024" ++ 10 ∷ []
 
-abbrev pub limits_text : Image → Figures → List ℕ
-limits_text p f = frames_line (most_below f.depths (length p.methods)) ++ entries_line (most_below f.heights (length p.methods))
+abbrev pub limits_text : Names → Image → Figures → List ℕ
+limits_text names p f = frames_line names (most_below f.depths (length p.methods)) ++ entries_line names (most_below f.heights (length p.methods))
 
 abbrev pub method_line : Names → Figures → ℕ → List ℕ
-method_line names f m = codes "method " ++ label names.methods [] m ++ codes " price " ++ decimal (at 0 f.prices m) ++ codes " frames " ++ decimal (at 0 f.depths m) ++ codes " entries " ++ decimal (at 0 f.heights m) ++ 10 ∷ []
+method_line names f m =
+    method_lead names.places m ++ codes "method " ++ label names.methods [] m ++ codes " price " ++ decimal (at 0 f.prices m) ++ codes " frames " ++ decimal (at 0 f.depths m)
+    ++ codes " entries " ++ decimal (at 0 f.heights m) ++ 10 ∷ []
 
 abbrev pub methods_text : Names → Image → Figures → List ℕ
 methods_text names p f = by_number (method_line names f) (length p.methods)
@@ -62,4 +71,4 @@ methods_text names p f = by_number (method_line names f) (length p.methods)
 
 -- main's dispatch, the classes' dispatches, what all methods keep within, and each method
 abbrev pub figures_text : Names → Image → Figures → List ℕ
-figures_text names p f = payer_lines names p f.prices Main ++ classes_text names p f.prices ++ limits_text p f ++ methods_text names p f
+figures_text names p f = payer_lines names p f.prices Main ++ classes_text names p f.prices ++ limits_text names p f ++ methods_text names p f

@@ -2,7 +2,8 @@
 //! Graphviz's language of its classes and what they own, its methods, what leads from one to another, and the way to the greatest
 //! price.
 //!
-//! `figures_text` answers just the text of `specs/Text.antt`, and `dot_text` that of `specs/Dot.antt`. What the figures are is said in
+//! `figures_text` answers just the text of `specs/Text.antt`, and `dot_text` that of `specs/Dot.antt`. With `Places` the text tells
+//! the lines of a text that declare what the figures are of. What the figures are is said in
 //! `aom_budget`; here is only how they are written and drawn. Nothing here knows whether an image is accepted: in a graph what is over
 //! its budget or over a limit is red. `Writer` is the text in which they are written; what else is written of an image takes it from
 //! here.
@@ -15,6 +16,7 @@ mod method;
 mod most;
 mod names;
 mod over;
+mod places;
 mod text;
 mod way;
 mod writer;
@@ -22,5 +24,6 @@ mod writer;
 pub use graph::dot_text;
 pub use most::method_number;
 pub use names::Names;
+pub use places::Places;
 pub use text::figures_text;
 pub use writer::Writer;

@@ -1,17 +1,18 @@
 //! The names of classes and methods, or their numbers.
-ghost use Rattle.std.specs.Prelude.{◌≡◌, ◌++◌, OnOk, map};
+ghost use Rattle.std.specs.Prelude.{◌≡◌, ◌++◌, None, OnOk, Some, map, option_map};
 ghost use Rattle.aom_figures.specs.Names.{label, unnamed};
 
-use crate::Writer;
+use crate::{Places, Writer};
 use aom_image::{ClassNumber, MethodNumber};
 use std::alloc::AllocError;
 use std::marker::Model;
 
-/// The names of classes and of methods, that of number 0 first.
+/// The names of classes and of methods, that of number 0 first, and where a text declares them.
 #[derive(Drop)]
 pub struct Names<'a> {
     classes: &'a [&'a [u8]],
     methods: &'a [&'a [u8]],
+    places: Option<Places<'a>>,
 }
 
 impl<'a> Model for Names<'a> {
@@ -20,7 +21,7 @@ impl<'a> Model for Names<'a> {
 
     ghost Value = { NamesRecord };
 
-    ghost view = { λ n. record { classes = map (λ w. w.now) n.classes.now; methods = map (λ w. w.now) n.methods.now } };
+    ghost view = { λ n. record { classes = map (λ w. w.now) n.classes.now; methods = map (λ w. w.now) n.methods.now; places = n.places } };
 }
 
 /// Writes the name at a number or, where there is none, words and the number.
@@ -35,9 +36,24 @@ fn put_label(out: &mut Writer, names: &[&[u8]], words: &[u8], number: u16) -> Re
 
 impl<'a> Names<'a> {
     pub fn new(classes: &'a [&'a [u8]], methods: &'a [&'a [u8]]) -> Names<'a>
-        ensures { result ≡ record { classes = map (λ w. w.now) classes.entry.now; methods = map (λ w. w.now) methods.entry.now } }
+        ensures { result ≡ record { classes = map (λ w. w.now) classes.entry.now; methods = map (λ w. w.now) methods.entry.now; places = None } }
     {
-        Names { classes, methods }
+        Names {
+            classes,
+            methods,
+            places: None,
+        }
+    }
+
+    /// Names whose places in a text are told too.
+    pub fn placed(classes: &'a [&'a [u8]], methods: &'a [&'a [u8]], places: Places<'a>) -> Names<'a>
+        ensures { result ≡ record { classes = map (λ w. w.now) classes.entry.now; methods = map (λ w. w.now) methods.entry.now; places = Some places.entry } }
+    {
+        Names {
+            classes,
+            methods,
+            places: Some(places),
+        }
     }
 
     /// No names: all is told by numbers.
@@ -47,7 +63,15 @@ impl<'a> Names<'a> {
         Names {
             classes: &[],
             methods: &[],
+            places: None,
         }
+    }
+
+    /// Where a text declares them, if that is told.
+    pub(crate) fn places(&self) -> Option<&Places<'a>>
+        ensures { option_map (λ p. p.now) result ≡ self.now.places }
+    {
+        self.places.as_ref()
     }
 
     /// Writes the name of a class or, where it has none, words and its number.

@@ -1,14 +1,14 @@
 //! The text of an image's figures.
-ghost use Rattle.std.specs.Prelude.{◌≡◌, ◌<◌, ◌++◌, length, IfOk, OnOk};
+ghost use Rattle.std.specs.Prelude.{◌≡◌, ◌<◌, ◌++◌, length, IfOk, None, OnOk, Some};
 ghost use Rattle.aom_budget.specs.Faults.{payer_text};
 ghost use Rattle.aom_budget.specs.declared.fault.Payer.TheVariants as payers;
-ghost use Rattle.aom_figures.specs.Text.{classes_text, declared_text, dispatch_line, entries_line, figures_text, frames_line, limits_text, method_line, methods_text, payer_lines, payer_word};
+ghost use Rattle.aom_figures.specs.Text.{classes_text, declared_text, dispatch_at, dispatch_line, entries_line, figures_text, frames_line, limits_text, method_line, methods_text, payer_lines, payer_word};
 ghost use Rattle.aom_budget.specs.Figures.{kind_by};
 ghost use Rattle.aom_budget.specs.Budgets.{budget_of};
 
-use crate::Names;
 use crate::most::{method_number, most_of};
 use crate::writer::Writer;
+use crate::{Names, Places};
 use aom_budget::{Figures, Payer, budget_of};
 use aom_image::{ClassDecl, ClassNumber, MethodNumber};
 use aom_linked::Linked;
@@ -46,6 +46,7 @@ impl Writer {
         }
     }
 
+    /// What a dispatch costs, with the line that declares what it may cost, where that is told.
     fn dispatch(
         &mut self,
         names: &Names,
@@ -54,6 +55,39 @@ impl Writer {
         declared: u32,
     ) -> Result<(), AllocError>
         ensures { OnOk result (self.new ≡ self.old ++ dispatch_line names.now payer price declared) }
+    {
+        match names.places() {
+            Some(places) => self.dispatch_placed(places, names, payer, price, declared),
+            None => self.dispatch_alone(names, payer, price, declared),
+        }
+    }
+
+    fn dispatch_placed(
+        &mut self,
+        places: &Places,
+        names: &Names,
+        payer: Payer,
+        price: u64,
+        declared: u32,
+    ) -> Result<(), AllocError>
+        ensures { OnOk result (self.new ≡ self.old ++ dispatch_at (Some places.now) names.now payer price declared) }
+    {
+        self.lead(places, places.payer_line(&payer))?;
+        self.count(b"price ", price)?;
+        self.words(b" of ")?;
+        self.payer_word(names, payer)?;
+        self.count(b"'s ", u64::from(declared))?;
+        self.words(b"\n")
+    }
+
+    fn dispatch_alone(
+        &mut self,
+        names: &Names,
+        payer: Payer,
+        price: u64,
+        declared: u32,
+    ) -> Result<(), AllocError>
+        ensures { OnOk result (self.new ≡ self.old ++ dispatch_at None names.now payer price declared) }
     {
         self.payer_word(names, payer)?;
         self.count(b" price ", price)?;
@@ -103,12 +137,19 @@ impl Writer {
     }
 
     /// What all methods keep within, if they do.
-    fn limits(&mut self, linked: &Linked, figures: &Figures) -> Result<(), AllocError>
-        ensures { OnOk result (self.new ≡ self.old ++ limits_text linked.now figures.now) }
+    fn limits(
+        &mut self,
+        names: &Names,
+        linked: &Linked,
+        figures: &Figures,
+    ) -> Result<(), AllocError>
+        ensures { OnOk result (self.new ≡ self.old ++ limits_text names.now linked.now figures.now) }
     {
         let most = most_of(linked, figures);
+        self.file_lead(names)?;
         self.count(b"frames ", u64::from(most.frames))?;
         self.words(b" of 256\n")?;
+        self.file_lead(names)?;
         self.count(b"entries ", u64::from(most.entries))?;
         self.words(b" of 1024\n")
     }
@@ -121,6 +162,7 @@ impl Writer {
     ) -> Result<(), AllocError>
         ensures { OnOk result (self.new ≡ self.old ++ method_line names.now figures.now method) }
     {
+        self.method_lead(names, method)?;
         self.words(b"method ")?;
         names.put_method(self, b"", method)?;
         self.count(b" price ", figures.price(method))?;
@@ -158,7 +200,7 @@ pub fn figures_text(
     let declared = linked.image().header().budget;
     writer.dispatch(names, Payer::Main, figures.main_price(linked), declared)?;
     writer.classes(names, linked, figures)?;
-    writer.limits(linked, figures)?;
+    writer.limits(names, linked, figures)?;
     writer.methods(names, linked, figures)?;
     Ok(writer.into_text())
 }

@@ -1,6 +1,6 @@
 -- The statements of a text are those of its program, and what is found of them is found there.
-use Rattle.aom_explain.proofs.Found.{found_class, found_classes, found_image, found_method, found_methods}
+use Rattle.aom_explain.proofs.Found.{class_lines_found, found_class, found_classes, found_image, found_method, found_methods, method_lines_found}
 use Rattle.aom_explain.proofs.laws.statements_declare.Goals as goal
 
 pub returns : goal.returns
-returns c = record { class_names = found_classes; method_names = found_methods; image = found_image; classes = found_class; methods = found_method }
+returns c = record { class_names = found_classes; method_names = found_methods; class_lines = class_lines_found; method_lines = method_lines_found; image = found_image; classes = found_class; methods = found_method }

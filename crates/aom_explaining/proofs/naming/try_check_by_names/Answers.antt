@@ -1,5 +1,5 @@
 -- The names that are lent are those of the text.
-use Rattle.std.proofs.Common.{◌≡◌, ◌∙◌, ℕ, List, ap, ap₂, map, subst}
+use Rattle.std.proofs.Common.{◌≡◌, ◌∙◌, ℕ, List, None, ap, ap₂, map, subst}
 use Rattle.std.specs.Borrow.{Bor}
 use Rattle.aom_explain.specs.Declarations.{class_names, method_names}
 use Rattle.aom_figures.specs.Names.{Names}
@@ -10,7 +10,7 @@ use Rattle.aom_explaining.specs.Naming.{text_names}
 use Rattle.aom_explaining.proofs.naming.try_check_by_names.Goals as goal
 
 made : List (List ℕ) → List (List ℕ) → Names
-made classes methods = record { classes = classes; methods = methods }
+made classes methods = record { classes = classes; methods = methods; places = None }
 
 pub returns : goal.returns
 unfolding made
