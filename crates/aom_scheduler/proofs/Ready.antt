@@ -1,6 +1,6 @@
 -- Those that are ready, in order: what a mark, an insertion and a removal do to their list, and where a search among them ends.
-use Rattle.std.proofs.Common.{◌≡◌, ◌≢◌, ◌<◌, ◌≤◌, ◌+◌, ◌-◌, ◌==◌, ℕ, Bool, true, false, nat_lt, List, [], ◌∷◌, ◌++◌, Some, length, take, drop, get_or, refl, sym, ap, ◌∙◌, subst, inl, inr, arith}
-use Rattle.std.specs.Prelude.{All, remove, insert, map, filter, not, slice_get}
+use Rattle.std.proofs.Common.{◌≡◌, ◌≢◌, ◌<◌, ◌≤◌, ◌+◌, ◌-◌, ◌==◌, ℕ, Bool, true, false, nat_lt, List, [], ◌∷◌, ◌++◌, Option, Some, length, take, drop, get_or, refl, sym, ap, ◌∙◌, subst, inl, inr, arith}
+use Rattle.std.specs.Prelude.{All, IfSome, remove, insert, map, filter, not, slice_get}
 use Rattle.std.proofs.lemmas.Bool.{cases_Bool, cases_lt, cases_eq, eq-eqb, ne_eqb, cond-true, cond-false, lt-ltb, le-ltb, false≢true}
 use Rattle.std.proofs.lemmas.List.{get_or-take, get_or-drop, get_or_append_left, get_or-append_right, map-append, take-append-drop, length-map, length-append, length-take-le, length-drop}
 use Rattle.std.proofs.lemmas.List.Elements.{All-filter, All-map, filter-append}
@@ -244,6 +244,20 @@ stands-among r ids place at sound is inside within point =
     point-ready r.entries place at sound.distinct inside (subst (λ ns. at ≤ length ns) is within)
     (subst (λ ns. IsPartitionPoint (λ n. is_in_front r.entries place n ≡ true) (λ n. is_in_front r.entries place n ≡ false) ns at) is
     (point (subst (IsPartitionedBy (is_in_front r.entries place)) (sym is) (searchable-ready r.entries place sound.distinct inside))))
+
+-- where the first that is ready does not stand before the place, none that is ready does
+none-front : (r : Roster) (place : ℕ) (ids others : List ℕ) → All (λ n. is_in_front r.entries place n ≡ true) ids → ids ++ others ≡ ready_ids r.entries
+    → (first : Option ℕ) → first ≡ first_ready r.entries → IfSome first (λ n. is_in_front r.entries place n ≡ false) → length ids ≡ 0
+none-front r place [] others front split first is not = refl
+none-front r place (id ∷ ids) others front split first is not =
+    let same : first ≡ Some id = is ∙ first-is r.entries ∙ ap (λ ns. slice_get ns 0) (sym split) in
+    absurd (false≢true (sym (subst (λ o. IfSome o (λ n. is_in_front r.entries place n ≡ false)) same not) ∙ front 0 0 (omega arith)))
+
+pub none-among : (r : Roster) (place : ℕ) → IsSound r → place ≤ length r.entries → (first : Option ℕ) → first ≡ first_ready r.entries
+    → IfSome first (λ n. is_in_front r.entries place n ≡ false) → 0 ≡ length (ready_ids (take place r.entries))
+none-among r place sound within first is not =
+    sym (none-front r place (ready_ids (take place r.entries)) (ready_ids (drop place r.entries)) (front-all r.entries place sound.distinct within)
+    (halves r.entries place) first is not)
 
 -- an object that stands there is ready
 pub ready-at : (r : Roster) (id place at : ℕ) (d : Entry) → IsSound r → IsAt id_of id r.entries place → at ≡ length (ready_ids (take place r.entries))

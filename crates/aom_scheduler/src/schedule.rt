@@ -1,5 +1,6 @@
 //! The objects that are enlisted, and the pick among those that are ready.
-ghost use Rattle.std.specs.Prelude.{◌≡◌, ◌<◌, ◌≤◌, [], true, false, IfOk, IfErr, IfSome, IsNone, length, is_some, slice_get, take, All};
+ghost use Rattle.std.specs.Prelude.{◌≡◌, ◌<◌, ◌≤◌, [], true, false, IfOk, IfErr, IfSome, IsNone, insert, length, is_some, remove, slice_get, take, All};
+ghost use Rattle.std.specs.VecDeque.{deque_capacity};
 ghost use Rattle.aom_scheduler.specs.Order.{placed, without};
 ghost use Rattle.aom_scheduler.specs.Ready.{IsReadyAt, IsWaitingAt};
 ghost use Rattle.aom_scheduler.specs.Roster.{before, place, IsEnlisted, waiting, marked, first_ready, ready_ids, IsPick, IsSound};
@@ -103,7 +104,7 @@ impl Schedule {
     {
         if let Err(at) = self.ready_place(id) {
             self.order.mark(id, true);
-            self.ready.insert(at, id).unwrap();
+            put_at(&mut self.ready, at, id);
         }
     }
 
@@ -114,7 +115,7 @@ impl Schedule {
     {
         if let Ok(at) = self.ready_place(id) {
             self.order.mark(id, false);
-            self.ready.remove(at);
+            take_at(&mut self.ready, at);
         }
     }
 
@@ -128,12 +129,18 @@ impl Schedule {
         self.ready.front().copied()
     }
 
-    /// How many of those that are ready stand before that place.
+    /// How many of those that are ready stand before that place. The first of them is asked alone, since mostly it does not.
     fn ready_before(&self, place: usize) -> usize
         requires { place ≤ length self.now.entries }
         ensures { result ≡ length (ready_ids (take place self.now.entries)) }
     {
         self.order.in_order();
+        let Some(first) = self.next_ready() else {
+            return 0;
+        };
+        if !self.order.is_before(first, place) {
+            return 0;
+        }
         self.ready
             .partition_point(|other| self.order.is_before(*other, place))
     }
@@ -152,5 +159,32 @@ impl Schedule {
         } else {
             Err(at)
         }
+    }
+}
+
+/// Puts an object among those that are ready. Mostly it becomes the first.
+fn put_at(ready: &mut VecDeque<CellId>, at: usize, id: CellId)
+    requires within { at ≤ length ready.old.items }
+    requires room { length ready.old.items < deque_capacity ready.old }
+    ensures items { ready.new.items ≡ insert ready.old.items at id }
+    ensures capacity { deque_capacity ready.old ≤ deque_capacity ready.new }
+{
+    if at == 0 {
+        ready.push_front(id).unwrap();
+    } else {
+        ready.insert(at, id).unwrap();
+    }
+}
+
+/// Takes away the one that stands there. Mostly it is the first.
+fn take_at(ready: &mut VecDeque<CellId>, at: usize)
+    requires { at < length ready.old.items }
+    ensures items { ready.new.items ≡ remove ready.old.items at }
+    ensures capacity { deque_capacity ready.new ≡ deque_capacity ready.old }
+{
+    if at == 0 {
+        ready.pop_front();
+    } else {
+        ready.remove(at);
     }
 }
