@@ -34,6 +34,7 @@ pub mod EntryActs
 pub mod DealActs
 pub mod Topping
 pub mod Resulting
+pub mod Silent
 pub mod UnwindActs
 mod Vanishing
 pub mod MessageActs

@@ -1,6 +1,7 @@
 -- A method that a result comes to, or that loses one, still runs where it did.
 use Rattle.std.proofs.Common.{ℕ, ◌+◌, ◌<◌, ◌≡◌, ◌^◌, ◌∷◌, List, refl}
 use Rattle.aom_frames.specs.Tasks.{Runs, on_top, place_here, with_register}
+use Rattle.aom_frames.specs.declared.frame.Frame.{Frame}
 use Rattle.aom_frames.specs.declared.task.Task.{Task}
 use Rattle.aom_frames.specs.declared.task.Task.TheVariants.{Run}
 use Rattle.aom_image.specs.declared.method.Gives.{Gives}
@@ -8,6 +9,18 @@ use Rattle.aom_image.specs.declared.method.Gives.TheVariants as gives
 use Rattle.aom_parts.specs.declared.parts.Parts.{Parts}
 use Rattle.aom_acts.specs.Acts.{resulted}
 use Rattle.aom_acts.specs.Cleanup.{lost}
+
+-- a method runs whatever becomes of its frame
+pub on_top_runs : (f : Frame → Frame) (ts : List Task) → Runs ts → Runs (on_top f ts)
+on_top_runs f (Run g ∷ ts) runs = tt
+on_top_runs f _ runs = absurd runs
+
+pub resulted_runs : (g : Gives) (to n : ℕ) (m : Parts) → Runs m.stack.tasks → Runs (resulted g to n m).stack.tasks
+resulted_runs gives.Nothing to n m runs = runs
+resulted_runs gives.Word to n m runs = on_top_runs (with_register to n) m.stack.tasks runs
+resulted_runs (gives.Own t) to n m runs = on_top_runs (with_register to n) m.stack.tasks runs
+resulted_runs (gives.Maybe t) to n m runs = on_top_runs (with_register to n) m.stack.tasks runs
+resulted_runs (gives.Left x) to n m runs = runs
 
 -- it runs there, and may go on
 pub record GoesOn (ts : List Task) : Type 0 where

@@ -8,7 +8,7 @@ ghost use Rattle.aom_acts.specs.Requests.{EndsCancel, IsCancelled, IsOver};
 ghost use Rattle.aom_parts.specs.Fields.{this, ThisLives};
 ghost use Rattle.aom_frames.specs.declared.task.Task.TheVariants.{Dispatched};
 ghost use Rattle.aom_frames.specs.Tasks.{Runs, begun, below_first, fresh, method_here, place_here, with_view};
-ghost use Rattle.std.specs.Prelude.{ℕ, suc, List, ◌<◌, ◌≤◌, ◌+◌, ◌^◌, ◌∷◌, ◌≡◌, ◌≢◌, IfSome, IsSome, Some, length};
+ghost use Rattle.std.specs.Prelude.{ℕ, suc, List, ◌<◌, ◌≤◌, ◌+◌, ◌^◌, ◌∷◌, ◌≡◌, ◌≢◌, IfSome, IsSome, Some, length, true};
 ghost use Rattle.aom_image.specs.Image.{Image};
 ghost use Rattle.aom_image.specs.Views.{gives_of, instr_at, method_at, method_class};
 ghost use Rattle.aom_instructions.specs.declared.instr.Instr.TheVariants.{Call, Return, Stop, Trap};
@@ -266,27 +266,39 @@ fn end_method(parts: &mut Parts, linked: &Linked) -> Gives
 /// A method returns: to the one that called it, through a trap to it or to the dispatch, to the going of its cell, to an unwinding, or to
 /// the dispatch that has asked it.
 #[inline(always)]
-pub fn give_back(parts: &mut Parts, from: Register, linked: &Linked)
+pub fn give_back(parts: &mut Parts, from: Register, linked: &Linked) -> bool
     requires { IsNext linked.now (Return from) parts.old }
-    ensures { (refused : List ℕ) → DoesIn linked.now refused (Return from) parts.old parts.new }
+    ensures does { (refused : List ℕ) → DoesIn linked.now refused (Return from) parts.old parts.new }
+    ensures runs { result ≡ true → Runs parts.new.stack.tasks }
 {
     let number = parts.register(from);
     let method = parts.stack.method();
     let gives = end_method(parts, linked);
     match parts.stack.top() {
-        Some(TaskKind::Run) => receive(parts, gives, number, linked),
+        Some(TaskKind::Run) => {
+            receive(parts, gives, number, linked);
+            true
+        }
         Some(TaskKind::Trapped) => {
             parts.drop_task();
             parts.entries.unmark();
             if parts.is_running() {
                 receive_trapped(parts, gives, number, linked);
+                true
             } else {
                 serving::serve(parts, number);
+                false
             }
         }
-        Some(TaskKind::Destroy(cell)) => going::go_up(parts, method, cell, linked),
-        Some(TaskKind::Unwind(_)) => {}
-        Some(TaskKind::Dispatched(dispatch)) => hear(parts, dispatch, gives, number),
+        Some(TaskKind::Destroy(cell)) => {
+            going::go_up(parts, method, cell, linked);
+            false
+        }
+        Some(TaskKind::Unwind(_)) => false,
+        Some(TaskKind::Dispatched(dispatch)) => {
+            hear(parts, dispatch, gives, number);
+            false
+        }
         Some(TaskKind::Closing) => unreachable!(),
         None => unreachable!(),
     }

@@ -1,5 +1,6 @@
 //! Instructions on the cleanup stack.
-ghost use Rattle.std.specs.Prelude.{◌≡◌, ◌<◌, ◌+◌, ℕ, List, length};
+ghost use Rattle.std.specs.Prelude.{◌≡◌, ◌<◌, ◌+◌, ℕ, List, length, true};
+ghost use Rattle.aom_frames.specs.Tasks.{Runs};
 ghost use Rattle.aom_cleanup.specs.Items.{IsAboveMark};
 ghost use Rattle.aom_image.specs.Image.{Image};
 ghost use Rattle.aom_instructions.specs.declared.instr.Instr.TheVariants.{Push, PushOperation, Pop, PopOperation, PopDelete, NewOrLeave};
@@ -19,9 +20,10 @@ use aom_parts::Parts;
 
 /// An object goes from a register to the cleanup stack. Where the request is refused, the method leaves then.
 #[inline(always)]
-pub fn push(parts: &mut Parts, from: Register, turn: &Turn)
+pub fn push(parts: &mut Parts, from: Register, turn: &Turn) -> bool
     requires { (p : Image) × IsNext p (Push from) parts.old }
-    ensures { Does turn.now.refused (Push from) parts.old parts.new }
+    ensures does { Does turn.now.refused (Push from) parts.old parts.new }
+    ensures runs { result ≡ true → Runs parts.new.stack.tasks }
 {
     let refused = parts.request(turn);
     let object = parts.take_register(from);
@@ -29,7 +31,9 @@ pub fn push(parts: &mut Parts, from: Register, turn: &Turn)
     parts.next();
     if refused {
         leaving::leave(parts, NO_MEMORY);
+        return false;
     }
+    true
 }
 
 /// A method to be called on a register's word goes to the cleanup stack, in the same way.
@@ -107,14 +111,16 @@ fn operate(parts: &mut Parts, method: MethodNumber, word: u32)
 
 /// A new object comes to a register. Where the request is refused, the method leaves.
 #[inline(always)]
-pub fn create_or_leave(parts: &mut Parts, to: Register, class: ClassNumber, turn: &Turn)
+pub fn create_or_leave(parts: &mut Parts, to: Register, class: ClassNumber, turn: &Turn) -> bool
     requires { (p : Image) × IsNext p (NewOrLeave to class) parts.old }
-    ensures { Does turn.now.refused (NewOrLeave to class) parts.old parts.new }
+    ensures does { Does turn.now.refused (NewOrLeave to class) parts.old parts.new }
+    ensures runs { result ≡ true → Runs parts.new.stack.tasks }
 {
     if parts.request_cell(turn) {
         leaving::leave(parts, NO_MEMORY);
-        return;
+        return false;
     }
     let number = parts.new_cell(class, false);
     objects::bring(parts, to, number);
+    true
 }

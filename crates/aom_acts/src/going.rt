@@ -4,7 +4,7 @@ ghost use Rattle.aom_image.specs.Views.{method_at};
 ghost use Rattle.aom_cells.specs.Heap.{Lives, class_at};
 ghost use Rattle.aom_instructions.specs.declared.instr.Instr.TheVariants.{Delete};
 ghost use Rattle.aom_clients.specs.Clients.{queue_at};
-ghost use Rattle.aom_frames.specs.Tasks.{place_here, below_first};
+ghost use Rattle.aom_frames.specs.Tasks.{Runs, place_here, below_first};
 ghost use Rattle.aom_frames.specs.Views.{view_in};
 ghost use Rattle.aom_sound.specs.Destruction.{next_destructor};
 ghost use Rattle.aom_acts.specs.Acts.{DoesIn, GoesAway};
@@ -109,16 +109,18 @@ pub fn begin(parts: &mut Parts, number: u32, linked: &Linked)
 }
 
 #[inline(always)]
-pub fn delete(parts: &mut Parts, from: Register, linked: &Linked)
+pub fn delete(parts: &mut Parts, from: Register, linked: &Linked) -> bool
     requires { IsNext linked.now (Delete from) parts.old }
-    ensures { (refused : List ℕ) → DoesIn linked.now refused (Delete from) parts.old parts.new }
+    ensures does { (refused : List ℕ) → DoesIn linked.now refused (Delete from) parts.old parts.new }
+    ensures runs { result ≡ true → Runs parts.new.stack.tasks }
 {
     let number = parts.take_register(from);
     if number == NULL {
         parts.next();
-    } else {
-        begin(parts, number, linked);
+        return true;
     }
+    begin(parts, number, linked);
+    false
 }
 
 /// The root is at hand to go, and nothing else is.

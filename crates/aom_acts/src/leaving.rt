@@ -49,16 +49,18 @@ pub fn leave_with(parts: &mut Parts, from: Register)
 }
 
 /// It leaves so where the word is negative, and goes on otherwise.
-pub fn leave_if(parts: &mut Parts, from: Register)
+pub fn leave_if(parts: &mut Parts, from: Register) -> bool
     requires { (p : Image) × IsNext p (LeaveIf from) parts.old }
-    ensures { (refused : List ℕ) → Does refused (LeaveIf from) parts.old parts.new }
+    ensures does { (refused : List ℕ) → Does refused (LeaveIf from) parts.old parts.new }
+    ensures runs { result ≡ true → Runs parts.new.stack.tasks }
 {
     let code = parts.word(from);
     if code < 0 {
         leave(parts, code);
-    } else {
-        parts.next();
+        return false;
     }
+    parts.next();
+    true
 }
 
 /// One move of the leave that is at hand with that code: the last entry is dealt with, or the code arrives.

@@ -4,6 +4,7 @@ pub mod Announcing
 pub mod Lasting
 pub mod Ranking
 pub mod Progressing
+pub mod Counting
 pub mod Turning
 pub mod Timers
 pub mod Served
@@ -15,6 +16,7 @@ pub mod Booting
 pub mod StepLines
 pub mod Settled
 pub mod Working
+pub mod RunsAfter
 pub mod Unwanted
 pub mod Wanting
 pub mod Many

@@ -3,6 +3,7 @@ pub mod Steps
 pub mod Agreement
 pub mod Turns
 pub mod WordMoves
+pub mod Ongoing
 pub mod Wanted
 pub mod Serving
 pub mod Servers

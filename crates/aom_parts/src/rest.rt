@@ -94,9 +94,10 @@ impl Rest {
 
     /// Counts so many steps.
     pub fn count_steps(&mut self, count: u32)
+        requires { self.old.steps + count < 2 ^ 64 }
         ensures { self.new ≡ record self.old { steps = raised_by count self.old.steps } }
     {
-        self.steps = self.steps.saturating_add(u64::from(count));
+        self.steps += u64::from(count);
     }
 
     /// A dispatch begins, which has taken no step. The natives are polled anew after it.
