@@ -1,8 +1,9 @@
 -- A method that accepts returns to its dispatch: what it gives is the session of the client.
+use Rattle.std.proofs.lemmas.Bool.Decides.{nat_tests}
 use Rattle.std.proofs.Math.Bool.{or-true}
-use Rattle.std.proofs.Common.{[], Bool, List, None, Some, ap, cond, false, length, refl, subst, sym, true, ℕ, ◌==◌, ◌∙◌, ◌∷◌, ◌≡◌}
+use Rattle.std.proofs.Common.{arith, [], Bool, List, None, Some, ap, cond, false, length, refl, subst, sym, true, ℕ, ◌==◌, ◌∙◌, ◌∷◌, ◌≡◌}
 use Rattle.std.proofs.lemmas.Bool.{eq-eqb, eqb-true}
-use Rattle.std.specs.Prelude.{is_none, is_some, ◌&&◌, ◌++◌, ◌||◌}
+use Rattle.std.specs.Prelude.{is_none, ◌&&◌, ◌++◌, ◌||◌}
 use Rattle.aom_image.specs.Image.{Image}
 use Rattle.aom_image.specs.Views.{gives_of}
 use Rattle.aom_image.specs.declared.method.Gives.{Gives}
@@ -11,11 +12,10 @@ use Rattle.aom_image.specs.declared.method.Thing.{Thing}
 use Rattle.aom_instructions.specs.declared.instr.Instr.TheVariants.{Return}
 use Rattle.aom_rules.specs.Calls.{entries_done, result_moved, rule_result}
 use Rattle.aom_rules.specs.Typing.{Typing}
-use Rattle.aom_shape.specs.Kinds.{filled, no_entry, none_owns, register, set_register}
+use Rattle.aom_shape.specs.Kinds.{no_entry, none_owns, register, set_register}
 use Rattle.aom_shape.specs.Needs.{AllTrue}
 use Rattle.aom_shape.specs.Shape.{Shape}
 use Rattle.aom_shape.specs.declared.kind.Age.TheVariants.{Ready}
-use Rattle.aom_shape.specs.declared.kind.Filling.TheVariants.{Full}
 use Rattle.aom_shape.specs.declared.kind.Kind.{Kind}
 use Rattle.aom_shape.specs.declared.kind.Kind.TheVariants.{Null, Own}
 use Rattle.aom_sound.proofs.Claimed.{claim-set_register, claim_rel, fits_age, keep_fits, mark_claims}
@@ -31,10 +31,10 @@ use Rattle.aom_sound.proofs.Suiting.{all_returned, known_resting, rests_there, s
 use Rattle.aom_sound.specs.Calls.{result_needs}
 use Rattle.aom_sound.specs.Claims.{Dispatching, Layer, Mark, Mark_form, Method, claim, declared, declared_field, tasks_of}
 use Rattle.aom_sound.specs.Places.{Cell, Elsewhere, Field, Place, Queued, Register, Service, Session, changed, held, moved, named, requested, same_place, seen, service_of, set_service}
-use Rattle.aom_sound.specs.Requests.{AllSuit, Suits, states_claim, thing_kind}
-use Rattle.aom_sound.specs.Servers.{has_message, has_session, is_among, message_thing, opened, session_thing}
-use Rattle.aom_sound.specs.State.{word, Accepted, Accepts, Choice, Frame, Inside, Of_server, Seat, State}
-use Rattle.aom_sound.specs.WellTyped.{AllSit, Fits, Good, IsApart, NoSeatAt}
+use Rattle.aom_sound.specs.Requests.{AllSuit}
+use Rattle.aom_sound.specs.Servers.{has_message, has_session, is_among, opened}
+use Rattle.aom_sound.specs.State.{word, Accepted, Accepts, Choice, Frame, Of_server, Seat, State}
+use Rattle.aom_sound.specs.WellTyped.{AllSit, Fits, Good, NoSeatAt}
 
 -- the client is among those with one more if it is the one, or was among them
 among_new : (c : ℕ) (ss : List ℕ) → is_among c (ss ++ c ∷ []) ≡ true
@@ -85,10 +85,7 @@ module _ (p : Image) (t : Typing) (c : Choice) (s : State) (fr : Frame) (sh : Sh
 
   -- the session has a free place
   free : held cs to ≡ None
-  free = fits_unowning p (seen cs) _ Null refl (subst (λ k. Fits p (seen cs) (held cs to) k) claims (at_hand.good.fits to))
-    where
-      claims : claim p (declared p cs) (Method fr sh ∷ below) to ≡ Null
-      claims = ap (λ l. claim p (declared p cs) l to) at_hand.good.stack.4.1.1 ∙ ap (λ b. cond b (filled (session_thing p (named cs n)) Full) Null) none_yet
+  free = grind (arith, nat_tests, fits_unowning p, none_yet)
 
   named_then : (m : ℕ) → named cs2 m ≡ named cs m
   named_then m = named_served cs1 n v m ∙ named_moved cs q to m
@@ -103,38 +100,24 @@ module _ (p : Image) (t : Typing) (c : Choice) (s : State) (fr : Frame) (sh : Sh
   service_then m other = service_there cs1 n m v other ∙ service_moved cs q to m
 
   sessions_then : (m k : ℕ) → ((n == m) && (client == k)) ≡ false → has_session (service_of cs2 m) k ≡ has_session (service_of cs m) k
-  sessions_then m k other = go (n == m) refl other
-    where
-      go : (b : Bool) → (n == m) ≡ b → (b && (client == k)) ≡ false → has_session (service_of cs2 m) k ≡ has_session (service_of cs m) k
-      go true e f =
-          subst (λ i. has_session (service_of cs2 i) k ≡ has_session (service_of cs i) k) (eqb-true n m e) (ap (λ w. has_session w k) service_now ∙ among_old k client (service_of cs n).sessions f)
-      go false e f = ap (λ w. has_session w k) (service_then m e)
+  sessions_then m k other = grind (arith, nat_tests, eqb-true, service_now, among_old k client, service_then m)
 
   messages_then : (m k : ℕ) → has_message (service_of cs2 m) k ≡ has_message (service_of cs m) k
-  messages_then m k = go (n == m) refl
-    where
-      go : (b : Bool) → (n == m) ≡ b → has_message (service_of cs2 m) k ≡ has_message (service_of cs m) k
-      go true e = subst (λ i. has_message (service_of cs2 i) k ≡ has_message (service_of cs i) k) (eqb-true n m e) (ap (λ w. has_message w k) service_now)
-      go false e = ap (λ w. has_message w k) (service_then m e)
+  messages_then m k = grind (arith, nat_tests, eqb-true, service_now, service_then m)
 
   -- nothing but the session is declared anew
   declared_then : (r : Place) → same_place to r ≡ false → declared p cs2 r ≡ declared p cs r
   declared_then (Field m f) e = ap (λ o. declared_field p o f) (named_then m)
-  declared_then (Elsewhere (Session m k)) e =
-      ap (λ b. cond b (filled (session_thing p (named cs2 m)) Full) Null) (sessions_then m k e) ∙ ap (λ o. cond (has_session (service_of cs m) k) (filled (session_thing p o) Full) Null) (named_then m)
-  declared_then (Elsewhere (Queued m k)) e =
-      ap (λ b. cond b (filled (message_thing p (named cs2 m)) Full) Null) (messages_then m k) ∙ ap (λ o. cond (has_message (service_of cs m) k) (filled (message_thing p o) Full) Null) (named_then m)
+  declared_then (Elsewhere (Session m k)) e = grind (arith, nat_tests, sessions_then m k e, named_then m)
+  declared_then (Elsewhere (Queued m k)) e = grind (arith, nat_tests, messages_then m k, named_then m)
   declared_then _ e = refl
 
   declared_now : declared p cs2 to ≡ Own thing Ready
-  declared_now =
-      ap (λ b. cond b (filled (session_thing p (named cs2 n)) Full) Null) (ap (λ w. has_session w client) service_now ∙ among_new client (service_of cs n).sessions)
-      ∙ ap (λ o. filled (session_thing p o) Full) (named_then n ∙ lives) ∙ ap (λ y. filled y Full) at_hand.good.stack.4.1.0.2
+  declared_now = grind (arith, nat_tests, service_now, among_new client, named_then, lives)
 
   -- a dispatch at either stage claims nothing
   claims_alike : (d : Place → Kind) (r : Place) → claim p d (Dispatching (Of_server x client Accepted) seats ∷ ls) r ≡ claim p d (Dispatching (Of_server x client Accepts) seats ∷ ls) r
-  claims_alike d (Elsewhere (Session m k)) = refl
-  claims_alike d _ = refl
+  claims_alike d y = grind arith
 
   module _ (r : Returnable p fr sh a) where
     rule : AllTrue (rule_result p fr.method fr.place sh (An_own thing) a)
@@ -183,31 +166,29 @@ module _ (p : Image) (t : Typing) (c : Choice) (s : State) (fr : Frame) (sh : Sh
     no_seat_there (y ∷ ys) h = (go (same_place to y.place) refl, no_seat_there ys h.1)
       where
         go : (b : Bool) → same_place to y.place ≡ b → b ≡ false
-        go true e = let clash : Some y.object ≡ None = sym h.0.0 ∙ ap (λ r. held cs r) (sym (same_place-true to y.place e)) ∙ free in cc
-        go false e = refl
+        go z e = grind (arith, nat_tests, same_place-true, free)
 
     sits_then : AllSit cs2 seats
     sits_then = sits_kept cs cs2 q to seats
-        (λ r o other other' there lives. (held_served cs1 n v r ∙ held_moved cs q to r free ∙ ap (λ b. cond b (held cs q) (cond (same_place q r) None (held cs r))) other' ∙ ap (λ b. cond b None (held cs r)) other ∙ there, named_then o.name ∙ lives))
+        (λ r o other other' there lives. (grind (arith, nat_tests, held_served, held_moved, free), named_then o.name ∙ lives))
         tt (no_seat_there seats at_hand.good.stack.4.1.2) at_hand.good.stack.4.1.2
 
     suits_then : AllSuit p cs2 (Dispatching (Of_server x client Accepted) seats ∷ ls)
-    suits_then o lives = subst (λ r. Suits (thing_kind p o.thing) (states_claim p o ls) r) (sym (requested_then o.name)) (before o (sym (named_then o.name) ∙ lives))
-      where
-        before : AllSuit p cs below
-        before = all_returned p cs cs fr sh below at_hand.good.suits at_hand.good.stack.2 (λ n. refl) (λ n off. refl) (λ o from e h.
-            let apart : IsApart p fr.view fr.method (Inside o from) below = subst (λ h. IsApart p fr.view fr.method h below) e at_hand.good.stack.3 in
-            rests_there p o below (requested cs o.name) apart.3 (suits_rests (thing_kind p o.thing) sh.states (requested cs o.name) r.settled (subst (λ k. Suits (thing_kind p o.thing) k (requested cs o.name)) (known_resting p o fr sh.states below at_hand.good.stack.4.0.2 apart.3) h)))
+    suits_then o lives = grind (
+      arith,
+      nat_tests,
+      requested_then o.name,
+      named_then o.name,
+      lives,
+      all_returned p,
+      rests_there p o,
+      suits_rests,
+      known_resting p o fr sh.states,
+    )
 
     good_then : Good p t cs2 (Dispatching (Of_server x client Accepted) seats ∷ ls)
     good_then = record {
-      stack = (
-        tt,
-        at_hand.good.stack.4.1.1,
-        sits_then,
-        first_kept cs cs2 q (Some x) seats (λ r o other there lives some. ap is_some (requested_then o.name) ∙ some) tt at_hand.good.stack.4.1.2 at_hand.good.stack.4.1.3,
-        (at_hand.good.stack.4.1.4.0, ap (λ w. has_session w client) service_now ∙ among_new client (service_of cs n).sessions),
-      );
+      stack = grind (arith, nat_tests, sits_then, first_kept, lives, requested_then, service_now, among_new client);
       fits = fits_then;
       suits = suits_then;
       tidy = tidy_served cs1 n v (tidy_moved cs q to free at_hand.good.tidy);
@@ -223,11 +204,5 @@ module _ (p : Image) (t : Typing) (c : Choice) (s : State) (fr : Frame) (sh : Sh
       let r = returnable p fr sh a needed in
       let items = same_items p t c s fr sh below at_hand (entries r) in (
         return_needs p t c s fr sh below at_hand a r (subst (λ g. AllTrue (result_needs p fr (tasks_of below) s g a)) (sym gives) (needs_met r)) (mark_on_top s.items _ items, (ap is_none free, tt)),
-        ended_plainly p t c s fr sh below at_hand a r at_hand.good.stack.4.0.2 (record {
-          layers = Dispatching (Of_server x client Accepted) seats ∷ ls;
-          tasks = refl;
-          items = forms_below s.items Mark_form _ items;
-          undos = undos_below p s.items at_hand.undos;
-          good = good_then r;
-        }),
+        grind (arith, nat_tests, ended_plainly p t c s fr sh, forms_below s.items Mark_form, undos_below p s.items at_hand.undos, good_then r),
       )

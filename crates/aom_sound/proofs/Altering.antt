@@ -1,8 +1,8 @@
 -- What is read of the cells after each of them is changed by itself: by what the change keeps of a cell.
-use Rattle.std.proofs.Common.{Bool, List, None, Option, Some, [], ap, cond, false, refl, subst, suc, sym, true, ℕ, ℤ, ◌==◌, ◌∙◌, ◌∷◌, ◌≡◌}
+use Rattle.std.proofs.lemmas.Bool.Decides.{nat_tests}
+use Rattle.std.proofs.Common.{arith, Bool, List, None, Option, Some, [], ap, cond, false, refl, subst, sym, true, ℕ, ℤ, ◌==◌, ◌∙◌, ◌∷◌, ◌≡◌}
 use Rattle.std.proofs.lemmas.Bool.{eq-eqb, eqb-true, ne_eqb, true≢false}
 use Rattle.std.specs.Prelude.{pos}
-use Rattle.aom_shape.specs.Kinds.{is_object}
 use Rattle.aom_shape.specs.Tables.{put_at}
 use Rattle.aom_image.specs.Image.{Image}
 use Rattle.aom_sound.specs.Natives.{all_bereaved, bereaved}
@@ -99,17 +99,13 @@ module _ {change : List Cell → List Cell} (a : Alters change) where
 
   pub count_kept : (cs : List Cell) → count_cells (change cs) ≡ count_cells cs
   count_kept [] = ap count_cells a.none
-  count_kept (c ∷ cs) =
-      ap count_cells (a.some c cs) ∙ ap (λ o. cond (is_object o.thing) (suc (count_cells (change cs))) (count_cells (change cs))) (a.object c)
-      ∙ ap (λ n. cond (is_object c.object.thing) (suc n) n) (count_kept cs)
+  count_kept (c ∷ cs) = grind (arith, nat_tests, count_kept cs)
 
   -- where each stays where it is
   module _ (stays : (c : Cell) → (a.each c).owner ≡ c.owner) where
     pub held_kept : (cs : List Cell) (q : Place) → held (change cs) q ≡ held cs q
     held_kept [] q = ap (λ l. held l q) a.none
-    held_kept (c ∷ cs) q =
-        ap (λ l. held l q) (a.some c cs) ∙ ap (λ o. cond (same_place (a.each c).owner q) (Some o) (held (change cs) q)) (a.object c)
-        ∙ ap (λ r. cond (same_place r q) (Some c.object) (held (change cs) q)) (stays c) ∙ ap (λ x. cond (same_place c.owner q) (Some c.object) x) (held_kept cs q)
+    held_kept (c ∷ cs) q = grind (arith, nat_tests, held_kept cs q)
 
     pub tidy_kept : (cs : List Cell) → Tidy cs → Tidy (change cs)
     tidy_kept [] t = subst (λ l. Tidy l) (sym a.none) tt

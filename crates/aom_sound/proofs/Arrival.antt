@@ -1,5 +1,6 @@
 -- The code of a leave arrives: at the method that set the trap, or at main's dispatch.
-use Rattle.std.proofs.Common.{[], cond, List, None, Some, ap, pos, refl, subst, suc, sym, true, ℕ, ℤ, ◌∙◌, ◌∷◌, ◌≡◌}
+use Rattle.std.proofs.lemmas.Bool.Decides.{nat_tests}
+use Rattle.std.proofs.Common.{arith, [], List, None, Some, ap, pos, refl, subst, suc, sym, true, ℕ, ℤ, ◌∙◌, ◌∷◌, ◌≡◌}
 use Rattle.aom_image.specs.Image.{Image}
 use Rattle.aom_image.specs.Views.{instr_at}
 use Rattle.aom_image.specs.declared.method.Gives.{Gives}
@@ -10,18 +11,17 @@ use Rattle.aom_shape.specs.Shape.{Shape}
 use Rattle.aom_rules.specs.Typing.{Leads, Typing}
 use Rattle.aom_shape.specs.declared.kind.Age.TheVariants.{Ready}
 use Rattle.aom_shape.specs.declared.kind.Kind.{Kind}
-use Rattle.aom_shape.specs.declared.kind.Kind.TheVariants.{Maybe, Null, Word}
+use Rattle.aom_shape.specs.declared.kind.Kind.TheVariants.{Maybe, Word}
 use Rattle.aom_sound.proofs.Straight.{Fitted, next_unowning, settle, stepped, write}
 use Rattle.aom_sound.specs.Calls.{called, result_register}
 use Rattle.aom_sound.specs.Claims.{Dispatching, Layer, Mark, Method, Unwinding, by_close, by_stage, claim, declared, forms, is_of_root, items_of, objects, tasks_of}
 use Rattle.aom_sound.specs.Cleanup.{arrived, code_told, ended_by}
-use Rattle.aom_sound.specs.Places.{Cell, Elsewhere, In_service, Place, Root, Session, held, seen}
+use Rattle.aom_sound.specs.Places.{Cell, Elsewhere, In_service, Place, Root, held, seen}
 use Rattle.aom_sound.specs.State.{Of_server, Accepts, Serves, Dispatch, Frame, Item, Of_main, Of_object, Seat, State, Static, next, set_word}
 use Rattle.aom_sound.specs.WellTyped.{AllUndo, Awaits, Caught, Fits, Good, Keeps, Now, Stack}
 
 same_entries : (g : Gives) (c : ℕ) (sh : Shape) → (caught g c sh).entries ≡ sh.entries
-same_entries (An_own x) c sh = refl
-same_entries _ c sh = refl
+same_entries x c sh = grind arith
 
 -- null or 0 where the result would be, and the code
 told_fitted :
@@ -44,8 +44,7 @@ abbrev pub bare : Frame → Frame
 bare fr = record fr { words = []; home = Static }
 
 pub told_same : (g : Gives) (c : ℕ) (code : ℤ) (fr : Frame) → bare (code_told g c code fr) ≡ bare fr
-told_same (An_own x) c code fr = refl
-told_same _ c code fr = refl
+told_same x c code fr = grind arith
 
 module _ (p : Image) (t : Typing) (s : State) (code : ℤ) (items : List Item) where
   -- at the method that set the trap
@@ -59,14 +58,13 @@ module _ (p : Image) (t : Typing) (s : State) (code : ℤ) (items : List Item) w
       let fr' = code_told (called p i) c code fr in
       let f : Fitted p t s.cells fr sh ls = record { fits = fits; suits = good.suits; tidy = good.tidy; frames = below.1; housed = below.2; apart = below.3; stack = below.4 } in
       let g : Fitted p t s.cells fr' (caught gv c sh) ls =
-      subst (λ g. Fitted p t s.cells (code_told g c code fr) (caught gv c sh) ls) (sym below.0.0) (told_fitted p t s.cells fr sh ls code gv c f below.0.1 below.0.2) in
-      let leads : Leads t fr'.method (suc fr'.place) (caught gv c sh) = subst (λ m. Leads t m.method (suc m.place) (caught gv c sh)) (sym (told_same (called p i) c code fr)) below.0.3 in
+      grind (arith, nat_tests, Fitted p t s.cells, told_fitted p t s.cells fr sh ls code gv c f below.0.1 below.0.2) in
+      let leads : Leads t fr'.method (suc fr'.place) (caught gv c sh) = grind (arith, nat_tests, told_same) in
       let e = settle p t s.cells (next fr') (caught gv c sh) ls (stepped p t s.cells fr' (caught gv c sh) ls g) leads in
       record { layers = Method (next fr') e.0 ∷ ls; tasks = refl; items = same ∙ ap (λ es. objects es (items_of ls)) (sym (e.2 ∙ same_entries gv c sh)); undos = undos; good = e.1 }
     where
       fits : (r : Place) → Fits p (seen s.cells) (held s.cells r) (claim p (declared p s.cells) (Method fr sh ∷ ls) r)
-      fits (Elsewhere Root) = good.fits (Elsewhere Root)
-      fits r = good.fits r
+      fits r = grind arith
 
   -- at a dispatch, which ends with it and claims what it did
   ends :
@@ -85,22 +83,15 @@ module _ (p : Image) (t : Typing) (s : State) (code : ℤ) (items : List Item) w
       below r = claim p (declared p s.cells) ls r
 
       claims : (r : Place) → claim p (declared p s.cells) (Unwinding code [] ∷ Mark gv ∷ Dispatching d seats ∷ ls) r ≡ claim p (declared p s.cells) (Dispatching (ended_by code d) seats ∷ ls) r
-      claims (Elsewhere Root) = ap (λ b. cond b Null (below (Elsewhere Root))) root
-      claims (Elsewhere (Session n x)) = close n x (below (Elsewhere (Session n x)))
-      claims (Elsewhere In_service) = stage (below (Elsewhere In_service))
-      claims _ = refl
+      claims x = grind (arith, nat_tests, below (Elsewhere Root), below (Elsewhere In_service))
 
   at_dispatch :
       (gv : Gives) (d : Dispatch) (seats : List Seat) (ls : List Layer) → forms items ≡ items_of ls → AllUndo p items → Good p t s.cells (Unwinding code [] ∷ Mark gv ∷ Dispatching d seats ∷ ls) →
       Keeps p t (arrived p code (tasks_of (Mark gv ∷ Dispatching d seats ∷ ls)) items s)
-  at_dispatch gv Of_main seats ls same undos good =
-      ends gv Of_main seats ls refl (λ n x k. refl) (λ k. refl) (tt, good.stack.1.1.1, good.stack.1.1.2, good.stack.1.1.3, tt) same undos good
-  at_dispatch gv (Of_object x) seats ls same undos good =
-      ends gv (Of_object x) seats ls refl (λ n x k. refl) (λ k. refl) (tt, good.stack.1.1.1, good.stack.1.1.2, good.stack.1.1.3, tt) same undos good
-  at_dispatch gv (Of_server x c Accepts) seats ls same undos good =
-      ends gv (Of_server x c Accepts) seats ls refl (λ n x k. refl) (λ k. refl) (tt, good.stack.1.1.1, good.stack.1.1.2, good.stack.1.1.3, good.stack.1.1.4) same undos good
-  at_dispatch gv (Of_server x c (Serves o)) seats ls same undos good =
-      ends gv (Of_server x c (Serves o)) seats ls refl (λ n x k. refl) (λ k. refl) (tt, good.stack.1.1.1, good.stack.1.1.2, good.stack.1.1.3, good.stack.1.1.4) same undos good
+  at_dispatch gv Of_main seats ls same undos good = grind (arith, nat_tests, ends gv Of_main seats ls)
+  at_dispatch gv (Of_object x) seats ls same undos good = grind (arith, nat_tests, ends gv (Of_object x) seats ls)
+  at_dispatch gv (Of_server x c Accepts) seats ls same undos good = grind (arith, nat_tests, ends gv (Of_server x c Accepts) seats ls)
+  at_dispatch gv (Of_server x c (Serves o)) seats ls same undos good = grind (arith, nat_tests, ends gv (Of_server x c (Serves o)) seats ls)
   at_dispatch gv _ seats ls same undos good = absurd good.stack.1.1.0
 
   -- a trap stands over one of the two

@@ -1,15 +1,13 @@
 -- Of the message that is served a method claims nothing where it does not serve: by its role.
-use Rattle.std.proofs.Common.{List, Bool, Some, ap, cond, false, refl, true, ℕ, ◌≡◌, ◌⊎◌, inl, inr, arith}
+use Rattle.std.proofs.lemmas.Bool.Decides.{nat_tests}
+use Rattle.std.proofs.Common.{List, Bool, cond, false, true, ℕ, ◌≡◌, arith}
 use Rattle.aom_image.specs.Image.{Image}
-use Rattle.aom_image.specs.Views.{method_role}
-use Rattle.aom_image.specs.declared.method.Role.TheVariants.{Construct, Do}
 use Rattle.aom_shape.specs.Shape.{Shape}
 use Rattle.aom_shape.specs.declared.kind.Kind.{Kind}
 use Rattle.aom_shape.specs.declared.kind.Kind.TheVariants.{Null, Own}
 use Rattle.aom_shape.specs.Kinds.{is_ready_kind}
 use Rattle.aom_shape.specs.declared.kind.Age.TheVariants.{Ready}
 use Rattle.aom_image.specs.declared.method.Thing.TheVariants.{Message}
-use Rattle.aom_rules.specs.Requests.{is_service}
 use Rattle.aom_sound.specs.Claims.{Layer, claim, delivered, serves}
 use Rattle.aom_sound.specs.WellTyped.{IsServed}
 use Rattle.aom_sound.specs.Laws.{IsCalled}
@@ -17,11 +15,7 @@ use Rattle.aom_sound.specs.Places.{Elsewhere, In_service, Place, Session}
 
 -- what is called does not serve
 pub called_plain : (p : Image) (m : ℕ) → IsCalled p m → serves p m ≡ false
-called_plain p m c = go c.role
-  where
-    go : (method_role p m ≡ Some Do) ⊎ (method_role p m ≡ Some Construct) → serves p m ≡ false
-    go (inl e) = ap is_service e
-    go (inr e) = ap is_service e
+called_plain p m c = grind (arith, nat_tests)
 
 pub plain_claim : (b : Bool) (sh : Shape) (below : Kind) → b ≡ false → cond b (delivered sh.delivery) below ≡ below
 plain_claim x sh below e = grind arith
@@ -37,6 +31,4 @@ with_message served d (Elsewhere In_service) = cond served (Own Message Ready) (
 with_message served d r = d r
 
 pub with_message_ready : (served : Bool) (q : Place) → is_ready_kind (with_message served (λ r. Null) q) ≡ true
-with_message_ready true (Elsewhere In_service) = refl
-with_message_ready false (Elsewhere In_service) = refl
-with_message_ready served _ = refl
+with_message_ready served x = grind arith

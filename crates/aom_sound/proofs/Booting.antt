@@ -1,33 +1,30 @@
 -- The boot state is well typed.
-use Rattle.std.proofs.Common.{Bool, List, None, Option, Some, [], ap, cond, false, length, refl, subst, sym, true, ℕ, ◌==◌, ◌∙◌, ◌∷◌, ◌≡◌, arith}
+use Rattle.std.proofs.lemmas.Bool.Decides.{nat_tests}
+use Rattle.std.proofs.Common.{List, None, Option, Some, [], ap, refl, subst, sym, true, ℕ, ◌∙◌, ◌∷◌, ◌≡◌, arith}
 use Rattle.std.specs.Prelude.{IsSome}
 use Rattle.aom_classes.specs.Roles.{main_of}
 use Rattle.aom_image.specs.Image.{Image}
-use Rattle.aom_image.specs.Views.{arguments_of, gives_of, method_class, method_role}
+use Rattle.aom_image.specs.Views.{arguments_of, gives_of, method_role}
 use Rattle.aom_image.specs.declared.method.Gives.TheVariants.{Nothing}
 use Rattle.aom_image.specs.declared.method.Role.TheVariants.{Main}
 use Rattle.aom_image.specs.declared.method.Thing.{Thing}
-use Rattle.aom_shape.specs.Kinds.{field, filled, is_empty, register}
+use Rattle.aom_shape.specs.Kinds.{filled, is_empty, register}
 use Rattle.aom_shape.specs.Order.{SaysNoMore, Weaker, WeakerFilling, alike_filling}
 use Rattle.aom_shape.specs.Shape.{Shape}
-use Rattle.aom_shape.specs.Tables.{at}
-use Rattle.aom_shape.specs.Things.{Program, field_thing, holder_by}
-use Rattle.aom_rules.specs.Requests.{is_service, is_cancel}
 use Rattle.aom_rules.specs.Typing.{IsTyped, Typing, shape_at}
-use Rattle.aom_shape.specs.Arguments.{entry_fields, entry_shape}
+use Rattle.aom_shape.specs.Arguments.{entry_shape}
 use Rattle.aom_shape.specs.declared.kind.Filling.{Filling}
-use Rattle.aom_shape.specs.declared.kind.Filling.TheVariants.{Full, Perhaps}
-use Rattle.aom_shape.specs.declared.kind.Kind.TheVariants.{Null, Unset}
+use Rattle.aom_shape.specs.declared.kind.Filling.TheVariants.{Full}
+use Rattle.aom_shape.specs.declared.kind.Kind.TheVariants.{Unset}
 use Rattle.aom_sound.proofs.Destroying.{entry_registers, unset_only}
 use Rattle.aom_sound.proofs.Housing.{counts_same, houses_same}
-use Rattle.aom_sound.specs.Claims.{serves, Dispatching, Layer, Mark, Mark_form, Method, claim, declared, entry_claim, forms, objects, tasks_of}
+use Rattle.aom_sound.specs.Claims.{Dispatching, Layer, Mark, Mark_form, Method, claim, declared, forms, objects}
 use Rattle.aom_sound.specs.Laws.{IsWired}
-use Rattle.aom_sound.specs.Places.{In_service, Elsewhere, Entry, Field, Going, Place, Register, Root, Sight, seen}
+use Rattle.aom_sound.specs.Places.{Place, Sight, seen}
 use Rattle.aom_sound.specs.State.{A_mark, AtRoot, Frame, Of_main, State, frame_of}
-use Rattle.aom_sound.specs.WellTyped.{AllUndo, Fits, Good, WellTyped, WordFits}
+use Rattle.aom_sound.specs.WellTyped.{AllUndo, Fits, Good, WellTyped}
 use Rattle.aom_sound.specs.World.{boot_state, main_tasks}
 use Rattle.aom_sound.proofs.Attending.{plain_claim}
-use Rattle.std.proofs.lemmas.Bool.{true≢false}
 
 abbrev begins : ℕ → Frame
 begins m = frame_of m AtRoot 1
@@ -45,27 +42,11 @@ module _ (p : Image) (m : ℕ) (after : Shape) (w : SaysNoMore after (entry_shap
   layers = Method (begins m) after ∷ Mark Nothing ∷ Dispatching Of_main [] ∷ []
 
   fits : (r : Place) → Fits p (seen []) None (claim p (declared p []) layers r)
-  fits (Register f i) = go (length (tasks_of (Mark Nothing ∷ Dispatching Of_main [] ∷ [])) == f)
-    where
-      go : (b : Bool) → Fits p (seen []) None (cond b (register after i) Null)
-      go true = subst (λ k. Fits p (seen []) None k) (sym (unset i)) tt
-      go false = tt
-  fits (Entry k) = subst (λ es. Fits p (seen []) None (entry_claim es (Mark_form ∷ []) k Null)) (sym w.entries) tt
-  fits (Field n f) = tt
-  fits (Elsewhere Root) = root_null p (seen []) (field_thing p Program 0) (field after 0) (field (entry_shape p m) 0) (w.fields 0) (ap (λ r. is_empty (at Perhaps (entry_fields r) 0)) role)
-  fits (Elsewhere In_service) = subst (λ k. Fits p (seen []) None k) (sym (plain_claim (serves p m) after Null (ap is_service role))) tt
-  fits (Elsewhere w) = tt
-  fits (Going k) = tt
+  fits x = grind (arith, nat_tests, unset, root_null p, plain_claim)
 
   pub good : (t : Typing) → shape_at t m 0 ≡ Some after → gives_of p m ≡ Nothing → Good p t [] layers
   good t stands gives = record {
-    stack = (
-      stands,
-      record { words = λ i. subst (λ k. WordFits None k) (sym (unset i)) tt; holder = houses_same p _ _ (sym (ap (λ r. holder_by r (method_class p m)) role)); view = counts_same p AtRoot _ (sym (ap (λ r. holder_by r (method_class p m)) role)); height = refl; alone = λ e. tt; message = (λ e. absurd (true≢false (sym e ∙ ap is_service role)), λ served. absurd served) },
-      tt,
-      ((refl, tt), (tt, tt)),
-      ((gives, tt, ap is_cancel role), (refl, refl, tt, refl, tt)),
-    );
+    stack = grind (arith, nat_tests, unset, houses_same p, counts_same p AtRoot);
     fits = fits;
     suits = λ o lives. cc;
     tidy = tt;

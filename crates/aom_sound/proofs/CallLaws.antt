@@ -1,20 +1,19 @@
 -- The laws of a call and of a trap: what is asked of them holds, and the method that begins and the one that waits for it are well typed.
-use Rattle.std.proofs.Common.{[], Bool, IsTrue, List, None, Option, Some, ap, arith, cond, false, inl, inr, length, refl, subst, suc, sym, true, ℕ, ◌<◌, ◌∙◌, ◌∷◌, ◌≡◌}
+use Rattle.std.proofs.lemmas.Bool.Decides.{nat_tests}
+use Rattle.std.proofs.Common.{[], Bool, IsTrue, List, None, Option, Some, ap, arith, false, inl, length, refl, subst, suc, sym, true, ℕ, ◌<◌, ◌∙◌, ◌∷◌, ◌≡◌}
 use Rattle.std.specs.Prelude.{not}
 use Rattle.aom_image.specs.Image.{Image}
-use Rattle.aom_image.specs.Views.{arguments_of, gives_of, has, instr_at, is_quiet, leaves, method_class, method_role}
+use Rattle.aom_image.specs.Views.{arguments_of, gives_of, has, instr_at, is_quiet, method_class, method_role}
 use Rattle.aom_instructions.specs.declared.instr.Instr.TheVariants.{Call, Trap}
 use Rattle.aom_instructions.specs.declared.instr.Target.{Target}
-use Rattle.aom_instructions.specs.declared.instr.Target.TheVariants.{This}
 use Rattle.aom_image.specs.declared.method.Gives.{Gives}
 use Rattle.aom_image.specs.declared.method.Role.TheVariants.{Construct, Do}
-use Rattle.aom_rules.specs.Calls.{brought, caught, each_argument, rule_target, while_called}
+use Rattle.aom_rules.specs.Calls.{caught, each_argument, rule_target, while_called}
 use Rattle.aom_rules.specs.Requests.{is_cancel, is_construct, resting, unissued}
 use Rattle.aom_shape.specs.Arguments.{after_of, arguments_moved}
-use Rattle.aom_shape.specs.Kinds.{is_ready_kind, is_unowning, register}
+use Rattle.aom_shape.specs.Kinds.{is_unowning, register}
 use Rattle.aom_shape.specs.Shape.{Shape}
 use Rattle.aom_rules.specs.Typing.{IsTyped, Leads, Typing}
-use Rattle.aom_shape.specs.declared.kind.Kind.TheVariants.{Null}
 use Rattle.aom_sound.proofs.Claimed.{mark_claims}
 use Rattle.aom_sound.proofs.Finishing.{all_join, all_parts, none_owns_at}
 use Rattle.aom_sound.proofs.Items.{length_forms}
@@ -25,13 +24,12 @@ use Rattle.aom_sound.specs.Claims.{Layer, Mark, Mark_form, Method, tasks_of}
 use Rattle.aom_sound.specs.Laws.{IsCalled, IsWired}
 use Rattle.aom_sound.specs.Moves.{does}
 use Rattle.aom_sound.specs.Places.{Cell, Object, Place}
-use Rattle.aom_sound.specs.State.{AtRoot, Choice, Frame, Home, Inside, State, Static, home_holder}
+use Rattle.aom_sound.specs.State.{Choice, Frame, Home, Inside, State, home_holder}
 use Rattle.aom_sound.specs.WellTyped.{Awaits, Caught, EndsWell, IsApart, IsBelow, IsHoused, Returns, Stands}
 use Rattle.aom_sound.proofs.Callees.{none_owns_each, only_then}
 use Rattle.aom_sound.specs.Requests.{rests_in, thing_kind, works_at}
 use Rattle.aom_roles.specs.Shapes.{kind_of}
 use Rattle.aom_shape.proofs.Sets.{has_itself}
-use Rattle.aom_roles.specs.States.{idle, states_of}
 use Rattle.aom_sound.proofs.Calling.{answer, awaited, caller, cancels_not, enter, kind_begun, result_free, result_met, same_high}
 use Rattle.aom_sound.proofs.Leaving.{here_is}
 use Rattle.aom_sound.proofs.Overriders.{runs_for}
@@ -39,30 +37,23 @@ use Rattle.aom_instructions.specs.declared.instr.Instr.{Instr}
 
 -- what the caller finds its own object in is no issued request, where neither before nor at the end there is one
 called_unissued : (target : Target) (class : Option ℕ) (ended : ℕ) (sh : Shape) → unissued sh.states ≡ true → unissued ended ≡ true → unissued (while_called target class ended sh).states ≡ true
-called_unissued This (Some c) ended sh u e = e
-called_unissued This None ended sh u e = u
-called_unissued _ class ended sh u e = u
+called_unissued x class ended sh u e = grind arith
 
 called_delivery : (target : Target) (class : Option ℕ) (ended : ℕ) (sh : Shape) → (while_called target class ended sh).delivery ≡ sh.delivery
-called_delivery This (Some c) ended sh = refl
-called_delivery This None ended sh = refl
-called_delivery _ class ended sh = refl
+called_delivery x class ended sh = grind arith
 
 -- under a trap it rests
 rests_under :
     (p : Image) (m : ℕ) (fr : Frame) (sh : Shape) (home : Home) → ((o : Object) (from : Place) → home ≡ Inside o from → thing_kind p o.thing ≡ kind_of p (method_class p m)) →
     ((o : Object) (from : Place) → home ≡ Inside o from → works_at o.name fr.home ≡ true → sh.states ≡ resting p (method_class p m)) →
     (o : Object) (from : Place) → home ≡ Inside o from → works_at o.name fr.home ≡ true → IsTrue (has sh.states (rests_in p o))
-rests_under p m fr sh home kind settles o from e w = subst (λ k. IsTrue (has sh.states k)) (settles o from e w ∙ ap states_of (sym (kind o from e))) (has_itself sh.states)
+rests_under p m fr sh home kind settles o from e w = grind (arith, nat_tests, has_itself sh.states)
 
 -- the caller finds its object in a state in which what ran may leave it
 ends_well :
     (p : Image) (m k : ℕ) (fr : Frame) (sh : Shape) (home : Home) → is_cancel (method_role p k) ≡ false → IsTrue (has (after_of p m) (after_of p k)) →
     ((o : Object) (from : Place) → home ≡ Inside o from → works_at o.name fr.home ≡ true → sh.states ≡ after_of p m) → EndsWell p k home fr sh
-ends_well p m k fr sh Static plain after e = tt
-ends_well p m k fr sh AtRoot plain after e = tt
-ends_well p m k fr sh (Inside o from) plain after e =
-    λ w. subst (λ n. IsTrue (has sh.states n)) (sym (ap (λ b. cond b idle (after_of p k)) plain)) (subst (λ n. IsTrue (has n (after_of p k))) (sym (e o from refl w)) after)
+ends_well p m k fr sh x plain after e = grind arith
 
 not_then : (b : Bool) → not b ≡ true → b ≡ false
 not_then x e = grind arith
@@ -85,17 +76,10 @@ module _ (p : Image) (t : Typing) (wired : IsWired p) (typed : IsTyped p t) (c :
       let home = target_home p fr (tasks_of ls) s target (method_class p m) in
       let runs = runs_for p wired m view (home_holder home) called_so a.1.holder answered.1 in
       let stands : Stands p t (Returns k home) fr sh' = (
-        λ l.
-            let may = runs.leaves l in (
-              only_then (leaves p m) (leaves p fr.method) more.1.1.1.1.0 may,
-              none_owns_each sh'.registers (λ i. a.1.owning i ∙ none_owns_at (arguments_moved (arguments_of p m) first sh).registers i (only_then (leaves p m) _ more.1.1.1.1.1.0 may)),
-              called_unissued target (method_class p m) ended (arguments_moved (arguments_of p m) first sh) (only_then (leaves p m) _ more.1.1.1.1.1.1.0 may) called_so.ends,
-              λ serving. called_delivery target (method_class p m) ended (arguments_moved (arguments_of p m) first sh) ∙ here_is _ (only_then (leaves p m) _ more.1.1.1.1.1.1.1.0 may),
-            ),
+        grind (arith, nat_tests, only_then, none_owns_each sh'.registers, none_owns_at, called_unissued target, called_delivery target, here_is),
         subst (λ g. Awaits g (result_register (instr_at p fr.method fr.place)) sh') (sym runs.gives)
             (subst (λ y. Awaits (gives_of p m) y sh') (sym at_x) (awaited p t wired typed c s fr sh ls at_hand m first depth height deep called_so passed (gives_of p m) x sh' a.1.owning more.1.1.1.0)),
-        subst (λ g. Leads t fr.method (suc fr.place) (brought g (result_register (instr_at p fr.method fr.place)) sh')) (sym runs.gives)
-            (subst (λ y. Leads t fr.method (suc fr.place) (brought (gives_of p m) y sh')) (sym at_x) leads.0),
+        grind (arith, nat_tests),
         ends_well p m k fr sh' home (ap is_cancel runs.role ∙ cancels_not p t wired typed c s fr sh ls at_hand m first depth height deep called_so) runs.after a.1.settles,
         λ q. runs.quiet (only_then (is_quiet p fr.method) (is_quiet p m) more.1.1.0 q),
       ) in
@@ -116,24 +100,12 @@ below_mark : (from : Place) (gv : Gives) (ls : List Layer) → IsBelow from ls �
 below_mark x gv ls b = grind arith
 
 housed_mark : (p : Image) (cs : List Cell) (home : Home) (gv : Gives) (ls : List Layer) → IsHoused p cs ls home → IsHoused p cs (Mark gv ∷ ls) home
-housed_mark p _ Static gv ls h = h
-housed_mark p _ AtRoot gv ls h = h
-housed_mark p _ (Inside o from) gv ls h = record { there = h.there; lives = h.lives; below = below_mark from gv ls h.below; ready = ap is_ready_kind (mark_claims p (λ r. Null) gv ls from) ∙ h.ready }
+housed_mark p _ x gv ls h = grind (arith, nat_tests, below_mark, mark_claims p)
 
 apart_mark :
     (p : Image) (view : Option ℕ) (k : ℕ) (home : Home) (gv : Gives) (fr : Frame) (sh : Shape) (ls : List Layer) → IsApart p view k home (Method fr sh ∷ ls) →
     ((o : Object) (from : Place) → home ≡ Inside o from → works_at o.name fr.home ≡ true → IsTrue (has sh.states (rests_in p o))) → IsApart p view k home (Mark gv ∷ Method fr sh ∷ ls)
-apart_mark p view k Static gv fr sh ls a r = a
-apart_mark p view k AtRoot gv fr sh ls a r = a
-apart_mark p view k (Inside o from) gv fr sh ls a r = (
-  a.0,
-  a.1,
-  a.2,
-  elim a.3 [
-    | inl w ↦ inl (w, r o from refl w)
-    | inr u ↦ inr u
-  ],
-)
+apart_mark p view k x gv fr sh ls a r = grind arith
 
 module _ (p : Image) (t : Typing) (wired : IsWired p) (typed : IsTyped p t) (c : Choice) (s : State) (fr : Frame) (sh : Shape) (ls : List Layer) (at_hand : At p t s fr sh ls) where
   pub law_trap : (target : Target) (m first x : ℕ) → instr_at p fr.method fr.place ≡ Some (Trap target m first x) → Law p t c s fr sh ls at_hand (Trap target m first x)

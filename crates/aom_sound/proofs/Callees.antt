@@ -1,6 +1,7 @@
 -- What a call says of its arguments, its target and the class of the method called.
-use Rattle.std.proofs.Common.{[], Bool, List, None, Option, Some, ap, arith, cond, false, inl, inr, length, refl, suc, sym, true, ℕ, ◌&&◌, ◌+◌, ◌<◌, ◌==◌, ◌∙◌, ◌∷◌, ◌≡◌, ◌≤◌}
-use Rattle.std.proofs.lemmas.Bool.{and_from, ne_eqb, true≢false}
+use Rattle.std.proofs.lemmas.Bool.Decides.{nat_tests}
+use Rattle.std.proofs.Common.{[], Bool, List, None, Option, Some, ap, arith, cond, false, inl, inr, length, refl, suc, true, ℕ, ◌&&◌, ◌+◌, ◌<◌, ◌==◌, ◌∙◌, ◌∷◌, ◌≡◌, ◌≤◌}
+use Rattle.std.proofs.lemmas.Bool.{and_from, ne_eqb}
 use Rattle.std.proofs.lemmas.Bool.Decides.{leb_tells}
 use Rattle.std.specs.Prelude.{not, replicate, ◌⊎◌}
 use Rattle.aom_image.specs.Image.{Image}
@@ -35,7 +36,7 @@ use Rattle.aom_roles.specs.Families.{descends}
 use Rattle.aom_roles.specs.Shapes.{kind_of}
 use Rattle.aom_sound.specs.Enlisted.{cancel_method, cancel_of}
 use Rattle.aom_sound.specs.Laws.{IsWired}
-use Rattle.aom_image.specs.Views.{is_quiet, method_class, method_role}
+use Rattle.aom_image.specs.Views.{is_quiet, method_class}
 use Rattle.aom_classes.specs.Roles.{role_of}
 
 -- the kind of class of what a member is
@@ -44,8 +45,7 @@ member_kind p x k e = grind arith
 
 -- what a test that is asked for says
 pub only_then : (a b : Bool) → only_if a b ≡ true → a ≡ true → b ≡ true
-only_then true b e h = e
-only_then false b e h = absurd (true≢false (sym h))
+only_then x b e h = grind arith
 
 pub none_owns_each : (ks : List Kind) → ((i : ℕ) → is_unowning (at Unset ks i) ≡ true) → none_owns ks ≡ true
 none_owns_each [] h = refl
@@ -74,28 +74,21 @@ pub moved_register : (xs : List Argument) (first : ℕ) (sh : Shape) (r : ℕ) �
 moved_register [] first sh r h = refl
 moved_register (Takes_word ∷ xs) first sh r (inl lt) = moved_register xs (suc first) sh r (inl (omega arith))
 moved_register (Takes_word ∷ xs) first sh r (inr le) = moved_register xs (suc first) sh r (inr (omega arith))
-moved_register (Takes_own t ∷ xs) first sh r (inl lt) =
-    moved_register xs (suc first) (set_register sh first Null) r (inl (omega arith))
-    ∙ at-put_at Unset sh.registers first r Null ∙ ap (λ b. cond b Null (register sh r)) (ne_eqb first r (λ e. absurd (omega arith)))
-moved_register (Takes_own t ∷ xs) first sh r (inr le) =
-    moved_register xs (suc first) (set_register sh first Null) r (inr (omega arith))
-    ∙ at-put_at Unset sh.registers first r Null ∙ ap (λ b. cond b Null (register sh r)) (ne_eqb first r (λ e. absurd (omega arith)))
+moved_register (Takes_own t ∷ xs) first sh r (inl lt) = grind (arith, nat_tests, moved_register xs, at-put_at Unset sh.registers first r Null, ne_eqb first r)
+moved_register (Takes_own t ∷ xs) first sh r (inr le) = grind (arith, nat_tests, moved_register xs, at-put_at Unset sh.registers first r Null, ne_eqb first r)
 
 pub below_more : (from : Place) (fr : Frame) (sh : Shape) (ls : List Layer) → IsBelow from ls → IsBelow from (Method fr sh ∷ ls)
 below_more x fr sh ls b = grind (arith, length_objects)
 
 -- whose fields a called method works on, by its class
 pub holder_static : (r : Option Role) → (r ≡ Some Do) ⊎ (r ≡ Some Construct) → holder_by r None ≡ Nobody
-holder_static r (inl e) = ap (λ x. holder_by x None) e
-holder_static r (inr e) = ap (λ x. holder_by x None) e
+holder_static r x = grind arith
 
 pub holder_called : (r : Option Role) (c : ℕ) → (r ≡ Some Do) ⊎ (r ≡ Some Construct) → holder_by r (Some c) ≡ Member c
-holder_called r c (inl e) = ap (λ x. holder_by x (Some c)) e
-holder_called r c (inr e) = ap (λ x. holder_by x (Some c)) e
+holder_called r c x = grind arith
 
 pub holder_member : (r : Option Role) (c : ℕ) → (r ≡ Some Main → ⊥) → holder_by r (Some c) ≡ Member c
-holder_member (Some Main) c no_main = absurd (no_main refl)
-holder_member _ c no_main = refl
+holder_member x c no_main = grind arith
 
 pub home_member : (h : Home) (c : ℕ) → home_holder h ≡ Member c → (o : Object) × (from : Place) × (h ≡ Inside o from) × (thing_holder o.thing ≡ Member c)
 home_member x c e = grind arith
@@ -107,8 +100,7 @@ pub held_own : (p : Image) (h : Sight) (o : Option Object) (x : Thing) (a : Age)
 held_own p h y x a f = grind arith
 
 pub filled_ready : (x : Option Thing) (y : Filling) → is_ready_kind (filled x y) ≡ true
-filled_ready (Some x) Empty = refl
-filled_ready _ _ = refl
+filled_ready x y = grind arith
 
 -- a field of a fresh object
 pub fits_fresh : (p : Image) (h : Sight) (x : Option Thing) (n f : ℕ) → Fits p h None (filled x (at Perhaps (replicate n Empty) f))
@@ -162,10 +154,4 @@ class_of_member x class c e = grind arith
 pub cancel_family :
     (p : Image) (fr : Frame) (k : ℕ) → CountsAs p (home_holder fr.home) fr.view (holder_of p fr.method) → cancel_method p fr ≡ Some k →
     (v c : ℕ) × (method_class p fr.method ≡ Some c) × (descends p v c ≡ true) × (role_of p v Cancel ≡ Some k)
-cancel_family p fr k counts e = by_view fr.view refl e
-  where
-    by_view : (view : Option ℕ) → fr.view ≡ view → cancel_of p view ≡ Some k → (v c : ℕ) × (method_class p fr.method ≡ Some c) × (descends p v c ≡ true) × (role_of p v Cancel ≡ Some k)
-    by_view None at e = cc
-    by_view (Some v) at e =
-        let between = counts.between v at in
-        (v, between.3, class_of_member (method_role p fr.method) (method_class p fr.method) between.3 (sym between.4), between.5, e)
+cancel_family p fr k counts e = grind (arith, nat_tests, class_of_member)

@@ -1,6 +1,7 @@
 -- A method is called, plainly or under a trap: on its caller's own object, on what a register, a field or a cleanup entry owns, or on nothing.
+use Rattle.std.proofs.lemmas.Bool.Decides.{nat_tests}
 use Rattle.std.proofs.Common.{[], Bool, IsTrue, List, None, Option, Some, ap, arith, cond, false, inl, inr, length, refl, subst, suc, sym, true, ℕ, ℤ, ◌&&◌, ◌+◌, ◌-◌, ◌<◌, ◌==◌, ◌∙◌, ◌∷◌, ◌≡◌, ◌≤◌}
-use Rattle.std.proofs.lemmas.Bool.{and_parts, eq-eqb, eqb-true, ltb-true, ne_eqb, true≢false}
+use Rattle.std.proofs.lemmas.Bool.{eq-eqb, eqb-true, ltb-true, ne_eqb, true≢false}
 use Rattle.std.specs.Prelude.{is_none, is_some, map, not, replicate, ◌⊎◌}
 use Rattle.aom_image.specs.Image.{Image}
 use Rattle.aom_image.specs.Views.{arguments_of, has, method_class, method_role}
@@ -12,12 +13,12 @@ use Rattle.aom_image.specs.declared.method.Gives.TheVariants.{Left, Nothing}
 use Rattle.aom_image.specs.declared.method.Role.TheVariants.{Construct, Do}
 use Rattle.aom_image.specs.declared.method.Thing.{Thing}
 use Rattle.aom_image.specs.declared.method.Thing.TheVariants.{Message as A_message, Object as An_object_of}
-use Rattle.aom_rules.specs.Calls.{age_need, awaits, constructs_owned, is_among, is_target, rule_target, stands_here, while_called}
-use Rattle.aom_rules.specs.Requests.{begins_here, begins_there, is_cancel, is_construct, is_service, may_begin, resting}
+use Rattle.aom_rules.specs.Calls.{age_need, awaits, is_among, is_target, rule_target, stands_here, while_called}
+use Rattle.aom_rules.specs.Requests.{begins_here, begins_there, is_cancel, is_construct, is_service, may_begin}
 use Rattle.aom_shape.specs.Arguments.{argument_kind, arguments_moved, before_of, entry_fields, entry_shape}
 use Rattle.aom_shape.specs.Kinds.{is_own_for, entry_kind, field, filled, is_fresh_kind, is_object_or_null, is_ready_kind, is_unowning, readied, register, set_register}
 use Rattle.aom_shape.specs.Entries.{readied_at}
-use Rattle.aom_shape.specs.Needs.{AllTrue, only_if}
+use Rattle.aom_shape.specs.Needs.{AllTrue}
 use Rattle.aom_shape.specs.Order.{SaysNoMore, WeakerFilling, alike, alike_filling, perhaps_empty, perhaps_full}
 use Rattle.aom_shape.specs.Shape.{Shape}
 use Rattle.aom_shape.specs.Tables.{at}
@@ -45,17 +46,16 @@ use Rattle.aom_sound.proofs.Housing.{houses_counts, houses_family, houses_field,
 use Rattle.aom_roles.proofs.Descending.{through}
 use Rattle.aom_roles.specs.Families.{descends}
 use Rattle.aom_sound.specs.Calls.{entry_place, home_at, needs_result, needs_target, needs_target_object, own_home, own_view, passed_cells, passed_words, target_home, target_view, works_on}
-use Rattle.aom_sound.specs.Claims.{own_field, serves, delivered, Layer, Method, claim, declared, declared_field, entry_claim, forms, home_claim, items_of, layer_claim, objects, root_claim, tasks_of}
+use Rattle.aom_sound.specs.Claims.{own_field, serves, Layer, Method, claim, declared, declared_field, forms, home_claim, items_of, layer_claim, objects, tasks_of}
 use Rattle.aom_sound.proofs.Waiting.{waits_in_view}
 use Rattle.aom_sound.specs.Laws.{IsCalled, IsWired}
 use Rattle.aom_sound.specs.Places.{In_service, Cell, Elsewhere, Entry, Field, Going, Object, Place, Register, Root, held, named, requested, same_place, seen}
 use Rattle.aom_sound.specs.State.{thing_view, AtRoot, Choice, Frame, Home, Inside, Run, State, Static, WrongKind, field_place, frame_as, home_holder, home_view, thing_holder, word}
 use Rattle.aom_sound.specs.WellTyped.{InView, CountsAs, Houses, IsServed, AllUndo, Awaits, Back, Fits, Good, Holds, IsApart, IsBelow, IsHoused, IsNoFieldOf, NotIn, Returns, Stack, Stands, WellTyped, WordFits, WorksOn}
 use Rattle.aom_sound.proofs.Callees.{apart_from, below_more, filled_ready, fits_fresh, held_own, holder_called, holder_member, holder_static, home_member, member_kind, moved_entries, moved_fields, moved_register, own_for, passed_elsewhere}
-use Rattle.aom_sound.specs.Requests.{AllSuit, Known, Suits, Unworked, known_at, resting_in, rests_in, states_claim, thing_kind, works_at}
+use Rattle.aom_sound.specs.Requests.{AllSuit, Known, Suits, Unworked, known_at, resting_in, states_claim, thing_kind, works_at}
 use Rattle.aom_roles.specs.Shapes.{kind_of}
 use Rattle.aom_sound.proofs.Suiting.{known_plain, same_object, suits_first, suits_less, unworked_rests}
-use Rattle.aom_roles.specs.States.{first_of, states_of}
 use Rattle.aom_sound.proofs.Attending.{plain_claim, called_plain}
 
 module _ (p : Image) (t : Typing) (wired : IsWired p) (typed : IsTyped p t) (c : Choice) (s : State) (fr : Frame) (sh : Shape) (ls : List Layer) (at_hand : At p t s fr sh ls)
@@ -101,11 +101,7 @@ module _ (p : Image) (t : Typing) (wired : IsWired p) (typed : IsTyped p t) (c :
 
   -- it does not cancel
   pub cancels_not : is_cancel (method_role p m) ≡ false
-  cancels_not = go is_called.role
-    where
-      go : (method_role p m ≡ Some Do) ⊎ (method_role p m ≡ Some Construct) → is_cancel (method_role p m) ≡ false
-      go (inl e) = ap is_cancel e
-      go (inr e) = ap is_cancel e
+  cancels_not = grind (arith, nat_tests)
 
   -- and does not serve
   pub serves_not : serves p m ≡ false
@@ -138,14 +134,8 @@ module _ (p : Image) (t : Typing) (wired : IsWired p) (typed : IsTyped p t) (c :
     begins :
         {ended : ℕ} {view : Option ℕ} (k : ℕ) (home : Home) (sh' : Shape) → Entering ended home view sh' → Houses p (home_holder home) (holder_of p k) × (method_role p m ≡ Some Construct → k ≡ m) × CountsAs p (home_holder home) view (holder_of p k) → serves p k ≡ false → (after : Shape) → SaysNoMore after (entry_shape p m) → (r : Place) →
         Fits p (seen cs) (held cs r) (claims_over k home after sh' r)
-    begins {view = view} k home sh' e housing silent after w (Register f i) = go (depth == f) (e.fits (Register f i))
-      where
-        go :
-            (b : Bool) → Fits p (seen cs) (held cs (Register f i)) (cond b (at Unset regs i) (claim p (declared p cs) (Method fr sh' ∷ ls) (Register f i))) →
-            Fits p (seen cs) (held cs (Register f i)) (cond b (register after i) (claim p (declared p cs) (Method fr sh' ∷ ls) (Register f i)))
-        go true h = fits_weaker p (seen cs) (held cs (Register f i)) (w.registers i) h
-        go false h = h
-    begins {view = view} k home sh' e housing silent after w (Entry j) = subst (λ es. Fits p (seen cs) (held cs (Entry j)) (claims_over k Static (record after { entries = es }) sh' (Entry j))) (sym w.entries) (e.fits (Entry j))
+    begins {view = view} k home sh' e housing silent after w (Register f i) = grind (arith, nat_tests, fits_weaker p)
+    begins {view = view} k home sh' e housing silent after w (Entry j) = grind (arith, nat_tests)
     begins {view = view} k home sh' e housing silent after w (Field n f) = go home housing e.fields
       where
         below : Kind
@@ -162,13 +152,8 @@ module _ (p : Image) (t : Typing) (wired : IsWired p) (typed : IsTyped p t) (c :
                 (fits_weaker p (seen cs) (held cs (Field o.name f)) (filled_weaker (Some x) (w.fields f)) (b k may f x is))
             inside true same None is = e.fits (Field n f)
             inside false other own is = e.fits (Field n f)
-    begins {view = view} k home sh' e housing silent after w (Elsewhere Root) = go home e.fields
-      where
-        go : (home : Home) → FieldsBegin view home → Fits p (seen cs) (held cs (Elsewhere Root)) (claims_over k home after sh' (Elsewhere Root))
-        go x b = grind arith
-    begins {view = view} k home sh' e housing silent after w (Elsewhere In_service) =
-        subst (λ x. Fits p (seen cs) (held cs (Elsewhere In_service)) x)
-        (sym (plain_claim (serves p k) after (claim p (declared p cs) (Method fr sh' ∷ ls) (Elsewhere In_service)) silent)) (e.fits (Elsewhere In_service))
+    begins {view = view} k home sh' e housing silent after w (Elsewhere Root) = grind (arith, nat_tests)
+    begins {view = view} k home sh' e housing silent after w (Elsewhere In_service) = grind (arith, nat_tests, plain_claim)
     begins {view = view} k home sh' e housing silent after w (Elsewhere o) = e.fits (Elsewhere o)
     begins {view = view} k home sh' e housing silent after w (Going j) = e.fits (Going j)
 
@@ -178,21 +163,7 @@ module _ (p : Image) (t : Typing) (wired : IsWired p) (typed : IsTyped p t) (c :
         ((o : Object) → states_claim p o over ≡ states_claim p o (Method fr sh' ∷ ls)) → BeginsWell home sh' →
         ((x : Object) → named cs x.name ≡ Some x → works_at x.name home ≡ false → Suits (thing_kind p x.thing) (states_claim p x over) (requested cs x.name)) →
         (k : ℕ) (view : Option ℕ) → is_cancel (method_role p k) ≡ false → AllSuit p cs (Method (callee k view home) after ∷ over)
-    begun_suits Static sh' over after w h same b s k view plain x lives = s x lives refl
-    begun_suits AtRoot sh' over after w h same b s k view plain x lives = s x lives refl
-    begun_suits (Inside o from) sh' over after w h same b s k view plain x lives = inner (o.name == x.name) refl
-      where
-        own : Suits (thing_kind p o.thing) (known_at p (callee k view (Inside o from)) after.states (states_claim p o over)) (requested cs o.name)
-        own = subst (λ k. Suits (thing_kind p o.thing) k (requested cs o.name)) (sym (known_plain p (callee k view (Inside o from)) after.states (states_claim p o over) plain))
-            (suits_less (thing_kind p o.thing) after.states (before_of p m) _ (requested cs o.name) w
-            (subst (λ (k : Known). Suits (thing_kind p o.thing) (record { states = before_of p m; cancelled = k.cancelled }) (requested cs o.name)) (sym (same o)) b.0))
-
-        inner :
-            (y : Bool) → (o.name == x.name) ≡ y →
-            Suits (thing_kind p x.thing) (cond y (known_at p (callee k view (Inside o from)) after.states (states_claim p x over)) (states_claim p x over)) (requested cs x.name)
-        inner true e =
-            subst (λ z. Suits (thing_kind p z.thing) (known_at p (callee k view (Inside o from)) after.states (states_claim p z over)) (requested cs z.name)) (same_object cs o x h.lives lives e) own
-        inner false e = s x lives e
+    begun_suits x sh' over after w h same b y k view plain z lives = grind (arith, nat_tests, known_plain p, suits_less, same_object)
 
     -- so what runs in its place is entered, over these layers, which claim what the caller claims
     pub enter :
@@ -231,16 +202,7 @@ module _ (p : Image) (t : Typing) (wired : IsWired p) (typed : IsTyped p t) (c :
         silent = ap is_service runs.role ∙ serves_not
 
         as_begun : (after : Shape) → SaysNoMore after (entry_shape p m) → (r : Place) → claim p (declared p cs) (Method (callee k view home) after ∷ over) r ≡ claims_over k home after sh' r
-        as_begun after w (Register f i) =
-            ap (λ n. cond (n == f) (register after i) (claim p (declared p cs) over (Register f i))) at_depth ∙ ap (λ k. cond (depth == f) (register after i) k) (same (declared p cs) (Register f i))
-        as_begun after w (Entry j) =
-            ap (λ es. entry_claim es (items_of over) j (claim p (declared p cs) over (Entry j))) w.entries ∙ same (declared p cs) (Entry j)
-            ∙ sym (ap (λ es. entry_claim es [] j (claim p (declared p cs) (Method fr sh' ∷ ls) (Entry j))) w.entries)
-        as_begun after w (Field n f) = ap (λ x. home_claim p (holder_of p k) home after n f x) (same (declared p cs) (Field n f))
-        as_begun after w (Elsewhere Root) = ap (λ k. root_claim p home after k) (same (declared p cs) (Elsewhere Root))
-        as_begun after w (Elsewhere In_service) = ap (λ x. cond (serves p k) (delivered after.delivery) x) (same (declared p cs) (Elsewhere In_service))
-        as_begun after w (Elsewhere o) = same (declared p cs) (Elsewhere o)
-        as_begun after w (Going j) = same (declared p cs) (Going j)
+        as_begun after w x = grind arith
 
     -- the caller below, while the call lasts
     pub caller : {ended : ℕ} {view : Option ℕ} (home : Home) (sh' : Shape) (back : Back) → Entering ended home view sh' → Stands p t back fr sh' → Stack p t cs back (Method fr sh' ∷ ls)
@@ -285,13 +247,11 @@ module _ (p : Image) (t : Typing) (wired : IsWired p) (typed : IsTyped p t) (c :
 
     -- so what it constructs was asked nothing
     fresh_one : (o : Object) (z : Thing) (a : Age) → Fits p (seen cs) (Some o) (Own z a) → Ages a → (method_role p m ≡ Some Do) ⊎ ((method_role p m ≡ Some Construct) × (requested cs o.name ≡ None))
-    fresh_one o z a here (inl role) = inl role
-    fresh_one o z a here (inr w) = inr (w.0, (subst (λ a. Fits p (seen cs) (Some o) (Own z a)) w.1 here).1.1)
+    fresh_one o z a here x = grind arith
 
     -- and finds its fields null
     starts_fresh : (o : Object) (z : Thing) (a : Age) → Fits p (seen cs) (Some o) (Own z a) → Ages a → Starts o
-    starts_fresh o z a here (inl role) = inl role
-    starts_fresh o z a here (inr w) = inr (w.0, λ f x is. (subst (λ a. Fits p (seen cs) (Some o) (Own z a)) w.1 here).1.0 f)
+    starts_fresh o z a here x = grind arith
 
     -- what a target asks, and how the method begins
     abbrev Begun : ℕ → Target → Type 0
@@ -323,17 +283,10 @@ module _ (p : Image) (t : Typing) (wired : IsWired p) (typed : IsTyped p t) (c :
     well_begun :
         (o : Object) (sh' : Shape) → named cs o.name ≡ Some o → Unworked o.name (Method fr sh' ∷ ls) → thing_kind p o.thing ≡ kind_of p (method_class p m) → begins_there p m ≡ true →
         (method_role p m ≡ Some Do) ⊎ ((method_role p m ≡ Some Construct) × (requested cs o.name ≡ None)) → BeginsWell (Inside o (Elsewhere Root)) sh'
-    well_begun o sh' lives u kind may role = (subst (λ (k : Known). Suits (thing_kind p o.thing) (record { states = before_of p m; cancelled = k.cancelled }) (requested cs o.name)) (sym (unworked_rests p o (Method fr sh' ∷ ls) u)) (begun role), kind)
+    well_begun o sh' lives u kind may role = (grind (arith, nat_tests, unworked_rests p o (Method fr sh' ∷ ls) u, begun role), kind)
       where
         begun : (method_role p m ≡ Some Do) ⊎ ((method_role p m ≡ Some Construct) × (requested cs o.name ≡ None)) → Suits (thing_kind p o.thing) (resting_in (before_of p m)) (requested cs o.name)
-        begun (inl role) =
-            let does_so : IsTrue (has (before_of p m) (resting p (method_class p m))) =
-            ap (λ r. only_if (not (is_construct r)) (has (before_of p m) (resting p (method_class p m)))) (sym role) ∙ may in
-            let rests = subst (λ k. Suits (thing_kind p o.thing) k (requested cs o.name)) (unworked_rests p o (Method fr after_arguments ∷ ls) (u.0, u.1)) (passed.suits o lives) in
-            suits_less (thing_kind p o.thing) (before_of p m) (rests_in p o) false (requested cs o.name) (subst (λ k. IsTrue (has (before_of p m) (states_of k))) (sym kind) does_so) rests
-        begun (inr w) =
-            subst (λ n. Suits (thing_kind p o.thing) (resting_in n) (requested cs o.name)) (ap first_of kind ∙ sym (is_called.begins w.0))
-            (suits_first (thing_kind p o.thing) (requested cs o.name) w.1)
+        begun x = grind (arith, nat_tests, unworked_rests p o, suits_less, suits_first)
 
     target_kind :
         (y : ℕ) (x : Object) (z : Thing) → method_class p m ≡ Some y → stands_for p x.thing z ≡ true → stands_for p z (An_object_of y) ≡ true →
@@ -348,7 +301,7 @@ module _ (p : Image) (t : Typing) (wired : IsWired p) (typed : IsTyped p t) (c :
     settles_not :
         (ended : ℕ) (sh' : Shape) (o : Object) (q : Place) → works_at o.name fr.home ≡ false → (x : Object) (from : Place) → Inside o q ≡ Inside x from → works_at x.name fr.home ≡ true →
         sh'.states ≡ ended
-    settles_not ended sh' o q off x from e w = let same : o ≡ x = cc in absurd (true≢false (sym w ∙ ap (λ y. works_at y.name fr.home) (sym same) ∙ off))
+    settles_not ended sh' o q off x from e w = grind (arith, nat_tests)
 
     abbrev worked : ℕ → Shape
     worked ended = record after_arguments { fields = replicate 8 Perhaps; states = ended }
@@ -381,7 +334,7 @@ module _ (p : Image) (t : Typing) (wired : IsWired p) (typed : IsTyped p t) (c :
           words = passed.words;
           housed = record { there = holds.there; lives = holds.lives; below = below_more from fr (worked ended) ls holds.below; ready = ap is_ready_kind (claim_from p (λ r. Null) fr o from (worked ended) ls eh apart.0 holds.below) ∙ holds.ready };
           apart = apart';
-          holder = subst (λ h. Houses p h (holder_of p m)) (sym member) (subst (λ h. Houses p (Member b) h) (sym (ap (λ c. holder_by (method_role p m) c) class ∙ holder_called (method_role p m) k is_called.role)) (houses_family p wired.family b k stands));
+          holder = grind (arith, nat_tests, holder_called, houses_family p wired.family b k stands);
           owning = λ i. refl;
           items = ap (λ es. objects es (items_of ls)) (moved_entries xs first sh);
           fields = start_fields o from fr.view (worked ended) fits holds.lives (apart' m) starts;
@@ -405,28 +358,27 @@ module _ (p : Image) (t : Typing) (wired : IsWired p) (typed : IsTyped p t) (c :
         other_suits :
             (x : Object) → named cs x.name ≡ Some x → works_at x.name (Inside o from) ≡ false →
             Suits (thing_kind p x.thing) (states_claim p x (Method fr (worked ended) ∷ ls)) (requested cs x.name)
-        other_suits x lives e =
-            let off : works_at x.name fr.home ≡ false = ap (λ h. works_at x.name h) eh ∙ e in
-            subst (λ b. Suits (thing_kind p x.thing) (cond b (known_at p fr ended (below x)) (below x)) (requested cs x.name)) (sym off)
-            (subst (λ b. Suits (thing_kind p x.thing) (cond b (known_at p fr after_arguments.states (below x)) (below x)) (requested cs x.name)) off (passed.suits x lives))
+        other_suits x lives e = grind (arith, nat_tests, below x)
 
         own_fields : InView p fr.view (λ f. filled (field_thing p (thing_holder o.thing) f) Perhaps) o.name (Method fr (worked ended) ∷ ls)
-        own_fields =
-            let houses = subst (λ h. Houses p (home_holder h) (holder_of p fr.method)) eh at_hand.good.stack.1.holder in
-            waits_in_view p fr o from eh (worked ended) ls houses (subst (λ h. IsApart p fr.view fr.method h ls) eh at_hand.good.stack.3) (λ f. at_alike 8 Perhaps f)
+        own_fields = grind (arith, nat_tests, waits_in_view p fr o from eh, at_alike 8 Perhaps)
 
     -- where an object stood before the arguments were passed, it stands after
     stays_at :
         (q : Place) (o : Object) → ((i : ℕ) → first ≤ i → i < (first + length xs) → same_place (lower p t fr ls depth deep i) q ≡ false) →
         ((i : ℕ) → same_place (upper p t fr ls depth deep i) q ≡ false) → held s.cells q ≡ Some o → held cs q ≡ Some o
-    stays_at q o lo up there = passed_elsewhere p s fr ls depth deep t xs first 0 s.cells q (λ i le. above i) lo up ∙ there
-      where
-        above : (i : ℕ) → held s.cells (upper p t fr ls depth deep i) ≡ None
-        above i = fits_unowning p (seen s.cells) _ Null refl (subst (λ k. Fits p (seen s.cells) (held s.cells (upper p t fr ls depth deep i)) k) (claim_register_above p s.cells (Method fr sh ∷ ls) depth i (omega arith)) (at_hand.good.fits (upper p t fr ls depth deep i)))
+    stays_at q o lo up there = grind (
+      arith,
+      nat_tests,
+      passed_elsewhere p s fr ls depth deep t,
+      upper p t fr ls depth deep,
+      fits_unowning p,
+      claim_register_above p s.cells (Method fr sh ∷ ls) depth,
+    )
 
     -- what is known of an object on which a method of that class may work
     target_met : (y : ℕ) (o : Option Object) (x : Object) (z : Thing) → o ≡ Some x → stands_for p x.thing z ≡ true → stands_for p z (An_object_of y) ≡ true → AllTrue (needs_target_object p (Some y) o)
-    target_met y o x z e a b = subst (λ o. AllTrue (needs_target_object p (Some y) o)) (sym e) (refl, (stands_along p x.thing z (An_object_of y) a b, tt))
+    target_met y o x z e a b = grind (arith, nat_tests, stands_along p x.thing z (An_object_of y) a b)
 
     target_holder : (y : ℕ) (x : Object) (z : Thing) → method_class p m ≡ Some y → stands_for p x.thing z ≡ true → stands_for p z (An_object_of y) ≡ true → Houses p (thing_holder x.thing) (holder_of p m)
     target_holder y x z class a b =
@@ -439,11 +391,7 @@ module _ (p : Image) (t : Typing) (wired : IsWired p) (typed : IsTyped p t) (c :
 
     -- a construct method works on a fresh object, another on a ready one
     age_of : (k : Kind) → AllTrue (age_need p m (is_construct (method_role p m)) k ∷ []) → (method_role p m ≡ Some Do) ⊎ ((method_role p m ≡ Some Construct) × (is_fresh_kind k ≡ true))
-    age_of k n = go is_called.role
-      where
-        go : (method_role p m ≡ Some Do) ⊎ (method_role p m ≡ Some Construct) → (method_role p m ≡ Some Do) ⊎ ((method_role p m ≡ Some Construct) × (is_fresh_kind k ≡ true))
-        go (inl e) = inl e
-        go (inr e) = inr (e, (and_parts (is_fresh_kind k) (constructs_owned p m k) (ap (λ r. (age_need p m (is_construct r) k).0) (sym e) ∙ n.0)).0)
+    age_of k n = grind (arith, nat_tests)
 
     -- what a register owns
     module _ (r y : ℕ) (class : method_class p m ≡ Some y) (z : Thing) (a : Age) (kind : register sh r ≡ Own z a) (for : stands_for p z (An_object_of y) ≡ true)
@@ -461,17 +409,7 @@ module _ (p : Image) (t : Typing) (wired : IsWired p) (typed : IsTyped p t) (c :
       now_ready = ap readied same_kind
 
       aside : (i : ℕ) → first ≤ i → i < (first + length xs) → same_place (lower p t fr ls depth deep i) q ≡ false
-      aside i le lt =
-          ap (λ b. (length (tasks_of ls) == length (tasks_of ls)) && b) (ne_eqb i r (λ e. differs apart (subst (λ j. first ≤ j) e le) (subst (λ j. j < (first + length xs)) e lt)))
-          ∙ none (length (tasks_of ls) == length (tasks_of ls))
-        where
-          differs : (r < first) ⊎ ((first + length xs) ≤ r) → first ≤ r → r < (first + length xs) → ⊥
-          differs (inl x) le lt = omega arith
-          differs (inr x) le lt = omega arith
-
-          none : (b : Bool) → (b && false) ≡ false
-          none true = refl
-          none false = refl
+      aside i le lt = grind (arith, nat_tests, ne_eqb i r, apart)
 
       above : (i : ℕ) → same_place (upper p t fr ls depth deep i) q ≡ false
       above i = ap (λ b. b && (i == r)) (ne_eqb depth (length (tasks_of ls)) (λ e. absurd (omega arith)))
@@ -501,13 +439,10 @@ module _ (p : Image) (t : Typing) (wired : IsWired p) (typed : IsTyped p t) (c :
           lives = held_lives cs q owned.0 passed.tidy there
 
           at_r : register readied_shape r ≡ readied (register after_arguments r)
-          at_r = at-put_at Unset after_arguments.registers r r (readied (register after_arguments r)) ∙ ap (λ b. cond b (readied (register after_arguments r)) (register after_arguments r)) (eq-eqb r _ refl)
+          at_r = grind (arith, nat_tests, at-put_at Unset, eq-eqb r)
 
           here_fits : Fits p (seen cs) (Some owned.0) (Own z a)
-          here_fits = subst (λ o. Fits p (seen cs) o (Own z a)) there (subst (λ k. Fits p (seen cs) (held cs q) k) (below_taker ∙ same_kind) (passed.fits q))
-            where
-              below_taker : filling p t fr ls depth deep (declared p cs) regs after_arguments q ≡ register after_arguments r
-              below_taker = ap (λ b. cond b (at Unset regs r) (claim p (declared p cs) (Method fr after_arguments ∷ ls) q)) (ne_eqb depth (length (tasks_of ls)) (λ e. absurd (omega arith))) ∙ claim_register p (declared p cs) fr after_arguments ls r
+          here_fits = grind (arith, nat_tests, there, same_kind, filling p t fr ls depth deep, ne_eqb depth, claim_register p)
 
           fits : (x : Place) → Fits p (seen cs) (held cs x) (filling p t fr ls depth deep (declared p cs) regs readied_shape x)
           fits x =
@@ -530,7 +465,7 @@ module _ (p : Image) (t : Typing) (wired : IsWired p) (typed : IsTyped p t) (c :
           owning i = ap is_unowning (at-put_at Unset after_arguments.registers r i (readied (register after_arguments r))) ∙ go (r == i) refl
             where
               go : (b : Bool) → (r == i) ≡ b → is_unowning (cond b (readied (register after_arguments r)) (register after_arguments i)) ≡ is_unowning (register after_arguments i)
-              go true e = ap is_unowning now_ready ∙ sym (ap (λ j. is_unowning (register after_arguments j)) (sym (eqb-true r i e)) ∙ ap is_unowning same_kind)
+              go true e = grind (arith, nat_tests, now_ready, eqb-true r i e, same_kind)
               go false e = refl
 
     -- what a field owns
@@ -540,9 +475,7 @@ module _ (p : Image) (t : Typing) (wired : IsWired p) (typed : IsTyped p t) (c :
       spot = field_place fr.home f
 
       aside_field : (home : Home) (i j : ℕ) → same_place (Register i j) (field_place home f) ≡ false
-      aside_field Static i j = refl
-      aside_field AtRoot i j = refl
-      aside_field (Inside o from) i j = refl
+      aside_field x i j = grind arith
 
       kept_in : (o : Object) × (held s.cells spot ≡ Some o) × (stands_for p o.thing z ≡ true)
       kept_in = held_own p (seen s.cells) (held s.cells spot) z a (subst (λ k. Fits p (seen s.cells) (held s.cells spot) k) kind (field_fits p t c s fr sh ls at_hand f own))
@@ -594,9 +527,7 @@ module _ (p : Image) (t : Typing) (wired : IsWired p) (typed : IsTyped p t) (c :
     ages :
         (k : Kind) (z : Thing) (a : Age) → k ≡ Own z a → (method_role p m ≡ Some Do) ⊎ ((method_role p m ≡ Some Construct) × (is_fresh_kind k ≡ true)) →
         (method_role p m ≡ Some Do) ⊎ ((method_role p m ≡ Some Construct) × (a ≡ Fresh))
-    ages k z a e (inl role) = inl role
-    ages k z Fresh e (inr w) = inr (w.0, refl)
-    ages k z Ready e (inr w) = let clash : false ≡ true = sym (ap is_fresh_kind e) ∙ w.1 in cc
+    ages k z a e x = grind arith
 
     -- what a cleanup entry owns
     module _ (k y : ℕ) (class : method_class p m ≡ Some y) (z : Thing) (a : Age) (within : k < length sh.entries) (kind : entry_kind (at Pushed_operation sh.entries k) ≡ Own z a)
@@ -621,15 +552,10 @@ module _ (p : Image) (t : Typing) (wired : IsWired p) (typed : IsTyped p t) (c :
 
       -- what is claimed of the entry, by the caller as it is and while the call lasts
       claimed : (d : Place → Kind) → claim p d (Method fr sh ∷ ls) pile ≡ entry_kind (at Pushed_operation sh.entries k)
-      claimed d = ap (λ n. entry_claim sh.entries (items_of ls) (n - suc k) (claim p d ls (Entry (n - suc k)))) high ∙ entry_claimed sh.entries (items_of ls) k _ within
+      claimed d = grind (arith, nat_tests, high, entry_claimed sh.entries)
 
       anew : (d : Place → Kind) (j : ℕ) → claim p d (Method fr readied_pile ∷ ls) (Entry j) ≡ cond (index == j) (Own z Ready) (claim p d (Method fr after_arguments ∷ ls) (Entry j))
-      anew d j =
-          ap (λ es. entry_claim (readied_at es k) (items_of ls) j (claim p d ls (Entry j))) same_entries
-          ∙ readied_claim sh.entries (items_of ls) k j (claim p d ls (Entry j)) within
-          ∙ ap (λ n. cond ((n - suc k) == j) (readied (entry_kind (at Pushed_operation sh.entries k))) (entry_claim sh.entries (items_of ls) j (claim p d ls (Entry j)))) (sym high)
-          ∙ ap (λ v. cond (index == j) (readied v) (entry_claim sh.entries (items_of ls) j (claim p d ls (Entry j)))) kind
-          ∙ ap (λ es. cond (index == j) (Own z Ready) (entry_claim es (items_of ls) j (claim p d ls (Entry j)))) (sym same_entries)
+      anew d j = grind (arith, nat_tests, same_entries, readied_claim sh.entries, high)
 
       piled : (o : Object) × (held s.cells pile ≡ Some o) × (stands_for p o.thing z ≡ true)
       piled = held_own p (seen s.cells) (held s.cells pile) z a (subst (λ k. Fits p (seen s.cells) (held s.cells pile) k) (claimed (declared p s.cells) ∙ kind) (at_hand.good.fits pile))
@@ -641,7 +567,17 @@ module _ (p : Image) (t : Typing) (wired : IsWired p) (typed : IsTyped p t) (c :
         settles = settles_not ended readied_pile piled.0 pile u.unworked.0;
         fits = fits;
         words = passed.words;
-        housed = record { there = there; lives = lives; below = omega (arith, high, within, length_each sh.entries (items_of ls), ap length same_items); ready = ap is_ready_kind (anew (λ x. Null) index ∙ ap (λ b. cond b (Own z Ready) (claim p (λ x. Null) (Method fr after_arguments ∷ ls) pile)) (eq-eqb index _ refl)) };
+        housed = record {
+          there = there;
+          lives = lives;
+          below = omega (arith, high, within, length_each sh.entries (items_of ls), ap length same_items);
+          ready = grind (
+            arith,
+            nat_tests,
+            anew,
+            eq-eqb,
+          );
+        };
         apart = apart_so;
         holder = target_holder y piled.0 z class piled.2 for;
         owning = λ i. refl;
@@ -659,8 +595,7 @@ module _ (p : Image) (t : Typing) (wired : IsWired p) (typed : IsTyped p t) (c :
           lives = held_lives cs pile piled.0 passed.tidy there
 
           here_fits : Fits p (seen cs) (Some piled.0) (Own z a)
-          here_fits = subst (λ o. Fits p (seen cs) o (Own z a)) there
-              (subst (λ k. Fits p (seen cs) (held cs pile) k) (ap (λ es. entry_claim es (items_of ls) index (claim p (declared p cs) ls pile)) same_entries ∙ claimed (declared p cs) ∙ kind) (passed.fits pile))
+          here_fits = grind (arith, nat_tests, there, same_entries, claimed)
 
           fits : (x : Place) → Fits p (seen cs) (held cs x) (filling p t fr ls depth deep (declared p cs) regs readied_pile x)
           fits (Register f i) = passed.fits (Register f i)
@@ -669,18 +604,8 @@ module _ (p : Image) (t : Typing) (wired : IsWired p) (typed : IsTyped p t) (c :
               go : (b : Bool) → (index == j) ≡ b → Fits p (seen cs) (held cs (Entry j)) (cond b (Own z Ready) (claim p (declared p cs) (Method fr after_arguments ∷ ls) (Entry j)))
               go true e = subst (λ w. Fits p (seen cs) w (Own z Ready)) (sym (ap (λ n. held cs (Entry n)) (sym (eqb-true index j e)) ∙ there)) (piled.2, tt)
               go false e = passed.fits (Entry j)
-          fits (Field n f) = subst (λ k. Fits p (seen cs) (held cs (Field n f)) k) (go fr.home) (passed.fits (Field n f))
-            where
-              go : (h : Home) → home_claim p (holder_of p fr.method) h after_arguments n f (claim p (declared p cs) ls (Field n f)) ≡ home_claim p (holder_of p fr.method) h readied_pile n f (claim p (declared p cs) ls (Field n f))
-              go Static = refl
-              go AtRoot = refl
-              go (Inside o from) = refl
-          fits (Elsewhere Root) = subst (λ k. Fits p (seen cs) (held cs (Elsewhere Root)) k) (go fr.home) (passed.fits (Elsewhere Root))
-            where
-              go : (h : Home) → root_claim p h after_arguments (claim p (declared p cs) ls (Elsewhere Root)) ≡ root_claim p h readied_pile (claim p (declared p cs) ls (Elsewhere Root))
-              go Static = refl
-              go AtRoot = refl
-              go (Inside o from) = refl
+          fits (Field n f) = grind (arith, nat_tests)
+          fits (Elsewhere Root) = grind (arith, nat_tests)
           fits (Elsewhere w) = passed.fits (Elsewhere w)
           fits (Going j) = passed.fits (Going j)
 
@@ -701,11 +626,8 @@ module _ (p : Image) (t : Typing) (wired : IsWired p) (typed : IsTyped p t) (c :
         may_begin p m This after_arguments.states ≡ true → Answer ended This
     on_this ended None e n may =
         let begun = on_nothing ended e in (
-          (
-            (ap (λ k. works_on p k fr.view) e, (parents_met p t wired s fr sh ls at_hand m (is_construct (method_role p m)) n.1, tt)),
-            subst (λ k. Entering ended (own_home k fr.home) (own_view k fr.view) (while_called This k ended after_arguments)) (sym e) begun,
-          ),
-          subst (λ k. CountsAs p (home_holder (own_home k fr.home)) (own_view k fr.view) (holder_of p m)) (sym e) (houses_counts p Static (holder_of p m) begun.holder),
+          grind (arith, nat_tests, parents_met p t wired s fr sh ls at_hand m, begun),
+          grind (arith, nat_tests, houses_counts p Static),
         )
     on_this ended (Some k) e n may = go (method_class p fr.method) refl
       where
@@ -775,7 +697,7 @@ module _ (p : Image) (t : Typing) (wired : IsWired p) (typed : IsTyped p t) (c :
     on_kept :
         (ended f : ℕ) (k : Option ℕ) → method_class p m ≡ k → AllTrue (rule_target p fr.method sh (On_field f) m (method_class p m) (is_construct (method_role p m)) first (length xs)) →
         begins_there p m ≡ true → Begun ended (On_field f)
-    on_kept ended f None e n may = let clash : false ≡ true = sym (ap (λ x. is_target p x (filled (field_thing p (holder_of p fr.method) f) (field sh f))) e) ∙ n.0 in cc
+    on_kept ended f None e n may = grind (arith, nat_tests)
     on_kept ended f (Some y) e n may =
         let kind : Kind = filled (field_thing p (home_holder fr.home) f) (field sh f) in
         let declared_there = something (field_thing p (holder_of p fr.method) f) (field sh f) in
@@ -803,7 +725,7 @@ module _ (p : Image) (t : Typing) (wired : IsWired p) (typed : IsTyped p t) (c :
     on_pushed :
         (ended k : ℕ) (c : Option ℕ) → method_class p m ≡ c → AllTrue (rule_target p fr.method sh (On_entry k) m (method_class p m) (is_construct (method_role p m)) first (length xs)) →
         begins_there p m ≡ true → Begun ended (On_entry k)
-    on_pushed ended k None e n may = let clash : false ≡ true = sym (ap (λ x. is_target p x (entry_kind (at Pushed_operation sh.entries k))) e) ∙ n.1.0 in cc
+    on_pushed ended k None e n may = grind (arith, nat_tests)
     on_pushed ended k (Some y) e n may =
         let kind : Kind = entry_kind (at Pushed_operation sh.entries k) in
         let within : k < length sh.entries = ltb-true k (length sh.entries) n.0 in
@@ -823,9 +745,7 @@ module _ (p : Image) (t : Typing) (wired : IsWired p) (typed : IsTyped p t) (c :
     elsewhere :
         (ended : ℕ) (target : Target) → Begun ended target → target_view p fr (tasks_of ls) s target (method_class p m) ≡ home_view (target_home p fr (tasks_of ls) s target (method_class p m)) →
         Answer ended target
-    elsewhere ended target b e =
-        let home = target_home p fr (tasks_of ls) s target (method_class p m) in
-        (b, subst (λ v. CountsAs p (home_holder home) v (holder_of p m)) (sym e) (houses_counts p home (holder_of p m) b.1.holder))
+    elsewhere ended target b e = grind (arith, nat_tests, houses_counts p)
 
     pub answer :
         (ended : ℕ) (target : Target) → AllTrue (rule_target p fr.method sh target m (method_class p m) (is_construct (method_role p m)) first (length xs)) →
@@ -837,9 +757,7 @@ module _ (p : Image) (t : Typing) (wired : IsWired p) (typed : IsTyped p t) (c :
 
     -- what the result comes to owns nothing
     pub result_free : (x : ℕ) → is_unowning (register after_arguments x) ≡ true → is_none (held cs (top ls x)) ≡ true
-    result_free x u = ap is_none (fits_unowning p (seen cs) _ (register after_arguments x) u (subst (λ k. Fits p (seen cs) (held cs (top ls x)) k)
-        (ap (λ b. cond b (at Unset regs x) (claim p (declared p cs) (Method fr after_arguments ∷ ls) (top ls x))) (ne_eqb depth (length (tasks_of ls)) (λ e. absurd (omega arith))) ∙ claim_register p (declared p cs) fr after_arguments ls x)
-        (passed.fits (top ls x))))
+    result_free x u = grind (arith, nat_tests, fits_unowning p, top ls x, ne_eqb depth, claim_register p)
 
     pub result_met : (g : Gives) (x : ℕ) → awaits g (register after_arguments x) ≡ true → AllTrue (needs_result p fr (tasks_of ls) s g cs x)
     result_met Nothing x a = tt
@@ -849,6 +767,4 @@ module _ (p : Image) (t : Typing) (wired : IsWired p) (typed : IsTyped p t) (c :
     pub awaited :
         (g : Gives) (x : ℕ) (sh' : Shape) → ((i : ℕ) → is_unowning (register sh' i) ≡ is_unowning (register after_arguments i)) → awaits g (register after_arguments x) ≡ true →
         Awaits g x sh'
-    awaited Nothing x sh' same a = tt
-    awaited (Left y) x sh' same a = tt
-    awaited _ x sh' same a = same x ∙ a
+    awaited x y sh' same a = grind arith

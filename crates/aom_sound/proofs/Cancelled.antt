@@ -1,4 +1,5 @@
 -- A method that cancels returns: the request of its object is idle, and its signal is taken.
+use Rattle.std.proofs.lemmas.Bool.Decides.{nat_tests}
 use Rattle.std.proofs.Common.{Bool, IsTrue, List, Option, Some, ap, cond, false, refl, subst, sym, true, ℕ, ◌∙◌, ◌∷◌, ◌≡◌, arith}
 use Rattle.std.proofs.lemmas.Bool.{ne_eqb, true≢false}
 use Rattle.aom_image.specs.Image.{Image}
@@ -42,12 +43,7 @@ module _ (p : Image) (t : Typing) (c : Choice) (s : State) (fr fr2 : Frame) (sh 
   alike = rerequested_alike s.cells fr.home (on_request cancelled (own_request s.cells fr.home))
 
   others : (n : ℕ) → works_at n fr.home ≡ false → requested cells_then n ≡ requested s.cells n
-  others n off = go fr.home off
-    where
-      go : (h : Home) → works_at n h ≡ false → requested (rerequested s.cells h (on_request cancelled (own_request s.cells h))) n ≡ requested s.cells n
-      go Static off = refl
-      go AtRoot off = refl
-      go (Inside o from) off = requested_there s.cells o.name n (on_request cancelled (requested s.cells o.name)) off
+  others n off = grind (arith, nat_tests, requested_there s.cells)
 
   here : (o : Object) (from : Place) → fr.home ≡ Inside o from → named s.cells o.name ≡ Some o → requested cells_then o.name ≡ on_request cancelled (requested s.cells o.name)
   here o from e lives =

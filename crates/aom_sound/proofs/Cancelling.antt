@@ -1,4 +1,5 @@
 -- The law of `cancel`: a request that is not active is left alone, and over the method that cancels the caller waits with its object idle.
+use Rattle.std.proofs.lemmas.Bool.Decides.{nat_tests}
 use Rattle.std.proofs.Common.{is_some, Bool, IsTrue, List, None, Option, Some, ap, arith, cond, false, inl, length, refl, replicate, subst, suc, sym, true, ℕ, ◌==◌, ◌∙◌, ◌∷◌, ◌≡◌}
 use Rattle.std.proofs.lemmas.Bool.{eq-eqb, eqb-true, ne_eqb, true≢false}
 use Rattle.std.specs.Prelude.{bit_and, bit_or, not, ◌||◌}
@@ -8,7 +9,7 @@ use Rattle.aom_image.specs.Views.{has, instr_at, method_class, method_role}
 use Rattle.aom_image.specs.declared.class.ClassKind.{ClassKind}
 use Rattle.aom_image.specs.declared.method.Role.TheVariants.{Cancel as Cancel_role}
 use Rattle.aom_image.specs.declared.method.Thing.{Thing}
-use Rattle.aom_image.specs.declared.method.Thing.TheVariants.{Message, Object as An_object_of}
+use Rattle.aom_image.specs.declared.method.Thing.TheVariants.{Object as An_object_of}
 use Rattle.aom_instructions.specs.declared.instr.Instr.TheVariants.{Cancel}
 use Rattle.aom_roles.proofs.Descending.{through}
 use Rattle.aom_roles.specs.Families.{descends}
@@ -39,13 +40,13 @@ use Rattle.aom_sound.proofs.Straight.{At, Law, fits_unowning, settle, stepped, w
 use Rattle.aom_sound.proofs.Suiting.{same_object}
 use Rattle.aom_sound.proofs.Housing.{houses_family}
 use Rattle.aom_sound.proofs.Waiting.{waits_in_view}
-use Rattle.aom_sound.specs.Claims.{declared_field, own_field, serves, Layer, Method, claim, declared, entry_claim, home_claim, items_of, objects, root_claim, tasks_of}
+use Rattle.aom_sound.specs.Claims.{declared_field, own_field, serves, Layer, Method, claim, declared, entry_claim, home_claim, items_of, objects, tasks_of}
 use Rattle.aom_sound.specs.Calls.{result_register}
 use Rattle.aom_sound.specs.Effects.{applied, cancels_if}
 use Rattle.aom_sound.specs.Enlisted.{begun_cells, cancel_method, cancel_of, cancelling, in_phase, is_active, is_cancelling, is_unsettled, on_request, own_request, rerequested, is_idle}
 use Rattle.aom_sound.specs.Laws.{IsWired}
 use Rattle.aom_sound.specs.Places.{In_service, Cell, Elsewhere, Entry, Field, Going, Object, Phase, Place, Register, Request, Root, held, requested, seen}
-use Rattle.aom_sound.specs.Requests.{AllSuit, Known, Suits, known_at, phase_state, state_of, states_claim, thing_kind, works_at}
+use Rattle.aom_sound.specs.Requests.{AllSuit, Known, Suits, known_at, state_of, states_claim, thing_kind, works_at}
 use Rattle.aom_sound.specs.State.{Choice, Frame, Home, Inside, State, frame_as, home_holder, next, thing_holder}
 use Rattle.aom_sound.specs.WellTyped.{view_holder, InView, IsOfFamily, Awaits, CountsAs, EndsWell, Fits, Good, Holds, Houses, IsAlone, IsApart, IsHoused, NotIn, Returns, Stack, Stands, WellTyped, WordFits}
 use Rattle.aom_sound.proofs.Attending.{plain_claim}
@@ -54,19 +55,11 @@ use Rattle.aom_sound.proofs.Attending.{plain_claim}
 
 -- what is in one of these states is settled
 settled_only : (r : Option Request) → IsTrue (has active_states (state_of r)) → not (in_phase is_unsettled r) ≡ true
-settled_only None h = refl
-settled_only (Some r) h = go r.phase h
-  where
-    go : (q : Phase) → IsTrue (has active_states (phase_state q)) → not (is_unsettled q) ≡ true
-    go x h = grind arith
+settled_only x h = grind arith
 
 -- and what is not active is in one of a server's
 rests_only : (r : Option Request) → IsTrue (has active_states (state_of r)) → in_phase is_active r ≡ false → IsTrue (has server_states (state_of r))
-rests_only None h e = refl
-rests_only (Some r) h e = go r.phase h e
-  where
-    go : (q : Phase) → IsTrue (has active_states (phase_state q)) → is_active q ≡ false → IsTrue (has server_states (phase_state q))
-    go x h e = grind arith
+rests_only x h e = grind arith
 
 active_state : (r : Option Request) → in_phase is_active r ≡ true → state_of r ≡ active
 active_state x e = grind arith
@@ -97,7 +90,7 @@ stays_cancelled states k h = go (has states active)
     go false = h
 
 idle_cancelled : (states : ℕ) → IsTrue (has states active) → IsTrue (has (once_cancelled states) idle)
-idle_cancelled states h = subst (λ b. IsTrue (has (cond b (bit_or (bit_and states server_states) idle) (bit_and states server_states)) idle)) (sym h) (has_second (bit_and states server_states) idle)
+idle_cancelled states h = grind (arith, nat_tests, has_second)
 
 -- nothing is known of the fields
 unknown : (x : Filling) → WeakerFilling Perhaps x
@@ -115,8 +108,7 @@ cancelled_view p view m e = grind arith
 -- what is active is an object
 active_object : (p : Image) (x : Thing) → is_active_kind (thing_kind p x) ≡ true → (b : ℕ) × (x ≡ An_object_of b)
 unfolding kind_of
-active_object p (An_object_of b) a = (b, refl)
-active_object p Message a = absurd (true≢false (sym a))
+active_object p x a = grind arith
 
 -- a class of active objects has a method that cancels
 has_cancel : (p : Image) → IsWired p → (v : ℕ) → is_active_kind (kind_of p (Some v)) ≡ true → role_of p v Cancel_role ≡ None → ⊥
@@ -272,7 +264,7 @@ module _ (p : Image) (t : Typing) (wired : IsWired p) (typed : IsTyped p t) (c :
             (subst (λ z. Fits p (seen cs') (held cs' (Field o.name f)) (filled z Perhaps)) (own_holder.fields f y is) (subst (λ k. Fits p (seen cs') (held cs' (Field o.name f)) k) (declares (ap is_some (counts.fields f y is))) (base (Field o.name f)))))
         go true e None is = base (Field n f)
         go false e own is = base (Field n f)
-    fits (Elsewhere Root) = subst (λ h. Fits p (seen cs') (held cs' (Elsewhere Root)) (root_claim p h begins.0 (claim p (declared p cs') over (Elsewhere Root)))) (sym it.home) (base (Elsewhere Root))
+    fits (Elsewhere Root) = grind (arith, nat_tests, base (Elsewhere Root))
     fits (Elsewhere In_service) =
         subst (λ k. Fits p (seen cs') (held cs' (Elsewhere In_service)) k)
         (sym (plain_claim (serves p m) begins.0 (claim p (declared p cs') over (Elsewhere In_service)) (ap is_service role))) (base (Elsewhere In_service))

@@ -1,4 +1,5 @@
 -- The beginning of a leave, the entry that it deals with, and its arrival, by the layers of a well-typed state.
+use Rattle.std.proofs.lemmas.Bool.Decides.{nat_tests}
 use Rattle.std.proofs.Common.{[], Bool, List, None, Option, Some, ap, arith, cond, false, length, pos, refl, subst, suc, sym, true, ℕ, ℤ, ◌∙◌, ◌∷◌, ◌≡◌, ◌≢◌}
 use Rattle.std.proofs.lemmas.Bool.{eq-eqb, ne_eqb}
 use Rattle.std.specs.Prelude.{is_some, ◌++◌}
@@ -13,7 +14,6 @@ use Rattle.aom_shape.specs.Kinds.{is_unowning, register}
 use Rattle.aom_shape.specs.Shape.{Shape}
 use Rattle.aom_rules.specs.Typing.{IsTyped, Typing}
 use Rattle.aom_shape.specs.declared.kind.Entry.{Entry as Pushed}
-use Rattle.aom_shape.specs.declared.kind.Kind.TheVariants.{Null}
 use Rattle.aom_sound.proofs.Claimed.{claim_entry_above, claim_going_above}
 use Rattle.aom_sound.proofs.Clearing.{begins_over}
 use Rattle.aom_sound.proofs.Fitting.{fits, leaves_so, off_of}
@@ -25,16 +25,14 @@ use Rattle.aom_sound.specs.Calls.{called, result_register}
 use Rattle.aom_sound.specs.Claims.{Dispatching, Form, Layer, Mark, Mark_form, Method, Unwinding, declared, forms, items_of, objects, tasks_of}
 use Rattle.aom_sound.specs.Cleanup.{arrival, arrived, code_told, destroyed, has_trap, operation_frame, to_trap, unwound}
 use Rattle.aom_classes.specs.Roles.{destructor_of}
-use Rattle.aom_sound.specs.Destruction.{destructor_frame, begun_by}
+use Rattle.aom_sound.specs.Destruction.{begun_by}
 use Rattle.aom_sound.specs.Laws.{IsWired}
 use Rattle.aom_sound.specs.Leaves.{AreEntries, AreMethods, Arrives, ArrivesAt, Begins, HasMoved, HasNoResult, HasPushed, Hears, IsBegun, IsDestroyed, IsLeaving, IsOver, LeavesWith}
-use Rattle.aom_sound.specs.Steps.{Fits as MayHave}
-use Rattle.aom_sound.specs.Moves.{announcement, counted, does, main_left, needs, step, step_task, written_task}
+use Rattle.aom_sound.specs.Moves.{announcement, counted, does, needs, step, written_task}
 use Rattle.aom_sound.specs.Places.{Cell, Entry, Going, Object, Place, Register, held, moved, named, same_place, seen}
-use Rattle.aom_sound.specs.State.{Destroy, Closing, Of_server, Accepts, Serves, Of_object, A_mark, An_object, An_operation, Choice, Dispatch, Dispatched, Frame, Goes, Item, Main_left, NullOrDead, Of_main, Run, State, Task, Trapped, Unwind, next, set_word, word}
-use Rattle.aom_sound.specs.WellTyped.{AllUndo, Awaits, EndsDispatch, Fits, Good, Keeps, Leaves, Now, Stack, WellTyped}
+use Rattle.aom_sound.specs.State.{Destroy, Closing, Of_server, Accepts, Serves, Of_object, A_mark, An_object, An_operation, Choice, Dispatch, Dispatched, Frame, Goes, Item, Main_left, Of_main, Run, State, Task, Trapped, Unwind, next, set_word, word}
+use Rattle.aom_sound.specs.WellTyped.{AllUndo, Awaits, EndsDispatch, Fits, Good, Leaves, Now, Stack, WellTyped}
 use Rattle.aom_sound.specs.Effects.{Leaves, Update, applied}
-use Rattle.aom_sound.specs.Words.{word_or_zero}
 use Rattle.aom_shape.specs.Needs.{AllTrue}
 use Rattle.aom_transcript.specs.declared.line.Ending.TheVariants.{MainLeft}
 use Rattle.aom_sound.proofs.Steps.{step_keeps}
@@ -88,23 +86,16 @@ has_moved : (cs : List Cell) (q g : Place) (o : Object) → held cs q ≡ Some o
 has_moved cs q g o there free apart = record {
   there = there;
   here = held_moved cs q g g free ∙ ap (λ b. cond b (held cs q) (cond (same_place q g) None (held cs g))) (same_place_refl g) ∙ there;
-  gone = held_moved cs q g q free ∙ ap (λ b. cond b (held cs q) (cond (same_place q q) None (held cs q))) apart ∙ ap (λ b. cond b None (held cs q)) (same_place_refl q);
+  gone = grind (arith, nat_tests, held_moved cs q g q free, same_place_refl q);
   others = λ r n m. held_moved cs q g r free ∙ ap (λ b. cond b (held cs q) (cond (same_place q r) None (held cs r))) (differs g r m) ∙ ap (λ b. cond b None (held cs r)) (differs q r n);
 }
   where
     differs : (x r : Place) → r ≢ x → same_place x r ≡ false
-    differs x r n = go (same_place x r) refl
-      where
-        go : (b : Bool) → same_place x r ≡ b → b ≡ false
-        go true e = absurd (n (sym (same_place-true x r e)))
-        go false e = refl
+    differs x r n = grind (arith, nat_tests, same_place-true x r)
 
 -- no entry is claimed over all items
 none_pushed_yet : (p : Image) (t : Typing) (s : State) → WellTyped p t s → held s.cells (Entry (length s.items)) ≡ None
-none_pushed_yet p t s w =
-    let high : length (items_of w.layers) ≡ length s.items = ap length (sym w.items) ∙ length_forms s.items in
-    fits_unowning p (seen s.cells) _ Null refl
-    (subst (λ k. Fits p (seen s.cells) (held s.cells (Entry (length s.items))) k) (claim_entry_above p s.cells w.layers (length s.items) (omega (arith, high))) (w.good.fits (Entry (length s.items))))
+none_pushed_yet p t s w = grind (arith, nat_tests, length_forms s.items, fits_unowning p, claim_entry_above p s.cells w.layers)
 
 -- the innermost trap, and the methods over it
 pub record Trapping (ts : List Task) : Type 0 where
@@ -149,38 +140,31 @@ module _ (p : Image) (t : Typing) (c : Choice) (fr : Frame) (ts : List Task) (s 
       let o = is_there (held s.cells (Register (length ts) a)) n.1.0 in
       let goes = has_moved s.cells (Register (length ts) a) (Entry (length s.items)) o.0 o.1 (none_pushed_yet p t s w) refl in
       (o.0, goes, refl)
-  pushes (PushOperation a m) code n =
-      let x = is_there (word fr a) n.0 in
-      (x.0, x.1, ap (λ y. An_operation m (word_or_zero y) ∷ s.items) x.1, refl)
+  pushes (PushOperation a m) code n = grind (arith, nat_tests, is_there)
   pushes _ code n = (refl, refl)
 
   pub begins_by : (i : Instr) (code : ℤ) → LeavesWith c fr i code → AllTrue (needs p c fr ts (counted p s) i) → does p c fr ts (counted p s) i ≡ u → Begins p code fr (length ts) i s u
-  begins_by i code h n e =
-      let v = counted p s in
-      let so = leaves_so p c fr ts v i code h in
-      let may = subst (λ x. MayHave p c fr ts v i x) so (fits p c fr ts v i n).0 in
-      begins_at i code (off_of p c fr ts v i) may.0 (subst (λ x. applied p fr ts v x ≡ u) so e) (pushes i code n)
+  begins_by i code h n e = grind (arith, nat_tests, leaves_so p c fr ts, fits p c fr ts, begins_at i code, off_of p c fr ts, pushes i code n)
 
 pub begins :
     (p : Image) (t : Typing) → IsWired p → IsTyped p t → (c : Choice) (s u : State) → WellTyped p t s → named s.cells c.name ≡ None →
     (fr : Frame) (ts : List Task) (i : Instr) (code : ℤ) → s.tasks ≡ Run fr ∷ ts → instr_at p fr.method fr.place ≡ Some i → LeavesWith c fr i code → step p c s ≡ Goes u → Begins p code fr (length ts) i s u
-begins p t wired typed c s u w unused fr ts i code at there h e =
-    let a = acts_at p c s u fr ts i at there e in
-    begins_by p t c fr ts s u at w (subst (λ o. Keeps p t o) e (step_keeps p t wired typed c s w unused)) i code h a.0 a.1
+begins p t wired typed c s u w unused fr ts i code at there h e = grind (
+  arith,
+  nat_tests,
+  acts_at p c s u fr ts i at there e,
+  begins_by p t c fr ts s u at w,
+  step_keeps p t wired typed c s w unused,
+)
 
 -- ---- the entry that is dealt with
 
 -- no cell is on its way to a place over all tasks
 none_on_its_way : (p : Image) (t : Typing) (s : State) → WellTyped p t s → (ts : List Task) → s.tasks ≡ ts → held s.cells (Going (length ts)) ≡ None
-none_on_its_way p t s w ts at =
-    let deep : length (tasks_of w.layers) ≡ length ts = ap length (sym w.tasks ∙ at) in
-    fits_unowning p (seen s.cells) _ Null refl
-    (subst (λ k. Fits p (seen s.cells) (held s.cells (Going (length ts))) k) (claim_going_above p s.cells w.layers (length ts) (omega (arith, deep))) (w.good.fits (Going (length ts))))
+none_on_its_way p t s w ts at = grind (arith, nat_tests, fits_unowning p, claim_going_above p s.cells w.layers)
 
 destroyed_over : (p : Image) (x : Bool) (d : Option ℕ) (o : Object) (height : ℕ) (under : List Task) → IsDestroyed x d o under (cond x (Closing ∷ Destroy ∷ under) (begun_by p d o height under))
-destroyed_over p true d o height under = refl
-destroyed_over p false None o height under = refl
-destroyed_over p false (Some m) o height under = (destructor_frame p m o (length under) height, refl, refl, refl, refl)
+destroyed_over p x d o height under = grind arith
 
 module _ (p : Image) (t : Typing) (wired : IsWired p) (s u : State) (w : WellTyped p t s) (code : ℤ) (below : List Task) (at_hand : s.tasks ≡ Unwind code ∷ below) where
   -- what is made of the item on top, with these below it
@@ -196,9 +180,7 @@ module _ (p : Image) (t : Typing) (wired : IsWired p) (s u : State) (w : WellTyp
       (begins_over p wired o.0 (length rest) code below (Unwind code ∷ below) (refl, refl), refl, (o.0, has_moved s.cells (Entry (length rest)) g o.0 o.1 free refl, destroyed_over p (is_server p o.0.thing) (destructor_of p o.0.thing) o.0 (length rest) (Unwind code ∷ below)))
 
   of_item : AllUndo p s.items → (i : Item) (rest es : List Item) → s.items ≡ i ∷ rest → AreEntries (i ∷ es) → unwound p code below (counted p s) (i ∷ rest) ≡ Goes u → Dealt i rest u
-  of_item undos An_object rest es same plain e =
-      let whole = (is_some (held s.cells (Entry (length rest))), NullOrDead) ∷ [] in
-      subst (λ v. Dealt An_object rest v) (guarded_goes whole _ u e) (of_object rest (guarded_met whole _ u e).0)
+  of_item undos An_object rest es same plain e = grind (arith, nat_tests, guarded_goes, of_object rest, guarded_met)
   of_item undos (An_operation m x) rest es same plain e =
       let fr = operation_frame m x (length rest) in
       let undo = subst (λ l. AllUndo p l) same undos in
@@ -215,7 +197,7 @@ pub deals :
     IsLeaving p code below rest items u × IsBegun p (Unwind code ∷ below) i (length (rest ++ (A_mark ∷ items))) s u
 deals p t wired c s u w code below i rest items l at e =
     let all = rest ++ (A_mark ∷ items) in
-    let e' : unwound p code below (counted p s) (i ∷ all) ≡ Goes u = subst (λ x. unwound p code below (counted p s) x ≡ Goes u) l.stack (subst (λ ts. step_task p c (counted p s) ts ≡ Goes u) at e) in
+    let e' : unwound p code below (counted p s) (i ∷ all) ≡ Goes u = grind (arith, nat_tests, below) in
     let d = of_item p t wired s u w code below at w.undos i all rest l.stack l.plain e' in
     (record { over = d.0; stack = d.1; plain = others i rest l.plain }, d.2)
 
@@ -262,8 +244,7 @@ module _ (c : ℕ) (code : ℤ) (fr : Frame) where
   told_result (Left x) cs depth sh a free = other_word fr (suc c) c (Some code) next_register
 
   pub told_frame : (g : Gives) → record (next (code_told g c code fr)) { words = fr.words } ≡ next fr
-  told_frame (An_own t) = refl
-  told_frame _ = refl
+  told_frame x = grind arith
 
   hears :
       (g : Gives) (cs : List Cell) (depth : ℕ) (sh : Shape) → Awaits g c sh → is_unowning (register sh (suc c)) ≡ true →
@@ -307,8 +288,7 @@ module _ (p : Image) (t : Typing) (s u : State) (code : ℤ) (items : List Item)
       Arrived (Trapped ∷ tasks_of ls) u
   below_trap (Method fr sh ∷ ls) gv es good e = subst (λ v. Arrived (Trapped ∷ Run fr ∷ tasks_of ls) v) (goes_same _ u e) (at_method fr sh ls gv es good)
   below_trap (Dispatching (Of_server x c Accepts) seats ∷ ls) gv es good e = subst (λ v. Arrived (Trapped ∷ Dispatched (Of_server x c Accepts) ∷ tasks_of ls) v) (goes_same _ u e) (refl, refl, refl)
-  below_trap (Dispatching (Of_server x c (Serves o)) seats ∷ ls) gv es good e =
-      subst (λ v. Arrived (Trapped ∷ Dispatched (Of_server x c (Serves o)) ∷ tasks_of ls) v) (goes_same _ u e) (refl, refl, refl)
+  below_trap (Dispatching (Of_server x c (Serves o)) seats ∷ ls) gv es good e = grind (arith, nat_tests, goes_same)
   below_trap (Dispatching Of_main seats ∷ ls) gv es good e = subst (λ v. Arrived (Trapped ∷ Dispatched Of_main ∷ tasks_of ls) v) (goes_same _ u e) (refl, refl, refl)
   below_trap (Dispatching (Of_object x) seats ∷ ls) gv es good e = subst (λ v. Arrived (Trapped ∷ Dispatched (Of_object x) ∷ tasks_of ls) v) (goes_same _ u e) (refl, refl, refl)
   below_trap _ gv es good e = grind arith
@@ -319,17 +299,14 @@ module _ (p : Image) (t : Typing) (s u : State) (code : ℤ) (items : List Item)
   below_leave _ es good e = grind arith
 
   by_layers : (below : List Task) (ls : List Layer) → tasks_of ls ≡ Unwind code ∷ below → Good p t s.cells ls → arrived p code below items (counted p s) ≡ Goes u → Arrived below u
-  by_layers below (Unwinding x es ∷ ls) at good e =
-      let same : tasks_of ls ≡ below = cc in
-      let equal : x ≡ code = cc in
-      subst (λ b. Arrived b u) same (below_leave ls es (subst (λ y. Good p t s.cells (Unwinding y es ∷ ls)) equal good) (subst (λ b. arrived p code b items (counted p s) ≡ Goes u) (sym same) e))
+  by_layers below (Unwinding x es ∷ ls) at good e = grind (arith, nat_tests, below, below_leave ls es)
   by_layers below _ at good e = cc
 
 pub arrives :
     (p : Image) (t : Typing) (c : Choice) (s u : State) → WellTyped p t s →
     (code : ℤ) (below : List Task) (items : List Item) → IsLeaving p code below [] items s → s.tasks ≡ Unwind code ∷ below → step p c s ≡ Goes u → Arrives p code below items s u
 arrives p t c s u w code below items l at e =
-    let e' : arrived p code below items (counted p s) ≡ Goes u = subst (λ x. unwound p code below (counted p s) x ≡ Goes u) l.stack (subst (λ ts. step_task p c (counted p s) ts ≡ Goes u) at e) in
+    let e' : arrived p code below items (counted p s) ≡ Goes u = grind (arith, nat_tests, below) in
     let r = by_layers p t s u code items below w.layers (sym w.tasks ∙ at) w.good e' in
     record {
       place = r.0;
@@ -342,5 +319,4 @@ arrives p t c s u w code below items l at e =
 pub ends :
     (p : Image) (c : Choice) (s u : State) (code : ℤ) (ts : List Task) → s.tasks ≡ Dispatched (Main_left code) ∷ ts → step p c s ≡ Goes u →
     (u.tasks ≡ []) × (u.rest.ended ≡ Some (MainLeft code))
-ends p c s u code ts at e =
-    subst (λ v. (v.tasks ≡ []) × (v.rest.ended ≡ Some (MainLeft code))) (goes_same (main_left code (counted p s)) u (subst (λ l. step_task p c (counted p s) l ≡ Goes u) at e)) (refl, refl)
+ends p c s u code ts at e = grind (arith, nat_tests, goes_same)

@@ -1,5 +1,6 @@
 -- With nothing at hand the owners of an object, one after the other, lead up to the root, and no object is met twice.
-use Rattle.std.proofs.Common.{[], inl, inr, List, None, Some, ap, arith, refl, subst, sym, ℕ, ◌<◌, ◌∙◌, ◌∷◌, ◌≡◌}
+use Rattle.std.proofs.lemmas.Bool.Decides.{nat_tests}
+use Rattle.std.proofs.Common.{[], inl, inr, List, Some, ap, arith, refl, subst, sym, ℕ, ◌<◌, ◌∙◌, ◌∷◌, ◌≡◌}
 use Rattle.aom_image.specs.Image.{Image}
 use Rattle.aom_rules.specs.Typing.{Typing}
 use Rattle.aom_shape.specs.Things.{field_thing}
@@ -8,13 +9,13 @@ use Rattle.aom_sound.proofs.Maps.{held_lives, named_name}
 use Rattle.aom_sound.proofs.Owners.{at_session, ends, field_thing_of, in_queue, kind_at, lower_rank, queued_lower, rank, session_lower}
 use Rattle.aom_sound.proofs.Signals.{at_rest}
 use Rattle.aom_sound.proofs.Straight.{fits_unowning}
-use Rattle.aom_sound.specs.Claims.{claim, declared}
+use Rattle.aom_sound.specs.Claims.{declared}
 use Rattle.aom_sound.specs.Laws.{IsWired}
 use Rattle.aom_sound.specs.Owned.{Ends, NoneGoes, at_entry, at_register, at_root, at_service, by_cell, by_server}
-use Rattle.aom_sound.specs.Places.{Elsewhere, Entry, Field, In_service, Object, Place, Queued, Register, Root, Session, held, named, seen}
+use Rattle.aom_sound.specs.Places.{Elsewhere, Entry, Field, In_service, Object, Place, Queued, Register, Root, Session, held, named}
 use Rattle.aom_sound.specs.Servers.{session_thing}
 use Rattle.aom_sound.specs.State.{Seat, State, thing_holder}
-use Rattle.aom_sound.specs.WellTyped.{AllSit, Fits, Now, SitsIn, SomeSits, WellTyped}
+use Rattle.aom_sound.specs.WellTyped.{AllSit, Now, SitsIn, SomeSits, WellTyped}
 
 module _ (p : Image) (t : Typing) (wired : IsWired p) (s : State) (w : WellTyped p t s) (idle : s.tasks ≡ []) where
   -- each stands higher than that one
@@ -30,10 +31,7 @@ module _ (p : Image) (t : Typing) (wired : IsWired p) (s : State) (w : WellTyped
   clear = subst (λ ts. NoneGoes ts) (sym idle) tt
 
   unheld : (q : Place) (o : Object) → declared p s.cells q ≡ Null → held s.cells q ≡ Some o → ⊥
-  unheld q o null e =
-      let f : Fits p (seen s.cells) (held s.cells q) Null =
-      subst (λ k. Fits p (seen s.cells) (held s.cells q) k) (ap (λ l. claim p (declared p s.cells) l q) (at_rest p t s w idle) ∙ null) (w.good.fits q) in
-      let clash : None ≡ Some o = sym (fits_unowning p (seen s.cells) _ Null refl f) ∙ e in cc
+  unheld q o null e = grind (arith, nat_tests, at_rest p t s w idle, fits_unowning p)
 
   -- what stands lower does not sit among what stands higher
   not_among : (o : Object) (xs : List Seat) → named s.cells o.name ≡ Some o → AllSit s.cells xs → Higher (rank p wired o.thing) xs → SomeSits o.name xs → ⊥

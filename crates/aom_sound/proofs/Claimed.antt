@@ -1,6 +1,7 @@
 -- How the claims change with the abstract state of the top method, and how they go on to hold.
-use Rattle.std.proofs.Common.{[], Bool, List, None, Option, Some, ap, arith, cond, false, inl, inr, length, refl, subst, sym, true, zero, ℕ, ℤ, ◌&&◌, ◌<◌, ◌==◌, ◌∙◌, ◌∷◌, ◌≡◌, ◌≤◌}
-use Rattle.std.proofs.lemmas.Bool.{cases_Bool, eq-eqb, eqb-true, ne_eqb, true≢false}
+use Rattle.std.proofs.lemmas.Bool.Decides.{nat_tests}
+use Rattle.std.proofs.Common.{[], Bool, List, None, Option, Some, ap, arith, cond, false, length, refl, subst, sym, true, zero, ℕ, ℤ, ◌&&◌, ◌<◌, ◌==◌, ◌∙◌, ◌∷◌, ◌≡◌, ◌≤◌}
+use Rattle.std.proofs.lemmas.Bool.{cases_Bool, eq-eqb, eqb-true, ne_eqb}
 use Rattle.std.specs.Prelude.{is_some}
 use Rattle.aom_image.specs.Image.{Image}
 use Rattle.aom_image.specs.declared.method.Gives.{Gives}
@@ -16,98 +17,51 @@ use Rattle.aom_shape.specs.declared.kind.Entry.{Entry as Pushed}
 use Rattle.aom_shape.specs.declared.kind.Filling.{Filling}
 use Rattle.aom_shape.specs.declared.kind.Filling.TheVariants.{Perhaps, Full}
 use Rattle.aom_shape.specs.declared.kind.Kind.{Kind}
-use Rattle.aom_shape.specs.declared.kind.Kind.TheVariants.{Maybe, Null, Own, Unset}
+use Rattle.aom_shape.specs.declared.kind.Kind.TheVariants.{Null, Own, Unset}
 use Rattle.aom_sound.proofs.Services.{service_moved, attended_kept, sessions_kept}
-use Rattle.aom_sound.specs.Servers.{message_thing, has_message, has_session, session_thing}
 use Rattle.aom_sound.proofs.Seats.{NoFieldHere, NoSeatHere, first_kept, sits_kept}
 use Rattle.aom_sound.proofs.Maps.{at-put_at, held_moved, named_moved, requested_moved, same_place-true, same_place_refl, transfer}
-use Rattle.aom_sound.specs.Claims.{is_of_root, Dispatching, Dying, Form, Layer, Mark, Method, Unwinding, claim, declared, declared_field, entries_of, entry_claim, home_claim, items_of, layer_claim, objects, own_field, root_claim, tasks_of, Ending, by_close, by_stage, delivered, serves}
-use Rattle.aom_sound.specs.Places.{Service, Cell, Elsewhere, Entry, Field, Going, Object, Place, Register, Root, Sight, changed, held, moved, named, same_place, Session, In_service, Queued, service_of}
-use Rattle.aom_sound.specs.State.{AtRoot, Dispatch, Frame, Home, Inside, Seat, Static, field_place, home_holder, thing_holder, Of_server, Parts, Serves, Service_left}
-use Rattle.aom_sound.specs.WellTyped.{view_holder, InView, Back, Caught, Fits, Gone, HasAge, Holds, IsBelow, IsHoused, IsNoFieldOf, Leaves, NoneFrom, NoneIn, NotFrom, NotIn, Returns, Stack, Unclaimed, WordFits, by_field, seat_of, Now}
-use mathlib.Core.Path.{fun_ext}
+use Rattle.aom_sound.specs.Claims.{is_of_root, Dispatching, Dying, Form, Layer, Mark, Method, Unwinding, claim, declared, entries_of, entry_claim, home_claim, items_of, layer_claim, objects, own_field, root_claim, tasks_of, Ending, by_close, by_stage, delivered, serves}
+use Rattle.aom_sound.specs.Places.{Service, Cell, Elsewhere, Entry, Field, Going, Object, Place, Register, Root, Sight, changed, held, moved, named, same_place, Session, In_service}
+use Rattle.aom_sound.specs.State.{AtRoot, Dispatch, Frame, Home, Inside, Seat, Static, field_place, home_holder, Of_server, Parts, Serves, Service_left}
+use Rattle.aom_sound.specs.WellTyped.{view_holder, InView, Back, Caught, Fits, Gone, HasAge, Holds, IsBelow, IsHoused, IsNoFieldOf, Leaves, NoneFrom, NoneIn, Returns, Stack, Unclaimed, WordFits, by_field, seat_of, Now}
 
 -- a frame counts for the claims by its home and its method alone
 pub claim_frame :
     (p : Image) (d : Place → Kind) (fr fr' : Frame) (sh : Shape) (ls : List Layer) (r : Place) → fr'.home ≡ fr.home → fr'.method ≡ fr.method →
     claim p d (Method fr' sh ∷ ls) r ≡ claim p d (Method fr sh ∷ ls) r
-claim_frame p d fr fr' sh ls (Field n f) e em =
-    ap (λ h. home_claim p (holder_of p fr'.method) h sh n f (claim p d ls (Field n f))) e ∙ ap (λ m. home_claim p (holder_of p m) fr.home sh n f (claim p d ls (Field n f))) em
-claim_frame p d fr fr' sh ls (Elsewhere Root) e em = ap (λ h. root_claim p h sh (claim p d ls (Elsewhere Root))) e
-claim_frame p d fr fr' sh ls (Elsewhere In_service) e em = ap (λ m. cond (serves p m) (delivered sh.delivery) (claim p d ls (Elsewhere In_service))) em
-claim_frame p d fr fr' sh ls _ e em = refl
+claim_frame p d fr fr' sh ls x e em = grind arith
 
 pub claim-set_register :
     (p : Image) (d : Place → Kind) (fr : Frame) (sh : Shape) (ls : List Layer) (a : ℕ) (v : Kind) (r : Place) →
     claim p d (Method fr (set_register sh a v) ∷ ls) r ≡ changed (claim p d (Method fr sh ∷ ls)) (Register (length (tasks_of ls)) a) v r
-claim-set_register p d fr sh ls a v (Register f i) = go (length (tasks_of ls) == f)
-  where
-    go : (b : Bool) → cond b (at Unset (put_at Unset sh.registers a v) i) (claim p d ls (Register f i)) ≡ cond (b && (a == i)) v (cond b (at Unset sh.registers i) (claim p d ls (Register f i)))
-    go true = at-put_at Unset sh.registers a i v
-    go false = refl
-claim-set_register p d fr sh ls a v (Entry k) = refl
-claim-set_register p d fr sh ls a v (Field n f) = go fr.home
-  where
-    go : (h : Home) → home_claim p (holder_of p fr.method) h (set_register sh a v) n f (claim p d ls (Field n f)) ≡ home_claim p (holder_of p fr.method) h sh n f (claim p d ls (Field n f))
-    go Static = refl
-    go AtRoot = refl
-    go (Inside o from) = refl
-claim-set_register p d fr sh ls a v (Elsewhere Root) = go fr.home
-  where
-    go : (h : Home) → root_claim p h (set_register sh a v) (claim p d ls (Elsewhere Root)) ≡ root_claim p h sh (claim p d ls (Elsewhere Root))
-    go Static = refl
-    go AtRoot = refl
-    go (Inside o from) = refl
-claim-set_register p d fr sh ls a v _ = refl
+claim-set_register p d fr sh ls a v x = grind (arith, nat_tests, at-put_at Unset sh.registers a)
 
 -- what a field is claimed to be, with another filling
 filled_at :
     (thing : ℕ → Option Thing) (xs : List Filling) (a : ℕ) (x : Filling) (v : Kind) (f : ℕ) → filled (thing a) x ≡ v →
     filled (thing f) (at Perhaps (put_at Perhaps xs a x) f) ≡ cond (a == f) v (filled (thing f) (at Perhaps xs f))
-filled_at thing xs a x v f same = ap (λ y. filled (thing f) y) (at-put_at Perhaps xs a f x) ∙ push (a == f) refl
-  where
-    push : (b : Bool) → (a == f) ≡ b → filled (thing f) (cond b x (at Perhaps xs f)) ≡ cond b v (filled (thing f) (at Perhaps xs f))
-    push true e = ap (λ y. filled (thing y) x) (sym (eqb-true a f e)) ∙ same
-    push false e = refl
+filled_at thing xs a x v f same = grind (arith, nat_tests, at-put_at Perhaps xs a f x, eqb-true a f)
 
 -- a field that the method's class declares is claimed as it is known
 pub own_there : (x : Option Thing) (y : Filling) (below : Kind) → is_some x ≡ true → own_field x y below ≡ filled x y
-own_there (Some t) y below some = refl
-own_there None y below some = cc
+own_there x y below some = grind arith
 
 own_at :
     (thing : ℕ → Option Thing) (xs : List Filling) (a : ℕ) (x : Filling) (v below : Kind) (f : ℕ) → is_some (thing a) ≡ true → filled (thing a) x ≡ v →
     own_field (thing f) (at Perhaps (put_at Perhaps xs a x) f) below ≡ cond (a == f) v (own_field (thing f) (at Perhaps xs f) below)
-own_at thing xs a x v below f some same = ap (λ y. own_field (thing f) y below) (at-put_at Perhaps xs a f x) ∙ push (a == f) refl
-  where
-    push : (b : Bool) → (a == f) ≡ b → own_field (thing f) (cond b x (at Perhaps xs f)) below ≡ cond b v (own_field (thing f) (at Perhaps xs f) below)
-    push true e = ap (λ y. own_field (thing y) x below) (sym (eqb-true a f e)) ∙ own_there (thing a) x below some ∙ same
-    push false e = refl
+own_at thing xs a x v below f some same = grind (arith, nat_tests, at-put_at Perhaps xs a f x, eqb-true a f, own_there (thing a) x below some)
 
 claim-set_member :
     (p : Image) (d : Place → Kind) (fr : Frame) (o : Object) (from : Place) (sh : Shape) (ls : List Layer) (a : ℕ) (x : Filling) (v : Kind) (r : Place) → fr.home ≡ Inside o from →
     is_some (field_thing p (holder_of p fr.method) a) ≡ true → filled (field_thing p (holder_of p fr.method) a) x ≡ v →
     claim p d (Method fr (set_field sh a x) ∷ ls) r ≡ changed (claim p d (Method fr sh ∷ ls)) (Field o.name a) v r
-claim-set_member p d fr o from sh ls a x v (Field n f) e some same =
-    ap (λ h. home_claim p (holder_of p fr.method) h (set_field sh a x) n f (claim p d ls (Field n f))) e ∙ go (o.name == n)
-    ∙ ap (λ h. cond ((o.name == n) && (a == f)) v (home_claim p (holder_of p fr.method) h sh n f (claim p d ls (Field n f)))) (sym e)
-  where
-    go :
-        (b : Bool) →
-        cond b (own_field (field_thing p (holder_of p fr.method) f) (at Perhaps (put_at Perhaps sh.fields a x) f) (claim p d ls (Field n f))) (claim p d ls (Field n f))
-        ≡ cond (b && (a == f)) v (cond b (own_field (field_thing p (holder_of p fr.method) f) (field sh f) (claim p d ls (Field n f))) (claim p d ls (Field n f)))
-    go true = own_at (λ f. field_thing p (holder_of p fr.method) f) sh.fields a x v (claim p d ls (Field n f)) f some same
-    go false = refl
-claim-set_member p d fr o from sh ls a x v (Elsewhere Root) e some same =
-    ap (λ h. root_claim p h (set_field sh a x) (claim p d ls (Elsewhere Root))) e ∙ ap (λ h. root_claim p h sh (claim p d ls (Elsewhere Root))) (sym e)
-claim-set_member p d fr o from sh ls a x v _ e some same = refl
+claim-set_member p d fr o from sh ls a x v y e some same = grind (arith, nat_tests, own_at)
 
 claim-set_root :
     (p : Image) (d : Place → Kind) (fr : Frame) (sh : Shape) (ls : List Layer) (x : Filling) (v : Kind) (r : Place) → fr.home ≡ AtRoot → filled (field_thing p Program 0) x ≡ v →
     claim p d (Method fr (set_field sh 0 x) ∷ ls) r ≡ changed (claim p d (Method fr sh ∷ ls)) (Elsewhere Root) v r
-claim-set_root p d fr sh ls x v (Field n f) e same =
-    ap (λ h. home_claim p (holder_of p fr.method) h (set_field sh 0 x) n f (claim p d ls (Field n f))) e
-    ∙ ap (λ h. home_claim p (holder_of p fr.method) h sh n f (claim p d ls (Field n f))) (sym e)
+claim-set_root p d fr sh ls x v (Field n f) e same = grind (arith, nat_tests)
 claim-set_root p d fr sh ls x v (Elsewhere Root) e same =
     ap (λ h. root_claim p h (set_field sh 0 x) (claim p d ls (Elsewhere Root))) e ∙ filled_at (λ f. field_thing p Program f) sh.fields 0 x v 0 same
 claim-set_root p d fr sh ls x v _ e same = refl
@@ -125,27 +79,7 @@ claim-set_field p d fr _ sh ls _ x v r e own some same = cc
 pub claim_push :
     (p : Image) (d : Place → Kind) (fr : Frame) (sh : Shape) (ls : List Layer) (v : Pushed) (r : Place) →
     claim p d (Method fr (record sh { entries = v ∷ sh.entries }) ∷ ls) r ≡ changed (claim p d (Method fr sh ∷ ls)) (Entry (length (items_of (Method fr sh ∷ ls)))) (entry_kind v) r
-claim_push p d fr sh ls v (Register f i) = refl
-claim_push p d fr sh ls v (Entry k) = go (length (objects sh.entries (items_of ls)) == k)
-  where
-    go :
-        (b : Bool) →
-        cond b (entry_kind v) (entry_claim sh.entries (items_of ls) k (claim p d ls (Entry k))) ≡ cond (b && true) (entry_kind v) (entry_claim sh.entries (items_of ls) k (claim p d ls (Entry k)))
-    go true = refl
-    go false = refl
-claim_push p d fr sh ls v (Field n f) = go fr.home
-  where
-    go : (h : Home) → home_claim p (holder_of p fr.method) h (record sh { entries = v ∷ sh.entries }) n f (claim p d ls (Field n f)) ≡ home_claim p (holder_of p fr.method) h sh n f (claim p d ls (Field n f))
-    go Static = refl
-    go AtRoot = refl
-    go (Inside o from) = refl
-claim_push p d fr sh ls v (Elsewhere Root) = go fr.home
-  where
-    go : (h : Home) → root_claim p h (record sh { entries = v ∷ sh.entries }) (claim p d ls (Elsewhere Root)) ≡ root_claim p h sh (claim p d ls (Elsewhere Root))
-    go Static = refl
-    go AtRoot = refl
-    go (Inside o from) = refl
-claim_push p d fr sh ls v _ = refl
+claim_push p d fr sh ls v x = grind arith
 
 pub filled_weaker : (c : Option Thing) {x y : Filling} → WeakerFilling x y → Weaker (filled c x) (filled c y)
 filled_weaker (Some c) perhaps_empty = maybe_null
@@ -209,9 +143,7 @@ word_fits_weaker w _ f = f
 
 -- fresh cells stay fresh where no field of theirs is filled, and none is enlisted
 pub fits_age : (p : Image) (h h' : Sight) (o : Option Object) (k : Kind) → ((x : Object) → o ≡ Some x → is_ready_kind k ≡ false → HasAge h x Fresh → HasAge h' x Fresh) → Fits p h o k → Fits p h' o k
-fits_age p h h' (Some o) (Own c Fresh) g f = (f.0, g o refl refl f.1)
-fits_age p h h' (Some o) (Maybe c Fresh) g f = (f.0, g o refl refl f.1)
-fits_age p h h' _ _ g f = f
+fits_age p h h' x y g f = grind arith
 
 -- a thing and its claim move together
 pub keep_fits :
@@ -245,9 +177,7 @@ keep_fits image h h' k k' p q eh requests ek apart fits r =
 -- above the layers nothing is claimed
 entries_above : (es : List Pushed) (items : List Form) (k : ℕ) (below : Kind) → length (objects es items) ≤ k → entry_claim es items k below ≡ below
 entries_above [] items k below le = refl
-entries_above (x ∷ es) items k below le =
-    ap (λ b. cond b (entry_kind x) (entry_claim es items k below)) (ne_eqb (length (objects es items)) k (λ e. absurd (omega arith)))
-    ∙ entries_above es items k below (omega arith)
+entries_above (x ∷ es) items k below le = grind (arith, nat_tests, ne_eqb, entries_above es items k below)
 
 pub length_objects : (es : List Pushed) (items : List Form) → length items ≤ length (objects es items)
 length_objects [] items = omega arith
@@ -263,17 +193,7 @@ claim_entry_above p cs (Ending o left ∷ ls) k le = claim_entry_above p cs ls k
 claim_entry_above p cs (Unwinding code es ∷ ls) k le = entries_above es (items_of ls) k _ le ∙ claim_entry_above p cs ls k (omega (arith, length_objects es (items_of ls)))
 
 pub declared_moved : (p : Image) (cs : List Cell) (a b : Place) → declared p (moved a b cs) ≡ declared p cs
-declared_moved p cs a b = fun_ext go
-  where
-    go : (r : Place) → declared p (moved a b cs) r ≡ declared p cs r
-    go (Field n f) = ap (λ o. declared_field p o f) (named_moved cs a b n)
-    go (Elsewhere (Session n c)) =
-        ap (λ v. cond (has_session v c) (filled (session_thing p (named (moved a b cs) n)) Full) Null) (service_moved cs a b n)
-        ∙ ap (λ o. cond (has_session (service_of cs n) c) (filled (session_thing p o) Full) Null) (named_moved cs a b n)
-    go (Elsewhere (Queued n m)) =
-        ap (λ v. cond (has_message v m) (filled (message_thing p (named (moved a b cs) n)) Full) Null) (service_moved cs a b n)
-        ∙ ap (λ o. cond (has_message (service_of cs n) m) (filled (message_thing p o) Full) Null) (named_moved cs a b n)
-    go _ = refl
+declared_moved p cs a b = grind (arith, nat_tests, named_moved cs a b, service_moved cs a b)
 
 -- a place of the top method, or above it
 abbrev pub Outside : Place → List Layer → Type 0
@@ -284,55 +204,36 @@ Outside (Elsewhere w) ls = NoneFrom (Elsewhere w) ls
 Outside (Going k) ls = length (tasks_of ls) ≤ k
 
 length_items : (l : Layer) (ls : List Layer) → length (items_of ls) ≤ length (items_of (l ∷ ls))
-length_items (Method fr sh) ls = length_objects sh.entries (items_of ls)
-length_items (Unwinding code es) ls = length_objects es (items_of ls)
-length_items _ ls = omega arith
+length_items x ls = grind (arith, nat_tests, length_objects)
 
 none_in_less : (n : ℕ) (l : Layer) (ls : List Layer) → NoneIn n (l ∷ ls) → NoneIn n ls
-none_in_less n (Method fr sh) ls h = h.1
-none_in_less n (Dispatching d seats) ls h = h.1
-none_in_less n _ ls h = h
+none_in_less n x ls h = grind arith
 
 none_from_less : (q : Place) (l : Layer) (ls : List Layer) → NoneFrom q (l ∷ ls) → NoneFrom q ls
-none_from_less q (Method fr sh) ls h = h.1
-none_from_less q (Dispatching d seats) ls h = h.1
-none_from_less q _ ls h = h
+none_from_less q x ls h = grind arith
 
 pub outside_less : (q : Place) (l : Layer) (ls : List Layer) → Outside q (l ∷ ls) → Outside q ls
-outside_less (Register f i) l ls h = omega arith
-outside_less (Entry k) l ls h = omega (arith, length_items l ls)
-outside_less (Field n f) l ls h = none_in_less n l ls h
-outside_less (Elsewhere w) l ls h = none_from_less (Elsewhere w) l ls h
-outside_less (Going k) l ls h = omega arith
+outside_less x l ls h = grind (arith, nat_tests, length_items l ls, none_in_less, none_from_less)
 
 -- then no seat is there
 pub no_seat_outside : (q : Place) (d : Dispatch) (seats : List Seat) (ls : List Layer) → Outside q (Dispatching d seats ∷ ls) → NoSeatHere q seats
-no_seat_outside (Field n f) d seats ls h = h.0
-no_seat_outside (Elsewhere w) d seats ls h = h.0
-no_seat_outside _ d seats ls h = tt
+no_seat_outside x d seats ls h = grind arith
 
 -- no place is both
 outside_below : (q : Place) (ls : List Layer) → Outside q ls → NoFieldHere q q → IsBelow q ls → ⊥
-outside_below (Field m f) ls h n b = true≢false (sym (eq-eqb m m refl) ∙ n)
-outside_below (Elsewhere w) ls h n b = true≢false (sym (same_place_refl (Elsewhere w)) ∙ n)
-outside_below _ ls h n b = omega arith
+outside_below x ls h n b = grind (arith, nat_tests, eq-eqb, same_place_refl)
 
 pub outside_differs : (q from : Place) (ls : List Layer) → Outside q ls → NoFieldHere q from → IsBelow from ls → same_place q from ≡ false
-outside_differs q from ls h n b = elim (cases_Bool (same_place q from)) as (λ x. same_place q from ≡ false) [
-  | inl e ↦ let same = same_place-true q from e in absurd (outside_below q ls h (subst (λ r. NoFieldHere q r) (sym same) n) (subst (λ r. IsBelow r ls) (sym same) b))
-  | inr e ↦ e
-]
+outside_differs q from ls h n b = grind (arith, nat_tests, cases_Bool, same_place-true q from, outside_below q ls h, NoFieldHere q)
 
 pub no_field_here : (q : Place) (fr : Frame) (o : Object) (from : Place) (sh : Shape) (ls : List Layer) → fr.home ≡ Inside o from → Outside q (Method fr sh ∷ ls) → NoFieldHere q from
-no_field_here (Field n f) fr o from sh ls e h = subst (NotIn n) e h.0
-no_field_here (Elsewhere w) fr o from sh ls e h = subst (λ home. NotFrom (Elsewhere w) home) e h.0
-no_field_here _ fr o from sh ls e h = tt
+no_field_here x fr o from sh ls e h = grind arith
 
 pub holds_moved :
     (p : Image) (cs : List Cell) (a b : Place) (ls : List Layer) (o : Object) (from : Place) → held cs b ≡ None → same_place a from ≡ false → same_place b from ≡ false →
     Holds p cs ls o from → Holds p (moved a b cs) ls o from
 holds_moved p cs a b ls o from free na nb h = record {
-  there = held_moved cs a b from free ∙ ap (λ x. cond x (held cs a) (cond (same_place a from) None (held cs from))) nb ∙ ap (λ x. cond x None (held cs from)) na ∙ h.there;
+  there = grind (arith, nat_tests, held_moved cs a b from free);
   lives = named_moved cs a b o.name ∙ h.lives;
   below = h.below;
   ready = h.ready;
@@ -347,18 +248,12 @@ housed_moved p cs a b fr sh ls (Inside o from) e free oa ob h =
     holds_moved p cs a b ls o from free (outside_differs a from ls (outside_less a _ ls oa) (no_field_here a fr o from sh ls e oa) h.below) (outside_differs b from ls (outside_less b _ ls ob) (no_field_here b fr o from sh ls e ob) h.below) h
 
 pub going_differs : (r : Place) (o : Object) (ls : List Layer) → Outside r (Dying o ∷ ls) → same_place r (Going (length (tasks_of ls))) ≡ false
-going_differs (Going k) o ls h = ap (λ x. x && true) (ne_eqb k (length (tasks_of ls)) (λ e. absurd (omega arith)))
-going_differs _ o ls h = refl
+going_differs x o ls h = grind (arith, nat_tests, ne_eqb)
 
 going_moved :
     (cs : List Cell) (a b : Place) (o : Object) (ls : List Layer) → held cs b ≡ None → Outside a (Dying o ∷ ls) → Outside b (Dying o ∷ ls) → held cs (Going (length (tasks_of ls))) ≡ Some o →
     held (moved a b cs) (Going (length (tasks_of ls))) ≡ Some o
-going_moved cs a b o ls free oa ob e =
-    let q = Going (length (tasks_of ls)) in
-    held_moved cs a b q free
-    ∙ ap (λ x. cond x (held cs a) (cond (same_place a q) None (held cs q))) (going_differs b o ls ob)
-    ∙ ap (λ x. cond x None (held cs q)) (going_differs a o ls oa)
-    ∙ e
+going_moved cs a b o ls free oa ob e = grind (arith, nat_tests, held_moved cs a b, going_differs b o ls ob, going_differs a o ls oa)
 
 pub stack_moved :
     (p : Image) (t : Typing) (cs : List Cell) (a b : Place) (ls : List Layer) (back : Back) → held cs b ≡ None → Outside a ls → Outside b ls → Stack p t cs back ls →
@@ -387,21 +282,12 @@ stack_moved p t cs a b (Dying o ∷ ls) back free oa ob s =
 -- what holds a method's cell is claimed as it was before the method was called
 entries_below : (es : List Pushed) (items : List Form) (k : ℕ) (below : Kind) → k < length items → entry_claim es items k below ≡ below
 entries_below [] items k below lt = refl
-entries_below (x ∷ es) items k below lt =
-    ap (λ b. cond b (entry_kind x) (entry_claim es items k below)) (ne_eqb (length (objects es items)) k (λ e. absurd (omega (arith, length_objects es items))))
-    ∙ entries_below es items k below lt
+entries_below (x ∷ es) items k below lt = grind (arith, nat_tests, ne_eqb, length_objects es items, entries_below es items k below lt)
 
 pub claim_from :
     (p : Image) (d : Place → Kind) (fr : Frame) (o : Object) (from : Place) (sh : Shape) (ls : List Layer) → fr.home ≡ Inside o from → IsNoFieldOf o.name from → IsBelow from ls →
     claim p d (Method fr sh ∷ ls) from ≡ claim p d ls from
-claim_from p d fr o (Register g j) sh ls e n b = ap (λ x. cond x (register sh j) (claim p d ls (Register g j))) (ne_eqb (length (tasks_of ls)) g (λ e. absurd (omega arith)))
-claim_from p d fr o (Entry k) sh ls e n b = entries_below sh.entries (items_of ls) k (claim p d ls (Entry k)) b
-claim_from p d fr o (Field m g) sh ls e n b =
-    ap (λ h. home_claim p (holder_of p fr.method) h sh m g (claim p d ls (Field m g))) e
-    ∙ ap (λ x. cond x (own_field (field_thing p (holder_of p fr.method) g) (field sh g) (claim p d ls (Field m g))) (claim p d ls (Field m g))) n
-claim_from p d fr o (Elsewhere Root) sh ls e n b = ap (λ h. root_claim p h sh (claim p d ls (Elsewhere Root))) e
-claim_from p d fr o (Elsewhere In_service) sh ls e n b = absurd b
-claim_from p d fr o _ sh ls e n b = refl
+claim_from p d fr o x sh ls e n b = grind (arith, nat_tests, ne_eqb, entries_below sh.entries)
 
 -- a layer's claims follow those below it
 cond_rel : (R : Kind → Kind → Type 0) → ((k : Kind) → R k k) → (b : Bool) (z x y : Kind) → R x y → R (cond b z x) (cond b z y)
@@ -465,24 +351,13 @@ claim_rel R same p d d' [] r h = h
 claim_rel R same p d d' (l ∷ ls) r h = layer_rel R same p l _ _ r _ _ (claim_rel R same p d d' ls r h)
 
 perhaps_ready : (t : Option Thing) → is_ready_kind (filled t Perhaps) ≡ true
-perhaps_ready None = refl
-perhaps_ready (Some t) = refl
+perhaps_ready x = grind arith
 
 full_ready : (b : Bool) (t : Option Thing) → is_ready_kind (cond b (filled t Full) Null) ≡ true
-full_ready false t = refl
-full_ready true None = refl
-full_ready true (Some t) = refl
+full_ready x t = grind arith
 
 pub declared_ready : (p : Image) (cs : List Cell) (r : Place) → is_ready_kind (declared p cs r) ≡ true
-declared_ready p cs (Field n f) = go (named cs n)
-  where
-    go : (o : Option Object) → is_ready_kind (declared_field p o f) ≡ true
-    go None = refl
-    go (Some o) = perhaps_ready (field_thing p (thing_holder o.thing) f)
-declared_ready p cs (Elsewhere Root) = perhaps_ready (field_thing p Program 0)
-declared_ready p cs (Elsewhere (Session n c)) = full_ready (has_session (service_of cs n) c) (session_thing p (named cs n))
-declared_ready p cs (Elsewhere (Queued n m)) = full_ready (has_message (service_of cs n) m) (message_thing p (named cs n))
-declared_ready p cs _ = refl
+declared_ready p cs x = grind (arith, nat_tests, perhaps_ready, full_ready)
 
 -- declared fields are ready, so that a claim which is ready with nothing declared is ready
 pub claim_ready : (p : Image) (cs : List Cell) (ls : List Layer) (r : Place) → is_ready_kind (claim p (λ x. Null) ls r) ≡ true → is_ready_kind (claim p (declared p cs) ls r) ≡ true
@@ -493,29 +368,17 @@ pub claim_unnamed :
     (p : Image) (t : Typing) (cs : List Cell) (d : Place → Kind) (ls : List Layer) (back : Back) (n f : ℕ) → Stack p t cs back ls → named cs n ≡ None →
     claim p d ls (Field n f) ≡ d (Field n f)
 claim_unnamed p t cs d [] back n f s e = refl
-claim_unnamed p t cs d (Method fr sh ∷ ls) back n f s e = go fr.home s.2 ∙ claim_unnamed p t cs d ls (Returns fr.method fr.home) n f s.4 e
-  where
-    go : (h : Home) → IsHoused p cs ls h → home_claim p (holder_of p fr.method) h sh n f (claim p d ls (Field n f)) ≡ claim p d ls (Field n f)
-    go Static h = refl
-    go AtRoot h = refl
-    go (Inside o from) h =
-        ap (λ b. cond b (own_field (field_thing p (holder_of p fr.method) f) (field sh f) (claim p d ls (Field n f))) (claim p d ls (Field n f)))
-        (ne_eqb o.name n (λ same. let l = h.lives in let e' : Some o ≡ None = sym l ∙ ap (λ x. named cs x) same ∙ e in cc))
+claim_unnamed p t cs d (Method fr sh ∷ ls) back n f s e = grind (arith, nat_tests, claim_unnamed p t cs d ls (Returns fr.method fr.home) n f s.4 e, ne_eqb)
 claim_unnamed p t cs d (Mark gv ∷ ls) back n f s e = claim_unnamed p t cs d ls (Caught gv) n f s.1 e
 claim_unnamed p t cs d (Dispatching w seats ∷ ls) back n f s e = ap (λ l. claim p d l (Field n f)) s.1
-claim_unnamed p t cs d (Ending o left ∷ ls) back n f s e =
-    ap (λ b. cond b (filled (field_thing p (thing_holder o.thing) f) Perhaps) (claim p d ls (Field n f))) (ne_eqb o.name n (λ same. let l = s.0.lives in let e' : Some o ≡ None = sym l ∙ ap (λ x. named cs x) same ∙ e in cc))
-    ∙ claim_unnamed p t cs d ls Now n f s.3 e
+claim_unnamed p t cs d (Ending o left ∷ ls) back n f s e = grind (arith, nat_tests, ne_eqb o.name n, claim_unnamed p t cs d ls Now n f s.3 e)
 claim_unnamed p t cs d (Unwinding code es ∷ ls) back n f s e = claim_unnamed p t cs d ls Leaves n f s.1 e
-claim_unnamed p t cs d (Dying o ∷ ls) back n f s e =
-    ap (λ b. cond b Null (claim p d ls (Field n f))) (ne_eqb o.name n (λ same. let l = s.0.0 in let e' : Some o ≡ None = sym l ∙ ap (λ x. named cs x) same ∙ e in cc))
-    ∙ claim_unnamed p t cs d ls Gone n f s.2 e
+claim_unnamed p t cs d (Dying o ∷ ls) back n f s e = grind (arith, nat_tests, ne_eqb o.name n, claim_unnamed p t cs d ls Gone n f s.2 e)
 
 -- registers above the layers
 pub claim_register_above : (p : Image) (cs : List Cell) (ls : List Layer) (f i : ℕ) → length (tasks_of ls) ≤ f → claim p (declared p cs) ls (Register f i) ≡ Null
 claim_register_above p cs [] f i le = refl
-claim_register_above p cs (Method fr sh ∷ ls) f i le =
-    ap (λ b. cond b (register sh i) (claim p (declared p cs) ls (Register f i))) (ne_eqb (length (tasks_of ls)) f (λ e. absurd (omega arith))) ∙ claim_register_above p cs ls f i (omega arith)
+claim_register_above p cs (Method fr sh ∷ ls) f i le = grind (arith, nat_tests, ne_eqb, claim_register_above p cs ls f i)
 claim_register_above p cs (Mark gv ∷ ls) f i le = claim_register_above p cs ls f i (omega arith)
 claim_register_above p cs (Dispatching w seats ∷ ls) f i le = claim_register_above p cs ls f i (omega arith)
 claim_register_above p cs (Dying o ∷ ls) f i le = claim_register_above p cs ls f i (omega arith)
@@ -539,10 +402,8 @@ claim_going_above p cs (Mark gv ∷ ls) k le = claim_going_above p cs ls k (omeg
 claim_going_above p cs (Dispatching w seats ∷ ls) k le = claim_going_above p cs ls k (omega arith)
 claim_going_above p cs (Ending o left ∷ ls) k le = claim_going_above p cs ls k (omega arith)
 claim_going_above p cs (Unwinding code es ∷ ls) k le = claim_going_above p cs ls k (omega arith)
-claim_going_above p cs (Dying o ∷ ls) k le =
-    ap (λ b. cond b (Own o.thing Ready) (claim p (declared p cs) ls (Going k))) (ne_eqb (length (tasks_of ls)) k (λ e. absurd (omega arith))) ∙ claim_going_above p cs ls k (omega arith)
+claim_going_above p cs (Dying o ∷ ls) k le = grind (arith, nat_tests, ne_eqb, claim_going_above p cs ls k)
 
 -- a mark claims nothing
 pub mark_claims : (p : Image) (d : Place → Kind) (gv : Gives) (ls : List Layer) (r : Place) → claim p d (Mark gv ∷ ls) r ≡ claim p d ls r
-mark_claims p d gv ls (Elsewhere Root) = refl
-mark_claims p d gv ls _ = refl
+mark_claims p d gv ls x = grind arith

@@ -1,18 +1,18 @@
 -- While a leave is at hand, the methods and the going cells over it leave the cleanup stack as it is: by the heights at which the methods began.
+use Rattle.std.proofs.lemmas.Bool.Decides.{nat_tests}
 use Rattle.aom_image.specs.declared.method.Role.TheVariants.{Destruct}
 use Rattle.aom_roles.proofs.Descending.{itself}
 use Rattle.std.proofs.lemmas.Option.{same_Some}
-use Rattle.std.proofs.Common.{[], Bool, cond, false, List, None, Option, Some, ap, arith, length, refl, subst, sym, true, ℕ, ℤ, ◌∙◌, ◌∷◌, ◌≡◌, ◌≢◌}
+use Rattle.std.proofs.Common.{[], List, None, Option, Some, ap, arith, length, refl, subst, sym, true, ℕ, ℤ, ◌∙◌, ◌∷◌, ◌≡◌, ◌≢◌}
 use Rattle.std.proofs.lemmas.Bool.{true≢false}
 use Rattle.std.specs.Prelude.{not}
 use Rattle.aom_image.specs.Image.{Image}
-use Rattle.aom_image.specs.Views.{arguments_of, instr_at, is_quiet, method_class, method_role}
+use Rattle.aom_image.specs.Views.{is_quiet, method_class}
 use Rattle.aom_instructions.specs.declared.instr.Instr.{Instr}
 use Rattle.aom_instructions.specs.declared.instr.Instr.TheVariants.{Call}
 use Rattle.aom_instructions.specs.declared.instr.Target.{Target}
 use Rattle.aom_image.specs.declared.method.Gives.{Gives}
-use Rattle.aom_rules.specs.Calls.{parent_by, each_argument, rule_target}
-use Rattle.aom_rules.specs.Requests.{is_construct}
+use Rattle.aom_rules.specs.Calls.{parent_by}
 use Rattle.aom_shape.specs.Kinds.{no_entry}
 use Rattle.aom_shape.specs.Needs.{AllTrue}
 use Rattle.aom_rules.specs.Rules.{rule_needs}
@@ -27,21 +27,20 @@ use Rattle.aom_sound.proofs.Finishing.{all_parts}
 use Rattle.aom_sound.proofs.Items.{length_forms}
 use Rattle.aom_sound.proofs.Moving.{steps_are_moves}
 use Rattle.aom_sound.proofs.Preserving.{receives}
-use Rattle.aom_sound.specs.Calls.{result_register, returned, target_view}
+use Rattle.aom_sound.specs.Calls.{returned, target_view}
 use Rattle.aom_sound.specs.Claims.{Form, Layer, Method, forms, items_of, objects, tasks_of}
 use Rattle.aom_sound.specs.Cleanup.{has_trap}
-use Rattle.aom_classes.specs.Roles.{role_of, destructor_of}
+use Rattle.aom_classes.specs.Roles.{role_of}
 use Rattle.aom_sound.specs.Destruction.{class_destructor, line_on, destructed, parting, first_session, begun, begun_by}
-use Rattle.aom_sound.specs.Effects.{Calls, Cancels, Counts, Destroys, Destroys_last, Effect, Goes_on, Jumps, Leaves, Operates, Popped, Popped_operation, Pushed, Pushed_operation, Repeats, Returns, Sets_trap, Update, applied, items_after, with_words}
+use Rattle.aom_sound.specs.Effects.{Calls, Cancels, Counts, Destroys, Destroys_last, Effect, Goes_on, Jumps, Leaves, Operates, Repeats, Returns, Sets_trap, Update, applied, items_after, with_words}
 use Rattle.aom_sound.specs.Laws.{IsWired}
 use Rattle.aom_sound.specs.Leaves.{IsLeaving, IsOver}
 use Rattle.aom_sound.specs.Moves.{counted, step}
 use Rattle.aom_sound.specs.Places.{service_of, Cell, Object}
-use Rattle.aom_sound.specs.State.{Static, Inside, AtRoot, Home, Closing, Seat, Choice, Destroy, Frame, Goes, Item, Run, State, Task, Unwind, next, resumed}
+use Rattle.aom_sound.specs.State.{Static, Inside, AtRoot, Home, Closing, Seat, Choice, Destroy, Frame, Goes, Item, Run, State, Task, Unwind, resumed}
 use Rattle.aom_sound.specs.Steps.{Empties, Acts, Arrives, Clears, Comes_out, Ends, Fits, FitsUpdate, Move, Rests, Undoes, Vanishes}
 use Rattle.aom_sound.specs.WellTyped.{Good, WellTyped}
 use Rattle.aom_sound.specs.Enlisted.{ended_cells}
-use Rattle.aom_sound.specs.Servers.{is_server}
 
 -- a leave that is begun over it finds no trap
 no_trap : (p : Image) (height : ℕ) (code : ℤ) (below ts : List Task) → IsOver p height code below ts → has_trap ts ≡ true → ⊥
@@ -53,16 +52,11 @@ no_trap p height code below _ o e = o
 
 -- what waited goes on
 resumes_over : (p : Image) (height : ℕ) (code : ℤ) (below ts : List Task) → IsOver p height code below ts → IsOver p height code below (resumed ts)
-resumes_over p height code below (Run fr ∷ ts) o = o
-resumes_over p height code below _ o = o
+resumes_over p height code below x o = grind arith
 
 -- a destruction begins over it
 destructs_over : (p : Image) → IsWired p → (o : Object) (height : ℕ) (code : ℤ) (below ts : List Task) → IsOver p height code below ts → IsOver p height code below (destructed p o height ts)
-destructs_over p wired o height code below ts h = go (destructor_of p o.thing) refl
-  where
-    go : (d : Option ℕ) → destructor_of p o.thing ≡ d → IsOver p height code below (begun_by p d o height ts)
-    go None e = h
-    go (Some m) e = ((destroys p wired o.thing m e).quiet, refl, h)
+destructs_over p wired o height code below ts h = grind (arith, nat_tests, destroys p wired o.thing)
 
 -- and the next of its line
 line_over :
@@ -80,11 +74,7 @@ line_over p wired m (Inside o from) height code below ts h = go (parent_by p (me
     go (Some x) = of_role x (role_of p x Destruct) refl
 
 pub begins_over : (p : Image) → IsWired p → (o : Object) (height : ℕ) (code : ℤ) (below ts : List Task) → IsOver p height code below ts → IsOver p height code below (begun p o height ts)
-begins_over p wired o height code below ts h = go (is_server p o.thing)
-  where
-    go : (x : Bool) → IsOver p height code below (cond x (Closing ∷ Destroy ∷ ts) (destructed p o height ts))
-    go true = h
-    go false = destructs_over p wired o height code below ts h
+begins_over p wired o height code below ts h = grind (arith, nat_tests, destructs_over p wired o height code below ts h)
 
 -- a method that stands at the height at which it began has no entry
 no_entries : (es : List Pushed_entry) (below : List Form) → length (objects es below) ≡ length below → es ≡ []
@@ -94,11 +84,7 @@ no_entries (x ∷ es) below e = absurd (omega (arith, e, length_objects es below
 bare_shape :
     (p : Image) (t : Typing) (cs : List Cell) (fr : Frame) (ts : List Task) (items : List Item) (ls : List Layer) →
     Run fr ∷ ts ≡ tasks_of ls → forms items ≡ items_of ls → fr.height ≡ length items → Good p t cs ls → (sh : Shape) × (shape_at t fr.method fr.place ≡ Some sh) × (sh.entries ≡ [])
-bare_shape p t cs fr ts items (Method fr' sh ∷ ls) at f h good =
-    let same : fr' ≡ fr = cc in
-    let height : fr'.height ≡ length (items_of ls) = good.stack.1.height in
-    let level : length (objects sh.entries (items_of ls)) ≡ length (items_of ls) = sym (ap length f) ∙ length_forms items ∙ sym h ∙ sym (ap (λ x. x.height) same) ∙ height in
-    (sh, subst (λ x. shape_at t x.method x.place ≡ Some sh) same good.stack.0, no_entries sh.entries (items_of ls) level)
+bare_shape p t cs fr ts items (Method fr' sh ∷ ls) at f h good = grind (arith, nat_tests, length_forms items, no_entries sh.entries)
 bare_shape p t cs fr ts items _ at f h good = cc
 
 -- a method's move
@@ -114,29 +100,15 @@ module _ (p : Image) (wired : IsWired p) (c : Choice) (fr : Frame) (sh : Shape) 
   no_entry_there e = true≢false (sym e ∙ ap (λ es. not (no_entry es)) bare)
 
   return_kept : (g : Gives) (a : ℕ) (under : List Task) → IsOver p (length s.items) code below under → Kept (returned p fr ts (record s { cells = ended_cells p fr s.cells }) g a under)
-  return_kept g a (Run caller ∷ under) w =
-      let x = result_register (instr_at p caller.method caller.place) in
-      (subst (λ f. IsOver p (length s.items) code below (Run (next f) ∷ under)) (sym (receives p fr ts (record s { cells = ended_cells p fr s.cells }) g a x caller)) w, refl)
-  return_kept g a (Destroy ∷ under) w =
-      (subst (λ n. IsOver p (length s.items) code below (line_on p fr.method fr.home n under)) (sym h.1) (line_over p wired fr.method fr.home (length s.items) code below under w), refl)
-  return_kept g a (Unwind x ∷ under) w = (w, refl)
-  return_kept g a (Closing ∷ under) w = (subst (λ l. IsOver p (length s.items) code below l) (sym at_hand) h, refl)
-  return_kept g a _ w = absurd (assumption tt)
+  return_kept g a x w = grind (arith, nat_tests, receives p fr ts, line_over p wired fr.method fr.home)
 
   -- neither pushed nor taken
   same_items : (i : Instr) (u : Update) → Ruled i → FitsUpdate ts s.items i u → items_after u s.items ≡ s.items
-  same_items i (Pushed a) r f = absurd (no_trap p (length s.items) code below ts h.2 f.1)
-  same_items i (Pushed_operation m w) r f = absurd (no_trap p (length s.items) code below ts h.2 f.2)
-  same_items i (Popped a) r f = absurd (no_entry_there (subst Ruled f.0 r).1.0)
-  same_items i Popped_operation r f = absurd (no_entry_there (subst Ruled f.0 r).0)
-  same_items i _ r f = refl
+  same_items i x r f = grind (arith, nat_tests, no_trap p, no_entry_there)
 
   -- a quiet method calls quiet ones
   call_quiet : (target : Target) (m first x : ℕ) → Ruled (Call target m first x) → is_quiet p m ≡ true
-  call_quiet target m first x r =
-      let parts = all_parts (rule_target p fr.method sh target m (method_class p m) (is_construct (method_role p m)) first (length (arguments_of p m))) _ r in
-      let more = all_parts (each_argument p sh (arguments_of p m) first) _ parts.1.1 in
-      only_then (is_quiet p fr.method) (is_quiet p m) more.1.1.0 h.0
+  call_quiet target m first x r = grind (arith, nat_tests, all_parts, only_then)
 
   acts_kept : (i : Instr) (e : Effect) → Ruled i → Fits p c fr ts s i e → Kept (applied p fr ts s e)
   acts_kept i (Goes_on ch) r f = (h, same_items i ch.update r f.1)

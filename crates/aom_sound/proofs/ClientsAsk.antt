@@ -1,15 +1,14 @@
 -- What a client asks of a server, and what it sends, is kept: by the entry that is queued last.
+use Rattle.std.proofs.lemmas.Bool.Decides.{nat_tests}
 use Rattle.std.proofs.Math.Bool.{or-false}
-use Rattle.std.proofs.Common.{[], Bool, List, None, Option, Some, ap, arith, cond, false, refl, subst, sym, true, ℕ, ◌&&◌, ◌<◌, ◌==◌, ◌∙◌, ◌∷◌, ◌≡◌, ◌≤◌}
-use Rattle.std.proofs.lemmas.Bool.{eq-eqb, eqb-true, le-ltb, ne_eqb, true≢false, ltb-true, and_parts}
+use Rattle.std.proofs.Common.{[], Bool, List, None, Option, Some, ap, arith, cond, false, refl, sym, true, ℕ, ◌<◌, ◌==◌, ◌∙◌, ◌∷◌, ◌≡◌, ◌≤◌}
+use Rattle.std.proofs.lemmas.Bool.{eq-eqb, eqb-true, le-ltb, ne_eqb, ltb-true}
 use Rattle.std.proofs.lemmas.List.Folds.{list_any-append}
 use Rattle.std.specs.List.{list_any}
 use Rattle.std.specs.Prelude.{is_some, nat_lt, ◌||◌}
 use Rattle.aom_image.specs.Image.{Image}
 use Rattle.aom_image.specs.declared.class.ClassKind.{ClassKind}
-use Rattle.aom_image.specs.declared.class.ClassKind.TheVariants.{Server as A_server}
 use Rattle.aom_image.specs.declared.method.Thing.{Thing}
-use Rattle.aom_image.specs.declared.method.Thing.TheVariants.{Object as An_object_of}
 use Rattle.aom_clients.specs.Nodes.{is_connecting_at, is_open_at}
 use Rattle.aom_clients.specs.Table.{row, server_of}
 use Rattle.aom_clients.specs.declared.client.Client.{Client}
@@ -36,9 +35,7 @@ IsListed class cs x = (o : Object) × (o.name ≡ x.name) × (named cs o.name �
 
 module _ (class : ℕ) (c : Cell) (cs : List Cell) (t : Tidy (c ∷ cs)) (x : Listed) (rest : first_listed class cs ≡ Some x → IsListed class cs x) where
   later : IsListed class cs x → IsListed class (c ∷ cs) x
-  later l =
-      let other : (c.object.name == l.0.name) ≡ false = ne_eqb c.object.name l.0.name (λ same. let clash : Some l.0 ≡ None = sym l.2 ∙ sym (ap (λ n. named cs n) same) ∙ t.1 in cc) in
-      (l.0, l.1, ap (λ b. cond b (Some c.object) (named cs l.0.name)) other ∙ l.2, l.3, ap (λ b. is_some (cond b c.request (requested cs l.0.name))) other ∙ l.4)
+  later l = grind (arith, nat_tests, ne_eqb c.object.name l.0.name)
 
   among : (others : Option Listed) → first_listed class cs ≡ others → others ≡ Some x → IsListed class (c ∷ cs) x
   among others same e = later (rest (same ∙ e))
@@ -58,12 +55,7 @@ module _ (class : ℕ) (c : Cell) (cs : List Cell) (t : Tidy (c ∷ cs)) (x : Li
   first :
       (order : ℕ) → is_of_class class c.object.thing ≡ true → is_some c.request ≡ true → (others : Option Listed) → first_listed class cs ≡ others →
       Some (earlier (me order) others) ≡ Some x → IsListed class (c ∷ cs) x
-  first order of listed None same e = here order of listed cc
-  first order of listed (Some b) same e = go (nat_lt b.order order) e
-    where
-      go : (y : Bool) → Some (cond y b (me order)) ≡ Some x → IsListed class (c ∷ cs) x
-      go true e = among (Some b) same e
-      go false e = here order of listed cc
+  first order of listed y same e = grind (arith, nat_tests, here order of listed, among)
 
   of_class :
       (order : ℕ) → is_some c.request ≡ true → (b : Bool) → is_of_class class c.object.thing ≡ b →
@@ -72,8 +64,7 @@ module _ (class : ℕ) (c : Cell) (cs : List Cell) (t : Tidy (c ∷ cs)) (x : Li
   of_class order listed false of e = among (first_listed class cs) refl e
 
   of_request : (r : Option Request) → c.request ≡ r → among_listed class c.object r (first_listed class cs) ≡ Some x → IsListed class (c ∷ cs) x
-  of_request None is e = among (first_listed class cs) refl e
-  of_request (Some r) is e = of_class r.order (ap is_some is) (is_of_class class c.object.thing) refl e
+  of_request y is e = grind (arith, nat_tests, among, of_class)
 
 pub listed_there : (class : ℕ) (cs : List Cell) (x : Listed) → Tidy cs → first_listed class cs ≡ Some x → IsListed class cs x
 listed_there class [] x t e = cc
@@ -81,10 +72,7 @@ listed_there class (c ∷ cs) x t e = of_request class c cs t x (λ e. listed_th
 
 -- who is asked is the first that is enlisted
 asked_listed : (p : Image) (class : ℕ) (cs : List Cell) (x : Listed) → asked_server p class cs ≡ Some x → first_listed class cs ≡ Some x
-asked_listed p class cs x = go (is_server p (An_object_of class))
-  where
-    go : (b : Bool) → cond b (first_listed class cs) None ≡ Some x → first_listed class cs ≡ Some x
-    go x e = grind arith
+asked_listed p class cs x = grind (arith, nat_tests)
 
 pub asked_there : (p : Image) (class : ℕ) (cs : List Cell) (x : Listed) → Tidy cs → asked_server p class cs ≡ Some x → IsListed class cs x
 asked_there p class cs x t e = listed_there class cs x t (asked_listed p class cs x e)
@@ -92,8 +80,7 @@ asked_there p class cs x t e = listed_there class cs x t (asked_listed p class c
 -- a class that takes sessions is of servers
 takes_some : (k : Option ClassKind) (n : ℕ) → nat_lt n (most_of k) ≡ true → is_some (sessions_in k) ≡ true
 unfolding sessions_in sessions_of
-takes_some (Some (A_server most session)) n e = refl
-takes_some _ n e = absurd (true≢false (sym e ∙ le-ltb n 0 (omega arith)))
+takes_some x n e = grind (arith, nat_tests, le-ltb n 0)
 
 pub listed_serves : (p : Image) (class n : ℕ) (x : Thing) → is_of_class class x ≡ true → nat_lt n (most_of (kind_of p (Some class))) ≡ true → is_server p x ≡ true
 listed_serves p class n x of room = grind (arith, eqb-true, takes_some)
@@ -198,54 +185,42 @@ fit_with p clients cs x free no_queue no_sessions named_so sent unserved_yet fit
 }
   where
     queues : (n : ℕ) (b : Bool) → QueueFits clients n (cond b x.service (service_of cs n)).queue
-    queues n true = subst (λ q. QueueFits clients n q) (sym no_queue) tt
-    queues n false = fit.queues n
+    queues n y = grind arith
 
     session_so : (n c : ℕ) (b : Bool) → (x.object.name == n) ≡ b → has_session (cond b x.service (service_of cs n)) c ≡ has_session (service_of cs n) c
-    session_so n c true e =
-        ap (λ xs. list_any (λ d. d == c) xs) no_sessions
-        ∙ sym (ap (λ v. has_session v c) (ap (λ k. service_of cs k) (sym (eqb-true x.object.name n e)) ∙ service_unnamed cs x.object.name free))
+    session_so n c true e = grind (arith, nat_tests, eqb-true x.object.name n e, service_unnamed cs x.object.name free)
     session_so n c false e = refl
 
     servers :
         (o : Object) → is_server p o.thing ≡ false → (b : Bool) → cond b (Some x.object) (named cs o.name) ≡ Some o →
         ((cond b x.service (service_of cs o.name)).queue ≡ []) × ((cond b x.service (service_of cs o.name)).sessions ≡ [])
-    servers o plain true h = (no_queue, no_sessions)
-    servers o plain false h = fit.servers o h plain
+    servers o plain y h = grind arith
 
     enlisted :
         (o : Object) (b : Bool) → cond b (Some x.object) (named cs o.name) ≡ Some o → cond b x.request (requested cs o.name) ≡ None →
         ((cond b x.service (service_of cs o.name)).queue ≡ []) × ((cond b x.service (service_of cs o.name)).sessions ≡ [])
-    enlisted o true h e = (no_queue, no_sessions)
-    enlisted o false h e = fit.enlisted o h e
+    enlisted o y h e = grind arith
 
     seats : (o : Object) (b : Bool) → cond b (Some x.object) (named cs o.name) ≡ Some o → seats_taken (cond b x.service (service_of cs o.name)) ≤ most_of (thing_kind p o.thing)
-    seats o true h = let none = seats_none x.service no_queue no_sessions in omega (arith, none)
-    seats o false h = fit.seats o h
+    seats o y h = grind (arith, nat_tests, seats_none x.service no_queue no_sessions)
 
     sources : (o : Object) (b : Bool) → cond b (Some x.object) (named cs o.name) ≡ Some o → sources_of (cond b x.service (service_of cs o.name)) ≡ cond (is_object o.thing) 0 1
-    sources o true h = let same : x.object ≡ o = cc in sent ∙ ap (λ y. cond (is_object y.thing) 0 1) same
-    sources o false h = fit.sources o h
+    sources o y h = grind arith
 
     -- the new one's name was free
     served : (o : Object) (b : Bool) → (x.object.name == o.name) ≡ b → held cs (Elsewhere In_service) ≡ Some o → is_some (cond b x.service (service_of cs o.name)).sender ≡ true
-    served o true e h =
-        let none : is_some (service_of cs o.name).sender ≡ false = ap (λ v. is_some v.sender) (ap (λ k. service_of cs k) (sym (eqb-true x.object.name o.name e)) ∙ service_unnamed cs x.object.name free) in
-        absurd (true≢false (sym (fit.served o h) ∙ none))
+    served o true e h = grind (arith, nat_tests, eqb-true x.object.name o.name e, service_unnamed cs x.object.name free)
     served o false e h = fit.served o h
 
     names : (n m : ℕ) (o : Object) (b : Bool) → same_place x.owner (Elsewhere (Queued n m)) ≡ b → cond b (Some x.object) (held cs (Elsewhere (Queued n m))) ≡ Some o → o.name ≡ m
-    names n m o true e h = let same : x.object ≡ o = cc in ap (λ y. y.name) (sym same) ∙ named_so n m (same_place-true x.owner (Elsewhere (Queued n m)) e)
+    names n m o true e h = grind (arith, nat_tests, same_place-true x.owner (Elsewhere (Queued n m)) e)
     names n m o false e h = fit.names n m o h
 
     senders :
         (n c m : ℕ) (b d : Bool) → (x.object.name == m) ≡ d → list_any (is_message_of c m) (cond b x.service (service_of cs n)).queue ≡ true →
         is_from c (cond d x.service (service_of cs m)).sender ≡ true
     senders n c m true d e h = let none : false ≡ true = ap (λ q. list_any (is_message_of c m) q) (sym no_queue) ∙ h in cc
-    senders n c m false true e h =
-        let was = fit.senders n c m h in
-        let none : is_from c (service_of cs m).sender ≡ false = ap (λ v. is_from c v.sender) (ap (λ k. service_of cs k) (sym (eqb-true x.object.name m e)) ∙ service_unnamed cs x.object.name free) in
-        absurd (true≢false (sym was ∙ none))
+    senders n c m false true e h = grind (arith, nat_tests, eqb-true x.object.name m e, service_unnamed cs x.object.name free)
     senders n c m false false e h = fit.senders n c m h
 
 -- ---- a message
@@ -256,11 +231,11 @@ module _ (p : Image) (clients : List Client) (cs : List Cell) (fit : ClientsFit 
   pub fit_sent :
       is_open_at o.name (client_at clients c) ≡ true → list_any (is_message m) (service_of cs o.name).queue ≡ false → is_from c (service_of cs m).sender ≡ true →
       ClientsFit p clients (reserved (asked_last (Message_of c m)) o.name cs)
-  fit_sent open_there new from =
-      fit_asked p clients cs fit o lives serves listed (Message_of c m) open_there new own
-      (let one = seats_asked (Message_of c m) (service_of cs o.name) in let was = fit.seats o lives in omega (arith, one, was))
-    where
-      own : (d k : ℕ) → ((c == d) && (m == k)) ≡ true → is_from d (service_of cs k).sender ≡ true
-      own d k h =
-          let same = and_parts (c == d) (m == k) h in
-          subst (λ i. is_from d (service_of cs i).sender ≡ true) (eqb-true m k same.1) (subst (λ i. is_from i (service_of cs m).sender ≡ true) (eqb-true c d same.0) from)
+  fit_sent open_there new from = grind (
+    arith,
+    nat_tests,
+    fit_asked p clients cs fit o lives serves listed (Message_of c m) open_there new,
+    seats_asked (Message_of c m),
+    eqb-true m,
+    eqb-true c,
+  )

@@ -1,6 +1,7 @@
 -- What a client's command comes to is kept: it connects, sends, closes or dies, or nothing comes of it.
+use Rattle.std.proofs.lemmas.Bool.Decides.{nat_tests}
 use Rattle.std.proofs.Common.{[], Bool, List, None, Option, Some, ap, cond, false, refl, subst, sym, true, ℕ, ℤ, ◌&&◌, ◌==◌, ◌∙◌, ◌∷◌, ◌≡◌, arith}
-use Rattle.std.proofs.lemmas.Bool.{eq-eqb, ne_eqb, true≢false, or_parts}
+use Rattle.std.proofs.lemmas.Bool.{eq-eqb, ne_eqb, or_parts}
 use Rattle.std.specs.List.{list_any}
 use Rattle.std.specs.Prelude.{nat_lt, ◌||◌, is_some}
 use Rattle.aom_image.specs.Image.{Image}
@@ -15,11 +16,11 @@ use Rattle.aom_sound.proofs.ClientsLeave.{empty, fit_told, fit_withdrawn, queue_
 use Rattle.aom_sound.proofs.Maps.{named_name}
 use Rattle.aom_sound.proofs.Queues.{client_here, none_passes, none_stays}
 use Rattle.aom_sound.proofs.Services.{service_unnamed}
-use Rattle.aom_sound.proofs.Sifted.{a_cell_of, cell_of, named_cell, named_sifted, service_cell, service_in, withdrawn_so, requested_before}
-use Rattle.aom_sound.specs.Clients.{sent_message, asked_server, Listed, asked_of, client_at, commanded, connecting, leaving, most_of, refusal, sending, told, with_client, with_message}
-use Rattle.aom_sound.specs.Kept.{ClientsFit, EntryFits, is_close_of, is_message_of}
-use Rattle.aom_sound.specs.Places.{Asked, Cell, Close_of, Connect_of, Elsewhere, Message_of, Object, Queued, Tidy, held, named, service_of, set_service, requested, Request}
-use Rattle.aom_sound.specs.Servers.{asked_last, has_session, is_from, is_message, is_queue, is_server, left_by, reserved, seats_taken, stays, withdrawn}
+use Rattle.aom_sound.proofs.Sifted.{a_cell_of, cell_of, named_cell, named_sifted, service_cell, service_in, withdrawn_so}
+use Rattle.aom_sound.specs.Clients.{sent_message, asked_server, Listed, asked_of, client_at, commanded, connecting, leaving, most_of, refusal, sending, with_client, with_message}
+use Rattle.aom_sound.specs.Kept.{ClientsFit, is_close_of, is_message_of}
+use Rattle.aom_sound.specs.Places.{Asked, Cell, Close_of, Connect_of, Elsewhere, Message_of, Object, Queued, Tidy, held, named, service_of, set_service, requested}
+use Rattle.aom_sound.specs.Servers.{asked_last, has_session, is_from, is_message, is_server, reserved, seats_taken, stays, withdrawn}
 use Rattle.aom_sound.specs.State.{State}
 use Rattle.aom_transcript.specs.declared.event.Command.{Command}
 use Rattle.aom_transcript.specs.declared.event.Command.TheVariants.{Close, Connect, Die, Send}
@@ -42,31 +43,11 @@ module _ (p : Image) (c : ℕ) (s : State) (tidy : Tidy s.cells) (fit : ClientsF
 
   -- a server with which a client has a session stands, and is one
   pub server_there : (n : ℕ) → has_session (service_of s.cells n) c ≡ true → (o : Object) × (o.name ≡ n) × (named s.cells o.name ≡ Some o) × (is_server p o.thing ≡ true)
-  server_there n h = go (named s.cells n) refl
-    where
-      go : (x : Option Object) → named s.cells n ≡ x → (o : Object) × (o.name ≡ n) × (named s.cells o.name ≡ Some o) × (is_server p o.thing ≡ true)
-      go None e = let none : false ≡ true = sym (ap (λ v. has_session v c) (service_unnamed s.cells n e)) ∙ h in cc
-      go (Some o) e = (o, name, lives, serves (is_server p o.thing) refl)
-        where
-          name : o.name ≡ n
-          name = named_name s.cells n o e
-
-          lives : named s.cells o.name ≡ Some o
-          lives = ap (λ k. named s.cells k) name ∙ e
-
-          serves : (b : Bool) → is_server p o.thing ≡ b → b ≡ true
-          serves true e = refl
-          serves false f =
-              let none = (fit.servers o lives f).1 in
-              absurd (true≢false (sym h ∙ ap (λ k. has_session (service_of s.cells k) c) (sym name) ∙ ap (λ xs. list_any (λ d. d == c) xs) none))
+  server_there n h = grind (arith, nat_tests, service_unnamed s.cells n, named_name s.cells n)
 
   -- and is enlisted
   pub server_listed : (o : Object) → named s.cells o.name ≡ Some o → has_session (service_of s.cells o.name) c ≡ true → is_some (requested s.cells o.name) ≡ true
-  server_listed o lives h = go (requested s.cells o.name) refl
-    where
-      go : (r : Option Request) → requested s.cells o.name ≡ r → is_some r ≡ true
-      go (Some r) e = refl
-      go None e = absurd (true≢false (sym h ∙ ap (λ xs. list_any (λ d. d == c) xs) (fit.enlisted o lives e).1))
+  server_listed o lives h = grind (arith, nat_tests)
 
   -- of a name that is free nothing waits
   pub nobody : (n name : ℕ) → named s.cells name ≡ None → (d : ℕ) → list_any (is_message_of d name) (service_of s.cells n).queue ≡ false
@@ -133,10 +114,7 @@ module _ (p : Image) (c : ℕ) (s : State) (tidy : Tidy s.cells) (fit : ClientsF
 
   module _ (waiting : (n m : ℕ) (o : Object) → held s.cells (Elsewhere (Queued n m)) ≡ Some o → is_server p o.thing ≡ false) where
     no_close : ((n : ℕ) → is_leaving n own ≡ false) → (n : ℕ) → list_any (is_close_of c) (service_of s.cells n).queue ≡ false
-    no_close stays n = none_passes (is_close_of c) s.clients n never (service_of s.cells n).queue (fit.queues n)
-      where
-        never : (e : Asked) → is_close_of c e ≡ true → EntryFits s.clients n e → ⊥
-        never x at f = grind arith
+    no_close stays n = grind (arith, nat_tests, none_passes)
 
     -- with no session open
     goes_alone : (to : Client) → server_of to ≡ server_of own → ((n : ℕ) → is_leaving n own ≡ false) → ClientsFit p (with_client c to s.clients) (withdrawn c s.cells)
@@ -148,70 +126,49 @@ module _ (p : Image) (c : ℕ) (s : State) (tidy : Tidy s.cells) (fit : ClientsF
 
     -- a server with a session is no message that goes
     pub server_stays : (o : Object) → named s.cells o.name ≡ Some o → has_session (service_of s.cells o.name) c ≡ true → named (withdrawn c s.cells) o.name ≡ Some o
-    server_stays o lives has =
-        let x = a_cell_of (cell_of s.cells o.name) o (sym (named_cell s.cells o.name) ∙ lives) in
-        go x.0 x.1 x.2 (is_queue x.0.owner && is_from c x.0.service.sender) refl
-      where
-        go : (x : Cell) → cell_of s.cells o.name ≡ Some x → x.object ≡ o → (b : Bool) → (is_queue x.owner && is_from c x.service.sender) ≡ b → named (withdrawn c s.cells) o.name ≡ Some o
-        go x e name true d =
-            let none = (empty p s.clients s.cells tidy fit c waiting o.name x e d).1 in
-            absurd (true≢false (sym has ∙ ap (λ v. has_session v c) (service_cell s.cells o.name ∙ ap service_in e) ∙ ap (λ xs. list_any (λ d. d == c) xs) none))
-        go x e name false d =
-            ap (λ l. named l o.name) (withdrawn_so c s.cells)
-            ∙ named_sifted (λ y. is_queue y.owner && is_from c y.service.sender) (λ y. left_by c y.service) s.cells tidy o.name x e d ∙ ap (λ o. Some o) name
+    server_stays o lives has = grind (
+      arith,
+      nat_tests,
+      a_cell_of (cell_of s.cells o.name) o,
+      cell_of s.cells o.name,
+      named_cell s.cells o.name,
+      empty p s.clients s.cells tidy fit c waiting o.name,
+      service_cell s.cells o.name,
+      service_in,
+      withdrawn_so c s.cells,
+      named_sifted,
+    )
 
     -- with its session open: a close is asked last
     goes_told :
         (server session slots : ℕ) → own ≡ Open server session slots → (to : Client) → server_of to ≡ Some server → is_leaving server to ≡ true →
         ClientsFit p (with_client c to s.clients) (reserved (asked_last (Close_of c)) server (withdrawn c s.cells))
-    goes_told server session slots at to same leaves = subst (λ n. ClientsFit p (with_client c to s.clients) (reserved (asked_last (Close_of c)) n (withdrawn c s.cells))) there.1
-        (fit_told p (with_client c to s.clients) (withdrawn c s.cells) alone there.0 still_there there.3 still_listed c
-        (ap (λ k. is_leaving there.0.name k) (client_here c to s.clients) ∙ ap (λ n. is_leaving n to) there.1 ∙ leaves)
-        (ap (λ q. list_any (is_close_of c) q) (service_left p s.clients s.cells tidy fit c waiting there.0.name).0 ∙ none_stays (is_close_of c) (stays c) (service_of s.cells there.0.name).queue (no_close (λ n. ap (λ k. is_leaving n k) at) there.0.name)))
-      where
-        there : (o : Object) × (o.name ≡ server) × (named s.cells o.name ≡ Some o) × (is_server p o.thing ≡ true)
-        there = server_there server (fit.listed server c (ap server_of at))
-
-        alone : ClientsFit p (with_client c to s.clients) (withdrawn c s.cells)
-        alone = goes_alone to (same ∙ sym (ap server_of at)) (λ n. ap (λ k. is_leaving n k) at)
-
-        has : has_session (service_of s.cells there.0.name) c ≡ true
-        has = fit.listed there.0.name c (ap server_of at ∙ ap (λ n. Some n) (sym there.1))
-
-        still_there : named (withdrawn c s.cells) there.0.name ≡ Some there.0
-        still_there = server_stays there.0 there.2 has
-
-        still_listed : is_some (requested (withdrawn c s.cells) there.0.name) ≡ true
-        still_listed =
-            ap (λ l. is_some (requested l there.0.name)) (withdrawn_so c s.cells)
-            ∙ ap is_some (requested_before (λ y. is_queue y.owner && is_from c y.service.sender) (λ y. left_by c y.service) s.cells there.0.name there.0 tidy (ap (λ l. named l there.0.name) (sym (withdrawn_so c s.cells)) ∙ still_there))
-            ∙ server_listed there.0 there.2 has
+    goes_told server session slots at to same leaves = grind (
+      arith,
+      nat_tests,
+      fit_told p,
+      client_here c to s.clients,
+      service_left p s.clients s.cells tidy fit c waiting,
+      none_stays,
+      no_close,
+      server_there server,
+      goes_alone to,
+      server_stays,
+      withdrawn_so c s.cells,
+    )
 
     fit_closes : (k : Client) → own ≡ k → ClientsFit p (leaving p c s (row k).close).clients (leaving p c s (row k).close).cells
-    fit_closes (Connecting server slots) at =
-        subst (λ k. ClientsFit p (with_client c Unconnected s.clients) (told p c s k (withdrawn c s.cells))) (sym at)
-        (goes_alone Unconnected (sym (ap server_of at)) (λ n. ap (λ k. is_leaving n k) at))
-    fit_closes (Open server session slots) at =
-        subst (λ k. ClientsFit p (with_client c (Closing server session) s.clients) (told p c s k (withdrawn c s.cells))) (sym at)
-        (goes_told server session slots at (Closing server session) refl (eq-eqb server server refl))
-    fit_closes Gone at =
-        subst (λ k. ClientsFit p (with_client c Unconnected s.clients) (told p c s k (withdrawn c s.cells))) (sym at)
-        (goes_alone Unconnected (sym (ap server_of at)) (λ n. ap (λ k. is_leaving n k) at))
+    fit_closes (Connecting server slots) at = grind (arith, nat_tests, goes_alone Unconnected)
+    fit_closes (Open server session slots) at = grind (arith, nat_tests, goes_told server session slots at (Closing server session), eq-eqb server server)
+    fit_closes Gone at = grind (arith, nat_tests, goes_alone Unconnected)
     fit_closes _ at = fit
 
     fit_dies : (k : Client) → own ≡ k → ClientsFit p (leaving p c s (row k).die).clients (leaving p c s (row k).die).cells
-    fit_dies Unconnected at =
-        subst (λ k. ClientsFit p (with_client c Dead s.clients) (told p c s k (withdrawn c s.cells))) (sym at) (goes_alone Dead (sym (ap server_of at)) (λ n. ap (λ k. is_leaving n k) at))
-    fit_dies (Connecting server slots) at =
-        subst (λ k. ClientsFit p (with_client c Dead s.clients) (told p c s k (withdrawn c s.cells))) (sym at) (goes_alone Dead (sym (ap server_of at)) (λ n. ap (λ k. is_leaving n k) at))
-    fit_dies (Open server session slots) at =
-        subst (λ k. ClientsFit p (with_client c (Dying server session) s.clients) (told p c s k (withdrawn c s.cells))) (sym at)
-        (goes_told server session slots at (Dying server session) refl (eq-eqb server server refl))
-    fit_dies (Closing server session) at =
-        subst (λ k. ClientsFit p (with_client c (Dying server session) s.clients) (told p c s k (withdrawn c s.cells))) (sym at)
-        (goes_still (Dying server session) (sym (ap server_of at)) (λ n h. sym (ap (λ k. is_leaving n k) at) ∙ h))
-    fit_dies Gone at =
-        subst (λ k. ClientsFit p (with_client c Dead s.clients) (told p c s k (withdrawn c s.cells))) (sym at) (goes_alone Dead (sym (ap server_of at)) (λ n. ap (λ k. is_leaving n k) at))
+    fit_dies Unconnected at = grind (arith, nat_tests, goes_alone Dead)
+    fit_dies (Connecting server slots) at = grind (arith, nat_tests, goes_alone Dead)
+    fit_dies (Open server session slots) at = grind (arith, nat_tests, goes_told server session slots at (Dying server session), eq-eqb server server)
+    fit_dies (Closing server session) at = grind (arith, nat_tests, goes_still (Dying server session))
+    fit_dies Gone at = grind (arith, nat_tests, goes_alone Dead)
     fit_dies Dead at = fit
     fit_dies (Dying server session) at = fit
 

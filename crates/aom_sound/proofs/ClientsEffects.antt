@@ -1,5 +1,6 @@
 -- What is kept of clients stays so in each effect of an instruction: by the cells that it changes, and the tasks below it.
-use Rattle.std.proofs.Common.{Bool, List, None, Option, Some, cond, false, length, refl, subst, suc, sym, true, zero, ℕ, ◌∙◌, ◌∷◌, ◌≡◌, arith}
+use Rattle.std.proofs.lemmas.Bool.Decides.{nat_tests}
+use Rattle.std.proofs.Common.{Bool, List, None, Option, Some, cond, length, refl, subst, suc, sym, ℕ, ◌∷◌, ◌≡◌, arith}
 use Rattle.aom_image.specs.Image.{Image}
 use Rattle.aom_image.specs.Views.{arguments_of}
 use Rattle.aom_clients.specs.declared.client.Client.{Client}
@@ -10,11 +11,11 @@ use Rattle.aom_sound.proofs.ClientsMoves.{Steady, fit_steady, steady_asked, stea
 use Rattle.aom_sound.proofs.ClientsTurn.{tasks_begun, on_none}
 use Rattle.aom_sound.specs.Cleanup.{to_trap, top_place}
 use Rattle.aom_sound.specs.Effects.{Calls, Cancels, Carried, Destroys, Destroys_last, Effect, Goes_on, Handed, Leaves, Made, Replied, Requested, Returns, Same as Unchanged, Sets_trap, The_message, Update, applied, cancels_if, cells_after, deals, deletes, effect, hands_unless, jumps_unless, makes_unless, round}
-use Rattle.aom_sound.specs.Enlisted.{cancelling, completed_at_once, on_request, own_request}
-use Rattle.aom_sound.specs.Tokens.{busy, is_crowded}
+use Rattle.aom_sound.specs.Enlisted.{cancelling, on_request, own_request}
+use Rattle.aom_sound.specs.Tokens.{is_crowded}
 use Rattle.aom_sound.specs.Kept.{ClientsFit, TasksKept}
 use Rattle.aom_sound.specs.Places.{Cell, Going, Object, Request, named}
-use Rattle.aom_sound.specs.State.{An_object, Choice, Frame, Item, Run, State, Task}
+use Rattle.aom_sound.specs.State.{Choice, Frame, Item, Run, State, Task}
 use Rattle.aom_sound.specs.Words.{here}
 
 -- ---- the effects that this is of
@@ -42,37 +43,28 @@ IsUsual _ = Unit {0}
 
 module _ (p : Image) (c : Choice) (fr : Frame) (ts : List Task) (s : State) (free : named s.cells c.name ≡ None) where
   fine_cond : (b : Bool) (x y : Effect) → Fine fr s x → Fine fr s y → Fine fr s (cond b x y)
-  fine_cond true x y h k = h
-  fine_cond false x y h k = k
+  fine_cond x y z h k = grind arith
 
   fine_unless : (o : Option Object) (to : ℕ) → Fine fr s (jumps_unless fr o to)
-  fine_unless None to = tt
-  fine_unless (Some o) to = tt
+  fine_unless x to = grind arith
 
   fine_round : (n depth to : ℕ) → Fine fr s (round n depth to)
-  fine_round zero depth to = tt
-  fine_round (suc n) depth to = tt
+  fine_round x depth to = grind arith
 
   fine_cancels : (b : Bool) (m : Option ℕ) → Fine fr s (cancels_if fr b m)
-  fine_cancels true (Some m) = tt
-  fine_cancels true None = tt
-  fine_cancels false m = tt
+  fine_cancels x m = grind arith
 
   fine_deletes : (o : Option Object) (a : ℕ) → Fine fr s (deletes fr o a)
-  fine_deletes None a = tt
-  fine_deletes (Some o) a = tt
+  fine_deletes x a = grind arith
 
   fine_deals : (items : List Item) (o : Option Object) → Fine fr s (deals fr items o)
-  fine_deals (An_object ∷ items) (Some o) = tt
-  fine_deals _ _ = tt
+  fine_deals x y = grind arith
 
   fine_makes : (b : Bool) (x a : ℕ) → IsFine fr s (makes_unless b c.name x a)
-  fine_makes true x a = tt
-  fine_makes false x a = free
+  fine_makes x y a = grind arith
 
   fine_hands : (b : Bool) (a : ℕ) (own : Option Request) → own ≡ own_request s.cells fr.home → IsFine fr s (hands_unless b c.name a own)
-  fine_hands true a own e = λ none. sym e ∙ on_none (completed_at_once busy) own none
-  fine_hands false a own e = free
+  fine_hands x a own e = grind (arith, nat_tests, on_none)
 
   fine_some : (r : Request) → IsFine fr s (Requested (Some r))
   fine_some r = λ e. cc

@@ -1,8 +1,9 @@
 -- What a well-typed state says of queues and of the server that is dispatched.
-use Rattle.std.proofs.Common.{[], Bool, List, None, Option, Some, ap, arith, cond, false, inl, inr, length, refl, subst, sym, true, ℕ, ◌&&◌, ◌==◌, ◌∙◌, ◌∷◌, ◌≡◌, ◌≤◌}
+use Rattle.std.proofs.lemmas.Bool.Decides.{nat_tests}
+use Rattle.std.proofs.Common.{[], Bool, List, None, Option, Some, ap, arith, cond, false, inr, length, refl, subst, sym, true, ℕ, ◌==◌, ◌∙◌, ◌∷◌, ◌≡◌, ◌≤◌}
 use Rattle.std.proofs.lemmas.Bool.{ne_eqb, true≢false}
 use Rattle.std.specs.List.{list_any}
-use Rattle.std.specs.Prelude.{◌||◌, is_some}
+use Rattle.std.specs.Prelude.{is_some}
 use Rattle.aom_image.specs.Image.{Image}
 use Rattle.aom_image.specs.declared.method.Thing.{Thing}
 use Rattle.aom_image.specs.declared.method.Thing.TheVariants.{Message}
@@ -24,8 +25,8 @@ use Rattle.aom_sound.specs.Kept.{ClientsFit, is_message_of}
 use Rattle.aom_sound.specs.Laws.{IsWired}
 use Rattle.aom_sound.specs.Places.{Asked, Cell, Close_of, Connect_of, Elsewhere, Going, In_service, Message_of, Object, Place, Queued, held, named, seen, service_of, requested}
 use Rattle.aom_sound.specs.Servers.{has_message, is_message, is_server, message_thing}
-use Rattle.aom_sound.specs.State.{Closing, Destroy, Dispatch, Dispatched, Of_server, Run, Seat, Service_left, Serves, Stage, State, Task, Trapped, Unwind}
-use Rattle.aom_sound.specs.WellTyped.{AllSit, Back, Caught, Fits, Gone, IsAttended, Leaves, Now, Returns, SitsFirst, SomeIn, SomeSits, Stack, WellTyped, seat_of}
+use Rattle.aom_sound.specs.State.{Closing, Destroy, Dispatch, Dispatched, Of_server, Run, Seat, Stage, State, Task, Trapped, Unwind}
+use Rattle.aom_sound.specs.WellTyped.{Back, Caught, Fits, Gone, Leaves, Now, Returns, SomeIn, Stack, WellTyped}
 use Rattle.aom_shape.specs.Things.{stands_for}
 use Rattle.aom_sound.proofs.Things.{stands_message, message_plain}
 
@@ -38,14 +39,7 @@ message_any : (c m : ℕ) (es : List Asked) → list_any (is_message_of c m) es 
 message_any c m [] h = cc
 message_any c m (Connect_of d ∷ es) h = message_any c m es h
 message_any c m (Close_of d ∷ es) h = message_any c m es h
-message_any c m (Message_of d k ∷ es) h = go (d == c) (k == m) (message_any c m es) h
-  where
-    go :
-        (a b : Bool) → (list_any (is_message_of c m) es ≡ true → list_any (λ e. is_message m e) es ≡ true) → ((a && b) || list_any (is_message_of c m) es) ≡ true →
-        (b || list_any (λ e. is_message m e) es) ≡ true
-    go a true rest h = refl
-    go true false rest h = rest h
-    go false false rest h = rest h
+message_any c m (Message_of d k ∷ es) h = grind (arith, nat_tests, message_any c m es)
 
 module _ (p : Image) (t : Typing) (s : State) (w : WellTyped p t s) where
   -- what a client sent waits in the queue
@@ -107,18 +101,12 @@ server_lives p t cs (Mark gv ∷ ls) back x c stage s at = server_lives p t cs l
 server_lives p t cs (Dying o ∷ ls) back x c stage s at = server_lives p t cs ls Gone x c stage s.2 at
 server_lives p t cs (Ending o left ∷ ls) back x c stage s at = server_lives p t cs ls Now x c stage s.3 at
 server_lives p t cs (Unwinding code es ∷ ls) back x c stage s at = server_lives p t cs ls Leaves x c stage s.1 at
-server_lives p t cs (Dispatching d seats ∷ ls) back x c stage s at =
-    let first = subst (λ e. SitsFirst cs (seat_of e) seats) at s.3 in
-    let sit : AllSit cs (x ∷ first.1) = subst (λ l. AllSit cs l) first.2 s.2 in
-    let attended = subst (λ e. IsAttended p cs e) at s.4 in
-    (sit.0.1, attended.0, inl (subst (λ l. SomeSits x.object.name l) (sym first.2) (inl refl)), first.0)
+server_lives p t cs (Dispatching d seats ∷ ls) back x c stage s at = grind (arith, nat_tests)
 
 -- ---- what is served
 
 message_by_stage : (d : Dispatch) (k : Kind) (x : Thing) → (HasThing k x → ⊥) → HasThing (by_stage d k) x → x ≡ Message
-message_by_stage (Of_server y c (Serves o)) k x none h = h
-message_by_stage (Of_server y c (Service_left code)) k x none h = h
-message_by_stage _ k x none h = absurd (none h)
+message_by_stage x k y none h = grind arith
 
 message_delivered : (d : Delivery) (x : Thing) → HasThing (delivered d) x → x ≡ Message
 message_delivered y x h = grind arith
@@ -139,8 +127,7 @@ service_message p cs (Mark gv ∷ ls) t back x s h = service_message p cs ls t (
 service_message p cs (Dying o ∷ ls) t back x s h = service_message p cs ls t Gone x s.2 h
 service_message p cs (Ending o left ∷ ls) t back x s h = service_message p cs ls t Now x s.3 h
 service_message p cs (Unwinding code es ∷ ls) t back x s h = service_message p cs ls t Leaves x s.1 h
-service_message p cs (Dispatching d seats ∷ ls) t back x s h =
-    message_by_stage d (claim p (declared p cs) ls (Elsewhere In_service)) x (λ h. subst (λ l. HasThing (claim p (declared p cs) l (Elsewhere In_service)) x) s.1 h) h
+service_message p cs (Dispatching d seats ∷ ls) t back x s h = grind (arith, nat_tests, message_by_stage d, HasThing)
 
 pub serving_plain : (p : Image) (t : Typing) (s : State) (w : WellTyped p t s) (o : Object) → held s.cells (Elsewhere In_service) ≡ Some o → is_server p o.thing ≡ false
 serving_plain p t s w o e = message_plain p o.thing (stands_message p o.thing (subst (λ z. stands_for p o.thing z ≡ true) (service_message p s.cells w.layers t Now y.0 w.good.stack y.1) y.2))

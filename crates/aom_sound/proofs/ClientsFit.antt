@@ -1,4 +1,5 @@
 -- Clients and what they have at servers say the same where one client is at something else: by its entries, its session, and those of all others.
+use Rattle.std.proofs.lemmas.Bool.Decides.{nat_tests}
 use Rattle.std.proofs.Math.Bool.{or-false, or-true}
 use Rattle.std.proofs.Common.{[], Bool, List, None, Some, ap, arith, false, refl, subst, sym, true, ℕ, ◌<◌, ◌==◌, ◌∙◌, ◌∷◌, ◌≡◌, ◌≤◌}
 use Rattle.std.proofs.lemmas.Bool.{eq-eqb, eqb-true, ne_eqb, true≢false, or_parts}
@@ -17,7 +18,7 @@ use Rattle.aom_sound.proofs.Sources.{has_sender, served_as, sources_as, sources_
 use Rattle.aom_sound.specs.Clients.{at_opening, at_parting, client_at, most_of, with_client}
 use Rattle.aom_sound.specs.Enlisted.{thing_kind}
 use Rattle.aom_sound.specs.Kept.{ClientsFit, EntryFits, HasSources, QueueFits, ServesSent, TasksKept, is_close_of, is_connect_of, is_message_of, sources_of}
-use Rattle.aom_sound.specs.Places.{Asked, Cell, Close_of, Connect_of, Elsewhere, In_service, Message_of, Object, Queued, Service, held, named, service_of, requested}
+use Rattle.aom_sound.specs.Places.{Asked, Cell, Elsewhere, Object, Queued, Service, held, named, service_of, requested}
 use Rattle.aom_sound.specs.Servers.{has_session, is_from, is_other, is_server, opened, parted, reserved, seats_taken}
 use Rattle.aom_sound.specs.State.{State}
 
@@ -61,22 +62,23 @@ module _ (clients : List Client) (c n : ℕ) where
 
   -- of a client that is at no server
   pub none_of_free : IsFree (client_at clients c) → (es : List Asked) → QueueFits clients n es → list_any (is_of c) es ≡ false
-  none_of_free free es fits = none_passes (is_of c) clients n (λ e at. never e (eqb-true c (client_of e) at)) es fits
-    where
-      never : (e : Asked) → c ≡ client_of e → EntryFits clients n e → ⊥
-      never (Connect_of d) same f = true≢false (sym (ap (λ k. is_connecting_at n (client_at clients k)) same ∙ f) ∙ free.connects n)
-      never (Message_of d m) same f = true≢false (sym (ap (λ k. is_open_at n (client_at clients k)) same ∙ f) ∙ free.opens n)
-      never (Close_of d) same f = true≢false (sym (ap (λ k. is_leaving n (client_at clients k)) same ∙ f) ∙ free.leaves n)
+  none_of_free free es fits = grind (arith, nat_tests, none_passes (is_of c) clients n, is_of c, eqb-true c, client_of)
 
   -- of one whose only entries are its own at one server, none of which is there
   none_but_own :
       (is_own : Asked → Bool) (k : ℕ) → ((e : Asked) → c ≡ client_of e → EntryFits clients n e → (k ≡ n) × (is_own e ≡ true)) → (es : List Asked) → QueueFits clients n es →
       (k ≡ n → list_any is_own es ≡ false) → list_any (is_of c) es ≡ false
-  none_but_own is_own k entry es fits none = go (k == n) refl
-    where
-      go : (b : Bool) → (k == n) ≡ b → list_any (is_of c) es ≡ false
-      go true here = only_own is_own (λ e same f. (entry e same f).1) es fits (none (eqb-true k n here))
-      go false there = none_passes (is_of c) clients n (λ e at f. true≢false (sym (eq-eqb k n (entry e (eqb-true c (client_of e) at) f).0) ∙ there)) es fits
+  none_but_own is_own k entry es fits none = grind (
+    arith,
+    nat_tests,
+    is_of c,
+    only_own is_own,
+    eqb-true k n,
+    none_passes (is_of c) clients n,
+    eq-eqb k n,
+    eqb-true c,
+    client_of,
+  )
 
   -- of one that connects
   pub none_of_connecting :
@@ -123,15 +125,11 @@ fit_changed p c to clients cs cs' fit ch = record {
 }
   where
     sessions : (n d : ℕ) (b : Bool) → (c == d) ≡ b → has_session (service_of cs' n) d ≡ true → server_of (client_at (with_client c to clients) d) ≡ Some n
-    sessions n d true e h =
-        let same : c ≡ d = eqb-true c d e in
-        ap server_of (ap (λ k. client_at (with_client c to clients) k) (sym same) ∙ client_here c to clients) ∙ ch.has n (ap (λ k. has_session (service_of cs' n) k) same ∙ h)
+    sessions n d true e h = grind (arith, nat_tests, eqb-true c d e, client_here c to clients)
     sessions n d false e h = ap server_of (client_there c d to clients e) ∙ fit.sessions n d (sym (ch.others n d e) ∙ h)
 
     listed : (n d : ℕ) (b : Bool) → (c == d) ≡ b → server_of (client_at (with_client c to clients) d) ≡ Some n → has_session (service_of cs' n) d ≡ true
-    listed n d true e h =
-        let same : c ≡ d = eqb-true c d e in
-        ap (λ k. has_session (service_of cs' n) k) (sym same) ∙ ch.listed n (sym (ap server_of (ap (λ k. client_at (with_client c to clients) k) (sym same) ∙ client_here c to clients)) ∙ h)
+    listed n d true e h = grind (arith, nat_tests, eqb-true c d e, client_here c to clients)
     listed n d false e h = ch.others n d e ∙ fit.listed n d (sym (ap server_of (client_there c d to clients e)) ∙ h)
 
 -- ---- the service of one server changes
@@ -154,11 +152,15 @@ module _ (p : Image) (cs : List Cell) (o : Object) (lives : named cs o.name ≡ 
   pub enlisted_then :
       is_some (requested cs o.name) ≡ true → (clients : List Client) → ClientsFit p clients cs → (x : Object) → named then x.name ≡ Some x → requested then x.name ≡ None →
       ((service_of then x.name).queue ≡ []) × ((service_of then x.name).sessions ≡ [])
-  enlisted_then listed clients fit x there none =
-      let was : named cs x.name ≡ Some x = sym (named_served cs o.name (f (service_of cs o.name)) x.name) ∙ there in
-      let unasked : requested cs x.name ≡ None = sym (requested_served cs o.name (f (service_of cs o.name)) x.name) ∙ none in
-      let other : (o.name == x.name) ≡ false = ne_eqb o.name x.name (λ same. true≢false (sym listed ∙ ap (λ k. is_some (requested cs k)) same ∙ ap is_some unasked)) in
-      subst (λ v. (v.queue ≡ []) × (v.sessions ≡ [])) (sym (service_there cs o.name x.name (f (service_of cs o.name)) other)) (fit.enlisted x was unasked)
+  enlisted_then listed clients fit x there none = grind (
+    arith,
+    nat_tests,
+    named_served cs o.name,
+    requested_served cs o.name,
+    ne_eqb o.name x.name,
+    listed,
+    service_there cs o.name x.name,
+  )
 
   -- as long as it has seats
   pub seats_then :
@@ -194,16 +196,11 @@ module _ (p : Image) (cs : List Cell) (o : Object) (lives : named cs o.name ≡ 
     sent_then = by_server cs o lives f (λ n v. is_some v.sender ≡ has_sender cs n) keeps (λ n other. refl)
 
     pub served_then : ServesSent cs → ServesSent then
-    served_then = served_as cs then sent_then (λ x there. sym (held_served cs o.name (f (service_of cs o.name)) (Elsewhere In_service)) ∙ there)
+    served_then = grind (arith, nat_tests, served_as cs, sent_then, held_served cs o.name)
 
   module _ (serves : is_server p o.thing ≡ true) (clients : List Client) (fit : ClientsFit p clients cs) where
     pub servers_then : (x : Object) → named then x.name ≡ Some x → is_server p x.thing ≡ false → ((service_of then x.name).queue ≡ []) × ((service_of then x.name).sessions ≡ [])
-    servers_then x there plain =
-        let was : named cs x.name ≡ Some x = sym (named_served cs o.name (f (service_of cs o.name)) x.name) ∙ there in
-        let other : (o.name == x.name) ≡ false =
-        ne_eqb o.name x.name
-        (λ same. let one : Some o ≡ Some x = sym lives ∙ ap (λ k. named cs k) same ∙ was in let equal : o ≡ x = cc in true≢false (sym serves ∙ ap (λ y. is_server p y.thing) equal ∙ plain)) in
-        subst (λ v. (v.queue ≡ []) × (v.sessions ≡ [])) (sym (service_there cs o.name x.name (f (service_of cs o.name)) other)) (fit.servers x was plain)
+    servers_then x there plain = grind (arith, nat_tests, named_served cs o.name, ne_eqb o.name x.name, service_there cs o.name x.name)
 
     pub names_then : (n m : ℕ) (x : Object) → held then (Elsewhere (Queued n m)) ≡ Some x → x.name ≡ m
     names_then n m x e = fit.names n m x (sym (held_served cs o.name (f (service_of cs o.name)) (Elsewhere (Queued n m))) ∙ e)
@@ -216,7 +213,7 @@ module _ (p : Image) (clients : List Client) (cs : List Cell) (fit : ClientsFit 
   own = client_at clients c
 
   eqb_same : (xs : List ℕ) → list_any (λ x. x == c) (xs ++ c ∷ []) ≡ true
-  eqb_same xs = list_any-append (λ x. x == c) xs (c ∷ []) ∙ ap (λ b. list_any (λ x. x == c) xs || (b || false)) (eq-eqb c c refl) ∙ or-true (list_any (λ x. x == c) xs)
+  eqb_same xs = grind (arith, nat_tests, list_any-append, eq-eqb c c, or-true)
 
   module _ (session : ℕ) (at : is_connecting_at o.name own ≡ true) (none : list_any (is_connect_of c) (service_of cs o.name).queue ≡ false)
       (room : seats_taken (service_of cs o.name) < most_of (thing_kind p o.thing)) where
@@ -243,8 +240,7 @@ module _ (p : Image) (clients : List Client) (cs : List Cell) (fit : ClientsFit 
     }
       where
         queues : (n : ℕ) → QueueFits (with_client c (at_opening session own) clients) n (service_of cs n).queue
-        queues n = queue_other c n (at_opening session own) clients (service_of cs n).queue
-            (none_of_connecting clients c n o.name at (service_of cs n).queue (fit.queues n) (λ same. subst (λ k. list_any (is_connect_of c) (service_of cs k).queue ≡ false) same none)) (fit.queues n)
+        queues n = grind (arith, nat_tests, queue_other c n, none_of_connecting clients c n o.name at)
 
   -- ---- a close is served
 
@@ -273,5 +269,4 @@ module _ (p : Image) (clients : List Client) (cs : List Cell) (fit : ClientsFit 
     }
       where
         queues : (n : ℕ) → QueueFits (with_client c (at_parting own) clients) n (service_of cs n).queue
-        queues n = queue_other c n (at_parting own) clients (service_of cs n).queue
-            (none_of_leaving clients c n o.name at (service_of cs n).queue (fit.queues n) (λ same. subst (λ k. list_any (is_close_of c) (service_of cs k).queue ≡ false) same none)) (fit.queues n)
+        queues n = grind (arith, nat_tests, queue_other c n, none_of_leaving clients c n o.name at)

@@ -1,5 +1,6 @@
 -- A server that goes lets go of all clients that are at it, and what is kept of all others stays.
-use Rattle.std.proofs.Common.{[], Bool, List, None, Option, Some, ap, cond, false, refl, subst, sym, true, ℕ, ◌+◌, ◌==◌, ◌∙◌, ◌∷◌, ◌≡◌, ◌<◌, ◌≤◌, arith}
+use Rattle.std.proofs.lemmas.Bool.Decides.{nat_tests}
+use Rattle.std.proofs.Common.{[], Bool, List, None, Option, Some, ap, cond, false, refl, subst, sym, true, ℕ, ◌==◌, ◌∙◌, ◌∷◌, ◌≡◌, ◌<◌, ◌≤◌, arith}
 use Rattle.std.proofs.lemmas.Bool.{eq-eqb, eqb-true, ne_eqb, true≢false}
 use Rattle.std.specs.List.{list_any}
 use Rattle.std.specs.Prelude.{is_some, ◌||◌}
@@ -7,7 +8,7 @@ use Rattle.aom_image.specs.Image.{Image}
 use Rattle.aom_clients.specs.Nodes.{is_connecting_at, is_leaving, is_open_at}
 use Rattle.aom_clients.specs.Table.{at_gone, server_of}
 use Rattle.aom_clients.specs.declared.client.Client.{Client}
-use Rattle.aom_clients.specs.declared.client.Client.TheVariants.{Open, Unconnected}
+use Rattle.aom_clients.specs.declared.client.Client.TheVariants.{Unconnected}
 use Rattle.aom_sound.proofs.Altering.{held_kept, named_kept, read_kept, requests, unslotting}
 use Rattle.aom_sound.proofs.ClientsFit.{connecting_only, leaving_only}
 use Rattle.aom_sound.proofs.Maps.{cond_same, same_place-true, same_place_comm, same_place_refl}
@@ -15,8 +16,8 @@ use Rattle.aom_sound.proofs.Queues.{client_here, client_there, none_passes}
 use Rattle.aom_sound.proofs.Sifted.{a_cell_of, cell_in, cell_lives, cell_name, cell_of, cell_owner, cell_placed, held_cell, held_sifted, named_before, named_cell, object_in, service_cell, service_gone, service_in, service_sifted, sifted, unheld_sifted, requested_before, clients_sifted}
 use Rattle.aom_sound.proofs.Sources.{has_sender, served_as, served_sifted, sources_as, sources_at, sources_sifted, unslotted_one, unslotted_some}
 use Rattle.aom_sound.proofs.Unslotting.{each_unslotted_alike, service_unslotted}
-use Rattle.aom_sound.specs.Clients.{client_at, each_unslotted, queue_ended, sessions_ended, with_client, most_of}
-use Rattle.aom_sound.specs.Kept.{ClientsFit, EntryFits, QueueFits, ConnectKept, StageKept, is_close_of, is_connect_of, is_message_of, one_if_some, sources_of}
+use Rattle.aom_sound.specs.Clients.{client_at, each_unslotted, queue_ended, sessions_ended, most_of}
+use Rattle.aom_sound.specs.Kept.{ClientsFit, EntryFits, QueueFits, ConnectKept, StageKept, is_close_of, is_connect_of, is_message_of}
 use Rattle.aom_sound.specs.Places.{Asked, Cell, Service, Close_of, Connect_of, Elsewhere, In_service, Message_of, Object, Place, Queued, Sender, Tidy, held, named, same_place, service_of, unserved, without, requested}
 use Rattle.aom_sound.specs.State.{Accept_left, Accepted, Accepts, Parts, Service_left, Serves, Stage}
 use Rattle.aom_sound.specs.Servers.{all_unslotted, has_session, is_from, is_queue_of, is_server, unslotted, without_queue, seats_taken}
@@ -29,34 +30,25 @@ pub queue_ended_at : (q : List Asked) (clients : List Client) (c : ℕ) → clie
 queue_ended_at [] clients c = refl
 queue_ended_at (Message_of d m ∷ es) clients c = queue_ended_at es clients c
 queue_ended_at (Close_of d ∷ es) clients c = queue_ended_at es clients c
-queue_ended_at (Connect_of d ∷ es) clients c = queue_ended_at es (with_client d Unconnected clients) c ∙ go (d == c) refl (list_any (is_connect_of c) es)
-  where
-    go : (b : Bool) → (d == c) ≡ b → (x : Bool) → cond x Unconnected (client_at (with_client d Unconnected clients) c) ≡ cond (b || x) Unconnected (client_at clients c)
-    go true e x = ap (λ k. cond x Unconnected k) (ap (λ i. client_at (with_client d Unconnected clients) i) (sym (eqb-true d c e)) ∙ client_here d Unconnected clients) ∙ cond_same x Unconnected
-    go false e x = ap (λ k. cond x Unconnected k) (client_there d c Unconnected clients e)
+queue_ended_at (Connect_of d ∷ es) clients c = grind (
+  arith,
+  nat_tests,
+  queue_ended_at es,
+  eqb-true d c,
+  client_here d Unconnected clients,
+  cond_same,
+  client_there d c Unconnected clients,
+)
 
 gone_twice : (x : Client) → at_gone (at_gone x) ≡ at_gone x
-gone_twice (Open server session slots) = refl
-gone_twice _ = refl
+gone_twice x = grind arith
 
 pub sessions_ended_at : (xs : List ℕ) (clients : List Client) (c : ℕ) → client_at (sessions_ended xs clients) c ≡ cond (list_any (λ d. d == c) xs) (at_gone (client_at clients c)) (client_at clients c)
 sessions_ended_at [] clients c = refl
-sessions_ended_at (d ∷ ds) clients c = sessions_ended_at ds (with_client d (at_gone (client_at clients d)) clients) c ∙ go (d == c) refl (list_any (λ i. i == c) ds)
-  where
-    then : List Client
-    then = with_client d (at_gone (client_at clients d)) clients
-
-    go : (b : Bool) → (d == c) ≡ b → (x : Bool) → cond x (at_gone (client_at then c)) (client_at then c) ≡ cond (b || x) (at_gone (client_at clients c)) (client_at clients c)
-    go true e x =
-        let same : d ≡ c = eqb-true d c e in
-        let now : client_at then c ≡ at_gone (client_at clients c) =
-        ap (λ i. client_at then i) (sym same) ∙ client_here d (at_gone (client_at clients d)) clients ∙ ap (λ i. at_gone (client_at clients i)) same in
-        ap (λ k. cond x (at_gone k) k) now ∙ ap (λ k. cond x k (at_gone (client_at clients c))) (gone_twice (client_at clients c)) ∙ cond_same x (at_gone (client_at clients c))
-    go false e x = ap (λ k. cond x (at_gone k) k) (client_there d c (at_gone (client_at clients d)) clients e)
+sessions_ended_at (d ∷ ds) clients c = grind (arith, nat_tests, sessions_ended_at ds, eqb-true d c, client_here d, gone_twice, cond_same, client_there d c)
 
 gone_alone : (x : Client) → server_of (at_gone x) ≡ None
-gone_alone (Open server session slots) = refl
-gone_alone _ = refl
+gone_alone x = grind arith
 
 pub open_server : (n : ℕ) (x : Client) → is_open_at n x ≡ true → server_of x ≡ Some n
 open_server n x e = grind arith
@@ -97,7 +89,7 @@ module _ (p : Image) (clients : List Client) (c : ℕ) where
     queues = λ n. subst (λ v. QueueFits clients n v.queue) (sym (service_unslotted c cs n)) (fit.queues n);
     sessions = λ n d h. fit.sessions n d (ap (λ v. has_session v d) (sym (service_unslotted c cs n)) ∙ h);
     listed = λ n d h. ap (λ v. has_session v d) (service_unslotted c cs n) ∙ fit.listed n d h;
-    servers = λ o h plain. subst (λ v. (v.queue ≡ []) × (v.sessions ≡ [])) (sym (service_unslotted c cs o.name)) (fit.servers o (sym (named_unslotted cs o.name) ∙ h) plain);
+    servers = grind (arith, nat_tests, service_unslotted c cs, named_unslotted cs);
     names = λ n m o h. fit.names n m o (sym (held_unslotted cs (Elsewhere (Queued n m))) ∙ h);
     senders = λ n d m h. subst (λ v. is_from d v.sender ≡ true) (sym (service_unslotted c cs m)) (from_unslotted d (service_of cs m).sender (fit.senders n d m (ap (λ v. list_any (is_message_of d m) v.queue) (sym (service_unslotted c cs n)) ∙ h)));
     sources = sources_as cs (all_unslotted c cs) sources (λ o h. sym (named_unslotted cs o.name) ∙ h) fit.sources;
@@ -110,7 +102,7 @@ module _ (p : Image) (clients : List Client) (c : ℕ) where
       sent n = ap (λ v. is_some v.sender) (service_unslotted c cs n) ∙ unslotted_some c (service_of cs n).sender
 
       sources : (n : ℕ) → sources_at (all_unslotted c cs) n ≡ sources_at cs n
-      sources n = ap sources_of (service_unslotted c cs n) ∙ ap (λ i. i + one_if_some (service_of cs n).token) (unslotted_one c (service_of cs n).sender)
+      sources n = grind (arith, nat_tests, service_unslotted c cs n, unslotted_one c)
 
 pub fit_each_unslotted : (p : Image) (clients : List Client) (xs : List ℕ) (cs : List Cell) → ClientsFit p clients cs → ClientsFit p clients (each_unslotted xs cs)
 fit_each_unslotted p clients [] cs fit = fit
@@ -147,51 +139,24 @@ module _
 
   -- a client that neither connects to it nor has a session with it is at what it was
   other_client : (d : ℕ) → is_connecting_at o.name (client_at clients d) ≡ false → has_session (service_of cs o.name) d ≡ false → client_at then d ≡ client_at clients d
-  other_client d connects has =
-      sessions_ended_at (service_of cs o.name).sessions (queue_ended (service_of cs o.name).queue clients) d
-      ∙ ap (λ b. cond b (at_gone (client_at (queue_ended (service_of cs o.name).queue clients) d)) (client_at (queue_ended (service_of cs o.name).queue clients) d)) has
-      ∙ queue_ended_at (service_of cs o.name).queue clients d
-      ∙ ap (λ b. cond b Unconnected (client_at clients d)) (none_passes (is_connect_of d) clients o.name never (service_of cs o.name).queue (fit.queues o.name))
-    where
-      never : (e : Asked) → is_connect_of d e ≡ true → EntryFits clients o.name e → ⊥
-      never x at f = grind arith
+  other_client d connects has = grind (arith, nat_tests, sessions_ended_at, queue_ended_at, none_passes)
 
   no_session : (n d : ℕ) → (o.name == n) ≡ false → server_of (client_at clients d) ≡ Some n → has_session (service_of cs o.name) d ≡ false
-  no_session n d other e = go (has_session (service_of cs o.name) d) refl
-    where
-      go : (b : Bool) → has_session (service_of cs o.name) d ≡ b → b ≡ false
-      go true h = let same : Some o.name ≡ Some n = sym (fit.sessions o.name d h) ∙ e in absurd (true≢false (sym (eq-eqb o.name n cc) ∙ other))
-      go false h = refl
+  no_session n d other e = grind (arith, nat_tests, eq-eqb o.name n)
 
   -- of another server
   with_session : (n d : ℕ) → (o.name == n) ≡ false → server_of (client_at clients d) ≡ Some n → client_at then d ≡ client_at clients d
   with_session n d other e = other_client d (has_server o.name n (client_at clients d) e) (no_session n d other e)
 
   with_connect : (n d : ℕ) → (o.name == n) ≡ false → is_connecting_at n (client_at clients d) ≡ true → client_at then d ≡ client_at clients d
-  with_connect n d other e = other_client d connects has
-    where
-      connects : is_connecting_at o.name (client_at clients d) ≡ false
-      connects = go (is_connecting_at o.name (client_at clients d)) refl
-        where
-          go : (b : Bool) → is_connecting_at o.name (client_at clients d) ≡ b → b ≡ false
-          go true h = absurd (true≢false (sym (eq-eqb o.name n (sym ((connecting_only n o.name (client_at clients d) e).3 h))) ∙ other))
-          go false h = refl
-
-      has : has_session (service_of cs o.name) d ≡ false
-      has = go (has_session (service_of cs o.name) d) refl
-        where
-          go : (b : Bool) → has_session (service_of cs o.name) d ≡ b → b ≡ false
-          go true h = let clash : None ≡ Some o.name = sym (connecting_only n o.name (client_at clients d) e).2 ∙ fit.sessions o.name d h in cc
-          go false h = refl
+  with_connect n d other e = grind (arith, nat_tests, other_client d, eq-eqb o.name n, connecting_only n o.name)
 
   queue_kept : (n : ℕ) → (o.name == n) ≡ false → (es : List Asked) → QueueFits clients n es → QueueFits then n es
   queue_kept n other [] fits = tt
   queue_kept n other (e ∷ es) fits = ((entry e fits.0.0, fits.0.1), queue_kept n other es fits.1)
     where
       entry : (e : Asked) → EntryFits clients n e → EntryFits then n e
-      entry (Connect_of d) f = subst (λ x. is_connecting_at n x ≡ true) (sym (with_connect n d other f)) f
-      entry (Message_of d m) f = subst (λ x. is_open_at n x ≡ true) (sym (with_session n d other (open_server n (client_at clients d) f))) f
-      entry (Close_of d) f = subst (λ x. is_leaving n x ≡ true) (sym (with_session n d other (leaving_only n n (client_at clients d) f).2)) f
+      entry y f = grind (arith, nat_tests, with_connect n, with_session n, open_server n, leaving_only n n)
 
   -- ---- what clients have at the cells that stay
 
@@ -230,15 +195,21 @@ module _
   service_left n other = clients_sifted drops cs tidy n (λ x e goes. what_goes n x e goes other)
 
   or_right : (b : Bool) → (b || true) ≡ true
-  or_right true = refl
-  or_right false = refl
+  or_right y = grind arith
 
   service_none : service_of left o.name ≡ unserved
-  service_none =
-      let lives : cell_of cs o_cell.0.object.name ≡ Some o_cell.0 = cell_lives cs g o_cell.0 tidy o_cell.1 in
-      let here : cell_of cs o.name ≡ Some o_cell.0 = ap (λ y. cell_of cs y.name) (sym o_cell.2) ∙ lives in
-      let at : same_place o_cell.0.owner g ≡ true = ap (λ q. same_place q g) (cell_owner cs g o_cell.0 o_cell.1) ∙ same_place_refl g in
-      service_gone drops (λ c. c.service) cs o.name tidy o_cell.0 here (ap (λ b. is_queue_of o.name o_cell.0.owner || b) at ∙ or_right (is_queue_of o.name o_cell.0.owner))
+  service_none = grind (
+    arith,
+    nat_tests,
+    cell_of cs o_cell.0.object.name,
+    cell_lives cs g o_cell.0 tidy o_cell.1,
+    cell_of cs o.name,
+    cell_of cs,
+    cell_owner cs g o_cell.0 o_cell.1,
+    same_place_refl g,
+    service_gone,
+    or_right,
+  )
 
   -- a message in the queue of another server stays
   sender_left : (n d m : ℕ) → (o.name == n) ≡ false → list_any (is_message_of d m) (service_of cs n).queue ≡ true → is_from d (service_of left m).sender ≡ true
@@ -250,44 +221,20 @@ module _
       let here : cell_of cs m ≡ Some y.0 = ap (λ k. cell_of cs k) (sym name) ∙ lives in
       let owner : y.0.owner ≡ Elsewhere (Queued n m) = cell_owner cs (Elsewhere (Queued n m)) y.0 y.1 in
       let stays : drops y.0 ≡ false =
-      ap (λ q. is_queue_of o.name q || same_place q g) owner
-      ∙ ap (λ b. b || same_place (Elsewhere (Queued n m)) g) (ne_eqb n o.name (λ same. true≢false (sym (eq-eqb o.name n (sym same)) ∙ other)))
-      ∙ same_place_comm (Elsewhere (Queued n m)) g ∙ apart n m in
+      grind (arith, nat_tests, ne_eqb n o.name, eq-eqb o.name n, same_place_comm (Elsewhere (Queued n m)) g) in
       subst (λ v. is_from d v.sender ≡ true) (service_cell cs m ∙ ap service_in here ∙ sym (service_sifted drops (λ c. c.service) cs tidy m y.0 here stays)) (fit.senders n d m h)
 
   has_left : (n d : ℕ) → (o.name == n) ≡ false → has_session (service_of left n) d ≡ has_session (service_of cs n) d
   has_left n d other = ap (λ xs. list_any (λ k. k == d) xs) (service_left n other).1
 
   sessions_left : (n d : ℕ) → has_session (service_of left n) d ≡ true → server_of (client_at then d) ≡ Some n
-  sessions_left n d h = go (o.name == n) refl
-    where
-      go : (b : Bool) → (o.name == n) ≡ b → server_of (client_at then d) ≡ Some n
-      go true e = let none : false ≡ true = sym (ap (λ v. has_session v d) (ap (λ k. service_of left k) (sym (eqb-true o.name n e)) ∙ service_none)) ∙ h in cc
-      go false e = let was = fit.sessions n d (sym (has_left n d e) ∙ h) in ap server_of (with_session n d e was) ∙ was
+  sessions_left n d h = grind (arith, nat_tests, eqb-true o.name n, service_none, has_left n d, with_session n d)
 
   listed_left : (n d : ℕ) → server_of (client_at then d) ≡ Some n → has_session (service_of left n) d ≡ true
-  listed_left n d h = go (has_session (service_of cs o.name) d) (list_any (is_connect_of d) (service_of cs o.name).queue) refl refl (sym (ap server_of at) ∙ h)
-    where
-      at : client_at then d ≡ cond (has_session (service_of cs o.name) d) (at_gone (client_at (queue_ended (service_of cs o.name).queue clients) d)) (cond (list_any (is_connect_of d) (service_of cs o.name).queue) Unconnected (client_at clients d))
-      at = sessions_ended_at (service_of cs o.name).sessions (queue_ended (service_of cs o.name).queue clients) d
-          ∙ ap (λ x. cond (has_session (service_of cs o.name) d) (at_gone (client_at (queue_ended (service_of cs o.name).queue clients) d)) x) (queue_ended_at (service_of cs o.name).queue clients d)
-
-      go :
-          (b x : Bool) → has_session (service_of cs o.name) d ≡ b → list_any (is_connect_of d) (service_of cs o.name).queue ≡ x →
-          server_of (cond b (at_gone (client_at (queue_ended (service_of cs o.name).queue clients) d)) (cond x Unconnected (client_at clients d))) ≡ Some n → has_session (service_of left n) d ≡ true
-      go true x e f h = let clash : None ≡ Some n = sym (gone_alone (client_at (queue_ended (service_of cs o.name).queue clients) d)) ∙ h in cc
-      go false true e f h = cc
-      go false false e f h = has_left n d (ne_eqb o.name n (λ same. true≢false (sym (fit.listed o.name d (h ∙ ap (λ k. Some k) (sym same))) ∙ e))) ∙ fit.listed n d h
+  listed_left n d h = grind (arith, nat_tests, sessions_ended_at, queue_ended_at, gone_alone, has_left n d, ne_eqb o.name n)
 
   servers_left : (x : Object) → named left x.name ≡ Some x → is_server p x.thing ≡ false → ((service_of left x.name).queue ≡ []) × ((service_of left x.name).sessions ≡ [])
-  servers_left x h plain = go (o.name == x.name) refl
-    where
-      was : named cs x.name ≡ Some x
-      was = let b = named_before drops (λ c. c.service) cs x.name x tidy h in named_cell cs x.name ∙ ap object_in b.1 ∙ ap (λ y. Some y) b.2
-
-      go : (b : Bool) → (o.name == x.name) ≡ b → ((service_of left x.name).queue ≡ []) × ((service_of left x.name).sessions ≡ [])
-      go true e = let none : service_of left x.name ≡ unserved = ap (λ k. service_of left k) (sym (eqb-true o.name x.name e)) ∙ service_none in (ap (λ v. v.queue) none, ap (λ v. v.sessions) none)
-      go false e = let none = fit.servers x was plain in ((service_left x.name e).0 ∙ none.0, (service_left x.name e).1 ∙ none.1)
+  servers_left x h plain = grind (arith, nat_tests, named_before, named_cell cs x.name, object_in, eqb-true o.name x.name, service_none, service_left x.name)
 
   names_left : (n m : ℕ) (x : Object) → held left (Elsewhere (Queued n m)) ≡ Some x → x.name ≡ m
   names_left n m x h = fit.names n m x (held_before drops (λ c. c.service) cs (Elsewhere (Queued n m)) x tidy h)
@@ -307,32 +254,21 @@ module _
   }
     where
       queues : (n : ℕ) (b : Bool) → (o.name == n) ≡ b → QueueFits then n (service_of left n).queue
-      queues n true e = subst (λ v. QueueFits then n v.queue) (sym (ap (λ k. service_of left k) (sym (eqb-true o.name n e)) ∙ service_none)) tt
+      queues n true e = grind (arith, nat_tests, eqb-true o.name n e, service_none)
       queues n false e = subst (λ q. QueueFits then n q) (sym (service_left n e).0) (queue_kept n e (service_of cs n).queue (fit.queues n))
 
       enlisted :
           (x : Object) → named left x.name ≡ Some x → requested left x.name ≡ None → (b : Bool) → (o.name == x.name) ≡ b →
           ((service_of left x.name).queue ≡ []) × ((service_of left x.name).sessions ≡ [])
-      enlisted x h e true f =
-          let none : service_of left x.name ≡ unserved = ap (λ k. service_of left k) (sym (eqb-true o.name x.name f)) ∙ service_none in
-          (ap (λ v. v.queue) none, ap (λ v. v.sessions) none)
-      enlisted x h e false f =
-          let b = named_before drops (λ c. c.service) cs x.name x tidy h in
-          let none = fit.enlisted x (named_cell cs x.name ∙ ap object_in b.1 ∙ ap (λ y. Some y) b.2) (sym (requested_before drops (λ c. c.service) cs x.name x tidy h) ∙ e) in
-          ((service_left x.name f).0 ∙ none.0, (service_left x.name f).1 ∙ none.1)
+      enlisted x h e true f = grind (arith, nat_tests, eqb-true o.name x.name f, service_none)
+      enlisted x h e false f = grind (arith, nat_tests, named_before, named_cell cs x.name, object_in, requested_before, service_left x.name f)
 
       seats : (x : Object) → named left x.name ≡ Some x → (b : Bool) → (o.name == x.name) ≡ b → seats_taken (service_of left x.name) ≤ most_of (thing_kind p x.thing)
-      seats x h true e =
-          let none : seats_taken (service_of left x.name) ≡ 0 = ap (λ k. seats_taken (service_of left k)) (sym (eqb-true o.name x.name e)) ∙ ap seats_taken service_none in
-          omega (arith, none)
-      seats x h false e =
-          let b = named_before drops (λ c. c.service) cs x.name x tidy h in
-          let was = fit.seats x (named_cell cs x.name ∙ ap object_in b.1 ∙ ap (λ y. Some y) b.2) in
-          let same = seats_same (service_of left x.name) (service_of cs x.name) (service_left x.name e).0 (service_left x.name e).1 in
-          omega (arith, was, same)
+      seats x h true e = grind (arith, nat_tests, eqb-true o.name x.name e, service_none)
+      seats x h false e = grind (arith, nat_tests, named_before, named_cell cs x.name, object_in, seats_same, service_left x.name e)
 
       senders : (n d m : ℕ) (b : Bool) → (o.name == n) ≡ b → list_any (is_message_of d m) (service_of left n).queue ≡ true → is_from d (service_of left m).sender ≡ true
-      senders n d m true e h = let none : false ≡ true = sym (ap (λ v. list_any (is_message_of d m) v.queue) (ap (λ k. service_of left k) (sym (eqb-true o.name n e)) ∙ service_none)) ∙ h in cc
+      senders n d m true e h = grind (arith, nat_tests, eqb-true o.name n e, service_none)
       senders n d m false e h = sender_left n d m e (ap (λ q. list_any (is_message_of d m) q) (sym (service_left n e).0) ∙ h)
 
   -- with it and its queue gone

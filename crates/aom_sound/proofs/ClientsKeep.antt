@@ -1,14 +1,14 @@
 -- Clients, and what they have at servers, say the same in each state of a run, and tokens stay apart: as it boots, in each move and in each turn.
-use Rattle.std.proofs.Common.{[], Bool, List, None, Option, Some, ap, cond, false, length, pos, refl, subst, sym, true, ℕ, ℤ, ◌∙◌, ◌∷◌, ◌≡◌}
+use Rattle.std.proofs.lemmas.Bool.Decides.{nat_tests}
+use Rattle.std.proofs.Common.{arith, [], Bool, List, None, Option, Some, ap, false, length, refl, subst, sym, true, ℕ, ℤ, ◌∙◌, ◌∷◌, ◌≡◌}
 use Rattle.std.specs.List.{list_any}
-use Rattle.std.specs.Ordering.{int_eq}
 use Rattle.aom_image.specs.Image.{Image}
 use Rattle.aom_image.specs.Views.{gives_of}
 use Rattle.aom_instructions.specs.declared.instr.Instr.{Instr}
 use Rattle.aom_instructions.specs.declared.instr.Instr.TheVariants as instrs
 use Rattle.aom_image.specs.declared.method.Role.TheVariants.{Error as Answers}
 use Rattle.aom_image.specs.declared.method.Thing.TheVariants.{Message}
-use Rattle.aom_classes.specs.Roles.{main_of, destructor_of}
+use Rattle.aom_classes.specs.Roles.{main_of}
 use Rattle.aom_clients.specs.declared.client.Client.{Client}
 use Rattle.aom_rules.specs.Typing.{Typing}
 use Rattle.aom_sound.proofs.ClientsEffects.{IsUsual, effect_kept, fine_effect}
@@ -33,19 +33,18 @@ use Rattle.aom_sound.proofs.Moving.{steps_are_moves}
 use Rattle.aom_sound.specs.Steps.{Acts, Arrives, Clears, Comes_out, Empties, Ends, Move, Rests, Undoes, Vanishes}
 use Rattle.aom_sound.proofs.Guarded.{acts_at}
 use Rattle.aom_sound.specs.Cleanup.{ended_by}
-use Rattle.aom_sound.specs.Destruction.{begun, begun_by, parting, vanished, first_session}
+use Rattle.aom_sound.specs.Destruction.{begun, parting, vanished, first_session}
 use Rattle.aom_sound.specs.Effects.{applied, effect, needs}
 use Rattle.aom_sound.specs.Enlisted.{ended_cells, part_of}
 use Rattle.aom_sound.specs.Kept.{ClientsFit, IsKept, StageKept, TasksKept, is_message_of}
 use Rattle.aom_sound.specs.Laws.{ClientsKeep, IsWired}
-use Rattle.aom_sound.specs.Moves.{answered, asking, counted, dispatch_ends, failed, handled, main_ends, object_ends, stage_ends, step}
+use Rattle.aom_sound.specs.Moves.{answered, asking, counted, dispatch_ends, handled, main_ends, object_ends, stage_ends, step}
 use Rattle.aom_sound.specs.Places.{Cell, Elsewhere, Entry, Going, In_service, Object, Place, Queued, Root, Tidy, held, moved, named, service_of, without, requested, Request}
 use Rattle.aom_sound.specs.Servers.{is_server}
 use Rattle.aom_sound.specs.State.{Accept_left, Accepted, Accepts, Answered, Asks, Choice, Closing, Destroy, Dispatch, Dispatched, Frame, Goes, Main_left, Object_left, Of_main, Of_object, Of_root, Of_server, Parts, Run, Seat, Service_left, Serves, Stage, State, Task, Trapped, Unwind, resumed}
 use Rattle.aom_sound.specs.WellTyped.{Now, WellTyped}
 use Rattle.aom_sound.specs.World.{boot_state, main_tasks}
 use Rattle.std.specs.Prelude.{is_some}
-use Rattle.std.proofs.lemmas.Bool.{true≢false}
 
 -- ---- as it boots
 
@@ -56,13 +55,11 @@ boot_kept p = record {
 }
   where
     stage : (m : Option ℕ) → TasksKept p [] [] (main_tasks m)
-    stage None = tt
-    stage (Some m) = tt
+    stage x = grind arith
 
 -- what is enlisted stays so
 stays_listed : (old new : Option Request) → (new ≡ None → old ≡ None) → is_some old ≡ true → is_some new ≡ true
-stays_listed old None keeps some = absurd (true≢false (sym some ∙ ap is_some (keeps refl)))
-stays_listed old (Some r) keeps some = refl
+stays_listed old x keeps some = grind arith
 
 -- ---- moves that change no cell of a server
 
@@ -81,29 +78,19 @@ module _ (p : Image) (s : State) (fit : ClientsFit p s.clients s.cells) where
   begun_kept a k o height ts u cells clients tasks stage =
       let still = steady_moved s.cells a (Going k) (λ n m. refl) refl in
       record {
-        fit = subst (λ l. ClientsFit p l u.cells) (sym clients) (subst (λ l. ClientsFit p s.clients l) (sym cells) (fit_steady p s.clients s.cells (moved a (Going k) s.cells) still fit));
-        stage = subst (λ l. TasksKept p l u.cells u.tasks) (sym clients) (subst (λ l. TasksKept p s.clients l u.tasks) (sym cells) (subst (λ l. TasksKept p s.clients (moved a (Going k) s.cells) l) (sym tasks)
-            (tasks_begun p s.clients (moved a (Going k) s.cells) o height ts (tasks_steady p s.clients s.cells (moved a (Going k) s.cells) still ts stage))));
+        fit = grind (arith, nat_tests, fit_steady p s.clients s.cells);
+        stage = grind (arith, nat_tests, tasks_begun p s.clients, tasks_steady p s.clients s.cells);
       }
 
   -- ---- a leave
 
   arrival_stage : (code : ℤ) (d : Dispatch) (ts : List Task) → TasksKept p s.clients s.cells (Dispatched d ∷ ts) → TasksKept p s.clients s.cells (Dispatched (ended_by code d) ∷ ts)
-  arrival_stage code (Of_server x c Accepts) ts k = k
-  arrival_stage code (Of_server x c Accepted) ts k = k
-  arrival_stage code (Of_server x c (Accept_left old)) ts k = k
-  arrival_stage code (Of_server x c (Service_left old)) ts k = k
-  arrival_stage code (Of_server x c Parts) ts k = k
-  arrival_stage code _ ts k = tt
+  arrival_stage code x ts k = grind arith
 
   -- ---- a server lets go of a session
 
   parting_kept : (o : Object) (x : Option Seat) (below : List Task) → TasksKept p s.clients s.cells below → IsFit p (parting p o x below s)
-  parting_kept o None below stage = same_cells _ refl refl (go (destructor_of p o.thing))
-    where
-      go : (m : Option ℕ) → TasksKept p s.clients s.cells (begun_by p m o (length s.items) below)
-      go None = stage
-      go (Some m) = stage
+  parting_kept o None below stage = grind (arith, nat_tests, same_cells)
   parting_kept o (Some x) below stage = begun_kept x.place _ x.object (length s.items) (Closing ∷ Destroy ∷ below) _ refl refl refl stage
 
   -- ---- a dispatch ends
@@ -118,15 +105,10 @@ module _ (p : Image) (s : State) (fit : ClientsFit p s.clients s.cells) where
   object_kept = main_kept p (handled s) fit s.rest.stopped (held s.cells (Elsewhere Root))
 
   answered_kept : (answer : ℤ) → IsFit p (answered p answer s)
-  answered_kept answer = go (int_eq answer (pos 0))
-    where
-      go : (b : Bool) → IsFit p (cond b (object_ends p s) (failed answer s))
-      go true = object_kept
-      go false = same_cells p s fit (failed answer s) refl refl tt
+  answered_kept answer = grind (arith, nat_tests, IsFit p, object_kept, same_cells p s fit)
 
   asking_kept : (m : Option ℕ) (x : Seat) (code : ℤ) → IsFit p (asking p m x code s)
-  asking_kept None x code = answered_kept code
-  asking_kept (Some m) x code = same_cells p s fit _ refl refl tt
+  asking_kept x y code = grind (arith, nat_tests, answered_kept code, same_cells p s fit)
 
   -- of a server: a connect that was left has no session, a message is completed, or a session is closed
   module _ (tidy : Tidy s.cells) (queued : (n c m : ℕ) → list_any (is_message_of c m) (service_of s.cells n).queue ≡ true → (x : Object) × (held s.cells (Elsewhere (Queued n m)) ≡ Some x))
@@ -161,8 +143,7 @@ module _ (p : Image) (s : State) (fit : ClientsFit p s.clients s.cells) where
 -- ---- a cell goes
 
 tasks_resumed : (p : Image) (clients : List Client) (cs : List Cell) (ts : List Task) → TasksKept p clients cs ts → TasksKept p clients cs (resumed ts)
-tasks_resumed p clients cs (Run fr ∷ ts) k = k
-tasks_resumed p clients cs _ k = k
+tasks_resumed p clients cs x k = grind arith
 
 -- what a stage has stays kept, so do tasks
 tasks_staged :

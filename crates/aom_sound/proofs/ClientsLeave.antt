@@ -1,9 +1,10 @@
 -- A client that closes or dies leaves what is kept: its messages that wait go, and where its session was open a close is asked last.
+use Rattle.std.proofs.lemmas.Bool.Decides.{nat_tests}
 use Rattle.std.proofs.Math.Bool.{and-false}
-use Rattle.std.proofs.Common.{[], Bool, List, None, Option, Some, ap, arith, cond, false, refl, subst, sym, true, ℕ, ◌+◌, ◌&&◌, ◌==◌, ◌∙◌, ◌∷◌, ◌≡◌, ◌≤◌}
-use Rattle.std.proofs.lemmas.Bool.{eq-eqb, eqb-true, ne_eqb, true≢false}
+use Rattle.std.proofs.Common.{[], Bool, List, None, Option, Some, ap, arith, false, refl, subst, sym, true, ℕ, ◌&&◌, ◌==◌, ◌∙◌, ◌∷◌, ◌≡◌, ◌≤◌}
+use Rattle.std.proofs.lemmas.Bool.{eq-eqb, eqb-true, ne_eqb}
 use Rattle.std.specs.List.{list_any}
-use Rattle.std.specs.Prelude.{filter, not, ◌||◌, is_some}
+use Rattle.std.specs.Prelude.{filter, is_some}
 use Rattle.aom_image.specs.Image.{Image}
 use Rattle.aom_clients.specs.Nodes.{is_leaving}
 use Rattle.aom_clients.specs.Table.{server_of}
@@ -17,8 +18,8 @@ use Rattle.aom_sound.proofs.Sifted.{cell_of_sifted, kept, cell_lives, cell_of, c
 use Rattle.aom_sound.proofs.Sources.{discarded_one, discarded_some, served_sifted, sources_sifted}
 use Rattle.aom_sound.specs.Clients.{client_at, most_of, with_client}
 use Rattle.aom_sound.specs.Enlisted.{thing_kind}
-use Rattle.aom_sound.specs.Kept.{ClientsFit, EntryFits, HasSources, QueueFits, ServesSent, asked_again, is_close_of, is_message_of, one_if_some}
-use Rattle.aom_sound.specs.Places.{Asked, Cell, Close_of, Connect_of, Elsewhere, Message_of, Object, Place, Queued, Sender, Service, Tidy, held, named, service_of, unserved, requested}
+use Rattle.aom_sound.specs.Kept.{ClientsFit, QueueFits, ServesSent, is_close_of, is_message_of}
+use Rattle.aom_sound.specs.Places.{Asked, Cell, Close_of, Elsewhere, Object, Place, Queued, Sender, Service, Tidy, held, named, service_of, unserved, requested}
 use Rattle.aom_sound.specs.Servers.{asked_last, discarded, reserved, is_from, is_queue, is_server, left_by, seats_taken, stays, withdrawn}
 
 -- ---- lists
@@ -26,39 +27,12 @@ use Rattle.aom_sound.specs.Servers.{asked_last, discarded, reserved, is_from, is
 -- the messages of another stay, and are no more than there were
 message_stays : (c d m : ℕ) (es : List Asked) → list_any (is_message_of d m) (filter (stays c) es) ≡ true → ((c == d) ≡ false) × (list_any (is_message_of d m) es ≡ true)
 message_stays c d m [] h = cc
-message_stays c d m (e ∷ es) h = go (stays c e) refl (message_stays c d m es) h
-  where
-    or_right : (b x : Bool) → x ≡ true → (b || x) ≡ true
-    or_right true x e = refl
-    or_right false x e = e
-
-    other : (e : Asked) → stays c e ≡ true → is_message_of d m e ≡ true → (c == d) ≡ false
-    other x s at = grind arith
-
-    go :
-        (b : Bool) → stays c e ≡ b → (list_any (is_message_of d m) (filter (stays c) es) ≡ true → ((c == d) ≡ false) × (list_any (is_message_of d m) es ≡ true)) →
-        list_any (is_message_of d m) (cond b (e ∷ filter (stays c) es) (filter (stays c) es)) ≡ true → ((c == d) ≡ false) × ((is_message_of d m e || list_any (is_message_of d m) es) ≡ true)
-    go false s rest h = let r = rest h in (r.0, or_right (is_message_of d m e) (list_any (is_message_of d m) es) r.1)
-    go true s rest h = front (is_message_of d m e) refl h
-      where
-        front : (x : Bool) → is_message_of d m e ≡ x → (x || list_any (is_message_of d m) (filter (stays c) es)) ≡ true → ((c == d) ≡ false) × ((x || list_any (is_message_of d m) es) ≡ true)
-        front true at h = (other e s at, refl)
-        front false at h = rest h
+message_stays c d m (e ∷ es) h = grind (arith, nat_tests, message_stays c d m es)
 
 -- a client that is leaving or at no server has nothing but its closes there
 none_but_close : (c : ℕ) (es : List Asked) → list_any (is_close_of c) es ≡ false → list_any (is_of c) (filter (stays c) es) ≡ false
 none_but_close c [] none = refl
-none_but_close c (e ∷ es) none = go (stays c e) refl (is_close_of c e) refl none (none_but_close c es)
-  where
-    entry : (e : Asked) → stays c e ≡ true → is_close_of c e ≡ false → is_of c e ≡ false
-    entry (Connect_of d) s n = ne_eqb c d (λ same. true≢false (sym s ∙ ap not (eq-eqb d c (sym same))))
-    entry (Message_of d m) s n = ne_eqb c d (λ same. true≢false (sym s ∙ ap not (eq-eqb d c (sym same))))
-    entry (Close_of d) s n = ne_eqb c d (λ same. true≢false (sym (eq-eqb d c (sym same)) ∙ n))
-
-    go :
-        (b : Bool) → stays c e ≡ b → (x : Bool) → is_close_of c e ≡ x → (x || list_any (is_close_of c) es) ≡ false → (list_any (is_close_of c) es ≡ false → list_any (is_of c) (filter (stays c) es) ≡ false) →
-        list_any (is_of c) (cond b (e ∷ filter (stays c) es) (filter (stays c) es)) ≡ false
-    go b s x at none rest = grind (arith, entry)
+none_but_close c (e ∷ es) none = grind (arith, nat_tests, none_but_close c es, is_of c e, ne_eqb c, eq-eqb, is_of c)
 
 -- so that what is left of a queue fits whatever it is at then
 pub queue_left :
@@ -71,21 +45,18 @@ pub queue_leaving :
     (clients : List Client) (c n : ℕ) (to : Client) → (is_leaving n (client_at clients c) ≡ true → is_leaving n to ≡ true) → (es : List Asked) → QueueFits clients n es →
     QueueFits (with_client c to clients) n (filter (stays c) es)
 queue_leaving clients c n to still [] fits = tt
-queue_leaving clients c n to still (e ∷ es) fits = go (stays c e) refl (queue_leaving clients c n to still es fits.1)
-  where
-    own : (e : Asked) → stays c e ≡ true → c ≡ client_of e → EntryFits clients n e → EntryFits (with_client c to clients) n e
-    own (Connect_of d) s same f = absurd (true≢false (sym s ∙ ap not (eq-eqb d c (sym same))))
-    own (Message_of d m) s same f = absurd (true≢false (sym s ∙ ap not (eq-eqb d c (sym same))))
-    own (Close_of d) s same f =
-        ap (λ x. is_leaving n x) (ap (λ k. client_at (with_client c to clients) k) (sym same) ∙ client_here c to clients) ∙ still (ap (λ k. is_leaving n (client_at clients k)) same ∙ f)
-
-    entry : (e : Asked) → stays c e ≡ true → EntryFits clients n e → (b : Bool) → is_of c e ≡ b → EntryFits (with_client c to clients) n e
-    entry e s f true at = own e s (eqb-true c (client_of e) at) f
-    entry e s f false at = entry_other c n to clients e at f
-
-    go : (b : Bool) → stays c e ≡ b → QueueFits (with_client c to clients) n (filter (stays c) es) → QueueFits (with_client c to clients) n (cond b (e ∷ filter (stays c) es) (filter (stays c) es))
-    go true s rest = ((entry e s fits.0.0 (is_of c e) refl, none_stays (asked_again e) (stays c) es fits.0.1), rest)
-    go false s rest = rest
+queue_leaving clients c n to still (e ∷ es) fits = grind (
+  arith,
+  nat_tests,
+  queue_leaving clients c n to still es fits.1,
+  client_of e,
+  eq-eqb,
+  client_here c to clients,
+  is_of c e,
+  eqb-true c (client_of e),
+  entry_other c n to clients e,
+  none_stays,
+)
 
 -- ---- the cells
 
@@ -154,10 +125,18 @@ module _ (p : Image) (clients : List Client) (cs : List Cell) (tidy : Tidy cs) (
 
   -- a message of another client has its sender still
   sender_left : (d m : ℕ) → (c == d) ≡ false → is_from d (service_of cs m).sender ≡ true → is_from d (service_of (withdrawn c cs) m).sender ≡ true
-  sender_left d m other h = go (cell_of cs m) refl (subst (λ v. is_from d v.sender ≡ true) (service_cell cs m) h)
-    where
-      go : (x : Option Cell) → cell_of cs m ≡ x → is_from d (service_in x).sender ≡ true → is_from d (service_of (withdrawn c cs) m).sender ≡ true
-      go x e h = grind (arith, from_other, and-false, withdrawn_so, service_sifted, from_kept)
+  sender_left d m other h = grind (
+    arith,
+    nat_tests,
+    cell_of cs m,
+    service_cell cs m,
+    service_in,
+    from_other,
+    and-false,
+    withdrawn_so,
+    service_sifted,
+    from_kept,
+  )
 
   -- the client is at something else then, and asks for nothing more
   module _ (to : Client) (session : server_of to ≡ server_of (client_at clients c)) (queues : (n : ℕ) → QueueFits (with_client c to clients) n (filter (stays c) (service_of cs n).queue)) where
@@ -170,44 +149,34 @@ module _ (p : Image) (clients : List Client) (cs : List Cell) (tidy : Tidy cs) (
       servers = servers;
       names = names;
       senders = λ n d m h. let parts = message_stays c d m (service_of cs n).queue (ap (λ q. list_any (is_message_of d m) q) (sym (service_left n).0) ∙ h) in sender_left d m parts.0 (fit.senders n d m parts.1);
-      sources = subst (λ l. HasSources l) (sym (withdrawn_so c cs)) (sources_sifted drops left (λ x. ap (λ n. n + one_if_some x.service.token) (discarded_one c x.service.sender)) cs tidy fit.sources);
+      sources = grind (arith, nat_tests, withdrawn_so c cs, sources_sifted, discarded_one c);
       served = subst (λ l. ServesSent l) (sym (withdrawn_so c cs)) (served_sifted drops left (λ x. discarded_some c x.service.sender) cs tidy fit.served);
       enlisted = λ o there none. enlisted o there none;
       seats = seats;
     }
       where
         before : (o : Object) → named (withdrawn c cs) o.name ≡ Some o → named cs o.name ≡ Some o
-        before o there = let b = named_before drops left cs o.name o tidy (ap (λ l. named l o.name) (sym (withdrawn_so c cs)) ∙ there) in named_cell cs o.name ∙ ap object_in b.1 ∙ ap (λ y. Some y) b.2
+        before o there = grind (arith, nat_tests, named_before, withdrawn_so c cs, named_cell cs o.name, object_in)
 
         enlisted :
             (o : Object) → named (withdrawn c cs) o.name ≡ Some o → requested (withdrawn c cs) o.name ≡ None →
             ((service_of (withdrawn c cs) o.name).queue ≡ []) × ((service_of (withdrawn c cs) o.name).sessions ≡ [])
-        enlisted o there none =
-            let same = requested_before drops left cs o.name o tidy (ap (λ l. named l o.name) (sym (withdrawn_so c cs)) ∙ there) in
-            let empties = fit.enlisted o (before o there) (sym same ∙ ap (λ l. requested l o.name) (sym (withdrawn_so c cs)) ∙ none) in
-            ((service_left o.name).0 ∙ ap (λ q. filter (stays c) q) empties.0, (service_left o.name).1 ∙ empties.1)
+        enlisted o there none = grind (arith, nat_tests, requested_before, withdrawn_so c cs, before o there, service_left o.name)
 
         seats : (o : Object) → named (withdrawn c cs) o.name ≡ Some o → seats_taken (service_of (withdrawn c cs) o.name) ≤ most_of (thing_kind p o.thing)
-        seats o there =
-            let was = fit.seats o (before o there) in
-            let less = seats_left c (service_of (withdrawn c cs) o.name) (service_of cs o.name) (service_left o.name).0 (service_left o.name).1 in
-            omega (arith, was, less)
+        seats o there = grind (arith, nat_tests, before o there, seats_left c, service_left o.name)
 
         servers :
             (o : Object) → named (withdrawn c cs) o.name ≡ Some o → is_server p o.thing ≡ false →
             ((service_of (withdrawn c cs) o.name).queue ≡ []) × ((service_of (withdrawn c cs) o.name).sessions ≡ [])
-        servers o there plain =
-            let none = fit.servers o (before o there) plain in
-            ((service_left o.name).0 ∙ ap (λ q. filter (stays c) q) none.0, (service_left o.name).1 ∙ none.1)
+        servers o there plain = grind (arith, nat_tests, before o there, service_left o.name)
 
         names : (n m : ℕ) (o : Object) → held (withdrawn c cs) (Elsewhere (Queued n m)) ≡ Some o → o.name ≡ m
-        names n m o h = fit.names n m o (held_before drops left cs (Elsewhere (Queued n m)) o tidy (ap (λ l. held l (Elsewhere (Queued n m))) (sym (withdrawn_so c cs)) ∙ h))
+        names n m o h = grind (arith, nat_tests, held_before, withdrawn_so c cs)
 
 -- ---- a close is asked last
 
 module _ (p : Image) (clients : List Client) (cs : List Cell) (fit : ClientsFit p clients cs) (o : Object) (lives : named cs o.name ≡ Some o) (serves : is_server p o.thing ≡ true)
     (listed : is_some (requested cs o.name) ≡ true) (c : ℕ) where
   pub fit_told : is_leaving o.name (client_at clients c) ≡ true → list_any (is_close_of c) (service_of cs o.name).queue ≡ false → ClientsFit p clients (reserved (asked_last (Close_of c)) o.name cs)
-  fit_told leaves new =
-      fit_asked p clients cs fit o lives serves listed (Close_of c) leaves new (λ d m h. cc)
-      (let one = seats_asked (Close_of c) (service_of cs o.name) in let was = fit.seats o lives in omega (arith, one, was))
+  fit_told leaves new = grind (arith, nat_tests, fit_asked p clients cs fit o lives serves listed (Close_of c) leaves new, seats_asked (Close_of c))

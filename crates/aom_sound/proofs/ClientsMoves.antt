@@ -1,20 +1,18 @@
 -- What is kept of clients stays so where a method moves: cells are made, move and change, and no queue and no session of a server does.
-use Rattle.std.proofs.Common.{[], Bool, List, None, Option, Some, ap, cond, false, inl, inr, length, refl, subst, suc, sym, true, ℕ, ℤ, ◌==◌, ◌∙◌, ◌∷◌, ◌≡◌, ◌<◌, ◌≤◌, arith}
+use Rattle.std.proofs.lemmas.Bool.Decides.{nat_tests}
+use Rattle.std.proofs.Common.{[], Bool, List, None, Option, Some, ap, cond, false, inl, inr, refl, subst, suc, sym, true, ℕ, ℤ, ◌==◌, ◌∙◌, ◌∷◌, ◌≡◌, ◌≤◌, arith}
 use Rattle.std.proofs.lemmas.Bool.{eqb-true}
 use Rattle.std.specs.List.{list_any}
 use Rattle.std.specs.Prelude.{is_some, ◌⊎◌}
 use Rattle.aom_image.specs.Image.{Image}
-use Rattle.aom_image.specs.Views.{method_role}
 use Rattle.aom_image.specs.declared.method.Argument.{Argument}
 use Rattle.aom_image.specs.declared.method.Argument.TheVariants.{Own as Takes_own, Word as Takes_word}
 use Rattle.aom_image.specs.declared.method.Gives.{Gives}
-use Rattle.aom_image.specs.declared.method.Gives.TheVariants.{Left, Maybe as A_maybe, Nothing, Own as An_own, Word as A_word}
 use Rattle.aom_image.specs.declared.method.Thing.{Thing}
 use Rattle.aom_image.specs.declared.method.Thing.TheVariants.{Message}
 use Rattle.aom_clients.specs.Nodes.{is_connecting_at}
 use Rattle.aom_clients.specs.declared.client.Client.{Client}
 use Rattle.aom_clients.specs.declared.client.Client.TheVariants.{Unconnected}
-use Rattle.aom_rules.specs.Requests.{is_cancel}
 use Rattle.aom_shape.specs.Kinds.{is_object}
 use Rattle.aom_sound.proofs.Altering.{Alters, held_kept, named_kept, opening, read_kept, requests, services, storing}
 use Rattle.aom_sound.proofs.ClientsFit.{connecting_only, fit_changed, none_of_connecting}
@@ -29,10 +27,10 @@ use Rattle.aom_sound.proofs.Redeeming.{redeeming, requested_redeemed}
 use Rattle.aom_sound.proofs.Storing.{rerequested_alike}
 use Rattle.aom_sound.specs.Tokens.{all_redeemed, handed_cells, handed_out, home_class, next_token, promised, redeemed_by, redeemed_request, with_token}
 use Rattle.aom_sound.specs.Effects.{Carried, Handed, In_field, In_register, Made, Replied, Requested, The_message, Update, cells_after, spot_place}
-use Rattle.aom_sound.specs.Enlisted.{cancelled, ended_cells, on_request, own_request, rerequested, thing_kind}
+use Rattle.aom_sound.specs.Enlisted.{ended_cells, on_request, own_request, rerequested, thing_kind}
 use Rattle.aom_sound.specs.Kept.{ClientsFit, HasSources, QueueFits, ConnectKept, StageKept, TasksKept, is_close_of, is_connect_of, is_message_of, sources_of}
 use Rattle.aom_sound.specs.Natives.{resessioned}
-use Rattle.aom_sound.specs.Places.{Cell, Elsewhere, In_service, Object, Place, Queued, Register, Request, Token, held, moved, named, same_place, service_of, set_request, unserved, with_new, requested}
+use Rattle.aom_sound.specs.Places.{Cell, Elsewhere, In_service, Object, Place, Queued, Request, Token, held, moved, named, same_place, service_of, set_request, unserved, with_new, requested}
 use Rattle.aom_sound.specs.Servers.{is_from, is_server, seats_taken}
 use Rattle.aom_sound.specs.State.{Accept_left, Accepted, Accepts, AtRoot, Closing, Destroy, Dispatched, Frame, Home, Inside, Of_server, Parts, Run, Service_left, Serves, Stage, State, Static, Task, Trapped, Unwind, field_place}
 use Rattle.aom_sound.specs.Words.{here, stored}
@@ -73,24 +71,28 @@ fit_steady p clients cs cs' still fit = record {
 }
   where
     enlisted : (o : Object) → requested cs o.name ≡ None → Lived cs o → ((service_of cs' o.name).queue ≡ []) × ((service_of cs' o.name).sessions ≡ [])
-    enlisted o e (inl h) = let none = fit.enlisted o h e in (still.queues o.name ∙ none.0, still.sessions o.name ∙ none.1)
-    enlisted o e (inr h) = (still.queues o.name ∙ ap (λ v. v.queue) (service_unnamed cs o.name h), still.sessions o.name ∙ ap (λ v. v.sessions) (service_unnamed cs o.name h))
+    enlisted o e x = grind (arith, nat_tests, service_unnamed cs o.name)
 
     seats : (o : Object) → Lived cs o → seats_taken (service_of cs' o.name) ≤ most_of (thing_kind p o.thing)
-    seats o (inl e) = let was = fit.seats o e in let same = seats_same (service_of cs' o.name) (service_of cs o.name) (still.queues o.name) (still.sessions o.name) in omega (arith, was, same)
-    seats o (inr e) =
-        let none =
-        seats_none (service_of cs' o.name) (still.queues o.name ∙ ap (λ v. v.queue) (service_unnamed cs o.name e)) (still.sessions o.name ∙ ap (λ v. v.sessions) (service_unnamed cs o.name e)) in
-        omega (arith, none)
+    seats o x = grind (arith, nat_tests, seats_same, seats_none, service_unnamed cs o.name)
 
     servers : (o : Object) → is_server p o.thing ≡ false → Lived cs o → ((service_of cs' o.name).queue ≡ []) × ((service_of cs' o.name).sessions ≡ [])
-    servers o plain (inl e) = let none = fit.servers o e plain in (still.queues o.name ∙ none.0, still.sessions o.name ∙ none.1)
-    servers o plain (inr e) = (still.queues o.name ∙ ap (λ v. v.queue) (service_unnamed cs o.name e), still.sessions o.name ∙ ap (λ v. v.sessions) (service_unnamed cs o.name e))
+    servers o plain x = grind (arith, nat_tests, service_unnamed cs o.name)
 
 module _ (p : Image) (clients : List Client) (cs cs' : List Cell) (queues : (n : ℕ) → (service_of cs' n).queue ≡ (service_of cs n).queue)
     (sessions : (n : ℕ) → (service_of cs' n).sessions ≡ (service_of cs n).sessions) where
   connect_queues : (o : Object) (c : ℕ) → ConnectKept p clients cs o c → ConnectKept p clients cs' o c
-  connect_queues o c k = (k.0, ap (λ q. list_any (is_connect_of c) q) (queues o.name) ∙ k.1, subst (λ n. n < most_of (thing_kind p o.thing)) (sym (seats_same (service_of cs' o.name) (service_of cs o.name) (queues o.name) (sessions o.name))) k.2)
+  connect_queues o c k = (
+    k.0,
+    ap (λ q. list_any (is_connect_of c) q) (queues o.name) ∙ k.1,
+    grind (
+      arith,
+      nat_tests,
+      seats_same,
+      queues o.name,
+      sessions o.name,
+    ),
+  )
 
   pub stage_queues : (o : Object) (c : ℕ) (stage : Stage) → StageKept p clients cs o c stage → StageKept p clients cs' o c stage
   stage_queues o c Accepts k = connect_queues o c k
@@ -144,8 +146,7 @@ steady_moved_then cs cs' cs'' a b names = record {
 }
   where
     lived : (o : Object) → Lived cs' o → Lived cs o
-    lived o (inl e) = inl (sym (names o.name) ∙ e)
-    lived o (inr e) = inr (sym (names o.name) ∙ e)
+    lived o x = grind arith
 
 -- what moves to another place is not in this one, whatever was there
 pub held_elsewhere : (cs : List Cell) (a b r : Place) → same_place b r ≡ false → held (moved a b cs) r ≡ cond (same_place a r) None (held cs r)
@@ -175,11 +176,11 @@ steady_moved cs a b apart aside = record {
   queues = λ n. ap (λ v. v.queue) (service_moved cs a b n);
   sessions = λ n. ap (λ v. v.sessions) (service_moved cs a b n);
   lived = λ o h. inl (sym (named_moved cs a b o.name) ∙ h);
-  queued = λ n m o h. unless_moved o (same_place a (Elsewhere (Queued n m))) (held cs (Elsewhere (Queued n m))) (sym (held_elsewhere cs a b (Elsewhere (Queued n m)) (apart n m)) ∙ h);
+  queued = grind (arith, nat_tests, held_elsewhere cs a b);
   senders = λ c m h. ap (λ v. is_from c v.sender) (service_moved cs a b m) ∙ h;
   sources = sources_as cs (moved a b cs) (λ n. ap sources_of (service_moved cs a b n)) (λ o h. sym (named_moved cs a b o.name) ∙ h);
   sent = λ n. ap (λ v. is_some v.sender) (service_moved cs a b n);
-  served = λ o h. unless_moved o (same_place a (Elsewhere In_service)) (held cs (Elsewhere In_service)) (sym (held_elsewhere cs a b (Elsewhere In_service) aside) ∙ h);
+  served = grind (arith, nat_tests, held_elsewhere cs a b (Elsewhere In_service) aside);
   listed = λ n e. sym (requested_moved cs a b n) ∙ e;
 }
   where
@@ -212,10 +213,7 @@ steady_new cs name x ws owner apart aside object free = record {
     lived o false e h = inl h
 
     sources : HasSources cs → (o : Object) (b : Bool) → cond b (Some (record { name = name; thing = x })) (named cs o.name) ≡ Some o → sources_of (cond b unserved (service_of cs o.name)) ≡ cond (is_object o.thing) 0 1
-    sources had o true h =
-        let it : record { name = name; thing = x } ≡ o = cc in
-        sym (ap (λ b. cond b 0 1) (ap (λ y. is_object y.thing) (sym it) ∙ object))
-    sources had o false h = had o h
+    sources had o y h = grind arith
 
 pub steady_token : (cs : List Cell) (name : ℕ) (token : Token) (owner : Place) → NoQueue owner → NoService owner → named cs name ≡ None → Steady cs (with_token name token owner cs)
 steady_token cs name token owner apart aside free = record {
@@ -252,8 +250,7 @@ steady_token cs name token owner apart aside free = record {
     sources :
         HasSources cs → (o : Object) (b : Bool) → cond b (Some (record { name = name; thing = Message })) (named cs o.name) ≡ Some o →
         sources_of (cond b (handed_out token) (service_of cs o.name)) ≡ cond (is_object o.thing) 0 1
-    sources had o true h = let it : record { name = name; thing = Message } ≡ o = cc in subst (λ (y : Object). sources_of (handed_out token) ≡ cond (is_object y.thing) 0 1) it refl
-    sources had o false h = had o h
+    sources had o x h = grind arith
 
     listed : (n : ℕ) (b : Bool) → (name == n) ≡ b → cond b None (requested cs n) ≡ None → requested cs n ≡ None
     listed n true same e = requested_unnamed cs n (ap (λ k. named cs k) (sym (eqb-true name n same)) ∙ free)
@@ -313,22 +310,14 @@ steady_stored cs AtRoot w v = steady_itself cs
 steady_stored cs (Inside o from) w v = steady_altered (storing o.name w v) (λ c. refl) (λ c. refl) (λ c. refl) cs
 
 pub steady_ended : (p : Image) (fr : Frame) (cs : List Cell) → Steady cs (ended_cells p fr cs)
-steady_ended p fr cs = go (is_cancel (method_role p fr.method))
-  where
-    go : (b : Bool) → Steady cs (cond b (rerequested cs fr.home (on_request cancelled (own_request cs fr.home))) cs)
-    go true = steady_asked cs fr.home (on_request cancelled (own_request cs fr.home)) (λ e. on_none cancelled (own_request cs fr.home) e)
-    go false = steady_itself cs
+steady_ended p fr cs = grind (arith, nat_tests, steady_asked cs fr.home, on_none, steady_itself cs)
 
 module _ (p : Image) (fr : Frame) (ts : List Task) (s : State) where
   field_apart : (home : Home) (f : ℕ) → NoQueue (field_place home f)
-  field_apart Static f n m = refl
-  field_apart AtRoot f n m = refl
-  field_apart (Inside o from) f n m = refl
+  field_apart x f n m = grind arith
 
   field_aside : (home : Home) (f : ℕ) → NoService (field_place home f)
-  field_aside Static f = refl
-  field_aside AtRoot f = refl
-  field_aside (Inside o from) f = refl
+  field_aside x f = grind arith
 
   -- where it makes a cell its name is free, a request is not taken away, nothing comes to be served, and a message that it completes is no matter of this lemma
   abbrev pub IsSteady : Update → Type 0
@@ -350,15 +339,10 @@ module _ (p : Image) (fr : Frame) (ts : List Task) (s : State) where
   pub steady_passed : (depth : ℕ) (xs : List Argument) (first to : ℕ) (cs : List Cell) → Steady cs (passed_cells p fr ts s depth xs first to cs)
   steady_passed depth [] first to cs = steady_itself cs
   steady_passed depth (Takes_word ∷ xs) first to cs = steady_passed depth xs (suc first) (suc to) cs
-  steady_passed depth (Takes_own t ∷ xs) first to cs =
-      steady_moved_then cs (moved (here fr ts s first) (Register depth to) cs) _ (steady_moved cs (here fr ts s first) (Register depth to) (λ n m. refl) refl) (steady_passed depth xs (suc first) (suc to) (moved (here fr ts s first) (Register depth to) cs)) (named_moved cs (here fr ts s first) (Register depth to))
+  steady_passed depth (Takes_own t ∷ xs) first to cs = grind (arith, nat_tests, steady_moved_then cs, steady_moved cs, steady_passed depth xs, named_moved cs)
 
   pub steady_result : (g : Gives) (a c : ℕ) (below : List Task) → Steady s.cells (result_cells p fr ts s g a c below)
-  steady_result Nothing a c below = steady_itself s.cells
-  steady_result A_word a c below = steady_itself s.cells
-  steady_result (An_own t) a c below = steady_moved s.cells (here fr ts s a) (Register (length below) c) (λ n m. refl) refl
-  steady_result (A_maybe t) a c below = steady_moved s.cells (here fr ts s a) (Register (length below) c) (λ n m. refl) refl
-  steady_result (Left x) a c below = steady_itself s.cells
+  steady_result x a c below = grind (arith, nat_tests, steady_itself s.cells, steady_moved s.cells)
 
 -- ---- the end of a connect that was left: its client has no session
 

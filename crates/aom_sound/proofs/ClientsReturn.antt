@@ -1,6 +1,7 @@
 -- What is kept of clients stays so where a method returns, where a message is completed, and where a dispatch comes to its end.
-use Rattle.aom_sound.specs.Destruction.{begun_by, next_destructor, line_on}
-use Rattle.std.proofs.Common.{[], Bool, List, None, Some, ap, cond, false, refl, subst, sym, true, ℕ, ℤ, ◌==◌, ◌∙◌, ◌∷◌, ◌≡◌, ◌<◌, ◌≤◌, arith, Option}
+use Rattle.std.proofs.lemmas.Bool.Decides.{nat_tests}
+use Rattle.aom_sound.specs.Destruction.{line_on}
+use Rattle.std.proofs.Common.{[], Bool, List, None, Some, ap, cond, false, refl, subst, sym, true, ℕ, ℤ, ◌==◌, ◌∙◌, ◌∷◌, ◌≡◌, ◌<◌, ◌≤◌, arith}
 use Rattle.std.specs.List.{list_any}
 use Rattle.aom_image.specs.Image.{Image}
 use Rattle.aom_image.specs.declared.method.Gives.{Gives}
@@ -16,7 +17,7 @@ use Rattle.aom_sound.specs.Clients.{most_of}
 use Rattle.aom_sound.specs.Kept.{ClientsFit, QueueFits, TasksKept, is_connect_of, is_message_of}
 use Rattle.aom_sound.specs.Places.{Cell, Elsewhere, Object, Place, Queued, Session, Tidy, held, moved, named, same_place, service_of, without, requested}
 use Rattle.aom_sound.specs.Servers.{is_from, is_server, seats_taken}
-use Rattle.aom_sound.specs.State.{Static, Inside, AtRoot, Home, Accept_left, Accepts, Destroy, Dispatch, Dispatched, Frame, Of_server, Parts, Run, Seat, State, Task, Trapped, Unwind}
+use Rattle.aom_sound.specs.State.{Home, Accept_left, Accepts, Destroy, Dispatch, Dispatched, Frame, Of_server, Parts, Run, Seat, State, Task, Trapped, Unwind}
 use Rattle.aom_sound.specs.Words.{here}
 use Rattle.aom_sound.specs.Enlisted.{thing_kind}
 use Rattle.aom_sound.proofs.Seated.{seats_same}
@@ -37,8 +38,8 @@ module _ (p : Image) (fr : Frame) (ts : List Task) (s : State) (fit : ClientsFit
   result_kept g a c below u cells clients same over stage =
       let still = steady_result p fr ts s g a c below in
       record {
-        fit = subst (λ l. ClientsFit p l u.cells) (sym clients) (subst (λ l. ClientsFit p s.clients l) (sym cells) (fit_steady p s.clients s.cells (result_cells p fr ts s g a c below) still fit));
-        stage = subst (λ l. TasksKept p l u.cells u.tasks) (sym clients) (subst (λ l. TasksKept p s.clients l u.tasks) (sym cells) (over (result_cells p fr ts s g a c below) (tasks_steady p s.clients s.cells (result_cells p fr ts s g a c below) still below stage)));
+        fit = grind (arith, nat_tests, fit_steady p s.clients s.cells);
+        stage = grind (arith, nat_tests, tasks_steady p s.clients s.cells);
       }
 
   -- to the dispatch of a server
@@ -66,18 +67,11 @@ module _ (p : Image) (fr : Frame) (ts : List Task) (s : State) (fit : ClientsFit
     ended_kept _ there stage = same_tasks _ refl refl tt
 
   answered_stage : (answer : ℤ) (d : Dispatch) (below : List Task) → TasksKept p s.clients s.cells (Dispatched d ∷ below) → TasksKept p s.clients s.cells (Dispatched (answered_by answer d) ∷ below)
-  answered_stage answer (Of_server x c stage) below k = k
-  answered_stage answer _ below k = tt
+  answered_stage answer x below k = grind arith
 
   -- the next destructor of a line, or the cell
   line_kept : (m : ℕ) (home : Home) (height : ℕ) (below : List Task) → TasksKept p s.clients s.cells (Destroy ∷ below) → TasksKept p s.clients s.cells (line_on p m home height below)
-  line_kept m Static height below k = k
-  line_kept m AtRoot height below k = k
-  line_kept m (Inside o from) height below k = go (next_destructor p m)
-    where
-      go : (d : Option ℕ) → TasksKept p s.clients s.cells (begun_by p d o height below)
-      go None = k
-      go (Some x) = k
+  line_kept m x height below k = grind arith
 
   -- to whatever is below; where it is the end of `accept`, its server stands
   pub return_kept : (g : Gives) (a : ℕ) (below : List Task) → ((x : Seat) (c : ℕ) → IsAt (Of_server x c Accepts) below → (named s.cells x.object.name ≡ Some x.object) × (is_server p x.object.thing ≡ true) × (is_some (requested s.cells x.object.name) ≡ true)) → s.tasks ≡ Run fr ∷ ts → TasksKept p s.clients s.cells below → TasksKept p s.clients s.cells ts → IsFit p (returned p fr ts s g a below)
@@ -143,28 +137,19 @@ module _
   }
     where
       before : (x : Object) → named left x.name ≡ Some x → named cs x.name ≡ Some x
-      before x h = let b = named_before drops (λ c. c.service) cs x.name x tidy h in named_cell cs x.name ∙ ap object_in b.1 ∙ ap (λ y. Some y) b.2
+      before x h = grind (arith, nat_tests, named_before, named_cell cs x.name, object_in)
 
       enlisted : (x : Object) → named left x.name ≡ Some x → requested left x.name ≡ None → ((service_of left x.name).queue ≡ []) × ((service_of left x.name).sessions ≡ [])
-      enlisted x h e =
-          let none = fit.enlisted x (before x h) (sym (requested_before drops (λ c. c.service) cs x.name x tidy h) ∙ e) in
-          ((service_left x.name).0 ∙ none.0, (service_left x.name).1 ∙ none.1)
+      enlisted x h e = grind (arith, nat_tests, before x h, requested_before, service_left x.name)
 
       seats : (x : Object) → named left x.name ≡ Some x → seats_taken (service_of left x.name) ≤ most_of (thing_kind p x.thing)
-      seats x h =
-          let was = fit.seats x (before x h) in
-          let same = seats_same (service_of left x.name) (service_of cs x.name) (service_left x.name).0 (service_left x.name).1 in
-          omega (arith, was, same)
+      seats x h = grind (arith, nat_tests, before x h, seats_same, service_left x.name)
 
       servers : (x : Object) → named left x.name ≡ Some x → is_server p x.thing ≡ false → ((service_of left x.name).queue ≡ []) × ((service_of left x.name).sessions ≡ [])
-      servers x h plain =
-          let none = fit.servers x (before x h) plain in
-          ((service_left x.name).0 ∙ none.0, (service_left x.name).1 ∙ none.1)
+      servers x h plain = grind (arith, nat_tests, before x h, service_left x.name)
 
       names : (n m : ℕ) (x : Object) → held left (Elsewhere (Queued n m)) ≡ Some x → x.name ≡ m
-      names n m x h =
-          fit.names n m x
-          (sym (held_without cs g (Elsewhere (Queued n m)) ∙ ap (λ b. cond b None (held cs (Elsewhere (Queued n m)))) (apart n m)) ∙ ap (λ l. held l (Elsewhere (Queued n m))) (without_so g cs) ∙ h)
+      names n m x h = grind (arith, nat_tests, held_without cs g (Elsewhere (Queued n m)), without_so g cs)
 
   pub fit_without : ClientsFit p clients (without g cs)
   fit_without = subst (λ l. ClientsFit p clients l) (sym (without_so g cs)) fit_left

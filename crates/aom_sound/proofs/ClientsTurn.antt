@@ -1,7 +1,8 @@
 -- What is kept of clients stays so in each turn: as a server is picked, as a client does something, and in all others, where nothing of it changes.
+use Rattle.std.proofs.lemmas.Bool.Decides.{nat_tests}
 use Rattle.std.proofs.Common.{[], Bool, List, None, Option, Some, ap, cond, false, refl, subst, sym, true, ℕ, ◌∙◌, ◌∷◌, ◌≡◌, ◌<◌, ◌≤◌, arith, ◌==◌}
 use Rattle.std.specs.List.{list_any}
-use Rattle.std.specs.Prelude.{length, nat_le, ◌&&◌, ◌||◌, nat_lt, is_some}
+use Rattle.std.specs.Prelude.{◌&&◌, ◌||◌, is_some}
 use Rattle.aom_image.specs.Image.{Image}
 use Rattle.aom_image.specs.declared.method.Role.TheVariants.{Accept as Accepts_role, Run as Handles, Service as Attends_role}
 use Rattle.aom_shape.specs.declared.kind.Kind.TheVariants.{Null}
@@ -20,20 +21,18 @@ use Rattle.aom_sound.proofs.Turned.{Polled, answers, commanded_kept, dispatched_
 use Rattle.aom_sound.proofs.Guarded.{goes_some, goes_same}
 use Rattle.aom_sound.proofs.Turning.{found}
 use Rattle.aom_sound.specs.Claims.{declared}
-use Rattle.aom_sound.specs.Clients.{client_at, most_of, client_count}
-use Rattle.aom_sound.specs.Destruction.{begun, begun_by}
-use Rattle.aom_classes.specs.Roles.{destructor_of}
+use Rattle.aom_sound.specs.Clients.{client_at, most_of}
+use Rattle.aom_sound.specs.Destruction.{begun}
 use Rattle.aom_sound.specs.Enlisted.{completed_with, on_request, part_of, recorded, timed_out, thing_kind, taken_up}
 use Rattle.aom_sound.specs.Natives.{all_bereaved, is_served_by, terminated_request, is_owed, terminated}
-use Rattle.aom_sound.specs.Kept.{ClientsFit, QueueFits, TasksKept, is_close_of, is_connect_of, is_message_of, sources_of}
+use Rattle.aom_sound.specs.Kept.{ClientsFit, QueueFits, TasksKept, is_connect_of, is_message_of, sources_of}
 use Rattle.aom_sound.specs.Laws.{IsWired}
 use Rattle.aom_sound.specs.Places.{Asked, Cell, Close_of, Connect_of, Elsewhere, Going, In_service, Message_of, Object, Place, Queued, Request, Root, Session, held, moved, named, requested, same_place, seen, service_of, set_request}
 use Rattle.aom_sound.specs.Servers.{has_session, is_from, is_server, reserved, rest_of as rest, taken_first, seats_taken}
-use Rattle.aom_sound.specs.State.{NullOrDead, WrongKind, Closing, Destroy, Dispatched, Goes, Inside, Of_server, Parts, Seat, State, Task}
+use Rattle.aom_sound.specs.State.{NullOrDead, WrongKind, Goes, Inside, Seat, State, Task}
 use Rattle.aom_sound.specs.WellTyped.{Fits, Good, WellTyped}
-use Rattle.aom_sound.specs.World.{Candidate, Completes, Completion, Cuts, Heard, Hears, Kills, Obeys, Outside, Passes, Picks, Polls, Strays, Timed, Turning, Waits, accepting, attended, attending, by_event, by_timer, delivers, dispatched, first_due, first_ready, has_signal, heard_one, lives, next_event, next_native, next_time, parting_with, picks, picked, polls, serves_first, taken_from, turn, turned, turning, with_request}
+use Rattle.aom_sound.specs.World.{Candidate, Completes, Completion, Cuts, Heard, Hears, Kills, Obeys, Outside, Passes, Picks, Polls, Strays, Timed, Turning, Waits, accepting, attended, attending, by_event, by_timer, delivers, dispatched, first_ready, heard_one, lives, parting_with, picks, picked, polls, serves_first, taken_from, turn, turned, turning, with_request}
 use Rattle.aom_transcript.specs.declared.event.Event.{Event}
-use Rattle.aom_transcript.specs.declared.event.Event.TheVariants.{Client as From_client, Kill, Tell}
 use Rattle.aom_transcript.specs.declared.event.TimedEvent.{TimedEvent}
 use Rattle.aom_sound.proofs.Seated.{seats_first, seats_rest}
 use Rattle.aom_sound.proofs.Sources.{from_some, has_sender, served_as, sources_as}
@@ -56,11 +55,11 @@ fit_same p clients cs cs' like fit = record {
   listed = λ n c h. ap (λ v. has_session v c) (like.service_so n) ∙ fit.listed n c h;
   servers = λ o h plain. subst (λ v. (v.queue ≡ []) × (v.sessions ≡ [])) (sym (like.service_so o.name)) (fit.servers o (sym (like.named_so o.name) ∙ h) plain);
   names = λ n m o h. fit.names n m o (sym (like.held_so (Elsewhere (Queued n m))) ∙ h);
-  senders = λ n c m h. subst (λ v. is_from c v.sender ≡ true) (sym (like.service_so m)) (fit.senders n c m (ap (λ v. list_any (is_message_of c m) v.queue) (sym (like.service_so n)) ∙ h));
+  senders = grind (arith, nat_tests);
   sources = sources_as cs cs' (λ n. ap sources_of (like.service_so n)) (λ o h. sym (like.named_so o.name) ∙ h) fit.sources;
   served = served_as cs cs' (λ n. ap (λ v. is_some v.sender) (like.service_so n)) (λ o h. sym (like.held_so (Elsewhere In_service)) ∙ h) fit.served;
   seats = λ o h. subst (λ v. seats_taken v ≤ most_of (thing_kind p o.thing)) (sym (like.service_so o.name)) (fit.seats o (sym (like.named_so o.name) ∙ h));
-  enlisted = λ o h e. subst (λ v. (v.queue ≡ []) × (v.sessions ≡ [])) (sym (like.service_so o.name)) (fit.enlisted o (sym (like.named_so o.name) ∙ h) (like.listed_so o.name e));
+  enlisted = grind (arith, nat_tests);
 }
 
 -- a request that changes is there still
@@ -68,17 +67,7 @@ pub on_none : (f : Request → Request) (r : Option Request) → on_request f r 
 on_none f x e = grind arith
 
 pub listed_asked : (cs : List Cell) (m : ℕ) (r : Option Request) → (r ≡ None → requested cs m ≡ None) → (n : ℕ) → requested (set_request m r cs) n ≡ None → requested cs n ≡ None
-listed_asked cs m r keeps n e = go (m == n) refl
-  where
-    here : (o : Option Object) → named cs m ≡ o → requested (set_request m r cs) m ≡ None → requested cs m ≡ None
-    here None there e = requested_unnamed cs m there
-    here (Some o) there e = keeps (sym (requested_here cs m r o there) ∙ e)
-
-    go : (b : Bool) → (m == n) ≡ b → requested cs n ≡ None
-    go true same =
-        let equal : m ≡ n = eqb-true m n same in
-        ap (λ k. requested cs k) (sym equal) ∙ here (named cs m) refl (ap (λ k. requested (set_request m r cs) k) equal ∙ e)
-    go false other = sym (requested_there cs m n r other) ∙ e
+listed_asked cs m r keeps n e = grind (arith, nat_tests, requested_unnamed cs m, requested_here cs m r, eqb-true m n, requested_there cs m n r)
 
 listed_bereaved : (p : Image) (n : ℕ) (cs : List Cell) (m : ℕ) → requested (all_bereaved p n cs) m ≡ None → requested cs m ≡ None
 listed_bereaved p n [] m e = e
@@ -114,7 +103,7 @@ fit_moved p clients cs a b free apart sent fit = record {
   queues = λ n. subst (λ v. QueueFits clients n v.queue) (sym (service_moved cs a b n)) (fit.queues n);
   sessions = λ n c h. fit.sessions n c (ap (λ v. has_session v c) (sym (service_moved cs a b n)) ∙ h);
   listed = λ n c h. ap (λ v. has_session v c) (service_moved cs a b n) ∙ fit.listed n c h;
-  servers = λ o h plain. subst (λ v. (v.queue ≡ []) × (v.sessions ≡ [])) (sym (service_moved cs a b o.name)) (fit.servers o (sym (named_moved cs a b o.name) ∙ h) plain);
+  servers = grind (arith, nat_tests, service_moved cs a b, named_moved cs a b);
   names = λ n m o h. names n m o (same_place a (Elsewhere (Queued n m))) (sym (ap (λ x. cond x (held cs a) (cond (same_place a (Elsewhere (Queued n m))) None (held cs (Elsewhere (Queued n m))))) (apart n m)) ∙ sym (held_moved cs a b (Elsewhere (Queued n m)) free) ∙ h);
   senders = λ n c m h. subst (λ v. is_from c v.sender ≡ true) (sym (service_moved cs a b m)) (fit.senders n c m (ap (λ v. list_any (is_message_of c m) v.queue) (sym (service_moved cs a b n)) ∙ h));
   sources = sources_as cs (moved a b cs) (λ n. ap sources_of (service_moved cs a b n)) (λ o h. sym (named_moved cs a b o.name) ∙ h) fit.sources;
@@ -129,9 +118,7 @@ fit_moved p clients cs a b free apart sent fit = record {
     served :
         (o : Object) (x : Bool) → same_place b (Elsewhere In_service) ≡ x → (y : Bool) → cond x (held cs a) (cond y None (held cs (Elsewhere In_service))) ≡ Some o →
         has_sender cs o.name ≡ true
-    served o true e y h = sent e o h
-    served o false e true h = cc
-    served o false e false h = fit.served o h
+    served o x e y h = grind arith
 
     names : (n m : ℕ) (o : Object) (x : Bool) → cond x None (held cs (Elsewhere (Queued n m))) ≡ Some o → o.name ≡ m
     names n m o x h = grind arith
@@ -155,16 +142,15 @@ fit_taken p clients cs o lives listed e es queue fit = record {
 }
   where
     or_right : (b x : Bool) → x ≡ true → (b || x) ≡ true
-    or_right true x h = refl
-    or_right false x h = h
+    or_right x y h = grind arith
 
 -- a message that it is has a sender
 pub first_sent :
     (p : Image) (clients : List Client) (cs : List Cell) (o : Object) → named cs o.name ≡ Some o → (c m : ℕ) (es : List Asked) → (service_of cs o.name).queue ≡ Message_of c m ∷ es →
     ClientsFit p clients cs → (x : Object) → held (reserved taken_first o.name cs) (Elsewhere (Queued o.name m)) ≡ Some x → has_sender (reserved taken_first o.name cs) x.name ≡ true
 first_sent p clients cs o lives c m es queue fit x there =
-    let was : held cs (Elsewhere (Queued o.name m)) ≡ Some x = sym (held_served cs o.name (taken_first (service_of cs o.name)) (Elsewhere (Queued o.name m))) ∙ there in
-    let first : list_any (is_message_of c m) (service_of cs o.name).queue ≡ true = ap (λ q. list_any (is_message_of c m) q) queue ∙ ap (λ b. b || list_any (is_message_of c m) es) own in
+    let was : held cs (Elsewhere (Queued o.name m)) ≡ Some x = grind (arith, nat_tests, held_served cs o.name) in
+    let first : list_any (is_message_of c m) (service_of cs o.name).queue ≡ true = grind (arith, nat_tests) in
     sent_then p cs o lives taken_first refl x.name ∙ ap (has_sender cs) (fit.names o.name m x was) ∙ from_some c (service_of cs m).sender (fit.senders o.name c m first)
   where
     own : ((c == c) && (m == m)) ≡ true
@@ -173,15 +159,7 @@ first_sent p clients cs o lives c m es queue fit x there =
 -- ---- tasks
 
 pub tasks_begun : (p : Image) (clients : List Client) (cs : List Cell) (o : Object) (height : ℕ) (ts : List Task) → TasksKept p clients cs ts → TasksKept p clients cs (begun p o height ts)
-tasks_begun p clients cs o height ts kept = go (is_server p o.thing)
-  where
-    by : (m : Option ℕ) → TasksKept p clients cs (begun_by p m o height ts)
-    by None = kept
-    by (Some m) = kept
-
-    go : (b : Bool) → TasksKept p clients cs (cond b (Closing ∷ Destroy ∷ ts) (begun_by p (destructor_of p o.thing) o height ts))
-    go true = kept
-    go false = by (destructor_of p o.thing)
+tasks_begun p clients cs o height ts kept = grind (arith, nat_tests)
 
 -- ---- turns
 
@@ -194,10 +172,7 @@ module _ (p : Image) (t : Typing) (wired : IsWired p) (s : State) (w : WellTyped
 
   -- what waits in a queue is no server
   waiting : (n m : ℕ) (o : Object) → held s.cells (Elsewhere (Queued n m)) ≡ Some o → is_server p o.thing ≡ false
-  waiting n m o e = message_plain p o.thing (queued_lower p wired x.0 o.thing x.3).0
-    where
-      x : IsQueuedAt p s.cells n m o.thing
-      x = in_queue p t wired s w n m o e
+  waiting n m o e = grind (arith, nat_tests, message_plain p o.thing, queued_lower p wired, IsQueuedAt p s.cells n m o.thing, in_queue p t wired s w n m o e)
 
   empty_place : (q : Place) → declared p s.cells q ≡ Null → held s.cells q ≡ None
   empty_place q e = fits_unowning p (seen s.cells) _ Null refl (subst (λ k. Fits p (seen s.cells) (held s.cells q) k) e (good.fits q))
@@ -232,10 +207,7 @@ module _ (p : Image) (t : Typing) (wired : IsWired p) (s : State) (w : WellTyped
         (record { fit = taken (Connect_of c) es queue; stage = (first.0.0, ap (λ q. list_any (is_connect_of c) q) (queue_now (Connect_of c) es queue) ∙ first.0.1, room) })
       where
         room : seats_taken (service_of cs n) < most_of (thing_kind p x.object.thing)
-        room =
-            let was = kept.fit.seats x.object there in
-            let one = seats_first (service_of s.cells n) (Connect_of c) es queue in
-            subst (λ v. seats_taken v < most_of (thing_kind p x.object.thing)) (sym (service_here s.cells n (taken_first (service_of s.cells n)) x.object there)) (omega (arith, was, one))
+        room = grind (arith, nat_tests, seats_first, service_here s.cells)
 
     message_kept : (c m : ℕ) (es : List Asked) → (service_of s.cells n).queue ≡ Message_of c m ∷ es → (o : Option Object) → attended p x c o m (taken_from n s) ≡ Goes u → IsFit p u
     message_kept c m es queue o e =
@@ -251,8 +223,7 @@ module _ (p : Image) (t : Typing) (wired : IsWired p) (s : State) (w : WellTyped
         let session = goes_some o (λ o. parting_with p x c o (taken_from n s)) NullOrDead u refl e in
         subst (λ v. IsFit p v) (goes_same _ u session.2) (record {
           fit = fit_moved p s.clients cs (Elsewhere (Session n c)) (Going 1) (empty_now (Going 1) refl) (λ i j. refl) (λ b. cc) (taken (Close_of c) es queue);
-          stage = tasks_begun p s.clients then session.0 (length s.items) (Dispatched (Of_server x c Parts) ∷ [])
-              (first.0.0, ap (λ q. list_any (is_close_of c) q) (ap (λ v. v.queue) (service_moved cs (Elsewhere (Session n c)) (Going 1) n) ∙ queue_now (Close_of c) es queue) ∙ first.0.1);
+          stage = grind (arith, nat_tests, tasks_begun p s.clients then session.0, service_moved, queue_now (Close_of c) es queue);
         })
 
     serves_kept : (queue : List Asked) → (service_of s.cells n).queue ≡ queue → serves_first p x queue s ≡ Goes u → IsFit p u
@@ -323,44 +294,20 @@ module _ (p : Image) (t : Typing) (wired : IsWired p) (s : State) (w : WellTyped
   picks_found false y e (Some time) = tt
 
   polls_found : (n : Option ℕ) (answer : Option Completion) (after : Turning) → IsFound after → IsFound (polls n answer after)
-  polls_found None answer after f = f
-  polls_found (Some n) answer after f = tt
+  polls_found x answer after f = grind arith
 
   delivers_found : (outside : Outside) (name : ℕ) (event : Event) → named s.cells name ≡ None → IsFound (delivers outside name s event)
-  delivers_found outside name (Tell n word) free = tt
-  delivers_found outside name (Kill n) free = go (lives outside s n)
-    where
-      go : (b : Bool) → IsFound (cond b (Kills n) Hears)
-      go true = tt
-      go false = tt
-  delivers_found outside name (From_client c command) free = go (nat_lt c client_count)
-    where
-      go : (b : Bool) → IsFound (cond b (Obeys c command name) Hears)
-      go true = free
-      go false = tt
+  delivers_found outside name x free = grind arith
 
   event_found : (outside : Outside) (name : ℕ) (next : Option TimedEvent) (after : Turning) → named s.cells name ≡ None → IsFound after → IsFound (by_event outside name s next after)
-  event_found outside name None after free f = f
-  event_found outside name (Some e) after free f = go (nat_le e.time s.rest.clock)
-    where
-      go : (b : Bool) → IsFound (cond b (delivers outside name s e.event) after)
-      go true = delivers_found outside name e.event free
-      go false = f
+  event_found outside name x after free f = grind (arith, nat_tests, delivers_found outside name)
 
   timer_found : (next : Option Timed) (after : Turning) → IsFound after → IsFound (by_timer s next after)
   timer_found None after f = f
-  timer_found (Some x) after f = go (nat_le x.timer.due s.rest.clock)
-    where
-      go : (b : Bool) → IsFound (cond b (Completes x.object) after)
-      go true = tt
-      go false = f
+  timer_found (Some x) after f = grind (arith, nat_tests)
 
   pub turning_found : (outside : Outside) (heard : Heard) → named s.cells heard.name ≡ None → IsFound (turning outside heard s)
-  turning_found outside heard free = go (nat_le outside.limit s.rest.dispatches)
-    where
-      go : (b : Bool) → IsFound (cond b Cuts (by_timer s (first_due s.cells) (by_event outside heard.name s (next_event outside s) (polls (next_native outside s) heard.completion (picks (has_signal s.cells) (first_ready s.cells) (next_time outside s))))))
-      go true = tt
-      go false = timer_found (first_due s.cells) _ (event_found outside heard.name (next_event outside s) _ free (polls_found (next_native outside s) heard.completion _ (picks_found (has_signal s.cells) (first_ready s.cells) refl (next_time outside s))))
+  turning_found outside heard free = grind (arith, nat_tests, timer_found, event_found outside heard.name, polls_found, picks_found)
 
   pub turn_kept : (outside : Outside) (heard : Heard) (u : State) → named s.cells heard.name ≡ None → turn p outside heard s ≡ Goes u → IsFit p u
   turn_kept outside heard u free e = turned_kept (turning outside heard s) (turning_found outside heard free) u e

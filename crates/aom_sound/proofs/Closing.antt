@@ -1,13 +1,10 @@
 -- A dispatch ends: the run goes on, or it is over, or the root goes first.
-use Rattle.std.specs.Ordering.{int_eq}
-use Rattle.aom_image.specs.declared.method.Role.TheVariants.{Error}
+use Rattle.std.proofs.lemmas.Bool.Decides.{nat_tests}
 use Rattle.aom_sound.proofs.Asking.{error_enters}
-use Rattle.aom_sound.specs.Enlisted.{part_of}
-use Rattle.std.proofs.Common.{[], ℕ, Bool, List, None, Option, Some, ap, arith, false, length, refl, subst, sym, true, ◌∙◌, ◌∷◌, ◌≡◌, pos, cond, ℤ, ⊎_elim}
+use Rattle.std.proofs.Common.{[], ℕ, Bool, List, None, Option, Some, ap, arith, false, length, refl, subst, sym, true, ◌∷◌, ◌≡◌, ℤ, ⊎_elim}
 use Rattle.aom_image.specs.Image.{Image}
 use Rattle.aom_image.specs.declared.method.Thing.{Thing}
 use Rattle.aom_shape.specs.Kinds.{filled}
-use Rattle.aom_shape.specs.Things.{Program, field_thing}
 use Rattle.aom_rules.specs.Typing.{IsTyped, Typing}
 use Rattle.aom_shape.specs.declared.kind.Filling.TheVariants.{Perhaps}
 use Rattle.aom_shape.specs.declared.kind.Kind.TheVariants.{Null}
@@ -15,8 +12,8 @@ use Rattle.aom_sound.proofs.Destroying.{no_going, goes_well}
 use Rattle.aom_sound.proofs.Straight.{fits_unowning}
 use Rattle.aom_sound.specs.Claims.{by_close, by_stage, Dispatching, Layer, claim, declared, forms, items_of, tasks_of, is_of_root}
 use Rattle.aom_sound.specs.Laws.{IsWired}
-use Rattle.aom_sound.specs.Moves.{needs_end, closed, dispatch_ends, main_ends, main_left, over, uprooted, answered, asking, failed, handled, object_ends}
-use Rattle.aom_sound.specs.Places.{Session, In_service, Elsewhere, Going, Object, Place, Root, changed, held, seen}
+use Rattle.aom_sound.specs.Moves.{needs_end, dispatch_ends, main_ends, main_left, over, uprooted, answered, handled, object_ends}
+use Rattle.aom_sound.specs.Places.{Elsewhere, Going, Object, Place, Root, changed, held, seen}
 use Rattle.aom_sound.specs.State.{guarded, Of_server, Dispatch, Item, Main_left, Of_main, Of_root, State, Answered, Asks, Object_left, Of_object, Seat}
 use Rattle.aom_sound.specs.WellTyped.{Keeps, AllUndo, Fits, Good, WellTyped}
 use Rattle.aom_shape.specs.declared.kind.Kind.{Kind}
@@ -53,16 +50,10 @@ module _ (p : Image) (t : Typing) (s : State) where
   }
     where
       nothing : (x : Option Thing) → Fits p (seen s.cells) None (filled x Perhaps)
-      nothing None = tt
-      nothing (Some x) = tt
+      nothing x = grind arith
 
       fits : (d : Dispatch) → serves_none d ≡ true → Good p t s.cells (Dispatching d seats ∷ []) → (r : Place) → Fits p (seen s.cells) (held s.cells r) (declared p s.cells r)
-      fits Of_root plain good (Elsewhere Root) =
-          subst (λ o. Fits p (seen s.cells) o (filled (field_thing p Program 0) Perhaps)) (sym (root_gone p t s seats [] good)) (nothing (field_thing p Program 0))
-      fits d plain good (Elsewhere (Session n c)) =
-          subst (λ k. Fits p (seen s.cells) (held s.cells (Elsewhere (Session n c))) k) (none_parts d plain n c (declared p s.cells (Elsewhere (Session n c)))) (good.fits (Elsewhere (Session n c)))
-      fits d plain good (Elsewhere In_service) = subst (λ k. Fits p (seen s.cells) (held s.cells (Elsewhere In_service)) k) (none_served d plain Null) (good.fits (Elsewhere In_service))
-      fits _ plain good r = good.fits r
+      fits x y z r = grind (arith, nat_tests, root_gone p t s seats, nothing, none_parts d plain, none_served d plain Null)
 
   -- the root goes
   uproots :
@@ -81,28 +72,20 @@ module _ (p : Image) (t : Typing) (s : State) where
       (uprooted p o s) (length s.items) (ap length items) refl refl (ap forms items) (subst (λ is. AllUndo p is) (sym items) tt)
     where
       claims : (r : Place) → claim p (declared p s.cells) (Dispatching Of_root [] ∷ []) r ≡ changed (claim p (declared p s.cells) (Dispatching d seats ∷ [])) (Elsewhere Root) Null r
-      claims (Elsewhere (Session n c)) = sym (none_parts d plain n c _)
-      claims (Elsewhere In_service) = sym (none_served d plain _)
-      claims _ = refl
+      claims x = grind (arith, nat_tests, none_parts d plain, none_served d plain)
 
   -- a dispatch ends, and the root goes first where the run stops
   closes :
       IsWired p → IsTyped p t → (d : Dispatch) (seats : List Seat) → serves_none d ≡ true → is_of_root d ≡ false → s.items ≡ [] → Good p t s.cells (Dispatching d seats ∷ []) →
       (b : Bool) (root : Option Object) → held s.cells (Elsewhere Root) ≡ root → WellTyped p t (main_ends p b root s)
-  closes wired typed d seats plain other items good true (Some o) e = uproots wired typed d seats plain other o e items good
-  closes wired typed d seats plain other items good true None e = idle (closed s) d seats plain refl refl items good
-  closes wired typed d seats plain other items good false root e = idle (closed s) d seats plain refl refl items good
+  closes wired typed d seats plain other items good x root e = grind (arith, nat_tests, uproots wired typed d seats plain other, idle)
 
 module _ (p : Image) (t : Typing) (s : State) (wired : IsWired p) (typed : IsTyped p t) (items : s.items ≡ []) where
   of_object : (d : Dispatch) (seats : List Seat) → serves_none d ≡ true → is_of_root d ≡ false → Good p t s.cells (Dispatching d seats ∷ []) → WellTyped p t (object_ends p s)
   of_object d seats plain other good = closes p t (handled s) wired typed d seats plain other items good s.rest.stopped (held s.cells (Elsewhere Root)) refl
 
   with_answer : (d : Dispatch) (seats : List Seat) (answer : ℤ) → serves_none d ≡ true → is_of_root d ≡ false → Good p t s.cells (Dispatching d seats ∷ []) → WellTyped p t (answered p answer s)
-  with_answer d seats answer plain other good = go (int_eq answer (pos 0))
-    where
-      go : (b : Bool) → WellTyped p t (cond b (object_ends p s) (failed answer s))
-      go true = of_object d seats plain other good
-      go false = idle p t s (failed answer s) d seats plain refl refl items good
+  with_answer d seats answer plain other good = grind (arith, nat_tests, of_object d seats plain other good, idle p t s)
 
   -- each kind of dispatch
   ends : (d : Dispatch) (seats : List Seat) → Good p t s.cells (Dispatching d seats ∷ []) → Keeps p t (guarded (needs_end d s.cells) (dispatch_ends p d s))
@@ -111,16 +94,16 @@ module _ (p : Image) (t : Typing) (s : State) (wired : IsWired p) (typed : IsTyp
   ends (Main_left code) seats good = idle p t s (main_left code s) (Main_left code) seats refl refl refl items good
   ends Of_main seats good = closes p t s wired typed Of_main seats refl refl items good s.rest.stopped (held s.cells (Elsewhere Root)) refl
   ends (Of_object x) seats good = of_object (Of_object x) seats refl refl good
-  ends (Object_left x code) seats good = go (part_of p Error x.object.thing) refl
-    where
-      go : (m : Option ℕ) → part_of p Error x.object.thing ≡ m → WellTyped p t (asking p m x code s)
-      go None e = with_answer (Object_left x code) seats code refl refl good
-      go (Some m) e = error_enters p t wired typed s x code seats items good m e
+  ends (Object_left x code) seats good = grind (
+    arith,
+    nat_tests,
+    with_answer (Object_left x code) seats code,
+    error_enters p t wired typed s x code seats items good,
+  )
   ends (Asks x) seats good = of_object (Asks x) seats refl refl good
   ends (Answered x answer) seats good = with_answer (Answered x answer) seats answer refl refl good
 
 pub dispatch_keeps :
     (p : Image) (t : Typing) → IsWired p → IsTyped p t → (s : State) (d : Dispatch) (seats : List Seat) (ls : List Layer) → Good p t s.cells (Dispatching d seats ∷ ls) →
     forms s.items ≡ items_of ls → Keeps p t (guarded (needs_end d s.cells) (dispatch_ends p d s))
-dispatch_keeps p t wired typed s d seats ls good items =
-    ends p t s wired typed (no_items s.items (items ∙ ap items_of good.stack.1)) d seats (subst (λ l. Good p t s.cells (Dispatching d seats ∷ l)) good.stack.1 good)
+dispatch_keeps p t wired typed s d seats ls good items = grind (arith, nat_tests, ends p t s wired typed, no_items s.items)

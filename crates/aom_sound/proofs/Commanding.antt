@@ -1,6 +1,7 @@
 -- What a client's command comes to between dispatches is well typed: a queue is longer, a message more waits in one, or those of a client go.
+use Rattle.std.proofs.lemmas.Bool.Decides.{nat_tests}
 use Rattle.std.proofs.Math.Bool.{or-false}
-use Rattle.std.proofs.Common.{[], List, Some, ap, cond, false, refl, subst, sym, ℕ, ◌∙◌, ◌∷◌, ◌≡◌}
+use Rattle.std.proofs.Common.{arith, [], List, Some, ap, cond, false, refl, ℕ, ◌∙◌, ◌∷◌, ◌≡◌}
 use Rattle.std.proofs.lemmas.List.Folds.{list_any-append}
 use Rattle.std.specs.List.{list_any}
 use Rattle.std.specs.Prelude.{◌||◌}
@@ -15,8 +16,8 @@ use Rattle.aom_sound.proofs.Picking.{fits_ready}
 use Rattle.aom_sound.proofs.Services.{held_served, named_served, requested_served, tidy_served}
 use Rattle.aom_sound.specs.Claims.{declared, declared_field}
 use Rattle.aom_sound.specs.Places.{Asked, Cell, Elsewhere, Field, Object, Place, Queued, Session, Tidy, held, named, requested, seen, service_of}
-use Rattle.aom_sound.specs.Requests.{AllSuit, Suits, resting_in, rests_in, thing_kind}
-use Rattle.aom_sound.specs.Servers.{asked_last, has_message, has_session, is_message, message_thing, reserved, session_thing}
+use Rattle.aom_sound.specs.Requests.{AllSuit}
+use Rattle.aom_sound.specs.Servers.{asked_last, has_message, has_session, is_message, message_thing, reserved}
 use Rattle.aom_sound.specs.WellTyped.{Fits, Good}
 
 -- ---- what is declared goes by names, messages and sessions
@@ -25,8 +26,7 @@ module _ (p : Image) (cs cs' : List Cell) (names : (n : ℕ) → named cs' n ≡
     (sessions : (n c : ℕ) → has_session (service_of cs' n) c ≡ has_session (service_of cs n) c) where
   pub declared_same : (q : Place) → declared p cs' q ≡ declared p cs q
   declared_same (Field m f) = ap (λ y. declared_field p y f) (names m)
-  declared_same (Elsewhere (Session m c)) =
-      ap (λ b. cond b (filled (session_thing p (named cs' m)) Full) Null) (sessions m c) ∙ ap (λ y. cond (has_session (service_of cs m) c) (filled (session_thing p y) Full) Null) (names m)
+  declared_same (Elsewhere (Session m c)) = grind (arith, nat_tests)
   declared_same (Elsewhere (Queued m k)) =
       ap (λ b. cond b (filled (message_thing p (named cs' m)) Full) Null) (messages m k) ∙ ap (λ y. cond (has_message (service_of cs m) k) (filled (message_thing p y) Full) Null) (names m)
   declared_same _ = refl
@@ -36,12 +36,10 @@ module _ (p : Image) (cs cs' : List Cell) (names : (n : ℕ) → named cs' n ≡
   good_same t places requests tidy good = record { stack = refl; fits = fits; suits = suits; tidy = tidy }
     where
       fits : (q : Place) → Fits p (seen cs') (held cs' q) (declared p cs' q)
-      fits q =
-          subst (λ y. Fits p (seen cs') y (declared p cs' q)) (sym (places q))
-          (subst (λ k. Fits p (seen cs') (held cs q) k) (sym (declared_same q)) (fits_ready p (seen cs) (seen cs') (held cs q) (declared p cs q) (declared_ready p cs q) (good.fits q)))
+      fits q = grind (arith, nat_tests, declared_same q, fits_ready p, declared_ready p cs q)
 
       suits : AllSuit p cs' []
-      suits y there = subst (λ r. Suits (thing_kind p y.thing) (resting_in (rests_in p y)) r) (sym (requests y.name)) (good.suits y (sym (names y.name) ∙ there))
+      suits y there = grind (arith, nat_tests)
 
 -- something that is no message is queued last
 pub good_asked :

@@ -1,4 +1,5 @@
 -- How many cells there are as moves and turns change them: by the cells one after another.
+use Rattle.std.proofs.lemmas.Bool.Decides.{nat_tests}
 use Rattle.std.proofs.Common.{[], Bool, List, None, Option, Some, ap, arith, cond, false, length, refl, suc, sym, true, ℕ, ℤ, ◌+◌, ◌==◌, ◌∙◌, ◌∷◌, ◌≡◌, ◌≤◌}
 use Rattle.std.proofs.lemmas.Bool.{eq-eqb, eqb-true}
 use Rattle.std.proofs.lemmas.Option.{none-some}
@@ -8,7 +9,7 @@ use Rattle.aom_shape.specs.Kinds.{is_object}
 use Rattle.aom_sound.proofs.Altering.{asking, bereaving, count_kept, moving, opening, storing}
 use Rattle.aom_sound.proofs.Maps.{same_place-true, without_none}
 use Rattle.aom_sound.specs.Natives.{all_bereaved}
-use Rattle.aom_sound.specs.Places.{Cell, Object, Place, Request, Tidy, count_cells, held, moved, named, same_place, set_request, set_session, set_word_field, without}
+use Rattle.aom_sound.specs.Places.{Cell, Object, Place, Request, Tidy, count_cells, held, moved, named, set_request, set_session, set_word_field, without}
 
 -- ---- what changes no thing changes no count
 
@@ -41,20 +42,7 @@ counted_by passes (Some o) = cond (passes o.thing) 1 0
 -- one less where one of them goes
 pub counted_without : {count : List Cell → ℕ} (k : CountsBy count) (cs : List Cell) (g : Place) → Tidy cs → count cs ≡ counted_by k.passes (held cs g) + count (without g cs)
 counted_without k [] g tidy = omega arith
-counted_without {count = count} k (c ∷ cs) g tidy = k.some c cs ∙ go (same_place c.owner g) refl (counted_without k cs g tidy.2)
-  where
-    one : (b : Bool) (n m : ℕ) → m ≡ n → cond b (suc n) n ≡ cond b 1 0 + m
-    one true n m e = omega (arith, e)
-    one false n m e = omega (arith, e)
-
-    more : (b : Bool) (n k m : ℕ) → n ≡ k + m → cond b (suc n) n ≡ k + cond b (suc m) m
-    more true n k m e = omega (arith, e)
-    more false n k m e = e
-
-    go : (b : Bool) → same_place c.owner g ≡ b → count cs ≡ counted_by k.passes (held cs g) + count (without g cs)
-        → cond (k.passes c.object.thing) (suc (count cs)) (count cs) ≡ counted_by k.passes (cond b (Some c.object) (held cs g)) + count (cond b (without g cs) (c ∷ without g cs))
-    go true is rest = one (k.passes c.object.thing) (count cs) (count (without g cs)) (ap count (without_none cs g (ap (λ r. held cs r) (sym (same_place-true c.owner g is)) ∙ tidy.0)))
-    go false is rest = more (k.passes c.object.thing) (count cs) (counted_by k.passes (held cs g)) (count (without g cs)) rest ∙ ap (λ n. counted_by k.passes (held cs g) + n) (sym (k.some c (without g cs)))
+counted_without {count = count} k (c ∷ cs) g tidy = grind (arith, nat_tests, counted_without k cs g tidy.2, without_none cs g, same_place-true c.owner g)
 
 abbrev pub counted_in : Option Object → ℕ
 counted_in o = counted_by is_object o
@@ -66,11 +54,7 @@ count_without = counted_without (record { passes = is_object; some = λ c cs. re
 
 pub count_most : (cs : List Cell) → count_cells cs ≤ length cs
 count_most [] = omega arith
-count_most (c ∷ cs) = go (is_object c.object.thing) (count_most cs)
-  where
-    go : (b : Bool) → count_cells cs ≤ length cs → cond b (suc (count_cells cs)) (count_cells cs) ≤ suc (length cs)
-    go true le = omega (arith, le)
-    go false le = omega (arith, le)
+count_most (c ∷ cs) = grind (arith, nat_tests, count_most cs)
 
 -- each is an object
 abbrev pub AllObjects : List Cell → Type 0

@@ -1,6 +1,7 @@
 -- The course of a leave on a run: which entries it has dealt with, and that its code arrives.
+use Rattle.std.proofs.lemmas.Bool.Decides.{nat_tests}
 use Rattle.aom_sound.proofs.Turning.{turn_goes_on}
-use Rattle.std.proofs.Common.{[], List, ap, append-nil, append_assoc, inl, inr, length, refl, subst, sym, ℤ, ◌∙◌, ◌∷◌, ◌≡◌, ◌≢◌}
+use Rattle.std.proofs.Common.{arith, [], List, ap, append-nil, append_assoc, inl, inr, length, refl, subst, sym, ℤ, ◌∙◌, ◌∷◌, ◌≡◌, ◌≢◌}
 use Rattle.std.specs.Prelude.{◌++◌, ◌⊎◌}
 use Rattle.aom_image.specs.Image.{Image}
 use Rattle.aom_rules.specs.Typing.{IsTyped, Typing}
@@ -15,7 +16,7 @@ use Rattle.aom_sound.specs.Leaves.{HasArrived, IsLeaving, IsOver, LeavesArrive, 
 use Rattle.aom_sound.specs.Moves.{IsOpen, step}
 use Rattle.aom_sound.specs.State.{Closing, A_mark, Choice, Destroy, Goes, Item, Run, State, Task, Unwind}
 use Rattle.aom_sound.specs.WellTyped.{Keeps, WellTyped}
-use Rattle.aom_sound.specs.World.{IsBetween, IsBusy, Reaches, begins, boot_state, moves, turn, turns, Outside, Heard, HearsWell}
+use Rattle.aom_sound.specs.World.{IsBetween, IsBusy, Reaches, begins, moves, turn, turns, Outside, Heard, HearsWell}
 use Rattle.aom_transcript.specs.declared.line.Line.{Line}
 
 pub leaves_move : LeavesMove
@@ -101,7 +102,11 @@ module _ (p : Image) (t : Typing) (outside : Outside) (wired : IsWired p) (typed
     course_of l _ _ (turns {lines = lines} {s = s} {u = u} heard before between hears e) = turned heard s u between hears e (course_of l lines s before)
 
 pub leaves_arrive : LeavesArrive
-leaves_arrive p t outside wired typed before s reached code below at =
-    let w = well_on p t outside wired typed (boot_state p) (boot_keeps p t wired typed, clients_keep.boot p) before s reached in
-    let found = splits p t s w.0 code below at in
-    (found.0, found.1, found.2.stack, found.2.plain, λ lines u r. course_of p t outside wired typed s w code below found.0 found.1 found.2 lines u r)
+leaves_arrive p t outside wired typed before s reached code below at = grind (
+  arith,
+  nat_tests,
+  well_on p t outside wired typed,
+  boot_keeps p t wired typed,
+  splits p t s,
+  course_of p t outside wired typed s,
+)

@@ -1,4 +1,5 @@
 -- The law of a new cell.
+use Rattle.std.proofs.lemmas.Bool.Decides.{nat_tests}
 use Rattle.std.proofs.Common.{[], Bool, List, None, Option, Some, ap, arith, cond, eq-eqb, false, length, refl, subst, sym, true, ℕ, ℤ, ◌==◌, ◌∙◌, ◌∷◌, ◌≡◌, ◌≤◌, suc}
 use Rattle.std.proofs.lemmas.Bool.{eqb-true, ne_eqb}
 use Rattle.std.specs.Prelude.{is_none}
@@ -13,7 +14,6 @@ use Rattle.aom_shape.specs.Shape.{Shape}
 use Rattle.aom_shape.specs.Things.{field_thing, holder_of}
 use Rattle.aom_rules.specs.Typing.{Typing, Leads}
 use Rattle.aom_shape.specs.declared.kind.Age.{Age}
-use Rattle.aom_shape.specs.declared.kind.Age.TheVariants.{Fresh, Ready}
 use Rattle.aom_shape.specs.declared.kind.Filling.TheVariants.{Full, Perhaps}
 use Rattle.aom_shape.specs.declared.kind.Kind.{Kind}
 use Rattle.aom_shape.specs.declared.kind.Kind.TheVariants.{Maybe, Null}
@@ -66,13 +66,12 @@ declared_new p cs n x ws owner e _ = alike
 service_new :
     (cs : List Cell) (n : ℕ) (x : Thing) (ws : List ℤ) (owner : Place) (o : Object) → named cs n ≡ None → named cs o.name ≡ Some o →
     service_of (with_new n x ws owner cs) o.name ≡ service_of cs o.name
-service_new cs n x ws owner o e h = ap (λ b. cond b unserved (service_of cs o.name)) (ne_eqb n o.name (λ same. let e' : Some o ≡ None = sym h ∙ ap (λ k. named cs k) (sym same) ∙ e in cc))
+service_new cs n x ws owner o e h = grind (arith, nat_tests, ne_eqb n o.name)
 
 attended_new :
     (p : Image) (cs : List Cell) (n : ℕ) (x : Thing) (ws : List ℤ) (owner : Place) (d : Dispatch) (seats : List Seat) → named cs n ≡ None → AllSit cs seats → SitsFirst cs (seat_of d) seats →
     IsAttended p cs d → IsAttended p (with_new n x ws owner cs) d
-attended_new p cs n x ws owner d seats e sits first h =
-    attended_at p cs (with_new n x ws owner cs) d (λ y there. service_new cs n x ws owner y.object e (sits_lives cs seats y sits (subst (λ o. SitsFirst cs o seats) there first))) h
+attended_new p cs n x ws owner d seats e sits first h = grind (arith, nat_tests, attended_at p cs, service_new cs n x ws owner, sits_lives cs seats)
 
 lives_new : (cs : List Cell) (n : ℕ) (x : Thing) (ws : List ℤ) (owner : Place) (o : Object) → named cs n ≡ None → named cs o.name ≡ Some o → named (with_new n x ws owner cs) o.name ≡ Some o
 lives_new cs n x ws owner o e h =
@@ -81,14 +80,7 @@ lives_new cs n x ws owner o e h =
 holds_new :
     (p : Image) (cs : List Cell) (n : ℕ) (x : Thing) (ws : List ℤ) (owner : Place) (ls : List Layer) (home : Home) → named cs n ≡ None → Outside owner ls →
     ((o : Object) (from : Place) → home ≡ Inside o from → NoFieldHere owner from) → IsHoused p cs ls home → IsHoused p (with_new n x ws owner cs) ls home
-holds_new p cs n x ws owner ls Static e out nf h = h
-holds_new p cs n x ws owner ls AtRoot e out nf h = h
-holds_new p cs n x ws owner ls (Inside o from) e out nf h = record {
-  there = ap (λ b. cond b (Some (record { name = n; thing = x })) (held cs from)) (outside_differs owner from ls out (nf o from refl) h.below) ∙ h.there;
-  lives = lives_new cs n x ws owner o e h.lives;
-  below = h.below;
-  ready = h.ready;
-}
+holds_new p cs n x ws owner ls y e out nf h = grind (arith, nat_tests, outside_differs owner, lives_new cs n x ws owner)
 
 stack_new :
     (p : Image) (t : Typing) (cs : List Cell) (n : ℕ) (x : Thing) (ws : List ℤ) (f i : ℕ) (ls : List Layer) (back : Back) → named cs n ≡ None → length (tasks_of ls) ≤ f →
@@ -124,21 +116,20 @@ module _ (p : Image) (cs : List Cell) (o : Object) where
   unworked_home : (ls : List Layer) (home : Home) → IsHoused p cs ls home → named cs o.name ≡ None → works_at o.name home ≡ false
   unworked_home ls Static h e = refl
   unworked_home ls AtRoot h e = refl
-  unworked_home ls (Inside x from) h e = ne_eqb x.name o.name (λ same. let l = h.lives in let clash : Some x ≡ None = sym l ∙ ap (λ m. named cs m) same ∙ e in cc)
+  unworked_home ls (Inside x from) h e = grind (arith, nat_tests, ne_eqb x.name o.name)
 
   unworked_unnamed : (t : Typing) (ls : List Layer) (back : Back) → Stack p t cs back ls → named cs o.name ≡ None → Unworked o.name ls
   unworked_unnamed t [] back s e = tt
   unworked_unnamed t (Method fr sh ∷ ls) back s e = (unworked_home ls fr.home s.2 e, unworked_unnamed t ls _ s.4 e)
   unworked_unnamed t (Mark gv ∷ ls) back s e = unworked_unnamed t ls _ s.1 e
-  unworked_unnamed t (Dying x ∷ ls) back s e = (ne_eqb x.name o.name (λ same. let l = s.0.0 in let clash : Some x ≡ None = sym l ∙ ap (λ m. named cs m) same ∙ e in cc), unworked_unnamed t ls _ s.2 e)
+  unworked_unnamed t (Dying x ∷ ls) back s e = (grind (arith, nat_tests, ne_eqb x.name o.name), unworked_unnamed t ls _ s.2 e)
   unworked_unnamed t (Ending x left ∷ ls) back s e = unworked_unnamed t ls _ s.3 e
   unworked_unnamed t (Unwinding code es ∷ ls) back s e = unworked_unnamed t ls _ s.1 e
   unworked_unnamed t (Dispatching d seats ∷ ls) back s e = subst (λ l. Unworked o.name l) (sym s.1) tt
 
 -- what had no request has none beside a new cell
 unasked : (b : Bool) (r : Option Request) → r ≡ None → cond b None r ≡ None
-unasked true r e = refl
-unasked false r e = e
+unasked x r e = grind arith
 
 -- a new cell in a register of the top method
 pub create :
@@ -212,8 +203,7 @@ module _ (p : Image) (t : Typing) (c : Choice) (s : State) (fr : Frame) (sh : Sh
   IsUnused = named s.cells c.name ≡ None
 
   pub age_fits : (h : Sight) (a : Age) (o : Object) → ((f : ℕ) → h.holds (Field o.name f) ≡ None) → h.requests o.name ≡ None → HasAge h o a
-  age_fits h Fresh o n u = (n, u)
-  age_fits h Ready o n u = tt
+  age_fits h x o n u = grind arith
 
   -- a new cell comes to a register that owned nothing
   pub made_well :

@@ -1,5 +1,6 @@
 -- The last item of the cleanup stack is dealt with: its object is destroyed, or its operation runs, over the layers below it.
-use Rattle.std.proofs.Common.{[], Bool, List, None, Option, Some, ap, arith, cond, false, length, map, refl, subst, suc, sym, true, zero, ℕ, ℤ, ◌==◌, ◌∙◌, ◌∷◌, ◌≡◌, ◌≤◌}
+use Rattle.std.proofs.lemmas.Bool.Decides.{nat_tests}
+use Rattle.std.proofs.Common.{[], Bool, List, None, Option, Some, ap, arith, cond, false, length, map, refl, subst, sym, true, ℕ, ℤ, ◌==◌, ◌∙◌, ◌∷◌, ◌≡◌, ◌≤◌}
 use Rattle.std.proofs.lemmas.Bool.{true≢false, eqb-true}
 use Rattle.std.specs.Prelude.{is_some}
 use Rattle.aom_image.specs.Image.{Image}
@@ -25,13 +26,13 @@ use Rattle.aom_sound.proofs.Items.{length_forms}
 use Rattle.aom_sound.proofs.Maps.{same_place-true, same_place_refl}
 use Rattle.aom_sound.proofs.Straight.{fits_unowning}
 use Rattle.aom_sound.proofs.Housing.{counts_same, houses_same}
-use Rattle.aom_sound.specs.Claims.{serves, Layer, Method, claim, declared, entry_claim, entry_form, forms, items_of, objects, tasks_of}
+use Rattle.aom_sound.specs.Claims.{Layer, Method, claim, declared, entry_form, forms, items_of, objects, tasks_of}
 use Rattle.aom_sound.specs.Calls.{below_top}
 use Rattle.aom_sound.specs.Cleanup.{dealt_with, destroyed, operation_frame, top_is_whole, top_place, tops_entry}
 use Rattle.aom_sound.specs.Destruction.{begun}
 use Rattle.aom_sound.specs.Effects.{applied, deals as deals_effect}
 use Rattle.aom_sound.specs.Laws.{IsWired}
-use Rattle.aom_sound.specs.Places.{In_service, Elsewhere, Entry, Going, Object, Place, Register, Tidy, changed, held, moved, same_place, seen}
+use Rattle.aom_sound.specs.Places.{In_service, Elsewhere, Entry, Going, Object, Place, Register, Tidy, changed, held, moved, seen}
 use Rattle.aom_sound.specs.State.{An_object, An_operation, Frame, Item, Run, State, Static, Task, thing_holder, word}
 use Rattle.aom_sound.specs.WellTyped.{IsServed, AllUndo, Fits, Gone, IsUndo, Returns, Stack, WellTyped, WordFits}
 use Rattle.aom_sound.specs.Requests.{AllSuit}
@@ -40,11 +41,7 @@ use Rattle.aom_rules.specs.Requests.{is_service}
 
 -- without the last entry the layers claim nothing of its place, and else the same
 pub less_claims : (f g : Place → Kind) (q : Place) (k : Kind) → ((r : Place) → f r ≡ changed g q k r) → g q ≡ Null → (r : Place) → g r ≡ changed f q Null r
-less_claims f g q k more free r = go (same_place q r) refl
-  where
-    go : (b : Bool) → same_place q r ≡ b → g r ≡ cond b Null (f r)
-    go true e = ap g (sym (same_place-true q r e)) ∙ free
-    go false e = sym (more r ∙ ap (λ b. cond b k (g r)) e)
+less_claims f g q k more free r = grind (arith, nat_tests, same_place-true q r)
 
 -- the layers with the last entry, and those below it, over which it is dealt with
 pub record Dealing (p : Image) (t : Typing) (s : State) (e : Pushed) (before below : List Layer) : Type 0 where
@@ -93,20 +90,14 @@ module _ (p : Image) (t : Typing) (wired : IsWired p) (typed : IsTyped p t) (s :
     begins_with i = ap (λ xs. register (record (entry_shape p m) { registers = map argument_kind xs }) i) undo.arguments
 
     none_yet : (i : ℕ) → Fits p (seen s.cells) None (at Unset (Word ∷ []) i)
-    none_yet zero = tt
-    none_yet (suc i) = tt
+    none_yet x = grind arith
 
     its_word : (i : ℕ) → WordFits (at None (Some w ∷ []) i) (at Unset (Word ∷ []) i)
-    its_word zero = tt
-    its_word (suc i) = tt
+    its_word x = grind arith
 
     -- the entry's claim was none
     fits_below : (r : Place) → Fits p (seen s.cells) (held s.cells r) (claim p (declared p s.cells) below r)
-    fits_below r = subst (λ k. Fits p (seen s.cells) (held s.cells r) k) (sym (less r ∙ go (same_place q r) refl)) (d.fits r)
-      where
-        go : (b : Bool) → same_place q r ≡ b → cond b Null (claim p (declared p s.cells) before r) ≡ claim p (declared p s.cells) before r
-        go true h = sym (d.claims r ∙ ap (λ b. cond b (entry_kind e) (claim p (declared p s.cells) below r)) h ∙ operation)
-        go false h = refl
+    fits_below r = grind (arith, nat_tests, less r)
 
     runs_fitting :
         (height : ℕ) (after : Shape) → SaysNoMore after (entry_shape p m) → (r : Place) →
@@ -119,11 +110,8 @@ module _ (p : Image) (t : Typing) (wired : IsWired p) (typed : IsTyped p t) (s :
             subst (λ x. Fits p (seen s.cells) x (register after i)) (sym (fits_unowning p (seen s.cells) _ Null refl above))
             (fits_weaker p (seen s.cells) None (says.registers i) (subst (λ k. Fits p (seen s.cells) None k) (sym (begins_with i)) (none_yet i)))
         go false h = fits_below (Register f i)
-    runs_fitting height after says (Entry k) =
-        subst (λ es. Fits p (seen s.cells) (held s.cells (Entry k)) (entry_claim es (items_of below) k (claim p (declared p s.cells) below (Entry k)))) (sym says.entries) (fits_below (Entry k))
-    runs_fitting height after says (Elsewhere In_service) =
-        subst (λ k. Fits p (seen s.cells) (held s.cells (Elsewhere In_service)) k)
-        (sym (plain_claim (serves p m) after (claim p (declared p s.cells) below (Elsewhere In_service)) (ap is_service undo.role))) (fits_below (Elsewhere In_service))
+    runs_fitting height after says (Entry k) = grind (arith, nat_tests, fits_below (Entry k))
+    runs_fitting height after says (Elsewhere In_service) = grind (arith, nat_tests, plain_claim, fits_below (Elsewhere In_service))
     runs_fitting height after says r = fits_below r
 
     -- an operation works on nothing
@@ -162,7 +150,7 @@ pub dealing :
 dealing p fr ts s (An_object ∷ items) (Some o) at e there whole =
     ap (λ x. destroyed p x items (Run fr ∷ ts) s) e
     ∙ ap (λ l. record s { cells = moved (Entry (length l)) (Going (length (Run fr ∷ ts))) s.cells; tasks = begun p o (length l) (Run fr ∷ ts); items = l }) (sym (ap below_top at))
-dealing p fr ts s (An_operation m w ∷ items) o at e there whole = ap (λ l. record s { tasks = Run (operation_frame m w (length l)) ∷ Run fr ∷ ts; items = l }) (sym (ap below_top at))
+dealing p fr ts s (An_operation m w ∷ items) o at e there whole = grind (arith, nat_tests, items)
 dealing p fr ts s _ o at e there whole = cc
 
 -- so it is there, and what follows is well typed

@@ -1,9 +1,10 @@
 -- Destruction begins: from a delete, and as an entry is unwound.
-use Rattle.std.proofs.Common.{[], Bool, List, None, Option, Some, ap, arith, cond, false, inl, inr, length, refl, subst, suc, sym, true, zero, ℕ, ⊎_elim, ◌&&◌, ◌==◌, ◌∙◌, ◌∷◌, ◌≡◌, ◌≤◌}
+use Rattle.std.proofs.lemmas.Bool.Decides.{nat_tests}
+use Rattle.std.proofs.Common.{[], Bool, List, None, Option, Some, ap, arith, cond, false, length, refl, subst, suc, sym, true, zero, ℕ, ⊎_elim, ◌==◌, ◌∙◌, ◌∷◌, ◌≡◌, ◌≤◌}
 use Rattle.std.proofs.lemmas.Bool.{cases_Bool, eq-eqb, eqb-true, ne_eqb, true≢false}
 use Rattle.std.specs.Prelude.{is_some, IsSome, is_none, map, replicate}
 use Rattle.aom_image.specs.Image.{Image}
-use Rattle.aom_image.specs.Views.{arguments_of, gives_of, is_quiet, leaves, method_at, method_class, method_role}
+use Rattle.aom_image.specs.Views.{arguments_of, gives_of, is_quiet, leaves, method_at, method_role}
 use Rattle.aom_instructions.specs.declared.instr.Instr.TheVariants.{Delete}
 use Rattle.aom_image.specs.declared.method.Gives.TheVariants.{Nothing}
 use Rattle.aom_image.specs.declared.method.Role.TheVariants.{Destruct}
@@ -21,7 +22,7 @@ use Rattle.aom_shape.specs.declared.kind.Age.TheVariants.{Ready}
 use Rattle.aom_shape.specs.declared.kind.Filling.{Filling}
 use Rattle.aom_shape.specs.declared.kind.Filling.TheVariants.{Full, Perhaps}
 use Rattle.aom_shape.specs.declared.kind.Kind.{Kind}
-use Rattle.aom_shape.specs.declared.kind.Kind.TheVariants.{Maybe, Null, Own, Unset}
+use Rattle.aom_shape.specs.declared.kind.Kind.TheVariants.{Null, Own, Unset}
 use Rattle.aom_sound.proofs.Claimed.{no_seat_outside, Outside, claim-set_register, claim_frame, claim_going_above, claim_register_above, claim_unclaimed, declared_moved, going_differs, keep_fits, no_field_here, outside_differs, outside_less, stack_moved}
 use Rattle.aom_sound.proofs.Items.{begins_well, length_forms}
 use Rattle.aom_sound.proofs.Seats.{NoFieldHere, NoSeatHere, no_seat}
@@ -31,7 +32,7 @@ use Rattle.aom_sound.proofs.Things.{stands_itself, stands_object}
 use Rattle.aom_sound.proofs.Housing.{counts_line, houses_role}
 use Rattle.aom_roles.proofs.Descending.{itself, through}
 use Rattle.aom_roles.specs.Families.{descends}
-use Rattle.aom_sound.specs.Claims.{Ending, by_close, serves, Dispatching, Dying, Layer, Mark, Method, Unwinding, claim, declared, declared_field, entry_claim, forms, home_claim, items_of, own_field, tasks_of}
+use Rattle.aom_sound.specs.Claims.{Ending, by_close, Dispatching, Dying, Layer, Mark, Method, Unwinding, claim, declared, declared_field, forms, home_claim, items_of, own_field, tasks_of}
 use Rattle.aom_classes.specs.Roles.{destructor_of, role_of}
 use Rattle.aom_sound.specs.Destruction.{destructor_frame, destructed, begun, begun_by}
 use Rattle.aom_sound.specs.Laws.{IsWired}
@@ -42,10 +43,10 @@ use Rattle.aom_sound.specs.State.{Dispatch, Of_server, Parts, Closing, Destroy, 
 use Rattle.aom_sound.specs.WellTyped.{view_holder, SitsFirst, seat_of, IsOverDying, Now, AllSit, NoSeatAt, NoSeatIn, SitsIn, SomeSits, AllUndo, Back, Caught, Fits, Gone, Good, Houses, IsBelow, IsHoused, IsNoFieldOf, IsOfFamily, Leaves, NoneIn, NotIn, Returns, SomeIn, Stack, Unclaimed, WellTyped, WordFits, WorksOn}
 use Rattle.aom_roles.specs.Shapes.{kind_of}
 use Rattle.aom_sound.proofs.Suiting.{all_moved, known_plain, same_object, suits_less, unworked_rests}
-use Rattle.aom_sound.specs.Requests.{AllSuit, Known, Suits, Unworked, known_at, resting_in, states_claim, thing_kind, works_at}
+use Rattle.aom_sound.specs.Requests.{AllSuit, Suits, Unworked, resting_in, states_claim, thing_kind, works_at}
 use Rattle.aom_rules.specs.Requests.{is_service, is_cancel}
 use Rattle.aom_roles.specs.States.{last_of, states_of}
-use Rattle.aom_sound.specs.Servers.{is_among, session_thing, is_server, has_session}
+use Rattle.aom_sound.specs.Servers.{session_thing, is_server, has_session}
 use Rattle.aom_roles.specs.Classes.{sessions_in, sessions_of}
 use Rattle.aom_image.specs.declared.class.ClassKind.{ClassKind}
 use Rattle.aom_sound.proofs.Attending.{plain_claim}
@@ -63,10 +64,7 @@ ending_apart : (x : Object) (n : ℕ) (ls : List Layer) → IsOverDying x ls →
 ending_apart x n y same u = grind arith
 
 pub eqb_comm : (a b : ℕ) → (a == b) ≡ (b == a)
-eqb_comm a b = elim (cases_Bool (a == b)) as (λ x. (a == b) ≡ (b == a)) [
-  | inl e ↦ e ∙ sym (eq-eqb b a (sym (eqb-true a b e)))
-  | inr e ↦ e ∙ sym (ne_eqb b a (λ f. true≢false (sym (eq-eqb a b (sym f)) ∙ e)))
-]
+eqb_comm a b = grind (arith, nat_tests, cases_Bool (a == b), eq-eqb b a, eqb-true a b, ne_eqb b a, eq-eqb a b)
 
 module _ (p : Image) (t : Typing) (cs : List Cell) (q : Place) (o : Object) (tidy : Tidy cs) (there : held cs q ≡ Some o) where
   pub other_name : (from : Place) (x : Object) → held cs from ≡ Some x → same_place q from ≡ false → (x.name == o.name) ≡ false
@@ -114,15 +112,19 @@ module _ (p : Image) (t : Typing) (cs : List Cell) (q : Place) (o : Object) (tid
 
   -- the close of a session with what sits is none with it
   close_apart : (w : Dispatch) (seats : List Seat) → SitsFirst cs (seat_of w) seats → (SomeSits o.name seats → ⊥) → (c : ℕ) (k : Kind) → by_close w o.name c k ≡ k
-  close_apart (Of_server x client Parts) seats first none c k =
-      ap (λ b. cond (b && (client == c)) Null k) (ne_eqb x.object.name o.name (λ e. none (subst (λ xs. SomeSits o.name xs) (sym first.2) (inl e))))
+  close_apart (Of_server x client Parts) seats first none c k = grind (arith, nat_tests, ne_eqb x.object.name o.name)
   close_apart _ seats first none c k = refl
 
   pub untouched : (k : ℕ → Kind) (ls : List Layer) (back : Back) → Outside q ls → Stack p t cs back ls → Untouched p k o.name ls
   untouched k [] back out s = record { some = λ x. x; unclaimed = λ f. refl; none_in = tt; unworked = tt; sessions = λ d c. refl }
-  untouched k (Method fr sh ∷ ls) back out s =
-      untouched_method k fr sh ls (λ x from e. no_field_here q fr x from sh ls e out) (outside_less q (Method fr sh) ls out) s.2
-      (untouched k ls (Returns fr.method fr.home) (outside_less q (Method fr sh) ls out) s.4)
+  untouched k (Method fr sh ∷ ls) back out s = grind (
+    arith,
+    nat_tests,
+    untouched_method k fr sh ls,
+    no_field_here q fr,
+    outside_less q (Method fr sh) ls out,
+    untouched k ls (Returns fr.method fr.home) (outside_less q (Method fr sh) ls out) s.4,
+  )
   untouched k (Mark gv ∷ ls) back out s =
       let u = untouched k ls (Caught gv) (outside_less q (Mark gv) ls out) s.1 in
       record { some = u.some; unclaimed = u.unclaimed; none_in = u.none_in; unworked = u.unworked; sessions = u.sessions }
@@ -137,10 +139,10 @@ module _ (p : Image) (t : Typing) (cs : List Cell) (q : Place) (o : Object) (tid
       let apart = ending_apart x o.name ls s.2 u.unworked in
       record {
         some = u.some;
-        unclaimed = λ f. ap (λ y. cond (x.name == o.name) (filled (field_thing p (thing_holder x.thing) f) Perhaps) y) (u.unclaimed f) ∙ ap (λ b. cond b (filled (field_thing p (thing_holder x.thing) f) Perhaps) (k f)) apart;
+        unclaimed = grind (arith, nat_tests);
         none_in = u.none_in;
         unworked = u.unworked;
-        sessions = λ d c. ap (λ b. cond b (cond (is_among c left) (filled (session_thing p (Some x)) Full) Null) (claim p d ls (Elsewhere (Session o.name c)))) apart ∙ u.sessions d c;
+        sessions = grind (arith, nat_tests);
       }
   untouched k (Unwinding code es ∷ ls) back out s =
       let u = untouched k ls Leaves (outside_less q (Unwinding code es) ls out) s.1 in
@@ -184,18 +186,15 @@ destroys p wired Message m e = cc
 
 -- the first of a line is of a class that has all the thing's fields
 first_fields : (p : Image) → IsWired p → (x : Thing) (m : ℕ) → destructor_of p x ≡ Some m → (f : ℕ) → field_thing p (thing_holder x) f ≡ field_thing p (holder_of p m) f
-first_fields p wired (An_object_of c) m e f = wired.empties c m e f
-first_fields p wired Message m e f = cc
+first_fields p wired x m e f = grind arith
 
 -- what has no destructor may rest as it goes
 undestructed : (p : Image) → IsWired p → (x : Thing) → destructor_of p x ≡ None → last_of (thing_kind p x) ≡ states_of (thing_kind p x)
 unfolding kind_of last_of states_of
-undestructed p wired (An_object_of c) e = wired.undestructed c e
-undestructed p wired Message e = refl
+undestructed p wired x e = grind arith
 
 no_fields_declared : (p : Image) → IsWired p → (x : Thing) → destructor_of p x ≡ None → (f : ℕ) → field_thing p (thing_holder x) f ≡ None
-no_fields_declared p wired (An_object_of c) e f = wired.no_destructor c e f
-no_fields_declared p wired Message e f = refl
+no_fields_declared p wired x e f = grind arith
 
 -- with no arguments nothing is known of the registers as a method begins, and of the fields only where it constructs or is main
 pub entry_registers : (p : Image) (m : ℕ) → arguments_of p m ≡ [] → (i : ℕ) → register (entry_shape p m) i ≡ Unset
@@ -255,22 +254,12 @@ module _ (p : Image) (t : Typing) (linked : IsWired p) (typed : IsTyped p t) (cs
   -- with no session of its own any more
   module _ (fits : (r : Place) → Fits p (seen cs) (held cs r) (Bare p cs o ls r)) where
     fields_fit : (n f : ℕ) → (o.name == n) ≡ true → Fits p (seen cs) (held cs (Field n f)) (filled (field_thing p (thing_holder o.thing) f) Perhaps)
-    fields_fit n f e =
-        subst (λ m. Fits p (seen cs) (held cs (Field m f)) (filled (field_thing p (thing_holder o.thing) f) Perhaps)) (eqb-true o.name n e)
-        (subst (λ k. Fits p (seen cs) (held cs (Field o.name f)) k) (fields_claim f) (fits (Field o.name f)))
+    fields_fit n f e = grind (arith, nat_tests, eqb-true o.name n e, fields_claim f)
 
     -- with no destructor
     bare : destructor_of p o.thing ≡ None → (r : Place) → Fits p (seen cs) (held cs r) (claim p (declared p cs) (Dying o ∷ ls) r)
-    bare none (Field n f) = go (o.name == n) refl
-      where
-        go : (b : Bool) → (o.name == n) ≡ b → Fits p (seen cs) (held cs (Field n f)) (cond b Null (claim p (declared p cs) ls (Field n f)))
-        go true e = subst (λ x. Fits p (seen cs) (held cs (Field n f)) (filled x Perhaps)) (no_fields_declared p linked o.thing none f) (fields_fit n f e)
-        go false e = fits (Field n f)
-    bare none (Going k) = subst (λ b. Fits p (seen cs) (held cs (Going k)) (cond b (Own o.thing Ready) (claim p (declared p cs) ls (Going k)))) (tail (length (tasks_of ls) == k)) (fits (Going k))
-      where
-        tail : (b : Bool) → (b && true) ≡ b
-        tail true = refl
-        tail false = refl
+    bare none (Field n f) = grind (arith, nat_tests, no_fields_declared p linked o.thing none f, fields_fit n f)
+    bare none (Going k) = grind (arith, nat_tests)
     bare none (Elsewhere Root) = fits (Elsewhere Root)
     bare none r = fits r
 
@@ -278,62 +267,31 @@ module _ (p : Image) (t : Typing) (linked : IsWired p) (typed : IsTyped p t) (cs
     clothed :
         (m height : ℕ) (after : Shape) → Destroys p o.thing m → ((f : ℕ) → field_thing p (holder_of p m) f ≡ None → held cs (Field o.name f) ≡ None) → SaysNoMore after (entry_shape p m) → (r : Place) →
         Fits p (seen cs) (held cs r) (claim p (declared p cs) (Method (destructor_frame p m o (length (tasks_of ls)) height) after ∷ Dying o ∷ ls) r)
-    clothed m height after is others w (Register f i) = go (length (tasks_of (Dying o ∷ ls)) == f) refl
-      where
-        go : (b : Bool) → (length (tasks_of (Dying o ∷ ls)) == f) ≡ b → Fits p (seen cs) (held cs (Register f i)) (cond b (register after i) (claim p (declared p cs) ls (Register f i)))
-        go true e = subst (λ k. Fits p (seen cs) (held cs (Register f i)) k) (sym (unset_only (subst (λ k. Weaker (register after i) k) (entry_registers p m is.arguments i) (w.registers i))))
-            (subst (λ x. Fits p (seen cs) x Unset) (sym (fits_unowning p (seen cs) _ Null refl (null_of p (seen cs) _ _ (claim_register_above p cs ls f i (omega (arith, eqb-true _ _ e))) (fits (Register f i))))) tt)
-        go false e = fits (Register f i)
-    clothed m height after is others w (Entry k) = subst (λ es. Fits p (seen cs) (held cs (Entry k)) (entry_claim es (items_of ls) k (claim p (declared p cs) ls (Entry k)))) (sym w.entries) (fits (Entry k))
-    clothed m height after is others w (Field n f) = go (o.name == n) refl (field_thing p (holder_of p m) f) refl
-      where
-        go :
-            (b : Bool) → (o.name == n) ≡ b → (own : Option Thing) → field_thing p (holder_of p m) f ≡ own →
-            Fits p (seen cs) (held cs (Field n f)) (cond b (own_field own (field after f) (cond b Null (claim p (declared p cs) ls (Field n f)))) (cond b Null (claim p (declared p cs) ls (Field n f))))
-        go true e (Some x) same =
-            subst (λ y. Fits p (seen cs) (held cs (Field n f)) (filled (Some x) y)) (sym (perhaps_only (subst (λ x. WeakerFilling (field after f) x) (destruct_fields p m is.role f) (w.fields f))))
-            (subst (λ y. Fits p (seen cs) (held cs (Field n f)) (filled y Perhaps)) (is.holder.fields f x same) (fields_fit n f e))
-        go true e None same = subst (λ x. Fits p (seen cs) x Null) (sym (ap (λ k. held cs (Field k f)) (sym (eqb-true o.name n e)) ∙ others f same)) tt
-        go false e own same = fits (Field n f)
+    clothed m height after is others w (Register f i) = grind (
+      arith,
+      nat_tests,
+      unset_only,
+      entry_registers p m is.arguments i,
+      fits_unowning p,
+      null_of p,
+      claim_register_above p cs ls f i,
+      eqb-true,
+    )
+    clothed m height after is others w (Entry k) = grind (arith, nat_tests)
+    clothed m height after is others w (Field n f) = grind (arith, nat_tests, perhaps_only, destruct_fields p m is.role f, fields_fit n f, eqb-true o.name n)
     clothed m height after is others w (Elsewhere Root) = fits (Elsewhere Root)
-    clothed m height after is others w (Elsewhere In_service) =
-        subst (λ k. Fits p (seen cs) (held cs (Elsewhere In_service)) k) (sym (plain_claim (serves p m) after (claim p (declared p cs) ls (Elsewhere In_service)) (ap is_service is.role)))
-        (fits (Elsewhere In_service))
+    clothed m height after is others w (Elsewhere In_service) = grind (arith, nat_tests, plain_claim)
     clothed m height after is others w (Elsewhere w') = fits (Elsewhere w')
-    clothed m height after is others w (Going k) =
-        subst (λ b. Fits p (seen cs) (held cs (Going k)) (cond b (Own o.thing Ready) (claim p (declared p cs) ls (Going k)))) (tail (length (tasks_of ls) == k)) (fits (Going k))
-      where
-        tail : (b : Bool) → (b && true) ≡ b
-        tail true = refl
-        tail false = refl
+    clothed m height after is others w (Going k) = grind (arith, nat_tests)
 
     -- and all others are as they were
     bare_suits : last_of (thing_kind p o.thing) ≡ states_of (thing_kind p o.thing) → AllSuit p cs (Dying o ∷ ls)
-    bare_suits last x there = at_name (o.name == x.name) refl
-      where
-        at_name : (b : Bool) → (o.name == x.name) ≡ b → Suits (thing_kind p x.thing) (cond b (resting_in (last_of (thing_kind p x.thing))) (states_claim p x ls)) (requested cs x.name)
-        at_name true e =
-            subst (λ y. Suits (thing_kind p y.thing) (resting_in (last_of (thing_kind p y.thing))) (requested cs y.name)) (same_object cs o x lives there e)
-            (subst (λ n. Suits (thing_kind p o.thing) (resting_in n) (requested cs o.name)) (sym last) rested)
-        at_name false e = suits x there
+    bare_suits last x there = grind (arith, nat_tests, same_object cs o x lives there, there, rested)
 
     clothed_suits :
         (m height : ℕ) (after : Shape) → Destroys p o.thing m → SaysNoMore after (entry_shape p m) →
         AllSuit p cs (Method (destructor_frame p m o (length (tasks_of ls)) height) after ∷ Dying o ∷ ls)
-    clothed_suits m height after is w x there = at_name (o.name == x.name) refl
-      where
-        fr : Frame
-        fr = destructor_frame p m o (length (tasks_of ls)) height
-
-        below : Bool → Known
-        below b = cond b (resting_in (last_of (thing_kind p x.thing))) (states_claim p x ls)
-
-        at_name : (b : Bool) → (o.name == x.name) ≡ b → Suits (thing_kind p x.thing) (cond b (known_at p fr after.states (below b)) (below b)) (requested cs x.name)
-        at_name true e =
-            subst (λ y. Suits (thing_kind p y.thing) (known_at p fr after.states (resting_in (last_of (thing_kind p y.thing)))) (requested cs y.name)) (same_object cs o x lives there e)
-            (subst (λ k. Suits (thing_kind p o.thing) k (requested cs o.name)) (sym (known_plain p fr after.states (resting_in (last_of (thing_kind p o.thing))) (ap is_cancel is.role)))
-            (suits_less (thing_kind p o.thing) after.states (before_of p m) false (requested cs o.name) w.states (subst (λ n. Suits (thing_kind p o.thing) (resting_in n) (requested cs o.name)) (sym is.begins) rested)))
-        at_name false e = suits x there
+    clothed_suits m height after is w x there = grind (arith, nat_tests, same_object cs o x lives there, there, known_plain p, suits_less, rested)
 
     -- so one of the line begins, where the fields that its class does not declare are null
     pub begins_line :
@@ -343,7 +301,7 @@ module _ (p : Image) (t : Typing) (linked : IsWired p) (typed : IsTyped p t) (cs
         let leads = typed.entry m d.there in
         let w = leads.2 in
         let fr = destructor_frame p m o (length (tasks_of ls)) height in
-        let works : holder_of p m ≡ Member d.family.2.class = ap (λ r. holder_by r (method_class p m)) d.role ∙ ap (λ k. holder_by (Some Destruct) k) d.family.2.of in
+        let works : holder_of p m ≡ Member d.family.2.class = grind (arith, nat_tests) in
         let good : Good p t cs (Method fr leads.0 ∷ Dying o ∷ ls) = record {
           stack = (
             leads.1,
@@ -383,47 +341,18 @@ module _ (p : Image) (t : Typing) (linked : IsWired p) (typed : IsTyped p t) (cs
   module _ (fits : (r : Place) → Fits p (seen cs) (held cs r) (Dies p cs o ls r)) where
     -- what its clients have is a session each
     sessions_fit : (c : ℕ) → Fits p (seen cs) (held cs (Elsewhere (Session o.name c))) (cond (has_session (service_of cs o.name) c) (filled (session_thing p (Some o)) Full) Null)
-    sessions_fit c =
-        subst (λ k. Fits p (seen cs) (held cs (Elsewhere (Session o.name c))) k)
-        (apart.sessions (declared p cs) c ∙ ap (λ x. cond (has_session (service_of cs o.name) c) (filled (session_thing p x) Full) Null) lives)
-        (fits (Elsewhere (Session o.name c)))
+    sessions_fit c = grind (arith, nat_tests)
 
     -- what is no server has none
     none_at : is_server p o.thing ≡ false → (c : ℕ) → Fits p (seen cs) (held cs (Elsewhere (Session o.name c))) Null
     none_at plain c = grind arith
 
     bare_fits : is_server p o.thing ≡ false → (r : Place) → Fits p (seen cs) (held cs r) (Bare p cs o ls r)
-    bare_fits plain (Elsewhere (Session m c)) = go (o.name == m) refl
-      where
-        go : (b : Bool) → (o.name == m) ≡ b → Fits p (seen cs) (held cs (Elsewhere (Session m c))) (cond b Null (claim p (declared p cs) ls (Elsewhere (Session m c))))
-        go true e = subst (λ n. Fits p (seen cs) (held cs (Elsewhere (Session n c))) Null) (eqb-true o.name m e) (none_at plain c)
-        go false e = fits (Elsewhere (Session m c))
-    bare_fits plain r = fits r
+    bare_fits plain x = grind (arith, nat_tests, eqb-true o.name, none_at plain)
 
     -- all of them are left
     ending_fits : (r : Place) → Fits p (seen cs) (held cs r) (claim p (declared p cs) (Ending o (service_of cs o.name).sessions ∷ Dying o ∷ ls) r)
-    ending_fits (Field n f) = go (o.name == n) refl
-      where
-        go :
-            (b : Bool) → (o.name == n) ≡ b →
-            Fits p (seen cs) (held cs (Field n f)) (cond b (filled (field_thing p (thing_holder o.thing) f) Perhaps) (cond b Null (claim p (declared p cs) ls (Field n f))))
-        go true e =
-            subst (λ m. Fits p (seen cs) (held cs (Field m f)) (filled (field_thing p (thing_holder o.thing) f) Perhaps)) (eqb-true o.name n e)
-            (subst (λ k. Fits p (seen cs) (held cs (Field o.name f)) k) (fields_claim f) (fits (Field o.name f)))
-        go false e = fits (Field n f)
-    ending_fits (Elsewhere (Session m c)) = go (o.name == m) refl
-      where
-        go : (b : Bool) → (o.name == m) ≡ b → Fits p (seen cs) (held cs (Elsewhere (Session m c))) (cond b (cond (has_session (service_of cs o.name) c) (filled (session_thing p (Some o)) Full) Null) (cond b Null (claim p (declared p cs) ls (Elsewhere (Session m c)))))
-        go true e =
-            subst (λ n. Fits p (seen cs) (held cs (Elsewhere (Session n c))) (cond (has_session (service_of cs o.name) c) (filled (session_thing p (Some o)) Full) Null)) (eqb-true o.name m e)
-            (sessions_fit c)
-        go false e = fits (Elsewhere (Session m c))
-    ending_fits (Going k) = subst (λ b. Fits p (seen cs) (held cs (Going k)) (cond b (Own o.thing Ready) (claim p (declared p cs) ls (Going k)))) (tail (length (tasks_of ls) == k)) (fits (Going k))
-      where
-        tail : (b : Bool) → (b && true) ≡ b
-        tail true = refl
-        tail false = refl
-    ending_fits r = fits r
+    ending_fits x = grind (arith, nat_tests, eqb-true o.name, fields_claim, sessions_fit)
 
     -- so a destruction begins
     pub begin : (s : State) (height : ℕ) → height ≡ length (items_of ls) → s.cells ≡ cs → s.tasks ≡ begun p o height (tasks_of ls) → forms s.items ≡ items_of ls → AllUndo p s.items → WellTyped p t s
@@ -467,8 +396,7 @@ module _ (p : Image) (t : Typing) (cs : List Cell) (o : Object) (q : Place) (ls 
   no_going = fits_unowning p (seen cs) _ Null refl (subst (λ k. Fits p (seen cs) (held cs (Going (length (tasks_of ls')))) k) (claim_going_above p cs ls (length (tasks_of ls')) same) (fits (Going (length (tasks_of ls')))))
 
   pub goes_there : held (moved q (Going (length (tasks_of ls'))) cs) (Going (length (tasks_of ls'))) ≡ Some o
-  goes_there = held_moved cs q (Going (length (tasks_of ls'))) (Going (length (tasks_of ls'))) no_going
-      ∙ ap (λ b. cond b (held cs q) (cond (same_place q (Going (length (tasks_of ls')))) None (held cs (Going (length (tasks_of ls')))))) (same_place_refl (Going (length (tasks_of ls')))) ∙ there
+  goes_there = grind (arith, nat_tests, held_moved cs q, no_going, same_place_refl, there)
 
   pub goes_fitting :
       (r : Place) →
@@ -508,10 +436,7 @@ module _ (p : Image) (t : Typing) (c : Choice) (s : State) (fr : Frame) (sh : Sh
       destroyed_object x e = grind arith
 
       no_message : (o : Option Object) (k : Kind) → may_be_destroyed k ≡ true → Fits p (seen s.cells) o k → is_no_message o ≡ true
-      no_message None k e f = refl
-      no_message (Some o) (Own x a) e f = stands_object p o.thing x f.0 ∙ e
-      no_message (Some o) (Maybe x a) e f = stands_object p o.thing x f.0 ∙ e
-      no_message _ _ e f = absurd (assumption tt)
+      no_message x k e f = grind (arith, nat_tests, stands_object p)
 
       cs : List Cell
       cs = s.cells

@@ -1,12 +1,12 @@
 -- A destructor returns: the next of its line begins, or its cell goes. It leaves nothing in the fields past those of its class's parent, and the next is of a class that has all the parent's.
-use Rattle.aom_shape.specs.declared.kind.Age.TheVariants.{Ready}
+use Rattle.std.proofs.lemmas.Bool.Decides.{nat_tests}
 use Rattle.aom_image.specs.declared.method.Role.TheVariants.{Destruct}
 use Rattle.aom_image.specs.declared.class.ClassKind.{ClassKind}
 use Rattle.aom_sound.specs.Laws.{IsWired}
 use Rattle.aom_classes.specs.Roles.{role_of}
 use Rattle.aom_roles.specs.Families.{parent_of}
 use Rattle.aom_roles.proofs.Descending.{through, itself, child}
-use Rattle.aom_sound.specs.Destruction.{begun_by, class_destructor, next_destructor, line_on, needs_past, is_past}
+use Rattle.aom_sound.specs.Destruction.{begun_by, class_destructor, next_destructor, needs_past, is_past}
 use Rattle.aom_sound.proofs.Dropping.{held_dropped, queue_dropped}
 use Rattle.aom_sound.proofs.Housing.{destructs_member}
 use Rattle.aom_sound.proofs.Destroying.{eqb_comm, begins_line, destroys_by, Destroys, Bare, untouched, Untouched}
@@ -28,21 +28,21 @@ use Rattle.aom_shape.specs.Tables.{at}
 use Rattle.aom_shape.specs.Things.{holder_by, Member, field_thing, holder_of}
 use Rattle.aom_rules.specs.Typing.{IsTyped, Typing}
 use Rattle.aom_shape.specs.declared.kind.Filling.{Filling}
-use Rattle.aom_shape.specs.declared.kind.Filling.TheVariants.{Full, Empty, Perhaps}
-use Rattle.aom_shape.specs.declared.kind.Kind.TheVariants.{Own, Null}
+use Rattle.aom_shape.specs.declared.kind.Filling.TheVariants.{Perhaps}
+use Rattle.aom_shape.specs.declared.kind.Kind.TheVariants.{Null}
 use Rattle.aom_sound.proofs.Claimed.{claim_unclaimed, claim_register_above}
 use Rattle.aom_sound.proofs.Finishing.{perhaps_fits, ended_plainly, no_entries, none_left, none_owns_at, return_needs, returnable, same_items}
 use Rattle.aom_sound.proofs.Going.{past_by}
 use Rattle.aom_sound.proofs.Straight.{At, Law, fits_unowning}
 use Rattle.aom_sound.specs.Calls.{needs_destroyed, result_needs}
-use Rattle.aom_sound.specs.Claims.{forms, declared_field, serves, Dying, Layer, claim, declared, entry_claim, home_claim, items_of, own_field, root_claim, tasks_of}
+use Rattle.aom_sound.specs.Claims.{forms, declared_field, Dying, Layer, claim, declared, home_claim, items_of, own_field, root_claim, tasks_of}
 use Rattle.aom_sound.specs.Places.{Queued, Session, Request, Cell, Sight, In_service, Elsewhere, Entry, Field, Going, Object, Place, Register, Root, held, requested, seen}
 use Rattle.aom_sound.specs.Servers.{is_queue_of, without_queue}
 use Rattle.aom_sound.specs.State.{home_holder, Choice, Frame, Inside, State, thing_holder}
 use Rattle.aom_sound.specs.WellTyped.{Gone, WellTyped, Houses, IsOfFamily, Fits, Good}
 use Rattle.aom_shape.specs.Arguments.{after_of}
 use Rattle.aom_roles.specs.States.{states_of, last_of}
-use Rattle.aom_sound.specs.Requests.{Unworked, AllSuit, Known, Suits, known_at, resting_in, states_claim, thing_kind, works_at}
+use Rattle.aom_sound.specs.Requests.{AllSuit, Known, Suits, known_at, resting_in, states_claim, thing_kind, works_at}
 use Rattle.aom_sound.proofs.Suiting.{unworked_rests, known_plain, same_object, suits_less}
 use Rattle.aom_sound.proofs.Attending.{plain_claim}
 
@@ -80,13 +80,10 @@ last_rests k r s = grind arith
 
 -- an empty field owns nothing, and what owns nothing fits
 empty_none : (p : Image) (h : Sight) (x : Option Object) (y : Thing) (z : Filling) → is_empty z ≡ true → Fits p h x (filled (Some y) z) → x ≡ None
-empty_none p h x y Empty e f = fits_unowning p h x Null refl f
-empty_none p h x y Full e f = cc
-empty_none p h x y Perhaps e f = cc
+empty_none p h x y z e f = grind (arith, nat_tests, fits_unowning p h x Null)
 
 none_fits : (p : Image) (h : Sight) (y : Option Thing) → Fits p h None (filled y Perhaps)
-none_fits p h None = tt
-none_fits p h (Some y) = tt
+none_fits p h x = grind arith
 
 module _ (p : Image) (t : Typing) (c : Choice) (s : State) (fr : Frame) (sh : Shape) (o : Object) (ls : List Layer) (at_hand : At p t s fr sh (Dying o ∷ ls)) where
   abbrev cs : List Cell
@@ -145,15 +142,7 @@ module _ (p : Image) (t : Typing) (c : Choice) (s : State) (fr : Frame) (sh : Sh
 
     -- and all are as they are declared
     all_fit : (f : ℕ) → Fits p h (held cs (Field o.name f)) (filled (field_thing p (thing_holder o.thing) f) Perhaps)
-    all_fit f = go (field_thing p (holder_of p fr.method) f) refl (own_fits f)
-      where
-        go :
-            (x : Option Thing) → field_thing p (holder_of p fr.method) f ≡ x → Fits p h (held cs (Field o.name f)) (own_field x (field sh f) Null) →
-            Fits p h (held cs (Field o.name f)) (filled (field_thing p (thing_holder o.thing) f) Perhaps)
-        go None e fits =
-            subst (λ x. Fits p h x (filled (field_thing p (thing_holder o.thing) f) Perhaps)) (sym (fits_unowning p h (held cs (Field o.name f)) Null refl fits)) (none_fits p h (field_thing p (thing_holder o.thing) f))
-        go (Some y) e fits =
-            subst (λ x. Fits p h (held cs (Field o.name f)) (filled x Perhaps)) (sym (houses.fields f y e)) (perhaps_fits p h (held cs (Field o.name f)) (Some y) (field sh f) fits)
+    all_fit f = grind (arith, nat_tests, own_fits f, fits_unowning p, none_fits p, perhaps_fits p)
 
     -- of all other places what stands below claims what is so
     abbrev IsBeside : Place → Type 0
@@ -171,8 +160,7 @@ module _ (p : Image) (t : Typing) (c : Choice) (s : State) (fr : Frame) (sh : Sh
             subst (λ k. Fits p h (held cs (Register f i)) k) (sym (claim_register_above p cs ls f i (omega (arith, eqb-true _ _ e))))
             (subst (λ x. Fits p h x Null) (sym (fits_unowning p h _ (register sh i) (none_owns_at sh.registers i free) fits)) tt)
         go false e fits = fits
-    beside (Entry k) u =
-        subst (λ es. Fits p h (held cs (Entry k)) (entry_claim es (items_of ls) k (claim p (declared p cs) ls (Entry k)))) (no_entries sh.entries entries) (at_hand.good.fits (Entry k))
+    beside (Entry k) u = grind (arith, nat_tests, no_entries sh.entries entries)
     beside (Field m f) other = go (o.name == m) other
         (subst (λ k. Fits p h (held cs (Field m f)) (home_claim p (holder_of p fr.method) k sh m f (cond (o.name == m) Null (claim p (declared p cs) ls (Field m f))))) home (at_hand.good.fits (Field m f)))
       where
@@ -184,9 +172,7 @@ module _ (p : Image) (t : Typing) (c : Choice) (s : State) (fr : Frame) (sh : Sh
         go true e fits = cc
     beside (Elsewhere Root) u =
         subst (λ k. Fits p h (held cs (Elsewhere Root)) (root_claim p k sh (claim p (declared p cs) ls (Elsewhere Root)))) home (at_hand.good.fits (Elsewhere Root))
-    beside (Elsewhere In_service) u =
-        subst (λ k. Fits p h (held cs (Elsewhere In_service)) k)
-        (plain_claim (serves p fr.method) sh (claim p (declared p cs) (Dying o ∷ ls) (Elsewhere In_service)) (destructs_plainly (method_role p fr.method) destructs)) (at_hand.good.fits (Elsewhere In_service))
+    beside (Elsewhere In_service) u = grind (arith, nat_tests, plain_claim, destructs_plainly, destructs)
     beside (Elsewhere w) u = at_hand.good.fits (Elsewhere w)
     beside (Going k) u = at_hand.good.fits (Going k)
 
@@ -218,15 +204,7 @@ module _ (p : Image) (t : Typing) (c : Choice) (s : State) (fr : Frame) (sh : Sh
     }
       where
         fits : (r : Place) → Fits p h (held cs r) (claim p (declared p cs) (Dying o ∷ ls) r)
-        fits (Field m f) = go (o.name == m) refl
-          where
-            go : (b : Bool) → (o.name == m) ≡ b → Fits p h (held cs (Field m f)) (cond b Null (claim p (declared p cs) ls (Field m f)))
-            go true e = subst (λ x. Fits p h x Null) (sym (ap (λ n. held cs (Field n f)) (sym (eqb-true o.name m e)) ∙ null f)) tt
-            go false e = subst (λ b. Fits p h (held cs (Field m f)) (cond b Null (claim p (declared p cs) ls (Field m f)))) e (beside (Field m f) e)
-        fits (Register f i) = beside (Register f i) tt
-        fits (Entry k) = beside (Entry k) tt
-        fits (Going k) = beside (Going k) tt
-        fits (Elsewhere w) = beside (Elsewhere w) tt
+        fits x = grind (arith, nat_tests, eqb-true o.name, beside)
 
     -- no other layer works on it
     apart : Untouched p (λ f. filled (field_thing p (thing_holder o.thing) f) Perhaps) o.name ls
@@ -242,11 +220,7 @@ module _ (p : Image) (t : Typing) (c : Choice) (s : State) (fr : Frame) (sh : Sh
         go : (b : Bool) → (o.name == n) ≡ b → Fits p h (held cs (Field n f)) (claim p (declared p cs) ls (Field n f))
         go true e = subst (λ n. Fits p h (held cs (Field n f)) (claim p (declared p cs) ls (Field n f))) (eqb-true o.name n e) (subst (λ k. Fits p h (held cs (Field o.name f)) k) (sym declares) (all_fit f))
         go false e = subst (λ b. Fits p h (held cs (Field n f)) (cond b Null (claim p (declared p cs) ls (Field n f)))) e (beside (Field n f) e)
-    bare (Going k) = subst (λ b. Fits p h (held cs (Going k)) (cond b (Own o.thing Ready) (claim p (declared p cs) ls (Going k)))) (tail (length (tasks_of ls) == k)) (beside (Going k) tt)
-      where
-        tail : (b : Bool) → b ≡ (b && true)
-        tail true = refl
-        tail false = refl
+    bare (Going k) = grind (arith, nat_tests, beside (Going k))
     bare (Register f i) = beside (Register f i) tt
     bare (Entry k) = beside (Entry k) tt
     bare (Elsewhere Root) = beside (Elsewhere Root) tt
@@ -255,15 +229,7 @@ module _ (p : Image) (t : Typing) (c : Choice) (s : State) (fr : Frame) (sh : Sh
     bare (Elsewhere (Queued m k)) = beside (Elsewhere (Queued m k)) tt
 
     suits_below : AllSuit p cs ls
-    suits_below x lives = go (o.name == x.name) refl (suits_dying x lives)
-      where
-        go :
-            (b : Bool) → (o.name == x.name) ≡ b → Suits (thing_kind p x.thing) (cond b (resting_in (last_of (thing_kind p x.thing))) (states_claim p x ls)) (requested cs x.name) →
-            Suits (thing_kind p x.thing) (states_claim p x ls) (requested cs x.name)
-        go true same fits =
-            let rests : states_claim p x ls ≡ resting_in (states_of (thing_kind p x.thing)) = unworked_rests p x ls (subst (λ n. Unworked n ls) (eqb-true o.name x.name same) apart.unworked) in
-            subst (λ k. Suits (thing_kind p x.thing) k (requested cs x.name)) (sym rests) (last_rests (thing_kind p x.thing) (requested cs x.name) fits)
-        go false other fits = fits
+    suits_below x lives = grind (arith, nat_tests, suits_dying x lives, unworked_rests p x ls, eqb-true o.name x.name, last_rests)
 
     -- what is left is another cell's, or the parent's
     left : AllTrue (needs_past above (without_queue o.name cs) o.name)
@@ -315,11 +281,10 @@ module _ (p : Image) (t : Typing) (c : Choice) (s : State) (fr : Frame) (sh : Sh
       of_role e None parent role = dies (λ f. past f (subst (λ x. fields_above p x ≤ f) (sym parent) (let none = none_from (fields_of p e) 0 (wired.no_destructor e role 0) in omega (arith, none))))
 
       of_parent : (x : Option ℕ) → parent_of p line.class ≡ x → WellTyped p t (Then (class_destructor p x))
-      of_parent None parent = dies (λ f. past f (subst (λ x. fields_above p x ≤ f) (sym parent) (omega arith)))
-      of_parent (Some e) parent = of_role e (role_of p e Destruct) parent refl
+      of_parent x parent = grind (arith, nat_tests, dies, past, of_role)
 
       next_well : WellTyped p t (Then (next_destructor p fr.method))
-      next_well = subst (λ x. WellTyped p t (Then (class_destructor p (parent_by p x)))) (sym line.of) (of_parent (parent_of p line.class) refl)
+      next_well = grind (arith, nat_tests, of_parent)
 
   pub law_destructor : IsWired p → IsTyped p t → (a : ℕ) → Law p t c s fr sh (Dying o ∷ ls) at_hand (Return a)
   law_destructor wired typed a n leads =
@@ -334,6 +299,13 @@ module _ (p : Image) (t : Typing) (c : Choice) (s : State) (fr : Frame) (sh : Sh
             (subst (λ g. AllTrue (result_needs p fr (tasks_of (Dying o ∷ ls)) s g a)) (sym its.3) tt)
             (subst (λ k. AllTrue (needs_destroyed p fr.method s.cells k)) (sym home)
             (subst (λ x. AllTrue (needs_past (fields_above p (parent_by p x)) (without_queue o.name s.cells) o.name)) (sym line.of) (left entries free done r.ends))),
-        ended_plainly p t c s fr sh (Dying o ∷ ls) at_hand a r (destructs_only (method_role p fr.method) destructs)
-            (subst (λ k. WellTyped p t (record s { tasks = line_on p fr.method k fr.height (tasks_of ls) })) (sym home) (next_well entries free done r.ends wired typed items)),
+        grind (
+          arith,
+          nat_tests,
+          ended_plainly p t c s fr sh (Dying o ∷ ls) at_hand a r,
+          destructs_only,
+          destructs,
+          home,
+          next_well entries free done r.ends wired typed items,
+        ),
       )

@@ -1,4 +1,5 @@
 -- Where messages go that wait in a queue or are served, all else is as it was: by the cells one after another.
+use Rattle.std.proofs.lemmas.Bool.Decides.{nat_tests}
 use Rattle.std.proofs.Common.{[], length, Bool, List, None, Option, Some, ap, cond, false, inl, inr, refl, subst, sym, true, ⊎_elim, ℕ, ◌==◌, ◌∙◌, ◌∷◌, ◌≡◌, ◌⊎◌, arith}
 use Rattle.std.proofs.lemmas.Bool.{cases_Bool, eqb-true, true≢false}
 use Rattle.aom_image.specs.Image.{Image}
@@ -21,7 +22,7 @@ use Rattle.std.specs.Prelude.{is_some}
 use Rattle.std.proofs.lemmas.Option.{same_Some}
 use Rattle.aom_shape.specs.declared.kind.Kind.{Kind}
 use Rattle.aom_sound.proofs.Claimed.{fits_age}
-use Rattle.aom_sound.specs.Requests.{AllSuit, Suits, states_claim, thing_kind}
+use Rattle.aom_sound.specs.Requests.{AllSuit}
 use Rattle.aom_roles.specs.Shapes.{kind_of}
 
 -- a message that waits or is served
@@ -38,27 +39,7 @@ module _ (gone : Place → Bool) where
 
   pub held_dropped : (cs : List Cell) (r : Place) → held (dropped cs) r ≡ cond (gone r) None (held cs r)
   held_dropped [] r = sym (cond_same (gone r) None)
-  held_dropped (c ∷ cs) r = go (gone c.owner) refl (held_dropped cs r)
-    where
-      went :
-          (y : Bool) → same_place c.owner r ≡ y → gone c.owner ≡ true → held (dropped cs) r ≡ cond (gone r) None (held cs r) →
-          held (dropped cs) r ≡ cond (gone r) None (cond y (Some c.object) (held cs r))
-      went true ey ex ih =
-          let there : gone r ≡ true = ap gone (sym (same_place-true c.owner r ey)) ∙ ex in
-          ih ∙ ap (λ b. cond b None (held cs r)) there ∙ sym (ap (λ b. cond b None (Some c.object)) there)
-      went false ey ex ih = ih
-
-      stays :
-          (y : Bool) → same_place c.owner r ≡ y → gone c.owner ≡ false → held (dropped cs) r ≡ cond (gone r) None (held cs r) →
-          cond y (Some c.object) (held (dropped cs) r) ≡ cond (gone r) None (cond y (Some c.object) (held cs r))
-      stays true ey ex ih = sym (ap (λ b. cond b None (Some c.object)) (ap gone (sym (same_place-true c.owner r ey)) ∙ ex))
-      stays false ey ex ih = ih
-
-      go :
-          (x : Bool) → gone c.owner ≡ x → held (dropped cs) r ≡ cond (gone r) None (held cs r) →
-          held (cond x (dropped cs) (c ∷ dropped cs)) r ≡ cond (gone r) None (cond (same_place c.owner r) (Some c.object) (held cs r))
-      go true ex ih = went (same_place c.owner r) refl ex ih
-      go false ex ih = stays (same_place c.owner r) refl ex ih
+  held_dropped (c ∷ cs) r = grind (arith, nat_tests, held_dropped cs r, same_place-true c.owner r)
 
   -- of that name there is what there was
   pub record Same (cs : List Cell) (n : ℕ) : Type 0 where
@@ -135,11 +116,7 @@ module _ (gone : Place → Bool) where
 
   pub tidy_dropped : (cs : List Cell) → Tidy cs → Tidy (dropped cs)
   tidy_dropped [] t = tt
-  tidy_dropped (c ∷ cs) t = go (gone c.owner) (tidy_dropped cs t.2)
-    where
-      go : (b : Bool) → Tidy (dropped cs) → Tidy (cond b (dropped cs) (c ∷ dropped cs))
-      go true rest = rest
-      go false rest = (fewer_held cs c.owner t.0, fewer_named cs t.2 c.object.name t.1, rest)
+  tidy_dropped (c ∷ cs) t = grind (arith, nat_tests, tidy_dropped cs t.2, fewer_held cs c.owner t.0, fewer_named cs t.2 c.object.name t.1)
 
   -- where these are messages
   module _ (p : Image) (cs : List Cell) (tidy : Tidy cs) (messages : (r : Place) (x : Object) → gone r ≡ true → held cs r ≡ Some x → x.thing ≡ Message) where
@@ -150,19 +127,13 @@ module _ (gone : Place → Bool) where
     stays_named r x e h = held_lives (dropped cs) r x (tidy_dropped cs tidy) (stays_at r x e h)
 
     pub stays_same : (r : Place) (x : Object) → gone r ≡ false → held cs r ≡ Some x → Same cs x.name
-    stays_same r x e h = ⊎_elim (λ s. s) (λ w. let clash : Some x ≡ None = sym (stays_named r x e h) ∙ w.none in cc) (each_name cs tidy x.name)
+    stays_same r x e h = grind (arith, nat_tests, stays_named r x e h, each_name cs tidy x.name)
 
     -- what a service says with its server's kind, where a message's is null
     serves_dropped :
         (n : ℕ) (has : Service → Bool) (kind : Option Object → Kind) → kind None ≡ Null → ((x : Object) → x.thing ≡ Message → kind (Some x) ≡ Null) →
         cond (has (service_of (dropped cs) n)) (kind (named (dropped cs) n)) Null ≡ cond (has (service_of cs n)) (kind (named cs n)) Null
-    serves_dropped n has kind none of_message = ⊎_elim
-        (λ s. ap (λ v. cond (has v) (kind (named (dropped cs) n)) Null) s.service ∙ ap (λ o. cond (has (service_of cs n)) (kind o) Null) s.name)
-        (λ w. null (has (service_of (dropped cs) n)) _ (ap kind w.none ∙ none) ∙ sym (null (has (service_of cs n)) _ (ap kind w.was ∙ of_message w.object (messages w.place w.object w.goes w.there))))
-        (each_name cs tidy n)
-      where
-        null : (b : Bool) (k : Kind) → k ≡ Null → cond b k Null ≡ Null
-        null b k e = ap (λ k. cond b k Null) e ∙ cond_same b Null
+    serves_dropped n has kind none of_message = grind (arith, nat_tests, none, each_name cs tidy n, cond_same)
 
     pub declared_dropped : (r : Place) → declared p (dropped cs) r ≡ declared p cs r
     unfolding sessions_in kind_of
@@ -174,10 +145,7 @@ module _ (gone : Place → Bool) where
     declared_dropped _ = refl
 
     pub suits_dropped : (ls : List Layer) → AllSuit p cs ls → AllSuit p (dropped cs) ls
-    suits_dropped ls s o lives = ⊎_elim
-        (λ h. subst (λ r. Suits (thing_kind p o.thing) (states_claim p o ls) r) (sym h.request) (s o (sym h.name ∙ lives)))
-        (λ w. let clash : Some o ≡ None = sym lives ∙ w.none in cc)
-        (each_name cs tidy o.name)
+    suits_dropped ls s o lives = grind (arith, nat_tests, each_name cs tidy o.name)
 
     pub fits_dropped : (r : Place) (k : Kind) → gone r ≡ false → Fits p (seen cs) (held cs r) k → Fits p (seen (dropped cs)) (held (dropped cs) r) k
     fits_dropped r k e f =
@@ -207,9 +175,7 @@ module _ (gone : Place → Bool) where
 
       -- the object that is dispatched stays
       first_same : (xs : List Seat) (x : Seat) → AllSit cs xs → SitsFirst cs (Some x) xs → Same cs x.object.name
-      first_same (y ∷ ys) x s f =
-          let same : y ≡ x = cc in
-          subst (λ (z : Seat). Same cs z.object.name) same (stays_same y.place y.object (sits_spared y.place ys s.0.2) s.0.0)
+      first_same (y ∷ ys) x s f = grind (arith, nat_tests, stays_same y.place y.object (sits_spared y.place ys s.0.2) s.0.0, sits_spared y.place ys s.0.2)
       first_same [] x s f = cc
 
       first_dropped : (d : Option Seat) (xs : List Seat) → AllSit cs xs → SitsFirst cs d xs → SitsFirst (dropped cs) d xs

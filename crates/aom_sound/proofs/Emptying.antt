@@ -1,13 +1,14 @@
 -- Right over the going of a server: the sessions with it go one after another, and then its destructor begins.
-use Rattle.std.proofs.Common.{[], Bool, List, None, Option, Some, ap, arith, cond, false, inl, inr, length, refl, subst, sym, true, ⊎_elim, ℕ, ◌==◌, ◌∙◌, ◌∷◌, ◌≡◌}
-use Rattle.std.proofs.lemmas.Bool.{cases_Bool, eq-eqb, eqb-true, true≢false}
-use Rattle.std.specs.Prelude.{filter, ◌&&◌, ◌||◌}
+use Rattle.std.proofs.lemmas.Bool.Decides.{nat_tests}
+use Rattle.std.proofs.Common.{[], Bool, List, None, Option, Some, ap, arith, cond, false, inl, inr, length, refl, subst, sym, true, ℕ, ◌==◌, ◌∙◌, ◌∷◌, ◌≡◌}
+use Rattle.std.proofs.lemmas.Bool.{cases_Bool, eq-eqb, eqb-true}
+use Rattle.std.specs.Prelude.{filter, ◌||◌}
 use Rattle.aom_image.specs.Image.{Image}
 use Rattle.aom_rules.specs.Typing.{IsTyped, Typing}
 use Rattle.aom_shape.specs.Kinds.{filled}
 use Rattle.aom_shape.specs.Things.{field_thing}
 use Rattle.aom_shape.specs.declared.kind.Filling.TheVariants.{Full, Perhaps}
-use Rattle.aom_shape.specs.declared.kind.Kind.TheVariants.{Own, Null}
+use Rattle.aom_shape.specs.declared.kind.Kind.TheVariants.{Null}
 use Rattle.aom_sound.proofs.Destroying.{server_last, Bare, Untouched, destruct, no_going, untouched, goes_well}
 use Rattle.aom_sound.proofs.Items.{length_forms}
 use Rattle.aom_sound.proofs.Claimed.{claim_unclaimed, stack_moved}
@@ -16,15 +17,14 @@ use Rattle.aom_sound.proofs.Parting.{among_others, among_parted}
 use Rattle.aom_sound.proofs.Straight.{fits_unowning}
 use Rattle.aom_sound.proofs.Suiting.{same_object, unworked_rests}
 use Rattle.aom_sound.specs.Claims.{declared_field, Dispatching, Dying, Ending, Layer, Mark, Method, Unwinding, claim, declared, forms, items_of, tasks_of}
-use Rattle.aom_sound.specs.Destruction.{closing, first_session, parting, parting_from, seat_or}
+use Rattle.aom_sound.specs.Destruction.{closing, first_session, parting, seat_or}
 use Rattle.aom_sound.specs.Laws.{IsWired}
-use Rattle.aom_sound.specs.Places.{requested, Cell, Elsewhere, Field, Going, Object, Place, Session, changed, held, named, same_place, seen, service_of}
+use Rattle.aom_sound.specs.Places.{requested, Cell, Elsewhere, Field, Going, Object, Place, Session, changed, held, named, seen, service_of}
 use Rattle.aom_sound.specs.Requests.{Suits, resting_in, states_claim, thing_kind, AllSuit}
 use Rattle.aom_sound.specs.Servers.{is_among, is_other, session_thing}
-use Rattle.aom_sound.specs.State.{AtRoot, Home, Inside, Seat, State, Static, thing_holder}
-use Rattle.aom_sound.specs.WellTyped.{IsBelow, SitsIn, AllSit, AllUndo, Back, Fits, Gone, Good, IsHoused, Keeps, NoSeatAt, NoneFrom, NotFrom, SomeIn, SomeSits, Stack, WellTyped}
+use Rattle.aom_sound.specs.State.{Home, Seat, State, thing_holder}
+use Rattle.aom_sound.specs.WellTyped.{AllSit, AllUndo, Back, Fits, Gone, Good, IsHoused, Keeps, NoSeatAt, NoneFrom, NotFrom, SomeIn, SomeSits, Stack, WellTyped}
 use Rattle.aom_shape.specs.declared.kind.Kind.{Kind}
-use Rattle.aom_shape.specs.declared.kind.Age.TheVariants.{Ready}
 use Rattle.aom_roles.specs.States.{last_of}
 
 -- ---- the first session that is there
@@ -65,10 +65,7 @@ none_from p t cs n c [] back s none = tt
 none_from p t cs n c (Method fr sh ∷ ls) back s none = (at_home fr.home s.2, none_from p t cs n c ls _ s.4 (λ h. none (inr h)))
   where
     at_home : (h : Home) → IsHoused p cs ls h → NotFrom (Elsewhere (Session n c)) h
-    at_home Static h = tt
-    at_home AtRoot h = tt
-    at_home (Inside o from) h =
-        ⊎_elim (λ e. absurd (none (inr (subst (λ q. IsBelow q ls) (sym (same_place-true (Elsewhere (Session n c)) from e)) h.below)))) (λ e. e) (cases_Bool (same_place (Elsewhere (Session n c)) from))
+    at_home x h = grind (arith, nat_tests, same_place-true (Elsewhere (Session n c)), cases_Bool)
 none_from p t cs n c (Mark gv ∷ ls) back s none = none_from p t cs n c ls _ s.1 none
 none_from p t cs n c (Dying o ∷ ls) back s none = none_from p t cs n c ls _ s.2 none
 none_from p t cs n c (Ending o left ∷ ls) back s none = none_from p t cs n c ls _ s.3 none
@@ -78,16 +75,12 @@ none_from p t cs n c (Dispatching d seats ∷ ls) back s none = (at_seats seats 
     at_seats : (xs : List Seat) → AllSit cs xs → (SomeSits n xs → ⊥) → NoSeatAt (Elsewhere (Session n c)) xs
     at_seats [] h none = tt
     at_seats (x ∷ xs) h none = (
-      ⊎_elim (λ e. absurd (none (inr (subst (λ q. SitsIn q xs) (sym (same_place-true (Elsewhere (Session n c)) x.place e)) h.0.2)))) (λ e. e) (cases_Bool (same_place (Elsewhere (Session n c)) x.place)),
+      grind (arith, nat_tests, same_place-true (Elsewhere (Session n c)) x.place, cases_Bool),
       at_seats xs h.1 (λ h. none (inr h)),
     )
 
 among_less : (k c : ℕ) (ss : List ℕ) → is_among k (filter (is_other c) ss) ≡ true → is_among k ss ≡ true
-among_less k c ss e = go (c == k) refl
-  where
-    go : (b : Bool) → (c == k) ≡ b → is_among k ss ≡ true
-    go true same = absurd (true≢false (sym e ∙ subst (λ i. is_among i (filter (is_other c) ss) ≡ false) (eqb-true c k same) (among_parted c ss)))
-    go false other = sym (among_others k c ss other) ∙ e
+among_less k c ss e = grind (arith, nat_tests, eqb-true c k, among_parted c ss, among_others k c ss)
 
 module _ (p : Image) (t : Typing) (wired : IsWired p) (typed : IsTyped p t) (s : State) (o : Object) (left : List ℕ) (ls : List Layer)
     (good : Good p t s.cells (Ending o left ∷ Dying o ∷ ls)) (items : forms s.items ≡ items_of ls) (undos : AllUndo p s.items) where
@@ -111,9 +104,7 @@ module _ (p : Image) (t : Typing) (wired : IsWired p) (typed : IsTyped p t) (s :
 
   -- what is claimed of a session with it
   session_fits : (c : ℕ) → Fits p (seen cs) (held cs (Elsewhere (Session o.name c))) (cond (is_among c left) (filled (session_thing p (Some o)) Full) Null)
-  session_fits c =
-      subst (λ b. Fits p (seen cs) (held cs (Elsewhere (Session o.name c))) (cond b (cond (is_among c left) (filled (session_thing p (Some o)) Full) Null) (cond b Null (claim p (declared p cs) ls (Elsewhere (Session o.name c))))))
-      (eq-eqb o.name _ refl) (good.fits (Elsewhere (Session o.name c)))
+  session_fits c = grind (arith, nat_tests, eq-eqb o.name)
 
   -- with none left its destructor begins
   module _ (none : (c : ℕ) → held cs (Elsewhere (Session o.name c)) ≡ None) where
@@ -129,18 +120,8 @@ module _ (p : Image) (t : Typing) (wired : IsWired p) (typed : IsTyped p t) (s :
             Fits p (seen cs) (held cs (Field m f)) (claim p (declared p cs) ls (Field m f))
         go true e h = subst (λ k. Fits p (seen cs) (held cs (Field m f)) k) (sym own_claim ∙ ap (λ i. claim p (declared p cs) ls (Field i f)) (eqb-true o.name m e)) h
         go false e h = h
-    bare (Going k) = go (length (tasks_of ls) == k) (good.fits (Going k))
-      where
-        go :
-            (b : Bool) → Fits p (seen cs) (held cs (Going k)) (cond b (Own o.thing Ready) (claim p (declared p cs) ls (Going k))) →
-            Fits p (seen cs) (held cs (Going k)) (cond (b && true) (Own o.thing Ready) (claim p (declared p cs) ls (Going k)))
-        go true h = h
-        go false h = h
-    bare (Elsewhere (Session m c)) = go (o.name == m) refl (good.fits (Elsewhere (Session m c)))
-      where
-        go : (b : Bool) → (o.name == m) ≡ b → Fits p (seen cs) (held cs (Elsewhere (Session m c))) (cond b (cond (is_among c left) (filled (session_thing p (Some o)) Full) Null) (cond b Null (claim p (declared p cs) ls (Elsewhere (Session m c))))) → Fits p (seen cs) (held cs (Elsewhere (Session m c))) (cond b Null (claim p (declared p cs) ls (Elsewhere (Session m c))))
-        go true e h = subst (λ x. Fits p (seen cs) x Null) (sym (ap (λ i. held cs (Elsewhere (Session i c))) (sym (eqb-true o.name m e)) ∙ none c)) tt
-        go false e h = h
+    bare (Going k) = grind (arith, nat_tests)
+    bare (Elsewhere (Session m c)) = grind (arith, nat_tests, eqb-true o.name m)
     bare r = good.fits r
 
     suits_below : AllSuit p cs ls
@@ -174,19 +155,7 @@ module _ (p : Image) (t : Typing) (wired : IsWired p) (typed : IsTyped p t) (s :
     g = Going (length (tasks_of over))
 
     claims : (r : Place) → claim p (declared p cs) over r ≡ changed (claim p (declared p cs) before) q Null r
-    claims (Elsewhere (Session m k)) = go (o.name == m) (c == k) refl
-      where
-        rest : Kind
-        rest = claim p (declared p cs) ls (Elsewhere (Session m k))
-
-        go :
-            (b x : Bool) → (c == k) ≡ x →
-            cond b (cond (is_among k fewer) (filled (session_thing p (Some o)) Full) Null) (cond b Null rest)
-            ≡ cond (b && x) Null (cond b (cond (is_among k left) (filled (session_thing p (Some o)) Full) Null) (cond b Null rest))
-        go true true e = ap (λ b. cond b (filled (session_thing p (Some o)) Full) Null) (subst (λ i. is_among i fewer ≡ false) (eqb-true c k e) (among_parted c left))
-        go true false e = ap (λ b. cond b (filled (session_thing p (Some o)) Full) Null) (among_others k c left e)
-        go false x e = refl
-    claims _ = refl
+    claims x = grind (arith, nat_tests, eqb-true c, among_parted c left, among_others)
 
     stack_over : Stack p t cs Gone over
     stack_over = (record { server = good.stack.0.server; lives = good.stack.0.lives; listed = λ k e. good.stack.0.listed k (among_less k c left e) }, tt, good.stack.2, good.stack.3)
@@ -207,24 +176,15 @@ module _ (p : Image) (t : Typing) (wired : IsWired p) (typed : IsTyped p t) (s :
         (parting p o (Some (record { object = so; place = q })) (tasks_of ls) s) (length s.items) high refl refl items undos
 
   closing_well : (x : Option Seat) → first_session cs o.name (service_of cs o.name).sessions ≡ x → WellTyped p t (parting p o x (tasks_of ls) s)
-  closing_well None e = last_gone (λ c. go c (is_among c left) refl (session_fits c))
-    where
-      go :
-          (c : ℕ) (b : Bool) → is_among c left ≡ b → Fits p (seen cs) (held cs (Elsewhere (Session o.name c))) (cond b (filled (session_thing p (Some o)) Full) Null) →
-          held cs (Elsewhere (Session o.name c)) ≡ None
-      go c true among h = none_first cs o.name (service_of cs o.name).sessions e c (good.stack.0.listed c among)
-      go c false other h = fits_unowning p (seen cs) _ Null refl h
+  closing_well None e = grind (arith, nat_tests, last_gone, session_fits, none_first, fits_unowning p)
   closing_well (Some x) e =
       let f = found_first cs o.name (service_of cs o.name).sessions x e in
       subst (λ (y : Seat). WellTyped p t (parting p o (Some y) (tasks_of ls) s)) (ap (λ q. record { object = x.object; place = q }) (sym f.place)) (session_gone f.client x.object (ap (λ q. held s.cells q) (sym f.place) ∙ f.there))
 
   closing_goes : Keeps p t (closing p (tasks_of (Dying o ∷ ls)) s)
-  closing_goes = subst (λ x. Keeps p t (parting_from p x (tasks_of ls) s)) (sym there) (closing_well (first_session cs o.name (service_of cs o.name).sessions) refl)
+  closing_goes = grind (arith, nat_tests, there, closing_well)
 
 pub closing_keeps :
     (p : Image) (t : Typing) → IsWired p → IsTyped p t → (s : State) (o : Object) (left : List ℕ) (ls : List Layer) → Good p t s.cells (Ending o left ∷ ls) → forms s.items ≡ items_of ls →
     AllUndo p s.items → Keeps p t (closing p (tasks_of ls) s)
-closing_keeps p t wired typed s o left (Dying x ∷ ls) good items undos =
-    let same : x ≡ o = good.stack.2 in
-    subst (λ y. Good p t s.cells (Ending o left ∷ Dying y ∷ ls) → Keeps p t (closing p (tasks_of (Dying y ∷ ls)) s)) (sym same) (λ good. closing_goes p t wired typed s o left ls good items undos) good
-closing_keeps p t wired typed s o left _ good items undos = absurd good.stack.2
+closing_keeps p t wired typed s o left x good items undos = grind (arith, nat_tests, closing_goes p t wired typed s o left)

@@ -1,4 +1,5 @@
 -- A method enters over its dispatch, on the object that is dispatched.
+use Rattle.std.proofs.lemmas.Bool.Decides.{nat_tests}
 use Rattle.std.proofs.Common.{inr, Bool, List, None, Option, Some, [], ap, cond, false, length, suc, refl, subst, sym, true, ℕ, ℤ, ◌==◌, ◌∙◌, ◌∷◌, ◌≡◌, arith}
 use Rattle.std.proofs.lemmas.Bool.{eqb-true, true≢false}
 use Rattle.std.specs.Prelude.{IsSome}
@@ -25,11 +26,11 @@ use Rattle.aom_sound.proofs.Destroying.{perhaps_only}
 use Rattle.aom_sound.proofs.Straight.{fits_unowning}
 use Rattle.aom_sound.proofs.Suiting.{known_plain, same_object, suits_less}
 use Rattle.aom_sound.proofs.Housing.{houses_counts}
-use Rattle.aom_sound.specs.Claims.{Dying, own_field, Layer, Method, claim, declared, declared_field, entry_claim, forms, items_of, tasks_of, delivered, serves}
+use Rattle.aom_sound.specs.Claims.{Dying, own_field, Layer, Method, claim, declared, declared_field, forms, items_of, tasks_of, delivered, serves}
 use Rattle.aom_sound.specs.Places.{In_service, Cell, Elsewhere, Entry, Field, Going, Object, Place, Register, Root, Tidy, held, named, requested, seen}
 use Rattle.aom_sound.specs.Requests.{AllSuit, Joins, Known, Suits, known_at, resting_in, rests_in, states_claim, thing_kind}
 use Rattle.aom_sound.specs.State.{thing_view, Frame, Inside, Run, Seat, State, frame_of, thing_holder}
-use Rattle.aom_sound.specs.WellTyped.{IsWhole, IsServed, AllSit, AllUndo, Fits, Good, Holds, Houses, IsApart, IsBelow, IsNoFieldOf, NoSeatIn, NoneIn, Returns, SitsIn, SomeIn, SomeSits, Stack, WellTyped, WordFits, by_field, past_going}
+use Rattle.aom_sound.specs.WellTyped.{IsWhole, IsServed, AllSit, AllUndo, Fits, Good, Holds, Houses, IsApart, IsBelow, IsNoFieldOf, NoSeatIn, NoneIn, Returns, SitsIn, SomeIn, SomeSits, Stack, WellTyped, WordFits, past_going}
 
 -- what it takes: over these layers nothing is claimed but the message that is served, and the method begins with its object as it is
 pub record Entering (p : Image) (t : Typing) (cs : List Cell) (x : Seat) (above : List Seat) (over : List Layer) (m : ℕ) (ws : List (Option ℤ)) : Type 0 where
@@ -86,10 +87,7 @@ module _ (p : Image) (t : Typing) (typed : IsTyped p t) (cs : List Cell) (x : Se
   apart = (
     own_place,
     e.none_in x.object.name (own_place, no_fields cs x.object.name above e.sits.0.3 e.sits.1),
-    (
-      λ f some. ap (λ l. claim p (by_field (λ f. filled (field_thing p (thing_holder x.object.thing) f) Perhaps)) l (Field x.object.name f)) e.past ∙ e.claims (by_field (λ f. filled (field_thing p (thing_holder x.object.thing) f) Perhaps)) (Field x.object.name f),
-      whole_past p (thing_view x.object.thing) m over e.past,
-    ),
+    grind (arith, nat_tests, whole_past p),
     e.joins,
   )
     where
@@ -109,7 +107,7 @@ module _ (p : Image) (t : Typing) (typed : IsTyped p t) (cs : List Cell) (x : Se
       go : (b : Bool) → Fits p (seen cs) (held cs (Register f i)) (cond b (register after i) (claim p (declared p cs) over (Register f i)))
       go true = subst (λ v. Fits p (seen cs) v (register after i)) (sym none) (fits_weaker p (seen cs) None (w.registers i) (e.free i))
       go false = base (Register f i)
-  fits height after w (Entry k) = subst (λ es. Fits p (seen cs) (held cs (Entry k)) (entry_claim es (items_of over) k (claim p (declared p cs) over (Entry k)))) (sym w.entries) (base (Entry k))
+  fits height after w (Entry k) = grind (arith, nat_tests, base (Entry k))
   fits height after w (Field n f) = go (x.object.name == n) refl (field_thing p (holder_of p m) f) refl
     where
       declared_fits : Fits p (seen cs) (held cs (Field x.object.name f)) (filled (field_thing p (thing_holder x.object.thing) f) Perhaps)

@@ -1,4 +1,5 @@
 -- The laws of the cleanup stack's instructions.
+use Rattle.std.proofs.lemmas.Bool.Decides.{nat_tests}
 use Rattle.std.proofs.Common.{Bool, List, None, Option, Some, [], ap, arith, cond, false, length, refl, subst, suc, sym, true, ℕ, ℤ, ◌∙◌, ◌∷◌, ◌≡◌}
 use Rattle.std.proofs.lemmas.Bool.{true≢false}
 use Rattle.std.specs.Prelude.{is_none, is_some, not}
@@ -53,13 +54,11 @@ owned_or_null x e = grind arith
 
 -- such a place holds an object, and no message
 owned_met : (p : Image) (h : Sight) (o : Option Object) (k : Kind) → owns_object k ≡ true → Fits p h o k → (is_some o ≡ true) × (is_no_message o ≡ true)
-owned_met p h (Some o) (Own t a) e f = (refl, stands_object p o.thing t f.0 ∙ e)
-owned_met p h _ _ e f = absurd (grind arith)
+owned_met p h x y e f = grind (arith, nat_tests, stands_object p)
 
 -- an entry's register holds no word
 entry_object : (x : Pushed) → is_object_or_null (entry_kind x) ≡ true
-entry_object (Pushed_object x a) = refl
-entry_object Pushed_operation = refl
+entry_object x = grind arith
 
 -- ---- the last item
 
@@ -91,10 +90,7 @@ module _ (p : Image) (cs : List Cell) (fr : Frame) (sh : Shape) (ls : List Layer
   place_of_top = ap (λ fs. Entry (length fs)) (sym known) ∙ ap Entry (length_forms items)
 
   whole : (r : Place) → claim p (declared p cs) (Method fr sh ∷ ls) r ≡ changed (claim p (declared p cs) (Method fr less ∷ ls)) (Entry (length items)) (entry_kind v) r
-  whole r =
-      ap (λ es. claim p (declared p cs) (Method fr (record sh { entries = es }) ∷ ls) r) e
-      ∙ claim_push p (declared p cs) fr less ls v r
-      ∙ ap (λ q. changed (claim p (declared p cs) (Method fr less ∷ ls)) q (entry_kind v) r) place_of_top
+  whole r = grind (arith, nat_tests, claim_push p, place_of_top)
 
   entry_here : claim p (declared p cs) (Method fr sh ∷ ls) (Entry (length items)) ≡ entry_kind v
   entry_here = whole (Entry (length items)) ∙ ap (λ b. cond b (entry_kind v) (claim p (declared p cs) (Method fr less ∷ ls) (Entry (length items)))) (same_place_refl (Entry (length items)))
@@ -160,7 +156,7 @@ module _ (p : Image) (t : Typing) (c : Choice) (s : State) (fr : Frame) (sh : Sh
       there = push_fitted a n.0
 
       items : forms (An_object ∷ s.items) ≡ objects (entry_of (register sh a) ∷ sh.entries) (items_of ls)
-      items = ap (λ x. x ∷ forms s.items) (sym (object_again (register sh a) n.0)) ∙ ap (λ fs. entry_form (entry_of (register sh a)) ∷ fs) at_hand.items
+      items = grind (arith, nat_tests, object_again)
 
       needed : (b : Bool) → AllTrue (cond b (leave_needs (pushed_cells fr (tasks_of ls) s a) (Run fr ∷ tasks_of ls)) [])
       needed true = leave_is_met p t cells fr' fr (pushed_shape a) ls there n.1.0 n.1.1.0
@@ -173,10 +169,7 @@ module _ (p : Image) (t : Typing) (c : Choice) (s : State) (fr : Frame) (sh : Sh
   -- ---- the push of an operation
 
   operation_fitted : Fitted p t s.cells (next fr) (with_entry Pushed_operation sh) ls
-  operation_fitted = relabel p t s.cells fr (next fr) sh (with_entry Pushed_operation sh) ls (Entry (length s.items)) Null g refl refl refl refl
-      (subst (λ o. Fits p (seen s.cells) o Null) (sym no_entry_yet) tt)
-      (λ r. claim_push p (declared p s.cells) fr sh ls Pushed_operation r ∙ ap (λ q. changed (claim p (declared p s.cells) (Method fr sh ∷ ls)) q Null r) next_place)
-      at_hand.good.stack.1.words
+  operation_fitted = grind (arith, nat_tests, relabel p t s.cells fr, g, no_entry_yet, claim_push p, next_place)
 
   pub law_push_operation : IsWired p → (a m : ℕ) → instr_at p fr.method fr.place ≡ Some (PushOperation a m) → Law p t c s fr sh ls at_hand (PushOperation a m)
   law_push_operation wired a m here n leads = (

@@ -1,15 +1,13 @@
 -- What is known of an instruction by the call that it makes on a native.
-use Rattle.std.proofs.Common.{List, None, Option, Some, refl, true, ℕ, ◌≡◌}
+use Rattle.std.proofs.Common.{arith, List, None, refl, true, ℕ, ◌≡◌}
 use Rattle.std.specs.Prelude.{is_some}
 use Rattle.aom_image.specs.Image.{Image}
 use Rattle.aom_instructions.specs.declared.instr.Instr.{Instr}
 use Rattle.aom_instructions.specs.declared.instr.Instr.TheVariants.{Abort, Ask, Close, Connect, Issue}
 use Rattle.aom_shape.specs.Needs.{AllTrue}
 use Rattle.aom_sound.specs.Effects.{needs}
-use Rattle.aom_sound.specs.Enlisted.{thing_kind}
-use Rattle.aom_sound.specs.Natives.{native_of}
-use Rattle.aom_sound.specs.State.{AtRoot, Choice, Frame, Home, Inside, State, Static, Task, word}
-use Rattle.aom_sound.specs.Wanted.{Exchange, Nothing, An_open, A_start, An_ask, A_cancel, A_close, exchange, wanted_at, wanted_by}
+use Rattle.aom_sound.specs.State.{Choice, Frame, Home, State, Task, word}
+use Rattle.aom_sound.specs.Wanted.{Exchange, Nothing, An_open, A_start, An_ask, A_cancel, A_close, exchange, wanted_by}
 
 -- what holds of each instruction that makes a call, and of all that make none, holds of any with its call
 pub by_exchange :
@@ -33,10 +31,4 @@ has_words p c fr ts s = by_exchange (λ i x. AllTrue (needs p c fr ts s i) → H
 
 -- what makes no call wants nothing, wherever it is
 pub none_wanted : (p : Image) (s : State) (fr : Frame) (ts : List Task) (h : Home) → wanted_by s p fr ts h Nothing ≡ None
-none_wanted p s fr ts Static = refl
-none_wanted p s fr ts AtRoot = refl
-none_wanted p s fr ts (Inside o from) = go (native_of (thing_kind p o.thing))
-  where
-    go : (x : Option ℕ) → wanted_at s fr ts o x Nothing ≡ None
-    go None = refl
-    go (Some n) = refl
+none_wanted p s fr ts x = grind arith

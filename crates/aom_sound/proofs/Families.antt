@@ -1,13 +1,12 @@
 -- What a linked image gives of its families, by the laws of families: what descends from a class has what the class has, and an owner weighs more than what it owns.
+use Rattle.std.proofs.lemmas.Bool.Decides.{nat_tests}
 use Rattle.std.proofs.Common.{None, Option, Some, ap, arith, length, refl, slice_get, subst, sym, true, ℕ, ◌<◌, ◌∙◌, ◌≡◌, ◌≤◌}
 use Rattle.std.proofs.lemmas.Option.{slice_get_within}
 use Rattle.aom_image.proofs.Given.{some_given}
 use Rattle.aom_image.specs.Image.{Image}
 use Rattle.aom_image.specs.Views.{class_at, fields_in, fields_of}
 use Rattle.aom_image.specs.WellFormed.{ParentFits, WellFormed, may_descend}
-use Rattle.aom_image.specs.declared.class.ClassDecl.{ClassDecl}
 use Rattle.aom_image.specs.declared.class.ClassKind.{ClassKind}
-use Rattle.aom_image.specs.declared.class.ClassKind.TheVariants.{Active, Plain, Server, Session}
 use Rattle.aom_image.specs.declared.method.Thing.{Thing}
 use Rattle.aom_image.specs.declared.method.Thing.TheVariants.{Object as An_object_of}
 use Rattle.aom_roles.proofs.Descending.{along}
@@ -26,11 +25,7 @@ use Rattle.aom_sound.specs.Laws.{IsFamily}
 -- a class of sessions has none itself
 session_has_none : (k : Option ClassKind) → is_session_in k ≡ true → sessions_in k ≡ None
 unfolding is_session_in is_session_kind sessions_in sessions_of
-session_has_none None is = cc
-session_has_none (Some Plain) is = cc
-session_has_none (Some (Active provider)) is = cc
-session_has_none (Some (Server most session)) is = cc
-session_has_none (Some Session) is = refl
+session_has_none x is = grind arith
 
 -- and no parent
 session_childless : (k : ClassKind) → may_descend k ≡ true → is_session_kind k ≡ true → ⊥
@@ -41,10 +36,7 @@ module _ (p : Image) (linked : IsLinked p) where
   -- its sessions are of a class of sessions before it
   pub session_before : (c session : ℕ) → sessions_at p c ≡ Some session → (session < c) × (is_session p session ≡ true)
   unfolding kind_in class_at sessions_in
-  session_before c session serves = go (class_at p c) refl serves
-    where
-      go : (o : Option ClassDecl) → class_at p c ≡ o → sessions_in (kind_in o) ≡ Some session → (session < c) × (is_session p session ≡ true)
-      go o e h = grind arith
+  session_before c session serves = grind (arith, nat_tests)
 
   owned_before : (c d f : ℕ) → field_thing p (Member c) f ≡ Some (An_object_of d) → d < c
   unfolding fields_in class_at

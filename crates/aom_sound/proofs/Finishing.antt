@@ -1,4 +1,5 @@
 -- A method is about to return: nothing but its result is owned, its entries are gone, and the layers below claim the rest.
+use Rattle.std.proofs.lemmas.Bool.Decides.{nat_tests}
 use Rattle.std.proofs.Common.{Bool, IsTrue, List, None, Option, Some, [], ap, arith, cond, false, inl, inr, length, refl, subst, suc, sym, true, zero, ℕ, ◌&&◌, ◌++◌, ◌==◌, ◌∙◌, ◌∷◌, ◌≡◌}
 use Rattle.std.proofs.lemmas.Bool.{and_from, and_parts, cases_Bool, eq-eqb, eqb-true, true≢false}
 use Rattle.std.specs.Prelude.{is_some, not, ◌++◌}
@@ -10,41 +11,40 @@ use Rattle.aom_image.specs.declared.method.Gives.TheVariants.{Left, Maybe as A_m
 use Rattle.aom_image.specs.declared.method.Thing.{Thing}
 use Rattle.aom_image.specs.declared.method.Thing.TheVariants.{Object as An_object_of}
 use Rattle.aom_rules.specs.Calls.{entries_done, fields_done, is_destructor, leaves_one, result_moved, rule_ended, rule_left, rule_result}
-use Rattle.aom_shape.specs.Kinds.{is_here, field, filled, is_unowning, no_entry, none_owns, register, set_register}
+use Rattle.aom_shape.specs.Kinds.{is_here, field, filled, is_unowning, no_entry, none_owns}
 use Rattle.aom_shape.specs.Needs.{AllTrue, only_if}
 use Rattle.aom_rules.specs.Rules.{rule_needs}
 use Rattle.aom_shape.specs.Shape.{Shape}
 use Rattle.aom_shape.specs.Tables.{at}
-use Rattle.aom_shape.specs.Things.{Program, field_thing, holder_of, stands_for}
+use Rattle.aom_shape.specs.Things.{field_thing, holder_of, stands_for}
 use Rattle.aom_sound.proofs.Things.{stands_along}
 use Rattle.aom_rules.specs.Typing.{Typing}
 use Rattle.aom_shape.specs.declared.kind.Age.TheVariants.{Fresh, Ready}
 use Rattle.aom_shape.specs.declared.kind.Entry.{Entry as Pushed}
 use Rattle.aom_shape.specs.declared.kind.Entry.TheVariants.{Object as Pushed_object, Operation as Pushed_operation}
 use Rattle.aom_shape.specs.declared.kind.Filling.{Filling}
-use Rattle.aom_shape.specs.declared.kind.Filling.TheVariants.{Empty, Full, Perhaps}
+use Rattle.aom_shape.specs.declared.kind.Filling.TheVariants.{Perhaps}
 use Rattle.aom_shape.specs.declared.kind.Kind.{Kind}
-use Rattle.aom_shape.specs.declared.kind.Kind.TheVariants.{Maybe, Null, Own, Unset}
+use Rattle.aom_shape.specs.declared.kind.Kind.TheVariants.{Null, Own, Unset}
 use Rattle.aom_sound.proofs.Claimed.{claim_in_view, claim_register_above}
 use Rattle.aom_sound.proofs.Destroying.{eqb_comm}
 use Rattle.aom_sound.proofs.Items.{length_forms}
 use Rattle.aom_sound.proofs.Maps.{at-put_at, front_free}
 use Rattle.aom_sound.proofs.Straight.{At, fits_unowning, free_register, top}
 use Rattle.aom_sound.specs.Calls.{end_needs, is_level, is_register_but, leaves_object, none_owns_but, result_needs, result_source, returned}
-use Rattle.aom_sound.specs.Claims.{own_field, serves, delivered, Dispatching, Dying, Layer, Mark, Method, Object_form, Unwinding, claim, declared, declared_field, entry_claim, forms, home_claim, items_of, objects, root_claim, tasks_of, Ending}
+use Rattle.aom_sound.specs.Claims.{own_field, serves, delivered, Dispatching, Dying, Layer, Mark, Method, Object_form, Unwinding, claim, declared, declared_field, entry_claim, forms, home_claim, items_of, objects, tasks_of, Ending}
 use Rattle.aom_sound.specs.Moves.{does, needs}
 use Rattle.aom_sound.specs.Objects.{is_thing}
 use Rattle.aom_sound.specs.Places.{In_service, Cell, Elsewhere, Entry, Field, Object, Place, Register, Root, Sight, held, requested, same_place, seen}
 use Rattle.aom_sound.specs.State.{home_holder, An_object, AtRoot, Choice, Frame, Home, Inside, Item, State, Static, thing_holder}
-use Rattle.aom_sound.specs.WellTyped.{InView, CountsAs, Fits, Houses, IsApart, IsHoused, NotAtRoot, RootUnclaimed, WellTyped, past_going}
+use Rattle.aom_sound.specs.WellTyped.{InView, CountsAs, Fits, Houses, IsApart, IsHoused, RootUnclaimed, WellTyped, past_going}
 use Rattle.aom_rules.specs.Requests.{is_cancel, unissued}
 use Rattle.aom_shape.specs.Arguments.{after_of}
-use Rattle.aom_sound.specs.Enlisted.{cancelled, hangs, on_request, own_request, pending, rerequested, status_of}
+use Rattle.aom_sound.specs.Enlisted.{hangs, own_request, pending, status_of}
 use Rattle.aom_roles.specs.States.{cancel_done}
 use Rattle.std.specs.Ordering.{int_eq}
 use Rattle.aom_sound.specs.Requests.{Known, Suits, known_at, states_claim, thing_kind, works_at}
 use Rattle.aom_sound.proofs.Suiting.{completed}
-use Rattle.aom_shape.specs.declared.kind.Delivery.{Delivery}
 use Rattle.aom_shape.specs.declared.kind.Delivery.TheVariants.{Gone}
 
 pub none_owns_at : (ks : List Kind) (i : ℕ) → none_owns ks ≡ true → is_unowning (at Unset ks i) ≡ true
@@ -95,21 +95,11 @@ none_owns_from (c ∷ cs) d spared h = and_from _ _ (go spared c.owner h) (none_
 
 -- what holds of a field holds when nothing is known of it
 pub perhaps_fits : (p : Image) (h : Sight) (o : Option Object) (x : Option Thing) (y : Filling) → Fits p h o (filled x y) → Fits p h o (filled x Perhaps)
-perhaps_fits p h o None y g = g
-perhaps_fits p h o (Some x) Empty g = subst (λ o. Fits p h o (Maybe x Ready)) (sym (fits_unowning p h o Null refl g)) tt
-perhaps_fits p h o (Some x) Full g = full o g
-  where
-    full : (o : Option Object) → Fits p h o (Own x Ready) → Fits p h o (Maybe x Ready)
-    full None g = tt
-    full (Some y) g = g
-perhaps_fits p h o (Some x) Perhaps g = g
+perhaps_fits p h o x y g = grind (arith, nat_tests, fits_unowning p h o Null)
 
 pub claim_root : (p : Image) (d : Place → Kind) (ls : List Layer) → RootUnclaimed ls → claim p d ls (Elsewhere Root) ≡ d (Elsewhere Root)
 claim_root p d [] u = refl
-claim_root p d (Method fr sh ∷ ls) u = go fr.home u.0 ∙ claim_root p d ls u.1
-  where
-    go : (h : Home) → NotAtRoot h → root_claim p h sh (claim p d ls (Elsewhere Root)) ≡ claim p d ls (Elsewhere Root)
-    go x n = grind arith
+claim_root p d (Method fr sh ∷ ls) u = grind (arith, nat_tests, claim_root p d ls u.1)
 claim_root p d (Mark gv ∷ ls) u = claim_root p d ls u
 claim_root p d (Dying o ∷ ls) u = claim_root p d ls u
 claim_root p d (Ending o left ∷ ls) u = claim_root p d ls u
@@ -121,13 +111,14 @@ pub ended :
     (p : Image) (cs : List Cell) (fr : Frame) (sh : Shape) (ls : List Layer) → Houses p (home_holder fr.home) (holder_of p fr.method) → CountsAs p (home_holder fr.home) fr.view (holder_of p fr.method) → IsHoused p cs ls fr.home → IsApart p fr.view fr.method fr.home ls → past_going ls ≡ ls → no_entry sh.entries ≡ true →
     none_owns sh.registers ≡ true → (serves p fr.method ≡ true → claim p (declared p cs) ls (Elsewhere In_service) ≡ delivered sh.delivery) → (r : Place) (h : Sight) (o : Option Object) →
     Fits p h o (claim p (declared p cs) (Method fr sh ∷ ls) r) → Fits p h o (claim p (declared p cs) ls r)
-ended p cs fr sh ls houses counts housed apart at_top e n message (Register f i) h o fits = go (length (tasks_of ls) == f) refl fits
-  where
-    go : (b : Bool) → (length (tasks_of ls) == f) ≡ b → Fits p h o (cond b (register sh i) (claim p (declared p cs) ls (Register f i))) → Fits p h o (claim p (declared p cs) ls (Register f i))
-    go true e fits =
-        subst (λ k. Fits p h o k) (sym (claim_register_above p cs ls f i (omega (arith, eqb-true _ _ e))))
-        (subst (λ x. Fits p h x Null) (sym (fits_unowning p h o (register sh i) (none_owns_at sh.registers i n) fits)) tt)
-    go false e fits = fits
+ended p cs fr sh ls houses counts housed apart at_top e n message (Register f i) h o fits = grind (
+  arith,
+  nat_tests,
+  claim_register_above p cs ls f i,
+  eqb-true,
+  fits_unowning p h o,
+  none_owns_at sh.registers i n,
+)
 ended p cs fr sh ls houses counts housed apart at_top e n message (Entry k) h o fits = subst (λ es. Fits p h o (entry_claim es (items_of ls) k (claim p (declared p cs) ls (Entry k)))) (no_entries sh.entries e) fits
 ended p cs fr sh ls houses counts housed apart at_top e n message (Field m f) h o fits = go fr.home houses housed apart fits
   where
@@ -151,12 +142,7 @@ ended p cs fr sh ls houses counts housed apart at_top e n message (Field m f) h 
             let viewed = subst (λ l. InView p fr.view (λ f. filled (field_thing p (thing_holder x.thing) f) Perhaps) x.name l) at_top ap'.2.0 in
             let claims = claim_in_view p (declared p cs) ls x.name f (λ f. filled (field_thing p (thing_holder x.thing) f) Perhaps) fr.view viewed (ap is_some (counts.fields f y is)) (ap (λ y. declared_field p y f) hs.lives) in
             subst (λ k. Fits p h o k) (sym (ap (λ z. filled z Perhaps) (houses.fields f y is)) ∙ sym claims ∙ ap (λ y. claim p (declared p cs) ls (Field y f)) same) (perhaps_fits p h o (Some y) (field sh f) fits)
-ended p cs fr sh ls houses counts housed apart at_top e n message (Elsewhere Root) h o fits = go fr.home apart fits
-  where
-    go : (home : Home) → IsApart p fr.view fr.method home ls → Fits p h o (root_claim p home sh (claim p (declared p cs) ls (Elsewhere Root))) → Fits p h o (claim p (declared p cs) ls (Elsewhere Root))
-    go Static ap' fits = fits
-    go AtRoot ap' fits = subst (λ k. Fits p h o k) (sym (claim_root p (declared p cs) ls ap'.0)) (perhaps_fits p h o (field_thing p Program 0) (field sh 0) fits)
-    go (Inside x from) ap' fits = fits
+ended p cs fr sh ls houses counts housed apart at_top e n message (Elsewhere Root) h o fits = grind (arith, nat_tests, claim_root p, perhaps_fits p h o)
 ended p cs fr sh ls houses counts housed apart at_top e n message (Elsewhere In_service) h o fits = go (serves p fr.method) refl fits
   where
     go :
@@ -185,10 +171,7 @@ returnable p fr sh a n =
 
 -- a method that served has taken its message
 pub message_gone : (p : Image) (fr : Frame) (sh : Shape) (a : ℕ) → Returnable p fr sh a → serves p fr.method ≡ true → sh.delivery ≡ Gone
-message_gone p fr sh a r serving = go sh.delivery (ap (λ b. only_if b (not (is_here sh.delivery))) (sym serving) ∙ r.message)
-  where
-    go : (d : Delivery) → not (is_here d) ≡ true → d ≡ Gone
-    go x e = grind arith
+message_gone p fr sh a r serving = grind (arith, nat_tests)
 
 -- a method that gives nothing leaves no entry
 pub none_left : (p : Image) (fr : Frame) (sh : Shape) (a : ℕ) → gives_of p fr.method ≡ Nothing → Returnable p fr sh a → no_entry sh.entries ≡ true
@@ -203,21 +186,12 @@ pub record LeftAlone (p : Image) (x : ℕ) (es : List Pushed) : Type 0 where
 pub left_alone : (p : Image) (x : ℕ) (es : List Pushed) → leaves_one p x es ≡ true → LeftAlone p x es
 left_alone p x [] e = cc
 left_alone p x (Pushed_operation ∷ es) e = cc
-left_alone p x (Pushed_object c Fresh ∷ es) e = absurd (refused (stands_for p (An_object_of c) (An_object_of x)) e)
-  where
-    refused : (b : Bool) → (b && false) ≡ true → ⊥
-    refused true e = cc
-    refused false e = cc
+left_alone p x (Pushed_object c Fresh ∷ es) e = grind (arith, nat_tests)
 left_alone p x (Pushed_object c Ready ∷ []) e = record { class = c; alone = refl; stands = first (stands_for p (An_object_of c) (An_object_of x)) true e }
   where
     first : (a b : Bool) → (a && b) ≡ true → a ≡ true
-    first true b e = refl
-    first false b e = cc
-left_alone p x (Pushed_object c Ready ∷ f ∷ es) e = absurd (refused (stands_for p (An_object_of c) (An_object_of x)) e)
-  where
-    refused : (b : Bool) → (b && false) ≡ true → ⊥
-    refused true e = cc
-    refused false e = cc
+    first y b z = grind arith
+left_alone p x (Pushed_object c Ready ∷ f ∷ es) e = grind (arith, nat_tests)
 
 module _ (p : Image) (t : Typing) (c : Choice) (s : State) (fr : Frame) (sh : Shape) (ls : List Layer) (at_hand : At p t s fr sh ls) where
   -- the cleanup stack is as it was
@@ -268,16 +242,22 @@ module _ (p : Image) (t : Typing) (c : Choice) (s : State) (fr : Frame) (sh : Sh
 
 module _ (p : Image) (t : Typing) (c : Choice) (s : State) (fr : Frame) (sh : Shape) (ls : List Layer) (at_hand : At p t s fr sh ls) (a : ℕ) (r : Returnable p fr sh a) where
   spared : (g : Gives) → none_owns (result_moved p fr.method fr.place sh g a).registers ≡ true → (i : ℕ) → spares (result_source g a) i ≡ false → held s.cells (top ls i) ≡ None
-  spared (An_own x) n i other = free_register p t c s fr sh ls at_hand i (unmoved i n other)
-    where
-      unmoved : (i : ℕ) → none_owns (set_register sh a Null).registers ≡ true → (i == a) ≡ false → is_unowning (register sh i) ≡ true
-      unmoved i n other =
-          sym (ap is_unowning (at-put_at Unset sh.registers a i Null ∙ ap (λ b. cond b Null (register sh i)) (eqb_comm a i ∙ other))) ∙ none_owns_at (set_register sh a Null).registers i n
-  spared (A_maybe x) n i other = free_register p t c s fr sh ls at_hand i (unmoved i n other)
-    where
-      unmoved : (i : ℕ) → none_owns (set_register sh a Null).registers ≡ true → (i == a) ≡ false → is_unowning (register sh i) ≡ true
-      unmoved i n other =
-          sym (ap is_unowning (at-put_at Unset sh.registers a i Null ∙ ap (λ b. cond b Null (register sh i)) (eqb_comm a i ∙ other))) ∙ none_owns_at (set_register sh a Null).registers i n
+  spared (An_own x) n i other = grind (
+    arith,
+    nat_tests,
+    free_register p t c s fr sh ls at_hand i,
+    at-put_at Unset sh.registers a i Null,
+    eqb_comm a i,
+    none_owns_at,
+  )
+  spared (A_maybe x) n i other = grind (
+    arith,
+    nat_tests,
+    free_register p t c s fr sh ls at_hand i,
+    at-put_at Unset sh.registers a i Null,
+    eqb_comm a i,
+    none_owns_at,
+  )
   spared _ n i other = free_register p t c s fr sh ls at_hand i (none_owns_at sh.registers i n)
 
   -- a method that cancels does not hang
@@ -304,12 +284,8 @@ module _ (p : Image) (t : Typing) (c : Choice) (s : State) (fr : Frame) (sh : Sh
 
   -- the end of a method that does not cancel changes no request
   pub ended_plainly : is_cancel (method_role p fr.method) ≡ false → WellTyped p t (after_return s.cells) → WellTyped p t (does p c fr (tasks_of ls) s (Return a))
-  ended_plainly e w = subst (λ cs. WellTyped p t (after_return cs)) (sym (ap (λ b. cond b (rerequested s.cells fr.home (on_request cancelled (own_request s.cells fr.home))) s.cells) e)) w
+  ended_plainly e w = grind (arith, nat_tests)
 
   -- the needs of a return, from those of its result and of what it returns to
   pub return_needs : AllTrue (result_needs p fr (tasks_of ls) s (gives_of p fr.method) a) → AllTrue (end_needs p fr (tasks_of ls) s (tasks_of ls)) → AllTrue (needs p c fr (tasks_of ls) s (Return a))
-  return_needs result end =
-      all_join (result_needs p fr (tasks_of ls) s (gives_of p fr.method) a) _ result (
-        level p t c s fr sh ls at_hand (gives_of p fr.method) r.entries,
-        (none_owns_from s.cells (length (tasks_of ls)) (result_source (gives_of p fr.method) a) (spared (gives_of p fr.method) r.free), (answered, end)),
-      )
+  return_needs result end = grind (arith, nat_tests, all_join, result, level p t c s fr sh ls at_hand, none_owns_from s.cells, spared, answered)

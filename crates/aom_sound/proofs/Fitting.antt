@@ -1,11 +1,12 @@
 -- Each instruction may have its effect, and the registers that the effect names are among those of a method.
-use Rattle.std.proofs.Common.{Bool, List, None, Option, Some, [], ap, cond, false, inl, inr, length, refl, subst, suc, sym, true, zero, ℕ, ℤ, negsuc, arith, ◌+◌, ◌-◌, ◌∙◌, ◌∷◌, ◌≡◌, ◌≤◌}
+use Rattle.std.proofs.lemmas.Bool.Decides.{nat_tests}
+use Rattle.std.proofs.Common.{Bool, List, None, Option, Some, [], ap, cond, inl, length, refl, sym, true, ℕ, ℤ, negsuc, arith, ◌-◌, ◌∙◌, ◌∷◌, ◌≡◌, ◌≤◌}
 use Rattle.std.proofs.lemmas.Bool.{leb-true}
 use Rattle.std.specs.Ordering.{int_eq}
 use Rattle.std.specs.Prelude.{int_lt, is_some}
 use Rattle.aom_image.specs.Image.{Image}
 use Rattle.aom_instructions.specs.Operands.{IsRegister}
-use Rattle.aom_image.specs.Views.{arguments_of, method_class}
+use Rattle.aom_image.specs.Views.{arguments_of}
 use Rattle.aom_instructions.specs.Fits.{InstrFits}
 use Rattle.aom_instructions.specs.declared.instr.Instr.{Instr}
 use Rattle.aom_instructions.specs.declared.instr.Instr.TheVariants.{Hand, TakeMessage, Call, Cancel, Delete, Jump, JumpActive, JumpAdded, JumpEmpty, JumpEqual, JumpLess, JumpNull, Leave, LeaveIf, Loop, Move, New, NewOrLeave, Next, Pop, PopDelete, PopOperation, Push, PushOperation, Return, Take, Trap}
@@ -15,7 +16,7 @@ use Rattle.aom_classes.specs.Jumps.{jump_of}
 use Rattle.aom_classes.specs.Loops.{loop_in}
 use Rattle.aom_shape.specs.Needs.{AllTrue}
 use Rattle.aom_sound.proofs.Finishing.{all_parts}
-use Rattle.aom_sound.specs.Calls.{below_top, needs_entering, needs_target}
+use Rattle.aom_sound.specs.Calls.{below_top, needs_entering}
 use Rattle.aom_sound.specs.Cleanup.{has_trap, is_negative, leave_needs, no_memory, top_is_whole, top_place, tops_entry, tops_object, tops_operation}
 use Rattle.aom_sound.specs.Effects.{The_message, Calls, Cancels, Carried, Destroys, Destroys_last, Effect, Goes_on, In_field, In_register, Leaves, Handed, Made, Operates, Popped, Pushed, Pushed_operation, Same, Sets_trap, Spot, Update, cancels_if, deals, deletes, effect, hands_unless, jumps_if, jumps_unless, makes_unless, round, sets}
 use Rattle.aom_sound.specs.Enlisted.{cancel_method, in_phase, is_active, is_busy, own_request}
@@ -66,35 +67,28 @@ module _ (p : Image) (c : Choice) (fr : Frame) (ts : List Task) (s : State) wher
   May i e = Fits p c fr ts s i e × ((l : Limits) → InstrFits l i → EffectFits p e)
 
   branches : (i : Instr) (b : Bool) (to : ℕ) → jump_of i ≡ Some to → IsStraight i → May i (jumps_if fr b to)
-  branches i true to jump straight = (jump, λ l f. tt)
-  branches i false to jump straight = ((straight, tt), λ l f. tt)
+  branches i x to jump straight = grind arith
 
   jumps : (i : Instr) (o : Option Object) (to : ℕ) → jump_of i ≡ Some to → IsStraight i → May i (jumps_unless fr o to)
-  jumps i None to jump straight = (jump, λ l f. tt)
-  jumps i (Some o) to jump straight = ((straight, tt), λ l f. tt)
+  jumps i x to jump straight = grind arith
 
   loops : (n depth to : ℕ) → counter fr depth - 1 ≡ n → May (Next depth to) (round n depth to)
-  loops zero depth to e = (inr (to, refl, refl), λ l f. tt)
-  loops (suc n) depth to e = ((refl, n, refl, e), λ l f. tt)
+  loops x depth to e = grind arith
 
   making : (refused : Bool) (a x : ℕ) → May (New a x) (sets fr a None (makes_unless refused c.name x a))
   unfolding loop_in
-  making true a x = ((refl, tt), λ l f. tt)
-  making false a x = ((refl, refl), λ l f. f.operands.a)
+  making x a y = grind arith
 
   handing : (crowded : Bool) (a : ℕ) (own : Option Request) → May (Hand a) (sets fr a None (hands_unless crowded c.name a own))
   unfolding loop_in
-  handing true a own = ((refl, tt), λ l f. tt)
-  handing false a own = ((refl, tt), λ l f. f.operands.a)
+  handing x a own = grind arith
 
   deleting : (o : Option Object) (a : ℕ) → held s.cells (here fr ts s a) ≡ o → May (Delete a) (deletes fr o a)
   unfolding loop_in
-  deleting None a e = ((refl, tt), λ l f. tt)
-  deleting (Some o) a e = ((refl, e), λ l f. tt)
+  deleting x a e = grind arith
 
   either : (i : Instr) (b : Bool) (code : ℤ) (off : Update) (on : Effect) → (b ≡ true → May i (Leaves code off)) → May i on → May i (cond b (Leaves code off) on)
-  either i true code off on x y = x refl
-  either i false code off on x y = y
+  either i x code off on y z = grind arith
 
   -- where it leaves, it may
   may_leave : (b : Bool) (cs : List Cell) → AllTrue (cond b (leave_needs cs (Run fr ∷ ts)) []) → b ≡ true → has_trap ts ≡ true
@@ -103,22 +97,15 @@ module _ (p : Image) (c : Choice) (fr : Frame) (ts : List Task) (s : State) wher
   dealing :
       (items : List Item) (o : Option Object) → s.items ≡ items → held s.cells (top_place items) ≡ o → tops_entry items ≡ true → top_is_whole s.cells items ≡ true →
       May PopDelete (deals fr items o)
-  dealing (An_object ∷ items) (Some o) at e there whole = ((refl, at ∙ ap (λ l. An_object ∷ l) (sym (ap below_top at)), ap (λ l. held s.cells (top_place l)) at ∙ e), λ l f. tt)
-  dealing (An_operation m w ∷ items) o at e there whole = ((refl, at ∙ ap (λ l. An_operation m w ∷ l) (sym (ap below_top at))), λ l f. tt)
-  dealing _ o at e there whole = cc
+  dealing x o at e there whole = grind arith
 
   -- the arguments lie within the registers of the caller, and so of the method called
   few_arguments : (target : Target) (m first : ℕ) (more : List Need) → AllTrue (needs_entering p fr ts s target m first more) → length (arguments_of p m) ≤ 16
-  few_arguments target m first more n =
-      let met = (all_parts (needs_target p fr ts s target m (method_class p m) first (length (arguments_of p m))) _ n).1 in
-      let within = leb-true (first + length (arguments_of p m)) 16 met.0 in
-      omega arith
+  few_arguments target m first more n = grind (arith, nat_tests, all_parts, leb-true)
 
   cancels_by : (b : Bool) (m : Option ℕ) → cancel_method p fr ≡ m → May Cancel (cancels_if fr b m)
   unfolding loop_in
-  cancels_by true (Some m) e = ((refl, e), λ l f. tt)
-  cancels_by true None e = ((refl, tt), λ l f. tt)
-  cancels_by false m e = ((refl, tt), λ l f. tt)
+  cancels_by x m e = grind arith
 
   pub fits : (i : Instr) → AllTrue (needs p c fr ts s i) → May i (effect p c fr ts s i)
   unfolding jump_of loop_in
@@ -189,11 +176,4 @@ module _ (p : Image) (c : Choice) (fr : Frame) (ts : List Task) (s : State) wher
 
   pub straight_by : (i : Instr) (e : Effect) → Fits p c fr ts s i e → StraightBy i e
   unfolding loop_in
-  straight_by i (Calls target m first) f = subst IsStraight (sym f.1) refl
-  straight_by i (Cancels m) f = subst IsStraight (sym f.0) refl
-  straight_by i (Sets_trap target m first) f = subst IsStraight (sym f.1) refl
-  straight_by i (Leaves code u) f = leaver_straight i code f.1
-  straight_by i (Destroys o a words) f = subst IsStraight (sym f.0) refl
-  straight_by i (Destroys_last o) f = subst IsStraight (sym f.0) refl
-  straight_by i (Operates m w) f = subst IsStraight (sym f.0) refl
-  straight_by i _ f = tt
+  straight_by i x f = grind (arith, nat_tests, leaver_straight i)

@@ -1,4 +1,5 @@
 -- A cell goes.
+use Rattle.std.proofs.lemmas.Bool.Decides.{nat_tests}
 use Rattle.aom_shape.specs.Needs.{AllTrue}
 use Rattle.aom_image.specs.declared.method.Thing.{Thing}
 use Rattle.std.proofs.Common.{Bool, List, None, Option, Some, [], ap, arith, cond, false, length, refl, subst, sym, true, ℕ, ◌&&◌, ◌==◌, ◌∙◌, ◌∷◌, ◌≡◌}
@@ -16,9 +17,9 @@ use Rattle.aom_sound.proofs.Emptied.{emptied_by}
 use Rattle.aom_sound.proofs.Maps.{cond_same, same_place_refl, front_free, held_without, named_without, requested_without, same_place-true, tidy_without, unnamed, unrequested}
 use Rattle.aom_sound.proofs.Straight.{Fitted, fits_unowning, settle}
 use Rattle.aom_sound.specs.Claims.{Ending, Dispatching, Dying, Layer, Mark, Method, Unwinding, claim, declared, declared_field, forms, items_of, objects, tasks_of}
-use Rattle.aom_sound.specs.Destruction.{needs_past, owns_none_past, is_past, gone, is_at_rest, is_field_of, owns_no_message, owns_nothing}
+use Rattle.aom_sound.specs.Destruction.{needs_past, owns_none_past, is_past, gone, is_at_rest, is_field_of, owns_nothing}
 use Rattle.aom_sound.specs.Places.{Session, Queued, service_of, Cell, Elsewhere, Field, Going, Object, Place, Request, Tidy, held, named, requested, same_place, seen, without}
-use Rattle.aom_sound.specs.State.{Of_server, Parts, Seat, ActiveDestroyed, AtRoot, Home, Inside, IsStuck, MessageLost, Of_root, Orphan, State, Static, guarded, next, resumed}
+use Rattle.aom_sound.specs.State.{Of_server, Parts, Seat, AtRoot, Home, Inside, Of_root, State, Static, next, resumed}
 use Rattle.aom_sound.specs.WellTyped.{IsOverDying, SitsFirst, NoSeatAt, seat_of, AllUndo, Back, Caught, Fits, Gone, Good, Holds, IsHoused, Keeps, Leaves, Now, Returns, Stack, WellTyped}
 use Rattle.aom_sound.specs.Requests.{AllSuit, Suits, resting_in, states_claim, thing_kind}
 use Rattle.aom_roles.specs.States.{last_of}
@@ -36,20 +37,12 @@ use Rattle.aom_image.specs.declared.method.Thing.TheVariants.{Message}
 -- no place of a cell owns, where none of them holds anything
 pub nothing_in : (cs : List Cell) (n : ℕ) → ((r : Place) → is_field_of n r ≡ true → held cs r ≡ None) → owns_nothing cs n ≡ true
 nothing_in [] n h = refl
-nothing_in (c ∷ cs) n h = and_from _ _ (go (is_field_of n c.owner) refl) (nothing_in cs n (λ r e. (front_free _ _ _ (h r e)).1))
-  where
-    go : (b : Bool) → is_field_of n c.owner ≡ b → not b ≡ true
-    go true e = absurd (true≢false (sym (same_place_refl c.owner) ∙ (front_free _ _ _ (h c.owner e)).0))
-    go false e = refl
+nothing_in (c ∷ cs) n h = grind (arith, nat_tests, and_from, nothing_in cs n, front_free, same_place_refl c.owner)
 
 -- and none past so many fields
 none_past : (k : ℕ) (such : Thing → Bool) (cs : List Cell) (n : ℕ) → ((r : Place) → is_past k n r ≡ true → held cs r ≡ None) → owns_none_past k such cs n ≡ true
 none_past k such [] n h = refl
-none_past k such (c ∷ cs) n h = and_from _ _ (go (is_past k n c.owner) refl) (none_past k such cs n (λ r e. (front_free _ _ _ (h r e)).1))
-  where
-    go : (b : Bool) → is_past k n c.owner ≡ b → not (b && such c.object.thing) ≡ true
-    go true e = absurd (true≢false (sym (same_place_refl c.owner) ∙ (front_free _ _ _ (h c.owner e)).0))
-    go false e = refl
+none_past k such (c ∷ cs) n h = grind (arith, nat_tests, and_from, none_past k such cs n, front_free, same_place_refl c.owner)
 
 pub past_by : (k : ℕ) (cs : List Cell) (n : ℕ) → ((r : Place) → is_past k n r ≡ true → held cs r ≡ None) → AllTrue (needs_past k cs n)
 past_by k cs n h = (none_past k is_object cs n h, (none_past k (λ t. not (is_object t)) cs n h, tt))
@@ -77,9 +70,13 @@ module _ (p : Image) (t : Typing) (cs : List Cell) (g : Place) (o : Object) (tid
 
   pub stack_without : (ls : List Layer) (back : Back) → Outside g ls → ((from : Place) → NoFieldHere g from) → Stack p t cs back ls → Stack p t (without g cs) back ls
   stack_without [] back out plain s = s
-  stack_without (Method fr sh ∷ ls) back out plain s =
-      let out' = outside_less g (Method fr sh) ls out in
-      (s.0, s.1, housed_without ls fr.home out' plain s.2, s.3, stack_without ls (Returns fr.method fr.home) out' plain s.4)
+  stack_without (Method fr sh ∷ ls) back out plain s = grind (
+    arith,
+    nat_tests,
+    outside_less g (Method fr sh) ls out,
+    housed_without ls fr.home,
+    stack_without ls (Returns fr.method fr.home),
+  )
   stack_without (Mark gv ∷ ls) back out plain s = (s.0, stack_without ls (Caught gv) (outside_less g (Mark gv) ls out) plain s.1)
   stack_without (Dispatching d seats ∷ ls) back out plain s =
       let none = no_seat_outside g d seats ls out in (
@@ -108,9 +105,14 @@ module _ (p : Image) (t : Typing) (cs : List Cell) (g : Place) (o : Object) (tid
   stack_without (Dying x ∷ ls) back out plain s =
       let q = Going (length (tasks_of ls)) in
       let e = going_differs g x ls out in (
-        (
-          named_without cs g o x.name tidy there (ne_eqb o.name x.name (λ same. true≢false (sym (eq-eqb x.name o.name (sym same)) ∙ other_name p t cs g o tidy there q x s.0.1 e))) ∙ s.0.0,
-          held_without cs g q ∙ ap (λ b. cond b None (held cs q)) e ∙ s.0.1,
+        grind (
+          arith,
+          nat_tests,
+          named_without cs g o x.name tidy there,
+          ne_eqb o.name x.name,
+          eq-eqb x.name o.name,
+          other_name p t cs g o tidy there q x s.0.1 e,
+          held_without cs g q,
         ),
         s.1,
         stack_without ls Gone (outside_less g (Dying x) ls out) plain s.2,
@@ -119,18 +121,13 @@ module _ (p : Image) (t : Typing) (cs : List Cell) (g : Place) (o : Object) (tid
 -- a cell that goes has nothing in its fields, and no session
 module _ (p : Image) (t : Typing) (cs : List Cell) (o : Object) (ls : List Layer) (good : Good p t cs (Dying o ∷ ls)) where
   no_fields : (f : ℕ) → held cs (Field o.name f) ≡ None
-  no_fields f =
-      fits_unowning p (seen cs) _ Null refl
-      (subst (λ b. Fits p (seen cs) (held cs (Field o.name f)) (cond b Null (claim p (declared p cs) ls (Field o.name f)))) (eq-eqb o.name _ refl) (good.fits (Field o.name f)))
+  no_fields f = grind (arith, nat_tests, fits_unowning p, eq-eqb o.name)
 
   no_sessions : (c : ℕ) → held cs (Elsewhere (Session o.name c)) ≡ None
   no_sessions c = fits_unowning p (seen cs) _ Null refl (subst (λ b. Fits p (seen cs) (held cs (Elsewhere (Session o.name c))) (cond b Null (claim p (declared p cs) ls (Elsewhere (Session o.name c))))) (eq-eqb o.name _ refl) (good.fits (Elsewhere (Session o.name c))))
 
   pub nothing_left : owns_nothing (without_queue o.name cs) o.name ≡ true
-  nothing_left = nothing_in (without_queue o.name cs) o.name (λ r e. ap (λ l. held l r) (queue_dropped o.name cs) ∙ held_dropped (is_queue_of o.name) cs r ∙ none r e)
-    where
-      none : (r : Place) → is_field_of o.name r ≡ true → cond (is_queue_of o.name r) None (held cs r) ≡ None
-      none x e = grind arith
+  nothing_left = grind (arith, nat_tests, nothing_in, queue_dropped o.name cs, held_dropped)
 
 -- once nothing waits in its queue
 module _ (p : Image) (t : Typing) (cs : List Cell) (o : Object) (ls : List Layer) (stack : Stack p t cs Now (Dying o ∷ ls)) (tidy : Tidy cs) (suits : AllSuit p cs (Dying o ∷ ls))
@@ -216,19 +213,7 @@ module _ (p : Image) (t : Typing) (cs : List Cell) (o : Object) (ls : List Layer
 
   -- what is left is another object
   suits_after : AllSuit p (without (Going (length (tasks_of ls))) cs) ls
-  suits_after x lives = go (o.name == x.name) refl
-    where
-      g : Place
-      g = Going (length (tasks_of ls))
-
-      go : (b : Bool) → (o.name == x.name) ≡ b → Suits (thing_kind p x.thing) (states_claim p x ls) (requested (without g cs) x.name)
-      go true same =
-          let gone : named (without g cs) x.name ≡ None = ap (λ n. named (without g cs) n) (sym (eqb-true o.name x.name same)) ∙ unnamed cs g o tidy stack.0.1 in
-          let clash : Some x ≡ None = sym lives ∙ gone in cc
-      go false other =
-          let there = sym (named_without cs g o x.name tidy stack.0.1 other) ∙ lives in
-          subst (λ r. Suits (thing_kind p x.thing) (states_claim p x ls) r) (sym (requested_without cs g o x.name tidy stack.0.1 other))
-          (subst (λ b. Suits (thing_kind p x.thing) (cond b (resting_in (last_of (thing_kind p x.thing))) (states_claim p x ls)) (requested cs x.name)) other (suits x there))
+  suits_after x lives = grind (arith, nat_tests, eqb-true o.name x.name, unnamed cs, named_without cs, requested_without cs)
 
 -- the method below goes on, or the run is at its end
 goes_on :
@@ -290,10 +275,7 @@ unfolding last_of
 dying_rests k x s = grind arith
 
 rests_as_it_goes : (p : Image) (t : Typing) (cs : List Cell) (o : Object) (ls : List Layer) → Good p t cs (Dying o ∷ ls) → is_at_rest (requested cs o.name) ≡ true
-rests_as_it_goes p t cs o ls good =
-    let last = resting_in (last_of (thing_kind p o.thing)) in
-    let suits = good.suits o good.stack.0.0 in
-    dying_rests (thing_kind p o.thing) (requested cs o.name) (subst (λ b. Suits (thing_kind p o.thing) (cond b last (states_claim p o ls)) (requested cs o.name)) (eq-eqb o.name o.name refl) suits)
+rests_as_it_goes p t cs o ls good = grind (arith, nat_tests, dying_rests, eq-eqb o.name o.name)
 
 -- what waits in its queue is a message
 module _ (p : Image) (t : Typing) (s : State) (o : Object) (ls : List Layer) (good : Good p t s.cells (Dying o ∷ ls)) where
@@ -327,7 +309,7 @@ module _ (p : Image) (t : Typing) (s : State) (o : Object) (ls : List Layer) (go
   suits_less = suits_dropped waits p s.cells good.tidy waits_messages (Dying o ∷ ls) good.suits
 
   none_waits : (m : ℕ) → held less (Elsewhere (Queued o.name m)) ≡ None
-  none_waits m = held_dropped waits s.cells (Elsewhere (Queued o.name m)) ∙ ap (λ b. cond b None (held s.cells (Elsewhere (Queued o.name m)))) (eq-eqb o.name _ refl)
+  none_waits m = grind (arith, nat_tests, held_dropped, eq-eqb o.name)
 
   rests_less : is_at_rest (requested less o.name) ≡ true
   rests_less = ap is_at_rest (stays_same waits p s.cells good.tidy waits_messages g o refl good.stack.0.1).request ∙ rests_as_it_goes p t s.cells o ls good
@@ -353,12 +335,12 @@ module _ (p : Image) (t : Typing) (s : State) (o : Object) (ls : List Layer) (go
 pub going_keeps :
     (p : Image) (t : Typing) (s : State) (o : Object) (ls : List Layer) → Good p t s.cells (Dying o ∷ ls) → forms s.items ≡ items_of ls → AllUndo p s.items →
     Keeps p t (gone (held s.cells (Going (length (tasks_of ls)))) (tasks_of ls) s)
-going_keeps p t s o ls good items undos =
-    let left = without_queue o.name s.cells in
-    let end = after p t s o ls good left in
-    let emptied = emptied_by left o.name (nothing_left p t s.cells o ls good) in
-    subst (λ x. Keeps p t (gone x (tasks_of ls) s)) (sym good.stack.0.1)
-    (subst (λ b. Keeps p t (cond b (guarded ((owns_no_message left o.name, MessageLost) ∷ (is_at_rest (requested left o.name), ActiveDestroyed) ∷ []) end) (IsStuck Orphan))) (sym emptied.0)
-    (subst (λ b. Keeps p t (cond b (guarded ((is_at_rest (requested left o.name), ActiveDestroyed) ∷ []) end) (IsStuck MessageLost))) (sym emptied.1.0)
-    (subst (λ b. Keeps p t (cond b (guarded [] end) (IsStuck ActiveDestroyed))) (sym (ap (λ l. is_at_rest (requested l o.name)) (queue_dropped o.name s.cells) ∙ rests_less p t s o ls good))
-    (subst (λ l. WellTyped p t (after p t s o ls good l)) (sym (queue_dropped o.name s.cells)) (gone_well p t s o ls good items undos)))))
+going_keeps p t s o ls good items undos = grind (
+  arith,
+  nat_tests,
+  emptied_by,
+  nothing_left p t s.cells o ls good,
+  queue_dropped o.name s.cells,
+  rests_less p t s o ls good,
+  gone_well p t s o ls good items undos,
+)

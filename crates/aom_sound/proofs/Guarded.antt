@@ -1,5 +1,6 @@
 -- A move that goes on has met its needs, and goes where it says.
-use Rattle.std.proofs.Common.{List, None, Option, Some, [], cond, refl, subst, ◌∷◌, ◌≡◌}
+use Rattle.std.proofs.lemmas.Bool.Decides.{nat_tests}
+use Rattle.std.proofs.Common.{arith, List, None, Option, Some, [], subst, ◌∷◌, ◌≡◌}
 use Rattle.aom_image.proofs.Given.{true_given}
 use Rattle.aom_image.specs.Image.{Image}
 use Rattle.aom_image.specs.Views.{instr_at}
@@ -13,15 +14,11 @@ goes_same s u e = cc
 
 pub guarded_goes : (needs : List Need) (s u : State) → guarded needs s ≡ Goes u → s ≡ u
 guarded_goes [] s u e = goes_same s u e
-guarded_goes (need ∷ needs) s u e =
-    let rest : (guarded needs s ≡ Goes u → s ≡ u) = guarded_goes needs s u in
-    true_given (λ b. cond b (guarded needs s) (IsStuck need.1) ≡ Goes u) need.0 e (λ e. cc) (λ _ e. rest e)
+guarded_goes (need ∷ needs) s u e = grind (arith, nat_tests, guarded_goes needs s u, true_given)
 
 pub guarded_met : (list : List Need) (s u : State) → guarded list s ≡ Goes u → AllTrue list
 guarded_met [] s u e = tt
-guarded_met (need ∷ list) s u e =
-    let rest : (guarded list s ≡ Goes u → AllTrue list) = guarded_met list s u in
-    true_given (λ b. cond b (guarded list s) (IsStuck need.1) ≡ Goes u) need.0 e (λ e. cc) (λ h e. (h, rest e))
+guarded_met (need ∷ list) s u e = grind (arith, nat_tests, guarded_met list s u, true_given)
 
 -- the instruction at hand as a step goes on has met its needs, and does what it does
 pub acts_at :
@@ -34,5 +31,4 @@ acts_at p c s u fr ts i at there e =
 
 -- where nothing is stuck, the option has something
 pub goes_some : {A : Type 0} (o : Option A) (run : Option A → Outcome) (stuck : Stuck) (u : State) → run None ≡ IsStuck stuck → run o ≡ Goes u → (x : A) × (o ≡ Some x) × (run (Some x) ≡ Goes u)
-goes_some None run stuck u none e = cc
-goes_some (Some x) run stuck u none e = (x, refl, e)
+goes_some x run stuck u none e = grind arith

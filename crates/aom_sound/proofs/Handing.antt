@@ -41,12 +41,10 @@ token_alike name token owner cs = record {
 }
   where
     queue : (b : Bool) (v : Service) → (cond b (handed_out token) v).queue ≡ (cond b unserved v).queue
-    queue true v = refl
-    queue false v = refl
+    queue x v = grind arith
 
     session : (b : Bool) (v : Service) → (cond b (handed_out token) v).sessions ≡ (cond b unserved v).sessions
-    session true v = refl
-    session false v = refl
+    session x v = grind arith
 
 pub token_active : (k : Option ClassKind) → is_token_kind k ≡ true → is_active_kind k ≡ true
 token_active k e = grind arith

@@ -1,11 +1,12 @@
 -- What a method works on has all that the method's class declares: by what is said of the family of its class.
-use Rattle.std.proofs.Common.{None, Option, Some, ap, arith, refl, subst, sym, true, ℕ, ◌∙◌, ◌≡◌}
+use Rattle.std.proofs.lemmas.Bool.Decides.{nat_tests}
+use Rattle.std.proofs.Common.{Option, Some, ap, arith, refl, subst, sym, true, ℕ, ◌∙◌, ◌≡◌}
 use Rattle.std.specs.Prelude.{is_some}
 use Rattle.aom_image.specs.Image.{Image}
 use Rattle.aom_image.specs.Views.{method_class, method_role}
 use Rattle.aom_image.specs.declared.method.Role.{Role}
 use Rattle.aom_image.specs.declared.method.Thing.{Thing}
-use Rattle.aom_image.specs.declared.method.Thing.TheVariants.{Message, Object as An_object_of}
+use Rattle.aom_image.specs.declared.method.Thing.TheVariants.{Object as An_object_of}
 use Rattle.aom_roles.specs.Classes.{sessions_at, sessions_in}
 use Rattle.aom_roles.specs.Families.{descends}
 use Rattle.aom_roles.proofs.Descending.{itself}
@@ -14,7 +15,7 @@ use Rattle.aom_shape.specs.Things.{Holder, Member, field_thing, holder_by, holde
 use Rattle.aom_roles.specs.Shapes.{kind_of}
 use Rattle.aom_sound.specs.Laws.{IsFamily}
 use Rattle.aom_sound.specs.Servers.{session_class}
-use Rattle.aom_sound.specs.State.{AtRoot, Home, Inside, Static, home_holder, home_view, thing_holder, thing_view}
+use Rattle.aom_sound.specs.State.{Home, home_holder, home_view, thing_holder}
 use Rattle.aom_sound.specs.WellTyped.{view_holder, CountsAs, Houses, IsOfFamily}
 
 pub houses_itself : (p : Image) (h : Holder) → Houses p h h
@@ -34,27 +35,11 @@ houses_family p family c d h = record {
 -- an object of a class has what a method declares that is of the class or of one above it
 pub houses_role :
     (p : Image) → IsFamily p → (x : Thing) (c m : ℕ) → x ≡ An_object_of c → (of : IsOfFamily p c m) → holder_by (method_role p m) (Some of.class) ≡ Member of.class → Houses p (thing_holder x) (holder_of p m)
-houses_role p family x c m thing of member =
-    subst (λ y. Houses p (thing_holder y) (holder_of p m)) (sym thing)
-    (subst (λ h. Houses p (Member c) h) (sym (ap (λ k. holder_by (method_role p m) k) of.of ∙ member)) (houses_family p family c of.class of.above))
+houses_role p family x c m thing of member = grind (arith, nat_tests, houses_family p family c of.class of.above)
 
 -- what a place owns counts as its own class
 pub houses_counts : (p : Image) (h : Home) (k : Holder) → Houses p (home_holder h) k → CountsAs p (home_holder h) (home_view h) k
-houses_counts p Static k houses = record { some = λ c e. cc; between = λ v e. cc; fields = λ f t is. let e : None ≡ Some t = houses.fields f t is in cc }
-houses_counts p AtRoot k houses = record { some = λ c e. cc; between = λ v e. cc; fields = houses.fields }
-houses_counts p (Inside o from) k houses = of_thing o.thing houses
-  where
-    of_thing : (x : Thing) → Houses p (thing_holder x) k → CountsAs p (thing_holder x) (thing_view x) k
-    of_thing (An_object_of c) houses =
-        let works = houses.works c refl in
-        let member = houses.member works.0 works.1 in
-        let same : member.0 ≡ c = let e : Member c ≡ Member member.0 = member.1 in cc in
-        let below : descends p c works.0 ≡ true = subst (λ x. descends p x works.0 ≡ true) same member.2 in record {
-          some = λ x e. (c, refl);
-          between = λ v e. let is : c ≡ v = cc in (c, refl, subst (λ x. descends p c x ≡ true) is (itself p c), works.0, works.1, subst (λ x. descends p x works.0 ≡ true) is below);
-          fields = houses.fields;
-        }
-    of_thing Message houses = record { some = λ c e. cc; between = λ v e. cc; fields = λ f t is. let e : None ≡ Some t = houses.fields f t is in cc }
+houses_counts p x k houses = grind (arith, nat_tests, itself p)
 
 pub counts_same : (p : Image) (h : Home) (k : Holder) → home_holder h ≡ k → CountsAs p (home_holder h) (home_view h) k
 counts_same p h k e = houses_counts p h k (houses_same p (home_holder h) k e)
@@ -64,9 +49,7 @@ pub counts_line :
     (p : Image) (x : Thing) (c m : ℕ) → x ≡ An_object_of c → (of : IsOfFamily p c m) → holder_of p m ≡ Member of.class → CountsAs p (thing_holder x) (method_class p m) (holder_of p m)
 counts_line p x c m thing of works = record {
   some = λ b e. (of.class, of.of);
-  between = λ v e.
-      let is : of.class ≡ v = let both = sym of.of ∙ e in cc in
-      (c, ap thing_holder thing, subst (λ y. descends p c y ≡ true) is of.above, of.class, works, subst (λ y. descends p y of.class ≡ true) is (itself p of.class));
+  between = grind (arith, nat_tests, itself p of.class);
   fields = λ f t is. ap (λ v. field_thing p (view_holder v) f) of.of ∙ ap (λ h. field_thing p h f) (sym works) ∙ is;
 }
 
@@ -76,18 +59,12 @@ destructs_member r d e = grind arith
 
 -- a field that the method's class declares is the same field
 pub houses_field : (p : Image) (h k : Holder) (f : ℕ) → Houses p h k → is_some (field_thing p k f) ≡ true → field_thing p h f ≡ field_thing p k f
-houses_field p h k f houses some = go (field_thing p k f) refl some
-  where
-    go : (o : Option Thing) → field_thing p k f ≡ o → is_some o ≡ true → field_thing p h f ≡ o
-    go None e some = cc
-    go (Some t) e some = houses.fields f t e
+houses_field p h k f houses some = grind (arith, nat_tests)
 
 -- nothing else stands for a session
 pub stands_session : (p : Image) → IsFamily p → (c session : ℕ) → sessions_at p c ≡ Some session → (x : Thing) → stands_for p x (An_object_of session) ≡ true → x ≡ An_object_of session
-stands_session p family c session at (An_object_of d) stands = ap An_object_of (family.alone c session d at stands)
-stands_session p family c session at Message stands = cc
+stands_session p family c session at x stands = grind arith
 
 pub stands_session_of : (p : Image) → IsFamily p → (t : Thing) (session : ℕ) → session_class p t ≡ Some session → (x : Thing) → stands_for p x (An_object_of session) ≡ true → x ≡ An_object_of session
 unfolding kind_of sessions_in
-stands_session_of p family (An_object_of c) session e x stands = stands_session p family c session e x stands
-stands_session_of p family Message session e x stands = cc
+stands_session_of p family x session e y stands = grind (arith, nat_tests, stands_session p family)

@@ -1,14 +1,11 @@
 -- Only registers that a method has come to own: an instruction names no other, and arguments come to the first ones.
-use Rattle.std.specs.Ordering.{int_eq}
-use Rattle.aom_image.specs.declared.method.Role.TheVariants.{Error}
+use Rattle.std.proofs.lemmas.Bool.Decides.{nat_tests}
 use Rattle.aom_sound.specs.World.{heard_one, taken_from, Heard, Outside, turn}
 use Rattle.aom_sound.proofs.Turned.{obeys, handles, accepts, attends, parts, completes, keeps_all, kills, picks, turns_so}
-use Rattle.std.proofs.Common.{Bool, List, None, Option, Some, [], arith, cond, false, length, refl, subst, suc, true, ℕ, ℤ, ◌+◌, ◌∷◌, ◌≡◌, ◌≤◌, pos, sym}
+use Rattle.std.proofs.Common.{Bool, List, None, Option, Some, [], arith, cond, false, length, subst, suc, true, ℕ, ℤ, ◌+◌, ◌∷◌, ◌≡◌, ◌≤◌, sym}
 use Rattle.aom_image.specs.Image.{Image}
 use Rattle.aom_instructions.specs.Operands.{IsRegister}
-use Rattle.aom_image.specs.Views.{arguments_of, instr_at, method_role}
-use Rattle.aom_instructions.specs.declared.instr.Instr.{Instr}
-use Rattle.aom_instructions.specs.declared.instr.Instr.TheVariants.{Call, Trap}
+use Rattle.aom_image.specs.Views.{instr_at}
 use Rattle.aom_image.specs.declared.method.Argument.{Argument}
 use Rattle.aom_image.specs.declared.method.Argument.TheVariants.{Own as Takes_own, Word as Takes_word}
 use Rattle.aom_image.specs.declared.method.Gives.{Gives}
@@ -17,28 +14,24 @@ use Rattle.aom_sound.proofs.Fitting.{EffectFits, SpotFits, UpdateFits, fits}
 use Rattle.aom_sound.proofs.Moving.{steps_are_moves}
 use Rattle.aom_sound.specs.Steps.{Acts, Arrives, Clears, Comes_out, Empties, Ends, Move, Rests, Undoes, Vanishes}
 use Rattle.aom_sound.proofs.Guarded.{acts_at}
-use Rattle.aom_sound.specs.Calls.{accepted_cells, passed_cells, result_cells, result_register, returned}
+use Rattle.aom_sound.specs.Calls.{passed_cells, result_cells, result_register, returned}
 use Rattle.aom_sound.specs.Cleanup.{top_place}
 use Rattle.aom_sound.specs.Destruction.{parting, first_session}
 use Rattle.aom_sound.specs.Tokens.{all_redeemed, next_token, promised, redeemed_by, token_of}
-use Rattle.aom_sound.specs.Effects.{Handed, Replied, The_message, Calls, Cancels, Carried, Destroys, Destroys_last, Effect, Goes_on, In_field, In_register, Leaves, Made, Popped, Pushed, Requested, Returns, Sets_trap, Spot, Update, Written, applied, cells_after, effect, spot_place, Sessioned}
-use Rattle.aom_sound.specs.Enlisted.{cancelled, cancelling, ended_cells, on_request, own_request, rerequested, part_of}
+use Rattle.aom_sound.specs.Effects.{Handed, Replied, Carried, Effect, Made, Popped, Pushed, Requested, Spot, Update, Written, applied, cells_after, effect, spot_place, Sessioned}
+use Rattle.aom_sound.specs.Enlisted.{ended_cells, on_request, own_request, rerequested}
 use Rattle.aom_sound.specs.Laws.{IsWired, RegistersKeep}
-use Rattle.aom_sound.specs.Moves.{counted, dispatch_ends, main_ends, step, answered, asking, failed, handled, object_ends}
+use Rattle.aom_sound.specs.Moves.{counted, dispatch_ends, main_ends, step, answered, handled, object_ends}
 use Rattle.aom_sound.specs.Places.{Service, set_service, Session, In_service, Queued, Cell, Elsewhere, Entry, Going, Object, Place, Register, Request, Root, held, moved, same_place, set_request, set_word_field, without, set_session, service_of}
 use Rattle.aom_sound.specs.Registers.{AllInRange, IsInRange}
-use Rattle.aom_sound.specs.State.{Seat, Of_server, Accepts, Service_left, Parts, AtRoot, Choice, Dispatch, Dispatched, Frame, Goes, Home, Inside, Of_main, Run, State, Static, Task, Trapped, field_place, Answered, Asks, Object_left, Of_object}
+use Rattle.aom_sound.specs.State.{Seat, Of_server, Service_left, Parts, Choice, Dispatch, Dispatched, Frame, Goes, Home, Of_main, Run, State, Task, Trapped, field_place, Answered, Asks, Object_left, Of_object}
 use Rattle.aom_sound.specs.Words.{here, stored}
-use Rattle.aom_rules.specs.Requests.{is_cancel}
 use Rattle.aom_sound.specs.Natives.{all_bereaved, resessioned}
-use Rattle.aom_sound.specs.Servers.{withdrawn, without_queue, is_queue, is_from, left_by, is_queue_of, all_unslotted}
-use Rattle.aom_sound.specs.Clients.{each_unslotted, commanded, Listed, connecting, sending, leaving, told, client_at}
+use Rattle.aom_sound.specs.Servers.{withdrawn, without_queue, is_queue_of, all_unslotted}
+use Rattle.aom_sound.specs.Clients.{each_unslotted, commanded, Listed, connecting, sending, leaving, told}
 use Rattle.aom_clients.specs.declared.client.Client.{Client}
-use Rattle.aom_clients.specs.declared.client.Client.TheVariants.{Open}
 use Rattle.aom_clients.specs.declared.refusal.Refusal.{Refusal}
-use Rattle.std.specs.Prelude.{◌&&◌}
 use Rattle.aom_transcript.specs.declared.event.Command.{Command}
-use Rattle.aom_transcript.specs.declared.event.Command.TheVariants.{Connect, Send, Close, Die}
 
 move_in_range : (p q : Place) (cs : List Cell) → IsInRange q → AllInRange cs → AllInRange (moved p q cs)
 move_in_range p q [] fits all = tt
@@ -50,11 +43,7 @@ move_in_range p q (c ∷ cs) fits all = (go (same_place c.owner p), move_in_rang
 
 end_in_range : (p : Place) (cs : List Cell) → AllInRange cs → AllInRange (without p cs)
 end_in_range p [] all = tt
-end_in_range p (c ∷ cs) all = go (same_place c.owner p) (end_in_range p cs all.1)
-  where
-    go : (b : Bool) → AllInRange (without p cs) → AllInRange (cond b (without p cs) (c ∷ without p cs))
-    go true rest = rest
-    go false rest = (all.0, rest)
+end_in_range p (c ∷ cs) all = grind (arith, nat_tests, end_in_range p cs all.1)
 
 write_in_range : (n w : ℕ) (v : ℤ) (cs : List Cell) → AllInRange cs → AllInRange (set_word_field n w v cs)
 write_in_range n w v [] all = tt
@@ -77,8 +66,7 @@ redeemed_in_range order code [] all = tt
 redeemed_in_range order code (c ∷ cs) all = (all.0, redeemed_in_range order code cs all.1)
 
 redeems_in_range : (order : Option ℕ) (code : ℤ) (cs : List Cell) → AllInRange cs → AllInRange (redeemed_by order code cs)
-redeems_in_range None code cs all = all
-redeems_in_range (Some order) code cs all = redeemed_in_range order code cs all
+redeems_in_range x code cs all = grind (arith, nat_tests, redeemed_in_range)
 
 -- what clients have at cells changes no owner but where a message goes
 serve_in_range : (n : ℕ) (v : Service) (cs : List Cell) → AllInRange cs → AllInRange (set_service n v cs)
@@ -86,13 +74,11 @@ serve_in_range n v [] all = tt
 serve_in_range n v (c ∷ cs) all = (all.0, serve_in_range n v cs all.1)
 
 fewer_in_range : (b : Bool) (c : Cell) (cs : List Cell) → IsInRange c.owner → AllInRange cs → AllInRange (cond b cs (c ∷ cs))
-fewer_in_range true c cs fits all = all
-fewer_in_range false c cs fits all = (fits, all)
+fewer_in_range x c cs fits all = grind (arith, nat_tests, fits)
 
 withdrawn_in_range : (client : ℕ) (cs : List Cell) → AllInRange cs → AllInRange (withdrawn client cs)
 withdrawn_in_range client [] all = tt
-withdrawn_in_range client (c ∷ cs) all =
-    fewer_in_range (is_queue c.owner && is_from client c.service.sender) (record c { service = left_by client c.service }) (withdrawn client cs) all.0 (withdrawn_in_range client cs all.1)
+withdrawn_in_range client (c ∷ cs) all = grind (arith, nat_tests, fewer_in_range, withdrawn_in_range client cs all.1)
 
 dequeued_in_range : (n : ℕ) (cs : List Cell) → AllInRange cs → AllInRange (without_queue n cs)
 dequeued_in_range n [] all = tt
@@ -107,40 +93,24 @@ each_unslotted_in_range [] cs all = all
 each_unslotted_in_range (c ∷ clients) cs all = each_unslotted_in_range clients (all_unslotted c cs) (unslotted_in_range c cs all)
 
 field_in_range : (home : Home) (f : ℕ) → IsInRange (field_place home f)
-field_in_range Static f = tt
-field_in_range AtRoot f = tt
-field_in_range (Inside o from) f = tt
+field_in_range x f = grind arith
 
 -- the result of a call comes to a register that the call names
 result_in_range : (p : Image) → IsWired p → (m place : ℕ) → IsRegister (result_register (instr_at p m place))
-result_in_range p wired m place = go (instr_at p m place) refl
-  where
-    go : (i : Option Instr) → instr_at p m place ≡ i → IsRegister (result_register i)
-    go None e = omega arith
-    go (Some (Call target m' first c)) e = (wired.operands m place (Call target m' first c) e).1.operands.c
-    go (Some (Trap target m' first c)) e = let fits = (wired.operands m place (Trap target m' first c) e).1.operands.c in omega arith
-    go (Some _) e = omega arith
+result_in_range p wired m place = grind (arith, nat_tests, fits)
 
 module _ (p : Image) (wired : IsWired p) (fr : Frame) (ts : List Task) (s : State) (all : AllInRange s.cells) where
   spot_in_range : (spot : Spot) → SpotFits p spot → IsInRange (spot_place p fr ts s spot)
-  spot_in_range (In_register a) fits = fits
-  spot_in_range (In_field f) fits = field_in_range fr.home f
-  spot_in_range The_message fits = tt
+  spot_in_range x fits = grind (arith, nat_tests, fits, field_in_range fr.home)
 
   store_in_range : (home : Home) (w : ℕ) (v : ℤ) → AllInRange (stored s.cells home w v)
-  store_in_range Static w v = all
-  store_in_range AtRoot w v = all
-  store_in_range (Inside o from) w v = write_in_range o.name w v s.cells all
+  store_in_range x w v = grind (arith, nat_tests, write_in_range)
 
   request_in_range : (home : Home) (r : Option Request) → AllInRange (rerequested s.cells home r)
-  request_in_range Static r = all
-  request_in_range AtRoot r = all
-  request_in_range (Inside o from) r = asks_in_range o.name r s.cells all
+  request_in_range x r = grind (arith, nat_tests, asks_in_range)
 
   session_in_range : (home : Home) (session : Bool) → AllInRange (resessioned s.cells home session)
-  session_in_range Static session = all
-  session_in_range AtRoot session = all
-  session_in_range (Inside o from) session = opens_in_range o.name session s.cells all
+  session_in_range x session = grind (arith, nat_tests, opens_in_range)
 
   update_in_range : (u : Update) → UpdateFits p u → AllInRange (cells_after p fr ts s u)
   update_in_range (Carried from to) fits = move_in_range (spot_place p fr ts s from) (spot_place p fr ts s to) s.cells (spot_in_range to fits) all
@@ -157,9 +127,7 @@ module _ (p : Image) (wired : IsWired p) (fr : Frame) (ts : List Task) (s : Stat
   pass_in_range : (depth : ℕ) (xs : List Argument) (first to : ℕ) (cs : List Cell) → to + length xs ≤ 16 → AllInRange cs → AllInRange (passed_cells p fr ts s depth xs first to cs)
   pass_in_range depth [] first to cs few all = all
   pass_in_range depth (Takes_word ∷ xs) first to cs few all = pass_in_range depth xs (suc first) (suc to) cs (omega arith) all
-  pass_in_range depth (Takes_own t ∷ xs) first to cs few all =
-      pass_in_range depth xs (suc first) (suc to) (moved (here fr ts s first) (Register depth to) cs) (omega arith)
-      (move_in_range (here fr ts s first) (Register depth to) cs (omega arith) all)
+  pass_in_range depth (Takes_own t ∷ xs) first to cs few all = grind (arith, nat_tests, pass_in_range depth xs, move_in_range)
 
   bring_in_range : (g : Gives) (a x : ℕ) (below : List Task) → IsRegister x → AllInRange (result_cells p fr ts s g a x below)
   bring_in_range Nothing a x below fits = all
@@ -171,38 +139,27 @@ module _ (p : Image) (wired : IsWired p) (fr : Frame) (ts : List Task) (s : Stat
   return_in_range : (g : Gives) (a : ℕ) (below : List Task) → AllInRange (returned p fr ts s g a below).cells
   return_in_range g a (Run caller ∷ below) = bring_in_range g a _ below (result_in_range p wired caller.method caller.place)
   return_in_range g a (Trapped ∷ Run caller ∷ below) = bring_in_range g a _ below (result_in_range p wired caller.method caller.place)
-  return_in_range g a (Trapped ∷ Dispatched d ∷ below) = go d
-    where
-      go : (d : Dispatch) → AllInRange (accepted_cells d (here fr ts s a) s.cells)
-      go (Of_server x client Accepts) =
-          serve_in_range x.object.name _ (moved (here fr ts s a) (Elsewhere (Session x.object.name client)) s.cells)
-          (move_in_range (here fr ts s a) (Elsewhere (Session x.object.name client)) s.cells tt all)
-      go _ = all
+  return_in_range g a (Trapped ∷ Dispatched d ∷ below) = grind (arith, nat_tests, serve_in_range, move_in_range)
   return_in_range g a (Trapped ∷ _) = all
   return_in_range g a _ = all
 
   -- the request of what a method worked on counts for none
   ended_in_range : AllInRange (ended_cells p fr s.cells)
-  ended_in_range = go (is_cancel (method_role p fr.method))
-    where
-      r : Option Request
-      r = on_request cancelled (own_request s.cells fr.home)
-
-      go : (b : Bool) → AllInRange (cond b (rerequested s.cells fr.home r) s.cells)
-      go true = request_in_range fr.home r
-      go false = all
+  ended_in_range = grind (arith, nat_tests, request_in_range fr.home)
 
 module _ (p : Image) (wired : IsWired p) (fr : Frame) (ts : List Task) (s : State) (all : AllInRange s.cells) where
   apply_in_range : (e : Effect) → EffectFits p e → AllInRange (applied p fr ts s e).cells
-  apply_in_range (Goes_on ch) fits = update_in_range p wired fr ts s all ch.update fits
-  apply_in_range (Leaves code u) fits = update_in_range p wired fr ts s all u fits
-  apply_in_range (Calls target m first) fits = pass_in_range p wired fr ts s all (suc (length ts)) (arguments_of p m) first 0 s.cells (omega arith) all
-  apply_in_range (Sets_trap target m first) fits = pass_in_range p wired fr ts s all (suc (suc (length ts))) (arguments_of p m) first 0 s.cells (omega arith) all
-  apply_in_range (Cancels m) fits = request_in_range p wired fr ts s all fr.home (on_request cancelling (own_request s.cells fr.home))
-  apply_in_range (Returns g a) fits = return_in_range p wired fr ts (record s { cells = ended_cells p fr s.cells }) (ended_in_range p wired fr ts s all) g a ts
-  apply_in_range (Destroys o a words) fits = move_in_range (here fr ts s a) (Going (suc (length ts))) s.cells tt all
-  apply_in_range (Destroys_last o) fits = move_in_range (top_place s.items) (Going (suc (length ts))) s.cells tt all
-  apply_in_range _ fits = all
+  apply_in_range x fits = grind (
+    arith,
+    nat_tests,
+    update_in_range p wired fr ts s all,
+    fits,
+    pass_in_range p wired fr ts s all,
+    request_in_range p wired fr ts s all fr.home,
+    return_in_range p wired fr ts,
+    ended_in_range p wired fr ts s all,
+    move_in_range,
+  )
 
 -- a session goes before its server
 parting_in_range : (p : Image) (o : Object) (x : Option Seat) (below : List Task) (s : State) → AllInRange s.cells → AllInRange (parting p o x below s).cells
@@ -210,28 +167,18 @@ parting_in_range p o None below s all = all
 parting_in_range p o (Some x) below s all = move_in_range x.place (Going (suc (suc (length below)))) s.cells tt all
 
 close_in_range : (p : Image) (s : State) (b : Bool) (root : Option Object) → AllInRange s.cells → AllInRange (main_ends p b root s).cells
-close_in_range p s true (Some o) all = move_in_range (Elsewhere Root) (Going 1) s.cells tt all
-close_in_range p s true None all = all
-close_in_range p s false root all = all
+close_in_range p s x root all = grind (arith, nat_tests, move_in_range (Elsewhere Root) (Going 1) s.cells)
 
 object_in_range : (p : Image) (s : State) → AllInRange s.cells → AllInRange (object_ends p s).cells
 object_in_range p s all = close_in_range p (handled s) s.rest.stopped (held s.cells (Elsewhere Root)) all
 
 answer_in_range : (p : Image) (answer : ℤ) (s : State) → AllInRange s.cells → AllInRange (answered p answer s).cells
-answer_in_range p answer s all = go (int_eq answer (pos 0))
-  where
-    go : (b : Bool) → AllInRange (cond b (object_ends p s) (failed answer s)).cells
-    go true = object_in_range p s all
-    go false = all
+answer_in_range p answer s all = grind (arith, nat_tests, object_in_range p s all)
 
 dispatch_in_range : (p : Image) (d : Dispatch) (s : State) → AllInRange s.cells → AllInRange (dispatch_ends p d s).cells
 dispatch_in_range p Of_main s all = close_in_range p s s.rest.stopped (held s.cells (Elsewhere Root)) all
 dispatch_in_range p (Of_object x) s all = object_in_range p s all
-dispatch_in_range p (Object_left x code) s all = go (part_of p Error x.object.thing)
-  where
-    go : (m : Option ℕ) → AllInRange (asking p m x code s).cells
-    go None = answer_in_range p code s all
-    go (Some m) = all
+dispatch_in_range p (Object_left x code) s all = grind (arith, nat_tests, answer_in_range p code s all)
 dispatch_in_range p (Asks x) s all = object_in_range p s all
 dispatch_in_range p (Answered x answer) s all = answer_in_range p answer s all
 dispatch_in_range p (Of_server x client (Service_left code)) s all = end_in_range (Elsewhere In_service) s.cells all
@@ -246,22 +193,16 @@ module _ (p : Image) (client : ℕ) (s : State) (all : AllInRange s.cells) where
   connects_in_range (Some r) server slots = all
 
   sends_in_range : (refused : Option Refusal) (c : Client) (name : ℕ) (words : List ℤ) → AllInRange (sending p client s refused c name words).cells
-  sends_in_range None (Open server session slots) name words = (tt, serve_in_range server _ s.cells all)
-  sends_in_range _ _ name words = all
+  sends_in_range x y name words = grind (arith, nat_tests, serve_in_range)
 
   tells_in_range : (c : Client) (cs : List Cell) → AllInRange cs → AllInRange (told p client s c cs)
-  tells_in_range (Open server session slots) cs all = serve_in_range server _ cs all
-  tells_in_range _ cs all = all
+  tells_in_range x cs y = grind (arith, nat_tests, serve_in_range)
 
   leaves_in_range : (to : Option Client) → AllInRange (leaving p client s to).cells
-  leaves_in_range None = all
-  leaves_in_range (Some to) = tells_in_range (client_at s.clients client) (withdrawn client s.cells) (withdrawn_in_range client s.cells all)
+  leaves_in_range x = grind (arith, nat_tests, tells_in_range, withdrawn_in_range client s.cells all)
 
   commands_in_range : (command : Command) (name : ℕ) → AllInRange (commanded p client s command name).cells
-  commands_in_range (Connect class slots) name = connects_in_range _ _ slots
-  commands_in_range (Send words) name = sends_in_range _ _ name words
-  commands_in_range Close name = leaves_in_range _
-  commands_in_range Die name = leaves_in_range _
+  commands_in_range x name = grind (arith, nat_tests, connects_in_range, sends_in_range, leaves_in_range)
 
 moves : (p : Image) → IsWired p → (c : Choice) (s u : State) → AllInRange s.cells → step p c s ≡ Goes u → AllInRange u.cells
 moves p wired c s u all e = of (steps_are_moves p c s u e)

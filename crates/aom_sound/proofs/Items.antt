@@ -1,5 +1,6 @@
 -- What the layers know of the cleanup stack's items.
-use Rattle.std.proofs.Common.{Bool, List, [], ap, arith, cond, false, length, refl, subst, suc, sym, true, zero, ℕ, ◌+◌, ◌-◌, ◌<◌, ◌==◌, ◌∙◌, ◌∷◌, ◌≡◌}
+use Rattle.std.proofs.lemmas.Bool.Decides.{nat_tests}
+use Rattle.std.proofs.Common.{List, [], ap, arith, cond, false, length, refl, subst, suc, sym, true, zero, ℕ, ◌+◌, ◌-◌, ◌<◌, ◌==◌, ◌∙◌, ◌∷◌, ◌≡◌}
 use Rattle.std.proofs.lemmas.Bool.{eq-eqb, eqb-true, ne_eqb}
 use Rattle.std.specs.Prelude.{is_some}
 use Rattle.aom_image.specs.Image.{Image}
@@ -30,8 +31,7 @@ pub mark_on_top : (items : List Item) (rest : List Form) → forms items ≡ Mar
 mark_on_top x rest e = grind arith
 
 pub undos_below : (p : Image) (items : List Item) → AllUndo p items → AllUndo p (below_top items)
-undos_below p (An_operation m w ∷ items) u = u.1
-undos_below p _ u = u
+undos_below p x u = grind arith
 
 -- an item for each entry
 pub length_each : (es : List Pushed) (below : List Form) → length (objects es below) ≡ length es + length below
@@ -71,49 +71,26 @@ readied_items (e ∷ es) (suc k) below = ap (λ fs. entry_form e ∷ fs) (readie
 -- what is claimed of an entry, counted from the last
 pub entry_claimed : (es : List Pushed) (below : List Form) (k : ℕ) (rest : Kind) → k < length es → entry_claim es below (length (objects es below) - suc k) rest ≡ entry_kind (at Pushed_operation es k)
 entry_claimed [] below k rest lt = absurd (omega arith)
-entry_claimed (x ∷ es) below zero rest lt =
-    let same : suc (length (objects es below)) - 1 ≡ length (objects es below) = omega arith in
-    ap (λ b. cond b (entry_kind x) (entry_claim es below (suc (length (objects es below)) - 1) rest)) (eq-eqb _ _ (sym same))
-entry_claimed (x ∷ es) below (suc k) rest lt =
-    let same : suc (length (objects es below)) - suc (suc k) ≡ length (objects es below) - suc k = omega arith in
-    let deep = length_each es below in
-    ap (λ n. cond (length (objects es below) == n) (entry_kind x) (entry_claim es below n rest)) same
-    ∙ ap (λ b. cond b (entry_kind x) (entry_claim es below (length (objects es below) - suc k) rest)) (ne_eqb _ _ (λ e. absurd (omega arith)))
-    ∙ entry_claimed es below k rest (omega arith)
+entry_claimed (x ∷ es) below zero rest lt = grind (arith, nat_tests, eq-eqb)
+entry_claimed (x ∷ es) below (suc k) rest lt = grind (arith, nat_tests, length_each es below, ne_eqb, entry_claimed es below k rest)
 
 readied_kind : (e : Pushed) → entry_kind (readied_entry e) ≡ readied (entry_kind e)
-readied_kind (Pushed_object c a) = refl
-readied_kind Pushed_operation = refl
+readied_kind x = grind arith
 
 -- that entry alone is claimed anew
 pub readied_claim :
     (es : List Pushed) (below : List Form) (k j : ℕ) (rest : Kind) → k < length es →
     entry_claim (readied_at es k) below j rest ≡ cond ((length (objects es below) - suc k) == j) (readied (entry_kind (at Pushed_operation es k))) (entry_claim es below j rest)
 readied_claim [] below k j rest lt = absurd (omega arith)
-readied_claim (x ∷ es) below zero j rest lt =
-    let same : suc (length (objects es below)) - 1 ≡ length (objects es below) = omega arith in
-    ap (λ v. cond (length (objects es below) == j) v (entry_claim es below j rest)) (readied_kind x)
-    ∙ twice (length (objects es below) == j)
-    ∙ ap (λ n. cond (n == j) (readied (entry_kind x)) (cond (length (objects es below) == j) (entry_kind x) (entry_claim es below j rest))) (sym same)
-  where
-    twice : (b : Bool) → cond b (readied (entry_kind x)) (entry_claim es below j rest) ≡ cond b (readied (entry_kind x)) (cond b (entry_kind x) (entry_claim es below j rest))
-    twice true = refl
-    twice false = refl
-readied_claim (x ∷ es) below (suc k) j rest lt =
-    let same : suc (length (objects es below)) - suc (suc k) ≡ length (objects es below) - suc k = omega arith in
-    ap (λ fs. cond (length fs == j) (entry_kind x) (entry_claim (readied_at es k) below j rest)) (readied_items es k below)
-    ∙ ap (λ v. cond (length (objects es below) == j) (entry_kind x) v) (readied_claim es below k j rest (omega arith))
-    ∙ past (length (objects es below) == j) ((length (objects es below) - suc k) == j) refl refl
-    ∙ ap (λ n. cond (n == j) (readied (entry_kind (at Pushed_operation es k))) (cond (length (objects es below) == j) (entry_kind x) (entry_claim es below j rest))) (sym same)
-  where
-    past :
-        (a b : Bool) → (length (objects es below) == j) ≡ a → ((length (objects es below) - suc k) == j) ≡ b →
-        cond a (entry_kind x) (cond b (readied (entry_kind (at Pushed_operation es k))) (entry_claim es below j rest))
-        ≡ cond b (readied (entry_kind (at Pushed_operation es k))) (cond a (entry_kind x) (entry_claim es below j rest))
-    past true true f g = absurd (omega (arith, lt, length_each es below, eqb-true _ _ f, eqb-true _ _ g))
-    past true false f g = refl
-    past false true f g = refl
-    past false false f g = refl
+readied_claim (x ∷ es) below zero j rest lt = grind (arith, nat_tests, readied_kind x)
+readied_claim (x ∷ es) below (suc k) j rest lt = grind (
+  arith,
+  nat_tests,
+  readied_items es k below,
+  readied_claim es below k j rest,
+  length_each es below,
+  eqb-true,
+)
 
 -- a method that begins with no entry over layers that are as they should be
 pub begins_well :

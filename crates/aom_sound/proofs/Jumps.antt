@@ -1,5 +1,6 @@
 -- The laws of jumps and loops.
-use Rattle.std.proofs.Common.{Bool, List, None, Option, Some, ap, cond, false, refl, subst, suc, sym, true, zero, ℕ, ℤ, ◌-◌, ◌==◌, ◌∙◌, ◌∷◌, ◌≡◌, arith}
+use Rattle.std.proofs.lemmas.Bool.Decides.{nat_tests}
+use Rattle.std.proofs.Common.{Bool, List, None, Option, Some, ap, false, refl, subst, suc, sym, true, zero, ℕ, ℤ, ◌-◌, ◌∙◌, ◌∷◌, ◌≡◌, arith}
 use Rattle.std.proofs.lemmas.Bool.{eqb-true}
 use Rattle.std.specs.Prelude.{is_none, is_some}
 use Rattle.aom_image.specs.Image.{Image}
@@ -31,11 +32,7 @@ use Rattle.aom_instructions.specs.declared.instr.Instr.{Instr}
 pub words_kept :
     (words : List (Option ℤ)) (sh : Shape) (a : ℕ) (k : Kind) → ((i : ℕ) → WordFits (at None words i) (register sh i)) → WordFits (at None words a) k → (i : ℕ) →
     WordFits (at None words i) (register (set_register sh a k) i)
-words_kept words sh a k h w i = subst (λ x. WordFits (at None words i) x) (sym (at-put_at Unset sh.registers a i k)) (go (a == i) refl)
-  where
-    go : (b : Bool) → (a == i) ≡ b → WordFits (at None words i) (cond b k (register sh i))
-    go true f = subst (λ j. WordFits (at None words j) k) (eqb-true a i f) w
-    go false f = h i
+words_kept words sh a k h w i = grind (arith, nat_tests, at-put_at Unset sh.registers a i k, eqb-true a i)
 
 module _ (p : Image) (t : Typing) (c : Choice) (s : State) (fr : Frame) (sh : Shape) (ls : List Layer) (at_hand : At p t s fr sh ls) where
   g : Fitted p t s.cells fr sh ls
@@ -65,8 +62,8 @@ module _ (p : Image) (t : Typing) (c : Choice) (s : State) (fr : Frame) (sh : Sh
       go Word o ek eo leads f = let e : is_object_or_null Word ≡ true = ap is_object_or_null (sym ek) ∙ n.0 in cc
       go Null None ek eo leads f =
           well p t c s fr sh ls at_hand _ (to_place fr to) sh refl at_hand.items at_hand.undos (settle p t s.cells (to_place fr to) sh ls (placed (to_place fr to) refl refl refl refl) leads.0)
-      go Null (Some o) ek eo leads f = absurd (subst (λ x. Fits p (seen s.cells) x Null) eo (subst (λ k. Fits p (seen s.cells) (held s.cells (top ls a)) k) ek f))
-      go (Own x y) None ek eo leads f = absurd (subst (λ o. Fits p (seen s.cells) o (Own x y)) eo (subst (λ k. Fits p (seen s.cells) (held s.cells (top ls a)) k) ek f))
+      go Null (Some o) ek eo leads f = grind (arith, nat_tests, top ls a)
+      go (Own x y) None ek eo leads f = grind (arith, nat_tests, top ls a)
       go (Own x y) (Some o) ek eo leads f =
           well p t c s fr sh ls at_hand _ (next fr) sh refl at_hand.items at_hand.undos (settle p t s.cells (next fr) sh ls (placed (next fr) refl refl refl refl) leads.0)
       go (Maybe x y) None ek eo leads f =
@@ -85,15 +82,13 @@ module _ (p : Image) (t : Typing) (c : Choice) (s : State) (fr : Frame) (sh : Sh
 
   -- what the jump learns of a field
   holds_nothing : (x : Option Thing) → Fits p (seen s.cells) None (filled x Empty)
-  holds_nothing None = tt
-  holds_nothing (Some x) = tt
+  holds_nothing x = grind arith
 
   holds_something : (x : Option Thing) (o : Object) → is_some x ≡ true → Fits p (seen s.cells) (Some o) (filled x Perhaps) → Fits p (seen s.cells) (Some o) (filled x Full)
   holds_something x o some f = grind arith
 
   pub not_empty : (x : Option Thing) (o : Object) → Fits p (seen s.cells) (Some o) (filled x Empty) → ⊥
-  not_empty None o f = f
-  not_empty (Some x) o f = f
+  not_empty x o f = grind arith
 
   pub not_full : (x : Option Thing) → is_some x ≡ true → Fits p (seen s.cells) None (filled x Full) → ⊥
   not_full x some f = grind arith

@@ -1,6 +1,7 @@
 -- What is kept of clients in closed states: by computation, and by the name of the server where all names are spoken of.
+use Rattle.std.proofs.lemmas.Bool.Decides.{nat_tests}
 use Rattle.std.proofs.Common.{Bool, List, None, Some, [], ap, arith, cond, false, refl, subst, sym, true, ℕ, ◌==◌, ◌∙◌, ◌∷◌, ◌≡◌, ◌≤◌, ◌<◌}
-use Rattle.std.proofs.lemmas.Bool.{eqb-true, true≢false}
+use Rattle.std.proofs.lemmas.Bool.{eqb-true}
 use Rattle.aom_clients.specs.Table.{server_of}
 use Rattle.aom_image.specs.Views.{class_at}
 use Rattle.aom_roles.specs.Classes.{kind_in, sessions_in, sessions_of}
@@ -46,10 +47,7 @@ module _ (P : ℕ → Type 0) (server : P 5) (message : P 7) (session : P 2) (no
       first false e = second (7 == n) refl e
 
 unserved_at : (n : ℕ) → (5 == n) ≡ false → (7 == n) ≡ false → (2 == n) ≡ false → service_of cells n ≡ unserved
-unserved_at n e f g =
-    ap (λ b. cond b (serves (Message_of 0 7 ∷ []) (0 ∷ [])).service (service_of (waits 7 0 7 ∷ a_session ∷ []) n)) e
-    ∙ ap (λ b. cond b (waits 7 0 7).service (service_of (a_session ∷ []) n)) f
-    ∙ ap (λ b. cond b a_session.service unserved) g
+unserved_at n e f g = grind (arith, nat_tests)
 
 -- one number is another, where both tests say so
 both : (a b x y : ℕ) → (((a == x) && (b == y)) || false) ≡ true → (a ≡ x) × (b ≡ y)
@@ -74,12 +72,10 @@ abbrev HasNone : ℕ → Type 0
 HasNone n = ((service_of cells n).queue ≡ []) × ((service_of cells n).sessions ≡ [])
 
 none_else : (o : Object) → named cells o.name ≡ Some o → is_server an_image o.thing ≡ false → HasNone o.name
-none_else o there plain = by_name (λ n. named cells n ≡ Some o → HasNone n) (λ h. absurd (true≢false (sym (its_server o h) ∙ plain))) (λ h. (refl, refl)) (λ h. (refl, refl))
-    (λ n e f g h. subst (λ v. (v.queue ≡ []) × (v.sessions ≡ [])) (sym (unserved_at n e f g)) (refl, refl)) o.name there
+none_else o there plain = grind (arith, nat_tests, by_name, its_server o, unserved_at)
 
 none_unlisted : (o : Object) → named cells o.name ≡ Some o → requested cells o.name ≡ None → HasNone o.name
-none_unlisted o there idle = by_name (λ n. requested cells n ≡ None → HasNone n) (λ h. absurd (true≢false (ap is_some h))) (λ h. (refl, refl)) (λ h. (refl, refl))
-    (λ n e f g h. subst (λ v. (v.queue ≡ []) × (v.sessions ≡ [])) (sym (unserved_at n e f g)) (refl, refl)) o.name idle
+none_unlisted o there idle = grind (arith, nat_tests, by_name, unserved_at)
 
 stands_there : (n m : ℕ) (o : Object) → held cells (Elsewhere (Queued n m)) ≡ Some o → o.name ≡ m
 stands_there n m o e = grind (arith, eqb-true)
@@ -113,7 +109,7 @@ has_sources o there = by_name (λ n. named cells n ≡ Some o → sources_at cel
 
 they_fit : Fit opened cells
 they_fit = record {
-  queues = by_name (λ n. QueueFits opened n (service_of cells n).queue) ((refl, refl), tt) tt tt (λ n e f g. subst (λ v. QueueFits opened n v.queue) (sym (unserved_at n e f g)) tt);
+  queues = grind (arith, nat_tests, by_name, unserved_at);
   sessions = has_its_own;
   listed = is_listed;
   servers = none_else;
@@ -138,23 +134,19 @@ module _ (v : Service) (owner : Place) (queue : v.queue ≡ []) (sessions : v.se
 
   -- clients have nothing at it, whatever its name
   at_it : (b : Bool) → (cond b v unserved).queue ≡ []
-  at_it true = queue
-  at_it false = refl
+  at_it x = grind arith
 
   none_of_it : (b : Bool) → (cond b v unserved).sessions ≡ []
-  none_of_it true = sessions
-  none_of_it false = refl
+  none_of_it x = grind arith
 
   no_seat : (b : Bool) (n : ℕ) → seats_taken (cond b v unserved) ≤ n
   no_seat b n = let none = seats_none (cond b v unserved) (at_it b) (none_of_it b) in omega (arith, none)
 
   its_source : (o : Object) (b : Bool) → cond b (Some (record { name = 7; thing = Message })) None ≡ Some o → sources_of (cond b v unserved) ≡ cond (is_object o.thing) 0 1
-  its_source o true h = let same : record { name = 7; thing = Message } ≡ o = cc in subst (λ (y : Object). sources_of v ≡ cond (is_object y.thing) 0 1) same source
-  its_source o false h = cc
+  its_source o x h = grind arith
 
   its_sender : (o : Object) (b : Bool) → same_place owner (Elsewhere In_service) ≡ b → cond b (Some (record { name = 7; thing = Message })) None ≡ Some o → has_sender its o.name ≡ true
-  its_sender o true e h = let same : record { name = 7; thing = Message } ≡ o = cc in subst (λ (y : Object). has_sender its y.name ≡ true) same (sent_so_far e)
-  its_sender o false e h = cc
+  its_sender o x e h = grind (arith, nat_tests, has_sender)
 
   it_fits : Fit [] its
   it_fits = record {

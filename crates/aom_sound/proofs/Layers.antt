@@ -1,5 +1,5 @@
 -- The layer on top of a stack of layers, read off the task on top of its tasks.
-use Rattle.std.proofs.Common.{arith, ℕ, List, ◌∷◌, ◌≡◌, ℤ, refl, subst}
+use Rattle.std.proofs.Common.{arith, ℕ, List, ◌∷◌, ◌≡◌, ℤ, subst}
 use Rattle.aom_image.proofs.Given.{cons_given}
 use Rattle.aom_image.specs.declared.method.Gives.{Gives}
 use Rattle.aom_shape.specs.Shape.{Shape}
@@ -16,8 +16,7 @@ going_of : (l : Layer) → task_of l ≡ Destroy → (o : Object) × (l ≡ Dyin
 going_of l e = grind arith
 
 closing_of : (l : Layer) → task_of l ≡ Closing → (o : Object) × (left : List ℕ) × (l ≡ Ending o left)
-closing_of (Ending o left) e = (o, left, refl)
-closing_of _ e = cc
+closing_of x e = grind arith
 
 leave_of : (l : Layer) (code : ℤ) → task_of l ≡ Unwind code → (es : List Pushed) × (l ≡ Unwinding code es)
 leave_of l code e = grind arith

@@ -1,11 +1,12 @@
 -- A leave from a well-typed state: there is a trap, no register over it owns, and what is left to unwind is well typed.
-use Rattle.std.proofs.Common.{Bool, List, None, Option, Some, [], ap, append-nil, append_assoc, arith, cond, false, inl, inr, length, refl, subst, sym, true, ℕ, ℤ, ◌<◌, ◌==◌, ◌∙◌, ◌∷◌, ◌≡◌}
+use Rattle.std.proofs.lemmas.Bool.Decides.{nat_tests}
+use Rattle.std.proofs.Common.{Bool, List, None, Option, Some, [], ap, append-nil, append_assoc, arith, cond, false, inl, inr, length, refl, subst, sym, true, ℕ, ℤ, ◌<◌, ◌∙◌, ◌∷◌, ◌≡◌}
 use Rattle.std.proofs.lemmas.Bool.{and_from, ne_eqb, true≢false}
-use Rattle.std.specs.Prelude.{◌++◌, ◌||◌}
+use Rattle.std.specs.Prelude.{◌++◌}
 use Rattle.aom_image.specs.Image.{Image}
 use Rattle.aom_image.specs.Views.{is_quiet, leaves, method_role}
 use Rattle.aom_instructions.specs.declared.instr.Instr.TheVariants.{Leave, LeaveIf}
-use Rattle.aom_shape.specs.Kinds.{entry_kind, none_owns, register}
+use Rattle.aom_shape.specs.Kinds.{none_owns, register}
 use Rattle.aom_shape.specs.Needs.{AllTrue}
 use Rattle.aom_shape.specs.Shape.{Shape}
 use Rattle.aom_shape.specs.Things.{holder_of}
@@ -33,8 +34,6 @@ use Rattle.aom_sound.specs.Requests.{AllSuit, Joins, Known, Suits, Unworked, kno
 use Rattle.aom_sound.proofs.Suiting.{known_plain, rejoins_trap, rests_there, rests_unissued, suits_rests}
 use Rattle.aom_image.specs.declared.class.ClassKind.{ClassKind}
 use Rattle.aom_sound.specs.Laws.{IsWired}
-use Rattle.aom_image.specs.declared.method.Role.{Role}
-use Rattle.aom_image.specs.declared.method.Role.TheVariants.{Cancel}
 use Rattle.aom_instructions.specs.declared.instr.Instr.{Instr}
 
 -- the entries of the methods over the innermost trap, the last first
@@ -61,30 +60,25 @@ objects_append [] fs items = refl
 objects_append (e ∷ es) fs items = ap (λ l. entry_form e ∷ l) (objects_append es fs items)
 
 items_from_trap : (ls : List Layer) → items_of ls ≡ objects (entries_over ls) (items_of (from_trap ls))
-items_from_trap (Method fr sh ∷ ls) = ap (λ i. objects sh.entries i) (items_from_trap ls) ∙ sym (objects_append sh.entries (entries_over ls) (items_of (from_trap ls)))
+items_from_trap (Method fr sh ∷ ls) = grind (arith, nat_tests, items_from_trap ls, objects_append sh.entries)
 items_from_trap _ = refl
 
 -- the entries of two layers as those of one
 entries_join : (es fs : List Pushed) (items : List Form) (k : ℕ) (below : Kind) → entry_claim (es ++ fs) items k below ≡ entry_claim es (objects fs items) k (entry_claim fs items k below)
 entries_join [] fs items k below = refl
-entries_join (e ∷ es) fs items k below =
-    ap (λ n. cond (n == k) (entry_kind e) (entry_claim (es ++ fs) items k below)) (ap length (objects_append es fs items))
-    ∙ ap (λ z. cond (length (objects es (objects fs items)) == k) (entry_kind e) z) (entries_join es fs items k below)
+entries_join (e ∷ es) fs items k below = grind (arith, nat_tests, objects_append es fs items, entries_join es fs items k below)
 
 join_claims :
     (p : Image) (d : Place → Kind) (code : ℤ) (es fs : List Pushed) (ls : List Layer) (r : Place) →
     claim p d (Unwinding code es ∷ Unwinding code fs ∷ ls) r ≡ claim p d (Unwinding code (es ++ fs) ∷ ls) r
-join_claims p d code es fs ls (Elsewhere Root) = refl
-join_claims p d code es fs ls (Entry k) = sym (entries_join es fs (items_of ls) k (claim p d ls (Entry k)))
-join_claims p d code es fs ls _ = refl
+join_claims p d code es fs ls x = grind (arith, nat_tests, entries_join es fs)
 
 -- what lies under a method that may leave: neither the end of the run nor a dispatch's
 no_end : {A : Type 0} (p : Image) (d : Dispatch) (m : ℕ) (home : Home) → leaves p m ≡ true → EndsDispatch p d (Returns m home) → A
 no_end p d m home may e = grind arith
 
 not_going : (p : Image) (t : Typing) (cs : List Cell) (ls : List Layer) (m : ℕ) (home : Home) → leaves p m ≡ true → Stack p t cs (Returns m home) ls → past_going ls ≡ ls
-not_going p t cs (Dying o ∷ ls) m home e s = absurd (true≢false (sym e ∙ s.1.0))
-not_going p t cs _ m home e s = refl
+not_going p t cs x m home e s = grind arith
 
 -- a method ends by a leave, and its entries are still there
 ended_by_leave :
@@ -155,8 +149,7 @@ on_it p cs ls x view m home lives w h a = grind arith
 
 -- what is below a frame that is not quiet is not quiet either
 still_loud : (a b : Bool) → (a ≡ true → b ≡ true) → b ≡ false → a ≡ false
-still_loud true b h e = absurd (true≢false (sym (h refl) ∙ e))
-still_loud false b h e = refl
+still_loud x b h e = grind arith
 
 module _ (p : Image) (t : Typing) (wired : IsWired p) (cs : List Cell) (x : Object) where
   abbrev k : Option ClassKind
@@ -166,22 +159,11 @@ module _ (p : Image) (t : Typing) (wired : IsWired p) (cs : List Cell) (x : Obje
   r = requested cs x.name
 
   loud_cancels : (m : ℕ) → is_quiet p m ≡ false → is_cancel (method_role p m) ≡ false
-  loud_cancels m loud = go (method_role p m) refl
-    where
-      go : (role : Option Role) → method_role p m ≡ role → is_cancel role ≡ false
-      go (Some Cancel) e = absurd (true≢false (sym (wired.cancels m e).0 ∙ loud))
-      go _ e = refl
+  loud_cancels m loud = grind (arith, nat_tests)
 
   -- nor does it cancel
   pub known_loud : (fr : Frame) (sh : Shape) (ls : List Layer) → is_quiet p fr.method ≡ false → (states_claim p x ls).cancelled ≡ false → (states_claim p x (Method fr sh ∷ ls)).cancelled ≡ false
-  known_loud fr sh ls loud none = go (works_at x.name fr.home)
-    where
-      below : Known
-      below = states_claim p x ls
-
-      go : (b : Bool) → (cond b (known_at p fr sh.states below) below).cancelled ≡ false
-      go true = ap (λ c. c || below.cancelled) (loud_cancels fr.method loud) ∙ none
-      go false = none
+  known_loud fr sh ls loud none = grind (arith, nat_tests, loud_cancels fr.method loud)
 
   -- so no method cancels below one that is not quiet
   pub none_cancels : (ls : List Layer) (m : ℕ) (home : Home) → is_quiet p m ≡ false → Stack p t cs (Returns m home) ls → (states_claim p x ls).cancelled ≡ false
@@ -257,9 +239,7 @@ abbrev RegistersFit : Image → List Cell → List Layer → Type 0
 RegistersFit p cs ls = (f i : ℕ) → f < length (tasks_of ls) → Fits p (seen cs) (held cs (Register f i)) (claim p (declared p cs) ls (Register f i))
 
 registers_below : (p : Image) (cs : List Cell) (fr : Frame) (sh : Shape) (ls : List Layer) → RegistersFit p cs (Method fr sh ∷ ls) → RegistersFit p cs ls
-registers_below p cs fr sh ls h f i lt =
-    subst (λ k. Fits p (seen cs) (held cs (Register f i)) k)
-    (ap (λ b. cond b (register sh i) (claim p (declared p cs) ls (Register f i))) (ne_eqb (length (tasks_of ls)) f (λ e. absurd (omega arith)))) (h f i (omega arith))
+registers_below p cs fr sh ls h f i lt = grind (arith, nat_tests, ne_eqb)
 
 frame_is_free :
     (p : Image) (cs : List Cell) (fr : Frame) (sh : Shape) (ls : List Layer) → RegistersFit p cs (Method fr sh ∷ ls) → none_owns sh.registers ≡ true →
@@ -270,10 +250,14 @@ frame_is_free p cs fr sh ls h n = none_owns_from cs (length (tasks_of ls)) None 
 below_leaving :
     (p : Image) (t : Typing) (cs : List Cell) (ls : List Layer) (m : ℕ) (home : Home) → leaves p m ≡ true → Stack p t cs (Returns m home) ls → RegistersFit p cs ls →
     (has_trap (tasks_of ls) ≡ true) × (above_trap_is_free cs (tasks_of ls) ≡ true)
-below_leaving p t cs (Method fr sh ∷ ls) m home e s h =
-    let may = s.0.0 e in
-    let rest = below_leaving p t cs ls fr.method fr.home may.0 s.4 (registers_below p cs fr sh ls h) in
-    (rest.0, and_from _ _ (frame_is_free p cs fr sh ls h may.1) rest.1)
+below_leaving p t cs (Method fr sh ∷ ls) m home e s h = grind (
+  arith,
+  nat_tests,
+  below_leaving p t cs ls fr.method fr.home,
+  registers_below p cs fr sh ls h,
+  and_from,
+  frame_is_free p cs fr sh ls h,
+)
 below_leaving p t cs (Mark gv ∷ ls) m home e s h = (refl, refl)
 below_leaving p t cs (Dispatching d seats ∷ ls) m home e s h = no_end p d m home e s.0
 below_leaving p t cs _ m home e s h = absurd (first_of (assumption tt, cc))
@@ -282,10 +266,14 @@ below_leaving p t cs _ m home e s h = absurd (first_of (assumption tt, cc))
 pub leave_is_met :
     (p : Image) (t : Typing) (cs : List Cell) (fr top_frame : Frame) (sh : Shape) (ls : List Layer) → Fitted p t cs fr sh ls → leaves p fr.method ≡ true → none_owns sh.registers ≡ true →
     AllTrue (leave_needs cs (Run top_frame ∷ tasks_of ls))
-leave_is_met p t cs fr top_frame sh ls g may n =
-    let h : RegistersFit p cs (Method fr sh ∷ ls) = λ f i lt. g.fits (Register f i) in
-    let rest = below_leaving p t cs ls fr.method fr.home may g.stack (registers_below p cs fr sh ls h) in
-    (rest.0, (and_from _ _ (frame_is_free p cs fr sh ls h n) rest.1, tt))
+leave_is_met p t cs fr top_frame sh ls g may n = grind (
+  arith,
+  nat_tests,
+  below_leaving p t cs ls fr.method fr.home may g.stack,
+  registers_below p cs fr sh ls,
+  and_from,
+  frame_is_free p cs fr sh ls,
+)
 
 -- there is a trap under such a method
 pub trap_is_there :

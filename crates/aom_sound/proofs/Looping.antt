@@ -1,6 +1,7 @@
 -- A method that stands in a loop's body has rounds left: each instruction and each return keeps that.
+use Rattle.std.proofs.lemmas.Bool.Decides.{nat_tests}
 use Rattle.aom_sound.specs.Destruction.{destructor_frame}
-use Rattle.std.proofs.Common.{List, None, Option, Some, ap, arith, cond, false, inl, inr, length, subst, suc, sym, true, ℕ, ⊎_elim, ◌-◌, ◌<◌, ◌==◌, ◌∙◌, ◌∷◌, ◌≡◌, ◌≢◌, ◌≤◌}
+use Rattle.std.proofs.Common.{List, None, Some, ap, arith, cond, false, inl, inr, length, subst, suc, sym, true, ℕ, ⊎_elim, ◌-◌, ◌<◌, ◌==◌, ◌∙◌, ◌∷◌, ◌≡◌, ◌≢◌, ◌≤◌}
 use Rattle.std.proofs.lemmas.Bool.{cases_Bool, cases_lt, eq-eqb, eqb-true, ne_eqb}
 use Rattle.aom_image.specs.Image.{Image}
 use Rattle.aom_image.specs.Views.{instr_at}
@@ -10,16 +11,15 @@ use Rattle.aom_classes.proofs.Bodies.{linked_is_looped}
 use Rattle.aom_classes.specs.Bodies.{Body, IsIn, IsLooped}
 use Rattle.aom_classes.specs.Jumps.{jump_of}
 use Rattle.aom_classes.specs.Loops.{loop_in}
-use Rattle.aom_classes.specs.Roles.{main_of}
 use Rattle.aom_sound.proofs.Maps.{at-put_at}
 use Rattle.aom_sound.proofs.Preserving.{Acting, Kept, keeps, turn_keeps_it}
 use Rattle.aom_sound.specs.Calls.{entered}
 use Rattle.aom_sound.specs.Cleanup.{operation_frame}
 use Rattle.aom_sound.specs.Loops.{LoopsKeep, RoundsAt, RoundsLeft, rounds_left}
 use Rattle.aom_sound.specs.Moves.{counted, step, error_frame}
-use Rattle.aom_sound.specs.State.{A_mark, AtRoot, Choice, Frame, Goes, State, Task, counter, frame_as, frame_of, set_counter}
+use Rattle.aom_sound.specs.State.{A_mark, Choice, Frame, Goes, State, Task, counter, frame_as, frame_of, set_counter}
 use Rattle.aom_sound.specs.Steps.{IsStraight, Sets}
-use Rattle.aom_sound.specs.World.{boot_state, main_tasks}
+use Rattle.aom_sound.specs.World.{boot_state}
 
 -- a method at its first place stands in no body
 fresh : (p : Image) (fr : Frame) → RoundsAt p fr 0
@@ -91,24 +91,14 @@ module _ (p : Image) (looped_so : IsLooped p) (fr : Frame) (rounds : RoundsAt p 
 
     -- the last round is over
     ends_rounds : RoundsAt p (set_counter fr e 0) (suc fr.place)
-    ends_rounds from to d n body inside = same_or from closing.0 _ own (λ differs. aside 0 from to d n body differs here_is)
-      where
-        begins : from ≡ fr.place → ⊥
-        begins same = let clash : Some (Next e t) ≡ Some (Loop d n) = sym at ∙ ap (λ x. instr_at p fr.method x) (sym same) ∙ body.begins in cc
-
-        here_is : IsIn from to fr.place
-        here_is = (⊎_elim (λ lt. lt) (λ le. absurd (begins (omega (arith, inside.0)))) (cases_lt from fr.place), omega (arith, inside.1))
-
-        own : from ≡ closing.0 → (0 < counter (set_counter fr e 0) d) × (counter (set_counter fr e 0) d ≤ n)
-        own same =
-            let one = one_loop fr.method from d n e closing.1 body.begins (ap (λ x. instr_at p fr.method x) same ∙ closing.2.begins) in
-            let again : Body p fr.method from fr.place d n = record {
-              begins = body.begins;
-              later = subst (λ x. x < fr.place) (sym same) closing.2.later;
-              ends = closing.2.ends ∙ ap (λ x. Some (Next x (suc closing.0))) (sym one.0) ∙ ap (λ x. Some (Next d (suc x))) (sym same);
-            } in
-            let last = looped_so.once fr.method from to fr.place d n body again in
-            absurd (omega (arith, inside.1))
+    ends_rounds from to d n body inside = grind (
+      arith,
+      nat_tests,
+      same_or from closing.0,
+      aside 0 from to d n body,
+      cases_lt from fr.place,
+      one_loop fr.method from d n e closing.1 body.begins,
+    )
 
     -- another round begins
     next_round : (k : ℕ) → (counter fr e - 1) ≡ suc k → RoundsAt p (set_counter fr e (suc k)) t
@@ -127,8 +117,7 @@ module _ (p : Image) (looped_so : IsLooped p) (fr : Frame) (rounds : RoundsAt p 
 
 module _ (p : Image) (looped_so : IsLooped p) (c : Choice) (s : State) where
   sets : (fr : Frame) (ts : List Task) (i : Instr) → Acting p c (rounds_left p) s fr ts i → (d n : ℕ) → Sets i d n → RoundsAt p (set_counter fr d n) (suc fr.place)
-  sets fr ts i a d n (inl e) = begins_rounds p looped_so fr a.runs d n (a.there ∙ ap Some e)
-  sets fr ts i a d n (inr e) = subst (λ k. RoundsAt p (set_counter fr d k) (suc fr.place)) (sym e.2) (ends_rounds p looped_so fr a.runs d e.0 (a.there ∙ ap Some e.1))
+  sets fr ts i a d n x = grind (arith, nat_tests, begins_rounds p looped_so fr a.runs d n, ends_rounds p looped_so fr a.runs d)
 
   kept : Kept p c (rounds_left p) s
   kept = record {
@@ -154,8 +143,4 @@ pub loops_keep : LoopsKeep
 loops_keep = record { linked = linked_is_looped; boot = boot; moves = moves; turns = λ p looped_so outside heard s u h e. turn_keeps_it p outside heard (rounds_left p) s u (λ m height home words d. fresh p (record (frame_of m home height) { words = words })) (λ d. tt) (λ o x m height ts e. fresh p (destructor_frame p m o (length ts) height)) h e }
   where
     boot : (p : Image) → RoundsLeft p (boot_state p).tasks
-    boot p = begins (main_of p)
-      where
-        begins : (m : Option ℕ) → RoundsLeft p (main_tasks m)
-        begins None = tt
-        begins (Some m) = (fresh p (frame_of m AtRoot 1), (tt, tt))
+    boot p = grind (arith, nat_tests, fresh p)

@@ -1,7 +1,8 @@
 -- What a move of ownership does to the places, and lists that are read and written by place.
+use Rattle.std.proofs.lemmas.Bool.Decides.{nat_tests}
 use Rattle.std.proofs.lemmas.Option.{none-some}
-use Rattle.std.proofs.Common.{Bool, List, None, Option, Some, [], ap, cond, false, inl, inr, refl, subst, suc, sym, true, zero, ℕ, ⊎_elim, ◌==◌, ◌∙◌, ◌∷◌, ◌≡◌}
-use Rattle.std.proofs.lemmas.Bool.{and_from, and_parts, eq-eqb, eqb-true, ne_eqb, true≢false}
+use Rattle.std.proofs.Common.{arith, Bool, List, None, Option, Some, [], ap, cond, false, refl, suc, sym, true, zero, ℕ, ⊎_elim, ◌==◌, ◌∙◌, ◌∷◌, ◌≡◌}
+use Rattle.std.proofs.lemmas.Bool.{and_from, eq-eqb, eqb-true, ne_eqb, true≢false}
 use Rattle.std.specs.Prelude.{◌⊎◌}
 use Rattle.aom_shape.specs.Tables.{at, put_at}
 use Rattle.aom_sound.proofs.Altering.{Reads, moving, named_kept, names, read_kept, requests}
@@ -24,46 +25,27 @@ place_from (suc (suc (suc (suc k)))) part a b = Elsewhere (other_from part a b)
 
 place_again : (p : Place) → place_from (place_kind p) (place_part p) (place_outer p) (place_inner p) ≡ p
 unfolding place_from other_from
-place_again (Elsewhere (Session s c)) = refl
-place_again _ = refl
+place_again x = grind arith
 
 pub same_place-true : (p q : Place) → same_place p q ≡ true → p ≡ q
-same_place-true p q e =
-    let a = and_parts _ _ e in
-    let b = and_parts _ _ a.1 in
-    let c = and_parts _ _ b.1 in
-    sym (place_again p)
-    ∙ ap (λ k. place_from k (place_part p) (place_outer p) (place_inner p)) (eqb-true _ _ a.0)
-    ∙ ap (λ k. place_from (place_kind q) k (place_outer p) (place_inner p)) (eqb-true _ _ b.0)
-    ∙ ap (λ k. place_from (place_kind q) (place_part q) k (place_inner p)) (eqb-true _ _ c.0)
-    ∙ ap (λ k. place_from (place_kind q) (place_part q) (place_outer q) k) (eqb-true _ _ c.1)
-    ∙ place_again q
+same_place-true p q e = grind (arith, nat_tests, place_again p, place_from, eqb-true, place_again q)
 
 pub same_place_refl : (p : Place) → same_place p p ≡ true
-same_place_refl p =
-    and_from _ _ (eq-eqb (place_kind p) _ refl) (and_from _ _ (eq-eqb (place_part p) _ refl) (and_from _ _ (eq-eqb (place_outer p) _ refl) (eq-eqb (place_inner p) _ refl)))
+same_place_refl p = grind (arith, nat_tests, and_from, eq-eqb)
 
 pub same_place_comm : (p q : Place) → same_place p q ≡ same_place q p
-same_place_comm p q = go (same_place p q) (same_place q p) refl refl
-  where
-    go : (b c : Bool) → same_place p q ≡ b → same_place q p ≡ c → b ≡ c
-    go true true e f = refl
-    go false false e f = refl
-    go true false e f = sym (subst (λ r. same_place r p ≡ true) (same_place-true p q e) (same_place_refl p)) ∙ f
-    go false true e f = sym e ∙ subst (λ r. same_place r q ≡ true) (same_place-true q p f) (same_place_refl q)
+same_place_comm p q = grind (arith, nat_tests, same_place-true p q, same_place_refl p, same_place-true q p, same_place_refl q)
 
 -- where one place is a third, the other is as well
 pub same_place_along : (p q r : Place) → same_place p q ≡ true → same_place p r ≡ same_place q r
 same_place_along p q r e = ap (λ x. same_place x r) (same_place-true p q e)
 
 pub cond_same : {A : Type 0} (b : Bool) (x : A) → cond b x x ≡ x
-cond_same true x = refl
-cond_same false x = refl
+cond_same x y = grind arith
 
 -- the front cell does not stand where nothing is held
 pub front_free : (b : Bool) (o : Object) (rest : Option Object) → cond b (Some o) rest ≡ None → (b ≡ false) × (rest ≡ None)
-front_free true o rest e = absurd (none-some _ (sym e))
-front_free false o rest e = (refl, e)
+front_free x o rest e = grind arith
 
 -- what the places hold after p's thing moved to q
 abbrev pub transfer : Place → Place → (Place → Option Object) → Place → Option Object
@@ -156,14 +138,10 @@ found {find = find} f x P front further (c ∷ cs) e = go (f.test c) refl (sym (
     go false other e rest = further c cs other e (rest e)
 
 held_front : (c : Cell) (cs : List Cell) (q : Place) (o : Object) → held (c ∷ cs) q ≡ Some o → ((c.owner ≡ q) × (c.object ≡ o)) ⊎ (held cs q ≡ Some o)
-held_front c cs q o e = go (same_place c.owner q) refl e
-  where
-    go : (b : Bool) → same_place c.owner q ≡ b → cond b (Some c.object) (held cs q) ≡ Some o → ((c.owner ≡ q) × (c.object ≡ o)) ⊎ (held cs q ≡ Some o)
-    go true is e = inl (same_place-true c.owner q is, (cc))
-    go false other e = inr e
+held_front c cs q o e = grind (arith, nat_tests, same_place-true c.owner q)
 
 named_front : (c : Cell) (cs : List Cell) (o : Object) → c.object ≡ o → named (c ∷ cs) o.name ≡ Some o
-named_front c cs o is = ap (λ b. cond b (Some c.object) (named cs o.name)) (eq-eqb c.object.name o.name (ap (λ x. x.name) is)) ∙ ap (λ x. Some x) is
+named_front c cs o is = grind (arith, nat_tests, eq-eqb c.object.name o.name)
 
 -- a cell stands in one place
 pub held_named : (cs : List Cell) (p : Place) (o : Object) → held cs p ≡ Some o → named cs o.name ≡ None → ⊥
@@ -192,35 +170,17 @@ named_name cs n o = found (of_name n) o (λ cs. o.name ≡ n) (λ c cs at is. ap
 -- what goes
 pub without_none : (cs : List Cell) (g : Place) → held cs g ≡ None → without g cs ≡ cs
 without_none [] g e = refl
-without_none (c ∷ cs) g e = let f = front_free _ _ _ e in ap (λ b. cond b (without g cs) (c ∷ without g cs)) f.0 ∙ ap (λ x. c ∷ x) (without_none cs g f.1)
+without_none (c ∷ cs) g e = grind (arith, nat_tests, front_free, without_none cs g)
 
 pub held_without : (cs : List Cell) (g r : Place) → held (without g cs) r ≡ changed (held cs) g None r
 held_without [] g r = sym (cond_same (same_place g r) None)
-held_without (c ∷ cs) g r = go (same_place c.owner g) (same_place g r) (same_place c.owner r) refl refl refl (held_without cs g r)
-  where
-    go :
-        (x y z : Bool) → same_place c.owner g ≡ x → same_place g r ≡ y → same_place c.owner r ≡ z → held (without g cs) r ≡ cond y None (held cs r) →
-        held (cond x (without g cs) (c ∷ without g cs)) r ≡ cond y None (cond z (Some c.object) (held cs r))
-    go true true z ex ey ez ih = ih
-    go true false z ex ey ez ih = ih ∙ ap (λ b. cond b (Some c.object) (held cs r)) (sym (sym ez ∙ same_place_along c.owner g r ex ∙ ey))
-    go false true z ex ey ez ih = ap (λ b. cond b (Some c.object) (held (without g cs) r)) (ap (λ q. same_place c.owner q) (sym (same_place-true g r ey)) ∙ ex) ∙ ih
-    go false false true ex ey ez ih = ap (λ b. cond b (Some c.object) (held (without g cs) r)) ez
-    go false false false ex ey ez ih = ap (λ b. cond b (Some c.object) (held (without g cs) r)) ez ∙ ih
+held_without (c ∷ cs) g r = grind (arith, nat_tests, held_without cs g r, same_place_along c.owner g r, same_place-true g r)
 
 -- what is read at the first cell of a name is the same but for the name of what goes
 pub read_without :
     {A : Type 0} {read : List Cell → ℕ → A} (r : Reads read) (cs : List Cell) (g : Place) (o : Object) (n : ℕ) → Tidy cs → held cs g ≡ Some o → (o.name == n) ≡ false → read (without g cs) n ≡ read cs n
 read_without r [] g o n t e d = refl
-read_without {read = read} r (c ∷ cs) g o n t e d = go (same_place c.owner g) refl (read_without r cs g o n t.2) e ∙ sym (r.first c cs n)
-  where
-    go :
-        (x : Bool) → same_place c.owner g ≡ x → (held cs g ≡ Some o → (o.name == n) ≡ false → read (without g cs) n ≡ read cs n) → cond x (Some c.object) (held cs g) ≡ Some o →
-        read (cond x (without g cs) (c ∷ without g cs)) n ≡ cond (c.object.name == n) (r.of c) (read cs n)
-    go true f ih e =
-        let same : c.object ≡ o = cc in
-        ap (λ l. read l n) (without_none cs g (ap (λ q. held cs q) (sym (same_place-true c.owner g f)) ∙ t.0))
-        ∙ ap (λ b. cond b (r.of c) (read cs n)) (sym (ap (λ x. x.name == n) same ∙ d))
-    go false f ih e = r.first c (without g cs) n ∙ ap (λ x. cond (c.object.name == n) (r.of c) x) (ih e d)
+read_without {read = read} r (c ∷ cs) g o n t e d = grind (arith, nat_tests, read_without r cs g o n t.2, without_none cs g, same_place-true c.owner g)
 
 pub named_without : (cs : List Cell) (g : Place) (o : Object) (n : ℕ) → Tidy cs → held cs g ≡ Some o → (o.name == n) ≡ false → named (without g cs) n ≡ named cs n
 named_without = read_without names
@@ -230,11 +190,7 @@ requested_without = read_without requests
 
 named_gone : (cs : List Cell) (g : Place) (n : ℕ) → named cs n ≡ None → named (without g cs) n ≡ None
 named_gone [] g n e = refl
-named_gone (c ∷ cs) g n e = let f = front_free _ _ _ e in go (same_place c.owner g) f.0 (named_gone cs g n f.1)
-  where
-    go : (x : Bool) → (c.object.name == n) ≡ false → named (without g cs) n ≡ None → named (cond x (without g cs) (c ∷ without g cs)) n ≡ None
-    go true d ih = ih
-    go false d ih = ap (λ b. cond b (Some c.object) (named (without g cs) n)) d ∙ ih
+named_gone (c ∷ cs) g n e = grind (arith, nat_tests, front_free, named_gone cs g n)
 
 -- the cell that goes is there no more
 pub unnamed : (cs : List Cell) (g : Place) (o : Object) → Tidy cs → held cs g ≡ Some o → named (without g cs) o.name ≡ None
@@ -246,7 +202,7 @@ unnamed cs g o t e = found (in_place g) o (λ cs. Tidy cs → named (without g c
 -- of what is not there nothing is read
 pub read_unnamed : {A : Type 0} {read : List Cell → ℕ → A} (r : Reads read) (cs : List Cell) (n : ℕ) → named cs n ≡ None → read cs n ≡ read [] n
 read_unnamed r [] n e = refl
-read_unnamed {read = read} r (c ∷ cs) n e = let f = front_free _ _ _ e in r.first c cs n ∙ ap (λ b. cond b (r.of c) (read cs n)) f.0 ∙ read_unnamed r cs n f.1
+read_unnamed {read = read} r (c ∷ cs) n e = grind (arith, nat_tests, front_free, read_unnamed r cs n)
 
 pub requested_unnamed : (cs : List Cell) (n : ℕ) → named cs n ≡ None → requested cs n ≡ None
 requested_unnamed = read_unnamed requests
@@ -254,22 +210,8 @@ requested_unnamed = read_unnamed requests
 -- what had no request has none where another cell is gone
 pub unrequested : (cs : List Cell) (g : Place) (n : ℕ) → Tidy cs → requested cs n ≡ None → requested (without g cs) n ≡ None
 unrequested [] g n t e = refl
-unrequested (c ∷ cs) g n t e = go (same_place c.owner g) (c.object.name == n) refl (unrequested cs g n t.2) e
-  where
-    go :
-        (x b : Bool) → (c.object.name == n) ≡ b → (requested cs n ≡ None → requested (without g cs) n ≡ None) → cond b c.request (requested cs n) ≡ None →
-        requested (cond x (without g cs) (c ∷ without g cs)) n ≡ None
-    go true true f ih e = requested_unnamed (without g cs) n (named_gone cs g n (ap (λ k. named cs k) (sym (eqb-true _ _ f)) ∙ t.1))
-    go true false f ih e = ih e
-    go false true f ih e = ap (λ b. cond b c.request (requested (without g cs) n)) f ∙ e
-    go false false f ih e = ap (λ b. cond b c.request (requested (without g cs) n)) f ∙ ih e
+unrequested (c ∷ cs) g n t e = grind (arith, nat_tests, unrequested cs g n t.2, requested_unnamed, named_gone cs g n, eqb-true)
 
 pub tidy_without : (cs : List Cell) (g : Place) → Tidy cs → Tidy (without g cs)
 tidy_without [] g t = tt
-tidy_without (c ∷ cs) g t = go (same_place c.owner g)
-    (held_without cs g c.owner ∙ ap (λ x. cond (same_place g c.owner) None x) t.0 ∙ cond_same (same_place g c.owner) None)
-    (tidy_without cs g t.2)
-  where
-    go : (x : Bool) → held (without g cs) c.owner ≡ None → Tidy (without g cs) → Tidy (cond x (without g cs) (c ∷ without g cs))
-    go true e ih = ih
-    go false e ih = (e, named_gone cs g c.object.name t.1, ih)
+tidy_without (c ∷ cs) g t = grind (arith, nat_tests, held_without cs g c.owner, cond_same, tidy_without cs g t.2, named_gone cs g c.object.name t.1)

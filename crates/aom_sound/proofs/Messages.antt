@@ -1,4 +1,5 @@
 -- The laws of the instructions on messages: the message in service comes to a register, and a message that is replied to goes.
+use Rattle.std.proofs.lemmas.Bool.Decides.{nat_tests}
 use Rattle.std.proofs.Common.{Bool, List, None, Option, Some, ap, arith, cond, false, refl, subst, suc, sym, true, ℕ, ℤ, [], ◌∙◌, ◌∷◌, ◌≡◌}
 use Rattle.std.specs.Prelude.{is_none, is_some}
 use Rattle.aom_image.specs.Image.{Image}
@@ -14,7 +15,7 @@ use Rattle.aom_rules.specs.Requests.{is_service}
 use Rattle.aom_rules.specs.Typing.{Leads, Typing}
 use Rattle.aom_shape.specs.Kinds.{is_here, is_object_or_null, is_own_for, is_word, register, set_register}
 use Rattle.aom_shape.specs.Shape.{Shape}
-use Rattle.aom_shape.specs.Things.{holder_of, stands_for}
+use Rattle.aom_shape.specs.Things.{stands_for}
 use Rattle.aom_shape.specs.declared.kind.Age.TheVariants.{Ready}
 use Rattle.aom_shape.specs.declared.kind.Delivery.{Delivery}
 use Rattle.aom_shape.specs.declared.kind.Delivery.TheVariants.{Gone}
@@ -27,11 +28,11 @@ use Rattle.aom_sound.proofs.Maps.{same_place-true, same_place_comm}
 use Rattle.aom_sound.proofs.Picking.{own_held}
 use Rattle.aom_sound.proofs.Redeeming.{redeemable, redeemed_by_alike, redeemed_good}
 use Rattle.aom_sound.proofs.Straight.{At, Fitted, Law, fitted, free_register, kind_fits, no_word, relocate, same_suits, settle, top, well, words_set}
-use Rattle.aom_sound.specs.Claims.{Layer, Method, claim, declared, delivered, home_claim, root_claim, serves, tasks_of}
+use Rattle.aom_sound.specs.Claims.{Layer, Method, claim, declared, delivered, serves, tasks_of}
 use Rattle.aom_sound.specs.Moves.{does}
 use Rattle.aom_sound.specs.Objects.{is_thing}
-use Rattle.aom_sound.specs.Places.{Cell, Elsewhere, Field, In_service, Object, Place, Root, Sight, changed, held, moved, same_place, seen, without}
-use Rattle.aom_sound.specs.State.{AtRoot, Choice, Frame, Home, Inside, Run, Seat, State, Static, next, set_word, word}
+use Rattle.aom_sound.specs.Places.{Cell, Elsewhere, In_service, Object, Place, Sight, changed, held, moved, same_place, seen, without}
+use Rattle.aom_sound.specs.State.{Choice, Frame, Home, Inside, Run, Seat, State, next, set_word, word}
 use Rattle.aom_sound.specs.Tokens.{redeemed_by, token_of}
 use Rattle.aom_sound.specs.WellTyped.{AllSit, Back, Fits, IsBelow, IsHoused, IsServed, NoSeatAt, NoneFrom, Returns, SitsIn, Stack, WellTyped, WordFits}
 use Rattle.aom_sound.specs.Words.{read}
@@ -61,20 +62,7 @@ served_elsewhere p cs ls home h o from e = let housed : IsHoused p cs ls (Inside
 claim_taken :
     (p : Image) (d : Place → Kind) (fr : Frame) (sh : Shape) (ls : List Layer) (r : Place) → serves p fr.method ≡ true →
     claim p d (Method fr (record sh { delivery = Gone }) ∷ ls) r ≡ changed (claim p d (Method fr sh ∷ ls)) (Elsewhere In_service) Null r
-claim_taken p d fr sh ls (Field n f) serving = go fr.home
-  where
-    go : (h : Home) → home_claim p (holder_of p fr.method) h (record sh { delivery = Gone }) n f (claim p d ls (Field n f)) ≡ home_claim p (holder_of p fr.method) h sh n f (claim p d ls (Field n f))
-    go Static = refl
-    go AtRoot = refl
-    go (Inside o from) = refl
-claim_taken p d fr sh ls (Elsewhere Root) serving = go fr.home
-  where
-    go : (h : Home) → root_claim p h (record sh { delivery = Gone }) (claim p d ls (Elsewhere Root)) ≡ root_claim p h sh (claim p d ls (Elsewhere Root))
-    go Static = refl
-    go AtRoot = refl
-    go (Inside o from) = refl
-claim_taken p d fr sh ls (Elsewhere In_service) serving = ap (λ b. cond b Null (claim p d ls (Elsewhere In_service))) serving
-claim_taken p d fr sh ls _ serving = refl
+claim_taken p d fr sh ls x serving = grind arith
 
 delivered_here : (x : Delivery) → is_here x ≡ true → delivered x ≡ Own Message Ready
 delivered_here x e = grind arith
@@ -150,10 +138,7 @@ module _ (p : Image) (t : Typing) (s : State) (fr : Frame) (sh : Shape) (ls : Li
   left = dropped (λ r. same_place r (top ls a)) s.cells
 
   messages : (r : Place) (x : Object) → same_place r (top ls a) ≡ true → held s.cells r ≡ Some x → x.thing ≡ Message
-  messages r x e h =
-      let one : Some x ≡ Some it = sym h ∙ ap (λ y. held s.cells y) (same_place-true r (top ls a) e) ∙ there in
-      let same : x ≡ it = cc in
-      ap (λ (y : Object). y.thing) same ∙ message
+  messages r x e h = grind (arith, nat_tests, same_place-true r (top ls a) e, top ls a)
 
   fits : (r : Place) → Fits p (seen left) (held left r) (claim p (declared p left) (Method (next (set_word fr a None)) after ∷ ls) r)
   fits r = subst (λ k. Fits p (seen left) (held left r) k) (sym claims) (go (same_place r (top ls a)) refl)

@@ -1,5 +1,6 @@
 -- A client's command between dispatches leads to a well-typed state.
-use Rattle.std.proofs.Common.{List, None, Option, Some, [], ap, false, refl, subst, sym, ℕ, ℤ, ◌∙◌, ◌∷◌, ◌≡◌}
+use Rattle.std.proofs.lemmas.Bool.Decides.{nat_tests}
+use Rattle.std.proofs.Common.{arith, List, None, Option, Some, [], ap, false, refl, subst, sym, ℕ, ℤ, ◌∙◌, ◌∷◌, ◌≡◌}
 use Rattle.aom_image.specs.Image.{Image}
 use Rattle.aom_image.specs.declared.method.Thing.TheVariants.{Message}
 use Rattle.aom_clients.specs.Table.{row, server_of}
@@ -41,10 +42,7 @@ module _ (p : Image) (t : Typing) (wired : IsWired p) (s : State) (w : WellTyped
   }
 
   message : (n m : ℕ) (o : Object) → held s.cells (Elsewhere (Queued n m)) ≡ Some o → o.thing ≡ Message
-  message n m o e = (queued_lower p wired x.0 o.thing x.3).0
-    where
-      x : IsQueuedAt p s.cells n m o.thing
-      x = in_queue p t wired s w n m o e
+  message n m o e = grind (arith, nat_tests, queued_lower p wired, IsQueuedAt p s.cells n m o.thing, in_queue p t wired s w n m o e)
 
   waiting : (n m : ℕ) (o : Object) → held s.cells (Elsewhere (Queued n m)) ≡ Some o → is_server p o.thing ≡ false
   waiting n m o e = message_plain p o.thing (message n m o e)

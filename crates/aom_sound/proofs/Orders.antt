@@ -1,8 +1,7 @@
 -- Orders of tokens that come nowhere: what waits for one after a change of the cells did so before, and so it is with what is a token.
+use Rattle.std.proofs.lemmas.Bool.Decides.{nat_tests}
 use Rattle.std.proofs.Common.{Bool, List, None, Option, Some, [], ap, arith, cond, false, refl, subst, sym, true, ℕ, ℤ, ◌==◌, ◌∙◌, ◌∷◌, ◌≡◌}
 use Rattle.std.proofs.lemmas.Bool.{eqb-true}
-use Rattle.std.proofs.lemmas.Option.{none-some}
-use Rattle.std.specs.Prelude.{◌&&◌}
 use Rattle.aom_image.specs.Image.{Image}
 use Rattle.aom_sound.proofs.Altering.{Alters, asking, named_kept, opening, read_kept, requests, services, serving, storing, unslotting}
 use Rattle.aom_sound.proofs.Apart.{apart_fewer}
@@ -16,8 +15,8 @@ use Rattle.aom_sound.proofs.Unslotting.{service_unslotted}
 use Rattle.aom_sound.specs.Clients.{each_unslotted}
 use Rattle.aom_sound.specs.Enlisted.{own_request, rerequested}
 use Rattle.aom_sound.specs.Natives.{all_bereaved, is_served_by, resessioned, terminated_request}
-use Rattle.aom_sound.specs.Places.{Cell, Object, Place, Request, Service, Tidy, moved, named, requested, same_place, service_of, set_request, set_service, without}
-use Rattle.aom_sound.specs.Servers.{all_unslotted, is_from, is_queue, left_by, withdrawn, without_queue}
+use Rattle.aom_sound.specs.Places.{Cell, Object, Place, Request, Service, Tidy, moved, named, requested, service_of, set_request, set_service, without}
+use Rattle.aom_sound.specs.Servers.{all_unslotted, withdrawn, without_queue}
 use Rattle.aom_sound.specs.State.{AtRoot, Home, Inside, Static}
 use Rattle.aom_sound.specs.Tokens.{TokensApart, awaited, order_in}
 use Rattle.aom_sound.specs.Words.{stored}
@@ -72,8 +71,7 @@ comes_asked cs n r fewer = record {
 }
   where
     here : (o : Option Object) → named cs n ≡ o → (k : ℕ) → awaited (requested (set_request n r cs) n) ≡ Some k → awaited (requested cs n) ≡ Some k
-    here None free k e = absurd (none-some k (sym (ap awaited (requested_unnamed (set_request n r cs) n (named_kept (asking n r) cs n ∙ free))) ∙ e))
-    here (Some o) there k e = fewer k (sym (ap awaited (requested_here cs n r o there)) ∙ e)
+    here x free k e = grind (arith, nat_tests, requested_unnamed, named_kept (asking n r) cs n, asking n r, requested_here cs n r)
 
     go : (m k : ℕ) (b : Bool) → (n == m) ≡ b → awaited (requested (set_request n r cs) m) ≡ Some k → awaited (requested cs m) ≡ Some k
     go m k true same e =
@@ -82,9 +80,7 @@ comes_asked cs n r fewer = record {
     go m k false other e = sym (ap awaited (requested_there cs n m r other)) ∙ e
 
 pub comes_requested : (cs : List Cell) (home : Home) (r : Option Request) → ((k : ℕ) → awaited r ≡ Some k → awaited (own_request cs home) ≡ Some k) → NoneComes cs (rerequested cs home r)
-comes_requested cs Static r fewer = comes_itself cs
-comes_requested cs AtRoot r fewer = comes_itself cs
-comes_requested cs (Inside o from) r fewer = comes_asked cs o.name r fewer
+comes_requested cs x r fewer = grind (arith, nat_tests, comes_itself cs, comes_asked cs)
 
 -- it is no other token
 pub comes_served : (cs : List Cell) (n : ℕ) (v : Service) → v.token ≡ (service_of cs n).token → NoneComes cs (set_service n v cs)
@@ -94,8 +90,7 @@ comes_served cs n v same = record {
 }
   where
     here : (o : Option Object) → named cs n ≡ o → (k : ℕ) → order_in (service_of (set_service n v cs) n).token ≡ Some k → order_in (service_of cs n).token ≡ Some k
-    here None free k e = absurd (none-some k (sym (ap (λ (w : Service). order_in w.token) (service_unnamed (set_service n v cs) n (named_kept (serving n v) cs n ∙ free))) ∙ e))
-    here (Some o) there k e = sym (ap order_in same) ∙ sym (ap (λ (w : Service). order_in w.token) (service_here cs n v o there)) ∙ e
+    here x free k e = grind (arith, nat_tests, service_unnamed, named_kept (serving n v) cs n, serving n v, service_here cs n v)
 
     go : (m k : ℕ) (b : Bool) → (n == m) ≡ b → order_in (service_of (set_service n v cs) m).token ≡ Some k → order_in (service_of cs m).token ≡ Some k
     go m k true at e =
@@ -112,31 +107,19 @@ comes_more c cs asks serves = record {
 }
   where
     wait : (n k : ℕ) (b : Bool) → awaited (cond b c.request (requested cs n)) ≡ Some k → awaited (requested cs n) ≡ Some k
-    wait n k true e = absurd (none-some k (sym (ap awaited asks) ∙ e))
-    wait n k false e = e
+    wait n k x e = grind arith
 
     tell : (n k : ℕ) (b : Bool) → order_in (cond b c.service (service_of cs n)).token ≡ Some k → order_in (service_of cs n).token ≡ Some k
-    tell n k true e = absurd (none-some k (sym (ap order_in serves) ∙ e))
-    tell n k false e = e
+    tell n k x e = grind arith
 
 -- ---- cells go
 
 module _ (drops : Cell → Bool) (f : Cell → Service) (keeps : (c : Cell) → (f c).token ≡ c.service.token) where
   waits_kept : (x : Option Cell) (k : ℕ) → awaited (request_in (kept drops f x)) ≡ Some k → awaited (request_in x) ≡ Some k
-  waits_kept None k e = e
-  waits_kept (Some c) k e = go (drops c) e
-    where
-      go : (b : Bool) → awaited (request_in (cond b None (Some (record c { service = f c })))) ≡ Some k → awaited c.request ≡ Some k
-      go true e = absurd (none-some k e)
-      go false e = e
+  waits_kept x k e = grind (arith, nat_tests, request_in)
 
   told_kept : (x : Option Cell) (k : ℕ) → order_in (service_in (kept drops f x)).token ≡ Some k → order_in (service_in x).token ≡ Some k
-  told_kept None k e = e
-  told_kept (Some c) k e = go (drops c) e
-    where
-      go : (b : Bool) → order_in (service_in (cond b None (Some (record c { service = f c })))).token ≡ Some k → order_in c.service.token ≡ Some k
-      go true e = absurd (none-some k e)
-      go false e = sym (ap order_in (keeps c)) ∙ e
+  told_kept x k e = grind (arith, nat_tests, service_in)
 
   pub comes_sifted : (cs : List Cell) → Tidy cs → NoneComes cs (sifted drops f cs)
   comes_sifted cs tidy = record {
@@ -146,11 +129,10 @@ module _ (drops : Cell → Bool) (f : Cell → Service) (keeps : (c : Cell) → 
   }
 
 pub comes_without : (cs : List Cell) → Tidy cs → (g : Place) → NoneComes cs (without g cs)
-comes_without cs tidy g = subst (λ l. NoneComes cs l) (sym (without_so g cs)) (comes_sifted (λ c. same_place c.owner g) (λ c. c.service) (λ c. refl) cs tidy)
+comes_without cs tidy g = grind (arith, nat_tests, without_so g cs, comes_sifted)
 
 pub comes_withdrawn : (cs : List Cell) → Tidy cs → (client : ℕ) → NoneComes cs (withdrawn client cs)
-comes_withdrawn cs tidy client =
-    subst (λ l. NoneComes cs l) (sym (withdrawn_so client cs)) (comes_sifted (λ c. is_queue c.owner && is_from client c.service.sender) (λ c. left_by client c.service) (λ c. refl) cs tidy)
+comes_withdrawn cs tidy client = grind (arith, nat_tests, withdrawn_so client cs, comes_sifted)
 
 comes_unslotted : (cs : List Cell) (client : ℕ) → NoneComes cs (all_unslotted client cs)
 comes_unslotted cs client = record {

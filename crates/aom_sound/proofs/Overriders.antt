@@ -1,5 +1,6 @@
 -- What a call runs takes and gives what the method called does, asks no more of its object and promises no less: by what is said of overriders.
-use Rattle.std.proofs.Common.{Bool, IfSome, IsTrue, None, Option, Some, ap, false, inl, inr, length, map, refl, subst, suc, sym, true, zero, ℕ, ◌==◌, ◌||◌, ◌∙◌, ◌≡◌}
+use Rattle.std.proofs.lemmas.Bool.Decides.{nat_tests}
+use Rattle.std.proofs.Common.{arith, Bool, IsTrue, None, Option, Some, ap, false, inl, inr, map, refl, subst, suc, sym, true, zero, ℕ, ◌==◌, ◌||◌, ◌∙◌, ◌≡◌}
 use Rattle.std.proofs.lemmas.Bool.{eqb-true}
 use Rattle.std.specs.Prelude.{IsSome, is_some}
 use Rattle.aom_image.proofs.Given.{some_given}
@@ -9,7 +10,7 @@ use Rattle.aom_image.specs.declared.method.Method.{Method}
 use Rattle.aom_image.specs.declared.method.Role.TheVariants.{Construct, Do}
 use Rattle.aom_classes.proofs.Facts.{all_there}
 use Rattle.aom_classes.proofs.Playing.{same_roles}
-use Rattle.aom_classes.specs.Overriding.{AllStandIn, StandsIn, StandsInNamed, body_of, leads_in, leads_to, over_in, over_of, overrides}
+use Rattle.aom_classes.specs.Overriding.{AllStandIn, StandsInNamed, body_of, leads_in, over_in, over_of, overrides}
 use Rattle.aom_families.proofs.Bodies.{bodies_are_alike}
 use Rattle.aom_families.specs.Laws.{RunsAlike}
 use Rattle.aom_roles.proofs.Descending.{through}
@@ -20,7 +21,7 @@ use Rattle.aom_shape.specs.Kinds.{field}
 use Rattle.aom_shape.specs.Order.{SaysNoMore, Weaker, WeakerFilling}
 use Rattle.aom_shape.specs.Shape.{Shape}
 use Rattle.aom_shape.specs.Tables.{at}
-use Rattle.aom_shape.specs.Things.{field_thing, Holder, Member, holder_by, holder_of}
+use Rattle.aom_shape.specs.Things.{field_thing, Holder, Member, holder_of}
 use Rattle.aom_shape.specs.declared.kind.Filling.TheVariants.{Perhaps}
 use Rattle.aom_shape.specs.declared.kind.Kind.TheVariants.{Unset}
 use Rattle.aom_shape.specs.Kinds.{register}
@@ -86,19 +87,14 @@ leads_there p m d named n z leads = go (method_at p z) refl n leads
 -- what overrides a method is a plain one
 overrides_plainly : (p : Image) → AllStandIn p → (m k : ℕ) (d e : Method) → method_at p m ≡ Some e → method_at p k ≡ Some d → overrides p k m ≡ true → d.role ≡ Do
 unfolding leads_in over_in method_at
-overrides_plainly p fit m k d e there at over = go d.over refl (sym (ap (λ o. leads_to p (over_in o) m) at) ∙ over)
-  where
-    none_leads : (n : ℕ) → leads_in p n None m ≡ true → ⊥
-    none_leads zero h = cc
-    none_leads (suc n) h = cc
-
-    go : (o : Option ℕ) → d.over ≡ o → leads_to p o m ≡ true → d.role ≡ Do
-    go None is leads = absurd (none_leads (length p.methods) leads)
-    go (Some z) is leads =
-        let named = leads_there p m e there (length p.methods) z leads in
-        let fits : IfSome (Some z) (λ m. IfSome (method_at p m) (StandsIn p d)) = subst (λ o. IfSome o (λ m. IfSome (method_at p m) (StandsIn p d))) is (all_there (StandsInNamed p) p.methods k d fit at) in
-        let stands : StandsIn p d named.0 = subst (λ o. IfSome o (StandsIn p d)) named.1 fits in
-        same_roles d.role Do stands.role
+overrides_plainly p fit m k d e there at over = grind (
+  arith,
+  nat_tests,
+  leads_there p m e there,
+  there,
+  all_there (StandsInNamed p) p.methods k d fit at,
+  same_roles d.role Do,
+)
 
 -- and where something does
 overrider_runs : (p : Image) → IsWired p → (m v k : ℕ) (h : Holder) (e : Method) → IsCalled p m → RunsAlike p m v k e → CountsAs p h (Some v) (holder_of p m) → RunsFor p m k h (Some v)
@@ -110,16 +106,13 @@ overrider_runs p wired m v k h e called x counts = record {
   gives = ap gives_in x.alike.there ∙ x.alike.gives ∙ sym (ap gives_in x.alike.named);
   leaves = λ l. ap leaves_in x.alike.named ∙ x.alike.asks.leaves (sym (ap leaves_in x.alike.there) ∙ l);
   quiet = λ q. ap quiet_in x.alike.there ∙ x.alike.asks.quiet (sym (ap quiet_in x.alike.named) ∙ q);
-  before = subst (λ o. IsTrue (has (before_in o) (before_of p m))) (sym x.alike.there) (subst (λ o. IsTrue (has (before_in (Some x.method)) (before_in o))) (sym x.alike.named) x.alike.asks.before);
-  after = subst (λ o. IsTrue (has (after_of p m) (after_in o))) (sym x.alike.there) (subst (λ o. IsTrue (has (after_in o) (after_in (Some x.method)))) (sym x.alike.named) x.alike.asks.after);
+  before = grind (arith, nat_tests);
+  after = grind (arith, nat_tests);
   holder = subst (λ y. Houses p h y) (sym works) (subst (λ y. Houses p y (Member x.class)) (sym object.1) (houses_family p wired.family object.0 x.class (through p object.0 v x.class object.2 x.family)));
-  only = λ construct.
-      let plain = overrides_plainly p wired.overriders m k x.method e x.alike.named x.alike.there x.overrides in
-      let clash : Some Do ≡ Some Construct = ap (λ r. Some r) (sym plain) ∙ sym (ap role_in x.alike.there) ∙ role ∙ construct in
-      absurd cc;
+  only = grind (arith, nat_tests, overrides_plainly p wired.overriders m k x.method e x.alike.named x.alike.there x.overrides, role);
   counts = record {
     some = λ c is. (v, refl);
-    between = λ w is. (object.0, object.1, subst (λ y. descends p object.0 y ≡ true) (same w is) object.2, x.class, works, subst (λ y. descends p y x.class ≡ true) (same w is) x.family);
+    between = grind (arith, nat_tests);
     fields = λ f t is. wired.family.inherits v x.class f t x.family (ap (λ y. field_thing p y f) (sym works) ∙ is);
   };
 }
@@ -131,7 +124,7 @@ overrider_runs p wired m v k h e called x counts = record {
     class = ap class_in x.alike.there ∙ x.of
 
     works : holder_of p k ≡ Member x.class
-    works = ap (λ c. holder_by (method_role p k) c) class ∙ ap (λ r. holder_by r (Some x.class)) role ∙ holder_called (method_role p m) x.class called.role
+    works = grind (arith, nat_tests, class, role, holder_called)
 
     object : (c : ℕ) × (h ≡ Member c) × (descends p c v ≡ true) × (d : ℕ) × (holder_of p m ≡ Member d) × (descends p v d ≡ true)
     object = counts.between v refl

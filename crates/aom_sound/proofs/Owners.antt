@@ -1,5 +1,6 @@
 -- In a well-typed state each cell has one living owner, and following owners ends: by what the layers claim of the owner.
-use Rattle.std.proofs.Common.{Bool, List, None, Option, Some, [], ap, arith, cond, false, length, refl, subst, suc, sym, true, zero, ℕ, ⊎_elim, ◌&&◌, ◌+◌, ◌<◌, ◌==◌, ◌∙◌, ◌∷◌, ◌≡◌, ◌≤◌}
+use Rattle.std.proofs.lemmas.Bool.Decides.{nat_tests}
+use Rattle.std.proofs.Common.{Bool, List, None, Option, Some, [], ap, arith, cond, false, length, refl, subst, suc, sym, true, zero, ℕ, ⊎_elim, ◌+◌, ◌<◌, ◌==◌, ◌∙◌, ◌∷◌, ◌≡◌, ◌≤◌}
 use Rattle.aom_image.proofs.Given.{false_given, nil_given, some_given}
 use Rattle.std.proofs.lemmas.Bool.{cases_lt, eqb-true, ne_eqb}
 use Rattle.std.proofs.lemmas.Option.{slice_get_within}
@@ -10,7 +11,7 @@ use Rattle.aom_image.specs.declared.method.Thing.{Thing}
 use Rattle.aom_image.specs.declared.method.Thing.TheVariants.{Message, Object as An_object_of}
 use Rattle.aom_roles.specs.Classes.{kind_in, sessions_at, sessions_in}
 use Rattle.aom_roles.specs.Shapes.{kind_of}
-use Rattle.aom_shape.specs.Kinds.{entry_kind, field, filled, register}
+use Rattle.aom_shape.specs.Kinds.{field, filled}
 use Rattle.aom_shape.specs.Things.{holder_of, Program, field_thing, stands_for}
 use Rattle.aom_rules.specs.Typing.{Typing}
 use Rattle.aom_shape.specs.declared.kind.Entry.{Entry as Pushed}
@@ -23,13 +24,13 @@ use Rattle.aom_sound.proofs.Items.{length_forms}
 use Rattle.aom_sound.proofs.Maps.{found, of_name, same_place-true, same_place_refl}
 use Rattle.aom_sound.proofs.Housing.{stands_session}
 use Rattle.aom_sound.proofs.Things.{serving_class, stands_message}
-use Rattle.aom_sound.specs.Claims.{own_field, Dispatching, Dying, Ending, Layer, Mark, Mark_form, Method, Object_form, Unwinding, by_close, by_stage, claim, delivered, serves, declared, declared_field, entry_claim, entry_form, form, forms, home_claim, is_of_root, items_of, objects, root_claim, task_of, tasks_of}
+use Rattle.aom_sound.specs.Claims.{own_field, Dispatching, Dying, Ending, Layer, Mark, Mark_form, Method, Object_form, Unwinding, by_close, by_stage, claim, delivered, serves, declared, entry_claim, form, forms, home_claim, is_of_root, items_of, objects, task_of, tasks_of}
 use Rattle.aom_sound.specs.Laws.{EndsEmpty, EndsOwned, IsWired}
 use Rattle.aom_sound.specs.Owned.{AllOwned, Ends, HasRegisters, HasService, IsObjects, Lives, NoneGoes, Owned, at_entry, at_register, at_root, at_service, by_cell, by_server, over}
-use Rattle.aom_sound.specs.Places.{Cell, Elsewhere, Entry, Field, Going, Object, Place, Register, Root, Sight, Tidy, held, named, same_place, seen, service_of, Session, In_service, Queued}
+use Rattle.aom_sound.specs.Places.{Cell, Elsewhere, Entry, Field, Going, Object, Place, Register, Root, Sight, Tidy, held, named, seen, service_of, Session, In_service, Queued}
 use Rattle.aom_sound.specs.Registers.{AllInRange, IsInRange}
-use Rattle.aom_sound.specs.Servers.{has_message, has_session, is_among, is_server, message_thing, of_class, session_class, session_thing}
-use Rattle.aom_sound.specs.State.{home_holder, AtRoot, Dispatch, Dispatched, Home, Inside, Item, Of_server, Parts, Run, Service_left, Serves, State, Static, thing_holder}
+use Rattle.aom_sound.specs.Servers.{has_message, has_session, message_thing, session_thing}
+use Rattle.aom_sound.specs.State.{home_holder, AtRoot, Dispatch, Dispatched, Home, Inside, Item, State, Static, thing_holder}
 use Rattle.aom_sound.specs.WellTyped.{Back, Caught, Fits, Gone, Houses, IsHoused, IsServed, Leaves, Now, Returns, Stack, WellTyped}
 
 -- what a kind of an owning place says of the thing
@@ -45,11 +46,7 @@ abbrev pub StandsIn : Image → Kind → Thing → Type 0
 StandsIn p k x = (y : Thing) × HasThing k y × (stands_for p x y ≡ true)
 
 pub fits_thing : (p : Image) (h : Sight) (o : Object) (k : Kind) → Fits p h (Some o) k → StandsIn p k o.thing
-fits_thing p h o (Own c a) f = (c, refl, f.0)
-fits_thing p h o (Maybe c a) f = (c, refl, f.0)
-fits_thing p h o Unset f = absurd f
-fits_thing p h o Word f = absurd f
-fits_thing p h o Null f = absurd f
+fits_thing p h o x f = grind arith
 
 -- the first cell is held by its owner
 held_first : (c : Cell) (cs : List Cell) → held (c ∷ cs) c.owner ≡ Some c.object
@@ -57,11 +54,7 @@ held_first c cs = ap (λ b. cond b (Some c.object) (held cs c.owner)) (same_plac
 
 -- what the other cells hold is held in all
 pub later : (cs : List Cell) (c : Cell) (q : Place) (o : Object) → Tidy (c ∷ cs) → held cs q ≡ Some o → held (c ∷ cs) q ≡ Some o
-later cs c q o t h = go (same_place c.owner q) refl
-  where
-    go : (b : Bool) → same_place c.owner q ≡ b → cond b (Some c.object) (held cs q) ≡ Some o
-    go true e = let none : held cs q ≡ None = ap (λ r. held cs r) (sym (same_place-true c.owner q e)) ∙ t.0 in let clash : Some o ≡ None = sym h ∙ none in cc
-    go false e = h
+later cs c q o t h = grind (arith, nat_tests, same_place-true c.owner q)
 
 -- a cell that is named is held somewhere
 pub named_held : (cs : List Cell) (n : ℕ) (o : Object) → Tidy cs → named cs n ≡ Some o → (q : Place) × (held cs q ≡ Some o)
@@ -83,10 +76,7 @@ below_null b k x h = false_given (λ b. HasThing (cond b Null k) x) b h (λ h. h
 -- what is declared of a field, by the cell that has it
 declared_thing_of :
     (p : Image) (cs : List Cell) (n f : ℕ) (c : Thing) → HasThing (declared p cs (Field n f)) c → (o : Object) × (named cs n ≡ Some o) × (field_thing p (thing_holder o.thing) f ≡ Some c)
-declared_thing_of p cs n f c h = go (named cs n) refl h
-  where
-    go : (o : Option Object) → named cs n ≡ o → HasThing (declared_field p o f) c → (o : Object) × (named cs n ≡ Some o) × (field_thing p (thing_holder o.thing) f ≡ Some c)
-    go o e h = grind arith
+declared_thing_of p cs n f c h = grind (arith, nat_tests)
 
 pub field_thing_of :
     (p : Image) (t : Typing) (cs : List Cell) (ls : List Layer) (back : Back) (n f : ℕ) (c : Thing) → Stack p t cs back ls → HasThing (claim p (declared p cs) ls (Field n f)) c →
@@ -110,18 +100,10 @@ field_thing_of p t cs (Method fr sh ∷ ls) back n f c s h = go fr.home s.1.hold
         inside true e None is h = ih h
         inside false e own is h = ih h
 field_thing_of p t cs (Mark gv ∷ ls) back n f c s h = field_thing_of p t cs ls (Caught gv) n f c s.1 h
-field_thing_of p t cs (Ending o left ∷ ls) back n f c s h = ending (o.name == n) refl (field_thing_of p t cs ls Now n f c s.3) h
-  where
-    ending :
-        (b : Bool) → (o.name == n) ≡ b → (HasThing (claim p (declared p cs) ls (Field n f)) c → (o : Object) × (named cs n ≡ Some o) × (field_thing p (thing_holder o.thing) f ≡ Some c)) →
-        HasThing (cond b (filled (field_thing p (thing_holder o.thing) f) Perhaps) (claim p (declared p cs) ls (Field n f))) c →
-        (o : Object) × (named cs n ≡ Some o) × (field_thing p (thing_holder o.thing) f ≡ Some c)
-    ending true e below h = (o, ap (λ m. named cs m) (sym (eqb-true o.name n e)) ∙ s.0.lives, filled_thing (field_thing p (thing_holder o.thing) f) Perhaps c h)
-    ending false e below h = below h
+field_thing_of p t cs (Ending o left ∷ ls) back n f c s h = grind (arith, nat_tests, field_thing_of p t cs ls Now n f c s.3, eqb-true o.name n, filled_thing)
 field_thing_of p t cs (Unwinding code es ∷ ls) back n f c s h = field_thing_of p t cs ls Leaves n f c s.1 h
 field_thing_of p t cs (Dispatching w seats ∷ ls) back n f c s h = declared_thing_of p cs n f c (subst (λ l. HasThing (claim p (declared p cs) l (Field n f)) c) s.1 h)
-field_thing_of p t cs (Dying o ∷ ls) back n f c s h =
-    field_thing_of p t cs ls Gone n f c s.2 (below_null (o.name == n) (claim p (declared p cs) ls (Field n f)) c h)
+field_thing_of p t cs (Dying o ∷ ls) back n f c s h = grind (arith, nat_tests, field_thing_of p t cs ls Gone n f c s.2, below_null (o.name == n))
 
 -- ---- sessions and messages
 
@@ -130,14 +112,11 @@ abbrev pub IsSessionAt : Image → List Cell → ℕ → ℕ → Thing → Type 
 IsSessionAt p cs n c x = (o : Object) × (named cs n ≡ Some o) × (has_session (service_of cs n) c ≡ true) × (session_thing p (Some o) ≡ Some x)
 
 declared_session_of : (p : Image) (cs : List Cell) (n c : ℕ) (x : Thing) → HasThing (declared p cs (Elsewhere (Session n c))) x → IsSessionAt p cs n c x
-declared_session_of p cs n c x h =
-    let found = filled_where (has_session (service_of cs n) c) (session_thing p (named cs n)) x h in
-    some_given (λ o. session_thing p o ≡ Some x) (named cs n) found.1 (λ none. cc) (λ o there its. (o, there, found.0, its))
+declared_session_of p cs n c x h = grind (arith, nat_tests, found, filled_where, some_given)
 
 -- where a close is served its session is claimed no more
 by_close_below : (d : Dispatch) (n c : ℕ) (k : Kind) (x : Thing) → HasThing (by_close d n c k) x → HasThing k x
-by_close_below (Of_server y client Parts) n c k x h = below_null ((y.object.name == n) && (client == c)) k x h
-by_close_below _ n c k x h = h
+by_close_below x n c k y h = grind (arith, nat_tests, below_null)
 
 pub session_thing_of :
     (p : Image) (t : Typing) (cs : List Cell) (ls : List Layer) (back : Back) (n c : ℕ) (x : Thing) → Stack p t cs back ls →
@@ -146,29 +125,23 @@ session_thing_of p t cs [] back n c x s h = declared_session_of p cs n c x h
 session_thing_of p t cs (Method fr sh ∷ ls) back n c x s h = session_thing_of p t cs ls (Returns fr.method fr.home) n c x s.4 h
 session_thing_of p t cs (Mark gv ∷ ls) back n c x s h = session_thing_of p t cs ls (Caught gv) n c x s.1 h
 session_thing_of p t cs (Unwinding code es ∷ ls) back n c x s h = session_thing_of p t cs ls Leaves n c x s.1 h
-session_thing_of p t cs (Dispatching d seats ∷ ls) back n c x s h =
-    declared_session_of p cs n c x (subst (λ l. HasThing (claim p (declared p cs) l (Elsewhere (Session n c))) x) s.1 (by_close_below d n c (claim p (declared p cs) ls (Elsewhere (Session n c))) x h))
-session_thing_of p t cs (Dying o ∷ ls) back n c x s h =
-    session_thing_of p t cs ls Gone n c x s.2 (below_null (o.name == n) (claim p (declared p cs) ls (Elsewhere (Session n c))) x h)
-session_thing_of p t cs (Ending o left ∷ ls) back n c x s h = go (o.name == n) refl (session_thing_of p t cs ls Now n c x s.3) h
-  where
-    go :
-        (b : Bool) → (o.name == n) ≡ b → (HasThing (claim p (declared p cs) ls (Elsewhere (Session n c))) x → IsSessionAt p cs n c x) →
-        HasThing (cond b (cond (is_among c left) (filled (session_thing p (Some o)) Full) Null) (claim p (declared p cs) ls (Elsewhere (Session n c)))) x → IsSessionAt p cs n c x
-    go true e below h =
-        let same : o.name ≡ n = eqb-true o.name n e in
-        let found = filled_where (is_among c left) (session_thing p (Some o)) x h in
-        (o, ap (λ m. named cs m) (sym same) ∙ s.0.lives, ap (λ m. has_session (service_of cs m) c) (sym same) ∙ s.0.listed c found.0, found.1)
-    go false e below h = below h
+session_thing_of p t cs (Dispatching d seats ∷ ls) back n c x s h = grind (arith, nat_tests, declared_session_of p cs n c x, by_close_below d n c)
+session_thing_of p t cs (Dying o ∷ ls) back n c x s h = grind (arith, nat_tests, session_thing_of p t cs ls Gone n c x s.2, below_null (o.name == n))
+session_thing_of p t cs (Ending o left ∷ ls) back n c x s h = grind (
+  arith,
+  nat_tests,
+  session_thing_of p t cs ls Now n c x s.3,
+  eqb-true o.name n,
+  found,
+  filled_where,
+)
 
 -- a message that waits is in the queue of a server that stands
 abbrev pub IsQueuedAt : Image → List Cell → ℕ → ℕ → Thing → Type 0
 IsQueuedAt p cs n m x = (o : Object) × (named cs n ≡ Some o) × (has_message (service_of cs n) m ≡ true) × (message_thing p (Some o) ≡ Some x)
 
 pub queued_thing_of : (p : Image) (cs : List Cell) (ls : List Layer) (n m : ℕ) (x : Thing) → HasThing (claim p (declared p cs) ls (Elsewhere (Queued n m))) x → IsQueuedAt p cs n m x
-queued_thing_of p cs [] n m x h =
-    let found = filled_where (has_message (service_of cs n) m) (message_thing p (named cs n)) x h in
-    some_given (λ o. message_thing p o ≡ Some x) (named cs n) found.1 (λ none. cc) (λ o there its. (o, there, found.0, its))
+queued_thing_of p cs [] n m x h = grind (arith, nat_tests, found, filled_where, some_given)
 queued_thing_of p cs (l ∷ ls) n m x h = queued_thing_of p cs ls n m x h
 
 -- a message is served under a dispatch that serves it
@@ -176,9 +149,7 @@ served_below : (ls : List Layer) → IsServed ls → HasService (tasks_of ls)
 served_below ls h = grind arith
 
 by_stage_serves : (d : Dispatch) (ls : List Layer) (k : Kind) (x : Thing) → (HasThing k x → ⊥) → HasThing (by_stage d k) x → HasService (Dispatched d ∷ tasks_of ls)
-by_stage_serves (Of_server y c (Serves o)) ls k x none h = refl
-by_stage_serves (Of_server y c (Service_left code)) ls k x none h = refl
-by_stage_serves _ ls k x none h = absurd (none h)
+by_stage_serves x ls k y none h = grind arith
 
 pub service_lives :
     (p : Image) (t : Typing) (cs : List Cell) (ls : List Layer) (back : Back) (x : Thing) → Stack p t cs back ls → HasThing (claim p (declared p cs) ls (Elsewhere In_service)) x →
@@ -195,8 +166,7 @@ service_lives p t cs (Mark gv ∷ ls) back x s h = service_lives p t cs ls (Caug
 service_lives p t cs (Dying o ∷ ls) back x s h = service_lives p t cs ls Gone x s.2 h
 service_lives p t cs (Ending o left ∷ ls) back x s h = service_lives p t cs ls Now x s.3 h
 service_lives p t cs (Unwinding code es ∷ ls) back x s h = service_lives p t cs ls Leaves x s.1 h
-service_lives p t cs (Dispatching d seats ∷ ls) back x s h =
-    by_stage_serves d ls (claim p (declared p cs) ls (Elsewhere In_service)) x (λ h. subst (λ l. HasThing (claim p (declared p cs) l (Elsewhere In_service)) x) s.1 h) h
+service_lives p t cs (Dispatching d seats ∷ ls) back x s h = grind (arith, nat_tests, by_stage_serves d ls)
 
 -- ---- the places that are claimed to own live
 
@@ -223,13 +193,7 @@ module _ (p : Image) (cs : List Cell) (x : Thing) where
 
   registers_live : (ls : List Layer) (f i : ℕ) → Claims ls (Register f i) → HasRegisters (over (tasks_of ls) f)
   registers_live [] f i h = absurd h
-  registers_live (Method fr sh ∷ ls) f i h = go (length (tasks_of ls) == f) (registers_live ls f i) h
-    where
-      go :
-          (b : Bool) → (Claims ls (Register f i) → HasRegisters (over (tasks_of ls) f)) →
-          HasThing (cond b (register sh i) (claim p (declared p cs) ls (Register f i))) x → HasRegisters (cond b (Some (Run fr)) (over (tasks_of ls) f))
-      go true below h = tt
-      go false below h = below h
+  registers_live (Method fr sh ∷ ls) f i h = grind (arith, nat_tests, registers_live ls f i)
   registers_live (Mark gv ∷ ls) f i h = not_here (Mark gv) ls f i h (registers_live ls f i h)
   registers_live (Dying o ∷ ls) f i h = not_here (Dying o) ls f i h (registers_live ls f i h)
   registers_live (Ending o left ∷ ls) f i h = not_here (Ending o left) ls f i h (registers_live ls f i h)
@@ -244,19 +208,7 @@ module _ (p : Image) (cs : List Cell) (x : Thing) where
       (es : List Pushed) (ls : List Layer) (k : ℕ) → (Claims ls (Entry k) → over (items_of ls) k ≡ Some Object_form) → ClaimsOver es ls k →
       over (objects es (items_of ls)) k ≡ Some Object_form
   entries_live [] ls k below h = below h
-  entries_live (e ∷ es) ls k below h = go (length (objects es (items_of ls)) == k) (entries_live es ls k below) h
-    where
-      object : (e : Pushed) → HasThing (entry_kind e) x → Some (entry_form e) ≡ Some Object_form
-      object e h = grind arith
-
-      rest_claim : Kind
-      rest_claim = entry_claim es (items_of ls) k (claim p (declared p cs) ls (Entry k))
-
-      go :
-          (b : Bool) → (ClaimsOver es ls k → over (objects es (items_of ls)) k ≡ Some Object_form) → HasThing (cond b (entry_kind e) rest_claim) x →
-          cond b (Some (entry_form e)) (over (objects es (items_of ls)) k) ≡ Some Object_form
-      go true rest h = object e h
-      go false rest h = rest h
+  entries_live (e ∷ es) ls k below h = grind (arith, nat_tests, entries_live es ls k below)
 
   items_live : (ls : List Layer) (k : ℕ) → Claims ls (Entry k) → over (items_of ls) k ≡ Some Object_form
   items_live [] k h = absurd h
@@ -270,14 +222,7 @@ module _ (p : Image) (cs : List Cell) (x : Thing) where
   -- the root is claimed where the image has one
   root_lives : (ls : List Layer) → Claims ls (Elsewhere Root) → IsSome (field_thing p Program 0)
   root_lives [] h = ap is_some (filled_thing (field_thing p Program 0) Perhaps x h)
-  root_lives (Method fr sh ∷ ls) h = go fr.home (root_lives ls) h
-    where
-      go :
-          (home : Home) → (Claims ls (Elsewhere Root) → IsSome (field_thing p Program 0)) →
-          HasThing (root_claim p home sh (claim p (declared p cs) ls (Elsewhere Root))) x → IsSome (field_thing p Program 0)
-      go Static below h = below h
-      go AtRoot below h = ap is_some (filled_thing (field_thing p Program 0) (field sh 0) x h)
-      go (Inside o from) below h = below h
+  root_lives (Method fr sh ∷ ls) h = grind (arith, nat_tests, root_lives ls, filled_thing)
   root_lives (Mark gv ∷ ls) h = root_lives ls h
   root_lives (Dying o ∷ ls) h = root_lives ls h
   root_lives (Ending o left ∷ ls) h = root_lives ls h
@@ -287,17 +232,10 @@ module _ (p : Image) (cs : List Cell) (x : Thing) where
 -- an item of that form is an object's
 form_over : (items : List Item) (k : ℕ) → over (forms items) k ≡ option_map form (over items k)
 form_over [] k = refl
-form_over (i ∷ items) k = ap (λ n. cond (n == k) (Some (form i)) (over (forms items) k)) (length_forms items) ∙ go (length items == k) (form_over items k)
-  where
-    go : (b : Bool) → over (forms items) k ≡ option_map form (over items k) → cond b (Some (form i)) (over (forms items) k) ≡ option_map form (cond b (Some i) (over items k))
-    go true rest = refl
-    go false rest = rest
+form_over (i ∷ items) k = grind (arith, nat_tests, length_forms items, form_over items k)
 
 objects_item : (items : List Item) (k : ℕ) → over (forms items) k ≡ Some Object_form → IsObjects (over items k)
-objects_item items k e = of_item (over items k) (sym (form_over items k) ∙ e)
-  where
-    of_item : (o : Option Item) → option_map form o ≡ Some Object_form → IsObjects o
-    of_item o e = grind arith
+objects_item items k e = grind (arith, nat_tests, form_over items k)
 
 -- with no destruction at hand nothing is on its way
 none_going : (p : Image) (d : Place → Kind) (ls : List Layer) (k : ℕ) → NoneGoes (tasks_of ls) → claim p d ls (Going k) ≡ d (Going k)
@@ -316,11 +254,7 @@ rank p wired (An_object_of c) = suc (wired.family.weight c)
 rank p wired Message = 0
 
 pub lower_rank : (p : Image) (wired : IsWired p) (x y z : Thing) (f : ℕ) → field_thing p (thing_holder x) f ≡ Some y → stands_for p z y ≡ true → rank p wired z < rank p wired x
-lower_rank p wired (An_object_of c) (An_object_of d) (An_object_of b) f e stands = let lt = wired.family.lighter c d f b e stands in omega (arith, lt)
-lower_rank p wired (An_object_of c) (An_object_of d) Message f e stands = cc
-lower_rank p wired (An_object_of c) Message (An_object_of b) f e stands = cc
-lower_rank p wired (An_object_of c) Message Message f e stands = omega arith
-lower_rank p wired Message y z f e stands = cc
+lower_rank p wired x y z f e stands = grind arith
 
 -- only classes that are there declare fields
 declaring_class : (p : Image) (x y : Thing) (f : ℕ) → field_thing p (thing_holder x) f ≡ Some y → (c : ℕ) × (x ≡ An_object_of c)
@@ -328,11 +262,7 @@ declaring_class p x y f e = grind arith
 
 pub declaring : (p : Image) (wired : IsWired p) (x y : Thing) (f : ℕ) → field_thing p (thing_holder x) f ≡ Some y → rank p wired x ≤ length p.classes
 unfolding class_at fields_in
-declaring p wired x y f e =
-    let class = declaring_class p x y f e in
-    let its = ap (λ z. field_thing p (thing_holder z) f) (sym class.1) ∙ e in
-    subst (λ z. rank p wired z ≤ length p.classes) (sym class.1)
-    (some_given (λ k. slice_get (fields_in k) f ≡ Some y) (slice_get p.classes class.0) its (λ none. (let clash : slice_get {X = Thing} [] f ≡ Some y = none in cc)) (λ k at _. (let lt = wired.family.few class.0 (slice_get_within p.classes class.0 k at) in omega (arith, lt))))
+declaring p wired x y f e = grind (arith, nat_tests, declaring_class p x y f e, some_given, slice_get_within p.classes)
 
 -- what is at a server stands lower than it, and its class is there
 module _ (p : Image) (wired : IsWired p) where
@@ -345,34 +275,15 @@ module _ (p : Image) (wired : IsWired p) where
 
   pub session_lower : (o : Object) (x : Thing) → session_thing p (Some o) ≡ Some x → IsLower x o.thing
   unfolding kind_of sessions_in
-  session_lower o x e =
-      let is = serving_class p o.thing (is_so (session_class p o.thing) e) in
-      let same : An_object_of is.1 ≡ x = let session = ap of_class (sym is.3) ∙ ap (λ y. of_class (session_class p y)) (sym is.2) ∙ e in cc in
-      let lt = wired.family.served is.0 is.1 is.3 in
-      subst (λ y. IsLower x y) (sym is.2) (subst (λ y. rank p wired y < suc (wired.family.weight is.0)) same (omega (arith, lt)), serving_within is.0 is.1 is.3)
-    where
-      is_so : (k : Option ℕ) → of_class k ≡ Some x → is_some k ≡ true
-      is_so k e = grind arith
+  session_lower o x e = grind (arith, nat_tests, serving_class p o.thing, serving_within)
 
   -- nothing else stands for the session of a server
   session_only : (o : Object) (y x : Thing) → session_thing p (Some o) ≡ Some y → stands_for p x y ≡ true → x ≡ y
   unfolding kind_of sessions_in
-  session_only o y x e stands =
-      let is = serving_class p o.thing (is_so (session_class p o.thing) e) in
-      let same : An_object_of is.1 ≡ y = let session = ap of_class (sym is.3) ∙ ap (λ y. of_class (session_class p y)) (sym is.2) ∙ e in cc in
-      subst (λ v. stands_for p x v ≡ true → x ≡ v) same (stands_session p wired.family is.0 is.1 is.3 x) stands
-    where
-      is_so : (k : Option ℕ) → of_class k ≡ Some y → is_some k ≡ true
-      is_so k e = grind arith
+  session_only o y x e stands = grind (arith, nat_tests, serving_class p o.thing, stands_session p wired.family)
 
   pub queued_lower : (o : Object) (x : Thing) → message_thing p (Some o) ≡ Some x → (x ≡ Message) × (IsLower x o.thing)
-  queued_lower o x e =
-      let waits = where_true (is_server p o.thing) e in
-      let is = serving_class p o.thing waits.0 in
-      (waits.1, subst (λ y. IsLower x y) (sym is.2) (subst (λ y. rank p wired y < suc (wired.family.weight is.0)) (sym waits.1) (omega arith), serving_within is.0 is.1 is.3))
-    where
-      where_true : (b : Bool) → cond b (Some Message) None ≡ Some x → (b ≡ true) × (x ≡ Message)
-      where_true b e = grind arith
+  queued_lower o x e = grind (arith, nat_tests, serving_class p o.thing, serving_within)
 
 module _ (p : Image) (t : Typing) (wired : IsWired p) (s : State) (w : WellTyped p t s) where
   -- what is claimed to be at a place, for which stands what is there
@@ -398,7 +309,7 @@ module _ (p : Image) (t : Typing) (wired : IsWired p) (s : State) (w : WellTyped
   unowned_going k o e = let y = kind_at p t wired s w (Going k) o e in unclaimed p s.cells y.0 w.layers (Going k) (none_going p (declared p s.cells) w.layers k (subst (λ ts. NoneGoes ts) w.tasks clear)) y.1
 
   lives : (q : Place) (o : Object) → IsInRange q → held s.cells q ≡ Some o → Lives p s q
-  lives (Register f i) o fits e = (let y = kind_at p t wired s w (Register f i) o e in subst (λ ts. HasRegisters (over ts f)) (sym w.tasks) (registers_live p s.cells y.0 w.layers f i y.1), fits)
+  lives (Register f i) o fits e = (grind (arith, nat_tests, kind_at p t wired s w (Register f i) o e, registers_live p s.cells), fits)
   lives (Entry k) o fits e = objects_item s.items k (ap (λ is. over is k) w.items ∙ (let y = kind_at p t wired s w (Entry k) o e in items_live p s.cells y.0 w.layers k y.1))
   lives (Field n f) o fits e = let y = kind_at p t wired s w (Field n f) o e in let x = field_thing_of p t s.cells w.layers Now n f y.0 w.good.stack y.1 in (x.0, x.1, ap is_some x.2)
   lives (Elsewhere Root) o fits e = let y = kind_at p t wired s w (Elsewhere Root) o e in root_lives p s.cells y.0 w.layers y.1
@@ -414,12 +325,14 @@ module _ (p : Image) (t : Typing) (wired : IsWired p) (s : State) (w : WellTyped
   ends_by fuel (Elsewhere Root) o e le = at_root
   ends_by fuel (Elsewhere In_service) o e le = at_service
   ends_by fuel (Going k) o e le = absurd (unowned_going k o e)
-  ends_by zero (Field n f) o e le =
-      let k = kind_at p t wired s w (Field n f) o e in
-      let x = field_thing_of p t s.cells w.layers Now n f k.0 w.good.stack k.1 in
-      let lower = lower_rank p wired x.0.thing k.0 o.thing f x.2 k.2 in
-      let there = declaring p wired x.0.thing k.0 f x.2 in
-      absurd (omega arith)
+  ends_by zero (Field n f) o e le = grind (
+    arith,
+    nat_tests,
+    kind_at p t wired s w (Field n f) o e,
+    field_thing_of p t s.cells w.layers Now n f,
+    lower_rank p wired,
+    declaring p wired,
+  )
   ends_by (suc fuel) (Field n f) o e le =
       let k = kind_at p t wired s w (Field n f) o e in
       let x = field_thing_of p t s.cells w.layers Now n f k.0 w.good.stack k.1 in
@@ -465,10 +378,7 @@ layers_none ls e = nil_given (λ ls. tasks_of ls ≡ []) ls e (λ l ls e. cc) (�
 -- with nothing at hand a place but a field or the root holds nothing, so that without a root nothing is held
 module _ (p : Image) (t : Typing) (s : State) (w : WellTyped p t s) (idle : s.tasks ≡ []) (rootless : held s.cells (Elsewhere Root) ≡ None) where
   unheld : (q : Place) (o : Object) → declared p s.cells q ≡ Null → held s.cells q ≡ Some o → ⊥
-  unheld q o null e =
-      let f : Fits p (seen s.cells) (held s.cells q) Null =
-      subst (λ k. Fits p (seen s.cells) (held s.cells q) k) (ap (λ l. claim p (declared p s.cells) l q) (layers_none w.layers (sym w.tasks ∙ idle)) ∙ null) (w.good.fits q) in
-      subst (λ x. Fits p (seen s.cells) x Null) e f
+  unheld q o null e = grind (arith, nat_tests, layers_none w.layers)
 
   nowhere : (q : Place) (o : Object) → Ends s q → held s.cells q ≡ Some o → ⊥
   nowhere q o (at_register {f = f} {i = i}) e = unheld (Register f i) o refl e
@@ -480,9 +390,7 @@ module _ (p : Image) (t : Typing) (s : State) (w : WellTyped p t s) (idle : s.ta
 
   none_left : IsWired p → (cs : List Cell) → s.cells ≡ cs → cs ≡ []
   none_left wired [] e = refl
-  none_left wired (c ∷ cs) e =
-      let there : held s.cells c.owner ≡ Some c.object = ap (λ l. held l c.owner) e ∙ held_first c cs in
-      absurd (nowhere c.owner c.object (ends p t wired s w (subst (λ ts. NoneGoes ts) (sym idle) tt) c.owner c.object there) there)
+  none_left wired (c ∷ cs) e = grind (arith, nat_tests, held_first c cs, nowhere c.owner c.object, ends p t wired s w)
 
 pub ends_empty : EndsEmpty
 ends_empty p t wired s w idle rootless = none_left p t s w idle rootless wired s.cells refl

@@ -1,15 +1,15 @@
 -- Who is a living owner in closed states: by computation, and two cells that own each other by following owners.
-use Rattle.std.proofs.Common.{Bool, List, None, Some, [], arith, cond, false, inl, inr, refl, subst, sym, true, ◌∷◌, ◌≡◌}
-use Rattle.std.specs.Prelude.{IsSome, ◌⊎◌}
+use Rattle.std.proofs.lemmas.Bool.Decides.{nat_tests}
+use Rattle.std.proofs.Common.{List, Some, [], arith, false, inl, inr, refl, true, ◌∷◌, ◌≡◌}
+use Rattle.std.specs.Prelude.{◌⊎◌}
 use Rattle.aom_image.specs.Views.{class_at, fields_in}
 use Rattle.aom_roles.specs.Families.{descends_in, parent_in}
-use Rattle.aom_shape.specs.Things.{field_thing}
 use Rattle.aom_sound.proofs.Maps.{same_place-true}
 use Rattle.aom_sound.specs.Cases.Building.{a_cell, keeper, pair, state_of}
-use Rattle.aom_sound.specs.Cases.Owners.{OwnersBite, an_image, caught_tasks}
+use Rattle.aom_sound.specs.Cases.Owners.{OwnersBite, caught_tasks}
 use Rattle.aom_sound.specs.Owned.{Ends, at_entry, at_register, at_root, at_service, by_cell, by_server}
-use Rattle.aom_sound.specs.Places.{Cell, Elsewhere, Field, Object, Place, Root, held, named, same_place}
-use Rattle.aom_sound.specs.State.{A_mark, State, thing_holder}
+use Rattle.aom_sound.specs.Places.{Cell, Elsewhere, Field, Object, Place, Root, held, named}
+use Rattle.aom_sound.specs.State.{A_mark, State}
 
 abbrev first : Object
 first = record { name = 1; thing = pair }
@@ -28,10 +28,7 @@ abbrev IsOfThem : Place → Type 0
 IsOfThem q = (q ≡ Field 1 0) ⊎ (q ≡ Field 2 0)
 
 held_by_them : (q : Place) (o : Object) → held two_cells q ≡ Some o → IsOfThem q
-held_by_them q o e = go (same_place (Field 2 0) q) (same_place (Field 1 0) q) refl refl e
-  where
-    go : (b c : Bool) → same_place (Field 2 0) q ≡ b → same_place (Field 1 0) q ≡ c → cond b (Some first) (cond c (Some second) None) ≡ Some o → IsOfThem q
-    go b c e f h = grind (arith, same_place-true (Field 2 0) q, same_place-true (Field 1 0) q)
+held_by_them q o e = grind (arith, nat_tests, same_place-true (Field 2 0) q, same_place-true (Field 1 0) q)
 
 no_end : (q : Place) → Ends two_round q → IsOfThem q → ⊥
 no_end _ (at_register {f = f} {i = i}) h = elim h [ inl e ↦ cc | inr e ↦ cc ]
@@ -65,10 +62,7 @@ owners_bite = record {
   mark = λ h. h.each.0.0;
   operation = λ h. h.each.0.0;
   no_item = λ h. h.each.0.0;
-  past_fields = λ h.
-      let same : of_pair ≡ h.each.0.0.0 = cc in
-      let has : false ≡ true = subst (λ o. IsSome (field_thing an_image (thing_holder o.thing) 2)) (sym same) h.each.0.0.2 in
-      cc;
+  past_fields = grind (arith, nat_tests);
   gone = λ h. let there = h.each.0.0.1 in cc;
   no_root = λ h. let has = h.each.0.0 in cc;
   of_session = record { each = ((((server, refl, refl), by_server server (Elsewhere Root) refl refl refl at_root)), ((refl, at_root), tt)); alone = (refl, refl, (refl, refl, tt)); settled = tt };

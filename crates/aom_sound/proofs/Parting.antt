@@ -1,15 +1,13 @@
 -- What a server's dispatch ends with: the entry is served, and it goes on as the dispatch of an object.
-use Rattle.std.proofs.Common.{arith, Bool, List, Option, Some, [], ap, cond, false, refl, subst, sym, true, ℕ, ℤ, ◌==◌, ◌∙◌, ◌∷◌, ◌≡◌}
+use Rattle.std.proofs.lemmas.Bool.Decides.{nat_tests}
+use Rattle.std.proofs.Common.{arith, Bool, List, Some, [], ap, false, refl, subst, sym, true, ℕ, ℤ, ◌==◌, ◌∙◌, ◌∷◌, ◌≡◌}
 use Rattle.std.proofs.lemmas.Bool.{eqb-true}
-use Rattle.std.specs.Prelude.{filter, is_some, not, ◌&&◌, ◌||◌}
+use Rattle.std.specs.Prelude.{filter, is_some}
 use Rattle.aom_image.specs.Image.{Image}
 use Rattle.aom_image.specs.declared.method.Thing.TheVariants.{Message}
 use Rattle.aom_rules.specs.Typing.{Typing}
-use Rattle.aom_shape.specs.Kinds.{filled}
-use Rattle.aom_shape.specs.declared.kind.Age.TheVariants.{Ready}
-use Rattle.aom_shape.specs.declared.kind.Filling.TheVariants.{Full}
 use Rattle.aom_shape.specs.declared.kind.Kind.{Kind}
-use Rattle.aom_shape.specs.declared.kind.Kind.TheVariants.{Null, Own}
+use Rattle.aom_shape.specs.declared.kind.Kind.TheVariants.{Null}
 use Rattle.aom_sound.proofs.Claimed.{fits_age}
 use Rattle.aom_sound.proofs.Dropping.{declared_dropped, dropped, fits_dropped, held_dropped, is_sent, place_dropped, stack_dropped, suits_dropped, tidy_dropped}
 use Rattle.aom_sound.proofs.Maps.{same_place-true}
@@ -17,28 +15,19 @@ use Rattle.aom_sound.proofs.Services.{held_served, named_served, requested_serve
 use Rattle.aom_sound.proofs.Things.{stands_message}
 use Rattle.aom_sound.specs.Claims.{Dispatching, by_close, by_stage, claim, declared, declared_field, forms}
 use Rattle.aom_sound.specs.Moves.{dispatch_ends, needs_end, stage_ends}
-use Rattle.aom_sound.specs.Places.{Cell, Elsewhere, Field, In_service, Object, Place, Queued, Service, Session, held, named, same_place, seen, service_of, set_service, without}
-use Rattle.aom_sound.specs.Requests.{Suits, states_claim, thing_kind}
-use Rattle.aom_sound.specs.Servers.{has_message, has_session, is_among, is_other, message_thing, parted, session_thing}
-use Rattle.aom_sound.specs.State.{Accept_left, Accepted, CompletedTwice, Dispatched, Goes, IsStuck, Of_object, Of_server, Parts, Seat, Service_left, Stage, State, guarded}
+use Rattle.aom_sound.specs.Places.{Cell, Elsewhere, Field, In_service, Object, Place, Queued, Service, Session, held, same_place, seen, service_of, set_service, without}
+use Rattle.aom_sound.specs.Servers.{is_among, is_other, parted}
+use Rattle.aom_sound.specs.State.{Accept_left, Accepted, Dispatched, Of_object, Of_server, Parts, Seat, Service_left, Stage, State, guarded}
 use Rattle.aom_sound.specs.WellTyped.{Now, AllSit, AllUndo, Fits, Good, Keeps, WellTyped}
 
 -- a client that has parted is not among them, and all others are
 pub among_parted : (c : ℕ) (ss : List ℕ) → is_among c (filter (is_other c) ss) ≡ false
 among_parted c [] = refl
-among_parted c (d ∷ ss) = go (d == c) refl (among_parted c ss)
-  where
-    go : (b : Bool) → (d == c) ≡ b → is_among c (filter (is_other c) ss) ≡ false → is_among c (cond (not b) (d ∷ filter (is_other c) ss) (filter (is_other c) ss)) ≡ false
-    go true e ih = ih
-    go false e ih = ap (λ b. b || is_among c (filter (is_other c) ss)) e ∙ ih
+among_parted c (d ∷ ss) = grind (arith, nat_tests, among_parted c ss)
 
 pub among_others : (k c : ℕ) (ss : List ℕ) → (c == k) ≡ false → is_among k (filter (is_other c) ss) ≡ is_among k ss
 among_others k c [] other = refl
-among_others k c (d ∷ ss) other = go (d == c) refl (among_others k c ss other)
-  where
-    go : (b : Bool) → (d == c) ≡ b → is_among k (filter (is_other c) ss) ≡ is_among k ss → is_among k (cond (not b) (d ∷ filter (is_other c) ss) (filter (is_other c) ss)) ≡ is_among k (d ∷ ss)
-    go true e ih = ih ∙ sym (ap (λ b. b || is_among k ss) (ap (λ i. i == k) (eqb-true d c e) ∙ other))
-    go false e ih = ap (λ b. (d == k) || b) ih
+among_others k c (d ∷ ss) other = grind (arith, nat_tests, among_others k c ss other, eqb-true d c)
 
 -- stages at which nothing is claimed
 abbrev claims_none : Stage → Bool
@@ -62,11 +51,7 @@ module _ (p : Image) (t : Typing) (s : State) (x : Seat) (client : ℕ) (seats :
   plain_good stage plain good = record { stack = (tt, refl, good.stack.2, good.stack.3, tt); fits = fits; suits = good.suits; tidy = good.tidy }
     where
       fits : (r : Place) → Fits p (seen s.cells) (held s.cells r) (claim p (declared p s.cells) (Dispatching (Of_object x) seats ∷ []) r)
-      fits (Elsewhere (Session n c)) =
-          subst (λ k. Fits p (seen s.cells) (held s.cells (Elsewhere (Session n c))) k) (none_parts stage plain n c (declared p s.cells (Elsewhere (Session n c))))
-          (good.fits (Elsewhere (Session n c)))
-      fits (Elsewhere In_service) = subst (λ k. Fits p (seen s.cells) (held s.cells (Elsewhere In_service)) k) (none_served stage plain Null) (good.fits (Elsewhere In_service))
-      fits r = good.fits r
+      fits r = grind (arith, nat_tests, none_parts stage plain, none_served stage plain Null)
 
   -- the message of a service that was left is completed
   module _ (code : ℤ) (good : Good p t s.cells (Dispatching (Of_server x client (Service_left code)) seats ∷ [])) where
@@ -77,10 +62,7 @@ module _ (p : Image) (t : Typing) (s : State) (x : Seat) (client : ℕ) (seats :
     goes_sent r e = ap is_sent (same_place-true r (Elsewhere In_service) e)
 
     goes_message : (r : Place) (y : Object) → same_place r (Elsewhere In_service) ≡ true → held s.cells r ≡ Some y → y.thing ≡ Message
-    goes_message r y e there =
-        let here = sym (ap (λ q. held s.cells q) (same_place-true r (Elsewhere In_service) e)) ∙ there in
-        let f = subst (λ o. Fits p (seen s.cells) o (Own Message Ready)) here (good.fits (Elsewhere In_service)) in
-        stands_message p y.thing f.0
+    goes_message r y e there = grind (arith, nat_tests, same_place-true r (Elsewhere In_service) e, stands_message p y.thing)
 
     abbrev left : List Cell
     left = dropped goes s.cells
@@ -101,18 +83,13 @@ module _ (p : Image) (t : Typing) (s : State) (x : Seat) (client : ℕ) (seats :
             (fits_dropped goes p s.cells good.tidy goes_message r (declared p s.cells r) e f)
 
         fits : (r : Place) → Fits p (seen left) (held left r) (claim p (declared p left) (Dispatching (Of_object x) seats ∷ []) r)
-        fits (Elsewhere (Session n c)) = same (Elsewhere (Session n c)) refl (good.fits (Elsewhere (Session n c)))
-        fits (Elsewhere In_service) = subst (λ o. Fits p (seen left) o Null) (sym (held_dropped goes s.cells (Elsewhere In_service))) tt
-        fits r = same r refl (good.fits r)
+        fits r = grind (arith, nat_tests, held_dropped, same r)
 
     completed_good : Good p t (without (Elsewhere In_service) s.cells) (Dispatching (Of_object x) seats ∷ [])
-    completed_good = subst (λ l. Good p t l (Dispatching (Of_object x) seats ∷ [])) (sym (place_dropped (Elsewhere In_service) s.cells)) left_good
+    completed_good = grind (arith, nat_tests, place_dropped (Elsewhere In_service) s.cells, left_good)
 
     is_there : is_some (held s.cells (Elsewhere In_service)) ≡ true
-    is_there = go (held s.cells (Elsewhere In_service)) (good.fits (Elsewhere In_service))
-      where
-        go : (o : Option Object) → Fits p (seen s.cells) o (Own Message Ready) → is_some o ≡ true
-        go o f = grind arith
+    is_there = grind (arith, nat_tests)
 
   -- after a close the client has no session with it
   module _ (good : Good p t s.cells (Dispatching (Of_server x client Parts) seats ∷ [])) where
@@ -130,35 +107,17 @@ module _ (p : Image) (t : Typing) (s : State) (x : Seat) (client : ℕ) (seats :
 
     declared_then : (r : Place) → declared p cs r ≡ claim p (declared p s.cells) (Dispatching (Of_server x client Parts) seats ∷ []) r
     declared_then (Field m f) = ap (λ o. declared_field p o f) (named_served s.cells n v m)
-    declared_then (Elsewhere (Session m k)) = ap (λ o. cond (has_session (service_of cs m) k) (filled (session_thing p o) Full) Null) (named_served s.cells n v m) ∙ go (n == m) refl
-      where
-        at_client :
-            (b : Bool) → (client == k) ≡ b →
-            cond (has_session (service_of cs n) k) (filled (session_thing p (named s.cells n)) Full) Null
-            ≡ cond b Null (cond (has_session (service_of s.cells n) k) (filled (session_thing p (named s.cells n)) Full) Null)
-        at_client true e =
-            ap (λ b. cond b (filled (session_thing p (named s.cells n)) Full) Null)
-            (ap (λ w. has_session w k) service_now ∙ subst (λ i. is_among i (filter (is_other client) (service_of s.cells n).sessions) ≡ false) (eqb-true client k e) (among_parted client (service_of s.cells n).sessions))
-        at_client false e = ap (λ b. cond b (filled (session_thing p (named s.cells n)) Full) Null) (ap (λ w. has_session w k) service_now ∙ among_others k client (service_of s.cells n).sessions e)
-
-        go :
-            (b : Bool) → (n == m) ≡ b →
-            cond (has_session (service_of cs m) k) (filled (session_thing p (named s.cells m)) Full) Null
-            ≡ cond (b && (client == k)) Null (cond (has_session (service_of s.cells m) k) (filled (session_thing p (named s.cells m)) Full) Null)
-        go true e =
-            subst (λ i. cond (has_session (service_of cs i) k) (filled (session_thing p (named s.cells i)) Full) Null ≡ cond (client == k) Null (cond (has_session (service_of s.cells i) k) (filled (session_thing p (named s.cells i)) Full) Null))
-            (eqb-true n m e) (at_client (client == k) refl)
-        go false e = ap (λ w. cond (has_session w k) (filled (session_thing p (named s.cells m)) Full) Null) (service_there s.cells n m v e)
-    declared_then (Elsewhere (Queued m k)) = ap (λ o. cond (has_message (service_of cs m) k) (filled (message_thing p o) Full) Null) (named_served s.cells n v m) ∙ go (n == m) refl
-      where
-        go :
-            (b : Bool) → (n == m) ≡ b →
-            cond (has_message (service_of cs m) k) (filled (message_thing p (named s.cells m)) Full) Null
-            ≡ cond (has_message (service_of s.cells m) k) (filled (message_thing p (named s.cells m)) Full) Null
-        go true e =
-            subst (λ i. cond (has_message (service_of cs i) k) (filled (message_thing p (named s.cells i)) Full) Null ≡ cond (has_message (service_of s.cells i) k) (filled (message_thing p (named s.cells i)) Full) Null)
-            (eqb-true n m e) (ap (λ w. cond (has_message w k) (filled (message_thing p (named s.cells n)) Full) Null) service_now)
-        go false e = ap (λ w. cond (has_message w k) (filled (message_thing p (named s.cells m)) Full) Null) (service_there s.cells n m v e)
+    declared_then (Elsewhere (Session m k)) = grind (
+      arith,
+      nat_tests,
+      named_served s.cells,
+      service_now,
+      eqb-true client k,
+      among_parted client,
+      among_others k client,
+      service_there s.cells,
+    )
+    declared_then (Elsewhere (Queued m k)) = grind (arith, nat_tests, named_served s.cells, eqb-true, service_now, service_there s.cells)
     declared_then _ = refl
 
     sits_then : (xs : List Seat) → AllSit s.cells xs → AllSit cs xs
@@ -166,16 +125,13 @@ module _ (p : Image) (t : Typing) (s : State) (x : Seat) (client : ℕ) (seats :
     sits_then (y ∷ ys) h = ((held_served s.cells n v y.place ∙ h.0.0, named_served s.cells n v y.object.name ∙ h.0.1, h.0.2, h.0.3), sits_then ys h.1)
 
     object_claims : (r : Place) → claim p (declared p cs) (Dispatching (Of_object x) seats ∷ []) r ≡ declared p cs r
-    object_claims (Elsewhere (Session m k)) = refl
-    object_claims _ = refl
+    object_claims y = grind arith
 
     parted_good : Good p t cs (Dispatching (Of_object x) seats ∷ [])
     parted_good = record {
       stack = (tt, refl, sits_then seats good.stack.2, (ap is_some (requested_served s.cells n v x.object.name) ∙ good.stack.3.0, good.stack.3.1, good.stack.3.2), tt);
-      fits = λ r. subst (λ k. Fits p (seen cs) (held cs r) k) (sym (object_claims r ∙ declared_then r))
-          (subst (λ o. Fits p (seen cs) o (claim p (declared p s.cells) (Dispatching (Of_server x client Parts) seats ∷ []) r)) (sym (held_served s.cells n v r))
-          (fits_age p (seen s.cells) (seen cs) (held s.cells r) _ (λ y e fresh age. (λ f. held_served s.cells n v (Field y.name f) ∙ age.0 f, requested_served s.cells n v y.name ∙ age.1)) (good.fits r)));
-      suits = λ o lives. subst (λ r. Suits (thing_kind p o.thing) (states_claim p o (Dispatching (Of_object x) seats ∷ [])) r) (sym (requested_served s.cells n v o.name)) (good.suits o (sym (named_served s.cells n v o.name) ∙ lives));
+      fits = grind (arith, nat_tests, object_claims, declared_then, held_served s.cells, fits_age p, requested_served s.cells);
+      suits = grind (arith, nat_tests, requested_served s.cells, named_served s.cells);
       tidy = tidy_served s.cells n v good.tidy;
     }
 
@@ -185,8 +141,6 @@ module _ (p : Image) (t : Typing) (s : State) (x : Seat) (client : ℕ) (seats :
       Keeps p t (guarded (needs_end (Of_server x client stage) s.cells) (dispatch_ends p (Of_server x client stage) s))
   stage_keeps Accepted items good = served_well (stage_ends x client Accepted s) refl items (plain_good Accepted refl good)
   stage_keeps (Accept_left code) items good = served_well (stage_ends x client (Accept_left code) s) refl items (plain_good (Accept_left code) refl good)
-  stage_keeps (Service_left code) items good =
-      subst (λ b. Keeps p t (cond b (Goes (stage_ends x client (Service_left code) s)) (IsStuck CompletedTwice))) (sym (is_there code good))
-      (served_well (stage_ends x client (Service_left code) s) refl items (completed_good code good))
+  stage_keeps (Service_left code) items good = grind (arith, nat_tests, is_there code good, served_well, completed_good code good)
   stage_keeps Parts items good = served_well (stage_ends x client Parts s) refl items (parted_good good)
   stage_keeps _ items good = absurd (assumption tt)

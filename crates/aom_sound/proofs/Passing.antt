@@ -1,11 +1,12 @@
 -- The arguments of a call go over to the method called, one after the other.
-use Rattle.std.proofs.Common.{Bool, List, None, Option, [], ap, append-nil, append_assoc, arith, cond, false, length, refl, subst, suc, sym, true, ℕ, ℤ, ◌&&◌, ◌<◌, ◌==◌, ◌∙◌, ◌∷◌, ◌≡◌}
+use Rattle.std.proofs.lemmas.Bool.Decides.{nat_tests}
+use Rattle.std.proofs.Common.{Bool, List, None, Option, [], ap, append-nil, append_assoc, arith, cond, false, length, refl, subst, suc, sym, true, ℕ, ℤ, ◌<◌, ◌==◌, ◌∙◌, ◌∷◌, ◌≡◌}
 use Rattle.std.proofs.lemmas.Bool.{eq-eqb, eqb-true, ne_eqb}
-use Rattle.std.specs.Prelude.{is_none, map, ◌++◌}
+use Rattle.std.specs.Prelude.{map, ◌++◌}
 use Rattle.aom_image.specs.Image.{Image}
 use Rattle.aom_image.specs.declared.method.Argument.{Argument}
 use Rattle.aom_image.specs.declared.method.Argument.TheVariants.{Own as Takes_own, Word as Takes_word}
-use Rattle.aom_rules.specs.Calls.{argument_needs, each_argument}
+use Rattle.aom_rules.specs.Calls.{each_argument}
 use Rattle.aom_shape.specs.Arguments.{arguments_moved, argument_kind}
 use Rattle.aom_shape.specs.Kinds.{is_object_or_null, register, set_register}
 use Rattle.aom_shape.specs.Needs.{AllTrue}
@@ -89,44 +90,19 @@ module _ (p : Image) (t : Typing) (fr : Frame) (ls : List Layer) (depth : ℕ) (
   none_passed cs sh g = record { fits = fits; suits = g.suits; tidy = g.tidy; words = g.stack.1.words; given = λ i. tt; housed = g.stack.2; stack = g.stack.4; even = refl }
     where
       fits : (r : Place) → Fits p (seen cs) (held cs r) (filling (declared p cs) [] sh r)
-      fits (Register f i) = go (depth == f) refl
-        where
-          go : (b : Bool) → (depth == f) ≡ b → Fits p (seen cs) (held cs (Register f i)) (cond b Unset (claim p (declared p cs) (Method fr sh ∷ ls) (Register f i)))
-          go true e = subst (λ o. Fits p (seen cs) o Unset) (sym (fits_unowning p (seen cs) _ Null refl (subst (λ k. Fits p (seen cs) (held cs (Register f i)) k) (claim_register_above p cs (Method fr sh ∷ ls) f i (omega (arith, eqb-true _ _ e))) (g.fits (Register f i))))) tt
-          go false e = g.fits (Register f i)
-      fits r = g.fits r
+      fits r = grind (arith, nat_tests, fits_unowning p, claim_register_above p cs (Method fr sh ∷ ls), eqb-true)
 
   -- the next register of the method called owns nothing
   next_free : (cs : List Cell) (sh : Shape) (regs : List Kind) (ws : List (Option ℤ)) → Passed cs sh regs ws → held cs (upper (length regs)) ≡ None
-  next_free cs sh regs ws g =
-      fits_unowning p (seen cs) _ Unset refl (subst (λ k. Fits p (seen cs) (held cs (upper (length regs))) k) (ap (λ b. cond b (at Unset regs (length regs)) (claim p (declared p cs) (Method fr sh ∷ ls) (upper (length regs)))) (eq-eqb depth _ refl) ∙ at_end Unset regs) (g.fits (upper (length regs))))
+  next_free cs sh regs ws g = grind (arith, nat_tests, fits_unowning p, eq-eqb depth, at_end Unset regs)
 
   -- a register of the caller is claimed anew below the method called
   pub under : (d : Place → Kind) (sh : Shape) (regs : List Kind) (a : ℕ) (v : Kind) (r : Place) → filling d regs (set_register sh a v) r ≡ changed (filling d regs sh) (lower a) v r
-  under d sh regs a v (Register f i) = go (depth == f) refl
-    where
-      go :
-          (b : Bool) → (depth == f) ≡ b →
-          cond b (at Unset regs i) (claim p d (Method fr (set_register sh a v) ∷ ls) (Register f i))
-          ≡ cond (same_place (lower a) (Register f i)) v (cond b (at Unset regs i) (claim p d (Method fr sh ∷ ls) (Register f i)))
-      go true e = ap (λ b. cond (b && (a == i)) v (at Unset regs i)) (sym (ne_eqb (length (tasks_of ls)) f (λ n. absurd (omega (arith, eqb-true _ _ e)))))
-      go false e = claim-set_register p d fr sh ls a v (Register f i)
-  under d sh regs a v r = claim-set_register p d fr sh ls a v r
+  under d sh regs a v r = grind (arith, nat_tests, ne_eqb, eqb-true, claim-set_register p d fr sh ls a v, claim-set_register p d fr sh ls a v r)
 
   -- one more register is filled
   over : (d : Place → Kind) (sh : Shape) (regs : List Kind) (v : Kind) (r : Place) → filling d (regs ++ v ∷ []) sh r ≡ changed (filling d regs sh) (upper (length regs)) v r
-  over d sh regs v r = ap (λ ks. filling d ks sh r) (sym (put_at_end Unset regs v)) ∙ go r
-    where
-      go : (r : Place) → filling d (put_at Unset regs (length regs) v) sh r ≡ changed (filling d regs sh) (upper (length regs)) v r
-      go (Register f i) = at_depth (depth == f)
-        where
-          at_depth :
-              (b : Bool) →
-              cond b (at Unset (put_at Unset regs (length regs) v) i) (claim p d (Method fr sh ∷ ls) (Register f i))
-              ≡ cond (b && (length regs == i)) v (cond b (at Unset regs i) (claim p d (Method fr sh ∷ ls) (Register f i)))
-          at_depth true = at-put_at Unset regs (length regs) i v
-          at_depth false = refl
-      go _ = refl
+  over d sh regs v r = grind (arith, nat_tests, put_at_end Unset regs v, at-put_at Unset regs)
 
   given_more :
       (regs : List Kind) (ws : List (Option ℤ)) (k : Kind) (w : Option ℤ) → length ws ≡ length regs → ((i : ℕ) → WordFits (at None ws i) (at Unset regs i)) → WordFits w k → (i : ℕ) →
@@ -153,8 +129,7 @@ module _ (p : Image) (t : Typing) (fr : Frame) (ls : List Layer) (depth : ℕ) (
   }
     where
       go : (r : Place) (b : Bool) → same_place (upper (length regs)) r ≡ b → Fits p (seen cs) (held cs r) (cond b Word (filling (declared p cs) regs sh r))
-      go r true e = subst (λ o. Fits p (seen cs) o Word) (sym (ap (λ q. held cs q) (sym (same_place-true (upper (length regs)) r e)) ∙ next_free cs sh regs ws g)) tt
-      go r false e = g.fits r
+      go r x e = grind (arith, nat_tests, same_place-true, next_free cs sh regs ws g)
 
   -- an object moves
   object_passed :
@@ -188,7 +163,7 @@ module _ (p : Image) (t : Typing) (fr : Frame) (ls : List Layer) (depth : ℕ) (
       before = filling (declared p cs) regs sh
 
       at_source : before q ≡ k
-      at_source = ap (λ b. cond b (at Unset regs a) (claim p (declared p cs) (Method fr sh ∷ ls) q)) (ne_eqb depth (length (tasks_of ls)) (λ e. absurd (omega arith))) ∙ claim_register p (declared p cs) fr sh ls a ∙ here
+      at_source = grind (arith, nat_tests, q, ne_eqb depth, claim_register p)
 
       claims : (r : Place) → filling (declared p cs) (regs ++ k ∷ []) (set_register sh a Null) r ≡ changed (changed before q Null) to (before q) r
       claims r =
@@ -201,8 +176,7 @@ module _ (p : Image) (t : Typing) (fr : Frame) (ls : List Layer) (depth : ℕ) (
       (cs : List Cell) (sh : Shape) (regs : List Kind) (ws : List (Option ℤ)) (k v : Kind) → Widens p k v → length ws ≡ length regs → ((i : ℕ) → WordFits (at None ws i) (at Unset regs i)) →
       Passed cs sh (regs ++ k ∷ []) (ws ++ None ∷ []) → Passed cs sh (regs ++ v ∷ []) (ws ++ None ∷ [])
   wider_passed cs sh regs ws k v wide even given g = record {
-    fits = λ r. subst (λ x. Fits p (seen cs) (held cs r) x) (sym (over (declared p cs) sh regs v r))
-        (go r (same_place (upper (length regs)) r) refl (subst (λ x. Fits p (seen cs) (held cs r) x) (over (declared p cs) sh regs k r) (g.fits r)));
+    fits = grind (arith, nat_tests, over);
     suits = g.suits;
     tidy = g.tidy;
     words = g.words;
@@ -215,16 +189,12 @@ module _ (p : Image) (t : Typing) (fr : Frame) (ls : List Layer) (depth : ℕ) (
       go :
           (r : Place) (b : Bool) → same_place (upper (length regs)) r ≡ b → Fits p (seen cs) (held cs r) (cond b k (filling (declared p cs) regs sh r)) →
           Fits p (seen cs) (held cs r) (cond b v (filling (declared p cs) regs sh r))
-      go r true e f = wide.fits (seen cs) (held cs r) f
-      go r false e f = f
+      go r x e f = grind arith
 
   -- what the rule says of the later arguments, once one has moved
   each_kept : (xs : List Argument) (sh : Shape) (a j : ℕ) → a < j → AllTrue (each_argument p sh xs j) → AllTrue (each_argument p (set_register sh a Null) xs j)
   each_kept [] sh a j lt h = tt
-  each_kept (x ∷ xs) sh a j lt h =
-      let parts = all_parts (argument_needs p x (register sh j)) _ h in
-      let same : register (set_register sh a Null) j ≡ register sh j = at-put_at Unset sh.registers a j Null ∙ ap (λ b. cond b Null (register sh j)) (ne_eqb a j (λ e. absurd (omega arith))) in
-      all_join (argument_needs p x (register (set_register sh a Null) j)) _ (subst (λ k. AllTrue (argument_needs p x k)) (sym same) parts.0) (each_kept xs sh a (suc j) (omega arith) parts.1)
+  each_kept (x ∷ xs) sh a j lt h = grind (arith, nat_tests, all_parts, at-put_at Unset sh.registers a j Null, ne_eqb a j, all_join, each_kept xs sh a)
 
   -- all of them
   pub all_passed :
@@ -256,9 +226,12 @@ module _ (p : Image) (t : Typing) (c : Choice) (s : State) (fr : Frame) (sh : Sh
   pub each_met : (xs : List Argument) (first : ℕ) → AllTrue (each_argument p sh xs first) → AllTrue (needs_each p fr (tasks_of ls) s xs first)
   each_met [] first n = tt
   each_met (Takes_word ∷ xs) first n = ((word_is p s (word fr first) (register sh first) n.0 (at_hand.good.stack.1.words first)).0, each_met xs (suc first) n.1)
-  each_met (Takes_own x ∷ xs) first n =
-      let k = own_widens p x (register sh first) n.0 n.1.0 in
-      let h =
-      held_thing p s x (held s.cells (Register (length (tasks_of ls)) first))
-      (k.fits (seen s.cells) (held s.cells (Register (length (tasks_of ls)) first)) (kind_fits p t c s fr sh ls at_hand first)) in
-      (ap is_none (word_of_object (word fr first) (register sh first) k.object (at_hand.good.stack.1.words first)), (h.0, (h.1, each_met xs (suc first) n.1.1)))
+  each_met (Takes_own x ∷ xs) first n = grind (
+    arith,
+    nat_tests,
+    own_widens p x,
+    held_thing p s x,
+    kind_fits p t c s fr sh ls at_hand first,
+    word_of_object,
+    each_met xs,
+  )

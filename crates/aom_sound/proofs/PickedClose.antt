@@ -1,5 +1,6 @@
 -- A server is picked for a close: the session of its client goes.
-use Rattle.std.proofs.Common.{Bool, List, None, Some, [], ap, arith, cond, false, inl, inr, length, refl, subst, sym, true, ℕ, ⊎_elim, ◌&&◌, ◌<◌, ◌==◌, ◌∙◌, ◌∷◌, ◌≡◌}
+use Rattle.std.proofs.lemmas.Bool.Decides.{nat_tests}
+use Rattle.std.proofs.Common.{List, None, Some, [], ap, arith, cond, inl, inr, length, refl, subst, sym, true, ℕ, ⊎_elim, ◌&&◌, ◌<◌, ◌==◌, ◌∙◌, ◌∷◌, ◌≡◌}
 use Rattle.std.proofs.lemmas.Bool.{ne_eqb}
 use Rattle.std.specs.Prelude.{is_some}
 use Rattle.aom_image.specs.Image.{Image}
@@ -16,7 +17,7 @@ use Rattle.aom_sound.specs.Claims.{Dispatching, Layer, claim, declared, forms}
 use Rattle.aom_sound.specs.Clients.{client_at}
 use Rattle.aom_sound.specs.Kept.{ClientsFit, QueueFits}
 use Rattle.aom_sound.specs.Laws.{IsWired}
-use Rattle.aom_sound.specs.Places.{Asked, Cell, Close_of, Elsewhere, Field, Going, Object, Place, Request, Root, Session, changed, held, moved, named, requested, same_place, seen, service_of}
+use Rattle.aom_sound.specs.Places.{Asked, Cell, Close_of, Elsewhere, Going, Object, Place, Request, Session, changed, held, moved, named, requested, seen, service_of}
 use Rattle.aom_sound.specs.Servers.{has_session, is_server, reserved, taken_first}
 use Rattle.aom_sound.specs.State.{Dispatched, Of_server, Parts, Seat, State}
 use Rattle.aom_sound.specs.Destruction.{begun}
@@ -63,8 +64,7 @@ module _ (p : Image) (t : Typing) (wired : IsWired p) (typed : IsTyped p t) (s :
   z_there = held_now p t wired typed s w idle_now fit x r there lives asked server q ∙ session_there.1
 
   claims : (r : Place) → claim p (declared p cs) below r ≡ changed (claim p (declared p cs) []) q Null r
-  claims (Elsewhere (Session m c)) = refl
-  claims _ = refl
+  claims y = grind arith
 
   fits : (r : Place) → Fits p (seen cs) (held cs r) (declared p cs r)
   fits = fits_now p t wired typed s w idle_now fit x r there lives asked server (Close_of client) es queue (λ k. refl)
@@ -77,17 +77,7 @@ module _ (p : Image) (t : Typing) (wired : IsWired p) (typed : IsTyped p t) (s :
   seats_moved (y ∷ ys) none h = ((place y.place h.0.2 refl ∙ h.0.0, named_moved cs q g y.object.name ∙ h.0.1, h.0.2, h.0.3), seats_moved ys (λ some. none (inr some)) h.1)
     where
       place : (a : Place) → SitsIn a ys → y.place ≡ a → held (moved q g cs) a ≡ held cs a
-      place (Field i f) e at = held_moved cs q g (Field i f) free
-      place (Elsewhere Root) e at = held_moved cs q g (Elsewhere Root) free
-      place (Elsewhere (Session i c)) e at = held_moved cs q g (Elsewhere (Session i c)) free ∙ go (same_place q (Elsewhere (Session i c))) refl
-        where
-          go : (b : Bool) → same_place q (Elsewhere (Session i c)) ≡ b → cond b None (held cs (Elsewhere (Session i c))) ≡ held cs (Elsewhere (Session i c))
-          go true same =
-              let one : Some z ≡ Some y.object = sym z_there ∙ ap (λ a. held cs a) (same_place-true q (Elsewhere (Session i c)) same) ∙ ap (λ a. held cs a) (sym at) ∙ h.0.0 in
-              let equal : z ≡ y.object = cc in
-              absurd (none (inl (ap (λ a. a.name) (sym equal))))
-          go false other = refl
-      place _ e at = absurd e
+      place z e at = grind (arith, nat_tests, held_moved, free, z_there, same_place-true)
 
   abbrev then : State
   then = record (taken_from n s) { cells = moved q (Going 1) cs; tasks = begun p z (length s.items) (Dispatched (Of_server x client Parts) ∷ []) }

@@ -1,5 +1,6 @@
 -- A server is picked: its `accept` or the `service` of a session enters over the dispatch.
-use Rattle.std.proofs.Common.{Bool, List, None, Option, Some, [], ap, arith, cond, false, inl, inr, length, refl, subst, suc, sym, true, ℕ, ℤ, ◌&&◌, ◌<◌, ◌==◌, ◌∙◌, ◌∷◌, ◌≡◌}
+use Rattle.std.proofs.lemmas.Bool.Decides.{nat_tests}
+use Rattle.std.proofs.Common.{Bool, List, None, Option, Some, [], ap, arith, cond, false, inl, inr, length, refl, subst, sym, true, ℕ, ℤ, ◌&&◌, ◌<◌, ◌==◌, ◌∙◌, ◌∷◌, ◌≡◌}
 use Rattle.std.proofs.lemmas.Bool.{eq-eqb, eqb-true, true≢false, and_parts}
 use Rattle.std.specs.List.{list_any}
 use Rattle.std.specs.Prelude.{is_some, map, replicate, ◌||◌}
@@ -11,8 +12,7 @@ use Rattle.aom_image.specs.declared.method.Gives.TheVariants.{Nothing, Own as An
 use Rattle.aom_image.specs.declared.method.Role.TheVariants.{Accept as Accepts_role, Service as Attends_role}
 use Rattle.aom_image.specs.declared.method.Thing.{Thing}
 use Rattle.aom_image.specs.declared.method.Thing.TheVariants.{Message, Object as An_object_of}
-use Rattle.aom_clients.specs.Nodes.{is_connecting_at}
-use Rattle.aom_roles.specs.Classes.{is_session, is_session_in, is_session_kind, kind_at, sessions_at, sessions_in, sessions_of}
+use Rattle.aom_roles.specs.Classes.{is_session, is_session_in, is_session_kind, sessions_at, sessions_in, sessions_of}
 use Rattle.aom_roles.specs.Shapes.{kind_of}
 use Rattle.aom_roles.specs.States.{idle, states_of}
 use Rattle.aom_rules.specs.Requests.{is_cancel, is_service}
@@ -45,12 +45,12 @@ use Rattle.aom_sound.specs.Clients.{client_at}
 use Rattle.aom_sound.specs.Enlisted.{part_of}
 use Rattle.aom_sound.specs.Kept.{ClientsFit, QueueFits}
 use Rattle.aom_sound.specs.Laws.{IsAcceptor, IsAttendant, IsWired}
-use Rattle.aom_sound.specs.Places.{Asked, Cell, Connect_of, Elsewhere, Field, In_service, Message_of, Object, Place, Queued, Request, Session, Sight, Tidy, held, moved, named, requested, seen, service_of, word_field}
+use Rattle.aom_sound.specs.Places.{Asked, Cell, Connect_of, Elsewhere, Field, In_service, Message_of, Object, Place, Queued, Request, Session, Sight, Tidy, held, moved, named, requested, seen, service_of}
 use Rattle.aom_sound.specs.Requests.{Known, Suits, resting_in, rests_in, thing_kind}
 use Rattle.aom_sound.specs.Servers.{has_message, has_session, is_message, is_server, of_class, session_class, message_thing, reserved, rest_of, session_thing, taken_first}
 use Rattle.aom_sound.specs.State.{A_mark, Accepts, Inside, Of_server, Serves, Seat, State, frame_of, thing_holder}
 use Rattle.aom_sound.specs.WellTyped.{AllSit, Fits, Good, Keeps, SitsIn, SomeSits, WellTyped, WordFits}
-use Rattle.aom_sound.specs.World.{accepting, attended, attending, message_words, serving, taken_from}
+use Rattle.aom_sound.specs.World.{accepting, attended, message_words, serving, taken_from}
 
 -- what is ready fits whatever is asked for
 pub fits_ready : (p : Image) (h h' : Sight) (o : Option Object) (k : Kind) → is_ready_kind k ≡ true → Fits p h o k → Fits p h' o k
@@ -71,18 +71,14 @@ pub suits_session :
     (p : Image) (c : ℕ) (n : ℕ) (known : Known) (r : Option Request) → is_session p c ≡ true → Suits (thing_kind p (An_object_of c)) known r →
     Suits (thing_kind p (An_object_of c)) (resting_in n) r
 unfolding kind_of is_session_in is_session_kind
-suits_session p c n known r e s = go (kind_at p c) e s
-  where
-    go : (k : Option ClassKind) → is_session_in k ≡ true → Suits k known r → Suits k (resting_in n) r
-    go k e s = grind arith
+suits_session p c n known r e s = grind (arith, nat_tests)
 
 -- what a place owns is there
 pub own_held : (p : Image) (h : Sight) (o : Option Object) (x : Thing) → Fits p h o (Own x Ready) → (y : Object) × (o ≡ Some y) × (stands_for p y.thing x ≡ true)
 own_held p h o x f = grind arith
 
 pub plain_message : (d : Place → Kind) (r : Place) → with_message false d r ≡ d r
-plain_message d (Elsewhere (Session s c)) = refl
-plain_message d _ = refl
+plain_message d x = grind arith
 
 module _ (p : Image) (t : Typing) (wired : IsWired p) (typed : IsTyped p t) (s : State) (w : WellTyped p t s) (idle_now : s.tasks ≡ []) (fit : ClientsFit p s.clients s.cells)
     (x : Seat) (r : Request) (there : held s.cells x.place ≡ Some x.object) (lives : named s.cells x.object.name ≡ Some x.object) (asked : requested s.cells x.object.name ≡ Some r) (server : is_server p x.object.thing ≡ true) where
@@ -144,11 +140,8 @@ module _ (p : Image) (t : Typing) (wired : IsWired p) (typed : IsTyped p t) (s :
 
     declared_now : (q : Place) → declared p cs q ≡ declared p s.cells q
     declared_now (Field m f) = ap (λ y. declared_field p y f) (named_now m)
-    declared_now (Elsewhere (Session m c)) =
-        ap (λ b. cond b (filled (session_thing p (named cs m)) Full) Null) (sessions_now m c)
-        ∙ ap (λ y. cond (has_session (service_of s.cells m) c) (filled (session_thing p y) Full) Null) (named_now m)
-    declared_now (Elsewhere (Queued m k)) =
-        ap (λ b. cond b (filled (message_thing p (named cs m)) Full) Null) (messages m k) ∙ ap (λ y. cond (has_message (service_of s.cells m) k) (filled (message_thing p y) Full) Null) (named_now m)
+    declared_now (Elsewhere (Session m c)) = grind (arith, nat_tests, sessions_now m c, named_now m)
+    declared_now (Elsewhere (Queued m k)) = grind (arith, nat_tests, messages m k, named_now m)
     declared_now _ = refl
 
     pub fits_now : (q : Place) → Fits p (seen cs) (held cs q) (declared p cs q)
@@ -158,14 +151,7 @@ module _ (p : Image) (t : Typing) (wired : IsWired p) (typed : IsTyped p t) (s :
 
   module _ (client : ℕ) (es : List Asked) (queue : (service_of s.cells n).queue ≡ Connect_of client ∷ es) where
     no_session : has_session (service_of cs n) client ≡ false
-    no_session = sessions_now n client ∙ go (has_session (service_of s.cells n) client) refl
-      where
-        connects : is_connecting_at n (client_at s.clients client) ≡ true
-        connects = (subst (λ q. QueueFits s.clients n q) queue (fit.queues n)).0.0
-
-        go : (b : Bool) → has_session (service_of s.cells n) client ≡ b → b ≡ false
-        go false e = refl
-        go true e = let clash : None ≡ Some n = sym (connecting_only n n (client_at s.clients client) connects).2 ∙ fit.sessions n client e in cc
+    no_session = grind (arith, nat_tests, sessions_now, connecting_only)
 
     its_method : (m : ℕ) × (part_of p Accepts_role x.object.thing ≡ Some m) × IsAcceptor p its_class.0 m its_class.1
     its_method =
@@ -179,8 +165,7 @@ module _ (p : Image) (t : Typing) (wired : IsWired p) (typed : IsTyped p t) (s :
     over = Mark (An_own (An_object_of its_class.1)) ∷ Dispatching (Of_server x client Accepts) (x ∷ above) ∷ []
 
     claims : (d : Place → Kind) (q : Place) → claim p d (Mark (An_own (An_object_of its_class.1)) ∷ Dispatching (Of_server x client Accepts) (x ∷ above) ∷ []) q ≡ with_message false d q
-    claims d (Elsewhere (Session m c)) = refl
-    claims d _ = refl
+    claims d y = grind arith
 
     session : session_thing p (Some x.object) ≡ Some (An_object_of its_class.1)
     unfolding kind_of
@@ -241,7 +226,7 @@ module _ (p : Image) (t : Typing) (wired : IsWired p) (typed : IsTyped p t) (s :
     session_lives = held_lives s.cells (Elsewhere (Session n client)) its_session.0 good.tidy its_session.1
 
     pub session_lower : rank p wired its_session.0.thing < rank p wired x.object.thing
-    session_lower = subst (λ y. rank p wired y < rank p wired x.object.thing) (sym session_is) (subst (λ y. suc (wired.family.weight its_class.1) < rank p wired y) (sym its_class.2) (let lt = wired.family.served its_class.0 its_class.1 its_class.3 in omega (arith, lt)))
+    session_lower = grind (arith, nat_tests, rank p wired, rank p wired x.object.thing, session_is)
 
     -- it is there, and stands lower than its server
     pub session_held : (z : Object) × (held s.cells (Elsewhere (Session n client)) ≡ Some z) × (named s.cells z.name ≡ Some z) × (rank p wired z.thing < rank p wired x.object.thing)
@@ -296,7 +281,7 @@ module _ (p : Image) (t : Typing) (wired : IsWired p) (typed : IsTyped p t) (s :
         (λ i other same. refl) i
 
     none_twice : has_message (service_of cs n) m ≡ false
-    none_twice = ap (λ v. has_message v m) (service_here s.cells n (taken_first (service_of s.cells n)) x.object lives) ∙ ap (λ q. list_any (λ e. is_message m e) (rest_of q)) queue ∙ at_queue.0.1
+    none_twice = grind (arith, nat_tests, service_here s.cells)
 
     base : (q : Place) → Fits p (seen served) (held cs q) (declared p s.cells q)
     base q =
@@ -311,8 +296,14 @@ module _ (p : Image) (t : Typing) (wired : IsWired p) (typed : IsTyped p t) (s :
 
     fits_served : (q : Place) → Fits p (seen served) (held served q) (with_message true (declared p served) q)
     fits_served (Field i f) = there_still (Field i f) (held_served_so (Field i f)) (ap (λ y. declared_field p y f) (named_now i))
-    fits_served (Elsewhere (Session i c)) = there_still (Elsewhere (Session i c)) (held_served_so (Elsewhere (Session i c)))
-        (ap (λ b. cond b (filled (session_thing p (named cs i)) Full) Null) (sessions_now i c) ∙ ap (λ y. cond (has_session (service_of s.cells i) c) (filled (session_thing p y) Full) Null) (named_now i))
+    fits_served (Elsewhere (Session i c)) = grind (
+      arith,
+      nat_tests,
+      there_still (Elsewhere (Session i c)) (held_served_so (Elsewhere (Session i c))),
+      held_served_so (Elsewhere (Session i c)),
+      sessions_now i c,
+      named_now i,
+    )
     fits_served (Elsewhere In_service) =
         subst (λ y. Fits p (seen served) y (Own Message Ready)) (sym (held_served_so (Elsewhere In_service) ∙ held_now (Elsewhere (Queued n m)) ∙ its_message.1)) (its_message.2, tt)
     fits_served (Elsewhere (Queued i j)) = go ((n == i) && (m == j)) refl
@@ -377,16 +368,13 @@ module _ (p : Image) (t : Typing) (wired : IsWired p) (typed : IsTyped p t) (s :
     served_over = Mark Nothing ∷ Dispatching (Of_server x client (Serves z)) (x ∷ above) ∷ []
 
     served_claims : (d : Place → Kind) (q : Place) → claim p d (Mark Nothing ∷ Dispatching (Of_server x client (Serves z)) (x ∷ above) ∷ []) q ≡ with_message true d q
-    served_claims d (Elsewhere (Session i c)) = refl
-    served_claims d _ = refl
+    served_claims d y = grind arith
 
     five_words : (a b c d e : ℤ) (i : ℕ) → WordFits (at None (Some a ∷ Some b ∷ Some c ∷ Some d ∷ Some e ∷ []) i) (at Unset (map argument_kind (replicate 5 Takes_word)) i)
-    five_words a b c d e (suc (suc (suc (suc (suc i))))) = tt
-    five_words a b c d e _ = tt
+    five_words a b c d e y = grind arith
 
     no_owner : (i : ℕ) → Fits p (seen served) None (at Unset (map argument_kind (replicate 5 Takes_word)) i)
-    no_owner (suc (suc (suc (suc (suc i))))) = tt
-    no_owner _ = tt
+    no_owner y = grind arith
 
     serves_it : serves p its_service.0 ≡ true
     serves_it = ap is_service service.role
@@ -412,13 +400,13 @@ module _ (p : Image) (t : Typing) (wired : IsWired p) (typed : IsTyped p t) (s :
       there = service.there;
       holder = houses_same p _ _ (ap thing_holder z_thing ∙ sym (ap (λ y. holder_by y (method_class p its_service.0)) service.role ∙ ap (λ k. holder_by (Some Attends_role) k) service.class));
       plain = ap is_cancel service.role;
-      words = λ i. subst (λ xs. WordFits (at None words i) (at Unset (map argument_kind xs) i)) (sym service.arguments) (five_words (word_field cs m 0) (word_field cs m 1) (word_field cs m 2) (word_field cs m 3) (word_field cs m 4) i);
+      words = grind (arith, nat_tests, five_words);
       free = λ i. subst (λ xs. Fits p (seen served) None (at Unset (map argument_kind xs) i)) (sym service.arguments) (no_owner i);
       fields = λ f. ap (λ y. at Perhaps (entry_fields y) f) service.role ∙ at_alike 8 Perhaps f;
     }
       where
         has_served : has_session (service_of served n) client ≡ true
-        has_served = ap (λ v. has_session v client) (service_moved cs (Elsewhere (Queued n m)) (Elsewhere In_service) n) ∙ sessions_now n client ∙ has_now
+        has_served = grind (arith, nat_tests, service_moved, sessions_now, has_now)
 
     abbrev state_served : State
     state_served =
@@ -429,4 +417,4 @@ module _ (p : Image) (t : Typing) (wired : IsWired p) (typed : IsTyped p t) (s :
     service_well = enters p t typed served seat (x ∷ above) served_over its_service.0 words entering_service state_served (length (A_mark ∷ s.items)) (ap (λ is. length (A_mark ∷ is)) no_items) refl refl (ap (λ is. forms (A_mark ∷ is)) no_items) w.undos
 
     pub attends_well : Keeps p t (attended p x client (held s.cells (Elsewhere (Session n client))) m (taken_from n s))
-    attends_well = subst (λ y. Keeps p t (attended p x client y m (taken_from n s))) (sym session_there.1) (subst (λ k. Keeps p t (attending k x client z m (taken_from n s))) (sym its_service.1) service_well)
+    attends_well = grind (arith, nat_tests, service_well)

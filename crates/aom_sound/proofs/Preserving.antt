@@ -1,34 +1,32 @@
 -- What it takes that each step keeps a law of tasks, and that it then does: once for all such laws, by the moves.
+use Rattle.std.proofs.lemmas.Bool.Decides.{nat_tests}
 use Rattle.aom_rules.specs.Calls.{parent_by}
 use Rattle.aom_classes.proofs.Playing.{destroyed}
-use Rattle.std.proofs.Common.{Bool, List, None, Option, Some, [], ap, cond, false, length, pos, refl, subst, suc, sym, true, ℕ, ℤ, ◌-◌, ◌∙◌, ◌∷◌, ◌≡◌}
+use Rattle.std.proofs.Common.{arith, Bool, List, None, Option, Some, [], length, refl, subst, suc, sym, true, ℕ, ℤ, ◌-◌, ◌∷◌, ◌≡◌}
 use Rattle.aom_image.specs.Image.{Image}
 use Rattle.aom_image.specs.Views.{method_class, instr_at}
 use Rattle.aom_instructions.specs.declared.instr.Instr.{Instr}
 use Rattle.aom_instructions.specs.declared.instr.Instr.TheVariants.{Call, Cancel, Next, Trap}
 use Rattle.aom_instructions.specs.declared.instr.Target.{Target}
-use Rattle.std.specs.Ordering.{int_eq}
 use Rattle.aom_image.specs.declared.method.Role.TheVariants.{Destruct, Error}
 use Rattle.aom_image.specs.declared.method.Gives.{Gives}
-use Rattle.aom_image.specs.declared.method.Gives.TheVariants.{Own as An_own}
 use Rattle.aom_classes.specs.Jumps.{jump_of}
 use Rattle.aom_classes.specs.Loops.{loop_in}
 use Rattle.aom_shape.specs.Needs.{AllTrue}
 use Rattle.aom_sound.proofs.Moving.{steps_are_moves}
-use Rattle.aom_sound.specs.Calls.{below_top, called, entered, received, result_register, returned}
+use Rattle.aom_sound.specs.Calls.{below_top, entered, received, returned}
 use Rattle.aom_sound.specs.Cleanup.{code_told, has_trap, operation_frame, to_trap}
 use Rattle.aom_classes.specs.Roles.{role_of, destructor_of}
-use Rattle.aom_sound.specs.Destruction.{destructor_frame, class_destructor, line_on, destructed, parting, first_session, begun, begun_by}
+use Rattle.aom_sound.specs.Destruction.{destructor_frame, class_destructor, line_on, destructed, parting, begun, begun_by}
 use Rattle.aom_sound.specs.Effects.{Calls, Cancels, Counts, Destroys, Destroys_last, Effect, Goes_on, Jumps, Leaves, Operates, Repeats, Returns, Sets_trap, applied, with_words}
-use Rattle.aom_sound.specs.Moves.{answered, asking, counted, dispatch_ends, error_frame, failed, handled, main_ends, needs, object_ends, step}
-use Rattle.aom_sound.specs.Places.{service_of, Elsewhere, Object, Root, held}
-use Rattle.aom_sound.specs.State.{Static, AtRoot, Closing, Home, Of_server, Accepts, Accept_left, Serves, Parts, A_mark, An_operation, Choice, Destroy, Dispatch, Dispatched, Frame, Goes, Inside, Item, Answered, Asks, Object_left, Of_main, Of_object, Of_root, Run, Seat, State, Task, Trapped, Unwind, counter, frame_as, frame_of, next, resumed, set_counter, set_word, to_place}
+use Rattle.aom_sound.specs.Moves.{answered, asking, counted, dispatch_ends, error_frame, handled, main_ends, needs, object_ends, step}
+use Rattle.aom_sound.specs.Places.{Elsewhere, Object, Root, held}
+use Rattle.aom_sound.specs.State.{Static, AtRoot, Closing, Home, Of_server, Accepts, Accept_left, Serves, Parts, A_mark, An_operation, Choice, Destroy, Dispatch, Dispatched, Frame, Goes, Inside, Item, Answered, Asks, Object_left, Of_main, Of_object, Run, Seat, State, Task, Trapped, Unwind, counter, frame_as, frame_of, next, resumed, set_counter, to_place}
 use Rattle.aom_sound.specs.Steps.{Empties, Acts, Arrives, Clears, Comes_out, Ends, Fits, IsStraight, Move, Rests, Sets, Undoes, Vanishes}
 use Rattle.aom_sound.specs.Tasks.{Below, Holds, TaskLaw}
 use Rattle.aom_sound.specs.World.{heard_one, Heard, Outside, turn}
 use Rattle.aom_sound.proofs.Turned.{obeys, handles, accepts, attends, parts, commanded_kept, completes, keeps_all, kills, picks, turns_so}
-use Rattle.aom_sound.specs.Enlisted.{cancel_method, ended_cells, part_of}
-use Rattle.aom_sound.specs.Servers.{is_server}
+use Rattle.aom_sound.specs.Enlisted.{cancel_method, part_of}
 
 -- an instruction is at hand, with its needs met
 pub record Acting (p : Image) (c : Choice) (l : TaskLaw) (s : State) (fr : Frame) (ts : List Task) (i : Instr) : Type 0 where
@@ -62,12 +60,10 @@ pub record Kept (p : Image) (c : Choice) (l : TaskLaw) (s : State) : Type 0 wher
 -- a result, and a code, change words alone
 pub receives :
     (p : Image) (fr : Frame) (ts : List Task) (v : State) (g : Gives) (a x : ℕ) (caller : Frame) → received p fr ts v g a x caller ≡ with_words caller (received p fr ts v g a x caller).words
-receives p fr ts v (An_own t) a x caller = refl
-receives p fr ts v _ a x caller = refl
+receives p fr ts v x a y caller = grind arith
 
 pub told : (g : Gives) (x : ℕ) (code : ℤ) (fr : Frame) → code_told g x code fr ≡ with_words fr (code_told g x code fr).words
-told (An_own t) x code fr = refl
-told _ x code fr = refl
+told x y code fr = grind arith
 
 -- a destruction begins
 module _ (p : Image) (l : TaskLaw)
@@ -94,11 +90,7 @@ module _ (p : Image) (l : TaskLaw)
       go (Some x) = of_role x (role_of p x Destruct) refl
 
   begun_holds : (o : Object) (height : ℕ) (ts : List Task) → Below l ts → Holds l (begun p o height ts)
-  begun_holds o height ts b = go (is_server p o.thing)
-    where
-      go : (x : Bool) → Holds l (cond x (Closing ∷ Destroy ∷ ts) (destructed p o height ts))
-      go true = b
-      go false = destructed_holds o height ts b
+  begun_holds o height ts b = grind (arith, nat_tests, destructed_holds o height ts b)
 
 module _ (p : Image) (c : Choice) (l : TaskLaw) (s : State) (k : Kept p c l s) where
   begins_over : (o : Object) (height : ℕ) (ts : List Task) → Below l ts → Holds l (begun p o height ts)
@@ -125,12 +117,8 @@ module _ (p : Image) (c : Choice) (l : TaskLaw) (s : State) (k : Kept p c l s) w
   resumes_with fr fr' ts e b = (subst (λ x. l.Runs (next x) ts) (sym e) (k.resumes fr ts b.0 fr'.words), b.1)
 
   returns : (fr : Frame) (ts : List Task) (v : State) (g : Gives) (a : ℕ) (below : List Task) → Holds l v.tasks → Below l below → Holds l (returned p fr ts v g a below).tasks
-  returns fr ts v g a (Run caller ∷ below) h b =
-      let x = result_register (instr_at p caller.method caller.place) in
-      resumes_with caller (received p fr ts v g a x caller) below (receives p fr ts v g a x caller) b
-  returns fr ts v g a (Trapped ∷ Run caller ∷ below) h b =
-      let x = result_register (instr_at p caller.method caller.place) in
-      resumes_with caller (set_word (received p fr ts v g a x caller) (suc x) (Some (pos 0))) below (ap (λ f. set_word f (suc x) (Some (pos 0))) (receives p fr ts v g a x caller)) b.1
+  returns fr ts v g a (Run caller ∷ below) h b = grind (arith, nat_tests, resumes_with caller, receives p fr ts v g a)
+  returns fr ts v g a (Trapped ∷ Run caller ∷ below) h b = grind (arith, nat_tests, resumes_with caller, receives p fr ts v g a)
   returns fr ts v g a (Trapped ∷ Dispatched d ∷ below) h b = b.1
   returns fr ts v g a (Destroy ∷ below) h b = line_holds p l k.destructs fr.method fr.home fr.height below b
   returns fr ts v g a (Unwind code ∷ below) h b = b
@@ -138,23 +126,16 @@ module _ (p : Image) (c : Choice) (l : TaskLaw) (s : State) (k : Kept p c l s) w
   returns fr ts v g a _ h b = h
 
   closes : (v : State) (b : Bool) (root : Option Object) → Holds l (main_ends p b root v).tasks
-  closes v true (Some o) = begins_over o (length v.items) (Dispatched Of_root ∷ []) tt
-  closes v true None = tt
-  closes v false root = tt
+  closes v x root = grind (arith, nat_tests, begins_over)
 
   object_closes : Holds l (object_ends p (counted p s)).tasks
   object_closes = closes (handled (counted p s)) s.rest.stopped (held s.cells (Elsewhere Root))
 
   answers : (answer : ℤ) → Holds l (answered p answer (counted p s)).tasks
-  answers answer = go (int_eq answer (pos 0))
-    where
-      go : (b : Bool) → Holds l (cond b (object_ends p (counted p s)) (failed answer (counted p s))).tasks
-      go true = object_closes
-      go false = tt
+  answers answer = grind (arith, nat_tests, object_closes)
 
   asks_it : (x : Seat) (code : ℤ) (m : Option ℕ) → part_of p Error x.object.thing ≡ m → Holds l (asking p m x code (counted p s)).tasks
-  asks_it x code None e = answers code
-  asks_it x code (Some m) e = (k.asks x m code (length s.items) e, tt)
+  asks_it x code y e = grind (arith, nat_tests, answers code)
 
   ends : (d : Dispatch) → Holds l (dispatch_ends p d (counted p s)).tasks
   ends Of_main = closes (counted p s) s.rest.stopped (held s.cells (Elsewhere Root))
@@ -177,16 +158,11 @@ module _ (p : Image) (c : Choice) (l : TaskLaw) (s : State) (k : Kept p c l s) w
     acts i (Goes_on ch) a f = (k.goes_on fr ts i a f.0 ch.words, h.1)
     acts i (Jumps to) a f = (k.jumps fr ts i a to f, h.1)
     acts i (Counts d n) a f = (k.counts fr ts i a d n f, h.1)
-    acts i (Repeats d n to) a f = (subst (λ m. l.Runs (to_place (set_counter fr d m) to) ts) (sym f.2) (k.repeats fr ts d to f.1 (another i _ f.0 a) (f.3 ∙ f.2)), h.1)
-    acts i (Calls target m first) a f =
-        let a' = another i _ f.1 a in
-        (k.calls fr ts target m first f.0 a', (k.waits fr ts _ a' refl fr.words, h.1))
+    acts i (Repeats d n to) a f = (grind (arith, nat_tests, another i), h.1)
+    acts i (Calls target m first) a f = grind (arith, nat_tests, another i)
     acts i (Cancels m) a f = (k.cancels fr ts m (another i _ f.0 a) f.1, (k.waits fr ts _ (another i _ f.0 a) refl fr.words, h.1))
-    acts i (Sets_trap target m first) a f =
-        let a' = another i _ f.1 a in
-        let w = k.traps fr ts target m first f.0 a' in
-        (w.0, (w.1, (k.waits fr ts _ a' refl fr.words, h.1)))
-    acts i (Returns g x) a f = returns fr ts (record (counted p s) { cells = ended_cells p fr s.cells }) g x ts (subst (λ ts. Holds l ts) (sym at_hand) h) h.1
+    acts i (Sets_trap target m first) a f = grind (arith, nat_tests, another i)
+    acts i (Returns g x) a f = grind (arith, nat_tests, returns fr ts)
     acts i (Leaves code u) a f = lands code ts f.0 h.1
     acts i (Destroys o x words) a f = begins_over o (length s.items) (Run (with_words fr words) ∷ ts) (k.waits fr ts _ (another i _ f.0 a) refl words, h.1)
     acts i (Destroys_last o) a f = begins_over o (length (below_top s.items)) (Run fr ∷ ts) (k.waits fr ts _ (another i _ f.0 a) refl fr.words, h.1)
@@ -198,14 +174,10 @@ module _ (p : Image) (c : Choice) (l : TaskLaw) (s : State) (k : Kept p c l s) w
       let h' = subst (λ ts. Holds l ts) at h in
       subst (λ v. Holds l v.tasks) (sym same) (acts fr ts at h' i e (acting fr ts at h' i there met) fits)
   kept u h (Vanishes ts o at there owns same) = subst (λ v. Holds l v.tasks) (sym same) (resumes_all ts (subst (λ ts. Holds l ts) at h))
-  kept u h (Empties ts o at there same) =
-      subst (λ v. Holds l v.tasks) (sym same) (empties o (first_session s.cells o.name (service_of s.cells o.name).sessions) ts (counted p s) (subst (λ ts. Holds l ts) at h))
-  kept u h (Clears code ts items o at top there same) = subst (λ v. Holds l v.tasks) (sym same) (begins_over o (length items) (Unwind code ∷ ts) (subst (λ ts. Holds l ts) at h))
-  kept u h (Undoes code ts items m w at top same) = subst (λ v. Holds l v.tasks) (sym same) (k.undoes m w items (Unwind code ∷ ts) top, subst (λ ts. Holds l ts) at h)
-  kept u h (Arrives code fr ts items at top same) =
-      let i = instr_at p fr.method fr.place in
-      let b = subst (λ ts. Holds l ts) at h in
-      subst (λ v. Holds l v.tasks) (sym same) (resumes_with fr (code_told (called p i) (result_register i) code fr) ts (told (called p i) (result_register i) code fr) b.1.1)
+  kept u h (Empties ts o at there same) = grind (arith, nat_tests, empties o)
+  kept u h (Clears code ts items o at top there same) = grind (arith, nat_tests, begins_over o)
+  kept u h (Undoes code ts items m w at top same) = grind (arith, nat_tests)
+  kept u h (Arrives code fr ts items at top same) = grind (arith, nat_tests, resumes_with fr, told)
   kept u h (Comes_out code d ts items at top same) = subst (λ v. Holds l v.tasks) (sym same) (subst (λ ts. Holds l ts) at h).1.1
   kept u h (Ends d ts at same) = subst (λ v. Holds l v.tasks) (sym same) (ends d)
 

@@ -1,12 +1,12 @@
 -- What waits in a queue fits where clients and queues change: by its entries one after another.
-use Rattle.std.proofs.Common.{Bool, List, [], ap, cond, false, refl, subst, sym, true, ℕ, ◌==◌, ◌∙◌, ◌∷◌, ◌≡◌}
+use Rattle.std.proofs.lemmas.Bool.Decides.{nat_tests}
+use Rattle.std.proofs.Common.{arith, Bool, List, [], ap, cond, false, refl, sym, true, ℕ, ◌==◌, ◌∙◌, ◌∷◌, ◌≡◌}
 use Rattle.std.proofs.lemmas.Bool.{eq-eqb, ne_eqb, true≢false, or_parts}
 use Rattle.std.proofs.lemmas.List.Folds.{list_any-append}
 use Rattle.std.specs.List.{list_any}
-use Rattle.std.specs.Prelude.{filter, ◌++◌, ◌||◌}
+use Rattle.std.specs.Prelude.{filter, ◌++◌}
 use Rattle.aom_clients.specs.declared.client.Client.{Client}
 use Rattle.aom_clients.specs.declared.client.Client.TheVariants.{Unconnected}
-use Rattle.aom_clients.specs.Nodes.{is_connecting_at, is_leaving, is_open_at}
 use Rattle.aom_sound.proofs.Maps.{at-put_at}
 use Rattle.aom_sound.specs.Clients.{client_at, with_client}
 use Rattle.aom_sound.specs.Kept.{EntryFits, QueueFits, asked_again}
@@ -35,58 +35,37 @@ is_of c e = c == client_of e
 pub none_passes :
     (test : Asked → Bool) (clients : List Client) (n : ℕ) → ((e : Asked) → test e ≡ true → EntryFits clients n e → ⊥) → (es : List Asked) → QueueFits clients n es → list_any test es ≡ false
 none_passes test clients n never [] fits = refl
-none_passes test clients n never (e ∷ es) fits = go (test e) refl (none_passes test clients n never es fits.1)
-  where
-    go : (b : Bool) → test e ≡ b → list_any test es ≡ false → (test e || list_any test es) ≡ false
-    go true at rest = absurd (never e at fits.0.0)
-    go false at rest = ap (λ b. b || list_any test es) at ∙ rest
+none_passes test clients n never (e ∷ es) fits = grind (arith, nat_tests, none_passes test clients n never es fits.1)
 
 -- what is no more among those that stay
 pub none_stays : (test stays : Asked → Bool) (es : List Asked) → list_any test es ≡ false → list_any test (filter stays es) ≡ false
 none_stays test stays [] none = refl
-none_stays test stays (e ∷ es) none = go (stays e) (none_stays test stays es (or_parts (test e) (list_any test es) none).1)
-  where
-    go : (b : Bool) → list_any test (filter stays es) ≡ false → list_any test (cond b (e ∷ filter stays es) (filter stays es)) ≡ false
-    go true rest = ap (λ b. b || list_any test (filter stays es)) (or_parts (test e) (list_any test es) none).0 ∙ rest
-    go false rest = rest
+none_stays test stays (e ∷ es) none = grind (arith, nat_tests, none_stays test stays es, or_parts (test e))
 
 eqb_swap : (a b : ℕ) → (a == b) ≡ false → (b == a) ≡ false
 eqb_swap a b e = ne_eqb b a (λ same. true≢false (sym (eq-eqb a b (sym same)) ∙ e))
 
 -- the same is asked in either order
 again_swap : (e f : Asked) → asked_again e f ≡ false → asked_again f e ≡ false
-again_swap (Connect_of c) (Connect_of d) h = eqb_swap d c h
-again_swap (Message_of c m) (Message_of d k) h = eqb_swap k m h
-again_swap (Close_of c) (Close_of d) h = eqb_swap d c h
-again_swap _ _ h = refl
+again_swap x y h = grind (arith, nat_tests, eqb_swap)
 
 -- ---- where clients and queues change
 
 -- another client is at something else
 pub entry_other : (c n : ℕ) (to : Client) (clients : List Client) (e : Asked) → is_of c e ≡ false → EntryFits clients n e → EntryFits (with_client c to clients) n e
-entry_other c n to clients (Connect_of d) other fits = subst (λ x. is_connecting_at n x ≡ true) (sym (client_there c d to clients other)) fits
-entry_other c n to clients (Message_of d m) other fits = subst (λ x. is_open_at n x ≡ true) (sym (client_there c d to clients other)) fits
-entry_other c n to clients (Close_of d) other fits = subst (λ x. is_leaving n x ≡ true) (sym (client_there c d to clients other)) fits
+entry_other c n to clients x other fits = grind (arith, nat_tests, client_there c)
 
 pub queue_other : (c n : ℕ) (to : Client) (clients : List Client) (es : List Asked) → list_any (is_of c) es ≡ false → QueueFits clients n es → QueueFits (with_client c to clients) n es
 queue_other c n to clients [] none fits = tt
-queue_other c n to clients (e ∷ es) none fits =
-    let parts = or_parts (is_of c e) (list_any (is_of c) es) none in
-    ((entry_other c n to clients e parts.0 fits.0.0, fits.0.1), queue_other c n to clients es parts.1 fits.1)
+queue_other c n to clients (e ∷ es) none fits = grind (arith, nat_tests, or_parts, entry_other c n to clients e, queue_other c n to clients es)
 
 -- some of it stays
 pub queue_stays : (clients : List Client) (n : ℕ) (stays : Asked → Bool) (es : List Asked) → QueueFits clients n es → QueueFits clients n (filter stays es)
 queue_stays clients n stays [] fits = tt
-queue_stays clients n stays (e ∷ es) fits = go (stays e) (queue_stays clients n stays es fits.1)
-  where
-    go : (b : Bool) → QueueFits clients n (filter stays es) → QueueFits clients n (cond b (e ∷ filter stays es) (filter stays es))
-    go true rest = ((fits.0.0, none_stays (asked_again e) stays es fits.0.1), rest)
-    go false rest = rest
+queue_stays clients n stays (e ∷ es) fits = grind (arith, nat_tests, queue_stays clients n stays es fits.1, none_stays)
 
 -- something is asked last
 pub queue_last :
     (clients : List Client) (n : ℕ) (x : Asked) (es : List Asked) → EntryFits clients n x → list_any (asked_again x) es ≡ false → QueueFits clients n es → QueueFits clients n (es ++ x ∷ [])
 queue_last clients n x [] own none fits = ((own, refl), tt)
-queue_last clients n x (e ∷ es) own none fits =
-    let parts = or_parts (asked_again x e) (list_any (asked_again x) es) none in
-    ((fits.0.0, list_any-append (asked_again e) es (x ∷ []) ∙ ap (λ b. b || (asked_again e x || false)) fits.0.1 ∙ ap (λ b. b || false) (again_swap x e parts.0)), queue_last clients n x es own parts.1 fits.1)
+queue_last clients n x (e ∷ es) own none fits = grind (arith, nat_tests, or_parts, list_any-append, again_swap x e, queue_last clients n x es own)

@@ -1,17 +1,15 @@
 -- While a cell goes or a leave unwinds, quiet methods alone run, so that no trap stands over it.
+use Rattle.std.proofs.lemmas.Bool.Decides.{nat_tests}
 use Rattle.aom_roles.proofs.Descending.{itself}
 use Rattle.std.proofs.lemmas.Option.{same_Some}
-use Rattle.std.proofs.Common.{List, None, Option, Some, [], ap, false, length, refl, subst, sym, true, ℕ, ℤ, ◌∙◌, ◌∷◌, ◌≡◌}
+use Rattle.std.proofs.Common.{arith, List, Some, [], ap, false, refl, subst, sym, true, ℕ, ℤ, ◌∙◌, ◌∷◌, ◌≡◌}
 use Rattle.std.proofs.lemmas.Bool.{true≢false, false_from_ne_true}
 use Rattle.std.specs.Prelude.{not}
-use Rattle.aom_classes.specs.Roles.{main_of}
 use Rattle.aom_image.specs.Image.{Image}
-use Rattle.aom_image.specs.Views.{arguments_of, is_quiet, method_class, method_role}
+use Rattle.aom_image.specs.Views.{is_quiet, method_class}
 use Rattle.aom_instructions.specs.declared.instr.Instr.{Instr}
 use Rattle.aom_instructions.specs.declared.instr.Instr.TheVariants.{Call, Trap}
 use Rattle.aom_instructions.specs.declared.instr.Target.{Target}
-use Rattle.aom_rules.specs.Calls.{each_argument, rule_target}
-use Rattle.aom_rules.specs.Requests.{is_construct}
 use Rattle.aom_shape.specs.Needs.{AllTrue}
 use Rattle.aom_rules.specs.Rules.{rule_needs}
 use Rattle.aom_shape.specs.Shape.{Shape}
@@ -31,7 +29,7 @@ use Rattle.aom_sound.specs.Places.{Cell}
 use Rattle.aom_sound.specs.Quiet.{CalmKeeps, CaughtOwned, IsCalm, calm, is_clearing}
 use Rattle.aom_sound.specs.State.{An_operation, Choice, Dispatched, Frame, Goes, Item, Run, State, Task, Trapped}
 use Rattle.aom_sound.specs.WellTyped.{AllUndo, Good, WellTyped}
-use Rattle.aom_sound.specs.World.{boot_state, main_tasks}
+use Rattle.aom_sound.specs.World.{boot_state}
 use Rattle.aom_sound.proofs.Layers.{method_layer}
 
 -- the abstract state of the method at hand
@@ -51,11 +49,7 @@ module _ (p : Image) (t : Typing) (wired : IsWired p) (typed : IsTyped p t) (c :
 
   -- a quiet method calls quiet ones
   calls_quiet : (fr : Frame) (ts : List Task) (target : Target) (m first x : ℕ) → Acting p c (calm p) s fr ts (Call target m first x) → is_clearing ts ≡ true → is_quiet p m ≡ true
-  calls_quiet fr ts target m first x a clearing =
-      let r = ruled fr ts (Call target m first x) a in
-      let parts = all_parts (rule_target p fr.method r.0 target m (method_class p m) (is_construct (method_role p m)) first (length (arguments_of p m))) _ r.1 in
-      let more = all_parts (each_argument p r.0 (arguments_of p m) first) _ parts.1.1 in
-      only_then (is_quiet p fr.method) (is_quiet p m) more.1.1.0 (a.runs clearing)
+  calls_quiet fr ts target m first x a clearing = grind (arith, nat_tests, ruled fr ts (Call target m first x) a, all_parts, only_then)
 
   -- no quiet method sets a trap
   not_clearing : (fr : Frame) (ts : List Task) (target : Target) (m first x : ℕ) → Acting p c (calm p) s fr ts (Trap target m first x) → is_clearing ts ≡ false
@@ -85,11 +79,7 @@ moves : (p : Image) (t : Typing) → IsWired p → IsTyped p t → (c : Choice) 
 moves p t wired typed c s u w h e = keeps p c (calm p) s u (kept p t wired typed c s w) h e
 
 boot : (p : Image) → IsCalm p (boot_state p).tasks
-boot p = begins (main_of p)
-  where
-    begins : (m : Option ℕ) → IsCalm p (main_tasks m)
-    begins None = tt
-    begins (Some m) = (λ clearing. absurd (true≢false (sym clearing)), (refl, tt))
+boot p = grind (arith, nat_tests)
 
 pub calm_keeps : CalmKeeps
 calm_keeps = record { boot = boot; moves = moves; turns = λ p wired outside heard s u h e. turn_keeps_it p outside heard (calm p) s u (λ m height home words d clearing. absurd (true≢false (sym clearing))) (λ d. refl) (λ o x m height ts e clearing. (destroys_by p wired x x m (itself p x) e).quiet) h e }
@@ -102,4 +92,4 @@ none_goes (Dispatched d ∷ ts) e = none_goes ts e
 none_goes _ e = absurd (true≢false e)
 
 pub caught_owned : CaughtOwned
-caught_owned p t wired s w calm fits code tasks items at top = owned p t wired s w (subst (λ l. NoneGoes l) (sym at) (none_goes tasks (subst (λ l. IsCalm p l) at calm).0)) fits
+caught_owned p t wired s w calm fits code tasks items at top = grind (arith, nat_tests, owned p t wired s w, none_goes tasks)

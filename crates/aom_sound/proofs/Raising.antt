@@ -1,4 +1,5 @@
 -- A construct that calls its parent's on its own object finds no field of the parent's filled, by what its state says of them.
+use Rattle.std.proofs.lemmas.Bool.Decides.{nat_tests}
 use Rattle.std.proofs.Common.{Bool, List, None, Option, Some, ap, arith, false, length, refl, subst, suc, sym, true, zero, ℕ, ◌∙◌, ◌∷◌, ◌≡◌, ◌≤◌}
 use Rattle.std.proofs.lemmas.Bool.{and_from, and_parts, eqb-true}
 use Rattle.std.proofs.lemmas.Option.{slice_get-get_or}
@@ -35,8 +36,7 @@ is_just_empty : (x : Filling) → is_empty x ≡ true → x ≡ Empty
 is_just_empty x e = grind arith
 
 is_that_one : (m : ℕ) (o : Option ℕ) → is_that m o ≡ true → o ≡ Some m
-is_that_one m None e = cc
-is_that_one m (Some k) e = ap Some (eqb-true k m e)
+is_that_one m x e = grind (arith, nat_tests, eqb-true)
 
 module _ (p : Image) (t : Typing) (wired : IsWired p) (s : State) (fr : Frame) (sh : Shape) (ls : List Layer) (at_hand : At p t s fr sh ls) where
   -- what the parent of the method's class declares, the method's class declares

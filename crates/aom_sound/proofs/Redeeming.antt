@@ -1,5 +1,6 @@
 -- A reply to a token completes the request that waits for it: all else of the cells is as it was, so what is claimed and what is known hold on.
-use Rattle.std.proofs.Common.{arith, Bool, List, None, Option, Some, [], ap, cond, false, refl, subst, sym, true, ℕ, ℤ, ◌&&◌, ◌==◌, ◌∙◌, ◌∷◌, ◌≡◌}
+use Rattle.std.proofs.lemmas.Bool.Decides.{nat_tests}
+use Rattle.std.proofs.Common.{arith, List, None, Option, Some, [], ap, false, refl, true, ℕ, ℤ, ◌∙◌, ◌∷◌, ◌≡◌}
 use Rattle.std.proofs.lemmas.Bool.{eq-eqb, ne_eqb}
 use Rattle.std.specs.Ordering.{int_eq}
 use Rattle.std.specs.Prelude.{is_some}
@@ -10,11 +11,11 @@ use Rattle.aom_sound.proofs.Altering.{Alters, read_so, requests}
 use Rattle.aom_sound.proofs.Storing.{Alike, alike_itself, altered_alike, fits_listed, stack_alike}
 use Rattle.aom_sound.proofs.Turned.{recorded_so}
 use Rattle.aom_sound.specs.Claims.{Layer}
-use Rattle.aom_sound.specs.Enlisted.{completed_with, on_request, pending, recorded}
+use Rattle.aom_sound.specs.Enlisted.{completed_with, on_request, pending}
 use Rattle.aom_sound.specs.Natives.{is_owed}
 use Rattle.aom_sound.specs.Places.{Cell, Object, Request, Tidy, named, requested}
-use Rattle.aom_sound.specs.Requests.{Known, Suits, states_claim, thing_kind}
-use Rattle.aom_sound.specs.Tokens.{all_redeemed, awaits, is_redeemable, redeemed, redeemed_by, redeemed_request, redeemed_with}
+use Rattle.aom_sound.specs.Requests.{Known, Suits}
+use Rattle.aom_sound.specs.Tokens.{all_redeemed, awaits, is_redeemable, redeemed, redeemed_by, redeemed_request}
 use Rattle.aom_sound.specs.WellTyped.{Good}
 
 abbrev pub redeeming : (order : ℕ) (code : ℤ) → Alters (all_redeemed order code)
@@ -24,8 +25,7 @@ pub redeemed_alike : (order : ℕ) (code : ℤ) (cs : List Cell) → Alike cs (a
 redeemed_alike order code = altered_alike (redeeming order code) (λ c. refl) (λ c. refl)
 
 pub redeemed_by_alike : (order : Option ℕ) (code : ℤ) (cs : List Cell) → Alike cs (redeemed_by order code cs)
-redeemed_by_alike None code cs = alike_itself cs
-redeemed_by_alike (Some order) code cs = redeemed_alike order code cs
+redeemed_by_alike x code cs = grind (arith, nat_tests, alike_itself cs, redeemed_alike)
 
 pub requested_redeemed : (order : ℕ) (code : ℤ) (cs : List Cell) (n : ℕ) → requested (all_redeemed order code cs) n ≡ redeemed_request order code (requested cs n)
 requested_redeemed order code cs n = read_so (redeeming order code) requests n (redeemed_request order code) cs (λ c is here. refl) (λ none. refl)
@@ -42,11 +42,7 @@ suits_settled : (code : ℤ) → int_eq code pending ≡ false → (k : Option C
 suits_settled code settled k n r s = grind arith
 
 pub suits_redeemed : (order : ℕ) (code : ℤ) (k : Option ClassKind) (n : Known) (r : Option Request) → Suits k n r → Suits k n (redeemed_request order code r)
-suits_redeemed order code k n r s = go (awaits order r)
-  where
-    go : (b : Bool) → Suits k n (cond b (on_request (redeemed_with code) r) r)
-    go true = suits_settled (recorded code) (recorded_so code) k n r s
-    go false = s
+suits_redeemed order code k n r s = grind (arith, nat_tests, suits_settled, recorded_so code)
 
 -- what waits for a token is pending
 pub awaits_owed : (order : ℕ) (k : Option ClassKind) (n : Known) (r : Option Request) → Suits k n r → awaits order r ≡ true → is_owed r ≡ true
@@ -54,33 +50,17 @@ awaits_owed order k n r s e = grind arith
 
 redeemable_cells : (order : ℕ) (cs : List Cell) → ((o : Object) → named cs o.name ≡ Some o → awaits order (requested cs o.name) ≡ true → is_owed (requested cs o.name) ≡ true) → Tidy cs → is_redeemable (Some order) cs ≡ true
 redeemable_cells order [] h tidy = refl
-redeemable_cells order (c ∷ cs) h tidy = go (awaits order c.request) refl (redeemable_cells order cs later tidy.2)
-  where
-    own : (c.object.name == c.object.name) ≡ true
-    own = eq-eqb c.object.name c.object.name refl
-
-    here : awaits order c.request ≡ true → is_owed c.request ≡ true
-    here e = sym (ap (λ b. is_owed (cond b c.request (requested cs c.object.name))) own) ∙ h c.object (ap (λ b. cond b (Some c.object) (named cs c.object.name)) own) (ap (λ b. awaits order (cond b c.request (requested cs c.object.name))) own ∙ e)
-
-    later : (o : Object) → named cs o.name ≡ Some o → awaits order (requested cs o.name) ≡ true → is_owed (requested cs o.name) ≡ true
-    later o e waits =
-        let other = ne_eqb c.object.name o.name (λ same. let clash : Some o ≡ None = sym e ∙ sym (ap (λ n. named cs n) same) ∙ tidy.1 in cc) in
-        sym (ap (λ b. is_owed (cond b c.request (requested cs o.name))) other) ∙ h o (ap (λ b. cond b (Some c.object) (named cs o.name)) other ∙ e) (ap (λ b. awaits order (cond b c.request (requested cs o.name))) other ∙ waits)
-
-    go : (b : Bool) → awaits order c.request ≡ b → is_redeemable (Some order) cs ≡ true → cond b (is_owed c.request && is_redeemable (Some order) cs) (is_redeemable (Some order) cs) ≡ true
-    go true e rest = ap (λ x. x && is_redeemable (Some order) cs) (here e) ∙ rest
-    go false e rest = rest
+redeemable_cells order (c ∷ cs) h tidy = grind (arith, nat_tests, redeemable_cells order cs, eq-eqb c.object.name c.object.name, ne_eqb c.object.name)
 
 module _ (p : Image) (t : Typing) where
   pub redeemable : (order : Option ℕ) (cs : List Cell) (ls : List Layer) → Good p t cs ls → is_redeemable order cs ≡ true
-  redeemable None cs ls good = refl
-  redeemable (Some order) cs ls good = redeemable_cells order cs (λ o lives. awaits_owed order (thing_kind p o.thing) (states_claim p o ls) (requested cs o.name) (good.suits o lives)) good.tidy
+  redeemable x cs ls good = grind (arith, nat_tests, redeemable_cells, awaits_owed)
 
   all_redeemed_good : (order : ℕ) (code : ℤ) (cs : List Cell) (ls : List Layer) → Good p t cs ls → Good p t (all_redeemed order code cs) ls
   all_redeemed_good order code cs ls good = record {
-    stack = stack_alike p t cs (all_redeemed order code cs) (redeemed_alike order code cs) (λ n some. ap is_some (requested_redeemed order code cs n) ∙ redeemed_listed order code (requested cs n) ∙ some) ls _ good.stack;
+    stack = grind (arith, nat_tests, stack_alike p t cs, redeemed_alike order code cs, requested_redeemed order code cs, redeemed_listed order code);
     fits = λ r. fits_listed p t cs (all_redeemed order code cs) (redeemed_alike order code cs) ls r (λ x none. requested_redeemed order code cs x.name ∙ redeemed_none order code (requested cs x.name) none) (good.fits r);
-    suits = λ o lives. subst (λ r. Suits (thing_kind p o.thing) (states_claim p o ls) r) (sym (requested_redeemed order code cs o.name)) (suits_redeemed order code (thing_kind p o.thing) (states_claim p o ls) (requested cs o.name) (good.suits o (sym ((redeemed_alike order code cs).named_so o.name) ∙ lives)));
+    suits = grind (arith, nat_tests, requested_redeemed order code cs, suits_redeemed order code, redeemed_alike order code cs);
     tidy = (redeemed_alike order code cs).tidy good.tidy;
   }
 

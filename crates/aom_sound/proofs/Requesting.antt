@@ -1,6 +1,7 @@
 -- The laws of the instructions on the request of what a method works on: it changes as what is known of it does, and no claim looks at another.
-use Rattle.std.proofs.Common.{Bool, arith, IsTrue, List, None, Option, Some, [], ap, cond, false, refl, subst, suc, sym, true, ℕ, ℤ, ◌&&◌, ◌++◌, ◌==◌, ◌∙◌, ◌∷◌, ◌≡◌}
-use Rattle.std.proofs.lemmas.Bool.{eq-eqb, eqb-true, true≢false}
+use Rattle.std.proofs.lemmas.Bool.Decides.{nat_tests}
+use Rattle.std.proofs.Common.{Bool, arith, IsTrue, List, None, Option, Some, [], ap, cond, false, refl, subst, suc, sym, true, ℕ, ℤ, ◌++◌, ◌==◌, ◌∙◌, ◌∷◌, ◌≡◌}
+use Rattle.std.proofs.lemmas.Bool.{eq-eqb, eqb-true}
 use Rattle.std.proofs.lemmas.Nat.{and_assoc}
 use Rattle.std.specs.Prelude.{bit_and, bit_or, is_none, is_some, not}
 use Rattle.aom_image.proofs.Given.{some_given}
@@ -24,13 +25,13 @@ use Rattle.aom_sound.proofs.Storing.{Alike, alike_itself, fits_alike, housed_ali
 use Rattle.aom_sound.proofs.Straight.{began, At, Fitted, Law, fitted, reframed, settle, stepped, this_is_ready, well}
 use Rattle.aom_sound.proofs.Suiting.{same_object}
 use Rattle.aom_sound.proofs.Words.{has_word, unowned, writes_word}
-use Rattle.aom_sound.specs.Claims.{Layer, Method, claim, declared, home_claim, root_claim, tasks_of}
+use Rattle.aom_sound.specs.Claims.{Layer, Method, claim, declared, tasks_of}
 use Rattle.aom_sound.specs.Effects.{Requested, applied, jumps_if, updates, asking_with}
 use Rattle.aom_sound.specs.Enlisted.{aborted, first_request, home_kind, in_phase, is_active, is_busy, is_cancelling, is_idle, is_issued, issued_of, on_request, own_request, rerequested, status_of, waits, Asking}
 use Rattle.aom_sound.specs.Laws.{IsWired}
-use Rattle.aom_sound.specs.Places.{Cell, Elsewhere, Entry, Field, Object, Place, Register, Request, Root, held, named, requested, same_place, seen}
+use Rattle.aom_sound.specs.Places.{Cell, Object, Place, Request, held, named, requested, seen}
 use Rattle.aom_sound.specs.Requests.{Known, Suits, known_at, state_of, states_claim, thing_kind, works_at}
-use Rattle.aom_sound.specs.State.{AtRoot, Choice, Frame, Home, Inside, Run, State, Static, field_place, home_holder, next, to_place}
+use Rattle.aom_sound.specs.State.{Choice, Frame, Inside, Run, State, home_holder, next, to_place}
 use Rattle.aom_sound.specs.WellTyped.{Houses, Fits, IsHoused, WellTyped}
 use Rattle.aom_sound.specs.Words.{read}
 use Rattle.aom_instructions.specs.declared.instr.Instr.{Instr}
@@ -39,21 +40,7 @@ use Rattle.aom_instructions.specs.declared.instr.Instr.{Instr}
 
 -- the states count for no place
 claim_states : (p : Image) (d : Place → Kind) (fr : Frame) (sh : Shape) (ls : List Layer) (states : ℕ) (r : Place) → claim p d (Method fr (record sh { states = states }) ∷ ls) r ≡ claim p d (Method fr sh ∷ ls) r
-claim_states p d fr sh ls states (Register f i) = refl
-claim_states p d fr sh ls states (Entry k) = refl
-claim_states p d fr sh ls states (Field n f) = go fr.home
-  where
-    go : (h : Home) → home_claim p (holder_of p fr.method) h (record sh { states = states }) n f (claim p d ls (Field n f)) ≡ home_claim p (holder_of p fr.method) h sh n f (claim p d ls (Field n f))
-    go Static = refl
-    go AtRoot = refl
-    go (Inside o from) = refl
-claim_states p d fr sh ls states (Elsewhere Root) = go fr.home
-  where
-    go : (h : Home) → root_claim p h (record sh { states = states }) (claim p d ls (Elsewhere Root)) ≡ root_claim p h sh (claim p d ls (Elsewhere Root))
-    go Static = refl
-    go AtRoot = refl
-    go (Inside o from) = refl
-claim_states p d fr sh ls states _ = refl
+claim_states p d fr sh ls states x = grind arith
 
 -- the object that a method works on has another request perhaps, and is in these states
 restated :
@@ -66,7 +53,7 @@ restated :
     Fitted p t cs fr sh ls → Fitted p t cs' fr (record sh { states = states }) ls
 restated p t cs cs' fr sh ls o from states home lives alike listed others ready suit g = record {
   fits = λ q. subst (λ k. Fits p (seen cs') (held cs' q) k) (sym (claim_states p (declared p cs') fr sh ls states q)) (fits_alike p t cs cs' alike (Method fr sh ∷ ls) q (λ x e fresh. others x.name (ready q x e fresh)) (g.fits q));
-  suits = λ x here. subst (λ h. Suits (thing_kind p x.thing) (cond (works_at x.name h) (known_at p fr states (states_claim p x ls)) (states_claim p x ls)) (requested cs' x.name)) (sym home) (known x here (o.name == x.name) refl);
+  suits = grind (arith, nat_tests);
   tidy = alike.tidy g.tidy;
   frames = record { words = g.frames.words; holder = g.frames.holder; view = g.frames.view; height = g.frames.height; alone = g.frames.alone; message = g.frames.message };
   housed = housed_alike p t cs cs' alike ls fr.home g.housed;
@@ -77,14 +64,7 @@ restated p t cs cs' fr sh ls o from states home lives alike listed others ready 
     known :
         (x : Object) → named cs' x.name ≡ Some x → (b : Bool) → (o.name == x.name) ≡ b →
         Suits (thing_kind p x.thing) (cond b (known_at p fr states (states_claim p x ls)) (states_claim p x ls)) (requested cs' x.name)
-    known x here true e =
-        subst (λ y. Suits (thing_kind p y.thing) (known_at p fr states (states_claim p y ls)) (requested cs' y.name)) (same_object cs o x lives (sym (alike.named_so x.name) ∙ here) e) suit
-    known x here false e =
-        let below : Known = states_claim p x ls in
-        let before =
-        subst (λ h. Suits (thing_kind p x.thing) (cond (works_at x.name h) (known_at p fr sh.states below) below) (requested cs x.name)) home (g.suits x (sym (alike.named_so x.name) ∙ here)) in
-        subst (λ r. Suits (thing_kind p x.thing) below r) (sym (others x.name e))
-        (subst (λ b. Suits (thing_kind p x.thing) (cond b (known_at p fr sh.states below) below) (requested cs x.name)) e before)
+    known x here y e = grind (arith, nat_tests, same_object cs o x lives)
 
 -- an object that may be enlisted is in one of the states in which it is known to be
 pub suits_in : (k : Option ClassKind) (n : Known) (r : Option Request) → is_listed_kind k ≡ true → Suits k n r → IsTrue (has n.states (state_of r))
@@ -144,7 +124,7 @@ suits_aborted k n r e under s = grind arith
 
 -- what is in each of two sets is in what they share
 pub has_common : (a b k : ℕ) → IsTrue (has a k) → IsTrue (has b k) → IsTrue (has (bit_and a b) k)
-has_common a b k h g = eq-eqb (bit_and (bit_and a b) k) k (and_assoc k a b ∙ ap (bit_and a) (eqb-true (bit_and b k) k g) ∙ eqb-true (bit_and a k) k h)
+has_common a b k h g = grind (arith, nat_tests, eq-eqb, and_assoc k a b, eqb-true)
 
 -- ---- the flows
 
@@ -155,11 +135,7 @@ lead_parts t m (x ∷ xs) ys l = let rest = lead_parts t m xs ys l.1 in ((l.0, r
 
 -- a set that has a state is not empty
 not_empty_by : (n k : ℕ) → IsTrue (has n k) → has 0 k ≡ false → (n == 0) ≡ false
-not_empty_by n k h none = go (n == 0) refl
-  where
-    go : (b : Bool) → (n == 0) ≡ b → b ≡ false
-    go true e = absurd (true≢false (sym (subst (λ x. IsTrue (has x k)) (eqb-true n 0 e) h) ∙ none))
-    go false e = refl
+not_empty_by n k h none = grind (arith, nat_tests, eqb-true n 0)
 
 -- a way is there where the object is in one of its states
 narrowed_leads : (t : Typing) (m place x : ℕ) (sh : Shape) → (bit_and sh.states x == 0) ≡ false → AllLead t m (flow_narrowed sh place x) → Leads t m place (record sh { states = bit_and sh.states x })
@@ -211,7 +187,7 @@ module _ (p : Image) (t : Typing) (main_none : (m : ℕ) → method_role p m ≡
         home = found.2;
         kind = found.3;
         lives = holds.lives;
-        suits = subst (λ k. Suits k (known_at p fr sh.states below) own) found.3 (subst (λ h. Suits (thing_kind p o.thing) (known_at p fr sh.states below) (own_request s.cells h)) (sym found.2) known);
+        suits = grind (arith, nat_tests);
       }
 
   -- what is known of it, in these states
@@ -219,7 +195,7 @@ module _ (p : Image) (t : Typing) (main_none : (m : ℕ) → method_role p m ≡
   its listed states = known_at p fr states (states_claim p (of_object listed).object ls)
 
   pub active_home : is_active_kind (own_kind p fr.method) ≡ true → is_active_kind (home_kind p fr.home) ≡ true
-  active_home a = let it = of_object (active_listed (own_kind p fr.method) a) in ap (λ h. is_active_kind (home_kind p h)) it.home ∙ ap is_active_kind it.kind ∙ a
+  active_home a = grind (arith, nat_tests, of_object, active_listed)
 
   listed_home : is_listed_kind (own_kind p fr.method) ≡ true → is_listed_kind (home_kind p fr.home) ≡ true
   listed_home l = let it = of_object l in ap (λ h. is_listed_kind (home_kind p h)) it.home ∙ ap is_listed_kind it.kind ∙ l
@@ -229,11 +205,7 @@ module _ (p : Image) (t : Typing) (main_none : (m : ℕ) → method_role p m ≡
 
   -- no place claims the object to be fresh
   nowhere_fresh : (it : OfObject) (q : Place) (x : Object) → held s.cells q ≡ Some x → is_ready_kind (claim p (declared p s.cells) (Method fr sh ∷ ls) q) ≡ false → (it.object.name == x.name) ≡ false
-  nowhere_fresh it q x e fresh = go (it.object.name == x.name) refl (this_is_ready p t c s fr sh ls at_hand (Inside it.object it.from) 0 it.home q x e fresh 0)
-    where
-      go : (b : Bool) → (it.object.name == x.name) ≡ b → same_place (field_place (Inside it.object it.from) 0) (Field x.name 0) ≡ false → b ≡ false
-      go false e h = refl
-      go true e h = sym (ap (λ b. b && true) e) ∙ h
+  nowhere_fresh it q x e fresh = grind (arith, nat_tests, this_is_ready p t c s fr sh ls at_hand (Inside it.object it.from) 0 it.home q x e fresh 0)
 
   -- it has that request, and is known to be in these states
   pub asked : (listed : is_listed_kind (own_kind p fr.method) ≡ true) (states : ℕ) (r : Option Request) → (is_some own ≡ true → is_some r ≡ true) → Suits (own_kind p fr.method) (its listed states) r → Fitted p t (rerequested s.cells fr.home r) fr (record sh { states = states }) ls

@@ -1,16 +1,17 @@
 -- What a move does to what no place tells: it takes its course, and only the end of a dispatch changes it otherwise.
-use Rattle.std.proofs.Common.{Option, Some, None, List, ap, inl, inr, refl, ◌∙◌, ◌∷◌, ◌≡◌, ℕ}
+use Rattle.std.proofs.lemmas.Bool.Decides.{nat_tests}
+use Rattle.std.proofs.Common.{arith, Option, List, ap, inl, inr, refl, ◌∷◌, ◌≡◌, ℕ}
 use Rattle.std.specs.Prelude.{◌⊎◌}
 use Rattle.aom_image.specs.Image.{Image}
 use Rattle.aom_image.specs.declared.method.Gives.{Gives}
 use Rattle.aom_sound.specs.Calls.{returned}
-use Rattle.aom_sound.specs.Effects.{Course, Effect, Goes_its_way, Goes_on, Returns, Stops, applied, coursed}
+use Rattle.aom_sound.specs.Effects.{Course, Effect, Goes_its_way, Goes_on, Returns, applied, coursed}
 use Rattle.aom_sound.specs.Moves.{counted, dispatch_ends}
-use Rattle.aom_sound.specs.State.{Seat, Choice, Destroy, Dispatch, Dispatched, Frame, Rest, Run, State, Task, Trapped, Unwind}
+use Rattle.aom_sound.specs.State.{Seat, Choice, Dispatch, Dispatched, Frame, Rest, State, Task}
 use Rattle.aom_sound.specs.Steps.{Empties, Acts, Arrives, Clears, Comes_out, Ends, Move, Rests, Undoes, Vanishes}
 use Rattle.aom_sound.specs.Enlisted.{ended_cells}
-use Rattle.aom_sound.specs.Destruction.{parting, first_session}
-use Rattle.aom_sound.specs.Places.{service_of, Object}
+use Rattle.aom_sound.specs.Destruction.{parting}
+use Rattle.aom_sound.specs.Places.{Object}
 
 -- the rest after a move takes a course
 abbrev pub Takes : Image → State → State → Type 0
@@ -22,12 +23,7 @@ IsEnd p s u = (d : Dispatch) × (ts : List Task) × (s.tasks ≡ Dispatched d �
 
 module _ (p : Image) (fr : Frame) (ts : List Task) (s : State) where
   returned_rest : (g : Gives) (a : ℕ) (below : List Task) → (returned p fr ts (record s { cells = ended_cells p fr s.cells }) g a below).rest ≡ s.rest
-  returned_rest g a (Run caller ∷ below) = refl
-  returned_rest g a (Trapped ∷ Run caller ∷ below) = refl
-  returned_rest g a (Trapped ∷ Dispatched d ∷ below) = refl
-  returned_rest g a (Destroy ∷ below) = refl
-  returned_rest g a (Unwind code ∷ below) = refl
-  returned_rest g a _ = refl
+  returned_rest g a x = grind arith
 
   applied_rest : (e : Effect) → (x : Course) × ((applied p fr ts s e).rest ≡ coursed x s.rest)
   applied_rest (Goes_on ch) = (ch.course, refl)
@@ -35,15 +31,13 @@ module _ (p : Image) (fr : Frame) (ts : List Task) (s : State) where
   applied_rest _ = (Goes_its_way, refl)
 
 parting_rest : (p : Image) (o : Object) (x : Option Seat) (below : List Task) (s : State) → (parting p o x below s).rest ≡ s.rest
-parting_rest p o None below s = refl
-parting_rest p o (Some x) below s = refl
+parting_rest p o x below s = grind arith
 
 pub move_rest : (p : Image) (c : Choice) (s u : State) → Move p c s u → Takes p s u ⊎ IsEnd p s u
-move_rest p c s u (Acts fr ts i e at there met fits same) = let r = applied_rest p fr ts (counted p s) e in inl (r.0, ap (λ (x : State). x.rest) same ∙ r.1)
+move_rest p c s u (Acts fr ts i e at there met fits same) = grind (arith, nat_tests, applied_rest p fr ts)
 move_rest p c s u (Rests still same) = inl (Goes_its_way, ap (λ (x : State). x.rest) same)
 move_rest p c s u (Vanishes ts o at there owns same) = inl (Goes_its_way, ap (λ (x : State). x.rest) same)
-move_rest p c s u (Empties ts o at there same) =
-    inl (Goes_its_way, ap (λ (x : State). x.rest) same ∙ parting_rest p o (first_session s.cells o.name (service_of s.cells o.name).sessions) ts (counted p s))
+move_rest p c s u (Empties ts o at there same) = grind (arith, nat_tests, parting_rest p o)
 move_rest p c s u (Clears code ts items o at top there same) = inl (Goes_its_way, ap (λ (x : State). x.rest) same)
 move_rest p c s u (Undoes code ts items k w at top same) = inl (Goes_its_way, ap (λ (x : State). x.rest) same)
 move_rest p c s u (Arrives code fr ts items at top same) = inl (Goes_its_way, ap (λ (x : State). x.rest) same)
@@ -52,9 +46,7 @@ move_rest p c s u (Ends d ts at same) = inr (d, ts, at, same)
 
 -- a course neither ends the run nor takes back main's line
 pub course_ended : (x : Course) (r : Rest) → (coursed x r).ended ≡ r.ended
-course_ended Goes_its_way r = refl
-course_ended Stops r = refl
+course_ended x r = grind arith
 
 pub course_announced : (x : Course) (r : Rest) → (coursed x r).announced ≡ r.announced
-course_announced Goes_its_way r = refl
-course_announced Stops r = refl
+course_announced x r = grind arith

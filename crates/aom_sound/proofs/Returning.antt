@@ -1,4 +1,5 @@
 -- A method returns to the one that called it.
+use Rattle.std.proofs.lemmas.Bool.Decides.{nat_tests}
 use Rattle.std.proofs.Common.{Bool, IsTrue, List, None, Option, Some, [], ap, arith, cond, false, length, pos, refl, subst, suc, sym, true, ℕ, ℤ, ◌<◌, ◌∙◌, ◌∷◌, ◌≡◌}
 use Rattle.std.proofs.lemmas.Bool.{ne_eqb}
 use Rattle.std.specs.Prelude.{is_none, is_some}
@@ -174,15 +175,13 @@ module _ (p : Image) (t : Typing) (c : Choice) (s : State) (fr fr2 : Frame) (sh 
 -- what the rule says of the result, by its kind
 module _ (p : Image) (s : State) where
   pub word_is : (w : Option ℤ) (k : Kind) → is_word k ≡ true → WordFits w k → (is_some w ≡ true) × WordFits w Word
-  word_is (Some w) Word e f = (refl, tt)
-  word_is _ _ e f = absurd (grind arith)
+  word_is x y e f = grind arith
 
   pub held_thing : (x : Thing) (o : Option Object) → Fits p (seen s.cells) o (Own x Ready) → (is_some o ≡ true) × (is_thing p x o ≡ true)
   held_thing x o f = grind arith
 
   pub held_maybe : (x : Thing) (o : Option Object) → Fits p (seen s.cells) o (Maybe x Ready) → is_thing p x o ≡ true
-  held_maybe x None f = refl
-  held_maybe x (Some o) f = f.0
+  held_maybe x y f = grind arith
 
   pub object_of : (x : Thing) (k : Kind) → may_be p x k ≡ true → is_object_or_null k ≡ true
   object_of x k e = may_be_object p x k e
@@ -364,9 +363,7 @@ module _ (p : Image) (t : Typing) (c : Choice) (s : State) (fr : Frame) (sh : Sh
   }
     where
       suits_after : (a : ℕ) → Returnable p fr sh a → AllSuit p s.cells dispatched
-      suits_after a r = all_returned p s.cells s.cells fr sh dispatched at_hand.good.suits at_hand.good.stack.2 (λ n. refl) (λ n off. refl) (λ o from e h.
-          let apart : IsApart p fr.view fr.method (Inside o from) dispatched = subst (λ h. IsApart p fr.view fr.method h dispatched) e at_hand.good.stack.3 in
-          rests_there p o dispatched (requested s.cells o.name) apart.3 (suits_rests (thing_kind p o.thing) sh.states (requested s.cells o.name) r.settled (subst (λ k. Suits (thing_kind p o.thing) k (requested s.cells o.name)) (known_resting p o fr sh.states dispatched at_hand.good.stack.4.0.2 apart.3) h)))
+      suits_after a r = grind (arith, nat_tests, all_returned p s.cells s.cells fr sh, rests_there p, suits_rests, known_resting p)
 
   -- below the method, where it gives nothing and serves nothing
   plain_below :
@@ -460,10 +457,15 @@ module _ (p : Image) (t : Typing) (c : Choice) (s : State) (fr : Frame) (sh : Sh
       go (Elsewhere (Queued m k)) = at_hand.good.fits (Elsewhere (Queued m k))
 
   pub law_return_served : (a : ℕ) → Law p t c s fr sh (Mark gv ∷ Dispatching (Of_server x client (Serves o)) seats ∷ ls) at_hand (Return a)
-  law_return_served a n leads =
-      let below = at_hand.good.stack.4.1 in
-      return_nothing p t c s fr sh gv (Of_server x client (Serves o)) seats ls at_hand (Of_object x) a n below.0
-      (ap is_none (fits_unowning p (seen s.cells) _ Null refl (taken a (returnable p fr sh a n))), tt) (λ r v. v) tt below.3 tt (λ r entries free. others_fit a r entries free)
+  law_return_served a n leads = grind (
+    arith,
+    nat_tests,
+    return_nothing p t c s fr sh gv (Of_server x client (Serves o)) seats ls at_hand (Of_object x) a n,
+    fits_unowning p,
+    taken a (returnable p fr sh a n),
+    returnable p fr sh a n,
+    others_fit a,
+  )
 
 -- over an unwinding an operation is over
 module _ (p : Image) (t : Typing) (c : Choice) (s : State) (fr : Frame) (sh : Shape) (code : ℤ) (es : List Pushed) (ls : List Layer) (at_hand : At p t s fr sh (Unwinding code es ∷ ls)) where
@@ -497,8 +499,7 @@ module _ (p : Image) (t : Typing) (c : Choice) (s : State) (fr : Frame) (sh : Sh
   asker = Dispatching (Asks x) seats ∷ ls
 
   same_claims : (answer : ℤ) (d : Place → Kind) (r : Place) → claim p d (Dispatching (Answered x answer) seats ∷ ls) r ≡ claim p d (Dispatching (Asks x) seats ∷ ls) r
-  same_claims answer d (Register f i) = refl
-  same_claims answer d _ = refl
+  same_claims answer d y = grind arith
 
   pub law_answer : (a : ℕ) → Law p t c s fr sh (Dispatching (Asks x) seats ∷ ls) at_hand (Return a)
   law_answer a n leads =
@@ -519,9 +520,7 @@ module _ (p : Image) (t : Typing) (c : Choice) (s : State) (fr : Frame) (sh : Sh
           good = record {
             stack = (tt, below.1, below.2, below.3, tt);
             fits = λ q. subst (λ k. Fits p (seen s.cells) (held s.cells q) k) (sym (same_claims answer (declared p s.cells) q)) (ended p s.cells fr sh asker at_hand.good.stack.1.holder at_hand.good.stack.1.view at_hand.good.stack.2 at_hand.good.stack.3 refl entries free (λ serving. absurd (at_hand.good.stack.1.message.0 serving)) q (seen s.cells) (held s.cells q) (at_hand.good.fits q));
-            suits = all_returned p s.cells s.cells fr sh asker at_hand.good.suits at_hand.good.stack.2 (λ n. refl) (λ n off. refl) (λ o from e h.
-                let apart : IsApart p fr.view fr.method (Inside o from) asker = subst (λ h. IsApart p fr.view fr.method h asker) e at_hand.good.stack.3 in
-                rests_there p o asker (requested s.cells o.name) apart.3 (suits_rests (thing_kind p o.thing) sh.states (requested s.cells o.name) r.settled (subst (λ k. Suits (thing_kind p o.thing) k (requested s.cells o.name)) (known_resting p o fr sh.states asker below.0.2 apart.3) h)));
+            suits = grind (arith, nat_tests, all_returned p s.cells s.cells fr sh, rests_there p, suits_rests, known_resting p);
             tidy = at_hand.good.tidy;
           };
         }),

@@ -1,6 +1,7 @@
 -- A message that a client sends is well typed in the queue of its server.
-use Rattle.std.proofs.Common.{Option, Bool, List, None, Some, [], ap, cond, false, refl, subst, sym, true, ℕ, ◌&&◌, ◌==◌, ◌∙◌, ◌∷◌, ◌≡◌}
-use Rattle.std.proofs.lemmas.Bool.{eq-eqb, eqb-true, ne_eqb, and_parts}
+use Rattle.std.proofs.lemmas.Bool.Decides.{nat_tests}
+use Rattle.std.proofs.Common.{arith, Option, Bool, List, None, Some, [], ap, cond, false, refl, subst, sym, true, ℕ, ◌&&◌, ◌==◌, ◌∙◌, ◌∷◌, ◌≡◌}
+use Rattle.std.proofs.lemmas.Bool.{eq-eqb, eqb-true, ne_eqb}
 use Rattle.std.proofs.lemmas.List.Folds.{list_any-append}
 use Rattle.std.specs.List.{list_any}
 use Rattle.std.specs.Prelude.{◌||◌}
@@ -20,7 +21,7 @@ use Rattle.aom_sound.proofs.Services.{held_served, named_served, requested_serve
 use Rattle.aom_sound.proofs.Straight.{fits_unowning}
 use Rattle.aom_sound.proofs.Things.{stands_itself}
 use Rattle.aom_sound.specs.Claims.{declared, declared_field}
-use Rattle.aom_sound.specs.Places.{Service, unserved, Cell, Elsewhere, Field, Message_of, Object, Place, Queued, Session, Tidy, held, named, requested, same_place, seen, service_of}
+use Rattle.aom_sound.specs.Places.{Service, unserved, Cell, Elsewhere, Field, Message_of, Object, Place, Queued, Session, Tidy, held, named, same_place, seen, service_of}
 use Rattle.aom_sound.specs.Requests.{AllSuit, Suits, resting_in, rests_in, thing_kind}
 use Rattle.aom_sound.specs.Servers.{asked_last, has_message, has_session, is_message, is_server, message_thing, reserved, session_thing}
 use Rattle.aom_sound.specs.WellTyped.{Fits, Good}
@@ -50,10 +51,10 @@ module _ (p : Image) (t : Typing) (cs : List Cell) (good : Good p t cs []) (o : 
   named_rest n = named_served cs o.name (asked_last (Message_of c name) (service_of cs o.name)) n
 
   held_then : (q : Place) → held then q ≡ cond (same_place (Elsewhere (Queued o.name name)) q) (Some message.object) (held cs q)
-  held_then q = ap (λ r. cond (same_place r q) (Some message.object) (held rest q)) owner ∙ ap (λ y. cond (same_place (Elsewhere (Queued o.name name)) q) (Some message.object) y) (held_rest q)
+  held_then q = grind (arith, nat_tests, held_rest q)
 
   named_then : (n : ℕ) → named then n ≡ cond (name == n) (Some message.object) (named cs n)
-  named_then n = ap (λ k. cond (k == n) (Some message.object) (named rest n)) name_is ∙ ap (λ y. cond (name == n) (Some message.object) y) (named_rest n)
+  named_then n = grind (arith, nat_tests, name_is, named_rest n)
 
   service_then : (n : ℕ) → service_of then n ≡ cond (name == n) message.service (service_of rest n)
   service_then n = ap (λ k. cond (k == n) message.service (service_of rest n)) name_is
@@ -67,8 +68,7 @@ module _ (p : Image) (t : Typing) (cs : List Cell) (good : Good p t cs []) (o : 
       go false e = by_server cs o lives (asked_last (Message_of c name)) (λ n v. has_session v d ≡ has_session (service_of cs n) d) refl (λ n other. refl) n
 
   or_false : (b : Bool) → (b || false) ≡ b
-  or_false true = refl
-  or_false false = refl
+  or_false x = grind arith
 
   messages_then : (n m : ℕ) → ((o.name == n) && (name == m)) ≡ false → has_message (service_of then n) m ≡ has_message (service_of cs n) m
   messages_then n m other = ap (λ v. has_message v m) (service_then n) ∙ go (name == n) refl
@@ -84,44 +84,23 @@ module _ (p : Image) (t : Typing) (cs : List Cell) (good : Good p t cs []) (o : 
 
   -- it waits now
   waits : has_message (service_of then o.name) name ≡ true
-  waits =
-      ap (λ v. has_message v name) (service_then o.name ∙ ap (λ b. cond b message.service (service_of rest o.name)) other_name ∙ service_here cs o.name (asked_last (Message_of c name) (service_of cs o.name)) o lives)
-      ∙ list_any-append (λ x. is_message name x) (service_of cs o.name).queue (Message_of c name ∷ [])
-      ∙ ap (λ b. list_any (λ x. is_message name x) (service_of cs o.name).queue || (b || false)) (eq-eqb name name refl)
-      ∙ or_true (list_any (λ x. is_message name x) (service_of cs o.name).queue)
-    where
-      or_true : (b : Bool) → (b || true) ≡ true
-      or_true true = refl
-      or_true false = refl
+  waits = grind (arith, nat_tests, service_then o.name, other_name, service_here cs o.name, list_any-append, eq-eqb name name)
 
   base : (q : Place) → Fits p (seen then) (held cs q) (declared p cs q)
   base q = fits_ready p (seen cs) (seen then) (held cs q) (declared p cs q) (declared_ready p cs q) (good.fits q)
 
   there_still : (q : Place) → held then q ≡ held cs q → declared p then q ≡ declared p cs q → Fits p (seen then) (held then q) (declared p then q)
-  there_still q places kinds = subst (λ y. Fits p (seen then) y (declared p then q)) (sym places) (subst (λ k. Fits p (seen then) (held cs q) k) (sym kinds) (base q))
+  there_still q places kinds = grind (arith, nat_tests, base q)
 
   -- the message has no fields
   fields_then : (n f : ℕ) → declared_field p (named then n) f ≡ declared_field p (named cs n) f
-  fields_then n f = ap (λ y. declared_field p y f) (named_then n) ∙ go (name == n) refl
-    where
-      go : (b : Bool) → (name == n) ≡ b → declared_field p (cond b (Some message.object) (named cs n)) f ≡ declared_field p (named cs n) f
-      go true e = ap (λ y. declared_field p (Some y) f) named_so ∙ sym (ap (λ y. declared_field p y f) (ap (λ k. named cs k) (sym (eqb-true name n e)) ∙ free))
-      go false e = refl
+  fields_then n f = grind (arith, nat_tests, named_then n, eqb-true name n)
 
   -- what is told of what clients have at a server is as it was, since they have nothing at the message
   kind_then :
       (test : Service → Bool) (thing : Option Object → Option Thing) → test unserved ≡ false → (n : ℕ) → test (service_of then n) ≡ test (service_of cs n) →
       cond (test (service_of then n)) (filled (thing (named then n)) Full) Null ≡ cond (test (service_of cs n)) (filled (thing (named cs n)) Full) Null
-  kind_then test thing nothing n same =
-      ap (λ b. cond b (filled (thing (named then n)) Full) Null) same ∙ ap (λ y. cond (test (service_of cs n)) (filled (thing y) Full) Null) (named_then n) ∙ go (name == n) refl
-    where
-      go :
-          (b : Bool) → (name == n) ≡ b →
-          cond (test (service_of cs n)) (filled (thing (cond b (Some message.object) (named cs n))) Full) Null ≡ cond (test (service_of cs n)) (filled (thing (named cs n)) Full) Null
-      go false e = refl
-      go true e =
-          let none : test (service_of cs n) ≡ false = ap test (ap (λ k. service_of cs k) (sym (eqb-true name n e)) ∙ service_unnamed cs name free) ∙ nothing in
-          ap (λ b. cond b (filled (thing (Some message.object)) Full) Null) none ∙ sym (ap (λ b. cond b (filled (thing (named cs n)) Full) Null) none)
+  kind_then test thing nothing n same = grind (arith, nat_tests, named_then n, eqb-true name n, service_unnamed cs name free)
 
   session_kind : (n d : ℕ) → declared p then (Elsewhere (Session n d)) ≡ declared p cs (Elsewhere (Session n d))
   session_kind n d = kind_then (λ v. has_session v d) (λ y. session_thing p y) refl n (sessions_then n d)
@@ -130,44 +109,33 @@ module _ (p : Image) (t : Typing) (cs : List Cell) (good : Good p t cs []) (o : 
   queue_kind n m other = kind_then (λ v. has_message v m) (λ y. message_thing p y) refl n (messages_then n m other)
 
   own_kind : declared p then (Elsewhere (Queued o.name name)) ≡ Own Message Ready
-  own_kind =
-      ap (λ b. cond b (filled (message_thing p (named then o.name)) Full) Null) waits
-      ∙ ap (λ y. filled (message_thing p y) Full) (named_then o.name ∙ ap (λ b. cond b (Some message.object) (named cs o.name)) other_name ∙ lives)
-      ∙ ap (λ b. filled (cond b (Some Message) None) Full) server
+  own_kind = grind (arith, nat_tests, waits, named_then o.name, other_name)
 
   fits : (q : Place) → Fits p (seen then) (held then q) (declared p then q)
   fits (Field n f) = there_still (Field n f) (held_then (Field n f)) (fields_then n f)
   fits (Elsewhere (Session n d)) = there_still (Elsewhere (Session n d)) (held_then (Elsewhere (Session n d))) (session_kind n d)
-  fits (Elsewhere (Queued n m)) = go ((o.name == n) && (name == m)) refl
-    where
-      go : (b : Bool) → ((o.name == n) && (name == m)) ≡ b → Fits p (seen then) (held then (Elsewhere (Queued n m))) (declared p then (Elsewhere (Queued n m)))
-      go false e = there_still (Elsewhere (Queued n m)) (held_then (Elsewhere (Queued n m)) ∙ ap (λ b. cond b (Some message.object) (held cs (Elsewhere (Queued n m)))) e) (queue_kind n m e)
-      go true e =
-          let parts = and_parts (o.name == n) (name == m) e in
-          let place : Elsewhere (Queued n m) ≡ Elsewhere (Queued o.name name) =
-          ap (λ k. Elsewhere (Queued k m)) (sym (eqb-true o.name n parts.0)) ∙ ap (λ k. Elsewhere (Queued o.name k)) (sym (eqb-true name m parts.1)) in
-          subst (λ y. Fits p (seen then) y (declared p then (Elsewhere (Queued n m)))) (sym (held_then (Elsewhere (Queued n m)) ∙ ap (λ b. cond b (Some message.object) (held cs (Elsewhere (Queued n m)))) e))
-          (subst (λ k. Fits p (seen then) (Some message.object) k) (sym (ap (λ q. declared p then q) place ∙ own_kind)) (subst (λ y. Fits p (seen then) (Some y) (Own Message Ready)) (sym named_so) (stands_itself p Message, tt)))
+  fits (Elsewhere (Queued n m)) = grind (
+    arith,
+    nat_tests,
+    there_still (Elsewhere (Queued n m)),
+    held_then (Elsewhere (Queued n m)),
+    queue_kind n m,
+    eqb-true o.name n,
+    eqb-true name m,
+    own_kind,
+    stands_itself p Message,
+  )
   fits r = there_still r (held_then r) refl
 
   tidy : Tidy then
   tidy = (
-    ap (λ q. held rest q) owner ∙ held_rest (Elsewhere (Queued o.name name)) ∙ fits_unowning p (seen cs) _ Null refl (subst (λ k. Fits p (seen cs) (held cs (Elsewhere (Queued o.name name))) k) (ap (λ b. cond b (filled (message_thing p (named cs o.name)) Full) Null) none_waits) (good.fits (Elsewhere (Queued o.name name)))),
+    grind (arith, nat_tests, held_rest (Elsewhere (Queued o.name name)), fits_unowning p),
     ap (λ n. named rest n) name_is ∙ named_rest name ∙ free,
     tidy_served cs o.name (asked_last (Message_of c name) (service_of cs o.name)) good.tidy,
   )
 
   suits : AllSuit p then []
-  suits y lives' = go (name == y.name) refl (sym (named_then y.name) ∙ lives')
-    where
-      go : (b : Bool) → (name == y.name) ≡ b → cond b (Some message.object) (named cs y.name) ≡ Some y → Suits (thing_kind p y.thing) (resting_in (rests_in p y)) (requested then y.name)
-      go true e same =
-          let one : message.object ≡ y = cc in
-          let asked : requested then y.name ≡ None =
-          ap (λ k. cond (k == y.name) message.request (requested rest y.name)) name_is ∙ ap (λ b. cond b message.request (requested rest y.name)) e ∙ no_request in
-          subst (λ r. Suits (thing_kind p y.thing) (resting_in (rests_in p y)) r) (sym asked) (plain p y (ap (λ z. z.thing) (sym one) ∙ ap (λ z. z.thing) named_so))
-      go false e there = subst (λ r. Suits (thing_kind p y.thing) (resting_in (rests_in p y)) r)
-          (sym (ap (λ k. cond (k == y.name) message.request (requested rest y.name)) name_is ∙ ap (λ b. cond b message.request (requested rest y.name)) e ∙ requested_served cs o.name (asked_last (Message_of c name) (service_of cs o.name)) y.name)) (good.suits y there)
+  suits y lives' = grind (arith, nat_tests, named_then y.name, name_is, plain p y, requested_served cs o.name)
 
   pub good_sent : Good p t then []
   good_sent = record { stack = refl; fits = fits; suits = suits; tidy = tidy }

@@ -1,9 +1,9 @@
 -- What clients have at the cells where these change: by what a change keeps of a cell.
-use Rattle.std.proofs.Common.{arith, Bool, List, None, Option, Some, ap, false, refl, true, ℕ, ℤ, ◌==◌, ◌∙◌, ◌≡◌}
+use Rattle.std.proofs.Common.{arith, List, None, Option, Some, ap, false, refl, ℕ, ℤ, ◌==◌, ◌∙◌, ◌≡◌}
 use Rattle.aom_image.specs.Image.{Image}
-use Rattle.aom_sound.specs.WellTyped.{AllSit, SitsFirst, seat_of, EndsSessions, IsAttended, StageFits}
-use Rattle.aom_sound.specs.Servers.{is_among, has_session}
-use Rattle.aom_sound.specs.State.{Seat, Dispatch, Of_server, Stage, Accepts, Accept_left}
+use Rattle.aom_sound.specs.WellTyped.{AllSit, SitsFirst, seat_of, EndsSessions, IsAttended}
+use Rattle.aom_sound.specs.Servers.{is_among}
+use Rattle.aom_sound.specs.State.{Seat, Dispatch}
 use Rattle.aom_sound.proofs.Altering.{asking, bereaving, held_kept, moving, named_kept, read_here, read_kept, read_there, requests, services, serving, storing, tidy_kept}
 use Rattle.aom_sound.proofs.Maps.{read_unnamed, read_without}
 use Rattle.aom_sound.specs.Natives.{all_bereaved}
@@ -55,16 +55,7 @@ service_there cs m n v = read_there (serving m v) services m v (λ c. refl) cs n
 attended_alike :
     (p : Image) (cs cs' : List Cell) (d : Dispatch) → ((y : Seat) → seat_of d ≡ Some y → (service_of cs' y.object.name).sessions ≡ (service_of cs y.object.name).sessions) →
     IsAttended p cs d → IsAttended p cs' d
-attended_alike p cs cs' (Of_server x c stage) sessions h = (h.0, go stage h.1)
-  where
-    same : (b : Bool) → has_session (service_of cs x.object.name) c ≡ b → has_session (service_of cs' x.object.name) c ≡ b
-    same b e = ap (λ ss. is_among c ss) (sessions x refl) ∙ e
-
-    go : (stage : Stage) → StageFits cs x c stage → StageFits cs' x c stage
-    go Accepts h = same false h
-    go (Accept_left code) h = same false h
-    go _ h = same true h
-attended_alike p cs cs' _ sessions h = h
+attended_alike p cs cs' x sessions h = grind arith
 
 module _ (p : Image) (cs cs' : List Cell) (service : (n : ℕ) → (service_of cs' n).sessions ≡ (service_of cs n).sessions) where
   pub attended_kept : (d : Dispatch) → IsAttended p cs d → IsAttended p cs' d

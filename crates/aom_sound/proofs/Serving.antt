@@ -1,7 +1,6 @@
 -- The laws of the instructions at the native that serves what a method works on: a session counts for no claim, and nothing is owed to an object that is idle.
-use Rattle.std.proofs.Common.{arith, IsTrue, None, Option, Some, ap, refl, true, ℕ, ◌&&◌, ◌∙◌, ◌≡◌, List, false}
+use Rattle.std.proofs.Common.{arith, IsTrue, None, Option, Some, ap, refl, true, ℕ, ◌∙◌, ◌≡◌, List, false}
 use Rattle.std.specs.Prelude.{not}
-use Rattle.std.specs.Ordering.{int_eq}
 use Rattle.aom_image.specs.Image.{Image}
 use Rattle.aom_image.specs.Views.{has, method_role}
 use Rattle.aom_image.specs.declared.class.ClassKind.{ClassKind}
@@ -20,11 +19,11 @@ use Rattle.aom_sound.proofs.Straight.{At, Law, fitted, settle, stepped, well, wr
 use Rattle.aom_sound.proofs.Words.{has_word, unowned, writes_word}
 use Rattle.aom_sound.specs.Claims.{Layer, tasks_of}
 use Rattle.aom_sound.specs.Effects.{heard}
-use Rattle.aom_sound.specs.Enlisted.{home_kind, is_idle, own_request, pending}
+use Rattle.aom_sound.specs.Enlisted.{home_kind, own_request}
 use Rattle.aom_sound.specs.Moves.{does}
 use Rattle.aom_sound.specs.Natives.{connected, is_owed, opens, replied, resessioned}
-use Rattle.aom_sound.specs.Places.{Phase, Request}
-use Rattle.aom_sound.specs.Requests.{phase_state, state_of}
+use Rattle.aom_sound.specs.Places.{Request}
+use Rattle.aom_sound.specs.Requests.{state_of}
 use Rattle.aom_sound.specs.State.{Choice, Frame, State, next, set_word}
 use Rattle.aom_instructions.specs.declared.instr.Instr.{Instr}
 
@@ -33,11 +32,7 @@ native_listed k e = grind arith
 
 -- nothing is owed to what is not enlisted, or idle
 unowed : (r : Option Request) → IsTrue (has server_states (state_of r)) → not (is_owed r) ≡ true
-unowed None h = refl
-unowed (Some r) h = go r.phase h
-  where
-    go : (q : Phase) → IsTrue (has server_states (phase_state q)) → not (not (is_idle q) && int_eq r.status pending) ≡ true
-    go q h = grind arith
+unowed x h = grind arith
 
 module _ (p : Image) (t : Typing) (main_none : (m : ℕ) → method_role p m ≡ Some Main → own_kind p m ≡ None) (c : Choice) (s : State) (fr : Frame) (sh : Shape) (ls : List Layer)
     (at_hand : At p t s fr sh ls) where

@@ -1,5 +1,6 @@
 -- The sessions of cells with natives, where cells move, change, come and go: by what a change keeps of each cell.
-use Rattle.std.proofs.Common.{Bool, List, None, Option, Some, ap, cond, false, refl, sym, true, ℕ, ℤ, ◌==◌, ◌∙◌, ◌≡◌}
+use Rattle.std.proofs.lemmas.Bool.Decides.{nat_tests}
+use Rattle.std.proofs.Common.{arith, List, None, Option, Some, false, refl, ℕ, ℤ, ◌==◌, ◌≡◌}
 use Rattle.std.proofs.lemmas.Bool.{eqb-true}
 use Rattle.aom_image.specs.declared.method.Thing.{Thing}
 use Rattle.aom_sound.proofs.Altering.{asking, moving, read_kept, sessions, storing}
@@ -20,11 +21,7 @@ pub session_unnamed : (cs : List Cell) (n : ℕ) → named cs n ≡ None → in_
 session_unnamed = read_unnamed sessions
 
 pub session_new : (cs : List Cell) (name : ℕ) (thing : Thing) (words : List ℤ) (owner : Place) → named cs name ≡ None → (n : ℕ) → in_session (with_new name thing words owner cs) n ≡ in_session cs n
-session_new cs name thing words owner new n = go (name == n) refl
-  where
-    go : (b : Bool) → (name == n) ≡ b → cond b false (in_session cs n) ≡ in_session cs n
-    go true same = sym (ap (in_session cs) (sym (eqb-true name n same)) ∙ session_unnamed cs name new)
-    go false other = refl
+session_new cs name thing words owner new n = grind (arith, nat_tests, eqb-true name n, session_unnamed cs name new)
 
 -- a cell that goes takes its own along
 pub session_without : (cs : List Cell) (g : Place) (o : Object) (n : ℕ) → Tidy cs → held cs g ≡ Some o → (o.name == n) ≡ false → in_session (without g cs) n ≡ in_session cs n

@@ -1,4 +1,5 @@
 -- Cells of which some go, and at the others clients have something else: by the cells one after another.
+use Rattle.std.proofs.lemmas.Bool.Decides.{nat_tests}
 use Rattle.std.proofs.Common.{arith, Bool, List, None, Option, Some, [], ap, cond, false, refl, subst, sym, true, ℕ, ◌&&◌, ◌==◌, ◌∙◌, ◌∷◌, ◌≡◌}
 use Rattle.std.proofs.lemmas.Bool.{eq-eqb, eqb-true, ne_eqb}
 use Rattle.std.proofs.lemmas.Option.{none-some}
@@ -30,8 +31,7 @@ service_in (Some c) = c.service
 
 -- what is read at one of two cells is what is read of the first, or of the others
 either_in : {A : Type 0} (read : Option Cell → A) (b : Bool) (c : Cell) (rest : A) (others : Option Cell) → rest ≡ read others → cond b (read (Some c)) rest ≡ read (cond b (Some c) others)
-either_in read true c rest others e = refl
-either_in read false c rest others e = e
+either_in read x c rest others e = grind arith
 
 pub held_cell : (cs : List Cell) (q : Place) → held cs q ≡ object_in (cell_in cs q)
 held_cell [] q = refl
@@ -99,33 +99,11 @@ module _ (drops : Cell → Bool) (f : Cell → Service) where
 
   pub cell_in_sifted : (cs : List Cell) (q : Place) → Tidy cs → cell_in (sifted drops f cs) q ≡ kept (cell_in cs q)
   cell_in_sifted [] q t = refl
-  cell_in_sifted (c ∷ cs) q t = go (drops c) (same_place c.owner q) refl refl (cell_in_sifted cs q t.2)
-    where
-      alone : same_place c.owner q ≡ true → cell_in cs q ≡ None
-      alone e = no_cell (cell_in cs q) (sym (held_cell cs q) ∙ ap (λ r. held cs r) (sym (same_place-true c.owner q e)) ∙ t.0)
-
-      go :
-          (d b : Bool) → drops c ≡ d → same_place c.owner q ≡ b → cell_in (sifted drops f cs) q ≡ kept (cell_in cs q) →
-          cell_in (cond d (sifted drops f cs) (record c { service = f c } ∷ sifted drops f cs)) q ≡ kept (cond b (Some c) (cell_in cs q))
-      go true true ed eb ih = ih ∙ ap kept (alone eb) ∙ sym (ap (λ x. cond x None (Some (record c { service = f c }))) ed)
-      go true false ed eb ih = ih
-      go false true ed eb ih = ap (λ x. cond x (Some (record c { service = f c })) (cell_in (sifted drops f cs) q)) eb ∙ sym (ap (λ x. cond x None (Some (record c { service = f c }))) ed)
-      go false false ed eb ih = ap (λ x. cond x (Some (record c { service = f c })) (cell_in (sifted drops f cs) q)) eb ∙ ih
+  cell_in_sifted (c ∷ cs) q t = grind (arith, nat_tests, cell_in_sifted cs q t.2, no_cell, held_cell cs q, same_place-true c.owner q)
 
   pub cell_of_sifted : (cs : List Cell) (n : ℕ) → Tidy cs → cell_of (sifted drops f cs) n ≡ kept (cell_of cs n)
   cell_of_sifted [] n t = refl
-  cell_of_sifted (c ∷ cs) n t = go (drops c) (c.object.name == n) refl refl (cell_of_sifted cs n t.2)
-    where
-      alone : (c.object.name == n) ≡ true → cell_of cs n ≡ None
-      alone e = no_cell (cell_of cs n) (sym (named_cell cs n) ∙ ap (λ r. named cs r) (sym (eqb-true c.object.name n e)) ∙ t.1)
-
-      go :
-          (d b : Bool) → drops c ≡ d → (c.object.name == n) ≡ b → cell_of (sifted drops f cs) n ≡ kept (cell_of cs n) →
-          cell_of (cond d (sifted drops f cs) (record c { service = f c } ∷ sifted drops f cs)) n ≡ kept (cond b (Some c) (cell_of cs n))
-      go true true ed eb ih = ih ∙ ap kept (alone eb) ∙ sym (ap (λ x. cond x None (Some (record c { service = f c }))) ed)
-      go true false ed eb ih = ih
-      go false true ed eb ih = ap (λ x. cond x (Some (record c { service = f c })) (cell_of (sifted drops f cs) n)) eb ∙ sym (ap (λ x. cond x None (Some (record c { service = f c }))) ed)
-      go false false ed eb ih = ap (λ x. cond x (Some (record c { service = f c })) (cell_of (sifted drops f cs) n)) eb ∙ ih
+  cell_of_sifted (c ∷ cs) n t = grind (arith, nat_tests, cell_of_sifted cs n t.2, no_cell, named_cell cs n, eqb-true c.object.name n)
 
   pub tidy_sifted : (cs : List Cell) → Tidy cs → Tidy (sifted drops f cs)
   tidy_sifted [] t = tt
@@ -143,11 +121,7 @@ module _ (drops : Cell → Bool) (f : Cell → Service) where
 
   -- what a place held goes or stays
   pub held_sifted : (cs : List Cell) (q : Place) → Tidy cs → (c : Cell) → cell_in cs q ≡ Some c → held (sifted drops f cs) q ≡ cond (drops c) None (Some c.object)
-  held_sifted cs q t c e = held_cell (sifted drops f cs) q ∙ ap object_in (cell_in_sifted cs q t ∙ ap kept e) ∙ go (drops c)
-    where
-      go : (d : Bool) → object_in (cond d None (Some (record c { service = f c }))) ≡ cond d None (Some c.object)
-      go true = refl
-      go false = refl
+  held_sifted cs q t c e = grind (arith, nat_tests, held_cell, cell_in_sifted cs q t)
 
   pub unheld_sifted : (cs : List Cell) (q : Place) → Tidy cs → held cs q ≡ None → held (sifted drops f cs) q ≡ None
   unheld_sifted cs q t e = held_cell (sifted drops f cs) q ∙ ap object_in (cell_in_sifted cs q t ∙ ap kept (no_cell (cell_in cs q) (sym (held_cell cs q) ∙ e)))
@@ -168,23 +142,17 @@ module _ (drops : Cell → Bool) (f : Cell → Service) where
 
   -- and what is named or stands in a place then was there, and stays
   pub named_before : (cs : List Cell) (n : ℕ) (o : Object) → Tidy cs → named (sifted drops f cs) n ≡ Some o → (c : Cell) × (cell_of cs n ≡ Some c) × (c.object ≡ o) × (drops c ≡ false)
-  named_before cs n o t e = go (cell_of cs n) refl (sym (ap object_in (cell_of_sifted cs n t)) ∙ sym (named_cell (sifted drops f cs) n) ∙ e)
-    where
-      go : (x : Option Cell) → cell_of cs n ≡ x → object_in (kept x) ≡ Some o → (c : Cell) × (cell_of cs n ≡ Some c) × (c.object ≡ o) × (drops c ≡ false)
-      go x there e = grind arith
+  named_before cs n o t e = grind (arith, nat_tests, cell_of_sifted cs n t, named_cell)
 
   pub placed_before : (cs : List Cell) (q : Place) (o : Object) → Tidy cs → held (sifted drops f cs) q ≡ Some o → (c : Cell) × (cell_in cs q ≡ Some c) × (c.object ≡ o) × (drops c ≡ false)
-  placed_before cs q o t e = go (cell_in cs q) refl (sym (ap object_in (cell_in_sifted cs q t)) ∙ sym (held_cell (sifted drops f cs) q) ∙ e)
-    where
-      go : (x : Option Cell) → cell_in cs q ≡ x → object_in (kept x) ≡ Some o → (c : Cell) × (cell_in cs q ≡ Some c) × (c.object ≡ o) × (drops c ≡ false)
-      go x there e = grind arith
+  placed_before cs q o t e = grind (arith, nat_tests, cell_in_sifted cs q t, held_cell)
 
   pub requested_before : (cs : List Cell) (n : ℕ) (o : Object) → Tidy cs → named (sifted drops f cs) n ≡ Some o → requested (sifted drops f cs) n ≡ requested cs n
   requested_before cs n o t e = let b = named_before cs n o t e in requested_sifted cs t n b.0 b.1 b.3 ∙ sym (requested_cell cs n ∙ ap request_in b.1)
 
   -- of what is not there then nothing is served
   pub service_gone : (cs : List Cell) (n : ℕ) → Tidy cs → (c : Cell) → cell_of cs n ≡ Some c → drops c ≡ true → service_of (sifted drops f cs) n ≡ unserved
-  service_gone cs n t c here goes = service_cell (sifted drops f cs) n ∙ ap service_in (cell_of_sifted cs n t ∙ ap kept here ∙ ap (λ d. cond d None (Some (record c { service = f c }))) goes)
+  service_gone cs n t c here goes = grind (arith, nat_tests, service_cell, cell_of_sifted cs n t)
 
 -- at each cell clients have what they had, where nobody is at one that goes
 module _ (drops : Cell → Bool) (cs : List Cell) (tidy : Tidy cs) (n : ℕ) (free : (x : Cell) → cell_of cs n ≡ Some x → drops x ≡ true → (x.service.queue ≡ []) × (x.service.sessions ≡ [])) where
@@ -198,12 +166,7 @@ module _ (drops : Cell → Bool) (cs : List Cell) (tidy : Tidy cs) (n : ℕ) (fr
   as_before same = (ap (λ v. v.queue) same, ap (λ v. v.sessions) same)
 
   at_cell : (x : Cell) → cell_of cs n ≡ Some x → (b : Bool) → drops x ≡ b → SameClients
-  at_cell x e true d =
-      let none = free x e d in
-      let was : service_of cs n ≡ x.service = service_cell cs n ∙ ap service_in e in
-      let now = service_gone drops (λ c. c.service) cs n tidy x e d in
-      (ap (λ v. v.queue) now ∙ sym (ap (λ v. v.queue) was ∙ none.0), ap (λ v. v.sessions) now ∙ sym (ap (λ v. v.sessions) was ∙ none.1))
-  at_cell x e false d = as_before (service_sifted drops (λ c. c.service) cs tidy n x e d ∙ sym (service_cell cs n ∙ ap service_in e))
+  at_cell y e z d = grind (arith, nat_tests, service_cell cs n, service_gone drops, as_before, service_sifted drops)
 
   pub clients_sifted : SameClients
   clients_sifted = go (cell_of cs n) refl

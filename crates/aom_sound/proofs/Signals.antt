@@ -1,8 +1,8 @@
 -- Between dispatches and at a dispatch's end each object rests: what signals is ready.
-use Rattle.std.proofs.Common.{arith, Bool, List, None, Option, Some, [], ap, cond, false, refl, subst, suc, sym, true, ◌&&◌, ◌==◌, ◌∙◌, ◌∷◌, ◌≡◌}
+use Rattle.std.proofs.lemmas.Bool.Decides.{nat_tests}
+use Rattle.std.proofs.Common.{arith, List, Option, Some, [], ap, refl, subst, sym, true, ◌==◌, ◌∙◌, ◌∷◌, ◌≡◌}
 use Rattle.std.proofs.lemmas.Bool.{eq-eqb, ne_eqb, not-true}
-use Rattle.std.specs.Prelude.{is_some, not, ◌||◌}
-use Rattle.std.specs.Ordering.{int_eq}
+use Rattle.std.specs.Prelude.{is_some, ◌||◌}
 use Rattle.aom_sound.specs.Claims.{Dispatching, Layer, forms, items_of, tasks_of}
 use Rattle.aom_image.proofs.Given.{nil_given}
 use Rattle.aom_image.specs.Image.{Image}
@@ -11,14 +11,12 @@ use Rattle.aom_roles.specs.States.{states_of}
 use Rattle.aom_rules.specs.Typing.{Typing}
 use Rattle.aom_sound.proofs.Layers.{dispatch_layer}
 use Rattle.aom_sound.proofs.Owners.{layers_none}
-use Rattle.aom_sound.specs.Enlisted.{is_active, is_idle, is_unsettled, pending}
 use Rattle.aom_sound.specs.Laws.{AllRest, SignalsAreReady}
-use Rattle.aom_sound.specs.Places.{Cell, Object, Phase, Request, Tidy, named, requested}
+use Rattle.aom_sound.specs.Places.{Cell, Object, Request, Tidy, named, requested}
 use Rattle.aom_sound.specs.Requests.{AllSuit, Suits, resting_in, thing_kind}
-use Rattle.aom_sound.specs.Servers.{is_asked_for}
 use Rattle.aom_sound.specs.State.{Dispatch, Seat, State}
 use Rattle.aom_sound.specs.WellTyped.{Good, WellTyped}
-use Rattle.aom_sound.specs.World.{AllSettled, Candidate, among_ready, before_others, first_ready, goes_now, has_signal, is_settled, ready_count, signal_count, signals, stands_ready}
+use Rattle.aom_sound.specs.World.{AllSettled, Candidate, among_ready, first_ready, has_signal, is_settled, ready_count, signal_count, signals, stands_ready}
 
 -- what rests is idle or waits
 rests_settled : (k : Option ClassKind) (r : Option Request) → Suits k (resting_in (states_of k)) r → is_settled r ≡ true
@@ -33,38 +31,25 @@ settled_cells (c ∷ cs) h tidy = (here, settled_cells cs later tidy.2)
     own = eq-eqb c.object.name c.object.name refl
 
     here : is_settled c.request ≡ true
-    here = sym (ap (λ b. is_settled (cond b c.request (requested cs c.object.name))) own) ∙ h c.object (ap (λ b. cond b (Some c.object) (named cs c.object.name)) own)
+    here = grind (arith, nat_tests, own)
 
     later : (o : Object) → named cs o.name ≡ Some o → is_settled (requested cs o.name) ≡ true
-    later o e =
-        let other = ne_eqb c.object.name o.name (λ same. let clash : Some o ≡ None = sym e ∙ sym (ap (λ n. named cs n) same) ∙ tidy.1 in cc) in
-        sym (ap (λ b. is_settled (cond b c.request (requested cs o.name))) other) ∙ h o (ap (λ b. cond b (Some c.object) (named cs o.name)) other ∙ e)
+    later o e = grind (arith, nat_tests, ne_eqb c.object.name o.name)
 
 -- a signal of what is settled is that of an object that waits, or of a server with a queue
 signals_ready : (c : Cell) (r : Option Request) → is_settled r ≡ true → signals c r ≡ stands_ready c r
-signals_ready c None e = refl
-signals_ready c (Some r) e = go r.phase (not (int_eq r.status pending)) (is_asked_for c) (not-true (is_unsettled r.phase) e)
-  where
-    go : (q : Phase) (b asked : Bool) → is_unsettled q ≡ false → ((not (is_idle q) && b) || asked) ≡ ((is_active q && b) || asked)
-    go q b asked e = grind arith
+signals_ready c x e = grind (arith, nat_tests, not-true)
 
 some_ready : (c : Cell) (r : Option Request) (others : Option Candidate) → is_some (among_ready c r others) ≡ (stands_ready c r || is_some others)
-some_ready c None others = refl
-some_ready c (Some r) others = go (goes_now c r)
-  where
-    go : (b : Bool) → is_some (cond b (Some (before_others (record { seat = record { object = c.object; place = c.owner }; request = r }) others)) others) ≡ (b || is_some others)
-    go true = refl
-    go false = refl
+some_ready c x others = grind arith
 
 same_signals : (cs : List Cell) → AllSettled cs → has_signal cs ≡ is_some (first_ready cs)
 same_signals [] s = refl
-same_signals (c ∷ cs) s =
-    ap (λ b. b || has_signal cs) (signals_ready c c.request s.0) ∙ ap (λ b. stands_ready c c.request || b) (same_signals cs s.1) ∙ sym (some_ready c c.request (first_ready cs))
+same_signals (c ∷ cs) s = grind (arith, nat_tests, signals_ready c c.request s.0, same_signals cs s.1, some_ready c c.request)
 
 same_count : (cs : List Cell) → AllSettled cs → signal_count cs ≡ ready_count cs
 same_count [] s = refl
-same_count (c ∷ cs) s =
-    ap (λ b. cond b (suc (signal_count cs)) (signal_count cs)) (signals_ready c c.request s.0) ∙ ap (λ n. cond (stands_ready c c.request) (suc n) n) (same_count cs s.1)
+same_count (c ∷ cs) s = grind (arith, nat_tests, signals_ready c c.request s.0, same_count cs s.1)
 
 pub at_rest : (p : Image) (t : Typing) (s : State) (w : WellTyped p t s) → s.tasks ≡ [] → w.layers ≡ []
 at_rest p t s w idle = layers_none w.layers (sym w.tasks ∙ idle)

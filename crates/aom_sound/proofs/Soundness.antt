@@ -1,12 +1,11 @@
 -- Each run of an image that has a typing: every state that it comes to is well typed, and where it ended nothing is at hand.
+use Rattle.std.proofs.lemmas.Bool.Decides.{nat_tests}
 use Rattle.std.specs.Ordering.{int_eq}
-use Rattle.aom_image.specs.declared.method.Role.TheVariants.{Error as Error_role}
 use Rattle.aom_sound.proofs.ClientsKeep.{clients_keep}
 use Rattle.aom_sound.specs.Kept.{IsKept}
-use Rattle.aom_sound.specs.Enlisted.{part_of}
 use Rattle.aom_sound.proofs.Signals.{signals_are_ready}
 use Rattle.aom_sound.proofs.Turning.{turn_goes_on}
-use Rattle.std.proofs.Common.{arith, Bool, List, None, Option, Some, [], ap, cond, false, inl, inr, refl, subst, sym, true, ⊎_elim, ◌∙◌, ◌∷◌, ◌≡◌, pos, ℤ, ℕ}
+use Rattle.std.proofs.Common.{arith, Bool, List, None, Option, Some, [], ap, cond, false, inl, inr, refl, subst, sym, true, ⊎_elim, ◌∙◌, ◌∷◌, ◌≡◌, pos, ℤ}
 use Rattle.std.specs.Prelude.{◌⊎◌}
 use Rattle.aom_image.specs.Image.{Image}
 use Rattle.aom_rules.specs.Typing.{IsTyped, Typing}
@@ -20,11 +19,11 @@ use Rattle.aom_sound.proofs.Resting.{IsEnd, Takes, course_ended, move_rest}
 use Rattle.aom_sound.proofs.Steps.{step_keeps}
 use Rattle.aom_sound.specs.Destruction.{gone}
 use Rattle.aom_sound.specs.Laws.{IsSound, IsWired}
-use Rattle.aom_sound.specs.Moves.{IsOpen, answered, asking, counted, dispatch_ends, failed, handled, main_ends, object_ends, step}
+use Rattle.aom_sound.specs.Moves.{IsOpen, answered, dispatch_ends, failed, handled, main_ends, object_ends, step}
 use Rattle.aom_sound.specs.Places.{Elsewhere, Object, Root, held}
 use Rattle.aom_sound.specs.Quiet.{IsCalm}
 use Rattle.aom_sound.specs.Registers.{AllInRange}
-use Rattle.aom_sound.specs.State.{Of_server, Accept_left, Answered, Asks, Object_left, Of_object, Choice, Dispatch, Dispatched, Goes, Main_left, Of_main, Of_root, Outcome, Rest, State, Task}
+use Rattle.aom_sound.specs.State.{Of_server, Accept_left, Answered, Asks, Object_left, Of_object, Choice, Dispatch, Dispatched, Goes, Main_left, Of_main, Of_root, Outcome, State, Task}
 use Rattle.aom_sound.specs.Steps.{Move}
 use Rattle.aom_sound.specs.WellTyped.{Good, Keeps, WellTyped}
 use Rattle.aom_sound.specs.World.{Heard, IsBetween, IsBusy, Outside, Reaches, Turning, begins, boot_state, moves, turn, turned, turning, turns}
@@ -71,11 +70,7 @@ dispatch_holds p s Of_main rootless = main_holds p s s.rest.stopped (held s.cell
 dispatch_holds p s (Main_left code) rootless = inr (record { idle = refl; rootless = λ h. cc })
 dispatch_holds p s Of_root rootless = inr (record { idle = refl; rootless = λ h. rootless refl })
 dispatch_holds p s (Of_object x) rootless = object_holds p s
-dispatch_holds p s (Object_left x code) rootless = go (part_of p Error_role x.object.thing)
-  where
-    go : (m : Option ℕ) → ((asking p m x code s).rest.ended ≡ s.rest.ended) ⊎ IsAtRest (asking p m x code s)
-    go None = answer_holds p code s
-    go (Some m) = inl refl
+dispatch_holds p s (Object_left x code) rootless = grind (arith, nat_tests, answer_holds p code s)
 dispatch_holds p s (Asks x) rootless = object_holds p s
 dispatch_holds p s (Answered x answer) rootless = answer_holds p answer s
 dispatch_holds p s (Of_server x client (Accept_left code)) rootless = inl refl
@@ -83,13 +78,7 @@ dispatch_holds p s _ rootless = inl refl
 
 -- a move ends the run only where it leaves nothing at hand
 move_holds : (p : Image) (c : Choice) (s u : State) → Uprooted s → Move p c s u → (u.rest.ended ≡ s.rest.ended) ⊎ IsAtRest u
-move_holds p c s u gone m = go (move_rest p c s u m)
-  where
-    go : Takes p s u ⊎ IsEnd p s u → (u.rest.ended ≡ s.rest.ended) ⊎ IsAtRest u
-    go (inl t) = inl (ap (λ (r : Rest). r.ended) t.1 ∙ course_ended t.0 (counted p s).rest)
-    go (inr e) =
-        subst (λ v. (v.rest.ended ≡ s.rest.ended) ⊎ IsAtRest v) (sym e.3)
-        (dispatch_holds p (counted p s) e.0 (λ is. gone e.1 (e.2 ∙ ap (λ x. Dispatched x ∷ e.1) is)))
+move_holds p c s u gone m = grind (arith, nat_tests, move_rest p c s u m, Takes p s u ⊎ IsEnd p s u, IsEnd p s u, course_ended, dispatch_holds p)
 
 -- a turn ends the run with nothing at hand
 turn_holds : (p : Image) (outside : Outside) (heard : Heard) (s u : State) → IsBetween s → turn p outside heard s ≡ Goes u → GoesOn u
@@ -99,8 +88,7 @@ turn_holds p outside heard s u between e = go (turning outside heard s) e
     go k e = grind arith
 
 busy_open : (s : State) → IsBusy s → GoesOn s → s.rest.ended ≡ None
-busy_open s busy (inl e) = e
-busy_open s busy (inr settled) = let clash : busy.0 ∷ busy.1 ≡ [] = sym busy.2 ∙ settled.idle in cc
+busy_open s busy x = grind arith
 
 -- by the layers
 uprooted_so : (p : Image) (t : Typing) (s : State) → WellTyped p t s → Uprooted s
@@ -139,11 +127,7 @@ module _ (p : Image) (t : Typing) (outside : Outside) (wired : IsWired p) (typed
   goes o k = grind arith
 
   over : (s : State) (ending : Ending) → Stays s → s.rest.ended ≡ Some ending → IsAtRest s
-  over s ending h e = go h.goes_on
-    where
-      go : GoesOn s → IsAtRest s
-      go (inl on) = let clash : Some ending ≡ None = sym e ∙ on in cc
-      go (inr settled) = settled
+  over s ending h e = grind (arith, nat_tests)
 
   -- where a run is over nothing is at hand
   pub over_idle : (lines : List Line) (s : State) (ending : Ending) → Reaches p outside (boot_state p) lines s → s.rest.ended ≡ Some ending → s.tasks ≡ []

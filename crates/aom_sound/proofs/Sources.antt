@@ -1,5 +1,5 @@
 -- Every message has a sender or is a token, nothing else has or is one, and what is served has a sender: by what the cells have that stay.
-use Rattle.std.proofs.Common.{Bool, List, None, Option, Some, ap, arith, false, refl, sym, true, ℕ, ◌∙◌, ◌≡◌}
+use Rattle.std.proofs.Common.{Bool, List, Option, Some, ap, arith, false, sym, true, ℕ, ◌∙◌, ◌≡◌}
 use Rattle.std.specs.Prelude.{is_some}
 use Rattle.aom_sound.proofs.Sifted.{cell_lives, cell_of, held_cell, named_before, named_cell, object_in, placed_before, service_cell, service_in, service_sifted, sifted}
 use Rattle.aom_sound.specs.Kept.{HasSources, ServesSent, one_if_some, sources_of}
@@ -18,21 +18,17 @@ pub from_some : (c : ℕ) (x : Option Sender) → is_from c x ≡ true → is_so
 from_some c x e = grind arith
 
 pub discarded_some : (c : ℕ) (x : Option Sender) → is_some (discarded c x) ≡ is_some x
-discarded_some c None = refl
-discarded_some c (Some m) = refl
+discarded_some c x = grind arith
 
 pub unslotted_some : (c : ℕ) (x : Option Sender) → is_some (unslotted c x) ≡ is_some x
-unslotted_some c None = refl
-unslotted_some c (Some m) = refl
+unslotted_some c x = grind arith
 
 -- and as many sources
 pub discarded_one : (c : ℕ) (x : Option Sender) → one_if_some (discarded c x) ≡ one_if_some x
-discarded_one c None = refl
-discarded_one c (Some m) = refl
+discarded_one c x = grind arith
 
 pub unslotted_one : (c : ℕ) (x : Option Sender) → one_if_some (unslotted c x) ≡ one_if_some x
-unslotted_one c None = refl
-unslotted_one c (Some m) = refl
+unslotted_one c x = grind arith
 
 -- ---- the same have a sender, or are a token
 

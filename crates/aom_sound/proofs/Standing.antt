@@ -1,5 +1,5 @@
 -- A method that waits under a trap stands at the instruction that set it: no move but that one sets a trap, and none changes a task under one.
-use Rattle.std.proofs.Common.{List, None, Option, Some, ◌≡◌, ℕ}
+use Rattle.std.proofs.Common.{arith, List, Option, ◌≡◌, ℕ}
 use Rattle.aom_classes.specs.Roles.{main_of}
 use Rattle.aom_image.specs.Image.{Image}
 use Rattle.aom_sound.proofs.Preserving.{Kept, keeps, turn_keeps_it}
@@ -32,8 +32,7 @@ stays p c s u h e = keeps p c (at_traps p) s u (kept p c s) h e
 
 -- and at the boot
 pub boot : (p : Image) (m : Option ℕ) → AllAtTraps p (main_tasks m)
-boot p None = tt
-boot p (Some m) = (tt, (tt, tt))
+boot p x = grind arith
 
 pub stand : (p : Image) (outside : Outside) (lines : List Line) (s : State) → Reaches p outside (boot_state p) lines s → AllAtTraps p s.tasks
 stand p outside _ _ begins = boot p (main_of p)

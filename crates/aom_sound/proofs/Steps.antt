@@ -28,7 +28,7 @@ use Rattle.aom_sound.specs.Claims.{Dispatching, Dying, Layer, Mark, Method, Unwi
 use Rattle.aom_sound.specs.Laws.{IsWired}
 use Rattle.aom_sound.specs.Moves.{counted, does, needs, step, step_instr, step_task}
 use Rattle.aom_sound.specs.Places.{named}
-use Rattle.aom_sound.specs.State.{Closing, Seat, Stage, Accept_left, Home, Of_server, Serves, Of_main, Of_object, Accepts, Asks, Choice, Destroy, Dispatch, Dispatched, Frame, IsStuck, Need, Run, State, Task, Trapped, Unwind, guarded, next}
+use Rattle.aom_sound.specs.State.{Closing, Seat, Stage, Home, Of_server, Serves, Of_main, Of_object, Accepts, Asks, Choice, Destroy, Dispatch, Dispatched, Frame, IsStuck, Need, Run, State, Task, Trapped, Unwind, guarded, next}
 use Rattle.aom_sound.specs.WellTyped.{EndsStage, Caught, Good, Keeps, Now, Returns, WellTyped}
 use Rattle.aom_sound.proofs.Layers.{closing_layer, dispatch_layer, going_layer, leave_layer, mark_layer, method_layer}
 use Rattle.aom_sound.proofs.Cancelling.{law_cancel}
@@ -91,8 +91,7 @@ module _ (p : Image) (t : Typing) (wired : IsWired p) (typed : IsTyped p t) (c :
 
 -- no method stands right over the dispatch of a server
 no_stage : (p : Image) (x : Seat) (stage : Stage) (m : ℕ) (home : Home) → EndsStage p x stage (Returns m home) → ⊥
-no_stage p x (Accept_left code) m home e = e
-no_stage p x _ m home e = e
+no_stage p x y m home e = grind arith
 
 -- a method returns to what stands below it
 returns : (p : Image) (t : Typing) → IsWired p → IsTyped p t → (c : Choice) (s : State) (fr : Frame) (sh : Shape) (ls : List Layer) (at_hand : At p t s fr sh ls) (a : ℕ) → Law p t c s fr sh ls at_hand (Return a)

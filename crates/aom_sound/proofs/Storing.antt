@@ -1,32 +1,26 @@
 -- The words of a cell count for no place, and its request for the age of objects alone: where these change, what is claimed holds on.
+use Rattle.std.proofs.lemmas.Bool.Decides.{nat_tests}
 use Rattle.std.specs.Prelude.{is_some}
 use Rattle.aom_sound.proofs.Maps.{requested_unnamed}
 use Rattle.aom_image.proofs.Given.{some_given}
-use Rattle.aom_shape.specs.declared.kind.Kind.TheVariants.{Null}
-use Rattle.aom_shape.specs.declared.kind.Filling.TheVariants.{Full}
 use Rattle.aom_sound.proofs.Altering.{Alters, asking, bereaving, held_kept, named_kept, opening, read_here, read_kept, read_so, read_there, requests, services, storing, tidy_kept}
 use Rattle.aom_sound.proofs.Services.{attended_kept, sessions_kept}
-use Rattle.aom_sound.specs.Servers.{is_among, is_message, message_thing, has_message, has_session, session_thing}
 use Rattle.aom_sound.proofs.Seats.{first_kept}
 use Rattle.std.proofs.Common.{arith, Bool, List, Option, Some, [], ap, cond, false, refl, subst, sym, true, ℕ, ℤ, ◌==◌, ◌∙◌, ◌∷◌, ◌≡◌, None}
 use Rattle.aom_image.specs.Image.{Image}
-use Rattle.aom_shape.specs.Kinds.{is_ready_kind, filled}
+use Rattle.aom_shape.specs.Kinds.{is_ready_kind}
 use Rattle.aom_shape.specs.Shape.{Shape}
 use Rattle.aom_rules.specs.Typing.{Typing}
 use Rattle.aom_sound.proofs.Claimed.{claim_rel, fits_age}
 use Rattle.aom_sound.proofs.Straight.{Fitted}
-use Rattle.aom_sound.specs.Claims.{Dispatching, Dying, Layer, Mark, Method, Unwinding, claim, declared, declared_field, Ending}
-use Rattle.aom_sound.specs.Places.{Service, Cell, Entry, Field, Object, Place, Request, Tidy, held, named, requested, seen, set_request, set_word_field, Elsewhere, Session, Queued, service_of}
+use Rattle.aom_sound.specs.Claims.{Dispatching, Dying, Layer, Mark, Method, Unwinding, claim, declared, Ending}
+use Rattle.aom_sound.specs.Places.{Service, Cell, Entry, Object, Place, Request, Tidy, held, named, requested, seen, set_request, set_word_field, service_of}
 use Rattle.aom_sound.specs.State.{AtRoot, Frame, Home, Inside, Seat, Static}
 use Rattle.aom_sound.specs.WellTyped.{AllSit, Back, Fits, IsHoused, Stack, seat_of}
 use Rattle.aom_sound.specs.Words.{stored}
-use Rattle.aom_sound.specs.Requests.{Suits, states_claim, thing_kind}
 use Rattle.std.proofs.lemmas.Bool.{eqb-true}
-use Rattle.aom_sound.specs.Enlisted.{cancelled, ended_cells, on_request, own_request, rerequested}
-use Rattle.aom_rules.specs.Requests.{is_cancel}
-use Rattle.aom_image.specs.Views.{method_role}
+use Rattle.aom_sound.specs.Enlisted.{ended_cells, on_request, own_request, rerequested}
 use Rattle.aom_sound.specs.Natives.{all_bereaved, is_served_by, resessioned, terminated_request}
-use Rattle.std.specs.List.{list_any}
 
 -- the same cells in the same places
 pub record Alike (cs cs' : List Cell) : Type 0 where
@@ -80,13 +74,7 @@ on_some f r e = grind arith
 
 -- what is enlisted stays so where another request is put in the place of one that there is
 asked_some : (cs : List Cell) (n m : ℕ) (r : Option Request) → ((n == m) ≡ true → is_some r ≡ true) → is_some (requested cs m) ≡ true → is_some (requested (set_request n r cs) m) ≡ true
-asked_some cs n m r h some = go (n == m) refl
-  where
-    go : (b : Bool) → (n == m) ≡ b → is_some (requested (set_request n r cs) m) ≡ true
-    go false other = ap is_some (requested_there cs n m r other) ∙ some
-    go true same =
-        some_given (λ x. named cs m ≡ x) (named cs m) refl (λ none. (let clash : false ≡ true = sym (ap is_some (requested_unnamed cs m none)) ∙ some in cc))
-        (λ o is lives. ap (λ k. is_some (requested (set_request k r cs) m)) (eqb-true n m same) ∙ ap is_some (requested_here cs m r o lives) ∙ h same)
+asked_some cs n m r h some = grind (arith, nat_tests, requested_there cs n m r, some_given, requested_unnamed cs m, eqb-true n m, requested_here cs m r)
 
 pub set_listed :
     (cs : List Cell) (n : ℕ) (r : Option Request) → (is_some (requested cs n) ≡ true → is_some r ≡ true) → (m : ℕ) → is_some (requested cs m) ≡ true →
@@ -96,9 +84,7 @@ set_listed cs n r h m some = asked_some cs n m r (λ e. h (ap (λ k. is_some (re
 pub listed_still :
     (cs : List Cell) (home : Home) (r : Option Request) → (is_some (own_request cs home) ≡ true → is_some r ≡ true) → (m : ℕ) → is_some (requested cs m) ≡ true →
     is_some (requested (rerequested cs home r) m) ≡ true
-listed_still cs Static r h m some = some
-listed_still cs AtRoot r h m some = some
-listed_still cs (Inside o from) r h m some = set_listed cs o.name r h m some
+listed_still cs x r h m some = grind (arith, nat_tests, set_listed cs)
 
 pub rerequested_alike : (cs : List Cell) (home : Home) (r : Option Request) → Alike cs (rerequested cs home r)
 rerequested_alike cs Static r = alike_itself cs
@@ -107,30 +93,14 @@ rerequested_alike cs (Inside o from) r = altered_alike (asking o.name r) (λ c. 
 
 -- and the cells once a method is over
 pub ended_alike : (p : Image) (fr : Frame) (cs : List Cell) → Alike cs (ended_cells p fr cs)
-ended_alike p fr cs = go (is_cancel (method_role p fr.method))
-  where
-    r : Option Request
-    r = on_request cancelled (own_request cs fr.home)
-
-    go : (b : Bool) → Alike cs (cond b (rerequested cs fr.home r) cs)
-    go true = rerequested_alike cs fr.home r
-    go false = alike_itself cs
+ended_alike p fr cs = grind (arith, nat_tests, rerequested_alike cs fr.home, alike_itself cs)
 
 module _ (p : Image) (t : Typing) (cs cs' : List Cell) (alike : Alike cs cs') where
   declared_alike : (r : Place) → declared p cs' r ≡ declared p cs r
-  declared_alike (Field n f) = ap (λ o. declared_field p o f) (alike.named_so n)
-  declared_alike (Elsewhere (Session n c)) =
-      ap (λ ss. cond (is_among c ss) (filled (session_thing p (named cs' n)) Full) Null) (alike.sessions_so n)
-      ∙ ap (λ o. cond (has_session (service_of cs n) c) (filled (session_thing p o) Full) Null) (alike.named_so n)
-  declared_alike (Elsewhere (Queued n m)) =
-      ap (λ es. cond (list_any (is_message m) es) (filled (message_thing p (named cs' n)) Full) Null) (alike.queues_so n)
-      ∙ ap (λ o. cond (has_message (service_of cs n) m) (filled (message_thing p o) Full) Null) (alike.named_so n)
-  declared_alike _ = refl
+  declared_alike x = grind arith
 
   pub housed_alike : (ls : List Layer) (home : Home) → IsHoused p cs ls home → IsHoused p cs' ls home
-  housed_alike ls Static h = h
-  housed_alike ls AtRoot h = h
-  housed_alike ls (Inside o from) h = record { there = alike.held_so from ∙ h.there; lives = alike.named_so o.name ∙ h.lives; below = h.below; ready = h.ready }
+  housed_alike ls x h = grind arith
 
   pub sits_alike : (xs : List Seat) → AllSit cs xs → AllSit cs' xs
   sits_alike [] s = tt
@@ -187,7 +157,7 @@ pub alike_fitted :
 alike_fitted p t cs cs' alike requests fr sh ls g =
     record {
       fits = λ r. fits_alike p t cs cs' alike (Method fr sh ∷ ls) r (λ x e fresh. requests x.name) (g.fits r);
-      suits = λ o lives. subst (λ r. Suits (thing_kind p o.thing) (states_claim p o (Method fr sh ∷ ls)) r) (sym (requests o.name)) (g.suits o (sym (alike.named_so o.name) ∙ lives));
+      suits = grind (arith, nat_tests, requests);
       tidy = alike.tidy g.tidy;
       frames = g.frames;
       housed = housed_alike p t cs cs' alike ls fr.home g.housed;

@@ -1,7 +1,8 @@
 -- The laws of the instructions that stay in their method.
-use Rattle.std.proofs.Common.{Bool, List, None, Option, Some, ap, arith, cond, false, length, refl, subst, suc, sym, true, zero, ℕ, ℤ, ◌&&◌, ◌==◌, ◌∙◌, ◌∷◌, ◌≡◌}
+use Rattle.std.proofs.lemmas.Bool.Decides.{nat_tests}
+use Rattle.std.proofs.Common.{Bool, List, None, Option, Some, ap, arith, cond, false, length, refl, subst, suc, sym, true, ℕ, ℤ, ◌&&◌, ◌==◌, ◌∙◌, ◌∷◌, ◌≡◌}
 use Rattle.std.proofs.lemmas.Bool.{eq-eqb, eqb-true, ne_eqb, true≢false}
-use Rattle.std.specs.Prelude.{is_some, ◌||◌}
+use Rattle.std.specs.Prelude.{is_some}
 use Rattle.aom_image.proofs.Given.{some_given}
 use Rattle.aom_image.specs.Image.{Image}
 use Rattle.aom_instructions.specs.declared.instr.Instr.{Instr}
@@ -22,14 +23,14 @@ use Rattle.aom_sound.proofs.Claimed.{Outside, claim-set_register, claim_frame, c
 use Rattle.aom_sound.proofs.Housing.{houses_field}
 use Rattle.aom_sound.proofs.Maps.{at-put_at, held_moved, one_place, requested_moved, same_place-true, tidy_moved}
 use Rattle.aom_sound.proofs.Things.{stands_along}
-use Rattle.aom_sound.specs.Claims.{Layer, Method, claim, declared, forms, home_claim, items_of, objects, own_field, root_claim, tasks_of, serves}
+use Rattle.aom_sound.specs.Claims.{Layer, Method, claim, declared, forms, items_of, objects, tasks_of, serves}
 use Rattle.aom_sound.specs.Moves.{does, needs}
 use Rattle.aom_sound.specs.Objects.{is_declared_thing, is_thing}
-use Rattle.aom_sound.specs.Places.{Cell, Elsewhere, Field, Object, Place, Register, Root, Sight, Tidy, changed, held, moved, requested, same_place, seen}
-use Rattle.aom_sound.specs.State.{AtRoot, Choice, Frame, Home, Inside, Run, State, Static, field_place, home_holder, next, set_word, thing_holder, word}
-use Rattle.aom_sound.specs.WellTyped.{CountsAs, AllUndo, Fits, Frames, Good, Holds, Houses, IsAlone, IsApart, IsHoused, Returns, Stack, WellTyped, WordFits, HasMessage}
+use Rattle.aom_sound.specs.Places.{Cell, Field, Object, Place, Register, Sight, Tidy, changed, held, moved, requested, same_place, seen}
+use Rattle.aom_sound.specs.State.{AtRoot, Choice, Frame, Home, Inside, Run, State, Static, field_place, home_holder, next, set_word, word}
+use Rattle.aom_sound.specs.WellTyped.{CountsAs, AllUndo, Fits, Frames, Good, Holds, IsAlone, IsApart, IsHoused, Returns, Stack, WellTyped, WordFits, HasMessage}
 use Rattle.aom_sound.proofs.Suiting.{all_moved, claims_less}
-use Rattle.aom_sound.specs.Requests.{AllSuit, Known, Suits, known_at, states_claim, thing_kind, works_at}
+use Rattle.aom_sound.specs.Requests.{AllSuit}
 use Rattle.aom_image.specs.Views.{method_role}
 use Rattle.aom_rules.specs.Requests.{is_cancel}
 
@@ -44,12 +45,10 @@ pub record At (p : Image) (t : Typing) (s : State) (fr : Frame) (sh : Shape) (ls
 pub register_fits :
     (p : Image) (cs : List Cell) (fr : Frame) (sh : Shape) (ls : List Layer) → ((r : Place) → Fits p (seen cs) (held cs r) (claim p (declared p cs) (Method fr sh ∷ ls) r)) → (i : ℕ) →
     Fits p (seen cs) (held cs (Register (length (tasks_of ls)) i)) (register sh i)
-register_fits p cs fr sh ls fits i =
-    subst (λ b. Fits p (seen cs) (held cs (Register (length (tasks_of ls)) i)) (cond b (register sh i) (claim p (declared p cs) ls (Register (length (tasks_of ls)) i)))) (eq-eqb (length (tasks_of ls)) _ refl) (fits (Register (length (tasks_of ls)) i))
+register_fits p cs fr sh ls fits i = grind (arith, nat_tests, eq-eqb)
 
 pub fits_unowning : (p : Image) (h : Sight) (o : Option Object) (k : Kind) → is_unowning k ≡ true → Fits p h o k → o ≡ None
-fits_unowning p h None k u f = refl
-fits_unowning p h _ _ u f = absurd (grind arith)
+fits_unowning p h x k u f = grind arith
 
 pub may_be_object : (p : Image) (x : Thing) (k : Kind) → may_be p x k ≡ true → is_object_or_null k ≡ true
 may_be_object p x k e = grind arith
@@ -102,19 +101,13 @@ began fr = (fr.height, fr.view)
 -- nor is what the layers below claim of its object
 pub apart_too :
     (p : Image) (fr fr' : Frame) (ls : List Layer) → fr'.home ≡ fr.home → fr'.method ≡ fr.method → began fr' ≡ began fr → IsApart p fr.view fr.method fr.home ls → IsApart p fr'.view fr'.method fr'.home ls
-apart_too p fr fr' ls eh em eg apart =
-    subst (λ h. IsApart p fr'.view fr'.method h ls) (sym eh)
-    (subst (λ m. IsApart p fr'.view m fr.home ls) (sym em)
-    (subst (λ v. IsApart p v fr.method fr.home ls) (sym (ap (λ (x : ℕ × Option ℕ). x.1) eg)) apart))
+apart_too p fr fr' ls eh em eg apart = grind (arith, nat_tests, apart)
 
 -- a frame of the same method, home and view counts as the same
 counts_too :
     (p : Image) (fr fr' : Frame) → fr'.home ≡ fr.home → fr'.method ≡ fr.method → began fr' ≡ began fr → CountsAs p (home_holder fr.home) fr.view (holder_of p fr.method) →
     CountsAs p (home_holder fr'.home) fr'.view (holder_of p fr'.method)
-counts_too p fr fr' eh em eg counts =
-    subst (λ h. CountsAs p (home_holder h) fr'.view (holder_of p fr'.method)) (sym eh)
-    (subst (λ m. CountsAs p (home_holder fr.home) fr'.view (holder_of p m)) (sym em)
-    (subst (λ v. CountsAs p (home_holder fr.home) v (holder_of p fr.method)) (sym (ap (λ (x : ℕ × Option ℕ). x.1) eg)) counts))
+counts_too p fr fr' eh em eg counts = grind (arith, nat_tests)
 
 -- a frame of the same method and home is as alone
 alone_too :
@@ -130,16 +123,7 @@ message_too p fr fr' ls em message = (λ e. message.0 (ap (λ m. serves p m) (sy
 pub same_suits :
     (p : Image) (cs : List Cell) (fr fr' : Frame) (sh sh' : Shape) (ls : List Layer) → fr'.home ≡ fr.home → fr'.method ≡ fr.method → sh'.states ≡ sh.states →
     AllSuit p cs (Method fr sh ∷ ls) → AllSuit p cs (Method fr' sh' ∷ ls)
-same_suits p cs fr fr' sh sh' ls eh em es s o lives = subst (λ k. Suits (thing_kind p o.thing) k (requested cs o.name)) (sym same) (s o lives)
-  where
-    below : Known
-    below = states_claim p o ls
-
-    same : states_claim p o (Method fr' sh' ∷ ls) ≡ states_claim p o (Method fr sh ∷ ls)
-    same =
-        ap (λ h. cond (works_at o.name h) (known_at p fr' sh'.states below) below) eh
-        ∙ ap (λ m. cond (works_at o.name fr.home) (record { states = sh'.states; cancelled = is_cancel (method_role p m) || below.cancelled }) below) em
-        ∙ ap (λ k. cond (works_at o.name fr.home) (known_at p fr k below) below) es
+same_suits p cs fr fr' sh sh' ls eh em es s o lives = grind (arith, nat_tests)
 
 -- a thing moves from one local place to another, with its claim
 pub relocate :
@@ -162,10 +146,20 @@ relocate p t cs fr fr' sh sh' ls a b g eh em eg es free oa ob nf fresh claims wo
       fits = λ r. subst (λ k. Fits p (seen cs') (held cs' r) k) (ap (λ e. claim p e (Method fr sh' ∷ ls) r) (sym (declared_moved p cs a b)) ∙ sym (claim_frame p (declared p cs') fr fr' sh' ls r eh em)) (fits r);
       suits = same_suits p (moved a b cs) fr fr' sh sh' ls eh em es (all_moved p cs a b (Method fr sh ∷ ls) g.suits);
       tidy = tidy_moved cs a b free g.tidy;
-      frames = record { words = words; holder = subst (λ h. Houses p (home_holder h) (holder_of p fr'.method)) (sym eh) (subst (λ m. Houses p (home_holder fr.home) (holder_of p m)) (sym em) g.frames.holder); view = counts_too p fr fr' eh em eg g.frames.view; height = ap (λ (x : ℕ × Option ℕ). x.0) eg ∙ g.frames.height; alone = alone_too p fr fr' ls eh em g.frames.alone; message = message_too p fr fr' ls em g.frames.message };
+      frames = record {
+        words = words;
+        holder = grind (
+          arith,
+          nat_tests,
+        );
+        view = counts_too p fr fr' eh em eg g.frames.view;
+        height = ap (λ (x : ℕ × Option ℕ). x.0) eg ∙ g.frames.height;
+        alone = alone_too p fr fr' ls eh em g.frames.alone;
+        message = message_too p fr fr' ls em g.frames.message;
+      };
       housed = housed_relocated p cs a b ls fr'.home free oa ob nf (subst (λ h. IsHoused p cs ls h) (sym eh) g.housed);
       apart = apart_too p fr fr' ls eh em eg g.apart;
-      stack = subst (λ m. Stack p t cs' (Returns m fr'.home) ls) (sym em) (subst (λ h. Stack p t cs' (Returns fr.method h) ls) (sym eh) (stack_moved p t cs a b ls _ free oa ob g.stack));
+      stack = grind (arith, nat_tests, stack_moved p t cs a b ls);
     }
 
 -- one place is claimed anew
@@ -181,7 +175,17 @@ relabel p t cs fr fr' sh sh' ls a v g eh em eg es new claims words = record {
   fits = λ r. subst (λ k. Fits p (seen cs) (held cs r) k) (sym (claim_frame p (declared p cs) fr fr' sh' ls r eh em ∙ claims r)) (go r (same_place a r) refl);
   suits = same_suits p cs fr fr' sh sh' ls eh em es g.suits;
   tidy = g.tidy;
-  frames = record { words = words; holder = subst (λ h. Houses p (home_holder h) (holder_of p fr'.method)) (sym eh) (subst (λ m. Houses p (home_holder fr.home) (holder_of p m)) (sym em) g.frames.holder); view = counts_too p fr fr' eh em eg g.frames.view; height = ap (λ (x : ℕ × Option ℕ). x.0) eg ∙ g.frames.height; alone = alone_too p fr fr' ls eh em g.frames.alone; message = message_too p fr fr' ls em g.frames.message };
+  frames = record {
+    words = words;
+    holder = grind (
+      arith,
+      nat_tests,
+    );
+    view = counts_too p fr fr' eh em eg g.frames.view;
+    height = ap (λ (x : ℕ × Option ℕ). x.0) eg ∙ g.frames.height;
+    alone = alone_too p fr fr' ls eh em g.frames.alone;
+    message = message_too p fr fr' ls em g.frames.message;
+  };
   housed = subst (λ h. IsHoused p cs ls h) (sym eh) g.housed;
   apart = apart_too p fr fr' ls eh em eg g.apart;
   stack = subst (λ m. Stack p t cs (Returns m fr'.home) ls) (sym em) (subst (λ h. Stack p t cs (Returns fr.method h) ls) (sym eh) g.stack);
@@ -198,27 +202,17 @@ claim_register p d fr sh ls i = ap (λ b. cond b (register sh i) (claim p d ls (
 pub words_set :
     (words : List (Option ℤ)) (sh : Shape) (a : ℕ) (w : Option ℤ) (k : Kind) → ((i : ℕ) → WordFits (at None words i) (register sh i)) → WordFits w k → (i : ℕ) →
     WordFits (at None (put_at None words a w) i) (register (set_register sh a k) i)
-words_set words sh a w k h g i =
-    subst (λ x. WordFits x (at Unset (put_at Unset sh.registers a k) i)) (sym (at-put_at None words a i w))
-    (subst (λ x. WordFits (cond (a == i) w (at None words i)) x) (sym (at-put_at Unset sh.registers a i k)) (go (a == i)))
-  where
-    go : (b : Bool) → WordFits (cond b w (at None words i)) (cond b k (register sh i))
-    go true = g
-    go false = h i
+words_set words sh a w k h g i = grind (arith, nat_tests, at-put_at None words a i w, at-put_at Unset sh.registers a i k)
 
 -- a register that owns nothing is as it was where the one before it is written
 pub next_unowning : (ks : List Kind) (c : ℕ) (k : Kind) → is_unowning (at Unset ks (suc c)) ≡ true → is_unowning (at Unset (put_at Unset ks c k) (suc c)) ≡ true
-next_unowning ks c k u = ap is_unowning (at-put_at Unset ks c (suc c) k ∙ ap (λ b. cond b k (at Unset ks (suc c))) (ne_eqb c (suc c) (λ e. absurd (omega arith)))) ∙ u
+next_unowning ks c k u = grind (arith, nat_tests, at-put_at Unset ks c, ne_eqb c)
 
 -- a register without a word becomes null
 pub words_null :
     (words : List (Option ℤ)) (sh : Shape) (a : ℕ) → ((i : ℕ) → WordFits (at None words i) (register sh i)) → at None words a ≡ None → (i : ℕ) →
     WordFits (at None words i) (register (set_register sh a Null) i)
-words_null words sh a h e i = subst (λ x. WordFits (at None words i) x) (sym (at-put_at Unset sh.registers a i Null)) (go (a == i) refl)
-  where
-    go : (b : Bool) → (a == i) ≡ b → WordFits (at None words i) (cond b Null (register sh i))
-    go true f = ap (λ x. at None words x) (sym (eqb-true a i f)) ∙ e
-    go false f = h i
+words_null words sh a h e i = grind (arith, nat_tests, at-put_at Unset sh.registers a i Null, eqb-true a i)
 
 pub no_word_fits : (k : Kind) → is_object_or_null k ≡ true → WordFits None k
 no_word_fits k e = grind arith
@@ -235,7 +229,17 @@ reframed p t cs fr fr' sh ls eh em eg ew g = record {
   fits = λ r. subst (λ k. Fits p (seen cs) (held cs r) k) (sym (claim_frame p (declared p cs) fr fr' sh ls r eh em)) (g.fits r);
   suits = same_suits p cs fr fr' sh sh ls eh em refl g.suits;
   tidy = g.tidy;
-  frames = record { words = λ i. subst (λ ws. WordFits (at None ws i) (register sh i)) (sym ew) (g.frames.words i); holder = subst (λ h. Houses p (home_holder h) (holder_of p fr'.method)) (sym eh) (subst (λ m. Houses p (home_holder fr.home) (holder_of p m)) (sym em) g.frames.holder); view = counts_too p fr fr' eh em eg g.frames.view; height = ap (λ (x : ℕ × Option ℕ). x.0) eg ∙ g.frames.height; alone = alone_too p fr fr' ls eh em g.frames.alone; message = message_too p fr fr' ls em g.frames.message };
+  frames = record {
+    words = λ i. subst (λ ws. WordFits (at None ws i) (register sh i)) (sym ew) (g.frames.words i);
+    holder = grind (
+      arith,
+      nat_tests,
+    );
+    view = counts_too p fr fr' eh em eg g.frames.view;
+    height = ap (λ (x : ℕ × Option ℕ). x.0) eg ∙ g.frames.height;
+    alone = alone_too p fr fr' ls eh em g.frames.alone;
+    message = message_too p fr fr' ls em g.frames.message;
+  };
   housed = subst (λ h. IsHoused p cs ls h) (sym eh) g.housed;
   apart = apart_too p fr fr' ls eh em eg g.apart;
   stack = subst (λ m. Stack p t cs (Returns m fr'.home) ls) (sym em) (subst (λ h. Stack p t cs (Returns fr.method h) ls) (sym eh) g.stack);
@@ -268,14 +272,7 @@ pub claim_field :
     (p : Image) (d : Place → Kind) (fr : Frame) (sh : Shape) (ls : List Layer) (home : Home) (f : ℕ) → fr.home ≡ home →
     field_thing p (home_holder home) f ≡ field_thing p (holder_of p fr.method) f → is_some (field_thing p (home_holder home) f) ≡ true →
     claim p d (Method fr sh ∷ ls) (field_place home f) ≡ filled (field_thing p (home_holder home) f) (field sh f)
-claim_field p d fr sh ls AtRoot zero e own some = ap (λ h. root_claim p h sh (claim p d ls (Elsewhere Root))) e
-claim_field p d fr sh ls (Inside o from) f e own some =
-    let below = claim p d ls (Field o.name f) in
-    ap (λ h. home_claim p (holder_of p fr.method) h sh o.name f below) e
-    ∙ ap (λ b. cond b (own_field (field_thing p (holder_of p fr.method) f) (field sh f) below) below) (eq-eqb o.name _ refl)
-    ∙ ap (λ x. own_field x (field sh f) below) (sym own)
-    ∙ own_there (field_thing p (thing_holder o.thing) f) (field sh f) below some
-claim_field p d fr sh ls _ _ e own some = cc
+claim_field p d fr sh ls x f e own some = grind (arith, nat_tests, eq-eqb, own_there)
 
 module _ (p : Image) (t : Typing) (c : Choice) (s : State) (fr : Frame) (sh : Shape) (ls : List Layer) (at_hand : At p t s fr sh ls) where
   pub free_register : (a : ℕ) → is_unowning (register sh a) ≡ true → held s.cells (Register (length (tasks_of ls)) a) ≡ None
@@ -303,9 +300,7 @@ module _ (p : Image) (t : Typing) (c : Choice) (s : State) (fr : Frame) (sh : Sh
   pub field_fits :
       (f : ℕ) → is_some (field_thing p (holder_of p fr.method) f) ≡ true →
       Fits p (seen s.cells) (held s.cells (field_place fr.home f)) (filled (field_thing p (home_holder fr.home) f) (field sh f))
-  field_fits f some =
-      let own = houses_field p _ _ f at_hand.good.stack.1.holder some in
-      subst (λ k. Fits p (seen s.cells) (held s.cells (field_place fr.home f)) k) (claim_field p (declared p s.cells) fr sh ls fr.home f refl own (ap is_some own ∙ some)) (at_hand.good.fits (field_place fr.home f))
+  field_fits f some = grind (arith, nat_tests, houses_field p, claim_field p)
 
   pub field_outside : (home : Home) (f : ℕ) → fr.home ≡ home → is_some (field_thing p (home_holder home) f) ≡ true → Outside (field_place home f) ls
   field_outside home f e some = grind arith
@@ -347,33 +342,22 @@ module _ (p : Image) (t : Typing) (c : Choice) (s : State) (fr : Frame) (sh : Sh
   refills h (Some x) (Some o) Word e r f = cc
 
   pub filled_word : (x : Option Thing) (k : Kind) → may_be_declared p x k ≡ true → WordFits None (filled x (filling_of k))
-  filled_word None k e = cc
-  filled_word (Some x) Null e = refl
-  filled_word (Some x) (Own y a) e = refl
-  filled_word (Some x) (Maybe y a) e = refl
-  filled_word (Some x) Unset e = cc
-  filled_word (Some x) Word e = cc
+  filled_word x k e = grind arith
 
   pub filled_ready : (x : Option Thing) (k : Kind) → may_be_declared p x k ≡ true → is_ready_kind (filled x (filling_of k)) ≡ true
-  filled_ready None k e = cc
-  filled_ready (Some x) Null e = refl
-  filled_ready (Some x) (Own y a) e = refl
-  filled_ready (Some x) (Maybe y a) e = refl
-  filled_ready (Some x) Unset e = cc
-  filled_ready (Some x) Word e = cc
+  filled_ready x k e = grind arith
 
   -- what is in a register may be claimed to be of another kind that holds of it
   pub widened : (b : ℕ) (l : Kind) → Fits p (seen s.cells) (held s.cells (top ls b)) l → WordFits (word fr b) l → Fitted p t s.cells fr (set_register sh b l) ls
-  widened b l new word_fits =
-      relabel p t s.cells fr fr sh (set_register sh b l) ls (top ls b) l (fitted p t s.cells fr sh ls at_hand.good) refl refl refl refl new
-      (λ r. claim-set_register p (declared p s.cells) fr sh ls b l r) words
-    where
-      words : (i : ℕ) → WordFits (word fr i) (register (set_register sh b l) i)
-      words i = subst (λ x. WordFits (word fr i) x) (sym (at-put_at Unset sh.registers b i l)) (go (b == i) refl)
-        where
-          go : (same : Bool) → (b == i) ≡ same → WordFits (word fr i) (cond same l (register sh i))
-          go true e = subst (λ j. WordFits (word fr j) l) (eqb-true b i e) word_fits
-          go false e = at_hand.good.stack.1.words i
+  widened b l new word_fits = grind (
+    arith,
+    nat_tests,
+    relabel p t s.cells fr fr sh,
+    fitted p t s.cells fr sh ls at_hand.good,
+    claim-set_register p,
+    at-put_at Unset sh.registers b,
+    eqb-true b,
+  )
 
   pub empties : (x : Option Thing) (y : Filling) → is_empty y ≡ true → is_unowning (filled x y) ≡ true
   empties x y e = grind arith

@@ -1,64 +1,48 @@
 -- How what is known of requests changes with the layers, and how it goes on to hold.
-use Rattle.std.proofs.Common.{arith, Bool, IsTrue, List, None, Option, Some, [], ap, cond, false, inl, inr, refl, subst, sym, true, ℕ, ◌==◌, ◌∙◌, ◌∷◌, ◌≡◌}
+use Rattle.std.proofs.lemmas.Bool.Decides.{nat_tests}
+use Rattle.std.proofs.Common.{arith, Bool, IsTrue, List, None, Option, Some, [], ap, false, refl, subst, sym, true, ℕ, ◌==◌, ◌∙◌, ◌∷◌, ◌≡◌}
 use Rattle.std.proofs.lemmas.Bool.{eqb-true}
 use Rattle.std.specs.Prelude.{◌||◌}
 use Rattle.aom_image.specs.Image.{Image}
 use Rattle.aom_image.specs.Views.{has, method_role}
 use Rattle.aom_image.specs.declared.class.ClassKind.{ClassKind}
 use Rattle.aom_image.specs.declared.class.ClassKind.TheVariants.{Active as An_active, Server as A_server}
-use Rattle.aom_roles.specs.States.{active_states, cancel_done, first_of, idle, last_of, server_states, states_of}
+use Rattle.aom_roles.specs.States.{cancel_done, first_of, idle, server_states, states_of}
 use Rattle.aom_rules.specs.Requests.{is_cancel, unissued}
 use Rattle.aom_shape.proofs.Sets.{has_along, has_itself}
 use Rattle.aom_shape.specs.Shape.{Shape}
 use Rattle.aom_sound.proofs.Maps.{named_moved, requested_moved}
 use Rattle.aom_sound.specs.Claims.{Dispatching, Dying, Layer, Mark, Method, Unwinding, Ending}
 use Rattle.aom_sound.specs.Places.{Cell, Object, Phase, Place, Request, moved, named, requested}
-use Rattle.aom_sound.specs.Enlisted.{cancelled, in_phase, is_cancelling, is_unanswered, on_request, pending, status_of}
+use Rattle.aom_sound.specs.Enlisted.{cancelled, is_unanswered, on_request, pending, status_of}
 use Rattle.std.specs.Ordering.{int_eq}
 use Rattle.aom_sound.specs.Requests.{AllSuit, Joins, Known, Suits, Unworked, is_free, is_pledged, is_timed, known_at, phase_state, resting_in, rests_in, state_of, states_claim, thing_kind, works_at}
-use Rattle.aom_sound.specs.State.{AtRoot, Frame, Home, Inside, Static}
+use Rattle.aom_sound.specs.State.{Frame, Inside}
 use Rattle.aom_sound.specs.WellTyped.{IsHoused}
 use Rattle.aom_image.specs.declared.method.Gives.{Gives}
 
 -- a larger set
 pub suits_less :
     (k : Option ClassKind) (a b : ℕ) (c : Bool) (r : Option Request) → IsTrue (has a b) → Suits k (record { states = b; cancelled = c }) r → Suits k (record { states = a; cancelled = c }) r
-suits_less (Some (An_active v)) a b' c r h s = (has_along a b' (state_of r) h s.0, s.1, s.2, s.3, s.4)
-suits_less (Some (A_server m x)) a b' c r h s = (has_along a b' (state_of r) h s.0, s.1, s.2)
-suits_less _ a b c r h s = s
+suits_less x a b' c r h s = grind (arith, nat_tests, has_along a b')
 
 -- what is not issued, nor being cancelled, may rest
 pub suits_rests : (k : Option ClassKind) (states : ℕ) (r : Option Request) → unissued states ≡ true → Suits k (resting_in states) r → Suits k (resting_in (states_of k)) r
 unfolding states_of
-suits_rests (Some (An_active v)) states r u s = (go r s.0 s.1, s.1, s.2, s.3, s.4)
-  where
-    phase : (q : Phase) → IsTrue (has states (phase_state q)) → is_cancelling q ≡ false → IsTrue (has active_states (phase_state q))
-    phase q h g = grind arith
-
-    go : (r : Option Request) → IsTrue (has states (state_of r)) → in_phase is_cancelling r ≡ false → IsTrue (has active_states (state_of r))
-    go None h g = refl
-    go (Some q) h g = phase q.phase h g
-suits_rests (Some (A_server m x)) states r u s = (s.1, s.1, s.2)
-suits_rests _ states r u s = s
+suits_rests x states r u s = grind arith
 
 pub rests_unissued : (k : Option ClassKind) → unissued (states_of k) ≡ true
 unfolding states_of
-rests_unissued (Some (An_active v)) = refl
-rests_unissued (Some (A_server m x)) = refl
-rests_unissued _ = refl
+rests_unissued x = grind arith
 
 -- what is not enlisted may be under construction, and may rest
 pub suits_new : (k : Option ClassKind) → Suits k (resting_in (states_of k)) None
 unfolding states_of
-suits_new (Some (An_active v)) = (refl, refl, refl, refl, refl)
-suits_new (Some (A_server m x)) = (refl, refl, refl)
-suits_new _ = refl
+suits_new x = grind arith
 
 begins_new : (k : Option ClassKind) → Suits k (resting_in (first_of k)) None
 unfolding first_of
-begins_new (Some (An_active v)) = (refl, refl, refl, refl, refl)
-begins_new (Some (A_server m x)) = (refl, refl, refl)
-begins_new _ = refl
+begins_new x = grind arith
 
 pub suits_first : (k : Option ClassKind) (r : Option Request) → r ≡ None → Suits k (resting_in (first_of k)) r
 suits_first k r e = subst (λ r. Suits k (resting_in (first_of k)) r) (sym e) (begins_new k)
@@ -67,28 +51,21 @@ suits_first k r e = subst (λ r. Suits k (resting_in (first_of k)) r) (sym e) (b
 pub claims_less :
     (p : Image) (o : Object) (fr : Frame) (a b : Shape) (ls : List Layer) (r : Option Request) → IsTrue (has a.states b.states) →
     Suits (thing_kind p o.thing) (states_claim p o (Method fr b ∷ ls)) r → Suits (thing_kind p o.thing) (states_claim p o (Method fr a ∷ ls)) r
-claims_less p o fr a b ls r h = go (works_at o.name fr.home)
-  where
-    below : Known
-    below = states_claim p o ls
-
-    go : (x : Bool) → Suits (thing_kind p o.thing) (cond x (known_at p fr b.states below) below) r → Suits (thing_kind p o.thing) (cond x (known_at p fr a.states below) below) r
-    go true s = suits_less (thing_kind p o.thing) a.states b.states _ r h s
-    go false s = s
+claims_less p o fr a b ls r h = grind (arith, nat_tests, suits_less)
 
 -- an object rests where no layer works on it
 pub unworked_rests : (p : Image) (o : Object) (ls : List Layer) → Unworked o.name ls → states_claim p o ls ≡ resting_in (rests_in p o)
 unworked_rests p o [] u = refl
-unworked_rests p o (Method fr sh ∷ ls) u = ap (λ b. cond b (known_at p fr sh.states (states_claim p o ls)) (states_claim p o ls)) u.0 ∙ unworked_rests p o ls u.1
+unworked_rests p o (Method fr sh ∷ ls) u = grind (arith, nat_tests, unworked_rests p o ls u.1)
 unworked_rests p o (Mark gv ∷ ls) u = unworked_rests p o ls u
-unworked_rests p o (Dying x ∷ ls) u = ap (λ b. cond b (resting_in (last_of (thing_kind p o.thing))) (states_claim p o ls)) u.0 ∙ unworked_rests p o ls u.1
+unworked_rests p o (Dying x ∷ ls) u = grind (arith, nat_tests, unworked_rests p o ls u.1)
 unworked_rests p o (Ending x left ∷ ls) u = unworked_rests p o ls u
 unworked_rests p o (Unwinding code es ∷ ls) u = unworked_rests p o ls u
 unworked_rests p o (Dispatching d seats ∷ ls) u = unworked_rests p o ls u
 
 -- moves of ownership count for no request
 pub all_moved : (p : Image) (cs : List Cell) (a b : Place) (ls : List Layer) → AllSuit p cs ls → AllSuit p (moved a b cs) ls
-all_moved p cs a b ls s o lives = subst (λ r. Suits (thing_kind p o.thing) (states_claim p o ls) r) (sym (requested_moved cs a b o.name)) (s o (sym (named_moved cs a b o.name) ∙ lives))
+all_moved p cs a b ls s o lives = grind (arith, nat_tests, requested_moved cs a b o.name, named_moved cs a b o.name)
 
 -- one name, one object
 pub same_object : (cs : List Cell) (o x : Object) → named cs o.name ≡ Some o → named cs x.name ≡ Some x → (o.name == x.name) ≡ true → o ≡ x
@@ -145,20 +122,28 @@ pub rejoins_caller :
     (works_at o.name fr.home ≡ true → IsTrue (has sh.states ends)) → IsTrue (has ends states) → unissued states ≡ true →
     Suits (thing_kind p o.thing) (record { states = states; cancelled = (states_claim p o (Method fr sh ∷ ls)).cancelled }) r →
     Suits (thing_kind p o.thing) (states_claim p o (Method fr sh ∷ ls)) r
-rejoins_caller p o fr sh states ls ends r (inl w) well within u s =
-    let there : Known = known_at p fr sh.states (states_claim p o ls) in
-    subst (λ b. Suits (thing_kind p o.thing) (cond b there (states_claim p o ls)) r) (sym w) (suits_less (thing_kind p o.thing) sh.states states _ r (has_along sh.states ends states (well w) within)
-    (subst (λ b. Suits (thing_kind p o.thing) (record { states = states; cancelled = (cond b there (states_claim p o ls)).cancelled }) r) w s))
-rejoins_caller p o fr sh states ls ends r (inr n) well within u s =
-    rests_there p o (Method fr sh ∷ ls) r n (suits_rests (thing_kind p o.thing) states r u (subst (λ (k : Known). Suits (thing_kind p o.thing) (record { states = states; cancelled = k.cancelled }) r) (unworked_rests p o (Method fr sh ∷ ls) n) s))
+rejoins_caller p o fr sh states ls ends r x well within u s = grind (
+  arith,
+  nat_tests,
+  suits_less,
+  has_along sh.states ends states,
+  rests_there p o (Method fr sh ∷ ls) r,
+  suits_rests,
+  unworked_rests p o (Method fr sh ∷ ls),
+)
 
 pub rejoins_trap :
     (p : Image) (o : Object) (gv : Gives) (fr : Frame) (sh : Shape) (ls : List Layer) (states : ℕ) (r : Option Request) → Joins p o (Mark gv ∷ Method fr sh ∷ ls) → unissued states ≡ true →
     (states_claim p o (Method fr sh ∷ ls)).cancelled ≡ false → Suits (thing_kind p o.thing) (resting_in states) r → Suits (thing_kind p o.thing) (states_claim p o (Method fr sh ∷ ls)) r
-rejoins_trap p o gv fr sh ls states r (inl w) u none s =
-    rejoins_caller p o fr sh (rests_in p o) ls (rests_in p o) r (inl w.0) (λ e. w.1) (has_itself (rests_in p o)) (rests_unissued (thing_kind p o.thing))
-    (subst (λ (b : Bool). Suits (thing_kind p o.thing) (record { states = rests_in p o; cancelled = b }) r) (sym none) (suits_rests (thing_kind p o.thing) states r u s))
-rejoins_trap p o gv fr sh ls states r (inr n) u none s = rests_there p o (Method fr sh ∷ ls) r n (suits_rests (thing_kind p o.thing) states r u s)
+rejoins_trap p o gv fr sh ls states r x u none s = grind (
+  arith,
+  nat_tests,
+  rejoins_caller p o fr sh,
+  has_itself,
+  rests_unissued,
+  suits_rests,
+  rests_there p o (Method fr sh ∷ ls) r,
+)
 
 -- a method is over: all but the object that it worked on is as it was
 pub all_returned :
@@ -166,29 +151,4 @@ pub all_returned :
     ((n : ℕ) → named cs' n ≡ named cs n) → ((n : ℕ) → works_at n fr.home ≡ false → requested cs' n ≡ requested cs n) →
     ((o : Object) (from : Place) → fr.home ≡ Inside o from → Suits (thing_kind p o.thing) (known_at p fr sh.states (states_claim p o below)) (requested cs o.name) → Suits (thing_kind p o.thing) (states_claim p o below) (requested cs' o.name)) →
     AllSuit p cs' below
-all_returned p cs cs' fr sh below s housed same others back x lives' = go fr.home refl housed (others x.name) (s x lives)
-  where
-    lives : named cs x.name ≡ Some x
-    lives = sym (same x.name) ∙ lives'
-
-    below_it : Known
-    below_it = states_claim p x below
-
-    kept : (requested cs' x.name ≡ requested cs x.name) → Suits (thing_kind p x.thing) below_it (requested cs x.name) → Suits (thing_kind p x.thing) below_it (requested cs' x.name)
-    kept e s = subst (λ r. Suits (thing_kind p x.thing) below_it r) (sym e) s
-
-    go :
-        (h : Home) → fr.home ≡ h → IsHoused p cs below h → (works_at x.name h ≡ false → requested cs' x.name ≡ requested cs x.name) →
-        Suits (thing_kind p x.thing) (cond (works_at x.name h) (known_at p fr sh.states below_it) below_it) (requested cs x.name) →
-        Suits (thing_kind p x.thing) below_it (requested cs' x.name)
-    go Static e h o s = kept (o refl) s
-    go AtRoot e h o s = kept (o refl) s
-    go (Inside o from) e h others s = inner (o.name == x.name) refl s
-      where
-        inner :
-            (b : Bool) → (o.name == x.name) ≡ b → Suits (thing_kind p x.thing) (cond b (known_at p fr sh.states below_it) below_it) (requested cs x.name) →
-            Suits (thing_kind p x.thing) below_it (requested cs' x.name)
-        inner true same s =
-            let one = same_object cs o x h.lives lives same in
-            subst (λ y. Suits (thing_kind p y.thing) (states_claim p y below) (requested cs' y.name)) one (back o from e (subst (λ y. Suits (thing_kind p y.thing) (known_at p fr sh.states (states_claim p y below)) (requested cs y.name)) (sym one) s))
-        inner false other s = kept (others other) s
+all_returned p cs cs' fr sh below s housed same others back x lives' = grind (arith, nat_tests, same_object cs)

@@ -1,5 +1,6 @@
 -- What stands for what: each thing for itself, and what stands for it.
-use Rattle.std.proofs.Common.{Some, ap, arith, false, refl, sym, true, ℕ, ◌∙◌, ◌≡◌}
+use Rattle.std.proofs.lemmas.Bool.Decides.{nat_tests}
+use Rattle.std.proofs.Common.{Some, ap, arith, false, sym, true, ℕ, ◌∙◌, ◌≡◌}
 use Rattle.std.specs.Prelude.{is_some}
 use Rattle.aom_image.proofs.Given.{some_given}
 use Rattle.aom_image.specs.Image.{Image}
@@ -13,27 +14,17 @@ use Rattle.aom_roles.specs.Shapes.{kind_of}
 use Rattle.aom_roles.specs.Classes.{sessions_at, sessions_in}
 
 pub stands_itself : (p : Image) (x : Thing) → stands_for p x x ≡ true
-stands_itself p (An_object_of c) = itself p c
-stands_itself p Message = refl
+stands_itself p x = grind (arith, nat_tests, itself p)
 
 pub stands_along : (p : Image) (x y z : Thing) → stands_for p x y ≡ true → stands_for p y z ≡ true → stands_for p x z ≡ true
-stands_along p (An_object_of c) (An_object_of d) (An_object_of e) a b = through p c d e a b
-stands_along p (An_object_of c) (An_object_of d) Message a b = cc
-stands_along p (An_object_of c) Message z a b = cc
-stands_along p Message (An_object_of d) z a b = cc
-stands_along p Message Message (An_object_of e) a b = cc
-stands_along p Message Message Message a b = refl
+stands_along p x y z a b = grind (arith, nat_tests, through p)
 
 -- what stands for an object is one, and what stands for a message is a message
 pub stands_object : (p : Image) (x y : Thing) → stands_for p x y ≡ true → is_object x ≡ is_object y
-stands_object p (An_object_of c) (An_object_of d) a = refl
-stands_object p (An_object_of c) Message a = cc
-stands_object p Message (An_object_of d) a = cc
-stands_object p Message Message a = refl
+stands_object p x y a = grind arith
 
 pub stands_message : (p : Image) (x : Thing) → stands_for p x Message ≡ true → x ≡ Message
-stands_message p (An_object_of c) a = cc
-stands_message p Message a = refl
+stands_message p x a = grind arith
 
 -- a message is no server
 pub message_plain : (p : Image) (x : Thing) → x ≡ Message → is_server p x ≡ false

@@ -1,23 +1,17 @@
 -- No two requests wait for one token and no two tokens have one order, in each state of a run: only `hand` brings an order, and a new one.
-use Rattle.std.proofs.Common.{Bool, List, None, Option, Some, [], arith, cond, false, length, pos, refl, subst, suc, sym, true, zero, ℕ, ℤ, ◌∙◌, ◌∷◌, ◌≡◌}
+use Rattle.std.proofs.lemmas.Bool.Decides.{nat_tests}
+use Rattle.std.proofs.Common.{Bool, List, None, Option, Some, [], arith, cond, length, refl, subst, suc, sym, ℕ, ℤ, ◌∙◌, ◌∷◌, ◌≡◌}
 use Rattle.std.proofs.lemmas.Option.{none-some}
-use Rattle.std.specs.Ordering.{int_eq}
 use Rattle.aom_image.specs.Image.{Image}
-use Rattle.aom_image.specs.Views.{arguments_of, method_role}
+use Rattle.aom_image.specs.Views.{arguments_of}
 use Rattle.aom_image.specs.declared.class.ClassKind.{ClassKind}
 use Rattle.aom_image.specs.declared.method.Argument.{Argument}
 use Rattle.aom_image.specs.declared.method.Argument.TheVariants.{Own as Takes_own, Word as Takes_word}
 use Rattle.aom_image.specs.declared.method.Gives.{Gives}
-use Rattle.aom_image.specs.declared.method.Gives.TheVariants.{Left, Maybe as A_maybe, Nothing, Own as An_own, Word as A_word}
-use Rattle.aom_image.specs.declared.method.Role.TheVariants.{Error}
 use Rattle.aom_clients.specs.declared.client.Client.{Client}
-use Rattle.aom_clients.specs.declared.client.Client.TheVariants.{Open}
 use Rattle.aom_clients.specs.declared.refusal.Refusal.{Refusal}
 use Rattle.aom_instructions.specs.declared.instr.Instr.{Instr}
-use Rattle.aom_instructions.specs.declared.instr.Instr.TheVariants as instrs
-use Rattle.aom_rules.specs.Requests.{is_cancel}
 use Rattle.aom_transcript.specs.declared.event.Command.{Command}
-use Rattle.aom_transcript.specs.declared.event.Command.TheVariants.{Close, Connect, Die, Send}
 use Rattle.aom_sound.proofs.Apart.{handed_apart, redeemed_by_apart}
 use Rattle.aom_sound.proofs.Guarded.{acts_at}
 use Rattle.aom_sound.proofs.Moving.{steps_are_moves}
@@ -26,16 +20,16 @@ use Rattle.aom_sound.proofs.Redeeming.{redeemed_by_alike}
 use Rattle.aom_sound.proofs.Turned.{accepts, attends, completes, handles, keeps_all, kills, obeys, parts, picks, turns_so}
 use Rattle.aom_sound.specs.Calls.{accepted_cells, passed_cells, result_cells, returned}
 use Rattle.aom_sound.specs.Cleanup.{top_place}
-use Rattle.aom_sound.specs.Clients.{Listed, client_at, commanded, connecting, leaving, sending, sent_message, told}
+use Rattle.aom_sound.specs.Clients.{Listed, client_at, commanded, connecting, leaving, sending, told}
 use Rattle.aom_sound.specs.Destruction.{first_session, parting}
 use Rattle.aom_sound.specs.Effects.{Calls, Cancels, Carried, Destroys, Destroys_last, Effect, Goes_on, Handed, Leaves, Made, Popped, Pushed, Replied, Requested, Returns, Sessioned, Sets_trap, Update, Written, applied, cancels_if, cells_after, deals, deletes, effect, hands_unless, jumps_unless, makes_unless, round, spot_place}
-use Rattle.aom_sound.specs.Enlisted.{Asking, aborted, cancelled, cancelling, completed_at_once, completed_with, ended_cells, issued_of, on_request, own_request, part_of, rerequested, waits}
-use Rattle.aom_sound.specs.Moves.{answered, asking, counted, dispatch_ends, failed, handled, main_ends, object_ends, step}
-use Rattle.aom_sound.specs.Places.{Cell, Elsewhere, Entry, Going, In_service, Object, Place, Queued, Register, Request, Root, Session, Tidy, held, moved, requested, service_of, without}
+use Rattle.aom_sound.specs.Enlisted.{Asking, completed_with, ended_cells, issued_of, on_request, own_request}
+use Rattle.aom_sound.specs.Moves.{answered, asking, counted, dispatch_ends, handled, main_ends, object_ends, step}
+use Rattle.aom_sound.specs.Places.{Cell, Elsewhere, Entry, Going, In_service, Object, Place, Queued, Request, Root, Session, Tidy, held, moved, requested, service_of, without}
 use Rattle.aom_sound.specs.Servers.{opened, parted, reserved, taken_first, withdrawn}
-use Rattle.aom_sound.specs.State.{Accepts, An_object, Answered, Asks, Choice, Dispatch, Dispatched, Frame, Goes, Item, Object_left, Of_main, Of_object, Of_server, Parts, Run, Seat, Service_left, State, Task, Trapped}
+use Rattle.aom_sound.specs.State.{Accepts, Answered, Asks, Choice, Dispatch, Frame, Goes, Item, Object_left, Of_main, Of_object, Of_server, Parts, Seat, Service_left, State, Task}
 use Rattle.aom_sound.specs.Steps.{Acts, Arrives, Clears, Comes_out, Empties, Ends, Move, Rests, Undoes, Vanishes}
-use Rattle.aom_sound.specs.Tokens.{TokensApart, awaited, busy, is_crowded, redeemed_by, token_of}
+use Rattle.aom_sound.specs.Tokens.{TokensApart, awaited, redeemed_by, token_of}
 use Rattle.aom_sound.specs.Words.{here}
 use Rattle.aom_sound.specs.World.{Heard, Outside, heard_one, taken_from, turn, with_request}
 
@@ -45,8 +39,7 @@ abbrev Fewer : Option Request → Option Request → Type 0
 Fewer r old = (k : ℕ) → awaited r ≡ Some k → awaited old ≡ Some k
 
 fewer_on : (f : Request → Request) → ((r : Request) (k : ℕ) → (f r).token ≡ Some k → r.token ≡ Some k) → (q : Option Request) → Fewer (on_request f q) q
-fewer_on f fewer None k e = e
-fewer_on f fewer (Some r) k e = fewer r k e
+fewer_on f fewer x k e = grind arith
 
 fewer_none : (f : Request → Request) → ((r : Request) → (f r).token ≡ None) → (q : Option Request) → Fewer (on_request f q) q
 fewer_none f none q = fewer_on f (λ r k e. absurd (none-some k (sym (none r) ∙ e))) q
@@ -68,46 +61,31 @@ module _ (fr : Frame) (s : State) where
 
 module _ (p : Image) (c : Choice) (fr : Frame) (ts : List Task) (s : State) where
   thin_cond : (b : Bool) (x y : Effect) → ThinEffect fr s x → ThinEffect fr s y → ThinEffect fr s (cond b x y)
-  thin_cond true x y h k = h
-  thin_cond false x y h k = k
+  thin_cond x y z h k = grind arith
 
   thin_unless : (o : Option Object) (to : ℕ) → ThinEffect fr s (jumps_unless fr o to)
-  thin_unless None to = tt
-  thin_unless (Some o) to = tt
+  thin_unless x to = grind arith
 
   thin_round : (n depth to : ℕ) → ThinEffect fr s (round n depth to)
-  thin_round zero depth to = tt
-  thin_round (suc n) depth to = tt
+  thin_round x depth to = grind arith
 
   thin_cancels : (b : Bool) (m : Option ℕ) → ThinEffect fr s (cancels_if fr b m)
-  thin_cancels true (Some m) = tt
-  thin_cancels true None = tt
-  thin_cancels false m = tt
+  thin_cancels x m = grind arith
 
   thin_deletes : (o : Option Object) (a : ℕ) → ThinEffect fr s (deletes fr o a)
-  thin_deletes None a = tt
-  thin_deletes (Some o) a = tt
+  thin_deletes x a = grind arith
 
   thin_deals : (items : List Item) (o : Option Object) → ThinEffect fr s (deals fr items o)
-  thin_deals (An_object ∷ items) (Some o) = tt
-  thin_deals _ _ = tt
+  thin_deals x y = grind arith
 
   thin_makes : (b : Bool) (x a : ℕ) → IsThin fr s (makes_unless b c.name x a)
-  thin_makes true x a = tt
-  thin_makes false x a = tt
+  thin_makes x y a = grind arith
 
   thin_hands : (b : Bool) (a : ℕ) → IsThin fr s (hands_unless b c.name a (own_request s.cells fr.home))
-  thin_hands true a = fewer_none (completed_at_once busy) (λ r. refl) (own_request s.cells fr.home)
-  thin_hands false a = tt
+  thin_hands x a = grind (arith, nat_tests, fewer_none)
 
   thin_effect : (i : Instr) → ThinEffect fr s (effect p c fr ts s i)
-  thin_effect (instrs.Enlist priority) = λ k e. absurd (none-some k e)
-  thin_effect (instrs.Issue a b) = fewer_on _ (fewer_issued _ _ _) (own_request s.cells fr.home)
-  thin_effect instrs.SetActive = fewer_on waits (λ r k e. e) (own_request s.cells fr.home)
-  thin_effect instrs.Abort = fewer_none aborted (λ r. refl) (own_request s.cells fr.home)
-  thin_effect (instrs.Hand a) = thin_hands (is_crowded p s.cells) a
-  -- by the form of its effect
-  thin_effect _ = search (thin_cond, thin_unless, thin_round, thin_makes, thin_deletes, thin_deals, thin_cancels)
+  thin_effect x = grind (arith, nat_tests, fewer_on, fewer_issued, fewer_none, thin_hands, thin_cond, thin_unless, thin_round, thin_makes, thin_deletes)
 
 module _ (p : Image) (fr : Frame) (ts : List Task) (s : State) (tidy : Tidy s.cells) (apart : TokensApart s.cells) where
   still : (us : List Cell) → NoneComes s.cells us → TokensApart us
@@ -134,16 +112,10 @@ module _ (p : Image) (fr : Frame) (ts : List Task) (s : State) where
   comes_passed : (depth : ℕ) (xs : List Argument) (first to : ℕ) (cs : List Cell) → NoneComes cs (passed_cells p fr ts s depth xs first to cs)
   comes_passed depth [] first to cs = comes_itself cs
   comes_passed depth (Takes_word ∷ xs) first to cs = comes_passed depth xs (suc first) (suc to) cs
-  comes_passed depth (Takes_own t ∷ xs) first to cs =
-      let us = moved (here fr ts s first) (Register depth to) cs in
-      comes_then cs us (passed_cells p fr ts s depth xs (suc first) (suc to) us) (comes_moved cs (here fr ts s first) (Register depth to)) (comes_passed depth xs (suc first) (suc to) us)
+  comes_passed depth (Takes_own t ∷ xs) first to cs = grind (arith, nat_tests, comes_then cs, comes_moved cs, comes_passed depth xs)
 
   comes_result : (g : Gives) (a x : ℕ) (below : List Task) → NoneComes s.cells (result_cells p fr ts s g a x below)
-  comes_result Nothing a x below = comes_itself s.cells
-  comes_result A_word a x below = comes_itself s.cells
-  comes_result (An_own t) a x below = comes_moved s.cells (here fr ts s a) (Register (length below) x)
-  comes_result (A_maybe t) a x below = comes_moved s.cells (here fr ts s a) (Register (length below) x)
-  comes_result (Left t) a x below = comes_itself s.cells
+  comes_result x a y below = grind (arith, nat_tests, comes_itself s.cells, comes_moved s.cells)
 
   comes_accepted : (d : Dispatch) (from : Place) → NoneComes s.cells (accepted_cells d from s.cells)
   comes_accepted (Of_server x client Accepts) from =
@@ -153,20 +125,10 @@ module _ (p : Image) (fr : Frame) (ts : List Task) (s : State) where
   comes_accepted _ from = comes_itself s.cells
 
   comes_returned : (g : Gives) (a : ℕ) (below : List Task) → NoneComes s.cells (returned p fr ts s g a below).cells
-  comes_returned g a (Run caller ∷ below) = comes_result g a _ below
-  comes_returned g a (Trapped ∷ Run caller ∷ below) = comes_result g a _ below
-  comes_returned g a (Trapped ∷ Dispatched d ∷ below) = comes_accepted d (here fr ts s a)
-  comes_returned g a _ = comes_itself s.cells
+  comes_returned g a x = grind (arith, nat_tests, comes_result g a, comes_accepted, comes_itself s.cells)
 
   comes_ended : NoneComes s.cells (ended_cells p fr s.cells)
-  comes_ended = go (is_cancel (method_role p fr.method))
-    where
-      r : Option Request
-      r = on_request cancelled (own_request s.cells fr.home)
-
-      go : (b : Bool) → NoneComes s.cells (cond b (rerequested s.cells fr.home r) s.cells)
-      go true = comes_requested s.cells fr.home r (fewer_on cancelled (λ r k e. e) (own_request s.cells fr.home))
-      go false = comes_itself s.cells
+  comes_ended = grind (arith, nat_tests, NoneComes s.cells, comes_requested s.cells fr.home, fewer_on, comes_itself s.cells)
 
 module _ (p : Image) (fr : Frame) (ts : List Task) (s : State) (tidy : Tidy s.cells) (apart : TokensApart s.cells) where
   apart_applied : (e : Effect) → ThinEffect fr s e → TokensApart (applied p fr ts s e).cells
@@ -174,12 +136,8 @@ module _ (p : Image) (fr : Frame) (ts : List Task) (s : State) (tidy : Tidy s.ce
   apart_applied (Leaves code u) f = apart_updated p fr ts s tidy apart u f
   apart_applied (Calls target m first) f = still p fr ts s tidy apart _ (comes_passed p fr ts s _ (arguments_of p m) first 0 s.cells)
   apart_applied (Sets_trap target m first) f = still p fr ts s tidy apart _ (comes_passed p fr ts s _ (arguments_of p m) first 0 s.cells)
-  apart_applied (Cancels m) f =
-      still p fr ts s tidy apart _ (comes_requested s.cells fr.home (on_request cancelling (own_request s.cells fr.home)) (fewer_on cancelling (λ r k e. e) (own_request s.cells fr.home)))
-  apart_applied (Returns g a) f =
-      let us = ended_cells p fr s.cells in
-      let ended = record s { cells = us } in
-      still p fr ts s tidy apart _ (comes_then s.cells us (returned p fr ts ended g a ts).cells (comes_ended p fr ts s) (comes_returned p fr ts ended g a ts))
+  apart_applied (Cancels m) f = grind (arith, nat_tests, still p fr ts s tidy apart, comes_requested s.cells fr.home, fewer_on)
+  apart_applied (Returns g a) f = grind (arith, nat_tests, still p fr ts s tidy apart, comes_then s.cells, comes_ended p fr ts s, comes_returned p fr ts)
   apart_applied (Destroys o a words) f = still p fr ts s tidy apart _ (comes_moved s.cells (here fr ts s a) (Going (suc (length ts))))
   apart_applied (Destroys_last o) f = still p fr ts s tidy apart _ (comes_moved s.cells (top_place s.items) (Going (suc (length ts))))
   apart_applied _ f = apart
@@ -191,28 +149,18 @@ comes_parting p o None below s = comes_itself s.cells
 comes_parting p o (Some x) below s = comes_moved s.cells x.place _
 
 comes_main : (p : Image) (s : State) (b : Bool) (root : Option Object) → NoneComes s.cells (main_ends p b root s).cells
-comes_main p s true (Some o) = comes_moved s.cells (Elsewhere Root) _
-comes_main p s true None = comes_itself s.cells
-comes_main p s false root = comes_itself s.cells
+comes_main p s x root = grind (arith, nat_tests, comes_moved s.cells (Elsewhere Root), comes_itself s.cells)
 
 comes_object : (p : Image) (s : State) → NoneComes s.cells (object_ends p s).cells
 comes_object p s = comes_main p (handled s) s.rest.stopped (held s.cells (Elsewhere Root))
 
 comes_answered : (p : Image) (answer : ℤ) (s : State) → NoneComes s.cells (answered p answer s).cells
-comes_answered p answer s = go (int_eq answer (pos 0))
-  where
-    go : (b : Bool) → NoneComes s.cells (cond b (object_ends p s) (failed answer s)).cells
-    go true = comes_object p s
-    go false = comes_itself s.cells
+comes_answered p answer s = grind (arith, nat_tests, NoneComes s.cells, comes_object p s, comes_itself s.cells)
 
 comes_dispatched : (p : Image) (d : Dispatch) (s : State) → Tidy s.cells → NoneComes s.cells (dispatch_ends p d s).cells
 comes_dispatched p Of_main s tidy = comes_main p s s.rest.stopped (held s.cells (Elsewhere Root))
 comes_dispatched p (Of_object x) s tidy = comes_object p s
-comes_dispatched p (Object_left x code) s tidy = go (part_of p Error x.object.thing)
-  where
-    go : (m : Option ℕ) → NoneComes s.cells (asking p m x code s).cells
-    go None = comes_answered p code s
-    go (Some m) = comes_itself s.cells
+comes_dispatched p (Object_left x code) s tidy = grind (arith, nat_tests, NoneComes s.cells, comes_answered p code s, comes_itself s.cells)
 comes_dispatched p (Asks x) s tidy = comes_object p s
 comes_dispatched p (Answered x answer) s tidy = comes_answered p answer s
 comes_dispatched p (Of_server x client (Service_left code)) s tidy = comes_without s.cells tidy (Elsewhere In_service)
@@ -255,14 +203,10 @@ module _ (p : Image) (client : ℕ) (s : State) (tidy : Tidy s.cells) where
   comes_connecting (Some r) server slots = comes_itself s.cells
 
   comes_sending : (refused : Option Refusal) (c : Client) (name : ℕ) (words : List ℤ) → NoneComes s.cells (sending p client s refused c name words).cells
-  comes_sending None (Open server session slots) name words =
-      let us = (sending p client s None (Open server session slots) name words).cells in
-      comes_then s.cells _ us (comes_served s.cells server _ refl) (comes_more (sent_message client name words server) _ refl refl)
-  comes_sending _ _ name words = comes_itself s.cells
+  comes_sending x y name words = grind (arith, nat_tests, comes_then s.cells, comes_served s.cells, comes_more, comes_itself s.cells)
 
   comes_told : (c : Client) (cs : List Cell) → NoneComes cs (told p client s c cs)
-  comes_told (Open server session slots) cs = comes_served cs server _ refl
-  comes_told _ cs = comes_itself cs
+  comes_told x cs = grind (arith, nat_tests, comes_served cs, comes_itself cs)
 
   comes_leaving : (to : Option Client) → NoneComes s.cells (leaving p client s to).cells
   comes_leaving None = comes_itself s.cells
@@ -271,10 +215,7 @@ module _ (p : Image) (client : ℕ) (s : State) (tidy : Tidy s.cells) where
       comes_then s.cells us (told p client s (client_at s.clients client) us) (comes_withdrawn s.cells tidy client) (comes_told (client_at s.clients client) us)
 
   comes_commanded : (command : Command) (name : ℕ) → NoneComes s.cells (commanded p client s command name).cells
-  comes_commanded (Connect class slots) name = comes_connecting _ _ slots
-  comes_commanded (Send words) name = comes_sending _ _ name words
-  comes_commanded Close name = comes_leaving _
-  comes_commanded Die name = comes_leaving _
+  comes_commanded x name = grind (arith, nat_tests, comes_connecting, comes_sending, comes_leaving)
 
 comes_taken : (s : State) (n : ℕ) (from to : Place) → NoneComes s.cells (moved from to (taken_from n s).cells)
 comes_taken s n from to =

@@ -1,4 +1,5 @@
 -- What lies below the mark of a trap stays: as many marks lie on the cleanup stack as traps are at hand, and a move changes its last item at most.
+use Rattle.std.proofs.lemmas.Bool.Decides.{nat_tests}
 use Rattle.std.proofs.Common.{Bool, cond, true, false, List, None, Option, Some, [], ap, arith, inl, inr, length, pos, refl, subst, suc, sym, ℕ, ℤ, ◌+◌, ◌∙◌, ◌∷◌, ◌≡◌, length-append}
 use Rattle.aom_image.proofs.Given.{cons_given}
 use Rattle.std.specs.Prelude.{◌++◌, ◌⊎◌}
@@ -8,7 +9,6 @@ use Rattle.aom_instructions.specs.declared.instr.Instr.{Instr}
 use Rattle.aom_instructions.specs.declared.instr.Instr.TheVariants.{Trap}
 use Rattle.aom_instructions.specs.declared.instr.Target.{Target}
 use Rattle.aom_image.specs.declared.method.Gives.{Gives}
-use Rattle.aom_image.specs.declared.method.Gives.TheVariants.{Own as An_own}
 use Rattle.aom_rules.specs.Typing.{IsTyped, Typing}
 use Rattle.aom_shape.specs.declared.kind.Entry.{Entry as Pushed_entry}
 use Rattle.aom_shape.specs.declared.kind.Entry.TheVariants.{Object as Pushed_object, Operation as Operation_entry}
@@ -21,16 +21,16 @@ use Rattle.aom_sound.proofs.Moving.{steps_are_moves}
 use Rattle.aom_sound.proofs.Standing.{stand}
 use Rattle.aom_sound.proofs.Steps.{step_keeps}
 use Rattle.aom_sound.proofs.View.{under_dispatch as nothing_under}
-use Rattle.aom_sound.specs.Calls.{ended_well, below_top, called, received, result_register, returned}
+use Rattle.aom_sound.specs.Calls.{below_top, called, received, result_register, returned}
 use Rattle.aom_sound.specs.Claims.{Ending, Dispatching, Dying, Form, Layer, Mark, Mark_form, Method, Object_form, Operation_form, Unwinding, forms, items_of, objects, tasks_of}
 use Rattle.aom_sound.specs.Cleanup.{code_told, ended_by, to_trap}
 use Rattle.aom_classes.specs.Roles.{destructor_of}
 use Rattle.aom_sound.specs.Destruction.{line_on, next_destructor, destructed, parting, first_session, begun, begun_by}
-use Rattle.aom_sound.specs.Effects.{Calls, Cancels, Counts, Destroys, Destroys_last, Effect, Goes_on, Jumps, Leaves, Operates, Popped, Popped_operation, Pushed, Pushed_operation, Repeats, Returns, Sets_trap, Update, applied, items_after, with_words}
+use Rattle.aom_sound.specs.Effects.{Calls, Cancels, Counts, Destroys, Destroys_last, Effect, Goes_on, Jumps, Leaves, Operates, Repeats, Returns, Sets_trap, Update, applied, items_after, with_words}
 use Rattle.aom_sound.specs.Laws.{IsWired}
 use Rattle.aom_sound.specs.Moves.{IsOpen, counted, does, needs, step, step_instr, step_task}
 use Rattle.aom_sound.specs.Places.{service_of, Object, named}
-use Rattle.aom_sound.specs.State.{Static, Inside, AtRoot, Home, Closing, Seat, A_mark, An_object, An_operation, Choice, Destroy, Dispatch, Dispatched, Frame, Goes, Item, Run, State, Task, Trapped, Unwind, next, resumed, set_word, word}
+use Rattle.aom_sound.specs.State.{Static, Inside, AtRoot, Home, Closing, Seat, A_mark, An_object, An_operation, Choice, Destroy, Dispatch, Dispatched, Frame, Goes, Item, Run, State, Task, Trapped, Unwind, next, resumed, set_word}
 use Rattle.aom_sound.specs.Steps.{Empties, Acts, Arrives, Clears, Comes_out, Ends as A_dispatch_ends, Move, Rests, Undoes, Vanishes}
 use Rattle.aom_sound.specs.Traps.{ComesOff, GoesOnAfter, IsPast, IsTrapping, TellsZero, TrapsKeep, WasPast, marks, traps}
 use Rattle.aom_sound.specs.WellTyped.{Keeps, WellTyped}
@@ -176,32 +176,17 @@ module _ (p : Image) (c : Choice) (fr : Frame) (ts : List Task) (s : State) (at_
 
   -- a result changes words alone
   received_frame : (g : Gives) (a x : ℕ) (caller : Frame) (w : Option ℤ) → record (next (set_word (received p fr ts s g a x caller) (suc x) w)) { words = caller.words } ≡ next caller
-  received_frame (An_own t) a x caller w = refl
-  received_frame _ a x caller w = refl
+  received_frame x a y caller w = grind arith
 
   -- the word 0 is told
   zero_told : (g : Gives) (a : ℕ) (caller : Frame) (under : List Task) → let x = result_register (instr_at p caller.method caller.place) in
       TellsZero p (Run caller ∷ under) (Run (next (set_word (received p fr ts s g a x caller) (suc x) (Some (pos 0)))) ∷ under)
-  zero_told g a caller under target m first x there =
-      let y = result_register (instr_at p caller.method caller.place) in
-      let same : y ≡ x = ap result_register there in
-      subst (λ k. word (set_word (received p fr ts s g a y caller) (suc y) (Some (pos 0))) (suc k) ≡ Some (pos 0)) same (own_word (received p fr ts s g a y caller) (suc y) (Some (pos 0)))
+  zero_told g a caller under target m first x there = grind (arith, nat_tests, own_word)
 
   through_trap : (g : Gives) (a : ℕ) (under : List Task) → ts ≡ Trapped ∷ under → (under ≡ below) ⊎ Ends below under → Moved p below s (returned p fr ts s g a (Trapped ∷ under))
-  through_trap g a (Run caller ∷ under) at (inl same) =
-      let x = result_register (instr_at p caller.method caller.place) in
-      let after = next (set_word (received p fr ts s g a x caller) (suc x) (Some (pos 0))) in
-      inr (
-        subst (λ b. GoesOnAfter b (Run after ∷ under)) same (after, refl, received_frame g a x caller (Some (pos 0))),
-        refl,
-        inl (fr, at_hand ∙ ap (λ l. Run fr ∷ l) at ∙ ap (λ l. Run fr ∷ Trapped ∷ l) same, subst (λ b. TellsZero p b (Run after ∷ under)) same (zero_told g a caller under)),
-      )
+  through_trap g a (Run caller ∷ under) at (inl same) = grind (arith, nat_tests, received_frame g a, zero_told g a caller under)
   through_trap g a (Run caller ∷ under) at (inr o) = inl (with_task below under _ (under_frame below under caller o), near_top s.items)
-  through_trap g a (Dispatched d ∷ under) at (inl same) = inr (
-    subst (λ b. GoesOnAfter b (Dispatched (ended_well d) ∷ under)) same (ended_well d, refl),
-    refl,
-    inl (fr, at_hand ∙ ap (λ l. Run fr ∷ l) at ∙ ap (λ l. Run fr ∷ Trapped ∷ l) same, subst (λ b. TellsZero p b (Dispatched (ended_well d) ∷ under)) same tt),
-  )
+  through_trap g a (Dispatched d ∷ under) at (inl same) = grind (arith, nat_tests)
   through_trap g a (Dispatched d ∷ under) at (inr o) = inl (with_task below under _ (under_dispatch below under d o), near_top s.items)
   through_trap g a _ at o = given
 
@@ -215,11 +200,7 @@ module _ (p : Image) (c : Choice) (fr : Frame) (ts : List Task) (s : State) (at_
 
 -- the last item is another at most
 near : (u : Update) (items : List Item) → Near items (items_after u items)
-near (Pushed a) items = inr (inl (An_object, refl))
-near (Pushed_operation m w) items = inr (inl (An_operation m w, refl))
-near (Popped a) items = near_top items
-near Popped_operation items = near_top items
-near _ items = inl refl
+near x items = grind (arith, nat_tests, near_top items)
 
 module _ (p : Image) (c : Choice) (s : State) (below : List Task) where
   acts : (fr : Frame) (ts : List Task) (i : Instr) (e : Effect) → s.tasks ≡ Run fr ∷ ts → Ends below ts → Moved p below s (applied p fr ts (counted p s) e)
@@ -239,24 +220,18 @@ module _ (p : Image) (c : Choice) (s : State) (below : List Task) where
   -- the code arrives at the trap, or at another over it
   arrives : (code : ℤ) (fr : Frame) (ts : List Task) (items : List Item) → s.tasks ≡ Unwind code ∷ Trapped ∷ Run fr ∷ ts → s.items ≡ A_mark ∷ items → (Run fr ∷ ts ≡ below) ⊎ Ends below (Run fr ∷ ts) →
       let i = instr_at p fr.method fr.place in Moved p below s (record (counted p s) { tasks = Run (next (code_told (called p i) (result_register i) code fr)) ∷ ts; items = items })
-  arrives code fr ts items at top (inl same) =
-      let i = instr_at p fr.method fr.place in
-      let after = next (code_told (called p i) (result_register i) code fr) in
-      inr (subst (λ b. GoesOnAfter b (Run after ∷ ts)) same (after, refl, told_frame (result_register i) code fr (called p i)), sym (ap below_top top), inr (code, at ∙ ap (λ l. Unwind code ∷ Trapped ∷ l) same))
-  arrives code fr ts items at top (inr o) = inl (with_task below ts _ (under_frame below ts fr o), inr (inr (A_mark, top)))
+  arrives code fr ts items at top x = grind (arith, nat_tests, told_frame, with_task below ts, under_frame below ts fr)
 
   comes_out :
       (code : ℤ) (d : Dispatch) (ts : List Task) (items : List Item) → s.tasks ≡ Unwind code ∷ Trapped ∷ Dispatched d ∷ ts → s.items ≡ A_mark ∷ items →
       (Dispatched d ∷ ts ≡ below) ⊎ Ends below (Dispatched d ∷ ts) →
       Moved p below s (record (counted p s) { tasks = Dispatched (ended_by code d) ∷ ts; items = items })
-  comes_out code d ts items at top (inl same) =
-      inr (subst (λ b. GoesOnAfter b (Dispatched (ended_by code d) ∷ ts)) same (ended_by code d, refl), sym (ap below_top top), inr (code, at ∙ ap (λ l. Unwind code ∷ Trapped ∷ l) same))
-  comes_out code d ts items at top (inr o) = inl (with_task below ts _ (under_dispatch below ts d o), inr (inr (A_mark, top)))
+  comes_out code d ts items at top x = grind (arith, nat_tests, with_task below ts, under_dispatch below ts d)
 
   moved : (t : Typing) (u : State) → WellTyped p t s → Ends below s.tasks → Move p c s u → Moved p below s u
   moved t u w o (Rests still e) = subst (λ v. Moved p below s v) (sym e) (inl (o, inl refl))
-  moved t u w o (Acts fr ts i e at there met fits same) = subst (λ v. Moved p below s v) (sym same) (acts fr ts i e at (under_frame below ts fr (subst (λ l. Ends below l) at o)))
-  moved t u w o (Vanishes ts x at there owns same) = subst (λ v. Moved p below s v) (sym same) (inl (resumes below ts (under_going below ts (subst (λ l. Ends below l) at o)), inl refl))
+  moved t u w o (Acts fr ts i e at there met fits same) = grind (arith, nat_tests, acts fr ts i e at, under_frame below ts fr)
+  moved t u w o (Vanishes ts x at there owns same) = grind (arith, nat_tests, resumes below ts, under_going below ts)
   moved t u w o (Empties ts x at there same) = subst (λ v. Moved p below s v) (sym same) (inl (empties_there p x (first_session s.cells x.name (service_of s.cells x.name).sessions) below ts (counted p s) (under_going below ts (under_closing below (Destroy ∷ ts) (subst (λ l. Ends below l) at o)))))
   moved t u w o (Clears code ts items x at top there same) =
       subst (λ v. Moved p below s v) (sym same) (inl (begins_there p x (length items) below (Unwind code ∷ ts) (subst (λ l. Ends below l) at o), inr (inr (An_object, top))))
@@ -273,29 +248,18 @@ module _ (p : Image) (c : Choice) (s : State) (below : List Task) where
 module _ (p : Image) (t : Typing) (s u : State) (before : WellTyped p t s) (after : WellTyped p t u) (below : List Task) (items : List Item) (h : IsTrapping below items s) where
   -- the marks below are those of the traps below
   lower : marks items ≡ traps below
-  lower =
-      let a = all_matched p t s before in
-      let b = ap marks h.stack ∙ marks_join h.entries (A_mark ∷ items) in
-      let d = ap traps h.tasks ∙ traps_join h.over (Trapped ∷ below) in
-      omega (arith, a, b, d, h.matched)
+  lower = grind (arith, nat_tests, all_matched p t s before, marks_join h.entries (A_mark ∷ items), traps_join h.over (Trapped ∷ below))
 
   -- with these entries over the mark
   kept_by : (over : List Task) → u.tasks ≡ over ++ (Trapped ∷ below) → (entries : List Item) → u.items ≡ entries ++ (A_mark ∷ items) → IsTrapping below items u
   kept_by over at entries stack = record { over = over; tasks = at; entries = entries; stack = stack; matched = same }
     where
       same : marks entries ≡ traps over
-      same =
-          let a = all_matched p t u after in
-          let b = ap marks stack ∙ marks_join entries (A_mark ∷ items) in
-          let d = ap traps at ∙ traps_join over (Trapped ∷ below) in
-          omega (arith, a, b, d, lower)
+      same = grind (arith, nat_tests, all_matched p t u after, marks_join entries (A_mark ∷ items), traps_join over (Trapped ∷ below), lower)
 
   -- the mark itself does not go while the trap is there
   not_gone : (over : List Task) → u.tasks ≡ over ++ (Trapped ∷ below) → u.items ≡ items → ⊥
-  not_gone over at e =
-      let a = all_matched p t u after in
-      let d = ap traps at ∙ traps_join over (Trapped ∷ below) in
-      omega (arith, a, ap marks e, d, lower)
+  not_gone over at e = grind (arith, nat_tests, all_matched p t u after, traps_join over (Trapped ∷ below), lower)
 
   by_near : (over : List Task) → u.tasks ≡ over ++ (Trapped ∷ below) → Near s.items u.items → IsTrapping below items u
   by_near over at (inl same) = kept_by over at h.entries (same ∙ h.stack)
@@ -307,19 +271,14 @@ module _ (p : Image) (t : Typing) (s u : State) (before : WellTyped p t s) (afte
       go (x ∷ entries) stack = let same : less.0 ∷ u.items ≡ x ∷ (entries ++ (A_mark ∷ items)) = sym less.1 ∙ stack in kept_by over at entries (ap below_top same)
 
   traps_after : (b tasks : List Task) → GoesOnAfter b tasks → traps tasks ≡ traps b
-  traps_after (Run fr ∷ ts) tasks g = ap traps g.1
-  traps_after (Dispatched d ∷ ts) tasks g = ap traps g.1
-  traps_after _ tasks g = absurd (assumption tt)
+  traps_after x tasks g = grind arith
 
   by_end : GoesOnAfter below u.tasks → u.items ≡ below_top s.items → ComesOff p below s u → IsPast p below items s u
   by_end g e off = record { tasks = g; stack = go h.entries (e ∙ ap below_top h.stack); off = off }
     where
       go : (entries : List Item) → u.items ≡ below_top (entries ++ (A_mark ∷ items)) → u.items ≡ items
       go [] stack = stack
-      go (x ∷ entries) stack =
-          let a = all_matched p t u after in
-          let b = ap marks stack ∙ marks_join entries (A_mark ∷ items) in
-          absurd (omega (arith, a, b, traps_after below u.tasks g, lower))
+      go (x ∷ entries) stack = grind (arith, nat_tests, all_matched p t u after, marks_join entries (A_mark ∷ items), traps_after below u.tasks g, lower)
 
   by_moved : Moved p below s u → IsTrapping below items u ⊎ IsPast p below items s u
   by_moved (inl stays) = inl (by_near stays.0.0 stays.0.1 stays.1)

@@ -1,4 +1,5 @@
 -- What a turn changes: nothing but what no place tells, the request of an object that is completed, what a native that is killed leaves behind, or what a client's command comes to, or all that a dispatch begins with.
+use Rattle.std.proofs.lemmas.Bool.Decides.{nat_tests}
 use Rattle.std.proofs.Common.{arith, Bool, List, None, Option, Some, cond, false, negsuc, pos, refl, subst, sym, true, ℕ, ℤ, ◌∷◌, ◌≡◌}
 use Rattle.std.specs.Ordering.{int_eq}
 use Rattle.aom_image.proofs.Given.{some_given}
@@ -12,13 +13,11 @@ use Rattle.aom_sound.specs.State.{Dispatched, Of_server, Accepts, Serves, Parts,
 use Rattle.aom_sound.specs.World.{Obeys, heard_one, serving, taken_from, message_words, serves_first, accepting, attending, attended, parting_with, picked as any_picked, Completes, Completion, Heard, Kills, Outside, Picks, Polls, Strays, Turning, answered_by, cell_at, dispatched, past_native, polled, run_tasks, turn, turned, turning, with_request}
 use Rattle.std.specs.Prelude.{[], length}
 use Rattle.aom_clients.specs.declared.client.Client.{Client}
-use Rattle.aom_clients.specs.declared.client.Client.TheVariants.{Open}
 use Rattle.aom_clients.specs.declared.refusal.Refusal.{Refusal}
 use Rattle.aom_sound.specs.Clients.{commanded, Listed, connecting, sending, leaving}
 use Rattle.aom_sound.specs.Servers.{is_server}
 use Rattle.aom_sound.specs.Destruction.{begun}
 use Rattle.aom_transcript.specs.declared.event.Command.{Command}
-use Rattle.aom_transcript.specs.declared.event.Command.TheVariants.{Close, Connect, Die, Send}
 
 abbrev pub picked : ℕ → Seat → State → State
 picked m x s =
@@ -55,10 +54,7 @@ pub data Turned (p : Image) (s : State) : State → Type 0 where
   picks : (x : Seat) (u : State) → Picked p s x u → Turned p s u
 
 pub dispatched_so : (p : Image) (s u : State) (x : Seat) → dispatched (part_of p Handles x.object.thing) x s ≡ Goes u → (m : ℕ) × (part_of p Handles x.object.thing ≡ Some m) × (u ≡ picked m x s)
-dispatched_so p s u x e = go (part_of p Handles x.object.thing) refl e
-  where
-    go : (m : Option ℕ) → part_of p Handles x.object.thing ≡ m → dispatched m x s ≡ Goes u → (m : ℕ) × (part_of p Handles x.object.thing ≡ Some m) × (u ≡ picked m x s)
-    go m at e = grind arith
+dispatched_so p s u x e = grind (arith, nat_tests)
 
 -- the first of a server's queue is served
 serves_so : (p : Image) (s u : State) (x : Seat) (queue : List Asked) → serves_first p x queue s ≡ Goes u → Picked p s x u
@@ -83,12 +79,7 @@ picked_so p s u x e = go (is_server p x.object.thing) e
 
 -- steps are counted anew, and natives are polled anew
 pub picked_rest : (p : Image) (s u : State) (x : Seat) → any_picked p x s ≡ Goes u → u.rest ≡ record s.rest { steps = 0; polled = 0 }
-picked_rest p s u x e = elim (picked_so p s u x e) as (λ v d. v.rest ≡ record s.rest { steps = 0; polled = 0 }) [
-  | handles m at ↦ refl
-  | accepts client m at ↦ refl
-  | attends client message m o there at ↦ refl
-  | parts client o there ↦ refl
-]
+picked_rest p s u x e = grind (arith, nat_tests, picked_so p s u x e, handles, accepts, attends, parts)
 
 -- ---- a command of a client
 
@@ -98,23 +89,16 @@ module _ (p : Image) (client : ℕ) (s : State) where
   Keeps_rest u = (u.rest ≡ s.rest) × (u.tasks ≡ s.tasks)
 
   connecting_kept : (refused : Option Refusal) (server : Option Listed) (slots : ℕ) → Keeps_rest (connecting p client s refused server slots)
-  connecting_kept None (Some x) slots = (refl, refl)
-  connecting_kept None None slots = (refl, refl)
-  connecting_kept (Some r) server slots = (refl, refl)
+  connecting_kept x server slots = grind arith
 
   sending_kept : (refused : Option Refusal) (c : Client) (name : ℕ) (words : List ℤ) → Keeps_rest (sending p client s refused c name words)
-  sending_kept None (Open server session slots) name words = (refl, refl)
-  sending_kept _ _ name words = (refl, refl)
+  sending_kept x y name words = grind arith
 
   leaving_kept : (to : Option Client) → Keeps_rest (leaving p client s to)
-  leaving_kept None = (refl, refl)
-  leaving_kept (Some to) = (refl, refl)
+  leaving_kept x = grind arith
 
   pub commanded_kept : (command : Command) (name : ℕ) → Keeps_rest (commanded p client s command name)
-  commanded_kept (Connect class slots) name = connecting_kept _ _ slots
-  commanded_kept (Send words) name = sending_kept _ _ name words
-  commanded_kept Close name = leaving_kept _
-  commanded_kept Die name = leaving_kept _
+  commanded_kept x name = grind (arith, nat_tests, connecting_kept, sending_kept, leaving_kept)
 
 -- ---- a native that is polled
 
@@ -123,8 +107,7 @@ pub recorded_so : (code : ℤ) → int_eq (recorded code) pending ≡ false
 recorded_so code = go (int_eq code pending) refl
   where
     go : (b : Bool) → int_eq code pending ≡ b → int_eq (cond b (negsuc 1) code) pending ≡ false
-    go true e = refl
-    go false e = e
+    go x e = grind arith
 
 -- it completes nothing, or the request of an object
 pub data Polled (n : ℕ) (s : State) : State → Type 0 where
@@ -138,10 +121,7 @@ polled_so p s u n (Some a) e = some_given (λ c. answered_by p n c a.code s ≡ 
 
 -- that it is polled is all that no place tells
 pub polled_rest : (p : Image) (s u : State) (n : ℕ) (answer : Option Completion) → polled p n answer s ≡ Goes u → u.rest ≡ (past_native n s).rest
-polled_rest p s u n answer e = elim (polled_so p s u n answer e) as (λ v d. v.rest ≡ (past_native n s).rest) [
-  | nothing ↦ refl
-  | answers o code ↦ refl
-]
+polled_rest p s u n answer e = grind (arith, nat_tests, polled_so p s u n answer e, nothing, answers)
 
 polled_turned : (p : Image) (s u : State) (n : ℕ) → Polled n s u → Turned p s u
 polled_turned p s u n d = elim d as (λ v d. Turned p s v) [

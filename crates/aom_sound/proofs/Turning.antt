@@ -1,7 +1,8 @@
 -- A turn from a well-typed state goes on to one: a timer completes a request, an object is dispatched, or time passes.
+use Rattle.std.proofs.lemmas.Bool.Decides.{nat_tests}
 use Rattle.std.proofs.Common.{Bool, List, None, Option, Some, [], ap, arith, cond, false, inl, inr, length, refl, subst, sym, true, ℕ, ℤ, ◌&&◌, ◌<◌, ◌==◌, ◌∙◌, ◌∷◌, ◌≡◌, pos}
 use Rattle.std.proofs.lemmas.Bool.{eq-eqb, eqb-true, ne_eqb, true≢false}
-use Rattle.std.specs.Prelude.{is_some, map, nat_le, ◌||◌, nat_lt}
+use Rattle.std.specs.Prelude.{is_some, map, nat_le, ◌||◌}
 use Rattle.std.specs.Ordering.{int_eq}
 use Rattle.aom_image.specs.Image.{Image}
 use Rattle.aom_image.specs.declared.class.ClassKind.{ClassKind}
@@ -33,21 +34,19 @@ use Rattle.aom_sound.proofs.Signals.{at_rest, signals_are_ready, items_at_rest}
 use Rattle.aom_sound.proofs.Storing.{Alike, fits_alike, requested_here, requested_there, rerequested_alike, sits_alike, bereaved_alike, requested_bereaved}
 use Rattle.aom_sound.proofs.Turned.{picked, recorded_so}
 use Rattle.aom_sound.specs.Claims.{Dispatching, Layer, Mark, claim, declared, forms}
-use Rattle.aom_sound.specs.Enlisted.{on_request, part_of, pending, taken_up, completed_with, recorded}
+use Rattle.aom_sound.specs.Enlisted.{on_request, part_of, pending, taken_up, completed_with}
 use Rattle.aom_sound.specs.Kept.{ClientsFit}
 use Rattle.aom_sound.specs.Laws.{IsHandler, IsWired, TurnGoesOn}
 use Rattle.aom_sound.specs.Places.{Asked, Cell, Close_of, Connect_of, Elsewhere, Message_of, Object, Place, Request, Root, Tidy, held, named, requested, seen, service_of}
 use Rattle.aom_sound.specs.Servers.{has_more, is_server}
 use Rattle.aom_sound.specs.Requests.{AllSuit, Known, Suits, resting_in, rests_in, thing_kind}
-use Rattle.aom_sound.specs.State.{A_mark, Inside, Of_object, Rest, Seat, State, Goes, IsStuck, CompletedTwice}
+use Rattle.aom_sound.specs.State.{A_mark, Inside, Of_object, Rest, Seat, State}
 use Rattle.aom_sound.specs.WellTyped.{AllSit, Fits, Good, Keeps, WellTyped, WordFits}
-use Rattle.aom_sound.specs.World.{AnswersWell, Candidate, Completes, Completion, Cuts, Outside, Timed, Turning, among_ready, before_others, by_timer, dispatched, first_due, first_ready, goes_before, goes_now, has_signal, is_ready, picks, turned, with_request, Hears, Kills, Polls, answered_by, by_event, delivers, lives, next_event, next_native, next_time, past_native, picked as any_picked, polled, polls, serves_first, Obeys, heard_one}
-use Rattle.aom_sound.specs.Natives.{all_bereaved, is_outstanding_at, is_owed, is_served_by, terminated, terminated_request}
+use Rattle.aom_sound.specs.World.{AnswersWell, Candidate, Completes, Completion, Cuts, Outside, Timed, Turning, among_ready, before_others, by_timer, dispatched, first_due, first_ready, goes_before, goes_now, has_signal, is_ready, picks, turned, with_request, Polls, answered_by, by_event, delivers, lives, next_event, next_native, next_time, picked as any_picked, polled, polls, serves_first}
+use Rattle.aom_sound.specs.Natives.{all_bereaved, is_outstanding_at, is_served_by, terminated_request}
 use Rattle.aom_transcript.specs.declared.event.Event.{Event}
-use Rattle.aom_transcript.specs.declared.event.Event.TheVariants.{Kill, Tell, Client}
 use Rattle.aom_transcript.specs.declared.event.TimedEvent.{TimedEvent}
 use Rattle.aom_sound.proofs.Obeying.{commanded_well}
-use Rattle.aom_sound.specs.Clients.{client_count}
 
 -- ---- the object that is picked
 
@@ -66,7 +65,7 @@ found_later c cs y tidy f = record {
 }
   where
     other : (c.object.name == y.seat.object.name) ≡ false
-    other = ne_eqb c.object.name y.seat.object.name (λ same. let clash : Some y.seat.object ≡ None = sym f.lives ∙ sym (ap (λ n. named cs n) same) ∙ tidy.1 in cc)
+    other = grind (arith, nat_tests, ne_eqb c.object.name y.seat.object.name)
 
 module _ (c : Cell) (cs : List Cell) (y : Candidate) (tidy : Tidy (c ∷ cs)) (rest : first_ready cs ≡ Some y → Found cs y) where
   among : (others : Option Candidate) → first_ready cs ≡ others → others ≡ Some y → Found (c ∷ cs) y
@@ -96,8 +95,7 @@ module _ (c : Cell) (cs : List Cell) (y : Candidate) (tidy : Tidy (c ∷ cs)) (r
   of_ready r here false ready e = among (first_ready cs) refl e
 
   of_request : (r : Option Request) → c.request ≡ r → among_ready c r (first_ready cs) ≡ Some y → Found (c ∷ cs) y
-  of_request None here e = among (first_ready cs) refl e
-  of_request (Some r) here e = of_ready r here (goes_now c r) refl e
+  of_request x here e = grind (arith, nat_tests, among, of_ready)
 
 pub found : (cs : List Cell) → Tidy cs → (y : Candidate) → first_ready cs ≡ Some y → Found cs y
 found [] tidy y e = cc
@@ -113,8 +111,7 @@ unfolding sessions_in sessions_of states_of
 idles k r e s = grind arith
 
 or_false : (b : Bool) → (b || false) ≡ b
-or_false true = refl
-or_false false = refl
+or_false x = grind arith
 
 suits_taken : (k : Option ClassKind) (r : Request) → is_ready r ≡ true → Suits k (resting_in (states_of k)) (Some r) → Suits k (resting_in idle) (Some (taken_up r))
 suits_taken k r e s = grind arith
@@ -122,22 +119,13 @@ suits_taken k r e s = grind arith
 -- a request is completed, with a code that tells it from one that is not
 module _ (code : ℤ) (settled : int_eq code pending ≡ false) where
   answered : (b : Bool) → (b && int_eq code pending) ≡ false
-  answered b = ap (λ x. b && x) settled ∙ never b
-    where
-      never : (b : Bool) → (b && false) ≡ false
-      never true = refl
-      never false = refl
+  answered b = grind (arith, nat_tests)
 
   suits_completed : (k : Option ClassKind) (n : Known) (r : Option Request) → Suits k n r → Suits k n (on_request (completed_with code) r)
   suits_completed k n r s = grind arith
 
 suits_bereaved : (served : Bool) (k : Option ClassKind) (n : Known) (r : Option Request) → Suits k n r → Suits k n (cond served (terminated_request r) r)
-suits_bereaved false k n r s = s
-suits_bereaved true k n r s = go (is_owed r)
-  where
-    go : (b : Bool) → Suits k n (cond b (on_request (completed_with terminated) r) r)
-    go true = suits_completed terminated refl k n r s
-    go false = s
+suits_bereaved x k n r s = grind (arith, nat_tests, suits_completed)
 
 module _ (p : Image) (t : Typing) (s : State) (w : WellTyped p t s) (idle_now : s.tasks ≡ []) where
   good : Good p t s.cells []
@@ -211,9 +199,7 @@ module _ (p : Image) (t : Typing) (s : State) (w : WellTyped p t s) (idle_now : 
 
   -- a native is polled, and completes what is outstanding at it
   answered_well : (n : ℕ) (a : Completion) (c : Cell) → is_outstanding_at p n c ≡ true → Keeps p t (answered_by p n (Some c) a.code s)
-  answered_well n a c owed =
-      subst (λ b. Keeps p t (cond b (Goes (past_native n (record s { cells = with_request (completed_with (recorded a.code)) c.object s.cells }))) (IsStuck CompletedTwice))) (sym owed)
-      (completed (recorded a.code) (recorded_so a.code) c.object _)
+  answered_well n a c owed = grind (arith, nat_tests, completed, recorded_so a.code)
 
   polled_well : (n : ℕ) (answer : Option Completion) → AnswersWell p s (Polls n answer) → Keeps p t (polled p n answer s)
   polled_well n None owed = same_well _
@@ -308,42 +294,24 @@ module _ (p : Image) (t : Typing) (s : State) (w : WellTyped p t s) (idle_now : 
         go false plain = object_well y it_is (sym (or_false (is_ready y.request)) ∙ ap (λ q. is_ready y.request || has_more q) (sym (fit.servers y.seat.object it_is.lives plain).0) ∙ it_is.ready)
 
     picks_well : (ready : Option Candidate) → first_ready s.cells ≡ ready → (next : Option ℕ) → Keeps p t (turned p s (picks (is_some ready) ready next))
-    picks_well (Some y) e next = picked_well y e
-    picks_well None e None = same_well _
-    picks_well None e (Some time) = same_well _
+    picks_well x e next = grind (arith, nat_tests, picked_well, same_well)
 
     signal_well : (next : Option ℕ) → Keeps p t (turned p s (picks (has_signal s.cells) (first_ready s.cells) next))
-    signal_well next = subst (λ b. Keeps p t (turned p s (picks b (first_ready s.cells) next))) (sym ((signals_are_ready p t s w).1 idle_now).first) (picks_well (first_ready s.cells) refl next)
+    signal_well next = grind (arith, nat_tests, signals_are_ready p t s w, picks_well)
 
     -- one test after another, as a turn makes them
     poll_well :
         (n : Option ℕ) (answer : Option Completion) (after : Turning) → AnswersWell p s (polls n answer after) → (AnswersWell p s after → Keeps p t (turned p s after)) →
         Keeps p t (turned p s (polls n answer after))
-    poll_well None answer after owed then = then owed
-    poll_well (Some n) answer after owed then = polled_well n answer owed
+    poll_well x answer after owed then = grind (arith, nat_tests, polled_well)
 
     deliver_well : (outside : Outside) (name : ℕ) (event : Event) → named s.cells name ≡ None → Keeps p t (turned p s (delivers outside name s event))
-    deliver_well outside name (Tell n word) free = same_well _
-    deliver_well outside name (Kill n) free = go (lives outside s n)
-      where
-        go : (b : Bool) → Keeps p t (turned p s (cond b (Kills n) Hears))
-        go true = bereaved_well n _ _
-        go false = same_well _
-    deliver_well outside name (Client c command) free = go (nat_lt c client_count)
-      where
-        go : (b : Bool) → Keeps p t (turned p s (cond b (Obeys c command name) Hears))
-        go true = commanded_well p t wired (heard_one s) (same_well _) idle_now fit c command name free
-        go false = same_well _
+    deliver_well outside name x free = grind (arith, nat_tests, same_well, lives outside s, bereaved_well, commanded_well p t wired)
 
     event_well :
         (outside : Outside) (name : ℕ) (next : Option TimedEvent) (after : Turning) → named s.cells name ≡ None → AnswersWell p s (by_event outside name s next after) →
         (AnswersWell p s after → Keeps p t (turned p s after)) → Keeps p t (turned p s (by_event outside name s next after))
-    event_well outside name None after free owed then = then owed
-    event_well outside name (Some e) after free owed then = go (nat_le e.time s.rest.clock) owed
-      where
-        go : (b : Bool) → AnswersWell p s (cond b (delivers outside name s e.event) after) → Keeps p t (turned p s (cond b (delivers outside name s e.event) after))
-        go true owed = deliver_well outside name e.event free
-        go false owed = then owed
+    event_well outside name x after free owed then = grind (arith, nat_tests, deliver_well outside name)
 
     timer_well :
         (next : Option Timed) (after : Turning) → AnswersWell p s (by_timer s next after) → (AnswersWell p s after → Keeps p t (turned p s after)) →

@@ -1,5 +1,6 @@
 -- Each move of an unwinding keeps the typing: an object is destroyed, an operation runs, or the code arrives.
-use Rattle.std.proofs.Common.{Bool, List, [], ap, cond, false, length, refl, subst, sym, true, ℤ, ◌&&◌, ◌==◌, ◌∷◌, ◌≡◌, arith}
+use Rattle.std.proofs.lemmas.Bool.Decides.{nat_tests}
+use Rattle.std.proofs.Common.{List, [], ap, length, refl, true, ℤ, ◌∷◌, ◌≡◌, arith}
 use Rattle.aom_image.specs.Image.{Image}
 use Rattle.aom_shape.specs.Kinds.{entry_kind}
 use Rattle.aom_rules.specs.Requests.{is_cancel}
@@ -8,24 +9,19 @@ use Rattle.aom_shape.specs.declared.kind.Entry.{Entry as Pushed}
 use Rattle.aom_shape.specs.declared.kind.Kind.{Kind}
 use Rattle.aom_sound.proofs.Arrival.{arrives}
 use Rattle.aom_sound.proofs.Dealing.{Dealing, deals}
-use Rattle.aom_sound.specs.Claims.{Dispatching, Layer, Mark, Mark_form, Unwinding, claim, declared, entry_claim, entry_form, forms, items_of, objects, tasks_of}
+use Rattle.aom_sound.specs.Claims.{Dispatching, Layer, Mark, Unwinding, claim, declared, entry_form, forms, items_of, objects, tasks_of}
 use Rattle.aom_sound.specs.Cleanup.{dealt_with, top_is_whole, unwound}
 use Rattle.aom_sound.specs.Laws.{IsWired}
 use Rattle.aom_sound.specs.Places.{Entry, Place, changed}
-use Rattle.aom_sound.specs.State.{Of_server, Accept_left, A_mark, An_object, An_operation, Dispatch, Goes, IsStuck, Item, NullOrDead, State, Unwind}
-use Rattle.aom_sound.specs.WellTyped.{AllUndo, EndsDispatch, Good, Keeps, Leaves, Stack, WellTyped}
+use Rattle.aom_sound.specs.State.{A_mark, An_object, An_operation, Item, State, Unwind}
+use Rattle.aom_sound.specs.WellTyped.{AllUndo, Good, Keeps, Leaves, Stack, WellTyped}
 use Rattle.aom_sound.proofs.Items.{no_mark}
 
 -- one more entry to unwind
 claim_unwinding :
     (p : Image) (d : Place → Kind) (code : ℤ) (e : Pushed) (es : List Pushed) (ls : List Layer) (r : Place) →
     claim p d (Unwinding code (e ∷ es) ∷ ls) r ≡ changed (claim p d (Unwinding code es ∷ ls)) (Entry (length (items_of (Unwinding code es ∷ ls)))) (entry_kind e) r
-claim_unwinding p d code e es ls (Entry k) = go (length (objects es (items_of ls)) == k)
-  where
-    go : (b : Bool) → cond b (entry_kind e) (entry_claim es (items_of ls) k (claim p d ls (Entry k))) ≡ cond (b && true) (entry_kind e) (entry_claim es (items_of ls) k (claim p d ls (Entry k)))
-    go true = refl
-    go false = refl
-claim_unwinding p d code e es ls _ = refl
+claim_unwinding p d code e es ls x = grind arith
 
 module _ (p : Image) (t : Typing) (wired : IsWired p) (typed : IsTyped p t) (s : State) (code : ℤ) where
   -- an entry is left: it is dealt with over the unwinding
@@ -52,22 +48,15 @@ module _ (p : Image) (t : Typing) (wired : IsWired p) (typed : IsTyped p t) (s :
           (e : Pushed) (items : List Item) → forms items ≡ entry_form e ∷ objects es (items_of ls) → top_is_whole s.cells items ≡ true →
           WellTyped p t (dealt_with p items (Unwind code ∷ tasks_of ls) s) → Keeps p t (unwound p code (tasks_of ls) s items)
       go e [] same whole w = cc
-      go e (An_object ∷ items) same whole w = subst (λ b. Keeps p t (cond b (Goes (dealt_with p (An_object ∷ items) (Unwind code ∷ tasks_of ls) s)) (IsStuck NullOrDead))) (sym whole) w
+      go e (An_object ∷ items) same whole w = grind (arith, nat_tests)
       go e (An_operation m x ∷ items) same whole w = w
       go e (A_mark ∷ items) same whole w = absurd (no_mark e cc)
 
   -- none is left: under an unwinding stands its trap
   of_none : (ls : List Layer) → forms s.items ≡ items_of ls → AllUndo p s.items → Good p t s.cells (Unwinding code [] ∷ ls) → Keeps p t (unwound p code (tasks_of ls) s s.items)
   of_none [] same undos good = let clash : Stack p t s.cells Leaves [] = good.stack.1 in cc
-  of_none (Mark gv ∷ ls) same undos good = go s.items same undos
-    where
-      go : (items : List Item) → forms items ≡ Mark_form ∷ items_of ls → AllUndo p items → Keeps p t (unwound p code (tasks_of (Mark gv ∷ ls)) s items)
-      go items same undos = grind (arith, arrives)
-  of_none (Dispatching d seats ∷ ls) same undos good = absurd (no_dispatch d good.stack.1.0)
-    where
-      no_dispatch : (d : Dispatch) → EndsDispatch p d Leaves → ⊥
-      no_dispatch (Of_server x c (Accept_left code)) e = e
-      no_dispatch _ e = e
+  of_none (Mark gv ∷ ls) same undos good = grind (arith, nat_tests, arrives)
+  of_none (Dispatching d seats ∷ ls) same undos good = grind (arith, nat_tests)
   of_none _ same undos good = absurd (assumption tt)
 
   pub unwinds :

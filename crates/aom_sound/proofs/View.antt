@@ -1,5 +1,6 @@
 -- The tasks of a well-typed state as a stack on which only what can stand on a layer is written: for proofs that split what stands under a method, a going cell or a leave.
-use Rattle.std.proofs.Common.{ℕ, arith, List, [], ap, refl, sym, ◌∙◌, ◌∷◌, ◌≡◌, ℤ}
+use Rattle.std.proofs.lemmas.Bool.Decides.{nat_tests}
+use Rattle.std.proofs.Common.{ℕ, arith, List, [], ap, refl, ◌∙◌, ◌∷◌, ◌≡◌, ℤ}
 use Rattle.aom_image.specs.Image.{Image}
 use Rattle.aom_rules.specs.Typing.{Typing}
 use Rattle.aom_sound.specs.Claims.{Ending, Dispatching, Dying, Layer, Mark, Method, Unwinding, tasks_of}
@@ -108,7 +109,4 @@ stacked p t s w = let u = under p t s.cells Now w.layers w.good.stack in (u.0, w
 
 -- nothing stands under a dispatch
 pub under_dispatch : (p : Image) (t : Typing) (s : State) (d : Dispatch) (ts : List Task) → WellTyped p t s → s.tasks ≡ Dispatched d ∷ ts → ts ≡ []
-under_dispatch p t s d ts w at = let k = stacked p t s w in go k.0 (sym at ∙ k.1)
-  where
-    go : (k : Tower) → Dispatched d ∷ ts ≡ all_listed k → ts ≡ []
-    go k e = grind arith
+under_dispatch p t s d ts w at = grind (arith, nat_tests, stacked p t s w)

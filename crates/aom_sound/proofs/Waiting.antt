@@ -1,5 +1,6 @@
 -- A method that waits claims of its object no more than what is declared: of the fields that its class declares by itself, and by the layers below it of the others that the object has as what it counts as.
-use Rattle.std.proofs.Common.{List, None, Option, Some, ap, cond, is_some, refl, sym, true, true≢false, ℕ, ◌∙◌, ◌∷◌, ◌≡◌, []}
+use Rattle.std.proofs.lemmas.Bool.Decides.{nat_tests}
+use Rattle.std.proofs.Common.{arith, List, None, Option, Some, ap, cond, is_some, refl, sym, true, ℕ, ◌∙◌, ◌∷◌, ◌≡◌, []}
 use Rattle.std.proofs.lemmas.Bool.{eq-eqb}
 use Rattle.aom_image.specs.Image.{Image}
 use Rattle.aom_image.specs.declared.method.Thing.{Thing}
@@ -21,7 +22,7 @@ module _ (p : Image) (fr : Frame) (o : Object) (from : Place) (home : fr.home �
   others_in_view :
       (ls : List Layer) → IsApart p fr.view fr.method (Inside o from) ls → (f : ℕ) → is_some (field_thing p (view_holder fr.view) f) ≡ true → field_thing p (holder_of p fr.method) f ≡ None →
       claim p (by_field Declares) ls (Field o.name f) ≡ Declares f
-  others_in_view (Dying x ∷ ls) apart f some none = absurd (true≢false (sym some ∙ ap (λ h. is_some (field_thing p h f)) apart.2.1 ∙ ap is_some none))
+  others_in_view (Dying x ∷ ls) apart f some none = grind (arith, nat_tests)
   others_in_view [] apart f some none = apart.2.0 f some
   others_in_view (Method fr' sh ∷ ls) apart f some none = apart.2.0 f some
   others_in_view (Mark gv ∷ ls) apart f some none = apart.2.0 f some

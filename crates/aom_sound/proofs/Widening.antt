@@ -1,5 +1,5 @@
 -- What stands for a thing may be taken for that thing.
-use Rattle.std.proofs.Common.{Bool, List, None, Option, Some, [], ap, cond, false, refl, subst, suc, sym, true, zero, ℕ, ◌==◌, ◌∙◌, ◌∷◌, ◌≡◌}
+use Rattle.std.proofs.Common.{arith, Bool, List, None, Option, Some, [], ap, cond, false, refl, subst, suc, sym, true, zero, ℕ, ◌==◌, ◌∙◌, ◌∷◌, ◌≡◌}
 use Rattle.std.proofs.lemmas.Bool.{eq-eqb, eqb-true}
 use Rattle.aom_image.specs.Image.{Image}
 use Rattle.aom_image.specs.declared.method.Thing.{Thing}
@@ -65,8 +65,7 @@ module _ (p : Image) where
   hold_widens x Null e r = record { object = refl; fits = go; word = refl }
     where
       go : (h : Sight) (o : Option Object) → Fits p h o Null → Fits p h o (Maybe x Ready)
-      go h None f = tt
-      go h (Some o) f = absurd f
+      go h y f = grind arith
   hold_widens x (Own y Ready) e r = own_widens_more x (Own y Ready) e r
   hold_widens x (Maybe y Ready) e r = record { object = refl; fits = go; word = refl }
     where

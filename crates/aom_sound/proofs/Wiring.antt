@@ -1,7 +1,8 @@
 -- What a linked image gives the laws: main and the destructors are as they must be, what is called does or constructs, and its families are as the laws want them.
+use Rattle.std.proofs.lemmas.Bool.Decides.{nat_tests}
 use Rattle.std.proofs.lemmas.List.{nil_from_length}
-use Rattle.std.proofs.lemmas.Bool.{and_parts, cases_Bool, true≢false}
-use Rattle.std.proofs.Common.{Bool, cond, IfSome, IsSome, IsTrue, List, None, Option, Some, [], ap, arith, false, inl, inr, length, refl, slice_get, subst, sym, true, ℕ, ⊎_elim, ◌<◌, ◌∙◌, ◌∷◌, ◌≡◌}
+use Rattle.std.proofs.lemmas.Bool.{cases_Bool, true≢false}
+use Rattle.std.proofs.Common.{Bool, IfSome, IsSome, IsTrue, List, None, Option, Some, [], ap, arith, false, inl, inr, length, refl, subst, sym, true, ℕ, ◌<◌, ◌∙◌, ◌∷◌, ◌≡◌}
 use Rattle.aom_image.proofs.Given.{none_given, some_given}
 use Rattle.std.specs.Prelude.{is_none, not, replicate, ◌||◌, ◌⊎◌}
 use Rattle.std.proofs.lemmas.Option.{slice_get_cases, slice_get_within}
@@ -9,7 +10,6 @@ use Rattle.aom_image.specs.Image.{Image}
 use Rattle.aom_image.specs.Views.{arguments_in, arguments_of, class_at, class_in, fields_in, gives_in, gives_of, has, instr_at, is_quiet, leaves, leaves_in, method_at, method_class, method_role, quiet_in, role_in}
 use Rattle.aom_instructions.specs.Fits.{InstrFits, limits}
 use Rattle.aom_image.specs.WellFormed.{MethodFits, WellFormed}
-use Rattle.aom_image.specs.declared.class.ClassDecl.{ClassDecl}
 use Rattle.aom_instructions.specs.declared.instr.Instr.{Instr}
 use Rattle.aom_instructions.specs.declared.instr.Instr.TheVariants.{Call, PushOperation, Trap}
 use Rattle.aom_instructions.specs.declared.instr.Target.{Target}
@@ -24,10 +24,10 @@ use Rattle.aom_roles.specs.Classes.{is_session, is_session_in, is_session_kind, 
 use Rattle.aom_roles.specs.Shapes.{HasShape, IsCancel, IsConstruct, IsDo, IsMain, IsShaped, IsTrapped as ShapedTrapped, IsUndo as ShapedUndo, NamesRoles, gives_left, gives_nothing, is_role, is_word, kind_of, gives_word, gives_object, is_object}
 use Rattle.aom_classes.specs.Linked.{IsLinked}
 use Rattle.aom_classes.specs.Needs.{HasActive, KindNeeds, NeedsMet}
-use Rattle.aom_classes.specs.Roles.{is_inherited, keeper_of, main_of, own_role, role_by, role_of, same_role}
+use Rattle.aom_classes.specs.Roles.{is_inherited, main_of, role_of, same_role}
 use Rattle.aom_classes.proofs.Facts.{all_there, at_place, of_method}
 use Rattle.aom_classes.proofs.Playing.{main_found, own_found, role_inherits, same_roles}
-use Rattle.aom_shape.specs.Things.{Member, field_thing, holder_by, holder_of}
+use Rattle.aom_shape.specs.Things.{Member, field_thing, holder_of}
 use Rattle.aom_families.proofs.Weighing.{keeper}
 use Rattle.aom_sound.proofs.Families.{family_kinds, linked_is_family, session_before}
 use Rattle.aom_sound.specs.Laws.{IsAcceptor, IsAnswerer, IsAttendant, IsCalled, IsHandler, IsTrapped, IsWired}
@@ -35,7 +35,7 @@ use Rattle.aom_sound.specs.WellTyped.{IsOfFamily, IsUndo, LeavesNone}
 use Rattle.aom_image.specs.declared.method.Argument.{Argument}
 use Rattle.aom_image.specs.declared.method.Argument.TheVariants.{Word as Takes_word}
 use Rattle.std.specs.List.{list_all}
-use Rattle.aom_roles.specs.States.{active_states, cancel_open, first_of, issued, last_of, server_states, states_of}
+use Rattle.aom_roles.specs.States.{cancel_open, first_of, last_of, server_states, states_of}
 use Rattle.aom_rules.specs.Requests.{is_active_kind, own_kind, unissued}
 use Rattle.aom_shape.specs.Arguments.{after_in, after_of, before_in, before_of}
 use Rattle.aom_image.specs.declared.class.ClassKind.{ClassKind}
@@ -54,10 +54,7 @@ word_given g e = grind arith
 all_words : (xs : List Argument) → IsTrue (list_all is_word xs) → xs ≡ replicate (length xs) Takes_word
 unfolding is_word
 all_words [] w = refl
-all_words (x ∷ xs) w = let parts = and_parts (is_word x) (list_all is_word xs) w in ap (λ y. y ∷ xs) (a_word x parts.0) ∙ ap (λ ys. Takes_word ∷ ys) (all_words xs parts.1)
-  where
-    a_word : (x : Argument) → is_word x ≡ true → x ≡ Takes_word
-    a_word x w = grind arith
+all_words (x ∷ xs) w = grind (arith, nat_tests, all_words xs)
 
 words_alone : (n : ℕ) (xs : List Argument) → length xs ≡ n → IsTrue (list_all is_word xs) → xs ≡ replicate n Takes_word
 words_alone n xs e w = all_words xs w ∙ ap (λ k. replicate k Takes_word) e
@@ -83,10 +80,7 @@ or_left a b h = ap (λ x. x || b) h
 -- a method of no kind of class is of no class
 of_none : (p : Image) (c : Option ℕ) → IfSome c (λ k. k < length p.classes) → is_none (kind_of p c) ≡ true → c ≡ None
 unfolding kind_of kind_in class_at
-of_none p c within e = none_given (λ c. IfSome c (λ k. k < length p.classes) × (is_none (kind_of p c) ≡ true)) c (within, e) there (λ none _. none)
-  where
-    there : (k : ℕ) → (k < length p.classes) × (is_none (kind_of p (Some k)) ≡ true) → ⊥
-    there k h = ⊎_elim (λ found. (let clash : is_none (kind_in (Some found.0)) ≡ true = ap (λ o. is_none (kind_in o)) (sym found.2) ∙ h.1 in cc)) (λ past. omega (arith, h.0, past.0)) (slice_get_cases p.classes k).1
+of_none p c within e = grind (arith, nat_tests, none_given, slice_get_cases p.classes)
 
 -- the method of a role
 role_at : (p : Image) (m : ℕ) (r : Role) → method_role p m ≡ Some r → (d : Method_declared) × (method_at p m ≡ Some d) × (d.role ≡ r)
@@ -96,13 +90,7 @@ role_at p m r e = some_given (λ o. role_in o ≡ Some r) (method_at p m) e (λ 
 -- main works on no object
 pub main_of_none : (p : Image) → IsLinked p → (m : ℕ) → method_role p m ≡ Some Main → own_kind p m ≡ None
 unfolding class_in method_at kind_of
-main_of_none p linked m e =
-    let d = role_at p m Main e in
-    let s : IsMain (kind_of p d.0.class) d.0 = subst (λ x. HasShape x (kind_of p d.0.class) d.0) d.2 (all_there (IsShaped p) p.methods m d.0 linked.shapes d.1).role in
-    ap (λ o. kind_of p (class_in o)) d.1 ∙ none (kind_of p d.0.class) s.of
-  where
-    none : (k : Option ClassKind) → IsTrue (is_none k) → k ≡ None
-    none k e = grind arith
+main_of_none p linked m e = grind (arith, nat_tests, role_at p m Main e, all_there (IsShaped p) p.methods m)
 
 module _ (p : Image) (formed : WellFormed p) (linked : IsLinked p) where
   shaped : (m : ℕ) (d : Method_declared) → method_at p m ≡ Some d → IsShaped p d
@@ -122,9 +110,7 @@ module _ (p : Image) (formed : WellFormed p) (linked : IsLinked p) where
   -- and of a role that is not inherited, of the class itself
   own_its_role : (c m : ℕ) (r : Role) → is_inherited r ≡ false → role_of p c r ≡ Some m → (d : Method_declared) × (method_at p m ≡ Some d) × (d.class ≡ Some c) × (d.role ≡ r) × HasShape r (kind_of p d.class) d
   unfolding role_of
-  own_its_role c m r own e =
-      let d = own_found p c m r (sym (ap (λ b. cond b (role_by p r (keeper_of p c r)) (own_role p c r)) own) ∙ e) in
-      (d.0, d.1, d.2, d.3, of_role m d.0 r d.1 d.3)
+  own_its_role c m r own e = grind (arith, nat_tests, own_found p c m r, of_role m)
 
   main_is : (m : ℕ) → main_of p ≡ Some m → (IsSome (method_at p m)) × (method_role p m ≡ Some Main) × (gives_of p m ≡ Nothing) × (arguments_of p m ≡ [])
   unfolding role_in gives_in arguments_in
@@ -150,23 +136,11 @@ module _ (p : Image) (formed : WellFormed p) (linked : IsLinked p) where
       (c m : ℕ) → role_of p c Destruct ≡ Some m →
       (IsSome (method_at p m)) × (method_role p m ≡ Some Destruct) × IsOfFamily p c m × (leaves p m ≡ false) × (is_quiet p m ≡ true) × (gives_of p m ≡ Nothing) × (arguments_of p m ≡ [])
   unfolding role_in class_in leaves_in quiet_in gives_in arguments_in
-  destructor_is c m e =
-      let d = its_role c m Destruct e in (
-        rw d.1 refl,
-        ap role_in d.1 ∙ ap (λ r. Some r) d.3,
-        d.2,
-        ap leaves_in d.1 ∙ (shaped m d.0 d.1).flags.quiet d.4.flags,
-        ap quiet_in d.1 ∙ d.4.flags,
-        ap gives_in d.1 ∙ nothing_given d.0.gives d.4.gives,
-        ap arguments_in d.1 ∙ nil_from_length d.0.arguments d.4.takes.count,
-      )
+  destructor_is c m e = grind (arith, nat_tests, its_role c m Destruct e, shaped m, nothing_given, nil_from_length)
 
   -- a class has no fields but those of the class whose destructor it has
   destructor_empties : (c m : ℕ) → role_of p c Destruct ≡ Some m → (f : ℕ) → field_thing p (Member c) f ≡ field_thing p (holder_of p m) f
-  destructor_empties c m e f =
-      let k = keeper p linked.parents linked.calls linked.needs c m e in
-      let holder : holder_of p m ≡ Member k.0 = ap (λ r. holder_by r (method_class p m)) (destructor_is c m e).1 ∙ ap (λ k. holder_by (Some Destruct) k) k.1 in
-      ap (λ ts. slice_get ts f) k.2 ∙ ap (λ h. field_thing p h f) (sym holder)
+  destructor_empties c m e f = grind (arith, nat_tests, keeper p linked.parents linked.calls linked.needs c m e, destructor_is c m e)
 
   cancel_is : (m : ℕ) → method_role p m ≡ Some Cancel → (is_quiet p m ≡ true) × (gives_of p m ≡ Nothing)
   unfolding quiet_in gives_in
@@ -179,9 +153,7 @@ module _ (p : Image) (formed : WellFormed p) (linked : IsLinked p) where
       (c m : ℕ) → role_of p c Cancel ≡ Some m →
       (IsSome (method_at p m)) × (method_role p m ≡ Some Cancel) × IsOfFamily p c m × (arguments_of p m ≡ []) × (before_of p m ≡ cancel_open)
   unfolding role_in arguments_in before_in
-  canceller_is c m e =
-      let d = its_role c m Cancel e in
-      (rw d.1 refl, ap role_in d.1 ∙ ap (λ r. Some r) d.3, d.2, ap arguments_in d.1 ∙ nil_from_length d.0.arguments d.4.takes.count, ap before_in d.1 ∙ d.4.begins)
+  canceller_is c m e = grind (arith, nat_tests, its_role c m Cancel e, nil_from_length)
 
   -- what a class needs by its kind
   abbrev Needs : ℕ → Option ClassKind → Type 0
@@ -189,11 +161,7 @@ module _ (p : Image) (formed : WellFormed p) (linked : IsLinked p) where
 
   needs : (c : ℕ) → Needs c (kind_of p (Some c))
   unfolding kind_of kind_in class_at
-  needs c = go (class_at p c) refl
-    where
-      go : (o : Option ClassDecl) → class_at p c ≡ o → Needs c (kind_in o)
-      go None f = tt
-      go (Some d) f = (at_place (NeedsMet p) p.classes c d linked.needs f).kind
+  needs c = grind (arith, nat_tests, at_place (NeedsMet p) p.classes c)
 
   -- a class of active objects has one that cancels, and one that is dispatched for its objects
   active_needs : (c : ℕ) (o : Option ClassKind) → Needs c o → is_active_kind o ≡ true → HasActive p c
@@ -233,16 +201,13 @@ module _ (p : Image) (formed : WellFormed p) (linked : IsLinked p) where
   -- a server has a method that accepts
   has_acceptor : (c session : ℕ) → sessions_at p c ≡ Some session → (m : ℕ) × (role_of p c Accept ≡ Some m)
   unfolding kind_of sessions_in sessions_of
-  has_acceptor c session serves = some_there (role_of p c Accept) (accepts (kind_of p (Some c)) (needs c) serves)
-    where
-      accepts : (o : Option ClassKind) → Needs c o → sessions_in o ≡ Some session → IsSome (role_of p c Accept)
-      accepts o n e = grind arith
+  has_acceptor c session serves = grind (arith, nat_tests, some_there, needs c)
 
   acceptor_is : (c session m : ℕ) → sessions_at p c ≡ Some session → role_of p c Accept ≡ Some m → IsAcceptor p c m session
   unfolding role_in class_in arguments_in gives_in before_in kind_of
   acceptor_is c session m serves e =
       let d = own_its_role c m Accept refl e in
-      let gives : IsTrue (gives_object session d.0.gives) = subst (λ o. IfSome o (λ k. IsTrue (gives_object k d.0.gives))) (ap (λ k. sessions_in (kind_of p k)) d.2 ∙ serves) d.4.gives in record {
+      let gives : IsTrue (gives_object session d.0.gives) = grind (arith, nat_tests) in record {
         there = rw d.1 refl;
         role = ap role_in d.1 ∙ ap (λ r. Some r) d.3;
         class = ap class_in d.1 ∙ d.2;
@@ -266,10 +231,7 @@ module _ (p : Image) (formed : WellFormed p) (linked : IsLinked p) where
   -- what is of a class of sessions has a method that serves, and no sessions
   of_session : (c : ℕ) → is_session p c ≡ true → ((m : ℕ) × (role_of p c Service ≡ Some m)) × (sessions_at p c ≡ None)
   unfolding kind_of is_session_in is_session_kind sessions_in sessions_of
-  of_session c is = let served = serves (kind_of p (Some c)) (needs c) is in (some_there (role_of p c Service) served.0, served.1)
-    where
-      serves : (o : Option ClassKind) → Needs c o → is_session_in o ≡ true → IsSome (role_of p c Service) × (sessions_in o ≡ None)
-      serves o n e = grind arith
+  of_session c is = grind (arith, nat_tests, needs c, some_there)
 
   has_attendant : (c session : ℕ) → sessions_at p c ≡ Some session → (m : ℕ) × (role_of p session Service ≡ Some m)
   has_attendant c session serves = (of_session session (session_before p linked c session serves).1).0
@@ -295,10 +257,7 @@ module _ (p : Image) (formed : WellFormed p) (linked : IsLinked p) where
 
   -- what may be called ends with no request issued
   unissued_part : (whole set : ℕ) → unissued whole ≡ true → IsTrue (has whole set) → unissued set ≡ true
-  unissued_part whole set u h = elim (cases_Bool (has set issued)) as (λ x. not (has set issued) ≡ true) [
-    | inl e ↦ absurd (true≢false (sym u ∙ ap not (has_along whole set issued h e)))
-    | inr e ↦ ap not e
-  ]
+  unissued_part whole set u h = grind (arith, nat_tests, cases_Bool, has_along whole set)
 
   do_ends : (k : Option ClassKind) (d : Method_declared) → IsDo k d → unissued d.after.0 ≡ true
   do_ends (Some (An_active v)) d s = ap not s.settled
@@ -309,43 +268,34 @@ module _ (p : Image) (formed : WellFormed p) (linked : IsLinked p) where
 
   construct_ends : (k : Option ClassKind) (d : Method_declared) → IsConstruct k d → unissued d.after.0 ≡ true
   unfolding states_of
-  construct_ends (Some (An_active v)) d s = unissued_part active_states d.after.0 refl s.ends.within
-  construct_ends (Some (A_server most x)) d s = unissued_part server_states d.after.0 refl s.ends.within
-  construct_ends k d s = unissued_part (states_of k) d.after.0 refl s.ends.within
+  construct_ends k d s = grind (arith, nat_tests, unissued_part)
 
   ends_unissued : (m : ℕ) (d : Method_declared) → method_at p m ≡ Some d → IsTrue (same_role d.role Do || same_role d.role Construct) → unissued (after_of p m) ≡ true
   unfolding after_in
-  ends_unissued m d e names = ap (λ o. unissued (after_in o)) e ∙ elim (one_of (same_role d.role Do) (same_role d.role Construct) names) as (λ x. unissued d.after.0 ≡ true) [
-    | inl h ↦ do_ends (kind_of p d.class) d (of_role m d Do e (same_roles d.role Do h))
-    | inr h ↦ construct_ends (kind_of p d.class) d (of_role m d Construct e (same_roles d.role Construct h))
-  ]
+  ends_unissued m d e names = grind (
+    arith,
+    nat_tests,
+    one_of,
+    do_ends,
+    of_role m d Do e,
+    same_roles d.role Do,
+    construct_ends,
+    of_role m d Construct e,
+    same_roles d.role Construct,
+  )
 
   construct_begins : (m : ℕ) (d : Method_declared) → method_at p m ≡ Some d → d.role ≡ Construct → before_of p m ≡ first_of (kind_of p (method_class p m))
   unfolding before_in class_in
-  construct_begins m d e role = let s : IsConstruct (kind_of p d.class) d = of_role m d Construct e role in ap before_in e ∙ s.begins ∙ sym (ap (λ o. first_of (kind_of p (class_in o))) e)
+  construct_begins m d e role = grind (arith, nat_tests, of_role m d Construct e role)
 
   destruct_states : (c m : ℕ) → role_of p c Destruct ≡ Some m → (before_of p m ≡ states_of (kind_of p (Some c))) × (after_of p m ≡ last_of (kind_of p (Some c)))
   unfolding before_in after_in class_in
-  destruct_states c m e =
-      let d = its_role c m Destruct e in
-      let kind : kind_of p d.0.class ≡ kind_of p (Some c) = ap (λ k. kind_of p k) (sym (ap class_in d.1) ∙ d.2.of) ∙ sym (family_kinds p linked c d.2.class d.2.above) in
-      (ap before_in d.1 ∙ d.4.begins ∙ ap states_of kind, ap after_in d.1 ∙ d.4.ends ∙ ap last_of kind)
+  destruct_states c m e = grind (arith, nat_tests, its_role c m Destruct e, family_kinds p linked c)
 
   -- only a class of active objects has to have a destructor for its requests
   none_destructs : (c : ℕ) → role_of p c Destruct ≡ None → last_of (kind_of p (Some c)) ≡ states_of (kind_of p (Some c))
   unfolding kind_of kind_in class_at last_of states_of
-  none_destructs c none = go (class_at p c) refl
-    where
-      of_kind : (d : ClassDecl) → class_at p c ≡ Some d → (k : ClassKind) → d.kind ≡ k → last_of (Some k) ≡ states_of (Some k)
-      of_kind d e (An_active v) same =
-          let needs = subst (λ k. KindNeeds p c k) same (at_place (NeedsMet p) p.classes c d linked.needs e).kind in
-          let clash : IsSome {T = ℕ} None = subst (λ (o : Option ℕ). IsSome o) none needs.destruct in
-          cc
-      of_kind d e _ same = refl
-
-      go : (o : Option ClassDecl) → class_at p c ≡ o → last_of (kind_in o) ≡ states_of (kind_in o)
-      go None e = refl
-      go (Some d) e = of_kind d e d.kind refl
+  none_destructs c none = grind (arith, nat_tests, needs, at_place (NeedsMet p) p.classes c)
 
   called_is : (m place : ℕ) (target : Target) (m' first c : ℕ) → instr_at p m place ≡ Some (Call target m' first c) → IsCalled p m'
   unfolding role_in is_role
@@ -356,10 +306,7 @@ module _ (p : Image) (formed : WellFormed p) (linked : IsLinked p) where
         there = rw f refl;
         ends = ends_unissued m' d f names;
         begins = λ e. construct_begins m' d f (let same : Some d.role ≡ Some Construct = sym (ap role_in f) ∙ e in cc);
-        role = elim (one_of (same_role d.role Do) (same_role d.role Construct) names) [
-          | inl h ↦ inl (ap role_in f ∙ ap (λ r. Some r) (same_roles d.role Do h))
-          | inr h ↦ inr (ap role_in f ∙ ap (λ r. Some r) (same_roles d.role Construct h))
-        ];
+        role = grind (arith, nat_tests, one_of, same_roles d.role Do, same_roles d.role Construct);
       })
 
   trapped_is : (m place : ℕ) (target : Target) (m' first c : ℕ) → instr_at p m place ≡ Some (Trap target m' first c) → IsTrapped p m'
@@ -390,17 +337,7 @@ module _ (p : Image) (formed : WellFormed p) (linked : IsLinked p) where
   -- a class without a destructor owns nothing
   owns_none : (c : ℕ) → role_of p c Destruct ≡ None → (f : ℕ) → field_thing p (Member c) f ≡ None
   unfolding fields_in class_at
-  owns_none c none f = go (class_at p c) refl
-    where
-      go : (o : Option ClassDecl) → class_at p c ≡ o → slice_get (fields_in o) f ≡ None
-      go None e = refl
-      go (Some d) e = elim (slice_get d.fields f) as (λ t. slice_get d.fields f ≡ t → t ≡ None) [
-        | None ↦ λ g. refl
-        | Some t ↦ λ g.
-            let within = slice_get_within d.fields f t g in
-            let has : IsSome (role_of p c Destruct) = (at_place (NeedsMet p) p.classes c d linked.needs e).owner (omega (arith, within)) in
-            absurd (cc)
-      ] refl
+  owns_none c none f = grind (arith, nat_tests, slice_get_within, at_place (NeedsMet p) p.classes c)
 
 pub linked_is_wired : (p : Image) → WellFormed p → IsLinked p → IsWired p
 linked_is_wired p formed linked = record {

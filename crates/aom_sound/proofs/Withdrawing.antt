@@ -1,4 +1,5 @@
 -- Between dispatches the cells that a client leaves as it closes or dies are well typed: its messages that wait go with their entries.
+use Rattle.std.proofs.lemmas.Bool.Decides.{nat_tests}
 use Rattle.std.proofs.Common.{arith, Bool, List, None, Option, Some, [], ap, cond, false, inl, inr, refl, subst, sym, true, ℕ, ◌&&◌, ◌==◌, ◌∙◌, ◌∷◌, ◌≡◌}
 use Rattle.std.proofs.lemmas.Bool.{eq-eqb, true≢false}
 use Rattle.std.specs.List.{list_any}
@@ -20,7 +21,7 @@ use Rattle.aom_sound.proofs.Sifted.{cell_in, cell_in_sifted, cell_lives, cell_of
 use Rattle.aom_sound.specs.Claims.{declared, declared_field}
 use Rattle.aom_sound.specs.Kept.{ClientsFit, is_message_of}
 use Rattle.aom_sound.specs.Places.{Asked, Cell, Close_of, Connect_of, Elsewhere, Field, Message_of, Object, Place, Queued, Sender, Session, held, named, requested, seen, service_of}
-use Rattle.aom_sound.specs.Requests.{AllSuit, Suits, resting_in, rests_in, thing_kind}
+use Rattle.aom_sound.specs.Requests.{AllSuit}
 use Rattle.aom_sound.specs.Servers.{has_message, has_session, is_from, is_message, is_queue, is_server, left_by, message_thing, session_thing, stays, withdrawn}
 use Rattle.aom_sound.specs.WellTyped.{Fits, Good}
 use Rattle.aom_sound.proofs.Things.{message_plain}
@@ -30,11 +31,7 @@ use Rattle.aom_sound.proofs.Things.{message_plain}
 -- none, where all of that name are of the client
 none_left : (c m : ℕ) (es : List Asked) → ((d : ℕ) → list_any (is_message_of d m) es ≡ true → d ≡ c) → list_any (λ e. is_message m e) (filter (stays c) es) ≡ false
 none_left c m [] own = refl
-none_left c m (Connect_of d ∷ es) own = go (stays c (Connect_of d)) (none_left c m es own)
-  where
-    go : (b : Bool) → list_any (λ e. is_message m e) (filter (stays c) es) ≡ false → list_any (λ e. is_message m e) (cond b (Connect_of d ∷ filter (stays c) es) (filter (stays c) es)) ≡ false
-    go true h = h
-    go false h = h
+none_left c m (Connect_of d ∷ es) own = grind (arith, nat_tests, none_left c m es own)
 none_left c m (Close_of d ∷ es) own = none_left c m es own
 none_left c m (Message_of d k ∷ es) own = go (stays c (Message_of d k)) refl (k == m) refl (none_left c m es (λ i h. own i (or_right ((d == i) && (k == m)) (list_any (is_message_of i m) es) h)))
   where
@@ -56,28 +53,9 @@ stays_there :
     (c m : ℕ) (es : List Asked) → ((d : ℕ) → list_any (is_message_of d m) es ≡ true → (d == c) ≡ false) → list_any (λ e. is_message m e) es ≡ true →
     list_any (λ e. is_message m e) (filter (stays c) es) ≡ true
 stays_there c m [] other h = h
-stays_there c m (Connect_of d ∷ es) other h = go (stays c (Connect_of d)) (stays_there c m es other h)
-  where
-    go : (b : Bool) → list_any (λ e. is_message m e) (filter (stays c) es) ≡ true → list_any (λ e. is_message m e) (cond b (Connect_of d ∷ filter (stays c) es) (filter (stays c) es)) ≡ true
-    go true h = h
-    go false h = h
+stays_there c m (Connect_of d ∷ es) other h = grind (arith, nat_tests, stays_there c m es other h)
 stays_there c m (Close_of d ∷ es) other h = stays_there c m es other h
-stays_there c m (Message_of d k ∷ es) other h =
-    go (k == m) refl (stays c (Message_of d k)) refl h (stays_there c m es (λ i h. other i (or_right ((d == i) && (k == m)) (list_any (is_message_of i m) es) h)))
-  where
-    or_right : (b x : Bool) → x ≡ true → (b || x) ≡ true
-    or_right true x h = refl
-    or_right false x h = h
-
-    go :
-        (x : Bool) → (k == m) ≡ x → (b : Bool) → stays c (Message_of d k) ≡ b → (x || list_any (λ e. is_message m e) es) ≡ true → (list_any (λ e. is_message m e) es ≡ true → list_any (λ e. is_message m e) (filter (stays c) es) ≡ true) →
-        list_any (λ e. is_message m e) (cond b (Message_of d k ∷ filter (stays c) es) (filter (stays c) es)) ≡ true
-    go true e true s h rest = ap (λ b. b || list_any (λ e. is_message m e) (filter (stays c) es)) e
-    go true e false s h rest =
-        let apart : (d == c) ≡ false = other d (ap (λ b. b || list_any (is_message_of d m) es) (ap (λ b. b && (k == m)) (eq-eqb d d refl) ∙ e)) in
-        absurd (true≢false (sym (ap not apart) ∙ s))
-    go false e true s h rest = ap (λ b. b || list_any (λ e. is_message m e) (filter (stays c) es)) e ∙ rest h
-    go false e false s h rest = rest h
+stays_there c m (Message_of d k ∷ es) other h = grind (arith, nat_tests, stays_there c m es, eq-eqb d d)
 
 from_same : (c d : ℕ) (x : Option Sender) → is_from c x ≡ true → is_from d x ≡ true → d ≡ c
 from_same c d x h k = grind arith
@@ -102,9 +80,7 @@ module _ (p : Image) (t : Typing) (clients : List Client) (cs : List Cell) (good
   waiting n m o e = message_plain p o.thing (message n m o e)
 
   service_now : (n : ℕ) → ((service_of left n).queue ≡ filter (stays c) (service_of cs n).queue) × ((service_of left n).sessions ≡ (service_of cs n).sessions)
-  service_now n =
-      let l = service_left p clients cs good.tidy fit c waiting n in
-      (ap (λ l. (service_of l n).queue) (sym (withdrawn_so c cs)) ∙ l.0, ap (λ l. (service_of l n).sessions) (sym (withdrawn_so c cs)) ∙ l.1)
+  service_now n = grind (arith, nat_tests, service_left p clients cs good.tidy fit c waiting n, waiting n, withdrawn_so c cs)
 
   -- what is in no queue stays
   stays_held : (q : Place) → is_queue q ≡ false → held left q ≡ held cs q
@@ -154,18 +130,11 @@ module _ (p : Image) (t : Typing) (clients : List Client) (cs : List Cell) (good
   base q = fits_ready p (seen cs) (seen left) (held cs q) (declared p cs q) (declared_ready p cs q) (good.fits q)
 
   there_still : (q : Place) → is_queue q ≡ false → declared p left q ≡ declared p cs q → Fits p (seen left) (held left q) (declared p left q)
-  there_still q apart kinds = subst (λ y. Fits p (seen left) y (declared p left q)) (sym (stays_held q apart)) (subst (λ k. Fits p (seen left) (held cs q) k) (sym kinds) (base q))
+  there_still q apart kinds = grind (arith, nat_tests, stays_held q apart, base q)
 
   -- a message has no fields and no sessions
   field_kind : (n f : ℕ) → declared_field p (named left n) f ≡ declared_field p (named cs n) f
-  field_kind n f = go (name_left n)
-    where
-      of_message : (o : Object) → o.thing ≡ Message → Null ≡ declared_field p (Some o) f
-      of_message o e = sym (ap (λ x. declared_field p (Some (record { name = o.name; thing = x })) f) e)
-
-      go : IsNamed n → declared_field p (named left n) f ≡ declared_field p (named cs n) f
-      go (inl h) = ap (λ y. declared_field p y f) h.0
-      go (inr h) = ap (λ y. declared_field p y f) h.0 ∙ of_message h.1.0 h.1.2 ∙ sym (ap (λ y. declared_field p y f) h.1.1)
+  field_kind n f = grind (arith, nat_tests, name_left n)
 
   session_kind : (n d : ℕ) → declared p left (Elsewhere (Session n d)) ≡ declared p cs (Elsewhere (Session n d))
   session_kind n d = ap (λ xs. cond (list_any (λ k. k == d) xs) (filled (session_thing p (named left n)) Full) Null) (service_now n).1 ∙ go (name_left n)
@@ -182,11 +151,7 @@ module _ (p : Image) (t : Typing) (clients : List Client) (cs : List Cell) (good
           ap (λ b. cond b (filled (session_thing p (named left n)) Full) Null) none ∙ sym (ap (λ b. cond b (filled (session_thing p (named cs n)) Full) Null) none)
 
   thing_kind_left : (n : ℕ) → message_thing p (named left n) ≡ message_thing p (named cs n)
-  thing_kind_left n = go (name_left n)
-    where
-      go : IsNamed n → message_thing p (named left n) ≡ message_thing p (named cs n)
-      go (inl h) = ap (λ y. message_thing p y) h.0
-      go (inr h) = ap (λ y. message_thing p y) h.0 ∙ sym (ap (λ y. message_thing p y) h.1.1 ∙ ap (λ b. cond b (Some Message) None) (message_plain p h.1.0.thing h.1.2))
+  thing_kind_left n = grind (arith, nat_tests, name_left n, message_plain p)
 
   -- a queue
   module _ (n m : ℕ) where
@@ -200,7 +165,7 @@ module _ (p : Image) (t : Typing) (clients : List Client) (cs : List Cell) (good
     still = list_any (λ e. is_message m e) (filter (stays c) (service_of cs n).queue)
 
     kind_now : declared p left q ≡ cond still kind Null
-    kind_now = ap (λ es. cond (list_any (λ e. is_message m e) es) (filled (message_thing p (named left n)) Full) Null) (service_now n).0 ∙ ap (λ x. cond still (filled x Full) Null) (thing_kind_left n)
+    kind_now = grind (arith, nat_tests, service_now n, thing_kind_left n)
 
     held_now : (x : Option Cell) → cell_in cs q ≡ x → held left q ≡ object_in (after x)
     held_now x e = held_cell left q ∙ ap object_in (cell_in_sifted drops (λ x. left_by c x.service) cs q good.tidy ∙ ap after e)
@@ -209,13 +174,11 @@ module _ (p : Image) (t : Typing) (clients : List Client) (cs : List Cell) (good
     was x e = held_cell cs q ∙ ap object_in e
 
     none_fits : (b : Bool) → Fits p (seen left) None kind → Fits p (seen left) None (cond b kind Null)
-    none_fits true f = f
-    none_fits false f = tt
+    none_fits x f = grind arith
 
     -- nothing was there
     free_fits : (b : Bool) → has_message (service_of cs n) m ≡ b → Fits p (seen left) None (cond b kind Null) → Fits p (seen left) None (cond still kind Null)
-    free_fits true e f = none_fits still f
-    free_fits false e f = subst (λ b. Fits p (seen left) None (cond b kind Null)) (sym (none_stays (λ e. is_message m e) (stays c) (service_of cs n).queue e)) tt
+    free_fits x e f = grind (arith, nat_tests, none_fits, none_stays)
 
     -- a message was there, and goes or stays
     some_fits : (x : Cell) → cell_in cs q ≡ Some x → (g : Bool) → is_from c x.service.sender ≡ g → (b : Bool) → has_message (service_of cs n) m ≡ b → Fits p (seen left) (Some x.object) (cond b kind Null) → Fits p (seen left) (object_in (cond g None (Some (record x { service = left_by c x.service })))) (cond still kind Null)
@@ -254,11 +217,7 @@ module _ (p : Image) (t : Typing) (clients : List Client) (cs : List Cell) (good
   fits r = there_still r refl refl
 
   suits : AllSuit p left []
-  suits y there = go (name_left y.name)
-    where
-      go : IsNamed y.name → Suits (thing_kind p y.thing) (resting_in (rests_in p y)) (requested left y.name)
-      go (inl h) = subst (λ r. Suits (thing_kind p y.thing) (resting_in (rests_in p y)) r) (sym h.1) (good.suits y (sym h.0 ∙ there))
-      go (inr h) = let clash : Some y ≡ None = sym there ∙ h.0 in cc
+  suits y there = grind (arith, nat_tests, name_left y.name)
 
   pub good_withdrawn : Good p t (withdrawn c cs) []
   good_withdrawn = subst (λ l. Good p t l []) (sym (withdrawn_so c cs)) (record { stack = refl; fits = fits; suits = suits; tidy = tidy_sifted drops (λ x. left_by c x.service) cs good.tidy })

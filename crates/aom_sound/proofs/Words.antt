@@ -25,8 +25,7 @@ use Rattle.std.specs.Int.{int_bit_and, int_bit_or, int_bit_xor, int_wrapping_add
 use Rattle.std.specs.Ordering.{int_eq}
 
 is_read : (w : Option ℤ) (k : Kind) → is_word k ≡ true → WordFits w k → is_some w ≡ true
-is_read (Some w) Word e f = refl
-is_read _ _ e f = absurd (grind arith)
+is_read x y e f = grind arith
 
 module _ (p : Image) (t : Typing) (c : Choice) (s : State) (fr : Frame) (sh : Shape) (ls : List Layer) (at_hand : At p t s fr sh ls) where
   -- a register that is claimed to be a word has one
