@@ -14,13 +14,12 @@ use Rattle.aom_sound.specs.Laws.{IsWired}
 use Rattle.aom_sound.specs.Leaves.{IsLeaving, IsOver, Unwinds, deals as dealt_with, leaves, works}
 use Rattle.aom_sound.specs.Moves.{step}
 use Rattle.aom_sound.specs.Places.{named}
-use Rattle.aom_sound.specs.State.{A_mark, Choice, Closing, Destroy, Goes, IsStuck, Item, Outcome, Run, State, Task, Unwind}
+use Rattle.aom_sound.specs.State.{A_mark, Choice, Closing, Destroy, Goes, Item, Outcome, Run, State, Task, Unwind}
 use Rattle.aom_sound.specs.WellTyped.{Keeps, WellTyped}
 
 -- a state that is not stuck leads on
 pub leads_on : (p : Image) (t : Typing) (o : Outcome) → Keeps p t o → (u : State) × (o ≡ Goes u) × WellTyped p t u
-leads_on p t (Goes u) k = (u, refl, k)
-leads_on p t (IsStuck kind) k = absurd k
+leads_on p t x k = grind arith
 
 module _ (p : Image) (t : Typing) (wired : IsWired p) (linked : IsLinked p) (typed : IsTyped p t) (choose : State → Choice) (unused : (s : State) → named s.cells (choose s).name ≡ None)
     (code : ℤ) (below : List Task) (entries items : List Item) (from : State) where

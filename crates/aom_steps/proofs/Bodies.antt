@@ -1,6 +1,6 @@
 -- The bodies of loops round a place.
-use Rattle.std.proofs.Common.{◌≡◌, ◌<◌, ◌≤◌, ◌∙◌, ℕ, zero, suc, Bool, true, false, List, [], ◌∷◌, drop, Some, None, slice_get, ⊎_elim, refl, sym, ap, arith}
-use Rattle.std.specs.Prelude.{◌≢◌, ◌&&◌, ◌||◌, ◌==◌, nat_lt}
+use Rattle.std.proofs.Common.{◌≡◌, ◌<◌, ◌≤◌, ◌∙◌, ℕ, zero, suc, Bool, true, false, List, [], ◌∷◌, drop, Some, slice_get, ⊎_elim, refl, sym, ap, arith}
+use Rattle.std.specs.Prelude.{◌≢◌, ◌||◌, nat_lt}
 use Rattle.std.specs.List.{list_any}
 use Rattle.std.proofs.Math.Seq.{drop-nil}
 use Rattle.std.proofs.lemmas.Bool.{eq-eqb, ltb-true, lt-ltb, true≢false}
@@ -40,8 +40,7 @@ found test (x ∷ xs) (suc k) e =
 found test [] place e = absurd (true≢false (sym e ∙ ap (list_any test) (drop-nil place)))
 
 or_right : (a : Bool) → (a || true) ≡ true
-or_right true = refl
-or_right false = refl
+or_right x = grind arith
 
 pub finds : (test : Instr → Bool) (code : List Instr) (place q : ℕ) (x : Instr) → place ≤ q → slice_get code q ≡ Some x → test x ≡ true → list_any test (drop place code) ≡ true
 finds test (y ∷ xs) zero zero x le s e = let same : y ≡ x = cc in ap (λ b. b || list_any test xs) (ap test same ∙ e)
@@ -56,9 +55,14 @@ unfolding next_in
 ends_so number back i e = grind (arith, nat_tests)
 
 so_ends : (number back : ℕ) (i : Instr) → next_in (Some i) ≡ Some (record { number = number; back = back }) → is_end_of number back i ≡ true
-so_ends number back i e =
-    ap (is_end_of number back) (same_Some i (Next number back) (next_there (Some i) number back e))
-    ∙ ap (λ b. b && (back == back)) (eq-eqb number number refl) ∙ eq-eqb back back refl
+so_ends number back i e = grind (
+  arith,
+  nat_tests,
+  same_Some i (Next number back) (next_there (Some i) number back e),
+  next_there (Some i) number back e,
+  eq-eqb number number,
+  eq-eqb back back,
+)
 
 -- ---- a place within a body
 
@@ -84,17 +88,10 @@ in_body code number p place begins e =
 -- what stands at an ending
 standing_at : (code : List Instr) (q : ℕ) (e : Ending) → next_at code q ≡ Some e → (x : Instr) × (slice_get code q ≡ Some x) × (next_in (Some x) ≡ Some e)
 unfolding next_in
-standing_at code q e h =
-    elim (slice_get code q) as (λ o. next_in o ≡ Some e → (x : Instr) × (o ≡ Some x) × (next_in (Some x) ≡ Some e)) [
-      | None ↦ λ g. absurd (cc)
-      | Some x ↦ λ g. (x, refl, g)
-    ] h
+standing_at code q e h = grind (arith, nat_tests)
 
 pub body_in : (code : List Instr) (number p place : ℕ) → IsIn code number p place → is_in_body code number p place ≡ true
-body_in code number p place w =
-    let x = standing_at code w.end _ w.closes.ends in
-    ap (λ b. b && list_any (is_end_of number (suc p)) (drop place code)) (lt-ltb p place w.after)
-    ∙ finds (is_end_of number (suc p)) code place w.end x.0 w.upto x.1 (so_ends number (suc p) x.0 x.2)
+body_in code number p place w = grind (arith, nat_tests, standing_at code w.end, lt-ltb p place w.after, finds, so_ends number)
 
 -- ---- the numbers of loops within each other
 

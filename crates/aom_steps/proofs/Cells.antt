@@ -1,9 +1,10 @@
 -- How many cells stand, after each change of the cells.
-use Rattle.std.proofs.Common.{◌≡◌, ◌≤◌, ◌∙◌, ℕ, ℤ, suc, Bool, true, false, cond, List, [], ◌∷◌, Option, None, Some, refl, ap, arith}
+use Rattle.std.proofs.lemmas.Bool.Decides.{nat_tests}
+use Rattle.std.proofs.Common.{◌≡◌, ◌≤◌, ◌∙◌, ℕ, ℤ, suc, Bool, true, false, cond, List, [], ◌∷◌, Option, Some, refl, ap, arith}
 use Rattle.aom_image.specs.declared.method.Thing.{Thing}
 use Rattle.aom_sound.specs.Enlisted.{rerequested}
-use Rattle.aom_sound.specs.Places.{Cell, Elsewhere, Going, Object, Place, Register, Request, Service, Session, held, moved, same_place, service_of, set_request, set_service, set_session, set_word_field, with_new, without}
-use Rattle.aom_sound.specs.State.{Accepts, Accept_left, An_object, AtRoot, Dispatch, Home, Inside, Item, Of_server, Static, field_place}
+use Rattle.aom_sound.specs.Places.{Cell, Elsewhere, Going, Object, Place, Register, Request, Service, Session, held, moved, service_of, set_request, set_service, set_session, set_word_field, with_new, without}
+use Rattle.aom_sound.specs.State.{Accepts, Accept_left, Dispatch, Home, Item, Of_server, field_place}
 use Rattle.aom_sound.specs.Calls.{accepted_cells, below_top}
 use Rattle.aom_sound.specs.Clients.{each_unslotted}
 use Rattle.aom_sound.specs.Servers.{all_unslotted, opened, reserved, without_queue}
@@ -17,25 +18,7 @@ use Rattle.aom_sound.specs.Natives.{resessioned}
 -- what moves from a place of a cell that stood
 pub standing_moved : (from to : Place) (cs : List Cell) → is_going from ≡ false → standing (moved from to cs) ≤ standing cs
 standing_moved from to [] e = omega arith
-standing_moved from to (c ∷ cs) e = whole (is_object c.object.thing) (here (same_place c.owner from) refl (standing_moved from to cs e)) (standing_moved from to cs e)
-  where
-    whole : (b : Bool) {x y k j : ℕ} → x ≤ y → k ≤ j → cond b x k ≤ cond b y j
-    whole true le lt = le
-    whole false le lt = lt
-
-    some : (b : Bool) (x y : ℕ) → x ≤ y → cond b x (suc x) ≤ suc y
-    some true x y le = omega (arith, le)
-    some false x y le = omega (arith, le)
-
-    same : (b : Bool) (x y : ℕ) → x ≤ y → cond b x (suc x) ≤ cond b y (suc y)
-    same true x y le = le
-    same false x y le = omega (arith, le)
-
-    here :
-        (b : Bool) → same_place c.owner from ≡ b → standing (moved from to cs) ≤ standing cs →
-        cond (is_going (cond b to c.owner)) (standing (moved from to cs)) (suc (standing (moved from to cs))) ≤ cond (is_going c.owner) (standing cs) (suc (standing cs))
-    here true s le = rw (ap is_going (same_place-true c.owner from s) ∙ e) (some (is_going to) (standing (moved from to cs)) (standing cs) le)
-    here false s le = same (is_going c.owner) (standing (moved from to cs)) (standing cs) le
+standing_moved from to (c ∷ cs) e = grind (arith, nat_tests, standing_moved from to cs e, same_place-true c.owner from)
 
 pub standing_passes : (d i e j : ℕ) (cs : List Cell) → standing (moved (Register d i) (Register e j) cs) ≤ standing cs
 standing_passes d i e j cs = standing_moved (Register d i) (Register e j) cs refl
@@ -71,8 +54,7 @@ redeemed_same order code [] = refl
 redeemed_same order code (c ∷ cs) = ap (λ x. cond (is_object c.object.thing) (cond (is_going c.owner) x (suc x)) x) (redeemed_same order code cs)
 
 pub standing_redeemed : (order : Option ℕ) (code : ℤ) (cs : List Cell) → standing (redeemed_by order code cs) ≡ standing cs
-standing_redeemed None code cs = refl
-standing_redeemed (Some order) code cs = redeemed_same order code cs
+standing_redeemed x code cs = grind (arith, nat_tests, redeemed_same)
 
 opened_same : (n : ℕ) (b : Bool) (cs : List Cell) → standing (set_session n b cs) ≡ standing cs
 opened_same n b [] = refl
@@ -115,12 +97,9 @@ pub standing_gone : (clients : List ℕ) (g : Place) (n : ℕ) (cs : List Cell) 
 standing_gone clients g n cs = omega (arith, standing_unslotted clients (without g (without_queue n cs)), standing_without g (without_queue n cs), standing_unqueued n cs)
 
 pub field_stands : (h : Home) (f : ℕ) → is_going (field_place h f) ≡ false
-field_stands Static f = refl
-field_stands AtRoot f = refl
-field_stands (Inside o from) f = refl
+field_stands x f = grind arith
 
 -- ---- operations
 
 pub operations_below : (items : List Item) → operations (below_top items) ≤ operations items
-operations_below (An_object ∷ items) = omega arith
-operations_below _ = omega arith
+operations_below x = grind arith

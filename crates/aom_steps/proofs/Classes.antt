@@ -1,5 +1,6 @@
 -- What a class costs by the methods that it has: one that runs is of active objects, and one that accepts of servers.
-use Rattle.std.proofs.Common.{◌≡◌, ◌≤◌, ◌+◌, ◌∙◌, ℕ, true, false, Option, Some, None, refl, ap, arith, subst, sym}
+use Rattle.std.proofs.lemmas.Bool.Decides.{nat_tests}
+use Rattle.std.proofs.Common.{◌≡◌, ◌≤◌, ◌+◌, ◌∙◌, ℕ, true, false, Option, Some, refl, ap, arith}
 use Rattle.std.specs.Prelude.{is_some, max}
 use Rattle.std.proofs.Math.Nat.{le-max_left, le-max_right}
 use Rattle.aom_image.specs.Image.{Image}
@@ -20,49 +21,27 @@ use Rattle.aom_bounds.specs.Prices.{Prices, perhaps_price, price}
 use Rattle.aom_steps.specs.Payers.{dispatch_price, object_price}
 use Rattle.aom_sound.proofs.Families.{family_kinds}
 use Rattle.aom_sound.specs.Servers.{is_server}
-use Rattle.aom_image.specs.declared.class.ClassDecl.{ClassDecl}
 
 module _ (p : Image) (linked : IsLinked p) (x : ℕ) where
   shaped : (role : Role) (m : ℕ) → role_of p x role ≡ Some m → (d : Method_declared) × HasShape role (kind_of p (Some x)) d
   unfolding method_at
-  shaped role m e =
-      let w = role_inherits p x m role e in
-      let d = w.method in
-      let all : IsShaped p d = all_there (IsShaped p) p.methods m d linked.shapes w.there in
-      let kind : kind_of p d.class ≡ kind_of p (Some x) = ap (λ k. kind_of p k) w.of ∙ sym (family_kinds p linked x w.class w.family) in
-      (d, subst (λ k. HasShape role k d) kind (subst (λ r. HasShape r (kind_of p d.class) d) w.role all.role))
+  shaped role m e = grind (arith, nat_tests, role_inherits p x m role e, all_there (IsShaped p) p.methods m, family_kinds p linked x)
 
   -- the sessions of a server are no servers
   pub plain_session : (session : ℕ) → sessions_in (kind_of p (Some x)) ≡ Some session → is_server p (An_object_of session) ≡ false
   unfolding kind_of kind_in class_at is_session_in is_session_kind sessions_in sessions_of
-  plain_session session e = of_class (class_at p x) refl e
-    where
-      no_server : (k : Option ClassKind) → is_session_in k ≡ true → is_some (sessions_in k) ≡ false
-      no_server k e = grind arith
-
-      of_class : (o : Option ClassDecl) → class_at p x ≡ o → sessions_in (kind_in o) ≡ Some session → is_server p (An_object_of session) ≡ false
-      of_class o at e = grind arith
+  plain_session session e = grind (arith, nat_tests)
 
   module _ (c : Prices) where
     -- an object that runs is paid for with its `error` method
     pub run_price : (m : ℕ) → role_of p x Handles ≡ Some m → price c m + perhaps_price c (role_of p x Error) ≤ object_price p c x
     unfolding is_active_in
-    run_price m e = go (kind_of p (Some x)) refl (shaped Handles m e).1.of
-      where
-        go : (k : Option ClassKind) → kind_of p (Some x) ≡ k → is_active_in k ≡ true → price c m + perhaps_price c (role_of p x Error) ≤ object_price p c x
-        go k at active = grind arith
+    run_price m e = grind (arith, nat_tests, shaped Handles m e)
 
     -- no server has one
     no_answer : (k : Option ClassKind) → kind_of p (Some x) ≡ k → is_some (sessions_in k) ≡ true → perhaps_price c (role_of p x Error) ≡ 0
     unfolding is_active_in sessions_in sessions_of
-    no_answer k at server = go (role_of p x Error) refl
-      where
-        clash : (k : Option ClassKind) → is_some (sessions_in k) ≡ true → is_active_in k ≡ true → ⊥
-        clash k server active = grind arith
-
-        go : (m : Option ℕ) → role_of p x Error ≡ m → perhaps_price c m ≡ 0
-        go None e = refl
-        go (Some m) e = absurd (clash k server (subst (λ j. is_active_in j ≡ true) at (shaped Error m e).1.of))
+    no_answer k at server = grind (arith, nat_tests, shaped Error)
 
     -- each dispatch of a server is within its price
     pub record ServerPrice (session : ℕ) : Type 0 where

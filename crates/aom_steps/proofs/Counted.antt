@@ -1,15 +1,13 @@
 -- The steps that are counted after a move: at most those before it and those that it is, or none as the dispatch of an object ends.
-use Rattle.std.proofs.Common.{◌≡◌, ◌≤◌, ◌+◌, ◌∙◌, ℕ, true, false, cond, List, ◌∷◌, ap, arith}
+use Rattle.std.proofs.Common.{◌≡◌, ◌≤◌, ◌+◌, ◌∙◌, ℕ, true, false, cond, List, ap, arith}
 use Rattle.aom_image.specs.Image.{Image}
 use Rattle.aom_sound.proofs.Counting.{move_steps}
 use Rattle.aom_sound.specs.Counting.{restarts, steps_of}
 use Rattle.aom_sound.specs.Moves.{counted, is_counted, step}
-use Rattle.aom_sound.specs.State.{Choice, Destroy, Goes, Run, State, Task, raised}
+use Rattle.aom_sound.specs.State.{Choice, Goes, State, Task, raised}
 
 counted_less : (ts : List Task) (n : ℕ) → cond (is_counted ts) (raised n) n ≤ n + steps_of ts
-counted_less (Run fr ∷ ts) n = omega arith
-counted_less (Destroy ∷ ts) n = omega arith
-counted_less _ n = omega arith
+counted_less x n = grind arith
 
 module _ (p : Image) (ch : Choice) (s u : State) (goes : step p ch s ≡ Goes u) where
   pub none_counted : restarts p s.tasks ≡ true → u.rest.steps ≡ 0

@@ -1,6 +1,7 @@
 -- What the price of each instruction's place covers: that of the place at which its method goes on, and what begins or is pushed.
+use Rattle.std.proofs.lemmas.Bool.Decides.{nat_tests}
 use Rattle.std.proofs.lemmas.Option.{slice_get_within}
-use Rattle.std.proofs.Common.{inr, inl, ◌≡◌, ◌≤◌, ◌+◌, ◌-◌, ◌∙◌, ℕ, ℤ, zero, suc, Bool, true, false, cond, List, [], ◌∷◌, ◌++◌, ◌==◌, Option, Some, None, refl, ap, subst, sym, arith}
+use Rattle.std.proofs.Common.{inr, inl, ◌≡◌, ◌≤◌, ◌+◌, ◌-◌, ℕ, ℤ, suc, Bool, true, false, cond, List, [], ◌∷◌, ◌++◌, ◌==◌, Option, Some, None, refl, ap, subst, arith}
 use Rattle.std.specs.Ordering.{int_eq}
 use Rattle.std.specs.Prelude.{bit_and, int_lt, is_some}
 use Rattle.aom_image.specs.Image.{Image}
@@ -10,7 +11,7 @@ use Rattle.aom_image.specs.Views.{method_at, method_class, method_role}
 use Rattle.aom_image.specs.declared.method.Role.TheVariants.{Main}
 use Rattle.aom_image.specs.declared.method.Thing.{Thing}
 use Rattle.aom_classes.specs.Loops.{loop_in, next_in}
-use Rattle.aom_shape.specs.Kinds.{field, filled, is_object_or_null, register}
+use Rattle.aom_shape.specs.Kinds.{filled, is_object_or_null, register}
 use Rattle.aom_bounds.proofs.Mosts.{run_has}
 use Rattle.aom_bounds.proofs.Paid.{call_paid, cancel_paid}
 use Rattle.aom_classes.specs.Overriding.{body_of}
@@ -21,22 +22,19 @@ use Rattle.aom_rules.specs.Objects.{flow_jump_empty, flow_jump_null}
 use Rattle.aom_rules.specs.Requests.{enlisted, flow_narrowed, inactive, outstanding, own_kind}
 use Rattle.aom_rules.specs.Rules.{flows, rule_needs}
 use Rattle.aom_shape.specs.Shape.{Shape}
-use Rattle.aom_shape.specs.Things.{field_thing}
 use Rattle.aom_rules.specs.Typing.{Typing}
 use Rattle.aom_shape.specs.declared.kind.Filling.{Filling}
 use Rattle.aom_shape.specs.declared.kind.Filling.TheVariants.{Empty, Full, Perhaps}
 use Rattle.aom_shape.specs.declared.kind.Kind.{Kind}
-use Rattle.aom_shape.specs.declared.kind.Kind.TheVariants.{Null, Own, Maybe}
 use Rattle.aom_sound.proofs.Jumps.{not_empty, not_full}
 use Rattle.aom_sound.proofs.Requesting.{active_listed, busy_in, free_in, listed_in, some_left, unlisted_in}
 use Rattle.aom_sound.proofs.Straight.{At, field_fits, kind_fits}
 use Rattle.aom_sound.specs.Claims.{Layer, tasks_of}
-use Rattle.aom_sound.specs.Effects.{hands_unless, Calls, Cancels, Counts, Destroys, Destroys_last, Effect, Goes_on, Jumps, Leaves, Operates, Pushed, Pushed_operation, Repeats, Returns, Sets_trap, Update, cancels_if, deals, deletes, effect, jumps_if, jumps_unless, makes_unless, round}
+use Rattle.aom_sound.specs.Effects.{Calls, Cancels, Counts, Destroys, Destroys_last, Effect, Goes_on, Jumps, Leaves, Operates, Pushed, Pushed_operation, Repeats, Returns, Sets_trap, Update, cancels_if, deals, deletes, effect, jumps_if, jumps_unless, round}
 use Rattle.aom_sound.specs.Enlisted.{cancel_method, in_phase, is_active, is_busy, own_request}
 use Rattle.aom_sound.specs.Places.{Object, held, seen}
-use Rattle.aom_sound.specs.State.{An_object, An_operation, Choice, Frame, Item, State, Task, counter, field_place, home_holder}
+use Rattle.aom_sound.specs.State.{Choice, Frame, Item, State, Task, counter}
 use Rattle.aom_sound.specs.WellTyped.{Fits}
-use Rattle.aom_sound.specs.Tokens.{is_crowded}
 use Rattle.aom_sound.specs.Words.{here, read}
 use Rattle.aom_bounds.specs.Prices.{AllPaid, IsPriced, Prices, Stands, call_price, cancel_price, kind_price, own, price}
 use Rattle.aom_sound.proofs.Callees.{cancel_family}
@@ -77,25 +75,19 @@ module _ (p : Image) (c : Prices) (fr : Frame) (sh : Shape) where
   Covers (Operates m w) = Affords 1 (suc fr.place)
 
   branches : (b : Bool) (to : ℕ) → Affords 1 (suc fr.place) → Affords 1 to → Covers (jumps_if fr b to)
-  branches true to on away = away
-  branches false to on away = on
+  branches x to on away = grind arith
 
   either : (b : Bool) (code : ℤ) (off : Update) (on : Effect) → Covers (Leaves code off) → Covers on → Covers (cond b (Leaves code off) on)
-  either true code off on x y = x
-  either false code off on x y = y
+  either x code off on y z = grind arith
 
   rounding : (n depth to : ℕ) → Covers (round n depth to)
-  rounding zero depth to = tt
-  rounding (suc n) depth to = tt
+  rounding x depth to = grind arith
 
   deleting : (o : Option Object) (a : ℕ) → Affords (1 + kind_price c (register sh a)) (suc fr.place) → Covers (deletes fr o a)
-  deleting None a pays = omega (arith, pays)
-  deleting (Some o) a pays = pays
+  deleting x a pays = grind arith
 
   dealing : (items : List Item) (o : Option Object) → Affords 1 (suc fr.place) → Covers (deals fr items o)
-  dealing (An_object ∷ items) (Some o) pays = pays
-  dealing (An_operation m w ∷ items) o pays = pays
-  dealing _ o pays = pays
+  dealing x o pays = grind arith
 
 module _ (p : Image) (t : Typing) (c : Prices) (main_none : (m : ℕ) → method_role p m ≡ Some Main → own_kind p m ≡ None) (priced : IsPriced p t c) (ch : Choice) (s : State) (fr : Frame)
     (sh : Shape) (ls : List Layer) (at_hand : At p t s fr sh ls) where
@@ -107,11 +99,7 @@ module _ (p : Image) (t : Typing) (c : Prices) (main_none : (m : ℕ) → method
   on_null :
       (a to : ℕ) (k : Kind) (o : Option Object) → is_object_or_null k ≡ true → AllPaid c fr.method 1 (c.from fr.method fr.place) (flow_jump_null p fr.method fr.place sh k a to) →
       Fits p (seen s.cells) o k → Covers p c fr sh (jumps_unless fr o to)
-  on_null a to Null None need pays fits = pays.0
-  on_null a to (Own x y) (Some o) need pays fits = pays.0
-  on_null a to (Maybe x y) None need pays fits = pays.1.0
-  on_null a to (Maybe x y) (Some o) need pays fits = pays.0
-  on_null a to _ o need pays fits = absurd (first_of (assumption tt, cc))
+  on_null a to x o need pays fits = grind arith
 
   on_empty :
       (f to : ℕ) (x : Option Thing) → is_some x ≡ true → (y : Filling) (o : Option Object) → AllPaid c fr.method 1 (c.from fr.method fr.place) (flow_jump_empty p fr.method fr.place sh y f to) →
@@ -139,18 +127,14 @@ module _ (p : Image) (t : Typing) (c : Prices) (main_none : (m : ℕ) → method
   on_states :
       (there here to : ℕ) (b : Bool) → (b ≡ true → (bit_and sh.states there == 0) ≡ false) → (b ≡ false → (bit_and sh.states here == 0) ≡ false) →
       AllPaid c fr.method 1 (c.from fr.method fr.place) (flow_narrowed sh (suc fr.place) here ++ flow_narrowed sh to there) → Covers p c fr sh (jumps_if fr b to)
-  on_states there here to true some_there some_here pays =
-      narrowed_paid to there (some_there refl) (paid_rest 1 (c.from fr.method fr.place) (flow_narrowed sh (suc fr.place) here) (flow_narrowed sh to there) pays)
-  on_states there here to false some_there some_here pays =
-      narrowed_paid (suc fr.place) here (some_here refl) (paid_first 1 (c.from fr.method fr.place) (flow_narrowed sh (suc fr.place) here) (flow_narrowed sh to there) pays)
+  on_states there here to true some_there some_here pays = grind (arith, nat_tests, narrowed_paid to there, paid_rest 1 (c.from fr.method fr.place))
+  on_states there here to false some_there some_here pays = grind (arith, nat_tests, narrowed_paid, paid_first 1 (c.from fr.method fr.place))
 
   -- ---- a cancel
 
   -- the method that cancels is one that the price counts
   cancel_counted : (m : ℕ) → cancel_method p fr ≡ Some m → price c m ≤ cancel_price p c (method_class p fr.method)
-  cancel_counted m e =
-      let its = cancel_family p fr m at_hand.good.stack.1.view e in
-      subst (λ o. price c m ≤ cancel_price p c o) (sym its.2) (cancel_paid p c its.1 its.0 m its.3 its.4)
+  cancel_counted m e = grind (arith, nat_tests, cancel_family p fr m at_hand.good.stack.1.view e, cancel_paid p c)
 
   on_cancel :
       (b : Bool) (x : Option ℕ) → cancel_method p fr ≡ x → 1 + cancel_price p c (method_class p fr.method) + c.from fr.method (suc fr.place) ≤ c.from fr.method fr.place →
@@ -175,9 +159,15 @@ module _ (p : Image) (t : Typing) (c : Prices) (main_none : (m : ℕ) → method
   covers (JumpEqual a b to) it rule = let f = paid (JumpEqual a b to) it refl refl in branches p c fr sh (int_eq (read fr ts s a) (read fr ts s b)) to f.0 f.1.0
   covers (JumpLess a b to) it rule = let f = paid (JumpLess a b to) it refl refl in branches p c fr sh (int_lt (read fr ts s a) (read fr ts s b)) to f.0 f.1.0
   covers (JumpNull a to) it rule = on_null a to (register sh a) (held s.cells (here fr ts s a)) rule.0 (paid (JumpNull a to) it refl refl) (kind_fits p t ch s fr sh ls at_hand a)
-  covers (JumpEmpty f to) it rule =
-      let some : is_some (field_thing p (home_holder fr.home) f) ≡ true = ap is_some (houses_field p _ _ f at_hand.good.stack.1.holder rule.0) ∙ rule.0 in
-      on_empty f to (field_thing p (home_holder fr.home) f) some (field sh f) (held s.cells (field_place fr.home f)) (paid (JumpEmpty f to) it refl refl) (field_fits p t ch s fr sh ls at_hand f rule.0)
+  covers (JumpEmpty f to) it rule = grind (
+    arith,
+    nat_tests,
+    some,
+    houses_field p,
+    on_empty f to,
+    paid (JumpEmpty f to) it,
+    field_fits p t ch s fr sh ls at_hand f rule.0,
+  )
   covers (JumpActive to) it rule =
       let listed = active_listed (own_kind p fr.method) rule.0 in
       let r = own_request s.cells fr.home in
@@ -189,18 +179,10 @@ module _ (p : Image) (t : Typing) (c : Prices) (main_none : (m : ℕ) → method
       on_states enlisted unlisted to (is_some r) (λ e. left enlisted (listed_in r e)) (λ e. left unlisted (unlisted_in r e)) (paid (JumpAdded to) it refl refl)
   covers (Loop depth rounds) it rule = tt
   covers (Next depth to) it rule = rounding p c fr sh (counter fr depth - 1) depth to
-  covers (New a x) it rule = made ch.refused (paid (New a x) it refl refl).0
-    where
-      made : (b : Bool) → Affords p c fr sh 1 (suc fr.place) → Affords p c fr sh (1 + pushes p c fr sh (makes_unless b ch.name x a)) (suc fr.place)
-      made true pays = pays
-      made false pays = pays
+  covers (New a x) it rule = grind (arith, nat_tests, paid (New a x) it)
   covers (Call target k first x) it rule = (paid (Call target k first x) it refl refl).0
   covers (Trap target k first x) it rule = (paid (Trap target k first x) it refl refl).0
-  covers (Hand a) it rule = handed (is_crowded p s.cells) (paid (Hand a) it refl refl).0
-    where
-      handed : (b : Bool) → Affords p c fr sh 1 (suc fr.place) → Affords p c fr sh (1 + pushes p c fr sh (hands_unless b ch.name a (own_request s.cells fr.home))) (suc fr.place)
-      handed true pays = pays
-      handed false pays = pays
+  covers (Hand a) it rule = grind (arith, nat_tests, paid (Hand a) it)
   covers Cancel it rule = on_cancel (in_phase is_active (own_request s.cells fr.home)) (cancel_method p fr) refl (paid Cancel it refl refl).0
   covers (Leave a) it rule = some (Leave a) it
   covers (Return a) it rule = some (Return a) it

@@ -1,21 +1,19 @@
 -- The effect of each instruction leads to a lower rank.
+use Rattle.std.proofs.lemmas.Bool.Decides.{nat_tests}
 use Rattle.aom_sound.proofs.Overriders.{body_quiet}
 use Rattle.std.proofs.Common.{◌≡◌, ◌<◌, ◌≤◌, ◌+◌, ◌-◌, ◌*◌, ◌∙◌, ℕ, ℤ, suc, inl, inr, Bool, true, false, List, ◌∷◌, length, Option, Some, None, slice_get, refl, sym, ap, arith, subst}
 use Rattle.std.specs.Prelude.{not}
 use Rattle.aom_image.specs.Image.{Image}
-use Rattle.aom_image.specs.Views.{arguments_of, is_quiet, method_at, method_class, method_role}
+use Rattle.aom_image.specs.Views.{arguments_of, is_quiet, method_at, method_class}
 use Rattle.aom_instructions.specs.declared.instr.Instr.{Instr}
-use Rattle.aom_instructions.specs.declared.instr.Instr.TheVariants.{Call, Cancel, Delete, NewOrLeave, Next, Return, Trap}
+use Rattle.aom_instructions.specs.declared.instr.Instr.TheVariants.{Call, Cancel, Delete, Next, Return, Trap}
 use Rattle.aom_instructions.specs.declared.instr.Target.{Target}
 use Rattle.aom_image.specs.declared.method.Gives.{Gives}
 use Rattle.aom_image.specs.declared.method.Method.{Method as Method_declared}
-use Rattle.aom_image.specs.declared.method.Thing.TheVariants.{Object as An_object_of}
-use Rattle.aom_classes.specs.Jumps.{JumpsWell, jump_of}
+use Rattle.aom_classes.specs.Jumps.{jump_of}
 use Rattle.aom_classes.specs.Linked.{IsLinked}
 use Rattle.aom_classes.specs.Loops.{LoopsNest, loop_in}
 use Rattle.aom_classes.proofs.Facts.{at_place}
-use Rattle.aom_rules.specs.Calls.{rule_arguments, rule_target}
-use Rattle.aom_rules.specs.Requests.{is_construct}
 use Rattle.aom_shape.specs.Needs.{AllTrue, only_if}
 use Rattle.aom_rules.specs.Rules.{rule_needs}
 use Rattle.aom_shape.specs.Shape.{Shape}
@@ -24,11 +22,10 @@ use Rattle.aom_sound.proofs.Finishing.{all_parts}
 use Rattle.aom_sound.proofs.Fitting.{straight_by}
 use Rattle.aom_sound.specs.Calls.{run_by, target_view, below_top, passed_cells, returned}
 use Rattle.aom_sound.specs.Cleanup.{to_trap, top_place}
-use Rattle.aom_sound.specs.Effects.{Calls, Cancels, Carried, Counts, Destroys, Destroys_last, Effect, Goes_on, In_field, In_register, The_message, Handed, Replied, Jumps, Leaves, Made, Operates, Popped, Popped_operation, Pushed, Pushed_operation, Repeats, Requested, Returns, Same, Sets_trap, Spot, Update, Written, applied, cells_after, items_after, spot_place, with_words, Sessioned}
+use Rattle.aom_sound.specs.Effects.{Calls, Cancels, Carried, Counts, Destroys, Destroys_last, Effect, Goes_on, Handed, Replied, Jumps, Leaves, Made, Operates, Popped, Popped_operation, Pushed, Pushed_operation, Repeats, Requested, Returns, Same, Sets_trap, Spot, Update, Written, applied, cells_after, items_after, spot_place, with_words, Sessioned}
 use Rattle.aom_sound.specs.Leaves.{LeavesWith}
 use Rattle.aom_sound.specs.Moves.{makes}
-use Rattle.aom_sound.specs.Objects.{no_words}
-use Rattle.aom_sound.specs.Places.{Entry, Going, Object, held, moved}
+use Rattle.aom_sound.specs.Places.{Going, Object, held, moved}
 use Rattle.aom_sound.specs.State.{An_object, An_operation, Choice, Frame, Run, State, Task, Trapped, counter}
 use Rattle.aom_sound.specs.Steps.{Fits, FitsUpdate, Sets}
 use Rattle.aom_sound.specs.WellTyped.{AllUndo}
@@ -45,7 +42,7 @@ use Rattle.aom_image.proofs.Given.{false_given}
 use Rattle.std.proofs.lemmas.Bool.{true≢false}
 use Rattle.aom_shape.specs.Kinds.{is_object}
 use Rattle.aom_sound.specs.Tokens.{next_token, promised, redeemed_by, token_of}
-use Rattle.aom_sound.specs.Enlisted.{begun_cells, cancel_method, cancelling, ended_cells, on_request, own_request}
+use Rattle.aom_sound.specs.Enlisted.{cancel_method, ended_cells, on_request, own_request}
 
 -- ---- an instruction
 
@@ -62,9 +59,7 @@ module _ (p : Image) (linked : IsLinked p) (c : Choice) (s : State) (fr : Frame)
   rest_at cs k = left_in (method_at p fr.method) cs k * price p fr.method
 
   pub paid : (cs : List ℕ) (k : ℕ) → left d.code cs k < left d.code fr.counters fr.place → rest_at cs k + price p fr.method ≤ frame_rank p fr
-  paid cs k less =
-      subst (λ o. left_in o cs k * price p fr.method + price p fr.method ≤ left_in o fr.counters fr.place * price p fr.method) (sym declared_there)
-      (scaled (left d.code cs k) (left d.code fr.counters fr.place) (price p fr.method) less)
+  paid cs k less = grind (arith, nat_tests, scaled)
 
   -- the method goes on there, with as many cells and operations or fewer
   goes : (cs : List ℕ) (k m : ℕ) → left d.code cs k < left d.code fr.counters fr.place → m ≤ standing s.cells + operations s.items → rest_at cs k + beyond + m * cell_rank p < before
@@ -79,9 +74,7 @@ module _ (p : Image) (linked : IsLinked p) (c : Choice) (s : State) (fr : Frame)
 
     to_jump : (to : ℕ) → jump_of i ≡ Some to → rest_at fr.counters to + beyond + (standing s.cells + operations s.items) * cell_rank p < before
     unfolding method_at
-    to_jump to jump =
-        goes fr.counters to (standing s.cells + operations s.items)
-        (jumps d.code fr.counters fr.place to i (at_place (λ _ x. JumpsWell x.code) p.methods fr.method d linked.jumps declared_there) stands jump) (omega arith)
+    to_jump to jump = grind (arith, nat_tests, goes fr.counters to, jumps d.code fr.counters fr.place to i, at_place)
 
   nests : LoopsNest d.code
   unfolding method_at
@@ -107,13 +100,16 @@ module _ (p : Image) (linked : IsLinked p) (c : Choice) (s : State) (fr : Frame)
 
   cancels : (m : ℕ) → slice_get d.code fr.place ≡ Some Cancel → (m < fr.method) × (is_quiet p m ≡ true) → rank p (applied p fr ts s (Cancels m)) < before
   unfolding loop_in
-  cancels m stands below =
-      let less = paid fr.counters (suc fr.place) (straight Cancel stands refl) in
-      let lower = called_lower p fr.method m below.0 (λ q. below.1) in
-      let run = run_paid p m _ lower in
-      let same = standing_asked s.cells fr.home (on_request cancelling (own_request s.cells fr.home)) in
-      let cells = scaled_le (standing (begun_cells fr s.cells) + operations s.items) (standing s.cells + operations s.items) (cell_rank p) (omega (arith, same)) in
-      omega (arith, less, run, cells)
+  cancels m stands below = grind (
+    arith,
+    nat_tests,
+    paid fr.counters,
+    straight Cancel stands,
+    called_lower p fr.method m below.0,
+    run_paid p m,
+    standing_asked s.cells fr.home,
+    scaled_le,
+  )
 
   traps : (target : Target) (m first x : ℕ) → slice_get d.code fr.place ≡ Some (Trap target m first x) → is_quiet p fr.method ≡ false → rank p (applied p fr ts s (Sets_trap target m first)) < before
   unfolding loop_in
@@ -136,19 +132,30 @@ module _ (p : Image) (linked : IsLinked p) (c : Choice) (s : State) (fr : Frame)
   leaves_on :
       (i : Instr) → slice_get d.code fr.place ≡ Some i → loop_in (Some i) ≡ None → is_quiet p fr.method ≡ false → (m : ℕ) → m ≤ suc (standing s.cells + operations s.items) →
       1 + waiting_rank p (to_trap ts) + m * cell_rank p < before
-  leaves_on i stands plain loud m more =
-      let less = paid fr.counters (suc fr.place) (straight i stands plain) in
-      let one = one_more m (standing s.cells + operations s.items) (cell_rank p) more in
-      omega (arith, less, one, to_trap_less (rank_worths p) ts, cell_paid p fr.method loud, cell_two p)
+  leaves_on i stands plain loud m more = grind (
+    arith,
+    nat_tests,
+    paid fr.counters,
+    straight i stands plain,
+    one_more m,
+    to_trap_less,
+    cell_paid p fr.method loud,
+    cell_two p,
+  )
 
   -- an item more, an operation at most
   pushes_on :
       (i : Instr) → slice_get d.code fr.place ≡ Some i → loop_in (Some i) ≡ None → is_quiet p fr.method ≡ false → (m : ℕ) → m ≤ suc (standing s.cells + operations s.items) →
       rest_at fr.counters (suc fr.place) + beyond + m * cell_rank p < before
-  pushes_on i stands plain loud m more =
-      let less = paid fr.counters (suc fr.place) (straight i stands plain) in
-      let one = one_more m (standing s.cells + operations s.items) (cell_rank p) more in
-      omega (arith, less, one, cell_paid p fr.method loud, cell_some p)
+  pushes_on i stands plain loud m more = grind (
+    arith,
+    nat_tests,
+    paid fr.counters,
+    straight i stands plain,
+    one_more m,
+    cell_paid p fr.method loud,
+    cell_some p,
+  )
 
   -- ---- what an update leaves of cells and operations
 
@@ -156,24 +163,23 @@ module _ (p : Image) (linked : IsLinked p) (c : Choice) (s : State) (fr : Frame)
   count_after u = standing (cells_after p fr ts s u) + operations (items_after u s.items)
 
   spot_stands : (x : Spot) → is_going (spot_place p fr ts s x) ≡ false
-  spot_stands (In_register a) = refl
-  spot_stands (In_field f) = field_stands fr.home f
-  spot_stands The_message = refl
+  spot_stands x = grind (arith, nat_tests, field_stands fr.home)
 
   -- one more at most
   more : (u : Update) → count_after u ≤ suc (standing s.cells + operations s.items)
-  more Same = omega arith
-  more (Carried from to) = omega (arith, standing_moved (spot_place p fr ts s from) (spot_place p fr ts s to) s.cells (spot_stands from))
-  more (Made name x a) = omega (arith, standing_new name (An_object_of x) (no_words p x) (here fr ts s a) s.cells)
-  more (Written w v) = omega (arith, standing_stored s.cells fr.home w v)
-  more (Requested r) = omega (arith, standing_asked s.cells fr.home r)
-  more (Sessioned b) = omega (arith, standing_opened s.cells fr.home b)
-  more (Replied a code) = omega (arith, standing_without (here fr ts s a) (redeemed_by (token_of s.cells (held s.cells (here fr ts s a))) code s.cells), standing_redeemed (token_of s.cells (held s.cells (here fr ts s a))) code s.cells)
-  more (Handed name a) = omega (arith, standing_asked s.cells fr.home (on_request (promised (next_token s.cells)) (own_request s.cells fr.home)))
-  more (Pushed a) = omega (arith, standing_moved (here fr ts s a) (Entry (length s.items)) s.cells refl)
-  more (Pushed_operation m w) = omega arith
-  more (Popped a) = omega (arith, standing_moved (top_place s.items) (here fr ts s a) s.cells refl, operations_below s.items)
-  more Popped_operation = omega (arith, operations_below s.items)
+  more x = grind (
+    arith,
+    nat_tests,
+    standing_moved,
+    spot_stands,
+    standing_new,
+    standing_stored s.cells fr.home,
+    standing_asked s.cells fr.home,
+    standing_opened s.cells fr.home,
+    standing_without,
+    standing_redeemed,
+    operations_below s.items,
+  )
 
   -- ---- the effects
 
@@ -189,8 +195,7 @@ module _ (p : Image) (linked : IsLinked p) (c : Choice) (s : State) (fr : Frame)
     loud_maker i e r = grind (arith, loud_by (is_quiet p fr.method))
 
     loud_leaving : (i : Instr) (code : ℤ) → LeavesWith c fr i code → Ruled i → is_quiet p fr.method ≡ false
-    loud_leaving (NewOrLeave a x) code e r = loud_by (is_quiet p fr.method) r.1.0
-    loud_leaving i code e r = first_of (cc, search (loud_leaver p linked fr.method))
+    loud_leaving i code e r = grind (arith, nat_tests, loud_by, loud_leaver p linked fr.method)
 
     -- the method goes on after an update
     goes_after :
@@ -201,8 +206,7 @@ module _ (p : Image) (linked : IsLinked p) (c : Choice) (s : State) (fr : Frame)
     goes_after i stands plain r (Pushed_operation m w) f =
         pushes_on i stands plain (loud_leaver p linked fr.method (subst Ruled f.1 r).1.0) (count_after (Pushed_operation m w)) (more (Pushed_operation m w))
     goes_after i stands plain r Same f = on i stands plain (count_after Same) (omega arith)
-    goes_after i stands plain r (Carried from to) f =
-        on i stands plain (count_after (Carried from to)) (omega (arith, standing_moved (spot_place p fr ts s from) (spot_place p fr ts s to) s.cells (spot_stands from)))
+    goes_after i stands plain r (Carried from to) f = grind (arith, nat_tests, on i stands plain, standing_moved, spot_stands from)
     goes_after i stands plain r (Written w v) f = on i stands plain (count_after (Written w v)) (omega (arith, standing_stored s.cells fr.home w v))
     goes_after i stands plain r (Requested q) f = on i stands plain (count_after (Requested q)) (omega (arith, standing_asked s.cells fr.home q))
     goes_after i stands plain r (Sessioned b) f = on i stands plain (count_after (Sessioned b)) (omega (arith, standing_opened s.cells fr.home b))
@@ -213,11 +217,8 @@ module _ (p : Image) (linked : IsLinked p) (c : Choice) (s : State) (fr : Frame)
 
     -- a round of a loop begins or ends
     counts : (i : Instr) → slice_get d.code fr.place ≡ Some i → (depth n : ℕ) → Sets i depth n → rank p (applied p fr ts s (Counts depth n)) < before
-    counts i stands depth n (inl e) =
-        goes (put_at 0 fr.counters depth n) (suc fr.place) (standing s.cells + operations s.items) (enters d.code fr.counters fr.place depth n nests (stands ∙ ap (λ x. Some x) e)) (omega arith)
-    counts i stands depth n (inr e) =
-        subst (λ k. rank p (applied p fr ts s (Counts depth k)) < before) (sym e.2)
-        (goes (put_at 0 fr.counters depth 0) (suc fr.place) (standing s.cells + operations s.items) (leaves d.code fr.counters fr.place depth e.0 (stands ∙ ap (λ x. Some x) e.1)) (omega arith))
+    counts i stands depth n (inl e) = grind (arith, nat_tests, goes, enters d.code fr.counters fr.place depth n nests, nests)
+    counts i stands depth n (inr e) = grind (arith, nat_tests, goes, leaves d.code fr.counters fr.place depth e.0)
 
     repeats : (depth to n : ℕ) → slice_get d.code fr.place ≡ Some (Next depth to) → counter fr depth - 1 ≡ suc n → rank p (applied p fr ts s (Repeats depth (suc n) to)) < before
     repeats depth to n stands e = goes (put_at 0 fr.counters depth (suc n)) to (standing s.cells + operations s.items) (back d.code fr.counters fr.place depth to n nests stands e) (omega arith)
@@ -260,10 +261,7 @@ module _ (p : Image) (linked : IsLinked p) (c : Choice) (s : State) (fr : Frame)
 
     -- a method that calls a quiet one, or is not quiet
     called_quiet : (target : Target) (m first x : ℕ) → Ruled (Call target m first x) → only_if (is_quiet p fr.method) (is_quiet p m) ≡ true
-    called_quiet target m first x r =
-        let parts = all_parts (rule_target p fr.method sh target m (method_class p m) (is_construct (method_role p m)) first (length (arguments_of p m))) _ r in
-        let others = all_parts (rule_arguments p sh (arguments_of p m) first) _ parts.1 in
-        others.1.1.0
+    called_quiet target m first x r = grind (arith, nat_tests, all_parts)
 
     pub falls :
         AllUndo p s.items → (i : Instr) → slice_get d.code fr.place ≡ Some i → Ruled i → (e : Effect) → Fits p c fr ts s i e →
@@ -273,11 +271,10 @@ module _ (p : Image) (linked : IsLinked p) (c : Choice) (s : State) (fr : Frame)
     falls undos i stands r (Goes_on ch) f returns plain lasts lower = goes_after i stands f.0 r ch.update f.1
     falls undos i stands r (Jumps to) f returns plain lasts lower = to_jump i stands to f
     falls undos i stands r (Counts depth n) f returns plain lasts lower = counts i stands depth n f
-    falls undos i stands r (Repeats depth n to) f returns plain lasts lower =
-        subst (λ k. rank p (applied p fr ts s (Repeats depth k to)) < before) (sym f.2) (repeats depth to f.1 (stands ∙ ap (λ x. Some x) f.0) (f.3 ∙ f.2))
+    falls undos i stands r (Repeats depth n to) f returns plain lasts lower = grind (arith, nat_tests, repeats depth to f.1)
     falls undos i stands r (Calls target m first) f returns plain lasts lower = calls target m first f.0 (stands ∙ ap (λ x. Some x) f.1) (called_quiet target m first f.0 (subst Ruled f.1 r))
-    falls undos i stands r (Cancels m) f returns plain lasts lower = let here = stands ∙ ap (λ x. Some x) f.0 in cancels m here (lower m here f.1)
-    falls undos i stands r (Sets_trap target m first) f returns plain lasts lower = traps target m first f.0 (stands ∙ ap (λ x. Some x) f.1) (loud_by (is_quiet p fr.method) (subst Ruled f.1 r).0)
+    falls undos i stands r (Cancels m) f returns plain lasts lower = grind (arith, nat_tests, cancels m)
+    falls undos i stands r (Sets_trap target m first) f returns plain lasts lower = grind (arith, nat_tests, traps target m first f.0, loud_by)
     falls undos i stands r (Returns g a) f returns plain lasts lower = returns g a (stands ∙ ap (λ x. Some x) f.0)
     falls undos i stands r (Leaves code u) f returns plain lasts lower = leaves_on i stands (straight_by p c fr ts s i (Leaves code u) f) (loud_leaving i code f.1 r) (count_after u) (more u)
     falls undos i stands r (Destroys o a words) f returns plain lasts lower = deletes i stands (straight_by p c fr ts s i (Destroys o a words) f) o a words f.1 (plain a o f.0 f.1)

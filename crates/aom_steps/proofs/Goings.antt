@@ -1,5 +1,6 @@
 -- The cells that go are as many as the destructions at hand.
-use Rattle.std.proofs.Common.{◌≡◌, ◌≤◌, ◌+◌, ◌∙◌, ℕ, suc, Bool, true, false, cond, List, [], ◌∷◌, length, Option, Some, None, refl, sym, ap, arith, subst}
+use Rattle.std.proofs.lemmas.Bool.Decides.{nat_tests}
+use Rattle.std.proofs.Common.{◌≡◌, ◌≤◌, ◌+◌, ◌∙◌, ℕ, suc, Bool, true, false, cond, List, [], ◌∷◌, length, Option, Some, None, refl, sym, ap, arith}
 use Rattle.aom_image.proofs.Given.{false_given, none_given}
 use Rattle.std.specs.Prelude.{◌==◌, ◌&&◌, ◌||◌}
 use Rattle.std.proofs.lemmas.Bool.{eqb-true, false≢true, ne_eqb}
@@ -7,12 +8,11 @@ use Rattle.std.proofs.lemmas.Option.{none-some}
 use Rattle.aom_shape.specs.Kinds.{is_object}
 use Rattle.aom_image.specs.Image.{Image}
 use Rattle.aom_rules.specs.Typing.{Typing}
-use Rattle.aom_shape.specs.declared.kind.Age.TheVariants.{Ready}
-use Rattle.aom_shape.specs.declared.kind.Kind.TheVariants.{Null, Own}
+use Rattle.aom_shape.specs.declared.kind.Kind.TheVariants.{Null}
 use Rattle.aom_sound.proofs.Maps.{held_without, same_place-true, same_place_refl, tidy_without}
 use Rattle.aom_sound.specs.Clients.{count_messages}
 use Rattle.aom_sound.specs.Claims.{Dispatching, Dying, Ending, Layer, Mark, Unwinding, Method, claim, declared, tasks_of}
-use Rattle.aom_sound.specs.Places.{Cell, Going, Object, Place, Sight, Tidy, count_cells, held, same_place, seen, without}
+use Rattle.aom_sound.specs.Places.{Cell, Going, Object, Place, Sight, Tidy, count_cells, held, same_place, without}
 use Rattle.aom_sound.specs.State.{State}
 use Rattle.aom_sound.specs.WellTyped.{Back, Caught, Fits, Gone, Now, Returns, Stack, WellTyped, Leaves}
 use Rattle.aom_steps.specs.RankLaws.{GoesNoMessage}
@@ -38,29 +38,15 @@ all_stand (c ∷ cs) none = here c.owner refl (all_stand cs (λ k. (none_there c
 
 still_stand : (k : ℕ) (cs : List Cell) → staying (without (Going k) cs) ≡ staying cs
 still_stand k [] = refl
-still_stand k (c ∷ cs) = here (same_place c.owner (Going k)) refl (still_stand k cs)
-  where
-    here :
-        (b : Bool) → same_place c.owner (Going k) ≡ b → staying (without (Going k) cs) ≡ staying cs →
-        staying (cond b (without (Going k) cs) (c ∷ without (Going k) cs)) ≡ cond (is_going c.owner) (staying cs) (suc (staying cs))
-    here true e ih = ih ∙ ap (λ b. cond b (staying cs) (suc (staying cs))) (sym (ap is_going (same_place-true c.owner (Going k) e)))
-    here false e ih = ap (λ n. cond (is_going c.owner) n (suc n)) ih
+still_stand k (c ∷ cs) = grind (arith, nat_tests, still_stand k cs, same_place-true c.owner (Going k))
 
 none_without : (g : Place) (cs : List Cell) → held cs g ≡ None → length (without g cs) ≡ length cs
 none_without g [] e = refl
-none_without g (c ∷ cs) e =
-    let parts = none_there c cs g e in
-    ap (λ b. length (cond b (without g cs) (c ∷ without g cs))) parts.0 ∙ ap suc (none_without g cs parts.1)
+none_without g (c ∷ cs) e = grind (arith, nat_tests, none_there c cs g e, none_without g cs)
 
 one_without : (g : Place) (cs : List Cell) (o : Object) → Tidy cs → held cs g ≡ Some o → suc (length (without g cs)) ≡ length cs
 one_without g [] o t e = cc
-one_without g (c ∷ cs) o t e = here (same_place c.owner g) refl (λ h. one_without g cs o t.2 h) e
-  where
-    here :
-        (b : Bool) → same_place c.owner g ≡ b → (held cs g ≡ Some o → suc (length (without g cs)) ≡ length cs) → cond b (Some c.object) (held cs g) ≡ Some o →
-        suc (length (cond b (without g cs) (c ∷ without g cs))) ≡ suc (length cs)
-    here true s ih e = ap suc (none_without g cs (ap (λ r. held cs r) (sym (same_place-true c.owner g s)) ∙ t.0))
-    here false s ih e = ap suc (ih e)
+one_without g (c ∷ cs) o t e = grind (arith, nat_tests, one_without g cs o t.2, none_without g cs, same_place-true c.owner g)
 
 -- ---- layers
 
@@ -106,14 +92,18 @@ counted_cells (Mark gv ∷ ls) cs t h none = counted_cells ls cs t h none
 counted_cells (Unwinding code es ∷ ls) cs t h none = counted_cells ls cs t h none
 counted_cells (Ending o left ∷ ls) cs t h none = counted_cells ls cs t h none
 counted_cells (Dispatching d seats ∷ ls) cs t h none = counted_cells ls cs t h none
-counted_cells (Dying o ∷ ls) cs t h none =
-    let n = length (tasks_of ls) in
-    let ih = counted_cells ls (without (Going n) cs) (tidy_without cs (Going n) t) (held_below cs n ls (omega arith) h.1) (λ k e. left_none k (n == k) refl e) in
-    omega (arith, ih, still_stand n cs, one_without (Going n) cs o t h.0)
-  where
-    left_none : (k : ℕ) (b : Bool) → (length (tasks_of ls) == k) ≡ b → goes_at ls k ≡ false → held (without (Going (length (tasks_of ls))) cs) (Going k) ≡ None
-    left_none k true e f = subst (λ j. held (without (Going (length (tasks_of ls))) cs) (Going j) ≡ None) (eqb-true (length (tasks_of ls)) k e) (same_depth cs (length (tasks_of ls)))
-    left_none k false e f = other_depth cs (length (tasks_of ls)) k e ∙ none k (ap (λ b. b || goes_at ls k) e ∙ f)
+counted_cells (Dying o ∷ ls) cs t h none = grind (
+  arith,
+  nat_tests,
+  counted_cells ls,
+  tidy_without cs,
+  held_below cs,
+  still_stand,
+  one_without,
+  eqb-true,
+  same_depth cs,
+  other_depth cs,
+)
 
 -- ---- well-typed states
 
@@ -134,18 +124,20 @@ claims_none p cs (Mark gv ∷ ls) k e = claims_none p cs ls k e
 claims_none p cs (Unwinding code es ∷ ls) k e = claims_none p cs ls k e
 claims_none p cs (Ending o left ∷ ls) k e = claims_none p cs ls k e
 claims_none p cs (Dispatching d seats ∷ ls) k e = claims_none p cs ls k e
-claims_none p cs (Dying o ∷ ls) k e =
-    let ih : (goes_at ls k ≡ false → claim p (declared p cs) ls (Going k) ≡ Null) = λ h. claims_none p cs ls k h in
-    false_given (λ b. (b || goes_at ls k) ≡ false) (length (tasks_of ls) == k) e (λ e. cc) (λ s e. ap (λ b. cond b (Own o.thing Ready) (claim p (declared p cs) ls (Going k))) s ∙ ih e)
+claims_none p cs (Dying o ∷ ls) k e = grind (arith, nat_tests, claims_none p cs ls k, false_given)
 
 pub nothing_of_null : (p : Image) (h : Sight) (o : Option Object) → Fits p h o Null → o ≡ None
 nothing_of_null p h o f = none_given (λ x. Fits p h x Null) o f (λ x fits. fits) (λ none fits. none)
 
 all_told : (p : Image) (t : Typing) (s : State) → WellTyped p t s → staying s.cells + destructions s.tasks ≡ length s.cells
-all_told p t s w =
-    subst (λ ts. staying s.cells + destructions ts ≡ length s.cells) (sym w.tasks)
-    (counted_cells w.layers s.cells w.good.tidy (stack_held p t s.cells Now w.layers w.good.stack)
-    (λ k e. nothing_of_null p (seen s.cells) (held s.cells (Going k)) (subst (λ x. Fits p (seen s.cells) (held s.cells (Going k)) x) (claims_none p s.cells w.layers k e) (w.good.fits (Going k)))))
+all_told p t s w = grind (
+  arith,
+  nat_tests,
+  counted_cells w.layers s.cells w.good.tidy (stack_held p t s.cells Now w.layers w.good.stack),
+  stack_held p t s.cells Now w.layers w.good.stack,
+  nothing_of_null p,
+  claims_none p s.cells w.layers,
+)
 
 -- ---- and what of them is an object
 

@@ -1,28 +1,26 @@
 -- What comes before servers go is no more after a change of the cells, where those that go stay, and no session is made.
-use Rattle.std.proofs.Common.{◌≡◌, ◌≤◌, ◌<◌, ◌∙◌, ℕ, ℤ, Bool, true, false, cond, List, [], ◌∷◌, length, Option, Some, None, refl, ap, arith, suc}
+use Rattle.std.proofs.lemmas.Bool.Decides.{nat_tests}
+use Rattle.std.proofs.Common.{◌≡◌, ◌≤◌, ◌<◌, ◌∙◌, ℕ, ℤ, false, cond, List, [], ◌∷◌, length, Option, Some, None, refl, ap, arith, suc}
 use Rattle.std.specs.Prelude.{◌==◌, ◌&&◌}
 use Rattle.std.proofs.lemmas.Bool.{ne_eqb}
 use Rattle.aom_image.specs.Image.{Image}
-use Rattle.aom_image.specs.Views.{method_role}
 use Rattle.aom_image.specs.declared.method.Argument.{Argument}
 use Rattle.aom_image.specs.declared.method.Argument.TheVariants.{Own as Takes_own, Word as Takes_word}
 use Rattle.aom_image.specs.declared.method.Gives.{Gives}
-use Rattle.aom_image.specs.declared.method.Gives.TheVariants.{Maybe as A_maybe, Own as An_own}
-use Rattle.aom_rules.specs.Requests.{is_cancel}
 use Rattle.aom_sound.proofs.ClientsMoves.{held_elsewhere}
 use Rattle.aom_sound.proofs.Dropping.{held_dropped, queue_dropped}
 use Rattle.aom_sound.proofs.Maps.{held_without}
 use Rattle.aom_sound.proofs.Redeeming.{redeemed_by_alike}
-use Rattle.aom_sound.specs.Tokens.{next_token, promised, redeemed_by, token_of}
+use Rattle.aom_sound.specs.Tokens.{next_token, promised, redeemed_by}
 use Rattle.aom_sound.proofs.Storing.{held_set_word, rerequested_alike, resessioned_alike}
 use Rattle.aom_sound.specs.Calls.{passed_cells, result_cells}
 use Rattle.aom_sound.specs.Cleanup.{to_trap, top_place}
 use Rattle.aom_sound.specs.Clients.{each_unslotted}
-use Rattle.aom_sound.specs.Effects.{Carried, In_field, In_register, Made, Popped, Popped_operation, Pushed, Pushed_operation, Replied, Handed, Requested, Same, Sessioned, Spot, The_message, Update, Written, cells_after, spot_place}
-use Rattle.aom_sound.specs.Enlisted.{cancelled, ended_cells, on_request, own_request, rerequested}
-use Rattle.aom_sound.specs.Places.{Cell, Entry, Going, Object, Place, Register, Request, held, moved, same_place, without}
+use Rattle.aom_sound.specs.Effects.{Carried, Made, Popped, Popped_operation, Pushed, Pushed_operation, Replied, Handed, Requested, Same, Sessioned, Spot, Update, Written, cells_after, spot_place}
+use Rattle.aom_sound.specs.Enlisted.{ended_cells, on_request, own_request, rerequested}
+use Rattle.aom_sound.specs.Places.{Cell, Entry, Going, Object, Place, Request, held, moved, same_place, without}
 use Rattle.aom_sound.specs.Servers.{all_unslotted, is_queue_of, without_queue}
-use Rattle.aom_sound.specs.State.{AtRoot, Closing, Destroy, Dispatched, Frame, Home, Inside, Run, State, Static, Task, Trapped, Unwind, field_place, resumed}
+use Rattle.aom_sound.specs.State.{Closing, Destroy, Dispatched, Frame, Home, Run, State, Task, Trapped, Unwind, field_place, resumed}
 use Rattle.aom_sound.specs.Words.{here, stored}
 use Rattle.aom_bounds.specs.Prices.{Prices}
 use Rattle.aom_steps.specs.Left.{closing_left, closings_left, goes_below, is_session_with, sessions_left}
@@ -38,8 +36,7 @@ lasts_below m n cs us le h = record { going = λ k lt. h.going k (omega (arith, 
 
 module _ (p : Image) (c : Prices) (cs us : List Cell) where
   same_below : (ts : List Task) → Lasts (length ts) cs us → goes_below us ts ≡ goes_below cs ts
-  same_below (Destroy ∷ ts) h = h.going (length ts) (omega arith)
-  same_below _ h = refl
+  same_below x h = grind arith
 
   pub closing_less : (o : Option Object) → ((n : ℕ) → sessions_left c n us ≤ sessions_left c n cs) → closing_left p c us o ≤ closing_left p c cs o
   closing_less None h = omega arith
@@ -63,8 +60,7 @@ to_trap_closings p c cs _ = refl
 
 -- what waited goes on
 pub resumed_closings : (p : Image) (c : Prices) (cs : List Cell) (ts : List Task) → closings_left p c cs (resumed ts) ≡ closings_left p c cs ts
-resumed_closings p c cs (Run fr ∷ ts) = refl
-resumed_closings p c cs _ = refl
+resumed_closings p c cs x = grind arith
 
 -- ---- changes of the cells
 
@@ -82,9 +78,7 @@ pub going_apart : (depth n : ℕ) → depth ≤ n → IsApart depth (Going n)
 going_apart depth n le k lt = ap (λ b. b && (0 == 0)) (ne_eqb n k (λ e. absurd (omega (arith, le, lt, e))))
 
 field_apart : (depth : ℕ) (h : Home) (f : ℕ) → IsApart depth (field_place h f)
-field_apart depth Static f k lt = refl
-field_apart depth AtRoot f k lt = refl
-field_apart depth (Inside o from) f k lt = refl
+field_apart depth x f k lt = grind arith
 
 pub lasts_moved : (depth : ℕ) (from to : Place) (cs : List Cell) → IsApart depth from → IsApart depth to → ((n : ℕ) → is_session_with n to ≡ false) → Lasts depth cs (moved from to cs)
 lasts_moved depth from to cs a b none = record {
@@ -99,9 +93,7 @@ lasts_without depth from cs a = record {
 }
 
 stored_held : (cs : List Cell) (h : Home) (w : ℕ) (v : ℤ) (q : Place) → held (stored cs h w v) q ≡ held cs q
-stored_held cs Static w v q = refl
-stored_held cs AtRoot w v q = refl
-stored_held cs (Inside o from) w v q = held_set_word cs o.name w v q
+stored_held cs x w v q = grind (arith, nat_tests, held_set_word cs)
 
 lasts_asked : (depth : ℕ) (cs : List Cell) (h : Home) (r : Option Request) → Lasts depth cs (rerequested cs h r)
 lasts_asked depth cs h r = record { going = λ k lt. (rerequested_alike cs h r).held_so (Going k); sessions = λ c n. omega (arith, rerequested_same c (is_session_with n) cs h r) }
@@ -110,25 +102,14 @@ lasts_redeemed : (depth : ℕ) (order : Option ℕ) (code : ℤ) (cs : List Cell
 lasts_redeemed depth order code cs = record { going = λ k lt. (redeemed_by_alike order code cs).held_so (Going k); sessions = λ c n. omega (arith, redeemed_same c (is_session_with n) order code cs) }
 
 pub lasts_ended : (depth : ℕ) (p : Image) (fr : Frame) (cs : List Cell) → Lasts depth cs (ended_cells p fr cs)
-lasts_ended depth p fr cs = go (is_cancel (method_role p fr.method))
-  where
-    r : Option Request
-    r = on_request cancelled (own_request cs fr.home)
-
-    go : (b : Bool) → Lasts depth cs (cond b (rerequested cs fr.home r) cs)
-    go true = lasts_asked depth cs fr.home r
-    go false = lasts_itself depth cs
+lasts_ended depth p fr cs = grind (arith, nat_tests, lasts_asked depth cs fr.home, lasts_itself depth cs)
 
 module _ (depth : ℕ) (p : Image) (fr : Frame) (ts : List Task) (s : State) where
   spot_apart : (x : Spot) → IsApart depth (spot_place p fr ts s x)
-  spot_apart (In_register a) k lt = refl
-  spot_apart (In_field f) k lt = field_apart depth fr.home f k lt
-  spot_apart The_message k lt = refl
+  spot_apart x k lt = grind (arith, nat_tests, field_apart depth fr.home)
 
   spot_no_session : (x : Spot) (n : ℕ) → is_session_with n (spot_place p fr ts s x) ≡ false
-  spot_no_session (In_register a) n = refl
-  spot_no_session (In_field f) n = field_no_session n fr.home f
-  spot_no_session The_message n = refl
+  spot_no_session x n = grind (arith, nat_tests, field_no_session n fr.home)
 
   pub lasts_update : (u : Update) → Lasts depth s.cells (cells_after p fr ts s u)
   lasts_update Same = lasts_itself depth s.cells
@@ -144,9 +125,7 @@ module _ (depth : ℕ) (p : Image) (fr : Frame) (ts : List Task) (s : State) whe
   lasts_update (Pushed_operation m w) = lasts_itself depth s.cells
   lasts_update (Popped a) = lasts_moved depth (top_place s.items) (here fr ts s a) s.cells (λ k lt. refl) (λ k lt. refl) (λ n. refl)
   lasts_update Popped_operation = lasts_itself depth s.cells
-  lasts_update (Replied a code) =
-      let order = token_of s.cells (held s.cells (here fr ts s a)) in
-      lasts_then depth s.cells (redeemed_by order code s.cells) _ (lasts_redeemed depth order code s.cells) (lasts_without depth (here fr ts s a) (redeemed_by order code s.cells) (λ k lt. refl))
+  lasts_update (Replied a code) = grind (arith, nat_tests, lasts_then depth s.cells, lasts_redeemed depth, lasts_without depth)
   lasts_update (Handed name a) =
       let r = on_request (promised (next_token s.cells)) (own_request s.cells fr.home) in
       record { going = (lasts_asked depth s.cells fr.home r).going; sessions = λ c n. omega (arith, (lasts_asked depth s.cells fr.home r).sessions c n) }
@@ -154,14 +133,10 @@ module _ (depth : ℕ) (p : Image) (fr : Frame) (ts : List Task) (s : State) whe
   pub lasts_passed : (to_depth : ℕ) (xs : List Argument) (first to : ℕ) (cs : List Cell) → Lasts depth cs (passed_cells p fr ts s to_depth xs first to cs)
   lasts_passed to_depth [] first to cs = lasts_itself depth cs
   lasts_passed to_depth (Takes_word ∷ xs) first to cs = lasts_passed to_depth xs (suc first) (suc to) cs
-  lasts_passed to_depth (Takes_own t ∷ xs) first to cs =
-      lasts_then depth cs (moved (here fr ts s first) (Register to_depth to) cs) _ (lasts_moved depth (here fr ts s first) (Register to_depth to) cs (λ k lt. refl) (λ k lt. refl) (λ n. refl))
-      (lasts_passed to_depth xs (suc first) (suc to) (moved (here fr ts s first) (Register to_depth to) cs))
+  lasts_passed to_depth (Takes_own t ∷ xs) first to cs = grind (arith, nat_tests, lasts_then depth cs, lasts_moved depth, lasts_passed to_depth xs)
 
   pub lasts_result : (g : Gives) (a x : ℕ) (below : List Task) → Lasts depth s.cells (result_cells p fr ts s g a x below)
-  lasts_result (An_own t) a x below = lasts_moved depth (here fr ts s a) (Register (length below) x) s.cells (λ k lt. refl) (λ k lt. refl) (λ n. refl)
-  lasts_result (A_maybe t) a x below = lasts_moved depth (here fr ts s a) (Register (length below) x) s.cells (λ k lt. refl) (λ k lt. refl) (λ n. refl)
-  lasts_result _ a x below = lasts_itself depth s.cells
+  lasts_result x a y below = grind (arith, nat_tests, lasts_moved depth, lasts_itself depth s.cells)
 
 -- ---- a cell goes, with what waits in its queue
 

@@ -1,7 +1,8 @@
 -- What a run of a method costs those that begin it.
+use Rattle.std.proofs.lemmas.Bool.Decides.{nat_tests}
 use Rattle.aom_families.proofs.Running.{overrides_there, body_runs}
-use Rattle.aom_classes.specs.Overriding.{leads_to, body_of}
-use Rattle.std.proofs.Common.{IsTrue, inr, inl, Bool, IfSome, List, None, Option, Some, [], ap, arith, cond, false, length, refl, slice_get, subst, suc, true, zero, ℕ, ◌*◌, ◌∷◌, ◌+◌, ◌<◌, ◌^◌, ◌∙◌, ◌≡◌, ◌≤◌}
+use Rattle.aom_classes.specs.Overriding.{body_of}
+use Rattle.std.proofs.Common.{Bool, List, None, Option, Some, [], ap, arith, cond, false, length, refl, slice_get, subst, suc, true, zero, ℕ, ◌*◌, ◌+◌, ◌<◌, ◌^◌, ◌∙◌, ◌≡◌, ◌≤◌}
 use Rattle.std.specs.Prelude.{IsSome, position}
 use Rattle.std.proofs.lemmas.Option.{slice_get_within}
 use Rattle.aom_image.specs.Image.{Image}
@@ -14,18 +15,17 @@ use Rattle.aom_image.specs.declared.class.ClassKind.{ClassKind}
 use Rattle.aom_image.specs.declared.method.Role.{Role}
 use Rattle.aom_image.specs.declared.method.Role.TheVariants.{Cancel as Cancel_role, Destruct}
 use Rattle.aom_image.specs.declared.method.Thing.{Thing}
-use Rattle.aom_classes.specs.Calls.{CallsBelow, CallsOrdered, MayCancel, RunsBelow}
+use Rattle.aom_classes.specs.Calls.{CallsBelow, CallsOrdered, RunsBelow}
 use Rattle.aom_classes.specs.Linked.{IsLinked}
-use Rattle.aom_classes.specs.Roles.{destructor_of, is_main, main_of, own_role, role_by, role_of}
+use Rattle.aom_classes.specs.Roles.{is_main, main_of, own_role, role_of}
 use Rattle.aom_roles.specs.Shapes.{FlagsFit, HasShape, IsShaped, kind_of, may_leave, is_quiet as quiet_bit}
 use Rattle.aom_classes.proofs.Facts.{all_there, at_place}
 use Rattle.aom_classes.proofs.Mentioning.{cancels_own}
 use Rattle.aom_roles.proofs.Descending.{through}
 use Rattle.aom_roles.specs.Families.{descends, parent_of}
-use Rattle.aom_sound.specs.Destruction.{begun, begun_by, destructed}
-use Rattle.aom_sound.specs.Servers.{is_server}
+use Rattle.aom_sound.specs.Destruction.{begun, destructed}
 use Rattle.aom_sound.specs.Places.{Object}
-use Rattle.aom_sound.specs.State.{Closing, Destroy, Task}
+use Rattle.aom_sound.specs.State.{Task}
 use Rattle.aom_sound.specs.WellTyped.{IsUndo}
 use Rattle.aom_steps.specs.Ranks.{all_left, base, cell_rank, closing_rank, left_in, level, price, run_rank, spare, tasks_rank, waiting_rank}
 use Rattle.aom_bounds.proofs.Lines.{line_first, line_step}
@@ -43,11 +43,7 @@ left_below ms k m e = one_of_all (λ (x : Method). left x.code [] 0) all_left (�
 
 left_at_begin : (p : Image) (m : ℕ) → left_in (method_at p m) [] 0 ≤ all_left p.methods
 unfolding method_at
-left_at_begin p m = go (slice_get p.methods m) refl
-  where
-    go : (o : Option Method) → slice_get p.methods m ≡ o → left_in o [] 0 ≤ all_left p.methods
-    go None e = omega arith
-    go (Some d) e = left_below p.methods m d e
+left_at_begin p m = grind (arith, nat_tests, left_below p.methods m)
 
 pub price_some : (p : Image) (m : ℕ) → 1 ≤ price p m
 price_some p m = pow_some (spare p) (level p m)
@@ -65,13 +61,7 @@ run_paid p m n lower =
 
 -- what is called has a lower level
 pub called_lower : (p : Image) (m m' : ℕ) → m' < m → (is_quiet p m ≡ true → is_quiet p m' ≡ true) → level p m' < level p m
-called_lower p m m' below quiet = go (is_quiet p m) (is_quiet p m') quiet
-  where
-    go : (b c : Bool) → (b ≡ true → c ≡ true) → cond c m' (suc (suc (length p.methods)) + m') < cond b m (suc (suc (length p.methods)) + m)
-    go true true h = below
-    go true false h = let clash = h refl in cc
-    go false true h = omega (arith, below)
-    go false false h = omega (arith, below)
+called_lower p m m' below quiet = grind (arith, nat_tests)
 
 -- a cell has two at least, and as there is a method, so has what goes before a server
 pub cell_two : (p : Image) → 2 ≤ cell_rank p
@@ -98,11 +88,7 @@ loud_leaver p linked m e = some_given (λ o. leaves_in o ≡ true) (slice_get p.
 
 -- a move of a method that is not quiet pays for a cell
 pub cell_paid : (p : Image) (m : ℕ) → is_quiet p m ≡ false → cell_rank p + cell_rank p ≤ price p m
-cell_paid p m loud =
-    let is : level p m ≡ suc (suc (length p.methods)) + m = ap (λ b. cond b m (suc (suc (length p.methods)) + m)) loud in
-    let twice : cell_rank p + cell_rank p ≤ base p ^ suc (suc (length p.methods)) = pow_twice (spare p) (suc (length p.methods)) in
-    let more : base p ^ suc (suc (length p.methods)) ≤ base p ^ level p m = pow_more (spare p) (suc (suc (length p.methods))) (level p m) (omega (arith, is)) in
-    omega (arith, twice, more)
+cell_paid p m loud = grind (arith, nat_tests, pow_twice, pow_more)
 
 -- ---- destructors
 
@@ -127,24 +113,13 @@ quiet_destructor p linked c m e = role_quiet p linked c m Destruct (λ kind d sh
 -- a whole run of a class's own destructor is paid by a power that is over all quiet methods
 destructor_paid : (p : Image) → IsLinked p → (c : ℕ) → run_rank p (own_role p c Destruct) + 2 ≤ base p ^ length p.methods
 unfolding role_of
-destructor_paid p linked c = go (own_role p c Destruct) refl
-  where
-    go : (o : Option ℕ) → own_role p c Destruct ≡ o → run_rank p o + 2 ≤ base p ^ length p.methods
-    go None own = omega (arith, power_two p linked)
-    go (Some m) own =
-        let w = quiet_destructor p linked c m (ap (role_by p Destruct) (keeper_own p Destruct c m own) ∙ own) in
-        let is : level p m ≡ m = ap (λ b. cond b m (suc (suc (length p.methods)) + m)) w.quiet in
-        run_paid p m (length p.methods) (omega (arith, is, w.within))
+destructor_paid p linked c = grind (arith, nat_tests, power_two p linked, quiet_destructor p linked c, keeper_own p Destruct c, run_paid p)
 
 -- and so many of them by so many
 line_in_paid : (p : Image) → IsLinked p → (n : ℕ) (o : Option ℕ) → line_in p (run_rank p) n o + 2 ≤ suc n * base p ^ length p.methods
 line_in_paid p linked n None = omega (arith, power_two p linked, one_of n (base p ^ length p.methods))
 line_in_paid p linked zero (Some c) = omega (arith, destructor_paid p linked c, one_of 0 (base p ^ length p.methods))
-line_in_paid p linked (suc n) (Some c) =
-    let first = destructor_paid p linked c in
-    let rest = line_in_paid p linked n (parent_of p c) in
-    let both = one_beside (suc n) (base p ^ length p.methods) (run_rank p (own_role p c Destruct)) (line_in p (run_rank p) n (parent_of p c) + 2) (omega (arith, first)) rest in
-    omega (arith, both)
+line_in_paid p linked (suc n) (Some c) = grind (arith, nat_tests, destructor_paid p linked c, line_in_paid p linked n, one_beside (suc n))
 
 -- a line has one of each class at most
 line_paid : (p : Image) → IsLinked p → (x : Thing) → line p (run_rank p) x + 2 ≤ closing_rank p
@@ -164,25 +139,11 @@ line_paid p linked (Object_of c) = go (parent_of p c) refl
 
 -- a line of destructors and the going after it are paid by what goes before a server, with one left
 pub destructed_paid : (p : Image) → IsLinked p → (o : Object) (height : ℕ) (below : List Task) → tasks_rank p (destructed p o height below) + 1 ≤ closing_rank p + waiting_rank p below
-destructed_paid p linked o height below = go (destructor_of p o.thing) refl
-  where
-    go : (d : Option ℕ) → destructor_of p o.thing ≡ d → tasks_rank p (begun_by p d o height below) + 1 ≤ closing_rank p + waiting_rank p below
-    go None is = omega (arith, closing_two p linked)
-    go (Some m) is = omega (arith, line_first p (run_rank p) refl o.thing m is, line_paid p linked o.thing)
+destructed_paid p linked o height below = grind (arith, nat_tests, closing_two p linked, line_first p, line_paid p linked o.thing)
 
 -- a destruction that begins is paid by its cell, with one left
 pub begun_paid : (p : Image) → IsLinked p → (o : Object) (height : ℕ) (below : List Task) → tasks_rank p (begun p o height below) + 1 ≤ cell_rank p + waiting_rank p below
-begun_paid p linked o height below = go (is_server p o.thing)
-  where
-    twice : closing_rank p + closing_rank p ≤ cell_rank p
-    twice =
-        let step : base p ^ suc (length p.methods) ≡ base p * base p ^ length p.methods = pow_step (spare p) (length p.methods) in
-        let more = double_le (suc (length p.classes)) (base p) (base p ^ length p.methods) (omega arith) in
-        omega (arith, step, more)
-
-    go : (b : Bool) → tasks_rank p (cond b (Closing ∷ Destroy ∷ below) (destructed p o height below)) + 1 ≤ cell_rank p + waiting_rank p below
-    go true = omega (arith, twice, closing_two p linked)
-    go false = omega (arith, twice, destructed_paid p linked o height below)
+begun_paid p linked o height below = grind (arith, nat_tests, pow_step, double_le, closing_two p linked, destructed_paid p linked o height below)
 
 -- what an instruction of a method runs comes before the method
 runs_below : (p : Image) → IsLinked p → (m place : ℕ) (d : Method) (i : Instr) → method_at p m ≡ Some d → slice_get d.code place ≡ Some i → RunsBelow p m d.class i
@@ -192,12 +153,7 @@ runs_below p linked m place d i is stands = all_there (RunsBelow p m d.class) d.
 -- so what runs in the place of a method that is called does
 body_before : (p : Image) (m m' : ℕ) (view : Option ℕ) → CallsBelow p m m' → body_of p m' view < m
 unfolding method_at
-body_before p m m' view below = elim (body_runs p m' view) [
-  | inl same ↦ omega (arith, same, below.below)
-  | inr over ↦
-      let k = overrides_there p (body_of p m' view) m' over in
-      subst (λ o. IfSome o (λ d. IsTrue (leads_to p d.over m') → body_of p m' view < m)) k.1 (below.overriders (body_of p m' view)) k.2
-]
+body_before p m m' view below = grind (arith, nat_tests, body_runs p m' view, overrides_there p)
 
 pub called_before :
     (p : Image) → IsLinked p → (m place : ℕ) (d : Method) (target : Target) (m' first c : ℕ) → method_at p m ≡ Some d → slice_get d.code place ≡ Some (Call target m' first c) →
@@ -228,7 +184,10 @@ quiet_canceller p linked c m e = (role_quiet p linked c m Cancel_role (λ kind d
 pub canceller_before :
     (p : Image) → IsLinked p → (m place : ℕ) (d : Method) (c x m' : ℕ) → method_at p m ≡ Some d → slice_get d.code place ≡ Some Cancel → d.class ≡ Some c → descends p x c ≡ true → role_of p x Cancel_role ≡ Some m' →
     m' < m
-canceller_before p linked m place d c x m' is stands class family e =
-    let runs = runs_below p linked m place d Cancel is stands in
-    let below : MayCancel p m c = subst (λ o. IfSome o (MayCancel p m)) class runs in
-    subst (λ o. IfSome o (λ k. k < m)) e (cancels_own p m x (λ y h. below y (through p y x c h family)))
+canceller_before p linked m place d c x m' is stands class family e = grind (
+  arith,
+  nat_tests,
+  runs_below p linked m place d Cancel is stands,
+  cancels_own p m x,
+  through p,
+)

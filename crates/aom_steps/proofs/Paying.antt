@@ -1,8 +1,9 @@
 -- Each effect pays for its step: what a method goes on with, what it calls, destroys or pushes, and where a loop leads.
-use Rattle.std.proofs.Common.{◌≡◌, ◌≤◌, ◌+◌, ◌-◌, ◌*◌, ◌∙◌, ℕ, ℤ, zero, suc, Bool, true, false, cond, inl, inr, List, [], ◌∷◌, length, Option, Some, None, slice_get, refl, sym, ap, arith, subst}
+use Rattle.std.proofs.lemmas.Bool.Decides.{nat_tests}
+use Rattle.std.proofs.Common.{◌≡◌, ◌≤◌, ◌+◌, ◌-◌, ◌*◌, ◌∙◌, ℕ, ℤ, zero, suc, true, false, inl, inr, List, [], ◌∷◌, length, Option, Some, None, slice_get, refl, sym, ap, arith, subst}
 use Rattle.aom_image.specs.Image.{Image}
 use Rattle.aom_image.specs.declared.method.Thing.TheVariants.{Object as An_object_of}
-use Rattle.aom_image.specs.Views.{method_class, arguments_of, method_at, instr_at}
+use Rattle.aom_image.specs.Views.{method_class, arguments_of, method_at}
 use Rattle.aom_instructions.specs.declared.instr.Instr.{Instr}
 use Rattle.aom_instructions.specs.declared.instr.Instr.TheVariants.{Next}
 use Rattle.aom_instructions.specs.declared.instr.Target.{Target}
@@ -11,7 +12,6 @@ use Rattle.aom_image.specs.declared.method.Method.{Method as Method_declared}
 use Rattle.aom_classes.specs.Jumps.{JumpsWell, jump_of}
 use Rattle.aom_classes.specs.Linked.{IsLinked}
 use Rattle.aom_classes.specs.Loops.{LoopsNest, loop_in}
-use Rattle.aom_classes.specs.Roles.{destructor_of}
 use Rattle.aom_classes.proofs.Facts.{at_place}
 use Rattle.aom_shape.specs.Kinds.{register}
 use Rattle.aom_shape.specs.Shape.{Shape}
@@ -24,28 +24,28 @@ use Rattle.aom_image.proofs.Given.{some_given}
 use Rattle.aom_rules.specs.Calls.{parent_above}
 use Rattle.aom_bounds.proofs.Lines.{line_first, line_next}
 use Rattle.aom_bounds.specs.Most.{line, line_after}
-use Rattle.aom_sound.specs.Calls.{run_by, target_view, below_top, accepted_cells, ended_well, passed_cells, result_cells, result_register, returned}
-use Rattle.aom_sound.specs.Claims.{Layer, tasks_of, Dispatching, Dying, Mark, Method, Unwinding}
+use Rattle.aom_sound.specs.Calls.{run_by, target_view, below_top, accepted_cells, ended_well, passed_cells, result_cells, returned}
+use Rattle.aom_sound.specs.Claims.{Layer, tasks_of, Method}
 use Rattle.aom_sound.specs.Cleanup.{top_place}
 use Rattle.aom_sound.specs.Destruction.{begun, begun_by, class_destructor, destructed, line_on, next_destructor}
-use Rattle.aom_sound.specs.Effects.{Calls, Cancels, Carried, Counts, Destroys, Destroys_last, Effect, Goes_on, In_field, In_register, Jumps, Leaves, Made, Operates, Popped, Popped_operation, Pushed, Pushed_operation, Repeats, Requested, Returns, Same, Sets_trap, Spot, Update, Written, applied, cells_after, items_after, spot_place, with_words, Sessioned, Replied, Handed, The_message}
-use Rattle.aom_sound.specs.Places.{service_of, Entry, Going, Object, Sight, held, seen, Cell, Elsewhere, Place, Register, Session, moved}
-use Rattle.aom_sound.specs.State.{An_object, An_operation, AtRoot, Choice, Frame, Home, Inside, Static, Run, State, Task, Trapped, counter, Accepts, Closing, Destroy, Dispatch, Of_server, Serves}
+use Rattle.aom_sound.specs.Effects.{Calls, Cancels, Carried, Counts, Destroys, Destroys_last, Effect, Goes_on, Jumps, Leaves, Made, Operates, Popped, Popped_operation, Pushed, Pushed_operation, Repeats, Requested, Returns, Same, Sets_trap, Spot, Update, Written, applied, cells_after, items_after, spot_place, with_words, Sessioned, Replied, Handed}
+use Rattle.aom_sound.specs.Places.{Entry, Going, Object, Sight, held, seen, Cell, Place, Register, moved}
+use Rattle.aom_sound.specs.State.{An_object, An_operation, AtRoot, Choice, Frame, Home, Inside, Static, Run, State, Task, Trapped, counter, Dispatch}
 use Rattle.aom_sound.specs.Steps.{Fits, Sets}
 use Rattle.aom_sound.specs.WellTyped.{Fits as Holds_of, Now, Stack}
 use Rattle.aom_sound.specs.Words.{here}
-use Rattle.aom_steps.specs.Within.{loops_worth, total, worth_at}
+use Rattle.aom_steps.specs.Within.{loops_worth, total}
 use Rattle.aom_steps.proofs.Rounds.{back, closed_loop, enters, jumps, leaves, straight_on}
 use Rattle.aom_steps.proofs.Sums.{scaled, scaled_le}
 use Rattle.aom_steps.proofs.Worths.{passed_less, returned_less, to_trap_less}
 use Rattle.aom_bounds.specs.Prices.{call_price, IsPriced, Prices, Stands, kind_price, price, perhaps_price, sessions_cost}
 use Rattle.aom_steps.specs.Worths.{over_worth}
-use Rattle.aom_steps.specs.Left.{is_entry, left, left_worths, method_left, objects_left, operations_left, rounds_left, rounds_price, tasks_left, waiting_left, closing_left, closings_left, end_left, sessions_left}
+use Rattle.aom_steps.specs.Left.{is_entry, left, left_worths, method_left, objects_left, operations_left, rounds_left, rounds_price, tasks_left, waiting_left, closings_left, end_left, sessions_left}
 use Rattle.aom_steps.proofs.Covering.{Affords, Covers, body_paid, pushes}
 use Rattle.aom_steps.proofs.Pushed.{enters_place, field_no_entry, leaves_place, moved_less, none_moves, operations_below, redeemed_same, rerequested_same, stored_same, resessioned_same, enters_place, served_same, without_less}
-use Rattle.aom_sound.specs.Tokens.{next_token, promised, redeemed_by, token_of}
+use Rattle.aom_sound.specs.Tokens.{next_token, promised}
 use Rattle.aom_sound.specs.Enlisted.{cancelling, on_request, own_request, ended_cells}
-use Rattle.aom_sound.specs.Servers.{is_server, opened}
+use Rattle.aom_sound.specs.Servers.{is_server}
 use Rattle.aom_steps.proofs.Lasting.{IsApart, going_apart, lasting, lasts_ended, lasts_moved, lasts_passed, lasts_result, lasts_update, to_trap_closings}
 use Rattle.aom_steps.proofs.Sessions.{FewSeats, stands_at_going}
 
@@ -57,40 +57,20 @@ none_in_all f zero h = omega arith
 none_in_all f (suc n) h = omega (arith, none_in_all f n h, h n)
 
 pub fresh_rounds : (c : Prices) (m : ℕ) (d : Option Method_declared) → rounds_left c m d [] 0 ≤ 0
-fresh_rounds c m None = omega arith
-fresh_rounds c m (Some d) = none_in_all _ (length d.code) (λ q. none q _)
-  where
-    no_rounds : (b : Bool) (x : ℕ) → cond b ((0 - 1) * x) 0 ≤ 0
-    no_rounds true x = let e : 0 - 1 ≡ 0 = omega arith in rw e (omega arith)
-    no_rounds false x = omega arith
-
-    none : (q : ℕ) (l : Option ℕ) → worth_at d.code (rounds_price c m) [] 0 q l ≤ 0
-    none q None = omega arith
-    none q (Some number) = no_rounds _ (c.round m q)
+fresh_rounds c m x = grind (arith, nat_tests, none_in_all)
 
 -- a line of destructors that begins over the going of its cell
 pub destructed_left :
     (p : Image) (c : Prices) (o : Object) (height : ℕ) (below : List Task) (us : List Cell) →
     tasks_left p c (destructed p o height below) + closings_left p c us (destructed p o height below) ≤ 1 + line p (perhaps_price c) o.thing + (waiting_left p c below + closings_left p c us below)
-destructed_left p c o height below us = go (destructor_of p o.thing) refl
-  where
-    go : (m : Option ℕ) → destructor_of p o.thing ≡ m →
-        tasks_left p c (begun_by p m o height below) + closings_left p c us (begun_by p m o height below) ≤ 1 + line p (perhaps_price c) o.thing + (waiting_left p c below + closings_left p c us below)
-    go None is = omega arith
-    go (Some m) is = omega (arith, fresh_rounds c m (method_at p m), line_first p (perhaps_price c) refl o.thing m is)
+destructed_left p c o height below us = grind (arith, nat_tests, fresh_rounds c, line_first p)
 
 -- a destruction that begins costs what that of its class does, where what goes before a server is no more than its class pays for
 pub begun_left :
     (p : Image) (t : Typing) (c : Prices) → IsPriced p t c → (o : Object) (height : ℕ) (below : List Task) (us : List Cell) →
     (is_server p o.thing ≡ true → (held us (Going (length below)) ≡ Some o) × (sessions_left c o.name us ≤ sessions_cost p (λ k. c.destruction (An_object_of k)) o.thing)) →
     tasks_left p c (begun p o height below) + closings_left p c us (begun p o height below) ≤ c.destruction o.thing + (waiting_left p c below + closings_left p c us below)
-begun_left p t c priced o height below us few = go (is_server p o.thing) refl
-  where
-    go : (b : Bool) → is_server p o.thing ≡ b →
-        tasks_left p c (cond b (Closing ∷ Destroy ∷ below) (destructed p o height below)) + closings_left p c us (cond b (Closing ∷ Destroy ∷ below) (destructed p o height below))
-        ≤ c.destruction o.thing + (waiting_left p c below + closings_left p c us below)
-    go true e = let there = few e in omega (arith, ap (λ x. closing_left p c us x) there.0, there.1, priced.lines o.thing)
-    go false e = omega (arith, destructed_left p c o height below us, priced.lines o.thing)
+begun_left p t c priced o height below us few = grind (arith, nat_tests, destructed_left p c o height below us)
 
 -- a register's kind pays for what it owns
 kind_pays : (p : Image) (t : Typing) (c : Prices) → IsPriced p t c → (h : Sight) (o : Object) (k : Kind) → Holds_of p h (Some o) k → c.destruction o.thing ≤ kind_price c k
@@ -130,10 +110,7 @@ module _ (p : Image) (t : Typing) (c : Prices) (linked : IsLinked p) (priced : I
   there :
       (cs : List ℕ) (k n adds takes : ℕ) → loops_worth d.code worth cs k + takes ≤ loops_worth d.code worth fr.counters fr.place + adds →
       n + adds + c.from fr.method k ≤ c.from fr.method fr.place + takes → n + rest_at cs k ≤ rest_at fr.counters fr.place
-  there cs k n adds takes loops pays = omega (arith, loops, pays, same cs k, same fr.counters fr.place)
-    where
-      same : (cs : List ℕ) (k : ℕ) → rounds_left c fr.method (method_at p fr.method) cs k ≡ loops_worth d.code worth cs k
-      same cs k = ap (λ o. rounds_left c fr.method o cs k) declared_there
+  there cs k n adds takes loops pays = grind (arith, nat_tests)
 
   -- the method goes on there, with so much for what it pushes, and no more goes before servers
   goes : (cs : List ℕ) (k n x y : ℕ) → 1 + n + rest_at cs k ≤ rest_at fr.counters fr.place → x ≤ n + pushed → y ≤ closings → 1 + (rest_at cs k + beyond + y + x) ≤ before
@@ -162,9 +139,7 @@ module _ (p : Image) (t : Typing) (c : Prices) (linked : IsLinked p) (priced : I
   -- ---- updates
 
   spot_no_entry : (x : Spot) → is_entry (spot_place p fr ts s x) ≡ false
-  spot_no_entry (In_register a) = refl
-  spot_no_entry (In_field f) = field_no_entry fr.home f
-  spot_no_entry The_message = refl
+  spot_no_entry x = grind (arith, nat_tests, field_no_entry fr.home)
 
   -- what is on the cleanup stack after an update was there before, or its place pays for it
   after : (u : Update) → objects_left c (cells_after p fr ts s u) + operations_left c (items_after u s.items) ≤ pushes p c fr sh u + pushed
@@ -184,9 +159,7 @@ module _ (p : Image) (t : Typing) (c : Prices) (linked : IsLinked p) (priced : I
   after (Pushed_operation m w) = omega arith
   after (Popped a) = omega (arith, moved_less c is_entry (top_place s.items) (here fr ts s a) s.cells refl, operations_below c s.items)
   after Popped_operation = omega (arith, operations_below c s.items)
-  after (Replied a code) =
-      let order = token_of s.cells (held s.cells (here fr ts s a)) in
-      omega (arith, without_less c is_entry (here fr ts s a) (redeemed_by order code s.cells), redeemed_same c is_entry order code s.cells)
+  after (Replied a code) = grind (arith, nat_tests, without_less c, redeemed_same c)
   after (Handed name a) = omega (arith, rerequested_same c is_entry s.cells fr.home (on_request (promised (next_token s.cells)) (own_request s.cells fr.home)))
 
   -- and no more goes before servers
@@ -273,30 +246,26 @@ module _ (p : Image) (t : Typing) (c : Prices) (linked : IsLinked p) (priced : I
       (i : Instr) → slice_get d.code fr.place ≡ Some i → loop_in (Some i) ≡ None → (o : Object) → s.items ≡ An_object ∷ below_top s.items → held s.cells (top_place s.items) ≡ Some o →
       Affords p c fr sh 1 (suc fr.place) →
       Pays (Destroys_last o)
-  destroys_last i stands plain o top owned pays =
-      let less = straight i stands plain 1 pays in
-      let begins = destruction o (top_place s.items) (length (below_top s.items)) fr owned (λ k lt. refl) in
-      omega (arith, less, begins, leaves_place c is_entry (top_place s.items) (Going (length (Run fr ∷ ts))) o s.cells refl refl owned, operations_below c s.items)
+  destroys_last i stands plain o top owned pays = grind (
+    arith,
+    nat_tests,
+    straight i stands plain 1 pays,
+    destruction o,
+    leaves_place c,
+    operations_below c s.items,
+  )
 
   operates :
       (i : Instr) → slice_get d.code fr.place ≡ Some i → loop_in (Some i) ≡ None → (m : ℕ) (w : ℤ) → s.items ≡ An_operation m w ∷ below_top s.items → Affords p c fr sh 1 (suc fr.place) →
       Pays (Operates m w)
-  operates i stands plain m w top pays =
-      let less = straight i stands plain 1 pays in
-      let same : operations_left c s.items ≡ price c m + operations_left c (below_top s.items) = ap (λ l. operations_left c l) top in
-      omega (arith, less, same, fresh_rounds c m (method_at p m))
+  operates i stands plain m w top pays = grind (arith, nat_tests, straight i stands plain 1 pays, fresh_rounds c m)
 
   -- what the method could still cost is dropped
   accepted_less : (d : Dispatch) (e i : ℕ) (cs : List Cell) → objects_left c (accepted_cells d (Register e i) cs) ≤ objects_left c cs
-  accepted_less (Of_server x client Accepts) e i cs =
-      let us = moved (Register e i) (Elsewhere (Session x.object.name client)) cs in
-      omega (arith, served_same c is_entry x.object.name (opened client (service_of us x.object.name)) (moved (Register e i) (Elsewhere (Session x.object.name client)) cs), moved_less c is_entry (Register e i) (Elsewhere (Session x.object.name client)) cs refl)
-  accepted_less _ e i cs = omega arith
+  accepted_less x e i cs = grind (arith, nat_tests, served_same c, moved_less c)
 
   well_ended : (d : Dispatch) → end_left p c (ended_well d) ≤ end_left p c d
-  well_ended (Of_server x client Accepts) = omega arith
-  well_ended (Of_server x client (Serves o)) = omega arith
-  well_ended _ = omega arith
+  well_ended x = grind arith
 
   -- and no more goes before servers
   module _ (g : Gives) (a : ℕ) where
@@ -322,13 +291,7 @@ module _ (p : Image) (t : Typing) (c : Prices) (linked : IsLinked p) (priced : I
         go (Some k) = refl
 
     returned_closings : (l : List Layer) → Stack p t s.cells Now (Method fr sh ∷ l) → Fewer l
-    returned_closings (Method caller sh2 ∷ l) h = over_result (Run caller ∷ tasks_of l) (tasks_of l) (result_register (instr_at p caller.method caller.place))
-    returned_closings (Dying o ∷ l) h = omega (arith, line_closings ended.cells fr.method fr.home fr.height (tasks_of l), over_ended (tasks_of l))
-    returned_closings (Unwinding code es ∷ l) h = over_ended (tasks_of l)
-    returned_closings (Mark gv ∷ Method caller sh2 ∷ l) h = over_result (Trapped ∷ Run caller ∷ tasks_of l) (tasks_of l) (result_register (instr_at p caller.method caller.place))
-    returned_closings (Mark gv ∷ Dispatching d seats ∷ l) h = subst (λ k. Fewer (Mark gv ∷ Dispatching d seats ∷ k)) (sym h.4.1.1) (omega arith)
-    returned_closings (Dispatching d seats ∷ l) h = over_ended (tasks_of l)
-    returned_closings _ h = absurd (grind arith)
+    returned_closings x h = grind (arith, nat_tests, over_result, line_closings, over_ended)
 
   -- the rest of a line pays for the next of it
   lines_fall : (m k : ℕ) → next_destructor p m ≡ Some k → method_left p c k [] 0 + line_after p (perhaps_price c) k ≤ line_after p (perhaps_price c) m
@@ -346,8 +309,7 @@ module _ (p : Image) (t : Typing) (c : Prices) (linked : IsLinked p) (priced : I
       goes fr.counters (suc fr.place) n _ _ (straight i stands f.0 (1 + n) covered) (after change.update) (closings_after change.update)
   pays i stands it (Jumps to) f covered = away i stands to f covered
   pays i stands it (Counts depth n) f covered = counts i stands it depth n f
-  pays i stands it (Repeats depth n to) f covered =
-      subst (λ k. Pays (Repeats depth k to)) (sym f.2) (again depth to f.1 (stands ∙ ap (λ x. Some x) f.0) (subst (λ x. Stands p t fr.method fr.place sh x) f.0 it) (f.3 ∙ f.2))
+  pays i stands it (Repeats depth n to) f covered = grind (arith, nat_tests, again depth to f.1)
   pays i stands it (Calls target m first) f covered = calls i stands (straight_by p ch fr ts s i (Calls target m first) f) target m first covered
   pays i stands it (Cancels m) f covered = cancels i stands (straight_by p ch fr ts s i (Cancels m) f) m covered
   pays i stands it (Sets_trap target m first) f covered = traps i stands (straight_by p ch fr ts s i (Sets_trap target m first) f) target m first covered

@@ -1,11 +1,12 @@
 -- What the objects at some kinds of places, and the operations on the cleanup stack, may still cost, after each change of the cells and of the items.
+use Rattle.std.proofs.lemmas.Bool.Decides.{nat_tests}
 use Rattle.std.proofs.Common.{◌≡◌, ◌≤◌, ◌+◌, ◌∙◌, ℕ, ℤ, Bool, true, false, cond, List, [], ◌∷◌, Option, Some, None, refl, ap, arith}
 use Rattle.aom_sound.specs.Tokens.{all_redeemed, redeemed_by}
 use Rattle.aom_sound.specs.Enlisted.{rerequested}
 use Rattle.aom_sound.specs.Clients.{each_unslotted}
 use Rattle.aom_sound.specs.Places.{Cell, Object, Place, Request, Service, Tidy, held, moved, set_request, set_service, set_session, set_word_field, without}
 use Rattle.aom_sound.specs.Servers.{all_unslotted, is_queue, withdrawn, without_queue}
-use Rattle.aom_sound.specs.State.{AtRoot, Home, Inside, Item, An_object, Static, field_place}
+use Rattle.aom_sound.specs.State.{Home, Item, field_place}
 use Rattle.aom_sound.specs.Calls.{below_top}
 use Rattle.aom_sound.specs.Words.{stored}
 use Rattle.aom_sound.proofs.Maps.{same_place-true}
@@ -16,14 +17,10 @@ use Rattle.aom_sound.proofs.Storing.{reset}
 use Rattle.std.specs.Prelude.{map}
 
 pub field_no_entry : (h : Home) (f : ℕ) → is_entry (field_place h f) ≡ false
-field_no_entry Static f = refl
-field_no_entry AtRoot f = refl
-field_no_entry (Inside o from) f = refl
+field_no_entry x f = grind arith
 
 pub field_no_session : (n : ℕ) (h : Home) (f : ℕ) → is_session_with n (field_place h f) ≡ false
-field_no_session n Static f = refl
-field_no_session n AtRoot f = refl
-field_no_session n (Inside o from) f = refl
+field_no_session n x f = grind arith
 
 module _ (c : Prices) (counts : Place → Bool) where
   -- ---- one cell
@@ -82,8 +79,7 @@ module _ (c : Prices) (counts : Place → Bool) where
   completed_same order code (x ∷ cs) = ap (λ y. due c counts x.owner x.object + y) (completed_same order code cs)
 
   pub redeemed_same : (order : Option ℕ) (code : ℤ) (cs : List Cell) → owned_left c counts (redeemed_by order code cs) ≡ owned_left c counts cs
-  redeemed_same None code cs = refl
-  redeemed_same (Some order) code cs = completed_same order code cs
+  redeemed_same x code cs = grind (arith, nat_tests, completed_same)
 
   opened_same : (n : ℕ) (b : Bool) (cs : List Cell) → owned_left c counts (set_session n b cs) ≡ owned_left c counts cs
   opened_same n b [] = refl
@@ -124,5 +120,4 @@ module _ (c : Prices) where
   -- ---- items
 
   pub operations_below : (items : List Item) → operations_left c (below_top items) ≤ operations_left c items
-  operations_below (An_object ∷ items) = omega arith
-  operations_below _ = omega arith
+  operations_below x = grind arith

@@ -1,8 +1,7 @@
 -- Every move leads to a lower rank.
+use Rattle.std.proofs.lemmas.Bool.Decides.{nat_tests}
 use Rattle.std.proofs.lemmas.Option.{same_Some}
-use Rattle.std.specs.Ordering.{int_eq}
-use Rattle.std.specs.Prelude.{cond, pos}
-use Rattle.std.proofs.Common.{◌≡◌, ◌<◌, ◌≤◌, ◌+◌, ◌*◌, ◌∙◌, ℕ, ℤ, suc, Bool, true, false, List, [], ◌∷◌, length, Option, Some, None, slice_get, refl, sym, ap, arith, subst}
+use Rattle.std.proofs.Common.{◌≡◌, ◌<◌, ◌≤◌, ◌+◌, ◌*◌, ◌∙◌, ℕ, ℤ, Bool, true, false, List, [], ◌∷◌, length, Option, Some, None, slice_get, refl, sym, ap, arith, subst}
 use Rattle.aom_image.proofs.Given.{some_given}
 use Rattle.aom_rules.specs.Calls.{parent_above}
 use Rattle.aom_bounds.proofs.Lines.{line_next}
@@ -11,7 +10,7 @@ use Rattle.aom_sound.specs.Destruction.{class_destructor, next_destructor}
 use Rattle.aom_image.specs.Image.{Image}
 use Rattle.aom_image.specs.Views.{class_in, instr_at, is_quiet, method_at}
 use Rattle.aom_instructions.specs.declared.instr.Instr.{Instr}
-use Rattle.aom_instructions.specs.declared.instr.Instr.TheVariants.{Cancel, Delete, Return}
+use Rattle.aom_instructions.specs.declared.instr.Instr.TheVariants.{Cancel, Return}
 use Rattle.aom_image.specs.declared.method.Gives.{Gives}
 use Rattle.aom_image.specs.declared.method.Method.{Method as Method_declared}
 use Rattle.aom_classes.specs.Linked.{IsLinked}
@@ -21,7 +20,7 @@ use Rattle.aom_shape.specs.Needs.{AllTrue}
 use Rattle.aom_rules.specs.Rules.{rule_needs}
 use Rattle.aom_shape.specs.Shape.{Shape}
 use Rattle.aom_rules.specs.Typing.{IsTyped, Typing}
-use Rattle.aom_sound.specs.Calls.{called, result_register, returned}
+use Rattle.aom_sound.specs.Calls.{returned}
 use Rattle.aom_sound.specs.Cleanup.{ended_by, operation_frame}
 use Rattle.aom_sound.specs.Calls.{ended_well}
 use Rattle.aom_sound.specs.Effects.{Effect, applied, needs}
@@ -31,18 +30,18 @@ use Rattle.aom_sound.specs.Objects.{is_no_message}
 use Rattle.aom_sound.specs.Words.{here}
 use Rattle.aom_sound.specs.Steps.{Acts, Arrives, Clears, Comes_out, Empties, Ends, Fits, IsStill, Move, Rests, Undoes, Vanishes}
 use Rattle.aom_sound.proofs.Moving.{steps_are_moves}
-use Rattle.aom_sound.specs.Claims.{Layer, Mark, Method, tasks_of}
+use Rattle.aom_sound.specs.Claims.{Layer, Method, tasks_of}
 use Rattle.aom_sound.proofs.Emptying.{found_first}
 use Rattle.aom_sound.specs.Destruction.{begun, first_session, parting, vanished}
 use Rattle.aom_sound.proofs.Steps.{step_keeps}
 use Rattle.aom_sound.specs.Laws.{IsWired}
 use Rattle.aom_steps.specs.RankLaws.{Moves, no_move, one_move}
 use Rattle.aom_sound.specs.WellTyped.{CountsAs, Keeps}
-use Rattle.aom_sound.specs.Moves.{answered, asking, counted, dispatch_ends, failed, handled, main_ends, object_ends, stage_ends, step}
+use Rattle.aom_sound.specs.Moves.{answered, asking, counted, dispatch_ends, handled, main_ends, object_ends, stage_ends, step}
 use Rattle.aom_sound.specs.Places.{Cell, Elsewhere, Entry, Going, In_service, Object, Root, held, moved, service_of, without}
 use Rattle.aom_sound.specs.Servers.{parted, reserved}
-use Rattle.aom_sound.specs.State.{A_mark, Accept_left, An_object, An_operation, Answered, Asks, Choice, Closing, Destroy, Dispatch, Dispatched, Frame, Goes, Item, Main_left, Object_left, Of_main, Of_object, Of_root, Of_server, Outcome, Parts, Seat, Serves, Service_left, Stage, Run, State, Task, Trapped, Unwind, home_holder}
-use Rattle.aom_sound.specs.WellTyped.{AllUndo, Good, Houses, Now, Stack, WellTyped}
+use Rattle.aom_sound.specs.State.{A_mark, An_object, An_operation, Answered, Asks, Choice, Closing, Destroy, Dispatch, Dispatched, Frame, Goes, Item, Main_left, Object_left, Of_main, Of_object, Of_root, Of_server, Outcome, Parts, Seat, Service_left, Stage, Run, State, Task, Trapped, Unwind, home_holder}
+use Rattle.aom_sound.specs.WellTyped.{Good, Now, Stack, WellTyped}
 use Rattle.aom_sound.specs.World.{IsBusy}
 use Rattle.aom_steps.specs.Ranks.{cell_rank, end_rank, frame_rank, is_going, method_rank, operations, rank, rank_worths, run_rank, standing, tasks_rank, waiting_rank}
 use Rattle.aom_steps.proofs.Falling.{falls, paid, straight}
@@ -63,14 +62,17 @@ ends :
     (p : Image) → IsLinked p → (c : Choice) (s : State) (fr : Frame) (ts : List Task) (d : Method_declared) → method_at p fr.method ≡ Some d → (a : ℕ) →
     slice_get d.code fr.place ≡ Some (Return a) → 1 ≤ frame_rank p fr
 unfolding loop_in
-ends p linked c s fr ts d declared_there a stands =
-    let less = paid p linked c s fr ts d declared_there fr.counters (suc fr.place) (straight p linked c s fr ts d declared_there (Return a) stands refl) in
-    omega (arith, less, price_some p fr.method)
+ends p linked c s fr ts d declared_there a stands = grind (
+  arith,
+  nat_tests,
+  paid p linked c s fr ts d declared_there fr.counters,
+  straight p linked c s fr ts d declared_there (Return a) stands,
+  price_some p fr.method,
+)
 
 -- the dispatch that heard it has no more before it
 well_less : (p : Image) (d : Dispatch) → end_rank p (ended_well d) ≤ end_rank p d
-well_less p (Of_server x client (Serves o)) = omega arith
-well_less p _ = omega arith
+well_less p x = grind arith
 
 -- the rest of a line pays for the next of it
 lines_fall : (p : Image) (m k : ℕ) → next_destructor p m ≡ Some k → method_rank p k [] 0 + line_after p (run_rank p) k ≤ line_after p (run_rank p) m
@@ -95,9 +97,13 @@ cancels_below :
     (p : Image) → IsLinked p → (fr : Frame) (d : Method_declared) → method_at p fr.method ≡ Some d → CountsAs p (home_holder fr.home) fr.view (holder_of p fr.method) → (m : ℕ) → slice_get d.code fr.place ≡ Some Cancel → cancel_method p fr ≡ Some m →
     (m < fr.method) × (is_quiet p m ≡ true)
 unfolding class_in
-cancels_below p linked fr d there counts m stands e =
-    let found = cancel_family p fr m counts e in
-    (canceller_before p linked fr.method fr.place d found.1 found.0 m there stands (sym (ap class_in there) ∙ found.2) found.3 found.4, quiet_canceller p linked found.0 m found.4)
+cancels_below p linked fr d there counts m stands e = grind (
+  arith,
+  nat_tests,
+  cancel_family p fr m counts e,
+  canceller_before p linked fr.method fr.place d,
+  quiet_canceller p linked,
+)
 
 -- ---- every move
 
@@ -132,9 +138,7 @@ module _ (p : Image) (t : Typing) (linked : IsLinked p) (typed : IsTyped p t) (c
 
   -- a cell goes
   vanishes : (ts : List Task) (o : Object) → rank p (vanished o ts (counted p s)) < total (Destroy ∷ ts)
-  vanishes ts o =
-      let cells = fewer_stand (vanished o ts (counted p s)).cells (standing_gone (service_of s.cells o.name).sessions (Going (length ts)) o.name s.cells) in
-      omega (arith, resumed_alike (rank_worths p) ts, cells)
+  vanishes ts o = grind (arith, nat_tests, fewer_stand, standing_gone, resumed_alike)
 
   -- a server lets go of a session, which pays for its destruction, or its destructor begins
   empties :
@@ -151,7 +155,7 @@ module _ (p : Image) (t : Typing) (linked : IsLinked p) (typed : IsTyped p t) (c
       omega (arith, destruction, cells)
 
   kept_alike : (v : State) → v.cells ≡ s.cells → v.items ≡ s.items → (standing v.cells + operations v.items) * cell_rank p ≡ (standing s.cells + operations s.items) * cell_rank p
-  kept_alike v same alike = ap (λ cs. (standing cs + operations v.items) * cell_rank p) same ∙ ap (λ is. (standing s.cells + operations is) * cell_rank p) alike
+  kept_alike v same alike = grind (arith, nat_tests)
 
   -- main's end is worth 2: the root's destruction may begin, with its own end before it
   ends_main :
@@ -164,8 +168,7 @@ module _ (p : Image) (t : Typing) (linked : IsLinked p) (typed : IsTyped p t) (c
       one_less (standing (moved (Elsewhere Root) (Going (length (Dispatched Of_root ∷ []))) s.cells) + operations s.items) (standing s.cells + operations s.items) (cell_rank p)
       (omega (arith, goes)) in
       let these : (standing (moved (Elsewhere Root) (Going (length (Dispatched Of_root ∷ []))) v.cells) + operations v.items) * cell_rank p ≡ (standing (moved (Elsewhere Root) (Going (length (Dispatched Of_root ∷ []))) s.cells) + operations s.items) * cell_rank p =
-      ap (λ cs. (standing (moved (Elsewhere Root) (Going (length (Dispatched Of_root ∷ []))) cs) + operations v.items) * cell_rank p) same
-      ∙ ap (λ is. (standing (moved (Elsewhere Root) (Going (length (Dispatched Of_root ∷ []))) s.cells) + operations is) * cell_rank p) alike in
+      grind (arith, nat_tests) in
       omega (arith, destruction, cells, these)
   ends_main true None there v same alike = omega (arith, kept_alike v same alike)
   ends_main false o there v same alike = omega (arith, kept_alike v same alike)
@@ -178,18 +181,13 @@ module _ (p : Image) (t : Typing) (linked : IsLinked p) (typed : IsTyped p t) (c
   of_object ts d some = omega (arith, ends_main s.rest.stopped (held s.cells (Elsewhere Root)) refl (handled (counted p s)) refl refl, some)
 
   by_answer : (ts : List Task) (d : Dispatch) → 2 ≤ end_rank p d → (answer : ℤ) → rank p (answered p answer (counted p s)) < total (Dispatched d ∷ ts)
-  by_answer ts d some answer = go (int_eq answer (pos 0))
-    where
-      go : (b : Bool) → rank p (cond b (object_ends p (counted p s)) (failed answer (counted p s))) < total (Dispatched d ∷ ts)
-      go true = of_object ts d some
-      go false = omega (arith, some)
+  by_answer ts d some answer = grind (arith, nat_tests, of_object ts d some)
 
   -- a whole run of the method that is asked is paid for
   by_asking :
       (ts : List Task) (x : Seat) (code : ℤ) (m : Option ℕ) →
       rank p (asking p m x code (counted p s)) < waiting_rank p ts + (4 + run_rank p m) + (standing s.cells + operations s.items) * cell_rank p
-  by_asking ts x code None = omega (arith, by_answer ts (Answered x code) (omega arith) code)
-  by_asking ts x code (Some m) = omega arith
+  by_asking ts x code y = grind (arith, nat_tests, by_answer ts (Answered x code))
 
   -- what is served ends as an object's dispatch does
   of_stage : (ts : List Task) (x : Seat) (client : ℕ) (stage : Stage) → rank p (stage_ends x client stage (counted p s)) < total (Dispatched (Of_server x client stage) ∷ ts)
@@ -208,14 +206,11 @@ module _ (p : Image) (t : Typing) (linked : IsLinked p) (typed : IsTyped p t) (c
   of_dispatch ts (Of_server x client stage) = of_stage ts x client stage
 
   ended_alike : (code : ℤ) (d : Dispatch) → end_rank p (ended_by code d) ≤ end_rank p d
-  ended_alike code (Of_server x client (Accept_left n)) = omega arith
-  ended_alike code _ = omega arith
+  ended_alike code x = grind arith
 
   -- the mark is no operation
   unmarked : (items : List Item) → s.items ≡ A_mark ∷ items → (standing s.cells + operations items) * cell_rank p ≤ (standing s.cells + operations s.items) * cell_rank p
-  unmarked items e =
-      let same : operations s.items ≡ operations items = ap operations e in
-      scaled_le (standing s.cells + operations items) (standing s.cells + operations s.items) (cell_rank p) (omega (arith, same))
+  unmarked items e = grind (arith, nat_tests, scaled_le)
 
   -- a leave deals with an item
   clears : (code : ℤ) (ts : List Task) (items : List Item) (o : Object) → s.items ≡ An_object ∷ items → held s.cells (Entry (length items)) ≡ Some o →
@@ -230,11 +225,7 @@ module _ (p : Image) (t : Typing) (linked : IsLinked p) (typed : IsTyped p t) (c
       omega (arith, destruction, cells)
 
   undoes : (code : ℤ) (ts : List Task) (items : List Item) (m : ℕ) (x : ℤ) → s.items ≡ An_operation m x ∷ items → rank p (record (counted p s) { tasks = Run (operation_frame m x (length items)) ∷ Unwind code ∷ ts; items = items }) < total (Unwind code ∷ ts)
-  undoes code ts items m x e =
-      let run = undo_paid p m (subst (λ is. AllUndo p is) e w.undos).0 in
-      let same : operations s.items ≡ suc (operations items) = ap operations e in
-      let cells = one_less (standing s.cells + operations items) (standing s.cells + operations s.items) (cell_rank p) (omega (arith, same)) in
-      omega (arith, run, cells)
+  undoes code ts items m x e = grind (arith, nat_tests, undo_paid p m, one_less)
 
   -- what a move leads to, by what was at hand
   by : (ts : List Task) (u v : State) → s.tasks ≡ ts → u ≡ v → rank p v < total ts → rank p u < rank p s
@@ -242,8 +233,7 @@ module _ (p : Image) (t : Typing) (linked : IsLinked p) (typed : IsTyped p t) (c
 
   -- something that moves is at hand
   not_still : (ls : List Layer) → Good p t s.cells ls → (task : Task) (tasks : List Task) → tasks_of ls ≡ task ∷ tasks → IsStill (tasks_of ls) → ⊥
-  not_still (Mark gv ∷ ls) good task tasks e still = good.stack.0
-  not_still _ good task tasks e still = first_of (assumption tt, cc)
+  not_still x good task tasks e still = grind arith
 
   lowers : IsBusy s → (u : State) → Move p c s u → rank p u < rank p s
   lowers busy u (Rests still same) = absurd (not_still w.layers w.good busy.0 busy.1 (sym w.tasks ∙ busy.2) (subst IsStill w.tasks still))
@@ -252,9 +242,7 @@ module _ (p : Image) (t : Typing) (linked : IsLinked p) (typed : IsTyped p t) (c
   lowers busy u (Empties ts o at there same) = by (Closing ∷ Destroy ∷ ts) u _ at same (empties ts o (first_session s.cells o.name (service_of s.cells o.name).sessions) refl)
   lowers busy u (Clears code ts items o at top there same) = by (Unwind code ∷ ts) u _ at same (clears code ts items o top there)
   lowers busy u (Undoes code ts items m x at top same) = by (Unwind code ∷ ts) u _ at same (undoes code ts items m x top)
-  lowers busy u (Arrives code fr ts items at top same) =
-      let i = instr_at p fr.method fr.place in
-      by (Unwind code ∷ Trapped ∷ Run fr ∷ ts) u _ at same (omega (arith, told_alike (rank_worths p) (called p i) (result_register i) code fr ts, unmarked items top))
+  lowers busy u (Arrives code fr ts items at top same) = grind (arith, nat_tests, by (Unwind code ∷ Trapped ∷ Run fr ∷ ts) u, told_alike, unmarked items top)
   lowers busy u (Comes_out code d ts items at top same) = by (Unwind code ∷ Trapped ∷ Dispatched d ∷ ts) u _ at same (omega (arith, ended_alike code d, unmarked items top))
   lowers busy u (Ends d ts at same) = by (Dispatched d ∷ ts) u _ at same (of_dispatch ts d)
 

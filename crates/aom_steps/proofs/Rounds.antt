@@ -1,17 +1,18 @@
 -- The loops round a place after each move of a method: what they count for is no more, but for a loop that begins.
-use Rattle.std.proofs.Common.{◌≡◌, ◌<◌, ◌≤◌, ◌+◌, ◌∙◌, ℕ, zero, suc, Bool, true, false, cond, List, length, Option, Some, None, IfSome, slice_get, ⊎_elim, refl, sym, ap, arith, subst}
-use Rattle.std.specs.Prelude.{◌≢◌, ◌==◌}
+use Rattle.std.proofs.lemmas.Bool.Decides.{nat_tests}
+use Rattle.std.proofs.Common.{◌≡◌, ◌<◌, ◌≤◌, ◌+◌, ◌∙◌, ℕ, zero, suc, true, cond, List, length, Some, None, IfSome, slice_get, ⊎_elim, refl, sym, ap, arith, subst}
+use Rattle.std.specs.Prelude.{◌≢◌}
 use Rattle.std.proofs.lemmas.Bool.{cases_lt, eq-eqb, ne_eqb}
 use Rattle.std.proofs.lemmas.Option.{slice_get_within, same_Some}
 use Rattle.aom_instructions.specs.declared.instr.Instr.{Instr}
 use Rattle.aom_instructions.specs.declared.instr.Instr.TheVariants.{Loop, Next}
 use Rattle.aom_classes.specs.Jumps.{Body, JumpsWell, back_of, begins_loop, jump_of}
-use Rattle.aom_classes.specs.Loops.{Closes, ClosesSome, Ending, LoopsNest, loop_at, loop_in, next_at, next_in}
+use Rattle.aom_classes.specs.Loops.{Closes, Ending, LoopsNest, loop_at, loop_in, next_at, next_in}
 use Rattle.aom_classes.proofs.Facts.{at_place}
 use Rattle.aom_classes.proofs.Nesting.{next_within}
 use Rattle.aom_shape.specs.Tables.{at, put_at}
 use Rattle.aom_sound.proofs.Maps.{at-put_at}
-use Rattle.aom_steps.specs.Within.{is_in_body, loops_worth, total, worth_at}
+use Rattle.aom_steps.specs.Within.{loops_worth, total, worth_at}
 use Rattle.aom_steps.proofs.Sums.{total_but, total_le}
 use Rattle.aom_steps.proofs.Bodies.{IsIn, body_in, in_body, other_number}
 use Rattle.aom_classes.proofs.LoopPlaces.{loop_there, next_there}
@@ -33,8 +34,7 @@ from_here code k p d none w = record {
 -- the body of a loop, as the jumps see it
 begins_there : (code : List Instr) (p d : ℕ) → loop_at code p ≡ Some d → IfSome (slice_get code p) (λ i. begins_loop i ≡ true)
 unfolding loop_in begins_loop
-begins_there code p d e =
-    subst (λ o. IfSome o (λ i. begins_loop i ≡ true)) (sym (loop_there (slice_get code p) d e).1) refl
+begins_there code p d e = grind (arith, nat_tests, loop_there)
 
 abbrev ending : ℕ → ℕ → Ending
 ending n t = record { number = n; back = t }
@@ -58,13 +58,7 @@ jumps_within code k to i well stands jump p d w =
 -- which loop a next closes
 pub closed_loop : (code : List Instr) (k d t : ℕ) → LoopsNest code → slice_get code k ≡ Some (Next d t) → (r : ℕ) × Closes code d r k × (t ≡ suc r)
 unfolding next_in
-closed_loop code k d t nest stands =
-    let is : next_at code k ≡ Some (ending d t) = ap next_in stands in
-    let some : ClosesSome code d k = (let h = nest.closing k in rw is at h) in
-    (some.place, some.closes, back_is (sym is ∙ some.closes.ends))
-  where
-    back_is : {x : ℕ} → Some (ending d t) ≡ Some (ending d x) → t ≡ x
-    back_is {x} e = ap (λ (e : Ending). e.back) (same_Some (ending d t) (ending d x) e)
+closed_loop code k d t nest stands = grind (arith, nat_tests, same_Some)
 
 -- ---- counters
 
@@ -75,11 +69,7 @@ at_other : (cs : List ℕ) (c d n : ℕ) → c ≢ d → at 0 (put_at 0 cs d n) 
 at_other cs c d n other = at-put_at 0 cs d c n ∙ ap (λ b. cond b n (at 0 cs c)) (ne_eqb d c (λ e. other (sym e)))
 
 lowered : (cs : List ℕ) (d c : ℕ) → at 0 (put_at 0 cs d 0) c ≤ at 0 cs c
-lowered cs d c = rw (at-put_at 0 cs d c 0) (go (d == c))
-  where
-    go : (b : Bool) → cond b 0 (at 0 cs c) ≤ at 0 cs c
-    go true = omega arith
-    go false = omega arith
+lowered cs d c = grind (arith, nat_tests, at-put_at 0 cs d c 0)
 
 -- ---- what counters alike count for
 
@@ -88,11 +78,7 @@ total_alike f g zero h = refl
 total_alike f g (suc n) h = ap (λ k. k + f n) (total_alike f g n h) ∙ ap (λ k. total g n + k) (h n)
 
 pub worth_alike : (code : List Instr) (worth : ℕ → ℕ → ℕ) (cs ds : List ℕ) → ((i : ℕ) → at 0 cs i ≡ at 0 ds i) → (place : ℕ) → loops_worth code worth cs place ≡ loops_worth code worth ds place
-worth_alike code worth cs ds alike place = total_alike _ _ (length code) (λ q. of_loop q (loop_at code q))
-  where
-    of_loop : (q : ℕ) (o : Option ℕ) → worth_at code worth cs place q o ≡ worth_at code worth ds place q o
-    of_loop q None = refl
-    of_loop q (Some n) = ap (λ k. cond (is_in_body code n q place) (worth k q) 0) (alike n)
+worth_alike code worth cs ds alike place = grind (arith, nat_tests, total_alike)
 
 -- ---- a worth that grows with the counter
 
@@ -105,29 +91,15 @@ module _ (code : List Instr) (worth : ℕ → ℕ → ℕ) (grows : (p a b : ℕ
 
   -- at most what the counter says
   at_most : (cs : List ℕ) (k p d : ℕ) → loop_at code p ≡ Some d → of_loop cs k p ≤ worth (at 0 cs d) p
-  at_most cs k p d e = rw e (go (is_in_body code d p k))
-    where
-      go : (b : Bool) → cond b (worth (at 0 cs d) p) 0 ≤ worth (at 0 cs d) p
-      go true = omega arith
-      go false = omega arith
+  at_most cs k p d e = grind (arith, nat_tests)
 
   -- just that within its body
   within_it : (cs : List ℕ) (k p d : ℕ) → IsIn code d p k → of_loop cs k p ≡ worth (at 0 cs d) p
-  within_it cs k p d w = ap (λ o. worth_at code worth cs k p o) w.closes.begins ∙ ap (λ b. cond b (worth (at 0 cs d) p) 0) (body_in code d p k w)
+  within_it cs k p d w = grind (arith, nat_tests, body_in code d p k w)
 
   -- no more where the new place is in its body only if the old one was, and its counter is no greater
   no_more : (cs cs' : List ℕ) (k k' p : ℕ) → ((d : ℕ) → IsIn code d p k' → IsIn code d p k × (at 0 cs' d ≤ at 0 cs d)) → of_loop cs' k' p ≤ of_loop cs k p
-  no_more cs cs' k k' p h = by_loop (loop_at code p) refl
-    where
-      in_it : (d : ℕ) (b : Bool) → loop_at code p ≡ Some d → is_in_body code d p k' ≡ b → cond b (worth (at 0 cs' d) p) 0 ≤ of_loop cs k p
-      in_it d true e i =
-          let both = h d (in_body code d p k' e i) in
-          rw (within_it cs k p d both.0) (grows p (at 0 cs' d) (at 0 cs d) both.1)
-      in_it d false e i = omega arith
-
-      by_loop : (o : Option ℕ) → loop_at code p ≡ o → worth_at code worth cs' k' p o ≤ of_loop cs k p
-      by_loop None e = omega arith
-      by_loop (Some d) e = in_it d (is_in_body code d p k') e refl
+  no_more cs cs' k k' p h = grind (arith, nat_tests, in_body code, within_it cs k p)
 
   forward : (cs cs' : List ℕ) (k to : ℕ) → ((p d : ℕ) → IsIn code d p to → IsIn code d p k × (at 0 cs' d ≤ at 0 cs d)) → all_loops cs' to ≤ all_loops cs k
   forward cs cs' k to h = total_le (λ p. of_loop cs' to p) (λ p. of_loop cs k p) (length code) (λ p. no_more cs cs' k to p (h p))

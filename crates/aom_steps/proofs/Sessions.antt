@@ -1,6 +1,7 @@
 -- A server pays for the sessions with it that are there: they are no more than it may have, and each is of their class.
+use Rattle.std.proofs.lemmas.Bool.Decides.{nat_tests}
 use Rattle.std.proofs.Common.{◌≡◌, ◌≤◌, ◌+◌, ◌*◌, ◌∙◌, ℕ, Bool, true, false, cond, List, [], ◌∷◌, length, Option, Some, None, refl, sym, ap, arith, subst}
-use Rattle.std.specs.Prelude.{filter, is_some, ◌==◌, ◌&&◌}
+use Rattle.std.specs.Prelude.{filter, is_some, ◌==◌}
 use Rattle.std.proofs.lemmas.Bool.{eqb-true, ne_eqb}
 use Rattle.std.proofs.Math.Nat.{mul-le-mul_right}
 use Rattle.aom_image.specs.Image.{Image}
@@ -22,7 +23,7 @@ use Rattle.aom_sound.specs.Clients.{most_of}
 use Rattle.aom_sound.specs.Enlisted.{thing_kind}
 use Rattle.aom_sound.specs.Places.{Cell, Elsewhere, Going, Object, Place, Session, Tidy, held, moved, named, same_place, seen, service_of}
 use Rattle.aom_sound.specs.Servers.{has_session, is_among, is_other, is_server, of_class, seats_taken, session_class, session_thing}
-use Rattle.aom_sound.specs.State.{Dispatch, Of_server, Parts}
+use Rattle.aom_sound.specs.State.{Dispatch}
 use Rattle.aom_sound.specs.WellTyped.{EndsSessions, Back, Caught, Fits, Gone, Good, Leaves, Now, Returns, Stack}
 use Rattle.aom_bounds.specs.Prices.{IsPriced, Prices, sessions_cost}
 use Rattle.aom_steps.specs.Left.{due, is_session_with, sessions_left}
@@ -39,38 +40,22 @@ module _ (p : Image) (t : Typing) (cs : List Cell) (n client : ℕ) (o x : Objec
 
   -- where something is owned, nothing is not what is claimed
   owns : (b : Bool) (k : Kind) → Fits p (seen cs) (Some x) (cond b k Null) → (b ≡ true) × Fits p (seen cs) (Some x) k
-  owns true k f = (refl, f)
-  owns false k f = absurd f
+  owns y k f = grind arith
 
   of_declared : Has (declared p cs (Elsewhere (Session n client)))
-  of_declared f =
-      owns (has_session (service_of cs n) client) (filled (session_thing p (Some o)) Full)
-      (subst (λ y. Fits p (seen cs) (Some x) (cond (has_session (service_of cs n) client) (filled (session_thing p y) Full) Null)) lives f)
+  of_declared f = grind (arith, nat_tests, owns)
 
   of_cond : (b : Bool) (k : Kind) → Has k → Has (cond b Null k)
-  of_cond true k h f = absurd f
-  of_cond false k h f = h f
+  of_cond y k h f = grind arith
 
   -- a server that goes has those sessions alone that are left
   of_ending :
       (y : Object) (left : List ℕ) → EndsSessions p cs y left → (below : Kind) → Has below →
       Has (cond (y.name == n) (cond (is_among client left) (filled (session_thing p (Some y)) Full) Null) below)
-  of_ending y left ends below has f = go (y.name == n) refl f
-    where
-      ours : y.name ≡ n → Fits p (seen cs) (Some x) (cond (is_among client left) (filled (session_thing p (Some y)) Full) Null) → HasIt
-      ours e f =
-          let owned = owns (is_among client left) (filled (session_thing p (Some y)) Full) f in
-          let one : Some y ≡ Some o = sym ends.lives ∙ ap (λ k. named cs k) e ∙ lives in
-          let same : y ≡ o = cc in
-          (ap (λ k. has_session (service_of cs k) client) (sym e) ∙ ends.listed client owned.0, subst (λ z. Fits p (seen cs) (Some x) (filled (session_thing p (Some z)) Full)) same owned.1)
-
-      go : (b : Bool) → (y.name == n) ≡ b → Has (cond b (cond (is_among client left) (filled (session_thing p (Some y)) Full) Null) below)
-      go true e f = ours (eqb-true y.name n e) f
-      go false e f = has f
+  of_ending y left ends below has f = grind (arith, nat_tests, owns, eqb-true y.name n)
 
   of_dispatch : (d : Dispatch) (below : Kind) → Has below → Has (by_close d n client below)
-  of_dispatch (Of_server y c Parts) below has f = of_cond ((y.object.name == n) && (c == client)) below has f
-  of_dispatch _ below has f = has f
+  of_dispatch y below has f = grind (arith, nat_tests, of_cond)
 
   pub of_claim : (back : Back) (ls : List Layer) → Stack p t cs back ls → Has (claim p (declared p cs) ls (Elsewhere (Session n client)))
   of_claim back [] h f = of_declared f
@@ -79,7 +64,7 @@ module _ (p : Image) (t : Typing) (cs : List Cell) (n client : ℕ) (o x : Objec
   of_claim back (Unwinding code es ∷ ls) h f = of_claim Leaves ls h.1 f
   of_claim back (Dying y ∷ ls) h f = of_cond (y.name == n) _ (of_claim Gone ls h.2) f
   of_claim back (Ending y left ∷ ls) h f = of_ending y left h.0 _ (of_claim Now ls h.3) f
-  of_claim back (Dispatching d seats ∷ ls) h f = of_dispatch d _ (subst (λ l. Has (claim p (declared p cs) l (Elsewhere (Session n client)))) (sym h.1) of_declared) f
+  of_claim back (Dispatching d seats ∷ ls) h f = grind (arith, nat_tests, of_dispatch d, of_declared)
 
 -- ---- how many are there
 
@@ -100,7 +85,7 @@ module _ (c : Prices) (n most : ℕ) where
       (y : Cell) (cs : List Cell) (xs : List ℕ) (client : ℕ) → y.owner ≡ Elsewhere (Session n client) → held cs y.owner ≡ None → Sessions (y ∷ cs) xs →
       Sessions cs (filter (is_other client) xs)
   one_fewer y cs xs client at free all k x there =
-      let other : (client == k) ≡ false = ne_eqb client k (λ e. let clash : None ≡ Some x = sym free ∙ ap (λ r. held cs r) at ∙ ap (λ i. held cs (Elsewhere (Session n i))) e ∙ there in cc) in
+      let other : (client == k) ≡ false = grind (arith, nat_tests, ne_eqb client k) in
       let apart : same_place y.owner (Elsewhere (Session n k)) ≡ false = not_there k x there in
       let found = all k x (ap (λ b. cond b (Some y.object) (held cs (Elsewhere (Session n k)))) apart ∙ there) in
       (among_others k client xs other ∙ found.0, found.1)
@@ -178,9 +163,14 @@ module _ (p : Image) (t : Typing) (c : Prices) (priced : IsPriced p t c) (cs : L
   pub stands_at_going :
       (o : Object) (from : Place) (depth : ℕ) → held cs from ≡ Some o → length (tasks_of ls) ≤ depth → is_server p o.thing ≡ true →
       (held (moved from (Going depth) cs) (Going depth) ≡ Some o) × (sessions_left c o.name (moved from (Going depth) cs) ≤ sessions_cost p (λ k. c.destruction (An_object_of k)) o.thing)
-  stands_at_going o from depth there deep server =
-      let g = Going depth in
-      let free : held cs g ≡ None = fits_unowning p (seen cs) _ Null refl (subst (λ k. Fits p (seen cs) (held cs g) k) (claim_going_above p cs ls depth deep) (good.fits g)) in (
-        held_moved cs from g g free ∙ ap (λ b. cond b (held cs from) (cond (same_place from g) None (held cs g))) (same_place_refl g) ∙ there,
-        omega (arith, moved_less c (is_session_with o.name) from g cs refl, few_sessions o (held_lives cs from o good.tidy there) server),
-      )
+  stands_at_going o from depth there deep server = grind (
+    arith,
+    nat_tests,
+    fits_unowning p,
+    claim_going_above p cs ls depth deep,
+    held_moved cs from,
+    same_place_refl,
+    moved_less c,
+    few_sessions o (held_lives cs from o good.tidy there) server,
+    held_lives cs from o good.tidy there,
+  )

@@ -1,5 +1,6 @@
 -- Sums and powers.
-use Rattle.std.proofs.Common.{◌≡◌, ◌<◌, ◌≤◌, ◌+◌, ◌*◌, ◌^◌, ℕ, zero, suc, ⊎_elim, sym, arith, subst}
+use Rattle.std.proofs.lemmas.Bool.Decides.{nat_tests}
+use Rattle.std.proofs.Common.{◌≡◌, ◌<◌, ◌≤◌, ◌+◌, ◌*◌, ◌^◌, ℕ, zero, suc, ⊎_elim, arith}
 use Rattle.std.specs.Prelude.{◌≢◌}
 use Rattle.std.proofs.Math.Nat.{pow-succ', pow-zero, mul-le-mul_right}
 use Rattle.std.proofs.lemmas.Bool.{cases_lt}
@@ -18,10 +19,7 @@ total_below f g i (suc n) le h = omega (arith, total_below f g i n (omega (arith
 -- one summand differs
 pub total_but : (f g : ℕ → ℕ) (i n x y : ℕ) → i < n → ((j : ℕ) → j ≢ i → f j ≤ g j) → f i + x ≤ g i + y → total f n + x ≤ total g n + y
 total_but f g i zero x y lt h here = absurd (omega (arith, lt))
-total_but f g i (suc n) x y lt h here = ⊎_elim
-    (λ below. omega (arith, total_but f g i n x y below h here, h n (λ e. absurd (omega (arith, e, below)))))
-    (λ above. let same : n ≡ i = omega (arith, lt, above) in let others = total_below f g i n above h in let this = subst (λ k. f k + x ≤ g k + y) (sym same) here in omega (arith, others, this))
-    (cases_lt i n)
+total_but f g i (suc n) x y lt h here = grind (arith, nat_tests, total_but f g i n x y, total_below f g i n, cases_lt i n)
 
 -- powers of 2 or more
 pub pow_some : (b n : ℕ) → 1 ≤ (b + 2) ^ n

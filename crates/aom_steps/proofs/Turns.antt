@@ -1,5 +1,6 @@
 -- What a turn may still cost: the price of the class whose object is dispatched, or nothing more.
-use Rattle.std.proofs.Common.{ℤ, ◌≡◌, ◌≤◌, ◌+◌, ◌∙◌, ℕ, true, false, List, [], ◌∷◌, Option, Some, None, refl, sym, ap, arith, subst, Bool, cond, length}
+use Rattle.std.proofs.lemmas.Bool.Decides.{nat_tests}
+use Rattle.std.proofs.Common.{ℤ, ◌≡◌, ◌≤◌, ◌+◌, ◌∙◌, ℕ, true, false, List, [], ◌∷◌, Option, Some, None, refl, sym, ap, arith, subst, Bool, length}
 use Rattle.std.proofs.lemmas.Bool.{true≢false}
 use Rattle.aom_image.specs.Image.{Image}
 use Rattle.aom_image.specs.Views.{method_at}
@@ -12,43 +13,39 @@ use Rattle.aom_sound.specs.Laws.{IsFamily}
 use Rattle.aom_sound.proofs.Guarded.{goes_same}
 use Rattle.aom_sound.proofs.Housing.{stands_session_of}
 use Rattle.aom_sound.proofs.Turned.{accepts, attends, handles, parts, Polled, answers, nothing, polled_so, Picked, picked_so}
-use Rattle.aom_sound.specs.Claims.{forms, items_of, declared}
+use Rattle.aom_sound.specs.Claims.{forms, items_of}
 use Rattle.aom_sound.specs.Counting.{starts}
 use Rattle.aom_sound.specs.Enlisted.{completed_with, on_request, part_of, recorded, taken_up, timed_out}
 use Rattle.aom_sound.specs.Natives.{bereaved}
-use Rattle.aom_sound.specs.Places.{Message_of, service_of, Cell, Object, Request, requested, Elsewhere, Going, In_service, Place, Queued, Session, Tidy, held, moved, named, seen}
+use Rattle.aom_sound.specs.Places.{Message_of, service_of, Cell, Object, Request, requested, Elsewhere, Going, In_service, Place, Queued, Session, Tidy, held, moved, named}
 use Rattle.aom_sound.specs.State.{Goes, Rest, Seat, State, Dispatched, Of_server, Parts}
-use Rattle.aom_sound.specs.WellTyped.{Good, WellTyped, Fits, Now}
-use Rattle.aom_sound.specs.World.{lives, Completes, Cuts, Hears, Kills, Passes, Picks, Polls, Turning, Waits, heard_one, past_native, turned, turning, with_request, without_native, Candidate, Completion, Heard, Obeys, Outside, Timed, by_event, by_timer, delivers, first_due, first_ready, has_signal, next_event, next_native, next_time, picks, polls, taken_from}
+use Rattle.aom_sound.specs.WellTyped.{Good, WellTyped, Now}
+use Rattle.aom_sound.specs.World.{Completes, Cuts, Hears, Kills, Passes, Picks, Polls, Turning, Waits, heard_one, past_native, turned, turning, with_request, without_native, Candidate, Completion, Heard, Obeys, Outside, Timed, by_event, by_timer, delivers, first_ready, picks, polls, taken_from}
 use Rattle.aom_bounds.specs.Prices.{Prices, perhaps_price, price, IsPriced}
 use Rattle.aom_steps.specs.Laws.{TurnsPay}
-use Rattle.aom_steps.specs.Left.{left, objects_left, operations_left, tasks_left, closings_left, is_entry}
+use Rattle.aom_steps.specs.Left.{left, objects_left, operations_left, is_entry}
 use Rattle.aom_steps.specs.Payers.{class_of, payer, price_of}
 use Rattle.aom_steps.proofs.Emptied.{none_at_hand}
 use Rattle.aom_steps.proofs.Paying.{fresh_rounds, begun_left}
 use Rattle.aom_steps.proofs.Pushed.{asked_same, reset_same, moved_less, served_same, withdrawn_same}
 use Rattle.aom_roles.specs.Classes.{sessions_in}
-use Rattle.aom_classes.specs.Roles.{role_of}
 use Rattle.aom_steps.proofs.Classes.{acceptor_serves, plain_session, run_price, server_price}
 use Rattle.aom_steps.proofs.Sessions.{of_claim}
 use Rattle.aom_roles.specs.Shapes.{kind_of}
-use Rattle.std.specs.Prelude.{is_some, nat_le, nat_lt}
-use Rattle.aom_sound.specs.Servers.{asked_last, is_queue, is_server, of_class, session_class, withdrawn}
+use Rattle.std.specs.Prelude.{is_some}
+use Rattle.aom_sound.specs.Servers.{asked_last, is_queue, is_server, session_class, withdrawn}
 use Rattle.aom_sound.proofs.Turning.{found}
-use Rattle.aom_shape.specs.Kinds.{filled}
 use Rattle.aom_steps.proofs.Payers.{begun_payer}
 use Rattle.aom_sound.specs.Destruction.{begun}
 use Rattle.aom_sound.proofs.Signals.{at_rest}
 use Rattle.aom_transcript.specs.declared.event.TimedEvent.{TimedEvent}
 use Rattle.aom_clients.specs.declared.refusal.Refusal.{Refusal}
 use Rattle.aom_clients.specs.declared.client.Client.TheVariants.{Open}
-use Rattle.aom_transcript.specs.declared.event.Event.TheVariants.{Client as Of_client, Kill, Tell}
 use Rattle.aom_classes.specs.Linked.{IsLinked}
-use Rattle.aom_shape.specs.declared.kind.Filling.TheVariants.{Full}
 use Rattle.aom_transcript.specs.declared.event.Event.{Event}
 use Rattle.aom_transcript.specs.declared.event.Command.{Command}
 use Rattle.aom_transcript.specs.declared.event.Command.TheVariants.{Close, Connect, Die, Send}
-use Rattle.aom_sound.specs.Clients.{Listed, client_at, client_count, commanded, connecting, leaving, sending, told}
+use Rattle.aom_sound.specs.Clients.{Listed, client_at, commanded, connecting, leaving, sending, told}
 use Rattle.aom_clients.specs.declared.client.Client.{Client}
 
 -- ---- a turn that dispatches no object
@@ -62,10 +59,7 @@ module _ (p : Image) (c : Prices) (s : State) (idle : s.tasks ≡ []) where
 
   -- other cells, of which as much is left: no server goes
   with_cells : (u : State) → u.tasks ≡ s.tasks → u.items ≡ s.items → objects_left c u.cells ≡ objects_left c s.cells → Passed u
-  with_cells u tasks items same =
-      let none = ap (λ ts. tasks_left p c ts + closings_left p c u.cells ts) (tasks ∙ idle) in
-      let before = ap (λ ts. tasks_left p c ts + closings_left p c s.cells ts) idle in
-      (tasks ∙ idle, omega (arith, none, before, same, ap (λ l. operations_left c l) items))
+  with_cells u tasks items same = grind (arith, nat_tests)
 
   completed : (f : Request → Request) (o : Object) (r : Rest) → Passed (record s { cells = with_request f o s.cells; rest = r })
   completed f o r = with_cells (record s { cells = with_request f o s.cells; rest = r }) refl refl (asked_same c is_entry o.name (on_request f (requested s.cells o.name)) s.cells)
@@ -147,44 +141,19 @@ module _ (s : State) (tidy : Tidy s.cells) where
   picks_lives false y e (Some time) = tt
 
   polls_lives : (n : Option ℕ) (answer : Option Completion) (after : Turning) → Lives s after → Lives s (polls n answer after)
-  polls_lives None answer after f = f
-  polls_lives (Some n) answer after f = tt
+  polls_lives x answer after f = grind arith
 
   delivers_lives : (outside : Outside) (name : ℕ) (event : Event) → Lives s (delivers outside name s event)
-  delivers_lives outside name (Tell n word) = tt
-  delivers_lives outside name (Kill n) = go (lives outside s n)
-    where
-      go : (b : Bool) → Lives s (cond b (Kills n) Hears)
-      go true = tt
-      go false = tt
-  delivers_lives outside name (Of_client c command) = go (nat_lt c client_count)
-    where
-      go : (b : Bool) → Lives s (cond b (Obeys c command name) Hears)
-      go true = tt
-      go false = tt
+  delivers_lives outside name x = grind arith
 
   event_lives : (outside : Outside) (name : ℕ) (next : Option TimedEvent) (after : Turning) → Lives s after → Lives s (by_event outside name s next after)
-  event_lives outside name None after f = f
-  event_lives outside name (Some e) after f = go (nat_le e.time s.rest.clock)
-    where
-      go : (b : Bool) → Lives s (cond b (delivers outside name s e.event) after)
-      go true = delivers_lives outside name e.event
-      go false = f
+  event_lives outside name x after f = grind (arith, nat_tests, delivers_lives outside name)
 
   timer_lives : (next : Option Timed) (after : Turning) → Lives s after → Lives s (by_timer s next after)
-  timer_lives None after f = f
-  timer_lives (Some x) after f = go (nat_le x.timer.due s.rest.clock)
-    where
-      go : (b : Bool) → Lives s (cond b (Completes x.object) after)
-      go true = tt
-      go false = f
+  timer_lives x after f = grind arith
 
   turning_lives : (outside : Outside) (heard : Heard) → Lives s (turning outside heard s)
-  turning_lives outside heard = go (nat_le outside.limit s.rest.dispatches)
-    where
-      go : (b : Bool) → Lives s (cond b Cuts (by_timer s (first_due s.cells) (by_event outside heard.name s (next_event outside s) (polls (next_native outside s) heard.completion (picks (has_signal s.cells) (first_ready s.cells) (next_time outside s))))))
-      go true = tt
-      go false = timer_lives (first_due s.cells) _ (event_lives outside heard.name (next_event outside s) _ (polls_lives (next_native outside s) heard.completion _ (picks_lives (has_signal s.cells) (first_ready s.cells) refl (next_time outside s))))
+  turning_lives outside heard = grind (arith, nat_tests, timer_lives, event_lives outside heard.name, polls_lives, picks_lives)
 
 module _ (p : Image) (t : Typing) (c : Prices) (family : IsFamily p) (linked : IsLinked p) (priced : IsPriced p t c) (s : State) (good : Good p t s.cells []) (bare : objects_left c s.cells + operations_left c s.items ≡ 0) (x : Seat)
     (there : named s.cells x.object.name ≡ Some x.object) where
@@ -215,20 +184,15 @@ module _ (p : Image) (t : Typing) (c : Prices) (family : IsFamily p) (linked : I
   IsSessionOf y o = (session : ℕ) × (session_class p y ≡ Some session) × (o.thing ≡ An_object_of session)
 
   session_there : (client : ℕ) (o : Object) → held s.cells (Elsewhere (Session x.object.name client)) ≡ Some o → IsSessionOf x.object.thing o
-  session_there client o held_there =
-      let has =
-      of_claim p t s.cells x.object.name client x.object o there Now [] good.stack
-      (subst (λ y. Fits p (seen s.cells) y (declared p s.cells (Elsewhere (Session x.object.name client)))) held_there (good.fits (Elsewhere (Session x.object.name client)))) in
-      go (session_class p x.object.thing) refl has.1
-    where
-      go : (k : Option ℕ) → session_class p x.object.thing ≡ k → Fits p (seen s.cells) (Some o) (filled (of_class k) Full) → IsSessionOf x.object.thing o
-      go (Some session) at f = (session, at, stands_session_of p family x.object.thing session at o.thing f.0)
-      go None at f = absurd f
+  session_there client o held_there = grind (
+    arith,
+    nat_tests,
+    of_claim p t s.cells x.object.name client x.object o there Now,
+    stands_session_of p family x.object.thing,
+  )
 
   attends_within : (y : Thing) (o : Object) (m : ℕ) → IsSessionOf y o → part_of p Attends o.thing ≡ Some m → Affords y (price c m)
-  attends_within (An_object_of k) o m is e =
-      let role : role_of p is.0 Attends ≡ Some m = ap (λ z. part_of p Attends z) (sym is.2) ∙ e in
-      omega (arith, (server_price p linked k c is.0 is.1).attends, ap (λ r. perhaps_price c r) role)
+  attends_within (An_object_of k) o m is e = grind (arith, nat_tests, server_price p linked k c is.0 is.1)
   attends_within Message o m is e = absurd (no_message is.0 is.1)
 
   parts_within : (y : Thing) (o : Object) → IsSessionOf y o → Affords y (c.destruction o.thing)

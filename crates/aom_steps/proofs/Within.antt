@@ -1,20 +1,18 @@
 -- Every move pays for the steps that it is, and so each dispatch keeps within what is declared.
+use Rattle.std.proofs.lemmas.Bool.Decides.{nat_tests}
 use Rattle.std.proofs.lemmas.Option.{same_Some}
-use Rattle.std.specs.Ordering.{int_eq}
-use Rattle.std.specs.Prelude.{IsSome, is_none, pos, max}
+use Rattle.std.specs.Prelude.{IsSome, is_none}
 use Rattle.std.proofs.Common.{◌≡◌, ◌<◌, ◌≤◌, ◌+◌, ◌∙◌, ◌^◌, slice_get, ℕ, ℤ, Bool, true, false, cond, List, [], ◌∷◌, length, Option, Some, None, refl, sym, ap, arith, subst, suc}
 use Rattle.aom_image.specs.Image.{Image}
-use Rattle.aom_image.specs.Views.{instr_at, method_at}
+use Rattle.aom_image.specs.Views.{instr_at}
 use Rattle.aom_image.specs.WellFormed.{ClassFits, WellFormed}
 use Rattle.aom_instructions.specs.declared.instr.Instr.{Instr}
-use Rattle.aom_image.specs.declared.method.Thing.TheVariants.{Object as An_object_of}
 use Rattle.aom_image.specs.declared.class.ClassKind.{ClassKind}
 use Rattle.aom_image.specs.declared.class.ClassKind.TheVariants.{Active, Plain, Server, Session as A_session}
 use Rattle.aom_image.specs.declared.class.ClassDecl.{ClassDecl}
 use Rattle.aom_image.specs.declared.method.Role.{Role}
 use Rattle.aom_image.specs.declared.method.Role.TheVariants.{Accept, Error, Run as Handles, Service as Attends}
 use Rattle.aom_image.specs.Views.{class_at}
-use Rattle.aom_roles.specs.Shapes.{kind_of}
 use Rattle.aom_classes.specs.Roles.{role_of}
 use Rattle.aom_classes.proofs.Facts.{all_there}
 use Rattle.aom_classes.proofs.Playing.{role_inherits}
@@ -34,7 +32,6 @@ use Rattle.aom_sound.proofs.Moving.{acted, steps_are_moves}
 use Rattle.aom_sound.proofs.Course.{well_on, WellKept}
 use Rattle.aom_sound.proofs.Straight.{At}
 use Rattle.aom_sound.proofs.Wiring.{linked_is_wired}
-use Rattle.aom_sound.specs.Calls.{called, result_register}
 use Rattle.aom_sound.specs.Claims.{Dispatching, Layer, Method, forms, items_of, tasks_of, declared}
 use Rattle.aom_sound.specs.Cleanup.{ended_by}
 use Rattle.aom_sound.specs.Counting.{ends_object, restarts, starts, steps_of, taken}
@@ -42,19 +39,19 @@ use Rattle.aom_sound.specs.Destruction.{begun, first_session, parting, vanished}
 use Rattle.aom_sound.specs.Effects.{effect}
 use Rattle.aom_sound.specs.Laws.{IsWired}
 use Rattle.aom_sound.specs.Enlisted.{part_of}
-use Rattle.aom_sound.specs.Moves.{answered, asking, counted, dispatch_ends, failed, handled, main_ends, object_ends, step, step_instr, step_task, stage_ends}
-use Rattle.aom_sound.specs.Places.{Elsewhere, Entry, Going, In_service, Object, Place, Root, Session, held, moved, same_place, seen, service_of, without}
-use Rattle.aom_sound.specs.State.{An_object, Answered, Asks, Choice, Destroy, Dispatch, Dispatched, Frame, Goes, Item, Main_left, Object_left, Of_main, Of_object, Of_root, Run, Seat, State, Task, Trapped, Unwind, Closing, Of_server, Parts, Serves, Service_left, Stage}
+use Rattle.aom_sound.specs.Moves.{answered, asking, counted, dispatch_ends, main_ends, object_ends, step, step_instr, step_task, stage_ends}
+use Rattle.aom_sound.specs.Places.{Elsewhere, Entry, Going, Object, Place, Root, Session, held, moved, same_place, seen, service_of}
+use Rattle.aom_sound.specs.State.{An_object, Answered, Asks, Choice, Destroy, Dispatch, Dispatched, Frame, Goes, Item, Main_left, Object_left, Of_main, Of_object, Of_root, Run, Seat, State, Task, Trapped, Unwind, Closing, Of_server, Stage}
 use Rattle.aom_sound.specs.Steps.{Acts, Arrives, Clears, Comes_out, Ends, Move, Rests, Undoes, Vanishes, IsStill, Empties}
 use Rattle.aom_sound.specs.WellTyped.{Fits, Good, WellTyped}
 use Rattle.aom_sound.specs.World.{Heard, Reaches, begins, boot_state, main_tasks, moves, turn, turning, turns, Outside}
 use Rattle.aom_transcript.specs.declared.line.Line.{Line}
 use Rattle.aom_steps.proofs.Worths.{resumed_alike, told_alike}
 use Rattle.aom_bounds.specs.Layers.{ArePricesUpTo}
-use Rattle.aom_bounds.specs.Prices.{IsPriced, Prices, Stands, perhaps_price, price, sessions_cost}
+use Rattle.aom_bounds.specs.Prices.{IsPriced, Prices, Stands, perhaps_price}
 use Rattle.aom_bounds.specs.Dispatches.{IsAffordable, main_price, method_price, root_price}
 use Rattle.aom_steps.specs.Laws.{BootWithin, KeepsBudget, MovesPay, StepsWithin}
-use Rattle.aom_steps.specs.Left.{WithinBudget, end_left, left, left_worths, objects_left, operations_left, tasks_left, waiting_left, closing_left, closings_left, is_entry, is_session_with, sessions_left}
+use Rattle.aom_steps.specs.Left.{WithinBudget, end_left, left, objects_left, operations_left, tasks_left, waiting_left, closing_left, closings_left, is_entry, is_session_with}
 use Rattle.aom_steps.specs.Payers.{AffordsObjects, class_budget, declared_of, payer, price_of, dispatch_price}
 use Rattle.aom_steps.proofs.Covering.{covers}
 use Rattle.aom_steps.proofs.Paying.{begun_left, fresh_rounds, pays, destructed_left}
@@ -68,9 +65,7 @@ use Rattle.aom_sound.proofs.Wiring.{main_of_none}
 use Rattle.aom_image.proofs.Given.{some_given}
 use Rattle.aom_sound.proofs.Layers.{dispatch_layer}
 use Rattle.std.proofs.Math.Nat.{le-max_left, le-max_right}
-use Rattle.aom_sound.specs.Servers.{is_server, parted, without_queue}
 use Rattle.std.proofs.lemmas.Bool.{eq-eqb}
-use Rattle.aom_sound.specs.Clients.{each_unslotted}
 use Rattle.aom_sound.proofs.ClientsKeep.{clients_keep}
 use Rattle.aom_sound.specs.Kept.{IsKept}
 use Rattle.aom_steps.proofs.Lasting.{IsApart, going_apart, lasting, lasts_below, lasts_gone, lasts_moved, resumed_closings}
@@ -118,13 +113,15 @@ module _ (p : Image) (t : Typing) (c : Prices) (linked : IsLinked p) (typed : Is
       (o : Object) (from : Place) (height : ℕ) (below : List Task) → held s.cells from ≡ Some o → s.tasks ≡ below → ((depth : ℕ) → IsApart depth from) →
       tasks_left p c (begun p o height below) + closings_left p c (moved from (Going (length below)) s.cells) (begun p o height below)
       ≤ c.destruction o.thing + (waiting_left p c below + closings_left p c (moved from (Going (length below)) s.cells) below)
-  destruction o from height below there at apart =
-      begun_left p t c priced o height below (moved from (Going (length below)) s.cells)
-      (stands_at_going p t c priced s.cells w.layers w.good few o from (length below) there (omega (arith, ap (λ ts. length ts) (sym w.tasks ∙ at))))
+  destruction o from height below there at apart = grind (
+    arith,
+    nat_tests,
+    begun_left p t c priced o height below,
+    stands_at_going p t c priced s.cells w.layers w.good few o from,
+  )
 
   passed_on : (from : Place) (below : List Task) → ((depth : ℕ) → IsApart depth from) → closings_left p c (moved from (Going (length below)) s.cells) below ≤ closings_left p c s.cells below
-  passed_on from below apart =
-      lasting p c s.cells _ below (lasts_moved (length below) from (Going (length below)) s.cells (apart (length below)) (going_apart (length below) (length below) (omega arith)) (λ n. refl))
+  passed_on from below apart = grind (arith, nat_tests, lasting p c s.cells, lasts_moved, going_apart)
 
   -- what a leave deals with was paid for as it was pushed
   clears :
@@ -162,43 +159,43 @@ module _ (p : Image) (t : Typing) (c : Prices) (linked : IsLinked p) (typed : Is
 
   -- a cell goes, and what waits in its queue
   vanishes : (ts : List Task) (o : Object) → 1 + left p c (vanished o ts (counted p s)) ≤ all_left (Destroy ∷ ts)
-  vanishes ts o =
-      let queued = without_queue o.name s.cells in
-      let gone = without (Going (length ts)) queued in
-      let clients = (service_of s.cells o.name).sessions in
-      let after = each_unslotted clients gone in
-      let stays = lasting p c s.cells after ts (lasts_gone (length ts) o.name clients s.cells) in
-      omega (arith, resumed_alike (left_worths p c) ts, resumed_closings p c after ts, stays, each_unslotted_same c is_entry clients gone, without_less c is_entry (Going (length ts)) queued, queue_less c is_entry o.name s.cells)
+  vanishes ts o = grind (
+    arith,
+    nat_tests,
+    lasting p c s.cells,
+    lasts_gone,
+    resumed_alike,
+    resumed_closings p c,
+    each_unslotted_same c,
+    without_less c,
+    queue_less c,
+  )
 
   ended_less : (code : ℤ) (d : Dispatch) → end_left p c (ended_by code d) ≤ end_left p c d
-  ended_less code (Of_server x client (Serves o)) = omega arith
-  ended_less code _ = omega arith
+  ended_less code x = grind arith
 
   -- the root is of its declared class
   root_pays : (o : Object) (root : Option ℕ) → Fits p (seen s.cells) (Some o) (filled (root_thing root 0) Perhaps) → c.destruction o.thing ≤ root_price c root
-  root_pays o root f = some_given (λ r. Fits p (seen s.cells) (Some o) (filled (root_thing r 0) Perhaps)) root f (λ none. none) (λ x is fits.
-      omega (arith, ap (λ r. root_price c r) is, priced.stands_in o.thing (An_object_of x) fits.0))
+  root_pays o root f = grind (arith, nat_tests, some_given)
 
   -- what is pushed, and the root's destruction, which main's end may begin
   main_left_over :
       (d : Dispatch) (seats : List Seat) → Good p t s.cells (Dispatching d seats ∷ []) → (b : Bool) (o : Option Object) (v : State) → v.cells ≡ s.cells → v.items ≡ s.items → held s.cells (Elsewhere Root) ≡ o →
       Fits p (seen s.cells) o (filled (root_thing p.header.root 0) Perhaps) → left p c (main_ends p b o v) ≤ root_price c p.header.root + (objects_left c s.cells + operations_left c s.items)
-  main_left_over d seats last true (Some o) v same alike there f =
-      let below = Dispatched Of_root ∷ [] in
-      let stands = stands_at_going p t c priced s.cells (Dispatching d seats ∷ []) last few o (Elsewhere Root) 1 there (omega arith) in
-      let begins = begun_left p t c priced o (length v.items) below (moved (Elsewhere Root) (Going 1) v.cells)
-      (subst (λ cs. is_server p o.thing ≡ true → (held (moved (Elsewhere Root) (Going 1) cs) (Going 1) ≡ Some o) × (sessions_left c o.name (moved (Elsewhere Root) (Going 1) cs) ≤ sessions_cost p (λ k. c.destruction (An_object_of k)) o.thing)) (sym same) stands) in
-      let pushed = ap (λ cs. objects_left c cs) same in
-      let operations = ap (λ is. operations_left c is) alike in
-      omega (arith, begins, moved_less c is_entry (Elsewhere Root) (Going 1) v.cells refl, root_pays o p.header.root f, pushed, operations)
+  main_left_over d seats last true (Some o) v same alike there f = grind (
+    arith,
+    nat_tests,
+    stands_at_going p t c priced s.cells (Dispatching d seats ∷ []) last few o (Elsewhere Root) 1 there,
+    begun_left p t c priced o,
+    moved_less c,
+    root_pays o p.header.root f,
+  )
   main_left_over d seats last true None v same alike there f = omega (arith, ap (λ cs. objects_left c cs) same, ap (λ is. operations_left c is) alike)
   main_left_over d seats last false o v same alike there f = omega (arith, ap (λ cs. objects_left c cs) same, ap (λ is. operations_left c is) alike)
 
   -- the stage of a server's dispatch ends
   stage_left : (x : Seat) (client : ℕ) (stage : Stage) (ts : List Task) → left p c (stage_ends x client stage (counted p s)) ≤ all_left (Dispatched (Of_server x client stage) ∷ ts)
-  stage_left x client (Service_left code) ts = omega (arith, without_less c is_entry (Elsewhere In_service) s.cells)
-  stage_left x client Parts ts = omega (arith, served_same c is_entry x.object.name (parted client (service_of s.cells x.object.name)) s.cells)
-  stage_left x client _ ts = omega arith
+  stage_left x client y ts = grind (arith, nat_tests, without_less c, served_same c)
 
   -- a dispatch that ends stands alone
   abbrev Alone : Dispatch → Type 0
@@ -217,9 +214,7 @@ module _ (p : Image) (t : Typing) (c : Prices) (linked : IsLinked p) (typed : Is
   of_dispatch : (d : Dispatch) (ts : List Task) → s.tasks ≡ Dispatched d ∷ ts → ends_object p d ≡ false → left p c (dispatch_ends p d (counted p s)) ≤ all_left (Dispatched d ∷ ts)
   of_dispatch (Main_left code) ts at goes_on = omega arith
   of_dispatch Of_root ts at goes_on = omega arith
-  of_dispatch Of_main ts at goes_on =
-      let last = alone Of_main ts at in
-      omega (arith, main_left_over Of_main last.0 last.1 s.rest.stopped (held s.cells (Elsewhere Root)) (counted p s) refl refl refl (last.1.fits (Elsewhere Root)))
+  of_dispatch Of_main ts at goes_on = grind (arith, nat_tests, alone Of_main ts at, main_left_over Of_main)
   of_dispatch (Object_left x code) ts at goes_on = omega (arith, asked_left ts x code (part_of p Error x.object.thing) goes_on)
   of_dispatch (Of_server x client stage) ts at goes_on = stage_left x client stage ts
   of_dispatch _ ts at goes_on = cc
@@ -233,24 +228,23 @@ module _ (p : Image) (t : Typing) (c : Prices) (linked : IsLinked p) (typed : Is
   module _ (d : Dispatch) (seats : List Seat) (last : Good p t s.cells (Dispatching d seats ∷ [])) (items : forms s.items ≡ items_of (Dispatching d seats ∷ []))
       (root : Fits p (seen s.cells) (held s.cells (Elsewhere Root)) (filled (root_thing p.header.root 0) Perhaps)) where
     object_left_over : left p c (object_ends p (counted p s)) ≤ main_price p c
-    object_left_over =
-        let bare = none_at_end c p t s.cells s.items d seats last items in
-        omega (arith, bare, root_in_main, main_left_over d seats last s.rest.stopped (held s.cells (Elsewhere Root)) (handled (counted p s)) refl refl refl root)
+    object_left_over = grind (
+      arith,
+      nat_tests,
+      none_at_end c p t s.cells s.items d seats last items,
+      root_in_main,
+      main_left_over d seats last s.rest.stopped,
+    )
 
     answer_left_over : (answer : ℤ) → left p c (answered p answer (counted p s)) ≤ main_price p c
-    answer_left_over answer = go (int_eq answer (pos 0))
-      where
-        go : (b : Bool) → left p c (cond b (object_ends p (counted p s)) (failed answer (counted p s))) ≤ main_price p c
-        go true = object_left_over
-        go false = omega (arith, none_at_end c p t s.cells s.items d seats last items)
+    answer_left_over answer = grind (arith, nat_tests, object_left_over, none_at_end c p t s.cells s.items d seats last items)
 
     unasked_left_over : (x : Seat) (code : ℤ) (m : Option ℕ) → is_none m ≡ true → left p c (asking p m x code (counted p s)) ≤ main_price p c
     unasked_left_over x code m none = grind (arith, answer_left_over code)
 
   over_by : (d : Dispatch) (ts : List Task) → s.tasks ≡ Dispatched d ∷ ts → ends_object p d ≡ true → left p c (dispatch_ends p d (counted p s)) ≤ main_price p c
   over_by (Of_object x) ts at ends = let last = alone (Of_object x) ts at in object_left_over (Of_object x) last.0 last.1 last.2 (last.1.fits (Elsewhere Root))
-  over_by (Object_left x code) ts at ends =
-      let last = alone (Object_left x code) ts at in unasked_left_over (Object_left x code) last.0 last.1 last.2 (last.1.fits (Elsewhere Root)) x code (part_of p Error x.object.thing) ends
+  over_by (Object_left x code) ts at ends = grind (arith, nat_tests, alone (Object_left x code) ts at, unasked_left_over (Object_left x code))
   over_by (Asks x) ts at ends = let last = alone (Asks x) ts at in object_left_over (Asks x) last.0 last.1 last.2 (last.1.fits (Elsewhere Root))
   over_by (Answered x answer) ts at ends = let last = alone (Answered x answer) ts at in answer_left_over (Answered x answer) last.0 last.1 last.2 (last.1.fits (Elsewhere Root)) answer
   over_by _ ts at ends = cc
@@ -263,49 +257,34 @@ module _ (p : Image) (t : Typing) (c : Prices) (linked : IsLinked p) (typed : Is
   still_on ts still = grind arith
 
   restart_pays : (u : State) → Move p ch s u → restarts p s.tasks ≡ true → left p c u ≤ main_price p c
-  restart_pays u (Rests still same) ends = not_over s.tasks u refl ends (still_on s.tasks still)
-  restart_pays u (Acts fr ts i e at there met fits same) ends = not_over (Run fr ∷ ts) u at ends refl
-  restart_pays u (Vanishes ts o at there owns same) ends = not_over (Destroy ∷ ts) u at ends refl
-  restart_pays u (Empties ts o at there same) ends = not_over (Closing ∷ Destroy ∷ ts) u at ends refl
-  restart_pays u (Clears code ts items o at top there same) ends = not_over (Unwind code ∷ ts) u at ends refl
-  restart_pays u (Undoes code ts items m x at top same) ends = not_over (Unwind code ∷ ts) u at ends refl
-  restart_pays u (Arrives code fr ts items at top same) ends = not_over (Unwind code ∷ Trapped ∷ Run fr ∷ ts) u at ends refl
-  restart_pays u (Comes_out code d ts items at top same) ends = not_over (Unwind code ∷ Trapped ∷ Dispatched d ∷ ts) u at ends refl
-  restart_pays u (Ends d ts at same) ends = subst (λ x. left p c x ≤ main_price p c) (sym same) (over_by d ts at (subst (λ l. restarts p l ≡ true) at ends))
+  restart_pays u x ends = grind (arith, nat_tests, not_over s.tasks u, still_on s.tasks, over_by)
 
   -- ---- the kinds of moves
 
   by : (ts : List Task) (u v : State) → s.tasks ≡ ts → u ≡ v → steps_of ts + left p c v ≤ all_left ts → steps_of s.tasks + left p c u ≤ left p c s
-  by ts u v at same pays = subst (λ x. steps_of s.tasks + left p c x ≤ left p c s) (sym same) (subst (λ l. steps_of l + left p c v ≤ all_left l) (sym at) pays)
+  by ts u v at same pays = grind (arith, nat_tests, pays)
 
   move_pays : (u : State) → step p ch s ≡ Goes u → Move p ch s u → restarts p s.tasks ≡ false → steps_of s.tasks + left p c u ≤ left p c s
   move_pays u goes (Rests still same) goes_on = by s.tasks u _ refl same (omega (arith, still_none s.tasks still))
   move_pays u goes (Acts fr ts i e at there met fits same) goes_on =
       by (Run fr ∷ ts) u u at refl (acts w.layers w.tasks w.items w.good fr ts (sym w.tasks ∙ at) i u there (subst (λ l. step_task p ch (counted p s) l ≡ Goes u) at goes))
   move_pays u goes (Vanishes ts o at there owns same) goes_on = by (Destroy ∷ ts) u _ at same (vanishes ts o)
-  move_pays u goes (Empties ts o at there same) goes_on =
-      by (Closing ∷ Destroy ∷ ts) u _ at same (omega (arith, empties ts o (first_session s.cells o.name (service_of s.cells o.name).sessions) at there refl))
+  move_pays u goes (Empties ts o at there same) goes_on = grind (arith, nat_tests, by (Closing ∷ Destroy ∷ ts) u, empties ts o)
   move_pays u goes (Clears code ts items o at top there same) goes_on = by (Unwind code ∷ ts) u _ at same (omega (arith, clears code ts items o at top there))
-  move_pays u goes (Undoes code ts items m x at top same) goes_on =
-      let paid : operations_left c s.items ≡ price c m + operations_left c items = ap (λ l. operations_left c l) top in
-      by (Unwind code ∷ ts) u _ at same (omega (arith, paid, fresh_rounds c m (method_at p m)))
-  move_pays u goes (Arrives code fr ts items at top same) goes_on =
-      let i = instr_at p fr.method fr.place in
-      let paid : operations_left c s.items ≡ operations_left c items = ap (λ l. operations_left c l) top in
-      by (Unwind code ∷ Trapped ∷ Run fr ∷ ts) u _ at same (omega (arith, told_alike (left_worths p c) (called p i) (result_register i) code fr ts, paid))
-  move_pays u goes (Comes_out code d ts items at top same) goes_on =
-      let paid : operations_left c s.items ≡ operations_left c items = ap (λ l. operations_left c l) top in
-      by (Unwind code ∷ Trapped ∷ Dispatched d ∷ ts) u _ at same (omega (arith, ended_less code d, paid))
+  move_pays u goes (Undoes code ts items m x at top same) goes_on = grind (arith, nat_tests, by (Unwind code ∷ ts) u, fresh_rounds c m)
+  move_pays u goes (Arrives code fr ts items at top same) goes_on = grind (arith, nat_tests, by (Unwind code ∷ Trapped ∷ Run fr ∷ ts) u, told_alike)
+  move_pays u goes (Comes_out code d ts items at top same) goes_on = grind (
+    arith,
+    nat_tests,
+    by (Unwind code ∷ Trapped ∷ Dispatched d ∷ ts) u,
+    ended_less code d,
+  )
   move_pays u goes (Ends d ts at same) goes_on = by (Dispatched d ∷ ts) u _ at same (omega (arith, of_dispatch d ts at (subst (λ l. restarts p l ≡ false) at goes_on)))
 
 -- ---- the laws
 
 pub boot_within : BootWithin
-boot_within p c = go (main_of p) refl
-  where
-    go : (m : Option ℕ) → main_of p ≡ m → WithinBudget p c (main_price p c) (boot_state p)
-    go None e = record { within = rw e (omega arith) }
-    go (Some m) e = record { within = rw e (omega (arith, fresh_rounds c m (method_at p m))) }
+boot_within p c = grind (arith, nat_tests, fresh_rounds c)
 
 step_pays :
     (p : Image) (t : Typing) (c : Prices) → IsLinked p → IsTyped p t → IsPriced p t c → (ch : Choice) (s u : State) → WellTyped p t s → IsKept p s → step p ch s ≡ Goes u →
@@ -350,12 +329,8 @@ module _ (p : Image) (t : Typing) (c : Prices) (outside : Outside) (formed : Wel
 
   -- with a move: what was taken is taken still, or steps are counted anew
   moves_on : (s u : State) (ch : Choice) (n : ℕ) → WellKept p t s → step p ch s ≡ Goes u → Within n s → (b : Bool) → restarts p s.tasks ≡ b → Within (cond b 0 (n + steps_of s.tasks)) u
-  moves_on s u ch n w goes h true ends =
-      let main = payers p ch s u goes ∙ ap (λ b. cond b None (payer s.tasks)) ends in
-      omega (arith, restart_left p t c linked typed priced ch s u w.0 w.1 goes ends, ap (λ x. price_of p c x) main)
-  moves_on s u ch n w goes h false on =
-      let same = payers p ch s u goes ∙ ap (λ b. cond b None (payer s.tasks)) on in
-      omega (arith, h, step_pays p t c linked typed priced ch s u w.0 w.1 goes on, ap (λ x. price_of p c x) same)
+  moves_on s u ch n w goes h true ends = grind (arith, nat_tests, payers p ch s u goes, restart_left p t c linked typed priced ch s u w.0 w.1 goes ends)
+  moves_on s u ch n w goes h false on = grind (arith, nat_tests, payers p ch s u goes, step_pays p t c linked typed priced ch s u w.0 w.1 goes on)
 
   -- and with a turn
   turns_on :
@@ -367,8 +342,7 @@ module _ (p : Image) (t : Typing) (c : Prices) (outside : Outside) (formed : Wel
       omega (arith, h, passed.1, ap (λ ts. price_of p c (payer ts)) (passed.0 ∙ sym idle))
 
   by_main : (m : Option ℕ) → payer (main_tasks m) ≡ None
-  by_main None = refl
-  by_main (Some m) = refl
+  by_main x = grind arith
 
   stays : {lines : List Line} {s : State} (reached : Reaches p outside (boot_state p) lines s) → Within (taken reached) s
   stays begins = omega (arith, (boot_within p c).within, ap (λ x. price_of p c x) (by_main (main_of p)))
@@ -378,8 +352,7 @@ module _ (p : Image) (t : Typing) (c : Prices) (outside : Outside) (formed : Wel
 -- ---- what is declared
 
 all_declared : (p : Image) (t : Typing) (c : Prices) → IsAffordable p t c → AffordsObjects p c → (payer : Option ℕ) → price_of p c payer ≤ declared_of p payer
-all_declared p t c affords objects None = affords.declared
-all_declared p t c affords objects (Some x) = objects.each x
+all_declared p t c affords objects x = grind arith
 
 -- a declaration is a number of 32 bits
 declared_fits : (p : Image) → WellFormed p → (payer : Option ℕ) → declared_of p payer < 2 ^ 32
@@ -394,15 +367,10 @@ declared_fits p formed (Some x) = of_class (slice_get p.classes x) refl
 -- a price up to a limit that is below the limit is the price
 module _ (limit : ℕ) (p : Image) (t : Typing) (c : Prices) (wired : IsWired p) (are : ArePricesUpTo limit p t c) where
   same_root : (root : Option ℕ) → root_price c root < limit → root_price are.whole.prices root ≡ root_price c root
-  same_root None less = refl
-  same_root (Some x) less = omega (arith, are.classes (An_object_of x), less)
+  same_root x less = grind arith
 
   same_main : main_price p c < limit → main_price p are.whole.prices ≤ main_price p c
-  same_main less = go (main_of p) refl less
-    where
-      go : (m : Option ℕ) → main_of p ≡ m → method_price p c m < limit → method_price p are.whole.prices m ≤ method_price p c m
-      go None e less = omega arith
-      go (Some m) e less = omega (arith, are.methods m (wired.main m e).0, same_root p.header.root (omega (arith, less)), less)
+  same_main less = grind (arith, nat_tests, same_root p.header.root)
 
   pub affordable_below : p.header.budget < limit → main_price p c ≤ p.header.budget → IsAffordable p t are.whole.prices
   affordable_below below declared = record { priced = are.whole.pays; declared = omega (arith, same_main (omega (arith, below, declared)), declared) }
@@ -421,21 +389,11 @@ module _ (limit : ℕ) (p : Image) (t : Typing) (c : Prices) (wired : IsWired p)
   same_dispatch x (Some Plain) less = refl
   same_dispatch x (Some A_session) less = refl
   same_dispatch x (Some (Active provider)) less = omega (arith, same_part x Handles (omega (arith, less)), same_part x Error (omega (arith, less)))
-  same_dispatch x (Some (Server most session)) less =
-      let a = perhaps_price c (role_of p x Accept) in
-      let b = perhaps_price c (role_of p session Attends) in
-      let d = c.destruction (An_object_of session) in
-      let accepts = same_part x Accept (omega (arith, less, le-max_left a (max b d))) in
-      let attends = same_part session Attends (omega (arith, less, le-max_left b d, le-max_right a (max b d))) in
-      let parts : are.whole.prices.destruction (An_object_of session) ≡ d = omega (arith, are.classes (An_object_of session), less, le-max_right b d, le-max_right a (max b d)) in
-      ap (λ n. max n (max (perhaps_price are.whole.prices (role_of p session Attends)) (are.whole.prices.destruction (An_object_of session)))) accepts
-      ∙ ap (λ n. max a (max n (are.whole.prices.destruction (An_object_of session)))) attends ∙ ap (λ n. max a (max b n)) parts
+  same_dispatch x (Some (Server most session)) less = grind (arith, nat_tests, same_part x Accept, le-max_left, same_part session Attends, le-max_right)
 
   pub objects_below : ((x : ℕ) → declared_of p (Some x) < limit) → AffordsObjects p c → AffordsObjects p are.whole.prices
   objects_below below affords = record {
-    each = λ x.
-        let most = affords.each x in
-        omega (arith, same_dispatch x (kind_of p (Some x)) (omega (arith, most, below x)), most);
+    each = grind (arith, nat_tests, same_dispatch);
   }
 
 pub steps_within : StepsWithin

@@ -5,7 +5,7 @@ use Rattle.aom_image.specs.Views.{method_at}
 use Rattle.aom_image.specs.declared.method.Method.{Method}
 use Rattle.aom_image.specs.declared.method.Role.TheVariants.{Error}
 use Rattle.aom_sound.specs.Enlisted.{part_of}
-use Rattle.aom_sound.specs.Places.{Cell, Elsewhere, Entry, Field, Going, In_service, Object, Place, Queued, Register, Root, Session, held}
+use Rattle.aom_sound.specs.Places.{Cell, Elsewhere, Entry, Going, Object, Place, Session, held}
 use Rattle.aom_sound.specs.State.{A_mark, An_object, An_operation, Answered, Asks, Closing, Destroy, Dispatch, Dispatched, Item, Main_left, Object_left, Of_main, Of_object, Of_root, Of_server, Run, Seat, State, Task, Trapped, Unwind}
 use Rattle.aom_steps.specs.Within.{loops_worth}
 use Rattle.aom_steps.specs.Worths.{Worths, tasks_worth, waiting_worth}
