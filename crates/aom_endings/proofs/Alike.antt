@@ -1,11 +1,12 @@
 -- A move of each of two states that are the same but for names, where the new cells' names are changed with one another, and a turn of each.
-use Rattle.std.proofs.Common.{List, None, ap, refl, subst, sym, ℕ, ◌∙◌, ◌≡◌, Bool, true, false, ℤ}
+use Rattle.std.proofs.lemmas.Bool.Decides.{nat_tests}
+use Rattle.std.proofs.Common.{arith, List, None, ap, refl, subst, sym, ℕ, ◌∙◌, ◌≡◌, Bool, true, false, ℤ}
 use Rattle.aom_image.specs.Image.{Image}
 use Rattle.aom_rules.specs.Typing.{Typing}
 use Rattle.aom_sound.specs.Kept.{IsKept}
-use Rattle.aom_sound.specs.Moves.{IsOpen, is_refused, step, written}
+use Rattle.aom_sound.specs.Moves.{IsOpen, step, written}
 use Rattle.aom_sound.specs.Places.{named, count_cells}
-use Rattle.aom_sound.specs.State.{Choice, Goes, IsStuck, Outcome, State}
+use Rattle.aom_sound.specs.State.{Choice, Outcome, State}
 use Rattle.aom_sound.specs.WellTyped.{WellTyped}
 use Rattle.aom_sound.specs.World.{Heard, nothing_heard, Outside, turn, turning, written_turn}
 use Rattle.aom_endings.proofs.NamedCells.{cells_counted}
@@ -20,8 +21,7 @@ use Rattle.aom_endings.specs.Hearing.{is_heard, is_polling}
 use Rattle.aom_endings.proofs.Hearing.{step_unheard, heard_kept}
 
 alike_renamed : (names : ℕ → ℕ) → IsOneToOne names → (o : Outcome) → AlikeOutcomes o (renamed_outcome names o)
-alike_renamed names one_to_one (Goes s) = record { names = names; one_to_one = one_to_one; same = refl }
-alike_renamed names one_to_one (IsStuck kind) = refl
+alike_renamed names one_to_one x = grind arith
 
 -- two free names, of which one becomes the other as the two states' free names change places
 module _ (p : Image) (t : Typing) (s u : State) (well : WellTyped p t u) (kept : IsKept p u) (there : AllThere u) (alike : AreAlike s u) (a b : ℕ) (free_a : named s.cells a ≡ None)
@@ -55,11 +55,7 @@ module _
   same_state = exchanged_state p t s u well kept there alike c.name d.name open_c.name open_d.name
 
   same_refusal : c.refused ≡ d.refused
-  same_refusal =
-      open_c.refusal
-      ∙ sym (refused_so alike.names alike.one_to_one p refused s)
-      ∙ ap (is_refused p refused) (sym alike.same)
-      ∙ sym open_d.refusal
+  same_refusal = grind (arith, nat_tests, refused_so alike.names alike.one_to_one p refused s)
 
   -- it hears what the first hears
   hearing : ℤ → Choice
@@ -100,18 +96,18 @@ module _
   same_polling = ap (λ x. is_polling (turning outside nothing_heard x)) alike.same ∙ polling_kept alike.names outside s
 
   same_turn : turn p outside (record other { completion = heard.completion }) u ≡ turn p outside other u
-  same_turn = go (is_polling (turning outside nothing_heard s)) refl
-    where
-      go : (b : Bool) → is_polling (turning outside nothing_heard s) ≡ b → turn p outside (record other { completion = heard.completion }) u ≡ turn p outside other u
-      go true e = ap (λ a. turn p outside (record other { completion = a }) u) (answers e)
-      go false e = let unpolled = same_polling ∙ e in turn_unpolled (record other { completion = heard.completion }) p outside u unpolled ∙ sym (turn_unpolled other p outside u unpolled)
+  same_turn = grind (arith, nat_tests, same_polling, turn_unpolled other p outside u)
 
   same_turned : renamed_outcome turn_names (turn p outside heard s) ≡ turn p outside other u
-  same_turned =
-      sym (turns_so turn_names (exchanged_one p t s u well kept there alike heard.name other.name free_heard free_other) p outside heard s)
-      ∙ ap (λ n. turn p outside (record heard { name = n }) (renamed turn_names s)) (exchanged_first p t s u well kept there alike heard.name other.name free_heard free_other)
-      ∙ ap (turn p outside (record heard { name = other.name })) (exchanged_state p t s u well kept there alike heard.name other.name free_heard free_other)
-      ∙ same_turn
+  same_turned = grind (
+    arith,
+    nat_tests,
+    turns_so,
+    exchanged_one p t s u well kept there alike heard.name other.name free_heard free_other,
+    exchanged_first p t s u well kept there alike heard.name other.name free_heard free_other,
+    exchanged_state p t s u well kept there alike heard.name other.name free_heard free_other,
+    same_turn,
+  )
 
   pub turn_alike : AlikeOutcomes (turn p outside heard s) (turn p outside other u)
   turn_alike = subst (AlikeOutcomes (turn p outside heard s)) same_turned (alike_renamed turn_names (exchanged_one p t s u well kept there alike heard.name other.name free_heard free_other) (turn p outside heard s))

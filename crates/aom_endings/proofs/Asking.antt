@@ -1,9 +1,10 @@
 -- What is there stays there as a server takes the first of its queue, and as a client does something: by the connects that stay in queues.
-use Rattle.std.proofs.Common.{Bool, List, None, Option, Some, [], ap, cond, false, length, refl, subst, sym, true, ℕ, ℤ, ◌&&◌, ◌==◌, ◌∙◌, ◌∷◌, ◌≡◌, arith}
+use Rattle.std.proofs.lemmas.Bool.Decides.{nat_tests}
+use Rattle.std.proofs.Common.{Bool, List, None, Option, Some, [], ap, cond, false, refl, subst, sym, true, ℕ, ℤ, ◌&&◌, ◌==◌, ◌∙◌, ◌∷◌, ◌≡◌, arith}
 use Rattle.std.proofs.lemmas.Bool.{eq-eqb, eqb-true, ne_eqb, true≢false}
 use Rattle.std.proofs.lemmas.List.Folds.{list_any-append}
 use Rattle.std.specs.List.{list_any}
-use Rattle.std.specs.Prelude.{filter, not, ◌||◌}
+use Rattle.std.specs.Prelude.{filter, ◌||◌}
 use Rattle.aom_image.specs.Image.{Image}
 use Rattle.aom_image.specs.declared.method.Role.TheVariants.{Accept as Accepts_role, Run as Handles, Service as Attends}
 use Rattle.aom_clients.specs.Nodes.{is_connecting_at}
@@ -23,9 +24,9 @@ use Rattle.aom_transcript.specs.declared.event.Command.TheVariants.{Close, Conne
 use Rattle.aom_sound.specs.Clients.{Listed, asked_server, client_at, commanded, connecting, leaving, own, sending, told, with_client, with_message}
 use Rattle.aom_sound.specs.Enlisted.{on_request, part_of, taken_up}
 use Rattle.aom_sound.specs.Kept.{ClientsFit, is_connect_of}
-use Rattle.aom_sound.specs.Places.{Asked, Cell, Close_of, Connect_of, Elsewhere, Going, In_service, Message_of, Object, Queued, Service, Session, Tidy, held, moved, named, requested, service_of, unserved}
-use Rattle.aom_sound.specs.Servers.{asked_last, is_other, is_server, reserved, rest_of, stays, taken_first, withdrawn}
-use Rattle.aom_sound.specs.State.{Accepts, Dispatched, Goes, Of_object, Of_server, Parts, Seat, State}
+use Rattle.aom_sound.specs.Places.{Asked, Cell, Close_of, Connect_of, Elsewhere, In_service, Message_of, Object, Queued, Service, Session, Tidy, held, moved, named, requested, service_of, unserved}
+use Rattle.aom_sound.specs.Servers.{asked_last, is_server, reserved, stays, taken_first, withdrawn}
+use Rattle.aom_sound.specs.State.{Accepts, Goes, Of_object, Of_server, Seat, State}
 use Rattle.aom_sound.specs.World.{picked, serves_first, accepting, attended, attending, parting_with, taken_from, dispatched}
 use Rattle.aom_endings.proofs.Remaining.{AllWait, calm_waits, plain_there}
 use Rattle.aom_endings.proofs.Keeping.{Calm, calm_moved, calm_reserved}
@@ -43,37 +44,14 @@ module _ (cs : List Cell) (o : Object) (lives : named cs o.name ≡ Some o) (e :
   then = reserved taken_first o.name cs
 
   taken_waits : (n c : ℕ) → (o.name ≡ n → is_connect_of c e ≡ false) → waits cs n c ≡ true → waits then n c ≡ true
-  taken_waits n c none h = go (o.name == n) refl
-    where
-      go : (b : Bool) → (o.name == n) ≡ b → waits then n c ≡ true
-      go true same =
-          let at = eqb-true o.name n same in
-          let was : list_any (is_connect_of c) (e ∷ es) ≡ true = ap (λ q. list_any (is_connect_of c) q) (sym queue) ∙ ap (λ k. waits cs k c) at ∙ h in
-          ap (λ k. waits then k c) (sym at)
-          ∙ ap (λ v. list_any (is_connect_of c) v.queue) (service_here cs o.name (taken_first (service_of cs o.name)) o lives)
-          ∙ ap (λ q. list_any (is_connect_of c) (rest_of q)) queue
-          ∙ rest_connects c e es (none at) was
-      go false other = ap (λ v. list_any (is_connect_of c) v.queue) (service_there cs o.name n (taken_first (service_of cs o.name)) other) ∙ h
+  taken_waits n c none h = grind (arith, nat_tests, eqb-true o.name n, service_here cs o.name, rest_connects c e es, service_there cs o.name n)
 
   -- its connect is served, or none is lost
   accepted_waits : (clients : List Client) (x : Seat) (k : ℕ) → x.object ≡ o → e ≡ Connect_of k → AllWait clients cs → AreThere clients then (Some (Of_server x k Accepts))
   accepted_waits clients x k same first all = record { asked = asked; serves = tt }
     where
       asked : (n c : ℕ) → is_connecting_at n (client_at clients c) ≡ true → (waits then n c || ((x.object.name == n) && (k == c))) ≡ true
-      asked n c at = go ((x.object.name == n) && (k == c)) refl
-        where
-          or_true : (b : Bool) → (b || true) ≡ true
-          or_true true = refl
-          or_true false = refl
-
-          both : (a b : Bool) → (a && b) ≡ false → a ≡ true → b ≡ false
-          both a b f h = grind arith
-
-          go : (b : Bool) → ((x.object.name == n) && (k == c)) ≡ b → (waits then n c || ((x.object.name == n) && (k == c))) ≡ true
-          go true f = ap (λ b. waits then n c || b) f ∙ or_true (waits then n c)
-          go false f =
-              let stays = taken_waits n c (λ here. ap (is_connect_of c) first ∙ both (x.object.name == n) (k == c) f (eq-eqb x.object.name n (ap (λ y. y.name) same ∙ here))) (all n c at) in
-              ap (λ b. b || ((x.object.name == n) && (k == c))) stays
+      asked n c at = grind (arith, nat_tests, taken_waits n c, eq-eqb x.object.name n)
 
   others_wait : (clients : List Client) → ((c : ℕ) → is_connect_of c e ≡ false) → AllWait clients cs → AllWait clients then
   others_wait clients none all n c at = taken_waits n c (λ same. none c) (all n c at)
@@ -89,8 +67,7 @@ module _ (p : Image) (s u : State) (all : AllWait s.clients s.cells) (x : Seat) 
   n = x.object.name
 
   connect_there : (c : ℕ) (es : List Asked) → (service_of s.cells n).queue ≡ Connect_of c ∷ es → (m : Option ℕ) → accepting m x c (taken_from n s) ≡ Goes u → AllThere u
-  connect_there c es queue None e = cc
-  connect_there c es queue (Some m) e = subst AllThere (goes_same _ u e) (accepted_waits s.cells x.object lives (Connect_of c) es queue s.clients x c refl refl all)
+  connect_there c es queue y e = grind (arith, nat_tests, goes_same, accepted_waits s.cells x.object lives (Connect_of c) es queue s.clients x c)
 
   -- the session is at its place while it serves
   message_there :
@@ -116,19 +93,15 @@ module _ (p : Image) (s u : State) (all : AllWait s.clients s.cells) (x : Seat) 
       })
 
   close_there : (c : ℕ) (es : List Asked) → (service_of s.cells n).queue ≡ Close_of c ∷ es → (o : Option Object) → parting_with p x c o (taken_from n s) ≡ Goes u → AllThere u
-  close_there c es queue None e = cc
-  close_there c es queue (Some o) e = subst AllThere (goes_same _ u e) (subst (λ d. AreThere s.clients then d) (sym (dispatch_begun p o (length s.items) (Dispatched (Of_server x c Parts) ∷ []))) (record { asked = λ i d f. ap (λ b. b || false) (waiting i d f); serves = tt }))
-    where
-      cells : List Cell
-      cells = reserved taken_first n s.cells
-
-      then : List Cell
-      then = moved (Elsewhere (Session n c)) (Going 1) cells
-
-      waiting : AllWait s.clients then
-      waiting i d f =
-          ap (λ v. list_any (is_connect_of d) v.queue) (service_moved cells (Elsewhere (Session n c)) (Going 1) i)
-          ∙ others_wait s.cells x.object lives (Close_of c) es queue s.clients (λ d. refl) all i d f
+  close_there c es queue y e = grind (
+    arith,
+    nat_tests,
+    goes_same,
+    dispatch_begun p,
+    AllWait s.clients,
+    service_moved,
+    others_wait s.cells x.object lives (Close_of c) es queue s.clients,
+  )
 
   serves_there : (queue : List Asked) → (service_of s.cells n).queue ≡ queue → serves_first p x queue s ≡ Goes u → AllThere u
   serves_there [] queue e = cc
@@ -159,21 +132,9 @@ last_keeps e v c h = list_any-append (is_connect_of c) v.queue (e ∷ []) ∙ ap
 -- nor does a queue of which another's entries go
 stays_connects : (c d : ℕ) (es : List Asked) → (c == d) ≡ false → list_any (is_connect_of d) es ≡ true → list_any (is_connect_of d) (filter (stays c) es) ≡ true
 stays_connects c d [] other h = cc
-stays_connects c d (Message_of i m ∷ es) other h = go (is_other c i) (stays_connects c d es other h)
-  where
-    go : (b : Bool) → list_any (is_connect_of d) (filter (stays c) es) ≡ true → list_any (is_connect_of d) (cond b (Message_of i m ∷ filter (stays c) es) (filter (stays c) es)) ≡ true
-    go true rest = rest
-    go false rest = rest
+stays_connects c d (Message_of i m ∷ es) other h = grind (arith, nat_tests, stays_connects c d es other h)
 stays_connects c d (Close_of i ∷ es) other h = stays_connects c d es other h
-stays_connects c d (Connect_of i ∷ es) other h = go (i == d) refl h (is_other c i) refl (stays_connects c d es other)
-  where
-    go :
-        (x : Bool) → (i == d) ≡ x → (x || list_any (is_connect_of d) es) ≡ true → (b : Bool) → is_other c i ≡ b → (list_any (is_connect_of d) es ≡ true → list_any (is_connect_of d) (filter (stays c) es) ≡ true) →
-        list_any (is_connect_of d) (cond b (Connect_of i ∷ filter (stays c) es) (filter (stays c) es)) ≡ true
-    go true same h true f rest = ap (λ b. b || list_any (is_connect_of d) (filter (stays c) es)) same
-    go true same h false f rest = absurd (true≢false (sym (ap not (ne_eqb i c (λ at. true≢false (sym (eq-eqb c d (sym at ∙ eqb-true i d same)) ∙ other)))) ∙ f))
-    go false same h true f rest = ap (λ b. b || list_any (is_connect_of d) (filter (stays c) es)) same ∙ rest h
-    go false same h false f rest = rest h
+stays_connects c d (Connect_of i ∷ es) other h = grind (arith, nat_tests, stays_connects c d es other, ne_eqb i c, eq-eqb c d, eqb-true i d)
 
 module _
     (p : Image) (client : ℕ) (s : State) (tidy : Tidy s.cells) (fit : ClientsFit p s.clients s.cells) (waiting : (n m : ℕ) (o : Object) → held s.cells (Elsewhere (Queued n m)) ≡ Some o → is_server p o.thing ≡ false)

@@ -1,5 +1,6 @@
 -- What a move tells, by the call that it makes: how instructions on requests and sessions bear on what is outstanding.
-use Rattle.std.proofs.Common.{Bool, List, None, Option, Some, ap, cond, false, refl, subst, sym, true, ℕ, ℤ, ◌&&◌, ◌==◌, ◌∙◌, ◌≡◌}
+use Rattle.std.proofs.lemmas.Bool.Decides.{nat_tests}
+use Rattle.std.proofs.Common.{arith, Bool, List, None, Option, Some, ap, cond, false, refl, sym, true, ℕ, ℤ, ◌&&◌, ◌==◌, ◌∙◌, ◌≡◌}
 use Rattle.std.proofs.lemmas.Bool.{not-true, and_parts, and_right, eq-eqb, eqb-true, or_right, true≢false}
 use Rattle.std.specs.Ordering.{int_eq}
 use Rattle.std.specs.Prelude.{not, ◌||◌}
@@ -9,7 +10,7 @@ use Rattle.aom_endings.proofs.Cells.{Unchanged, meets_asked, meets_opened, owes_
 use Rattle.aom_endings.proofs.Requests.{aborted_owed, cancelled_owed, completed_owed, idle_owed, issued_owed, started_owed}
 use Rattle.aom_endings.specs.Owed.{Finds, FindsWell, SessionsHold, is_for, meets, meets_after, owes, owes_after, serves, serves_object, takes_on}
 use Rattle.aom_rules.specs.Requests.{is_cancel}
-use Rattle.aom_sound.specs.Enlisted.{Asking, aborted, cancelled, ended_cells, home_kind, in_phase, is_idle, issued_of, on_request, own_request, pending, rerequested, status_of, thing_kind}
+use Rattle.aom_sound.specs.Enlisted.{Asking, aborted, ended_cells, home_kind, in_phase, is_idle, issued_of, on_request, own_request, pending, rerequested, status_of, thing_kind}
 use Rattle.aom_sound.specs.Natives.{has_died, is_dead, is_owed, native_of, opens, own_session, resessioned, started}
 use Rattle.aom_sound.specs.Places.{Cell, Object, Request, in_session, named, requested, set_request, set_session}
 use Rattle.aom_sound.specs.State.{AtRoot, Frame, Home, Inside, State, Static, Task}
@@ -25,38 +26,10 @@ pub record Told (p : Image) (answer : ℤ) (s : State) (w : Option Wanted) (cs :
 -- ---- one name more, or one less, of which something is told
 
 pub put_on : (f : ℕ → Bool) (name m : ℕ) (x t v : Bool) → f name ≡ (x && false) → v ≡ (x && t) → cond (name == m) v (f m) ≡ ((t && (x && (name == m))) || f m)
-put_on f name m x t v before now = go (name == m) refl
-  where
-    here : (x t : Bool) → (x && t) ≡ ((t && (x && true)) || (x && false))
-    here true true = refl
-    here true false = refl
-    here false true = refl
-    here false false = refl
-
-    there : (x t b : Bool) → b ≡ ((t && (x && false)) || b)
-    there true true b = refl
-    there true false b = refl
-    there false true b = refl
-    there false false b = refl
-
-    go : (b : Bool) → (name == m) ≡ b → cond b v (f m) ≡ ((t && (x && b)) || f m)
-    go true same = now ∙ here x t ∙ ap (λ y. (t && (x && true)) || y) (sym before ∙ ap f (eqb-true name m same))
-    go false other = there x t (f m)
+put_on f name m x t v before now = grind (arith, nat_tests, eqb-true name m)
 
 pub taken_off : (f : ℕ → Bool) (name m : ℕ) (x y v : Bool) → f name ≡ (x && y) → v ≡ false → cond (name == m) v (f m) ≡ (not (x && (name == m)) && f m)
-taken_off f name m x y v before now = go (name == m) refl
-  where
-    here : (x y : Bool) → false ≡ (not (x && true) && (x && y))
-    here true y = refl
-    here false y = refl
-
-    there : (x b : Bool) → b ≡ (not (x && false) && b)
-    there true b = refl
-    there false b = refl
-
-    go : (b : Bool) → (name == m) ≡ b → cond b v (f m) ≡ (not (x && b) && f m)
-    go true same = now ∙ here x y ∙ ap (λ z. not (x && true) && z) (sym before ∙ ap f (eqb-true name m same))
-    go false other = there x (f m)
+taken_off f name m x y v before now = grind (arith, nat_tests, eqb-true name m)
 
 -- a call is for one cell
 pub for_one : (n x k m : ℕ) → is_for n x k m ≡ true → (n ≡ k) × (x ≡ m)
@@ -66,35 +39,21 @@ for_one n x k m e = let both = and_parts (n == k) (x == m) e in (eqb-true n k bo
 
 module _ (p : Image) (answer : ℤ) (s : State) (holds : SessionsHold p s) (w : Option Wanted) where
   met_after : (finds : FindsWell p s w) (k m : ℕ) → owes_after w answer k m (owes p s.cells k m) ≡ true → meets_after w answer k m (meets p s.cells k m) ≡ true
-  met_after finds k m = go w finds
-    where
-      begun : (n x : ℕ) → meets p s.cells n x ≡ true → (b : Bool) → is_for n x k m ≡ b → ((takes_on answer && b) || owes p s.cells k m) ≡ true → meets p s.cells k m ≡ true
-      begun n x f true e owed = let one = for_one n x k m e in ap (λ j. meets p s.cells j m) (sym one.0) ∙ ap (λ y. meets p s.cells n y) (sym one.1) ∙ f
-      begun n x f false e owed = holds.met k m (sym (ap (λ b. b || owes p s.cells k m) (and_right (takes_on answer) false refl)) ∙ owed)
-
-      left : (n x : ℕ) → owes p s.cells n x ≡ false → (b : Bool) → is_for n x k m ≡ b → owes p s.cells k m ≡ true → (not b && meets p s.cells k m) ≡ true
-      left n x f true e owed = let one = for_one n x k m e in absurd (true≢false (sym owed ∙ ap (λ j. owes p s.cells j m) (sym one.0) ∙ ap (λ y. owes p s.cells n y) (sym one.1) ∙ f))
-      left n x f false e owed = holds.met k m owed
-
-      go : (w : Option Wanted) → FindsWell p s w → owes_after w answer k m (owes p s.cells k m) ≡ true → meets_after w answer k m (meets p s.cells k m) ≡ true
-      go None f e = holds.met k m e
-      go (Some (Opens n x)) f e = or_right (takes_on answer && is_for n x k m) (meets p s.cells k m) (holds.met k m e)
-      go (Some (Starts n x y z)) f e = begun n x f.meets (is_for n x k m) refl e
-      go (Some (Asks n x y z)) f e = holds.met k m e
-      go (Some (Cancels n x)) f e = holds.met k m (and_parts (not (is_for n x k m)) (owes p s.cells k m) e).1
-      go (Some (Closes n x)) f e = left n x f.owes (is_for n x k m) refl e
+  met_after finds k m = grind (
+    arith,
+    nat_tests,
+    finds,
+    meets p s.cells,
+    owes p s.cells k m,
+    meets p s.cells k m,
+    for_one,
+    and_right,
+    owes p s.cells,
+    or_right,
+  )
 
   lives_after : (finds : FindsWell p s w) (k m : ℕ) → meets_after w answer k m (meets p s.cells k m) ≡ true → is_dead s.killed k ≡ false
-  lives_after finds k m = go w finds
-    where
-      opened : (n x : ℕ) → is_dead s.killed n ≡ false → (b : Bool) → is_for n x k m ≡ b → ((takes_on answer && b) || meets p s.cells k m) ≡ true → is_dead s.killed k ≡ false
-      opened n x f true e met = ap (λ j. is_dead s.killed j) (sym (for_one n x k m e).0) ∙ f
-      opened n x f false e met = holds.lives k m (sym (ap (λ b. b || meets p s.cells k m) (and_right (takes_on answer) false refl)) ∙ met)
-
-      go : (w : Option Wanted) → FindsWell p s w → meets_after w answer k m (meets p s.cells k m) ≡ true → is_dead s.killed k ≡ false
-      go (Some (Opens n x)) f e = opened n x f.lives (is_for n x k m) refl e
-      go (Some (Closes n x)) f e = holds.lives k m (and_parts (not (is_for n x k m)) (meets p s.cells k m) e).1
-      go _ f e = holds.lives k m e
+  lives_after finds k m = grind (arith, nat_tests, finds, meets p s.cells k m, for_one, and_right)
 
   pub sessions_after : (u : State) → Told p answer s w u.cells → u.killed ≡ s.killed → SessionsHold p u
   sessions_after u told killed = record {
@@ -132,12 +91,7 @@ told_before p answer s u same serving killed w cs told = record {
     }
 
     finds_before : (w : Option Wanted) → FindsWell p u w → FindsWell p s w
-    finds_before None f = tt
-    finds_before (Some (Opens n x)) f = found_before n x false false f
-    finds_before (Some (Starts n x y z)) f = found_before n x true false f
-    finds_before (Some (Asks n x y z)) f = found_before n x true (owes p s.cells n x) (subst (λ b. Finds p u n x true b) (same.owes n x) f)
-    finds_before (Some (Cancels n x)) f = found_before n x true true f
-    finds_before (Some (Closes n x)) f = found_before n x true false f
+    finds_before x f = grind (arith, nat_tests, found_before, owes p s.cells)
 
 -- ---- what instructions tell
 
@@ -157,9 +111,7 @@ module _ (p : Image) (answer : ℤ) (s : State) where
 
   -- a request that is owed as before
   pub asked_same : (h : Home) (r : Option Request) → is_owed r ≡ is_owed (own_request s.cells h) → Unchanged p s.cells (rerequested s.cells h r)
-  asked_same Static r e = unchanged_itself p s.cells
-  asked_same AtRoot r e = unchanged_itself p s.cells
-  asked_same (Inside o from) r e = unchanged_asked p s.cells o r (λ k. ap (λ b. serves p s.cells k o.name && b) e)
+  asked_same x r e = grind (arith, nat_tests, unchanged_itself p s.cells, unchanged_asked p s.cells)
 
   -- nothing is told of a request that is owed as before, nor of a session that is as it was
   asked_alike : (o : Object) (r : Option Request) → is_owed r ≡ is_owed (requested s.cells o.name) → Told p answer s None (set_request o.name r s.cells)
@@ -206,7 +158,7 @@ module _ (p : Image) (answer : ℤ) (s : State) where
     alive_in met = holds.lives n o.name (ap (λ x. x && in_session s.cells o.name) here ∙ met)
 
     open_for : is_owed (requested s.cells o.name) ≡ true → in_session s.cells o.name ≡ true
-    open_for owed = sym (ap (λ x. x && in_session s.cells o.name) here) ∙ holds.met n o.name (ap (λ x. x && is_owed (requested s.cells o.name)) here ∙ owed)
+    open_for owed = grind (arith, nat_tests, here)
 
     connects : (d x : Bool) → is_dead s.killed n ≡ d → in_session s.cells o.name ≡ x → Told p answer s (wanted_if (not (d || x)) (Opens n o.name)) (set_session o.name (opens d x answer) s.cells)
     connects true true dead met = absurd (true≢false (sym dead ∙ alive_in met))
@@ -230,16 +182,14 @@ module _ (p : Image) (answer : ℤ) (s : State) where
       owed_then d x = issued_owed (thing_kind p o.thing) n (asking clock order d x) a (requested s.cells o.name) native idle ∙ started_owed d x answer
 
       not_begun : (d x : Bool) → (not d && x) ≡ false → Told p answer s None (set_request o.name (then d x) s.cells)
-      not_begun d x e = asked_alike o (then d x) (owed_then d x ∙ ap (λ b. b && takes_on answer) e ∙ sym (idle_owed (requested s.cells o.name) idle))
+      not_begun d x e = grind (arith, nat_tests, asked_alike o, owed_then d x, idle_owed)
 
       issues : (d x : Bool) → is_dead s.killed n ≡ d → in_session s.cells o.name ≡ x → Told p answer s (wanted_if (not d && x) (Starts n o.name f w)) (set_request o.name (then d x) s.cells)
       issues true x dead met = not_begun true x refl
       issues false false dead met = not_begun false false refl
       issues false true dead met = record {
         finds = found true false dead met (idle_owed (requested s.cells o.name) idle);
-        owes = λ k m.
-            owes_asked p s.cells o (then false true) k m
-            ∙ put_on (λ x. owes p s.cells k x) o.name m (n == k) (takes_on answer) _ (at_it k _ false (idle_owed (requested s.cells o.name) idle)) (at_it k _ (takes_on answer) (owed_then false true));
+        owes = grind (arith, nat_tests, owes_asked p s.cells o, put_on, owes p s.cells, at_it, idle_owed, owed_then false true);
         meets = meets_asked p s.cells o (then false true);
       }
 
@@ -256,9 +206,7 @@ module _ (p : Image) (answer : ℤ) (s : State) where
     aborts false owed = asked_alike o _ (aborted_owed (requested s.cells o.name) ∙ sym owed)
     aborts true owed = record {
       finds = found true true (alive_in (open_for owed)) (open_for owed) owed;
-      owes = λ k m.
-          owes_asked p s.cells o (on_request aborted (requested s.cells o.name)) k m
-          ∙ taken_off (λ x. owes p s.cells k x) o.name m (n == k) true _ (at_it k _ true owed) (and_right (serves p s.cells k o.name) _ (aborted_owed (requested s.cells o.name)));
+      owes = grind (arith, nat_tests, owes_asked p s.cells o, taken_off, owes p s.cells, at_it, and_right, aborted_owed);
       meets = meets_asked p s.cells o (on_request aborted (requested s.cells o.name));
     }
 
@@ -275,15 +223,16 @@ module _ (p : Image) (answer : ℤ) (s : State) where
 module _ (p : Image) (answer : ℤ) (s : State) (fr : Frame) (ts : List Task) where
   -- a method that cancels has its request completed as it ends
   pub ended_same : not (is_cancel (method_role p fr.method) && int_eq (status_of (own_request s.cells fr.home)) pending) ≡ true → Unchanged p s.cells (ended_cells p fr s.cells)
-  ended_same e = go (is_cancel (method_role p fr.method)) e
-    where
-      go :
-          (b : Bool) → not (b && int_eq (status_of (own_request s.cells fr.home)) pending) ≡ true →
-          Unchanged p s.cells (cond b (rerequested s.cells fr.home (on_request cancelled (own_request s.cells fr.home))) s.cells)
-      go false e = unchanged_itself p s.cells
-      go true e =
-          asked_same p answer s fr.home _
-          (cancelled_owed (own_request s.cells fr.home) ∙ sym (completed_owed (own_request s.cells fr.home) (not-true (int_eq (status_of (own_request s.cells fr.home)) pending) e)))
+  ended_same e = grind (
+    arith,
+    nat_tests,
+    Unchanged p s.cells,
+    unchanged_itself p s.cells,
+    asked_same p answer s fr.home,
+    cancelled_owed,
+    completed_owed,
+    not-true,
+  )
 
   module _ (holds : SessionsHold p s) where
     pub connect_told :
@@ -314,13 +263,7 @@ module _ (p : Image) (answer : ℤ) (s : State) (fr : Frame) (ts : List Task) wh
         go (Some n) e = issues p answer s holds o alive n e clock order (read fr ts s a) _ _ idle (is_dead s.killed n) (in_session s.cells o.name) refl refl
 
     pub ask_told : (b x : ℕ) (h : Home) → IsAlive s.cells h → Told p answer s (wanted_by s p fr ts h (An_ask b x)) s.cells
-    ask_told b x Static alive = told_none p answer s _ (unchanged_itself p s.cells)
-    ask_told b x AtRoot alive = told_none p answer s _ (unchanged_itself p s.cells)
-    ask_told b x (Inside o from) alive = go (native_of (thing_kind p o.thing)) refl
-      where
-        go : (y : Option ℕ) → native_of (thing_kind p o.thing) ≡ y → Told p answer s (wanted_at s fr ts o y (An_ask b x)) s.cells
-        go None e = told_none p answer s _ (unchanged_itself p s.cells)
-        go (Some n) e = asks p answer s holds o alive n e (is_dead s.killed n) (in_session s.cells o.name) _ _ refl refl
+    ask_told b x y alive = grind (arith, nat_tests, told_none p answer s, unchanged_itself p s.cells, asks p answer s holds)
 
     pub abort_told : (h : Home) → IsAlive s.cells h → Told p answer s (wanted_by s p fr ts h A_cancel) (rerequested s.cells h (on_request aborted (own_request s.cells h)))
     abort_told Static alive = told_none p answer s _ (unchanged_itself p s.cells)

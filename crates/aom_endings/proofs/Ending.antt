@@ -1,6 +1,6 @@
 -- A run can always be brought to an end: each move lowers the rank, turns take of what is left, and there are only so many dispatches of objects.
-use Rattle.std.proofs.Common.{◌≡◌, ℕ, zero, suc, ◌+◌, ◌-◌, ◌^◌, ◌<◌, ◌≤◌, ◌==◌, Bool, true, false, List, [], ◌∷◌, ◌++◌, Option, Some, None, ap, refl, sym, subst, cond, ◌∙◌, arith, append-nil, append_assoc, length, pos}
-use Rattle.std.specs.Prelude.{is_some, nat_le, nat_lt}
+use Rattle.std.proofs.lemmas.Bool.Decides.{nat_tests}
+use Rattle.std.proofs.Common.{◌≡◌, ℕ, zero, suc, ◌+◌, ◌-◌, ◌^◌, ◌<◌, ◌≤◌, Bool, List, [], ◌∷◌, ◌++◌, Option, Some, None, ap, refl, sym, subst, ◌∙◌, arith, append-nil, append_assoc, pos}
 use Rattle.std.proofs.Math.Facts.{sfits_lit}
 use Rattle.std.proofs.lemmas.Bool.{ne_eqb}
 use Rattle.aom_image.specs.Image.{Image}
@@ -15,15 +15,12 @@ use Rattle.aom_sound.proofs.Steps.{step_keeps}
 use Rattle.aom_sound.proofs.Turning.{turn_goes_on}
 use Rattle.aom_sound.specs.Laws.{IsWired}
 use Rattle.aom_sound.specs.Places.{Cell, named}
-use Rattle.aom_sound.specs.State.{Rest, Task, State, Choice, Goes}
+use Rattle.aom_sound.specs.State.{Task, State, Choice, Goes}
 use Rattle.aom_sound.specs.Moves.{step, written, is_refused, IsOpen}
 use Rattle.aom_sound.specs.WellTyped.{WellTyped}
-use Rattle.aom_sound.specs.Clients.{client_count}
 use Rattle.aom_sound.proofs.Turned.{answers, commanded_kept, nothing, polled_rest, polled_so}
-use Rattle.aom_sound.specs.Enlisted.{recorded}
-use Rattle.aom_sound.specs.World.{AnswersWell, boot_state, Candidate, Completes, Completion, Cuts, Heard, Hears, HearsWell, Kills, Obeys, Outside, heard_one, Reaches, Timed, Turning, by_event, by_timer, delivers, first_due, first_ready, has_signal, lives, moves, next_event, next_native, next_time, picks, polled, polls, turn, turned, turning, turns, Run_of, IsBusy, written_turn, IsBetween}
+use Rattle.aom_sound.specs.World.{AnswersWell, boot_state, Candidate, Completion, Heard, HearsWell, Outside, Reaches, Timed, Turning, by_event, by_timer, delivers, moves, picks, polled, polls, turn, turned, turning, turns, Run_of, IsBusy, written_turn, IsBetween}
 use Rattle.aom_transcript.specs.declared.event.Event.{Event}
-use Rattle.aom_transcript.specs.declared.event.Event.TheVariants.{Client, Kill, Tell}
 use Rattle.aom_transcript.specs.declared.event.TimedEvent.{TimedEvent}
 use Rattle.aom_transcript.specs.declared.line.Line.{Line}
 use Rattle.aom_transcript.specs.declared.line.Ending.{Ending}
@@ -34,8 +31,7 @@ use Rattle.aom_steps.proofs.Arriving.{leads_on}
 use Rattle.aom_endings.proofs.Sorts.{Kind, completes_one, cuts, hears_one, kills_one, kind_of, obeys_one, passes_on, picks_one, polls_one, strays, waits}
 use Rattle.aom_endings.proofs.Lefts.{bereaved_no_more, commanded_no_more, completed_fewer, completed_no_more, event_there, events_left, fewer_left, later_left, left, natives_left, no_more_left, passed_late, timers_in}
 use Rattle.aom_endings.proofs.Spending.{moved_spares, picked_spares}
-use Rattle.aom_endings.specs.Endings.{CanEnd, RunsCanEnd, one_where, spare}
-use Rattle.aom_steps.specs.Payers.{payer}
+use Rattle.aom_endings.specs.Endings.{CanEnd, RunsCanEnd, spare}
 
 -- a number above all names
 pub top : List Cell → ℕ
@@ -45,9 +41,7 @@ top (c ∷ cs) = c.object.name + 1 + top cs
 pub above : (cs : List Cell) (n : ℕ) → top cs ≤ n → named cs n ≡ None
 unfolding top
 above [] n h = refl
-above (c ∷ cs) n h =
-    let other : (c.object.name == n) ≡ false = ne_eqb c.object.name n (λ e. omega arith) in
-    rw other (above cs n (omega arith))
+above (c ∷ cs) n h = grind (arith, nat_tests, ne_eqb c.object.name n, above cs n)
 
 -- nothing is heard, with a free name
 abbrev quiet : State → Heard
@@ -56,68 +50,32 @@ quiet s = record { completion = None; name = top s.cells }
 -- a native that is polled may complete nothing
 module _ (p : Image) (outside : Outside) (s : State) where
   picks_well : (b : Bool) (ready : Option Candidate) (next : Option ℕ) → AnswersWell p s (picks b ready next)
-  picks_well true None next = tt
-  picks_well true (Some x) next = tt
-  picks_well false ready None = tt
-  picks_well false ready (Some time) = tt
+  picks_well x ready next = grind arith
 
   polls_well : (n : Option ℕ) (after : Turning) → AnswersWell p s after → AnswersWell p s (polls n None after)
-  polls_well None after then = then
-  polls_well (Some n) after then = tt
+  polls_well x after then = grind arith
 
   delivers_well : (name : ℕ) (event : Event) → AnswersWell p s (delivers outside name s event)
-  delivers_well name (Tell n word) = tt
-  delivers_well name (Kill n) = go (lives outside s n)
-    where
-      go : (b : Bool) → AnswersWell p s (cond b (Kills n) Hears)
-      go true = tt
-      go false = tt
-  delivers_well name (Client c command) = go (nat_lt c client_count)
-    where
-      go : (b : Bool) → AnswersWell p s (cond b (Obeys c command name) Hears)
-      go true = tt
-      go false = tt
+  delivers_well name x = grind arith
 
   event_well : (name : ℕ) (next : Option TimedEvent) (after : Turning) → AnswersWell p s after → AnswersWell p s (by_event outside name s next after)
-  event_well name None after then = then
-  event_well name (Some e) after then = go (nat_le e.time s.rest.clock)
-    where
-      go : (b : Bool) → AnswersWell p s (cond b (delivers outside name s e.event) after)
-      go true = delivers_well name e.event
-      go false = then
+  event_well name x after then = grind (arith, nat_tests, delivers_well name)
 
   timer_well : (next : Option Timed) (after : Turning) → AnswersWell p s after → AnswersWell p s (by_timer s next after)
-  timer_well None after then = then
-  timer_well (Some x) after then = go (nat_le x.timer.due s.rest.clock)
-    where
-      go : (b : Bool) → AnswersWell p s (cond b (Completes x.object) after)
-      go true = tt
-      go false = then
+  timer_well x after then = grind arith
 
   completes_nothing : AnswersWell p s (turning outside (quiet s) s)
-  completes_nothing = go (nat_le outside.limit s.rest.dispatches)
-    where
-      go : (b : Bool) → AnswersWell p s (cond b Cuts (by_timer s (first_due s.cells) (by_event outside (top s.cells) s (next_event outside s) (polls (next_native outside s) None (picks (has_signal s.cells) (first_ready s.cells) (next_time outside s))))))
-      go true = tt
-      go false =
-          timer_well (first_due s.cells) _
-          (event_well (top s.cells) (next_event outside s) _ (polls_well (next_native outside s) _ (picks_well (has_signal s.cells) (first_ready s.cells) (next_time outside s))))
+  completes_nothing = grind (arith, nat_tests, top s.cells, timer_well, event_well (top s.cells), polls_well, picks_well)
 
   hears_nothing : HearsWell p outside (quiet s) s
   hears_nothing = record { completion = completes_nothing; name = above s.cells (top s.cells) (omega arith) }
 
 -- a poll starts no timer, and nothing comes to be at hand
 polled_no_more : (p : Image) (s u : State) (n : ℕ) (answer : Option Completion) → polled p n answer s ≡ Goes u → timers_in u.cells ≤ timers_in s.cells
-polled_no_more p s u n answer e = elim (polled_so p s u n answer e) as (λ v d. timers_in v.cells ≤ timers_in s.cells) [
-  | nothing ↦ omega arith
-  | answers o code ↦ completed_no_more (recorded code) s.cells o
-]
+polled_no_more p s u n answer e = grind (arith, nat_tests, polled_so p s u n answer e, timers_in s.cells, nothing, answers, completed_no_more)
 
 polled_tasks : (p : Image) (s u : State) (n : ℕ) (answer : Option Completion) → polled p n answer s ≡ Goes u → u.tasks ≡ s.tasks
-polled_tasks p s u n answer e = elim (polled_so p s u n answer e) as (λ v d. v.tasks ≡ s.tasks) [
-  | nothing ↦ refl
-  | answers o code ↦ refl
-]
+polled_tasks p s u n answer e = grind (arith, nat_tests, polled_so p s u n answer e, nothing, answers)
 
 module _ (p : Image) (t : Typing) (outside : Outside) (few : outside.limit ≤ 2 ^ 64 - 1) (wired : IsWired p) (linked : IsLinked p) (is_typed : IsTyped p t) where
   -- an open choice
@@ -160,7 +118,7 @@ module _ (p : Image) (t : Typing) (outside : Outside) (few : outside.limit ≤ 2
     still_between between = record { idle = tasks ∙ between.idle; going = ended ∙ between.going }
 
     still_spare : spare outside.limit u ≡ spare outside.limit s
-    still_spare = ap (λ n. outside.limit - (n + one_where (is_some (payer u.tasks)))) dispatches ∙ ap (λ ts. outside.limit - (s.rest.dispatches + one_where (is_some (payer ts)))) tasks
+    still_spare = grind (arith, nat_tests)
 
   -- less is left
   less_left : (n k : ℕ) → ((j : ℕ) → Between n k j) → (lines : List Line) (s u : State) → left outside s ≤ k → left outside u < left outside s → spare outside.limit s < suc n
@@ -180,42 +138,61 @@ module _ (p : Image) (t : Typing) (outside : Outside) (few : outside.limit ≤ 2
       let timers = completed_fewer (pos 0) s.cells w.good.tidy x first in
       let falls = fewer_left outside s u (omega (arith, timers, ap (λ (v : State). timers_in v.cells) same, ap (λ (v : State). events_left outside v) same)) in
       less_left n k again lines s u most falls spares (ap (λ (v : State). v.tasks) same) (ap (λ (v : State). v.rest.dispatches) same) (ap (λ (v : State). v.rest.ended) same) between r typed
-  by_kind n k j ends again polling lines s most few_natives spares w between _ (hears_one e next) u goes r typed =
-      let same = sym (goes_same _ u goes) in
-      let there = event_there outside.events s.rest.delivered e next in
-      let falls = fewer_left outside s u (omega (arith, there, ap (λ (v : State). timers_in v.cells) same, ap (λ (v : State). v.rest.delivered) same)) in
-      less_left n k again lines s u most falls spares (ap (λ (v : State). v.tasks) same) (ap (λ (v : State). v.rest.dispatches) same) (ap (λ (v : State). v.rest.ended) same) between r typed
-  by_kind n k j ends again polling lines s most few_natives spares w between _ (kills_one e native next) u goes r typed =
-      let same = sym (goes_same _ u goes) in
-      let there = event_there outside.events s.rest.delivered e next in
-      let timers = bereaved_no_more p native s.cells in
-      let falls = fewer_left outside s u (omega (arith, there, timers, ap (λ (v : State). timers_in v.cells) same, ap (λ (v : State). v.rest.delivered) same)) in
-      less_left n k again lines s u most falls spares (ap (λ (v : State). v.tasks) same) (ap (λ (v : State). v.rest.dispatches) same) (ap (λ (v : State). v.rest.ended) same) between r typed
-  by_kind n k j ends again polling lines s most few_natives spares w between _ (obeys_one e c command name next) u goes r typed =
-      let same = sym (goes_same _ u goes) in
-      let rest = commanded_kept p c (heard_one s) command name in
-      let there = event_there outside.events s.rest.delivered e next in
-      let timers = commanded_no_more p c (heard_one s) command name in
-      let falls = fewer_left outside s u (omega (arith, there, timers, ap (λ (v : State). timers_in v.cells) same, ap (λ (v : State). v.rest.delivered) same, ap (λ (x : Rest). x.delivered) rest.0)) in
-      less_left n k again lines s u most falls spares (ap (λ (v : State). v.tasks) same ∙ rest.1) (ap (λ (v : State). v.rest.dispatches) same ∙ ap (λ (x : Rest). x.dispatches) rest.0) (ap (λ (v : State). v.rest.ended) same ∙ ap (λ (x : Rest). x.ended) rest.0) between r typed
-  by_kind n k j ends again polling lines s most few_natives spares w between _ (passes_on time next early) u goes r typed =
-      let same = sym (goes_same _ u goes) in
-      let late = passed_late outside s u time next (ap (λ (v : State). v.cells) same) (ap (λ (v : State). v.rest.clock) same) (ap (λ (v : State). v.rest.delivered) same) in
-      let falls = later_left outside s u (omega (arith, ap (λ (v : State). timers_in v.cells) same, ap (λ (v : State). v.rest.delivered) same)) early late in
-      less_left n k again lines s u most falls spares (ap (λ (v : State). v.tasks) same) (ap (λ (v : State). v.rest.dispatches) same) (ap (λ (v : State). v.rest.ended) same) between r typed
-  by_kind n k j ends again polling lines s most few_natives spares w between _ (picks_one x below) u goes r typed =
-      let fewer = picked_spares p outside.limit s u x.seat below between.idle goes in
-      ends lines u (omega (arith, fewer, spares)) r typed
-  by_kind n k j ends again polling lines s most few_natives spares w between _ (polls_one native answer from to early) u goes r typed =
-      let rest = polled_rest p s u native answer goes in
-      let timers = polled_no_more p s u native answer goes in
-      let events = ap (λ (x : Rest). length outside.events - x.delivered) rest in
-      let fewer = ap (λ (x : Rest). x.polled) rest in
-      let kept = no_more_left outside s u (omega (arith, timers, events)) early in
-      let tasks = polled_tasks p s u native answer goes in
-      let dispatches = ap (λ (x : Rest). x.dispatches) rest in
-      let ended = ap (λ (x : Rest). x.ended) rest in
-      polling lines u (omega (arith, kept, most)) (omega (arith, fewer, from, to, few_natives)) (omega (arith, still_spare s u tasks dispatches ended, spares)) r typed (still_between s u tasks dispatches ended between)
+  by_kind n k j ends again polling lines s most few_natives spares w between _ (hears_one e next) u goes r typed = grind (
+    arith,
+    nat_tests,
+    goes_same,
+    event_there outside.events s.rest.delivered e next,
+    fewer_left outside s u,
+    timers_in,
+    less_left n k again lines s u most,
+  )
+  by_kind n k j ends again polling lines s most few_natives spares w between _ (kills_one e native next) u goes r typed = grind (
+    arith,
+    nat_tests,
+    goes_same,
+    event_there outside.events s.rest.delivered e next,
+    bereaved_no_more p native s.cells,
+    fewer_left outside s u,
+    timers_in,
+    less_left n k again lines s u most,
+  )
+  by_kind n k j ends again polling lines s most few_natives spares w between _ (obeys_one e c command name next) u goes r typed = grind (
+    arith,
+    nat_tests,
+    goes_same,
+    commanded_kept p c,
+    event_there outside.events s.rest.delivered e next,
+    commanded_no_more p c,
+    fewer_left outside s u,
+    timers_in,
+    less_left n k again lines s u most,
+  )
+  by_kind n k j ends again polling lines s most few_natives spares w between _ (passes_on time next early) u goes r typed = grind (
+    arith,
+    nat_tests,
+    goes_same,
+    passed_late outside s u time next,
+    later_left outside s u,
+    timers_in,
+    less_left n k again lines s u most,
+  )
+  by_kind n k j ends again polling lines s most few_natives spares w between _ (picks_one x below) u goes r typed = grind (
+    arith,
+    nat_tests,
+    picked_spares p outside.limit s u x.seat below between.idle goes,
+  )
+  by_kind n k j ends again polling lines s most few_natives spares w between _ (polls_one native answer from to early) u goes r typed = grind (
+    arith,
+    nat_tests,
+    polled_rest p s u native answer goes,
+    polled_no_more p s u native answer goes,
+    kept,
+    no_more_left outside s u,
+    polled_tasks p s u native answer goes,
+    still_spare s u,
+    still_between s u,
+  )
 
   by_turns : (n k j : ℕ) → Ends n → Between n k j
   by_turns n zero j ends lines s less few_natives spares r w between = absurd (omega (arith, less))

@@ -1,15 +1,12 @@
 -- The cell that a turn is about: whose timer is due, that is ready, or that stands at a place.
-use Rattle.std.proofs.Common.{Bool, List, None, Option, Some, [], ap, cond, false, refl, subst, suc, sym, true, zero, ℕ, ℤ, ◌==◌, ◌∙◌, ◌∷◌, ◌≡◌}
+use Rattle.std.proofs.lemmas.Bool.Decides.{nat_tests}
+use Rattle.std.proofs.Common.{arith, Bool, List, None, Option, Some, [], ap, cond, false, refl, subst, suc, true, zero, ℕ, ℤ, ◌==◌, ◌∙◌, ◌∷◌, ◌≡◌}
 use Rattle.std.proofs.lemmas.Bool.{eq-eqb, ne_eqb}
-use Rattle.std.specs.Prelude.{nat_le, nat_lt, ◌||◌}
-use Rattle.aom_sound.specs.Clients.{client_count}
+use Rattle.std.specs.Prelude.{◌||◌}
 use Rattle.aom_sound.specs.Places.{Cell, Object, Phase, Request, Tidy, Timer, named, requested, service_of}
 use Rattle.aom_sound.specs.Servers.{has_more}
 use Rattle.aom_sound.specs.State.{State}
-use Rattle.aom_sound.specs.World.{Candidate, Completes, Completion, Cuts, Heard, Hears, Kills, Obeys, Outside, Picks, Polls, Timed, Turning, among_ready, among_timers, before_others, by_event, by_timer, cell_at, delivers, first_due, first_ready, goes_before, goes_now, has_signal, is_ready, is_sooner, lives, next_event, next_native, next_time, passes, picks, polls, sooner, turning}
-use Rattle.aom_transcript.specs.declared.event.Command.{Command}
-use Rattle.aom_transcript.specs.declared.event.Event.{Event}
-use Rattle.aom_transcript.specs.declared.event.Event.TheVariants.{Client, Kill, Tell}
+use Rattle.aom_sound.specs.World.{Candidate, Completes, Heard, Obeys, Outside, Picks, Timed, Turning, among_ready, among_timers, before_others, by_event, by_timer, cell_at, first_due, first_ready, goes_before, goes_now, has_signal, is_ready, is_sooner, lives, next_event, next_native, next_time, passes, picks, polls, sooner, turning}
 use Rattle.aom_transcript.specs.declared.event.TimedEvent.{TimedEvent}
 
 -- that object is there, with that request
@@ -28,7 +25,7 @@ service_first c cs = ap (λ b. cond b c.service (service_of cs c.object.name)) (
 
 -- of another name
 is_apart : (c : Cell) (cs : List Cell) (o : Object) → Tidy (c ∷ cs) → named cs o.name ≡ Some o → (c.object.name == o.name) ≡ false
-is_apart c cs o tidy lives = ne_eqb c.object.name o.name (λ same. let clash : Some o ≡ None = sym lives ∙ sym (ap (λ n. named cs n) same) ∙ tidy.1 in cc)
+is_apart c cs o tidy lives = grind (arith, nat_tests, ne_eqb c.object.name o.name, lives)
 
 service_later : (c : Cell) (cs : List Cell) (o : Object) → Tidy (c ∷ cs) → named cs o.name ≡ Some o → service_of (c ∷ cs) o.name ≡ service_of cs o.name
 service_later c cs o tidy lives = ap (λ b. cond b c.service (service_of cs o.name)) (is_apart c cs o tidy lives)
@@ -93,7 +90,7 @@ IsReady cs y = IsCell cs y.seat.object (Some y.request) × GoesNow cs y
 
 module _ (c : Cell) (cs : List Cell) (y : Candidate) (tidy : Tidy (c ∷ cs)) (rest : first_ready cs ≡ Some y → IsReady cs y) where
   ready_later : first_ready cs ≡ Some y → IsReady (c ∷ cs) y
-  ready_later e = let d = rest e in (is_later c cs y.seat.object (Some y.request) tidy d.0, ap (λ v. is_ready y.request || has_more v.queue) (service_later c cs y.seat.object tidy d.0.lives) ∙ d.1)
+  ready_later e = grind (arith, nat_tests, is_later c cs y.seat.object (Some y.request) tidy, service_later c cs y.seat.object tidy)
 
   abbrev me : Request → Candidate
   me r = record { seat = record { object = c.object; place = c.owner }; request = r }
@@ -132,62 +129,26 @@ IsAbout s _ = Unit {0}
 
 module _ (outside : Outside) (heard : Heard) (s : State) where
   about_time : (next : Option ℕ) → IsAbout s (passes next)
-  about_time None = tt
-  about_time (Some time) = tt
+  about_time x = grind arith
 
   about_ready : (b : Bool) (ready : Option Candidate) (next : Option ℕ) → first_ready s.cells ≡ ready → IsAbout s (picks b ready next)
-  about_ready true None next e = tt
-  about_ready true (Some y) next e = (y, e, refl)
-  about_ready false ready next e = about_time next
+  about_ready x ready next e = grind (arith, nat_tests, about_time next)
 
   about_native : (n : Option ℕ) (after : Turning) → IsAbout s after → IsAbout s (polls n heard.completion after)
-  about_native None after h = h
-  about_native (Some n) after h = polled heard.completion
-    where
-      polled : (a : Option Completion) → IsAbout s (Polls n a)
-      polled a = tt
+  about_native x after h = grind arith
 
   about_event : (name : ℕ) (next : Option TimedEvent) (after : Turning) → named s.cells name ≡ None → IsAbout s after → IsAbout s (by_event outside name s next after)
-  about_event name None after free h = h
-  about_event name (Some e) after free h = go (nat_le e.time s.rest.clock)
-    where
-      killed : (b : Bool) (n : ℕ) → IsAbout s (cond b (Kills n) Hears)
-      killed true n = tt
-      killed false n = tt
-
-      obeyed : (b : Bool) (c : ℕ) (command : Command) → IsAbout s (cond b (Obeys c command name) Hears)
-      obeyed true c command = free
-      obeyed false c command = tt
-
-      delivered : (event : Event) → IsAbout s (delivers outside name s event)
-      delivered (Tell n word) = tt
-      delivered (Kill n) = killed (lives outside s n) n
-      delivered (Client c command) = obeyed (nat_lt c client_count) c command
-
-      go : (b : Bool) → IsAbout s (cond b (delivers outside name s e.event) after)
-      go true = delivered e.event
-      go false = h
+  about_event name x after free h = grind (arith, nat_tests, lives outside s)
 
   about_timer : (next : Option Timed) (after : Turning) → first_due s.cells ≡ next → IsAbout s after → IsAbout s (by_timer s next after)
-  about_timer None after e h = h
-  about_timer (Some x) after e h = go (nat_le x.timer.due s.rest.clock)
-    where
-      go : (b : Bool) → IsAbout s (cond b (Completes x.object) after)
-      go true = (x, e, refl)
-      go false = h
+  about_timer x after e h = grind arith
 
   -- where the limit is not reached
   abbrev within : Turning
   within = by_timer s (first_due s.cells) (by_event outside heard.name s (next_event outside s) (polls (next_native outside s) heard.completion (picks (has_signal s.cells) (first_ready s.cells) (next_time outside s))))
 
   about_within : named s.cells heard.name ≡ None → IsAbout s within
-  about_within free =
-      about_timer (first_due s.cells) _ refl
-      (about_event heard.name (next_event outside s) _ free (about_native (next_native outside s) _ (about_ready (has_signal s.cells) (first_ready s.cells) (next_time outside s) refl)))
+  about_within free = grind (arith, nat_tests, about_timer, about_event heard.name, about_native, about_ready)
 
   pub turn_about : named s.cells heard.name ≡ None → IsAbout s (turning outside heard s)
-  turn_about free = go (nat_le outside.limit s.rest.dispatches)
-    where
-      go : (b : Bool) → IsAbout s (cond b Cuts within)
-      go true = tt
-      go false = about_within free
+  turn_about free = grind (arith, nat_tests, about_within free)

@@ -20,12 +20,12 @@ use Rattle.aom_sound.proofs.Dropping.{queued_claim}
 use Rattle.aom_sound.proofs.Maps.{cond_same, held_named, same_place_refl}
 use Rattle.aom_sound.proofs.Services.{service_unnamed}
 use Rattle.aom_sound.proofs.Straight.{fits_unowning}
-use Rattle.aom_sound.specs.Claims.{Dispatching, Dying, Ending, Layer, Mark, Method, Unwinding, by_close, declared, declared_field, tasks_of, claim}
+use Rattle.aom_sound.specs.Claims.{Dispatching, Dying, Ending, Layer, Mark, Method, Unwinding, by_close, declared, tasks_of, claim}
 use Rattle.aom_sound.specs.Clients.{client_at}
-use Rattle.aom_sound.specs.Kept.{ClientsFit, is_connect_of, is_message_of}
-use Rattle.aom_sound.specs.Places.{Asked, Cell, Close_of, Connect_of, Elsewhere, Entry, Field, Going, Message_of, Object, Place, Register, Tidy, held, named, same_place, seen, service_of, unserved, Other, Root, Session, In_service, Queued}
-use Rattle.aom_sound.specs.Servers.{has_message, has_session, is_among, message_thing, session_thing}
-use Rattle.aom_sound.specs.State.{Answered, Asks, AtRoot, Closing, Destroy, Dispatch, Dispatched, Home, Inside, Object_left, Of_object, Of_server, Parts, Run, Seat, Serves, Stage, State, Static, Task, Trapped, Unwind}
+use Rattle.aom_sound.specs.Kept.{ClientsFit, is_message_of}
+use Rattle.aom_sound.specs.Places.{Asked, Cell, Close_of, Connect_of, Elsewhere, Entry, Field, Going, Message_of, Object, Place, Register, Tidy, held, named, seen, service_of, unserved, Other, Root, Session, In_service, Queued}
+use Rattle.aom_sound.specs.Servers.{has_session, session_thing}
+use Rattle.aom_sound.specs.State.{Answered, Asks, Closing, Destroy, Dispatch, Dispatched, Home, Object_left, Of_object, Of_server, Parts, Run, Seat, Stage, State, Task, Trapped, Unwind}
 use Rattle.aom_sound.specs.WellTyped.{AllSit, Back, Caught, Fits, Gone, Good, IsHoused, Leaves, Now, Returns, SitsFirst, Stack, WellTyped, seat_of}
 use Rattle.aom_sound.proofs.ClientsFacts.{queued_well}
 use Rattle.aom_endings.specs.Names.{IsOneToOne, renamed, renamed_asked, renamed_cells, renamed_client, renamed_clients, renamed_dispatch, renamed_home, renamed_place, renamed_queue, renamed_seat, renamed_stage, renamed_task, renamed_tasks, renamed_other}
@@ -49,13 +49,18 @@ unfolding swapped
 swap_other a b n e f = rw (ne_eqb n a e, ne_eqb n b f)
 
 swap_twice : (a b n : ℕ) → swapped a b (swapped a b n) ≡ n
-swap_twice a b n = ⊎_elim first (λ ne. ⊎_elim second (λ nf. ap (swapped a b) (swap_other a b n ne nf) ∙ swap_other a b n ne nf) (cases_eq n b)) (cases_eq n a)
-  where
-    first : n ≡ a → swapped a b (swapped a b n) ≡ n
-    first e = subst (λ x. swapped a b (swapped a b x) ≡ x) (sym e) (ap (swapped a b) (swap_first a b) ∙ swap_second a b)
-
-    second : n ≡ b → swapped a b (swapped a b n) ≡ n
-    second e = subst (λ x. swapped a b (swapped a b x) ≡ x) (sym e) (ap (swapped a b) (swap_second a b) ∙ swap_first a b)
+swap_twice a b n = grind (
+  arith,
+  nat_tests,
+  swapped a b,
+  swap_other a b n,
+  cases_eq n b,
+  cases_eq n a,
+  swapped a b (swapped a b n),
+  swapped a b n,
+  swap_first a b,
+  swap_second a b,
+)
 
 pub swap_one_to_one : (a b : ℕ) → IsOneToOne (swapped a b)
 swap_one_to_one a b n m e = sym (swap_twice a b n) ∙ ap (swapped a b) e ∙ swap_twice a b m
@@ -63,12 +68,10 @@ swap_one_to_one a b n m e = sym (swap_twice a b n) ∙ ap (swapped a b) e ∙ sw
 -- ---- of two tests
 
 or_right : (b x : Bool) → x ≡ true → (b || x) ≡ true
-or_right true x h = refl
-or_right false x h = h
+or_right x y h = grind arith
 
 and_first : (b x : Bool) → (b && x) ≡ true → b ≡ true
-and_first true x h = refl
-and_first false x h = h
+and_first x y h = grind arith
 
 -- ---- one renaming after another
 
@@ -77,17 +80,13 @@ module _ (then first : ℕ → ℕ) where
   both n = then (first n)
 
   other_twice : (o : Other) → renamed_other both o ≡ renamed_other then (renamed_other first o)
-  other_twice (Session s c) = refl
-  other_twice _ = refl
+  other_twice x = grind arith
 
   place_twice : (q : Place) → renamed_place both q ≡ renamed_place then (renamed_place first q)
-  place_twice (Elsewhere o) = ap Elsewhere (other_twice o)
-  place_twice _ = refl
+  place_twice x = grind (arith, nat_tests, other_twice)
 
   asked_twice : (e : Asked) → renamed_asked both e ≡ renamed_asked then (renamed_asked first e)
-  asked_twice (Connect_of c) = refl
-  asked_twice (Message_of c m) = refl
-  asked_twice (Close_of c) = refl
+  asked_twice x = grind arith
 
   queue_twice : (es : List Asked) → renamed_queue both es ≡ renamed_queue then (renamed_queue first es)
   queue_twice [] = refl
@@ -98,16 +97,13 @@ module _ (then first : ℕ → ℕ) where
   cells_twice (c ∷ cs) = rw (place_twice c.owner, queue_twice c.service.queue, cells_twice cs)
 
   home_twice : (h : Home) → renamed_home both h ≡ renamed_home then (renamed_home first h)
-  home_twice Static = refl
-  home_twice AtRoot = refl
-  home_twice (Inside o from) = rw (place_twice from)
+  home_twice x = grind (arith, nat_tests, place_twice)
 
   seat_twice : (x : Seat) → renamed_seat both x ≡ renamed_seat then (renamed_seat first x)
   seat_twice x = rw (place_twice x.place)
 
   stage_twice : (stage : Stage) → renamed_stage both stage ≡ renamed_stage then (renamed_stage first stage)
-  stage_twice (Serves o) = refl
-  stage_twice _ = refl
+  stage_twice x = grind arith
 
   dispatch_twice : (d : Dispatch) → renamed_dispatch both d ≡ renamed_dispatch then (renamed_dispatch first d)
   dispatch_twice (Of_object x) = ap Of_object (seat_twice x)
@@ -118,20 +114,14 @@ module _ (then first : ℕ → ℕ) where
   dispatch_twice _ = refl
 
   task_twice : (k : Task) → renamed_task both k ≡ renamed_task then (renamed_task first k)
-  task_twice (Run fr) = rw (home_twice fr.home)
-  task_twice (Dispatched d) = ap Dispatched (dispatch_twice d)
-  task_twice _ = refl
+  task_twice x = grind (arith, nat_tests, home_twice, dispatch_twice)
 
   tasks_twice : (ts : List Task) → renamed_tasks both ts ≡ renamed_tasks then (renamed_tasks first ts)
   tasks_twice [] = refl
   tasks_twice (k ∷ ts) = rw (task_twice k, tasks_twice ts)
 
   client_twice : (x : Client) → renamed_client both x ≡ renamed_client then (renamed_client first x)
-  client_twice (Connecting server slots) = refl
-  client_twice (Open server session slots) = refl
-  client_twice (Closing_client server session) = refl
-  client_twice (Dying_client server session) = refl
-  client_twice _ = refl
+  client_twice x = grind arith
 
   clients_twice : (clients : List Client) → renamed_clients both clients ≡ renamed_clients then (renamed_clients first clients)
   clients_twice [] = refl
@@ -152,16 +142,10 @@ module _ (names : ℕ → ℕ) where
   SparesPlaces cs = (q : Place) → held cs q ≢ None → renamed_place names q ≡ q
 
   named_on : (c : Cell) (cs : List Cell) (n : ℕ) → named cs n ≢ None → named (c ∷ cs) n ≢ None
-  named_on c cs n some = go (c.object.name == n)
-    where
-      go : (b : Bool) → cond b (Some c.object) (named cs n) ≢ None
-      go b e = grind (arith, some)
+  named_on c cs n some = grind (arith, nat_tests)
 
   held_on : (c : Cell) (cs : List Cell) (q : Place) → held cs q ≢ None → held (c ∷ cs) q ≢ None
-  held_on c cs q some = go (same_place c.owner q)
-    where
-      go : (b : Bool) → cond b (Some c.object) (held cs q) ≢ None
-      go b e = grind (arith, some)
+  held_on c cs q some = grind (arith, nat_tests)
 
   named_first : (c : Cell) (cs : List Cell) → named (c ∷ cs) c.object.name ≢ None
   named_first c cs e = let clash : Some c.object ≡ None = rw (eq-eqb c.object.name c.object.name refl) at e in cc
@@ -212,27 +196,18 @@ module _ (names : ℕ → ℕ) where
 
   module _ (p : Image) (t : Typing) (cs : List Cell) (named_so : Spares cs) (held_so : SparesPlaces cs) where
     home_spared : (ls : List Layer) (h : Home) → IsHoused p cs ls h → renamed_home names h ≡ h
-    home_spared ls Static housed = refl
-    home_spared ls AtRoot housed = refl
-    home_spared ls (Inside o from) housed = rw (
-      named_so o.name (λ e. let clash : Some o ≡ None = sym housed.lives ∙ e in cc),
-      held_so from (λ e. let clash : Some o ≡ None = sym housed.there ∙ e in cc),
-    )
+    home_spared ls x housed = grind arith
 
     -- an object that sits, and its place
     seat_spared : (x : Seat) → held cs x.place ≡ Some x.object → named cs x.object.name ≡ Some x.object → renamed_seat names x ≡ x
-    seat_spared x there lives = rw (
-      named_so x.object.name (λ e. let clash : Some x.object ≡ None = sym lives ∙ e in cc),
-      held_so x.place (λ e. let clash : Some x.object ≡ None = sym there ∙ e in cc),
-    )
+    seat_spared x there lives = grind (arith, nat_tests)
 
     first_spared : (x : Seat) (seats : List Seat) → AllSit cs seats → SitsFirst cs (Some x) seats → renamed_seat names x ≡ x
     first_spared x seats sit h = let all : AllSit cs (x ∷ h.1) = subst (AllSit cs) h.2 sit in seat_spared x all.0.0 all.0.1
 
     -- the session that serves
     stage_spared : (x : Seat) (client : ℕ) (stage : Stage) → IsAtPlace cs (Some (Of_server x client stage)) → renamed_stage names stage ≡ stage
-    stage_spared x client (Serves o) at = rw (named_so o.name (λ e. held_named cs (Elsewhere (Session x.object.name client)) o at e))
-    stage_spared x client _ at = refl
+    stage_spared x client y at = grind (arith, nat_tests, held_named cs (Elsewhere (Session x.object.name client)))
 
     dispatch_spared : (d : Dispatch) (seats : List Seat) → AllSit cs seats → SitsFirst cs (seat_of d) seats → IsAtPlace cs (Some d) → renamed_dispatch names d ≡ d
     dispatch_spared (Of_object x) seats sit h at = ap Of_object (first_spared x seats sit h)
@@ -274,9 +249,7 @@ accepting n c d h = grind (arith, nat_tests)
 
 -- of a cell that is not there no field owns
 unnamed_owns_nothing : (p : Image) (t : Typing) (cs : List Cell) (ls : List Layer) → Good p t cs ls → (n f : ℕ) → named cs n ≡ None → held cs (Field n f) ≡ None
-unnamed_owns_nothing p t cs ls good n f e =
-    let null = claim_unnamed p t cs (declared p cs) ls Now n f good.stack e ∙ ap (λ o. declared_field p o f) e in
-    fits_unowning p (seen cs) (held cs (Field n f)) Null refl (subst (λ k. Fits p (seen cs) (held cs (Field n f)) k) null (good.fits (Field n f)))
+unnamed_owns_nothing p t cs ls good n f e = grind (arith, nat_tests, claim_unnamed p t cs, fits_unowning p)
 
 -- nor do its sessions and its queue
 session_declared : (p : Image) (cs : List Cell) (n c : ℕ) → named cs n ≡ None → declared p cs (Elsewhere (Session n c)) ≡ Null
@@ -289,9 +262,7 @@ session_null p t cs [] back n c k e = session_declared p cs n c e
 session_null p t cs (Method fr sh ∷ ls) back n c k e = session_null p t cs ls (Returns fr.method fr.home) n c k.4 e
 session_null p t cs (Mark gv ∷ ls) back n c k e = session_null p t cs ls (Caught gv) n c k.1 e
 session_null p t cs (Dying o ∷ ls) back n c k e = ap (cond (o.name == n) Null) (session_null p t cs ls Gone n c k.2 e) ∙ cond_same (o.name == n) Null
-session_null p t cs (Ending o left ∷ ls) back n c k e =
-    ap (λ b. cond b (cond (is_among c left) (filled (session_thing p (Some o)) Full) Null) (claim p (declared p cs) ls (Elsewhere (Session n c)))) (ne_eqb o.name n (λ same. let clash : Some o ≡ None = sym k.0.lives ∙ ap (λ x. named cs x) same ∙ e in cc))
-    ∙ session_null p t cs ls Now n c k.3 e
+session_null p t cs (Ending o left ∷ ls) back n c k e = grind (arith, nat_tests, ne_eqb o.name n, session_null p t cs ls Now n c k.3 e)
 session_null p t cs (Unwinding code es ∷ ls) back n c k e = session_null p t cs ls Leaves n c k.1 e
 session_null p t cs (Dispatching d seats ∷ ls) back n c k e = by_dispatch d (ap (λ l. claim p (declared p cs) l (Elsewhere (Session n c))) k.1 ∙ session_declared p cs n c e)
   where
@@ -312,21 +283,21 @@ module _ (p : Image) (t : Typing) (s : State) (names : ℕ → ℕ) (well : Well
   owned_so q o at = named_so o.name (λ e. held_named s.cells q o at e)
 
   waiting_so : (n m : ℕ) → held s.cells (Elsewhere (Queued n m)) ≢ None → names m ≡ m
-  waiting_so n m some = go (held s.cells (Elsewhere (Queued n m))) refl
-    where
-      go : (o : Option Object) → held s.cells (Elsewhere (Queued n m)) ≡ o → names m ≡ m
-      go None e = absurd (some e)
-      go (Some o) e = subst (λ k. names k ≡ k) (fit.names n m o e) (owned_so (Elsewhere (Queued n m)) o e)
+  waiting_so n m some = grind (arith, nat_tests, owned_so (Elsewhere (Queued n m)))
 
   other_so : (o : Other) → held s.cells (Elsewhere o) ≢ None → renamed_other names o ≡ o
   other_so Root some = refl
   other_so (Session n c) some =
       ap (λ k. Session k c) (named_so n (λ e. some (unclaimed_owns_nothing p t s.cells well.layers (Session n c) well.good (session_null p t s.cells well.layers Now n c well.good.stack e))))
   other_so In_service some = refl
-  other_so (Queued n m) some = rw (named_so n (λ e. some (unclaimed_owns_nothing p t s.cells well.layers (Queued n m) well.good (none e))), waiting_so n m some)
-    where
-      none : named s.cells n ≡ None → claim p (declared p s.cells) well.layers (Elsewhere (Queued n m)) ≡ Null
-      none e = queued_claim p (declared p s.cells) well.layers n m ∙ ap (λ v. cond (has_message v m) (filled (message_thing p (named s.cells n)) Full) Null) (service_unnamed s.cells n e)
+  other_so (Queued n m) some = grind (
+    arith,
+    nat_tests,
+    unclaimed_owns_nothing p t s.cells well.layers (Queued n m) well.good,
+    waiting_so n m some,
+    queued_claim p,
+    service_unnamed s.cells n,
+  )
 
   held_so : (q : Place) → held s.cells q ≢ None → renamed_place names q ≡ q
   held_so (Register f r) some = refl
@@ -337,7 +308,7 @@ module _ (p : Image) (t : Typing) (s : State) (names : ℕ → ℕ) (well : Well
 
   -- what a client sent waits under its name
   sent_so : (n c m : ℕ) → list_any (is_message_of c m) (service_of s.cells n).queue ≡ true → names m ≡ m
-  sent_so n c m h = waiting_so n m (λ e. let x = queued_well p t s well s.clients fit n c m h in let clash : None ≡ Some x.0 = sym e ∙ x.1 in cc)
+  sent_so n c m h = grind (arith, nat_tests, waiting_so n m, queued_well p t s well s.clients fit n c m h)
 
   -- of what clients have anything a cell has the name
   served_so : (n : ℕ) → (service_of s.cells n ≡ unserved → ⊥) → names n ≡ n
@@ -355,11 +326,7 @@ module _ (p : Image) (t : Typing) (s : State) (names : ℕ → ℕ) (well : Well
       subst (λ k. names k ≡ k) a.name (named_so a.seat.object.name (λ none. let clash : Some a.seat.object ≡ None = sym l.0 ∙ none in cc))
 
   connect_so : (n c : ℕ) → is_connecting_at n (client_at s.clients c) ≡ true → names n ≡ n
-  connect_so n c e = go (list_any (is_connect_of c) (service_of s.cells n).queue) refl (there.asked n c e)
-    where
-      go : (b : Bool) → list_any (is_connect_of c) (service_of s.cells n).queue ≡ b → (b || accepts n c (dispatch_of s.tasks)) ≡ true → names n ≡ n
-      go true waits h = served_so n (λ none. true≢false (sym waits ∙ ap (λ v. list_any (is_connect_of c) v.queue) none))
-      go false waits h = accepted_so n c s.tasks refl h
+  connect_so n c e = grind (arith, nat_tests, served_so n, accepted_so n c s.tasks)
 
   client_so : (c : ℕ) (x : Client) → client_at s.clients c ≡ x → renamed_client names x ≡ x
   client_so c (Connecting server slots) e = rw (connect_so server c (ap (is_connecting_at server) e ∙ eq-eqb server server refl))
@@ -380,5 +347,4 @@ module _ (p : Image) (t : Typing) (s : State) (names : ℕ → ℕ) (well : Well
 pub swapped_free :
     (p : Image) (t : Typing) (s : State) (a b : ℕ) → WellTyped p t s → ClientsFit p s.clients s.cells → AllThere s → named s.cells a ≡ None → named s.cells b ≡ None →
     renamed (swapped a b) s ≡ s
-swapped_free p t s a b well fit there free_a free_b =
-    spared p t s (swapped a b) well fit there (λ n some. swap_other a b n (λ e. some (ap (named s.cells) e ∙ free_a)) (λ e. some (ap (named s.cells) e ∙ free_b)))
+swapped_free p t s a b well fit there free_a free_b = grind (arith, nat_tests, spared p t s (swapped a b) well fit there, swapped a b, swap_other a b)

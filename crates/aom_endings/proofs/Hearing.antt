@@ -1,31 +1,26 @@
 -- What a native answers counts only where it is heard.
-use Rattle.std.proofs.Common.{List, None, Option, Some, [], ap, arith, false, refl, ℕ, ℤ, ◌∷◌, ◌≡◌, ◌<◌}
+use Rattle.std.proofs.lemmas.Bool.Decides.{nat_tests}
+use Rattle.std.proofs.Common.{List, None, Option, Some, [], ap, arith, false, refl, ℕ, ℤ, ◌∷◌, ◌≡◌}
 use Rattle.aom_image.specs.Image.{Image}
 use Rattle.aom_image.specs.Views.{instr_at, class_at}
 use Rattle.aom_image.specs.declared.class.ClassKind.{ClassKind}
-use Rattle.aom_image.specs.declared.class.ClassKind.TheVariants.{Active as An_active}
-use Rattle.aom_image.specs.declared.class.Provider.TheVariants.{Native}
-use Rattle.aom_image.specs.declared.method.Thing.TheVariants.{Message, Object as An_object_of}
 use Rattle.aom_instructions.specs.declared.instr.Instr.{Instr}
-use Rattle.aom_instructions.specs.declared.instr.Instr.TheVariants.{Issue}
 use Rattle.std.proofs.lemmas.Bool.{and_right}
 use Rattle.aom_sound.proofs.Exchanging.{by_exchange}
-use Rattle.aom_sound.specs.Wanted.{Nothing, exchange, exchange_at}
+use Rattle.aom_sound.specs.Wanted.{exchange_at}
 use Rattle.aom_rules.specs.Natives.{is_native_kind}
-use Rattle.aom_sound.specs.Effects.{Requested, applied, needs, updates}
-use Rattle.aom_sound.specs.Enlisted.{home_kind, issued_of, next_timer, on_request, own_request, thing_kind}
+use Rattle.aom_sound.specs.Enlisted.{home_kind, issued_of, on_request, thing_kind}
 use Rattle.aom_sound.specs.Moves.{counted, step, step_instr, step_task}
 use Rattle.aom_sound.specs.Places.{Request}
-use Rattle.aom_sound.specs.State.{AtRoot, Choice, Frame, Home, Inside, Run, State, Static, Task, guarded}
-use Rattle.aom_sound.specs.Words.{read}
+use Rattle.aom_sound.specs.State.{Choice, Frame, Home, Run, State, Task}
 use Rattle.aom_endings.proofs.Needs.{kind_kept}
-use Rattle.aom_endings.specs.Hearing.{HasNoNative, hears, is_answered, is_heard}
+use Rattle.aom_endings.specs.Hearing.{HasNoNative, hears, is_heard}
 use Rattle.aom_endings.specs.Names.{renamed_tasks}
 use Rattle.aom_image.specs.declared.method.Thing.{Thing}
 use Rattle.std.specs.Prelude.{length, slice_get}
 use Rattle.aom_image.specs.declared.class.ClassDecl.{ClassDecl}
 use Rattle.aom_classes.proofs.Facts.{all_there}
-use Rattle.aom_image.specs.WellFormed.{ClassFits, KindFits, WellFormed}
+use Rattle.aom_image.specs.WellFormed.{ClassFits, WellFormed}
 use Rattle.aom_roles.specs.Classes.{kind_in}
 use Rattle.aom_roles.specs.Shapes.{kind_of}
 
@@ -34,26 +29,17 @@ unheard : (k : Option ClassKind) (clock order : ℕ) (x y a : ℤ) (r : Request)
 unheard k clock order x y a r h = grind arith
 
 unheard_on : (k : Option ClassKind) (clock order : ℕ) (x y a : ℤ) (r : Option Request) → is_native_kind k ≡ false → on_request (issued_of k (record { clock = clock; order = order; started = x }) a) r ≡ on_request (issued_of k (record { clock = clock; order = order; started = y }) a) r
-unheard_on k clock order x y a None h = refl
-unheard_on k clock order x y a (Some r) h = ap Some (unheard k clock order x y a r h)
+unheard_on k clock order x y a z h = grind (arith, nat_tests, unheard k clock order x y a)
 
 module _ (p : Image) (c : Choice) (answer : ℤ) where
   abbrev other : Choice
   other = record c { answer = answer }
 
   instr_unheard : (fr : Frame) (ts : List Task) (s : State) (i : Option Instr) → hears (home_kind p fr.home) (exchange_at i) ≡ false → step_instr p other fr ts s i ≡ step_instr p c fr ts s i
-  instr_unheard fr ts s None h = refl
-  instr_unheard fr ts s (Some i) h =
-      by_exchange (λ i x. hears (home_kind p fr.home) x ≡ false → step_instr p other fr ts s (Some i) ≡ step_instr p c fr ts s (Some i)) (λ a h. rw h)
-      (λ a b h. ap (λ r. guarded (needs p c fr ts s (Issue a b)) (applied p fr ts s (updates fr (Requested r)))) (unheard_on (home_kind p fr.home) s.rest.clock (next_timer s.cells) _ _ (read fr ts s a) (own_request s.cells fr.home) h))
-      (λ a b x h. rw h) (λ h. refl) (λ h. refl) unasked i h
-    where
-      unasked : (i : Instr) → exchange i ≡ Nothing → hears (home_kind p fr.home) Nothing ≡ false → step_instr p other fr ts s (Some i) ≡ step_instr p c fr ts s (Some i)
-      unasked i none h = grind arith
+  instr_unheard fr ts s x h = grind (arith, nat_tests, by_exchange, unheard_on)
 
   task_unheard : (s : State) (ts : List Task) → is_heard p ts ≡ false → step_task p other s ts ≡ step_task p c s ts
-  task_unheard s (Run fr ∷ ts) h = instr_unheard fr ts s (instr_at p fr.method fr.place) h
-  task_unheard s _ h = refl
+  task_unheard s x h = grind (arith, nat_tests, instr_unheard)
 
   pub step_unheard : (s : State) → is_heard p s.tasks ≡ false → step p other s ≡ step p c s
   step_unheard s h = task_unheard (counted p s) s.tasks h
@@ -66,26 +52,18 @@ heard_kept p names _ = refl
 
 module _ (p : Image) (natives : HasNoNative p) where
   pub thing_unserved : (t : Thing) → is_native_kind (thing_kind p t) ≡ false
-  thing_unserved (An_object_of class) = natives.none (Some class)
-  thing_unserved Message = natives.none None
+  thing_unserved x = grind arith
 
   home_unserved : (h : Home) → is_native_kind (home_kind p h) ≡ false
-  home_unserved Static = refl
-  home_unserved AtRoot = refl
-  home_unserved (Inside o from) = thing_unserved o.thing
+  home_unserved x = grind (arith, nat_tests, thing_unserved)
 
   -- where there is no native none is heard
   pub none_heard : (ts : List Task) → is_heard p ts ≡ false
-  none_heard (Run fr ∷ ts) = and_right (is_answered (exchange_at (instr_at p fr.method fr.place))) _ (home_unserved fr.home)
-  none_heard _ = refl
+  none_heard x = grind (arith, nat_tests, and_right, home_unserved)
 
 -- a class of an image without natives has none
 class_unserved : (p : Image) (c : ClassDecl) → p.header.natives ≡ 0 → ClassFits p.header.version (length p.classes) p.header.natives c → is_native_kind (Some c.kind) ≡ false
-class_unserved p c none fits = go c.kind fits.kind
-  where
-    go : (k : ClassKind) → KindFits p.header.version (length p.classes) p.header.natives k → is_native_kind (Some k) ≡ false
-    go (An_active (Native n)) h = absurd (let some : n < p.header.natives = h in omega (arith, some, none))
-    go _ h = refl
+class_unserved p c none fits = grind (arith, nat_tests)
 
 pub unnamed_unserved : (p : Image) → WellFormed p → p.header.natives ≡ 0 → HasNoNative p
 unfolding kind_of kind_in class_at
@@ -96,5 +74,4 @@ unnamed_unserved p formed none = record { none = go }
     there (Some d) c is = class_unserved p d none (all_there (ClassFits p.header.version (length p.classes) p.header.natives) p.classes c d formed.classes.each is)
 
     go : (class : Option ℕ) → is_native_kind (kind_of p class) ≡ false
-    go None = refl
-    go (Some c) = there (slice_get p.classes c) c refl
+    go x = grind (arith, nat_tests, there)

@@ -1,6 +1,6 @@
 -- As cells change no connect is lost, and no session's place changes: by the queues that stay, and by what moves and goes.
-use Rattle.aom_sound.specs.Tokens.{next_token, promised}
-use Rattle.std.proofs.Common.{arith, Bool, List, None, Option, Some, [], ap, cond, false, length, refl, subst, suc, sym, true, ℕ, ℤ, ⊎_elim, ◌==◌, ◌∙◌, ◌∷◌, ◌≡◌}
+use Rattle.std.proofs.lemmas.Bool.Decides.{nat_tests}
+use Rattle.std.proofs.Common.{arith, Bool, List, None, Option, Some, [], ap, false, refl, suc, sym, true, ℕ, ℤ, ◌==◌, ◌∙◌, ◌∷◌, ◌≡◌}
 use Rattle.std.proofs.lemmas.Bool.{eqb-true, true≢false}
 use Rattle.std.specs.List.{list_any}
 use Rattle.std.specs.Prelude.{◌||◌}
@@ -8,7 +8,6 @@ use Rattle.aom_image.specs.Image.{Image}
 use Rattle.aom_image.specs.declared.method.Argument.{Argument}
 use Rattle.aom_image.specs.declared.method.Argument.TheVariants.{Own as Takes_own, Word as Takes_word}
 use Rattle.aom_image.specs.declared.method.Gives.{Gives}
-use Rattle.aom_image.specs.declared.method.Gives.TheVariants.{Left, Maybe as A_maybe, Nothing, Own as An_own, Word as A_word}
 use Rattle.aom_clients.specs.declared.client.Client.{Client}
 use Rattle.aom_sound.proofs.ClientsEffects.{IsFine}
 use Rattle.aom_sound.proofs.ClientsMoves.{Steady, held_elsewhere, steady_ended, steady_passed, steady_result, steady_update}
@@ -19,14 +18,13 @@ use Rattle.aom_sound.proofs.Storing.{ended_alike, held_set_word, rerequested_ali
 use Rattle.aom_sound.proofs.Unslotting.{each_unslotted_alike}
 use Rattle.aom_sound.specs.Calls.{passed_cells, result_cells}
 use Rattle.aom_sound.specs.Clients.{each_unslotted}
-use Rattle.aom_sound.specs.Cleanup.{top_place}
-use Rattle.aom_sound.specs.Effects.{Carried, In_field, In_register, Made, Popped, Popped_operation, Pushed, Pushed_operation, Replied, Requested, Same as Unchanged, Sessioned, Spot, The_message, Update, Written, cells_after, spot_place, Handed}
-use Rattle.aom_sound.specs.Enlisted.{ended_cells, on_request, own_request}
+use Rattle.aom_sound.specs.Effects.{Spot, Update, cells_after, spot_place}
+use Rattle.aom_sound.specs.Enlisted.{ended_cells}
 use Rattle.aom_sound.specs.Kept.{is_connect_of}
-use Rattle.aom_sound.specs.Places.{Cell, Elsewhere, Entry, Object, Place, Queued, Register, Service, Session, Tidy, held, moved, named, same_place, service_of}
+use Rattle.aom_sound.specs.Places.{Cell, Elsewhere, Object, Place, Service, Session, Tidy, held, moved, named, same_place, service_of}
 use Rattle.aom_sound.specs.Servers.{reserved}
-use Rattle.aom_sound.specs.State.{Dispatch, Frame, Home, Of_server, Serves, State, Task, field_place}
-use Rattle.aom_sound.specs.Words.{here, stored}
+use Rattle.aom_sound.specs.State.{Dispatch, Frame, Home, State, Task, field_place}
+use Rattle.aom_sound.specs.Words.{stored}
 use Rattle.aom_endings.specs.There.{AreThere, IsAtPlace, accepts, waits}
 
 pub record Calm (cs cs' : List Cell) : Type 0 where
@@ -46,25 +44,19 @@ calm_steady cs cs' still places = record { connects = λ n c h. ap (λ q. list_a
 
 -- one of two, where the first stays
 pub still_either : (a a' b : Bool) → (a || b) ≡ true → (a ≡ true → a' ≡ true) → (a' || b) ≡ true
-still_either true a' b h keeps = ap (λ x. x || b) (keeps refl)
-still_either false true b h keeps = refl
-still_either false false b h keeps = h
+still_either x a' b h keeps = grind arith
 
 there_calm : (clients : List Client) (cs cs' : List Cell) (d : Option Dispatch) → Calm cs cs' → AreThere clients cs d → AreThere clients cs' d
 there_calm clients cs cs' d calm there = record { asked = λ n c e. still_either (waits cs n c) (waits cs' n c) (accepts n c d) (there.asked n c e) (calm.connects n c); serves = at d there.serves }
   where
     at : (d : Option Dispatch) → IsAtPlace cs d → IsAtPlace cs' d
-    at (Some (Of_server x c (Serves o))) h = calm.places x.object.name c ∙ h
-    at (Some (Of_server x c _)) h = tt
-    at (Some _) h = tt
-    at None h = tt
+    at x h = grind arith
 
 -- in another state with those clients, where the same dispatch stands below all
 pub there_by :
     (clients : List Client) (cs : List Cell) (d : Option Dispatch) (clients' : List Client) (cs' : List Cell) (d' : Option Dispatch) →
     clients' ≡ clients → Calm cs cs' → d' ≡ d → AreThere clients cs d → AreThere clients' cs' d'
-there_by clients cs d clients' cs' d' same calm below there =
-    subst (λ l. AreThere l cs' d') (sym same) (subst (λ x. AreThere clients cs' x) (sym below) (there_calm clients cs cs' d calm there))
+there_by clients cs d clients' cs' d' same calm below there = grind (arith, nat_tests, there_calm clients cs cs' d calm there)
 
 -- ---- cells that move
 
@@ -72,7 +64,7 @@ abbrev pub NoSession : Place → Type 0
 NoSession q = (n c : ℕ) → same_place q (Elsewhere (Session n c)) ≡ false
 
 place_moved : (cs : List Cell) (a b : Place) → NoSession a → NoSession b → (n c : ℕ) → held (moved a b cs) (Elsewhere (Session n c)) ≡ held cs (Elsewhere (Session n c))
-place_moved cs a b from to n c = held_elsewhere cs a b (Elsewhere (Session n c)) (to n c) ∙ ap (λ x. cond x None (held cs (Elsewhere (Session n c)))) (from n c)
+place_moved cs a b from to n c = grind (arith, nat_tests, held_elsewhere cs a b (Elsewhere (Session n c)) (to n c))
 
 pub calm_moved : (cs : List Cell) (a b : Place) → NoSession a → NoSession b → Calm cs (moved a b cs)
 calm_moved cs a b from to = record { connects = λ n c h. ap (λ v. list_any (is_connect_of c) v.queue) (service_moved cs a b n) ∙ h; places = place_moved cs a b from to }
@@ -82,45 +74,38 @@ module _ (p : Image) (fr : Frame) (ts : List Task) (s : State) where
   field_alone home f n c = grind arith
 
   spot_alone : (spot : Spot) → NoSession (spot_place p fr ts s spot)
-  spot_alone (In_register a) n c = refl
-  spot_alone (In_field f) n c = field_alone fr.home f n c
-  spot_alone The_message n c = refl
+  spot_alone x n c = grind (arith, nat_tests, field_alone fr.home)
 
   place_stored : (home : Home) (w : ℕ) (v : ℤ) (q : Place) → held (stored s.cells home w v) q ≡ held s.cells q
   place_stored home w v q = grind (arith, held_set_word)
 
   pub calm_update : (u : Update) → IsFine fr s u → Calm s.cells (cells_after p fr ts s u)
-  calm_update (Carried from to) f = calm_moved s.cells (spot_place p fr ts s from) (spot_place p fr ts s to) (spot_alone from) (spot_alone to)
-  calm_update (Made name class a) f = calm_steady s.cells _ (steady_update p fr ts s (Made name class a) f) (λ n c. refl)
-  calm_update (Written w v) f = calm_steady s.cells _ (steady_update p fr ts s (Written w v) tt) (λ n c. place_stored fr.home w v (Elsewhere (Session n c)))
-  calm_update (Requested r) f = calm_steady s.cells _ (steady_update p fr ts s (Requested r) f) (λ n c. (rerequested_alike s.cells fr.home r).held_so (Elsewhere (Session n c)))
-  calm_update (Sessioned b) f = calm_steady s.cells _ (steady_update p fr ts s (Sessioned b) tt) (λ n c. (resessioned_alike s.cells fr.home b).held_so (Elsewhere (Session n c)))
-  calm_update (Replied a code) f = absurd f
-  calm_update (Handed name a) f =
-      calm_steady s.cells _ (steady_update p fr ts s (Handed name a) f) (λ n c. (rerequested_alike s.cells fr.home (on_request (promised (next_token s.cells)) (own_request s.cells fr.home))).held_so (Elsewhere (Session n c)))
-  calm_update (Pushed a) f = calm_steady s.cells _ (steady_update p fr ts s (Pushed a) tt) (place_moved s.cells (here fr ts s a) (Entry (length s.items)) (λ n c. refl) (λ n c. refl))
-  calm_update (Popped a) f = calm_steady s.cells _ (steady_update p fr ts s (Popped a) tt) (place_moved s.cells (top_place s.items) (here fr ts s a) (λ n c. refl) (λ n c. refl))
-  calm_update Unchanged f = calm_itself s.cells
-  calm_update (Pushed_operation m w) f = calm_itself s.cells
-  calm_update Popped_operation f = calm_itself s.cells
+  calm_update x f = grind (
+    arith,
+    nat_tests,
+    calm_moved s.cells,
+    spot_alone,
+    calm_steady s.cells,
+    steady_update p fr ts s,
+    place_stored fr.home,
+    rerequested_alike s.cells fr.home,
+    resessioned_alike s.cells fr.home,
+    place_moved s.cells,
+    calm_itself s.cells,
+  )
 
   place_passed :
       (depth : ℕ) (xs : List Argument) (first to : ℕ) (cs : List Cell) (n c : ℕ) →
       held (passed_cells p fr ts s depth xs first to cs) (Elsewhere (Session n c)) ≡ held cs (Elsewhere (Session n c))
   place_passed depth [] first to cs n c = refl
   place_passed depth (Takes_word ∷ xs) first to cs n c = place_passed depth xs (suc first) (suc to) cs n c
-  place_passed depth (Takes_own t ∷ xs) first to cs n c =
-      place_passed depth xs (suc first) (suc to) (moved (here fr ts s first) (Register depth to) cs) n c ∙ place_moved cs (here fr ts s first) (Register depth to) (λ n c. refl) (λ n c. refl) n c
+  place_passed depth (Takes_own t ∷ xs) first to cs n c = grind (arith, nat_tests, place_passed depth xs, place_moved cs)
 
   pub calm_passed : (depth : ℕ) (xs : List Argument) (first to : ℕ) (cs : List Cell) → Calm cs (passed_cells p fr ts s depth xs first to cs)
   calm_passed depth xs first to cs = calm_steady cs _ (steady_passed p fr ts s depth xs first to cs) (place_passed depth xs first to cs)
 
   place_result : (g : Gives) (a b : ℕ) (below : List Task) (n c : ℕ) → held (result_cells p fr ts s g a b below) (Elsewhere (Session n c)) ≡ held s.cells (Elsewhere (Session n c))
-  place_result (An_own t) a b below n c = place_moved s.cells (here fr ts s a) (Register (length below) b) (λ n c. refl) (λ n c. refl) n c
-  place_result (A_maybe t) a b below n c = place_moved s.cells (here fr ts s a) (Register (length below) b) (λ n c. refl) (λ n c. refl) n c
-  place_result Nothing a b below n c = refl
-  place_result A_word a b below n c = refl
-  place_result (Left x) a b below n c = refl
+  place_result x a b below n c = grind (arith, nat_tests, place_moved s.cells)
 
   pub calm_result : (g : Gives) (a b : ℕ) (below : List Task) → Calm s.cells (result_cells p fr ts s g a b below)
   calm_result g a b below = calm_steady s.cells _ (steady_result p fr ts s g a b below) (place_result g a b below)
@@ -159,13 +144,7 @@ calm_unslotted xs cs = record {
 module _ (gone : Place → Bool) (cs : List Cell) (tidy : Tidy cs) where
   pub connects_dropped :
       (n c : ℕ) → ((q : Place) (o : Object) → gone q ≡ true → held cs q ≡ Some o → o.name ≡ n → (service_of cs n).queue ≡ []) → waits cs n c ≡ true → waits (dropped gone cs) n c ≡ true
-  connects_dropped n c empty h = ⊎_elim same went (each_name gone cs tidy n)
-    where
-      same : Same gone cs n → waits (dropped gone cs) n c ≡ true
-      same x = ap (λ v. list_any (is_connect_of c) v.queue) x.service ∙ h
-
-      went : Went gone cs n → waits (dropped gone cs) n c ≡ true
-      went x = absurd (true≢false (sym h ∙ ap (λ q. list_any (is_connect_of c) q) (empty x.place x.object x.goes x.there (named_name cs n x.object x.was))))
+  connects_dropped n c empty h = grind (arith, nat_tests, each_name gone cs tidy n, Same gone cs n, dropped gone cs, Went gone cs n, named_name cs n)
 
   pub places_dropped : ((n c : ℕ) → gone (Elsewhere (Session n c)) ≡ false) → (n c : ℕ) → held (dropped gone cs) (Elsewhere (Session n c)) ≡ held cs (Elsewhere (Session n c))
-  places_dropped stays n c = held_dropped gone cs (Elsewhere (Session n c)) ∙ ap (λ b. cond b None (held cs (Elsewhere (Session n c)))) (stays n c)
+  places_dropped stays n c = grind (arith, nat_tests, held_dropped gone cs (Elsewhere (Session n c)))

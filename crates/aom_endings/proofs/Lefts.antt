@@ -1,21 +1,20 @@
 -- What is left between dispatches: timers that run, events to come, natives to poll. Each turn that dispatches nothing takes of it.
-use Rattle.std.proofs.Common.{◌≡◌, ◌&&◌, ◌<◌, ◌≤◌, ◌+◌, ◌-◌, ◌*◌, ◌==◌, ℕ, zero, suc, ℤ, Bool, true, false, List, [], ◌∷◌, Option, Some, None, ap, arith, cond, length, refl, ◌∙◌}
+use Rattle.std.proofs.lemmas.Bool.Decides.{nat_tests}
+use Rattle.std.proofs.Common.{◌≡◌, ◌<◌, ◌≤◌, ◌+◌, ◌-◌, ◌*◌, ℕ, zero, suc, ℤ, Bool, true, false, List, [], ◌∷◌, Option, Some, None, ap, arith, cond, length, refl, ◌∙◌}
 use Rattle.std.specs.Prelude.{is_some, nat_le, not, ◌||◌}
 use Rattle.aom_active.proofs.Dues.{running}
 use Rattle.aom_active.specs.Agrees.{timer_in}
 use Rattle.aom_image.specs.Image.{Image}
 use Rattle.aom_clients.specs.declared.client.Client.{Client}
-use Rattle.aom_clients.specs.declared.client.Client.TheVariants.{Open}
 use Rattle.aom_clients.specs.declared.refusal.Refusal.{Refusal}
-use Rattle.aom_sound.specs.Clients.{Listed, client_at, commanded, connecting, leaving, sending, told}
-use Rattle.aom_sound.specs.Servers.{asked_last, is_from, is_queue, left_by, withdrawn}
+use Rattle.aom_sound.specs.Clients.{Listed, commanded, connecting, leaving, sending, told}
+use Rattle.aom_sound.specs.Servers.{asked_last, withdrawn}
 use Rattle.aom_sound.specs.Enlisted.{completed_with, on_request}
-use Rattle.aom_sound.specs.Natives.{all_bereaved, is_dead, is_owed, is_served_by, terminated, terminated_request}
-use Rattle.aom_sound.specs.Places.{Cell, Close_of, Connect_of, Message_of, Object, Request, Service, Tidy, requested, service_of, set_request, set_service}
+use Rattle.aom_sound.specs.Natives.{all_bereaved, is_served_by, terminated_request}
+use Rattle.aom_sound.specs.Places.{Cell, Connect_of, Object, Request, Service, Tidy, requested, service_of, set_request, set_service}
 use Rattle.aom_sound.specs.State.{State}
 use Rattle.aom_sound.specs.World.{Outside, Timed, due_of, event_at, first_due, first_living, nearer, next_event, next_time, time_of, with_request}
 use Rattle.aom_transcript.specs.declared.event.Command.{Command}
-use Rattle.aom_transcript.specs.declared.event.Command.TheVariants.{Close, Connect, Die, Send}
 use Rattle.aom_transcript.specs.declared.event.TimedEvent.{TimedEvent}
 use Rattle.aom_endings.specs.Endings.{one_where}
 use Rattle.aom_endings.proofs.Spending.{one_at_most}
@@ -31,41 +30,24 @@ timers_in (c ∷ cs) = timed c.request + timers_in cs
 
 without_more : (cs : List Cell) (n : ℕ) (r : Option Request) → timer_in r ≡ None → timers_in (set_request n r cs) ≤ timers_in cs
 without_more [] n r none = omega arith
-without_more (c ∷ cs) n r none = go (c.object.name == n) (without_more cs n r none)
-  where
-    go : (b : Bool) → timers_in (set_request n r cs) ≤ timers_in cs → timed (cond b r c.request) + timers_in (set_request n r cs) ≤ timed c.request + timers_in cs
-    go true rest = omega (arith, rest, ap (λ t. one_where (is_some t)) none)
-    go false rest = omega (arith, rest)
+without_more (c ∷ cs) n r none = grind (arith, nat_tests, without_more cs n r none)
 
 one_fewer : (cs : List Cell) (n : ℕ) (r : Option Request) → timer_in r ≡ None → is_some (timer_in (requested cs n)) ≡ true → timers_in (set_request n r cs) < timers_in cs
 one_fewer [] n r none runs = cc
-one_fewer (c ∷ cs) n r none runs = go (c.object.name == n) runs (without_more cs n r none) (λ it. one_fewer cs n r none it)
-  where
-    go : (b : Bool) → is_some (timer_in (cond b c.request (requested cs n))) ≡ true → timers_in (set_request n r cs) ≤ timers_in cs
-        → (is_some (timer_in (requested cs n)) ≡ true → timers_in (set_request n r cs) < timers_in cs) → timed (cond b r c.request) + timers_in (set_request n r cs) < timed c.request + timers_in cs
-    go true it rest later = omega (arith, rest, ap (λ t. one_where (is_some t)) none, ap one_where it)
-    go false it rest later = omega (arith, later it)
+one_fewer (c ∷ cs) n r none runs = grind (arith, nat_tests, without_more cs n r none, one_fewer cs n r none)
 
 completed_none : (code : ℤ) (r : Option Request) → timer_in (on_request (completed_with code) r) ≡ None
-completed_none code None = refl
-completed_none code (Some r) = refl
+completed_none code x = grind arith
 
 pub completed_fewer : (code : ℤ) (cs : List Cell) → Tidy cs → (x : Timed) → first_due cs ≡ Some x → timers_in (with_request (completed_with code) x.object cs) < timers_in cs
-completed_fewer code cs tidy x first =
-    let r = running cs tidy x first in
-    one_fewer cs x.object.name (on_request (completed_with code) (requested cs x.object.name)) (completed_none code (requested cs x.object.name)) (ap is_some r.runs)
+completed_fewer code cs tidy x first = grind (arith, nat_tests, running cs tidy x first, one_fewer cs x.object.name, completed_none code)
 
 pub completed_no_more : (code : ℤ) (cs : List Cell) (o : Object) → timers_in (with_request (completed_with code) o cs) ≤ timers_in cs
 completed_no_more code cs o = without_more cs o.name (on_request (completed_with code) (requested cs o.name)) (completed_none code (requested cs o.name))
 
 -- a kill starts none
 ended_timed : (served : Bool) (r : Option Request) → timed (cond served (terminated_request r) r) ≤ timed r
-ended_timed false r = omega arith
-ended_timed true r = go (is_owed r)
-  where
-    go : (b : Bool) → timed (cond b (on_request (completed_with terminated) r) r) ≤ timed r
-    go true = omega (arith, ap (λ t. one_where (is_some t)) (completed_none terminated r))
-    go false = omega arith
+ended_timed x r = grind (arith, nat_tests, completed_none)
 
 pub bereaved_no_more : (p : Image) (n : ℕ) (cs : List Cell) → timers_in (all_bereaved p n cs) ≤ timers_in cs
 bereaved_no_more p n [] = omega arith
@@ -78,11 +60,7 @@ served_timers (c ∷ cs) n v = ap (λ k. timed c.request + k) (served_timers cs 
 
 withdrawn_no_more : (c : ℕ) (cs : List Cell) → timers_in (withdrawn c cs) ≤ timers_in cs
 withdrawn_no_more c [] = omega arith
-withdrawn_no_more c (x ∷ xs) = go (is_queue x.owner && is_from c x.service.sender) (withdrawn_no_more c xs)
-  where
-    go : (b : Bool) → timers_in (withdrawn c xs) ≤ timers_in xs → timers_in (cond b (withdrawn c xs) (record x { service = left_by c x.service } ∷ withdrawn c xs)) ≤ timed x.request + timers_in xs
-    go true rest = omega (arith, rest)
-    go false rest = omega (arith, rest)
+withdrawn_no_more c (x ∷ xs) = grind (arith, nat_tests, withdrawn_no_more c xs)
 
 module _ (p : Image) (client : ℕ) (s : State) where
   abbrev StartsNone : State → Type 0
@@ -94,22 +72,16 @@ module _ (p : Image) (client : ℕ) (s : State) where
   connecting_no_more (Some r) server slots = omega arith
 
   sending_no_more : (refused : Option Refusal) (own : Client) (name : ℕ) (words : List ℤ) → StartsNone (sending p client s refused own name words)
-  sending_no_more None (Open server session slots) name words = omega (arith, served_timers s.cells server (asked_last (Message_of client name) (service_of s.cells server)))
-  sending_no_more _ _ name words = omega arith
+  sending_no_more x y name words = grind (arith, nat_tests, served_timers s.cells)
 
   told_timers : (own : Client) (cs : List Cell) → timers_in (told p client s own cs) ≡ timers_in cs
-  told_timers (Open server session slots) cs = served_timers cs server (asked_last (Close_of client) (service_of cs server))
-  told_timers _ cs = refl
+  told_timers x cs = grind (arith, nat_tests, served_timers cs)
 
   leaving_no_more : (to : Option Client) → StartsNone (leaving p client s to)
-  leaving_no_more None = omega arith
-  leaving_no_more (Some to) = omega (arith, told_timers (client_at s.clients client) (withdrawn client s.cells), withdrawn_no_more client s.cells)
+  leaving_no_more x = grind (arith, nat_tests, told_timers, withdrawn_no_more client s.cells)
 
   pub commanded_no_more : (command : Command) (name : ℕ) → StartsNone (commanded p client s command name)
-  commanded_no_more (Connect class slots) name = connecting_no_more _ _ slots
-  commanded_no_more (Send words) name = sending_no_more _ _ name words
-  commanded_no_more Close name = leaving_no_more _
-  commanded_no_more Die name = leaving_no_more _
+  commanded_no_more x name = grind (arith, nat_tests, connecting_no_more, sending_no_more, leaving_no_more)
 
 -- ---- what has come by a time
 
@@ -130,11 +102,7 @@ nearer_reached a b time e = grind arith
 
 pub passed_late :
     (outside : Outside) (s u : State) (time : ℕ) → next_time outside s ≡ Some time → u.cells ≡ s.cells → u.rest.clock ≡ time → u.rest.delivered ≡ s.rest.delivered → is_late outside u ≡ true
-passed_late outside s u time next cells clock delivered =
-    ap (λ cs. reached (due_of (first_due cs)) u.rest.clock || reached (time_of (event_at outside.events u.rest.delivered)) u.rest.clock) cells
-    ∙ ap (λ k. reached (due_of (first_due s.cells)) u.rest.clock || reached (time_of (event_at outside.events k)) u.rest.clock) delivered
-    ∙ ap (λ now. reached (due_of (first_due s.cells)) now || reached (time_of (next_event outside s)) now) clock
-    ∙ nearer_reached (due_of (first_due s.cells)) (time_of (next_event outside s)) time next
+passed_late outside s u time next cells clock delivered = grind (arith, nat_tests, nearer_reached)
 
 -- ---- events and natives
 
@@ -145,15 +113,7 @@ event_there (x ∷ es) (suc k) e is = omega (arith, event_there es k e is)
 
 pub living_within : (killed : List ℕ) (many n k : ℕ) → first_living killed many n ≡ Some k → (n ≤ k) × (k < n + many)
 living_within killed zero n k e = cc
-living_within killed (suc many) n k e = go (is_dead killed n) (living_within killed many (suc n) k) e
-  where
-    go : (b : Bool) → (first_living killed many (suc n) ≡ Some k → (suc n ≤ k) × (k < suc n + many)) → cond b (first_living killed many (suc n)) (Some n) ≡ Some k → (n ≤ k) × (k < n + suc many)
-    go true later e =
-        let rest = later e in
-        let from = rest.0 in
-        let to = rest.1 in
-        (omega (arith, from), omega (arith, to))
-    go false later e = let same : n ≡ k = cc in (omega (arith, same), omega (arith, same))
+living_within killed (suc many) n k e = grind (arith, nat_tests, living_within killed many (suc n) k)
 
 -- ---- how many turns there may be before time has passed for all, and before it passes
 

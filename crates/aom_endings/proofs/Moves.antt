@@ -1,18 +1,17 @@
 -- Each move tells what the call does that it makes: instructions on requests and sessions, the going of a cell, and all others, which make none.
+use Rattle.std.proofs.lemmas.Bool.Decides.{nat_tests}
 use Rattle.aom_image.specs.declared.class.ClassKind.{ClassKind}
 use Rattle.aom_rules.specs.Requests.{is_token_kind}
 use Rattle.aom_sound.proofs.Altering.{read_kept, sessions}
 use Rattle.aom_sound.proofs.Redeeming.{redeemed_by_alike, redeemed_good, redeeming, requested_redeemed}
 use Rattle.aom_sound.proofs.Storing.{rerequested_alike}
-use Rattle.aom_sound.specs.Requests.{Known, Suits, states_claim}
-use Rattle.aom_sound.specs.Tokens.{all_redeemed, awaits, busy, is_crowded, next_token, promised, redeemed_by, redeemed_with, token_of}
-use Rattle.std.proofs.Common.{Bool, List, None, Option, Some, [], ap, cond, false, length, refl, subst, suc, sym, true, zero, ℕ, ℤ, ◌&&◌, ◌==◌, ◌∙◌, ◌∷◌, ◌≡◌, pos, arith}
+use Rattle.aom_sound.specs.Requests.{Known, Suits}
+use Rattle.aom_sound.specs.Tokens.{all_redeemed, awaits, is_crowded, redeemed_by, redeemed_with, token_of}
+use Rattle.std.proofs.Common.{Bool, List, None, Option, Some, ap, cond, false, length, refl, subst, sym, true, ℕ, ℤ, ◌&&◌, ◌==◌, ◌∙◌, ◌∷◌, ◌≡◌, pos, arith}
 use Rattle.std.proofs.lemmas.Bool.{not-true, and_right, eqb-true}
-use Rattle.std.specs.Ordering.{int_eq}
 use Rattle.std.specs.Prelude.{not}
 use Rattle.aom_image.specs.Image.{Image}
 use Rattle.aom_image.specs.Views.{gives_of, instr_at}
-use Rattle.aom_image.specs.declared.method.Role.TheVariants.{Error}
 use Rattle.aom_instructions.specs.declared.instr.Instr.{Instr}
 use Rattle.aom_instructions.specs.declared.instr.Instr.TheVariants.{Cancel, Enlist, Reply, Return, SetActive, Hand}
 use Rattle.aom_endings.proofs.Calls.{IsAlive, Told, abort_told, alive_in, at_it, found, ask_told, asked_same, close_told, connect_told, ended_same, issue_told, sessions_after, sessions_along, taken_off, told_along, told_before, told_none, still}
@@ -29,26 +28,24 @@ use Rattle.aom_sound.proofs.Guarded.{guarded_goes, guarded_met}
 use Rattle.aom_sound.proofs.Layers.{dispatch_layer, method_layer}
 use Rattle.aom_sound.proofs.Maps.{tidy_without, held_lives, named_name}
 use Rattle.aom_sound.proofs.Moving.{acted, steps_are_moves}
-use Rattle.aom_sound.specs.Calls.{result_needs, returned}
+use Rattle.aom_sound.specs.Calls.{returned}
 use Rattle.aom_sound.specs.Claims.{Dispatching, Layer}
 use Rattle.aom_sound.specs.Destruction.{first_session, vanished, parting, gone, is_at_rest, needs_gone}
 use Rattle.aom_sound.specs.Effects.{Effect, Leaves, Same, applied, cancels_if, deals, deletes, effect, jumps_if, jumps_unless, makes_unless, round, sets, unless_refused, updates, cells_after, hands_unless}
-use Rattle.aom_sound.specs.Enlisted.{cancel_method, cancelling, ended_cells, first_request, in_phase, is_active, next_timer, on_request, own_request, part_of, thing_kind, waits, completed_at_once, home_kind, rerequested}
-use Rattle.aom_sound.specs.Moves.{stage_ends, answered, asking, counted, dispatch_ends, failed, handled, main_ends, needs, object_ends, step, step_instr, step_task}
+use Rattle.aom_sound.specs.Enlisted.{cancel_method, ended_cells, first_request, in_phase, is_active, next_timer, on_request, own_request, thing_kind, waits, home_kind, rerequested}
+use Rattle.aom_sound.specs.Moves.{stage_ends, answered, counted, dispatch_ends, handled, main_ends, needs, object_ends, step, step_instr, step_task}
 use Rattle.aom_sound.specs.Natives.{is_owed, native_of}
-use Rattle.aom_sound.specs.Places.{service_of, seen, In_service, Tidy, Cell, Elsewhere, Entry, Going, Object, Root, held, in_session, named, requested, without, Request, with_new}
-use Rattle.aom_sound.specs.State.{Parts, Service_left, Of_server, Closing, Stage, Seat, An_object, An_operation, Answered, Asks, AtRoot, Choice, Destroy, Dispatch, Dispatched, Frame, Goes, Home, Inside, Item, Main_left, Object_left, Of_main, Of_object, Of_root, Run, State, Static, Task, Unwind}
+use Rattle.aom_sound.specs.Places.{service_of, In_service, Tidy, Cell, Elsewhere, Entry, Going, Object, Root, held, in_session, named, requested, without, Request}
+use Rattle.aom_sound.specs.State.{Parts, Service_left, Of_server, Closing, Stage, Seat, Answered, Asks, Choice, Destroy, Dispatch, Frame, Goes, Home, Item, Main_left, Object_left, Of_main, Of_object, Of_root, Run, State, Task, Unwind}
 use Rattle.aom_sound.specs.Steps.{Empties, Acts, Arrives, Clears, Comes_out, Ends, Fits, IsStill, Move, Rests, Undoes, Vanishes}
 use Rattle.aom_sound.specs.Wanted.{Exchange, Nothing, exchange, exchange_at, Closes, wanted, wanted_by, wanted_going, wanted_gone, wanted_if, wanted_task}
-use Rattle.aom_sound.specs.WellTyped.{Fits as FitsKind, Good, IsHoused, WellTyped}
+use Rattle.aom_sound.specs.WellTyped.{Good, IsHoused, WellTyped}
 use Rattle.aom_sound.specs.Servers.{without_queue}
 use Rattle.aom_sound.specs.Words.{here, read}
 use Rattle.aom_sound.specs.Objects.{is_thing}
 use Rattle.aom_image.specs.declared.method.Thing.TheVariants.{Message}
 use Rattle.aom_endings.proofs.Services.{serves_unqueued, unchanged_unslotted, unchanged_served, session_unqueued, unchanged_completed, going_unqueued, tidy_unqueued, unchanged_unqueued}
 use Rattle.aom_sound.proofs.Things.{stands_message}
-use Rattle.aom_shape.specs.declared.kind.Kind.TheVariants.{Own}
-use Rattle.aom_shape.specs.declared.kind.Age.TheVariants.{Ready}
 
 -- ---- what tokens complete
 
@@ -70,11 +67,7 @@ unchanged_redeemed p t cs ls good (Some order) code = record { owes = λ n m. ow
     objects m = (redeemed_by_alike (Some order) code cs).named_so m
 
     unserved : (n m : ℕ) → awaits order (requested cs m) ≡ true → (o : Option Object) → named cs m ≡ o → serves_object p n o ≡ false
-    unserved n m e None lives = refl
-    unserved n m e (Some o) lives =
-        let name : o.name ≡ m = named_name cs m o lives in
-        let here : named cs o.name ≡ Some o = ap (named cs) name ∙ lives in
-        served_none p n o.thing (awaits_token order (thing_kind p o.thing) (states_claim p o ls) (requested cs o.name) (good.suits o here) (ap (λ k. awaits order (requested cs k)) name ∙ e))
+    unserved n m e x lives = grind (arith, nat_tests, named_name cs m, served_none p n, awaits_token order)
 
     owing : (n m : ℕ) (b : Bool) → awaits order (requested cs m) ≡ b → owes p us n m ≡ owes p cs n m
     owing n m true e =
@@ -111,67 +104,53 @@ module _ (p : Image) (t : Typing) (c : Choice) (fr : Frame) (ts : List Task) (s 
 
   -- the effects that a test decides
   jumps_aside : (b : Bool) (to : ℕ) → IsAside c.name (jumps_if fr b to)
-  jumps_aside true to = tt
-  jumps_aside false to = tt
+  jumps_aside x to = grind arith
 
   misses_aside : (o : Option Object) (to : ℕ) → IsAside c.name (jumps_unless fr o to)
-  misses_aside None to = tt
-  misses_aside (Some o) to = tt
+  misses_aside x to = grind arith
 
   round_aside : (n depth to : ℕ) → IsAside c.name (round n depth to)
-  round_aside zero depth to = tt
-  round_aside (suc n) depth to = tt
+  round_aside x depth to = grind arith
 
   deletes_aside : (o : Option Object) (a : ℕ) → IsAside c.name (deletes fr o a)
-  deletes_aside None a = tt
-  deletes_aside (Some o) a = tt
+  deletes_aside x a = grind arith
 
   deals_aside : (items : List Item) (o : Option Object) → IsAside c.name (deals fr items o)
-  deals_aside (An_object ∷ items) (Some o) = tt
-  deals_aside (An_operation m w ∷ items) o = tt
-  deals_aside _ o = tt
+  deals_aside x o = grind arith
 
   makes_aside : (b : Bool) (x a : ℕ) → IsAside c.name (sets fr a None (makes_unless b c.name x a))
-  makes_aside true x a = tt
-  makes_aside false x a = refl
+  makes_aside x y a = grind arith
 
   refused_aside : (b : Bool) (off : _) (e : Effect) → IsAside c.name (Leaves (pos 0) off) → IsAside c.name e → IsAside c.name (unless_refused b off e)
-  refused_aside true off e left on = left
-  refused_aside false off e left on = on
+  refused_aside x off e left on = grind arith
 
   leaves_aside : (b : Bool) (code : ℤ) → IsAside c.name (cond b (Leaves code Same) (updates fr Same))
-  leaves_aside true code = tt
-  leaves_aside false code = tt
+  leaves_aside x code = grind arith
 
   cancels : (b : Bool) → in_phase is_active (own_request s.cells fr.home) ≡ b → (m : Option ℕ) → Unchanged p s.cells (applied p fr ts (counted p s) (cancels_if fr b m)).cells
-  cancels true e (Some m) = asked_same p c.answer s fr.home (on_request cancelling (own_request s.cells fr.home)) (cancelling_owed (own_request s.cells fr.home) e)
-  cancels true e None = unchanged_itself p s.cells
-  cancels false e m = unchanged_itself p s.cells
+  cancels x e m = grind (arith, nat_tests, asked_same p c.answer s fr.home, cancelling_owed, unchanged_itself p s.cells)
 
   returns : (a : ℕ) → AllTrue (needs p c fr ts (counted p s) (Return a)) → Unchanged p s.cells (returned p fr ts (record (counted p s) { cells = ended_cells p fr s.cells }) (gives_of p fr.method) a ts).cells
-  returns a met =
-      let parts = all_parts (result_needs p fr ts (counted p s) (gives_of p fr.method) a) _ met in
-      unchanged_along p s.cells (ended_cells p fr s.cells) _ (ended_same p c.answer s fr ts parts.1.1.1.0)
-      (returned_unchanged p fr ts (record (counted p s) { cells = ended_cells p fr s.cells }) (gives_of p fr.method) a ts)
+  returns a met = grind (arith, nat_tests, all_parts, unchanged_along p s.cells, ended_same p c.answer s fr ts, returned_unchanged p fr ts)
 
   is_message : (a : ℕ) (x : Object) → held s.cells (here fr ts (counted p s) a) ≡ Some x → is_thing p Message (held s.cells (here fr ts (counted p s) a)) ≡ true → x.thing ≡ Message
   is_message a x there thing = stands_message p x.thing (sym (ap (is_thing p Message) there) ∙ thing)
 
   -- the request of an object that hands tokens is owed by no native
   handing : (h : Home) → IsAlive s.cells h → is_token_kind (home_kind p h) ≡ true → (r : Option Request) → Unchanged p s.cells (rerequested s.cells h r)
-  handing Static living kind r = unchanged_itself p s.cells
-  handing AtRoot living kind r = unchanged_itself p s.cells
-  handing (Inside o from) living kind r = unchanged_asked p s.cells o r (λ k. still p c.answer s o living (token_served (thing_kind p o.thing) kind) k (is_owed r) (is_owed (requested s.cells o.name)))
+  handing x living kind r = grind (arith, nat_tests, unchanged_itself p s.cells, unchanged_asked p s.cells, still p c.answer s, token_served)
 
   hands : (b : Bool) (a : ℕ) → is_token_kind (home_kind p fr.home) ≡ true → Unchanged p s.cells (cells_after p fr ts (counted p s) (hands_unless b c.name a (own_request s.cells fr.home)))
-  hands true a kind = handing fr.home alive kind (on_request (completed_at_once busy) (own_request s.cells fr.home))
-  hands false a kind =
-      let r = on_request (promised (next_token s.cells)) (own_request s.cells fr.home) in
-      let asked = rerequested s.cells fr.home r in
-      unchanged_along p s.cells asked _ (handing fr.home alive kind r)
-      (unchanged_along p asked (with_new c.name Message [] (here fr ts (counted p s) a) asked) _
-      (unchanged_new p c.name Message [] (here fr ts (counted p s) a) asked ((rerequested_alike s.cells fr.home r).named_so c.name ∙ unused))
-      (unchanged_alike p _ _ (λ m. refl) (λ m. refl) (λ m. refl)))
+  hands x a kind = grind (
+    arith,
+    nat_tests,
+    handing fr.home alive kind,
+    unchanged_along p s.cells,
+    unchanged_along p,
+    unchanged_new p c.name Message,
+    rerequested_alike s.cells fr.home,
+    unchanged_alike p,
+  )
 
   silently : (i : Instr) → exchange i ≡ Nothing → AllTrue (needs p c fr ts (counted p s) i) → Tells Nothing i
   silently (Enlist priority) none met = silent (Enlist priority) (asked_same p c.answer s fr.home (Some (first_request s.cells priority)) (sym (none_owed (own_request s.cells fr.home) met.1.0)))
@@ -188,9 +167,19 @@ module _ (p : Image) (t : Typing) (c : Choice) (fr : Frame) (ts : List Task) (s 
       (λ x there. is_message a x (sym ((redeemed_by_alike order code s.cells).held_so (here fr ts (counted p s) a)) ∙ there) met.1.1.0)))
   silently (Hand a) none met = silent (Hand a) (hands (is_crowded p s.cells) a met.1.0)
   -- the others leave all as it is, whatever a test of theirs decides
-  silently i none met =
-      let nothing : IsNothing (exchange i) = subst IsNothing (sym none) tt in
-      aside i (search (nothing, jumps_aside, misses_aside, round_aside, deletes_aside, deals_aside, makes_aside, refused_aside, leaves_aside))
+  silently i none met = grind (
+    arith,
+    nat_tests,
+    aside i,
+    jumps_aside,
+    misses_aside,
+    round_aside,
+    deletes_aside,
+    deals_aside,
+    makes_aside,
+    refused_aside,
+    leaves_aside,
+  )
 
   tells : (i : Instr) → AllTrue (needs p c fr ts (counted p s) i) → Tells (exchange i) i
   tells = by_exchange (λ i x. AllTrue (needs p c fr ts (counted p s) i) → Tells x i) (λ a met. connect_told p c.answer s fr ts holds fr.home alive)
@@ -209,11 +198,7 @@ module _ (p : Image) (answer : ℤ) (s : State) (holds : SessionsHold p s) (tidy
 
   -- what does not hold of the cell that goes holds of the others as before
   others : (f : ℕ → Bool) (m : ℕ) → f o.name ≡ false → (not (o.name == m) && f m) ≡ f m
-  others f m e = go (o.name == m) refl
-    where
-      go : (b : Bool) → (o.name == m) ≡ b → (not b && f m) ≡ f m
-      go true same = sym e ∙ ap f (eqb-true o.name m same)
-      go false other = refl
+  others f m e = grind (arith, nat_tests, eqb-true o.name m)
 
   owes_so : (n m : ℕ) → owes p (without (Going k) s.cells) n m ≡ owes p s.cells n m
   owes_so n m = owes_gone p s.cells (Going k) o tidy there n m ∙ others (λ x. owes p s.cells n x) m (and_right (serves p s.cells n o.name) _ unowed)
@@ -233,8 +218,7 @@ module _ (p : Image) (answer : ℤ) (s : State) (holds : SessionsHold p s) (tidy
   }
     where
       not_cond : (b x : Bool) → (not b && x) ≡ cond b false x
-      not_cond true x = refl
-      not_cond false x = refl
+      not_cond x y = grind arith
 
   goes_told : Told p answer s (wanted_gone s p (Some o)) (without (Going k) s.cells)
   goes_told = go (native_of (thing_kind p o.thing)) refl
@@ -246,14 +230,10 @@ module _ (p : Image) (answer : ℤ) (s : State) (holds : SessionsHold p s) (tidy
 -- ---- the end of a dispatch
 
 main_unchanged : (p : Image) (b : Bool) (root : Option Object) (s : State) → Unchanged p s.cells (main_ends p b root s).cells
-main_unchanged p true (Some o) s = unchanged_moved p s.cells (Elsewhere Root) (Going (length (Dispatched Of_root ∷ [])))
-main_unchanged p true None s = unchanged_itself p s.cells
-main_unchanged p false root s = unchanged_itself p s.cells
+main_unchanged p x root s = grind (arith, nat_tests, unchanged_moved p s.cells (Elsewhere Root), unchanged_itself p s.cells)
 
 main_killed : (p : Image) (b : Bool) (root : Option Object) (s : State) → (main_ends p b root s).killed ≡ s.killed
-main_killed p true (Some o) s = refl
-main_killed p true None s = refl
-main_killed p false root s = refl
+main_killed p x root s = grind arith
 
 -- it changes nothing that is outstanding, and kills no native
 abbrev IsCalm : Image → State → State → Type 0
@@ -263,20 +243,14 @@ object_calm : (p : Image) (s : State) → IsCalm p s (object_ends p s)
 object_calm p s = (main_unchanged p s.rest.stopped (held s.cells (Elsewhere Root)) (handled s), main_killed p s.rest.stopped (held s.cells (Elsewhere Root)) (handled s))
 
 answer_calm : (p : Image) (answer : ℤ) (s : State) → IsCalm p s (answered p answer s)
-answer_calm p answer s = go (int_eq answer (pos 0))
-  where
-    go : (b : Bool) → IsCalm p s (cond b (object_ends p s) (failed answer s))
-    go true = object_calm p s
-    go false = (unchanged_itself p s.cells, refl)
+answer_calm p answer s = grind (arith, nat_tests, object_calm p s, unchanged_itself p s.cells)
 
 module _ (p : Image) (t : Typing) (s : State) where
   -- what a service has left is a message
   left_message :
       (x : Seat) (client : ℕ) (code : ℤ) (seats : List Seat) (below : List Layer) → Good p t s.cells (Dispatching (Of_server x client (Service_left code)) seats ∷ below) → (y : Object) →
       held s.cells (Elsewhere In_service) ≡ Some y → y.thing ≡ Message
-  left_message x client code seats below good y there =
-      let f = subst (λ o. FitsKind p (seen s.cells) o (Own Message Ready)) there (good.fits (Elsewhere In_service)) in
-      stands_message p y.thing f.0
+  left_message x client code seats below good y there = grind (arith, nat_tests, stands_message p y.thing)
 
   stage_calm :
       (x : Seat) (client : ℕ) (stage : Stage) (seats : List Seat) (below : List Layer) → Good p t s.cells (Dispatching (Of_server x client stage) seats ∷ below) →
@@ -291,11 +265,7 @@ module _ (p : Image) (t : Typing) (s : State) where
   end_calm (Main_left code) seats below good = (unchanged_itself p s.cells, refl)
   end_calm Of_root seats below good = (unchanged_itself p s.cells, refl)
   end_calm (Of_object x) seats below good = object_calm p s
-  end_calm (Object_left x code) seats below good = go (part_of p Error x.object.thing)
-    where
-      go : (m : Option ℕ) → IsCalm p s (asking p m x code s)
-      go None = answer_calm p code s
-      go (Some m) = (unchanged_itself p s.cells, refl)
+  end_calm (Object_left x code) seats below good = grind (arith, nat_tests, answer_calm p code s, unchanged_itself p s.cells)
   end_calm (Asks x) seats below good = object_calm p s
   end_calm (Answered x answer) seats below good = answer_calm p answer s
   end_calm (Of_server x client stage) seats below good = stage_calm x client stage seats below good
@@ -309,9 +279,7 @@ parting_calm p o (Some x) ts s = (unchanged_moved p s.cells x.place (Going (leng
 
 -- what a frame works on is the cell of its name
 alive_home : (p : Image) (cs : List Cell) (ls : List Layer) (h : Home) → IsHoused p cs ls h → IsAlive cs h
-alive_home p cs ls Static housed = tt
-alive_home p cs ls AtRoot housed = tt
-alive_home p cs ls (Inside o from) housed = housed.lives
+alive_home p cs ls x housed = grind arith
 
 still_asks_none : (p : Image) (s : State) (ts : List Task) → IsStill ts → wanted_task s p ts ≡ None
 still_asks_none p s ts still = grind arith
@@ -323,7 +291,7 @@ module _ (p : Image) (t : Typing) (c : Choice) (s u : State) (w : WellTyped p t 
   -- a move that makes no call
   calmly : (v : State) → u ≡ v → wanted p s ≡ None → IsCalm p s v → Tale
   calmly v same none calm = (
-    subst (λ x. Told p c.answer s x u.cells) (sym none) (subst (λ (x : State). Told p c.answer s None x.cells) (sym same) (told_none p c.answer s v.cells calm.0)),
+    grind (arith, nat_tests, Told p c.answer s, Told p c.answer s None, told_none p c.answer s v.cells calm.0),
     ap (λ (x : State). x.killed) same ∙ calm.1,
   )
 

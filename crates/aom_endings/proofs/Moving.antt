@@ -1,4 +1,5 @@
 -- What is there stays there as a method moves, returns, or is left: connects wait as before, and the same dispatch stands below all.
+use Rattle.std.proofs.lemmas.Bool.Decides.{nat_tests}
 use Rattle.std.proofs.Common.{Bool, List, None, Option, Some, [], ap, cond, false, length, refl, subst, suc, sym, true, ℕ, ℤ, ◌&&◌, ◌==◌, ◌∙◌, ◌∷◌, ◌≡◌, arith}
 use Rattle.std.proofs.lemmas.Bool.{eqb-true, true≢false}
 use Rattle.std.specs.List.{list_any}
@@ -6,10 +7,8 @@ use Rattle.std.specs.Prelude.{◌||◌}
 use Rattle.aom_image.specs.Image.{Image}
 use Rattle.aom_image.specs.Views.{arguments_of}
 use Rattle.aom_image.specs.declared.method.Gives.{Gives}
-use Rattle.aom_classes.specs.Roles.{destructor_of}
 use Rattle.aom_clients.specs.Nodes.{is_connecting_at}
 use Rattle.aom_clients.specs.declared.client.Client.{Client}
-use Rattle.aom_clients.specs.declared.client.Client.TheVariants.{Connecting}
 use Rattle.aom_sound.proofs.ClientsEffects.{Fine}
 use Rattle.aom_sound.proofs.Guarded.{goes_same}
 use Rattle.aom_sound.proofs.Queues.{client_here, client_there}
@@ -18,13 +17,12 @@ use Rattle.aom_sound.proofs.Storing.{rerequested_alike}
 use Rattle.aom_sound.specs.Calls.{accepted_cells, accepted_clients, answered_by, ended_well, returned}
 use Rattle.aom_sound.specs.Cleanup.{arrived, destroyed, ended_by, to_trap, top_is_whole, top_place, unwound}
 use Rattle.aom_sound.specs.Clients.{at_opening, client_at, with_client}
-use Rattle.aom_sound.specs.Destruction.{begun, begun_by, destructed, line_on, next_destructor}
+use Rattle.aom_sound.specs.Destruction.{begun, begun_by, line_on}
 use Rattle.aom_sound.specs.Effects.{Calls, Cancels, Destroys, Destroys_last, Effect, Goes_on, Leaves, Returns, Sets_trap, applied}
-use Rattle.aom_sound.specs.Enlisted.{begun_cells, cancelling, on_request, own_request}
 use Rattle.aom_sound.specs.Kept.{is_connect_of}
 use Rattle.aom_sound.specs.Places.{Cell, Elsewhere, Entry, Going, Object, Place, Session, held, moved}
-use Rattle.aom_sound.specs.Servers.{is_server, opened}
-use Rattle.aom_sound.specs.State.{Inside, AtRoot, Static, Home, A_mark, Accepts, An_object, An_operation, Asks, Closing, Destroy, Dispatch, Dispatched, Frame, Goes, IsStuck, Item, NullOrDead, Of_main, Of_object, Of_server, Run, Serves, State, Task, Trapped, Unwind, resumed}
+use Rattle.aom_sound.specs.Servers.{opened}
+use Rattle.aom_sound.specs.State.{Home, A_mark, Accepts, An_object, An_operation, Destroy, Dispatch, Dispatched, Frame, Goes, IsStuck, Item, NullOrDead, Of_server, Run, Serves, State, Task, Trapped, Unwind, resumed}
 use Rattle.aom_sound.specs.Words.{here}
 use Rattle.aom_sound.proofs.ClientsMoves.{steady_asked}
 use Rattle.aom_sound.proofs.ClientsTurn.{on_none}
@@ -34,24 +32,16 @@ use Rattle.aom_endings.specs.There.{AllThere, AreThere, dispatch_of, waits}
 -- ---- the dispatch below
 
 pub dispatch_begun_by : (p : Image) (m : Option ℕ) (o : Object) (height : ℕ) (ts : List Task) → dispatch_of (begun_by p m o height ts) ≡ dispatch_of ts
-dispatch_begun_by p None o height ts = refl
-dispatch_begun_by p (Some m) o height ts = refl
+dispatch_begun_by p x o height ts = grind arith
 
 dispatch_line : (p : Image) (m : ℕ) (home : Home) (height : ℕ) (ts : List Task) → dispatch_of (line_on p m home height ts) ≡ dispatch_of ts
-dispatch_line p m Static height ts = refl
-dispatch_line p m AtRoot height ts = refl
-dispatch_line p m (Inside o from) height ts = dispatch_begun_by p (next_destructor p m) o height ts
+dispatch_line p m x height ts = grind (arith, nat_tests, dispatch_begun_by p)
 
 pub dispatch_begun : (p : Image) (o : Object) (height : ℕ) (ts : List Task) → dispatch_of (begun p o height ts) ≡ dispatch_of ts
-dispatch_begun p o height ts = go (is_server p o.thing)
-  where
-    go : (b : Bool) → dispatch_of (cond b (Closing ∷ Destroy ∷ ts) (destructed p o height ts)) ≡ dispatch_of ts
-    go true = refl
-    go false = dispatch_begun_by p (destructor_of p o.thing) o height ts
+dispatch_begun p o height ts = grind (arith, nat_tests, dispatch_begun_by p)
 
 pub dispatch_resumed : (ts : List Task) → dispatch_of (resumed ts) ≡ dispatch_of ts
-dispatch_resumed (Run fr ∷ ts) = refl
-dispatch_resumed _ = refl
+dispatch_resumed x = grind arith
 
 dispatch_to_trap : (ts : List Task) → dispatch_of (to_trap ts) ≡ dispatch_of ts
 dispatch_to_trap (Run fr ∷ ts) = dispatch_to_trap ts
@@ -67,9 +57,7 @@ module _ (p : Image) (fr : Frame) (ts : List Task) (s : State) (there : AreThere
   effect_there (Goes_on ch) f = by (applied p fr ts s (Goes_on ch)) refl (calm_update p fr ts s ch.update f) refl
   effect_there (Calls target m first) f = by (applied p fr ts s (Calls target m first)) refl (calm_passed p fr ts s _ (arguments_of p m) first 0 s.cells) refl
   effect_there (Sets_trap target m first) f = by (applied p fr ts s (Sets_trap target m first)) refl (calm_passed p fr ts s _ (arguments_of p m) first 0 s.cells) refl
-  effect_there (Cancels m) f =
-      let r = on_request cancelling (own_request s.cells fr.home) in
-      by (applied p fr ts s (Cancels m)) refl (calm_steady s.cells (begun_cells fr s.cells) (steady_asked s.cells fr.home r (λ e. on_none cancelling (own_request s.cells fr.home) e)) (λ n c. (rerequested_alike s.cells fr.home r).held_so (Elsewhere (Session n c)))) refl
+  effect_there (Cancels m) f = grind (arith, nat_tests, by, calm_steady s.cells, steady_asked s.cells fr.home, on_none, rerequested_alike s.cells fr.home)
   effect_there (Returns g a) f = absurd f
   effect_there (Leaves code u) f = by (applied p fr ts s (Leaves code u)) refl (calm_update p fr ts s u f) (dispatch_to_trap ts)
   effect_there (Destroys x a words) f =
@@ -82,14 +70,11 @@ module _ (p : Image) (fr : Frame) (ts : List Task) (s : State) (there : AreThere
 
 -- once its connect is served a client does not connect
 opening_done : (n : ℕ) (x : Client) → is_connecting_at n (at_opening 0 x) ≡ false
-opening_done n (Connecting server slots) = refl
-opening_done n _ = refl
+opening_done n x = grind arith
 
 -- one of two, where the second is none
 pub or_none : (a b x : Bool) → x ≡ false → (a || (b && x)) ≡ true → (a || false) ≡ true
-or_none true b x e h = refl
-or_none false true x e h = absurd (true≢false (sym h ∙ e))
-or_none false false x e h = h
+or_none x b y e h = grind arith
 
 module _ (p : Image) (fr : Frame) (ts : List Task) (s : State) where
   accepted_there : (d : Dispatch) (from : Place) → AreThere s.clients s.cells (Some d) → AreThere (accepted_clients d s.clients) (accepted_cells d from s.cells) (Some (ended_well d))
@@ -122,8 +107,7 @@ module _ (p : Image) (fr : Frame) (ts : List Task) (s : State) where
   accepted_there _ from there = there
 
   answered_there : (answer : ℤ) (d : Dispatch) → AreThere s.clients s.cells (Some d) → AreThere s.clients s.cells (Some (answered_by answer d))
-  answered_there answer (Asks x) there = record { asked = there.asked; serves = tt }
-  answered_there answer _ there = there
+  answered_there answer x there = grind arith
 
   pub returned_there :
       (g : Gives) (a : ℕ) (below : List Task) → s.tasks ≡ Run fr ∷ ts → AreThere s.clients s.cells (dispatch_of below) → AreThere s.clients s.cells (dispatch_of ts) →
@@ -140,11 +124,7 @@ module _ (p : Image) (fr : Frame) (ts : List Task) (s : State) where
 
 module _ (p : Image) (s : State) where
   left_there : (code : ℤ) (d : Dispatch) → AreThere s.clients s.cells (Some d) → AreThere s.clients s.cells (Some (ended_by code d))
-  left_there code Of_main there = record { asked = there.asked; serves = tt }
-  left_there code (Of_object x) there = record { asked = there.asked; serves = tt }
-  left_there code (Of_server x c Accepts) there = record { asked = there.asked; serves = tt }
-  left_there code (Of_server x c (Serves o)) there = record { asked = there.asked; serves = tt }
-  left_there code _ there = there
+  left_there code x there = grind arith
 
   arrived_there : (code : ℤ) (ts : List Task) (items : List Item) (u : State) → AreThere s.clients s.cells (dispatch_of ts) → arrived p code ts items s ≡ Goes u → AllThere u
   arrived_there code ts items u there e = grind arith

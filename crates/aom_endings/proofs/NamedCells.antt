@@ -1,45 +1,35 @@
 -- What is read of cells and done to them, under other names: the same, renamed.
+use Rattle.std.proofs.lemmas.Bool.Decides.{nat_tests}
 use Rattle.aom_sound.specs.Clients.{count_messages}
 use Rattle.aom_sound.specs.Natives.{is_owed}
-use Rattle.aom_sound.specs.Tokens.{awaited, awaits, is_redeemable, next_token, order_in, order_past, redeemed, redeemed_by}
-use Rattle.std.proofs.Common.{Bool, List, None, Option, Some, [], ap, cond, false, length, refl, suc, true, zero, ℕ, ℤ, ◌&&◌, ◌==◌, ◌∙◌, ◌∷◌, ◌≡◌}
+use Rattle.aom_sound.specs.Tokens.{awaited, awaits, is_redeemable, next_token, order_in, order_past, redeemed_by}
+use Rattle.std.proofs.Common.{arith, Bool, List, None, Option, Some, [], ap, cond, length, refl, suc, zero, ℕ, ℤ, ◌&&◌, ◌==◌, ◌∷◌, ◌≡◌}
 use Rattle.std.proofs.lemmas.Bool.{eq-eqb, eqb-false, eqb-true, ne_eqb}
 use Rattle.std.proofs.lemmas.List.{length-map}
-use Rattle.std.specs.Prelude.{nat_le, map, max, not, option_map}
+use Rattle.std.specs.Prelude.{map, max, not, option_map}
 use Rattle.aom_image.specs.declared.method.Thing.{Thing}
 use Rattle.aom_shape.specs.Kinds.{is_object}
 use Rattle.aom_sound.specs.Calls.{is_register_but, none_owns_but}
 use Rattle.aom_sound.specs.Destruction.{is_past, needs_past, owns_none_past, is_field_of, needs_emptied, owns_none}
 use Rattle.aom_sound.specs.Enlisted.{next_order, next_timer, order_after, request_after}
-use Rattle.aom_sound.specs.Places.{Cell, Elsewhere, Entry, Field, Going, Place, Register, Request, held, moved, named, requested, same_place, set_request, set_word_field, without, word_field, in_session, set_session, count_cells, Other, Root, Session, In_service, Queued}
+use Rattle.aom_sound.specs.Places.{Cell, Elsewhere, Entry, Field, Going, Place, Register, Request, held, moved, named, requested, same_place, set_request, set_word_field, without, word_field, in_session, set_session, count_cells, Other}
 use Rattle.aom_sound.specs.State.{Task}
 use Rattle.aom_sound.specs.World.{cell_at}
 use Rattle.aom_endings.specs.Names.{IsOneToOne, renamed_cell, renamed_cells, renamed_object, renamed_place, renamed_tasks, renamed_other}
 
 -- a renamed answer
 pub cond_mapped : {A B : Type 0} (f : A → B) (b : Bool) (x : A) (o : Option A) → cond b (Some (f x)) (option_map f o) ≡ option_map f (cond b (Some x) o)
-cond_mapped f true x o = refl
-cond_mapped f false x o = refl
+cond_mapped f x y o = grind arith
 
 pub cond_applied : {A B : Type 0} (f : A → B) (b : Bool) (x y : A) → cond b (f x) (f y) ≡ f (cond b x y)
-cond_applied f true x y = refl
-cond_applied f false x y = refl
+cond_applied f x y z = grind arith
 
 module _ (names : ℕ → ℕ) (one_to_one : IsOneToOne names) where
   pub same_name : (n m : ℕ) → (names n == names m) ≡ (n == m)
-  same_name n m = go (n == m) refl
-    where
-      go : (b : Bool) → (n == m) ≡ b → (names n == names m) ≡ b
-      go true e = eq-eqb (names n) (names m) (ap names (eqb-true n m e))
-      go false e = ne_eqb (names n) (names m) (λ same. eqb-false n m e (one_to_one n m same))
+  same_name n m = grind (arith, nat_tests, eq-eqb (names n) (names m), eqb-true n m, ne_eqb (names n) (names m), eqb-false n m)
 
   other_kept : (o w : Other) → same_place (Elsewhere (renamed_other names o)) (Elsewhere (renamed_other names w)) ≡ same_place (Elsewhere o) (Elsewhere w)
-  other_kept Root (Session t d) = refl
-  other_kept In_service (Session t d) = refl
-  other_kept (Session s c) (Session t d) = ap (λ b. b && (c == d)) (same_name s t)
-  other_kept (Queued s m) (Session t d) = refl
-  other_kept (Queued s m) (Queued t n) = rw (same_name s t, same_name m n)
-  other_kept _ _ = refl
+  other_kept x y = grind (arith, nat_tests, same_name)
 
   pub same_place_kept : (p q : Place) → same_place (renamed_place names p) (renamed_place names q) ≡ same_place p q
   same_place_kept (Field n f) (Field m g) = ap (λ b. b && (f == g)) (same_name n m)
@@ -52,32 +42,19 @@ module _ (names : ℕ → ℕ) (one_to_one : IsOneToOne names) where
 
   pub held_renamed : (cs : List Cell) (q : Place) → held (renamed_cells names cs) (renamed_place names q) ≡ option_map (renamed_object names) (held cs q)
   held_renamed [] q = refl
-  held_renamed (c ∷ cs) q =
-      ap (λ b. cond b (Some (renamed_object names c.object)) (held (renamed_cells names cs) (renamed_place names q))) (same_place_kept c.owner q)
-      ∙ ap (λ o. cond (same_place c.owner q) (Some (renamed_object names c.object)) o) (held_renamed cs q)
-      ∙ cond_mapped (renamed_object names) (same_place c.owner q) c.object (held cs q)
+  held_renamed (c ∷ cs) q = grind (arith, nat_tests, same_place_kept c.owner q, held_renamed cs q, cond_mapped)
 
   pub named_renamed : (cs : List Cell) (n : ℕ) → named (renamed_cells names cs) (names n) ≡ option_map (renamed_object names) (named cs n)
   named_renamed [] n = refl
-  named_renamed (c ∷ cs) n =
-      ap (λ b. cond b (Some (renamed_object names c.object)) (named (renamed_cells names cs) (names n))) (same_name c.object.name n)
-      ∙ ap (λ o. cond (c.object.name == n) (Some (renamed_object names c.object)) o) (named_renamed cs n)
-      ∙ cond_mapped (renamed_object names) (c.object.name == n) c.object (named cs n)
+  named_renamed (c ∷ cs) n = grind (arith, nat_tests, same_name c.object.name n, named_renamed cs n, cond_mapped)
 
   pub moved_renamed : (p q : Place) (cs : List Cell) → moved (renamed_place names p) (renamed_place names q) (renamed_cells names cs) ≡ renamed_cells names (moved p q cs)
   moved_renamed p q [] = refl
-  moved_renamed p q (c ∷ cs) =
-      let owned : cond (same_place (renamed_place names c.owner) (renamed_place names p)) (renamed_place names q) (renamed_place names c.owner) ≡ renamed_place names (cond (same_place c.owner p) q c.owner) =
-      ap (λ b. cond b (renamed_place names q) (renamed_place names c.owner)) (same_place_kept c.owner p) ∙ cond_applied (renamed_place names) (same_place c.owner p) q c.owner in
-      ap (λ x. record (renamed_cell names c) { owner = x } ∷ moved (renamed_place names p) (renamed_place names q) (renamed_cells names cs)) owned
-      ∙ ap (λ r. renamed_cell names (record c { owner = cond (same_place c.owner p) q c.owner }) ∷ r) (moved_renamed p q cs)
+  moved_renamed p q (c ∷ cs) = grind (arith, nat_tests, same_place_kept c.owner p, cond_applied, moved_renamed p q cs)
 
   pub without_renamed : (q : Place) (cs : List Cell) → without (renamed_place names q) (renamed_cells names cs) ≡ renamed_cells names (without q cs)
   without_renamed q [] = refl
-  without_renamed q (c ∷ cs) =
-      ap (λ b. cond b (without (renamed_place names q) (renamed_cells names cs)) (renamed_cell names c ∷ without (renamed_place names q) (renamed_cells names cs))) (same_place_kept c.owner q)
-      ∙ ap (λ r. cond (same_place c.owner q) r (renamed_cell names c ∷ r)) (without_renamed q cs)
-      ∙ cond_applied (renamed_cells names) (same_place c.owner q) (without q cs) (c ∷ without q cs)
+  without_renamed q (c ∷ cs) = grind (arith, nat_tests, same_place_kept c.owner q, without_renamed q cs, cond_applied)
 
   pub word_field_kept : (cs : List Cell) (n w : ℕ) → word_field (renamed_cells names cs) (names n) w ≡ word_field cs n w
   word_field_kept [] n w = refl
@@ -104,22 +81,14 @@ module _ (names : ℕ → ℕ) (one_to_one : IsOneToOne names) where
   set_session_renamed n session (c ∷ cs) = rw (same_name c.object.name n, set_session_renamed n session cs)
 
   is_field_kept : (n : ℕ) (q : Place) → is_field_of (names n) (renamed_place names q) ≡ is_field_of n q
-  is_field_kept n (Field m f) = same_name n m
-  is_field_kept n (Elsewhere (Session s c)) = same_name n s
-  is_field_kept n (Elsewhere (Queued s m)) = same_name n s
-  is_field_kept n (Elsewhere _) = refl
-  is_field_kept n _ = refl
+  is_field_kept n x = grind (arith, nat_tests, same_name n)
 
   owns_none_kept : (such : Thing → Bool) (cs : List Cell) (n : ℕ) → owns_none such (renamed_cells names cs) (names n) ≡ owns_none such cs n
   owns_none_kept such [] n = refl
   owns_none_kept such (c ∷ cs) n = rw (is_field_kept n c.owner, owns_none_kept such cs n)
 
   is_past_kept : (k n : ℕ) (q : Place) → is_past k (names n) (renamed_place names q) ≡ is_past k n q
-  is_past_kept k n (Field m f) = ap (λ b. b && nat_le k f) (same_name n m)
-  is_past_kept k n (Elsewhere (Session s c)) = same_name n s
-  is_past_kept k n (Elsewhere (Queued s m)) = same_name n s
-  is_past_kept k n (Elsewhere _) = refl
-  is_past_kept k n _ = refl
+  is_past_kept k n x = grind (arith, nat_tests, same_name n)
 
   owns_past_kept : (k : ℕ) (such : Thing → Bool) (cs : List Cell) (n : ℕ) → owns_none_past k such (renamed_cells names cs) (names n) ≡ owns_none_past k such cs n
   owns_past_kept k such [] n = refl
@@ -136,7 +105,7 @@ pub each_renamed :
     (names : ℕ → ℕ) (f : Cell → Cell) → ((c : Cell) → f (renamed_cell names c) ≡ renamed_cell names (f c)) → (cs : List Cell) →
     map f (renamed_cells names cs) ≡ renamed_cells names (map f cs)
 each_renamed names f same [] = refl
-each_renamed names f same (c ∷ cs) = ap (λ x. x ∷ map f (renamed_cells names cs)) (same c) ∙ ap (λ xs. renamed_cell names (f c) ∷ xs) (each_renamed names f same cs)
+each_renamed names f same (c ∷ cs) = grind (arith, nat_tests, each_renamed names f same cs)
 
 -- a cell by its place in the list
 pub cell_at_renamed : (names : ℕ → ℕ) (cs : List Cell) (k : ℕ) → cell_at (renamed_cells names cs) k ≡ option_map (renamed_cell names) (cell_at cs k)
@@ -163,8 +132,7 @@ messages_kept names [] = refl
 messages_kept names (c ∷ cs) = ap (λ n. cond (is_object c.object.thing) n (suc n)) (messages_kept names cs)
 
 pub redeemed_renamed : (names : ℕ → ℕ) (order : Option ℕ) (code : ℤ) (cs : List Cell) → redeemed_by order code (renamed_cells names cs) ≡ renamed_cells names (redeemed_by order code cs)
-redeemed_renamed names None code cs = refl
-redeemed_renamed names (Some order) code cs = each_renamed names (redeemed order code) (λ c. refl) cs
+redeemed_renamed names x code cs = grind (arith, nat_tests, each_renamed names)
 
 pub redeemable_kept : (names : ℕ → ℕ) (order : Option ℕ) (cs : List Cell) → is_redeemable order (renamed_cells names cs) ≡ is_redeemable order cs
 redeemable_kept names None cs = refl
@@ -172,10 +140,7 @@ redeemable_kept names (Some order) [] = refl
 redeemable_kept names (Some order) (c ∷ cs) = ap (λ b. cond (awaits order c.request) (is_owed c.request && b) b) (redeemable_kept names (Some order) cs)
 
 is_register_kept : (names : ℕ → ℕ) (d : ℕ) (spared : Option ℕ) (q : Place) → is_register_but d spared (renamed_place names q) ≡ is_register_but d spared q
-is_register_kept names d None (Field n f) = refl
-is_register_kept names d (Some a) (Field n f) = refl
-is_register_kept names d None _ = refl
-is_register_kept names d _ _ = refl
+is_register_kept names d x y = grind arith
 
 pub none_owns_kept : (names : ℕ → ℕ) (cs : List Cell) (d : ℕ) (spared : Option ℕ) → none_owns_but (renamed_cells names cs) d spared ≡ none_owns_but cs d spared
 none_owns_kept names [] d spared = refl

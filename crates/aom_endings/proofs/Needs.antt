@@ -1,28 +1,22 @@
 -- What is asked is asked under other names too: no need looks at a name but to compare it with another.
-use Rattle.aom_rules.specs.Calls.{fields_above, parent_above}
-use Rattle.aom_sound.specs.Tokens.{is_redeemable, token_of}
-use Rattle.std.proofs.Common.{zero, Bool, List, None, Option, Some, [], ap, cond, false, length, refl, suc, true, ℕ, ◌&&◌, ◌==◌, ◌∙◌, ◌∷◌, ◌≡◌}
-use Rattle.std.specs.Prelude.{is_none, is_some, option_map, ◌++◌}
+use Rattle.std.proofs.lemmas.Bool.Decides.{nat_tests}
+use Rattle.std.proofs.Common.{arith, zero, List, None, Option, [], ap, cond, length, refl, suc, ℕ, ◌∙◌, ◌∷◌, ◌≡◌}
+use Rattle.std.specs.Prelude.{is_none, is_some, option_map}
 use Rattle.aom_image.specs.Image.{Image}
-use Rattle.aom_image.specs.Views.{arguments_of, gives_of, method_class}
+use Rattle.aom_image.specs.Views.{arguments_of, method_class}
 use Rattle.aom_instructions.specs.declared.instr.Target.{Target}
-use Rattle.aom_instructions.specs.declared.instr.Target.TheVariants.{Entry as On_entry, Field as On_field, Register as On_register, This}
 use Rattle.aom_image.specs.declared.method.Argument.{Argument}
 use Rattle.aom_image.specs.declared.method.Argument.TheVariants.{Own as Takes_own, Word as Takes_word}
 use Rattle.aom_image.specs.declared.method.Gives.{Gives}
 use Rattle.aom_image.specs.declared.method.Gives.TheVariants.{Left, Maybe as A_maybe, Nothing, Own as An_own, Word as A_word}
 use Rattle.aom_image.specs.declared.method.Thing.{Thing}
 use Rattle.aom_image.specs.declared.method.Thing.TheVariants.{Message, Object as An_object_of}
-use Rattle.aom_shape.specs.Things.{field_thing, holder_of}
-use Rattle.aom_sound.specs.Calls.{none_filled, end_needs, is_asked, entry_place, given_cells, is_level, is_worked_on, leaves_object, needs_argument, needs_call, needs_destroyed, needs_each, needs_ended, needs_entering, needs_reply, needs_result, needs_return, needs_target, needs_target_object, needs_trap, passed_cells, result_needs, result_source, tops_mark}
+use Rattle.aom_sound.specs.Calls.{none_filled, end_needs, is_asked, given_cells, is_level, is_worked_on, leaves_object, needs_argument, needs_call, needs_destroyed, needs_each, needs_ended, needs_entering, needs_reply, needs_result, needs_return, needs_target, needs_target_object, needs_trap, passed_cells, result_needs}
 use Rattle.aom_sound.specs.Cleanup.{above_trap_is_free, has_trap, if_refused, leave_needs, needs_push, pushed_cells, top_is_whole}
 use Rattle.aom_sound.specs.Enlisted.{home_kind, own_request}
 use Rattle.aom_sound.specs.Objects.{is_declared_thing, is_no_message, is_thing, needs_put, needs_take_message}
-use Rattle.aom_sound.specs.Places.{Cell, Elsewhere, Entry, In_service, Object, Place, Register, Session, held, moved}
-use Rattle.aom_sound.specs.Destruction.{needs_past, needs_emptied}
-use Rattle.aom_sound.specs.Servers.{without_queue}
-use Rattle.aom_sound.specs.State.{A_mark, Accepts, An_object, An_operation, Asks, AtRoot, Choice, CompletedTwice, Destroy, Dispatch, Dispatched, Frame, Home, Inside, IsStuck, Item, MessageLost, Need, Of_server, Orphan, Run, Serves, State, Static, Task, Trapped, Unbalanced, field_place, guarded, home_view}
-use Rattle.aom_sound.specs.Words.{needs_word}
+use Rattle.aom_sound.specs.Places.{Cell, Elsewhere, Entry, In_service, Object, Place, Register, held}
+use Rattle.aom_sound.specs.State.{A_mark, An_object, An_operation, Choice, Dispatch, Frame, Home, Item, Need, Run, State, Task, Trapped, field_place, guarded, home_view}
 use Rattle.aom_endings.proofs.NamedCells.{held_renamed, past_kept, moved_renamed, none_owns_kept, redeemable_kept, requested_kept, tasks_counted}
 use Rattle.aom_endings.proofs.Serving.{token_named, without_queue_renamed}
 use Rattle.aom_endings.specs.Names.{IsOneToOne, renamed, renamed_cells, renamed_choice, renamed_dispatch, renamed_frame, renamed_home, renamed_object, renamed_outcome, renamed_place, renamed_tasks}
@@ -31,53 +25,39 @@ use Rattle.aom_endings.specs.Names.{IsOneToOne, renamed, renamed_cells, renamed_
 
 module _ (names : ℕ → ℕ) where
   pub none_kept : (o : Option Object) → is_none (option_map (renamed_object names) o) ≡ is_none o
-  none_kept None = refl
-  none_kept (Some o) = refl
+  none_kept x = grind arith
 
   pub some_kept : (o : Option Object) → is_some (option_map (renamed_object names) o) ≡ is_some o
-  some_kept None = refl
-  some_kept (Some o) = refl
+  some_kept x = grind arith
 
   pub thing_kept : (p : Image) (t : Thing) (o : Option Object) → is_thing p t (option_map (renamed_object names) o) ≡ is_thing p t o
-  thing_kept p t None = refl
-  thing_kept p t (Some o) = refl
+  thing_kept p t x = grind arith
 
   declared_kept : (p : Image) (t : Option Thing) (o : Option Object) → is_declared_thing p t (option_map (renamed_object names) o) ≡ is_declared_thing p t o
-  declared_kept p None o = refl
-  declared_kept p (Some t) o = thing_kept p t o
+  declared_kept p x o = grind (arith, nat_tests, thing_kept p)
 
   message_kept : (o : Option Object) → is_no_message (option_map (renamed_object names) o) ≡ is_no_message o
-  message_kept None = refl
-  message_kept (Some o) = refl
+  message_kept x = grind arith
 
   worked_kept : (p : Image) (class : Option ℕ) (o : Option Object) → is_worked_on p class (option_map (renamed_object names) o) ≡ is_worked_on p class o
-  worked_kept p None o = refl
-  worked_kept p (Some x) None = refl
-  worked_kept p (Some x) (Some o) = refl
+  worked_kept p x o = grind arith
 
   pub target_object_kept : (p : Image) (class : Option ℕ) (o : Option Object) → needs_target_object p class (option_map (renamed_object names) o) ≡ needs_target_object p class o
   target_object_kept p class o = rw (some_kept o, worked_kept p class o)
 
   pub view_kept : (h : Home) → home_view (renamed_home names h) ≡ home_view h
-  view_kept Static = refl
-  view_kept AtRoot = refl
-  view_kept (Inside o from) = refl
+  view_kept x = grind arith
 
   pub kind_kept : (p : Image) (h : Home) → home_kind p (renamed_home names h) ≡ home_kind p h
-  kind_kept p Static = refl
-  kind_kept p AtRoot = refl
-  kind_kept p (Inside o from) = refl
+  kind_kept p x = grind arith
 
   pub field_renamed : (h : Home) (f : ℕ) → field_place (renamed_home names h) f ≡ renamed_place names (field_place h f)
-  field_renamed Static f = refl
-  field_renamed AtRoot f = refl
-  field_renamed (Inside o from) f = refl
+  field_renamed x f = grind arith
 
   -- ---- what is asked of tasks
 
   pub is_asked_kept : (d : Dispatch) → is_asked (renamed_dispatch names d) ≡ is_asked d
-  is_asked_kept (Asks x) = refl
-  is_asked_kept _ = refl
+  is_asked_kept x = grind arith
 
   pub trap_kept : (ts : List Task) → has_trap (renamed_tasks names ts) ≡ has_trap ts
   trap_kept (Run fr ∷ ts) = trap_kept ts
@@ -97,7 +77,7 @@ module _ (names : ℕ → ℕ) (one_to_one : IsOneToOne names) where
   pub register_renamed :
       (cs : List Cell) (ts : List Task) (a : ℕ) →
       held (renamed_cells names cs) (Register (length (renamed_tasks names ts)) a) ≡ option_map (renamed_object names) (held cs (Register (length ts) a))
-  register_renamed cs ts a = ap (λ n. held (renamed_cells names cs) (Register n a)) (tasks_counted names ts) ∙ held_renamed names one_to_one cs (Register (length ts) a)
+  register_renamed cs ts a = grind (arith, nat_tests, tasks_counted names ts, held_renamed names one_to_one cs)
 
   pub free_at : (cs : List Cell) (ts : List Task) (a : ℕ) → is_none (held (renamed_cells names cs) (Register (length (renamed_tasks names ts)) a)) ≡ is_none (held cs (Register (length ts) a))
   free_at cs ts a = ap is_none (register_renamed cs ts a) ∙ none_kept names (held cs (Register (length ts) a))
@@ -123,11 +103,7 @@ module _ (names : ℕ → ℕ) (one_to_one : IsOneToOne names) where
   field_at cs h f = ap is_none (held_field cs h f) ∙ none_kept names (held cs (field_place h f))
 
   destroyed_kept : (p : Image) (m : ℕ) (cs : List Cell) (h : Home) → needs_destroyed p m (renamed_cells names cs) (renamed_home names h) ≡ needs_destroyed p m cs h
-  destroyed_kept p m cs Static = refl
-  destroyed_kept p m cs AtRoot = refl
-  destroyed_kept p m cs (Inside o from) =
-      let k = fields_above p (parent_above p m) in
-      ap (λ l. needs_past k l (names o.name)) (without_queue_renamed names one_to_one o.name cs) ∙ past_kept names one_to_one k (without_queue o.name cs) o.name
+  destroyed_kept p m cs x = grind (arith, nat_tests, without_queue_renamed names one_to_one, past_kept names one_to_one)
 
   pub place_owns : (cs : List Cell) (q : Place) → is_some (held (renamed_cells names cs) (renamed_place names q)) ≡ is_some (held cs q)
   place_owns cs q = ap is_some (held_renamed names one_to_one cs q) ∙ some_kept names (held cs q)
@@ -137,16 +113,11 @@ module _ (names : ℕ → ℕ) (one_to_one : IsOneToOne names) where
 
   -- what the return of the method of a dispatch needs
   ended_kept : (d : Dispatch) (cs : List Cell) → needs_ended (renamed_dispatch names d) (renamed_cells names cs) ≡ needs_ended d cs
-  ended_kept (Of_server x c Accepts) cs = ap (λ b. (b, Orphan) ∷ []) (place_free cs (Elsewhere (Session x.object.name c)))
-  ended_kept (Of_server x c (Serves o)) cs = ap (λ b. (b, MessageLost) ∷ []) (place_free cs (Elsewhere In_service))
-  ended_kept (Of_server x c _) cs = refl
-  ended_kept _ cs = refl
+  ended_kept x cs = grind (arith, nat_tests, place_free cs, place_free cs (Elsewhere In_service))
 
   -- the request of what a method works on
   pub own_request_kept : (cs : List Cell) (h : Home) → own_request (renamed_cells names cs) (renamed_home names h) ≡ own_request cs h
-  own_request_kept cs Static = refl
-  own_request_kept cs AtRoot = refl
-  own_request_kept cs (Inside o from) = requested_kept names one_to_one cs o.name
+  own_request_kept cs x = grind (arith, nat_tests, requested_kept names one_to_one cs)
 
   entry_owns : (cs : List Cell) (k : ℕ) → is_some (held (renamed_cells names cs) (Entry k)) ≡ is_some (held cs (Entry k))
   entry_owns cs k = ap is_some (held_renamed names one_to_one cs (Entry k)) ∙ some_kept names (held cs (Entry k))
@@ -178,16 +149,20 @@ module _ (names : ℕ → ℕ) (one_to_one : IsOneToOne names) (p : Image) (c : 
   filled_kept home (suc n) = rw (field_at names one_to_one s.cells home n, filled_kept home n)
 
   pub target_kept : (target : Target) (m : ℕ) (class : Option ℕ) (first count : ℕ) → needs_target p fr' ts' s' target m class first count ≡ needs_target p fr ts s target m class first count
-  target_kept This m class first count = rw (filled_kept fr.home (fields_above p (parent_above p fr.method)))
-  target_kept (On_register r) m class first count =
-      let o = held s.cells (Register (length ts) r) in
-      rw (register_renamed names one_to_one s.cells ts r, some_kept names o, worked_kept names p class o)
-  target_kept (On_field f) m class first count = rw (held_field names one_to_one s.cells fr.home f, target_object_kept names p class (held s.cells (field_place fr.home f)))
-  target_kept (On_entry k) m class first count = rw (held_renamed names one_to_one s.cells (entry_place s.items k), target_object_kept names p class (held s.cells (entry_place s.items k)))
+  target_kept x m class first count = grind (
+    arith,
+    nat_tests,
+    filled_kept fr.home,
+    register_renamed names one_to_one s.cells ts,
+    some_kept names,
+    worked_kept names p class,
+    held_field names one_to_one s.cells fr.home,
+    target_object_kept names p class,
+    held_renamed names one_to_one s.cells,
+  )
 
   argument_kept : (x : Argument) (a : ℕ) → needs_argument p fr' ts' s' x a ≡ needs_argument p fr ts s x a
-  argument_kept Takes_word a = refl
-  argument_kept (Takes_own t) a = rw (owns_at names one_to_one s.cells ts a, thing_at names one_to_one p t s.cells ts a)
+  argument_kept x a = grind (arith, nat_tests, owns_at names one_to_one s.cells ts a, thing_at names one_to_one p)
 
   each_kept : (xs : List Argument) (first : ℕ) → needs_each p fr' ts' s' xs first ≡ needs_each p fr ts s xs first
   each_kept [] first = refl
@@ -198,40 +173,36 @@ module _ (names : ℕ → ℕ) (one_to_one : IsOneToOne names) (p : Image) (c : 
       passed_cells p fr' ts' s' depth xs first to (renamed_cells names cs) ≡ renamed_cells names (passed_cells p fr ts s depth xs first to cs)
   passed_renamed depth [] first to cs = refl
   passed_renamed depth (Takes_word ∷ xs) first to cs = passed_renamed depth xs (suc first) (suc to) cs
-  passed_renamed depth (Takes_own t ∷ xs) first to cs =
-      ap (λ n. passed_cells p fr' ts' s' depth xs (suc first) (suc to) (moved (Register n first) (Register depth to) (renamed_cells names cs))) (tasks_counted names ts)
-      ∙ ap (passed_cells p fr' ts' s' depth xs (suc first) (suc to)) (moved_renamed names one_to_one (Register (length ts) first) (Register depth to) cs)
-      ∙ passed_renamed depth xs (suc first) (suc to) (moved (Register (length ts) first) (Register depth to) cs)
+  passed_renamed depth (Takes_own t ∷ xs) first to cs = grind (
+    arith,
+    nat_tests,
+    tasks_counted names ts,
+    moved_renamed names one_to_one,
+    passed_renamed depth xs,
+  )
 
   -- over these tasks
   pub given_renamed : (over : List Task) (m first : ℕ) → given_cells p fr' ts' s' (renamed_tasks names over) m first ≡ renamed_cells names (given_cells p fr ts s over m first)
-  given_renamed over m first =
-      ap (λ n. passed_cells p fr' ts' s' n (arguments_of p m) first 0 (renamed_cells names s.cells)) (tasks_counted names over)
-      ∙ passed_renamed (length over) (arguments_of p m) first 0 s.cells
+  given_renamed over m first = grind (arith, nat_tests, tasks_counted names over, passed_renamed)
 
   result_kept : (g : Gives) (cs : List Cell) (a : ℕ) → needs_result p fr' ts' s' g (renamed_cells names cs) a ≡ needs_result p fr ts s g cs a
-  result_kept Nothing cs a = refl
-  result_kept A_word cs a = rw (free_at names one_to_one cs ts a)
-  result_kept (An_own t) cs a = rw (free_at names one_to_one cs ts a)
-  result_kept (A_maybe t) cs a = rw (free_at names one_to_one cs ts a)
-  result_kept (Left x) cs a = refl
+  result_kept x cs a = grind (arith, nat_tests, free_at names one_to_one cs ts a)
 
   entering_kept : (target : Target) (m first : ℕ) (more : List Need) → needs_entering p fr' ts' s' target m first more ≡ needs_entering p fr ts s target m first more
   entering_kept target m first more = rw (target_kept target m (method_class p m) first (length (arguments_of p m)), each_kept (arguments_of p m) first)
 
   pub call_kept : (target : Target) (m first a : ℕ) → needs_call p fr' ts' s' target m first a ≡ needs_call p fr ts s target m first a
-  call_kept target m first a =
-      entering_kept target m first _
-      ∙ ap (λ cs. needs_entering p fr ts s target m first (needs_result p fr' ts' s' (gives_of p m) cs a)) (given_renamed (Run fr ∷ ts) m first)
-      ∙ ap (needs_entering p fr ts s target m first) (result_kept (gives_of p m) (given_cells p fr ts s (Run fr ∷ ts) m first) a)
+  call_kept target m first a = grind (arith, nat_tests, entering_kept target m first, given_renamed (Run fr ∷ ts) m first, result_kept)
 
   pub under_trap_kept : (target : Target) (m first a : ℕ) → needs_trap p fr' ts' s' target m first a ≡ needs_trap p fr ts s target m first a
-  under_trap_kept target m first a =
-      entering_kept target m first _
-      ∙ ap
-      (λ cs. needs_entering p fr ts s target m first (needs_result p fr' ts' s' (gives_of p m) cs a ++ ((is_none (held cs (Register (length ts') (suc a))), Orphan) ∷ [])))
-      (given_renamed (Trapped ∷ Run fr ∷ ts) m first)
-      ∙ rw (result_kept (gives_of p m) (given_cells p fr ts s (Trapped ∷ Run fr ∷ ts) m first) a, free_at names one_to_one (given_cells p fr ts s (Trapped ∷ Run fr ∷ ts) m first) ts (suc a))
+  under_trap_kept target m first a = grind (
+    arith,
+    nat_tests,
+    entering_kept target m first,
+    given_renamed (Trapped ∷ Run fr ∷ ts) m first,
+    result_kept,
+    free_at names one_to_one,
+  )
 
   -- ---- returns
 
@@ -243,19 +214,17 @@ module _ (names : ℕ → ℕ) (one_to_one : IsOneToOne names) (p : Image) (c : 
   result_needs_kept (Left x) a = refl
 
   end_kept : (below : List Task) → end_needs p fr' ts' s' (renamed_tasks names below) ≡ end_needs p fr ts s below
-  end_kept (Destroy ∷ below) = destroyed_kept names one_to_one p fr.method s.cells fr.home
-  end_kept (Trapped ∷ Run caller ∷ below) = refl
-  end_kept (Trapped ∷ Dispatched d ∷ below) = ap (λ ns. (tops_mark s.items, Unbalanced) ∷ ns) (ended_kept names one_to_one d s.cells)
-  end_kept (Trapped ∷ _) = refl
-  end_kept (Dispatched d ∷ below) = rw (is_asked_kept names d)
-  end_kept _ = refl
+  end_kept x = grind (arith, nat_tests, destroyed_kept names one_to_one p fr.method s.cells fr.home, ended_kept names one_to_one, is_asked_kept names)
 
   leaves_object_kept : (x : ℕ) (items : List Item) → leaves_object p fr' ts' s' x items ≡ leaves_object p fr ts s x items
   leaves_object_kept x [] = refl
-  leaves_object_kept x (An_object ∷ items) =
-      let o = held s.cells (Entry (length items)) in
-      ap (λ b. (length items == fr.height) && (is_some b && is_thing p (An_object_of x) b)) (held_renamed names one_to_one s.cells (Entry (length items)))
-      ∙ rw (some_kept names o, thing_kept names p (An_object_of x) o)
+  leaves_object_kept x (An_object ∷ items) = grind (
+    arith,
+    nat_tests,
+    held_renamed names one_to_one s.cells,
+    some_kept names,
+    thing_kept names p (An_object_of x),
+  )
   leaves_object_kept x (An_operation m w ∷ items) = refl
   leaves_object_kept x (A_mark ∷ items) = refl
 
@@ -264,11 +233,13 @@ module _ (names : ℕ → ℕ) (one_to_one : IsOneToOne names) (p : Image) (c : 
   level_kept _ = refl
 
   pub return_kept : (a : ℕ) → needs_return p fr' ts' s' a ≡ needs_return p fr ts s a
-  return_kept a = rw (
-    result_needs_kept (gives_of p fr.method) a,
-    level_kept (gives_of p fr.method),
+  return_kept a = grind (
+    arith,
+    nat_tests,
+    result_needs_kept,
+    level_kept,
     tasks_counted names ts,
-    none_owns_kept names s.cells (length ts) (result_source (gives_of p fr.method) a),
+    none_owns_kept names s.cells,
     own_request_kept names one_to_one s.cells fr.home,
     end_kept ts,
   )
@@ -280,15 +251,18 @@ module _ (names : ℕ → ℕ) (one_to_one : IsOneToOne names) (p : Image) (c : 
 
   -- the cells once the object of a register is on the cleanup stack
   pub pushed_renamed : (a : ℕ) → pushed_cells fr' ts' s' a ≡ renamed_cells names (pushed_cells fr ts s a)
-  pushed_renamed a =
-      ap (λ n. moved (Register n a) (Entry (length s.items)) (renamed_cells names s.cells)) (tasks_counted names ts)
-      ∙ moved_renamed names one_to_one (Register (length ts) a) (Entry (length s.items)) s.cells
+  pushed_renamed a = grind (arith, nat_tests, tasks_counted names ts, moved_renamed names one_to_one)
 
   pub push_kept : (a : ℕ) → needs_push p c' fr' ts' s' a ≡ needs_push p c fr ts s a
-  push_kept a =
-      let refusal : if_refused p c' fr' ts' s' (pushed_cells fr' ts' s' a) ≡ if_refused p c fr ts s (pushed_cells fr ts s a) =
-      ap (if_refused p c' fr' ts' s') (pushed_renamed a) ∙ refusal_kept (pushed_cells fr ts s a) in
-      rw (owns_at names one_to_one s.cells ts a, message_at names one_to_one s.cells ts a, refusal, trap_kept names ts)
+  push_kept a = grind (
+    arith,
+    nat_tests,
+    pushed_renamed a,
+    refusal_kept,
+    owns_at names one_to_one s.cells ts a,
+    message_at names one_to_one s.cells ts a,
+    trap_kept names ts,
+  )
 
   -- ---- messages
 
@@ -296,30 +270,20 @@ module _ (names : ℕ → ℕ) (one_to_one : IsOneToOne names) (p : Image) (c : 
   take_message_kept a = rw (place_owns names one_to_one s.cells (Elsewhere In_service), free_at names one_to_one s.cells ts a)
 
   pub reply_kept : (a b : ℕ) → needs_reply p fr' ts' s' a b ≡ needs_reply p fr ts s a b
-  reply_kept a b =
-      let there = held s.cells (Register (length ts) a) in
-      let redeems : is_redeemable (token_of (renamed_cells names s.cells) (held (renamed_cells names s.cells) (Register (length ts') a))) (renamed_cells names s.cells) ≡ is_redeemable (token_of s.cells there) s.cells =
-      ap (λ o. is_redeemable (token_of (renamed_cells names s.cells) o) (renamed_cells names s.cells)) (register_renamed names one_to_one s.cells ts a)
-      ∙ ap (λ k. is_redeemable k (renamed_cells names s.cells)) (token_named names one_to_one s.cells there)
-      ∙ redeemable_kept names (token_of s.cells there) s.cells in
-      ap (λ ns. ns ++ (needs_word fr ts s b ∷ (is_redeemable (token_of (renamed_cells names s.cells) (held (renamed_cells names s.cells) (Register (length ts') a))) (renamed_cells names s.cells), CompletedTwice) ∷ [])) (argument_kept (Takes_own Message) a)
-      ∙ ap (λ x. needs_argument p fr ts s (Takes_own Message) a ++ (needs_word fr ts s b ∷ (x, CompletedTwice) ∷ [])) redeems
+  reply_kept a b = grind (
+    arith,
+    nat_tests,
+    register_renamed names one_to_one s.cells ts a,
+    token_named names one_to_one s.cells,
+    redeemable_kept names,
+    argument_kept (Takes_own Message) a,
+  )
 
   pub put_kept : (f b : ℕ) → needs_put p c' fr' ts' s' f b ≡ needs_put p c fr ts s f b
-  put_kept f b = rw (
-    register_renamed names one_to_one s.cells ts b,
-    declared_kept names p (field_thing p (holder_of p fr.method) f) (held s.cells (Register (length ts) b)),
-    field_at names one_to_one s.cells fr.home f,
-  )
+  put_kept f b = grind (arith, nat_tests, register_renamed names one_to_one s.cells ts b, declared_kept names p, field_at names one_to_one s.cells fr.home f)
 
 -- ---- what becomes of a state once its needs are met
 
 pub guarded_renamed : (names : ℕ → ℕ) (ns : List Need) (s : State) → guarded ns (renamed names s) ≡ renamed_outcome names (guarded ns s)
 guarded_renamed names [] s = refl
-guarded_renamed names (n ∷ ns) s = go n.0 (guarded_renamed names ns s)
-  where
-    go :
-        (b : Bool) → guarded ns (renamed names s) ≡ renamed_outcome names (guarded ns s) →
-        cond b (guarded ns (renamed names s)) (IsStuck n.1) ≡ renamed_outcome names (cond b (guarded ns s) (IsStuck n.1))
-    go true e = e
-    go false e = refl
+guarded_renamed names (n ∷ ns) s = grind (arith, nat_tests, guarded_renamed names ns s)

@@ -1,8 +1,7 @@
 -- What a native completes counts only where one is polled, and where no native serves a class of the image it completes nothing.
-use Rattle.std.proofs.Common.{arith, Bool, List, None, Option, Some, ap, cond, false, refl, sym, true, ℕ, ◌-◌, ◌∙◌, ◌≡◌, subst}
+use Rattle.std.proofs.lemmas.Bool.Decides.{nat_tests}
+use Rattle.std.proofs.Common.{arith, Bool, List, None, Option, cond, false, sym, true, ℕ, ◌∙◌, ◌≡◌}
 use Rattle.std.proofs.lemmas.Bool.{true≢false}
-use Rattle.std.specs.Prelude.{nat_le, nat_lt}
-use Rattle.aom_sound.specs.Clients.{client_count}
 use Rattle.aom_image.specs.Image.{Image}
 use Rattle.aom_image.specs.declared.class.ClassKind.{ClassKind}
 use Rattle.aom_rules.specs.Natives.{is_native_kind}
@@ -10,9 +9,8 @@ use Rattle.aom_sound.specs.Enlisted.{thing_kind}
 use Rattle.aom_sound.specs.Natives.{is_outstanding_at, native_of}
 use Rattle.aom_sound.specs.Places.{Cell}
 use Rattle.aom_sound.specs.State.{Choice, State}
-use Rattle.aom_sound.specs.World.{AnswersWell, Candidate, Completes, Completion, Cuts, Heard, Hears, Kills, Obeys, Outside, Polls, Reaches, Timed, Turning, begins, by_event, by_timer, delivers, first_due, first_living, first_ready, has_signal, lives, moves, next_event, next_native, next_time, nothing_heard, passes, picks, polls, turn, turned, turning, turns}
+use Rattle.aom_sound.specs.World.{AnswersWell, Candidate, Completion, Heard, Outside, Polls, Reaches, Timed, Turning, begins, by_event, by_timer, delivers, moves, next_native, nothing_heard, passes, picks, polls, turn, turning, turns}
 use Rattle.aom_transcript.specs.declared.event.Event.{Event}
-use Rattle.aom_transcript.specs.declared.event.Event.TheVariants.{Client as Of_client, Kill, Tell}
 use Rattle.aom_transcript.specs.declared.event.TimedEvent.{TimedEvent}
 use Rattle.aom_transcript.specs.declared.line.Line.{Line}
 use Rattle.aom_endings.proofs.NamedCells.{cond_applied}
@@ -28,45 +26,27 @@ told answer t = t
 
 module _ (heard : Heard) where
   told_passes : (next : Option ℕ) → passes next ≡ told heard.completion (passes next)
-  told_passes None = refl
-  told_passes (Some time) = refl
+  told_passes x = grind arith
 
   told_picks : (signal : Bool) (ready : Option Candidate) (next : Option ℕ) → picks signal ready next ≡ told heard.completion (picks signal ready next)
-  told_picks true None next = refl
-  told_picks true (Some x) next = refl
-  told_picks false ready next = told_passes next
+  told_picks x ready next = grind (arith, nat_tests, told_passes next)
 
   told_polls : (n : Option ℕ) (after : Turning) → after ≡ told heard.completion after → polls n heard.completion after ≡ told heard.completion (polls n None after)
-  told_polls None after same = same
-  told_polls (Some n) after same = refl
+  told_polls x after same = grind arith
 
   told_delivers : (outside : Outside) (s : State) (e : Event) → delivers outside heard.name s e ≡ told heard.completion (delivers outside heard.name s e)
-  told_delivers outside s (Tell n word) = refl
-  told_delivers outside s (Kill n) = cond_applied (told heard.completion) (lives outside s n) (Kills n) Hears
-  told_delivers outside s (Of_client c command) = cond_applied (told heard.completion) (nat_lt c client_count) (Obeys c command heard.name) Hears
+  told_delivers outside s x = grind (arith, nat_tests, cond_applied)
 
   told_by_event :
       (outside : Outside) (s : State) (e : Option TimedEvent) (after : Turning) →
       by_event outside heard.name s e (told heard.completion after) ≡ told heard.completion (by_event outside heard.name s e after)
-  told_by_event outside s None after = refl
-  told_by_event outside s (Some e) after =
-      let due = nat_le e.time s.rest.clock in
-      ap (λ x. cond due x (told heard.completion after)) (told_delivers outside s e.event) ∙ cond_applied (told heard.completion) due (delivers outside heard.name s e.event) after
+  told_by_event outside s x after = grind (arith, nat_tests, told_delivers outside s, cond_applied)
 
   told_by_timer : (s : State) (x : Option Timed) (after : Turning) → by_timer s x (told heard.completion after) ≡ told heard.completion (by_timer s x after)
-  told_by_timer s None after = refl
-  told_by_timer s (Some x) after = cond_applied (told heard.completion) (nat_le x.timer.due s.rest.clock) (Completes x.object) after
+  told_by_timer s x after = grind (arith, nat_tests, cond_applied)
 
   told_turning : (outside : Outside) (s : State) → turning outside heard s ≡ told heard.completion (turning outside (record nothing_heard { name = heard.name }) s)
-  told_turning outside s =
-      let cut = nat_le outside.limit s.rest.dispatches in
-      let after = picks (has_signal s.cells) (first_ready s.cells) (next_time outside s) in
-      let polled = polls (next_native outside s) None after in
-      let delivered = by_event outside heard.name s (next_event outside s) polled in
-      ap (λ t. cond cut Cuts (by_timer s (first_due s.cells) (by_event outside heard.name s (next_event outside s) t))) (told_polls (next_native outside s) after (told_picks (has_signal s.cells) (first_ready s.cells) (next_time outside s)))
-      ∙ ap (λ t. cond cut Cuts (by_timer s (first_due s.cells) t)) (told_by_event outside s (next_event outside s) polled)
-      ∙ ap (cond cut Cuts) (told_by_timer s (first_due s.cells) delivered)
-      ∙ cond_applied (told heard.completion) cut Cuts (by_timer s (first_due s.cells) delivered)
+  told_turning outside s = grind (arith, nat_tests, told_polls, told_picks, told_by_event outside s, told_by_timer s, cond_applied)
 
   untold : (t : Turning) → is_polling t ≡ false → told heard.completion t ≡ t
   untold t e = grind arith
@@ -74,50 +54,31 @@ module _ (heard : Heard) where
   pub turn_unpolled :
       (p : Image) (outside : Outside) (s : State) → is_polling (turning outside nothing_heard s) ≡ false →
       turn p outside heard s ≡ turn p outside (record nothing_heard { name = heard.name }) s
-  turn_unpolled p outside s e =
-      ap (turned p s) (told_turning outside s ∙ untold (turning outside (record nothing_heard { name = heard.name }) s) (polling_named outside nothing_heard heard.name s ∙ e))
+  turn_unpolled p outside s e = grind (arith, nat_tests, told_turning outside s, untold, polling_named outside)
 
 -- ---- where there is no native none is polled
 
 unpolled_passes : (next : Option ℕ) → is_polling (passes next) ≡ false
-unpolled_passes None = refl
-unpolled_passes (Some time) = refl
+unpolled_passes x = grind arith
 
 unpolled_picks : (signal : Bool) (ready : Option Candidate) (next : Option ℕ) → is_polling (picks signal ready next) ≡ false
-unpolled_picks true None next = refl
-unpolled_picks true (Some x) next = refl
-unpolled_picks false ready next = unpolled_passes next
+unpolled_picks x ready next = grind (arith, nat_tests, unpolled_passes next)
 
 -- one turn or the other
 unpolled_cond : (b : Bool) (x y : Turning) → is_polling x ≡ false → is_polling y ≡ false → is_polling (cond b x y) ≡ false
-unpolled_cond true x y e f = e
-unpolled_cond false x y e f = f
+unpolled_cond x y z e f = grind arith
 
 unpolled_event : (outside : Outside) (name : ℕ) (s : State) (e : Option TimedEvent) (after : Turning) → is_polling after ≡ false → is_polling (by_event outside name s e after) ≡ false
-unpolled_event outside name s None after h = h
-unpolled_event outside name s (Some e) after h = unpolled_cond (nat_le e.time s.rest.clock) (delivers outside name s e.event) after (go e.event) h
-  where
-    go : (e : Event) → is_polling (delivers outside name s e) ≡ false
-    go (Tell n word) = refl
-    go (Kill n) = unpolled_cond (lives outside s n) (Kills n) Hears refl refl
-    go (Of_client c command) = unpolled_cond (nat_lt c client_count) (Obeys c command name) Hears refl refl
+unpolled_event outside name s x after h = grind (arith, nat_tests, unpolled_cond)
 
 unpolled_timer : (s : State) (x : Option Timed) (after : Turning) → is_polling after ≡ false → is_polling (by_timer s x after) ≡ false
-unpolled_timer s None after h = h
-unpolled_timer s (Some x) after h = unpolled_cond (nat_le x.timer.due s.rest.clock) (Completes x.object) after refl h
+unpolled_timer s x after h = grind (arith, nat_tests, unpolled_cond)
 
 none_living : (outside : Outside) (s : State) → outside.natives ≡ 0 → next_native outside s ≡ None
-none_living outside s none =
-    let no_more : outside.natives - s.rest.polled ≡ 0 = omega (arith, none) in
-    ap (λ many. first_living s.killed many s.rest.polled) no_more
+none_living outside s none = grind (arith, nat_tests)
 
 none_polled : (outside : Outside) (s : State) → outside.natives ≡ 0 → is_polling (turning outside nothing_heard s) ≡ false
-none_polled outside s none =
-    let after = picks (has_signal s.cells) (first_ready s.cells) (next_time outside s) in
-    let unpolled = ap (λ n. is_polling (polls n None after)) (none_living outside s none) ∙ unpolled_picks (has_signal s.cells) (first_ready s.cells) (next_time outside s) in
-    let heard = unpolled_event outside 0 s (next_event outside s) (polls (next_native outside s) None after) unpolled in
-    unpolled_cond (nat_le outside.limit s.rest.dispatches) Cuts (by_timer s (first_due s.cells) (by_event outside 0 s (next_event outside s) (polls (next_native outside s) None after)))
-    refl (unpolled_timer s (first_due s.cells) (by_event outside 0 s (next_event outside s) (polls (next_native outside s) None after)) heard)
+none_polled outside s none = grind (arith, nat_tests, none_living outside s none, unpolled_picks, unpolled_event outside 0 s, unpolled_cond, unpolled_timer s)
 
 -- ---- and where there is one that serves no class it completes nothing
 
@@ -145,7 +106,7 @@ module _ (p : Image) (natives : HasNoNative p) where
     idle nothing begins = tt
     idle nothing (moves {s = s} c reached busy opened goes) = (idle nothing reached, unheard_moves c s (stages reached))
     idle nothing (turns {s = s} heard reached between well goes) =
-        (idle nothing reached, λ polled. nothing_completed s heard.completion (turning outside (record nothing_heard { name = heard.name }) s) (polling_named outside nothing_heard heard.name s ∙ polled) (subst (λ t. AnswersWell p s t) (told_turning heard outside s) well.completion) ∙ sym (nothing (stages reached)))
+        (idle nothing reached, grind (arith, nat_tests, nothing_completed s heard.completion, polling_named outside, told_turning heard outside s))
 
 pub nothing_is_heard : NothingIsHeard
 nothing_is_heard = record {

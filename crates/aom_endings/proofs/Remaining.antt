@@ -1,8 +1,7 @@
 -- What is there stays there as a cell goes and as a dispatch ends: the server that is dispatched does not go, and after its end no client is accepted.
-use Rattle.std.proofs.Common.{Bool, List, None, Option, Some, [], ap, arith, cond, false, length, pos, refl, subst, sym, true, ℕ, ℤ, ◌&&◌, ◌==◌, ◌∙◌, ◌∷◌, ◌≡◌, ◌≤◌}
-use Rattle.std.proofs.lemmas.Bool.{eqb-true, ne_eqb, true≢false}
-use Rattle.std.specs.List.{list_any}
-use Rattle.std.specs.Ordering.{int_eq}
+use Rattle.std.proofs.lemmas.Bool.Decides.{nat_tests}
+use Rattle.std.proofs.Common.{Bool, List, None, Option, Some, ap, arith, false, length, refl, subst, sym, true, ℕ, ℤ, ◌==◌, ◌∙◌, ◌∷◌, ◌≡◌, ◌≤◌}
+use Rattle.std.proofs.lemmas.Bool.{eqb-true, ne_eqb}
 use Rattle.std.specs.Prelude.{◌||◌}
 use Rattle.aom_image.specs.Image.{Image}
 use Rattle.aom_image.specs.declared.method.Role.TheVariants.{Error as Answers}
@@ -24,8 +23,8 @@ use Rattle.aom_sound.specs.Clients.{at_parting, client_at, with_client}
 use Rattle.aom_sound.proofs.Emptying.{found_first}
 use Rattle.aom_sound.specs.Destruction.{closing, first_session, parting, parting_from}
 use Rattle.aom_sound.specs.Enlisted.{part_of}
-use Rattle.aom_sound.specs.Kept.{ClientsFit, is_connect_of}
-use Rattle.aom_sound.specs.Moves.{answered, asking, dispatch_ends, failed, handled, main_ends, object_ends, stage_ends}
+use Rattle.aom_sound.specs.Kept.{ClientsFit}
+use Rattle.aom_sound.specs.Moves.{answered, asking, dispatch_ends, handled, main_ends, object_ends, stage_ends}
 use Rattle.aom_sound.specs.Places.{Cell, Elsewhere, Going, In_service, Object, Root, Session, Tidy, held, moved, service_of}
 use Rattle.aom_sound.specs.Servers.{is_server, parted}
 use Rattle.aom_sound.specs.State.{Accept_left, Accepted, Accepts, Answered, Asks, Closing, Destroy, Dispatch, Dispatched, Goes, Main_left, Object_left, Of_main, Of_object, Of_root, Of_server, Parts, Seat, Service_left, Serves, Stage, State, Task}
@@ -79,7 +78,7 @@ module _ (p : Image) (t : Typing) (s : State) (w : WellTyped p t s) (there : All
       (o : Object) (c k : ℕ) (d : Option Dispatch) → ((x : Seat) (c : ℕ) (stage : Stage) → d ≡ Some (Of_server x c stage) → (o.name == x.object.name) ≡ false) →
       AreThere s.clients s.cells d → AreThere s.clients (moved (Elsewhere (Session o.name c)) (Going k) s.cells) d
   session_goes o c k d apart there = record {
-    asked = λ n i e. still_either (waits s.cells n i) (waits cells n i) (accepts n i d) (there.asked n i e) (λ h. ap (λ v. list_any (is_connect_of i) v.queue) (service_moved s.cells (Elsewhere (Session o.name c)) (Going k) n) ∙ h);
+    asked = grind (arith, nat_tests, still_either, service_moved s.cells (Elsewhere (Session o.name c)) (Going k));
     serves = at d apart there.serves;
   }
     where
@@ -87,13 +86,7 @@ module _ (p : Image) (t : Typing) (s : State) (w : WellTyped p t s) (there : All
       cells = moved (Elsewhere (Session o.name c)) (Going k) s.cells
 
       at : (d : Option Dispatch) → ((x : Seat) (c : ℕ) (stage : Stage) → d ≡ Some (Of_server x c stage) → (o.name == x.object.name) ≡ false) → IsAtPlace s.cells d → IsAtPlace cells d
-      at (Some (Of_server x i (Serves y))) apart h =
-          held_elsewhere s.cells (Elsewhere (Session o.name c)) (Going k) (Elsewhere (Session x.object.name i)) refl
-          ∙ ap (λ b. cond (b && (c == i)) None (held s.cells (Elsewhere (Session x.object.name i)))) (apart x i (Serves y) refl)
-          ∙ h
-      at (Some (Of_server x i _)) apart h = tt
-      at (Some _) apart h = tt
-      at None apart h = tt
+      at x y h = grind (arith, nat_tests, held_elsewhere s.cells (Elsewhere (Session o.name c)) (Going k))
 
   pub closing_there : (ts : List Task) (u : State) → s.tasks ≡ Closing ∷ ts → closing p ts s ≡ Goes u → AllThere u
   closing_there (Destroy ∷ below) u tasks e = by_server (held s.cells (Going (length below))) refl e
@@ -138,8 +131,7 @@ plain_there clients cs d plain all = record { asked = λ n c e. ap (λ b. b || a
     go d h = grind arith
 
 or_true : (a b : Bool) → b ≡ false → (a || b) ≡ true → a ≡ true
-or_true true b e h = refl
-or_true false b e h = absurd (true≢false (sym h ∙ e))
+or_true x b e h = grind arith
 
 pub all_wait : (clients : List Client) (cs : List Cell) (d : Option Dispatch) → ((n c : ℕ) → accepts n c d ≡ false) → AreThere clients cs d → AllWait clients cs
 all_wait clients cs d none there n c e = or_true (waits cs n c) (accepts n c d) (none n c) (there.asked n c e)
@@ -149,22 +141,22 @@ calm_waits clients cs cs' calm all n c e = calm.connects n c (all n c e)
 
 module _ (p : Image) (s : State) (all : AllWait s.clients s.cells) where
   main_there : (b : Bool) (root : Option Object) → AllThere (main_ends p b root s)
-  main_there true (Some o) =
-      subst (λ d. AreThere s.clients (moved (Elsewhere Root) (Going 1) s.cells) d) (sym (dispatch_begun p o (length s.items) (Dispatched Of_root ∷ [])))
-      (plain_there s.clients _ (Some Of_root) tt (calm_waits s.clients s.cells _ (calm_moved s.cells (Elsewhere Root) (Going 1) (λ n c. refl) (λ n c. refl)) all))
-  main_there true None = plain_there s.clients s.cells None tt all
-  main_there false root = plain_there s.clients s.cells None tt all
+  main_there x root = grind (
+    arith,
+    nat_tests,
+    dispatch_begun p,
+    plain_there s.clients,
+    calm_waits s.clients s.cells,
+    calm_moved s.cells (Elsewhere Root) (Going 1),
+    plain_there s.clients s.cells None,
+  )
 
 module _ (p : Image) (s : State) (all : AllWait s.clients s.cells) where
   object_there : AllThere (object_ends p s)
   object_there = main_there p (handled s) all s.rest.stopped (held s.cells (Elsewhere Root))
 
   answer_there : (answer : ℤ) → AllThere (answered p answer s)
-  answer_there answer = go (int_eq answer (pos 0))
-    where
-      go : (b : Bool) → AllThere (cond b (object_ends p s) (failed answer s))
-      go true = object_there
-      go false = plain_there s.clients s.cells None tt all
+  answer_there answer = grind (arith, nat_tests, object_there, plain_there s.clients s.cells None)
 
   asking_there : (m : Option ℕ) (x : Seat) (code : ℤ) → AllThere (asking p m x code s)
   asking_there None x code = answer_there code
@@ -175,13 +167,7 @@ module _ (p : Image) (s : State) (fit : ClientsFit p s.clients s.cells) (tidy : 
   all_with :
       (c : ℕ) (to : Client) → ((n d : ℕ) → (c == d) ≡ false → is_connecting_at n (client_at s.clients d) ≡ true → waits s.cells n d ≡ true) →
       ((n : ℕ) → is_connecting_at n to ≡ true → waits s.cells n c ≡ true) → AllWait (with_client c to s.clients) s.cells
-  all_with c to others own n d e = go (c == d) refl
-    where
-      go : (b : Bool) → (c == d) ≡ b → waits s.cells n d ≡ true
-      go true same =
-          let now = ap (λ k. client_at (with_client c to s.clients) k) (sym (eqb-true c d same)) ∙ client_here c to s.clients in
-          ap (λ k. waits s.cells n k) (sym (eqb-true c d same)) ∙ own n (ap (is_connecting_at n) (sym now) ∙ e)
-      go false other = others n d other (ap (is_connecting_at n) (sym (client_there c d to s.clients other)) ∙ e)
+  all_with c to others own n d e = grind (arith, nat_tests, eqb-true c d, client_here c to s.clients, client_there c d to s.clients)
 
   parting_connecting : (n : ℕ) (x : Client) → is_connecting_at n (at_parting x) ≡ true → is_connecting_at n x ≡ true
   parting_connecting n x e = grind arith
@@ -190,12 +176,15 @@ module _ (p : Image) (s : State) (fit : ClientsFit p s.clients s.cells) (tidy : 
   stage_there x c Accepts ends there = absurd ends
   stage_there x c Accepted ends there = plain_there s.clients s.cells (Some (Of_object x)) tt (all_wait s.clients s.cells (Some (Of_server x c Accepted)) (λ n d. refl) there)
   stage_there x c (Serves o) ends there = plain_there s.clients s.cells (Some (Of_object x)) tt (all_wait s.clients s.cells (Some (Of_server x c (Serves o))) (λ n d. refl) there)
-  stage_there x c (Accept_left code) ends there =
-      plain_there (with_client c Unconnected s.clients) s.cells (Some (Of_object x)) tt
-      (all_with c Unconnected (λ n d other e. or_true (waits s.cells n d) false refl (or_none (waits s.cells n d) (x.object.name == n) (c == d) other (there.asked n d e))) (λ n e. cc))
-  stage_there x c (Service_left code) ends there =
-      plain_there s.clients _ (Some (Of_object x)) tt
-      (calm_waits s.clients s.cells _ (calm_without p s.clients s.cells tidy fit (Elsewhere In_service) (λ n c. refl) plain) (all_wait s.clients s.cells (Some (Of_server x c (Service_left code))) (λ n d. refl) there))
+  stage_there x c (Accept_left code) ends there = grind (arith, nat_tests, plain_there, all_with c Unconnected, or_true, or_none)
+  stage_there x c (Service_left code) ends there = grind (
+    arith,
+    nat_tests,
+    plain_there s.clients,
+    calm_waits s.clients s.cells,
+    calm_without p s.clients s.cells tidy fit (Elsewhere In_service),
+    all_wait s.clients s.cells (Some (Of_server x c (Service_left code))),
+  )
   stage_there x c Parts ends there =
       let all : AllWait s.clients s.cells = all_wait s.clients s.cells (Some (Of_server x c Parts)) (λ n d. refl) there in
       plain_there _ _ (Some (Of_object x)) tt
@@ -218,7 +207,9 @@ top_dispatch p t cs ls d ts k e = dispatch_layer (λ ls. Stack p t cs Now ls) d 
 pub dispatch_there :
     (p : Image) (t : Typing) (s : State) (w : WellTyped p t s) → ClientsFit p s.clients s.cells → ((o : Object) → held s.cells (Elsewhere In_service) ≡ Some o → is_server p o.thing ≡ false) →
     (d : Dispatch) (ts : List Task) → s.tasks ≡ Dispatched d ∷ ts → AllThere s → (v : State) → v.cells ≡ s.cells → v.clients ≡ s.clients → AllThere (dispatch_ends p d v)
-dispatch_there p t s w fit plain d ts tasks there v cells clients =
-    ends_there p v (subst (λ l. ClientsFit p l v.cells) (sym clients) (subst (λ l. ClientsFit p s.clients l) (sym cells) fit)) (subst Tidy (sym cells) w.good.tidy) (λ o at. plain o (ap (λ l. held l (Elsewhere In_service)) (sym cells) ∙ at)) d
-    (top_dispatch p t s.cells w.layers d ts w.good.stack (sym tasks ∙ w.tasks))
-    (subst (λ l. AreThere l v.cells (Some d)) (sym clients) (subst (λ l. AreThere s.clients l (Some d)) (sym cells) (subst (λ l. AreThere s.clients s.cells (dispatch_of l)) tasks there)))
+dispatch_there p t s w fit plain d ts tasks there v cells clients = grind (
+  arith,
+  nat_tests,
+  ends_there p v,
+  top_dispatch p t s.cells w.layers d ts w.good.stack,
+)

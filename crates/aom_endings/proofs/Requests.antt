@@ -1,12 +1,13 @@
 -- How each instruction on a request or a session bears on what is outstanding, by what its move asks of a native.
-use Rattle.std.proofs.Common.{arith, Bool, Option, Some, cond, false, refl, true, ℕ, ℤ, ◌&&◌, ◌≡◌, pos}
+use Rattle.std.proofs.lemmas.Bool.Decides.{nat_tests}
+use Rattle.std.proofs.Common.{arith, Bool, Option, Some, false, true, ℕ, ℤ, ◌&&◌, ◌≡◌}
 use Rattle.std.specs.Ordering.{int_eq}
-use Rattle.std.specs.Prelude.{int_lt, is_none, not}
+use Rattle.std.specs.Prelude.{is_none, not}
 use Rattle.aom_image.specs.declared.class.ClassKind.{ClassKind}
 use Rattle.aom_sound.proofs.Turned.{recorded_so}
 use Rattle.aom_endings.specs.Owed.{takes_on}
 use Rattle.aom_sound.specs.Destruction.{is_at_rest}
-use Rattle.aom_sound.specs.Enlisted.{Asking, aborted, cancelled, cancelling, completed_with, taken_up, in_phase, is_active, is_idle, is_issued, issued_of, on_request, pending, recorded, status_of, waits}
+use Rattle.aom_sound.specs.Enlisted.{Asking, aborted, cancelled, cancelling, completed_with, taken_up, in_phase, is_active, is_idle, is_issued, issued_of, on_request, pending, status_of, waits}
 use Rattle.aom_sound.specs.Natives.{is_owed, native_of, started}
 use Rattle.aom_sound.specs.Places.{Request}
 
@@ -46,13 +47,7 @@ aborted_owed r = grind arith
 
 -- what a native begins is owed where it lives, a session is open, and it takes the request on
 pub started_owed : (dead session : Bool) (answer : ℤ) → int_eq (started dead session answer) pending ≡ ((not dead && session) && takes_on answer)
-started_owed true session answer = refl
-started_owed false false answer = refl
-started_owed false true answer = go (int_lt answer (pos 0))
-  where
-    go : (b : Bool) → int_eq (cond b (recorded answer) pending) pending ≡ not b
-    go true = recorded_so answer
-    go false = refl
+started_owed x session answer = grind (arith, nat_tests, recorded_so answer)
 
 pub issued_owed :
     (k : Option ClassKind) (n : ℕ) (asking : Asking) (a : ℤ) (r : Option Request) → native_of k ≡ Some n → in_phase is_idle r ≡ true →

@@ -1,10 +1,9 @@
 -- Servers, sessions and messages change nothing that is outstanding, and no session with a native: no native serves a message, and the rest of each cell is as it was.
+use Rattle.std.proofs.lemmas.Bool.Decides.{nat_tests}
 use Rattle.std.proofs.Common.{Bool, List, None, Option, Some, [], ap, cond, false, refl, subst, sym, true, ℕ, ℤ, ◌&&◌, ◌==◌, ◌∙◌, ◌∷◌, ◌≡◌, arith}
 use Rattle.std.proofs.lemmas.Bool.{and_parts}
 use Rattle.aom_clients.specs.declared.client.Client.{Client}
-use Rattle.aom_clients.specs.declared.client.Client.TheVariants.{Open}
 use Rattle.aom_clients.specs.declared.refusal.Refusal.{Refusal}
-use Rattle.aom_clients.specs.Table.{row}
 use Rattle.aom_image.specs.Image.{Image}
 use Rattle.aom_image.specs.declared.method.Thing.{Thing}
 use Rattle.aom_image.specs.declared.method.Thing.TheVariants.{Message}
@@ -16,15 +15,14 @@ use Rattle.aom_sound.proofs.Dropping.{queued_claim, waits_message}
 use Rattle.aom_sound.proofs.Maps.{same_place-true}
 use Rattle.aom_sound.proofs.Services.{named_served, requested_served}
 use Rattle.aom_sound.proofs.Sifted.{a_cell_of, cell_in, cell_in_sifted, cell_lives, cell_of, cell_of_sifted, cell_owner, cell_placed, held_cell, kept, named_cell, object_in, request_in, requested_cell, sifted, tidy_sifted, unqueued_so, unslotted_so, withdrawn_so}
-use Rattle.aom_sound.specs.Claims.{Layer, claim, declared}
+use Rattle.aom_sound.specs.Claims.{Layer}
 use Rattle.aom_transcript.specs.declared.event.Command.{Command}
-use Rattle.aom_transcript.specs.declared.event.Command.TheVariants.{Close, Connect, Die, Send}
-use Rattle.aom_sound.specs.Clients.{Listed, asked_server, commanded, connecting, each_unslotted, leaving, own, refusal, sending, told}
+use Rattle.aom_sound.specs.Clients.{Listed, commanded, connecting, each_unslotted, leaving, sending}
 use Rattle.aom_sound.specs.Natives.{is_owed, is_served_by}
-use Rattle.aom_sound.specs.Places.{Message_of, Cell, Elsewhere, Going, Object, Place, Queued, Service, Tidy, held, in_session, named, requested, same_place, seen, service_of, set_service, with_new, without}
-use Rattle.aom_sound.specs.Servers.{all_unslotted, asked_last, has_message, is_from, is_queue, is_queue_of, reserved, without_queue, withdrawn}
+use Rattle.aom_sound.specs.Places.{Cell, Elsewhere, Going, Object, Place, Queued, Service, Tidy, held, in_session, named, same_place, set_service, without}
+use Rattle.aom_sound.specs.Servers.{is_from, is_queue, is_queue_of, without_queue, withdrawn}
 use Rattle.aom_sound.specs.State.{State}
-use Rattle.aom_sound.specs.WellTyped.{Fits, Good}
+use Rattle.aom_sound.specs.WellTyped.{Good}
 
 -- ---- a cell has what it had
 
@@ -57,7 +55,7 @@ module _ (p : Image) (k : ℕ) where
   serves_cell cs m = ap (λ o. serves_object p k o) (named_cell cs m)
 
   owes_cell : (cs : List Cell) (m : ℕ) → owes p cs k m ≡ (serves_in (cell_of cs m) && is_owed (request_in (cell_of cs m)))
-  owes_cell cs m = ap (λ b. b && is_owed (requested cs m)) (serves_cell cs m) ∙ ap (λ r. serves_in (cell_of cs m) && is_owed r) (requested_cell cs m)
+  owes_cell cs m = grind (arith, nat_tests, serves_cell cs m, cell_of cs m, requested_cell cs m)
 
   meets_cell : (cs : List Cell) (m : ℕ) → meets p cs k m ≡ (serves_in (cell_of cs m) && session_in (cell_of cs m))
   meets_cell cs m = ap (λ b. b && in_session cs m) (serves_cell cs m) ∙ ap (λ b. serves_in (cell_of cs m) && b) (session_cell cs m)
@@ -68,15 +66,7 @@ DropsMessages drops cs = (c : Cell) → cell_in cs c.owner ≡ Some c → drops 
 
 module _ (p : Image) (drops : Cell → Bool) (f : Cell → Service) (cs : List Cell) (tidy : Tidy cs) (messages : DropsMessages drops cs) where
   by_cell : (k m : ℕ) (f' : Option Cell → Bool) → ((c : Cell) → f' (Some (record c { service = f c })) ≡ f' (Some c)) → ((c : Cell) → is_served_by p k c.object.thing ≡ false → f' None ≡ f' (Some c)) → f' (cell_of (sifted drops f cs) m) ≡ f' (cell_of cs m)
-  by_cell k m test stays goes = ap test (cell_of_sifted drops f cs m tidy) ∙ of (cell_of cs m) refl
-    where
-      of : (x : Option Cell) → cell_of cs m ≡ x → test (kept drops f x) ≡ test x
-      of None at = refl
-      of (Some c) at = go (drops c) refl
-        where
-          go : (b : Bool) → drops c ≡ b → test (cond b None (Some (record c { service = f c }))) ≡ test (Some c)
-          go true e = goes c (unserved_message p k c.object.thing (messages c (cell_placed cs m c tidy at) e))
-          go false e = stays c
+  by_cell k m test stays goes = grind (arith, nat_tests, cell_of_sifted drops f cs m tidy, cell_of cs m, kept drops f, unserved_message p k, cell_placed cs m)
 
   pub serves_sifted : (k m : ℕ) → serves p (sifted drops f cs) k m ≡ serves p cs k m
   serves_sifted k m = serves_cell p k (sifted drops f cs) m ∙ by_cell k m (λ x. serves_in p k x) (λ c. refl) (λ c e. sym e) ∙ sym (serves_cell p k cs m)
@@ -89,17 +79,21 @@ module _ (p : Image) (drops : Cell → Bool) (f : Cell → Service) (cs : List C
 
   -- a cell that stays has its session
   pub session_sifted : (c : Cell) (m : ℕ) → cell_of cs m ≡ Some c → drops c ≡ false → in_session (sifted drops f cs) m ≡ in_session cs m
-  session_sifted c m at stays =
-      session_cell (sifted drops f cs) m ∙ ap session_in (cell_of_sifted drops f cs m tidy ∙ ap (kept drops f) at ∙ ap (λ b. cond b None (Some (record c { service = f c }))) stays)
-      ∙ sym (session_cell cs m ∙ ap session_in at)
+  session_sifted c m at stays = grind (
+    arith,
+    nat_tests,
+    session_cell (sifted drops f cs) m,
+    sifted drops f cs,
+    cell_of_sifted drops f cs m tidy,
+    kept drops f,
+    session_cell cs m,
+  )
 
 -- ---- which cells these are
 
 -- what waits in a queue is a message
 queued_message : (p : Image) (t : Typing) (cs : List Cell) (ls : List Layer) → Good p t cs ls → (n m : ℕ) (x : Object) → held cs (Elsewhere (Queued n m)) ≡ Some x → x.thing ≡ Message
-queued_message p t cs ls good n m x there =
-    waits_message p (seen cs) x (has_message (service_of cs n) m) (named cs n)
-    (subst (λ k. Fits p (seen cs) (Some x) k) (queued_claim p (declared p cs) ls n m) (subst (λ y. Fits p (seen cs) y (claim p (declared p cs) ls (Elsewhere (Queued n m)))) there (good.fits (Elsewhere (Queued n m)))))
+queued_message p t cs ls good n m x there = grind (arith, nat_tests, waits_message p, queued_claim p)
 
 module _ (p : Image) (t : Typing) (cs : List Cell) (ls : List Layer) (good : Good p t cs ls) where
   queue_message : (r : Place) (x : Object) → is_queue r ≡ true → held cs r ≡ Some x → x.thing ≡ Message
@@ -116,10 +110,10 @@ module _ (p : Image) (t : Typing) (cs : List Cell) (ls : List Layer) (good : Goo
   queue_drops n c at e = queue_message c.owner c.object (any_queue n c.owner e) (in_place c at)
 
   pub unchanged_unqueued : (n : ℕ) → Unchanged p cs (without_queue n cs)
-  unchanged_unqueued n = subst (λ l. Unchanged p cs l) (sym (unqueued_so n cs)) (unchanged_sifted p (λ c. is_queue_of n c.owner) (λ c. c.service) cs good.tidy (queue_drops n))
+  unchanged_unqueued n = grind (arith, nat_tests, Unchanged p cs, unqueued_so n cs, unchanged_sifted p, queue_drops n)
 
   pub serves_unqueued : (n k m : ℕ) → serves p (without_queue n cs) k m ≡ serves p cs k m
-  serves_unqueued n k m = ap (λ l. serves p l k m) (unqueued_so n cs) ∙ serves_sifted p (λ c. is_queue_of n c.owner) (λ c. c.service) cs good.tidy (queue_drops n) k m
+  serves_unqueued n k m = grind (arith, nat_tests, unqueued_so n cs, serves_sifted p, queue_drops n)
 
   pub tidy_unqueued : (n : ℕ) → Tidy (without_queue n cs)
   tidy_unqueued n = subst Tidy (sym (unqueued_so n cs)) (tidy_sifted (λ c. is_queue_of n c.owner) (λ c. c.service) cs good.tidy)
@@ -133,16 +127,19 @@ module _ (p : Image) (t : Typing) (cs : List Cell) (ls : List Layer) (good : Goo
     stays = ap (is_queue_of n) (cell_owner cs (Going k) cell.0 cell.1)
 
     pub going_unqueued : held (without_queue n cs) (Going k) ≡ Some o
-    going_unqueued =
-        ap (λ l. held l (Going k)) (unqueued_so n cs) ∙ held_cell (sifted (λ c. is_queue_of n c.owner) (λ c. c.service) cs) (Going k)
-        ∙ ap object_in (cell_in_sifted (λ c. is_queue_of n c.owner) (λ c. c.service) cs (Going k) good.tidy ∙ ap (kept (λ c. is_queue_of n c.owner) (λ c. c.service)) cell.1 ∙ ap (λ b. cond b None (Some cell.0)) stays)
-        ∙ ap Some cell.2
+    going_unqueued = grind (arith, nat_tests, unqueued_so n cs, held_cell, sifted, object_in, cell_in_sifted, kept, stays)
 
     pub session_unqueued : in_session (without_queue n cs) o.name ≡ in_session cs o.name
-    session_unqueued =
-        ap (λ l. in_session l o.name) (unqueued_so n cs)
-        ∙ session_sifted p (λ c. is_queue_of n c.owner) (λ c. c.service) cs good.tidy (queue_drops n) cell.0 o.name
-        (subst (λ (x : Object). cell_of cs x.name ≡ Some cell.0) cell.2 (cell_lives cs (Going k) cell.0 good.tidy cell.1)) stays
+    session_unqueued = grind (
+      arith,
+      nat_tests,
+      unqueued_so n cs,
+      session_sifted p,
+      queue_drops n,
+      cell_of cs,
+      cell_lives cs (Going k) cell.0 good.tidy cell.1,
+      stays,
+    )
 
   -- a message goes from its place
   pub unchanged_completed : (q : Place) → ((x : Object) → held cs q ≡ Some x → x.thing ≡ Message) → Unchanged p cs (without q cs)
@@ -163,10 +160,16 @@ module _ (p : Image) (t : Typing) (cs : List Cell) (ls : List Layer) (good : Goo
 -- messages hold no slot any more
 pub unchanged_unslotted : (p : Image) (clients : List ℕ) (cs : List Cell) → Tidy cs → Unchanged p cs (each_unslotted clients cs)
 unchanged_unslotted p [] cs tidy = unchanged_itself p cs
-unchanged_unslotted p (c ∷ clients) cs tidy =
-    unchanged_along p cs (all_unslotted c cs) (each_unslotted clients (all_unslotted c cs))
-    (subst (λ l. Unchanged p cs l) (sym (unslotted_so c cs)) (unchanged_sifted p (λ c. false) _ cs tidy (λ x at e. cc)))
-    (unchanged_unslotted p clients (all_unslotted c cs) (subst Tidy (sym (unslotted_so c cs)) (tidy_sifted (λ c. false) _ cs tidy)))
+unchanged_unslotted p (c ∷ clients) cs tidy = grind (
+  arith,
+  nat_tests,
+  unchanged_along p cs,
+  Unchanged p cs,
+  unslotted_so c cs,
+  unchanged_sifted p,
+  unchanged_unslotted p clients,
+  tidy_sifted,
+)
 
 -- ---- a client's command
 
@@ -177,46 +180,42 @@ module _ (p : Image) (t : Typing) (s : State) (ls : List Layer) (good : Good p t
   connecting_same (Some r) server slots = unchanged_itself p s.cells
 
   sending_same : (refused : Option Refusal) (c : Client) (words : List ℤ) → Unchanged p s.cells (sending p client s refused c name words).cells
-  sending_same None (Open server session slots) words = unchanged_along p s.cells queued _ (unchanged_served p s.cells server _) (record { owes = λ k m. new.owes k m; meets = λ k m. new.meets k m })
-    where
-      queued : List Cell
-      queued = reserved (asked_last (Message_of client name)) server s.cells
-
-      new : Unchanged p queued (with_new name Message words (Elsewhere (Queued server name)) queued)
-      new = unchanged_new p name Message words (Elsewhere (Queued server name)) queued (named_served s.cells server _ name ∙ unused)
-  sending_same _ _ words = unchanged_itself p s.cells
+  sending_same x y words = grind (
+    arith,
+    nat_tests,
+    unchanged_along p s.cells,
+    unchanged_served p s.cells,
+    Unchanged p,
+    unchanged_new p name Message words,
+    named_served s.cells,
+    unchanged_itself p s.cells,
+  )
 
   leaving_same : (to : Option Client) → Unchanged p s.cells (leaving p client s to).cells
-  leaving_same None = unchanged_itself p s.cells
-  leaving_same (Some to) = unchanged_along p s.cells (withdrawn client s.cells) _ (unchanged_withdrawn p t s.cells ls good client) (close_told (own p client s))
-    where
-      close_told : (c : Client) → Unchanged p (withdrawn client s.cells) (told p client s c (withdrawn client s.cells))
-      close_told (Open server session slots) = unchanged_served p (withdrawn client s.cells) server _
-      close_told _ = unchanged_itself p (withdrawn client s.cells)
+  leaving_same x = grind (
+    arith,
+    nat_tests,
+    unchanged_itself p s.cells,
+    unchanged_along p s.cells,
+    unchanged_withdrawn p t s.cells ls good client,
+    Unchanged p,
+    unchanged_served p,
+    unchanged_itself p,
+  )
 
   pub unchanged_commanded : (command : Command) → Unchanged p s.cells (commanded p client s command name).cells
-  unchanged_commanded (Connect class slots) = connecting_same (refusal p client s (Connect class slots)) (asked_server p class s.cells) slots
-  unchanged_commanded (Send words) = sending_same (refusal p client s (Send words)) (own p client s) words
-  unchanged_commanded Close = leaving_same (row (own p client s)).close
-  unchanged_commanded Die = leaving_same (row (own p client s)).die
+  unchanged_commanded x = grind (arith, nat_tests, connecting_same, sending_same, leaving_same)
 
 -- it kills no native
 module _ (p : Image) (s : State) (client name : ℕ) where
   connecting_killed : (refused : Option Refusal) (server : Option Listed) (slots : ℕ) → (connecting p client s refused server slots).killed ≡ s.killed
-  connecting_killed None (Some x) slots = refl
-  connecting_killed None None slots = refl
-  connecting_killed (Some r) server slots = refl
+  connecting_killed x server slots = grind arith
 
   sending_killed : (refused : Option Refusal) (c : Client) (words : List ℤ) → (sending p client s refused c name words).killed ≡ s.killed
-  sending_killed None (Open server session slots) words = refl
-  sending_killed _ _ words = refl
+  sending_killed x y words = grind arith
 
   leaving_killed : (to : Option Client) → (leaving p client s to).killed ≡ s.killed
-  leaving_killed None = refl
-  leaving_killed (Some to) = refl
+  leaving_killed x = grind arith
 
   pub commanded_killed : (command : Command) → (commanded p client s command name).killed ≡ s.killed
-  commanded_killed (Connect class slots) = connecting_killed (refusal p client s (Connect class slots)) (asked_server p class s.cells) slots
-  commanded_killed (Send words) = sending_killed (refusal p client s (Send words)) (own p client s) words
-  commanded_killed Close = leaving_killed (row (own p client s)).close
-  commanded_killed Die = leaving_killed (row (own p client s)).die
+  commanded_killed x = grind (arith, nat_tests, connecting_killed, sending_killed, leaving_killed)

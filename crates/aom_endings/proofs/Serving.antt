@@ -1,14 +1,15 @@
 -- What clients are at, and what they have at servers, under other names: the same, renamed.
-use Rattle.aom_sound.specs.Tokens.{order_in, token_of}
-use Rattle.std.proofs.Common.{List, None, Option, Some, [], ap, cond, refl, suc, zero, ℕ, ◌==◌, ◌∙◌, ◌∷◌, ◌≡◌, sym}
+use Rattle.std.proofs.lemmas.Bool.Decides.{nat_tests}
+use Rattle.aom_sound.specs.Tokens.{token_of}
+use Rattle.std.proofs.Common.{arith, List, Option, [], ap, refl, suc, zero, ℕ, ◌∙◌, ◌∷◌, ◌≡◌, sym}
 use Rattle.std.proofs.lemmas.List.{map-append}
 use Rattle.std.specs.Prelude.{option_map}
 use Rattle.aom_clients.specs.declared.client.Client.{Client}
-use Rattle.aom_clients.specs.declared.client.Client.TheVariants.{Closing as Closing_client, Connecting, Dying, Open, Unconnected}
+use Rattle.aom_clients.specs.declared.client.Client.TheVariants.{Unconnected}
 use Rattle.aom_clients.specs.Table.{at_gone}
 use Rattle.aom_sound.specs.Clients.{at_opening, at_parting, client_at, each_unslotted, queue_ended, sessions_ended, with_client}
 use Rattle.aom_sound.specs.Destruction.{first_session, seat_or}
-use Rattle.aom_sound.specs.Places.{Asked, Cell, Close_of, Connect_of, Elsewhere, Message_of, Object, Place, Queued, Service, Session, held, service_of, set_service}
+use Rattle.aom_sound.specs.Places.{Asked, Cell, Close_of, Connect_of, Elsewhere, Message_of, Object, Place, Service, Session, service_of, set_service}
 use Rattle.aom_sound.specs.Servers.{all_unslotted, asked_last, has_more, is_queue_of, opened, parted, reserved, rest_of, taken_first, unslotted, without_queue}
 use Rattle.aom_sound.specs.State.{Seat}
 use Rattle.aom_endings.proofs.NamedCells.{cond_applied, held_renamed, same_name}
@@ -29,28 +30,19 @@ module _ (names : ℕ → ℕ) where
   with_client_renamed (suc c) x (y ∷ ys) = ap (λ l. renamed_client names y ∷ l) (with_client_renamed c x ys)
 
   opening_renamed : (session : ℕ) (x : Client) → at_opening session (renamed_client names x) ≡ renamed_client names (at_opening session x)
-  opening_renamed session (Connecting server slots) = refl
-  opening_renamed session _ = refl
+  opening_renamed session x = grind arith
 
   parting_renamed : (x : Client) → at_parting (renamed_client names x) ≡ renamed_client names (at_parting x)
-  parting_renamed (Closing_client server session) = refl
-  parting_renamed (Dying server session) = refl
-  parting_renamed _ = refl
+  parting_renamed x = grind arith
 
   gone_renamed : (x : Client) → at_gone (renamed_client names x) ≡ renamed_client names (at_gone x)
-  gone_renamed (Open server session slots) = refl
-  gone_renamed (Closing_client server session) = refl
-  gone_renamed (Dying server session) = refl
-  gone_renamed _ = refl
+  gone_renamed x = grind arith
 
   -- what becomes of what a client is at
   pub changed_client_renamed :
       (f : Client → Client) → ((x : Client) → f (renamed_client names x) ≡ renamed_client names (f x)) → (c : ℕ) (clients : List Client) →
       with_client c (f (client_at (renamed_clients names clients) c)) (renamed_clients names clients) ≡ renamed_clients names (with_client c (f (client_at clients c)) clients)
-  changed_client_renamed f same c clients =
-      ap (λ x. with_client c (f x) (renamed_clients names clients)) (client_renamed clients c)
-      ∙ ap (λ x. with_client c x (renamed_clients names clients)) (same (client_at clients c))
-      ∙ with_client_renamed c (f (client_at clients c)) clients
+  changed_client_renamed f same c clients = grind (arith, nat_tests, client_renamed clients c, with_client_renamed c)
 
   pub opened_client_renamed :
       (c : ℕ) (clients : List Client) → with_client c (at_opening 0 (client_at (renamed_clients names clients) c)) (renamed_clients names clients) ≡ renamed_clients names (with_client c (at_opening 0 (client_at clients c)) clients)
@@ -62,7 +54,7 @@ module _ (names : ℕ → ℕ) where
 
   pub queue_ended_renamed : (es : List Asked) (clients : List Client) → queue_ended (renamed_queue names es) (renamed_clients names clients) ≡ renamed_clients names (queue_ended es clients)
   queue_ended_renamed [] clients = refl
-  queue_ended_renamed (Connect_of c ∷ es) clients = ap (queue_ended (renamed_queue names es)) (with_client_renamed c Unconnected clients) ∙ queue_ended_renamed es (with_client c Unconnected clients)
+  queue_ended_renamed (Connect_of c ∷ es) clients = grind (arith, nat_tests, with_client_renamed c Unconnected clients, queue_ended_renamed es)
   queue_ended_renamed (Message_of c m ∷ es) clients = queue_ended_renamed es clients
   queue_ended_renamed (Close_of c ∷ es) clients = queue_ended_renamed es clients
 
@@ -102,30 +94,20 @@ module _ (names : ℕ → ℕ) (one_to_one : IsOneToOne names) where
 
   pub service_renamed : (cs : List Cell) (n : ℕ) → service_of (renamed_cells names cs) (names n) ≡ renamed_service names (service_of cs n)
   service_renamed [] n = refl
-  service_renamed (c ∷ cs) n =
-      ap (λ b. cond b (renamed_service names c.service) (service_of (renamed_cells names cs) (names n))) (same_name names one_to_one c.object.name n)
-      ∙ ap (λ v. cond (c.object.name == n) (renamed_service names c.service) v) (service_renamed cs n)
-      ∙ cond_applied (renamed_service names) (c.object.name == n) c.service (service_of cs n)
+  service_renamed (c ∷ cs) n = grind (arith, nat_tests, same_name names one_to_one c.object.name n, service_renamed cs n, cond_applied)
 
   pub token_named : (cs : List Cell) (o : Option Object) → token_of (renamed_cells names cs) (option_map (renamed_object names) o) ≡ token_of cs o
-  token_named cs None = refl
-  token_named cs (Some o) = ap (λ (v : Service). order_in v.token) (service_renamed cs o.name)
+  token_named cs x = grind (arith, nat_tests, service_renamed cs)
 
   set_service_renamed : (n : ℕ) (v : Service) (cs : List Cell) → set_service (names n) (renamed_service names v) (renamed_cells names cs) ≡ renamed_cells names (set_service n v cs)
   set_service_renamed n v [] = refl
-  set_service_renamed n v (c ∷ cs) =
-      ap (λ x. record (renamed_cell names c) { service = x } ∷ set_service (names n) (renamed_service names v) (renamed_cells names cs))
-      (ap (λ b. cond b (renamed_service names v) (renamed_service names c.service)) (same_name names one_to_one c.object.name n) ∙ cond_applied (renamed_service names) (c.object.name == n) v c.service)
-      ∙ ap (λ l. renamed_cell names (record c { service = cond (c.object.name == n) v c.service }) ∷ l) (set_service_renamed n v cs)
+  set_service_renamed n v (c ∷ cs) = grind (arith, nat_tests, same_name names one_to_one c.object.name n, cond_applied, set_service_renamed n v cs)
 
   -- where a change of it means the same under other names
   reserved_renamed :
       (f g : Service → Service) → ((v : Service) → g (renamed_service names v) ≡ renamed_service names (f v)) → (n : ℕ) (cs : List Cell) →
       reserved g (names n) (renamed_cells names cs) ≡ renamed_cells names (reserved f n cs)
-  reserved_renamed f g same n cs =
-      ap (λ v. set_service (names n) (g v) (renamed_cells names cs)) (service_renamed cs n)
-      ∙ ap (λ v. set_service (names n) v (renamed_cells names cs)) (same (service_of cs n))
-      ∙ set_service_renamed n (f (service_of cs n)) cs
+  reserved_renamed f g same n cs = grind (arith, nat_tests, service_renamed cs n, set_service_renamed n)
 
   pub asks_renamed : (e : Asked) (n : ℕ) (cs : List Cell) → reserved (asked_last (renamed_asked names e)) (names n) (renamed_cells names cs) ≡ renamed_cells names (reserved (asked_last e) n cs)
   asks_renamed e n cs = reserved_renamed (asked_last e) (asked_last (renamed_asked names e)) (asked_last_renamed names e) n cs
@@ -142,28 +124,25 @@ module _ (names : ℕ → ℕ) (one_to_one : IsOneToOne names) where
   -- ---- what waits in a queue goes
 
   is_queue_kept : (n : ℕ) (q : Place) → is_queue_of (names n) (renamed_place names q) ≡ is_queue_of n q
-  is_queue_kept n (Elsewhere (Queued s m)) = same_name names one_to_one s n
-  is_queue_kept n (Elsewhere _) = refl
-  is_queue_kept n _ = refl
+  is_queue_kept n x = grind (arith, nat_tests, same_name names one_to_one)
 
   pub without_queue_renamed : (n : ℕ) (cs : List Cell) → without_queue (names n) (renamed_cells names cs) ≡ renamed_cells names (without_queue n cs)
   without_queue_renamed n [] = refl
-  without_queue_renamed n (c ∷ cs) =
-      ap (λ b. cond b (without_queue (names n) (renamed_cells names cs)) (renamed_cell names c ∷ without_queue (names n) (renamed_cells names cs))) (is_queue_kept n c.owner)
-      ∙ ap (λ r. cond (is_queue_of n c.owner) r (renamed_cell names c ∷ r)) (without_queue_renamed n cs)
-      ∙ cond_applied (renamed_cells names) (is_queue_of n c.owner) (without_queue n cs) (c ∷ without_queue n cs)
+  without_queue_renamed n (c ∷ cs) = grind (arith, nat_tests, is_queue_kept n c.owner, without_queue_renamed n cs, cond_applied)
 
   -- ---- the first session that is there
 
   seat_or_renamed :
       (o : Option Object) (q : Place) (others : Option Seat) →
       seat_or (option_map (renamed_object names) o) (renamed_place names q) (option_map (renamed_seat names) others) ≡ option_map (renamed_seat names) (seat_or o q others)
-  seat_or_renamed None q others = refl
-  seat_or_renamed (Some o) q others = refl
+  seat_or_renamed x q others = grind arith
 
   pub first_session_renamed : (cs : List Cell) (n : ℕ) (clients : List ℕ) → first_session (renamed_cells names cs) (names n) clients ≡ option_map (renamed_seat names) (first_session cs n clients)
   first_session_renamed cs n [] = refl
-  first_session_renamed cs n (c ∷ clients) =
-      ap (λ o. seat_or o (Elsewhere (Session (names n) c)) (first_session (renamed_cells names cs) (names n) clients)) (held_renamed names one_to_one cs (Elsewhere (Session n c)))
-      ∙ ap (seat_or (option_map (renamed_object names) (held cs (Elsewhere (Session n c)))) (Elsewhere (Session (names n) c))) (first_session_renamed cs n clients)
-      ∙ seat_or_renamed (held cs (Elsewhere (Session n c))) (Elsewhere (Session n c)) (first_session cs n clients)
+  first_session_renamed cs n (c ∷ clients) = grind (
+    arith,
+    nat_tests,
+    held_renamed names one_to_one cs (Elsewhere (Session n c)),
+    first_session_renamed cs n clients,
+    seat_or_renamed,
+  )

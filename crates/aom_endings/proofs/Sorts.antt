@@ -1,5 +1,6 @@
 -- What a turn is, by what is due, what has come, what is left to poll and what is ready.
-use Rattle.std.proofs.Common.{◌≡◌, ◌<◌, ◌≤◌, ◌-◌, ◌+◌, ℕ, Bool, true, false, Option, Some, None, ap, cond, refl, ◌∙◌}
+use Rattle.std.proofs.lemmas.Bool.Decides.{nat_tests}
+use Rattle.std.proofs.Common.{arith, ◌≡◌, ◌<◌, ◌≤◌, ◌-◌, ◌+◌, ℕ, Bool, true, false, Option, Some, None, ap, cond, refl, ◌∙◌}
 use Rattle.std.specs.Prelude.{nat_le, nat_lt}
 use Rattle.std.proofs.lemmas.Bool.{leb-false}
 use Rattle.aom_sound.specs.Clients.{client_count}
@@ -40,10 +41,7 @@ module _ (outside : Outside) (s : State) where
   picks_kind false ready (Some time) below is early = passes_on time is early
 
   polls_kind : (n : Option ℕ) → next_native outside s ≡ n → (answer : Option Completion) (after : Turning) → is_late outside s ≡ false → Kind outside s after → Kind outside s (polls n answer after)
-  polls_kind None is answer after early then = then
-  polls_kind (Some n) is answer after early then =
-      let within = living_within s.killed (outside.natives - s.rest.polled) s.rest.polled n is in
-      polls_one n answer within.0 within.1 early
+  polls_kind x is answer after early then = grind (arith, nat_tests, living_within s.killed (outside.natives - s.rest.polled) s.rest.polled, polls_one)
 
   delivers_kind : (name : ℕ) (e : TimedEvent) → next_event outside s ≡ Some e → (event : Event) → Kind outside s (delivers outside name s event)
   delivers_kind name e is (Tell n word) = hears_one e is
@@ -59,12 +57,7 @@ module _ (outside : Outside) (s : State) where
       go false = hears_one e is
 
   event_kind : (name : ℕ) (next : Option TimedEvent) → next_event outside s ≡ next → (after : Turning) → (event_early → Kind outside s after) → Kind outside s (by_event outside name s next after)
-  event_kind name None is after then = then (ap (λ e. reached (time_of e) s.rest.clock) is)
-  event_kind name (Some e) is after then = go (nat_le e.time s.rest.clock) refl
-    where
-      go : (b : Bool) → nat_le e.time s.rest.clock ≡ b → Kind outside s (cond b (delivers outside name s e.event) after)
-      go true come = delivers_kind name e is e.event
-      go false early = then (ap (λ e. reached (time_of e) s.rest.clock) is ∙ early)
+  event_kind name x is after then = grind (arith, nat_tests, reached, delivers_kind name)
 
   timer_kind : (next : Option Timed) → first_due s.cells ≡ next → (after : Turning) → (timer_early → Kind outside s after) → Kind outside s (by_timer s next after)
   timer_kind None is after then = then (ap (λ x. reached (due_of x) s.rest.clock) is)

@@ -1,5 +1,6 @@
 -- How many dispatches of objects there may still be: no move makes more of them.
-use Rattle.std.proofs.Common.{◌≡◌, ℕ, ◌<◌, ◌≤◌, ◌^◌, ◌-◌, ◌∙◌, ◌∷◌, Bool, true, false, [], Some, None, ap, arith, cond, refl}
+use Rattle.std.proofs.lemmas.Bool.Decides.{nat_tests}
+use Rattle.std.proofs.Common.{◌≡◌, ℕ, ◌<◌, ◌≤◌, ◌^◌, ◌-◌, ◌∙◌, Bool, true, false, [], Some, None, ap, arith, cond, refl}
 use Rattle.std.specs.Prelude.{is_some}
 use Rattle.aom_image.specs.Image.{Image}
 use Rattle.aom_image.specs.declared.method.Role.TheVariants.{Run as Handles}
@@ -11,17 +12,15 @@ use Rattle.aom_sound.proofs.Turned.{Picked, accepts, attends, dispatched_so, han
 use Rattle.aom_sound.specs.Counting.{restarts}
 use Rattle.aom_sound.specs.Enlisted.{part_of}
 use Rattle.aom_sound.specs.Moves.{step}
-use Rattle.aom_sound.specs.Places.{service_of}
 use Rattle.aom_sound.specs.Servers.{is_server}
-use Rattle.aom_sound.specs.State.{Choice, Dispatched, Goes, Of_server, Parts, Rest, Seat, State, raised}
-use Rattle.aom_sound.specs.World.{Picks, dispatched, serves_first, turned}
+use Rattle.aom_sound.specs.State.{Choice, Goes, Seat, State, raised}
+use Rattle.aom_sound.specs.World.{Picks, turned}
 use Rattle.aom_steps.proofs.Payers.{begun_payer, payers}
 use Rattle.aom_steps.specs.Payers.{class_of, payer}
 use Rattle.aom_endings.specs.Endings.{DispatchesAreSpent, one_where, spare}
 
 pub one_at_most : (b : Bool) → one_where b ≤ 1
-one_at_most true = omega arith
-one_at_most false = omega arith
+one_at_most x = grind arith
 
 pub moved_spares : (p : Image) (limit : ℕ) → limit ≤ 2 ^ 64 - 1 → (c : Choice) (s u : State) → step p c s ≡ Goes u → spare limit u ≤ spare limit s
 moved_spares p limit most c s u goes = go (restarts p s.tasks) refl
@@ -46,31 +45,17 @@ unfolding sessions_in kind_of
 server_there p t e = grind arith
 
 picked_class : (p : Image) (s u : State) (x : Seat) → turned p s (Picks x) ≡ Goes u → is_some (class_of x.object.thing) ≡ true
-picked_class p s u x goes = go (is_server p x.object.thing) refl goes
-  where
-    go :
-        (b : Bool) → is_server p x.object.thing ≡ b → cond b (serves_first p x (service_of s.cells x.object.name).queue s) (dispatched (part_of p Handles x.object.thing) x s) ≡ Goes u →
-        is_some (class_of x.object.thing) ≡ true
-    go true is e = server_there p x.object.thing is
-    go false is e = let d = dispatched_so p s u x e in class_there p x.object.thing d.0 d.1
+picked_class p s u x goes = grind (arith, nat_tests, server_there p x.object.thing, dispatched_so p s u x, class_there p x.object.thing)
 
 -- its class pays
 picked_payer : (p : Image) (s u : State) (x : Seat) → Picked p s x u → payer u.tasks ≡ class_of x.object.thing
-picked_payer p s u x d = elim d as (λ v d. payer v.tasks ≡ class_of x.object.thing) [
-  | handles m at ↦ refl
-  | accepts client m at ↦ refl
-  | attends client message m o there at ↦ refl
-  | parts client o there ↦ begun_payer p o _ (Dispatched (Of_server x client Parts) ∷ [])
-]
+picked_payer p s u x d = grind (arith, nat_tests, handles, accepts, attends, parts, begun_payer p)
 
 pub picked_pays : (p : Image) (s u : State) (x : Seat) → turned p s (Picks x) ≡ Goes u → is_some (payer u.tasks) ≡ true
 picked_pays p s u x goes = ap is_some (picked_payer p s u x (picked_so p s u x goes)) ∙ picked_class p s u x goes
 
 pub picked_spares : (p : Image) (limit : ℕ) (s u : State) (x : Seat) → s.rest.dispatches < limit → s.tasks ≡ [] → turned p s (Picks x) ≡ Goes u → spare limit u < spare limit s
-picked_spares p limit s u x below idle goes =
-    let one = ap one_where (picked_pays p s u x goes) in
-    let none = ap (λ ts. one_where (is_some (payer ts))) idle in
-    omega (arith, below, one, none, ap (λ (r : Rest). r.dispatches) (picked_rest p s u x goes))
+picked_spares p limit s u x below idle goes = grind (arith, nat_tests, picked_pays p s u x goes, picked_rest p s u x goes)
 
 pub dispatches_are_spent : DispatchesAreSpent
 dispatches_are_spent = record { moves = moved_spares; picks = picked_spares }

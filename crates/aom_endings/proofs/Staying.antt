@@ -1,13 +1,14 @@
 -- What clients and the dispatch at hand say stays of cells that are there: as a run begins, in each move by the task at hand, and in each turn.
+use Rattle.std.proofs.lemmas.Bool.Decides.{nat_tests}
 use Rattle.aom_sound.proofs.ClientsFit.{IsFit}
 use Rattle.aom_sound.proofs.ClientsMoves.{Steady, fit_steady, steady_redeemed}
 use Rattle.aom_sound.proofs.Redeeming.{redeemed_by_alike}
 use Rattle.aom_sound.proofs.Storing.{Alike}
 use Rattle.aom_sound.specs.Places.{Elsewhere, Session}
 use Rattle.aom_sound.specs.Tokens.{redeemed_by, token_of}
-use Rattle.std.proofs.Common.{List, None, Option, Some, [], ap, false, length, refl, subst, sym, ℕ, ◌∙◌, ◌∷◌, ◌≡◌}
+use Rattle.std.proofs.Common.{arith, List, None, Option, Some, [], ap, false, length, refl, subst, sym, ℕ, ◌∙◌, ◌∷◌, ◌≡◌}
 use Rattle.aom_image.specs.Image.{Image}
-use Rattle.aom_image.specs.Views.{gives_of, instr_at}
+use Rattle.aom_image.specs.Views.{instr_at}
 use Rattle.aom_image.specs.declared.method.Gives.{Gives}
 use Rattle.aom_image.specs.declared.method.Thing.TheVariants.{Message}
 use Rattle.aom_classes.specs.Roles.{main_of}
@@ -24,13 +25,13 @@ use Rattle.aom_sound.proofs.Things.{message_plain, stands_message}
 use Rattle.aom_sound.proofs.Turned.{Polled, answers, commanded_kept, nothing, polled_so}
 use Rattle.aom_sound.specs.Destruction.{gone, needs_gone, vanished}
 use Rattle.aom_sound.specs.Effects.{Returns, applied, effect, needs}
-use Rattle.aom_sound.specs.Enlisted.{completed_with, ended_cells, on_request, recorded, timed_out}
+use Rattle.aom_sound.specs.Enlisted.{completed_with, recorded, timed_out}
 use Rattle.aom_sound.specs.Kept.{IsKept}
 use Rattle.aom_sound.specs.Laws.{IsWired}
 use Rattle.aom_sound.specs.Moves.{counted, needs_end, step_instr, step_task}
 use Rattle.aom_sound.specs.Natives.{all_bereaved}
 use Rattle.aom_sound.specs.Objects.{is_thing}
-use Rattle.aom_sound.specs.Places.{Cell, Going, Object, Request, held, named, requested, without}
+use Rattle.aom_sound.specs.Places.{Cell, Going, Object, Request, held, named, without}
 use Rattle.aom_sound.specs.Servers.{is_server, without_queue}
 use Rattle.aom_sound.specs.State.{Choice, Closing, Destroy, Dispatched, Frame, Goes, Run, State, Task, Trapped, Unwind}
 use Rattle.aom_sound.specs.WellTyped.{WellTyped}
@@ -50,8 +51,7 @@ boot_there : (p : Image) → AllThere (boot_state p)
 boot_there p = record { asked = λ n c e. cc; serves = go (main_of p) }
   where
     go : (m : Option ℕ) → IsAtPlace [] (dispatch_of (main_tasks m))
-    go None = tt
-    go (Some m) = tt
+    go x = grind arith
 
 -- ---- each move
 
@@ -85,17 +85,10 @@ module _ (p : Image) (t : Typing) (wired : IsWired p) (c : Choice) (s : State) (
 
     -- a method returns
     returns_there : (g : Gives) (a : ℕ) → AllThere (applied p fr ts (counted p s) (Returns g a))
-    returns_there g a =
-        let ended = there_by s.clients s.cells (dispatch_of ts) s.clients (ended_cells p fr s.cells) (dispatch_of ts) refl (calm_ended p fr s.cells) refl below in
-        returned_there p fr ts (record (counted p s) { cells = ended_cells p fr s.cells }) g a ts tasks ended ended
+    returns_there g a = grind (arith, nat_tests, there_by s.clients s.cells, calm_ended p fr s.cells, below, returned_there p fr ts)
 
     act_there : (i : Instr) → AllTrue (needs p c fr ts (counted p s) i) → AllThere (applied p fr ts (counted p s) (effect p c fr ts (counted p s) i))
-    act_there (instrs.Reply a b) met = reply_there a b met
-    act_there (instrs.Return a) met = returns_there (gives_of p fr.method) a
-    act_there i met = usual i tt
-      where
-        usual : (i : Instr) → IsUsual i → AllThere (applied p fr ts (counted p s) (effect p c fr ts (counted p s) i))
-        usual i u = effect_there p fr ts (counted p s) below (effect p c fr ts (counted p s) i) (fine_effect p c fr ts (counted p s) free i u)
+    act_there i met = grind (arith, nat_tests, reply_there, returns_there, IsUsual i, effect_there p fr ts, below, fine_effect p c fr ts)
 
     run_there : (i : Option Instr) (u : State) → step_instr p c fr ts (counted p s) i ≡ Goes u → AllThere u
     run_there None u e = cc
@@ -134,8 +127,7 @@ module _ (p : Image) (t : Typing) (wired : IsWired p) (s : State) (w : WellTyped
   by_idle clients cs ts none all = subst (λ l. AreThere clients cs (dispatch_of l)) (sym none) (plain_there clients cs None tt all)
 
   requested_there : (f : Request → Request) (o : Object) → AllWait s.clients (with_request f o s.cells)
-  requested_there f o =
-      same_waits s.clients s.cells (with_request f o s.cells) (same_requested s.cells o (on_request f (requested s.cells o.name)) (λ e. on_none f (requested s.cells o.name) e)) waiting
+  requested_there f o = grind (arith, nat_tests, same_waits s.clients s.cells, same_requested s.cells o, on_none f, waiting)
 
   turned_there : (k : Turning) → IsFound p t wired s w idle kept k → (u : State) → turned p s k ≡ Goes u → AllThere u
   turned_there (Completes o) f u e = subst AllThere (goes_same _ u e) (by_idle s.clients _ s.tasks idle (requested_there timed_out o))

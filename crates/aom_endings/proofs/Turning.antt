@@ -1,20 +1,15 @@
 -- A turn under other names: orders, priorities, times and numbers decide, so the same timer is due first, the same native is polled or killed, the same object is picked, and the lines are the same.
-use Rattle.std.proofs.Common.{arith, Bool, List, None, Option, Some, [], ap, cond, false, refl, true, ℕ, ℤ, ◌∙◌, ◌∷◌, ◌≡◌, ◌||◌, length, subst, sym}
-use Rattle.std.specs.Prelude.{nat_le, nat_lt, option_map}
+use Rattle.std.proofs.lemmas.Bool.Decides.{nat_tests}
+use Rattle.std.proofs.Common.{arith, Bool, List, None, Option, Some, [], ap, cond, refl, ℕ, ℤ, ◌∙◌, ◌∷◌, ◌≡◌, ◌||◌, sym}
+use Rattle.std.specs.Prelude.{option_map}
 use Rattle.aom_image.specs.Image.{Image}
-use Rattle.aom_image.specs.declared.method.Role.TheVariants.{Accept as Accepts_role, Run as Handles, Service as Attends}
-use Rattle.aom_image.specs.declared.method.Thing.{Thing}
-use Rattle.aom_image.specs.declared.method.Thing.TheVariants.{Message, Object as An_object_of}
-use Rattle.aom_sound.specs.Clients.{client_count}
-use Rattle.aom_sound.specs.Lines.{refusal_line, serve_line}
-use Rattle.aom_sound.specs.Enlisted.{completed_with, on_request, part_of, recorded, taken_up, timed_out}
-use Rattle.aom_sound.specs.Natives.{all_bereaved, bereaved, is_outstanding_at}
-use Rattle.aom_sound.specs.Places.{Asked, Cell, Close_of, Connect_of, Elsewhere, Going, In_service, Message_of, Object, Queued, Request, Session, held, requested, service_of, set_request}
-use Rattle.aom_sound.specs.Servers.{is_server}
-use Rattle.aom_sound.specs.State.{CompletedTwice, Dispatched, Goes, Of_server, Parts, Seat, State, guarded}
-use Rattle.aom_sound.specs.World.{Candidate, Completes, Completion, Cuts, Heard, Hears, Kills, Obeys, Outside, Picks, Polls, Timed, Turning, accepting, among_ready, among_timers, answered_by, attended, attending, before_others, by_event, by_timer, cell_at, delivers, dispatched, due_of, first_due, first_ready, goes_now, has_signal, heard_one, is_ready, lives, message_words, nearer, next_event, next_native, next_time, nothing_heard, parting_with, passes, past_native, picked, picks, polled, polls, pick_line, run_line, serves_first, signals, sooner, taken_from, time_of, turn, turned, turning, with_request, written_by, written_turn, AnswersWell}
+use Rattle.aom_sound.specs.Lines.{refusal_line}
+use Rattle.aom_sound.specs.Enlisted.{timed_out}
+use Rattle.aom_sound.specs.Natives.{all_bereaved, bereaved}
+use Rattle.aom_sound.specs.Places.{Asked, Cell, Close_of, Connect_of, Elsewhere, Going, In_service, Message_of, Object, Queued, Request, Session, held}
+use Rattle.aom_sound.specs.State.{Goes, Seat, State}
+use Rattle.aom_sound.specs.World.{Candidate, Completes, Completion, Cuts, Heard, Kills, Obeys, Outside, Picks, Polls, Timed, Turning, accepting, among_ready, among_timers, answered_by, attended, attending, before_others, by_event, by_timer, delivers, dispatched, due_of, first_due, first_ready, goes_now, has_signal, heard_one, is_ready, message_words, nearer, next_event, next_time, nothing_heard, parting_with, passes, picked, picks, polled, polls, pick_line, run_line, serves_first, signals, sooner, taken_from, time_of, turn, turned, turning, with_request, written_by, written_turn, AnswersWell}
 use Rattle.aom_transcript.specs.declared.event.Event.{Event}
-use Rattle.aom_transcript.specs.declared.event.Event.TheVariants.{Client as Of_client, Kill, Tell}
 use Rattle.aom_transcript.specs.declared.event.TimedEvent.{TimedEvent}
 use Rattle.aom_endings.proofs.NamedCells.{cell_at_renamed, cond_applied, cond_mapped, each_renamed, held_renamed, moved_renamed, requested_kept, set_request_renamed, word_field_kept}
 use Rattle.aom_endings.proofs.Commands.{commanded_renamed, refusal_kept}
@@ -52,7 +47,7 @@ module _ (names : ℕ → ℕ) where
 
   due_renamed : (cs : List Cell) → first_due (renamed_cells names cs) ≡ option_map renamed_timed (first_due cs)
   due_renamed [] = refl
-  due_renamed (c ∷ cs) = ap (among_timers (renamed_object names c.object) c.request) (due_renamed cs) ∙ timers_renamed c.object c.request (first_due cs)
+  due_renamed (c ∷ cs) = grind (arith, nat_tests, due_renamed cs, timers_renamed c.object c.request)
 
   -- ---- signals
 
@@ -61,7 +56,7 @@ module _ (names : ℕ → ℕ) where
 
   signal_kept : (cs : List Cell) → has_signal (renamed_cells names cs) ≡ has_signal cs
   signal_kept [] = refl
-  signal_kept (c ∷ cs) = ap (λ b. b || has_signal (renamed_cells names cs)) (signals_kept c c.request) ∙ ap (λ b. signals c c.request || b) (signal_kept cs)
+  signal_kept (c ∷ cs) = grind (arith, nat_tests, signals_kept c c.request, signal_kept cs)
 
   before_renamed : (a : Candidate) (b : Option Candidate) → before_others (renamed_candidate a) (option_map renamed_candidate b) ≡ renamed_candidate (before_others a b)
   before_renamed a b = grind arith
@@ -83,68 +78,52 @@ module _ (names : ℕ → ℕ) where
   -- ---- what the turn does
 
   due_kept : (x : Option Timed) → due_of (option_map renamed_timed x) ≡ due_of x
-  due_kept None = refl
-  due_kept (Some x) = refl
+  due_kept x = grind arith
 
   time_kept : (outside : Outside) (s : State) → next_time outside (renamed names s) ≡ next_time outside s
   time_kept outside s = ap (λ d. nearer d (time_of (next_event outside s))) (ap due_of (due_renamed s.cells) ∙ due_kept (first_due s.cells))
 
   passes_renamed : (next : Option ℕ) → passes next ≡ renamed_turning (passes next)
-  passes_renamed None = refl
-  passes_renamed (Some time) = refl
+  passes_renamed x = grind arith
 
   picks_renamed : (signal : Bool) (ready : Option Candidate) (next : Option ℕ) → picks signal (option_map renamed_candidate ready) next ≡ renamed_turning (picks signal ready next)
-  picks_renamed true None next = refl
-  picks_renamed true (Some x) next = refl
-  picks_renamed false ready next = passes_renamed next
+  picks_renamed x ready next = grind (arith, nat_tests, passes_renamed next)
 
   -- of a state where all natives are polled
   abbrev picking : Outside → State → Turning
   picking outside s = picks (has_signal s.cells) (first_ready s.cells) (next_time outside s)
 
   picking_renamed : (outside : Outside) (s : State) → picking outside (renamed names s) ≡ renamed_turning (picking outside s)
-  picking_renamed outside s =
-      ap (λ b. picks b (first_ready (renamed_cells names s.cells)) (next_time outside (renamed names s))) (signal_kept s.cells)
-      ∙ ap (λ x. picks (has_signal s.cells) x (next_time outside (renamed names s))) (ready_renamed s.cells)
-      ∙ ap (picks (has_signal s.cells) (option_map renamed_candidate (first_ready s.cells))) (time_kept outside s)
-      ∙ picks_renamed (has_signal s.cells) (first_ready s.cells) (next_time outside s)
+  picking_renamed outside s = grind (arith, nat_tests, signal_kept s.cells, ready_renamed s.cells, time_kept outside s, picks_renamed)
 
   polls_renamed : (n : Option ℕ) (answer : Option Completion) (after : Turning) → polls n answer (renamed_turning after) ≡ renamed_turning (polls n answer after)
-  polls_renamed None answer after = refl
-  polls_renamed (Some n) answer after = refl
+  polls_renamed x answer after = grind arith
 
   delivers_renamed : (outside : Outside) (name : ℕ) (s : State) (e : Event) → delivers outside (names name) s e ≡ renamed_turning (delivers outside name s e)
-  delivers_renamed outside name s (Tell n word) = refl
-  delivers_renamed outside name s (Kill n) = cond_applied renamed_turning (lives outside s n) (Kills n) Hears
-  delivers_renamed outside name s (Of_client c command) = cond_applied renamed_turning (nat_lt c client_count) (Obeys c command name) Hears
+  delivers_renamed outside name s x = grind (arith, nat_tests, cond_applied)
 
   by_event_renamed :
       (outside : Outside) (name : ℕ) (s : State) (e : Option TimedEvent) (after : Turning) →
       by_event outside (names name) s e (renamed_turning after) ≡ renamed_turning (by_event outside name s e after)
-  by_event_renamed outside name s None after = refl
-  by_event_renamed outside name s (Some e) after =
-      let due = nat_le e.time s.rest.clock in
-      ap (λ x. cond due x (renamed_turning after)) (delivers_renamed outside name s e.event) ∙ cond_applied renamed_turning due (delivers outside name s e.event) after
+  by_event_renamed outside name s x after = grind (arith, nat_tests, delivers_renamed outside name s, cond_applied)
 
   by_timer_renamed : (s : State) (x : Option Timed) (after : Turning) → by_timer s (option_map renamed_timed x) (renamed_turning after) ≡ renamed_turning (by_timer s x after)
-  by_timer_renamed s None after = refl
-  by_timer_renamed s (Some x) after = cond_applied renamed_turning (nat_le x.timer.due s.rest.clock) (Completes x.object) after
+  by_timer_renamed s x after = grind (arith, nat_tests, cond_applied)
 
   pub turning_renamed : (outside : Outside) (heard : Heard) (s : State) → turning outside (renamed_heard names heard) (renamed names s) ≡ renamed_turning (turning outside heard s)
-  turning_renamed outside heard s =
-      let cut = nat_le outside.limit s.rest.dispatches in
-      let polled = polls (next_native outside s) heard.completion (picking outside s) in
-      let delivered = by_event outside heard.name s (next_event outside s) polled in
-      ap (λ t. cond cut Cuts (by_timer s (first_due (renamed_cells names s.cells)) (by_event outside (names heard.name) s (next_event outside s) (polls (next_native outside s) heard.completion t)))) (picking_renamed outside s)
-      ∙ ap (λ t. cond cut Cuts (by_timer s (first_due (renamed_cells names s.cells)) (by_event outside (names heard.name) s (next_event outside s) t))) (polls_renamed (next_native outside s) heard.completion (picking outside s))
-      ∙ ap (λ t. cond cut Cuts (by_timer s (first_due (renamed_cells names s.cells)) t)) (by_event_renamed outside heard.name s (next_event outside s) polled)
-      ∙ ap (λ x. cond cut Cuts (by_timer s x (renamed_turning delivered))) (due_renamed s.cells)
-      ∙ ap (cond cut Cuts) (by_timer_renamed s (first_due s.cells) delivered)
-      ∙ cond_applied renamed_turning cut Cuts (by_timer s (first_due s.cells) delivered)
+  turning_renamed outside heard s = grind (
+    arith,
+    nat_tests,
+    picking_renamed outside s,
+    polls_renamed,
+    by_event_renamed outside heard.name s,
+    due_renamed s.cells,
+    by_timer_renamed s,
+    cond_applied,
+  )
 
   polling_renamed : (t : Turning) → is_polling (renamed_turning t) ≡ is_polling t
-  polling_renamed (Polls n answer) = refl
-  polling_renamed _ = refl
+  polling_renamed x = grind arith
 
   -- a native is polled under other names too
   pub polling_kept : (outside : Outside) (s : State) → is_polling (turning outside nothing_heard (renamed names s)) ≡ is_polling (turning outside nothing_heard s)
@@ -155,13 +134,10 @@ module _ (names : ℕ → ℕ) (one_to_one : IsOneToOne names) where
   -- ---- where it leads
 
   request_renamed : (f : Request → Request) (o : Object) (cs : List Cell) → with_request f (renamed_object names o) (renamed_cells names cs) ≡ renamed_cells names (with_request f o cs)
-  request_renamed f o cs =
-      ap (λ r. set_request (names o.name) (on_request f r) (renamed_cells names cs)) (requested_kept names one_to_one cs o.name)
-      ∙ set_request_renamed names one_to_one o.name (on_request f (requested cs o.name)) cs
+  request_renamed f o cs = grind (arith, nat_tests, requested_kept names one_to_one cs o.name, set_request_renamed names one_to_one o.name)
 
   dispatched_renamed : (m : Option ℕ) (x : Seat) (s : State) → dispatched m (renamed_seat names x) (renamed names s) ≡ renamed_outcome names (dispatched m x s)
-  dispatched_renamed None x s = refl
-  dispatched_renamed (Some m) x s = rw (request_renamed taken_up x.object s.cells)
+  dispatched_renamed x y s = grind (arith, nat_tests, request_renamed)
 
   -- ---- the dispatch of a server
 
@@ -169,11 +145,12 @@ module _ (names : ℕ → ℕ) (one_to_one : IsOneToOne names) where
   taken_from_renamed n s = ap (λ cs. record (taken_from (names n) (renamed names s)) { cells = cs }) (takes_renamed names one_to_one n s.cells)
 
   accepting_renamed : (m : Option ℕ) (x : Seat) (c : ℕ) (s : State) → accepting m (renamed_seat names x) c (renamed names s) ≡ renamed_outcome names (accepting m x c s)
-  accepting_renamed None x c s = refl
-  accepting_renamed (Some m) x c s = refl
+  accepting_renamed x y c s = grind arith
 
   words_kept : (cs : List Cell) (m : ℕ) → message_words (renamed_cells names cs) (names m) ≡ message_words cs m
-  words_kept cs m = rw (
+  words_kept cs m = grind (
+    arith,
+    nat_tests,
     word_field_kept names one_to_one cs m 0,
     word_field_kept names one_to_one cs m 1,
     word_field_kept names one_to_one cs m 2,
@@ -190,15 +167,17 @@ module _ (names : ℕ → ℕ) (one_to_one : IsOneToOne names) where
   attended_renamed :
       (p : Image) (x : Seat) (c : ℕ) (o : Option Object) (m : ℕ) (s : State) →
       attended p (renamed_seat names x) c (option_map (renamed_object names) o) (names m) (renamed names s) ≡ renamed_outcome names (attended p x c o m s)
-  attended_renamed p x c None m s = refl
-  attended_renamed p x c (Some o) m s = attending_renamed (part_of p Attends o.thing) x c o m s
+  attended_renamed p x c y m s = grind (arith, nat_tests, attending_renamed)
 
   parting_renamed :
       (p : Image) (x : Seat) (c : ℕ) (o : Option Object) (s : State) →
       parting_with p (renamed_seat names x) c (option_map (renamed_object names) o) (renamed names s) ≡ renamed_outcome names (parting_with p x c o s)
-  parting_renamed p x c None s = refl
-  parting_renamed p x c (Some o) s =
-      rw (moved_renamed names one_to_one (Elsewhere (Session x.object.name c)) (Going 1) s.cells, begun_renamed names p o (length s.items) (Dispatched (Of_server x c Parts) ∷ []))
+  parting_renamed p x c y s = grind (
+    arith,
+    nat_tests,
+    moved_renamed names one_to_one (Elsewhere (Session x.object.name c)) (Going 1) s.cells,
+    begun_renamed names p,
+  )
 
   -- the session of a client
   session_renamed : (n c : ℕ) (cs : List Cell) → held (renamed_cells names cs) (Elsewhere (Session (names n) c)) ≡ option_map (renamed_object names) (held cs (Elsewhere (Session n c)))
@@ -207,43 +186,41 @@ module _ (names : ℕ → ℕ) (one_to_one : IsOneToOne names) where
   serves_renamed :
       (p : Image) (x : Seat) (es : List Asked) (s : State) → serves_first p (renamed_seat names x) (renamed_queue names es) (renamed names s) ≡ renamed_outcome names (serves_first p x es s)
   serves_renamed p x [] s = refl
-  serves_renamed p x (Connect_of c ∷ es) s =
-      let m = part_of p Accepts_role x.object.thing in
-      ap (accepting m (renamed_seat names x) c) (taken_from_renamed x.object.name s) ∙ accepting_renamed m x c (taken_from x.object.name s)
-  serves_renamed p x (Message_of c m ∷ es) s =
-      let o = held s.cells (Elsewhere (Session x.object.name c)) in
-      ap (λ y. attended p (renamed_seat names x) c y (names m) (taken_from (names x.object.name) (renamed names s))) (session_renamed x.object.name c s.cells)
-      ∙ ap (attended p (renamed_seat names x) c (option_map (renamed_object names) o) (names m)) (taken_from_renamed x.object.name s)
-      ∙ attended_renamed p x c o m (taken_from x.object.name s)
-  serves_renamed p x (Close_of c ∷ es) s =
-      let o = held s.cells (Elsewhere (Session x.object.name c)) in
-      ap (λ y. parting_with p (renamed_seat names x) c y (taken_from (names x.object.name) (renamed names s))) (session_renamed x.object.name c s.cells)
-      ∙ ap (parting_with p (renamed_seat names x) c (option_map (renamed_object names) o)) (taken_from_renamed x.object.name s)
-      ∙ parting_renamed p x c o (taken_from x.object.name s)
+  serves_renamed p x (Connect_of c ∷ es) s = grind (arith, nat_tests, taken_from_renamed x.object.name s, accepting_renamed)
+  serves_renamed p x (Message_of c m ∷ es) s = grind (
+    arith,
+    nat_tests,
+    session_renamed x.object.name c s.cells,
+    taken_from_renamed x.object.name s,
+    attended_renamed p x c,
+  )
+  serves_renamed p x (Close_of c ∷ es) s = grind (
+    arith,
+    nat_tests,
+    session_renamed x.object.name c s.cells,
+    taken_from_renamed x.object.name s,
+    parting_renamed p x c,
+  )
 
   picked_renamed : (p : Image) (x : Seat) (s : State) → picked p (renamed_seat names x) (renamed names s) ≡ renamed_outcome names (picked p x s)
-  picked_renamed p x s =
-      let serves = is_server p x.object.thing in
-      let m = part_of p Handles x.object.thing in
-      let es = (service_of s.cells x.object.name).queue in
-      ap (λ v. cond serves (serves_first p (renamed_seat names x) v.queue (renamed names s)) (dispatched m (renamed_seat names x) (renamed names s))) (service_renamed names one_to_one s.cells x.object.name)
-      ∙ ap (λ o. cond serves o (dispatched m (renamed_seat names x) (renamed names s))) (serves_renamed p x es s)
-      ∙ ap (cond serves (renamed_outcome names (serves_first p x es s))) (dispatched_renamed m x s)
-      ∙ cond_applied (renamed_outcome names) serves (serves_first p x es s) (dispatched m x s)
+  picked_renamed p x s = grind (
+    arith,
+    nat_tests,
+    service_renamed names one_to_one s.cells x.object.name,
+    serves_renamed p x,
+    dispatched_renamed,
+    cond_applied,
+  )
 
   -- a native completes what a cell has outstanding, or is killed
   answered_renamed :
       (p : Image) (n : ℕ) (c : Option Cell) (code : ℤ) (s : State) →
       answered_by p n (option_map (renamed_cell names) c) code (renamed names s) ≡ renamed_outcome names (answered_by p n c code s)
   answered_renamed p n None code s = refl
-  answered_renamed p n (Some c) code s =
-      let needs = (is_outstanding_at p n c, CompletedTwice) ∷ [] in
-      ap (λ cs. guarded needs (past_native n (record (renamed names s) { cells = cs }))) (request_renamed (completed_with (recorded code)) c.object s.cells)
-      ∙ guarded_renamed names needs (past_native n (record s { cells = with_request (completed_with (recorded code)) c.object s.cells }))
+  answered_renamed p n (Some c) code s = grind (arith, nat_tests, request_renamed, guarded_renamed names)
 
   polled_renamed : (p : Image) (n : ℕ) (answer : Option Completion) (s : State) → polled p n answer (renamed names s) ≡ renamed_outcome names (polled p n answer s)
-  polled_renamed p n None s = refl
-  polled_renamed p n (Some a) s = ap (λ c. answered_by p n c a.code (renamed names s)) (cell_at_renamed names s.cells a.cell) ∙ answered_renamed p n (cell_at s.cells a.cell) a.code s
+  polled_renamed p n x s = grind (arith, nat_tests, cell_at_renamed names s.cells, answered_renamed p n)
 
   bereaved_renamed : (p : Image) (n : ℕ) (cs : List Cell) → all_bereaved p n (renamed_cells names cs) ≡ renamed_cells names (all_bereaved p n cs)
   bereaved_renamed p n cs = each_renamed names (bereaved p n) (λ c. refl) cs
@@ -261,31 +238,21 @@ module _ (names : ℕ → ℕ) (one_to_one : IsOneToOne names) where
 
   -- what it may hear
   answers_kept : (p : Image) (s : State) (t : Turning) → AnswersWell p s t → AnswersWell p (renamed names s) (renamed_turning names t)
-  answers_kept p s (Polls n (Some a)) well = (renamed_cell names well.0, cell_at_renamed names s.cells a.cell ∙ ap (option_map (renamed_cell names)) well.1, well.2, well.3)
-  answers_kept p s (Polls n None) well = tt
-  answers_kept p s _ well = tt
+  answers_kept p s x well = grind (arith, nat_tests, cell_at_renamed names s.cells)
 
   pub answers_so :
       (p : Image) (outside : Outside) (heard : Heard) (s : State) → AnswersWell p s (turning outside heard s) →
       AnswersWell p (renamed names s) (turning outside (renamed_heard names heard) (renamed names s))
-  answers_so p outside heard s well = subst (λ t. AnswersWell p (renamed names s) t) (sym (turning_renamed names outside heard s)) (answers_kept p s (turning outside heard s) well)
+  answers_so p outside heard s well = grind (arith, nat_tests, turning_renamed names outside heard s, answers_kept p s)
 
   -- ---- what it writes
 
   line_kept : (s : State) (o : Object) → run_line (renamed names s) (renamed_object names o) ≡ run_line s o
-  line_kept s o = go o.thing
-    where
-      go : (t : Thing) → run_line (renamed names s) (renamed_object names (record o { thing = t })) ≡ run_line s (record o { thing = t })
-      go (An_object_of c) = rw (requested_kept names one_to_one s.cells o.name)
-      go Message = refl
+  line_kept s o = grind (arith, nat_tests, requested_kept names one_to_one s.cells o.name)
 
   -- of an object, or of a server for the first of its queue
   pick_kept : (p : Image) (s : State) (o : Object) → pick_line p (renamed names s) (renamed_object names o) ≡ pick_line p s o
-  pick_kept p s o =
-      let serves = is_server p o.thing in
-      ap (λ v. cond serves (serve_line s.rest.clock o.thing v.queue) (run_line (renamed names s) (renamed_object names o))) (service_renamed names one_to_one s.cells o.name)
-      ∙ ap (λ l. cond serves l (run_line (renamed names s) (renamed_object names o))) (serve_kept names s.rest.clock o.thing (service_of s.cells o.name).queue)
-      ∙ ap (cond serves (serve_line s.rest.clock o.thing (service_of s.cells o.name).queue)) (line_kept s o)
+  pick_kept p s o = grind (arith, nat_tests, service_renamed names one_to_one s.cells o.name, serve_kept names s.rest.clock o.thing, line_kept s o)
 
   by_kept : (p : Image) (s : State) (t : Turning) → written_by p (renamed names s) (renamed_turning names t) ≡ written_by p s t
   by_kept p s (Picks x) = pick_kept p s x.object

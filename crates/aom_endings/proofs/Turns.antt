@@ -1,5 +1,6 @@
 -- Each turn tells what its kill or its completion does: what a timer completes no native serves, and what is dispatched is completed before.
-use Rattle.std.proofs.Common.{is_some, Bool, List, None, Option, Some, [], ap, cond, false, refl, subst, sym, true, ℕ, ℤ, ◌&&◌, ◌==◌, ◌∙◌, ◌∷◌, ◌≡◌, pos, arith}
+use Rattle.std.proofs.lemmas.Bool.Decides.{nat_tests}
+use Rattle.std.proofs.Common.{Bool, List, None, Option, Some, [], ap, cond, false, refl, subst, sym, true, ℕ, ℤ, ◌&&◌, ◌==◌, ◌∙◌, ◌∷◌, ◌≡◌, pos, arith}
 use Rattle.std.proofs.lemmas.Bool.{not-true, and_from, and_parts, and_right, eqb-true, or_from}
 use Rattle.std.proofs.lemmas.List.Folds.{list_any-append}
 use Rattle.std.specs.Ordering.{int_eq}
@@ -21,7 +22,7 @@ use Rattle.aom_roles.specs.Classes.{sessions_in, sessions_of}
 use Rattle.aom_sound.specs.Kept.{ClientsFit}
 use Rattle.aom_sound.specs.Natives.{all_bereaved, is_dead, is_outstanding_at, is_owed, is_served_by, native_of, terminated, terminated_request}
 use Rattle.aom_sound.specs.Places.{Cell, Elsewhere, Going, In_service, Queued, Request, Session as Session_at, Timer, requested}
-use Rattle.aom_sound.specs.Requests.{Known, Suits, states_claim}
+use Rattle.aom_sound.specs.Requests.{Known, Suits}
 use Rattle.aom_sound.specs.State.{CompletedTwice, Goes, Inside, State}
 use Rattle.aom_sound.specs.WellTyped.{WellTyped}
 use Rattle.aom_sound.specs.World.{taken_from, heard_one, Obeys, AnswersWell, Candidate, Completes, Kills, Picks, Polls, Strays, Timed, Turning, answered_by, cell_at, is_ready, turned, turning, with_request}
@@ -63,14 +64,7 @@ untimed_there k n known r t native timed suits = grind arith
 
 module _ (p : Image) (t : Typing) (s : State) (w : WellTyped p t s) where
   due_unserved : (x : Timed) → IsDue s.cells x → native_of (thing_kind p x.object.thing) ≡ None
-  due_unserved x due = go (native_of (thing_kind p x.object.thing)) refl
-    where
-      suits : Suits (thing_kind p x.object.thing) (states_claim p x.object w.layers) (Some due.0)
-      suits = subst (λ r. Suits (thing_kind p x.object.thing) (states_claim p x.object w.layers) r) due.1.asked (w.good.suits x.object due.1.lives)
-
-      go : (y : Option ℕ) → native_of (thing_kind p x.object.thing) ≡ y → y ≡ None
-      go None e = refl
-      go (Some n) e = absurd (untimed_there (thing_kind p x.object.thing) n (states_claim p x.object w.layers) due.0 x.timer e due.2 suits)
+  due_unserved x due = grind (arith, nat_tests, untimed_there)
 
   due_same : (x : Timed) → IsDue s.cells x → Unchanged p s.cells (with_request timed_out x.object s.cells)
   due_same x due = unchanged_asked p s.cells x.object (on_request timed_out (requested s.cells x.object.name)) (λ k. still p (pos 0) s x.object due.1.lives (due_unserved x due) k _ _)
@@ -86,10 +80,7 @@ module _ (p : Image) (t : Typing) (s : State) (w : WellTyped p t s) where
   -- no native serves a server
   server_unserved : (x : Thing) → is_server p x ≡ true → native_of (thing_kind p x) ≡ None
   unfolding sessions_in sessions_of
-  server_unserved x server = go (thing_kind p x) server
-    where
-      go : (k : Option ClassKind) → is_some (sessions_in k) ≡ true → native_of k ≡ None
-      go k e = grind arith
+  server_unserved x server = grind (arith, nat_tests)
 
   -- what is no server is ready, since nothing waits in its queue
   picked_same : (y : Candidate) → ClientsFit p s.clients s.cells → IsCell s.cells y.seat.object (Some y.request) → GoesNow s.cells y → Unchanged p s.cells (with_request taken_up y.seat.object s.cells)
@@ -133,11 +124,16 @@ module _ (p : Image) (t : Typing) (s : State) (w : WellTyped p t s) where
     owes_before = and_from (serves p s.cells n c.object.name) (is_owed (requested s.cells c.object.name)) (ap (λ o. serves_object p n o) cell.lives ∙ parts.0) outstanding
 
     owes_completed : (k m : ℕ) → owes p (with_request (completed_with code) c.object s.cells) k m ≡ (not ((n == k) && has_name (cell_at s.cells i) m) && owes p s.cells k m)
-    owes_completed k m =
-        owes_asked p s.cells c.object (on_request (completed_with code) (requested s.cells c.object.name)) k m
-        ∙ taken_off (λ x. owes p s.cells k x) c.object.name m (n == k) true _ (ap (λ x. x && is_owed (requested s.cells c.object.name)) (served k) ∙ ap (λ x. (n == k) && x) outstanding)
-        (and_right (serves p s.cells k c.object.name) _ (completed_with_owed code settled (requested s.cells c.object.name)))
-        ∙ ap (λ x. not ((n == k) && has_name x m) && owes p s.cells k m) (sym at)
+    owes_completed k m = grind (
+      arith,
+      nat_tests,
+      owes_asked p s.cells c.object,
+      taken_off,
+      served k,
+      outstanding,
+      and_right,
+      completed_with_owed code settled,
+    )
 
 -- ---- any turn
 
@@ -188,9 +184,7 @@ module _ (p : Image) (s : State) (holds : SessionsHold p s) where
   met_turned _ n m e = holds.met n m e
 
   lives_turned : (k : Turning) (n m : ℕ) → meets_turned k n (meets p s.cells n m) ≡ true → is_dead (killed_turned k s.killed) n ≡ false
-  lives_turned (Kills x) n m e =
-      let both = and_parts (not (x == n)) (meets p s.cells n m) e in
-      list_any-append (λ j. j == n) s.killed (x ∷ []) ∙ or_from (is_dead s.killed n) ((x == n) || false) (holds.lives n m both.1) (ap (λ b. b || false) (not-true (x == n) both.0))
+  lives_turned (Kills x) n m e = grind (arith, nat_tests, meets p s.cells n m, list_any-append, or_from, not-true (x == n))
   lives_turned _ n m e = holds.lives n m e
 
   pub sessions_turned : (u : State) (k : Turning) → Tale p s u k → SessionsHold p u

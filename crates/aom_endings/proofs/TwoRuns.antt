@@ -1,4 +1,5 @@
 -- Two runs, stage by stage, where each stage is a move or a turn: after as many stages they have written the same, and are the same but for names.
+use Rattle.std.proofs.lemmas.Bool.Decides.{nat_tests}
 use Rattle.std.proofs.Common.{List, None, Option, Some, [], ap, append-nil, append_assoc, arith, inl, inr, refl, subst, suc, sym, true, zero, ℕ, ⊎_elim, ◌∙◌, ◌∷◌, ◌≡◌, ◌<◌, ◌≤◌}
 use Rattle.std.proofs.lemmas.Bool.{cases_eq, cases_lt}
 use Rattle.std.specs.Prelude.{◌++◌, ◌⊎◌}
@@ -72,10 +73,10 @@ module _ (p : Image) (t : Typing) (outside : Outside) (wired : IsWired p) (typed
 
   -- what is at hand in one is at hand in the other
   busy_idle : (v w : State) → AreAlike v w → IsBusy v → w.tasks ≡ [] → ⊥
-  busy_idle v w alike busy idle = let clash : renamed_tasks alike.names (busy.0 ∷ busy.1) ≡ [] = ap (renamed_tasks alike.names) (sym busy.2) ∙ sym (ap (λ x. x.tasks) alike.same) ∙ idle in cc
+  busy_idle v w alike busy idle = grind (arith, nat_tests)
 
   idle_busy : (v w : State) → AreAlike v w → v.tasks ≡ [] → IsBusy w → ⊥
-  idle_busy v w alike idle busy = let clash : busy.0 ∷ busy.1 ≡ [] = sym busy.2 ∙ ap (λ x. x.tasks) alike.same ∙ ap (renamed_tasks alike.names) idle in cc
+  idle_busy v w alike idle busy = grind (arith, nat_tests)
 
   goes_alike : (o o' : Outcome) (s u : State) → o ≡ Goes s → o' ≡ Goes u → AlikeOutcomes o o' → AreAlike s u
   goes_alike o o' s u e e' h = subst (λ x. AlikeOutcomes (Goes s) x) e' (subst (λ x. AlikeOutcomes x o') e h)
@@ -84,13 +85,12 @@ module _ (p : Image) (t : Typing) (outside : Outside) (wired : IsWired p) (typed
   hears_alike :
       (n : ℕ) (v w s u : State) (new new' : List Line) → AreAlike v w → (one : Moved n v s new) (other : Moved n w u new') → is_heard p v.tasks ≡ true →
       one.choice.answer ≡ other.choice.answer
-  hears_alike n v w s u new new' alike one other heard = one.hears heard ∙ sym (other.hears (ap (λ x. is_heard p x.tasks) alike.same ∙ heard_kept p alike.names v.tasks ∙ heard))
+  hears_alike n v w s u new new' alike one other heard = grind (arith, nat_tests, heard, heard_kept p alike.names v.tasks)
 
   polls_alike :
       (n : ℕ) (v w s u : State) (new new' : List Line) → AreAlike v w → (one : Turned n v s new) (other : Turned n w u new') → is_polling (turning outside nothing_heard v) ≡ true →
       one.heard.completion ≡ other.heard.completion
-  polls_alike n v w s u new new' alike one other polled =
-      one.hears polled ∙ sym (other.hears (ap (λ x. is_polling (turning outside nothing_heard x)) alike.same ∙ polling_kept alike.names outside v ∙ polled))
+  polls_alike n v w s u new new' alike one other polled = grind (arith, nat_tests, polling_kept alike.names outside v)
 
   stage_alike : (n : ℕ) (v w s u : State) (new new' : List Line) → WellKept p t w → AllThere w → AreAlike v w → Stage n v s new → Stage n w u new' → (new ≡ new') × AreAlike s u
   stage_alike n v w s u new new' k there alike (inl one) (inl other) = (
@@ -109,8 +109,7 @@ module _ (p : Image) (t : Typing) (outside : Outside) (wired : IsWired p) (typed
   booted = record { names = λ n. n; one_to_one = λ n m e. e; same = ap (λ ts. record (boot_state p) { tasks = ts }) (go (main_of p)) }
     where
       go : (m : Option ℕ) → main_tasks m ≡ renamed_tasks (λ n. n) (main_tasks m)
-      go None = refl
-      go (Some m) = refl
+      go x = grind arith
 
   together : (n : ℕ) (lines others : List Line) (s u : State) → After n lines s → After n others u → (lines ≡ others) × AreAlike s u
   together zero lines others s u a b = (a.0 ∙ sym b.0, subst (λ x. AreAlike x u) (sym a.1) (subst (λ x. AreAlike (boot_state p) x) (sym b.1) booted))

@@ -1,19 +1,19 @@
 -- As a cell goes: no connect at another server is lost, and a client that connected to this one asks nobody any more.
-use Rattle.std.proofs.Common.{Bool, List, None, Option, Some, [], ap, cond, false, refl, sym, true, ℕ, ◌==◌, ◌∙◌, ◌≡◌, arith}
+use Rattle.std.proofs.lemmas.Bool.Decides.{nat_tests}
+use Rattle.std.proofs.Common.{Bool, List, None, Option, Some, [], ap, false, refl, sym, true, ℕ, ◌==◌, ◌∙◌, ◌≡◌, arith}
 use Rattle.std.proofs.lemmas.Bool.{eq-eqb, eqb-true, true≢false}
 use Rattle.std.specs.Prelude.{◌||◌}
 use Rattle.aom_image.specs.Image.{Image}
 use Rattle.aom_clients.specs.Nodes.{is_connecting_at}
 use Rattle.aom_clients.specs.Table.{at_gone}
 use Rattle.aom_clients.specs.declared.client.Client.{Client}
-use Rattle.aom_clients.specs.declared.client.Client.TheVariants.{Unconnected}
 use Rattle.aom_sound.proofs.ClientsGone.{queue_ended_at, sessions_ended_at}
 use Rattle.aom_sound.proofs.Dropping.{dropped, held_dropped, place_dropped, queue_dropped, tidy_dropped}
 use Rattle.aom_sound.proofs.Maps.{held_lives, same_place-true, same_place_comm}
 use Rattle.aom_sound.specs.Clients.{client_at, each_unslotted, queue_ended, sessions_ended}
 use Rattle.aom_sound.specs.Kept.{ClientsFit}
 use Rattle.aom_sound.specs.Places.{Cell, Elsewhere, Going, Object, Place, Queued, Session, Tidy, held, same_place, service_of, without}
-use Rattle.aom_sound.specs.Servers.{has_session, is_queue_of, is_server, without_queue}
+use Rattle.aom_sound.specs.Servers.{is_queue_of, is_server, without_queue}
 use Rattle.aom_sound.specs.State.{Dispatch, Of_server, Serves}
 use Rattle.aom_endings.proofs.Keeping.{Calm, NoSession, calm_unslotted, connects_dropped, places_dropped, still_either}
 use Rattle.aom_endings.specs.There.{AreThere, IsAtPlace, accepts, waits}
@@ -60,10 +60,7 @@ module _ (p : Image) (clients : List Client) (cs : List Cell) (tidy : Tidy cs) (
             absurd (true≢false (sym (eq-eqb o.name n (ap (λ y. y.name) equal ∙ same)) ∙ other))
 
     places_gone : (n c : ℕ) → held (without (Going k) (without_queue o.name cs)) (Elsewhere (Session n c)) ≡ held cs (Elsewhere (Session n c))
-    places_gone n c =
-        ap (λ l. held l (Elsewhere (Session n c))) gone_so
-        ∙ places_dropped (λ r. same_place r (Going k)) left (tidy_dropped (is_queue_of o.name) cs tidy) (λ n c. refl) n c
-        ∙ places_dropped (is_queue_of o.name) cs tidy (λ n c. refl) n c
+    places_gone n c = grind (arith, nat_tests, gone_so, places_dropped, tidy_dropped)
 
     -- ---- its clients
 
@@ -75,18 +72,7 @@ module _ (p : Image) (clients : List Client) (cs : List Cell) (tidy : Tidy cs) (
 
     -- who connects then connected before, and not to it
     connected_before : (n c : ℕ) → is_connecting_at n (client_at then c) ≡ true → (is_connecting_at n (client_at clients c) ≡ true) × (waits cs o.name c ≡ false)
-    connected_before n c e = go (has_session (service_of cs o.name) c) (waits cs o.name c) refl refl (sym (ap (is_connecting_at n) now) ∙ e)
-      where
-        now :
-            client_at then c
-            ≡ cond (has_session (service_of cs o.name) c) (at_gone (cond (waits cs o.name c) Unconnected (client_at clients c))) (cond (waits cs o.name c) Unconnected (client_at clients c))
-        now = sessions_ended_at (service_of cs o.name).sessions (queue_ended (service_of cs o.name).queue clients) c
-            ∙ ap (λ x. cond (has_session (service_of cs o.name) c) (at_gone x) x) (queue_ended_at (service_of cs o.name).queue clients c)
-
-        go :
-            (b x : Bool) → has_session (service_of cs o.name) c ≡ b → waits cs o.name c ≡ x →
-            is_connecting_at n (cond b (at_gone (cond x Unconnected (client_at clients c))) (cond x Unconnected (client_at clients c))) ≡ true → (is_connecting_at n (client_at clients c) ≡ true) × (waits cs o.name c ≡ false)
-        go b x f g h = grind (arith, gone_connecting n (client_at clients c))
+    connected_before n c e = grind (arith, nat_tests, sessions_ended_at, queue_ended_at, gone_connecting n)
 
     -- where it is not the server that is dispatched
     pub there_vanished :
