@@ -24,6 +24,8 @@ use Rattle.aom_debug_words.specs.Ways.{Way}
 use Rattle.aom_debug_sights.specs.Owners.{is_entry, is_frame, is_going, source_in}
 use Rattle.aom_debug_sights.specs.Sights.{class_of, counted}
 use Rattle.aom_debug_sights.specs.Telling.{gathered}
+use Rattle.aom_debug_paths.specs.declared.finding.Series.{Series}
+use Rattle.aom_debug_paths.specs.declared.finding.Series.TheVariants as series
 use Rattle.aom_debug_paths.specs.declared.following.Found.{Found}
 use Rattle.aom_debug_sights.specs.declared.holding.Holding.{Holding}
 use Rattle.aom_debug_sights.specs.declared.holding.Holding.TheVariants as holds
@@ -39,13 +41,33 @@ abbrev pub numbered : (ℕ → Bool) → ℕ → ℕ → Option ℕ
 numbered f k zero = None
 numbered f k (suc n) = or_else (numbered f k n) (at_count f k n)
 
+-- whether one of a series stands at a place of the state
+abbrev pub is_such : Series → State → ℕ → Bool
+is_such series.Frames s = λ k. is_frame (over s.tasks k)
+is_such series.Entries s = λ k. is_entry (over s.items k)
+is_such series.Goings s = λ k. is_going (over s.tasks k)
+
+abbrev pub length_of : Series → State → ℕ
+length_of series.Frames s = length s.tasks
+length_of series.Entries s = length s.items
+length_of series.Goings s = length s.tasks
+
+abbrev pub places_in : Series → Parts → ℕ
+places_in series.Frames m = length m.stack.tasks
+places_in series.Entries m = length m.entries.items
+places_in series.Goings m = length m.stack.tasks
+
+-- of the one over so many others
+abbrev pub place_in : Series → State → ℕ → Option ℕ
+place_in a s k = numbered (is_such a s) k (length_of a s)
+
 -- as the map of owners numbers them
 abbrev pub outer_place : State → Outer → Option Place
 outer_place s At_root = Some (Elsewhere Root)
-outer_place s (In_register frame i) = option_map (λ d. Register d i) (numbered (λ k. is_frame (over s.tasks k)) frame (length s.tasks))
-outer_place s (In_entry entry) = option_map (λ h. Entry h) (numbered (λ k. is_entry (over s.items k)) entry (length s.items))
+outer_place s (In_register frame i) = option_map (λ d. Register d i) (place_in series.Frames s frame)
+outer_place s (In_entry entry) = option_map (λ h. Entry h) (place_in series.Entries s entry)
 outer_place s At_service = Some (Elsewhere In_service)
-outer_place s (In_going going) = option_map (λ d. Going d) (numbered (λ k. is_going (over s.tasks k)) going (length s.tasks))
+outer_place s (In_going going) = option_map (λ d. Going d) (place_in series.Goings s going)
 
 abbrev pub held_in : List Cell → Option Place → Option Object
 held_in cs None = None

@@ -1,13 +1,11 @@
 //! The places that are in no object, by their numbers from the bottom.
-ghost use Rattle.std.specs.Prelude.{◌≡◌, ◌==◌, ◌&&◌, IfSome, length, option_map};
+ghost use Rattle.std.specs.Prelude.{◌≡◌, ◌==◌, ◌&&◌, ◌<◌, ◌≤◌, IfSome, cond, option_map};
 ghost use Rattle.aom_image.specs.Image.{Image};
 ghost use Rattle.aom_parts.specs.Stands.{StandsFor};
-ghost use Rattle.aom_sound.specs.Owned.{over};
 ghost use Rattle.aom_sound.specs.Places.{Entry as At_entry, Going as Goes, Register as In_register_of};
 ghost use Rattle.aom_sound.specs.State.{State};
 ghost use Rattle.aom_debug_sights.specs.Holdings.{IsOwner, place_of};
-ghost use Rattle.aom_debug_sights.specs.Owners.{is_entry, is_frame, is_going};
-ghost use Rattle.aom_debug_paths.specs.Paths.{numbered, outer_place};
+ghost use Rattle.aom_debug_paths.specs.Paths.{is_such, outer_place, place_in, places_in};
 
 use aom_debug_sights::{Owner, entries_at, frames_at, goings_at};
 use aom_debug_words::Outer;
@@ -21,47 +19,53 @@ fn is_meant(here: usize, others: usize, number: u16) -> bool
     here == 1 && others == usize::from(number)
 }
 
-/// The depth of the frame over so many others.
-fn frame_depth(parts: &Parts, frame: u16) -> Option<usize>
-    ensures { (p : Image) (s : State) → StandsFor (record { image = p; parts = parts.now }) s → result ≡ numbered (λ k. is_frame (over s.tasks k)) frame (length s.tasks) }
-{
-    let mut frames = 0;
-    for depth in 0..parts.stack.len() {
-        let here = frames_at(parts, depth);
-        if is_meant(here, frames, frame) {
-            return Some(depth);
-        }
-        frames += here;
-    }
-    None
+/// What is numbered from the bottom.
+#[derive(Clone, Copy)]
+enum Series {
+    /// The methods at hand.
+    Frames,
+    /// What stands in the cleanup stack, without its marks.
+    Entries,
+    /// The destructions at hand.
+    Goings,
 }
 
-/// The height of the cleanup entry over so many others.
-fn entry_height(parts: &Parts, entry: u16) -> Option<usize>
-    ensures { (p : Image) (s : State) → StandsFor (record { image = p; parts = parts.now }) s → result ≡ numbered (λ k. is_entry (over s.items k)) entry (length s.items) }
-{
-    let mut entries = 0;
-    for height in 0..parts.entries.len() {
-        let here = entries_at(parts, height);
-        if is_meant(here, entries, entry) {
-            return Some(height);
+impl Series {
+    /// How many places there are at which one may stand.
+    fn places(self, parts: &Parts) -> usize
+        ensures { result ≡ places_in self parts.now }
+    {
+        match self {
+            Series::Frames | Series::Goings => parts.stack.len(),
+            Series::Entries => parts.entries.len(),
         }
-        entries += here;
     }
-    None
+
+    /// How many stand at that place.
+    fn count_at(self, parts: &Parts, place: usize) -> usize
+        requires { place < places_in self parts.now }
+        ensures few { result ≤ 1 }
+        ensures value { (p : Image) (s : State) → StandsFor (record { image = p; parts = parts.now }) s → result ≡ cond (is_such self s place) 1 0 }
+    {
+        match self {
+            Series::Frames => frames_at(parts, place),
+            Series::Entries => entries_at(parts, place),
+            Series::Goings => goings_at(parts, place),
+        }
+    }
 }
 
-/// The depth of the destruction over so many others.
-fn going_depth(parts: &Parts, going: u16) -> Option<usize>
-    ensures { (p : Image) (s : State) → StandsFor (record { image = p; parts = parts.now }) s → result ≡ numbered (λ k. is_going (over s.tasks k)) going (length s.tasks) }
+/// The place of the one over so many others.
+fn numbered_place(parts: &Parts, series: Series, number: u16) -> Option<usize>
+    ensures { (p : Image) (s : State) → StandsFor (record { image = p; parts = parts.now }) s → result ≡ place_in series s number }
 {
-    let mut goings = 0;
-    for depth in 0..parts.stack.len() {
-        let here = goings_at(parts, depth);
-        if is_meant(here, goings, going) {
-            return Some(depth);
+    let mut others = 0;
+    for place in 0..series.places(parts) {
+        let here = series.count_at(parts, place);
+        if is_meant(here, others, number) {
+            return Some(place);
         }
-        goings += here;
+        others += here;
     }
     None
 }
@@ -103,9 +107,12 @@ pub(crate) fn outer_owner(parts: &Parts, outer: Outer) -> Option<Owner>
 {
     match outer {
         Outer::Root => Some(Owner::Root),
-        Outer::Register(frame, register) => register_owner(frame_depth(parts, frame), register),
-        Outer::Entry(entry) => entry_owner(entry_height(parts, entry)),
+        Outer::Register(frame, register) => register_owner(
+            numbered_place(parts, Series::Frames, frame),
+            register,
+        ),
+        Outer::Entry(entry) => entry_owner(numbered_place(parts, Series::Entries, entry)),
         Outer::Service => Some(Owner::Service),
-        Outer::Going(going) => going_owner(going_depth(parts, going)),
+        Outer::Going(going) => going_owner(numbered_place(parts, Series::Goings, going)),
     }
 }
