@@ -13,8 +13,8 @@ ghost use Rattle.aom_main.specs.Beside.{AreNew};
 use aom_command_line::{RunWords, TriesWords, Words, WordsFault, read_words};
 use aom_debug::debug_bytes;
 use aom_explaining::{
-    asm_explained, check_by_text, check_explained, check_lined, dot_named, prices_named,
-    run_by_text, run_explained, run_named, tell_explained,
+    asm_explained, check_by_text, check_explained, check_lined, debug_named, dot_named,
+    explore_by_text, prices_named, run_by_text, run_explained, run_named, tell_explained,
 };
 use aom_host::{Input, Output, read_file};
 use aom_injection::{Part, Tries};
@@ -168,8 +168,10 @@ fn obey<W: Sink, E: Sink>(
             let purpose = Purpose::of_run(*explain, *names);
             run_beside(rt, run, text, purpose, out, errors)
         }
-        Words::Debug { run } => run_beside(rt, run, &None, Purpose::Debug, out, errors),
-        Words::Explore { run, tries } => explore_beside(rt, run, tries_of(*tries), out, errors),
+        Words::Debug { run, text } => run_beside(rt, run, text, Purpose::Debug, out, errors),
+        Words::Explore { run, tries, text } => {
+            explore_beside(rt, run, text, tries_of(*tries), out, errors)
+        }
         Words::Asm { text, explain } if *explain => {
             Ok(asm_explained(alloc, &read_file(rt, text)?, out, errors))
         }
@@ -266,7 +268,7 @@ enum Purpose {
     Names,
     /// To run, and to explain a fault, by the lines of the image's text where there is one; and by its names where that is asked.
     Explain { names: bool },
-    /// To run as the commands say that come from standard input.
+    /// To run as the commands say that come from standard input, and to tell by the names of the image's text where there is one.
     Debug,
 }
 
@@ -313,9 +315,16 @@ impl Purpose {
             Purpose::Debug => {
                 let mut input = Input::new(rt.stdin());
                 let mut out = Output::new(rt.stdout());
-                debug_bytes(
-                    alloc, image, script, limit, boxes, &mut input, MOST_READS, &mut out, errors,
-                )
+                match &files.program.text {
+                    Some(text) => debug_named(
+                        alloc, image, text, script, limit, boxes, &mut input, MOST_READS, &mut out,
+                        errors,
+                    ),
+                    None => debug_bytes(
+                        alloc, image, script, limit, boxes, &mut input, MOST_READS, &mut out,
+                        errors,
+                    ),
+                }
             }
         }
     }
@@ -387,13 +396,14 @@ fn tries_of(words: TriesWords) -> Tries {
 fn explore_beside<W: Sink, E: Sink>(
     rt: &HostRuntime,
     run: &RunWords,
+    text: &Option<String>,
     tries: Tries,
     out: &mut W,
     errors: &mut E,
 ) -> Result<ExitStatus, Fault>
     requires limit { (1 ≤ run.now.limit) × (run.now.limit ≤ 1000000000) }
 {
-    let files = RunFiles::read(rt, run, &None)?;
+    let files = RunFiles::read(rt, run, text)?;
     match files.ready(rt.alloc(), run.asm, Telling::Plain, errors) {
         Ok(files) => {
             let ended = explore_files(rt.alloc(), run, tries, &files, out, errors);
@@ -404,7 +414,7 @@ fn explore_beside<W: Sink, E: Sink>(
     }
 }
 
-/// Runs an image again and again, beside the natives that the words name.
+/// Runs an image again and again, beside the natives that the words name; where its text is named, once it is known to be of the image.
 fn explore_files<W: Sink, E: Sink>(
     alloc: Global,
     run: &RunWords,
@@ -417,14 +427,9 @@ fn explore_files<W: Sink, E: Sink>(
 {
     let limit = run.limit;
     let kinds = run.natives.as_slice();
-    explore_bytes(
-        alloc,
-        &files.program.image,
-        &files.script,
-        limit,
-        kinds,
-        tries,
-        out,
-        errors,
-    )
+    let (image, script) = (&files.program.image, &files.script);
+    match &files.program.text {
+        Some(text) => explore_by_text(alloc, image, text, script, limit, kinds, tries, out, errors),
+        None => explore_bytes(alloc, image, script, limit, kinds, tries, out, errors),
+    }
 }

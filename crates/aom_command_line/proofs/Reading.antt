@@ -156,15 +156,15 @@ names_decline rows (faults.Text text) lacks = λ taken command. inr (inl (refl, 
 names_decline rows faults.Native declines = elim declines [ ]
 names_decline rows faults.Memory declines = declines
 
--- `dot` declines a text beside another
-pub dot_declines : (rows : List Row) (fault : WordsFault) → DeclinesText rows true fault → Declines true (Some (codes "dot", rows)) fault
-dot_declines rows (faults.Text text) (inl (named, unused)) = absurd (true_is_used unused)
+-- where a text is always of use, it is declined beside another
+pub two_decline : (command : Text) (rows : List Row) (fault : WordsFault) → (command ≡ codes "explore") ⊎ (command ≡ codes "debug") ⊎ (command ≡ codes "dot") → DeclinesText rows true fault → Declines true (Some (command, rows)) fault
+two_decline command rows (faults.Text text) is (inl (named, unused)) = absurd (true_is_used unused)
   where
     true_is_used : true ≡ false → ⊥
     true_is_used a = cc
-dot_declines rows (faults.Text text) (inr two) = λ taken command. inr (inr (refl, two))
-dot_declines rows faults.Native declines = elim declines [ ]
-dot_declines rows faults.Memory declines = declines
+two_decline command rows (faults.Text text) is (inr two) = λ taken asked. inr (inr (is, two))
+two_decline command rows faults.Native is declines = elim declines [ ]
+two_decline command rows faults.Memory is declines = declines
 
 -- what `clap` takes, and what it does not
 pub declines : (taken : Bool) (met : Option (Text × List Row)) (fault : WordsFault) → Declines true met fault → Declines taken met fault

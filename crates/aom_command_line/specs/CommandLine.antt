@@ -138,14 +138,14 @@ with_files command = with_rule (with_rule (with_rule (with_rule command asm_rule
 abbrev pub run_form : App
 run_form = with_files (with_rule (with_rule (with_rule (with_rule (new_app (codes "run")) limit_rule) explain_rule) names_rule) text_rule)
 
--- explore [--limit N] [--from N] [--to N] [--kills] [--deaths] [--pairs] [--tries N] [--asm] IMAGE SCRIPT [NATIVE]..
+-- explore [--limit N] [--from N] [--to N] [--kills] [--deaths] [--pairs] [--tries N] [--text TEXT] [--asm] IMAGE SCRIPT [NATIVE]..
 abbrev pub explore_form : App
 explore_form =
-    with_files (with_rule (with_rule (with_rule (with_rule (with_rule (with_rule (with_rule (new_app (codes "explore")) limit_rule) from_rule) to_rule) kills_rule) deaths_rule) pairs_rule) tries_rule)
+    with_files (with_rule (with_rule (with_rule (with_rule (with_rule (with_rule (with_rule (with_rule (new_app (codes "explore")) limit_rule) from_rule) to_rule) kills_rule) deaths_rule) pairs_rule) tries_rule) text_rule)
 
--- debug [--limit N] [--asm] IMAGE SCRIPT [NATIVE]..
+-- debug [--limit N] [--text TEXT] [--asm] IMAGE SCRIPT [NATIVE]..
 abbrev pub debug_form : App
-debug_form = with_files (with_rule (new_app (codes "debug")) limit_rule)
+debug_form = with_files (with_rule (with_rule (new_app (codes "debug")) limit_rule) text_rule)
 
 -- the program's name, its version, and one of these
 abbrev pub bare_form : App
@@ -287,8 +287,8 @@ Asks (Some met) (Check image asm prices explain lines text) =
 Asks (Some met) (Run run explain names text) =
     (met.0 ≡ codes "run") × AsksRun met.1 run × IsFlag (one_of (codes "explain") met.1) explain
     × AsksNames met.1 run.asm names × AsksText met.1 (explain || names) run.asm text
-Asks (Some met) (Explore run tries) = (met.0 ≡ codes "explore") × AsksRun met.1 run × AsksTries met.1 tries
-Asks (Some met) (Debug run) = (met.0 ≡ codes "debug") × AsksRun met.1 run
+Asks (Some met) (Explore run tries text) = (met.0 ≡ codes "explore") × AsksRun met.1 run × AsksTries met.1 tries × AsksText met.1 true run.asm text
+Asks (Some met) (Debug run text) = (met.0 ≡ codes "debug") × AsksRun met.1 run × AsksText met.1 true run.asm text
 Asks (Some met) (Asm text explain) = (met.0 ≡ codes "asm") × (string_bytes text ≡ word_of (codes "TEXT") met.1) × IsFlag (one_of (codes "explain") met.1) explain
 Asks (Some met) (Dis image) = (met.0 ≡ codes "dis") × (string_bytes image ≡ word_of (codes "IMAGE") met.1)
 Asks (Some met) (Dot image asm text) = (met.0 ≡ codes "dot") × (string_bytes image ≡ word_of (codes "IMAGE") met.1) × IsFlag (one_of (codes "asm") met.1) asm × AsksText met.1 true asm text
@@ -309,7 +309,7 @@ HasNoUseForText None = ⊥
 HasNoUseForText (Some met) =
     ((met.0 ≡ codes "check") × (LacksUse (codes "explain" ∷ codes "lines" ∷ codes "prices" ∷ []) met.1 ⊎ NamesTwoTexts met.1 ⊎ LacksText (codes "lines") met.1 ⊎ AsksTwoTellings met.1))
     ⊎ ((met.0 ≡ codes "run") × (LacksUse (codes "explain" ∷ codes "names" ∷ []) met.1 ⊎ NamesTwoTexts met.1 ⊎ LacksText (codes "names") met.1))
-    ⊎ ((met.0 ≡ codes "dot") × NamesTwoTexts met.1)
+    ⊎ (((met.0 ≡ codes "explore") ⊎ (met.0 ≡ codes "debug") ⊎ (met.0 ≡ codes "dot")) × NamesTwoTexts met.1)
 
 -- why words ask nothing: `clap` does not take them, or they do not fit together, or they do not name natives where they should, or memory is wanting
 abbrev pub Declines : Bool → Option (Text × List Row) → WordsFault → Type 0
@@ -331,8 +331,8 @@ Says kind faults.Memory = Unit {0}
 abbrev pub KeepsLimit : Words → Type 0
 KeepsLimit (Check image asm prices explain lines text) = Unit {0}
 KeepsLimit (Run run explain names text) = (1 ≤ run.limit) × (run.limit ≤ 1000000000)
-KeepsLimit (Explore run tries) = (1 ≤ run.limit) × (run.limit ≤ 1000000000)
-KeepsLimit (Debug run) = (1 ≤ run.limit) × (run.limit ≤ 1000000000)
+KeepsLimit (Explore run tries text) = (1 ≤ run.limit) × (run.limit ≤ 1000000000)
+KeepsLimit (Debug run text) = (1 ≤ run.limit) × (run.limit ≤ 1000000000)
 KeepsLimit (Asm text explain) = Unit {0}
 KeepsLimit (Dis image) = Unit {0}
 KeepsLimit (Dot image asm text) = Unit {0}

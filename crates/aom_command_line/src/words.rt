@@ -43,10 +43,14 @@ pub enum Words {
     Explore {
         run: RunWords,
         tries: TriesWords,
+        /// The text that the image is of.
+        text: Option<String>,
     },
     /// Run as commands say that come in.
     Debug {
         run: RunWords,
+        /// The text that the image is of, whose names and lines are told.
+        text: Option<String>,
     },
     Asm {
         text: String,
@@ -311,6 +315,7 @@ fn explore_command<'a>(alloc: Global) -> Result<Command<'a>, AllocError>
     let command = with_arg(command, deaths_arg(alloc));
     let command = with_arg(command, pairs_arg(alloc));
     let command = with_arg(command, tries_arg(alloc));
+    let command = with_arg(command, text_arg(alloc));
     with_files(alloc, command)
 }
 
@@ -320,6 +325,7 @@ fn debug_command<'a>(alloc: Global) -> Result<Command<'a>, AllocError>
     let command = Command::new(alloc, "debug")
         .about("Runs an image as commands say, which are read from standard input")
         .arg(limit_arg(alloc));
+    let command = with_arg(command, text_arg(alloc));
     with_files(alloc, command)
 }
 
@@ -513,9 +519,10 @@ fn explore_words(alloc: Global, own: &ArgMatches) -> Result<Words, WordsFault>
     ensures asks { IfOk result (λ asked. Asks (Some (codes "explore", rows_of (found_of own.now))) asked) }
     ensures declines { IfErr result (λ fault. Declines true (Some (codes "explore", rows_of (found_of own.now))) fault) }
 {
-    let run = run_words(alloc, own, is_set(own, "asm"))?;
+    let asm = is_set(own, "asm");
     Ok(Words::Explore {
-        run,
+        text: text_of(alloc, own, true, asm)?,
+        run: run_words(alloc, own, asm)?,
         tries: tries_words(own),
     })
 }
@@ -538,8 +545,11 @@ fn debug_words(alloc: Global, own: &ArgMatches) -> Result<Words, WordsFault>
     ensures asks { IfOk result (λ asked. Asks (Some (codes "debug", rows_of (found_of own.now))) asked) }
     ensures declines { IfErr result (λ fault. Declines true (Some (codes "debug", rows_of (found_of own.now))) fault) }
 {
-    let run = run_words(alloc, own, is_set(own, "asm"))?;
-    Ok(Words::Debug { run })
+    let asm = is_set(own, "asm");
+    Ok(Words::Debug {
+        text: text_of(alloc, own, true, asm)?,
+        run: run_words(alloc, own, asm)?,
+    })
 }
 
 fn asm_words(alloc: Global, own: &ArgMatches) -> Result<Words, WordsFault>

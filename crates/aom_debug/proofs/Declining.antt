@@ -1,20 +1,25 @@
 -- What a debugger answers that declines: by cases of what is asked.
-use Rattle.std.proofs.Common.{◌≡◌, ◌<◌, ◌≤◌, ◌||◌, ◌++◌, ◌∷◌, [], ℕ, Bool, true, false, List, Option, Some, None, Result, Ok, Err, arith, rules, ap, cond, inl, inr, length, nat_lt, refl}
+use Rattle.std.proofs.Common.{◌≡◌, ◌<◌, ◌≤◌, ◌||◌, ◌++◌, ◌∷◌, [], ℕ, Bool, true, false, List, Option, Some, None, Result, Ok, Err, arith, rules, ap, codes, cond, inl, inr, length, nat_lt, refl}
 use Rattle.std.specs.Prelude.{IfErr, IfOk}
 use Rattle.std.proofs.lemmas.Bool.Decides.{nat_tests}
+use Rattle.std.specs.Str.{bytes_eq}
 use Rattle.aom_debug_words.specs.Commands.{command_said, known, line_says, words_say}
 use Rattle.aom_debug_words.specs.declared.command.Command.{Command}
 use Rattle.aom_debug_words.specs.declared.command.Command.TheVariants.{Step, Next, Finish, Turn, Go, Until, Break, Unbreak, Breaks, Clock, Frames, Help, Cells, Owners, Cleanup, Actives, Recent}
 use Rattle.aom_debug_words.specs.declared.fault.DebugFault.{DebugFault}
-use Rattle.aom_debug_words.specs.declared.fault.DebugFault.TheVariants.{BadCommand, Ended}
+use Rattle.aom_debug_words.specs.declared.fault.DebugFault.TheVariants.{BadCommand, Ended, NoSuch}
 use Rattle.aom_debug_words.specs.declared.fault.DebugFault.TheVariants as faults
 use Rattle.aom_debug_words.specs.declared.spot.Spot.{Spot}
 use Rattle.aom_debug_words.specs.Marks.{has_spot, is_set, with_spot}
 use Rattle.aom_parts.specs.Progress.{progress_by}
 use Rattle.aom_parts.specs.declared.progress.Progress.TheVariants as progress
 use Rattle.aom_text.specs.Words.{words}
+use Rattle.aom_text.specs.Numbers.{number_of, number_within}
 use Rattle.aom_text.specs.declared.number.Number.{Number}
 use Rattle.aom_transcript.specs.declared.line.Ending.{Ending}
+use Rattle.aom_debug_names.specs.Names.{Names, method_named}
+use Rattle.aom_debug_names.specs.Lines.{spot_in}
+use Rattle.aom_debug_names.specs.Commands.{command_by, has_text, is_mark, mark_at, mark_in, mark_named, mark_numbered, mark_said, mark_there, marked, numbered, or_named}
 use Rattle.aom_debug.specs.Commands.{is_count, spot_named}
 use Rattle.aom_debug.specs.Debugging.{Answer, CountsNot, Declined, Goes, GoesNamed, Marks, MarksAt, Outgoing, steps_of}
 use Rattle.aom_debug.specs.Obeying.{Heeds, Obeys, Passes}
@@ -112,8 +117,8 @@ module _ {X : Type 0} {B : X → Type 0} where
   passes_on d out failed well _ not = (well, refl, record { same = refl; silent = refl })
 
 -- no line says that the run has ended
-pub says_no_end : (line : List ℕ) → command_said line ≡ Err Ended → ⊥
-says_no_end line is = go (nat_lt 256 (length line)) is
+said_no_end : (line : List ℕ) → command_said line ≡ Err Ended → ⊥
+said_no_end line is = go (nat_lt 256 (length line)) is
   where
     by_command : (o : Option Command) → known o ≡ Err Ended → ⊥
     by_command None e = cc
@@ -126,3 +131,51 @@ says_no_end line is = go (nat_lt 256 (length line)) is
     go : (b : Bool) → cond b (Err BadCommand) (line_says (words line)) ≡ Err Ended → ⊥
     go true e = cc
     go false e = by_words (words line) e
+
+-- nor by names
+mark_no_end : (o : Option Command) → marked o ≡ Err Ended → ⊥
+mark_no_end None e = cc
+mark_no_end (Some command) e = cc
+
+there_no_end : (verb : List ℕ) (spot : Option Spot) → mark_there verb spot ≡ Err Ended → ⊥
+there_no_end verb None e = cc
+there_no_end verb (Some spot) e = mark_no_end (mark_at verb (numbered spot.method) (numbered spot.place)) e
+
+in_no_end : (ns : Names) (verb : List ℕ) (line : Option ℕ) → mark_in ns verb line ≡ Err Ended → ⊥
+in_no_end ns verb None e = cc
+in_no_end ns verb (Some line) e = there_no_end verb (spot_in ns.text line) e
+
+named_no_end : (ns : Names) (verb name : List ℕ) (method : Option ℕ) (number : Number) → mark_named ns verb name method number ≡ Err Ended → ⊥
+named_no_end ns verb name (Some method) number e = mark_no_end (mark_at verb (numbered method) number) e
+named_no_end ns verb name None number e = go (bytes_eq name (codes "line")) e
+  where
+    go : (b : Bool) → cond b (mark_in ns verb (number_within 1 1048576 number)) (Err NoSuch) ≡ Err Ended → ⊥
+    go true x = in_no_end ns verb (number_within 1 1048576 number) x
+    go false x = cc
+
+numbered_no_end : (ns : Names) (verb name : List ℕ) (number : Option Number) → mark_numbered ns verb name number ≡ Err Ended → ⊥
+numbered_no_end ns verb name None e = cc
+numbered_no_end ns verb name (Some number) e = named_no_end ns verb name (method_named ns name) number e
+
+place_no_end : (ns : Names) (ws : List (List ℕ)) → mark_said ns ws ≡ Err Ended → ⊥
+place_no_end ns [] e = cc
+place_no_end ns (verb ∷ []) e = cc
+place_no_end ns (verb ∷ name ∷ []) e = cc
+place_no_end ns (verb ∷ name ∷ number ∷ []) e = go (is_mark verb) e
+  where
+    go : (b : Bool) → cond b (mark_numbered ns verb name (number_of number)) (Err BadCommand) ≡ Err Ended → ⊥
+    go true x = numbered_no_end ns verb name (number_of number) x
+    go false x = cc
+place_no_end ns (verb ∷ name ∷ number ∷ w ∷ ws) e = cc
+
+or_no_end : (ns : Names) (line : List ℕ) (said : Result (Option Command) DebugFault) → (said ≡ Err Ended → ⊥) → or_named ns line said ≡ Err Ended → ⊥
+or_no_end ns line (Ok command) not e = cc
+or_no_end ns line (Err fault) not e = go (nat_lt 256 (length line)) (has_text ns) e
+  where
+    go : (long text : Bool) → cond long (Err fault) (cond text (mark_said ns (words line)) (Err fault)) ≡ Err Ended → ⊥
+    go true text x = not x
+    go false true x = place_no_end ns (words line) x
+    go false false x = not x
+
+pub says_no_end : (ns : Names) (line : List ℕ) → command_by ns line ≡ Err Ended → ⊥
+says_no_end ns line is = or_no_end ns line (command_said line) (said_no_end line) is

@@ -44,7 +44,7 @@ module _ {X : Type 0} {B : X → Type 0} (old new : Debugger X B) (out : Outgoin
   goes_done way x s stands =
       let moved = x.1 in
       let f = moved.goes s stands in
-      (moved_text old.mover.machine.core.image f.0 f.1, f.1, (ended_at s stands ∙ x.0.1, f.0, f.2, moved.spots, refl), f.3, f.4)
+      (moved_text old.names old.mover.machine.core.image f.0 f.1, f.1, (ended_at s stands ∙ x.0.1, f.0, f.2, moved.spots, moved.names, refl), f.3, f.4)
 
   -- nothing changed
   shown_so : (shows : List ℕ → Type 0) (s : State) (text : List ℕ) → new ≡ old → shows text → Shown shows (standing old s) text (standing new s)
@@ -238,7 +238,7 @@ module _ {X : Type 0} {B : X → Type 0} (old new : Debugger X B) (out : Outgoin
         cut.fails,
         (λ s stands.
             let f = cut.goes s stands in
-            (moved_text old.mover.machine.core.image f.0 f.1, inr (on s (ended_at s stands ∙ x.0.1), f.0, f.1, f.2, refl), f.3)),
+            (moved_text old.names old.mover.machine.core.image f.0 f.1, inr (on s (ended_at s stands ∙ x.0.1), f.0, f.1, f.2, refl), f.3)),
       )
 
   looks_cut : (command : Command) (shows : Debugger X B → State → List ℕ → Type 0) → ((s : State) (text : List ℕ) → shows old s text → Does old.mover.machine.core.image (outside_of old.mover) command (standing old s) text (standing old s))

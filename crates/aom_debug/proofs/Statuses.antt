@@ -8,6 +8,7 @@ use Rattle.aom_script.proofs.Faulting.{IsOfText, is_of_text}
 use Rattle.aom_script.specs.Script.{RefusesOrWants, Script, denoted}
 use Rattle.aom_script.specs.declared.fault.ScriptFault.{ScriptFault}
 use Rattle.aom_script.specs.declared.fault.ScriptFaultKind.{ScriptFaultKind}
+use Rattle.aom_debug_names.specs.Names.{Names}
 use Rattle.aom_debug.specs.Movers.{outside_of}
 use Rattle.aom_debug.specs.declared.debugger.Debugger.{Debugger}
 use Rattle.aom_main.specs.Acceptable.{IsAcceptable, IsSpelled, RefusesOrWants as RefusesImage}
@@ -19,7 +20,7 @@ use Rattle.aom_main.specs.declared.status.ExitStatus.{ExitStatus}
 use Rattle.aom_main.specs.declared.status.ExitStatus.TheVariants as statuses
 use Rattle.aom_main.proofs.Telling.{unaccepted as not_run, unscripted as not_scripted}
 use Rattle.aom_transcript.specs.Text.{line_text}
-use Rattle.aom_debug.specs.Answers.{DebugAnswers, Debugs, start_of}
+use Rattle.aom_debug.specs.Answers.{DebugAnswersBy, Debugs, start_of}
 use Rattle.aom_debug.specs.Answers.DebugBreaks.{input_fails, machine_wants_memory, output_fails, script_wants_memory}
 use Rattle.aom_debug.specs.Beginning.{IsBegun}
 use Rattle.aom_debug.specs.Conversing.{BreaksDown, Broken, Given, Held, HoldsAll, IsUnread, Stopped, StopsShort}
@@ -34,23 +35,24 @@ by_done So (Err fault) result is not holds fails by or = subst So (sym not) (or 
 
 -- ---- an accepted image under a script
 
-module _ (bytes text : List ℕ) (limit natives reads : ℕ) (p : Image) (script : Script) (acceptable : IsAcceptable p) (spelled : IsSpelled bytes p) (denotes : denoted text ≡ Ok script) (given : Given) (out errors : Sent) where
+module _ (ns : Names) (bytes text : List ℕ) (limit natives reads : ℕ) (p : Image) (script : Script) (acceptable : IsAcceptable p) (spelled : IsSpelled bytes p) (denotes : denoted text ≡ Ok script) (given : Given) (out errors : Sent) where
   abbrev Answered : ExitStatus → Type 0
-  Answered = DebugAnswers bytes text limit natives reads given out errors
+  Answered = DebugAnswersBy ns bytes text limit natives reads given out errors
 
   debugs_of : HasNatives p natives → Debugs bytes text limit natives
   debugs_of enough = record { image = p; spelled = spelled; acceptable = acceptable; script = script; denotes = denotes; enough = enough }
 
-  module _ {X : Type 0} {B : X → Type 0} (d : Debugger X B) (begun : IsBegun p script limit natives d) where
+  module _ {X : Type 0} {B : X → Type 0} (d : Debugger X B) (begun : IsBegun ns p script limit natives d) where
     abbrev debugs : Debugs bytes text limit natives
     debugs = record { image = p; spelled = spelled; acceptable = acceptable; script = script; denotes = denotes; enough = begun.enough }
 
     -- what a session comes to from where the debugger begins
-    begun_so : (Q : Image → Outside → SessionState → Type 0) → Q d.mover.machine.core.image (outside_of d.mover) (standing d (boot_state p)) → Q p (outside_by script limit natives) (start_of p)
+    begun_so : (Q : Image → Outside → SessionState → Type 0) → Q d.mover.machine.core.image (outside_of d.mover) (standing d (boot_state p)) → Q p (outside_by script limit natives) (start_of ns p)
     begun_so Q x =
-        subst (λ q. Q q (outside_by script limit natives) (start_of p)) begun.image
-        (subst (λ o. Q d.mover.machine.core.image o (start_of p)) begun.outside (subst (λ ss. Q d.mover.machine.core.image (outside_of d.mover) (record { state = boot_state p; spots = ss; recent = [] })) begun.spots
-        (subst (λ rs. Q d.mover.machine.core.image (outside_of d.mover) (record { state = boot_state p; spots = d.breakpoints; recent = rs })) begun.recent x)))
+        subst (λ q. Q q (outside_by script limit natives) (start_of ns p)) begun.image
+        (subst (λ o. Q d.mover.machine.core.image o (start_of ns p)) begun.outside (subst (λ ss. Q d.mover.machine.core.image (outside_of d.mover) (record { state = boot_state p; spots = ss; recent = []; names = ns })) begun.spots
+        (subst (λ rs. Q d.mover.machine.core.image (outside_of d.mover) (record { state = boot_state p; spots = d.breakpoints; recent = rs; names = ns })) begun.recent
+        (subst (λ names. Q d.mover.machine.core.image (outside_of d.mover) (record { state = boot_state p; spots = d.breakpoints; recent = d.mover.recent; names = names })) begun.names x))))
 
     -- it was held whole
     pub held_of : HoldsAll d given out.before out.now → IsSilent errors → Answered statuses.Done
@@ -82,9 +84,9 @@ module _ (bytes text : List ℕ) (limit natives reads : ℕ) (p : Image) (script
 called : (fault : ScriptFault) (kind : ScriptFaultKind) → IsOfText kind → status_of (of_script_kind fault kind) ≡ statuses.CallRefused
 called fault kind h = grind arith
 
-module _ (bytes text : List ℕ) (limit natives reads : ℕ) (given : Given) (out errors : Sent) (status : ExitStatus) (unread : IsUnread given) (silent : IsSilent out) where
+module _ (ns : Names) (bytes text : List ℕ) (limit natives reads : ℕ) (given : Given) (out errors : Sent) (status : ExitStatus) (unread : IsUnread given) (silent : IsSilent out) where
   abbrev So : ExitStatus → Type 0
-  So = DebugAnswers bytes text limit natives reads given out errors
+  So = DebugAnswersBy ns bytes text limit natives reads given out errors
 
   pub unscripted : (fault : ScriptFault) (line : Fault) → Accepts bytes → RefusesOrWants text fault → line ≡ of_script fault → Told line status errors → So status
   unscripted fault line accepts (inl denotes) is told =

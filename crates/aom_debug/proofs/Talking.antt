@@ -10,7 +10,7 @@ use Rattle.aom_run.specs.Calls.{StandsFor}
 use Rattle.aom_debug.specs.Runs.{after}
 use Rattle.aom_debug.proofs.Keeping.{hears_as}
 use Rattle.aom_debug.proofs.Sending.{after_both, after_none}
-use Rattle.aom_debug_words.specs.Commands.{command_said}
+use Rattle.aom_debug_names.specs.Commands.{command_by}
 use Rattle.aom_debug_words.specs.Lines.{Kept, pending_of}
 use Rattle.aom_debug.specs.Movers.{Keeps, outside_of}
 use Rattle.aom_debug.specs.declared.debugger.Debugger.{Debugger}
@@ -90,7 +90,7 @@ module _ {X : Type 0} {B : X → Type 0} (p : Image) (outside : Outside) (start 
 
     module _ (now : Option (List ℕ)) (failed : Bool) where
       -- the output fails in it
-      pub talks_cut : (whole : List ℕ) (more : List (List ℕ)) → lines_of whole ≡ talks.lines ++ talks.rest ∷ more → HeardPart (command_said talks.rest) d (record { before = here; now = now; failed = failed }) → Broken p outside start whole before now failed
+      pub talks_cut : (whole : List ℕ) (more : List (List ℕ)) → lines_of whole ≡ talks.lines ++ talks.rest ∷ more → HeardPart (command_by d.names talks.rest) d (record { before = here; now = now; failed = failed }) → Broken p outside start whole before now failed
       talks_cut whole more are part =
           let f = part.goes talks.state talks.stands in
           record {
@@ -102,7 +102,7 @@ module _ {X : Type 0} {B : X → Type 0} (p : Image) (outside : Outside) (start 
             last = standing d talks.state;
             session = talks.session;
             next = f.0;
-            begins = subst (λ o. Begins p o (command_said talks.rest) (standing d talks.state) f.0) talks.same (subst (λ q. Begins q (outside_of d.mover) (command_said talks.rest) (standing d talks.state) f.0) talks.image f.1);
+            begins = subst (λ o. Begins p o (command_by d.names talks.rest) (standing d talks.state) f.0) talks.same (subst (λ q. Begins q (outside_of d.mover) (command_by d.names talks.rest) (standing d talks.state) f.0) talks.image f.1);
             fails = part.failed;
             sent = f.2.0;
             out = joined (take f.2.0 f.0) now f.2.1;
@@ -110,14 +110,14 @@ module _ {X : Type 0} {B : X → Type 0} (p : Image) (outside : Outside) (start 
 
     module _ (new : Debugger X B) (now : Option (List ℕ)) (failed : Bool) where
       -- it is done or refused
-      heeded : (heard : Heard (command_said talks.rest) d new (record { before = here; now = now; failed = failed })) → let f = heard.goes talks.state talks.stands in Session p outside start (talks.lines ++ talks.rest ∷ []) (talks.told ++ f.0) (standing new f.1)
+      heeded : (heard : Heard (command_by d.names talks.rest) d new (record { before = here; now = now; failed = failed })) → let f = heard.goes talks.state talks.stands in Session p outside start (talks.lines ++ talks.rest ∷ []) (talks.told ++ f.0) (standing new f.1)
       heeded heard =
           let f = heard.goes talks.state talks.stands in
           heeds talks.rest f.0 talks.session
-          (subst (λ o. Heeds p o (command_said talks.rest) (standing d talks.state) f.0 (standing new f.1)) talks.same (subst (λ q. Heeds q (outside_of d.mover) (command_said talks.rest) (standing d talks.state) f.0 (standing new f.1)) talks.image f.2))
+          (subst (λ o. Heeds p o (command_by d.names talks.rest) (standing d talks.state) f.0 (standing new f.1)) talks.same (subst (λ q. Heeds q (outside_of d.mover) (command_by d.names talks.rest) (standing d talks.state) f.0 (standing new f.1)) talks.image f.2))
 
       -- the last, which lacks its line feed
-      pub talks_last : has_bytes talks.rest ≡ true → Heard (command_said talks.rest) d new (record { before = here; now = now; failed = failed }) → Held p outside start text before now
+      pub talks_last : has_bytes talks.rest ≡ true → Heard (command_by d.names talks.rest) d new (record { before = here; now = now; failed = failed }) → Held p outside start text before now
       talks_last some heard =
           let f = heard.goes talks.state talks.stands in
           record {
@@ -128,7 +128,7 @@ module _ {X : Type 0} {B : X → Type 0} (p : Image) (outside : Outside) (start 
           }
 
       -- a line that is whole
-      pub talks_line : (byte : ℕ) (then : Kept) → (byte == 10) ≡ true → then ≡ pending_of [] → Keeps d.mover new.mover → Heard (command_said talks.rest) d new (record { before = here; now = now; failed = failed })
+      pub talks_line : (byte : ℕ) (then : Kept) → (byte == 10) ≡ true → then ≡ pending_of [] → Keeps d.mover new.mover → Heard (command_by d.names talks.rest) d new (record { before = here; now = now; failed = failed })
           → Talks p outside start (text ++ byte ∷ []) new then before now
       talks_line byte then feeds anew keeps heard =
           let f = heard.goes talks.state talks.stands in
@@ -170,7 +170,7 @@ module _ {X : Type 0} {B : X → Type 0} where
     ends_at_line is p outside start text before talks = talks_out p outside start text before d kept here talks (is_there talks.rest ∙ ap not (sym (says_empty talks.rest talks.pending) ∙ is))
 
     -- in a line
-    module _ (is : empty ≡ false) (now : Option (List ℕ)) (failed : Bool) (said : Result (Option Command) DebugFault) (says : (line : List ℕ) → kept ≡ pending_of line → said ≡ command_said line) where
+    module _ (is : empty ≡ false) (now : Option (List ℕ)) (failed : Bool) (said : Result (Option Command) DebugFault) (says : (line : List ℕ) → kept ≡ pending_of line → said ≡ command_by d.names line) where
       pub ends_in_line : (new : Debugger X B) → Heard said d new (record { before = here; now = now; failed = failed }) → Ends d kept here now
       ends_in_line new heard p outside start text before talks =
           talks_last p outside start text before d kept here talks new now failed (is_there talks.rest ∙ ap not (sym (says_empty talks.rest talks.pending) ∙ is))
@@ -190,7 +190,7 @@ module _ {X : Type 0} {B : X → Type 0} where
         let on = talks_on p outside start (text ++ bytes) before d kept mid (goes p outside start text before talks) byte now other adds in
         subst (λ t. Talks p outside start t d now before mid) (append_assoc text bytes (byte ∷ []) ∙ ap (λ t. text ++ t) (sym is)) on
 
-    pub goes_line : (new : Debugger X B) (then : Kept) (out : Option (List ℕ)) (failed : Bool) (said : Result (Option Command) DebugFault) → (byte == 10) ≡ true → then ≡ pending_of [] → ((line : List ℕ) → kept ≡ pending_of line → said ≡ command_said line) → Keeps d.mover new.mover
+    pub goes_line : (new : Debugger X B) (then : Kept) (out : Option (List ℕ)) (failed : Bool) (said : Result (Option Command) DebugFault) → (byte == 10) ≡ true → then ≡ pending_of [] → ((line : List ℕ) → kept ≡ pending_of line → said ≡ command_by d.names line) → Keeps d.mover new.mover
         → Heard said d new (record { before = mid; now = out; failed = failed }) → GoesOn a first here more new then out
     goes_line new then out failed said feeds anew says keeps heard p outside start text before talks =
         let t = goes p outside start text before talks in
@@ -200,7 +200,7 @@ module _ {X : Type 0} {B : X → Type 0} where
 
   -- the output fails in the line that a byte ends
   module _ (a d : Debugger X B) (first kept : Kept) (here mid : Option (List ℕ)) (bytes others all : List ℕ) (byte : ℕ) (is : all ≡ bytes ++ byte ∷ others) (goes : GoesOn a first here bytes d kept mid) where
-    pub breaks_in_line : (out : Option (List ℕ)) (failed : Bool) (said : Result (Option Command) DebugFault) → (byte == 10) ≡ true → ((line : List ℕ) → kept ≡ pending_of line → said ≡ command_said line) → HeardPart said d (record { before = mid; now = out; failed = failed })
+    pub breaks_in_line : (out : Option (List ℕ)) (failed : Bool) (said : Result (Option Command) DebugFault) → (byte == 10) ≡ true → ((line : List ℕ) → kept ≡ pending_of line → said ≡ command_by d.names line) → HeardPart said d (record { before = mid; now = out; failed = failed })
         → BreaksOff a first here all out failed
     breaks_in_line out failed said feeds says part p outside start text before talks =
         let t = goes p outside start text before talks in

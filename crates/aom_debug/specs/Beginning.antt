@@ -5,16 +5,18 @@ use Rattle.aom_sound.specs.World.{boot_state}
 use Rattle.aom_run.specs.Calls.{StandsFor}
 use Rattle.aom_script.specs.Script.{Script}
 use Rattle.aom_debug.specs.Movers.{outside_of}
+use Rattle.aom_debug_names.specs.Names.{Names}
 use Rattle.aom_debug.specs.declared.debugger.Debugger.{Debugger}
 use Rattle.aom_main.specs.Headline.{HasNatives, outside_of as outside_by}
 
 module _ {X : Type 0} {B : X → Type 0} where
-  -- its machine has booted beside so many natives, which are enough, it hears what the script lets come, and it has no breakpoint and no latest instruction
-  pub record IsBegun (p : Image) (script : Script) (limit natives : ℕ) (d : Debugger X B) : Type 0 where
+  -- its machine has booted beside so many natives, which are enough, it hears what the script lets come, it has no breakpoint and no latest instruction, and it tells by these names
+  pub record IsBegun (ns : Names) (p : Image) (script : Script) (limit natives : ℕ) (d : Debugger X B) : Type 0 where
     pub image : d.mover.machine.core.image ≡ p
     pub stands : StandsFor d.mover.machine (boot_state p)
     pub outside : outside_of d.mover ≡ outside_by script limit natives
     pub spots : d.breakpoints ≡ []
     pub recent : d.mover.recent ≡ []
+    pub names : d.names ≡ ns
     pub well : d.has_failed ≡ false
     pub enough : HasNatives p natives

@@ -12,7 +12,8 @@ use Rattle.aom_transcript.specs.Text.{end_text, ended, text_of}
 use Rattle.aom_debug_words.specs.Marks.{has_spot, is_set}
 use Rattle.aom_debug_words.specs.Help.{help_text}
 use Rattle.aom_debug_words.specs.declared.spot.Spot.{Spot}
-use Rattle.aom_debug_words.specs.Answers.{answer_text}
+use Rattle.aom_debug_names.specs.Names.{Names}
+use Rattle.aom_debug_names.specs.Answers.{answer_by}
 use Rattle.aom_debug_words.specs.declared.answer.Answer.{Answer}
 use Rattle.aom_debug_moves.specs.Next.{next_of}
 use Rattle.aom_rules.specs.Typing.{Typing}
@@ -22,7 +23,7 @@ use Rattle.aom_debug_sights.specs.Actives.{InOrderOfChoice, active_answers}
 use Rattle.aom_debug_sights.specs.Timers.{InOrderOfTime, timer_answers}
 use Rattle.aom_debug_sights.specs.Owners.{owners, owners_text}
 use Rattle.aom_debug_sights.specs.Sights.{breaks_answers, cells_answers, cleanup_answers, clock_text, recent_answers}
-use Rattle.aom_debug_sights.specs.Telling.{answers_text}
+use Rattle.aom_debug_sights.specs.Telling.{answers_by, answers_text}
 use Rattle.aom_debug_paths.specs.Paths.{queue_answers, words_answers}
 use Rattle.aom_debug_words.specs.Ways.{Way}
 
@@ -34,12 +35,12 @@ end_by None cells = []
 end_by (Some ending) cells = ended (end_text ending cells)
 
 -- that, and the step that is next
-abbrev pub place_text : Image → State → List ℕ
-place_text p s = end_by s.rest.ended (count_cells s.cells) ++ ended (answer_text (next_of p s))
+abbrev pub place_text : Names → Image → State → List ℕ
+place_text ns p s = end_by s.rest.ended (count_cells s.cells) ++ ended (answer_by ns (next_of p s))
 
 -- what is told of moves: their lines, and where they lead
-abbrev pub moved_text : Image → List Line → State → List ℕ
-moved_text p lines u = text_of lines ++ place_text p u
+abbrev pub moved_text : Names → Image → List Line → State → List ℕ
+moved_text ns p lines u = text_of lines ++ place_text ns p u
 
 -- ---- numbers
 
@@ -75,33 +76,33 @@ NamesNoMark = NamesNone has_spot
 -- ---- looks
 
 -- what is enlisted in the order of choice, each on its line
-abbrev pub ShowsActives : Image → State → List ℕ → Type 0
-ShowsActives p s text = (names : List ℕ) × InOrderOfChoice s.cells names × (text ≡ answers_text (active_answers p s.cells names))
+abbrev pub ShowsActives : Names → Image → State → List ℕ → Type 0
+ShowsActives ns p s text = (names : List ℕ) × InOrderOfChoice s.cells names × (text ≡ answers_by ns (active_answers p s.cells names))
 
-abbrev pub ShowsCells : Image → State → List ℕ → Type 0
-ShowsCells p s text = text ≡ answers_text (cells_answers p s)
+abbrev pub ShowsCells : Names → Image → State → List ℕ → Type 0
+ShowsCells ns p s text = text ≡ answers_by ns (cells_answers p s)
 
-abbrev pub ShowsCleanup : State → List ℕ → Type 0
-ShowsCleanup s text = text ≡ answers_text (cleanup_answers s)
+abbrev pub ShowsCleanup : Names → State → List ℕ → Type 0
+ShowsCleanup ns s text = text ≡ answers_by ns (cleanup_answers s)
 
 -- what each place owns, a parent before its children
-abbrev pub ShowsOwners : State → List ℕ → Type 0
-ShowsOwners s text = text ≡ owners_text (owners s)
+abbrev pub ShowsOwners : Names → State → List ℕ → Type 0
+ShowsOwners ns s text = text ≡ owners_text ns (owners s)
 
 -- the latest instructions, the oldest first
-abbrev pub ShowsRecent : List Spot → List ℕ → Type 0
-ShowsRecent spots text = text ≡ answers_text (recent_answers spots)
+abbrev pub ShowsRecent : Names → List Spot → List ℕ → Type 0
+ShowsRecent ns spots text = text ≡ answers_by ns (recent_answers spots)
 
 -- the breakpoints, in the order in which they were set
-abbrev pub ShowsBreaks : List Spot → List ℕ → Type 0
-ShowsBreaks spots text = text ≡ answers_text (breaks_answers spots)
+abbrev pub ShowsBreaks : Names → List Spot → List ℕ → Type 0
+ShowsBreaks ns spots text = text ≡ answers_by ns (breaks_answers spots)
 
 abbrev pub ShowsClock : State → List ℕ → Type 0
 ShowsClock s text = text ≡ clock_text s
 
 -- the timers that run, each on its line, the one that is due first before all others
-abbrev pub ShowsTimers : State → List ℕ → Type 0
-ShowsTimers s text = (names : List ℕ) × InOrderOfTime s.cells names × (text ≡ answers_text (timer_answers s.cells names))
+abbrev pub ShowsTimers : Names → State → List ℕ → Type 0
+ShowsTimers ns s text = (names : List ℕ) × InOrderOfTime s.cells names × (text ≡ answers_by ns (timer_answers s.cells names))
 
 -- the words of the object that is owned at a path
 abbrev pub ShowsWords : Image → State → Way → List ℕ → Type 0
@@ -112,8 +113,8 @@ abbrev pub ShowsQueue : State → Way → List ℕ → Type 0
 ShowsQueue s w text = (xs : List Answer) × (queue_answers s w ≡ Some xs) × (text ≡ answers_text xs)
 
 -- the methods at hand, the outermost first, by the strongest typing
-abbrev pub ShowsFrames : Image → State → List ℕ → Type 0
-ShowsFrames p s text = (t : Typing) × IsStrongest p t × (text ≡ answers_text (frames_answers t s))
+abbrev pub ShowsFrames : Names → Image → State → List ℕ → Type 0
+ShowsFrames ns p s text = (t : Typing) × IsStrongest p t × (text ≡ answers_by ns (frames_answers t s))
 
 -- all commands
 abbrev pub ShowsHelp : List ℕ → Type 0

@@ -6,7 +6,7 @@ use Rattle.aom_sound.specs.State.{State}
 use Rattle.aom_sound.specs.World.{Outside}
 use Rattle.aom_run.specs.Calls.{StandsFor}
 use Rattle.aom_debug.specs.Runs.{after}
-use Rattle.aom_debug_words.specs.Commands.{command_said}
+use Rattle.aom_debug_names.specs.Commands.{command_by}
 use Rattle.aom_debug_words.specs.Lines.{Kept, pending_of}
 use Rattle.aom_debug.specs.Movers.{outside_of}
 use Rattle.aom_debug.specs.declared.debugger.Debugger.{Debugger}
@@ -84,7 +84,7 @@ pub record Broken (p : Image) (outside : Outside) (start : SessionState) (text :
   pub last : SessionState
   pub session : Session p outside start lines told last
   pub next : List ℕ
-  pub begins : Begins p outside (command_said line) last next
+  pub begins : Begins p outside (command_by last.names line) last next
   pub fails : failed ≡ true
   pub sent : ℕ
   pub out : now ≡ after before (told ++ take sent next)

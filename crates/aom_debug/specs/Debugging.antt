@@ -49,14 +49,16 @@ module _ {X : Type 0} {B : X → Type 0} where
 
   -- from each state that the machine stood for such moves lead to one that it stands for, with the latest instructions as they are then, and their lines are out, and then where they lead
   pub record Moved (leads : Debugger X B → Courses) (old new : Debugger X B) (out : Outgoing) : Type 0 where
-    pub goes : (s : State) → StandsFor old.mover.machine s → (lines : List Line) × (u : State) × leads old old.mover.recent new.mover.recent s lines u × (out.now ≡ after out.before (moved_text old.mover.machine.core.image lines u)) × StandsFor new.mover.machine u
+    pub goes : (s : State) → StandsFor old.mover.machine s → (lines : List Line) × (u : State) × leads old old.mover.recent new.mover.recent s lines u × (out.now ≡ after out.before (moved_text old.names old.mover.machine.core.image lines u)) × StandsFor new.mover.machine u
     pub spots : new.breakpoints ≡ old.breakpoints
+    pub names : new.names ≡ old.names
     pub well : new.has_failed ≡ false
 
   -- the sink failed: it is a run, and a beginning of what would be told of it is out
   pub record Cut (old new : Debugger X B) (out : Outgoing) : Type 0 where
-    pub goes : (s : State) → StandsFor old.mover.machine s → (lines : List Line) × (u : State) × Reaches old.mover.machine.core.image (outside_of old.mover) s lines u × ((sent : ℕ) × (out.now ≡ after out.before (take sent (moved_text old.mover.machine.core.image lines u)))) × StandsFor new.mover.machine u
+    pub goes : (s : State) → StandsFor old.mover.machine s → (lines : List Line) × (u : State) × Reaches old.mover.machine.core.image (outside_of old.mover) s lines u × ((sent : ℕ) × (out.now ≡ after out.before (take sent (moved_text old.names old.mover.machine.core.image lines u)))) × StandsFor new.mover.machine u
     pub spots : new.breakpoints ≡ old.breakpoints
+    pub names : new.names ≡ old.names
     pub fails : out.failed ≡ true
     pub ill : new.has_failed ≡ true
 
@@ -77,8 +79,8 @@ module _ {X : Type 0} {B : X → Type 0} where
 
   -- or where they lead is told
   abbrev pub Shows : Debugger X B → Debugger X B → Outgoing → Answer → Type 0
-  Shows old new out (Ok done) = (new ≡ old) × Tells old.mover.machine.core (λ s. place_text old.mover.machine.core.image s) out.before out.now
-  Shows old new out (Err fault) = (new ≡ record old { has_failed = true }) × TellsPart old.mover.machine.core (λ s. place_text old.mover.machine.core.image s) fault out.failed out.before out.now
+  Shows old new out (Ok done) = (new ≡ old) × Tells old.mover.machine.core (λ s. place_text old.names old.mover.machine.core.image s) out.before out.now
+  Shows old new out (Err fault) = (new ≡ record old { has_failed = true }) × TellsPart old.mover.machine.core (λ s. place_text old.names old.mover.machine.core.image s) fault out.failed out.before out.now
 
   -- so far
   abbrev pub goes_of : Course → Debugger X B → Courses
@@ -176,16 +178,16 @@ module _ {X : Type 0} {B : X → Type 0} where
 
   -- of a state and the latest instructions
   abbrev pub Sees : Look → Debugger X B → State → List ℕ → Type 0
-  Sees At_cells d s text = ShowsCells d.mover.machine.core.image s text
-  Sees At_owners d s text = ShowsOwners s text
-  Sees At_cleanup d s text = ShowsCleanup s text
-  Sees At_actives d s text = ShowsActives d.mover.machine.core.image s text
-  Sees At_recent d s text = ShowsRecent d.mover.recent text
-  Sees At_breaks d s text = ShowsBreaks d.breakpoints text
+  Sees At_cells d s text = ShowsCells d.names d.mover.machine.core.image s text
+  Sees At_owners d s text = ShowsOwners d.names s text
+  Sees At_cleanup d s text = ShowsCleanup d.names s text
+  Sees At_actives d s text = ShowsActives d.names d.mover.machine.core.image s text
+  Sees At_recent d s text = ShowsRecent d.names d.mover.recent text
+  Sees At_breaks d s text = ShowsBreaks d.names d.breakpoints text
   Sees At_clock d s text = ShowsClock s text
-  Sees At_frames d s text = ShowsFrames d.mover.machine.core.image s text
+  Sees At_frames d s text = ShowsFrames d.names d.mover.machine.core.image s text
   Sees At_help d s text = ShowsHelp text
-  Sees At_timers d s text = ShowsTimers s text
+  Sees At_timers d s text = ShowsTimers d.names s text
 
   -- what each state shows that the machine stands for is out
   abbrev pub Seen : (Debugger X B → State → List ℕ → Type 0) → Debugger X B → Option (List ℕ) → Option (List ℕ) → Type 0

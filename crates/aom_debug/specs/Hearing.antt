@@ -13,7 +13,7 @@ use Rattle.aom_debug.specs.Sessions.{Begins, Heeds, SessionState}
 module _ {X : Type 0} {B : X → Type 0} where
   -- where a session stands at a state
   abbrev pub standing : Debugger X B → State → SessionState
-  standing d s = record { state = s; spots = d.breakpoints; recent = d.mover.recent }
+  standing d s = record { state = s; spots = d.breakpoints; recent = d.mover.recent; names = d.names }
 
   -- what a line says is done or refused, and what that tells is out
   pub record Heard (said : Result (Option Command) DebugFault) (old new : Debugger X B) (out : Outgoing) : Type 0 where

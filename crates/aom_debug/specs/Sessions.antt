@@ -7,7 +7,8 @@ use Rattle.aom_sound.specs.State.{State}
 use Rattle.aom_sound.specs.World.{Outside, Reaches}
 use Rattle.aom_transcript.specs.declared.line.Line.{Line}
 use Rattle.aom_transcript.specs.Text.{ended}
-use Rattle.aom_debug_words.specs.Commands.{command_said}
+use Rattle.aom_debug_names.specs.Names.{Names}
+use Rattle.aom_debug_names.specs.Commands.{command_by}
 use Rattle.aom_debug_words.specs.declared.command.Command.{Command}
 use Rattle.aom_debug_words.specs.declared.command.Command.TheVariants.{Step, Next, Finish, Turn, Go, Until, Break, Unbreak, Breaks, Clock, Frames, Help, Cells, Owners, Cleanup, Actives, Recent, Timers, Words, Queue}
 use Rattle.aom_debug_words.specs.declared.fault.DebugFault.{DebugFault}
@@ -21,11 +22,12 @@ use Rattle.aom_debug.specs.Courses.{Courses, GoesBy, GoesOver, GoesToBreakpoint,
 use Rattle.aom_debug_moves.specs.declared.over.Scope.TheVariants as scopes
 use Rattle.aom_debug.specs.Commands.{NamesNoMark, NamesNoRoom, ShowsActives, ShowsBreaks, ShowsCells, ShowsCleanup, ShowsClock, ShowsFrames, ShowsHelp, ShowsOwners, ShowsQueue, ShowsRecent, ShowsTimers, ShowsWords, is_count, moved_text, spot_named}
 
--- where a session stands: at a state, with these breakpoints, and these were the latest instructions
+-- where a session stands: at a state, with these breakpoints, these were the latest instructions, and all is told by the names and the lines of a text, where there is one
 pub record SessionState : Type 0 where
   pub state : State
   pub spots : List Spot
   pub recent : List Spot
+  pub names : Names
 
 abbrev pub has_ended : SessionState → Bool
 has_ended a = is_some a.state.rest.ended
@@ -38,7 +40,7 @@ Shown shows a text b = (b ≡ a) × shows text
 
 -- it goes on by such moves, with which the run may end by its limit, and tells their lines and where they lead
 abbrev pub Goes : Image → Outside → Courses → SessionState → List ℕ → SessionState → Type 0
-Goes p outside leads a text b = (has_ended a ≡ false) × (lines : List Line) × ToLimit p outside leads a.recent b.recent a.state lines b.state × (b.spots ≡ a.spots) × (text ≡ moved_text p lines b.state)
+Goes p outside leads a text b = (has_ended a ≡ false) × (lines : List Line) × ToLimit p outside leads a.recent b.recent a.state lines b.state × (b.spots ≡ a.spots) × (b.names ≡ a.names) × (text ≡ moved_text a.names p lines b.state)
 
 -- it goes on to the place that two numbers name
 abbrev pub GoesUntil : Image → Outside → Number → Number → SessionState → List ℕ → SessionState → Type 0
@@ -66,16 +68,16 @@ Does p outside Go a text b = Goes p outside (GoesToBreakpoint p outside a.spots)
 Does p outside (Until method place) a text b = GoesUntil p outside method place a text b
 Does p outside (Break method place) a text b = Sets p method place a text b
 Does p outside (Unbreak method place) a text b = Unsets p method place a text b
-Does p outside Breaks a text b = Shown (λ t. ShowsBreaks a.spots t) a text b
+Does p outside Breaks a text b = Shown (λ t. ShowsBreaks a.names a.spots t) a text b
 Does p outside Clock a text b = Shown (λ t. ShowsClock a.state t) a text b
-Does p outside Frames a text b = Shown (λ t. ShowsFrames p a.state t) a text b
+Does p outside Frames a text b = Shown (λ t. ShowsFrames a.names p a.state t) a text b
 Does p outside Help a text b = Shown (λ t. ShowsHelp t) a text b
-Does p outside Cells a text b = Shown (λ t. ShowsCells p a.state t) a text b
-Does p outside Owners a text b = Shown (λ t. ShowsOwners a.state t) a text b
-Does p outside Cleanup a text b = Shown (λ t. ShowsCleanup a.state t) a text b
-Does p outside Actives a text b = Shown (λ t. ShowsActives p a.state t) a text b
-Does p outside Timers a text b = Shown (λ t. ShowsTimers a.state t) a text b
-Does p outside Recent a text b = Shown (λ t. ShowsRecent a.recent t) a text b
+Does p outside Cells a text b = Shown (λ t. ShowsCells a.names p a.state t) a text b
+Does p outside Owners a text b = Shown (λ t. ShowsOwners a.names a.state t) a text b
+Does p outside Cleanup a text b = Shown (λ t. ShowsCleanup a.names a.state t) a text b
+Does p outside Actives a text b = Shown (λ t. ShowsActives a.names p a.state t) a text b
+Does p outside Timers a text b = Shown (λ t. ShowsTimers a.names a.state t) a text b
+Does p outside Recent a text b = Shown (λ t. ShowsRecent a.names a.recent t) a text b
 Does p outside (Words w) a text b = Shown (λ t. ShowsWords p a.state w t) a text b
 Does p outside (Queue w) a text b = Shown (λ t. ShowsQueue a.state w t) a text b
 
@@ -113,7 +115,7 @@ Heeds p outside (Ok (Some command)) a text b = Does p outside command a text b �
 -- lines one after another, and all that they tell
 pub data Session (p : Image) (outside : Outside) (a : SessionState) : List (List ℕ) → List ℕ → SessionState → Type 0 where
   begins : Session p outside a [] [] a
-  heeds : {lines : List (List ℕ)} {told : List ℕ} {b c : SessionState} (line text : List ℕ) → Session p outside a lines told b → Heeds p outside (command_said line) b text c → Session p outside a (lines ++ line ∷ []) (told ++ text) c
+  heeds : {lines : List (List ℕ)} {told : List ℕ} {b c : SessionState} (line text : List ℕ) → Session p outside a lines told b → Heeds p outside (command_by b.names line) b text c → Session p outside a (lines ++ line ∷ []) (told ++ text) c
 
 -- a command that goes on, and may
 abbrev pub MovesOn : Image → Result (Option Command) DebugFault → SessionState → Type 0
@@ -127,7 +129,7 @@ MovesOn p said a = ⊥
 
 -- what the next line tells is cut: of moves it is a beginning of what would be told of a run
 abbrev pub Begins : Image → Outside → Result (Option Command) DebugFault → SessionState → List ℕ → Type 0
-Begins p outside said a text = ((b : SessionState) × Heeds p outside said a text b) ⊎ (MovesOn p said a × (lines : List Line) × (u : State) × Reaches p outside a.state lines u × (text ≡ moved_text p lines u))
+Begins p outside said a text = ((b : SessionState) × Heeds p outside said a text b) ⊎ (MovesOn p said a × (lines : List Line) × (u : State) × Reaches p outside a.state lines u × (text ≡ moved_text a.names p lines u))
 
 -- ---- the lines of what has come
 

@@ -1,13 +1,14 @@
 //! Commands by their lines.
 ghost use Rattle.std.specs.Prelude.{◌≡◌};
 ghost use Rattle.aom_natives.specs.Slots.{AllAgree};
-ghost use Rattle.aom_debug_words.specs.Commands.{command_said};
+ghost use Rattle.aom_debug_names.specs.Commands.{command_by};
 ghost use Rattle.aom_debug_moves.specs.Movers.{IsReady, Keeps};
 ghost use Rattle.aom_debug.specs.Obeying.{Heeds, Obeys};
 
 use crate::Debugger;
 use aom_debug_moves::{Scope, Sink};
-use aom_debug_words::{Command, DebugFault, read_command};
+use aom_debug_names::read_named;
+use aom_debug_words::{Command, DebugFault};
 use aom_natives::Native;
 
 impl<'a> Debugger<'a> {
@@ -17,12 +18,12 @@ impl<'a> Debugger<'a> {
         requires ready { IsReady self.old.mover }
         ensures agree { AllAgree (λ l. l.ids) (λ l. (⟦<dyn Native as Native>⟧ l.native.vtable).owed l.native.value) self.new.mover.machine.natives.slots.items }
         ensures keeps { Keeps self.old.mover self.new.mover }
-        ensures answer { Heeds (command_said line.now) self.old self.new (record { before = W.out out.old; now = W.out out.new; failed = W.failed out.new }) result }
+        ensures answer { Heeds (command_by self.old.names line.now) self.old self.new (record { before = W.out out.old; now = W.out out.new; failed = W.failed out.new }) result }
     {
         if self.has_failed {
             return Err(DebugFault::Ended);
         }
-        match read_command(line) {
+        match read_named(&self.names, line) {
             Ok(Some(command)) => self.obey(command, out),
             Ok(None) => Ok(()),
             Err(fault) => Err(fault),

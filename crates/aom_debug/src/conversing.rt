@@ -11,6 +11,7 @@ ghost use Rattle.aom_debug_words.specs.declared.fault.DebugFault.TheVariants.{Wr
 ghost use Rattle.aom_debug.specs.Sessions.{fault_text};
 
 use crate::{Debugger, Reader, Sink, tell};
+use aom_debug_names::take_named;
 use aom_debug_words::{Answer, Command, DebugFault, Pending};
 use aom_main::Fault;
 use aom_natives::Native;
@@ -86,7 +87,7 @@ fn end<W: Sink>(debugger: &mut Debugger, pending: &mut Pending, out: &mut W) -> 
     if pending.is_empty() {
         return Ok(());
     }
-    let said = pending.take();
+    let said = take_named(&debugger.names, pending);
     obey(debugger, said, out)
 }
 
@@ -108,7 +109,7 @@ fn hear<W: Sink>(
 {
     for byte in bytes {
         if *byte == b'\n' {
-            let said = pending.take();
+            let said = take_named(&debugger.names, pending);
             obey(debugger, said, out)?;
         } else {
             pending.add(*byte);

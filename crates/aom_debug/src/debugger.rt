@@ -11,6 +11,7 @@ ghost use Rattle.aom_debug.specs.Debugging.{GivesUp, Goes, Runs, Sets, SetsAt, S
 use crate::marking::spot_named;
 use crate::showing::tell_place;
 use aom_debug_moves::{Course, Mover, Progress, Sink, go};
+use aom_debug_names::Names;
 use aom_debug_sights::tell;
 use aom_debug_words::{Answer, Breakpoints, DebugFault, Recent, Spot};
 use aom_lines::Turn;
@@ -28,13 +29,16 @@ const MOST_STEPS: u32 = 1_000_000;
 #[derive(Drop)]
 pub struct Debugger<'a> {
     pub mover: Mover<'a>,
+    /// The names and the lines by which all is told, where there are some.
+    pub names: Names<'a>,
     pub breakpoints: Breakpoints,
     /// Whether what was told could not be written.
     pub has_failed: bool,
 }
 
 impl<'a> Debugger<'a> {
-    /// A debugger of a machine under a script, with the turn of its run, of at most so many dispatches after main's. All the memory that
+    /// A debugger of a machine under a script, with the turn of its run, of at most so many dispatches after main's, that tells by these
+    /// names. All the memory that
     /// any command will ever need is taken here: where there is none for it, no debugger is made.
     pub fn new(
         alloc: Global,
@@ -42,6 +46,7 @@ impl<'a> Debugger<'a> {
         script: Script,
         turn: Turn,
         limit: u32,
+        names: Names<'a>,
     ) -> Result<Debugger<'a>, DebugFault>
         requires agree { AllAgree (λ l. l.ids) (λ l. (⟦<dyn Native as Native>⟧ l.native.vtable).owed l.native.value) machine.natives.slots.items }
         requires stands { Stands machine }
@@ -53,6 +58,7 @@ impl<'a> Debugger<'a> {
         ensures given { IfOk result (λ d. (d.mover.script ≡ script) × (d.mover.turn ≡ turn) × (d.mover.limit ≡ limit)) }
         ensures marks { IfOk result (λ d. (d.breakpoints ≡ []) × (d.mover.recent ≡ []) × (d.has_failed ≡ false)) }
         ensures page { IfOk result (λ d. d.mover.page ≡ []) }
+        ensures names { IfOk result (λ d. d.names ≡ names.entry) }
         ensures err { IfErr result (λ fault. fault ≡ OutOfMemory) }
     {
         match Recent::new(alloc) {
@@ -68,6 +74,7 @@ impl<'a> Debugger<'a> {
                 };
                 Ok(Debugger {
                     mover,
+                    names,
                     breakpoints: Breakpoints::new(),
                     has_failed: false,
                 })
@@ -76,6 +83,7 @@ impl<'a> Debugger<'a> {
                 drop(machine);
                 drop(script);
                 drop(turn);
+                drop(names);
                 Err(DebugFault::OutOfMemory)
             }
         }
@@ -117,7 +125,7 @@ impl<'a> Debugger<'a> {
     {
         match went {
             Some(_) => {
-                let told = tell_place(&self.mover.machine, out);
+                let told = tell_place(&self.mover.machine, &self.names, out);
                 self.kept(told)
             }
             None => self.kept(Err(DebugFault::WriteFault)),

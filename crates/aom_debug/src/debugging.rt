@@ -12,12 +12,13 @@ ghost use Rattle.aom_main.specs.Headline.{RefusesBoot};
 ghost use Rattle.aom_main.specs.declared.faults.Fault.TheVariants.{Memory};
 ghost use Rattle.aom_main.specs.declared.status.ExitStatus.TheVariants.{Done};
 ghost use Rattle.aom_main.specs.Untold.{Untold};
-ghost use Rattle.aom_debug.specs.Answers.{DebugAnswers};
+ghost use Rattle.aom_debug.specs.Answers.{DebugAnswers, DebugAnswersBy};
 ghost use Rattle.aom_debug.specs.Beginning.{IsBegun};
 
 use crate::conversing::converse;
 use crate::{Debugger, Reader, Sink};
 use aom_budget::Accepted;
+use aom_debug_names::Names;
 use aom_lines::Turn;
 use aom_main::{ExitStatus, Fault, accept_bytes, tell};
 use aom_natives::Native;
@@ -41,28 +42,41 @@ pub fn debug_bytes<R: Reader, W: Sink, E: Sink>(
     requires owed { OweNothing (λ b. (⟦<dyn Native as Native>⟧ b.vtable).owed b.value) boxes.items }
     ensures { DebugAnswers image.now script.now limit (length boxes.items) reads (record { before = R.given reader.old; now = R.given reader.new; ended = R.ended reader.new; had_failed = R.failed reader.old; failed = R.failed reader.new }) (record { before = W.out out.old; now = W.out out.new; failed = W.failed out.new }) (record { before = E.out errors.old; now = E.out errors.new; failed = E.failed errors.new }) result }
 {
-    match try_debug(alloc, image, script, limit, boxes, reader, reads, out) {
+    match try_debug(
+        alloc,
+        image,
+        script,
+        limit,
+        Names::none(),
+        boxes,
+        reader,
+        reads,
+        out,
+    ) {
         Ok(status) => status,
         Err(fault) => tell(&fault, errors),
     }
 }
 
-/// Debugs an image, and leaves its fault to be told.
-fn try_debug<R: Reader, W: Sink>(
+/// Debugs an image, tells by these names, and leaves its fault to be told.
+pub fn try_debug<R: Reader, W: Sink>(
     alloc: Global,
     image: &[u8],
     script: &[u8],
     limit: u32,
+    names: Names,
     boxes: Vec<Box<dyn Native>>,
     reader: &mut R,
     reads: u64,
     out: &mut W,
 ) -> Result<ExitStatus, Fault>
     requires owed { OweNothing (λ b. (⟦<dyn Native as Native>⟧ b.vtable).owed b.value) boxes.items }
-    ensures { Untold (DebugAnswers image.now script.now limit (length boxes.items) reads (record { before = R.given reader.old; now = R.given reader.new; ended = R.ended reader.new; had_failed = R.failed reader.old; failed = R.failed reader.new }) (record { before = W.out out.old; now = W.out out.new; failed = W.failed out.new })) result }
+    ensures { Untold (DebugAnswersBy names.entry image.now script.now limit (length boxes.items) reads (record { before = R.given reader.old; now = R.given reader.new; ended = R.ended reader.new; had_failed = R.failed reader.old; failed = R.failed reader.new }) (record { before = W.out out.old; now = W.out out.new; failed = W.failed out.new })) result }
 {
     match accept_bytes(alloc, image) {
-        Ok(accepted) => debug_text(alloc, &accepted, script, limit, boxes, reader, reads, out),
+        Ok(accepted) => debug_text(
+            alloc, &accepted, script, limit, names, boxes, reader, reads, out,
+        ),
         Err(refusal) => Err(refusal),
     }
 }
@@ -73,17 +87,20 @@ fn debug_text<R: Reader, W: Sink>(
     accepted: &Accepted,
     text: &[u8],
     limit: u32,
+    names: Names,
     boxes: Vec<Box<dyn Native>>,
     reader: &mut R,
     reads: u64,
     out: &mut W,
 ) -> Result<ExitStatus, Fault>
     requires owed { OweNothing (λ b. (⟦<dyn Native as Native>⟧ b.vtable).owed b.value) boxes.items }
-    ensures { (bytes : List ℕ) → IsSpelled bytes accepted.now → Untold (DebugAnswers bytes text.now limit (length boxes.items) reads (record { before = R.given reader.old; now = R.given reader.new; ended = R.ended reader.new; had_failed = R.failed reader.old; failed = R.failed reader.new }) (record { before = W.out out.old; now = W.out out.new; failed = W.failed out.new })) result }
+    ensures { (bytes : List ℕ) → IsSpelled bytes accepted.now → Untold (DebugAnswersBy names.entry bytes text.now limit (length boxes.items) reads (record { before = R.given reader.old; now = R.given reader.new; ended = R.ended reader.new; had_failed = R.failed reader.old; failed = R.failed reader.new }) (record { before = W.out out.old; now = W.out out.new; failed = W.failed out.new })) result }
 {
     accepted.facts();
     match read_script(alloc, text) {
-        Ok(script) => debug_script(alloc, accepted, script, limit, boxes, reader, reads, out),
+        Ok(script) => debug_script(
+            alloc, accepted, script, limit, names, boxes, reader, reads, out,
+        ),
         Err(fault) => Err(Fault::from(fault)),
     }
 }
@@ -94,6 +111,7 @@ fn debug_script<R: Reader, W: Sink>(
     accepted: &Accepted,
     script: Script,
     limit: u32,
+    names: Names,
     boxes: Vec<Box<dyn Native>>,
     reader: &mut R,
     reads: u64,
@@ -101,10 +119,10 @@ fn debug_script<R: Reader, W: Sink>(
 ) -> Result<ExitStatus, Fault>
     requires owed { OweNothing (λ b. (⟦<dyn Native as Native>⟧ b.vtable).owed b.value) boxes.items }
     requires timely { IsTimely script.timed }
-    ensures { (bytes text : List ℕ) → IsSpelled bytes accepted.now → denoted text ≡ Ok script → Untold (DebugAnswers bytes text limit (length boxes.items) reads (record { before = R.given reader.old; now = R.given reader.new; ended = R.ended reader.new; had_failed = R.failed reader.old; failed = R.failed reader.new }) (record { before = W.out out.old; now = W.out out.new; failed = W.failed out.new })) result }
+    ensures { (bytes text : List ℕ) → IsSpelled bytes accepted.now → denoted text ≡ Ok script → Untold (DebugAnswersBy names.entry bytes text limit (length boxes.items) reads (record { before = R.given reader.old; now = R.given reader.new; ended = R.ended reader.new; had_failed = R.failed reader.old; failed = R.failed reader.new }) (record { before = W.out out.old; now = W.out out.new; failed = W.failed out.new })) result }
 {
     accepted.facts();
-    match begin(alloc, accepted, script, limit, boxes) {
+    match begin(alloc, accepted, script, limit, names, boxes) {
         Ok(mut debugger) => {
             let told = converse(&mut debugger, reader, reads, out);
             drop(debugger);
@@ -131,18 +149,19 @@ fn begin<'a>(
     accepted: &'a Accepted,
     script: Script,
     limit: u32,
+    names: Names<'a>,
     boxes: Vec<Box<dyn Native>>,
 ) -> Result<Debugger<'a>, Fault>
     requires owed { OweNothing (λ b. (⟦<dyn Native as Native>⟧ b.vtable).owed b.value) boxes.items }
     requires timely { IsTimely script.timed }
     ensures agree { IfOk result (λ d. AllAgree (λ l. l.ids) (λ l. (⟦<dyn Native as Native>⟧ l.native.vtable).owed l.native.value) d.mover.machine.natives.slots.items) }
     ensures ready { IfOk result (λ d. IsReady d.mover) }
-    ensures begun { IfOk result (λ d. IsBegun accepted.now script limit (length boxes.items) d) }
+    ensures begun { IfOk result (λ d. IsBegun names.entry accepted.now script limit (length boxes.items) d) }
     ensures boxes { IfOk result (λ d. map (option_map (λ l. l.native)) d.mover.machine.natives.slots.items ≡ map (λ b. Some b) boxes.items) }
     ensures err { IfErr result (λ fault. RefusesBoot accepted.now (length boxes.items) fault) }
 {
     match Machine::boot(alloc, accepted, boxes) {
-        Ok(machine) => begun(alloc, accepted, machine, script, limit),
+        Ok(machine) => begun(alloc, accepted, machine, script, limit, names),
         Err((fault, _boxes)) => Err(Fault::from(fault)),
     }
 }
@@ -154,6 +173,7 @@ fn begun<'a>(
     machine: Machine<'a>,
     script: Script,
     limit: u32,
+    names: Names<'a>,
 ) -> Result<Debugger<'a>, Fault>
     requires agree { AllAgree (λ l. l.ids) (λ l. (⟦<dyn Native as Native>⟧ l.native.vtable).owed l.native.value) machine.natives.slots.items }
     requires image { machine.core.image ≡ accepted.now }
@@ -161,18 +181,19 @@ fn begun<'a>(
     requires timely { IsTimely script.timed }
     ensures agree { IfOk result (λ d. AllAgree (λ l. l.ids) (λ l. (⟦<dyn Native as Native>⟧ l.native.vtable).owed l.native.value) d.mover.machine.natives.slots.items) }
     ensures ready { IfOk result (λ d. IsReady d.mover) }
-    ensures begun { IfOk result (λ d. IsBegun accepted.now script limit (natives_of machine.entry) d) }
+    ensures begun { IfOk result (λ d. IsBegun names.entry accepted.now script limit (natives_of machine.entry) d) }
     ensures machine { IfOk result (λ d. d.mover.machine ≡ machine.entry) }
     ensures err { IfErr result (λ fault. fault ≡ Memory) }
 {
     match turn_of(alloc, accepted, &script) {
-        Ok(turn) => match Debugger::new(alloc, machine, script, turn, limit) {
+        Ok(turn) => match Debugger::new(alloc, machine, script, turn, limit, names) {
             Ok(debugger) => Ok(debugger),
             Err(_) => Err(Fault::Memory),
         },
         Err(_) => {
             drop(machine);
             drop(script);
+            drop(names);
             Err(Fault::Memory)
         }
     }

@@ -8,7 +8,7 @@
 //! `debug_bytes` looks at the image, the script and the natives as `run_bytes` of `aom_main` does, and then does what the lines say
 //! that the reader gives. Its contract, `DebugAnswers` of `specs/Answers.antt`, says of each exit status what was read and what went
 //! out: the text of a session (`specs/Sessions.antt`) from the image's boot state on, or a beginning of it where the output failed.
-//! It knows no files and no command line.
+//! `try_debug` does so with the names and the lines of a text, and leaves its fault to be told. It knows no files and no command line.
 #![tactic(auto)]
 
 mod commanding;
@@ -26,10 +26,11 @@ mod showing;
 mod unbreaking;
 
 pub use aom_debug_moves::{Mover, Scope, Sink};
+pub use aom_debug_names::Names;
 pub use aom_debug_sights::{Holding, Owner, tell};
 pub use aom_reader::Reader;
 pub use debugger::Debugger;
-pub use debugging::debug_bytes;
+pub use debugging::{debug_bytes, try_debug};
 pub use laws::paths_are_read_back;
 pub use looking::Look;
 pub use showing::tell_place;

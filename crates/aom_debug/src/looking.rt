@@ -45,16 +45,16 @@ impl<'a> Debugger<'a> {
         ensures err { IfErr result (λ fault. SeenPart (Sees look) self.now fault (W.failed out.new) (W.out out.old) (W.out out.new)) }
     {
         match look {
-            Look::Cells => show_cells(&self.mover.machine, out),
-            Look::Owners => show_owners(&self.mover.machine, out),
-            Look::Cleanup => tell_cleanup(self.mover.machine.core.parts(), out),
-            Look::Actives => tell_actives(self.mover.machine.core.parts(), out),
-            Look::Recent => tell_recent(&self.mover.recent, out),
-            Look::Breaks => tell_breaks(&self.breakpoints, out),
+            Look::Cells => show_cells(&self.mover.machine, &self.names, out),
+            Look::Owners => show_owners(&self.mover.machine, &self.names, out),
+            Look::Cleanup => tell_cleanup(self.mover.machine.core.parts(), &self.names, out),
+            Look::Actives => tell_actives(self.mover.machine.core.parts(), &self.names, out),
+            Look::Recent => tell_recent(&self.mover.recent, &self.names, out),
+            Look::Breaks => tell_breaks(&self.breakpoints, &self.names, out),
             Look::Clock => tell_clock(self.mover.machine.core.parts(), out),
-            Look::Frames => show_frames(&self.mover.machine, out),
+            Look::Frames => show_frames(&self.mover.machine, &self.names, out),
             Look::Help => send(help_text(), out),
-            Look::Timers => tell_timers(self.mover.machine.core.parts(), out),
+            Look::Timers => tell_timers(self.mover.machine.core.parts(), &self.names, out),
         }
     }
 

@@ -32,10 +32,11 @@ use Rattle.aom_debug_words.specs.declared.answer.Answer.TheVariants.{Frame as A_
 use Rattle.aom_debug_words.specs.declared.answer.Source.{Source}
 use Rattle.aom_debug_words.specs.declared.answer.Content.{Content}
 use Rattle.aom_debug_words.specs.declared.answer.Content.TheVariants as contents
+use Rattle.aom_debug_names.specs.Names.{Names}
 use Rattle.aom_debug_sights.specs.Frames.{RegisterShows, ShowsFrame, content_by, frame_answers, frame_lines, kind_in, kinds_of, loop_answer, loop_in, loops_in, owned_content, place_in, register_in, thing_content, trap_by, trap_held, trap_in, trap_under}
 use Rattle.aom_debug_sights.specs.Owners.{Shows, ShowsIf, ShowsNone, is_frame, may_own, source_at, source_in}
 use Rattle.aom_debug_sights.specs.Sights.{class_of}
-use Rattle.aom_debug_sights.specs.Telling.{IsCut, Tells, TellsPart, answers_text, gathered, listed}
+use Rattle.aom_debug_sights.specs.Telling.{IsCut, Tells, TellsPart, answers_by, gathered, listed}
 use Rattle.aom_debug_words.specs.declared.fault.DebugFault.{DebugFault}
 use Rattle.aom_run.specs.Runs.{after}
 use Rattle.aom_rules.specs.Typing.{Typing, shape_at}
@@ -172,11 +173,11 @@ trap_there m sh f depth shown s st answer is = let fr = shown.there s st in ap l
 
 -- ---- what is out of them
 
-pub told_here : (m : Machine) (xs : List Answer) (f : State → List Answer) (before now : Option (List ℕ)) → ((s : State) → StandsFor m s → xs ≡ f s) → now ≡ after before (answers_text xs) → Tells m (λ s. answers_text (f s)) before now
-told_here m xs f before now same put = record { out = λ s st. put ∙ ap (λ ys. after before (answers_text ys)) (same s st) }
+pub told_here : (ns : Names) (m : Machine) (xs : List Answer) (f : State → List Answer) (before now : Option (List ℕ)) → ((s : State) → StandsFor m s → xs ≡ f s) → now ≡ after before (answers_by ns xs) → Tells m (λ s. answers_by ns (f s)) before now
+told_here ns m xs f before now same put = record { out = λ s st. put ∙ ap (λ ys. after before (answers_by ns ys)) (same s st) }
 
-pub part_here : (m : Machine) (xs : List Answer) (f : State → List Answer) (fault : DebugFault) (failed : Bool) (before now : Option (List ℕ)) → ((s : State) → StandsFor m s → xs ≡ f s) → IsCut (answers_text xs) fault failed before now → TellsPart m (λ s. answers_text (f s)) fault failed before now
-part_here m xs f fault failed before now same cut = record { told = cut.told; fails = cut.fails; out = λ s st. (cut.sent, cut.out ∙ ap (λ ys. after before (take cut.sent (answers_text ys))) (same s st)) }
+pub part_here : (ns : Names) (m : Machine) (xs : List Answer) (f : State → List Answer) (fault : DebugFault) (failed : Bool) (before now : Option (List ℕ)) → ((s : State) → StandsFor m s → xs ≡ f s) → IsCut (answers_by ns xs) fault failed before now → TellsPart m (λ s. answers_by ns (f s)) fault failed before now
+part_here ns m xs f fault failed before now same cut = record { told = cut.told; fails = cut.fails; out = λ s st. (cut.sent, cut.out ∙ ap (λ ys. after before (take cut.sent (answers_by ns ys))) (same s st)) }
 
 -- ---- a frame by the strongest typing
 
@@ -206,10 +207,10 @@ same_lines kinds others same s depth o =
     ap (λ u. listed (place_in o) ++ (u ++ (loops_in o 4 ++ listed (trap_in s.tasks depth o))))
     (gathered_same (λ i. listed (register_in kinds s.cells depth o i)) (λ i. listed (register_in others s.cells depth o i)) 16 (λ k less. same_register kinds others same s.cells depth o k))
 
-pub typed_lines : (p : Image) (m : Parts) (f : Held_frame) (sh : Shape) (depth : ℕ) → ShowsFrame (record { image = p; parts = m }) sh f depth → IsSome (method_at p f.method) → IsShapeAt p f.method f.place (Some sh) → (t : Typing) → IsStrongest p t → (s : State) → StandsFor (record { image = p; parts = m }) s →
-    answers_text (frame_lines (λ i. register sh i) s depth (over s.tasks depth)) ≡ answers_text (frame_answers t s depth)
-typed_lines p m f sh depth shown method shape t strongest s st =
+pub typed_lines : (ns : Names) (p : Image) (m : Parts) (f : Held_frame) (sh : Shape) (depth : ℕ) → ShowsFrame (record { image = p; parts = m }) sh f depth → IsSome (method_at p f.method) → IsShapeAt p f.method f.place (Some sh) → (t : Typing) → IsStrongest p t → (s : State) → StandsFor (record { image = p; parts = m }) s →
+    answers_by ns (frame_lines (λ i. register sh i) s depth (over s.tasks depth)) ≡ answers_by ns (frame_answers t s depth)
+typed_lines ns p m f sh depth shown method shape t strongest s st =
     let fr = shown.there s st in
     let kind = kind_there p t strongest f.method f.place method sh shape in
     let there = sym kind.1 ∙ ap (λ n. shape_at t n f.place) fr.2.method ∙ ap (λ n. shape_at t fr.0.method n) fr.2.place in
-    ap answers_text (same_lines (λ i. register sh i) (λ i. kinds_of t (over s.tasks depth) i) (λ i. sym (kind.2 i) ∙ ap (λ x. kind_in x i) there ∙ sym (ap (λ o. kinds_of t o i) fr.1)) s depth (over s.tasks depth))
+    ap (answers_by ns) (same_lines (λ i. register sh i) (λ i. kinds_of t (over s.tasks depth) i) (λ i. sym (kind.2 i) ∙ ap (λ x. kind_in x i) there ∙ sym (ap (λ o. kinds_of t o i) fr.1)) s depth (over s.tasks depth))

@@ -14,10 +14,11 @@ use Rattle.aom_parts.specs.Stands.{StandsFor}
 use Rattle.aom_run.specs.Runs.{after}
 use Rattle.aom_transcript.specs.Text.{ended}
 use Rattle.aom_debug_words.specs.declared.fault.DebugFault.{DebugFault}
-use Rattle.aom_debug_words.specs.Answers.{answer_text}
+use Rattle.aom_debug_names.specs.Names.{Names}
+use Rattle.aom_debug_names.specs.Answers.{answer_by}
 use Rattle.aom_debug_words.specs.declared.answer.Answer.{Answer}
 use Rattle.aom_debug_words.specs.declared.answer.Answer.TheVariants.{Cells}
-use Rattle.aom_debug_sights.specs.Telling.{IsCut, Tells, TellsPart, answers_text}
+use Rattle.aom_debug_sights.specs.Telling.{IsCut, Tells, TellsPart, answers_by}
 use Rattle.aom_debug_sights.specs.Sights.{class_in, class_of, count_class, counted, is_class}
 use Rattle.aom_debug_sights.proofs.Showing.{class_named}
 
@@ -115,15 +116,15 @@ module _ (p : Image) (m : Parts) (s : State) (st : StandsFor (record { image = p
       ∙ counted_names class m.cells.limit s.cells st.typed.good.tidy (names_below class)
 
 -- how many there are in all
-module _ (m : Parts) (n : ℕ) (is : n ≡ living m.cells) (p : Image) where
+module _ (ns : Names) (m : Parts) (n : ℕ) (is : n ≡ living m.cells) (p : Image) where
   abbrev pub all_cells : State → List Answer
   all_cells s = Cells (count_cells s.cells) ∷ []
 
-  same_count : (s : State) → StandsFor (record { image = p; parts = m }) s → ended (answer_text (Cells n)) ≡ answers_text (all_cells s)
-  same_count s st = ap (λ k. ended (answer_text (Cells k))) (is ∙ st.agrees.cells.count) ∙ sym (append-nil (ended (answer_text (Cells (count_cells s.cells)))))
+  same_count : (s : State) → StandsFor (record { image = p; parts = m }) s → ended (answer_by ns (Cells n)) ≡ answers_by ns (all_cells s)
+  same_count s st = ap (λ k. ended (answer_by ns (Cells k))) (is ∙ st.agrees.cells.count) ∙ sym (append-nil (ended (answer_by ns (Cells (count_cells s.cells)))))
 
-  pub count_told : (before now : Option (List ℕ)) → now ≡ after before (ended (answer_text (Cells n))) → Tells (record { image = p; parts = m }) (λ s. answers_text (all_cells s)) before now
+  pub count_told : (before now : Option (List ℕ)) → now ≡ after before (ended (answer_by ns (Cells n))) → Tells (record { image = p; parts = m }) (λ s. answers_by ns (all_cells s)) before now
   count_told before now out = record { out = λ s st. out ∙ ap (λ t. after before t) (same_count s st) }
 
-  pub count_cut : (fault : DebugFault) (failed : Bool) (before now : Option (List ℕ)) → IsCut (ended (answer_text (Cells n))) fault failed before now → TellsPart (record { image = p; parts = m }) (λ s. answers_text (all_cells s)) fault failed before now
+  pub count_cut : (fault : DebugFault) (failed : Bool) (before now : Option (List ℕ)) → IsCut (ended (answer_by ns (Cells n))) fault failed before now → TellsPart (record { image = p; parts = m }) (λ s. answers_by ns (all_cells s)) fault failed before now
   count_cut fault failed before now cut = record { told = cut.told; fails = cut.fails; out = λ s st. (cut.sent, cut.out ∙ ap (λ t. after before (take cut.sent t)) (same_count s st)) }

@@ -18,8 +18,9 @@ use Rattle.aom_run.specs.Runs.{after}
 use Rattle.aom_debug_words.specs.declared.fault.DebugFault.{DebugFault}
 use Rattle.aom_debug_words.specs.declared.answer.Answer.{Answer}
 use Rattle.aom_debug_words.specs.declared.answer.Answer.TheVariants.{Timer as Timer_answer}
+use Rattle.aom_debug_names.specs.Names.{Names}
 use Rattle.aom_debug_sights.specs.Sights.{class_of}
-use Rattle.aom_debug_sights.specs.Telling.{Tells, TellsPart, answers_text, gathered, listed}
+use Rattle.aom_debug_sights.specs.Telling.{Tells, TellsPart, answers_by, gathered, listed}
 use Rattle.aom_debug_sights.specs.Timers.{InOrderOfTime, TellsTimers, TellsTimersPart, timer_answer, timer_answers, timer_at, timer_of}
 use Rattle.aom_debug_sights.proofs.Enlisted.{pairs_by}
 use Rattle.aom_debug_sights.proofs.Showing.{class_named}
@@ -69,13 +70,13 @@ module _ (m : Machine) (each : All (λ t. due_of t.id m.parts.active.pending.tim
   all_told : (s : State) → told_to s (length (names_of m.parts)) ≡ timer_answers s.cells (names_of m.parts)
   all_told s = gathered_items (λ o. listed (timer_at s.cells o)) (names_of m.parts)
 
-  pub timers_told : (before now : Option (List ℕ)) → Tells m (λ s. answers_text (told_to s (length (names_of m.parts)))) before now → TellsTimers m before now
-  timers_told before now all = record { order = in_order; out = λ s st. all.out s st ∙ ap (λ xs. after before (answers_text xs)) (all_told s) }
+  pub timers_told : (ns : Names) (before now : Option (List ℕ)) → Tells m (λ s. answers_by ns (told_to s (length (names_of m.parts)))) before now → TellsTimers ns m before now
+  timers_told ns before now all = record { order = in_order; out = λ s st. all.out s st ∙ ap (λ xs. after before (answers_by ns xs)) (all_told s) }
 
-  pub timers_cut : (fault : DebugFault) (failed : Bool) (before now : Option (List ℕ)) → TellsPart m (λ s. answers_text (told_to s (length (names_of m.parts)))) fault failed before now → TellsTimersPart m fault failed before now
-  timers_cut fault failed before now cut = record {
+  pub timers_cut : (ns : Names) (fault : DebugFault) (failed : Bool) (before now : Option (List ℕ)) → TellsPart m (λ s. answers_by ns (told_to s (length (names_of m.parts)))) fault failed before now → TellsTimersPart ns m fault failed before now
+  timers_cut ns fault failed before now cut = record {
     told = cut.told;
     fails = cut.fails;
     order = in_order;
-    out = λ s st. let o = cut.out s st in (o.0, o.1 ∙ ap (λ xs. after before (take o.0 (answers_text xs))) (all_told s));
+    out = λ s st. let o = cut.out s st in (o.0, o.1 ∙ ap (λ xs. after before (take o.0 (answers_by ns xs))) (all_told s));
   }

@@ -26,9 +26,10 @@ use Rattle.aom_run.specs.Runs.{after}
 use Rattle.aom_debug_words.specs.declared.fault.DebugFault.{DebugFault}
 use Rattle.aom_debug_words.specs.declared.answer.Answer.{Answer}
 use Rattle.aom_debug_words.specs.declared.answer.Answer.TheVariants.{Active, Server}
+use Rattle.aom_debug_names.specs.Names.{Names}
 use Rattle.aom_debug_sights.specs.Actives.{InOrderOfChoice, TellsActives, TellsActivesPart, active_answer, active_answers, active_at, active_of, serves, shown_phase}
 use Rattle.aom_debug_sights.specs.Sights.{class_of}
-use Rattle.aom_debug_sights.specs.Telling.{Tells, TellsPart, answers_text, gathered, listed}
+use Rattle.aom_debug_sights.specs.Telling.{Tells, TellsPart, answers_by, gathered, listed}
 use Rattle.aom_debug_sights.proofs.Showing.{class_named}
 use Rattle.aom_debug_sights.proofs.Telling.{gathered_items}
 
@@ -151,13 +152,13 @@ module _ (m : Machine) (whole : IsListed m.parts) where
   all_told : (s : State) → told_to s (length (names_of m.parts)) ≡ active_answers m.image s.cells (names_of m.parts)
   all_told s = gathered_items (λ o. listed (active_at m.image s.cells o)) (names_of m.parts)
 
-  pub actives_told : (before now : Option (List ℕ)) → Tells m (λ s. answers_text (told_to s (length (names_of m.parts)))) before now → TellsActives m before now
-  actives_told before now all = record { order = in_order; out = λ s st. all.out s st ∙ ap (λ xs. after before (answers_text xs)) (all_told s) }
+  pub actives_told : (ns : Names) (before now : Option (List ℕ)) → Tells m (λ s. answers_by ns (told_to s (length (names_of m.parts)))) before now → TellsActives ns m before now
+  actives_told ns before now all = record { order = in_order; out = λ s st. all.out s st ∙ ap (λ xs. after before (answers_by ns xs)) (all_told s) }
 
-  pub actives_cut : (fault : DebugFault) (failed : Bool) (before now : Option (List ℕ)) → TellsPart m (λ s. answers_text (told_to s (length (names_of m.parts)))) fault failed before now → TellsActivesPart m fault failed before now
-  actives_cut fault failed before now cut = record {
+  pub actives_cut : (ns : Names) (fault : DebugFault) (failed : Bool) (before now : Option (List ℕ)) → TellsPart m (λ s. answers_by ns (told_to s (length (names_of m.parts)))) fault failed before now → TellsActivesPart ns m fault failed before now
+  actives_cut ns fault failed before now cut = record {
     told = cut.told;
     fails = cut.fails;
     order = in_order;
-    out = λ s st. let sent = cut.out s st in (sent.0, sent.1 ∙ ap (λ xs. after before (take sent.0 (answers_text xs))) (all_told s));
+    out = λ s st. let sent = cut.out s st in (sent.0, sent.1 ∙ ap (λ xs. after before (take sent.0 (answers_by ns xs))) (all_told s));
   }

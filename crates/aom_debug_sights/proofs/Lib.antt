@@ -13,3 +13,4 @@ pub mod Once
 pub mod Words
 pub mod Contents
 pub mod Numbers
+mod Spaced

@@ -164,3 +164,21 @@ module _ {A : Type 0} (line : A → List ℕ) (m : Machine) (a b : State → Lis
 module _ {X B : Type 0} (f : X → B) where
   pub items_answered : (xs : List X) → gathered (λ k. listed (option_map f (slice_get xs k))) (length xs) ≡ map f xs
   items_answered xs = gathered_items (λ o. listed (option_map f o)) xs ∙ flat_map_single f xs
+
+-- ---- a text in parts
+
+-- a beginning of one part is one of the whole
+pub cut_within : (before now new : Option (List ℕ)) (a b c all : List ℕ) (fault : DebugFault) (failed : Bool) → a ++ (b ++ c) ≡ all → now ≡ after before a → IsCut b fault failed now new → IsCut all fault failed before new
+cut_within before now new a b c all fault failed is was cut =
+    let part = cut_on before now new a b c cut.sent was cut.out in
+    record { told = cut.told; fails = cut.fails; sent = part.0; out = part.1 ∙ ap (λ u. after before (take part.0 u)) is }
+
+-- of the first of two, or of the second
+pub cut_in_first : (before new : Option (List ℕ)) (a b : List ℕ) (fault : DebugFault) (failed : Bool) → IsCut a fault failed before new → IsCut (a ++ b) fault failed before new
+cut_in_first before new a b fault failed cut = cut_within before before new [] a b (a ++ b) fault failed refl (none_sent before) cut
+
+pub cut_in_second : (before now new : Option (List ℕ)) (a b : List ℕ) (fault : DebugFault) (failed : Bool) → now ≡ after before a → IsCut b fault failed now new → IsCut (a ++ b) fault failed before new
+cut_in_second before now new a b fault failed was cut = cut_within before now new a b [] (a ++ b) fault failed (ap (λ (u : List ℕ). a ++ u) (append-nil b)) was cut
+
+pub cut_as : (a b : List ℕ) (fault : DebugFault) (failed : Bool) (before now : Option (List ℕ)) → a ≡ b → IsCut a fault failed before now → IsCut b fault failed before now
+cut_as a b fault failed before now is cut = record { told = cut.told; fails = cut.fails; sent = cut.sent; out = cut.out ∙ ap (λ t. after before (take cut.sent t)) is }

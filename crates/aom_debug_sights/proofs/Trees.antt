@@ -31,7 +31,8 @@ use Rattle.aom_parts.specs.Serving.{holds, is_taken, message_name, sent_by}
 use Rattle.aom_parts.specs.Stands.{Machine, StandsFor}
 use Rattle.aom_parts.specs.Tokens.{class_in as class_of_token}
 use Rattle.aom_tokens.specs.Tokens.{class_at as token_class}
-use Rattle.aom_debug_words.specs.Answers.{source_text}
+use Rattle.aom_debug_names.specs.Names.{Names, class_by}
+use Rattle.aom_debug_names.specs.Answers.{hearer_by}
 use Rattle.aom_debug_words.specs.declared.answer.Source.{Source}
 use Rattle.aom_debug_words.specs.declared.answer.Source.TheVariants as sources
 use Rattle.aom_parts.proofs.Serving.{taken_sent}
@@ -176,16 +177,16 @@ module _ (p : Image) (m : Parts) where
   under n depth w s = gathered (below n depth w s) 8 ++ flat_map (beyond n depth w s) (seats_of n s)
 
   -- what hangs from a place is the line of what it holds, and then that
-  tree_found : (n class depth : ℕ) (w : Way) (r : Place) (t : List ℕ) (s : State) → StandsFor M s → Shows M n r → class_at m.cells n ≡ Some class → t ≡ way_text w →
-      owners_text (tree s.cells (suc depth) w (held s.cells r)) ≡ ended (t ++ codes " " ++ decimal class) ++ (flat_map owned_line (gathered (below n depth w s) 8) ++ flat_map owned_line (flat_map (beyond n depth w s) (seats_of n s)))
-  tree_found n class depth w r t s st shows told is =
+  tree_found : (ns : Names) (n class depth : ℕ) (w : Way) (r : Place) (t : List ℕ) (s : State) → StandsFor M s → Shows M n r → class_at m.cells n ≡ Some class → t ≡ way_text w →
+      owners_text ns (tree s.cells (suc depth) w (held s.cells r)) ≡ ended (t ++ codes " " ++ class_by ns class) ++ (flat_map (owned_line ns) (gathered (below n depth w s) 8) ++ flat_map (owned_line ns) (flat_map (beyond n depth w s) (seats_of n s)))
+  tree_found ns n class depth w r t s st shows told is =
       let x = found n class r s st shows told in
       let from = source_in (service_of s.cells x.0.name) in
-      ap (λ o. owners_text (tree s.cells (suc depth) w o)) x.1
-      ∙ ap (λ th. ended (way_text w ++ codes " " ++ thing_text th from) ++ flat_map owned_line (beneath th (under x.0.name depth w s))) x.2
-      ∙ ap (λ k. ended (way_text w ++ codes " " ++ decimal class) ++ flat_map owned_line (under k depth w s)) x.3
-      ∙ ap (λ (u : List ℕ). ended (way_text w ++ codes " " ++ decimal class) ++ u) (flat_map-append owned_line (gathered (below n depth w s) 8) (flat_map (beyond n depth w s) (seats_of n s)))
-      ∙ ap (λ (u : List ℕ). ended (u ++ codes " " ++ decimal class) ++ (flat_map owned_line (gathered (below n depth w s) 8) ++ flat_map owned_line (flat_map (beyond n depth w s) (seats_of n s)))) (sym is)
+      ap (λ o. owners_text ns (tree s.cells (suc depth) w o)) x.1
+      ∙ ap (λ th. ended (way_text w ++ codes " " ++ thing_text ns th from) ++ flat_map (owned_line ns) (beneath th (under x.0.name depth w s))) x.2
+      ∙ ap (λ k. ended (way_text w ++ codes " " ++ class_by ns class) ++ flat_map (owned_line ns) (under k depth w s)) x.3
+      ∙ ap (λ (u : List ℕ). ended (way_text w ++ codes " " ++ class_by ns class) ++ u) (flat_map-append (owned_line ns) (gathered (below n depth w s) 8) (flat_map (beyond n depth w s) (seats_of n s)))
+      ∙ ap (λ (u : List ℕ). ended (u ++ codes " " ++ class_by ns class) ++ (flat_map (owned_line ns) (gathered (below n depth w s) 8) ++ flat_map (owned_line ns) (flat_map (beyond n depth w s) (seats_of n s)))) (sym is)
 
   -- ---- messages
 
@@ -231,16 +232,16 @@ module _ (p : Image) (m : Parts) where
           let v = service_of s.cells n in
           (o, is_held, message, ap (λ k. source_in (service_of s.cells k)) (sym same) ∙ told_source (token_class m.tokens at.0) (holds m.clients at.0) (place_at m.clients at.0) v.sender v.token source told sent one at.2)
 
-  tree_message : (n : ℕ) (source : Source) (depth : ℕ) (w : Way) (r : Place) (t : List ℕ) (s : State) → StandsFor M s → Shows M n r → class_at m.cells n ≡ None → source_at m n ≡ Some source → t ≡ way_text w →
-      owners_text (tree s.cells (suc depth) w (held s.cells r)) ≡ ended (t ++ codes " " ++ source_text source)
-  tree_message n source depth w r t s st shows none told is =
+  tree_message : (ns : Names) (n : ℕ) (source : Source) (depth : ℕ) (w : Way) (r : Place) (t : List ℕ) (s : State) → StandsFor M s → Shows M n r → class_at m.cells n ≡ None → source_at m n ≡ Some source → t ≡ way_text w →
+      owners_text ns (tree s.cells (suc depth) w (held s.cells r)) ≡ ended (t ++ codes " " ++ hearer_by ns source)
+  tree_message ns n source depth w r t s st shows none told is =
       let x = message_found n source r s st shows none told in
       let from = source_in (service_of s.cells x.0.name) in
-      ap (λ o. owners_text (tree s.cells (suc depth) w o)) x.1
-      ∙ ap (λ th. ended (way_text w ++ codes " " ++ thing_text th from) ++ flat_map owned_line (beneath th (under x.0.name depth w s))) x.2
-      ∙ append-nil (ended (way_text w ++ codes " " ++ thing_text Message from))
-      ∙ ap (λ sd. ended (way_text w ++ codes " " ++ thing_text Message sd)) x.3
-      ∙ ap (λ (u : List ℕ). ended (u ++ codes " " ++ source_text source)) (sym is)
+      ap (λ o. owners_text ns (tree s.cells (suc depth) w o)) x.1
+      ∙ ap (λ th. ended (way_text w ++ codes " " ++ thing_text ns th from) ++ flat_map (owned_line ns) (beneath th (under x.0.name depth w s))) x.2
+      ∙ append-nil (ended (way_text w ++ codes " " ++ thing_text ns Message from))
+      ∙ ap (λ sd. ended (way_text w ++ codes " " ++ thing_text ns Message sd)) x.3
+      ∙ ap (λ (u : List ℕ). ended (u ++ codes " " ++ hearer_by ns source)) (sym is)
 
   -- a number that neither has is that of a place that holds nothing
   pub none_sends : (n : ℕ) (r : Place) → (Lives m.cells n → ⊥) → source_at m n ≡ None → Shows M n r → ShowsNone M r
@@ -263,22 +264,22 @@ module _ (p : Image) (m : Parts) where
   -- ---- what is out
 
   -- the line of a message is all that hangs there
-  pub message_told : (n : ℕ) (source : Source) (depth d : ℕ) (w : Way) (r : Place) (t : List ℕ) → Shows M n r → class_at m.cells n ≡ None → source_at m n ≡ Some source → t ≡ way_text w → d ≡ suc depth → (before now : Option (List ℕ)) →
-      now ≡ after before (ended (t ++ codes " " ++ source_text source)) → Tells M (λ s. owners_text (tree s.cells d w (held s.cells r))) before now
-  message_told n source depth d w r t shows none sent is deep before now put = record {
-    out = λ s st. put ∙ ap (λ u. after before u) (sym (ap (λ k. owners_text (tree s.cells k w (held s.cells r))) deep ∙ tree_message n source depth w r t s st shows none sent is));
+  pub message_told : (ns : Names) (n : ℕ) (source : Source) (depth d : ℕ) (w : Way) (r : Place) (t : List ℕ) → Shows M n r → class_at m.cells n ≡ None → source_at m n ≡ Some source → t ≡ way_text w → d ≡ suc depth → (before now : Option (List ℕ)) →
+      now ≡ after before (ended (t ++ codes " " ++ hearer_by ns source)) → Tells M (λ s. owners_text ns (tree s.cells d w (held s.cells r))) before now
+  message_told ns n source depth d w r t shows none sent is deep before now put = record {
+    out = λ s st. put ∙ ap (λ u. after before u) (sym (ap (λ k. owners_text ns (tree s.cells k w (held s.cells r))) deep ∙ tree_message ns n source depth w r t s st shows none sent is));
   }
 
-  pub message_unsent : (n : ℕ) (source : Source) (depth d : ℕ) (w : Way) (r : Place) (t : List ℕ) → Shows M n r → class_at m.cells n ≡ None → source_at m n ≡ Some source → t ≡ way_text w → d ≡ suc depth → (before now : Option (List ℕ)) (fault : DebugFault) (failed : Bool) →
-      IsCut (ended (t ++ codes " " ++ source_text source)) fault failed before now → TellsPart M (λ s. owners_text (tree s.cells d w (held s.cells r))) fault failed before now
-  message_unsent n source depth d w r t shows none sent is deep before now fault failed cut = record {
+  pub message_unsent : (ns : Names) (n : ℕ) (source : Source) (depth d : ℕ) (w : Way) (r : Place) (t : List ℕ) → Shows M n r → class_at m.cells n ≡ None → source_at m n ≡ Some source → t ≡ way_text w → d ≡ suc depth → (before now : Option (List ℕ)) (fault : DebugFault) (failed : Bool) →
+      IsCut (ended (t ++ codes " " ++ hearer_by ns source)) fault failed before now → TellsPart M (λ s. owners_text ns (tree s.cells d w (held s.cells r))) fault failed before now
+  message_unsent ns n source depth d w r t shows none sent is deep before now fault failed cut = record {
     told = cut.told;
     fails = cut.fails;
-    out = λ s st. (cut.sent, cut.out ∙ ap (λ u. after before (take cut.sent u)) (sym (ap (λ k. owners_text (tree s.cells k w (held s.cells r))) deep ∙ tree_message n source depth w r t s st shows none sent is)));
+    out = λ s st. (cut.sent, cut.out ∙ ap (λ u. after before (take cut.sent u)) (sym (ap (λ k. owners_text ns (tree s.cells k w (held s.cells r))) deep ∙ tree_message ns n source depth w r t s st shows none sent is)));
   }
 
   -- where no cell has the number, a message's line is all that hangs there, if there is one
-  module _ (n depth d : ℕ) (w : Way) (r : Place) (t : List ℕ) (shows : Shows M n r) (none : Lives m.cells n → ⊥) (is : t ≡ way_text w) (deep : d ≡ suc depth) (before now : Option (List ℕ)) where
+  module _ (ns : Names) (n depth d : ℕ) (w : Way) (r : Place) (t : List ℕ) (shows : Shows M n r) (none : Lives m.cells n → ⊥) (is : t ≡ way_text w) (deep : d ≡ suc depth) (before now : Option (List ℕ)) where
     classless : class_at m.cells n ≡ None
     classless = go (cell_at m.cells n) refl
       where
@@ -286,40 +287,40 @@ module _ (p : Image) (m : Parts) where
         go None at = refl
         go (Some c) at = absurd (none (ap is_some at))
 
-    pub uncelled_told : now ≡ after before (message_text t (source_at m n)) → Tells M (λ s. owners_text (tree s.cells d w (held s.cells r))) before now
+    pub uncelled_told : now ≡ after before (message_text ns t (source_at m n)) → Tells M (λ s. owners_text ns (tree s.cells d w (held s.cells r))) before now
     uncelled_told put = go (source_at m n) refl put
       where
-        go : (o : Option Source) → source_at m n ≡ o → now ≡ after before (message_text t o) → Tells M (λ s. owners_text (tree s.cells d w (held s.cells r))) before now
-        go None unsent put = record { out = λ s st. put ∙ ap (λ xs. after before (owners_text xs)) (sym (tree_none s.cells d w (held s.cells r) ((none_sends n r none unsent shows).each s st))) }
-        go (Some source) sent put = message_told n source depth d w r t shows classless sent is deep before now put
+        go : (o : Option Source) → source_at m n ≡ o → now ≡ after before (message_text ns t o) → Tells M (λ s. owners_text ns (tree s.cells d w (held s.cells r))) before now
+        go None unsent put = record { out = λ s st. put ∙ ap (λ xs. after before (owners_text ns xs)) (sym (tree_none s.cells d w (held s.cells r) ((none_sends n r none unsent shows).each s st))) }
+        go (Some source) sent put = message_told ns n source depth d w r t shows classless sent is deep before now put
 
-    pub uncelled_cut : (fault : DebugFault) (failed : Bool) → IsCut (message_text t (source_at m n)) fault failed before now → TellsPart M (λ s. owners_text (tree s.cells d w (held s.cells r))) fault failed before now
+    pub uncelled_cut : (fault : DebugFault) (failed : Bool) → IsCut (message_text ns t (source_at m n)) fault failed before now → TellsPart M (λ s. owners_text ns (tree s.cells d w (held s.cells r))) fault failed before now
     uncelled_cut fault failed cut = go (source_at m n) refl cut
       where
-        go : (o : Option Source) → source_at m n ≡ o → IsCut (message_text t o) fault failed before now → TellsPart M (λ s. owners_text (tree s.cells d w (held s.cells r))) fault failed before now
+        go : (o : Option Source) → source_at m n ≡ o → IsCut (message_text ns t o) fault failed before now → TellsPart M (λ s. owners_text ns (tree s.cells d w (held s.cells r))) fault failed before now
         go None unsent cut = record {
           told = cut.told;
           fails = cut.fails;
-          out = λ s st. (cut.sent, cut.out ∙ ap (λ xs. after before (take cut.sent (owners_text xs))) (sym (tree_none s.cells d w (held s.cells r) ((none_sends n r none unsent shows).each s st))));
+          out = λ s st. (cut.sent, cut.out ∙ ap (λ xs. after before (take cut.sent (owners_text ns xs))) (sym (tree_none s.cells d w (held s.cells r) ((none_sends n r none unsent shows).each s st))));
         }
-        go (Some source) sent cut = message_unsent n source depth d w r t shows classless sent is deep before now fault failed cut
+        go (Some source) sent cut = message_unsent ns n source depth d w r t shows classless sent is deep before now fault failed cut
 
   -- all that hangs from an object is out, or a beginning of it, by the line, by what hangs from the fields, and by what hangs from the sessions
-  module _ (n class depth d : ℕ) (w : Way) (r : Place) (t : List ℕ) (shows : Shows M n r) (told : class_at m.cells n ≡ Some class) (is : t ≡ way_text w) (deep : d ≡ suc depth) where
+  module _ (ns : Names) (n class depth d : ℕ) (w : Way) (r : Place) (t : List ℕ) (shows : Shows M n r) (told : class_at m.cells n ≡ Some class) (is : t ≡ way_text w) (deep : d ≡ suc depth) where
     abbrev line_text : List ℕ
-    line_text = ended (t ++ codes " " ++ decimal class)
+    line_text = ended (t ++ codes " " ++ class_by ns class)
 
     abbrev fields_text : State → List ℕ
-    fields_text s = flat_map owned_line (gathered (below n depth w s) 8)
+    fields_text s = flat_map (owned_line ns) (gathered (below n depth w s) 8)
 
     abbrev sessions_text : State → List ℕ
-    sessions_text s = flat_map owned_line (flat_map (beyond n depth w s) (seats_of n s))
+    sessions_text s = flat_map (owned_line ns) (flat_map (beyond n depth w s) (seats_of n s))
 
     abbrev Tree : State → List ℕ
-    Tree s = owners_text (tree s.cells d w (held s.cells r))
+    Tree s = owners_text ns (tree s.cells d w (held s.cells r))
 
     parts_of : (s : State) → StandsFor M s → line_text ++ (fields_text s ++ sessions_text s) ≡ Tree s
-    parts_of s st = sym (ap (λ k. owners_text (tree s.cells k w (held s.cells r))) deep ∙ tree_found n class depth w r t s st shows told is)
+    parts_of s st = sym (ap (λ k. owners_text ns (tree s.cells k w (held s.cells r))) deep ∙ tree_found ns n class depth w r t s st shows told is)
 
     module _ (before now mid : Option (List ℕ)) (first : now ≡ after before line_text) (fields : Tells M fields_text now mid) where
       so_far : (s : State) → StandsFor M s → mid ≡ after before (line_text ++ fields_text s)
@@ -375,62 +376,62 @@ module _ (p : Image) (m : Parts) where
           let sized = st.agrees.services.sized.sessions in
           omega (arith, below, limit, sized)
 
-  module _ (n depth : ℕ) (w : Way) where
+  module _ (ns : Names) (n depth : ℕ) (w : Way) where
     abbrev pub done_text : List ℕ → State → List ℕ
-    done_text clients s = flat_map owned_line (flat_map (beyond n depth w s) clients)
+    done_text clients s = flat_map (owned_line ns) (flat_map (beyond n depth w s) clients)
 
-    one_more : (clients : List ℕ) (c : ℕ) (s : State) → done_text (clients ++ c ∷ []) s ≡ done_text clients s ++ flat_map owned_line (beyond n depth w s c)
+    one_more : (clients : List ℕ) (c : ℕ) (s : State) → done_text (clients ++ c ∷ []) s ≡ done_text clients s ++ flat_map (owned_line ns) (beyond n depth w s c)
     one_more clients c s =
-        ap (flat_map owned_line) (flat_map-append (beyond n depth w s) clients (c ∷ []))
-        ∙ flat_map-append owned_line (flat_map (beyond n depth w s) clients) (beyond n depth w s c ++ [])
-        ∙ ap (λ (xs : List Owned). done_text clients s ++ flat_map owned_line xs) (append-nil (beyond n depth w s c))
+        ap (flat_map (owned_line ns)) (flat_map-append (beyond n depth w s) clients (c ∷ []))
+        ∙ flat_map-append (owned_line ns) (flat_map (beyond n depth w s) clients) (beyond n depth w s c ++ [])
+        ∙ ap (λ (xs : List Owned). done_text clients s ++ flat_map (owned_line ns) xs) (append-nil (beyond n depth w s c))
 
-    pub seat_told : (clients : List ℕ) (c : ℕ) (before now new : Option (List ℕ)) → Tells M (done_text clients) before now → Tells M (λ s. flat_map owned_line (beyond n depth w s c)) now new → Tells M (done_text (clients ++ c ∷ [])) before new
+    pub seat_told : (clients : List ℕ) (c : ℕ) (before now new : Option (List ℕ)) → Tells M (done_text clients) before now → Tells M (λ s. flat_map (owned_line ns) (beyond n depth w s c)) now new → Tells M (done_text (clients ++ c ∷ [])) before new
     seat_told clients c before now new was later = record {
-      out = λ s st. sent_on before now new (done_text clients s) (flat_map owned_line (beyond n depth w s c)) (was.out s st) (later.out s st) ∙ ap (λ u. after before u) (sym (one_more clients c s));
+      out = λ s st. sent_on before now new (done_text clients s) (flat_map (owned_line ns) (beyond n depth w s c)) (was.out s st) (later.out s st) ∙ ap (λ u. after before u) (sym (one_more clients c s));
     }
 
     -- those that come behind them
     pub seat_cut : (clients : List ℕ) (c : ℕ) (others : List ℕ) → ((s : State) → StandsFor M s → (clients ++ c ∷ []) ++ others ≡ seats_of n s) → (before now new : Option (List ℕ)) (fault : DebugFault) (failed : Bool) →
-        Tells M (done_text clients) before now → TellsPart M (λ s. flat_map owned_line (beyond n depth w s c)) fault failed now new → TellsPart M (λ s. flat_map owned_line (flat_map (beyond n depth w s) (seats_of n s))) fault failed before new
+        Tells M (done_text clients) before now → TellsPart M (λ s. flat_map (owned_line ns) (beyond n depth w s c)) fault failed now new → TellsPart M (λ s. flat_map (owned_line ns) (flat_map (beyond n depth w s) (seats_of n s))) fault failed before new
     seat_cut clients c others all before now new fault failed was cut = record {
       told = cut.told;
       fails = cut.fails;
       out = λ s st.
           let sent = cut.out s st in
-          let here = flat_map owned_line (beyond n depth w s c) in
-          let rest = flat_map owned_line (flat_map (beyond n depth w s) others) in
+          let here = flat_map (owned_line ns) (beyond n depth w s c) in
+          let rest = flat_map (owned_line ns) (flat_map (beyond n depth w s) others) in
           let part = cut_on before now new (done_text clients s) here rest sent.0 (was.out s st) sent.1 in
-          let whole : done_text clients s ++ (here ++ rest) ≡ flat_map owned_line (flat_map (beyond n depth w s) (seats_of n s)) =
+          let whole : done_text clients s ++ (here ++ rest) ≡ flat_map (owned_line ns) (flat_map (beyond n depth w s) (seats_of n s)) =
           sym (append_assoc (done_text clients s) here rest)
           ∙ ap (λ (u : List ℕ). u ++ rest) (sym (one_more clients c s))
-          ∙ sym (flat_map-append owned_line (flat_map (beyond n depth w s) (clients ++ c ∷ [])) (flat_map (beyond n depth w s) others))
-          ∙ ap (flat_map owned_line) (sym (flat_map-append (beyond n depth w s) (clients ++ c ∷ []) others))
-          ∙ ap (λ cs. flat_map owned_line (flat_map (beyond n depth w s) cs)) (all s st)
+          ∙ sym (flat_map-append (owned_line ns) (flat_map (beyond n depth w s) (clients ++ c ∷ [])) (flat_map (beyond n depth w s) others))
+          ∙ ap (flat_map (owned_line ns)) (sym (flat_map-append (beyond n depth w s) (clients ++ c ∷ []) others))
+          ∙ ap (λ cs. flat_map (owned_line ns) (flat_map (beyond n depth w s) cs)) (all s st)
           in
           (part.0, part.1 ∙ ap (λ u. after before (take part.0 u)) whole);
     }
 
-    pub seats_told : (clients : List ℕ) → clients ≡ sessions_at m.clients n → (before now : Option (List ℕ)) → Tells M (done_text clients) before now → Tells M (λ s. flat_map owned_line (flat_map (beyond n depth w s) (seats_of n s))) before now
+    pub seats_told : (clients : List ℕ) → clients ≡ sessions_at m.clients n → (before now : Option (List ℕ)) → Tells M (done_text clients) before now → Tells M (λ s. flat_map (owned_line ns) (flat_map (beyond n depth w s) (seats_of n s))) before now
     seats_told clients all before now was = record { out = λ s st. was.out s st ∙ ap (λ cs. after before (done_text cs s)) (all ∙ st.agrees.services.clients.sessions n) }
 
   -- where nothing is held, nothing hangs
-  pub tree_untold : (d : ℕ) (w : Way) (r : Place) (out : Option (List ℕ)) → ShowsNone M r → Tells M (λ s. owners_text (tree s.cells d w (held s.cells r))) out out
-  tree_untold d w r out none = record { out = λ s st. none_sent out ∙ ap (λ xs. after out (owners_text xs)) (sym (tree_none s.cells d w (held s.cells r) (none.each s st))) }
+  pub tree_untold : (ns : Names) (d : ℕ) (w : Way) (r : Place) (out : Option (List ℕ)) → ShowsNone M r → Tells M (λ s. owners_text ns (tree s.cells d w (held s.cells r))) out out
+  tree_untold ns d w r out none = record { out = λ s st. none_sent out ∙ ap (λ xs. after out (owners_text ns xs)) (sym (tree_none s.cells d w (held s.cells r) (none.each s st))) }
 
   -- as many generations as there are hang from an outer place
-  pub grown_told : (outer : Outer) (r : Place) (before now : Option (List ℕ)) → Tells M (λ s. owners_text (tree s.cells 257 (record { outer = outer; branches = [] }) (held s.cells r))) before now → Tells M (λ s. owners_text (grown s.cells outer r)) before now
+  pub grown_told : (ns : Names) (outer : Outer) (r : Place) (before now : Option (List ℕ)) → Tells M (λ s. owners_text ns (tree s.cells 257 (record { outer = outer; branches = [] }) (held s.cells r))) before now → Tells M (λ s. owners_text ns (grown s.cells outer r)) before now
   unfolding generations
-  grown_told outer r before now told = told
+  grown_told ns outer r before now told = told
 
-  pub grown_cut : (outer : Outer) (r : Place) (fault : DebugFault) (failed : Bool) (before now : Option (List ℕ)) → TellsPart M (λ s. owners_text (tree s.cells 257 (record { outer = outer; branches = [] }) (held s.cells r))) fault failed before now → TellsPart M (λ s. owners_text (grown s.cells outer r)) fault failed before now
+  pub grown_cut : (ns : Names) (outer : Outer) (r : Place) (fault : DebugFault) (failed : Bool) (before now : Option (List ℕ)) → TellsPart M (λ s. owners_text ns (tree s.cells 257 (record { outer = outer; branches = [] }) (held s.cells r))) fault failed before now → TellsPart M (λ s. owners_text ns (grown s.cells outer r)) fault failed before now
   unfolding generations
-  grown_cut outer r fault failed before now cut = cut
+  grown_cut ns outer r fault failed before now cut = cut
 
   -- nothing hangs from a place that holds nothing
-  pub grown_untold : (outer : Outer) (r : Place) (out : Option (List ℕ)) → ShowsNone M r → Tells M (λ s. owners_text (grown s.cells outer r)) out out
-  grown_untold outer r out none = tree_untold generations (record { outer = outer; branches = [] }) r out none
+  pub grown_untold : (ns : Names) (outer : Outer) (r : Place) (out : Option (List ℕ)) → ShowsNone M r → Tells M (λ s. owners_text ns (grown s.cells outer r)) out out
+  grown_untold ns outer r out none = tree_untold ns generations (record { outer = outer; branches = [] }) r out none
 
   -- nothing hangs from registers that own nothing
-  pub none_hang : (depth frames : ℕ) (out : Option (List ℕ)) → ((i : ℕ) → ShowsNone M (Register depth i)) → Tells M (λ s. owners_text (frame_registers s.cells depth frames 16)) out out
-  none_hang depth frames out none = record { out = λ s st. none_sent out ∙ ap (λ xs. after out (owners_text xs)) (sym (gathered_none 16 (λ i. grown s.cells (In_register frames i) (Register depth i)) (λ i. tree_none s.cells generations (record { outer = In_register frames i; branches = [] }) (held s.cells (Register depth i)) ((none i).each s st)))) }
+  pub none_hang : (ns : Names) (depth frames : ℕ) (out : Option (List ℕ)) → ((i : ℕ) → ShowsNone M (Register depth i)) → Tells M (λ s. owners_text ns (frame_registers s.cells depth frames 16)) out out
+  none_hang ns depth frames out none = record { out = λ s st. none_sent out ∙ ap (λ xs. after out (owners_text ns xs)) (sym (gathered_none 16 (λ i. grown s.cells (In_register frames i) (Register depth i)) (λ i. tree_none s.cells generations (record { outer = In_register frames i; branches = [] }) (held s.cells (Register depth i)) ((none i).each s st)))) }

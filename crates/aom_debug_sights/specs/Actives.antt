@@ -8,6 +8,7 @@ use Rattle.aom_sound.specs.Servers.{is_server}
 use Rattle.aom_sound.specs.State.{State}
 use Rattle.aom_parts.specs.Stands.{Machine, StandsFor}
 use Rattle.aom_run.specs.Runs.{after}
+use Rattle.aom_debug_names.specs.Names.{Names}
 use Rattle.aom_debug_words.specs.declared.fault.DebugFault.{DebugFault}
 use Rattle.aom_debug_words.specs.declared.fault.DebugFault.TheVariants.{WriteFault}
 use Rattle.aom_debug_words.specs.declared.answer.Answer.{Answer}
@@ -15,7 +16,7 @@ use Rattle.aom_debug_words.specs.declared.answer.Answer.TheVariants.{Active, Ser
 use Rattle.aom_debug_words.specs.declared.answer.Phase.{Phase as Shown_phase}
 use Rattle.aom_debug_words.specs.declared.answer.Phase.TheVariants as shown
 use Rattle.aom_debug_sights.specs.Sights.{class_of}
-use Rattle.aom_debug_sights.specs.Telling.{answers_text, listed}
+use Rattle.aom_debug_sights.specs.Telling.{answers_by, listed}
 
 -- one whose cancel is at hand is active
 abbrev pub shown_phase : Phase → Shown_phase
@@ -60,13 +61,13 @@ abbrev pub on_list : Machine → List ℕ
 on_list m = map (λ e. e.id) m.parts.active.roster.entries
 
 -- these are in the order of choice of each state that a machine stands for, and their lines are out
-pub record TellsActives (m : Machine) (before now : Option (List ℕ)) : Type 0 where
+pub record TellsActives (ns : Names) (m : Machine) (before now : Option (List ℕ)) : Type 0 where
   pub order : (s : State) → StandsFor m s → InOrderOfChoice s.cells (on_list m)
-  pub out : (s : State) → StandsFor m s → now ≡ after before (answers_text (active_answers m.image s.cells (on_list m)))
+  pub out : (s : State) → StandsFor m s → now ≡ after before (answers_by ns (active_answers m.image s.cells (on_list m)))
 
 -- or a beginning of them, since the sink failed, and the fault says so
-pub record TellsActivesPart (m : Machine) (fault : DebugFault) (failed : Bool) (before now : Option (List ℕ)) : Type 0 where
+pub record TellsActivesPart (ns : Names) (m : Machine) (fault : DebugFault) (failed : Bool) (before now : Option (List ℕ)) : Type 0 where
   pub told : fault ≡ WriteFault
   pub fails : failed ≡ true
   pub order : (s : State) → StandsFor m s → InOrderOfChoice s.cells (on_list m)
-  pub out : (s : State) → StandsFor m s → (sent : ℕ) × (now ≡ after before (take sent (answers_text (active_answers m.image s.cells (on_list m)))))
+  pub out : (s : State) → StandsFor m s → (sent : ℕ) × (now ≡ after before (take sent (answers_by ns (active_answers m.image s.cells (on_list m)))))

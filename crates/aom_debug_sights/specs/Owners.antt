@@ -1,5 +1,5 @@
 -- The map of owners: a line for each place that owns, and below it those of the fields of what it owns.
-use Rattle.std.specs.Prelude.{◌≡◌, ◌-◌, ℕ, zero, suc, Bool, true, false, cond, nat_lt, List, [], ◌∷◌, ◌++◌, codes, decimal, length, Option, Some, None, slice_index_or}
+use Rattle.std.specs.Prelude.{◌≡◌, ◌-◌, ℕ, zero, suc, Bool, true, false, cond, nat_lt, List, [], ◌∷◌, ◌++◌, codes, length, Option, Some, None, slice_index_or}
 use Rattle.std.specs.List.{flat_map}
 use Rattle.aom_image.specs.declared.method.Thing.{Thing}
 use Rattle.aom_image.specs.declared.method.Thing.TheVariants.{Object as An_object_of, Message}
@@ -22,7 +22,8 @@ use Rattle.aom_sound.specs.Places.{Cell, Elsewhere, Entry, Field, Going, In_serv
 use Rattle.aom_sound.specs.State.{A_mark, An_object, An_operation, Destroy, Item, Run, State, Task}
 use Rattle.aom_parts.specs.declared.parts.Parts.{Parts}
 use Rattle.aom_tokens.specs.Tokens.{class_at}
-use Rattle.aom_debug_words.specs.Answers.{source_text}
+use Rattle.aom_debug_names.specs.Names.{Names, class_by}
+use Rattle.aom_debug_names.specs.Answers.{hearer_by}
 use Rattle.aom_debug_words.specs.declared.answer.Source.{Source}
 use Rattle.aom_debug_words.specs.declared.answer.Source.TheVariants as sources
 pub use Rattle.aom_debug_words.specs.Ways.{Way, branch_text, further, outer_text, way_text}
@@ -55,16 +56,16 @@ pub record Owned : Type 0 where
 -- ---- how they are spelled
 
 -- an object by its class, and a message by who hears when it is completed
-abbrev pub thing_text : Thing → Option Source → List ℕ
-thing_text (An_object_of class) source = decimal class
-thing_text Message (Some source) = source_text source
-thing_text Message None = codes "msg"
+abbrev pub thing_text : Names → Thing → Option Source → List ℕ
+thing_text ns (An_object_of class) source = class_by ns class
+thing_text ns Message (Some source) = hearer_by ns source
+thing_text ns Message None = codes "msg"
 
-abbrev pub owned_line : Owned → List ℕ
-owned_line x = ended (way_text x.way ++ codes " " ++ thing_text x.object.thing x.source)
+abbrev pub owned_line : Names → Owned → List ℕ
+owned_line ns x = ended (way_text x.way ++ codes " " ++ thing_text ns x.object.thing x.source)
 
-abbrev pub owners_text : List Owned → List ℕ
-owners_text xs = flat_map owned_line xs
+abbrev pub owners_text : Names → List Owned → List ℕ
+owners_text ns xs = flat_map (owned_line ns) xs
 
 -- ---- what hangs from a place
 
@@ -132,9 +133,9 @@ owners s =
 -- ---- what a machine shows of them
 
 -- the line of a message at the end of a way, if there is one
-abbrev pub message_text : List ℕ → Option Source → List ℕ
-message_text way None = []
-message_text way (Some source) = ended (way ++ codes " " ++ source_text source)
+abbrev pub message_text : Names → List ℕ → Option Source → List ℕ
+message_text ns way None = []
+message_text ns way (Some source) = ended (way ++ codes " " ++ hearer_by ns source)
 
 -- the client that sent what a message place has
 abbrev pub sender_of : Message_place → Option Source

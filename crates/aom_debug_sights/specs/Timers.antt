@@ -6,12 +6,13 @@ use Rattle.aom_sound.specs.Places.{Cell, named, requested}
 use Rattle.aom_sound.specs.State.{State}
 use Rattle.aom_parts.specs.Stands.{Machine, StandsFor}
 use Rattle.aom_run.specs.Runs.{after}
+use Rattle.aom_debug_names.specs.Names.{Names}
 use Rattle.aom_debug_words.specs.declared.fault.DebugFault.{DebugFault}
 use Rattle.aom_debug_words.specs.declared.fault.DebugFault.TheVariants.{WriteFault}
 use Rattle.aom_debug_words.specs.declared.answer.Answer.{Answer}
 use Rattle.aom_debug_words.specs.declared.answer.Answer.TheVariants.{Timer}
 use Rattle.aom_debug_sights.specs.Sights.{class_of}
-use Rattle.aom_debug_sights.specs.Telling.{answers_text, listed}
+use Rattle.aom_debug_sights.specs.Telling.{answers_by, listed}
 
 abbrev pub timer_of : Option ℕ → Option ℕ → Option Answer
 timer_of (Some class) (Some due) = Some (Timer class due)
@@ -39,13 +40,13 @@ abbrev pub on_timers : Machine → List ℕ
 on_timers m = map (λ t. t.id) m.parts.active.pending.timers
 
 -- these are in the order of time of each state that a machine stands for, and their lines are out
-pub record TellsTimers (m : Machine) (before now : Option (List ℕ)) : Type 0 where
+pub record TellsTimers (ns : Names) (m : Machine) (before now : Option (List ℕ)) : Type 0 where
   pub order : (s : State) → StandsFor m s → InOrderOfTime s.cells (on_timers m)
-  pub out : (s : State) → StandsFor m s → now ≡ after before (answers_text (timer_answers s.cells (on_timers m)))
+  pub out : (s : State) → StandsFor m s → now ≡ after before (answers_by ns (timer_answers s.cells (on_timers m)))
 
 -- or a beginning of them, since the sink failed, and the fault says so
-pub record TellsTimersPart (m : Machine) (fault : DebugFault) (failed : Bool) (before now : Option (List ℕ)) : Type 0 where
+pub record TellsTimersPart (ns : Names) (m : Machine) (fault : DebugFault) (failed : Bool) (before now : Option (List ℕ)) : Type 0 where
   pub told : fault ≡ WriteFault
   pub fails : failed ≡ true
   pub order : (s : State) → StandsFor m s → InOrderOfTime s.cells (on_timers m)
-  pub out : (s : State) → StandsFor m s → (sent : ℕ) × (now ≡ after before (take sent (answers_text (timer_answers s.cells (on_timers m)))))
+  pub out : (s : State) → StandsFor m s → (sent : ℕ) × (now ≡ after before (take sent (answers_by ns (timer_answers s.cells (on_timers m)))))

@@ -8,7 +8,8 @@ ghost use Rattle.aom_sound.specs.State.{State as StateRecord};
 ghost use Rattle.aom_debug_sights.specs.Actives.{TellsActives, TellsActivesPart, active_answer, active_at, shown_phase};
 
 use crate::cleanup::class_of;
-use crate::sending::tell_any;
+use crate::sending::tell_any_by;
+use aom_debug_names::Names;
 use aom_debug_words::{Answer, DebugFault, Phase};
 use aom_parts::Parts;
 use aom_requests::State;
@@ -53,13 +54,13 @@ fn place_answer(parts: &Parts, place: usize) -> Option<Answer>
 }
 
 /// Tells the enlisted objects, and of a server how much waits in its queue, in the order of choice: one of a higher priority first, and of two of the same the one that was enlisted first.
-pub fn tell_actives<W: Sink>(parts: &Parts, out: &mut W) -> Result<(), DebugFault>
+pub fn tell_actives<W: Sink>(parts: &Parts, names: &Names, out: &mut W) -> Result<(), DebugFault>
     requires { (p : Image) × Stands (record { image = p; parts = parts.now }) }
-    ensures ok { IfOk result (λ _. (p : Image) → TellsActives (record { image = p; parts = parts.now }) (W.out out.old) (W.out out.new)) }
-    ensures err { IfErr result (λ fault. (p : Image) → TellsActivesPart (record { image = p; parts = parts.now }) fault (W.failed out.new) (W.out out.old) (W.out out.new)) }
+    ensures ok { IfOk result (λ _. (p : Image) → TellsActives names.now (record { image = p; parts = parts.now }) (W.out out.old) (W.out out.new)) }
+    ensures err { IfErr result (λ fault. (p : Image) → TellsActivesPart names.now (record { image = p; parts = parts.now }) fault (W.failed out.new) (W.out out.old) (W.out out.new)) }
 {
     for place in 0..parts.active.count() {
-        tell_any(place_answer(parts, place), out)?;
+        tell_any_by(names, place_answer(parts, place), out)?;
     }
     Ok(())
 }

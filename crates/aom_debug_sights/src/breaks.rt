@@ -3,9 +3,10 @@ ghost use Rattle.std.specs.Prelude.{◌≡◌, IfErr, IfOk, option_map, slice_ge
 ghost use Rattle.aom_run.specs.Runs.{after};
 ghost use Rattle.aom_debug_words.specs.declared.answer.Answer.TheVariants.{Break};
 ghost use Rattle.aom_debug_sights.specs.Sights.{breaks_answers};
-ghost use Rattle.aom_debug_sights.specs.Telling.{IsCut, answers_text};
+ghost use Rattle.aom_debug_sights.specs.Telling.{IsCut, answers_by};
 
-use crate::sending::tell_any;
+use crate::sending::tell_any_by;
+use aom_debug_names::Names;
 use aom_debug_words::{Answer, Breakpoints, DebugFault};
 use aom_run::Sink;
 
@@ -20,12 +21,16 @@ fn break_answer(breakpoints: &Breakpoints, index: usize) -> Option<Answer>
 }
 
 /// Tells the breakpoints, in the order in which they were set, each as the command that sets it.
-pub fn tell_breaks<W: Sink>(breakpoints: &Breakpoints, out: &mut W) -> Result<(), DebugFault>
-    ensures ok { IfOk result (λ _. W.out out.new ≡ after (W.out out.old) (answers_text (breaks_answers breakpoints.now))) }
-    ensures err { IfErr result (λ fault. IsCut (answers_text (breaks_answers breakpoints.now)) fault (W.failed out.new) (W.out out.old) (W.out out.new)) }
+pub fn tell_breaks<W: Sink>(
+    breakpoints: &Breakpoints,
+    names: &Names,
+    out: &mut W,
+) -> Result<(), DebugFault>
+    ensures ok { IfOk result (λ _. W.out out.new ≡ after (W.out out.old) (answers_by names.now (breaks_answers breakpoints.now))) }
+    ensures err { IfErr result (λ fault. IsCut (answers_by names.now (breaks_answers breakpoints.now)) fault (W.failed out.new) (W.out out.old) (W.out out.new)) }
 {
     for index in 0..breakpoints.count() {
-        tell_any(break_answer(breakpoints, index), out)?;
+        tell_any_by(names, break_answer(breakpoints, index), out)?;
     }
     Ok(())
 }

@@ -5,10 +5,11 @@ ghost use Rattle.aom_image.specs.Image.{Image};
 ghost use Rattle.aom_parts.specs.Stands.{StandsFor};
 ghost use Rattle.aom_sound.specs.State.{State};
 ghost use Rattle.aom_debug_sights.specs.Sights.{cells_answers, class_answer, count_class, first_classes, is_class};
-ghost use Rattle.aom_debug_sights.specs.Telling.{Tells, TellsPart, answers_text};
+ghost use Rattle.aom_debug_sights.specs.Telling.{Tells, TellsPart, answers_by};
 
 use crate::cleanup::class_of;
-use crate::sending::{tell, tell_any};
+use crate::sending::{tell_any_by, tell_by};
+use aom_debug_names::Names;
 use aom_debug_words::{Answer, DebugFault};
 use aom_linked::Linked;
 use aom_parts::Parts;
@@ -49,22 +50,32 @@ fn class_answer(parts: &Parts, class: u16) -> Option<Answer>
 }
 
 /// Tells of so many classes, by number, how many objects of each live that has any.
-fn tell_classes<W: Sink>(parts: &Parts, classes: usize, out: &mut W) -> Result<(), DebugFault>
+fn tell_classes<W: Sink>(
+    parts: &Parts,
+    classes: usize,
+    names: &Names,
+    out: &mut W,
+) -> Result<(), DebugFault>
     requires { classes ≤ 256 }
-    ensures ok { IfOk result (λ _. (p : Image) → Tells (record { image = p; parts = parts.now }) (λ s. answers_text (first_classes s.cells classes)) (W.out out.old) (W.out out.new)) }
-    ensures err { IfErr result (λ fault. (p : Image) → TellsPart (record { image = p; parts = parts.now }) (λ s. answers_text (first_classes s.cells classes)) fault (W.failed out.new) (W.out out.old) (W.out out.new)) }
+    ensures ok { IfOk result (λ _. (p : Image) → Tells (record { image = p; parts = parts.now }) (λ s. answers_by names.now (first_classes s.cells classes)) (W.out out.old) (W.out out.new)) }
+    ensures err { IfErr result (λ fault. (p : Image) → TellsPart (record { image = p; parts = parts.now }) (λ s. answers_by names.now (first_classes s.cells classes)) fault (W.failed out.new) (W.out out.old) (W.out out.new)) }
 {
     for class in 0..classes {
-        tell_any(class_answer(parts, class as u16), out)?;
+        tell_any_by(names, class_answer(parts, class as u16), out)?;
     }
     Ok(())
 }
 
 /// Tells how many cells live, and how many of each class that has any, by number.
-pub fn tell_cells<W: Sink>(parts: &Parts, linked: &Linked, out: &mut W) -> Result<(), DebugFault>
-    ensures ok { IfOk result (λ _. (p : Image) → Tells (record { image = p; parts = parts.now }) (λ s. answers_text (cells_answers linked.now s)) (W.out out.old) (W.out out.new)) }
-    ensures err { IfErr result (λ fault. (p : Image) → TellsPart (record { image = p; parts = parts.now }) (λ s. answers_text (cells_answers linked.now s)) fault (W.failed out.new) (W.out out.old) (W.out out.new)) }
+pub fn tell_cells<W: Sink>(
+    parts: &Parts,
+    linked: &Linked,
+    names: &Names,
+    out: &mut W,
+) -> Result<(), DebugFault>
+    ensures ok { IfOk result (λ _. (p : Image) → Tells (record { image = p; parts = parts.now }) (λ s. answers_by names.now (cells_answers linked.now s)) (W.out out.old) (W.out out.new)) }
+    ensures err { IfErr result (λ fault. (p : Image) → TellsPart (record { image = p; parts = parts.now }) (λ s. answers_by names.now (cells_answers linked.now s)) fault (W.failed out.new) (W.out out.old) (W.out out.new)) }
 {
-    tell(Answer::Cells(parts.cells.count()), out)?;
-    tell_classes(parts, linked.image().classes().len(), out)
+    tell_by(names, Answer::Cells(parts.cells.count()), out)?;
+    tell_classes(parts, linked.image().classes().len(), names, out)
 }

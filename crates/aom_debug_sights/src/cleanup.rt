@@ -7,10 +7,11 @@ ghost use Rattle.aom_sound.specs.Owned.{over};
 ghost use Rattle.aom_sound.specs.State.{State};
 ghost use Rattle.aom_debug_words.specs.declared.answer.Answer.TheVariants.{Object};
 ghost use Rattle.aom_debug_sights.specs.Sights.{cleanup_answers, held_answer, item_answer};
-ghost use Rattle.aom_debug_sights.specs.Telling.{Tells, TellsPart, answers_text};
+ghost use Rattle.aom_debug_sights.specs.Telling.{Tells, TellsPart, answers_by};
 
-use crate::sending::tell_any;
+use crate::sending::tell_any_by;
 use aom_cleanup::Item;
+use aom_debug_names::Names;
 use aom_debug_words::{Answer, DebugFault};
 use aom_parts::Parts;
 use aom_run::Sink;
@@ -69,12 +70,12 @@ fn item_answer(parts: &Parts, height: usize) -> Option<Answer>
 }
 
 /// Tells the items of the cleanup stack, the lowest first.
-pub fn tell_cleanup<W: Sink>(parts: &Parts, out: &mut W) -> Result<(), DebugFault>
-    ensures ok { IfOk result (λ _. (p : Image) → Tells (record { image = p; parts = parts.now }) (λ s. answers_text (cleanup_answers s)) (W.out out.old) (W.out out.new)) }
-    ensures err { IfErr result (λ fault. (p : Image) → TellsPart (record { image = p; parts = parts.now }) (λ s. answers_text (cleanup_answers s)) fault (W.failed out.new) (W.out out.old) (W.out out.new)) }
+pub fn tell_cleanup<W: Sink>(parts: &Parts, names: &Names, out: &mut W) -> Result<(), DebugFault>
+    ensures ok { IfOk result (λ _. (p : Image) → Tells (record { image = p; parts = parts.now }) (λ s. answers_by names.now (cleanup_answers s)) (W.out out.old) (W.out out.new)) }
+    ensures err { IfErr result (λ fault. (p : Image) → TellsPart (record { image = p; parts = parts.now }) (λ s. answers_by names.now (cleanup_answers s)) fault (W.failed out.new) (W.out out.old) (W.out out.new)) }
 {
     for height in 0..parts.entries.len() {
-        tell_any(item_answer(parts, height), out)?;
+        tell_any_by(names, item_answer(parts, height), out)?;
     }
     Ok(())
 }

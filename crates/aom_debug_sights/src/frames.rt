@@ -15,14 +15,15 @@ ghost use Rattle.aom_sound.specs.State.{Frame as FrameRecord, Run, State, word};
 ghost use Rattle.aom_debug_words.specs.declared.answer.Content.TheVariants.{Message, Word};
 ghost use Rattle.aom_debug_sights.specs.Frames.{RegisterShows, ShowsFrame, content_by, frame_answers, frame_lines, frames_answers, loop_answer, loops_in, owned_content, register_in, registers_in, place_in, trap_held, trap_in, trap_under};
 ghost use Rattle.aom_debug_sights.specs.Owners.{Shows, source_at};
-ghost use Rattle.aom_debug_sights.specs.Telling.{Tells, TellsPart, answers_text, listed};
+ghost use Rattle.aom_debug_sights.specs.Telling.{Tells, TellsPart, answers_by, listed};
 
 use crate::cleanup::class_of;
 use crate::owners::frame_at;
-use crate::sending::tell_any;
+use crate::sending::tell_any_by;
 use crate::tree::source_at;
 use aom_budget::Accepted;
 use aom_cells::NULL;
+use aom_debug_names::Names;
 use aom_debug_words::{Answer, Content, DebugFault, Spot};
 use aom_frames::{Frame, Task};
 use aom_parts::Parts;
@@ -93,14 +94,15 @@ fn tell_contents<W: Sink>(
     parts: &Parts,
     shape: &Shape<'_>,
     frame: &Frame,
+    names: &Names,
     out: &mut W,
 ) -> Result<(), DebugFault>
     requires { (p : Image) × Stands (record { image = p; parts = parts.now }) }
-    ensures ok { IfOk result (λ _. (p : Image) (depth : ℕ) → ShowsFrame (record { image = p; parts = parts.now }) shape.now frame.now depth → Tells (record { image = p; parts = parts.now }) (λ s. answers_text (registers_in (λ i. kind_at shape.now i) s.cells depth (over s.tasks depth) 16)) (W.out out.old) (W.out out.new)) }
-    ensures err { IfErr result (λ fault. (p : Image) (depth : ℕ) → ShowsFrame (record { image = p; parts = parts.now }) shape.now frame.now depth → TellsPart (record { image = p; parts = parts.now }) (λ s. answers_text (registers_in (λ i. kind_at shape.now i) s.cells depth (over s.tasks depth) 16)) fault (W.failed out.new) (W.out out.old) (W.out out.new)) }
+    ensures ok { IfOk result (λ _. (p : Image) (depth : ℕ) → ShowsFrame (record { image = p; parts = parts.now }) shape.now frame.now depth → Tells (record { image = p; parts = parts.now }) (λ s. answers_by names.now (registers_in (λ i. kind_at shape.now i) s.cells depth (over s.tasks depth) 16)) (W.out out.old) (W.out out.new)) }
+    ensures err { IfErr result (λ fault. (p : Image) (depth : ℕ) → ShowsFrame (record { image = p; parts = parts.now }) shape.now frame.now depth → TellsPart (record { image = p; parts = parts.now }) (λ s. answers_by names.now (registers_in (λ i. kind_at shape.now i) s.cells depth (over s.tasks depth) 16)) fault (W.failed out.new) (W.out out.old) (W.out out.new)) }
 {
     for register in 0..16u8 {
-        tell_any(register_answer(parts, shape, frame, register), out)?;
+        tell_any_by(names, register_answer(parts, shape, frame, register), out)?;
     }
     Ok(())
 }
@@ -116,12 +118,12 @@ fn loop_answer(number: u8, rounds: u16) -> Option<Answer>
 }
 
 /// Tells the loops of a frame that have rounds left, the outermost first.
-fn tell_loops<W: Sink>(frame: &Frame, out: &mut W) -> Result<(), DebugFault>
-    ensures ok { IfOk result (λ _. (m : Machine) (sh : ShapeRecord) (depth : ℕ) → ShowsFrame m sh frame.now depth → Tells m (λ s. answers_text (loops_in (over s.tasks depth) 4)) (W.out out.old) (W.out out.new)) }
-    ensures err { IfErr result (λ fault. (m : Machine) (sh : ShapeRecord) (depth : ℕ) → ShowsFrame m sh frame.now depth → TellsPart m (λ s. answers_text (loops_in (over s.tasks depth) 4)) fault (W.failed out.new) (W.out out.old) (W.out out.new)) }
+fn tell_loops<W: Sink>(frame: &Frame, names: &Names, out: &mut W) -> Result<(), DebugFault>
+    ensures ok { IfOk result (λ _. (m : Machine) (sh : ShapeRecord) (depth : ℕ) → ShowsFrame m sh frame.now depth → Tells m (λ s. answers_by names.now (loops_in (over s.tasks depth) 4)) (W.out out.old) (W.out out.new)) }
+    ensures err { IfErr result (λ fault. (m : Machine) (sh : ShapeRecord) (depth : ℕ) → ShowsFrame m sh frame.now depth → TellsPart m (λ s. answers_by names.now (loops_in (over s.tasks depth) 4)) fault (W.failed out.new) (W.out out.old) (W.out out.new)) }
 {
     for number in 0..4u8 {
-        tell_any(loop_answer(number, frame.counter(number)), out)?;
+        tell_any_by(names, loop_answer(number, frame.counter(number)), out)?;
     }
     Ok(())
 }
@@ -147,23 +149,28 @@ fn trap_under(parts: &Parts, depth: usize) -> Option<Answer>
 }
 
 /// Tells whether a trap called the frame that stands at a depth.
-fn tell_trap<W: Sink>(parts: &Parts, depth: usize, out: &mut W) -> Result<(), DebugFault>
-    ensures ok { IfOk result (λ _. (p : Image) (sh : ShapeRecord) (f : FrameOf) → ShowsFrame (record { image = p; parts = parts.now }) sh f depth → Tells (record { image = p; parts = parts.now }) (λ s. answers_text (listed (trap_in s.tasks depth (over s.tasks depth)))) (W.out out.old) (W.out out.new)) }
-    ensures err { IfErr result (λ fault. (p : Image) (sh : ShapeRecord) (f : FrameOf) → ShowsFrame (record { image = p; parts = parts.now }) sh f depth → TellsPart (record { image = p; parts = parts.now }) (λ s. answers_text (listed (trap_in s.tasks depth (over s.tasks depth)))) fault (W.failed out.new) (W.out out.old) (W.out out.new)) }
+fn tell_trap<W: Sink>(
+    parts: &Parts,
+    depth: usize,
+    names: &Names,
+    out: &mut W,
+) -> Result<(), DebugFault>
+    ensures ok { IfOk result (λ _. (p : Image) (sh : ShapeRecord) (f : FrameOf) → ShowsFrame (record { image = p; parts = parts.now }) sh f depth → Tells (record { image = p; parts = parts.now }) (λ s. answers_by names.now (listed (trap_in s.tasks depth (over s.tasks depth)))) (W.out out.old) (W.out out.new)) }
+    ensures err { IfErr result (λ fault. (p : Image) (sh : ShapeRecord) (f : FrameOf) → ShowsFrame (record { image = p; parts = parts.now }) sh f depth → TellsPart (record { image = p; parts = parts.now }) (λ s. answers_by names.now (listed (trap_in s.tasks depth (over s.tasks depth)))) fault (W.failed out.new) (W.out out.old) (W.out out.new)) }
 {
-    tell_any(trap_under(parts, depth), out)
+    tell_any_by(names, trap_under(parts, depth), out)
 }
 
 /// Tells where a frame stands.
-fn tell_head<W: Sink>(frame: &Frame, out: &mut W) -> Result<(), DebugFault>
-    ensures ok { IfOk result (λ _. (m : Machine) (sh : ShapeRecord) (depth : ℕ) → ShowsFrame m sh frame.now depth → Tells m (λ s. answers_text (listed (place_in (over s.tasks depth)))) (W.out out.old) (W.out out.new)) }
-    ensures err { IfErr result (λ fault. (m : Machine) (sh : ShapeRecord) (depth : ℕ) → ShowsFrame m sh frame.now depth → TellsPart m (λ s. answers_text (listed (place_in (over s.tasks depth)))) fault (W.failed out.new) (W.out out.old) (W.out out.new)) }
+fn tell_head<W: Sink>(frame: &Frame, names: &Names, out: &mut W) -> Result<(), DebugFault>
+    ensures ok { IfOk result (λ _. (m : Machine) (sh : ShapeRecord) (depth : ℕ) → ShowsFrame m sh frame.now depth → Tells m (λ s. answers_by names.now (listed (place_in (over s.tasks depth)))) (W.out out.old) (W.out out.new)) }
+    ensures err { IfErr result (λ fault. (m : Machine) (sh : ShapeRecord) (depth : ℕ) → ShowsFrame m sh frame.now depth → TellsPart m (λ s. answers_by names.now (listed (place_in (over s.tasks depth)))) fault (W.failed out.new) (W.out out.old) (W.out out.new)) }
 {
     let spot = Spot {
         method: frame.method.number(),
         place: frame.place,
     };
-    tell_any(Some(Answer::Frame(spot)), out)
+    tell_any_by(names, Some(Answer::Frame(spot)), out)
 }
 
 /// Tells a frame that stands at a depth.
@@ -172,16 +179,17 @@ fn tell_lines<W: Sink>(
     shape: &Shape<'_>,
     frame: &Frame,
     depth: usize,
+    names: &Names,
     out: &mut W,
 ) -> Result<(), DebugFault>
     requires { (p : Image) × Stands (record { image = p; parts = parts.now }) }
-    ensures ok { IfOk result (λ _. (p : Image) → ShowsFrame (record { image = p; parts = parts.now }) shape.now frame.now depth → Tells (record { image = p; parts = parts.now }) (λ s. answers_text (frame_lines (λ i. kind_at shape.now i) s depth (over s.tasks depth))) (W.out out.old) (W.out out.new)) }
-    ensures err { IfErr result (λ fault. (p : Image) → ShowsFrame (record { image = p; parts = parts.now }) shape.now frame.now depth → TellsPart (record { image = p; parts = parts.now }) (λ s. answers_text (frame_lines (λ i. kind_at shape.now i) s depth (over s.tasks depth))) fault (W.failed out.new) (W.out out.old) (W.out out.new)) }
+    ensures ok { IfOk result (λ _. (p : Image) → ShowsFrame (record { image = p; parts = parts.now }) shape.now frame.now depth → Tells (record { image = p; parts = parts.now }) (λ s. answers_by names.now (frame_lines (λ i. kind_at shape.now i) s depth (over s.tasks depth))) (W.out out.old) (W.out out.new)) }
+    ensures err { IfErr result (λ fault. (p : Image) → ShowsFrame (record { image = p; parts = parts.now }) shape.now frame.now depth → TellsPart (record { image = p; parts = parts.now }) (λ s. answers_by names.now (frame_lines (λ i. kind_at shape.now i) s depth (over s.tasks depth))) fault (W.failed out.new) (W.out out.old) (W.out out.new)) }
 {
-    tell_head(frame, out)?;
-    tell_contents(parts, shape, frame, out)?;
-    tell_loops(frame, out)?;
-    tell_trap(parts, depth, out)
+    tell_head(frame, names, out)?;
+    tell_contents(parts, shape, frame, names, out)?;
+    tell_loops(frame, names, out)?;
+    tell_trap(parts, depth, names, out)
 }
 
 /// Tells what stands at a depth, if it is a frame.
@@ -189,18 +197,19 @@ fn tell_method<W: Sink>(
     parts: &Parts,
     checked: &Checked,
     depth: usize,
+    names: &Names,
     out: &mut W,
 ) -> Result<(), DebugFault>
     requires stands { Stands (record { image = checked.now; parts = parts.now }) }
     requires agrees { AgreesInAll (record { image = checked.now; parts = parts.now }) }
-    ensures ok { IfOk result (λ _. (t : Typing) → IsStrongest checked.now t → Tells (record { image = checked.now; parts = parts.now }) (λ s. answers_text (frame_answers t s depth)) (W.out out.old) (W.out out.new)) }
-    ensures err { IfErr result (λ fault. (t : Typing) → IsStrongest checked.now t → TellsPart (record { image = checked.now; parts = parts.now }) (λ s. answers_text (frame_answers t s depth)) fault (W.failed out.new) (W.out out.old) (W.out out.new)) }
+    ensures ok { IfOk result (λ _. (t : Typing) → IsStrongest checked.now t → Tells (record { image = checked.now; parts = parts.now }) (λ s. answers_by names.now (frame_answers t s depth)) (W.out out.old) (W.out out.new)) }
+    ensures err { IfErr result (λ fault. (t : Typing) → IsStrongest checked.now t → TellsPart (record { image = checked.now; parts = parts.now }) (λ s. answers_by names.now (frame_answers t s depth)) fault (W.failed out.new) (W.out out.old) (W.out out.new)) }
 {
     let Some(frame) = frame_at(parts, depth) else {
         return Ok(());
     };
     match checked.shape(frame.method, frame.place) {
-        Some(shape) => tell_lines(parts, &shape, &frame, depth, out),
+        Some(shape) => tell_lines(parts, &shape, &frame, depth, names, out),
         None => Ok(()),
     }
 }
@@ -210,15 +219,16 @@ fn tell_method<W: Sink>(
 pub fn tell_frames<W: Sink>(
     parts: &Parts,
     accepted: &Accepted,
+    names: &Names,
     out: &mut W,
 ) -> Result<(), DebugFault>
     requires stands { Stands (record { image = accepted.now; parts = parts.now }) }
     requires agrees { AgreesInAll (record { image = accepted.now; parts = parts.now }) }
-    ensures ok { IfOk result (λ _. (t : Typing) → IsStrongest accepted.now t → Tells (record { image = accepted.now; parts = parts.now }) (λ s. answers_text (frames_answers t s)) (W.out out.old) (W.out out.new)) }
-    ensures err { IfErr result (λ fault. (t : Typing) → IsStrongest accepted.now t → TellsPart (record { image = accepted.now; parts = parts.now }) (λ s. answers_text (frames_answers t s)) fault (W.failed out.new) (W.out out.old) (W.out out.new)) }
+    ensures ok { IfOk result (λ _. (t : Typing) → IsStrongest accepted.now t → Tells (record { image = accepted.now; parts = parts.now }) (λ s. answers_by names.now (frames_answers t s)) (W.out out.old) (W.out out.new)) }
+    ensures err { IfErr result (λ fault. (t : Typing) → IsStrongest accepted.now t → TellsPart (record { image = accepted.now; parts = parts.now }) (λ s. answers_by names.now (frames_answers t s)) fault (W.failed out.new) (W.out out.old) (W.out out.new)) }
 {
     for depth in 0..parts.stack.len() {
-        tell_method(parts, accepted.checked(), depth, out)?;
+        tell_method(parts, accepted.checked(), depth, names, out)?;
     }
     Ok(())
 }

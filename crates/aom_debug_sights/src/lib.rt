@@ -4,8 +4,9 @@
 //! Each call takes the machine's parts by `&` and writes lines to a `Sink`. It promises that what went out is the text of the lines that
 //! its definition says of each state that the machine stands for (`Tells` of `specs/Telling.antt`, with `specs/Sights.antt` and
 //! `specs/Owners.antt`), or a beginning of it where the sink failed (`TellsPart`), and then it answers a write fault. Each object has just one
-//! line in the map of owners (`owners_are_told_once`), and active objects can stand in one order alone (`order_of_choice_is_one`). Nothing
-//! here takes memory, by signature. It knows no commands, no texts of programs and no natives.
+//! line in the map of owners (`owners_are_told_once`), and active objects can stand in one order alone (`order_of_choice_is_one`). Classes,
+//! methods and instructions are spelled with the names and the lines of a text, where there is one (`aom_debug_names`). Nothing here takes
+//! memory, by signature. It knows no commands and no natives.
 #![tactic(auto)]
 
 mod actives;
@@ -33,5 +34,5 @@ pub use holding::{Holding, Owner, held_at};
 pub use laws::{order_of_choice_is_one, owners_are_told_once};
 pub use owners::{entries_at, frames_at, goings_at, tell_owners};
 pub use recent::tell_recent;
-pub use sending::{send, tell, tell_any};
+pub use sending::{send, tell, tell_any, tell_by};
 pub use timers::tell_timers;

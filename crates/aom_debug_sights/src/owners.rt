@@ -20,6 +20,7 @@ use crate::way;
 use aom_budget::Accepted;
 use aom_cells::NULL;
 use aom_cleanup::Item;
+use aom_debug_names::Names;
 use aom_debug_words::DebugFault;
 use aom_frames::{Frame, Task};
 use aom_parts::Parts;
@@ -45,18 +46,20 @@ fn tell_register<W: Sink>(
     frame: &Frame,
     frames: usize,
     register: u8,
+    names: &Names,
     out: &mut W,
 ) -> Result<(), DebugFault>
     requires register { register < 16 }
     requires stands { (p : Image) × Stands (record { image = p; parts = parts.now }) }
-    ensures ok { IfOk result (λ _. (p : Image) (depth : ℕ) → ShowsIf (may_own (kind_in shape.now register)) (record { image = p; parts = parts.now }) (slice_index_or frame.now.registers register null) (Register depth register) → Tells (record { image = p; parts = parts.now }) (λ s. owners_text (grown s.cells (In_register frames register) (Register depth register))) (W.out out.old) (W.out out.new)) }
-    ensures err { IfErr result (λ fault. (p : Image) (depth : ℕ) → ShowsIf (may_own (kind_in shape.now register)) (record { image = p; parts = parts.now }) (slice_index_or frame.now.registers register null) (Register depth register) → TellsPart (record { image = p; parts = parts.now }) (λ s. owners_text (grown s.cells (In_register frames register) (Register depth register))) fault (W.failed out.new) (W.out out.old) (W.out out.new)) }
+    ensures ok { IfOk result (λ _. (p : Image) (depth : ℕ) → ShowsIf (may_own (kind_in shape.now register)) (record { image = p; parts = parts.now }) (slice_index_or frame.now.registers register null) (Register depth register) → Tells (record { image = p; parts = parts.now }) (λ s. owners_text names.now (grown s.cells (In_register frames register) (Register depth register))) (W.out out.old) (W.out out.new)) }
+    ensures err { IfErr result (λ fault. (p : Image) (depth : ℕ) → ShowsIf (may_own (kind_in shape.now register)) (record { image = p; parts = parts.now }) (slice_index_or frame.now.registers register null) (Register depth register) → TellsPart (record { image = p; parts = parts.now }) (λ s. owners_text names.now (grown s.cells (In_register frames register) (Register depth register))) fault (W.failed out.new) (W.out out.old) (W.out out.new)) }
 {
     if may_own(shape, register) {
         tell_place(
             parts,
             way::register(frames, register),
             frame.register(register),
+            names,
             out,
         )
     } else {
@@ -70,14 +73,15 @@ fn tell_frame<W: Sink>(
     shape: &Shape<'_>,
     frame: &Frame,
     frames: usize,
+    names: &Names,
     out: &mut W,
 ) -> Result<(), DebugFault>
     requires stands { (p : Image) × Stands (record { image = p; parts = parts.now }) }
-    ensures ok { IfOk result (λ _. (p : Image) (depth : ℕ) → ShowsAll (record { image = p; parts = parts.now }) shape.now frame.now.registers depth → Tells (record { image = p; parts = parts.now }) (λ s. owners_text (frame_registers s.cells depth frames 16)) (W.out out.old) (W.out out.new)) }
-    ensures err { IfErr result (λ fault. (p : Image) (depth : ℕ) → ShowsAll (record { image = p; parts = parts.now }) shape.now frame.now.registers depth → TellsPart (record { image = p; parts = parts.now }) (λ s. owners_text (frame_registers s.cells depth frames 16)) fault (W.failed out.new) (W.out out.old) (W.out out.new)) }
+    ensures ok { IfOk result (λ _. (p : Image) (depth : ℕ) → ShowsAll (record { image = p; parts = parts.now }) shape.now frame.now.registers depth → Tells (record { image = p; parts = parts.now }) (λ s. owners_text names.now (frame_registers s.cells depth frames 16)) (W.out out.old) (W.out out.new)) }
+    ensures err { IfErr result (λ fault. (p : Image) (depth : ℕ) → ShowsAll (record { image = p; parts = parts.now }) shape.now frame.now.registers depth → TellsPart (record { image = p; parts = parts.now }) (λ s. owners_text names.now (frame_registers s.cells depth frames 16)) fault (W.failed out.new) (W.out out.old) (W.out out.new)) }
 {
     for register in 0..16u8 {
-        tell_register(parts, shape, frame, frames, register, out)?;
+        tell_register(parts, shape, frame, frames, register, names, out)?;
     }
     Ok(())
 }
@@ -119,32 +123,38 @@ fn tell_task<W: Sink>(
     checked: &Checked,
     depth: usize,
     frames: usize,
+    names: &Names,
     out: &mut W,
 ) -> Result<(), DebugFault>
     requires stands { Stands (record { image = checked.now; parts = parts.now }) }
     requires agrees { AgreesInAll (record { image = checked.now; parts = parts.now }) }
-    ensures ok { IfOk result (λ _. Tells (record { image = checked.now; parts = parts.now }) (λ s. owners_text (frame_registers s.cells depth frames 16)) (W.out out.old) (W.out out.new)) }
-    ensures err { IfErr result (λ fault. TellsPart (record { image = checked.now; parts = parts.now }) (λ s. owners_text (frame_registers s.cells depth frames 16)) fault (W.failed out.new) (W.out out.old) (W.out out.new)) }
+    ensures ok { IfOk result (λ _. Tells (record { image = checked.now; parts = parts.now }) (λ s. owners_text names.now (frame_registers s.cells depth frames 16)) (W.out out.old) (W.out out.new)) }
+    ensures err { IfErr result (λ fault. TellsPart (record { image = checked.now; parts = parts.now }) (λ s. owners_text names.now (frame_registers s.cells depth frames 16)) fault (W.failed out.new) (W.out out.old) (W.out out.new)) }
 {
     let Some(frame) = frame_at(parts, depth) else {
         return Ok(());
     };
     match checked.shape(frame.method, frame.place) {
-        Some(shape) => tell_frame(parts, &shape, &frame, frames, out),
+        Some(shape) => tell_frame(parts, &shape, &frame, frames, names, out),
         None => Ok(()),
     }
 }
 
 /// Tells what hangs from the registers of the methods at hand, the outermost first.
-fn tell_registers<W: Sink>(parts: &Parts, checked: &Checked, out: &mut W) -> Result<(), DebugFault>
+fn tell_registers<W: Sink>(
+    parts: &Parts,
+    checked: &Checked,
+    names: &Names,
+    out: &mut W,
+) -> Result<(), DebugFault>
     requires stands { Stands (record { image = checked.now; parts = parts.now }) }
     requires agrees { AgreesInAll (record { image = checked.now; parts = parts.now }) }
-    ensures ok { IfOk result (λ _. Tells (record { image = checked.now; parts = parts.now }) (λ s. owners_text (registers_map s (length s.tasks))) (W.out out.old) (W.out out.new)) }
-    ensures err { IfErr result (λ fault. TellsPart (record { image = checked.now; parts = parts.now }) (λ s. owners_text (registers_map s (length s.tasks))) fault (W.failed out.new) (W.out out.old) (W.out out.new)) }
+    ensures ok { IfOk result (λ _. Tells (record { image = checked.now; parts = parts.now }) (λ s. owners_text names.now (registers_map s (length s.tasks))) (W.out out.old) (W.out out.new)) }
+    ensures err { IfErr result (λ fault. TellsPart (record { image = checked.now; parts = parts.now }) (λ s. owners_text names.now (registers_map s (length s.tasks))) fault (W.failed out.new) (W.out out.old) (W.out out.new)) }
 {
     let mut frames = 0;
     for depth in 0..parts.stack.len() {
-        tell_task(parts, checked, depth, frames, out)?;
+        tell_task(parts, checked, depth, frames, names, out)?;
         frames += frames_at(parts, depth);
     }
     Ok(())
@@ -194,14 +204,20 @@ pub fn entries_at(parts: &Parts, height: usize) -> usize
 }
 
 /// Tells what hangs from the entries of the cleanup stack, the lowest first.
-fn tell_entries<W: Sink>(parts: &Parts, out: &mut W) -> Result<(), DebugFault>
+fn tell_entries<W: Sink>(parts: &Parts, names: &Names, out: &mut W) -> Result<(), DebugFault>
     requires stands { (p : Image) × Stands (record { image = p; parts = parts.now }) }
-    ensures ok { IfOk result (λ _. (p : Image) → Tells (record { image = p; parts = parts.now }) (λ s. owners_text (entries_map s (length s.items))) (W.out out.old) (W.out out.new)) }
-    ensures err { IfErr result (λ fault. (p : Image) → TellsPart (record { image = p; parts = parts.now }) (λ s. owners_text (entries_map s (length s.items))) fault (W.failed out.new) (W.out out.old) (W.out out.new)) }
+    ensures ok { IfOk result (λ _. (p : Image) → Tells (record { image = p; parts = parts.now }) (λ s. owners_text names.now (entries_map s (length s.items))) (W.out out.old) (W.out out.new)) }
+    ensures err { IfErr result (λ fault. (p : Image) → TellsPart (record { image = p; parts = parts.now }) (λ s. owners_text names.now (entries_map s (length s.items))) fault (W.failed out.new) (W.out out.old) (W.out out.new)) }
 {
     let mut entries = 0;
     for height in 0..parts.entries.len() {
-        tell_place(parts, way::entry(entries), item_number(parts, height), out)?;
+        tell_place(
+            parts,
+            way::entry(entries),
+            item_number(parts, height),
+            names,
+            out,
+        )?;
         entries += entries_at(parts, height);
     }
     Ok(())
@@ -249,14 +265,20 @@ pub fn goings_at(parts: &Parts, depth: usize) -> usize
 }
 
 /// Tells what hangs from the destructions at hand, the outermost first.
-fn tell_goings<W: Sink>(parts: &Parts, out: &mut W) -> Result<(), DebugFault>
+fn tell_goings<W: Sink>(parts: &Parts, names: &Names, out: &mut W) -> Result<(), DebugFault>
     requires stands { (p : Image) × Stands (record { image = p; parts = parts.now }) }
-    ensures ok { IfOk result (λ _. (p : Image) → Tells (record { image = p; parts = parts.now }) (λ s. owners_text (goings_map s (length s.tasks))) (W.out out.old) (W.out out.new)) }
-    ensures err { IfErr result (λ fault. (p : Image) → TellsPart (record { image = p; parts = parts.now }) (λ s. owners_text (goings_map s (length s.tasks))) fault (W.failed out.new) (W.out out.old) (W.out out.new)) }
+    ensures ok { IfOk result (λ _. (p : Image) → Tells (record { image = p; parts = parts.now }) (λ s. owners_text names.now (goings_map s (length s.tasks))) (W.out out.old) (W.out out.new)) }
+    ensures err { IfErr result (λ fault. (p : Image) → TellsPart (record { image = p; parts = parts.now }) (λ s. owners_text names.now (goings_map s (length s.tasks))) fault (W.failed out.new) (W.out out.old) (W.out out.new)) }
 {
     let mut goings = 0;
     for depth in 0..parts.stack.len() {
-        tell_place(parts, way::going(goings), going_number(parts, depth), out)?;
+        tell_place(
+            parts,
+            way::going(goings),
+            going_number(parts, depth),
+            names,
+            out,
+        )?;
         goings += goings_at(parts, depth);
     }
     Ok(())
@@ -268,18 +290,19 @@ fn tell_goings<W: Sink>(parts: &Parts, out: &mut W) -> Result<(), DebugFault>
 pub fn tell_owners<W: Sink>(
     parts: &Parts,
     accepted: &Accepted,
+    names: &Names,
     out: &mut W,
 ) -> Result<(), DebugFault>
     requires stands { Stands (record { image = accepted.now; parts = parts.now }) }
     requires agrees { AgreesInAll (record { image = accepted.now; parts = parts.now }) }
     ensures apart { SessionsApart parts.now }
-    ensures ok { IfOk result (λ _. Tells (record { image = accepted.now; parts = parts.now }) (λ s. owners_text (owners s)) (W.out out.old) (W.out out.new)) }
-    ensures err { IfErr result (λ fault. TellsPart (record { image = accepted.now; parts = parts.now }) (λ s. owners_text (owners s)) fault (W.failed out.new) (W.out out.old) (W.out out.new)) }
+    ensures ok { IfOk result (λ _. Tells (record { image = accepted.now; parts = parts.now }) (λ s. owners_text names.now (owners s)) (W.out out.old) (W.out out.new)) }
+    ensures err { IfErr result (λ fault. TellsPart (record { image = accepted.now; parts = parts.now }) (λ s. owners_text names.now (owners s)) fault (W.failed out.new) (W.out out.old) (W.out out.new)) }
 {
     parts.clients.are_apart();
-    tell_place(parts, way::root(), parts.root, out)?;
-    tell_registers(parts, accepted.checked(), out)?;
-    tell_entries(parts, out)?;
-    tell_place(parts, way::service(), parts.served, out)?;
-    tell_goings(parts, out)
+    tell_place(parts, way::root(), parts.root, names, out)?;
+    tell_registers(parts, accepted.checked(), names, out)?;
+    tell_entries(parts, names, out)?;
+    tell_place(parts, way::service(), parts.served, names, out)?;
+    tell_goings(parts, names, out)
 }

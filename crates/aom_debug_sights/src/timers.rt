@@ -8,7 +8,8 @@ ghost use Rattle.aom_sound.specs.State.{State as StateRecord};
 ghost use Rattle.aom_debug_sights.specs.Timers.{TellsTimers, TellsTimersPart, timer_answer, timer_at};
 
 use crate::cleanup::class_of;
-use crate::sending::tell_any;
+use crate::sending::tell_any_by;
+use aom_debug_names::Names;
 use aom_debug_words::{Answer, DebugFault};
 use aom_parts::Parts;
 use aom_run::Sink;
@@ -35,13 +36,13 @@ fn place_answer(parts: &Parts, place: usize) -> Option<Answer>
 }
 
 /// Tells the timers that run, and when each is due: the sooner before the later, and of two at one time the one that was set first.
-pub fn tell_timers<W: Sink>(parts: &Parts, out: &mut W) -> Result<(), DebugFault>
+pub fn tell_timers<W: Sink>(parts: &Parts, names: &Names, out: &mut W) -> Result<(), DebugFault>
     requires { (p : Image) × Stands (record { image = p; parts = parts.now }) }
-    ensures ok { IfOk result (λ _. (p : Image) → TellsTimers (record { image = p; parts = parts.now }) (W.out out.old) (W.out out.new)) }
-    ensures err { IfErr result (λ fault. (p : Image) → TellsTimersPart (record { image = p; parts = parts.now }) fault (W.failed out.new) (W.out out.old) (W.out out.new)) }
+    ensures ok { IfOk result (λ _. (p : Image) → TellsTimers names.now (record { image = p; parts = parts.now }) (W.out out.old) (W.out out.new)) }
+    ensures err { IfErr result (λ fault. (p : Image) → TellsTimersPart names.now (record { image = p; parts = parts.now }) fault (W.failed out.new) (W.out out.old) (W.out out.new)) }
 {
     for place in 0..parts.active.timers() {
-        tell_any(place_answer(parts, place), out)?;
+        tell_any_by(names, place_answer(parts, place), out)?;
     }
     Ok(())
 }

@@ -1,5 +1,5 @@
 //! What hangs from a place: the line of what it owns, and then those of all that is below.
-ghost use Rattle.std.specs.Prelude.{◌≡◌, ◌<◌, ◌≤◌, ◌+◌, ◌*◌, ◌++◌, IfErr, IfOk, IfSome, codes, decimal, length};
+ghost use Rattle.std.specs.Prelude.{◌≡◌, ◌<◌, ◌≤◌, ◌+◌, ◌*◌, ◌++◌, IfErr, IfOk, IfSome, codes, length};
 ghost use Rattle.aom_cells.specs.Heap.{Lives};
 ghost use Rattle.aom_clients.specs.Clients.{client_after, client_at, first_client, sessions_at};
 ghost use Rattle.aom_image.specs.Image.{Image};
@@ -9,7 +9,8 @@ ghost use Rattle.aom_queues.specs.Lists.{IsIn};
 ghost use Rattle.aom_run.specs.Runs.{after};
 ghost use Rattle.aom_sound.specs.Places.{Place as PlaceOf, held};
 ghost use Rattle.aom_transcript.specs.Text.{ended};
-ghost use Rattle.aom_debug_words.specs.Answers.{source_text};
+ghost use Rattle.aom_debug_names.specs.Names.{class_by};
+ghost use Rattle.aom_debug_names.specs.Answers.{hearer_by};
 ghost use Rattle.aom_debug_sights.specs.Owners.{Outer, Shows, Way as WayRecord, grown, message_text, outer_text, owners_text, sender_of, source_at, tree, way_text};
 ghost use Rattle.aom_debug_sights.specs.Telling.{IsCut, Tells, TellsPart};
 
@@ -17,6 +18,7 @@ use crate::sending::send;
 use crate::way::{Way, add_class, add_message, enter, enter_session};
 use aom_cells::{CellId, NULL};
 use aom_clients::{Client, NO_CELL, Place};
+use aom_debug_names::Names;
 use aom_debug_words::{DebugFault, Source};
 use aom_messages::MessageId;
 use aom_parts::Parts;
@@ -26,28 +28,38 @@ use aom_run::Sink;
 const GENERATIONS: usize = 257;
 
 /// Writes the line of an object of a class.
-fn tell_owned<W: Sink>(way: &mut Way, class: u16, out: &mut W) -> Result<(), DebugFault>
-    requires { length way.old + 7 ≤ 1536 }
+fn tell_owned<W: Sink>(
+    way: &mut Way,
+    class: u16,
+    names: &Names,
+    out: &mut W,
+) -> Result<(), DebugFault>
+    requires { length way.old + 34 ≤ 1536 }
     ensures same { way.new ≡ way.old }
-    ensures ok { IfOk result (λ _. W.out out.new ≡ after (W.out out.old) (ended (way.old ++ codes " " ++ decimal class))) }
-    ensures err { IfErr result (λ fault. IsCut (ended (way.old ++ codes " " ++ decimal class)) fault (W.failed out.new) (W.out out.old) (W.out out.new)) }
+    ensures ok { IfOk result (λ _. W.out out.new ≡ after (W.out out.old) (ended (way.old ++ codes " " ++ class_by names.now class))) }
+    ensures err { IfErr result (λ fault. IsCut (ended (way.old ++ codes " " ++ class_by names.now class)) fault (W.failed out.new) (W.out out.old) (W.out out.new)) }
 {
     let length = way.len();
-    add_class(way, class);
+    add_class(way, names, class);
     let done = send(way.as_bytes(), out);
     way.cut(length);
     done
 }
 
 /// Writes the line of a message.
-fn tell_sent<W: Sink>(way: &mut Way, source: Source, out: &mut W) -> Result<(), DebugFault>
-    requires { length way.old + 13 ≤ 1536 }
+fn tell_sent<W: Sink>(
+    way: &mut Way,
+    source: Source,
+    names: &Names,
+    out: &mut W,
+) -> Result<(), DebugFault>
+    requires { length way.old + 40 ≤ 1536 }
     ensures same { way.new ≡ way.old }
-    ensures ok { IfOk result (λ _. W.out out.new ≡ after (W.out out.old) (ended (way.old ++ codes " " ++ source_text source))) }
-    ensures err { IfErr result (λ fault. IsCut (ended (way.old ++ codes " " ++ source_text source)) fault (W.failed out.new) (W.out out.old) (W.out out.new)) }
+    ensures ok { IfOk result (λ _. W.out out.new ≡ after (W.out out.old) (ended (way.old ++ codes " " ++ hearer_by names.now source))) }
+    ensures err { IfErr result (λ fault. IsCut (ended (way.old ++ codes " " ++ hearer_by names.now source)) fault (W.failed out.new) (W.out out.old) (W.out out.new)) }
 {
     let length = way.len();
-    add_message(way, source);
+    add_message(way, names, source);
     let done = send(way.as_bytes(), out);
     way.cut(length);
     done
@@ -85,16 +97,17 @@ fn tell_message<W: Sink>(
     parts: &Parts,
     way: &mut Way,
     number: u32,
+    names: &Names,
     out: &mut W,
 ) -> Result<(), DebugFault>
-    requires room { length way.old + 13 ≤ 1536 }
+    requires room { length way.old + 40 ≤ 1536 }
     requires stands { (p : Image) × Stands (record { image = p; parts = parts.now }) }
     ensures same { way.new ≡ way.old }
-    ensures ok { IfOk result (λ _. W.out out.new ≡ after (W.out out.old) (message_text way.old (source_at parts.now number))) }
-    ensures err { IfErr result (λ fault. IsCut (message_text way.old (source_at parts.now number)) fault (W.failed out.new) (W.out out.old) (W.out out.new)) }
+    ensures ok { IfOk result (λ _. W.out out.new ≡ after (W.out out.old) (message_text names.now way.old (source_at parts.now number))) }
+    ensures err { IfErr result (λ fault. IsCut (message_text names.now way.old (source_at parts.now number)) fault (W.failed out.new) (W.out out.old) (W.out out.new)) }
 {
     match source_at(parts, number) {
-        Some(source) => tell_sent(way, source, out),
+        Some(source) => tell_sent(way, source, names, out),
         None => Ok(()),
     }
 }
@@ -156,25 +169,33 @@ fn tell_tree<W: Sink>(
     way: &mut Way,
     number: u32,
     depth: usize,
+    names: &Names,
     out: &mut W,
 ) -> Result<(), DebugFault>
-    requires room { length way.old + 5 * depth + 13 ≤ 1536 }
+    requires room { length way.old + 5 * depth + 40 ≤ 1536 }
     requires stands { (p : Image) × Stands (record { image = p; parts = parts.now }) }
     ensures same { IfOk result (λ _. way.new ≡ way.old) }
-    ensures ok { IfOk result (λ _. (p : Image) (w : WayRecord) (r : PlaceOf) → way.old ≡ way_text w → Shows (record { image = p; parts = parts.now }) number r → Tells (record { image = p; parts = parts.now }) (λ s. owners_text (tree s.cells depth w (held s.cells r))) (W.out out.old) (W.out out.new)) }
-    ensures err { IfErr result (λ fault. (p : Image) (w : WayRecord) (r : PlaceOf) → way.old ≡ way_text w → Shows (record { image = p; parts = parts.now }) number r → TellsPart (record { image = p; parts = parts.now }) (λ s. owners_text (tree s.cells depth w (held s.cells r))) fault (W.failed out.new) (W.out out.old) (W.out out.new)) }
+    ensures ok { IfOk result (λ _. (p : Image) (w : WayRecord) (r : PlaceOf) → way.old ≡ way_text w → Shows (record { image = p; parts = parts.now }) number r → Tells (record { image = p; parts = parts.now }) (λ s. owners_text names.now (tree s.cells depth w (held s.cells r))) (W.out out.old) (W.out out.new)) }
+    ensures err { IfErr result (λ fault. (p : Image) (w : WayRecord) (r : PlaceOf) → way.old ≡ way_text w → Shows (record { image = p; parts = parts.now }) number r → TellsPart (record { image = p; parts = parts.now }) (λ s. owners_text names.now (tree s.cells depth w (held s.cells r))) fault (W.failed out.new) (W.out out.old) (W.out out.new)) }
 {
     if depth == 0 {
         return Ok(());
     }
     let Some(id) = parts.cells.find(number) else {
-        return tell_message(parts, way, number, out);
+        return tell_message(parts, way, number, names, out);
     };
-    tell_owned(way, parts.cells.class(id), out)?;
+    tell_owned(way, parts.cells.class(id), names, out)?;
     let length = way.len();
     for field in 0..8u8 {
         enter(way, field);
-        tell_tree(parts, way, parts.cells.field(id, field), depth - 1, out)?;
+        tell_tree(
+            parts,
+            way,
+            parts.cells.field(id, field),
+            depth - 1,
+            names,
+            out,
+        )?;
         way.cut(length);
     }
     parts.clients.are_apart();
@@ -186,6 +207,7 @@ fn tell_tree<W: Sink>(
             way,
             session_number(parts, id, client),
             depth - 1,
+            names,
             out,
         )?;
         way.cut(length);
@@ -199,12 +221,13 @@ pub(crate) fn tell_place<W: Sink>(
     parts: &Parts,
     mut way: Way,
     number: u32,
+    names: &Names,
     out: &mut W,
 ) -> Result<(), DebugFault>
     requires short { length way ≤ 48 }
     requires stands { (p : Image) × Stands (record { image = p; parts = parts.now }) }
-    ensures ok { IfOk result (λ _. (p : Image) (outer : Outer) (r : PlaceOf) → way ≡ outer_text outer → Shows (record { image = p; parts = parts.now }) number r → Tells (record { image = p; parts = parts.now }) (λ s. owners_text (grown s.cells outer r)) (W.out out.old) (W.out out.new)) }
-    ensures err { IfErr result (λ fault. (p : Image) (outer : Outer) (r : PlaceOf) → way ≡ outer_text outer → Shows (record { image = p; parts = parts.now }) number r → TellsPart (record { image = p; parts = parts.now }) (λ s. owners_text (grown s.cells outer r)) fault (W.failed out.new) (W.out out.old) (W.out out.new)) }
+    ensures ok { IfOk result (λ _. (p : Image) (outer : Outer) (r : PlaceOf) → way ≡ outer_text outer → Shows (record { image = p; parts = parts.now }) number r → Tells (record { image = p; parts = parts.now }) (λ s. owners_text names.now (grown s.cells outer r)) (W.out out.old) (W.out out.new)) }
+    ensures err { IfErr result (λ fault. (p : Image) (outer : Outer) (r : PlaceOf) → way ≡ outer_text outer → Shows (record { image = p; parts = parts.now }) number r → TellsPart (record { image = p; parts = parts.now }) (λ s. owners_text names.now (grown s.cells outer r)) fault (W.failed out.new) (W.out out.old) (W.out out.new)) }
 {
-    tell_tree(parts, &mut way, number, GENERATIONS, out)
+    tell_tree(parts, &mut way, number, GENERATIONS, names, out)
 }

@@ -1,14 +1,16 @@
 //! The way to an object, as its line begins.
 ghost use Rattle.std.specs.Prelude.{◌≡◌, ◌≤◌, ◌<◌, ◌+◌, ◌++◌, codes, decimal, length, take};
 ghost use Rattle.aom_transcript.specs.Text.{ended};
-ghost use Rattle.aom_debug_words.specs.Answers.{source_text};
+ghost use Rattle.aom_debug_names.specs.Names.{class_by};
+ghost use Rattle.aom_debug_names.specs.Answers.{hearer_by};
 ghost use Rattle.aom_debug_sights.specs.Owners.{branch_text, outer_text};
 ghost use Rattle.aom_debug_sights.specs.Owners.{At_root, At_service, By_field, By_session, In_entry, In_going, In_register};
 
 use aom_buffers::Text;
+use aom_debug_names::{Names, add_class_name};
 use aom_debug_words::Source;
 
-/// An outer place takes at most 48 bytes, each of 257 fields or sessions at most 5, and what is there at most 13.
+/// An outer place takes at most 48 bytes, each of 257 fields or sessions at most 5, and what is there at most 40.
 const LONGEST: usize = 1536;
 
 /// The text of a way, with room for any.
@@ -94,22 +96,26 @@ pub(crate) fn enter_session(way: &mut Way, client: u8)
 }
 
 /// Who hears when the message that is there is completed, behind the way, and the end of its line.
-pub(crate) fn add_message(way: &mut Way, source: Source)
-    requires { length way.old + 13 ≤ 1536 }
-    ensures { way.new ≡ ended (way.old ++ codes " " ++ source_text source) }
+pub(crate) fn add_message(way: &mut Way, names: &Names, source: Source)
+    requires { length way.old + 40 ≤ 1536 }
+    ensures { way.new ≡ ended (way.old ++ codes " " ++ hearer_by names.now source) }
 {
     match source {
         Source::Client(client) => way.add_count(b" msg ", client),
-        Source::Token(class) => way.add_count(b" token ", class),
+        Source::Token(class) => {
+            way.add(b" token ");
+            add_class_name(way, names, class);
+        }
     }
     way.add(b"\n");
 }
 
 /// The class of what is there, behind the way, and the end of its line.
-pub(crate) fn add_class(way: &mut Way, class: u16)
-    requires { length way.old + 7 ≤ 1536 }
-    ensures { way.new ≡ ended (way.old ++ codes " " ++ decimal class) }
+pub(crate) fn add_class(way: &mut Way, names: &Names, class: u16)
+    requires { length way.old + 34 ≤ 1536 }
+    ensures { way.new ≡ ended (way.old ++ codes " " ++ class_by names.now class) }
 {
-    way.add_count(b" ", class);
+    way.add(b" ");
+    add_class_name(way, names, class);
     way.add(b"\n");
 }

@@ -1,7 +1,7 @@
 -- What is kept of a line while it comes, by what is taken of it.
-use Rattle.std.proofs.Common.{◌≡◌, ◌≤◌, ◌<◌, ◌+◌, ◌∙◌, ℕ, Bool, true, false, nat_lt, List, [], ◌∷◌, ◌++◌, length, take, length-append, ap, sym, arith, rules, tests, min}
+use Rattle.std.proofs.Common.{◌≡◌, ◌≤◌, ◌<◌, ◌+◌, ◌∙◌, ℕ, Bool, true, false, cond, nat_lt, List, [], ◌∷◌, ◌++◌, length, take, length-append, ap, sym, arith, rules, tests, min, Option, Some, None}
 use Rattle.std.proofs.lemmas.List.{length-take, take-append-le, take_all}
-use Rattle.aom_debug_words.specs.Lines.{Kept, pending_of}
+use Rattle.aom_debug_words.specs.Lines.{Kept, fitting_line, pending_of}
 
 -- one byte more
 more : (line : List ℕ) (b : ℕ) → length (line ++ b ∷ []) ≡ length line + 1
@@ -38,3 +38,10 @@ whole line k is short =
     let e : nat_lt 256 (length line) ≡ false = sym (ap (λ (x : Kept). x.is_long) is) ∙ short in
     let few : length line ≤ 256 = search (rules, tests, e) in
     ap (λ (x : Kept). x.bytes) is ∙ take_all 256 line few
+
+-- of what is kept it is told whether the line fits
+pub too_long : (line : List ℕ) (k : Kept) → k ≡ pending_of line → k.is_long ≡ true → None ≡ fitting_line line
+too_long line k is long = ap (λ b. cond b None (Some line)) (sym long ∙ ap (λ (x : Kept). x.is_long) is)
+
+pub fits_line : (line : List ℕ) (k : Kept) → k ≡ pending_of line → k.is_long ≡ false → Some k.bytes ≡ fitting_line line
+fits_line line k is short = ap (λ (x : List ℕ). Some x) (whole line k is short) ∙ ap (λ b. cond b None (Some line)) (sym short ∙ ap (λ (x : Kept). x.is_long) is)

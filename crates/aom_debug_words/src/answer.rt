@@ -1,4 +1,6 @@
 //! What a debugger answers.
+ghost use Rattle.std.specs.Prelude.{◌≡◌, ◌≤◌, length};
+ghost use Rattle.aom_debug_words.specs.Answers.{phase_text};
 
 use crate::{DebugFault, Spot};
 
@@ -8,6 +10,20 @@ pub enum Phase {
     Idle,
     Issued,
     Active,
+}
+
+impl Phase {
+    /// The word of it, with a space on each side.
+    pub fn words(self) -> &'static [u8]
+        ensures text { result.now ≡ phase_text self }
+        ensures short { length result.now ≤ 8 }
+    {
+        match self {
+            Phase::Idle => b" idle ",
+            Phase::Issued => b" issued ",
+            Phase::Active => b" active ",
+        }
+    }
 }
 
 /// Who hears when a message is completed.

@@ -2,7 +2,7 @@
 ghost use Rattle.std.specs.Prelude.{◌≡◌, ◌+◌, ◌≤◌, [], ◌++◌, length, decimal, codes};
 ghost use Rattle.std.specs.Fmt.{signed_decimal};
 ghost use Rattle.aom_transcript.specs.Text.{ended};
-ghost use Rattle.aom_debug_words.specs.Answers.{active_text, answer_text, content_text, numbers_text, phase_text, register_text, server_text, source_text, spot_text};
+ghost use Rattle.aom_debug_words.specs.Answers.{active_text, answer_text, content_text, numbers_text, register_text, server_text, source_text, spot_text};
 
 use crate::{Answer, Content, Phase, Source, Spot};
 use aom_buffers::Text;
@@ -143,7 +143,7 @@ fn add_active(line: &mut AnswerLine, class: u16, priority: i32, phase: Phase, st
 {
     line.add_number(class);
     line.add_count(b" ", priority);
-    add_phase(line, phase);
+    line.add(phase.words());
     line.add_number(status);
 }
 
@@ -156,18 +156,6 @@ fn add_server(line: &mut AnswerLine, class: u16, priority: i32, queued: usize)
     line.add_count(b" ", priority);
     line.add(b" server ");
     line.add_number(queued);
-}
-
-fn add_phase(line: &mut AnswerLine, phase: Phase)
-    requires { length line.old ≤ 40 }
-    ensures text { line.new ≡ line.old ++ phase_text phase }
-    ensures short { length line.new ≤ length line.old + 8 }
-{
-    match phase {
-        Phase::Idle => line.add(b" idle "),
-        Phase::Issued => line.add(b" issued "),
-        Phase::Active => line.add(b" active "),
-    }
 }
 
 /// Adds a class and a time.

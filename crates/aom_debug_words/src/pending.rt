@@ -1,9 +1,7 @@
 //! The line that is not yet whole.
-ghost use Rattle.std.specs.Prelude.{◌≡◌, ℕ, List, [], ◌∷◌, ◌++◌, ◌==◌, length};
-ghost use Rattle.aom_debug_words.specs.Commands.{command_said};
-ghost use Rattle.aom_debug_words.specs.Lines.{pending_of};
+ghost use Rattle.std.specs.Prelude.{◌≡◌, ℕ, List, [], ◌∷◌, ◌++◌, ◌==◌, length, option_map};
+ghost use Rattle.aom_debug_words.specs.Lines.{fitting_line, pending_of};
 
-use crate::{Command, DebugFault, read_command};
 use arrayvec::ArrayVec;
 use std::marker::Model;
 
@@ -51,23 +49,21 @@ impl Pending {
         self.bytes.is_empty()
     }
 
-    /// What the line says. The next line begins.
-    pub fn take(&mut self) -> Result<Option<Command>, DebugFault>
-        ensures said { (line : List ℕ) → self.old ≡ pending_of line → result ≡ command_said line }
-        ensures anew { self.new ≡ pending_of [] }
-    {
-        let said = self.command();
-        self.bytes.clear();
-        self.is_long = false;
-        said
-    }
-
-    fn command(&self) -> Result<Option<Command>, DebugFault>
-        ensures { (line : List ℕ) → self.now ≡ pending_of line → result ≡ command_said line }
+    /// The line, where it is no longer than one may be.
+    pub fn line(&self) -> Option<&[u8]>
+        ensures { (line : List ℕ) → self.now ≡ pending_of line → option_map (λ l. l.now) result ≡ fitting_line line }
     {
         if self.is_long {
-            return Err(DebugFault::BadCommand);
+            return None;
         }
-        read_command(self.bytes.as_slice())
+        Some(self.bytes.as_slice())
+    }
+
+    /// The next line begins.
+    pub fn clear(&mut self)
+        ensures { self.new ≡ pending_of [] }
+    {
+        self.bytes.clear();
+        self.is_long = false;
     }
 }

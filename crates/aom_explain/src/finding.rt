@@ -7,7 +7,7 @@ use aom_syntax::Keyword;
 use aom_text::{Statement, Text, Words};
 
 /// Whether the first word is that keyword.
-pub(crate) fn begins_with(key: Keyword, words: &Words) -> bool
+pub fn begins_with(key: Keyword, words: &Words) -> bool
     ensures { result ≡ begins_with key words.now }
 {
     match words.peek() {

@@ -35,6 +35,7 @@ mod word;
 
 pub use compared::put_compared;
 pub use entry::{Entry, put_entry};
+pub use finding::{begins_with, instruction_statement};
 pub use known::put_known;
 pub use laws::statements_declare;
 pub use lined::{budget_line, class_lines, image_line, method_lines, put_lined, refusal_line};

@@ -4,13 +4,16 @@
 //! same status, the same output and the same fault line as the command of `aom_main`, and then the text of `specs/Explained.antt`,
 //! which `aom_explain` writes. Without a fault nothing is explained. `check_by_text` and `run_by_text` take the
 //! text too that the image is of, and explain by its lines; they promise `Beside`, and refuse a text that denotes no image or
-//! another one. `run_named`, `prices_named` and `dot_named` take it to tell by its names (`specs/Naming.antt`), and so do the others that
-//! have a text. `check_lined` takes it too, and tells a fault in one line of its file, as compilers do (`specs/Lined.antt`). Nothing here knows why an image is refused, nor where a sink leads.
+//! another one. `run_named`, `prices_named`, `dot_named` and `debug_named` (`specs/Debugged.antt`) take it to tell by its names
+//! (`specs/Naming.antt`), and so do the others that have a text; `explore_by_text` tells none. `check_lined` takes it too, and tells a fault
+//! in one line of its file, as compilers do (`specs/Lined.antt`). Nothing here knows why an image is refused, nor where a sink leads.
 #![tactic(auto)]
 
 mod beside;
 mod commands;
+mod debugging;
 mod explaining;
+mod exploring;
 mod lining;
 mod naming;
 mod stopping;
@@ -20,7 +23,9 @@ mod telling_by_text;
 pub use commands::{
     asm_explained, check_by_text, check_explained, check_lined, run_by_text, run_explained,
 };
+pub use debugging::debug_named;
 pub use explaining::{entry_of, explanation};
+pub use exploring::explore_by_text;
 pub use lining::tell_lined;
 pub use naming::{dot_named, prices_named, run_named};
 pub use telling::tell_explained;

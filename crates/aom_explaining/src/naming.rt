@@ -58,7 +58,7 @@ pub fn try_run_told<W: Sink>(
 }
 
 /// Tells why a text is refused beside an image.
-fn say_text<E: Sink>(fault: &TextFault, errors: &mut E) -> ExitStatus
+pub fn say_text<E: Sink>(fault: &TextFault, errors: &mut E) -> ExitStatus
     ensures { SaysText fault.now result (record { before = E.out errors.old; now = E.out errors.new; failed = E.failed errors.new }) }
 {
     match *fault {

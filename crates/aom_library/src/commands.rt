@@ -3,8 +3,8 @@
 pub use aom_command_line::{RunWords, TriesWords, Words, WordsFault, read_words};
 pub use aom_debug::debug_bytes;
 pub use aom_explaining::{
-    asm_explained, check_by_text, check_explained, dot_named, entry_of, explanation, prices_named,
-    run_by_text, run_explained, run_named, tell_explained,
+    asm_explained, check_by_text, check_explained, debug_named, dot_named, entry_of, explanation,
+    explore_by_text, prices_named, run_by_text, run_explained, run_named, tell_explained,
 };
 pub use aom_injection::{Part, Tries};
 pub use aom_main::{

@@ -19,3 +19,6 @@ run_by_text-requires-clause-owed g c = owe_nothing _ c.args.run.now.natives.item
 
 pub debug_bytes-requires : goal.debug_bytes-requires
 debug_bytes-requires g c = record { owed = owe_nothing _ c.args.run.now.natives.items c.args.boxes.items c.requires.new }
+
+pub debug_named-requires : goal.debug_named-requires
+debug_named-requires g c = record { owed = owe_nothing _ c.args.run.now.natives.items c.args.boxes.items c.requires.new }

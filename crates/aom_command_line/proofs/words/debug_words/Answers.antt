@@ -1,5 +1,10 @@
-use Rattle.std.proofs.Common.{refl}
+-- What is asked is as found; the text is one beside an image.
+use Rattle.std.proofs.Common.{refl, sym, subst, true}
+use Rattle.clap.specs.Words.{found_of, rows_of}
+use Rattle.aom_command_line.specs.CommandLine.{AsksText}
 use Rattle.aom_command_line.proofs.words.debug_words.Goals as goal
 
 pub returns-clause-asks : goal.returns-clause-asks
-returns-clause-asks c = (refl, c.in_ok-run.ensures.asks)
+returns-clause-asks c =
+    let rows = rows_of (found_of c.args.own.now) in
+    (refl, c.in_ok-run_words.ensures.asks, subst (λ asm. AsksText rows true asm c.in_ok-text_of.field-0) (sym c.in_ok-run_words.ensures.asm) c.in_ok-text_of.ensures.asks)

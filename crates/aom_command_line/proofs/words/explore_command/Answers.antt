@@ -15,4 +15,5 @@ returns c =
     let deaths = next c.deaths_arg.result _ _ c.with_arg-command-3.result c.with_arg-command-4.result c.with_arg-command-4.ensures kills c.deaths_arg.ensures.rule c.deaths_arg.ensures.own in
     let pairs = next c.pairs_arg.result _ _ c.with_arg-command-4.result c.with_arg-command-5.result c.with_arg-command-5.ensures deaths c.pairs_arg.ensures.rule c.pairs_arg.ensures.own in
     let tries = next c.tries_arg.result _ _ c.with_arg-command-5.result c.with_arg-command-6.result c.with_arg-command-6.ensures pairs c.tries_arg.ensures.rule c.tries_arg.ensures.own in
-    c.with_files.ensures _ tries
+    let text = next c.text_arg.result _ _ c.with_arg-command-6.result c.with_arg-command-7.result c.with_arg-command-7.ensures tries c.text_arg.ensures.rule c.text_arg.ensures.own in
+    c.with_files.ensures _ text

@@ -28,8 +28,8 @@ loop-byte-preserved g c =
       | then-byte-eq10+in_ok-obey w ↦
           rw (w.debugger-is, w.pending-is, w.out-is)
           (record {
-            goes = goes_line c.args.debugger.now c.loop-byte.debugger first c.loop-byte.pending here mid (take i bytes) (take (i + 1) bytes) byte (up_to bytes i c.loop-byte-test.true) far.goes w.obey.new.debugger w.take-said.new.self (g.W.Sink.out w.obey.new.out)
-                (g.W.Sink.failed w.obey.new.out) w.take-said.result (eq-eqb byte 10 w.if-byte-eq10.true) w.take-said.ensures.anew w.take-said.ensures.said w.obey.ensures.keeps w.in_ok-obey.ensures.ok;
+            goes = goes_line c.args.debugger.now c.loop-byte.debugger first c.loop-byte.pending here mid (take i bytes) (take (i + 1) bytes) byte (up_to bytes i c.loop-byte-test.true) far.goes w.obey.new.debugger w.take_named-said.new.pending (g.W.Sink.out w.obey.new.out)
+                (g.W.Sink.failed w.obey.new.out) w.take_named-said.result (eq-eqb byte 10 w.if-byte-eq10.true) w.take_named-said.ensures.anew w.take_named-said.ensures.said w.obey.ensures.keeps w.in_ok-obey.ensures.ok;
             well = w.in_ok-obey.ensures.ok.well;
             ready = w.obey.ensures.keeps.ready;
             agree = w.obey.ensures.agree;
@@ -53,7 +53,7 @@ returns-in_err-obey-clause-err g c =
     rw e.1 (
       e.2 ∙ c.in_err-obey.ensures.err.0,
       breaks_in_line c.args.debugger.now c.loop-byte.debugger c.args.pending.now c.loop-byte.pending (g.W.Sink.out c.args.out.now) (g.W.Sink.out c.loop-byte.out) (take i bytes) (drop (i + 1) bytes) bytes byte (from_on bytes i c.loop-byte-test.true)
-          c.loop-byte.invariant.goes (g.W.Sink.out c.obey.new.out) (g.W.Sink.failed c.obey.new.out) c.take-said.result (eq-eqb byte 10 c.if-byte-eq10.true) c.take-said.ensures.said c.in_err-obey.ensures.err.1,
+          c.loop-byte.invariant.goes (g.W.Sink.out c.obey.new.out) (g.W.Sink.failed c.obey.new.out) c.take_named-said.result (eq-eqb byte 10 c.if-byte-eq10.true) c.take_named-said.ensures.said c.in_err-obey.ensures.err.1,
     )
 
 pub returns-clause-ok : goal.returns-clause-ok

@@ -11,7 +11,7 @@ pub returns-in-Ok-clause-begun : goal.returns-in-Ok-clause-begun
 returns-in-Ok-clause-begun g c =
     let slots = c.in-Ok.machine.natives.slots.items in
     let count : natives_of c.in-Ok.machine ≡ length c.args.boxes.items = given_all (λ l. l.native) slots c.args.boxes.items c.in-Ok.ensures.boxes in
-    subst (λ n. IfOk c.begun.result (λ d. IsBegun c.args.accepted.now c.args.script c.args.limit n d)) count c.begun.ensures.begun
+    subst (λ n. IfOk c.begun.result (λ d. IsBegun c.args.names c.args.accepted.now c.args.script c.args.limit n d)) count c.begun.ensures.begun
 
 pub returns-in-Ok-clause-err : goal.returns-in-Ok-clause-err
 returns-in-Ok-clause-err g c =

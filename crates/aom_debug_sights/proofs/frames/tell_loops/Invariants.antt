@@ -4,8 +4,8 @@ use Rattle.aom_shape.specs.Shape.{Shape}
 use Rattle.aom_sound.specs.Owned.{over}
 use Rattle.aom_parts.specs.Stands.{Machine}
 use Rattle.aom_debug_sights.specs.Frames.{ShowsFrame, loops_in}
-use Rattle.aom_debug_sights.specs.Telling.{Tells, answers_text}
+use Rattle.aom_debug_sights.specs.Telling.{Tells, answers_by}
 use Rattle.aom_debug_sights.proofs.frames.tell_loops.Given as goal
 
 abbrev pub invariant-loop-number : goal.invariant-loop-number
-invariant-loop-number g l = (m : Machine) (sh : Shape) (depth : ℕ) → ShowsFrame m sh l.frame depth → Tells m (λ s. answers_text (loops_in (over s.tasks depth) l.number)) (g.W.Sink.out l.initial.out) (g.W.Sink.out l.out)
+invariant-loop-number g l = (m : Machine) (sh : Shape) (depth : ℕ) → ShowsFrame m sh l.frame depth → Tells m (λ s. answers_by l.names (loops_in (over s.tasks depth) l.number)) (g.W.Sink.out l.initial.out) (g.W.Sink.out l.out)

@@ -5,7 +5,7 @@ use Rattle.std.specs.Prelude.{is_some}
 use Rattle.aom_run.specs.Runs.{after}
 use Rattle.aom_sound.specs.Owned.{over}
 use Rattle.aom_debug_sights.specs.Frames.{frame_answers, kinds_of}
-use Rattle.aom_debug_sights.specs.Telling.{answers_text}
+use Rattle.aom_debug_sights.specs.Telling.{answers_by}
 use Rattle.aom_debug_sights.proofs.Contents.{frame_shows, no_lines, typed_lines}
 use Rattle.aom_debug_sights.proofs.Registers.{frame_method, is_reached}
 use Rattle.aom_debug_sights.proofs.Tasks.{frame_stands, frames_told}
@@ -18,7 +18,7 @@ returns-in_default-clause-ok g c = λ t strongest. record {
       let p = c.args.checked.now in
       let k = c.args.depth in
       let none = sym (frames_told p c.args.parts.now s st k) ∙ ap is_some (sym c.in_default.ensures) in
-      none_sent _ ∙ ap (λ xs. after (g.W.Sink.out c.args.out.now) (answers_text xs)) (sym (no_lines (λ i. kinds_of t (over s.tasks k) i) s k (over s.tasks k) none));
+      none_sent _ ∙ ap (λ xs. after (g.W.Sink.out c.args.out.now) (answers_by c.args.names.now xs)) (sym (no_lines (λ i. kinds_of t (over s.tasks k) i) s k (over s.tasks k) none));
 }
 
 pub shape-requires : goal.shape-requires
@@ -37,7 +37,7 @@ returns-in-Some-shape-clause-ok g c =
     let there = frame_stands p m k f c.in-Some.ensures in
     let shown = frame_shows p m c.requires.stands c.requires.agrees k f sh there c.in-Some-shape.ensures in
     let method = frame_method p m c.requires.agrees c.requires.stands k f there in
-    IfOk-weaker c.tell_lines.result _ _ (λ _ told t strongest. tells_same (record { image = p; parts = m }) _ (λ s. answers_text (frame_answers t s k)) (typed_lines p m f sh k shown method c.in-Some-shape.ensures t strongest) _ _ (told p shown)) c.tell_lines.ensures.ok
+    IfOk-weaker c.tell_lines.result _ _ (λ _ told t strongest. tells_same (record { image = p; parts = m }) _ (λ s. answers_by c.args.names.now (frame_answers t s k)) (typed_lines c.args.names.now p m f sh k shown method c.in-Some-shape.ensures t strongest) _ _ (told p shown)) c.tell_lines.ensures.ok
 
 pub returns-in-Some-shape-clause-err : goal.returns-in-Some-shape-clause-err
 returns-in-Some-shape-clause-err g c =
@@ -49,7 +49,7 @@ returns-in-Some-shape-clause-err g c =
     let there = frame_stands p m k f c.in-Some.ensures in
     let shown = frame_shows p m c.requires.stands c.requires.agrees k f sh there c.in-Some-shape.ensures in
     let method = frame_method p m c.requires.agrees c.requires.stands k f there in
-    IfErr-weaker c.tell_lines.result _ _ (λ fault cut t strongest. part_same (record { image = p; parts = m }) _ (λ s. answers_text (frame_answers t s k)) (typed_lines p m f sh k shown method c.in-Some-shape.ensures t strongest) _ _ _ _ (cut p shown)) c.tell_lines.ensures.err
+    IfErr-weaker c.tell_lines.result _ _ (λ fault cut t strongest. part_same (record { image = p; parts = m }) _ (λ s. answers_by c.args.names.now (frame_answers t s k)) (typed_lines c.args.names.now p m f sh k shown method c.in-Some-shape.ensures t strongest) _ _ _ _ (cut p shown)) c.tell_lines.ensures.err
 
 pub returns-in-None-clause-ok : goal.returns-in-None-clause-ok
 returns-in-None-clause-ok g c =

@@ -25,5 +25,5 @@ returns-then-may_own-clause-err g c = IfErr-weaker c.tell_place.result _ _ (λ f
 
 pub returns-else-may_own-clause-ok : goal.returns-else-may_own-clause-ok
 returns-else-may_own-clause-ok g c = λ p depth shows.
-    grown_untold p c.args.parts.now (In_register c.args.frames c.args.register) (Register depth c.args.register) _
+    grown_untold p c.args.parts.now c.args.names.now (In_register c.args.frames c.args.register) (Register depth c.args.register) _
     (unshown _ c.may_own.result (record { image = p; parts = c.args.parts.now }) _ (Register depth c.args.register) c.may_own.ensures c.if-may_own.false shows)

@@ -12,5 +12,5 @@ abbrev pub invariant-loop-depth : goal.invariant-loop-depth
 invariant-loop-depth g l = record {
   few : l.frames ≤ l.depth;
   count : (s : State) → StandsFor (record { image = l.checked; parts = l.parts }) s → l.frames ≡ counted (λ k. is_frame (over s.tasks k)) l.depth;
-  out : Tells (record { image = l.checked; parts = l.parts }) (λ s. owners_text (registers_map s l.depth)) (g.W.Sink.out l.initial.out) (g.W.Sink.out l.out);
+  out : Tells (record { image = l.checked; parts = l.parts }) (λ s. owners_text l.names (registers_map s l.depth)) (g.W.Sink.out l.initial.out) (g.W.Sink.out l.out);
 }

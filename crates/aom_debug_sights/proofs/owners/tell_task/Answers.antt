@@ -9,7 +9,7 @@ pub returns-in_default-clause-ok : goal.returns-in_default-clause-ok
 returns-in_default-clause-ok g c =
     let p = c.args.checked.now in
     let m = c.args.parts.now in
-    none_hang p m c.args.depth c.args.frames _ (no_registers p m c.args.depth c.in_default.ensures)
+    none_hang p m c.args.names.now c.args.depth c.args.frames _ (no_registers p m c.args.depth c.in_default.ensures)
 
 pub shape-requires : goal.shape-requires
 shape-requires g c =

@@ -32,12 +32,12 @@ deeper n some = omega (arith, some)
 
 pub returns-in_default-clause-ok : goal.returns-in_default-clause-ok
 returns-in_default-clause-ok g t c = IfOk-weaker c.tell_message.result _ _ (λ done put p w r is shows.
-    uncelled_told p c.args.parts.now c.args.number (c.args.depth - 1) c.args.depth w r c.args.way.now shows (λ l. false≢true (c.in_default.ensures.lives.1 l)) is
+    uncelled_told p c.args.parts.now c.args.names.now c.args.number (c.args.depth - 1) c.args.depth w r c.args.way.now shows (λ l. false≢true (c.in_default.ensures.lives.1 l)) is
     (deeper c.args.depth c.if-depth-eq0.false) _ _ put) c.tell_message.ensures.ok
 
 pub returns-in_default-clause-err : goal.returns-in_default-clause-err
 returns-in_default-clause-err g t c = IfErr-weaker c.tell_message.result _ _ (λ fault cut p w r is shows.
-    uncelled_cut p c.args.parts.now c.args.number (c.args.depth - 1) c.args.depth w r c.args.way.now shows (λ l. false≢true (c.in_default.ensures.lives.1 l)) is
+    uncelled_cut p c.args.parts.now c.args.names.now c.args.number (c.args.depth - 1) c.args.depth w r c.args.way.now shows (λ l. false≢true (c.in_default.ensures.lives.1 l)) is
     (deeper c.args.depth c.if-depth-eq0.false) _ _ fault _ cut) c.tell_message.ensures.err
 
 pub returns-in_err-tell_owned-clause-err : goal.returns-in_err-tell_owned-clause-err
@@ -46,7 +46,7 @@ returns-in_err-tell_owned-clause-err g t c =
     let m = c.args.parts.now in
     let deep = deeper c.args.depth c.if-depth-eq0.false in
     rw (error.1, error.2) (λ p w r is shows.
-    line_unsent p m c.in-Some.id c.class.result (c.args.depth - 1) c.args.depth w r c.args.way.now (subst (λ k. Shows (record { image = p; parts = m }) k r) (sym c.in-Some.ensures.value) shows) c.class.ensures is deep _ _ _ _ c.in_err-tell_owned.ensures.err)
+    line_unsent p m c.args.names.now c.in-Some.id c.class.result (c.args.depth - 1) c.args.depth w r c.args.way.now (subst (λ k. Shows (record { image = p; parts = m }) k r) (sym c.in-Some.ensures.value) shows) c.class.ensures is deep _ _ _ _ c.in_err-tell_owned.ensures.err)
 
 pub returns-in_err-tell_tree-clause-err : goal.returns-in_err-tell_tree-clause-err
 returns-in_err-tell_tree-clause-err g t c =
@@ -59,8 +59,8 @@ returns-in_err-tell_tree-clause-err g t c =
     let begun = c.tell_owned.ensures.same ∙ is in
     let here = way_further w (By_field at) c.loop-field.way c.enter.new.way (c.loop-field.invariant.same ∙ begun) c.enter.ensures.text in
     let cut = c.in_err-tell_tree.ensures.err p (further w (By_field at)) (Field id at) here (field_shows p m id at c.field.result c.field.ensures) in
-    fields_unsent p m id c.class.result (c.args.depth - 1) c.args.depth w r c.args.way.now (subst (λ k. Shows (record { image = p; parts = m }) k r) (sym c.in-Some.ensures.value) shows) c.class.ensures is deep _ _ _ _ _ c.in_ok-tell_owned.ensures.ok
-    (part_further owned_line (record { image = p; parts = m }) (below p m id (c.args.depth - 1) w) (λ s. 8) at _ _ _ _ _ (c.loop-field.invariant.out p w begun) (λ s st. c.loop-field-test.true) cut))
+    fields_unsent p m c.args.names.now id c.class.result (c.args.depth - 1) c.args.depth w r c.args.way.now (subst (λ k. Shows (record { image = p; parts = m }) k r) (sym c.in-Some.ensures.value) shows) c.class.ensures is deep _ _ _ _ _ c.in_ok-tell_owned.ensures.ok
+    (part_further (owned_line c.args.names.now) (record { image = p; parts = m }) (below p m id (c.args.depth - 1) w) (λ s. 8) at _ _ _ _ _ (c.loop-field.invariant.out p w begun) (λ s st. c.loop-field-test.true) cut))
 
 pub loop-field-preserved : goal.loop-field-preserved
 loop-field-preserved g t c =
@@ -72,7 +72,7 @@ loop-field-preserved g t c =
       same = back_again first c.loop-field.way c.enter.new.way c.tell_tree.new.way c.cut.new.self (branch_text (By_field at)) c.len-length.result c.cut.ensures c.len-length.ensures c.in_ok-tell_tree.ensures.same c.enter.ensures.text c.loop-field.invariant.same;
       out = λ p w is.
           let here = way_further w (By_field at) c.loop-field.way c.enter.new.way (c.loop-field.invariant.same ∙ is) c.enter.ensures.text in
-          tells_further owned_line (record { image = p; parts = m }) (below p m id (c.args.depth - 1) w) at _ _ _ (c.loop-field.invariant.out p w is)
+          tells_further (owned_line c.args.names.now) (record { image = p; parts = m }) (below p m id (c.args.depth - 1) w) at _ _ _ (c.loop-field.invariant.out p w is)
           (c.in_ok-tell_tree.ensures.ok p (further w (By_field at)) (Field id at) here (field_shows p m id at c.field.result c.field.ensures));
     }
 
@@ -110,9 +110,9 @@ returns-in_err-tell_tree-2-clause-err g t c =
     let at_seats = c.loop-field.invariant.same ∙ begun in
     let here = way_further w (By_session client) c.loop-next.way c.enter_session.new.way (i.same ∙ at_seats) c.enter_session.ensures.text in
     let cut = c.in_err-tell_tree-2.ensures.err p (further w (By_session client)) (Elsewhere (Session id client)) here (session_shows p m id client c.session_number.result c.session_number.ensures) in
-    sessions_unsent p m id c.class.result (c.args.depth - 1) c.args.depth w r c.args.way.now (subst (λ k. Shows (record { image = p; parts = m }) k r) (sym c.in-Some.ensures.value) shows) c.class.ensures is deep _ _ _ c.in_ok-tell_owned.ensures.ok
-    (tells_all owned_line (record { image = p; parts = m }) (below p m id (c.args.depth - 1) w) (λ s. 8) c.loop-field.field _ _ (c.loop-field.invariant.out p w begun) (λ s st. omega (arith, most, least))) _ _ _
-    (seat_cut p m id (c.args.depth - 1) w i.so_far.0 client (from (client_after client xs) xs) (λ s st. all ∙ st.agrees.services.clients.sessions id) _ _ _ _ _ (i.so_far.2 p w at_seats) cut))
+    sessions_unsent p m c.args.names.now id c.class.result (c.args.depth - 1) c.args.depth w r c.args.way.now (subst (λ k. Shows (record { image = p; parts = m }) k r) (sym c.in-Some.ensures.value) shows) c.class.ensures is deep _ _ _ c.in_ok-tell_owned.ensures.ok
+    (tells_all (owned_line c.args.names.now) (record { image = p; parts = m }) (below p m id (c.args.depth - 1) w) (λ s. 8) c.loop-field.field _ _ (c.loop-field.invariant.out p w begun) (λ s st. omega (arith, most, least))) _ _ _
+    (seat_cut p m c.args.names.now id (c.args.depth - 1) w i.so_far.0 client (from (client_after client xs) xs) (λ s st. all ∙ st.agrees.services.clients.sessions id) _ _ _ _ _ (i.so_far.2 p w at_seats) cut))
 
 pub loop-next-smaller : goal.loop-next-smaller
 loop-next-smaller g t c =
@@ -140,7 +140,7 @@ loop-next-preserved g t c =
         ap (λ o. (i.so_far.0 ++ client ∷ []) ++ from o xs) next ∙ all,
         (λ p w is.
             let here = way_further w (By_session client) c.loop-next.way c.enter_session.new.way (i.same ∙ is) c.enter_session.ensures.text in
-            seat_told p m id (c.args.depth - 1) w i.so_far.0 client _ _ _ (i.so_far.2 p w is)
+            seat_told p m c.args.names.now id (c.args.depth - 1) w i.so_far.0 client _ _ _ (i.so_far.2 p w is)
             (c.in_ok-tell_tree-2.ensures.ok p (further w (By_session client)) (Elsewhere (Session id client)) here (session_shows p m id client c.session_number.result c.session_number.ensures))),
       );
     }
@@ -160,9 +160,9 @@ returns-clause-ok g t c =
     let all : i.so_far.0 ≡ xs = sym (append-nil i.so_far.0) ∙ ap (λ o. i.so_far.0 ++ from o xs) (sym c.in_default-next.is) ∙ i.so_far.1 in
     λ p w r is shows.
     let begun = c.tell_owned.ensures.same ∙ is in
-    tree_told p m id c.class.result (c.args.depth - 1) c.args.depth w r c.args.way.now (subst (λ k. Shows (record { image = p; parts = m }) k r) (sym c.in-Some.ensures.value) shows) c.class.ensures is deep _ _ _ c.in_ok-tell_owned.ensures.ok
-    (tells_all owned_line (record { image = p; parts = m }) (below p m id (c.args.depth - 1) w) (λ s. 8) c.loop-field.field _ _ (c.loop-field.invariant.out p w begun) (λ s st. omega (arith, most, least))) _
-    (seats_told p m id (c.args.depth - 1) w i.so_far.0 all _ _ (i.so_far.2 p w (c.loop-field.invariant.same ∙ begun)))
+    tree_told p m c.args.names.now id c.class.result (c.args.depth - 1) c.args.depth w r c.args.way.now (subst (λ k. Shows (record { image = p; parts = m }) k r) (sym c.in-Some.ensures.value) shows) c.class.ensures is deep _ _ _ c.in_ok-tell_owned.ensures.ok
+    (tells_all (owned_line c.args.names.now) (record { image = p; parts = m }) (below p m id (c.args.depth - 1) w) (λ s. 8) c.loop-field.field _ _ (c.loop-field.invariant.out p w begun) (λ s st. omega (arith, most, least))) _
+    (seats_told p m c.args.names.now id (c.args.depth - 1) w i.so_far.0 all _ _ (i.so_far.2 p w (c.loop-field.invariant.same ∙ begun)))
 
 pub returns-then-depth-eq0-clause-ok : goal.returns-then-depth-eq0-clause-ok
 returns-then-depth-eq0-clause-ok g t c = rw c.if-depth-eq0.true (λ p w r _ _. record { out = λ s st. none_sent _ })

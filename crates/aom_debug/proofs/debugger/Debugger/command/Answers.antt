@@ -2,7 +2,7 @@
 use Rattle.std.proofs.Common.{◌∙◌, Err, ap, refl, subst, sym}
 use Rattle.aom_debug.specs.Obeying.{Heeds}
 use Rattle.aom_debug_moves.proofs.Keeping.{keeps_all}
-use Rattle.aom_debug_words.specs.Commands.{command_said}
+use Rattle.aom_debug_names.specs.Commands.{command_by}
 use Rattle.aom_debug.proofs.Declining.{heeds_failed, passes_on, says_no_end}
 use Rattle.aom_debug.proofs.debugger.Debugger.command.Goals as goal
 
@@ -42,12 +42,12 @@ returns-in-Ok-Some-clause-answer g c =
     (rw c.in-Ok-Some.field-0-is c.obey.ensures.answer)
 
 pub returns-then-self-clause-answer : goal.returns-then-self-clause-answer
-returns-then-self-clause-answer g c = heeds_failed c.args.self.now _ _ c.if-self.true (command_said c.args.line.now)
+returns-then-self-clause-answer g c = heeds_failed c.args.self.now _ _ c.if-self.true (command_by c.args.self.now.names c.args.line.now)
 
 pub returns-in-Ok-None-clause-answer : goal.returns-in-Ok-None-clause-answer
-returns-in-Ok-None-clause-answer g c = rw (sym c.read_command.ensures, c.in-Ok-None.is, c.in-Ok-None.field-0-is) (c.if-self.false, refl, record { same = refl; silent = refl })
+returns-in-Ok-None-clause-answer g c = rw (sym c.read_named.ensures, c.in-Ok-None.is, c.in-Ok-None.field-0-is) (c.if-self.false, refl, record { same = refl; silent = refl })
 
 pub returns-in-Err-clause-answer : goal.returns-in-Err-clause-answer
 returns-in-Err-clause-answer g c =
-    let said = sym c.read_command.ensures ∙ c.in-Err.is in
-    rw said (passes_on c.args.self.now _ _ c.if-self.false c.in-Err.fault (λ ended. says_no_end c.args.line.now (said ∙ ap (λ f. Err f) ended)))
+    let said = sym c.read_named.ensures ∙ c.in-Err.is in
+    rw said (passes_on c.args.self.now _ _ c.if-self.false c.in-Err.fault (λ ended. says_no_end c.args.self.now.names c.args.line.now (said ∙ ap (λ f. Err f) ended)))

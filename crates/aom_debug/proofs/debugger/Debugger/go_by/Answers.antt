@@ -19,7 +19,7 @@ returns-clause-answer g c =
     let told = c.arrived.ensures in
     answered (goes_of c.args.course) a mid c.arrived.new.self (or_parts _ _ (sym c.is_done.ensures ∙ c.if-is_done.false)) went.keeps.image
     (g.W.Sink.out c.args.out.now) (g.W.Sink.out c.go-went.new.out) (g.W.Sink.out c.arrived.new.out) (g.W.Sink.failed c.arrived.new.out)
-    (reaches_course a.mover.machine.core.image (outside_of a.mover) a.breakpoints c.args.course a.mover.recent mid.mover.recent) refl refl c.go-went.result
+    (reaches_course a.mover.machine.core.image (outside_of a.mover) a.breakpoints c.args.course a.mover.recent mid.mover.recent) refl refl refl c.go-went.result
     (g.W.Sink.failed c.go-went.new.out) c.arrived.result went.went told.none told.failed told.some
 
 pub returns-then-is_done-clause-agree : goal.returns-then-is_done-clause-agree

@@ -1,0 +1,3 @@
+mod Untold
+mod Lined
+mod Named

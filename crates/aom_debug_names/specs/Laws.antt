@@ -1,0 +1,19 @@
+-- That nothing is told by names where there is no text, and that an instruction that is found by a line stands in it.
+use Rattle.std.specs.Prelude.{ℕ, ◌≡◌, ◌<◌, List, Option, Some, codes, length, option_map}
+use Rattle.aom_debug_words.specs.Answers.{answer_text}
+use Rattle.aom_debug_words.specs.Commands.{command_said}
+use Rattle.aom_debug_words.specs.declared.answer.Answer.{Answer}
+use Rattle.aom_debug_words.specs.declared.spot.Spot.{Spot}
+use Rattle.aom_debug_names.specs.Names.{names_of, statement_at, unnamed}
+use Rattle.aom_debug_names.specs.Answers.{answer_by}
+use Rattle.aom_debug_names.specs.Commands.{command_by}
+use Rattle.aom_debug_names.specs.Lines.{spot_in}
+
+-- without a text all is as ever
+pub record NoTextIsAsEver : Type 0 where
+  pub answers : (answer : Answer) → answer_by unnamed answer ≡ answer_text answer
+  pub commands : (line : List ℕ) → command_by unnamed line ≡ command_said line
+
+-- the instruction that is found by a line stands in it
+abbrev pub FoundInItsLine : Type 0
+FoundInItsLine = (text : List ℕ) (line : ℕ) (spot : Spot) → spot_in text line ≡ Some spot → option_map (λ s. s.line) (statement_at (names_of text) spot) ≡ Some line

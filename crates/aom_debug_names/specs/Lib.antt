@@ -1,0 +1,5 @@
+pub mod Names
+pub mod Answers
+pub mod Lines
+pub mod Commands
+pub mod Laws

@@ -1,0 +1,12 @@
+//! What holds of names and lines.
+ghost use Rattle.aom_debug_names.specs.Laws.{FoundInItsLine, NoTextIsAsEver};
+
+/// Without a text answers are spelled, and commands read, as ever.
+pub fn no_text_is_as_ever()
+    ensures { NoTextIsAsEver }
+{}
+
+/// The instruction that is found by a line stands in it.
+pub fn found_in_its_line()
+    ensures { FoundInItsLine }
+{}

@@ -1,0 +1,10 @@
+-- What is told where a debugger is given a text that is not its image's.
+use Rattle.aom_debug.specs.Conversing.{Given, IsUnread}
+use Rattle.aom_main.specs.Headline.{Sent}
+use Rattle.aom_main.specs.declared.status.ExitStatus.{ExitStatus}
+use Rattle.aom_explaining.specs.Naming.{SaysText}
+use Rattle.aom_explaining.specs.declared.beside.TextFault.{TextFault}
+
+-- why the text is refused, and nothing was read
+abbrev pub SaysUnread : Given → TextFault → ExitStatus → Sent → Type 0
+SaysUnread given fault status errors = SaysText fault status errors × IsUnread given
