@@ -55,6 +55,7 @@ complete -c aom -n '__fish_seen_subcommand_from explore' -l kills -d 'Kills too 
 complete -c aom -n '__fish_seen_subcommand_from explore' -l deaths -d 'Lets die too each client that the script names, at each such time'
 complete -c aom -n '__fish_seen_subcommand_from explore' -l pairs -d 'Refuses too each two allocation requests'
 complete -c aom -n '__fish_seen_subcommand_from explore' -l tries -d 'The most pairs that --pairs tries' -x
+complete -c aom -n '__fish_seen_subcommand_from explore' -l text -d 'The text that the image is of, whose lines and names are told' -r -k -a '(__fish_complete_suffix .aom)'
 complete -c aom -n '__fish_seen_subcommand_from explore' -l asm -d 'The file is an assembly text, and the image is what it denotes'
 complete -c aom -n '__aom_at explore 0; and not __fish_contains_opt asm' -k -a '(__fish_complete_suffix .image)' -d 'The file of an image'
 complete -c aom -n '__aom_at explore 0; and __fish_contains_opt asm' -k -a '(__fish_complete_suffix .aom)' -d 'The file of an image'
@@ -62,6 +63,7 @@ complete -c aom -n '__aom_at explore 1' -k -a '(__fish_complete_suffix .script)'
 complete -c aom -n '__aom_from explore 2' -a 'counter line delay' -d native
 complete -c aom -n __fish_use_subcommand -a debug -d 'Runs an image as commands say, which are read from standard input'
 complete -c aom -n '__fish_seen_subcommand_from debug' -l limit -d 'The most dispatches after main'\''s' -x
+complete -c aom -n '__fish_seen_subcommand_from debug' -l text -d 'The text that the image is of, whose lines and names are told' -r -k -a '(__fish_complete_suffix .aom)'
 complete -c aom -n '__fish_seen_subcommand_from debug' -l asm -d 'The file is an assembly text, and the image is what it denotes'
 complete -c aom -n '__aom_at debug 0; and not __fish_contains_opt asm' -k -a '(__fish_complete_suffix .image)' -d 'The file of an image'
 complete -c aom -n '__aom_at debug 0; and __fish_contains_opt asm' -k -a '(__fish_complete_suffix .aom)' -d 'The file of an image'
