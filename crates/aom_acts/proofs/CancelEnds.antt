@@ -1,4 +1,5 @@
 -- A method that cancels is over: its object's request is completed and being cancelled, and both sides take its signal.
+use Rattle.std.proofs.lemmas.Bool.Decides.{nat_tests}
 use Rattle.std.proofs.Common.{ap, Bool, cond, false, IsTrue, List, Option, refl, Some, subst, sym, true, ℕ, ◌&&◌, ◌||◌, ◌∙◌, ◌∷◌, ◌≡◌, arith}
 use Rattle.std.specs.Prelude.{is_some, not}
 use Rattle.std.specs.Ordering.{int_eq}
@@ -12,7 +13,7 @@ use Rattle.aom_instructions.specs.declared.instr.Instr.TheVariants.{Return}
 use Rattle.aom_cells.specs.Heap.{Lives, cell_at, null}
 use Rattle.aom_classes.specs.Linked.{IsLinked}
 use Rattle.aom_classes.proofs.Facts.{all_there}
-use Rattle.aom_roles.specs.Shapes.{HasShape, IsCancel, IsShaped, is_active_in, kind_of}
+use Rattle.aom_roles.specs.Shapes.{IsShaped, is_active_in}
 use Rattle.aom_rules.specs.Requests.{is_active_kind, is_cancel, own_kind}
 use Rattle.aom_sound.specs.Calls.{result_needs}
 use Rattle.aom_sound.specs.Claims.{forms, items_of}
@@ -57,9 +58,7 @@ active_in k active = grind arith
 
 cancels_active : (p : Image) → IsLinked p → (m : ℕ) (d : Method_declared) → method_at p m ≡ Some d → d.role ≡ Cancel → is_active_kind (own_kind p m) ≡ true
 unfolding method_at class_in
-cancels_active p linked m d e role =
-    let s : IsCancel (kind_of p d.class) d = subst (λ x. HasShape x (kind_of p d.class) d) role (all_there (IsShaped p) p.methods m d linked.shapes e).role in
-    ap (λ c. is_active_kind (kind_of p c)) (ap class_in e) ∙ active_in (kind_of p d.class) s.of
+cancels_active p linked m d e role = grind (arith, nat_tests, all_there (IsShaped p) p.methods m d linked.shapes e, active_in)
 
 -- whose request is being cancelled
 being_cancelled : (k : Option ClassKind) (n : Known) (r : Option Request) → is_active_kind k ≡ true → n.cancelled ≡ true → Suits k n r → in_phase is_cancelling r ≡ true
@@ -113,7 +112,7 @@ module _ (p : Image) (m : Parts) (h : At_hand p m) where
       let stands = h.agrees.requests.stands in (
         runs,
         subst (Lives m.cells) (sym it.number) (ap is_some (cell_of p m.cells h.state.cells n it.object h.agrees.cells it.lives it.cell).1),
-        ap (λ k. is_being_cancelled (request_at m.active.table k)) it.number ∙ told_cancelling m.active (requested h.state.cells) (queued p h.state.cells) stands n ∙ ap (in_phase is_cancelling) it.own ∙ it.phase,
+        grind (arith, nat_tests, told_cancelling m.active),
         ap (λ k. is_pending (request_at m.active.table k)) it.number ∙ told_over m.active (requested h.state.cells) (queued p h.state.cells) stands n it.request it.own it.over,
       )
 
@@ -131,11 +130,7 @@ module _ (p : Image) (m : Parts) (a : ℕ) (d : Method_declared) (next : IsNext 
       told p k h (cancels p k h n.0 (cancels_active p next.stands.1.sound.linked h.frame.method d there role) plays ends.1.1.0) next.runs
 
   pub is_cancelled : IsCancelled d.role m
-  is_cancelled = go d.role refl
-    where
-      go : (r : Role) → d.role ≡ r → IsCancelled r m
-      go Cancel role = cancels_here role
-      go _ role = tt
+  is_cancelled = grind (arith, nat_tests, cancels_here)
 
 -- ---- the machine once the cancel is over
 
@@ -191,9 +186,7 @@ module _ (p : Image) (m : Parts) (h : At_hand p m) where
           (ends.stands (requested cells) (queued p cells) request.0 stands (ap (requested cells) number ∙ request.1)) in
           let set = requests_set p m.active act cells o (Some (cancelled request.0)) (housed p m h o from is) ends.limit after h.agrees.requests in
           subst (λ r. SameRequests p act (set_request o.name (on_request cancelled r) cells)) (sym request.1) set
-  ended_requests act _ plays was same =
-      subst (λ b. SameRequests p act (cond b (rerequested cells h.frame.home taken) cells)) (sym (ap is_cancel plays))
-      (subst (λ x. SameRequests p x cells) (sym same) h.agrees.requests)
+  ended_requests act _ plays was same = grind (arith, nat_tests)
 
   -- the machine whose active objects have taken the signal stands for the state then
   pub ended_agrees : (act : Active) → IsOver p m act → Agrees p (record m { active = act }) (record h.state { cells = then })

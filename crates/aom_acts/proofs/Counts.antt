@@ -1,4 +1,5 @@
 -- How much a well-typed state has at hand: methods, tasks, marks and entries.
+use Rattle.std.proofs.lemmas.Bool.Decides.{nat_tests}
 use Rattle.std.proofs.Common.{List, Some, [], ap, arith, false, inl, length, refl, subst, suc, sym, ℕ, ◌*◌, ◌+◌, ◌<◌, ◌∙◌, ◌∷◌, ◌≡◌, ◌≤◌, pos}
 use Rattle.std.proofs.lemmas.Bool.{true≢false}
 use Rattle.aom_image.specs.Image.{Image}
@@ -108,20 +109,19 @@ module _ (p : Image) (t : Typing) (depth : ℕ → ℕ) (cs : List Cell) (items 
   few_tasks back (Method fr sh ∷ ls) s r = let few = few_tasks (Returns fr.method fr.home) ls s.4 r.1 in omega (arith, few)
   few_tasks back (Mark g ∷ []) s r = omega arith
   few_tasks back (Mark g ∷ Method fr sh ∷ ls) s r = let few = few_tasks (Returns fr.method fr.home) ls s.1.4 r.1 in omega (arith, few)
-  few_tasks back (Mark g ∷ Dispatching d seats ∷ ls) s r = subst (λ us. Few (tasks_of (Mark g ∷ Dispatching d seats ∷ us))) (sym s.1.1) (omega arith)
+  few_tasks back (Mark g ∷ Dispatching d seats ∷ ls) s r = grind (arith, nat_tests)
   few_tasks back (Dying o ∷ []) s r = omega arith
   few_tasks back (Dying o ∷ Method fr sh ∷ ls) s r = let few = few_tasks (Returns fr.method fr.home) ls s.2.4 r.1.1 in omega (arith, few)
   few_tasks back (Dying o ∷ Unwinding code es ∷ ls) s r = let few = few_tasks Leaves ls s.2.1 r.1 in omega (arith, few)
-  few_tasks back (Dying o ∷ Dispatching d seats ∷ ls) s r = subst (λ us. Few (tasks_of (Dying o ∷ Dispatching d seats ∷ us))) (sym s.2.1) (omega arith)
+  few_tasks back (Dying o ∷ Dispatching d seats ∷ ls) s r = grind (arith, nat_tests)
   few_tasks back (Dying o ∷ Ending x left ∷ Dying y ∷ []) s r = omega arith
   few_tasks back (Dying o ∷ Ending x left ∷ Dying y ∷ Method fr sh ∷ ls) s r = let few = few_tasks (Returns fr.method fr.home) ls s.2.3.2.4 r.1.1.1.1 in omega (arith, few)
   few_tasks back (Dying o ∷ Ending x left ∷ Dying y ∷ Unwinding code es ∷ ls) s r = let few = few_tasks Leaves ls s.2.3.2.1 r.1.1.1 in omega (arith, few)
-  few_tasks back (Dying o ∷ Ending x left ∷ Dying y ∷ Dispatching d seats ∷ ls) s r =
-      subst (λ us. Few (tasks_of (Dying o ∷ Ending x left ∷ Dying y ∷ Dispatching d seats ∷ us))) (sym s.2.3.2.1) (omega arith)
+  few_tasks back (Dying o ∷ Ending x left ∷ Dying y ∷ Dispatching d seats ∷ ls) s r = grind (arith, nat_tests)
   few_tasks back (Ending x left ∷ Dying y ∷ []) s r = omega arith
   few_tasks back (Ending x left ∷ Dying y ∷ Method fr sh ∷ ls) s r = let few = few_tasks (Returns fr.method fr.home) ls s.3.2.4 r.1.1.1 in omega (arith, few)
   few_tasks back (Ending x left ∷ Dying y ∷ Unwinding code es ∷ ls) s r = let few = few_tasks Leaves ls s.3.2.1 r.1.1 in omega (arith, few)
-  few_tasks back (Ending x left ∷ Dying y ∷ Dispatching d seats ∷ ls) s r = subst (λ us. Few (tasks_of (Ending x left ∷ Dying y ∷ Dispatching d seats ∷ us))) (sym s.3.2.1) (omega arith)
+  few_tasks back (Ending x left ∷ Dying y ∷ Dispatching d seats ∷ ls) s r = grind (arith, nat_tests)
   few_tasks back (Unwinding code es ∷ ls) s r = let few = few_tasks Leaves ls s.1 r in omega (arith, few)
   few_tasks back (Dispatching d seats ∷ ls) s r = subst (λ us. Few (tasks_of (Dispatching d seats ∷ us))) (sym s.1) (omega arith)
   few_tasks back _ s r = absurd (assumption tt)
@@ -142,11 +142,11 @@ few_traps p t cs back [] s = omega arith
 few_traps p t cs back (Method fr sh ∷ ls) s = let few = few_traps p t cs (Returns fr.method fr.home) ls s.4 in omega (arith, few)
 few_traps p t cs back (Mark g ∷ []) s = omega arith
 few_traps p t cs back (Mark g ∷ Method fr sh ∷ ls) s = let few = few_traps p t cs (Returns fr.method fr.home) ls s.1.4 in omega (arith, few)
-few_traps p t cs back (Mark g ∷ Dispatching d seats ∷ ls) s = subst (λ us. traps (tasks_of (Mark g ∷ Dispatching d seats ∷ us)) ≤ suc (methods_in (tasks_of (Mark g ∷ Dispatching d seats ∷ us)))) (sym s.1.1) (omega arith)
+few_traps p t cs back (Mark g ∷ Dispatching d seats ∷ ls) s = grind (arith, nat_tests)
 few_traps p t cs back (Dying o ∷ ls) s = few_traps p t cs Gone ls s.2
 few_traps p t cs back (Ending o left ∷ ls) s = few_traps p t cs Now ls s.3
 few_traps p t cs back (Unwinding code es ∷ ls) s = few_traps p t cs Leaves ls s.1
-few_traps p t cs back (Dispatching d seats ∷ ls) s = subst (λ us. traps (tasks_of (Dispatching d seats ∷ us)) ≤ suc (methods_in (tasks_of (Dispatching d seats ∷ us)))) (sym s.1) (omega arith)
+few_traps p t cs back (Dispatching d seats ∷ ls) s = grind (arith, nat_tests)
 few_traps p t cs back _ s = absurd (assumption tt)
 
 -- the marks under the method that runs, of which there are as many as traps

@@ -1,4 +1,5 @@
 -- The last item of the cleanup stack is dealt with: an object is destroyed, and an operation is run.
+use Rattle.std.proofs.lemmas.Bool.Decides.{nat_tests}
 use Rattle.std.proofs.Common.{◌<◌, ◌≡◌, ℕ, ℤ, true, length, List, [], ◌∷◌, Option, Some, None, slice_set, refl, sym, ap, ◌∙◌, subst, arith}
 use Rattle.std.specs.Int.{w32, cast_signed}
 use Rattle.std.specs.Prelude.{is_some}
@@ -57,7 +58,7 @@ module _ (p : Image) (formed : WellFormed p) (m : Parts) (t : Typing) (s : State
       let old : (q : Place) → Shows (v' q) (word_at ts q) (held s.cells q) = λ q. subst (λ es. Shows (value_in us m.cells es (others m) q) (word_at ts q) (held s.cells q)) was (agrees.values q) in
       let there = top_value us m.cells is (others m) n (length js) even in
       let name : n ≡ o.name = sym there ∙ old from ∙ ap number e in
-      let empty : held s.cells (Going (length ts)) ≡ None = nothing_held p m t s typed agrees (Going (length ts)) (sym (going_past us (length ts) (omega arith)) ∙ agrees.values (Going (length ts))) in
+      let empty : held s.cells (Going (length ts)) ≡ None = grind (arith, nat_tests, nothing_held p m t s typed agrees, going_past us) in
       let lives = held_lives s.cells from o typed.good.tidy e in
       let cell = entry_object p t s typed o (length js) e in
       let aside = aside_moved p m s from (Going (length ts)) agrees refl refl in
@@ -80,9 +81,14 @@ module _ (p : Image) (formed : WellFormed p) (m : Parts) (t : Typing) (s : State
       let fr = frame_of k' Static (length js) in
       let long = deep in
       let begun = subst (λ x. SameFrame f (frame_of x Static (length js))) which (begun_frame k null Static (length js) refl (λ there. absurd (there refl))) in
-      let base : (q : Place) → Shows (value_in (Runs_frame f ∷ us) m.cells is (others m) q) (word_at (Run fr ∷ ts) q) (held s.cells q) = λ q.
-      subst (λ x. Shows x (word_at (Run fr ∷ ts) q) (held s.cells q)) (sym (fresh_value k null us m.cells is (others m) q ∙ sym (value_alike us m.cells (Holds_operation k n ∷ is) is (others m) (λ e. owns_none (Holds_operation k n) is e refl) q) ∙ sym (ap (λ es. value_in us m.cells es (others m) q) was)))
-      (subst (λ x. Shows (value_in us m.cells m.entries.items (others m) q) x (held s.cells q)) (sym (fresh_word k' Static (length js) ts q)) (agrees.values q)) in
+      let base : (q : Place) → Shows (value_in (Runs_frame f ∷ us) m.cells is (others m) q) (word_at (Run fr ∷ ts) q) (held s.cells q) = grind (
+        arith,
+        nat_tests,
+        fresh_value k,
+        value_alike us m.cells (Holds_operation k n ∷ is) is,
+        owns_none (Holds_operation k n) is,
+        fresh_word k' Static,
+      ) in
       agrees_with p (with_items is m) (record s { items = js }) (Runs_frame (with_register 0 n f) ∷ us) (Run (operation_frame k' w (length js)) ∷ ts)
       (aside_with p m s (with_items is m).entries js (aside_of p m s agrees) same agrees.entry_room)
       (reframed f fr (slice_set f.registers 0 n) (Some w ∷ []) 0 0 begun (length-set f.registers 0 n ∙ length-replicate 16 null) refl, agrees.tasks)

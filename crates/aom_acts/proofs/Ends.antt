@@ -1,4 +1,5 @@
 -- The end of a dispatch.
+use Rattle.std.proofs.lemmas.Bool.Decides.{nat_tests}
 use Rattle.std.proofs.Common.{◌≡◌, ◌+◌, ◌<◌, ◌&&◌, ◌==◌, ℕ, ℤ, pos, Bool, true, false, not, cond, length, List, [], ◌∷◌, ◌++◌, Option, Some, None, slice_set, refl, sym, ap, ◌∙◌, subst, append-nil, arith}
 use Rattle.std.specs.Int.{w32, cast_unsigned}
 use Rattle.std.specs.Ordering.{int_eq}
@@ -12,7 +13,7 @@ use Rattle.aom_cells.specs.Heap.{null}
 use Rattle.aom_classes.specs.Roles.{role_of}
 use Rattle.aom_rules.specs.Typing.{Typing}
 use Rattle.aom_sound.proofs.View.{under_dispatch}
-use Rattle.aom_sound.specs.Places.{Cell, Place, Register, Entry, Field, Going, Elsewhere, Root, Object, changed, held}
+use Rattle.aom_sound.specs.Places.{Cell, Place, Register, Elsewhere, Root, Object, changed, held}
 use Rattle.aom_transcript.specs.declared.line.Ending.TheVariants.{Stopped, MainLeft as Left_with}
 use Rattle.aom_sound.specs.State.{Dispatch, guarded, Home, Inside, Frame, frame_of, Seat, Asks, Task, Run, Dispatched, Rest, State, Choice, raised}
 use Rattle.aom_sound.specs.Lines.{dispatch_lines}
@@ -73,11 +74,7 @@ seat_lives p t s typed d x top is = dispatch_layer (Good p t s.cells) d [] typed
 
 -- the root's destruction and its destructor find room there
 pub uproot_room : (p : Image) (m : Parts) → Stands (record { image = p; parts = m }) → IsEnding m.stack.tasks → length (below_first m.stack.tasks) + 2 < m.stack.depth
-uproot_room p m st ending =
-    let e = at_end p st.1.typing m st.0 st.1.typed st.1.agrees ending in
-    let none : length (below_first m.stack.tasks) ≡ 0 = ap (λ us. length (below_first us)) e.held in
-    let deep = st.1.agrees.room in
-    omega arith
+uproot_room p m st ending = grind (arith, nat_tests, at_end p st.1.typing m st.0 st.1.typed st.1.agrees ending)
 
 pub can_end : (p : Image) (m : Parts) → Stands (record { image = p; parts = m }) → IsEnding m.stack.tasks → CanEnd m
 can_end p m st ending = record { lives = root_lives p m st; small = class_fits p m st.0 st.1.agrees m.root; room = uproot_room p m st ending }
@@ -88,15 +85,15 @@ which m s e x is = let both : Some e.dispatch ≡ Some x = sym (ap ending_here e
 
 -- nothing is left at hand
 emptied : (p : Image) (m : Parts) (s : State) (r r' : Rest) → Agrees p m s → Closing s → r ≡ r' → Agrees p (record m { stack = record m.stack { tasks = [] }; rest = r }) (record s { tasks = []; rest = r' })
-emptied p m s r r' agrees shut same =
-    agrees_with p (record m { rest = r }) (record s { rest = r' }) [] [] (aside_counted p m s r r' (aside_of p m s agrees) same) tt values
-  where
-    values : (q : Place) → Shows (value_in [] m.cells m.entries.items (others m) q) (word_at [] q) (held s.cells q)
-    values (Register k i) = shows_null _ _ _ refl refl (shut.registers k i)
-    values (Entry k) = agrees.values (Entry k)
-    values (Field n f) = agrees.values (Field n f)
-    values (Going k) = shows_null _ _ _ refl refl (shut.goings k)
-    values (Elsewhere o) = agrees.values (Elsewhere o)
+emptied p m s r r' agrees shut same = grind (
+  arith,
+  nat_tests,
+  agrees_with p,
+  aside_counted p m s r r' (aside_of p m s agrees) same,
+  aside_of p m s agrees,
+  held s.cells,
+  shows_null,
+)
 
 -- the state as the end of a dispatch finds it
 abbrev pub at_close : State → State
@@ -137,7 +134,7 @@ module _ (p : Image) (formed : WellFormed p) (m : Parts) (announced : m.rest.ann
   shut = closing p t s (dispatch_of e.place e.dispatch) typed e.state
 
   same_counts : (f : Rest → Rest) → f m.rest ≡ f now
-  same_counts f = ap f agrees.rest ∙ ap (λ b. f (record s.rest { announced = b })) (sym (ap (λ (r : Rest). r.announced) agrees.rest) ∙ announced)
+  same_counts f = grind (arith, nat_tests)
 
   -- nothing
   left_alone : (r r' : Rest) → r ≡ r' → Agrees p (record m { stack = record m.stack { tasks = below_first m.stack.tasks }; rest = r }) (record s { tasks = []; rest = r' })
@@ -199,14 +196,19 @@ module _ (p : Image) (formed : WellFormed p) (m : Parts) (announced : m.rest.ann
     ts = Dispatched (Asks asked_seat) ∷ []
 
     at_rest : (q : Place) → Shows (value_in (Ends e.dispatch ∷ []) m.cells m.entries.items (others m) q) (word_at (Dispatched (dispatch_of e.place e.dispatch) ∷ []) q) (held s.cells q)
-    at_rest q =
-        subst (λ vs. Shows (value_in (Ends e.dispatch ∷ []) m.cells m.entries.items (others m) q) (word_at vs q) (held s.cells q)) e.state
-        (subst (λ vs. Shows (value_in vs m.cells m.entries.items (others m) q) (word_at s.tasks q) (held s.cells q)) e.held (agrees.values q))
+    at_rest q = grind (arith, nat_tests, held s.cells q)
 
     base : (q : Place) → Shows (value_in (Runs_frame f ∷ us) m.cells m.entries.items (others m) q) (word_at (Run fr ∷ ts) q) (held s.cells q)
-    base q =
-        subst (λ v. Shows v (word_at (Run fr ∷ ts) q) (held s.cells q)) (sym (fresh_value k x.number us m.cells m.entries.items (others m) q ∙ end_value (One_asks x) e.dispatch m.cells m.entries.items (others m) q))
-        (subst (λ w. Shows (value_in (Ends e.dispatch ∷ []) m.cells m.entries.items (others m) q) w (held s.cells q)) (sym (fresh_word k home (length s.items) ts q ∙ end_word (Asks asked_seat) (dispatch_of e.place e.dispatch) q)) (at_rest q))
+    base q = grind (
+      arith,
+      nat_tests,
+      held s.cells q,
+      fresh_value k x.number,
+      end_value (One_asks x) e.dispatch m.cells m.entries.items,
+      fresh_word k,
+      end_word,
+      at_rest q,
+    )
 
     error_runs : FitsSigned w32 code → Agrees p (with_tasks (Runs_frame (with_register 0 (cast_unsigned w32 code) f) ∷ us) m) (record (at_close s) { tasks = Run (error_frame k asked_seat code (length s.items)) ∷ ts })
     error_runs fits =
@@ -221,10 +223,7 @@ module _ (p : Image) (formed : WellFormed p) (m : Parts) (announced : m.rest.ann
 
   asking_alike : (method : Option ℕ) (x : Subject) (code : ℤ) → named s.cells x.number ≡ Some (subject_of x) → FitsSigned w32 code → Agrees p (ends.asking p method x code m) (asking p method (seat_of e.place x) code (at_close s))
   asking_alike None x code sits fits = answered_alike code
-  asking_alike (Some k) x code sits fits =
-      let frame = with_register 0 (cast_unsigned w32 code) (fresh k x.number) in
-      let asks = record (at_close s) { tasks = Run (error_frame k (seat_of e.place x) code (length s.items)) ∷ Dispatched (Asks (seat_of e.place x)) ∷ [] } in
-      subst (λ us. Agrees p (with_tasks (Runs_frame frame ∷ Ends (One_asks x) ∷ us) m) asks) (sym (ap below_first e.held)) (error_runs x sits code k fits)
+  asking_alike (Some k) x code sits fits = grind (arith, nat_tests, error_runs x sits code k fits)
 
 module _ (p : Image) (m : Parts) (told : Turn) (announced : m.rest.announced ≡ true) where
   -- the end of a dispatch writes nothing
@@ -234,7 +233,7 @@ module _ (p : Image) (m : Parts) (told : Turn) (announced : m.rest.announced ≡
       let c = an_open p told.refused m s agrees in
       let after = dispatch_ends p (dispatch_of e.place e.dispatch) (at_close s) in
       let is = step_of_end p c.0 s (dispatch_of e.place e.dispatch) e.state ∙ ap (λ ns. guarded ns after) (needs_none e.place e.dispatch s.cells (subst IsPlain (sym (which m s e x ending)) plain)) in (
-        moved_so p m new told.refused t s after sound typed c is (subst (λ y. Agrees p new (dispatch_ends p (dispatch_of e.place y) (at_close s))) (sym (which m s e x ending)) (ends t s sound.formed typed agrees e)),
+        grind (arith, nat_tests, moved_so p m new told.refused t s after sound typed c is, which m s e x ending),
         ap (λ ls. record told { lines = ls }) (sym (ap (λ us. told.lines ++ written_task p s us) e.state ∙ ap (λ ls. told.lines ++ ls) (tells_none e.place e.dispatch s.cells (subst IsPlain (sym (which m s e x ending)) plain)) ∙ append-nil told.lines)),
       )
 

@@ -1,10 +1,11 @@
 -- The instruction that enlists its object: an active object, or a server, which is the last of its class from then on.
+use Rattle.std.proofs.lemmas.Bool.Decides.{nat_tests}
 use Rattle.std.proofs.Common.{Bool, List, None, Option, Some, [], ap, arith, cond, false, inl, inr, length, refl, slice_index_or, subst, sym, true, ℕ, ℤ, ◌&&◌, ◌++◌, ◌<◌, ◌==◌, ◌∙◌, ◌∷◌, ◌≡◌}
 use Rattle.std.specs.Prelude.{is_some, ◌||◌}
 use Rattle.std.proofs.lemmas.Bool.{eq-eqb, eqb-true, false≢true}
 use Rattle.std.proofs.lemmas.List.Folds.{list_any_at}
 use Rattle.aom_active.proofs.Asking.{asked_set, newest}
-use Rattle.aom_active.specs.Agrees.{Active, queue_in, queued}
+use Rattle.aom_active.specs.Agrees.{Active, queued}
 use Rattle.aom_active.specs.Meanings.{Enlists}
 use Rattle.aom_cells.specs.Heap.{class_at}
 use Rattle.aom_image.specs.Image.{Image}
@@ -16,8 +17,8 @@ use Rattle.aom_sound.proofs.Services.{service_asked}
 use Rattle.aom_sound.proofs.Storing.{requested_here, requested_there, rerequested_alike}
 use Rattle.aom_sound.specs.Clients.{is_of_class}
 use Rattle.aom_sound.specs.Enlisted.{first_request, home_kind, next_order, rerequested}
-use Rattle.aom_sound.specs.Places.{Cell, Object, Register, Request, Service, Tidy, named, requested, service_of, set_request}
-use Rattle.aom_sound.specs.Servers.{has_more, is_among, is_server}
+use Rattle.aom_sound.specs.Places.{Cell, Object, Register, Request, Service, Tidy, named, requested, set_request}
+use Rattle.aom_sound.specs.Servers.{is_among, is_server}
 use Rattle.aom_sound.specs.State.{Inside}
 use Rattle.aom_sound.specs.Tokens.{awaited}
 use Rattle.aom_parts.proofs.Tokens.{tokens_still}
@@ -66,11 +67,7 @@ module _ (p : Image) (t : Table) (cs : List Cell) (o : Object) (r : Request) (li
 
   -- what is listed is another
   unlike : (n k : ℕ) → is_listed p cs k n ≡ true → (o.name == n) ≡ false
-  unlike n k listed = go (o.name == n) refl
-    where
-      go : (b : Bool) → (o.name == n) ≡ b → b ≡ false
-      go false e = refl
-      go true e = absurd (false≢true (sym (not_listed k) ∙ ap (is_listed p cs k) (eqb-true o.name n e) ∙ listed))
+  unlike n k listed = grind (arith, nat_tests, not_listed k, eqb-true o.name n)
 
   -- an active object is in none
   pub listed_plain : is_server p o.thing ≡ false → SameListed p t cs → SameListed p t then
@@ -85,15 +82,11 @@ module _ (p : Image) (t : Table) (cs : List Cell) (o : Object) (r : Request) (li
   }
     where
       all : (n k : ℕ) (b : Bool) → (o.name == n) ≡ b → is_listed p then k n ≡ is_listed p cs k n
-      all n k true e =
-          let is = eqb-true o.name n e in
-          ap (is_listed p then k) (sym is) ∙ now_listed k ∙ ap (λ b. b && is_of_class k o.thing) plain ∙ sym (not_listed k) ∙ ap (is_listed p cs k) is
+      all n k true e = grind (arith, nat_tests, eqb-true o.name n e, now_listed k, not_listed k)
       all n k false e = listed_there n k e
 
       among : (k i d : ℕ) → i < length (list_at t k) → is_listed p cs k (slice_index_or (list_at t k) i d) ≡ true
-      among k i d within =
-          let at = slice_index_or (list_at t k) i d in
-          sym (same.there at k) ∙ list_any_at (λ x. x == at) (list_at t k) i d within (eq-eqb at at refl)
+      among k i d within = grind (arith, nat_tests, list_any_at, eq-eqb)
 
       orders : (n k : ℕ) → is_listed p cs k n ≡ true → order_in (requested then n) ≡ order_in (requested cs n)
       orders n k listed = ap order_in (there n (unlike n k listed))
@@ -115,11 +108,7 @@ module _ (p : Image) (t : Table) (cs : List Cell) (o : Object) (r : Request) (li
 among_in : (ns : List ℕ) (n : ℕ) → IsIn n ns → is_among n ns ≡ true
 among_in [] n within = absurd within
 among_in (k ∷ ns) n (inl e) = ap (λ b. b || is_among n ns) (eq-eqb k n e)
-among_in (k ∷ ns) n (inr rest) = ap (λ b. (k == n) || b) (among_in ns n rest) ∙ or_true (k == n)
-  where
-    or_true : (b : Bool) → (b || true) ≡ true
-    or_true true = refl
-    or_true false = refl
+among_in (k ∷ ns) n (inr rest) = grind (arith, nat_tests, among_in ns n rest)
 
 pub enlist_free : (p : Image) (m : Parts) (priority : ℤ) → IsNext p (Enlist priority) m → IsFree m.listed (this m)
 unfolding at_hand
@@ -143,9 +132,7 @@ module _ (p : Image) (m : Parts) (h : At_hand p m) (x : OnObject p m h) (priorit
 
   -- what waits there, which is nothing
   queue_told : (b : Bool) → is_server p x.object.thing ≡ b → queued p cs (this m) ≡ cond b (Some false) None
-  queue_told b e =
-      ap (λ o. queue_in p o (service_of cs (this m))) (named_here p m h x) ∙ ap (λ b. cond b (Some (has_more (service_of cs (this m)).queue)) None) e
-      ∙ ap (λ q. cond b (Some (has_more q)) None) (ap (λ n. (service_of cs n).queue) x.number ∙ (h.kept.fit.enlisted x.object x.lives fresh).0)
+  queue_told b e = grind (arith, nat_tests, named_here p m h x)
 
   services_enlisted : (t : Table) → (SameListed p m.listed cs → SameListed p t (set_request x.object.name (Some r) cs)) → SameServices p m.clients m.messages m.tokens t (rerequested cs h.frame.home (Some r)) h.state.clients
   services_enlisted t listed =

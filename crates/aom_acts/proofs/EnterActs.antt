@@ -1,4 +1,5 @@
 -- A method is called: it begins over the one that runs, with its arguments in its first registers.
+use Rattle.std.proofs.lemmas.Bool.Decides.{nat_tests}
 use Rattle.aom_image.specs.declared.method.Thing.TheVariants.{Message as A_message, Object as An_object_of}
 use Rattle.aom_cells.specs.declared.cell.Cell.{Cell as Held_cell}
 use Rattle.aom_parts.proofs.Heights.{stands_here}
@@ -27,12 +28,12 @@ use Rattle.aom_image.specs.declared.method.Method.{Method as Method_decl}
 use Rattle.aom_cells.specs.Heap.{cell_at, class_of, class_at, Lives, Heap, null}
 use Rattle.aom_shape.specs.Needs.{AllTrue}
 use Rattle.aom_shape.specs.Tables.{put_at}
-use Rattle.aom_sound.specs.Calls.{run_by, is_worked_on, own_home, entered, entry_place, home_at, needs_each, needs_entering, needs_target, passed_cells, passed_words, target_home, target_view}
+use Rattle.aom_sound.specs.Calls.{run_by, is_worked_on, entered, entry_place, home_at, needs_each, needs_entering, needs_target, passed_cells, passed_words, target_home, target_view}
 use Rattle.aom_sound.specs.Places.{named, Place, Register, Elsewhere, Entry, Field, Going, Object, Cell, changed, held, moved, same_place}
 use Rattle.aom_sound.specs.State.{thing_holder, thing_view, home_view, home_holder, Rest, Inside, AtRoot, Static, Home, Frame, Need, Task, Run, Trapped, A_mark, State, field_place, frame_as, word}
 use Rattle.aom_sound.proofs.Finishing.{all_parts}
 use Rattle.aom_sound.proofs.Maps.{held_moved}
-use Rattle.aom_frames.specs.Tasks.{view_here, fresh, given, given_here, on_top, passed_on, passing, register_here, this_here, with_register, method_here, place_here}
+use Rattle.aom_frames.specs.Tasks.{given, given_here, on_top, passed_on, passing, register_here, this_here, with_register, method_here, place_here}
 use Rattle.aom_frames.specs.declared.frame.Frame.{Frame as Held_frame}
 use Rattle.aom_frames.specs.declared.task.Task.{Task as Held_task}
 use Rattle.aom_frames.specs.declared.task.Task.TheVariants.{Run as Runs_frame}
@@ -42,13 +43,13 @@ use Rattle.aom_parts.proofs.Asking.{requests_passed}
 use Rattle.aom_parts.specs.declared.parts.Parts.{Parts}
 use Rattle.aom_acts.specs.Next.{counting, IsNext}
 use Rattle.aom_parts.specs.Places.{others, Others, value_in, register_in, going_in, with_items, with_tasks}
-use Rattle.aom_parts.specs.Agrees.{viewed, thing_in, word_at, word_in, Shows, SameCells, SameFrame, SameTasks, home_number, number, Agrees}
-use Rattle.aom_acts.specs.Acts.{requested, At_hand, DoesIn}
+use Rattle.aom_parts.specs.Agrees.{viewed, thing_in, word_at, Shows, SameCells, SameFrame, SameTasks, home_number, number, Agrees}
+use Rattle.aom_acts.specs.Acts.{At_hand, DoesIn}
 use Rattle.aom_acts.specs.Calls.{is_this, view_of, callee_here, body_on, target_here}
 use Rattle.aom_parts.proofs.Cells.{cells_moved}
 use Rattle.aom_parts.proofs.Entries.{entry_number, mark_shows_none}
 use Rattle.aom_acts.proofs.FieldActs.{inside_object, housed, field_shown}
-use Rattle.aom_acts.proofs.GoingActs.{fresh_with, fresh_as, fresh_value}
+use Rattle.aom_acts.proofs.GoingActs.{fresh_with, fresh_as}
 use Rattle.aom_acts.proofs.Housing.{needs_met, at_hand, needs_say}
 use Rattle.aom_acts.proofs.ObjectActs.{shown}
 use Rattle.aom_parts.proofs.Overs.{held_over, higher, over_deep, over_register, over_value, over_word, over_words, tasks_over}
@@ -84,8 +85,7 @@ length_more (x ∷ xs) v = ap suc (length_more xs v)
 
 -- a method's registers hold nothing that goes
 going_kept : (b : Bool) (f f' g : Held_frame) (ms : List Held_task) (k : ℕ) → going_in (Runs_frame g ∷ held_over b (Runs_frame f' ∷ ms)) k ≡ going_in (Runs_frame g ∷ held_over b (Runs_frame f ∷ ms)) k
-going_kept true f f' g ms k = refl
-going_kept false f f' g ms k = refl
+going_kept x f f' g ms k = grind arith
 
 -- ---- the arguments go over one after the other
 
@@ -136,11 +136,7 @@ module _ (p : Image) (trapped : Bool) (heap : Heap) (es : List Item) (rest : Oth
       ∙ value_here f ms heap es rest (length ts) i deep
 
   lower_word : (c : Frame) (i : ℕ) → word_at (Run c ∷ tops) (lower i) ≡ word fr i
-  lower_word c i =
-      let above = high in
-      ap (λ b. cond b (word c i) (word_in tops (length ts) i)) (ne_eqb (length tops) (length ts) (λ e. absurd (omega arith)))
-      ∙ over_word trapped (Run fr ∷ ts) (length ts) i
-      ∙ ap (λ b. cond b (word fr i) (word_in ts (length ts) i)) (eq-eqb (length ts) (length ts) refl)
+  lower_word c i = grind (arith, nat_tests, high, ne_eqb, over_word trapped (Run fr ∷ ts), eq-eqb)
 
   -- the register of the caller is null from then on
   lower_written : (f g : Held_frame) (i : ℕ) → i < length f.registers → (r : Place)
@@ -186,10 +182,7 @@ module _ (p : Image) (trapped : Bool) (heap : Heap) (es : List Item) (rest : Oth
       let n = slice_index_or f.registers first null in
       let shows = subst (λ k. Shows k (word fr first) (held cs (lower first))) (lower_value f g first) (subst (λ w. Shows (value_in (Runs_frame g ∷ held_tops f) heap es rest (lower first)) w (held cs (lower first))) (lower_word (with_words ws) first) (passing.values (lower first))) in
       record {
-        values = writes _ _ _ _ _ _ (upper to) n (word fr first) None passing.values (word_alone n (word fr first) (held cs (lower first)) some shows)
-            (upper_written f g to n (omega arith))
-            (words_put ws to (word fr first) passing.even)
-            (λ r. kept (held cs) (upper to) r ∙ ap (λ o. changed (held cs) (upper to) o r) (passing.free to (omega arith)));
+        values = grind (arith, nat_tests, writes, word_alone n, upper_written f g to n, words_put ws to, kept);
         cells = passing.cells;
         free = λ i le. passing.free i (omega arith);
         even = length_more ws (word fr first) ∙ ap suc passing.even;
@@ -215,19 +208,14 @@ module _ (p : Image) (trapped : Bool) (heap : Heap) (es : List Item) (rest : Oth
             (words_put ws to None passing.even)
             (λ r. held_moved cs (lower first) (upper to) r there);
         cells = cells_moved p heap cs (lower first) (upper to) passing.cells;
-        free = λ i le. held_moved cs (lower first) (upper to) (upper i) there
-            ∙ ap (λ b. cond ((length tops == length tops) && b) (held cs (lower first)) (cond (same_place (lower first) (upper i)) None (held cs (upper i)))) (ne_eqb to i (λ e. absurd (omega arith)))
-            ∙ aside (length tops == length tops) (held cs (lower first)) _
-            ∙ ap (λ b. cond (b && (first == i)) None (held cs (upper i))) (ne_eqb (length ts) (length tops) (λ e. absurd (omega arith)))
-            ∙ passing.free i (omega arith);
+        free = grind (arith, nat_tests, held_moved cs, ne_eqb to);
         even = length_more {A = Option ℤ} ws None ∙ ap suc passing.even;
         caller = reframed f fr (slice_set f.registers first null) fr.words f.place fr.place passing.caller (length-set f.registers first null ∙ broad) passing.caller.place;
         called = called_on g ws to n None passing.called;
       }
     where
       aside : (b : Bool) (x y : Option Object) → cond (b && false) x y ≡ y
-      aside true x y = refl
-      aside false x y = refl
+      aside x y z = grind arith
 
   all_go : (xs : List Argument) (first to : ℕ) (f g : Held_frame) (cs : List Cell) (ws : List (Option ℤ)) → (first + length xs) ≤ 16 → (to + length xs) ≤ 16 → AllTrue (needs_each p fr ts s xs first) → Passing f g cs ws to
       → Passing (passed_on xs first f) (given xs first to f g) (passed_cells p fr ts s (length tops) xs first to cs) (ws ++ passed_words p fr ts s xs first) (to + length xs)
@@ -250,9 +238,7 @@ module _ (p : Image) (trapped : Bool) (heap : Heap) (es : List Item) (rest : Oth
 
 -- its arguments lie in registers that a method has
 pub entering_fits : (p : Image) (fr : Frame) (ts : List Task) (s : State) (target : Target) (k first : ℕ) (more : List Need) → AllTrue (needs_entering p fr ts s target k first more) → (first + length (arguments_of p k)) ≤ 16
-entering_fits p fr ts s target k first more needs =
-    let parts = all_parts (needs_target p fr ts s target k (method_class p k) first (length (arguments_of p k))) _ needs in
-    grind (arith, leb_tells (first + length (arguments_of p k)) 16, parts.1.0)
+entering_fits p fr ts s target k first more needs = grind (arith, nat_tests, all_parts, leb_tells)
 
 -- what the method works on
 home_of : (p : Image) (m : Parts) (h : At_hand p m) (target : Target) (k : ℕ) (class : Option ℕ) (first count : ℕ) → AllTrue (needs_target p h.frame h.below h.state target k class first count) → target_here target class m ≡ home_number (target_home p h.frame h.below h.state target class)
@@ -265,36 +251,16 @@ home_of p m h (On_register r) k class first count needs =
     owner : (o : Option Object) (q : Place) → number o ≡ home_number (home_at o q)
     owner None q = refl
     owner (Some o) q = refl
-home_of p m h (On_field g) k class first count needs = field_shown p m h g needs.0 ∙ owner (held h.state.cells (field_place h.frame.home g)) (field_place h.frame.home g)
-  where
-    owner : (o : Option Object) (q : Place) → number o ≡ home_number (home_at o q)
-    owner None q = refl
-    owner (Some o) q = refl
-home_of p m h (On_entry e) k class first count needs =
-    entry_number m.entries.items h.state.items e _ h.agrees.entries needs.0 refl
-    ∙ h.agrees.values (entry_place h.state.items e)
-    ∙ owner (held h.state.cells (entry_place h.state.items e)) (entry_place h.state.items e)
-  where
-    owner : (o : Option Object) (q : Place) → number o ≡ home_number (home_at o q)
-    owner None q = refl
-    owner (Some o) q = refl
+home_of p m h (On_field g) k class first count needs = grind (arith, nat_tests, field_shown p m h g needs.0)
+home_of p m h (On_entry e) k class first count needs = grind (arith, nat_tests, entry_number m.entries.items h.state.items e)
 
 -- and it is no message
 module _ (p : Image) (m : Parts) (h : At_hand p m) (class : Option ℕ) where
   worked_small : (class : Option ℕ) (o : Option Object) (q : Place) → held h.state.cells q ≡ o → is_worked_on p class o ≡ true → home_number (home_at o q) ≢ null → home_number (home_at o q) < 4096
-  worked_small class None q e worked there = absurd (there refl)
-  worked_small None (Some o) q e worked there = absurd (false≢true worked)
-  worked_small (Some c) (Some o) q e worked there = object_small p m h.state h.formed h.agrees o (held_lives h.state.cells q o h.typed.good.tidy e) (object_for p o.thing c worked)
+  worked_small x y q e worked there = grind (arith, nat_tests, object_small p m h.state h.formed h.agrees, held_lives h.state.cells q, object_for p)
 
   home_small : (target : Target) (k first count : ℕ) → AllTrue (needs_target p h.frame h.below h.state target k class first count) → home_number (target_home p h.frame h.below h.state target class) ≢ null → home_number (target_home p h.frame h.below h.state target class) < 4096
-  home_small This k first count needs = own class
-    where
-      own : (class : Option ℕ) → home_number (own_home class h.frame.home) ≢ null → home_number (own_home class h.frame.home) < 4096
-      own None there = absurd (there refl)
-      own (Some c) there = subst (λ n. n < 4096) (this_is p m h) (by_top p m h (λ us. this_here us ≢ null → this_here us < 4096) (λ f ms top. top.frame.housed) (λ none. there (sym (this_is p m h) ∙ none)))
-  home_small (On_register r) k first count needs = worked_small class (held h.state.cells (Register (length h.below) r)) (Register (length h.below) r) refl needs.1.1.0
-  home_small (On_field g) k first count needs = worked_small class (held h.state.cells (field_place h.frame.home g)) (field_place h.frame.home g) refl needs.1.1.0
-  home_small (On_entry e) k first count needs = worked_small class (held h.state.cells (entry_place h.state.items e)) (entry_place h.state.items e) refl needs.1.1.1.0
+  home_small x k first count needs = grind (arith, nat_tests, this_is p m h, by_top p m h, worked_small class)
 
 housed_by : (p : Image) (m : Parts) (h : At_hand p m) (target : Target) (k : ℕ) (class : Option ℕ) (first count : ℕ) → AllTrue (needs_target p h.frame h.below h.state target k class first count) → target_here target class m ≡ home_number (target_home p h.frame h.below h.state target class)
     → target_here target class m ≢ null → target_here target class m < 4096
@@ -303,24 +269,16 @@ housed_by p m h target k class first count needs home there = subst (λ n. n < 4
 -- ---- what the call runs
 
 pub not_this : (target : Target) → (target ≡ This → ⊥) → is_this target ≡ false
-not_this This other = absurd (other refl)
-not_this (On_register r) other = refl
-not_this (On_field f) other = refl
-not_this (On_entry e) other = refl
+not_this x other = grind arith
 
 -- the class of a living cell is what its object counts as
 class_viewed : (c : Option Held_cell) (t : Thing) → thing_in c ≡ Some t → class_of c ≡ thing_view t
-class_viewed None t e = cc
-class_viewed (Some c) t e = let same : An_object_of c.class ≡ t = cc in ap thing_view same
+class_viewed x t e = grind arith
 
 module _ (p : Image) (m : Parts) (h : At_hand p m) where
   -- the frame's view is what the target counts as
   view_told : (target : Target) (class : Option ℕ) → viewed (view_of target class m.stack.tasks) (target_home p h.frame h.below h.state target class) ≡ target_view p h.frame h.below h.state target class
-  view_told This None = refl
-  view_told This (Some c) = by_top p m h (λ us. viewed (view_here us) h.frame.home ≡ h.frame.view) (λ f ms top. sym top.frame.view)
-  view_told (On_register r) class = refl
-  view_told (On_field f) class = refl
-  view_told (On_entry e) class = refl
+  view_told x class = grind (arith, nat_tests, by_top p m h)
 
   -- what it works on is there, and is no message
   owned_there :
@@ -328,9 +286,12 @@ module _ (p : Image) (m : Parts) (h : At_hand p m) where
       (named h.state.cells o.name ≡ Some o) × (is_object o.thing ≡ true)
   owned_there class None q at worked o from e = cc
   owned_there None (Some x) q at worked o from e = absurd (false≢true worked)
-  owned_there (Some c) (Some x) q at worked o from e =
-      let same : x ≡ o = cc in
-      subst (λ (y : Object). (named h.state.cells y.name ≡ Some y) × (is_object y.thing ≡ true)) same (held_lives h.state.cells q x h.typed.good.tidy at, object_for p x.thing c worked)
+  owned_there (Some c) (Some x) q at worked o from e = grind (
+    arith,
+    nat_tests,
+    held_lives h.state.cells q x h.typed.good.tidy at,
+    object_for p x.thing c worked,
+  )
 
   target_there :
       (target : Target) (k : ℕ) (class : Option ℕ) (first count : ℕ) → AllTrue (needs_target p h.frame h.below h.state target k class first count) → (o : Object) (from : Place) →
@@ -361,14 +322,13 @@ module _ (p : Image) (m : Parts) (h : At_hand p m) where
   -- the table tells the same of the cell
   unviewed : (k : ℕ) (home : Home) → ((c : ℕ) → home_holder home ≡ Member c → ⊥) → (view : Option ℕ) → ((v : ℕ) → view ≡ Some v → (c : ℕ) × (home_holder home ≡ Member c)) → k ≡ body_of p k view
   unfolding body_of
-  unviewed k home none None counts = refl
-  unviewed k home none (Some v) counts = let c = counts v refl in absurd (none c.0 c.1)
+  unviewed k home none x counts = grind arith
 
   body_by_home :
       (k : ℕ) (home : Home) (v : View) (view : Option ℕ) → viewed v home ≡ view → ((v : ℕ) → view ≡ Some v → (c : ℕ) × (home_holder home ≡ Member c)) →
       ((o : Object) (from : Place) → home ≡ Inside o from → (named h.state.cells o.name ≡ Some o) × (is_object o.thing ≡ true)) → body_on p k (home_number home) v m.cells ≡ body_of p k view
-  body_by_home k Static v view same counts there = ap (λ b. cond b k (body_of p k (or_else (class_above v) (class_at m.cells null)))) (eq-eqb null null refl) ∙ unviewed k Static (λ c e. cc) view counts
-  body_by_home k AtRoot v view same counts there = ap (λ b. cond b k (body_of p k (or_else (class_above v) (class_at m.cells null)))) (eq-eqb null null refl) ∙ unviewed k AtRoot (λ c e. cc) view counts
+  body_by_home k Static v view same counts there = grind (arith, nat_tests, eq-eqb, unviewed k Static)
+  body_by_home k AtRoot v view same counts there = grind (arith, nat_tests, eq-eqb, unviewed k AtRoot)
   body_by_home k (Inside o from) v view same counts there =
       let x = there o from refl in
       let some : o.name ≡ null → ⊥ = λ n. let clash : Some o ≡ None = sym x.0 ∙ ap (named h.state.cells) n ∙ null_unnamed p m h.state h.agrees in cc in
@@ -416,10 +376,7 @@ module _ (p : Image) (m : Parts) (h : At_hand p m) (trapped : Bool) (target : Ta
 
   -- the table tells what runs
   runs : AllTrue (needs_target p h.frame h.below h.state target k (method_class p k) first (length xs)) → record called { words = passed_words p h.frame h.below h.state xs first } ≡ entered p h.frame h.below h.state target k first height
-  runs needs =
-      let home = target_home p h.frame h.below h.state target (method_class p k) in
-      ap (λ j. record (frame_as j home (viewed view home) height) { words = passed_words p h.frame h.below h.state xs first }) (body_told p m h target k first (length xs) needs)
-      ∙ ap (λ v. record (frame_as (run_by p h.frame h.below h.state target k) home v height) { words = passed_words p h.frame h.below h.state xs first }) (view_told p m h target (method_class p k))
+  runs needs = grind (arith, nat_tests, body_told p m h target k first, view_told p m h target)
 
   abbrev over : List Task
   over = tasks_over trapped (Run h.frame ∷ h.below)
@@ -530,17 +487,10 @@ traps_well p m target k first x next = (
 needs_kept :
     (p : Image) (fr : Frame) (ts : List Task) (s : State) (r : Rest) (target : Target) (k : ℕ) (class : Option ℕ) (first count : ℕ) →
     AllTrue (needs_target p fr ts (record s { rest = r }) target k class first count) → AllTrue (needs_target p fr ts s target k class first count)
-needs_kept p fr ts s r This k class first count n = n
-needs_kept p fr ts s r (On_register x) k class first count n = n
-needs_kept p fr ts s r (On_field f) k class first count n = n
-needs_kept p fr ts s r (On_entry e) k class first count n = n
+needs_kept p fr ts s r x k class first count n = grind arith
 
 target_kept : (m : Parts) (r : Rest) (target : Target) (class : Option ℕ) → target_here target class (counting r m) ≡ target_here target class m
-target_kept m r This None = refl
-target_kept m r This (Some c) = refl
-target_kept m r (On_register x) class = refl
-target_kept m r (On_field f) class = refl
-target_kept m r (On_entry e) class = refl
+target_kept m r x class = grind arith
 
 -- and what it works on lives, and is of a class
 abbrev TargetLives : Image → Parts → Target → ℕ → Type 0
@@ -558,15 +508,23 @@ lives_on p m r h q target k first needs = (
 )
 
 pub call_lives : (p : Image) (m : Parts) (target : Target) (k first x : ℕ) → IsNext p (Call target k first x) m → TargetLives p m target k
-call_lives p m target k first x next =
-    let h = at_hand p (counting next.counts m) next.stands next.runs in
-    let s = requested (Call target k first x) (at_step h.state) in
-    let n = needs_met p m (Call target k first x) next in
-    lives_on p m next.counts h s.rest target k first (all_parts (needs_target p h.frame h.below s target k (method_class p k) first (length (arguments_of p k))) _ n.1).0
+call_lives p m target k first x next = grind (
+  arith,
+  nat_tests,
+  at_hand p,
+  at_step,
+  needs_met p m (Call target k first x) next,
+  lives_on p m next.counts,
+  all_parts,
+)
 
 pub trap_lives : (p : Image) (m : Parts) (target : Target) (k first x : ℕ) → IsNext p (Trap target k first x) m → TargetLives p m target k
-trap_lives p m target k first x next =
-    let h = at_hand p (counting next.counts m) next.stands next.runs in
-    let s = requested (Trap target k first x) (at_step h.state) in
-    let n = needs_met p m (Trap target k first x) next in
-    lives_on p m next.counts h s.rest target k first (all_parts (needs_target p h.frame h.below s target k (method_class p k) first (length (arguments_of p k))) _ n.1).0
+trap_lives p m target k first x next = grind (
+  arith,
+  nat_tests,
+  at_hand p,
+  at_step,
+  needs_met p m (Trap target k first x) next,
+  lives_on p m next.counts,
+  all_parts,
+)

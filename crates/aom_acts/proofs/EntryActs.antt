@@ -1,5 +1,6 @@
 -- Instructions on the cleanup stack.
-use Rattle.std.proofs.Common.{inl, inr, ◌≡◌, ◌≤◌, ◌==◌, ℕ, ℤ, ◌<◌, Bool, true, false, cond, length, List, [], ◌∷◌, Option, None, negsuc, refl, sym, ap, ◌∙◌, subst, arith}
+use Rattle.std.proofs.lemmas.Bool.Decides.{nat_tests}
+use Rattle.std.proofs.Common.{inl, inr, ◌≡◌, ◌≤◌, ℕ, ℤ, ◌<◌, Bool, true, false, cond, length, List, [], ◌∷◌, Option, None, negsuc, refl, sym, ap, ◌∙◌, subst, arith}
 use Rattle.std.specs.Int.{w32, cast_signed}
 use Rattle.std.proofs.lemmas.Bool.{true≢false}
 use Rattle.aom_image.specs.Image.{Image}
@@ -7,7 +8,7 @@ use Rattle.aom_instructions.specs.declared.instr.Instr.TheVariants.{Push, PushOp
 use Rattle.aom_cells.specs.Heap.{Heap, null}
 use Rattle.aom_cleanup.specs.Items.{Stack as Held_items, owned_by}
 use Rattle.aom_cleanup.specs.declared.item.Item.{Item as Held_item}
-use Rattle.aom_cleanup.specs.declared.item.Item.TheVariants.{Object as Holds_object, Operation as Holds_operation, Mark as Is_mark}
+use Rattle.aom_cleanup.specs.declared.item.Item.TheVariants.{Object as Holds_object, Operation as Holds_operation}
 use Rattle.aom_shape.specs.Needs.{AllTrue}
 use Rattle.aom_shape.specs.Tables.{put_at}
 use Rattle.aom_sound.specs.Calls.{below_top}
@@ -42,13 +43,11 @@ use Rattle.aom_acts.proofs.GoingOn.{framed, goes_on_as, goes_on_with}
 use Rattle.aom_parts.proofs.Sessions.{natives_moved}
 
 same_cond : {A : Type 0} (b : Bool) (x : A) → x ≡ cond b x x
-same_cond true x = refl
-same_cond false x = refl
+same_cond x y = grind arith
 
 -- entries have no words
 entry_words : (us : List Task) (k : ℕ) (r : Place) → word_at us r ≡ changed (word_at us) (Entry k) None r
-entry_words us k (Entry j) = same_cond {A = Option ℤ} (k == j) None ∙ and_true {A = Option ℤ} (k == j) None None
-entry_words us k _ = refl
+entry_words us k x = grind (arith, nat_tests, same_cond {A = Option ℤ}, and_true {A = Option ℤ})
 
 -- the machine whose request is counted
 abbrev asked : Parts → Parts
@@ -57,9 +56,13 @@ asked m = record m { rest = record m.rest { requests = raised m.rest.requests } 
 module _ (p : Image) (m : Parts) (h : At_hand p m) where
   -- over the items there is nothing
   none_over : (f : Held_frame) (ms : List Held_task) → Top m h.state h.frame h.below f ms → held h.state.cells (Entry (length h.state.items)) ≡ None
-  none_over f ms top =
-      let deep = same_items_length m.entries.items h.state.items h.agrees.entries in
-      nothing_held p m h.typing h.state h.typed h.agrees (Entry (length h.state.items)) (sym (entry_past m.entries.items (length h.state.items) (omega arith)) ∙ top.values (Entry (length h.state.items)))
+  none_over f ms top = grind (
+    arith,
+    nat_tests,
+    same_items_length m.entries.items h.state.items h.agrees.entries,
+    nothing_held p m h.typing h.state h.typed h.agrees,
+    entry_past m.entries.items,
+  )
 
 -- the machine once an object is pushed, and an operation
 abbrev pub held_pushed : ℕ → Parts → Parts
@@ -206,6 +209,4 @@ module _ (m : Parts) (refused : List ℕ) (es : Held_items) where
       (subst (λ is. Shows (value_in (Runs_frame f ∷ ms) m.cells is (others m) q) (word_at (Run fr ∷ ts) q) (held s.cells q)) was (top.values q))))
     where
       operation_owns : (i : Held_item) (is : List Held_item) (js : List Item) → SameItems (i ∷ is) js → tops_operation js ≡ true → owned_by i ≡ null
-      operation_owns (Holds_operation k n) is js same e = refl
-      operation_owns Is_mark is js same e = refl
-      operation_owns _ is _ same e = absurd (grind arith)
+      operation_owns x is js same e = grind arith

@@ -1,4 +1,5 @@
 -- Instructions on the words and the owning fields of what a method works on: of its cell, or of main's, the root.
+use Rattle.std.proofs.lemmas.Bool.Decides.{nat_tests}
 use Rattle.std.proofs.lemmas.Option.{none-some}
 use Rattle.std.proofs.Common.{false, inl, inr, ◌≡◌, ◌≢◌, ℕ, ℤ, ◌<◌, true, cond, length, List, ◌∷◌, Option, Some, None, refl, sym, ap, ◌∙◌, subst, arith}
 use Rattle.std.specs.Prelude.{is_some, nat_lt}
@@ -7,7 +8,7 @@ use Rattle.std.proofs.lemmas.Bool.{eq-eqb, false≢true, lt-ltb, ltb-true, ne_eq
 use Rattle.aom_image.specs.Image.{Image}
 use Rattle.aom_instructions.specs.declared.instr.Instr.TheVariants.{Load, Store, Take, Put, JumpEmpty}
 use Rattle.aom_image.specs.declared.method.Thing.{Thing}
-use Rattle.aom_cells.specs.Heap.{Heap, null, field_at, Lives, word_at as cell_word}
+use Rattle.aom_cells.specs.Heap.{Heap, null, field_at, word_at as cell_word}
 use Rattle.aom_shape.specs.Things.{field_thing, holder_of, word_count}
 use Rattle.aom_shape.specs.Tables.{put_at}
 use Rattle.aom_sound.specs.Places.{Place, Register, Field, Elsewhere, Root, Object, held, named, moved, changed}
@@ -72,13 +73,7 @@ module _ (p : Image) (m : Parts) (h : At_hand p m) where
   inside_object o from e = object_there p m h.state h.agrees o (housed o from e) (inside_small o from e)
 
   pub is_housed : ThisLives m
-  is_housed there = go h.frame.home refl
-    where
-      go : (home : Home) → h.frame.home ≡ home → Lives m.cells (this m)
-      go (Inside o from) e =
-          let c = cell_of p m.cells h.state.cells o.name o h.agrees.cells (housed o from e) (inside_object o from e) in
-          subst (Lives m.cells) (sym (inside_number o from e)) (ap is_some c.1)
-      go _ e = absurd (there (this_is ∙ ap home_number e))
+  is_housed there = grind (arith, nat_tests, cell_of p m.cells h.state.cells, housed, inside_object, inside_number, this_is)
 
   -- what the method's class declares, what it works on has
   houses : Houses p (home_holder h.frame.home) (holder_of p h.frame.method)
@@ -115,9 +110,7 @@ module _ (p : Image) (m : Parts) (h : At_hand p m) where
       go (Inside o from) e has = ap (λ n. cell_word m.cells n w) (inside_number o from e) ∙ h.agrees.cells.words o.name w (inside_small o from e)
 
   held_stored : (home : Home) (w : ℕ) (v : ℤ) (r : Place) → held (stored h.state.cells home w v) r ≡ held h.state.cells r
-  held_stored Static w v r = refl
-  held_stored AtRoot w v r = refl
-  held_stored (Inside o from) w v r = held_set_word h.state.cells o.name w v r
+  held_stored x w v r = grind (arith, nat_tests, held_set_word h.state.cells)
 
   cells_after_store : (heap : Heap) (w : ℕ) (v : ℤ) → nat_lt w (word_count p (holder_of p h.frame.method)) ≡ true → PutsWord (this m) w v m.cells heap → SameCells p heap (stored h.state.cells h.frame.home w v)
   cells_after_store heap w v has puts = go h.frame.home refl (word_there w has)
@@ -130,14 +123,10 @@ module _ (p : Image) (m : Parts) (h : At_hand p m) where
   -- ---- owning fields
 
   pub no_word_there : (home : Home) (f : ℕ) (us : List Task) → word_at us (field_place home f) ≡ None
-  no_word_there Static f us = refl
-  no_word_there AtRoot f us = refl
-  no_word_there (Inside o from) f us = refl
+  no_word_there x f us = grind arith
 
   pub field_no_queue : (home : Home) (f : ℕ) → is_queue (field_place home f) ≡ false
-  field_no_queue Static f = refl
-  field_no_queue AtRoot f = refl
-  field_no_queue (Inside o from) f = refl
+  field_no_queue x f = grind arith
 
   -- a method of which a field is declared works on the root or on an object
   by_home : (f : ℕ) (P : Home → Type 0) → (h.frame.home ≡ AtRoot → P AtRoot) → ((o : Object) (from : Place) → h.frame.home ≡ Inside o from → P (Inside o from)) → is_some (field_thing p (holder_of p h.frame.method) f) ≡ true → P h.frame.home
@@ -153,10 +142,7 @@ module _ (p : Image) (m : Parts) (h : At_hand p m) where
   here_at_root f n = ap (λ b. cond b m.root (field_at m.cells (this m) f)) (sym (eq-eqb (this m) null n))
 
   pub field_read_here : (f : ℕ) (us : List Held_task) → is_some (field_thing p (holder_of p h.frame.method) f) ≡ true → value_in us m.cells m.entries.items (others m) (field_place h.frame.home f) ≡ field_here f m
-  field_read_here f us =
-      by_home f (λ home. value_in us m.cells m.entries.items (others m) (field_place home f) ≡ field_here f m) (λ e. here_at_root f (this_is ∙ ap home_number e)) (λ o from e.
-      ap (λ n. field_at m.cells n f) (sym (inside_number o from e))
-      ∙ ap (λ b. cond b m.root (field_at m.cells (this m) f)) (sym (ne_eqb (this m) null (inside_there o from e))))
+  field_read_here f us = grind (arith, nat_tests, by_home f, here_at_root f, this_is, inside_number, ne_eqb, inside_there)
 
   -- and written in its place
   pub record Written (mid : Parts) (q : Place) (x : ℕ) : Type 0 where
@@ -185,9 +171,7 @@ module _ (p : Image) (m : Parts) (h : At_hand p m) where
 
   -- the number in a field is that of what the field owns
   pub field_shown : (f : ℕ) → is_some (field_thing p (holder_of p h.frame.method) f) ≡ true → field_here f m ≡ number (held h.state.cells (field_place h.frame.home f))
-  field_shown f has =
-      let q = field_place h.frame.home f in
-      sym (field_read_here f m.stack.tasks has) ∙ subst (λ w. Shows (value_in m.stack.tasks m.cells m.entries.items (others m) q) w (held h.state.cells q)) (no_word_there h.frame.home f h.state.tasks) (h.agrees.values q)
+  field_shown f has = grind (arith, nat_tests, field_read_here f m.stack.tasks has, no_word_there h.frame.home f h.state.tasks)
 
 -- ---- the instructions
 

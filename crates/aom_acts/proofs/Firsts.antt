@@ -1,5 +1,6 @@
 -- The first session with a server that is there is that of the client that the machine finds, by the number in the place of each session. What closes its
 -- sessions stands over its own going.
+use Rattle.std.proofs.lemmas.Bool.Decides.{nat_tests}
 use Rattle.std.proofs.Common.{Bool, List, None, Option, Some, [], ap, cond, false, length, not, refl, subst, sym, true, ℕ, ◌==◌, ◌∙◌, ◌∷◌, ◌≡◌, ◌||◌, arith}
 use Rattle.std.proofs.lemmas.Bool.{eq-eqb, true≢false}
 use Rattle.std.proofs.lemmas.Option.{none-some, same_Some}
@@ -47,17 +48,11 @@ module _ (n : ℕ) where
 
   -- a session that went shows null
   shows_none : (k : Client) → server_of k ≡ Some n → has_cell k ≡ false → session_with n k ≡ null
-  shows_none (Open server session slots) at gone = numbered server session at ∙ no_number session gone
-  shows_none (Closing server session) at gone = numbered server session at ∙ no_number session gone
-  shows_none (Dying server session) at gone = numbered server session at ∙ no_number session gone
-  shows_none _ at gone = absurd (none-some n at)
+  shows_none x at gone = grind (arith, nat_tests, numbered, no_number)
 
   -- and another its cell
   shows_cell : (k : Client) → server_of k ≡ Some n → has_cell k ≡ true → (r : ℕ) → session_of k ≡ Some r → session_with n k ≡ r
-  shows_cell (Open server session slots) at there r is = numbered server session at ∙ own_number session there ∙ same_Some session r is
-  shows_cell (Closing server session) at there r is = numbered server session at ∙ own_number session there ∙ same_Some session r is
-  shows_cell (Dying server session) at there r is = numbered server session at ∙ own_number session there ∙ same_Some session r is
-  shows_cell _ at there r is = absurd (none-some n at)
+  shows_cell x at there r is = grind (arith, nat_tests, numbered, own_number, same_Some)
 
 -- who is found has a cell
 pub found_session : (k : Held_clients) (cs : List ℕ) (c : ℕ) → first_there k cs ≡ Some c → session_of (client_at k c) ≡ None → ⊥
@@ -89,7 +84,7 @@ module _ (p : Image) (m : Parts) (t : Typing) (s : State) (typed : WellTyped p t
   its c = Elsewhere (Session n c)
 
   none_there : (c : ℕ) → server_of (client_at m.clients c) ≡ Some n → has_cell (client_at m.clients c) ≡ false → held s.cells (its c) ≡ None
-  none_there c at gone = nothing_held p m t s typed agrees (its c) (sym (shows_none n (client_at m.clients c) at gone) ∙ agrees.values (its c))
+  none_there c at gone = grind (arith, nat_tests, nothing_held p m t s typed agrees, shows_none n)
 
   -- the seat of the session of that client, whose number is that
   pub record IsSeat (c r : ℕ) (o : Option Seat) : Type 0 where
@@ -109,11 +104,7 @@ module _ (p : Image) (m : Parts) (t : Typing) (s : State) (typed : WellTyped p t
   first_with c cs all = all c (ap (λ b. b || is_among c cs) (eq-eqb c c refl))
 
   rest_with : (c : ℕ) (cs : List ℕ) → With (c ∷ cs) → With cs
-  rest_with c cs all d among = all d (or_true (c == d) among)
-    where
-      or_true : (a : Bool) {b : Bool} → b ≡ true → (a || b) ≡ true
-      or_true true e = refl
-      or_true false e = e
+  rest_with c cs all d among = grind (arith, nat_tests)
 
   -- where the machine finds none, none is there
   none_first : (cs : List ℕ) → With cs → first_there m.clients cs ≡ None → first_session s.cells n cs ≡ None
@@ -150,7 +141,7 @@ module _ (p : Image) (m : Parts) (t : Typing) (s : State) (typed : WellTyped p t
     own_with c among = sym (server_same (client_at m.clients c)) ∙ ap server_of (agrees.services.clients.at c) ∙ fit.sessions n c among
 
     pub no_session : first_there m.clients (sessions_at m.clients n) ≡ None → first_session s.cells n (service_of s.cells n).sessions ≡ None
-    no_session e = none_first (service_of s.cells n).sessions own_with (ap (first_there m.clients) (sym (agrees.services.clients.sessions n)) ∙ e)
+    no_session e = grind (arith, nat_tests, none_first, own_with)
 
     pub its_session :
         (c r : ℕ) → first_there m.clients (sessions_at m.clients n) ≡ Some c → session_of (client_at m.clients c) ≡ Some r → (r ≡ null → ⊥) →

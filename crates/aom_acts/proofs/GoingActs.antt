@@ -1,24 +1,25 @@
 -- How a destruction begins, and the going of a cell.
+use Rattle.std.proofs.lemmas.Bool.Decides.{nat_tests}
 use Rattle.aom_families.proofs.Inheriting.{families_inherit}
 use Rattle.aom_image.specs.declared.method.Role.TheVariants.{Destruct}
 use Rattle.aom_image.specs.Views.{method_class, class_in}
 use Rattle.aom_frames.specs.declared.view.View.{View}
-use Rattle.aom_frames.specs.Views.{view_in, own}
-use Rattle.std.proofs.Common.{Bool, suc, ◌≡◌, ℕ, ℤ, ◌<◌, true, cond, not, ◌==◌, length, List, [], ◌∷◌, Option, Some, None, slice_set, slice_index_or, refl, sym, ap, ◌∙◌, subst, arith, false}
+use Rattle.aom_frames.specs.Views.{own}
+use Rattle.std.proofs.Common.{Bool, suc, ◌≡◌, ℕ, ℤ, ◌<◌, true, cond, length, List, [], ◌∷◌, Option, Some, None, slice_set, slice_index_or, refl, sym, ap, ◌∙◌, subst, arith, false}
 use Rattle.aom_image.proofs.Given.{some_given}
-use Rattle.std.proofs.lemmas.Option.{none-some, same_Some}
-use Rattle.std.proofs.lemmas.Bool.{and_parts, eqb-true, eq-eqb, false≢true}
+use Rattle.std.proofs.lemmas.Option.{same_Some}
+use Rattle.std.proofs.lemmas.Bool.{eqb-true, eq-eqb}
 use Rattle.std.proofs.lemmas.List.{length-set}
 use Rattle.aom_image.specs.Image.{Image}
 use Rattle.aom_instructions.specs.declared.instr.Instr.TheVariants.{Delete}
 use Rattle.aom_image.specs.declared.method.Thing.{Thing}
 use Rattle.aom_image.specs.declared.method.Thing.TheVariants.{Message, Object as An_object_of}
-use Rattle.aom_cells.specs.Heap.{Heap, null, cell_at, class_at, class_of, field_of, field_at, Changes}
+use Rattle.aom_cells.specs.Heap.{Heap, null, cell_at, class_at, class_of, field_at, Changes}
 use Rattle.aom_cells.specs.declared.cell.Cell.{Cell as Held_cell}
 use Rattle.aom_rules.specs.Typing.{Typing}
 use Rattle.aom_sound.specs.Places.{Place, Register, Field, Going, Elsewhere, Root, same_place, Object, Cell, held, named, moved, changed}
 use Rattle.aom_sound.specs.Effects.{applied, deletes}
-use Rattle.aom_sound.specs.State.{Home, Inside, frame_as, frame_of, home_view, word, set_word, Dispatch, Of_root, Task, Run, Closing, Destroy, Dispatched, resumed, Rest, State, raised}
+use Rattle.aom_sound.specs.State.{Home, frame_as, frame_of, home_view, word, set_word, Dispatch, Of_root, Task, Run, Closing, Destroy, Dispatched, resumed, Rest, State, raised}
 use Rattle.aom_classes.specs.Roles.{destructor_of}
 use Rattle.aom_sound.specs.Destruction as checked
 use Rattle.aom_sound.specs.Destruction.{begun_by, is_field_of, owns_nothing}
@@ -39,12 +40,12 @@ use Rattle.aom_frames.specs.declared.task.Task.TheVariants.{Run as Runs_frame, D
 use Rattle.aom_frames.specs.declared.dispatch.Dispatch.{Dispatch as Held_dispatch}
 use Rattle.aom_frames.specs.declared.dispatch.Dispatch.TheVariants.{Root as End_of_run}
 use Rattle.aom_parts.specs.declared.parts.Parts.{Parts}
-use Rattle.aom_parts.specs.Places.{others, Others, value_in, register_in, going_in, with_tasks}
+use Rattle.aom_parts.specs.Places.{others, Others, value_in, going_in, with_tasks}
 use Rattle.aom_acts.specs.Going.{begun, destructed, destructor_in, destructor_at, dying, is_server_class, uprooted}
-use Rattle.aom_parts.specs.Agrees.{SameFrame, viewed, word_in, word_at, Shows, SameTasks, thing_in, number, Agrees}
+use Rattle.aom_parts.specs.Agrees.{word_at, Shows, SameTasks, thing_in, number, Agrees}
 use Rattle.aom_acts.specs.Acts.{requested, In_going, DoesIn}
-use Rattle.aom_parts.proofs.Values.{cases, same_length, kept, moves, at_depth, register_past, going_past, word_past, value_here, value_kept, value_written, word_next, word_written, destroys_value, destroys_word}
-use Rattle.aom_acts.proofs.Running.{begun_as, Aside, agrees_with, aside_moved, object_class, object_small, object_there, Top, by_top, reframed, moved_on, begun_frame, begun_registers, word_here, no_word, nothing_held, some_held}
+use Rattle.aom_parts.proofs.Values.{same_length, kept, moves, at_depth, register_past, going_past, word_past, value_here, value_kept, value_written, word_next, word_written, destroys_value, destroys_word}
+use Rattle.aom_acts.proofs.Running.{begun_as, Aside, agrees_with, aside_moved, object_class, object_small, object_there, Top, by_top, reframed, moved_on, begun_registers, word_here, no_word, nothing_held, some_held}
 use Rattle.aom_parts.proofs.Cells.{unowned}
 use Rattle.aom_acts.proofs.ObjectActs.{shown}
 use Rattle.aom_acts.proofs.WordActs.{plain_at}
@@ -53,37 +54,27 @@ use Rattle.aom_parts.proofs.Alike.{Alike, both_go, alike, by_task, by_tasks}
 
 -- a method at its first place shows nothing, and has no word
 pub fresh_with : (method this : ℕ) (view : View) (us : List Held_task) (h : Heap) (es : List Item) (rest : Others) (r : Place) → value_in (Runs_frame (with_view view (fresh method this)) ∷ us) h es rest r ≡ value_in us h es rest r
-fresh_with method this view us h es rest (Register d i) =
-    at_depth (length us) d (slice_index_or (fresh method this).registers i null) (register_in us d i) (λ k. register_past us d i (omega arith) ∙ sym (begun_registers method this i))
-fresh_with method this view us h es rest (Going d) = at_depth (length us) d null (going_in us d) (λ k. going_past us d (omega arith))
-fresh_with method this view us h es rest _ = refl
+fresh_with method this view us h es rest x = grind (arith, nat_tests, at_depth, register_past us, begun_registers method this, going_past us)
 
 pub fresh_value : (method this : ℕ) (us : List Held_task) (h : Heap) (es : List Item) (rest : Others) (r : Place) → value_in (Runs_frame (fresh method this) ∷ us) h es rest r ≡ value_in us h es rest r
 fresh_value method this us h es rest r = fresh_with method this own us h es rest r
 
 pub fresh_as : (method : ℕ) (home : Home) (view : Option ℕ) (height : ℕ) (ts : List Task) (r : Place) → word_at (Run (frame_as method home view height) ∷ ts) r ≡ word_at ts r
-fresh_as method home view height ts (Register d i) = at_depth (length ts) d None (word_in ts d i) (λ k. word_past ts d i (omega arith))
-fresh_as method home view height ts _ = refl
+fresh_as method home view height ts x = grind (arith, nat_tests, at_depth, word_past ts)
 
 pub fresh_word : (method : ℕ) (home : Home) (height : ℕ) (ts : List Task) (r : Place) → word_at (Run (frame_of method home height) ∷ ts) r ≡ word_at ts r
 fresh_word method home height ts r = fresh_as method home (home_view home) height ts r
 
 -- nor does what lets go of sessions
 pub closes_value : (us : List Held_task) (h : Heap) (es : List Item) (rest : Others) (r : Place) → value_in (Closes ∷ us) h es rest r ≡ value_in us h es rest r
-closes_value us h es rest (Register d i) = at_depth (length us) d null (register_in us d i) (λ k. register_past us d i (omega arith))
-closes_value us h es rest (Going d) = at_depth (length us) d null (going_in us d) (λ k. going_past us d (omega arith))
-closes_value us h es rest _ = refl
+closes_value us h es rest x = grind (arith, nat_tests, at_depth, register_past us, going_past us)
 
 pub closes_word : (ts : List Task) (r : Place) → word_at (Closing ∷ ts) r ≡ word_at ts r
-closes_word ts (Register d i) = at_depth (length ts) d None (word_in ts d i) (λ k. word_past ts d i (omega arith))
-closes_word ts _ = refl
+closes_word ts x = grind (arith, nat_tests, at_depth, word_past ts)
 
 -- the destructor that the machine finds is the one that the checked machine runs, and the class is one of servers for both
 unfold_class : (p : Image) (t : Thing) (c : Option Held_cell) → thing_in c ≡ Some t → (destructor_in p (class_of c) ≡ destructor_of p t) × (is_server_class p (class_of c) ≡ is_server p t)
-unfold_class p t c e = some_given (λ c. thing_in c ≡ Some t) c e (λ none. none-some _ none) (λ x is same. (
-  ap (λ c. destructor_in p (class_of c)) is ∙ ap (destructor_of p) (same_Some _ _ same),
-  ap (λ c. is_server_class p (class_of c)) is ∙ ap (is_server p) (same_Some _ _ same),
-))
+unfold_class p t c e = grind (arith, nat_tests, some_given, same_Some)
 
 module _ (p : Image) (m : Parts) (s : State) (agrees : Agrees p m s) (o : Object) (lives : named s.cells o.name ≡ Some o) (object : is_object o.thing ≡ true) where
   pub destructor_same : destructor_at p m.cells o.name ≡ destructor_of p o.thing
@@ -107,16 +98,7 @@ module _ (p : Image) (m : Parts) (v : State) (us : List Held_task) (ts : List Ta
   pub destructs : (d : Option ℕ) (o : Object) (height : ℕ) → ((k : ℕ) → d ≡ Some k → (c : ℕ) × (method_class p k ≡ Some c)) → n ≡ o.name → n < 4096 → SameTasks us ts → Aside p m v → DyingShows
       → Agrees p (with_tasks (destructed p d n (Destroys n ∷ us)) m) (record v { tasks = begun_by p d o height ts })
   destructs None o height of name small same aside values = agrees_with p m v (Destroys n ∷ us) (Destroy ∷ ts) aside (small, same) values
-  destructs (Some k) o height of name small same aside values =
-      let home = Inside o (Going (length ts)) in
-      let view = view_in (method_class p k) in
-      let class = of k refl in
-      let counts : viewed view home ≡ method_class p k = ap (λ x. viewed (view_in x) home) class.1 ∙ sym class.1 in
-      let frame = subst (λ x. SameFrame (with_view view (fresh k n)) (frame_as k home x height)) counts (begun_as k n home view height name (λ there. small)) in
-      agrees_with p m v (Runs_frame (with_view view (fresh k n)) ∷ Destroys n ∷ us) (Run (frame_as k home (method_class p k) height) ∷ Destroy ∷ ts) aside (frame, (small, same))
-      (λ q.
-      subst (λ x. Shows x (word_at (Run (frame_as k home (method_class p k) height) ∷ Destroy ∷ ts) q) (held v.cells q)) (sym (fresh_with k n view (Destroys n ∷ us) m.cells m.entries.items (others m) q))
-      (subst (λ w. Shows (value_in (Destroys n ∷ us) m.cells m.entries.items (others m) q) w (held v.cells q)) (sym (fresh_as k home (method_class p k) height (Destroy ∷ ts) q)) (values q)))
+  destructs (Some k) o height of name small same aside values = grind (arith, nat_tests, begun_as k n, agrees_with p m v, fresh_with k n, fresh_as k)
 
   -- or the sessions with it go first, where it is a server
   pub begins : (class : Option ℕ) (o : Object) (height : ℕ) → n ≡ o.name → n < 4096 → is_server_class p class ≡ is_server p o.thing → destructor_in p class ≡ destructor_of p o.thing → SameTasks us ts → Aside p m v → DyingShows
@@ -198,7 +180,7 @@ uproots p formed m t s x d o rest r typed agrees held_top top e same =
     let w = word_at (Dispatched d ∷ []) in
     let mid = record m { root = null; rest = record rest { clock = raised rest.clock } } in
     let v : State = record s { cells = moved (Elsewhere Root) (Going 1) s.cells; rest = r } in
-    let values : (q : Place) → Shows (old q) (w q) (held s.cells q) = λ q. subst (λ us. Shows (old q) (word_at us q) (held s.cells q)) top (subst (λ us. Shows (value_in us m.cells m.entries.items (others m) q) (word_at s.tasks q) (held s.cells q)) held_top (agrees.values q)) in
+    let values : (q : Place) → Shows (old q) (w q) (held s.cells q) = grind (arith, nat_tests) in
     let name : m.root ≡ o.name = values (Elsewhere Root) ∙ ap number e in
     let lives = held_lives s.cells (Elsewhere Root) o typed.good.tidy e in
     let cell = root_object p t s typed o e in
@@ -245,41 +227,30 @@ same_resumed = by_tasks (λ ms ts. SameTasks (going_on ms) (resumed ts)) tt (λ 
     }) m t same)
 
 pub value_resumed : (ms : List Held_task) (h : Heap) (es : List Item) (rest : Others) (r : Place) → value_in (going_on ms) h es rest r ≡ value_in ms h es rest r
-value_resumed (Runs_frame f ∷ ms) h es rest r = value_kept f ms h es rest (suc f.place) r
-value_resumed _ h es rest r = refl
+value_resumed x h es rest r = grind (arith, nat_tests, value_kept)
 
 pub word_resumed : (ts : List Task) (r : Place) → word_at (resumed ts) r ≡ word_at ts r
-word_resumed (Run fr ∷ ts) r = word_next fr ts (suc fr.place) r
-word_resumed _ r = refl
+word_resumed x r = grind (arith, nat_tests, word_next)
 
 -- no field of that cell owns
 pub nothing_owned : (cs : List Cell) (n f : ℕ) → owns_nothing cs n ≡ true → held cs (Field n f) ≡ None
 nothing_owned [] n f e = refl
-nothing_owned (c ∷ cs) n f e =
-    let both = and_parts (not (is_field_of n c.owner)) (owns_nothing cs n) e in
-    unowned c cs (Field n f) (is_field_of n) (eq-eqb n n refl) both.0 (nothing_owned cs n f both.1)
+nothing_owned (c ∷ cs) n f e = grind (arith, nat_tests, unowned c cs (Field n f), eq-eqb n n, nothing_owned cs n f)
 
 -- a place is written twice
 pub over : {A : Type 0} (f g : Place → A) (q : Place) (x y : A) → ((r : Place) → f r ≡ changed g q x r) → g q ≡ y → (r : Place) → changed f q y r ≡ g r
-over f g q x y ef e r = cases (same_place q r)
-    (λ b. ap (λ c. cond c y (f r)) b ∙ sym e ∙ ap g (same_place-true q r b))
-    (λ b. ap (λ c. cond c y (f r)) b ∙ ef r ∙ ap (λ c. cond c x (g r)) b)
+over f g q x y ef e r = grind (arith, nat_tests, same_place-true q r)
 
 -- the fields of a cell that owned nothing were null, and so they are where it is gone
 pub fields_gone : (us : List Held_task) (h h' : Heap) (es : List Item) (rest : Others) (n : ℕ) → ((f : ℕ) → field_at h n f ≡ null) → Changes h h' n None → (r : Place) → value_in us h' es rest r ≡ value_in us h es rest r
-fields_gone us h h' es rest n nulls ch (Field k g) = cases (n == k)
-    (λ e.
-    let same = eqb-true n k e in
-    ap (λ i. field_of (cell_at h' i) g) (sym same) ∙ ap (λ o. field_of o g) ch.here ∙ sym (nulls g) ∙ ap (λ i. field_of (cell_at h i) g) same)
-    (λ e. ap (λ o. field_of o g) (ch.others k (λ d. false≢true (sym e ∙ eq-eqb n k (sym d)))))
-fields_gone us h h' es rest n nulls ch _ = refl
+fields_gone us h h' es rest n nulls ch x = grind (arith, nat_tests, eqb-true n, eq-eqb n)
 
 -- its class, as its line shows it
 pub line_of : (o : Object) (class : ℕ) → o.thing ≡ An_object_of class → goes_line (Some o) ≡ Gone class ∷ []
 line_of o class e = ap (λ (t : Thing). goes_line (Some (record o { thing = t }))) e
 
 pub thing_is : (t : Thing) (class : ℕ) (c : Option Held_cell) → class_of c ≡ Some class → thing_in c ≡ Some t → t ≡ An_object_of class
-thing_is t class c e f = some_given (λ c. (class_of c ≡ Some class) × (thing_in c ≡ Some t)) c (e, f) (λ none. none-some _ none.0) (λ x is h. sym (same_Some _ _ h.1) ∙ ap An_object_of (same_Some _ _ h.0))
+thing_is t class c e f = grind (arith, nat_tests, some_given, same_Some)
 
 module _ (p : Image) (m : Parts) (h : In_going p m) (o : Object) where
   -- the number that goes is the object's

@@ -1,4 +1,5 @@
 -- A cell goes, and of a server all that clients have at it: its queue is completed, and the sessions with it end.
+use Rattle.std.proofs.lemmas.Bool.Decides.{nat_tests}
 use Rattle.std.proofs.Common.{Bool, inl, inr, not, List, None, Option, Some, [], ap, arith, cond, false, length, refl, subst, suc, sym, true, ℕ, ◌++◌, ◌+◌, ◌<◌, ◌==◌, ◌||◌, ◌∙◌, ◌∷◌, ◌≡◌, ◌≤◌}
 use Rattle.std.specs.Prelude.{IsSome, flat_map, is_some, map}
 use Rattle.std.proofs.lemmas.Bool.{and_parts, eq-eqb, eqb-true, false≢true}
@@ -9,7 +10,7 @@ use Rattle.aom_cells.specs.Heap.{Changes, Heap, Lives, cell_at, class_at, count,
 use Rattle.aom_clients.specs.Clients as kept
 use Rattle.aom_clients.specs.Table.{at_gone, server_of}
 use Rattle.aom_clients.specs.declared.client.Client.{Client}
-use Rattle.aom_clients.specs.declared.client.Client.TheVariants.{Closing, Connecting, Dead, Dying, Gone as Is_gone, Open, Unconnected}
+use Rattle.aom_clients.specs.declared.client.Client.TheVariants.{Unconnected}
 use Rattle.aom_clients.specs.declared.entry.Entry.{Entry}
 use Rattle.aom_clients.specs.declared.entry.Entry.TheVariants.{Close, Connect, Message}
 use Rattle.aom_frames.specs.Tasks.{below_first}
@@ -30,7 +31,7 @@ use Rattle.aom_sound.specs.Destruction.{is_field_of, owns_nothing, vanished}
 use Rattle.aom_sound.specs.Kept.{IsKept, QueueFits}
 use Rattle.aom_sound.specs.Lines.{queue_lines}
 use Rattle.aom_sound.specs.Moves.{goes_line}
-use Rattle.aom_sound.specs.Places.{Cell, Elsewhere, Entry as Entry_at, Field, Going, In_service, Object, Place, Queued, Register, Request, Root, Service, Session, Tidy, changed, held, named, requested, service_of, without}
+use Rattle.aom_sound.specs.Places.{Cell, Elsewhere, Field, Going, Object, Place, Queued, Request, Service, Session, Tidy, changed, held, named, requested, service_of, without}
 use Rattle.aom_sound.specs.Requests.{Suits, resting_in, states_claim, thing_kind}
 use Rattle.aom_sound.specs.Servers.{is_among, is_queue, is_queue_of, without_queue}
 use Rattle.aom_sound.specs.State.{Destroy, State, Task, resumed}
@@ -94,8 +95,7 @@ all_kept store (Connect c ∷ es) once there = (tt, tt, all_kept store es once t
 all_kept store (Message k ∷ es) once there = (there k (ap (λ b. b || is_among k (places_in es)) (eq-eqb k k refl)), sym (is_there es k) ∙ once.0, all_kept store es once.1 (λ m h. there m (later (k == m) (is_among m (places_in es)) h)))
   where
     later : (a b : Bool) → b ≡ true → (a || b) ≡ true
-    later true b h = refl
-    later false b h = h
+    later x b h = grind arith
 all_kept store (Close c ∷ es) once there = (tt, tt, all_kept store es once there)
 
 -- the lines of entries are told alike
@@ -113,13 +113,7 @@ NoCell s c = (i : ℕ) → session_with i (kept.client_at s c) ≡ null
 
 -- one that has none is at something else
 set_same : (s s' : kept.State) (c : ℕ) (to : Client) → s'.clients ≡ (kept.with_client c to s).clients → (length s.clients ≤ c → to ≡ Unconnected) → NoCell s c → ((i : ℕ) → session_with i to ≡ null) → SessionsSame s s'
-set_same s s' c to is past was none i d =
-    ap (λ cs. session_with i (kept.client_at (record s { clients = cs }) d)) is
-    ∙ ap (session_with i) (at_set_or Unconnected s.clients c d to past) ∙ go (c == d) refl
-  where
-    go : (b : Bool) → (c == d) ≡ b → session_with i (cond b to (kept.client_at s d)) ≡ session_with i (kept.client_at s d)
-    go true e = none i ∙ sym (was i) ∙ ap (λ j. session_with i (kept.client_at s j)) (eqb-true c d e)
-    go false e = refl
+set_same s s' c to is past was none i d = grind (arith, nat_tests, at_set_or Unconnected s.clients c d to past, eqb-true c d)
 
 none_then : (s s' : kept.State) → SessionsSame s s' → (c : ℕ) → NoCell s c → NoCell s' c
 none_then s s' same c none i = same i c ∙ none i
@@ -254,49 +248,27 @@ module _ (p : Image) (m : Parts) (h : In_going p m) (o : Object) (holds : held h
 
   -- so those that have sessions with it, or connect, have no number
   other_null : (server i x : ℕ) → Some server ≡ Some n → cond (server == n) x null ≡ null → cond (server == i) x null ≡ null
-  other_null server i x e none = go (server == i) refl
-    where
-      its : server ≡ n
-      its = cc
-
-      go : (b : Bool) → (server == i) ≡ b → cond b x null ≡ null
-      go false f = refl
-      go true f = sym (ap (λ b. cond b x null) (eq-eqb server n its)) ∙ none
+  other_null server i x e none = grind (arith, nat_tests, eq-eqb server)
 
   none_with : (x : Client) → server_of x ≡ Some n → session_with n x ≡ null → (i : ℕ) → session_with i x ≡ null
-  none_with (Open server session slots) with_it none i = other_null server i (session_number session) with_it none
-  none_with (Closing server session) with_it none i = other_null server i (session_number session) with_it none
-  none_with (Dying server session) with_it none i = other_null server i (session_number session) with_it none
-  none_with Unconnected with_it none i = refl
-  none_with (Connecting server slots) with_it none i = refl
-  none_with Is_gone with_it none i = refl
-  none_with Dead with_it none i = refl
+  none_with x with_it none i = grind (arith, nat_tests, other_null)
 
   server_sessionless : (x : Client) → server_of (sessionless x) ≡ server_of x
-  server_sessionless (Open server session slots) = refl
-  server_sessionless (Closing server session) = refl
-  server_sessionless (Dying server session) = refl
-  server_sessionless Unconnected = refl
-  server_sessionless (Connecting server slots) = refl
-  server_sessionless Is_gone = refl
-  server_sessionless Dead = refl
+  server_sessionless x = grind arith
 
   none_listed : (cs : List ℕ) → ((c : ℕ) → is_among c cs ≡ true → is_among c (kept.sessions_at k n) ≡ true) → NoneOf k cs
   none_listed [] listed = tt
   none_listed (c ∷ cs) listed = (
-    none_with (kept.client_at k c) (sym (server_sessionless (kept.client_at k c)) ∙ ap server_of (same.at c) ∙ h.kept.fit.sessions n c (ap (is_among c) (sym (same.sessions n)) ∙ listed c (ap (λ b. b || is_among c cs) (eq-eqb c c refl)))) (none_at c),
+    grind (arith, nat_tests, none_with, server_sessionless, eq-eqb c c, none_at c),
     none_listed cs (λ d e. listed d (later (c == d) (is_among d cs) e)),
   )
     where
       later : (a b : Bool) → b ≡ true → (a || b) ≡ true
-      later true b e = refl
-      later false b e = e
+      later x b e = grind arith
 
   quiet_here : (es : List Entry) → QueueFits s.clients n (map (asked_by k.places) es) → Quiet k es
   quiet_here [] fits = tt
-  quiet_here (Connect c ∷ es) fits =
-      let at = connecting_here k s.cells s.clients same n c fits.0.0 in
-      (λ i. ap (session_with i) at.1, quiet_here es fits.1)
+  quiet_here (Connect c ∷ es) fits = grind (arith, nat_tests, connecting_here, same, quiet_here es fits.1)
   quiet_here (Message j ∷ es) fits = quiet_here es fits.1
   quiet_here (Close c ∷ es) fits = quiet_here es fits.1
 
@@ -345,14 +317,7 @@ module _ (p : Image) (m : Parts) (h : In_going p m) (o : Object) (holds : held h
         (each_unslotted_alike xs gone).held_so r ∙ held_without unqueued g r ∙ ap (λ o. changed (λ q. o) g None r) (unqueued_holds r apart) ∙ sym (held_without s.cells g r)
 
     in_no_queue : (r : Place) → ((i j : ℕ) → r ≡ Elsewhere (Queued i j) → ⊥) → is_queue r ≡ false
-    in_no_queue (Register d i) aside = refl
-    in_no_queue (Entry_at i) aside = refl
-    in_no_queue (Field i f) aside = refl
-    in_no_queue (Going i) aside = refl
-    in_no_queue (Elsewhere Root) aside = refl
-    in_no_queue (Elsewhere (Session i c)) aside = refl
-    in_no_queue (Elsewhere In_service) aside = refl
-    in_no_queue (Elsewhere (Queued i j)) aside = absurd (aside i j refl)
+    in_no_queue y aside = grind arith
 
     shows_before : (r : Place) → Shows (value_in (going_on ms) heap m.entries.items (others m) r) (word_at (resumed ts) r) (held (without g s.cells) r)
     shows_before =

@@ -1,5 +1,6 @@
 -- The cell of the method that runs lives, and where an instruction reads or writes its words there is one.
-use Rattle.std.proofs.Common.{List, ◌≡◌, ℕ, [], Some, sym, ap, ◌∙◌, subst}
+use Rattle.std.proofs.lemmas.Bool.Decides.{nat_tests}
+use Rattle.std.proofs.Common.{arith, List, ◌≡◌, ℕ, [], Some, subst}
 use Rattle.aom_image.specs.Image.{Image}
 use Rattle.aom_image.specs.Views.{instr_at}
 use Rattle.aom_instructions.specs.declared.instr.Instr.{Instr}
@@ -9,7 +10,7 @@ use Rattle.aom_shape.specs.Needs.{AllTrue}
 use Rattle.aom_sound.specs.State.{Choice, Frame, State, Task}
 use Rattle.aom_sound.specs.Moves.{needs}
 use Rattle.aom_sound.specs.WellTyped.{Keeps}
-use Rattle.aom_frames.specs.Tasks.{Runs, method_here}
+use Rattle.aom_frames.specs.Tasks.{Runs}
 use Rattle.aom_parts.specs.declared.parts.Parts.{Parts}
 use Rattle.aom_acts.specs.Acts.{At_hand, requested}
 use Rattle.aom_parts.specs.Fields.{this, ThisLives}
@@ -36,7 +37,7 @@ module _ (p : Image) (m : Parts) where
   needs_met i next =
       let st = next.stands in
       let f = frame_of m.stack.tasks st.0.tasks next.runs st.1.agrees.tasks in
-      let e : instr_at p f.0.method f.0.place ≡ Some i = ap (λ k. instr_at p k f.0.place) (sym f.3) ∙ ap (λ k. instr_at p (method_here m.stack.tasks) k) (sym f.4) ∙ next.here in
+      let e : instr_at p f.0.method f.0.place ≡ Some i = grind (arith, nat_tests) in
       let c = an_open p [] (counting next.counts m) st.0 st.1.agrees in
       let k = met p st.1.typing _ _ (subst (Keeps p st.1.typing) (step_of_instr p c.0 st.0 f.0 f.1 i f.2 e) (st.1.sound.keeps c.0 st.0 st.1.typed c.1.name)) in (
         c.0,

@@ -1,16 +1,17 @@
 -- A leave: the methods over the trap end, and nothing of theirs is owned.
-use Rattle.std.proofs.Common.{pos, ◌≡◌, ◌<◌, ◌≤◌, ℕ, ℤ, true, false, cond, not, length, List, [], ◌∷◌, None, refl, sym, ap, ◌∙◌, subst, arith}
+use Rattle.std.proofs.lemmas.Bool.Decides.{nat_tests}
+use Rattle.std.proofs.Common.{pos, ◌≡◌, ◌<◌, ◌≤◌, ℕ, ℤ, true, false, cond, length, List, [], ◌∷◌, None, refl, sym, ap, ◌∙◌, subst, arith}
 use Rattle.std.proofs.lemmas.Bool.{eq-eqb, and_parts}
 use Rattle.std.specs.Int.{w32, cast_signed}
 use Rattle.std.specs.Prelude.{int_lt, is_some}
 use Rattle.aom_image.specs.Image.{Image}
 use Rattle.aom_instructions.specs.declared.instr.Instr.TheVariants.{Leave, LeaveIf}
 use Rattle.aom_shape.specs.Needs.{AllTrue}
-use Rattle.aom_cells.specs.Heap.{Heap, null}
+use Rattle.aom_cells.specs.Heap.{Heap}
 use Rattle.aom_cleanup.specs.declared.item.Item.{Item}
-use Rattle.aom_sound.specs.Calls.{is_register_but, none_owns_but}
+use Rattle.aom_sound.specs.Calls.{none_owns_but}
 use Rattle.aom_sound.specs.Cleanup.{above_trap_is_free, leave_needs, to_trap}
-use Rattle.aom_sound.specs.Places.{Place, Register, Going, Cell, held}
+use Rattle.aom_sound.specs.Places.{Place, Register, Cell, held}
 use Rattle.aom_sound.specs.Effects.{Leaves, Same, applied, updates}
 use Rattle.aom_sound.specs.State.{Closing, Task, Run, Trapped, Destroy, Unwind, Dispatched, State, word, Frame}
 use Rattle.aom_sound.specs.Words.{read}
@@ -21,7 +22,7 @@ use Rattle.aom_parts.specs.declared.parts.Parts.{Parts}
 use Rattle.aom_acts.specs.Acts.{At_hand, leaving, Does}
 use Rattle.aom_parts.specs.Places as places
 use Rattle.aom_parts.specs.Places.{others, Others, value_in, register_in, going_in}
-use Rattle.aom_parts.specs.Agrees.{word_in, word_at, Shows, SameTasks, Agrees}
+use Rattle.aom_parts.specs.Agrees.{word_at, Shows, SameTasks, Agrees}
 use Rattle.aom_parts.proofs.Alike.{A_method, Tops, method_on_top, tops}
 use Rattle.aom_parts.proofs.Cells.{unowned}
 use Rattle.aom_acts.proofs.ReturnActs.{beneath, cleared_none}
@@ -31,20 +32,15 @@ use Rattle.aom_parts.proofs.Values.{at_depth, going_past, register_past, same_le
 
 -- a leave is no place
 pub unwinds_value : (us : List Held_task) (h : Heap) (es : List Item) (rest : Others) (code : ℤ) (r : Place) → value_in (Unwinds code ∷ us) h es rest r ≡ value_in us h es rest r
-unwinds_value us h es rest code (Register d i) = at_depth (length us) d null (register_in us d i) (λ k. register_past us d i (omega arith))
-unwinds_value us h es rest code (Going k) = at_depth (length us) k null (going_in us k) (λ e. going_past us k (omega arith))
-unwinds_value us h es rest code _ = refl
+unwinds_value us h es rest code x = grind (arith, nat_tests, at_depth, register_past us, going_past us)
 
 pub unwinds_word : (us : List Task) (code : ℤ) (r : Place) → word_at (Unwind code ∷ us) r ≡ word_at us r
-unwinds_word us code (Register d i) = at_depth (length us) d None (word_in us d i) (λ k. word_past us d i (omega arith))
-unwinds_word us code _ = refl
+unwinds_word us code x = grind (arith, nat_tests, at_depth, word_past us)
 
 -- a frame whose registers own nothing
 pub none_owned : (cs : List Cell) (d i : ℕ) → none_owns_but cs d None ≡ true → held cs (Register d i) ≡ None
 none_owned [] d i e = refl
-none_owned (c ∷ cs) d i e =
-    let both = and_parts (not (is_register_but d None c.owner)) (none_owns_but cs d None) e in
-    unowned c cs (Register d i) (is_register_but d None) (eq-eqb d d refl) both.0 (none_owned cs d i both.1)
+none_owned (c ∷ cs) d i e = grind (arith, nat_tests, unowned c cs (Register d i), eq-eqb d d, none_owned cs d i)
 
 -- a leave is one task in the place of some
 pub to_trap_shorter : (us : List Held_task) → Runs us → length (held_to_trap us) < length us
@@ -109,7 +105,7 @@ module _ (m : Parts) (refused : List ℕ) where
       subst (λ b. Agrees p (leaving (cast_signed w32 (register_here m.stack.tasks a)) m) (applied p h.frame h.below h.state (cond b (Leaves (read h.frame h.below h.state a) Same) (updates h.frame Same)))) (sym below) (left_with p h a met.0 free.1.0))
 
   pub leave_if_leaves : (a : ℕ) (code : ℤ) → code ≡ cast_signed w32 (register_here m.stack.tasks a) → int_lt code (pos 0) ≡ true → Does refused (LeaveIf a) m (leaving code m)
-  leave_if_leaves a code e less = subst (λ w. Does refused (LeaveIf a) m (leaving w m)) (sym e) (left_negative a (ap (λ w. int_lt w (pos 0)) (sym e) ∙ less))
+  leave_if_leaves a code e less = grind (arith, nat_tests, left_negative a)
 
   pub leave_if_stays : (a : ℕ) → int_lt (cast_signed w32 (register_here m.stack.tasks a)) (pos 0) ≡ false → Does refused (LeaveIf a) m (places.next m)
   leave_if_stays a more = plain_does m (places.next m) refused (LeaveIf a) refl (λ p h c met.

@@ -1,12 +1,13 @@
 -- The sessions with a server that goes: the first that is there is at hand to go before it, and once none is left its destructor runs.
-use Rattle.std.proofs.Common.{Bool, List, None, Option, Some, [], ap, append-nil, arith, cond, false, inl, inr, length, refl, subst, suc, sym, true, ℕ, ◌+◌, ◌++◌, ◌<◌, ◌==◌, ◌∙◌, ◌∷◌, ◌≡◌, ◌≤◌, ◌⊎◌}
+use Rattle.std.proofs.lemmas.Bool.Decides.{nat_tests}
+use Rattle.std.proofs.Common.{Bool, List, None, Option, Some, [], ap, append-nil, arith, cond, false, length, refl, subst, suc, sym, true, ℕ, ◌+◌, ◌++◌, ◌<◌, ◌∙◌, ◌∷◌, ◌≡◌, ◌≤◌}
 use Rattle.std.proofs.lemmas.Bool.{cases_lt, eq-eqb, eqb-true}
 use Rattle.std.proofs.lemmas.List.{get_or_past}
 use Rattle.aom_cells.specs.Heap.{Lives, class_at, null}
 use Rattle.aom_clients.specs.Clients as kept
 use Rattle.aom_clients.specs.Table.{has_cell, server_of, session_of}
 use Rattle.aom_clients.specs.declared.client.Client.{Client}
-use Rattle.aom_clients.specs.declared.client.Client.TheVariants.{Closing as Closes_client, Dying, Open, Unconnected}
+use Rattle.aom_clients.specs.declared.client.Client.TheVariants.{Unconnected}
 use Rattle.aom_frames.specs.declared.task.Task.{Task as Held_task}
 use Rattle.aom_frames.specs.declared.task.Task.TheVariants.{Closing as Closes, Destroy as Destroys}
 use Rattle.aom_image.specs.Image.{Image}
@@ -29,7 +30,7 @@ use Rattle.aom_parts.proofs.Servicing.{same_released}
 use Rattle.aom_parts.proofs.Sizing.{sized_released}
 use Rattle.aom_parts.proofs.Values.{going_past, same_length}
 use Rattle.aom_parts.specs.Agrees.{Agrees, SameTasks, Shows, number, word_at}
-use Rattle.aom_parts.specs.Places.{IsClosing, IsDestroying, going_here, others, going_in, session_number, session_with, value_in, with_tasks}
+use Rattle.aom_parts.specs.Places.{IsClosing, IsDestroying, going_here, others, going_in, session_with, value_in, with_tasks}
 use Rattle.aom_parts.specs.Stands.{Stands}
 use Rattle.aom_parts.specs.declared.parts.Parts.{Parts}
 use Rattle.aom_acts.proofs.Ends.{at_close}
@@ -93,14 +94,10 @@ module _ (p : Image) (formed : WellFormed p) (m : Parts) (announced : m.rest.ann
   vs = Closing ∷ Destroy ∷ e.below
 
   old : (q : Place) → Shows (value_in us m.cells m.entries.items (others m) q) (word_at vs q) (held s.cells q)
-  old q =
-      subst (λ l. Shows (value_in l m.cells m.entries.items (others m) q) (word_at vs q) (held s.cells q)) e.held_top
-      (subst (λ l. Shows (value_in m.stack.tasks m.cells m.entries.items (others m) q) (word_at l q) (held s.cells q)) e.top (agrees.values q))
+  old q = grind (arith, nat_tests)
 
   under : (q : Place) → Shows (value_in (Destroys x ∷ ms) m.cells m.entries.items (others m) q) (word_at (Destroy ∷ ts) q) (held s.cells q)
-  under q =
-      subst (λ v. Shows v (word_at (Destroy ∷ ts) q) (held s.cells q)) (closes_value (Destroys x ∷ ms) m.cells m.entries.items (others m) q)
-      (subst (λ w. Shows (value_in us m.cells m.entries.items (others m) q) w (held s.cells q)) (closes_word (Destroy ∷ ts) q) (old q))
+  under q = grind (arith, nat_tests, closes_value, closes_word, old q)
 
   deep : length ms ≡ length ts
   deep = same_length ms ts e.same
@@ -147,7 +144,7 @@ module _ (p : Image) (formed : WellFormed p) (m : Parts) (announced : m.rest.ann
     m' = record m { clients = kept.after_release c m.clients }
 
     seat : IsSeat p m t s typed agrees o.name c r (first_session s.cells o.name (service_of s.cells o.name).sessions)
-    seat = its_session p m t s typed agrees o.name fits.fit c r (ap (λ i. kept.first_there m.clients (kept.sessions_at m.clients i)) (sym number_is) ∙ first) its (λ n. absurd (omega (arith, small, n)))
+    seat = grind (arith, nat_tests, its_session p m t s typed agrees, number_is, small)
 
     abbrev from : Place
     from = Elsewhere (Session o.name c)
@@ -171,24 +168,10 @@ module _ (p : Image) (formed : WellFormed p) (m : Parts) (announced : m.rest.ann
     not_none n = absurd (omega (arith, small, n))
 
     client : c < length m.clients.clients
-    client = go (cases_lt c (length m.clients.clients))
-      where
-        go : (c < length m.clients.clients) ⊎ (length m.clients.clients ≤ c) → c < length m.clients.clients
-        go (inl less) = less
-        go (inr past) = absurd (not_none (sym shown ∙ ap (session_with o.name) (get_or_past m.clients.clients c Unconnected past)))
+    client = grind (arith, nat_tests, cases_lt c, not_none, shown, get_or_past m.clients.clients c Unconnected)
 
     with_it : server_of (kept.client_at m.clients c) ≡ Some o.name
-    with_it = go (kept.client_at m.clients c) shown
-      where
-        at : (server session : ℕ) (b : Bool) → (server == o.name) ≡ b → cond b session null ≡ r → Some server ≡ Some o.name
-        at server session true e shows = ap (λ i. Some i) (eqb-true server o.name e)
-        at server session false e shows = absurd (not_none (sym shows))
-
-        go : (z : Client) → session_with o.name z ≡ r → server_of z ≡ Some o.name
-        go (Open server session slots) shows = at server (session_number session) (server == o.name) refl shows
-        go (Closes_client server session) shows = at server (session_number session) (server == o.name) refl shows
-        go (Dying server session) shows = at server (session_number session) (server == o.name) refl shows
-        go _ shows = absurd (not_none (sym shows))
+    with_it = grind (arith, nat_tests, shown, eqb-true, not_none)
 
     abbrev to : Place
     to = Going (suc (suc (length e.below)))
@@ -220,7 +203,7 @@ module _ (p : Image) (formed : WellFormed p) (m : Parts) (announced : m.rest.ann
     goes_first =
         let name = seat.number in
         let deep_too = deep in
-        let empty : held s.cells to ≡ None = nothing_held p m t s typed agrees to (sym (ap (λ l. going_in l (suc (suc (length ts)))) e.held_top ∙ going_past us (suc (suc (length ts))) (omega (arith, deep_too))) ∙ agrees.values to) in
+        let empty : held s.cells to ≡ None = grind (arith, nat_tests, nothing_held p m t s typed agrees, going_past) in
         subst (λ f. Agrees p (with_tasks (dying p m.cells r us) m') (parting p o f ts (at_close s))) (sym seat.seat)
         (begins p m' v us vs r (class_at m.cells r) y (length s.items) name (object_small_there name)
         (ap (λ i. is_server_class p (class_at m.cells i)) name ∙ server_same p m s agrees y y_lives y_cell) (ap (λ i. destructor_at p m.cells i) name ∙ destructor_same p m s agrees y y_lives y_cell)
@@ -307,19 +290,11 @@ has_session_of x has none = grind arith
 
 -- none was taken
 none_taken : (k : kept.State) (cs : List ℕ) → session_there (kept.first_there k cs) k ≡ None → kept.first_there k cs ≡ None
-none_taken k cs none = go (kept.first_there k cs) refl none
-  where
-    go : (o : Option ℕ) → kept.first_there k cs ≡ o → session_there o k ≡ None → o ≡ None
-    go None e none = refl
-    go (Some c) e none = absurd (has_session_of (kept.client_at k c) (first_has k cs c e) none)
+none_taken k cs none = grind (arith, nat_tests, has_session_of, first_has k cs)
 
 -- or that of a client
 one_taken : (k : kept.State) (cs : List ℕ) (r : ℕ) → session_there (kept.first_there k cs) k ≡ Some r → (c : ℕ) × (kept.first_there k cs ≡ Some c) × (session_of (kept.client_at k c) ≡ Some r)
-one_taken k cs r some = go (kept.first_there k cs) refl some
-  where
-    go : (o : Option ℕ) → kept.first_there k cs ≡ o → session_there o k ≡ Some r → (c : ℕ) × (kept.first_there k cs ≡ Some c) × (session_of (kept.client_at k c) ≡ Some r)
-    go None e some = cc
-    go (Some c) e some = (c, e, some)
+one_taken k cs r some = grind (arith, nat_tests)
 
 below_shorter : (us : List Held_task) → length (below_first us) ≤ length us
 below_shorter [] = omega arith
@@ -364,7 +339,7 @@ module _ (p : Image) (m : Parts) (st : Stands (record { image = p; parts = m }))
       told_here = told ∙ ap (λ (k : Parts). session_there (kept.first_there k.clients (kept.sessions_at k.clients number)) k.clients) drop
 
       takes_here : taken ≡ record (with_tasks (below_first m.stack.tasks) m) { clients = released_by (kept.first_there m.clients (kept.sessions_at m.clients number)) m.clients }
-      takes_here = takes ∙ ap (λ (k : Parts). record k { clients = released_by (kept.first_there k.clients (kept.sessions_at k.clients number)) k.clients }) drop
+      takes_here = grind (arith, nat_tests, number)
 
       -- all but the clients
       pub cells_taken : taken.cells ≡ m.cells
@@ -377,7 +352,7 @@ module _ (p : Image) (m : Parts) (st : Stands (record { image = p; parts = m }))
       first_none none = none_taken m.clients (kept.sessions_at m.clients number) (sym told_here ∙ none)
 
       pub taken_none : result ≡ None → taken ≡ with_tasks (below_first m.stack.tasks) m
-      taken_none none = takes_here ∙ ap (λ o. record (with_tasks (below_first m.stack.tasks) m) { clients = released_by o m.clients }) (first_none none)
+      taken_none none = grind (arith, nat_tests, takes_here, first_none none)
 
       pub moves_none : (turn : Turn) (class : ℕ) (new : Parts) → result ≡ None → class_at taken.cells number ≡ Some class → new ≡ with_tasks (destructed p (destructor_in p (Some class)) number taken.stack.tasks) taken → Moves p m turn turn new
       moves_none turn class new none its new_is =

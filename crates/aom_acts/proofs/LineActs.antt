@@ -1,10 +1,11 @@
 -- A destructor returns to the going of its cell: the next of the line begins, if there is one.
-use Rattle.std.proofs.Common.{IsSome, List, None, Option, Some, ap, arith, cond, length, refl, subst, suc, sym, true, ℕ, ◌<◌, ◌∙◌, ◌∷◌, ◌≡◌}
+use Rattle.std.proofs.lemmas.Bool.Decides.{nat_tests}
+use Rattle.std.proofs.Common.{IsSome, List, None, Some, ap, arith, cond, length, refl, subst, sym, true, ℕ, ◌<◌, ◌∙◌, ◌∷◌, ◌≡◌}
 use Rattle.std.specs.Prelude.{is_some}
 use Rattle.std.proofs.lemmas.Bool.{eq-eqb}
 use Rattle.aom_image.proofs.Given.{some_given}
 use Rattle.aom_image.specs.Image.{Image}
-use Rattle.aom_image.specs.Views.{class_in, gives_of, instr_at, method_at, method_class}
+use Rattle.aom_image.specs.Views.{class_in, gives_of, method_at, method_class}
 use Rattle.aom_image.specs.declared.method.Gives.TheVariants.{Nothing}
 use Rattle.aom_image.specs.declared.method.Role.TheVariants.{Destruct}
 use Rattle.aom_instructions.specs.declared.instr.Instr.TheVariants.{Return}
@@ -15,8 +16,6 @@ use Rattle.aom_frames.specs.declared.frame.Frame.{Frame as Held_frame}
 use Rattle.aom_frames.specs.declared.task.Task.{Task as Held_task}
 use Rattle.aom_frames.specs.declared.task.Task.TheVariants.{Destroy as Destroys, Run as Runs_frame}
 use Rattle.aom_rules.specs.Calls.{parent_above}
-use Rattle.aom_shape.specs.Needs.{AllTrue}
-use Rattle.aom_shape.specs.Shape.{Shape}
 use Rattle.aom_sound.proofs.Finishing.{all_parts}
 use Rattle.aom_sound.proofs.Layers.{going_layer, method_layer}
 use Rattle.aom_sound.proofs.Storing.{ended_alike}
@@ -84,7 +83,7 @@ module _ (p : Image) (m : Parts) (refused : List ℕ) (a : ℕ) (act : Active) (
       let line = line_here h ts at in
       let agree = ended_agrees p m h act is_over in
       let alone : (i : ℕ) → held (past h).cells (Register (length (Destroy ∷ ts)) i) ≡ None =
-      λ i. still h _ ∙ none_owned h.state.cells (length (Destroy ∷ ts)) i (subst (λ g. none_owns_but h.state.cells (length (Destroy ∷ ts)) (result_source g a) ≡ true) line.3 free) in
+      grind (arith, nat_tests, still h, none_owned h.state.cells) in
       let waits = to_waiting p mid h.typing (past h) h.frame agree f a (Destroys x ∷ us) (Destroy ∷ ts) top alone in
       let deep : length us ≡ length ts = omega (arith, top.deep) in
       let there : value_in (Destroys x ∷ us) m.cells m.entries.items (others m) (Going (length ts)) ≡ x = ap (λ b. cond b x (going_in us (length ts))) (eq-eqb (length us) (length ts) deep) in

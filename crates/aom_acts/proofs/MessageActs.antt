@@ -1,4 +1,5 @@
 -- Instructions on messages: the one that is served comes to a register, and a client's message is completed.
+use Rattle.std.proofs.lemmas.Bool.Decides.{nat_tests}
 use Rattle.std.proofs.Common.{List, None, Option, Some, ap, arith, length, refl, subst, sym, true, ℕ, ℤ, ◌+◌, ◌++◌, ◌<◌, ◌∙◌, ◌∷◌, ◌≡◌}
 use Rattle.std.specs.Prelude.{is_some}
 use Rattle.std.proofs.lemmas.Bool.{false≢true}
@@ -24,13 +25,11 @@ use Rattle.aom_sound.proofs.Things.{stands_message}
 use Rattle.aom_sound.specs.Lines.{message_line}
 use Rattle.aom_sound.specs.Moves.{needs}
 use Rattle.aom_sound.specs.Objects.{is_thing}
-use Rattle.aom_sound.specs.Places.{Elsewhere, In_service, Object, Place, Register, Token, changed, held, moved, service_of, without}
+use Rattle.aom_sound.specs.Places.{Elsewhere, In_service, Object, Place, Register, changed, held, moved, service_of, without}
 use Rattle.aom_sound.specs.State.{Choice, Run, State, next, set_word}
 use Rattle.aom_sound.specs.Tokens.{order_in, redeemed_by, token_of}
 use Rattle.aom_sound.specs.Words.{read}
 use Rattle.aom_sound.proofs.Sources.{has_sender}
-use Rattle.std.proofs.lemmas.Option.{none-some}
-use Rattle.aom_parts.specs.Tokens.{class_in}
 use Rattle.aom_tokens.specs.Tokens.{class_at}
 use Rattle.aom_parts.specs.declared.parts.Parts.{Parts}
 use Rattle.aom_parts.specs.Places as places
@@ -109,12 +108,7 @@ replied p h a b order =
 -- where no token is at its place it is none
 module _ (p : Image) (m : Parts) (h : At_hand p m) (a : ℕ) (x : InRegister p m h a) (place : ℕ) (name : x.object.name ≡ message_name place) (sent : class_at m.tokens place ≡ None) where
   no_token_there : (service_of h.state.cells x.object.name).token ≡ None
-  no_token_there =
-      ap (λ n. (service_of h.state.cells n).token) name ∙ go (service_of h.state.cells (message_name place)).token (sym (h.agrees.services.tokens.classes place) ∙ sent)
-    where
-      go : (t : Option Token) → class_in t ≡ None → t ≡ None
-      go None e = refl
-      go (Some t) e = absurd (none-some t.class (sym e))
+  no_token_there = grind (arith, nat_tests)
 
   -- so no request waits for it, and it has a sender
   nothing_told : token_of h.state.cells (held h.state.cells (Register (length h.below) a)) ≡ None
@@ -168,10 +162,11 @@ module _ (m : Parts) where
 -- the register is null, the message is completed, and the method goes on
 module _ (m mid new : Parts) (told now : Turn) (n : ℕ) (code : ℤ) (a b : ℕ) (emptied : mid ≡ set_register a null m) (number_so : n ≡ register_here m.stack.tasks a) (completes : Completes n code mid new told now) where
   pub reply_done : (refused : List ℕ) (last : Parts) → class_at mid.tokens completes.place ≡ None → a < 16 → last ≡ places.next new → Does refused (Reply a b) m last
-  reply_done refused last sent small goes_on =
-      subst (λ x. Does refused (Reply a b) m x) (sym (goes_on ∙ ap places.next (completes.rest ∙ ap (λ (x : Parts). record x { clients = after_complete completes.place x.clients; messages = new.messages }) emptied)))
-      (reply_does m refused a b completes.place new.messages small (completes.number ∙ number_so) (subst (λ (x : Parts). class_at x.tokens completes.place ≡ None) emptied sent) (subst (λ (x : Parts). Changes x.messages new.messages completes.place None) emptied completes.released)
-      (completes.count ∙ ap (λ (x : Parts). count x.messages) emptied))
+  reply_done refused last sent small goes_on = grind (
+    arith,
+    nat_tests,
+    reply_does m refused a b completes.place new.messages small (completes.number ∙ number_so),
+  )
 
   pub reply_told : code ≡ cast_signed w32 (register_here m.stack.tasks b) → Tells (Reply a b) m told now
   reply_told read =

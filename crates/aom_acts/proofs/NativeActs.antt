@@ -1,5 +1,6 @@
 -- Instructions at a native: the machine's flags stand for the sessions that the checked machine then has.
-use Rattle.std.proofs.Common.{◌≡◌, ℕ, ℤ, Bool, true, false, length, List, ◌∷◌, Option, Some, None, refl, sym, ap, ◌∙◌, subst, arith}
+use Rattle.std.proofs.lemmas.Bool.Decides.{nat_tests}
+use Rattle.std.proofs.Common.{◌≡◌, ℕ, ℤ, Bool, true, false, length, List, Option, Some, None, refl, sym, ◌∙◌, subst, arith}
 use Rattle.aom_image.specs.Image.{Image}
 use Rattle.aom_image.specs.declared.class.ClassKind.{ClassKind}
 use Rattle.aom_instructions.specs.declared.instr.Instr.TheVariants.{Ask, Close, Connect}
@@ -11,16 +12,15 @@ use Rattle.aom_sessions.specs.Sessions.{Sets, Standing, is_killed, is_open}
 use Rattle.aom_sound.specs.Effects.{Sessioned, applied, sets, updates}
 use Rattle.aom_sound.specs.Natives.{connected, native_of, opens, replied, resessioned}
 use Rattle.aom_sound.specs.Places.{Register, held}
-use Rattle.aom_sound.specs.State.{Rest, Run}
+use Rattle.aom_sound.specs.State.{Rest}
 use Rattle.aom_sound.proofs.Requesting.{active_listed}
 use Rattle.aom_sound.proofs.Storing.{resessioned_alike, resessioned_requests}
 use Rattle.aom_frames.specs.Tasks.{on_top, with_register}
-use Rattle.aom_frames.specs.declared.task.Task.TheVariants.{Run as Runs_frame}
 use Rattle.aom_parts.specs.declared.parts.Parts.{Parts}
 use Rattle.aom_acts.specs.Acts.{At_hand, Does, DoesIn}
 use Rattle.aom_parts.specs.Places.{others, WritesWord, value_in}
 use Rattle.aom_parts.specs.Places as places
-use Rattle.aom_parts.specs.Agrees.{Agrees, SameNatives, Shows, word_at, heard_by}
+use Rattle.aom_parts.specs.Agrees.{Agrees, heard_by}
 use Rattle.aom_parts.specs.Fields.{this}
 use Rattle.aom_acts.specs.Next.{IsNext, counting}
 use Rattle.aom_parts.specs.Stands.{Stands}
@@ -28,7 +28,6 @@ use Rattle.aom_acts.specs.Requests.{kind_here}
 use Rattle.aom_parts.proofs.Asking.{requests_alike}
 use Rattle.aom_parts.proofs.Services.{services_resessioned}
 use Rattle.aom_parts.proofs.Still.{still_opened}
-use Rattle.aom_sound.specs.Places.{Service}
 use Rattle.aom_acts.proofs.GoingOn.{Beside, goes_on_as, goes_on_with, still_none, written}
 use Rattle.aom_acts.proofs.Housing.{needs_met}
 use Rattle.aom_acts.proofs.RequestActs.{OnObject, finds_cell, finds_object, heard_told, kind_told, on_object}
@@ -56,16 +55,10 @@ module _ (p : Image) (m : Parts) where
   close_lives next = finds_cell p m Close next (λ c fr ts s n. native_listed _ n.0)
 
   pub connect_served : (a : ℕ) → IsNext p (Connect a) m → is_native_kind (kind_here p m) ≡ true
-  connect_served a next =
-      let n = needs_met p m (Connect a) next in
-      let x = finds_object p m (Connect a) next (λ c fr ts s n. native_listed _ n.0) in
-      ap is_native_kind (sym (kind_told p _ _ x)) ∙ n.1.0
+  connect_served a next = grind (arith, nat_tests, needs_met p m (Connect a) next, finds_object p m (Connect a) next, native_listed, kind_told p)
 
   pub ask_served : (a b x : ℕ) → IsNext p (Ask a b x) m → is_native_kind (kind_here p m) ≡ true
-  ask_served a b x next =
-      let n = needs_met p m (Ask a b x) next in
-      let o = finds_object p m (Ask a b x) next (λ c fr ts s n. native_listed _ n.1.1.0) in
-      ap is_native_kind (sym (kind_told p _ _ o)) ∙ n.1.1.1.0
+  ask_served a b x next = grind (arith, nat_tests, needs_met p m (Ask a b x) next, finds_object p m (Ask a b x) next, native_listed, kind_told p)
 
   -- there is a place for the session of each cell
   pub same_places : {counts : Rest} → Stands (record { image = p; parts = counting counts m }) → length m.sessions.flags ≡ m.cells.limit
@@ -80,11 +73,16 @@ module _ (p : Image) (m : Parts) (h : At_hand p m) (on : OnObject p m h) (w : St
     stack = refl;
     cells = cells_resessioned p m.cells h.state.cells h.frame.home b h.agrees.cells;
     entries = h.agrees.entries;
-    requests = requests_alike p m.active h.state.cells (resessioned h.state.cells h.frame.home b) (λ n. resessioned_requests h.state.cells h.frame.home b n) (λ n. (resessioned_alike h.state.cells h.frame.home b).named_so n)
-        (λ n. ap (λ (v : Service). v.queue) ((still_opened h.state.cells h.frame.home b).services n)) h.agrees.requests;
+    requests = grind (
+      arith,
+      nat_tests,
+      requests_alike p m.active h.state.cells,
+      resessioned_requests h.state.cells h.frame.home b,
+      resessioned_alike h.state.cells h.frame.home b,
+      still_opened h.state.cells h.frame.home b,
+    );
     natives =
-        subst (λ home. SameNatives p w (resessioned h.state.cells home b) h.state.killed) (sym on.home)
-        (natives_set p m.sessions w h.state.killed h.state.cells on.object b on.lives (subst (λ k. Sets m.sessions w k b) on.number set) h.agrees.natives);
+        grind (arith, nat_tests, natives_set p m.sessions w h.state.killed h.state.cells on.object b on.lives);
     services = services_resessioned p h.state.cells h.frame.home b h.agrees.services;
     rest = h.agrees.rest;
     room = h.agrees.entry_room;
@@ -101,9 +99,7 @@ module _ (p : Image) (m : Parts) (h : At_hand p m) (on : OnObject p m h) (w : St
       (λ f ms e top. written p m h (record m { sessions = w }) cs a n (Some v) None x.small x.word f ms top (λ q. refl) (λ q. (resessioned_alike s.cells h.frame.home b).held_so q ∙ still_none p m h a none q)))
 
   session_passes : Agrees p (places.next (record m { sessions = w })) (applied p h.frame h.below h.state (updates h.frame (Sessioned b)))
-  session_passes =
-      goes_on_as p m h (record m { sessions = w }) (resessioned h.state.cells h.frame.home b) h.state.items h.state.rest beside
-      (λ f ms e top q. subst (λ o. Shows (value_in (Runs_frame f ∷ ms) m.cells m.entries.items (others m) q) (word_at (Run h.frame ∷ h.below) q) o) (sym ((resessioned_alike h.state.cells h.frame.home b).held_so q)) (top.values q))
+  session_passes = grind (arith, nat_tests, goes_on_as p m h, beside, resessioned_alike h.state.cells h.frame.home b)
 
 module _ (p : Image) (m new : Parts) (refused : List ℕ) (n : ℕ) (serves : native_of (kind_here p m) ≡ Some n) where
   pub connect_does : (a : ℕ) (w : Standing) → Sets m.sessions w (this m) (opens (is_killed m.sessions n) (is_open m.sessions (this m)) (heard_by m))

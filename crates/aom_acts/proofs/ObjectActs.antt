@@ -1,6 +1,7 @@
 -- Instructions on objects: a jump where there is none, a new cell, the destruction of nothing.
-use Rattle.std.proofs.Common.{inl, inr, ◌≡◌, ◌≢◌, ℕ, ◌<◌, ◌+◌, Bool, true, false, cond, ◌==◌, ◌||◌, ◌&&◌, length, List, ◌∷◌, Some, None, replicate, slice_index_or, refl, sym, ap, ◌∙◌, subst, arith, ℤ, pos}
-use Rattle.std.specs.Prelude.{is_none, nat_le}
+use Rattle.std.proofs.lemmas.Bool.Decides.{nat_tests}
+use Rattle.std.proofs.Common.{inl, inr, ◌≡◌, ◌≢◌, ℕ, ◌<◌, ◌+◌, Bool, true, false, cond, ◌==◌, length, List, ◌∷◌, Some, None, replicate, slice_index_or, refl, sym, ap, ◌∙◌, subst, arith, ℤ, pos}
+use Rattle.std.specs.Prelude.{is_none}
 use Rattle.std.specs.List.{list_any}
 use Rattle.std.proofs.lemmas.List.{length-replicate}
 use Rattle.std.proofs.lemmas.Bool.{eq-eqb, eqb-true, false≢true}
@@ -12,7 +13,7 @@ use Rattle.aom_image.specs.declared.method.Thing.TheVariants.{Object as An_objec
 use Rattle.aom_cells.specs.Heap.{Heap, null, cell_at, word_of, field_of, count, blank, Changes}
 use Rattle.aom_shape.specs.Tables.{at, put_at}
 use Rattle.aom_shape.specs.Things.{words_of}
-use Rattle.aom_sound.specs.Places.{Place, Register, Field, Cell, held, named, with_new, word_field, count_cells}
+use Rattle.aom_sound.specs.Places.{Place, Register, Field, Cell, held, with_new, word_field}
 use Rattle.aom_sound.specs.Effects.{applied, deletes, jumps_unless}
 use Rattle.aom_sound.specs.State.{word, next, set_word, Run, Rest, raised}
 use Rattle.aom_sound.specs.Moves.{is_refused, makes, makes_cell}
@@ -24,7 +25,7 @@ use Rattle.aom_frames.specs.declared.task.Task.TheVariants.{Run as Runs_frame}
 use Rattle.aom_parts.proofs.Asking.{requests_made}
 use Rattle.aom_parts.specs.declared.parts.Parts.{Parts}
 use Rattle.aom_parts.specs.Places.{Others, others, value_in, set_register}
-use Rattle.aom_parts.specs.Agrees.{Shows, number, SameCells, thing_in, thing_of, Agrees, heard_by}
+use Rattle.aom_parts.specs.Agrees.{Shows, number, SameCells, Agrees, heard_by}
 use Rattle.aom_acts.specs.Acts.{At_hand, requested, Does, DoesIn}
 use Rattle.aom_parts.specs.Cells.{refuses, refuses_entry, Made}
 use Rattle.aom_parts.specs.Places as places
@@ -48,14 +49,11 @@ module _ (m : Parts) (refused : List ℕ) where
   -- a jump unless a place owns something, by the number of what it owns
   pub jumps_empty : (p : Image) (h : At_hand p m) (r : Place) (to : ℕ) → number (held h.state.cells r) ≡ null
       → Agrees p (places.to_place to m) (applied p h.frame h.below h.state (jumps_unless h.frame (held h.state.cells r) to))
-  jumps_empty p h r to n =
-      subst (λ o. Agrees p (places.to_place to m) (applied p h.frame h.below h.state (jumps_unless h.frame o to)))
-      (sym (nothing_held p m h.typing h.state h.typed h.agrees r (sym n))) (jumps m refused p h to)
+  jumps_empty p h r to n = grind (arith, nat_tests, nothing_held p m h.typing h.state h.typed h.agrees r, jumps m refused p h to)
 
   pub passes_full : (p : Image) (h : At_hand p m) (r : Place) (to : ℕ) → (number (held h.state.cells r) ≡ null → ⊥)
       → Agrees p (places.next m) (applied p h.frame h.below h.state (jumps_unless h.frame (held h.state.cells r) to))
-  passes_full p h r to n =
-      subst (λ o. Agrees p (places.next m) (applied p h.frame h.below h.state (jumps_unless h.frame o to))) (sym (some_held _ n).1) (passes m refused p h)
+  passes_full p h r to n = grind (arith, nat_tests, some_held, passes m refused p h)
 
   pub jump_null_does : (a to : ℕ) → register_here m.stack.tasks a ≡ null → Does refused (JumpNull a to) m (places.to_place to m)
   jump_null_does a to is =
@@ -99,9 +97,7 @@ zeros p class = replicate (words_of p class) (pos 0)
 -- the cells with a new one
 cells_made : (p : Image) (h h' : Heap) (cs : List Cell) (n class : ℕ) (ws : List ℤ) (q : Place) → SameCells p h cs → ((w : ℕ) → at (pos 0) ws w ≡ pos 0) → class < 256 → cell_at h n ≡ None → n ≢ null → Changes h h' n (Some (blank class)) → count h' ≡ count h + 1 → n < h'.limit → SameCells p h' (with_new n (An_object_of class) ws q cs)
 cells_made p h h' cs n class ws q same zeros small none some ch more within = record {
-  things = λ k. cases (n == k)
-      (λ e. ap (λ i. thing_in (cell_at h' i)) (sym (eqb-true n k e)) ∙ ap thing_in ch.here ∙ ap (λ b. thing_of (cond b (Some (record { name = n; thing = An_object_of class })) (named cs k))) (sym e))
-      (λ e. ap thing_in (other k e) ∙ same.things k ∙ ap (λ b. thing_of (cond b (Some (record { name = n; thing = An_object_of class })) (named cs k))) (sym e));
+  things = grind (arith, nat_tests, eqb-true n);
   words = λ k w below. cases (n == k)
       (λ e. ap (λ i. word_of (cell_at h' i) w) (sym (eqb-true n k e)) ∙ ap (λ c. word_of c w) ch.here ∙ all_same 8 w (pos 0) ∙ sym (zeros w) ∙ ap (λ b. cond b (at (pos 0) ws w) (word_field cs k w)) (sym e))
       (λ e. ap (λ c. word_of c w) (other k e) ∙ same.words k w below ∙ ap (λ b. cond b (at (pos 0) ws w) (word_field cs k w)) (sym e));
@@ -110,9 +106,7 @@ cells_made p h h' cs n class ws q same zeros small none some ch more within = re
   wide = λ k c is. cases (n == k)
       (λ e. let it : blank class ≡ c = new k c e is in ap (λ z. length z.fields) (sym it) ∙ length-replicate 8 null)
       (λ e. same.wide k c (sym (other k e) ∙ is));
-  classes = λ k c is. cases (n == k)
-      (λ e. let it : blank class ≡ c = new k c e is in subst (λ z. z.class < 256) it small)
-      (λ e. same.classes k c (sym (other k e) ∙ is));
+  classes = grind (arith, nat_tests);
   null_is_none = ch.others null (λ d. some (sym d)) ∙ same.null_is_none;
   below = λ k c is. cases (n == k)
       (λ e. subst (λ i. i < h'.limit) (eqb-true n k e) within)
@@ -135,23 +129,10 @@ module _ (p : Image) (turn : Turn) (m : Parts) (h : At_hand p m) (i : Instr) (he
   is_named requests = list_any (λ n. n == raised requests) turn.refused
 
   pub same_refusal : makes (Some i) ≡ true → refuses turn m ≡ is_refused p turn.refused h.state
-  same_refusal cell =
-      let s = h.state in
-      ap (λ r. is_named r.requests || nat_le m.cells.limit (count m.cells)) h.agrees.rest
-      ∙ ap (λ l. is_named s.rest.requests || nat_le l (count m.cells)) h.agrees.cells.limit
-      ∙ ap (λ k. is_named s.rest.requests || nat_le p.header.cells k) h.agrees.cells.count
-      ∙ ap (λ b. is_named s.rest.requests || (b && nat_le p.header.cells (count_cells s.cells))) (sym (makes_here p m h i here ∙ cell))
+  same_refusal cell = grind (arith, nat_tests, makes_here p m h i here)
 
   pub same_entry_refusal : makes (Some i) ≡ false → refuses_entry turn m ≡ is_refused p turn.refused h.state
-  same_entry_refusal none =
-      let s = h.state in
-      ap (λ r. is_named r.requests) h.agrees.rest
-      ∙ alone (is_named s.rest.requests)
-      ∙ ap (λ b. is_named s.rest.requests || (b && nat_le p.header.cells (count_cells s.cells))) (sym (makes_here p m h i here ∙ none))
-    where
-      alone : (b : Bool) → b ≡ (b || false)
-      alone true = refl
-      alone false = refl
+  same_entry_refusal none = grind (arith, nat_tests, makes_here p m h i here)
 
 -- a new cell's number is below those of messages
 pub new_small : (p : Image) (m : Parts) (h : At_hand p m) (heap : Heap) (n class : ℕ) → Changes m.cells heap n (Some (blank class)) → n < heap.limit → n < 4096

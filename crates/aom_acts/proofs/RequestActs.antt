@@ -1,10 +1,9 @@
 -- Instructions on the request of what a method works on: the machine's table stands for the requests that the checked machine then has.
+use Rattle.std.proofs.lemmas.Bool.Decides.{nat_tests}
 use Rattle.aom_frames.specs.Views.{class_above}
-use Rattle.aom_shape.specs.Things.{holder_of}
 use Rattle.std.proofs.Common.{◌≡◌, ◌≢◌, ◌<◌, ◌==◌, ℕ, ℤ, Bool, true, false, cond, length, List, ◌∷◌, Option, Some, None, IsSome, refl, sym, ap, ◌∙◌, subst, arith}
 use Rattle.std.specs.Prelude.{is_some, option_map}
 use Rattle.std.specs.Int.{w32, cast_signed}
-use Rattle.std.specs.List.{list_any}
 use Rattle.std.proofs.lemmas.Bool.{eq-eqb, false≢true}
 use Rattle.std.proofs.lemmas.Option.{none-some, same_Some}
 use Rattle.aom_image.proofs.Given.{some_given}
@@ -20,7 +19,7 @@ use Rattle.aom_image.specs.declared.method.Thing.{Thing}
 use Rattle.aom_instructions.specs.declared.instr.Instr.{Instr}
 use Rattle.aom_instructions.specs.declared.instr.Instr.TheVariants.{Abort, Cancel, Enlist, Issue, JumpActive, JumpAdded, SetActive, Status}
 use Rattle.aom_sessions.specs.Sessions.{is_killed, is_open}
-use Rattle.aom_sound.specs.Natives.{has_died, is_served_by_dead, native_of, own_session, started}
+use Rattle.aom_sound.specs.Natives.{is_served_by_dead, native_of, own_session, started}
 use Rattle.aom_classes.specs.Roles.{or_else, role_of}
 use Rattle.aom_cells.specs.Heap.{null, Heap, Lives, cell_at, class_at, class_of}
 use Rattle.aom_cells.specs.declared.cell.Cell.{Cell as Held_cell}
@@ -29,10 +28,9 @@ use Rattle.aom_roles.specs.Shapes.{kind_of}
 use Rattle.aom_rules.specs.Requests.{is_active_kind, is_listed_kind}
 use Rattle.aom_shape.specs.Needs.{AllTrue}
 use Rattle.aom_requests.specs.Requests.{request_at, state_at, state_of, status_at}
-use Rattle.aom_requests.specs.Requests as table
 use Rattle.aom_requests.specs.declared.request.State.TheVariants.{Active as Held_active}
 use Rattle.aom_requests.specs.declared.request.Request.{Request as Held_request}
-use Rattle.aom_active.specs.Agrees.{Active, StandsFor, queue_in, queued}
+use Rattle.aom_active.specs.Agrees.{Active, StandsFor, queued}
 use Rattle.aom_active.specs.Meanings.{Enlists, Makes, Times, asked_anew, begun_with, is_being_cancelled, is_busy, is_waited_for}
 use Rattle.aom_active.proofs.Asking.{asked_set, newest, newest_timer, queued_same}
 use Rattle.aom_active.proofs.Telling.{held_state, standing_follows, told_active, told_busy, told_cancelling, told_enlisted, told_fresh, told_state, told_status}
@@ -40,8 +38,8 @@ use Rattle.aom_sound.specs.Effects.{applied, cancels_if, jumps_if, updates, Canc
 use Rattle.aom_parts.proofs.Heights.{stands_here}
 use Rattle.aom_sound.specs.Enlisted as enlisted
 use Rattle.aom_sound.specs.Enlisted.{aborted, begun_cells, cancel_method, cancel_of, cancelling, due_after, first_request, home_kind, in_phase, is_cancelling, is_idle, is_issued, issued_by, issued_of, next_order, next_timer, on_request, own_request, rerequested, status_of, thing_kind, waits, Asking, completed_at_once}
-use Rattle.aom_sound.specs.Places.{Register, Service, service_of, Cell, Idle, Issued, Object, Phase, Place, Request, held, in_session, named, requested, set_request}
-use Rattle.aom_sound.specs.State.{thing_holder, home_holder, AtRoot, Choice, Frame, Home, Inside, Rest, Run, State, Static, Task, frame_as, home_view, thing_view}
+use Rattle.aom_sound.specs.Places.{Register, Service, service_of, Cell, Idle, Issued, Object, Phase, Place, Request, in_session, named, requested, set_request}
+use Rattle.aom_sound.specs.State.{Choice, Frame, Home, Inside, Rest, Run, State, Task, frame_as}
 use Rattle.aom_sound.specs.Moves.{needs}
 use Rattle.aom_sound.specs.Words.{read, word_or_zero}
 use Rattle.aom_sound.proofs.Requesting.{active_listed, issuing_active}
@@ -49,7 +47,6 @@ use Rattle.aom_sound.proofs.Storing.{rerequested_alike}
 use Rattle.aom_sound.proofs.Services.{service_asked}
 use Rattle.aom_sound.specs.Requests.{Known, Suits}
 use Rattle.aom_sound.specs.Tokens.{awaited}
-use Rattle.aom_sound.specs.Servers.{has_more}
 use Rattle.aom_queues.specs.Lists.{Table}
 use Rattle.aom_parts.proofs.Services.{services_rerequested, services_rerequested_with}
 use Rattle.aom_parts.proofs.Tokens.{tokens_forgotten}
@@ -83,23 +80,27 @@ use Rattle.aom_parts.proofs.Sessions.{natives_rerequested}
 -- ---- the cells with another request of one of them
 
 pub cells_rerequested : (p : Image) (h : Heap) (cs : List Cell) (home : Home) (r : Option Request) → SameCells p h cs → SameCells p h (rerequested cs home r)
-cells_rerequested p h cs Static r same = same
-cells_rerequested p h cs AtRoot r same = same
-cells_rerequested p h cs (Inside o from) r same = cells_asked p h cs o.name r same
+cells_rerequested p h cs x r same = grind (arith, nat_tests, cells_asked p h cs)
 
 -- the table that has that request under its name stands for them
 pub requests_set : (p : Image) (old new : Active) (cs : List Cell) (o : Object) (r : Option Request) → named cs o.name ≡ Some o → new.table.limit ≡ old.table.limit → StandsFor new (asked_anew o.name r (requested cs)) (queued p cs) → SameRequests p old cs → SameRequests p new (set_request o.name r cs)
 requests_set p old new cs o r lives limit stands same = record {
-  stands = standing_follows new (asked_anew o.name r (requested cs)) (requested (set_request o.name r cs)) (queued p cs) (queued p (set_request o.name r cs)) (asked_set cs o.name r (ap is_some lives))
-      (λ n there. sym (queued_same p cs (set_request o.name r cs) (λ k. (rerequested_alike cs (Inside o (Register 0 0)) r).named_so k) (λ k. ap (λ (v : Service). v.queue) (service_asked cs o.name r k)) n)) stands;
+  stands = grind (
+    arith,
+    nat_tests,
+    standing_follows new,
+    asked_set cs o.name r,
+    queued_same p cs,
+    rerequested_alike cs (Inside o (Register 0 0)) r,
+    service_asked cs o.name r,
+  );
   limit = limit ∙ same.limit;
 }
 
 -- ---- what a test of a phase tells
 
 pub in_one : (test : Phase → Bool) (o : Option Request) → in_phase test o ≡ true → (r : Request) × (o ≡ Some r) × (test r.phase ≡ true)
-in_one test None e = absurd (false≢true e)
-in_one test (Some r) e = (r, refl, e)
+in_one test x e = grind arith
 
 pub idle_only : (x : Phase) → is_idle x ≡ true → x ≡ Idle
 idle_only x e = grind arith
@@ -113,13 +114,11 @@ waits_active h e = grind arith
 
 -- a change that keeps the order of a request
 order_kept : (f : Request → Request) → ((r : Request) → (f r).order ≡ r.order) → (o : Option Request) → option_map (λ x. x.order) (on_request f o) ≡ option_map (λ x. x.order) o
-order_kept f same None = refl
-order_kept f same (Some r) = ap (λ n. Some n) (same r)
+order_kept f same x = grind arith
 
 -- and one that keeps what it waits for
 pub token_kept : (f : Request → Request) → ((r : Request) → (f r).token ≡ r.token) → (o : Option Request) → awaited (on_request f o) ≡ awaited o
-token_kept f same None = refl
-token_kept f same (Some r) = same r
+token_kept f same x = grind arith
 
 -- a request that is made so waits for no token
 issued_untold : (q : Provider) (asking : Asking) (w : ℤ) (o : Option Request) → awaited (on_request (issued_by q asking w) o) ≡ None
@@ -141,8 +140,7 @@ unserving k k' e active = grind arith
 
 -- the provider of a kind, and how a request is made of it
 provided : (k : Option ClassKind) (q : Provider) → provider_of k ≡ Some q → k ≡ Some (An_active q)
-provided (Some (An_active v)) q e = ap (λ v. Some (An_active v)) (same_Some _ _ e)
-provided _ q e = absurd (none-some _ e)
+provided x q e = grind (arith, nat_tests, same_Some)
 
 issued_as : (k : Option ClassKind) (q : Provider) (asking : Asking) (w : ℤ) → provider_of k ≡ Some q → issued_of k asking w ≡ issued_by q asking w
 issued_as k q asking w e = ap (λ k. issued_of k asking w) (provided k q e)
@@ -168,8 +166,7 @@ unfolding kind_of
 kind_declared p class c is e = class_there (declared_at p c) (ap (λ k. is_active_kind (kind_of p k)) (sym is) ∙ e)
 
 pub active_kind : (k : ClassKind) → is_active_kind (Some k) ≡ true → (q : Provider) × (k ≡ An_active q)
-active_kind (An_active q) e = (q, refl)
-active_kind _ e = absurd (false≢true e)
+active_kind x e = grind arith
 
 pub kind_found : (p : Image) (class : Option ℕ) (c : ℕ) (d : ClassDecl) → class ≡ Some c → declared_at p c ≡ Some d → kind_of p class ≡ Some d.kind
 unfolding kind_of kind_in
@@ -187,7 +184,7 @@ pub record OnObject (p : Image) (m : Parts) (h : At_hand p m) : Type 0 where
 
 -- the machine's cell is of the same kind
 pub kind_same : (p : Image) (c : Option Held_cell) (t : Thing) → thing_in c ≡ Some t → thing_kind p t ≡ kind_of p (class_of c)
-kind_same p c t e = some_given (λ c. thing_in c ≡ Some t) c e (λ none. none-some _ none) (λ x is some. ap (thing_kind p) (sym (same_Some _ _ some)) ∙ ap (λ c. kind_of p (class_of c)) (sym is))
+kind_same p c t e = grind (arith, nat_tests, some_given, same_Some)
 
 module _ (p : Image) (m : Parts) (h : At_hand p m) where
   pub on_object : is_listed_kind (home_kind p h.frame.home) ≡ true → OnObject p m h
@@ -217,9 +214,7 @@ module _ (p : Image) (m : Parts) (h : At_hand p m) where
     -- the method that cancels is the one that the machine finds
     -- what it counts as for the method that runs
     pub counts_told : (class counted : ℕ) → class_at m.cells (this m) ≡ Some class → Some counted ≡ or_else (class_above (view_here m.stack.tasks)) (Some class) → h.frame.view ≡ Some counted
-    counts_told class counted is counts =
-        by_top p m h (λ us. h.frame.view ≡ viewed (view_here us) h.frame.home) (λ f ms top. top.frame.view)
-        ∙ ap (λ o. or_else (class_above (view_here m.stack.tasks)) o) (ap home_view x.home ∙ ap thing_view (thing_is x.object.thing class _ is thing_here)) ∙ sym counts
+    counts_told class counted is counts = grind (arith, nat_tests, by_top p m h, thing_is x.object.thing class, thing_here)
 
     pub cancel_told :
         (class counted : ℕ) → class_at m.cells (this m) ≡ Some class → Some counted ≡ or_else (class_above (view_here m.stack.tasks)) (Some class) →
@@ -230,10 +225,14 @@ module _ (p : Image) (m : Parts) (h : At_hand p m) where
     pub counted_kind :
         (class counted : ℕ) → class_at m.cells (this m) ≡ Some class → Some counted ≡ or_else (class_above (view_here m.stack.tasks)) (Some class) →
         kind_of p (Some class) ≡ kind_of p (Some counted)
-    counted_kind class counted is counts =
-        let between = (stands_here p h.typing h.state h.frame h.below h.typed h.top).view.between counted (counts_told class counted is counts) in
-        let same : between.0 ≡ class = let both = sym between.1 ∙ ap home_holder x.home ∙ ap thing_holder (thing_is x.object.thing class _ is thing_here) in cc in
-        ap (λ c. kind_of p (Some c)) (sym same) ∙ h.wired.family.kinds between.0 counted between.2
+    counted_kind class counted is counts = grind (
+      arith,
+      nat_tests,
+      stands_here p h.typing h.state h.frame h.below h.typed h.top,
+      counts_told class counted is counts,
+      thing_is x.object.thing class,
+      thing_here,
+    )
 
     -- what the table tells of it
     pub active_told : is_waited_for (request_at m.active.table (this m)) ≡ in_phase enlisted.is_active (own_request h.state.cells h.frame.home)
@@ -246,24 +245,20 @@ module _ (p : Image) (m : Parts) (h : At_hand p m) where
     cancelling_told = told_cancelling m.active (requested h.state.cells) (queued p h.state.cells) h.agrees.requests.stands (this m) ∙ sym (ap (in_phase is_cancelling) own_told)
 
     pub added_told : is_some (request_at m.active.table (this m)) ≡ is_some (own_request h.state.cells h.frame.home)
-    added_told = told_enlisted m.active (requested h.state.cells) (queued p h.state.cells) h.agrees.requests.stands (this m) ∙ sym (ap is_some own_told)
+    added_told = grind (arith, nat_tests, told_enlisted m.active, own_told)
 
     -- at an active object nothing waits
     active_unqueued : is_active_kind (home_kind p h.frame.home) ≡ true → queued p h.state.cells (this m) ≡ None
-    active_unqueued active = ap (λ o. queue_in p o (service_of h.state.cells (this m))) named_here ∙ ap (λ b. cond b (Some (has_more (service_of h.state.cells (this m)).queue)) None) (unserving (thing_kind p x.object.thing) (home_kind p h.frame.home) (sym (ap (home_kind p) x.home)) active)
+    active_unqueued active = grind (arith, nat_tests, named_here, unserving)
 
     pub state_told : is_active_kind (home_kind p h.frame.home) ≡ true → (r : Request) → own_request h.state.cells h.frame.home ≡ Some r → state_at m.active.table (this m) ≡ Some (held_state r.phase)
     state_told active r is = told_state m.active (requested h.state.cells) (queued p h.state.cells) h.agrees.requests.stands (this m) r (sym own_told ∙ is) (active_unqueued active)
 
     pub fresh_told : own_request h.state.cells h.frame.home ≡ None → request_at m.active.table (this m) ≡ None
-    fresh_told none = told_fresh m.active (requested h.state.cells) (queued p h.state.cells) h.agrees.requests.stands (this m) (sym own_told ∙ none)
+    fresh_told none = grind (arith, nat_tests, told_fresh m.active, own_told)
 
     pub status_told : is_active_kind (home_kind p h.frame.home) ≡ true → word_or_zero (status_at m.active.table (this m)) ≡ status_of (own_request h.state.cells h.frame.home)
-    status_told active = go (own_request h.state.cells h.frame.home) refl
-      where
-        go : (o : Option Request) → own_request h.state.cells h.frame.home ≡ o → word_or_zero (status_at m.active.table (this m)) ≡ status_of o
-        go None e = ap (λ x. word_or_zero (table.status_of x)) (fresh_told e)
-        go (Some r) e = ap word_or_zero (told_status m.active (requested h.state.cells) (queued p h.state.cells) h.agrees.requests.stands (this m) r (sym own_told ∙ e) (active_unqueued active))
+    status_told active = grind (arith, nat_tests, fresh_told, told_status m.active, own_told, active_unqueued active)
 
     -- the requests with another one of this object
     requests_asked : (a : Active) (r : Option Request) → a.table.limit ≡ m.active.table.limit → StandsFor a (asked_anew (this m) r (requested h.state.cells)) (queued p h.state.cells) → SameRequests p a (rerequested h.state.cells h.frame.home r)
@@ -319,9 +314,7 @@ module _ (p : Image) (m : Parts) (h : At_hand p m) where
 
     -- an idle request waits for none
     pub idle_untold : in_phase is_idle (own_request h.state.cells h.frame.home) ≡ true → awaited (own_request h.state.cells h.frame.home) ≡ None
-    idle_untold idle =
-        ap awaited (ap (own_request h.state.cells) x.home)
-        ∙ untold_idle (thing_kind p x.object.thing) _ (requested h.state.cells x.object.name) (h.typed.good.suits x.object x.lives) (ap (in_phase is_idle) (sym (ap (own_request h.state.cells) x.home)) ∙ idle)
+    idle_untold idle = grind (arith, nat_tests, untold_idle)
 
     -- what a request is made with, and with which status a native would begin it
     abbrev pub made_with : ℤ → Asking
@@ -390,10 +383,7 @@ module _ (p : Image) (m : Parts) where
 
   -- an object that is enlisted is not so yet
   pub enlist_fresh : (priority : ℤ) → IsNext p (Enlist priority) m → request_at m.active.table (this m) ≡ None
-  enlist_fresh priority next =
-      let n = needs_met p m (Enlist priority) next in
-      let x = finds_object p m (Enlist priority) next (λ c fr ts s n. n.0) in
-      fresh_told p _ _ x (free _ n.1.1.0)
+  enlist_fresh priority next = grind (arith, nat_tests, needs_met p m (Enlist priority) next, finds_object p m (Enlist priority) next, fresh_told p, free)
 
   -- one that makes a request is idle, and its class has a provider
   pub issue_idle : (a b : ℕ) → IsNext p (Issue a b) m → state_at m.active.table (this m) ≡ Some (held_state Idle)
@@ -404,10 +394,15 @@ module _ (p : Image) (m : Parts) where
       state_told p _ _ x (issuing_active _ n.1.1.1.0) r.0 r.1 ∙ ap (λ x. Some (held_state x)) (idle_only r.0.phase r.2)
 
   pub issue_provided : (a b : ℕ) → IsNext p (Issue a b) m → is_active_kind (kind_here p m) ≡ true
-  issue_provided a b next =
-      let n = needs_met p m (Issue a b) next in
-      let x = finds_object p m (Issue a b) next (λ c fr ts s n. active_listed (home_kind p fr.home) (issuing_active (home_kind p fr.home) n.1.1.0)) in
-      ap is_active_kind (sym (kind_told p _ _ x)) ∙ issuing_active _ n.1.1.1.0
+  issue_provided a b next = grind (
+    arith,
+    nat_tests,
+    needs_met p m (Issue a b) next,
+    finds_object p m (Issue a b) next,
+    active_listed,
+    issuing_active,
+    kind_told p,
+  )
 
   -- one that waits from then on has a request
   pub set_active_issued : IsNext p SetActive m → state_at m.active.table (this m) ≡ Some (held_state Issued)
@@ -419,10 +414,7 @@ module _ (p : Image) (m : Parts) where
 
   -- the class of one that cancels has a method that does
   pub cancel_kind : IsNext p Cancel m → is_active_kind (kind_here p m) ≡ true
-  cancel_kind next =
-      let n = needs_met p m Cancel next in
-      let x = finds_object p m Cancel next (λ c fr ts s n. active_listed (home_kind p fr.home) n.0) in
-      ap is_active_kind (sym (kind_told p _ _ x)) ∙ n.1.0
+  cancel_kind next = grind (arith, nat_tests, needs_met p m Cancel next, finds_object p m Cancel next, active_listed, kind_told p)
 
   pub cancel_there :
       (class counted : ℕ) → IsNext p Cancel m → class_at m.cells (this m) ≡ Some class → Some counted ≡ or_else (class_above (view_here m.stack.tasks)) (Some class) →
@@ -435,18 +427,14 @@ module _ (p : Image) (m : Parts) where
 
   -- one that is aborted is being cancelled
   pub abort_cancelling : IsNext p Abort m → is_being_cancelled (request_at m.active.table (this m)) ≡ true
-  abort_cancelling next =
-      let n = needs_met p m Abort next in
-      let x = finds_object p m Abort next (λ c fr ts s n. active_listed (home_kind p fr.home) n.0) in
-      cancelling_told p _ _ x ∙ n.1.1.0
+  abort_cancelling next = grind (arith, nat_tests, needs_met p m Abort next, finds_object p m Abort next, active_listed, cancelling_told p)
 
 -- ---- the instructions
 
 module _ (m : Parts) (refused : List ℕ) where
   -- a jump by what the table tells of the request
   jumps_as : (p : Image) (h : At_hand p m) (there here : Bool) (to : ℕ) → here ≡ there → Agrees p (cond there (places.to_place to m) (places.next m)) (applied p h.frame h.below h.state (jumps_if h.frame here to))
-  jumps_as p h true here to e = subst (λ b. Agrees p (places.to_place to m) (applied p h.frame h.below h.state (jumps_if h.frame b to))) (sym e) (jumps m refused p h to)
-  jumps_as p h false here to e = subst (λ b. Agrees p (places.next m) (applied p h.frame h.below h.state (jumps_if h.frame b to))) (sym e) (passes m refused p h)
+  jumps_as p h x here to e = grind (arith, nat_tests, jumps m refused p h to, passes m refused p h)
 
   pub jump_active_does : (to : ℕ) (b : Bool) → is_busy (request_at m.active.table (this m)) ≡ b → Does refused (JumpActive to) m (cond b (places.to_place to m) (places.next m))
   jump_active_does to b is = plain_does m _ refused (JumpActive to) refl (λ p h c met. jumps_as p h b _ to (sym (busy_told p m h (on_object p m h (active_listed _ met.0))) ∙ is))
@@ -485,16 +473,13 @@ module _ (m : Parts) (refused : List ℕ) (a : Active) where
 -- what a native has answered is what the checked machine hears
 module _ (p : Image) (m : Parts) (h : At_hand p m) (on : OnObject p m h) (n : ℕ) (serves : native_of (kind_here p m) ≡ Some n) where
   dead_told : is_killed m.sessions n ≡ is_served_by_dead p h.frame h.below h.state
-  dead_told = ap (λ ks. list_any (λ k. k == n) ks) h.agrees.natives.dead ∙ sym (ap (has_died h.state.killed) (ap native_of (kind_told p m h on) ∙ serves))
+  dead_told = grind (arith, nat_tests, kind_told p m h on)
 
   session_told : is_open m.sessions (this m) ≡ own_session h.state.cells h.frame.home
   session_told = h.agrees.natives.sessions (this m) ∙ ap (in_session h.state.cells) on.number ∙ sym (ap (own_session h.state.cells) on.home)
 
   pub heard_told : {A : Type 0} (f : Bool → Bool → ℤ → A) (c : Choice) → c.answer ≡ heard_by m → f (is_killed m.sessions n) (is_open m.sessions (this m)) (heard_by m) ≡ heard p c h.frame h.below h.state f
-  heard_told f c hears =
-      ap (λ d. f d (is_open m.sessions (this m)) (heard_by m)) dead_told
-      ∙ ap (λ b. f (is_served_by_dead p h.frame h.below h.state) b (heard_by m)) session_told
-      ∙ ap (λ a. f (is_served_by_dead p h.frame h.below h.state) (own_session h.state.cells h.frame.home) a) (sym hears)
+  heard_told f c hears = grind (arith, nat_tests, dead_told, session_told)
 
 -- a request is made of a provider
 requests_made : (p : Image) (m : Parts) (h : At_hand p m) (on : OnObject p m h) (a : Active) (q : Provider) (w status : ℤ) (r : Request) → own_request h.state.cells h.frame.home ≡ Some r
@@ -548,10 +533,13 @@ module _ (p : Image) (m : Parts) (refused : List ℕ) (a : Active) (k : ℕ) whe
       by_top p m h (λ us. Agrees p (record m { stack = record m.stack { tasks = Runs_frame (with_view v (fresh k n)) ∷ us }; active = a }) (record s { cells = cs; tasks = Run called ∷ Run fr ∷ ts }))
       (λ f ms top. record {
         tasks = (subst (λ x. SameFrame (with_view v (fresh k n)) (frame_as k fr.home x (length s.items))) (sym seen) (begun_as k n fr.home v (length s.items) number top_housed), (top.frame, top.below));
-        values = λ q.
-            subst (λ x. Shows x (word_at (Run called ∷ Run fr ∷ ts) q) (held cs q)) (sym (fresh_with k n v (Runs_frame f ∷ ms) m.cells m.entries.items (others m) q))
-            (subst (λ w. Shows (value_in (Runs_frame f ∷ ms) m.cells m.entries.items (others m) q) w (held cs q)) (sym (fresh_as k fr.home fr.view (length s.items) (Run fr ∷ ts) q))
-            (subst (λ o. Shows (value_in (Runs_frame f ∷ ms) m.cells m.entries.items (others m) q) (word_at (Run fr ∷ ts) q) o) (sym ((rerequested_alike s.cells fr.home r).held_so q)) (top.values q)));
+        values = grind (
+          arith,
+          nat_tests,
+          fresh_with k n v (Runs_frame f ∷ ms) m.cells m.entries.items,
+          fresh_as k fr.home fr.view,
+          rerequested_alike s.cells fr.home r,
+        );
         cells = cells_rerequested p m.cells s.cells fr.home r h.agrees.cells;
         entries = h.agrees.entries;
         requests = requests;

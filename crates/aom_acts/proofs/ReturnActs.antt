@@ -1,4 +1,5 @@
 -- A method returns: to the method that called it, through a trap, to the going of its cell, to an unwinding, or to the dispatch that has asked it.
+use Rattle.std.proofs.lemmas.Bool.Decides.{nat_tests}
 use Rattle.std.proofs.Common.{Bool, ◌⊎◌, inl, inr, List, None, Option, Some, [], ap, arith, cond, false, length, pos, refl, slice_index_or, slice_set, subst, suc, sym, true, ℕ, ℤ, ◌&&◌, ◌<◌, ◌==◌, ◌∙◌, ◌∷◌, ◌≡◌, ◌≤◌}
 use Rattle.std.proofs.lemmas.Bool.{OnTrue_at, eq-eqb, eqb-true, false≢true, ne_eqb}
 use Rattle.std.proofs.lemmas.List.{length-set}
@@ -19,7 +20,7 @@ use Rattle.aom_sound.proofs.View.{under_dispatch}
 use Rattle.aom_sound.specs.Calls.{answered_by, below_top, end_needs, ended_well, result_needs, result_register, returned, told_answer}
 use Rattle.aom_sound.specs.Claims.{Layer, Method, Mark, tasks_of, claim, declared}
 use Rattle.aom_sound.specs.Places.{Cell, named, Session, Tidy, Elsewhere, Entry, Field, Going, Object, Place, Register, changed, held, moved, same_place, seen}
-use Rattle.aom_sound.specs.State.{Accepted, Accepts, Of_server, Seat, Answered, Dispatch, Dispatched, Frame, Run, State, Task, Trapped, next, set_word, word}
+use Rattle.aom_sound.specs.State.{Accepted, Accepts, Of_server, Seat, Dispatch, Dispatched, Frame, Run, State, Task, Trapped, next, set_word, word}
 use Rattle.aom_sound.specs.WellTyped.{Awaits, Fits, Good, WellTyped, WordFits}
 use Rattle.aom_sound.proofs.Claimed.{claim_register_above}
 use Rattle.aom_sound.proofs.Finishing.{all_parts}
@@ -34,7 +35,7 @@ use Rattle.aom_frames.specs.declared.frame.Frame.{Frame as Held_frame}
 use Rattle.aom_frames.specs.declared.task.Task.{Task as Held_task}
 use Rattle.aom_frames.specs.declared.task.Task.TheVariants.{Run as Runs_frame, Trapped as Is_trap, Dispatched as Ends}
 use Rattle.aom_frames.specs.declared.dispatch.Dispatch.{Dispatch as Held_dispatch}
-use Rattle.aom_frames.specs.declared.dispatch.Dispatch.TheVariants.{Answered as One_answered, Asks as One_asks, Main, MainLeft, Object as Of_one, ObjectLeft as One_left, Root as End_of_run, Server as Of_one_served}
+use Rattle.aom_frames.specs.declared.dispatch.Dispatch.TheVariants.{Server as Of_one_served}
 use Rattle.aom_active.specs.Agrees.{Active}
 use Rattle.aom_sound.specs.Enlisted.{ended_cells}
 use Rattle.aom_sound.proofs.Storing.{ended_alike}
@@ -44,7 +45,7 @@ use Rattle.aom_acts.proofs.CancelEnds.{ended_agrees, method_is}
 use Rattle.aom_acts.proofs.OnTop.{ending_of}
 use Rattle.aom_parts.specs.declared.parts.Parts.{Parts}
 use Rattle.aom_parts.specs.Places.{others, Others, value_in, register_in, going_in, with_tasks, IsDestroying, IsEnding, IsTrapped, IsUnwinding}
-use Rattle.aom_parts.specs.Agrees.{subject_of, word_at, word_in, Shows, SameDispatch, SameFrame, SameTasks, Agrees, dispatch_of, seat_of}
+use Rattle.aom_parts.specs.Agrees.{subject_of, word_at, Shows, SameDispatch, SameFrame, SameTasks, Agrees, dispatch_of, seat_of}
 use Rattle.aom_acts.specs.Acts.{At_hand, resulted, DoesIn}
 use Rattle.aom_parts.specs.Places as places
 use Rattle.aom_parts.proofs.Entries.{mark_shows_none, value_alike}
@@ -79,7 +80,7 @@ use Rattle.std.specs.Bool.{OnTrue}
 use Rattle.std.specs.Prelude.{IsSome, is_some}
 use Rattle.std.proofs.lemmas.Option.{none-some}
 use Rattle.aom_image.proofs.Given.{none_given}
-use Rattle.aom_parts.proofs.Alike.{A_catcher, A_going, A_last_trap, A_leave, A_method, An_end, Alike, Tops, alike, both_end, both_go, both_run, both_trapped, both_unwind, catcher_on_top, end_on_top, going_on_top, last_trap_on_top, leave_on_top, method_on_top, tops}
+use Rattle.aom_parts.proofs.Alike.{A_catcher, A_last_trap, A_leave, A_method, An_end, Alike, Tops, alike, both_end, both_run, both_trapped, both_unwind, catcher_on_top, end_on_top, last_trap_on_top, leave_on_top, method_on_top, tops}
 use Rattle.aom_parts.proofs.Values.{at_depth, cases, going_past, kept, none_alike, register_past, value_kept, value_written, word_next, word_past, word_written, writes}
 use Rattle.aom_acts.proofs.WordActs.{plain_at, word_read}
 
@@ -103,30 +104,17 @@ cleared d h (Going k) = h (Going k)
 cleared d h (Elsewhere o) = h (Elsewhere o)
 
 pub cleared_none : (d : ℕ) (h : Place → Option Object) → ((i : ℕ) → h (Register d i) ≡ None) → (r : Place) → cleared d h r ≡ h r
-cleared_none d h none (Register e i) = cases (d == e)
-    (λ b. ap (λ x. cond x None (h (Register e i))) b ∙ sym (none i) ∙ ap (λ k. h (Register k i)) (eqb-true d e b))
-    (λ b. ap (λ x. cond x None (h (Register e i))) b)
-cleared_none d h none _ = refl
+cleared_none d h none x = grind (arith, nat_tests, eqb-true d)
 
 -- the other places stand for what they stood for
 pub beneath : (f : Held_frame) (us : List Held_task) (fr : Frame) (ts : List Task) (heap : Heap) (es : List Item) (rest : Others) (h : Place → Option Object) → length us ≡ length ts
     → ((r : Place) → Shows (value_in (Runs_frame f ∷ us) heap es rest r) (word_at (Run fr ∷ ts) r) (h r))
     → (r : Place) → Shows (value_in us heap es rest r) (word_at ts r) (cleared (length ts) h r)
-beneath f us fr ts heap es rest h deep old (Register e i) = go (length ts == e) refl (subst (λ d. Shows (cond (d == e) (slice_index_or f.registers i null) (register_in us e i)) (cond (length ts == e) (word fr i) (word_in ts e i)) (h (Register e i))) deep (old (Register e i)))
-  where
-    go : (b : Bool) → (length ts == e) ≡ b → Shows (cond b (slice_index_or f.registers i null) (register_in us e i)) (cond b (word fr i) (word_in ts e i)) (h (Register e i)) → Shows (register_in us e i) (word_in ts e i) (cond b None (h (Register e i)))
-    go false is shows = shows
-    go true is shows = let at = eqb-true (length ts) e is in shows_null _ _ _ (register_past us e i (omega arith)) (word_past ts e i (omega arith)) refl
-beneath f us fr ts heap es rest h deep old (Going k) = subst (λ n. Shows n None (h (Going k))) (at_depth (length us) k null (going_in us k) (λ e. going_past us k (omega arith))) (old (Going k))
-beneath f us fr ts heap es rest h deep old (Entry k) = old (Entry k)
-beneath f us fr ts heap es rest h deep old (Field n g) = old (Field n g)
-beneath f us fr ts heap es rest h deep old (Elsewhere o) = old (Elsewhere o)
+beneath f us fr ts heap es rest h deep old x = grind (arith, nat_tests, eqb-true, shows_null, register_past us, word_past ts, at_depth, going_past us)
 
 -- past the tasks at hand no register owns
 pub none_above : (p : Image) (t : Typing) (s : State) (d i : ℕ) → WellTyped p t s → length s.tasks ≤ d → held s.cells (Register d i) ≡ None
-none_above p t s d i typed le =
-    let layers = ap length typed.tasks in
-    fits_null p (seen s.cells) _ (subst (Fits p (seen s.cells) (held s.cells (Register d i))) (claim_register_above p s.cells typed.layers d i (omega arith)) (typed.good.fits (Register d i)))
+none_above p t s d i typed le = grind (arith, nat_tests, fits_null p, claim_register_above p s.cells typed.layers d i)
 
 -- what the result comes to owns nothing
 abbrev pub bears : Gives → Bool
@@ -137,9 +125,7 @@ bears (A_maybe t) = true
 bears (Left c) = false
 
 awaits : (g : Gives) (x : ℕ) (sh : Shape) → Awaits g x sh → OnTrue (bears g) (is_unowning (register sh x) ≡ true)
-awaits Nothing x sh a = tt
-awaits (Left c) x sh a = tt
-awaits _ x sh a = a
+awaits x y sh a = grind arith
 
 pub awaiting : (g : Gives) (x : ℕ) (sh : Shape) → bears g ≡ true → Awaits g x sh → is_unowning (register sh x) ≡ true
 awaiting g x sh b a = OnTrue_at b (awaits g x sh a)
@@ -147,10 +133,7 @@ awaiting g x sh b a = OnTrue_at b (awaits g x sh a)
 -- a register that is claimed to own nothing owns nothing
 pub awaits_none : (p : Image) (s : State) (ls : List Layer) (ts : List Task) (sh : Shape) (x : ℕ) (k : Kind) → is_unowning (register sh x) ≡ true → k ≡ register sh x → Fits p (seen s.cells) (held s.cells (Register (length (tasks_of ls)) x)) k
     → tasks_of ls ≡ ts → held s.cells (Register (length ts) x) ≡ None
-awaits_none p s ls ts sh x k quiet claims fits rest =
-    let q = Register (length (tasks_of ls)) x in
-    let none = fits_unowning p (seen s.cells) (held s.cells q) (register sh x) quiet (subst (Fits p (seen s.cells) (held s.cells q)) claims fits) in
-    subst (λ us. held s.cells (Register (length us) x) ≡ None) rest none
+awaits_none p s ls ts sh x k quiet claims fits rest = grind (arith, nat_tests, fits_unowning p)
 
 -- under a trap stands the method that set it
 pub caught_layer : (P : List Layer → Type 0) (G : Type 0) (caller : Frame) (ts : List Task) (ls : List Layer) → tasks_of ls ≡ Trapped ∷ Run caller ∷ ts → P ls → ((gv : Gives) (sh : Shape) (below : List Layer) → tasks_of below ≡ ts → P (Mark gv ∷ Method caller sh ∷ below) → G) → G
@@ -206,9 +189,7 @@ Wordless (A_maybe t) w = w ≡ None
 Wordless (Left c) w = Unit {0}
 
 wordless : (p : Image) (fr : Frame) (ts : List Task) (s : State) (g : Gives) (a : ℕ) → AllTrue (result_needs p fr ts s g a) → Wordless g (word fr a)
-wordless p fr ts s (An_own t) a met = no_word _ met.0
-wordless p fr ts s (A_maybe t) a met = no_word _ met.0
-wordless p fr ts s _ a met = tt
+wordless p fr ts s x a met = grind (arith, nat_tests, no_word)
 
 module _ (p : Image) (m : Parts) (t : Typing) (s : State) (fr : Frame) (agrees : Agrees p m s) (f : Held_frame) (a : ℕ) where
   -- to the going of a cell, to an unwinding or to a dispatch: nothing goes over
@@ -242,27 +223,23 @@ module _ (p : Image) (m : Parts) (t : Typing) (s : State) (fr : Frame) (agrees :
     high = higher trapped (Run caller ∷ ts) (omega arith)
 
     deep : length ms ≡ length ts
-    deep = apart trapped top.deep
-      where
-        apart : (b : Bool) → length (held_over b (Runs_frame g ∷ ms)) ≡ length (tasks_over b (Run caller ∷ ts)) → length ms ≡ length ts
-        apart true e = omega arith
-        apart false e = omega arith
+    deep = grind (arith, nat_tests, held_over, tasks_over)
 
     same_there : SameFrame g caller × SameTasks ms ts
-    same_there = apart trapped top.below
-      where
-        apart : (b : Bool) → SameTasks (held_over b (Runs_frame g ∷ ms)) (tasks_over b (Run caller ∷ ts)) → SameFrame g caller × SameTasks ms ts
-        apart true e = e.1
-        apart false e = e
+    same_there = grind (arith, nat_tests, held_over, tasks_over)
 
     abbrev same_frame : SameFrame g caller
     same_frame = same_there.0
 
     base : (r : Place) → Shows (value_in (Runs_frame g ∷ ms) m.cells m.entries.items (others m) r) (word_at (Run caller ∷ ts) r) (under r)
-    base r =
-        subst (λ k. Shows k (word_at (Run caller ∷ ts) r) (under r)) (over_value trapped (Runs_frame g ∷ ms) m.cells m.entries.items (others m) r)
-        (subst (λ w. Shows (value_in (held_over trapped (Runs_frame g ∷ ms)) m.cells m.entries.items (others m) r) w (under r)) (over_words trapped (Run caller ∷ ts) r)
-        (beneath f (held_over trapped (Runs_frame g ∷ ms)) fr over m.cells m.entries.items (others m) (held s.cells) top.deep top.values r))
+    base r = grind (
+      arith,
+      nat_tests,
+      over_value trapped (Runs_frame g ∷ ms) m.cells m.entries.items,
+      held_over trapped (Runs_frame g ∷ ms),
+      over_words trapped (Run caller ∷ ts) r,
+      beneath f (held_over trapped (Runs_frame g ∷ ms)) fr,
+    )
 
     number_shows : Shows n (word fr a) (held s.cells from)
     number_shows = register_shows m s fr over f (held_over trapped (Runs_frame g ∷ ms)) top a
@@ -343,7 +320,12 @@ module _ (p : Image) (m : Parts) (t : Typing) (s : State) (fr : Frame) (agrees :
         let q = Register (length ts) (suc x) in
         let wide = landed.wide in
         let was : m.entries.items ≡ Is_mark ∷ es.items = ap (λ (e : Held_items). e.items) marked in
-        let old : (r : Place) → Shows (value_in (Runs_frame g' ∷ ms) m.cells es.items (others m) r) (word_at (Run caller' ∷ ts) r) (held cs r) = λ r. subst (λ k. Shows k (word_at (Run caller' ∷ ts) r) (held cs r)) (ap (λ is. value_in (Runs_frame g' ∷ ms) m.cells is (others m) r) was ∙ value_alike (Runs_frame g' ∷ ms) m.cells (Is_mark ∷ es.items) es.items (others m) (λ k. mark_shows_none es.items k) r) (landed.values r) in
+        let old : (r : Place) → Shows (value_in (Runs_frame g' ∷ ms) m.cells es.items (others m) r) (word_at (Run caller' ∷ ts) r) (held cs r) = grind (
+          arith,
+          nat_tests,
+          value_alike (Runs_frame g' ∷ ms) m.cells (Is_mark ∷ es.items) es.items,
+          mark_shows_none es.items,
+        ) in
         agrees_with p (record m { entries = es }) (record s { cells = cs; items = below_top s.items }) (Runs_frame (record g { registers = slice_set rs (suc x) 0; place = suc g.place }) ∷ ms) (Run (next (set_word caller' (suc x) (Some (pos 0)))) ∷ ts)
         (aside_unmarked p m (record s { cells = cs }) es marked landed.aside)
         (moved_on g caller (slice_set rs (suc x) 0) (set_word caller' (suc x) (Some (pos 0))).words same_frame (length-set rs (suc x) 0 ∙ wide), same_there.1)
@@ -413,19 +395,7 @@ abbrev pub Accepting : Held_dispatch → Type 0
 Accepting x = AcceptsNot x ⊎ ((y : Subject) × (c : ℕ) × (x ≡ Of_one_served y c stages.Accepts))
 
 accepting_or : (x : Held_dispatch) → Accepting x
-accepting_or (Of_one_served x c stages.Accepts) = inr (x, c, refl)
-accepting_or (Of_one_served x c stages.Accepted) = inl tt
-accepting_or (Of_one_served x c (stages.AcceptLeft code)) = inl tt
-accepting_or (Of_one_served x c (stages.Serves o)) = inl tt
-accepting_or (Of_one_served x c (stages.ServiceLeft code)) = inl tt
-accepting_or (Of_one_served x c stages.Parts) = inl tt
-accepting_or Main = inl tt
-accepting_or (MainLeft code) = inl tt
-accepting_or End_of_run = inl tt
-accepting_or (Of_one x) = inl tt
-accepting_or (One_left x code) = inl tt
-accepting_or (One_asks x) = inl tt
-accepting_or (One_answered x answer) = inl tt
+accepting_or x = grind arith
 
 -- it is served on both sides, and all else stays
 returned_plain :
@@ -481,8 +451,7 @@ heard_same : (answer answer' : ℤ) (x : Held_dispatch) (d : Dispatch) → answe
 heard_same answer answer' x d e same = (same.0, subst (λ d. dispatch_of same.0 (heard answer x) ≡ answered_by answer' d) same.1 (go same.0 x))
   where
     go : (q : Place) (x : Held_dispatch) → dispatch_of q (heard answer x) ≡ answered_by answer' (dispatch_of q x)
-    go q (One_asks x) = ap (λ n. Answered (seat_of q x) n) e
-    go q _ = refl
+    go q y = grind arith
 
 -- a dispatch has no place of its own
 redispatched : (p : Image) (m : Parts) (s : State) (x y : Held_dispatch) (ms : List Held_task) (d e : Dispatch) (ts : List Task) → SameDispatch y e
@@ -527,7 +496,7 @@ module _ (p : Image) (m : Parts) (refused : List ℕ) (a : ℕ) (act : Active) (
     frame = top.frame;
     below = top.below;
     deep = top.deep;
-    values = λ r. subst (Shows (value_in (Runs_frame f ∷ ms) m.cells m.entries.items (others m) r) (word_at (Run h.frame ∷ ts) r)) (sym (still h r)) (top.values r);
+    values = grind (arith, nat_tests, still h);
   }
 
   -- what holds of the machine's tasks tells what is below its method

@@ -1,7 +1,8 @@
 -- Each instruction keeps the room that a run needs.
-use Rattle.std.proofs.Common.{Bool, List, None, Option, Some, [], ap, arith, cond, false, inl, length, refl, subst, suc, sym, true, ℕ, ℤ, pos, ◌&&◌, ◌==◌, ◌+◌, ◌++◌, ◌-◌, ◌<◌, ◌∙◌, ◌∷◌, ◌≡◌, ◌≤◌}
+use Rattle.std.proofs.lemmas.Bool.Decides.{nat_tests}
+use Rattle.std.proofs.Common.{Bool, List, None, Option, Some, [], ap, arith, cond, false, inl, length, refl, subst, suc, sym, true, ℕ, ℤ, pos, ◌&&◌, ◌==◌, ◌+◌, ◌-◌, ◌<◌, ◌∙◌, ◌∷◌, ◌≡◌, ◌≤◌}
 use Rattle.aom_image.proofs.Given.{false_given, some_given}
-use Rattle.std.proofs.lemmas.Bool.{false≢true, ne_eqb, true≢false}
+use Rattle.std.proofs.lemmas.Bool.{ne_eqb}
 use Rattle.std.specs.Prelude.{is_some, not, ◌||◌}
 use Rattle.aom_image.specs.Image.{Image}
 use Rattle.aom_image.specs.Views.{arguments_of, gives_of, instr_at, is_quiet, leaves, method_class, method_role}
@@ -11,7 +12,7 @@ use Rattle.aom_instructions.specs.declared.instr.Target.{Target}
 use Rattle.aom_image.specs.declared.method.Argument.{Argument}
 use Rattle.aom_image.specs.declared.method.Argument.TheVariants.{Own as Takes_own, Word as Takes_word}
 use Rattle.aom_image.specs.declared.method.Gives.{Gives}
-use Rattle.aom_image.specs.declared.method.Gives.TheVariants.{Left, Maybe as A_maybe, Nothing, Own as An_own, Word as A_word}
+use Rattle.aom_image.specs.declared.method.Gives.TheVariants.{Nothing}
 use Rattle.aom_image.specs.declared.method.Thing.{Thing}
 use Rattle.aom_image.specs.declared.method.Thing.TheVariants.{Object as An_object_of, Message}
 use Rattle.aom_classes.proofs.Facts.{of_method}
@@ -20,7 +21,7 @@ use Rattle.aom_rules.specs.Requests.{is_construct}
 use Rattle.aom_rules.specs.Cleanup.{entry_of}
 use Rattle.aom_shape.specs.Entries.{with_entry}
 use Rattle.aom_shape.specs.Kinds.{no_entry, register, set_register}
-use Rattle.aom_shape.specs.Needs.{AllTrue, only_if}
+use Rattle.aom_shape.specs.Needs.{AllTrue}
 use Rattle.aom_rules.specs.Rules.{flows, rule_needs}
 use Rattle.aom_shape.specs.Shape.{Shape}
 use Rattle.aom_shape.specs.Tables.{at}
@@ -46,23 +47,23 @@ use Rattle.aom_sound.specs.Claims.{objects}
 use Rattle.aom_sound.specs.Cleanup.{operation_frame, top_place}
 use Rattle.aom_classes.specs.Roles.{destructor_of}
 use Rattle.aom_sound.specs.Destruction.{destructor_frame, begun, begun_by, destructed, line_on, next_destructor}
-use Rattle.aom_sound.specs.Effects.{The_message, Handed, Replied, Calls, Cancels, Carried, Counts, Destroys, Destroys_last, Effect, Goes_on, In_field, In_register, Jumps, Leaves, Made, Operates, Popped, Popped_operation, Pushed, Pushed_operation, Repeats, Requested, Returns, Same, Sets_trap, Spot, Update, Written, applied, cells_after, items_after, spot_place, with_words, Sessioned}
+use Rattle.aom_sound.specs.Effects.{Handed, Replied, Calls, Cancels, Carried, Counts, Destroys, Destroys_last, Effect, Goes_on, Jumps, Leaves, Made, Operates, Popped, Popped_operation, Pushed, Pushed_operation, Repeats, Requested, Returns, Same, Sets_trap, Spot, Update, Written, applied, cells_after, items_after, spot_place, with_words, Sessioned}
 use Rattle.aom_sound.specs.Laws.{IsWired}
 use Rattle.aom_sound.specs.Steps.{Fits as May, FitsUpdate}
-use Rattle.aom_sound.specs.Places.{service_of, Session, Place, Elsewhere, Cell, Entry, Going, Object, Register, Request, Sight, held, moved, same_place, seen, without}
-use Rattle.aom_sound.specs.State.{Of_server, Dispatch, Accepts, A_mark, An_object, An_operation, AtRoot, Choice, Closing, Destroy, Dispatched, Frame, Home, Inside, Item, Run, State, Static, Task, Trapped, Unwind, field_place, frame_as, frame_of, next, set_word}
+use Rattle.aom_sound.specs.Places.{Session, Place, Elsewhere, Cell, Entry, Going, Object, Register, Sight, held, moved, same_place, seen, without}
+use Rattle.aom_sound.specs.State.{Of_server, Dispatch, Accepts, A_mark, An_object, An_operation, AtRoot, Choice, Destroy, Dispatched, Frame, Home, Inside, Item, Run, State, Static, Task, Trapped, Unwind, field_place, frame_as, next, set_word}
 use Rattle.aom_sound.specs.WellTyped.{AllUndo, Fits, IsUndo}
 use Rattle.aom_sound.specs.Words.{here, stored}
 use Rattle.aom_parts.specs.Room.{Destructs, IsUnder, NoClosing, below_height, entries_in, may_push}
 use Rattle.aom_parts.proofs.Depths.{AllLow, Roomy, SameBelow, begins, closing_begins, dropped, going_begins, held_apart, item_pushed, lower, off_to_trap, popped, popped_top, recelled, top_under}
 use Rattle.aom_parts.proofs.Heights.{LowUnder, Stands_here, own_entries}
-use Rattle.aom_sound.specs.Enlisted.{begun_cells, cancel_method, cancelling, ended_cells, on_request, own_request, rerequested}
-use Rattle.aom_sound.specs.Tokens.{next_token, promised, redeemed_by, token_of}
+use Rattle.aom_sound.specs.Enlisted.{begun_cells, cancel_method, cancelling, ended_cells, on_request, own_request}
+use Rattle.aom_sound.specs.Tokens.{redeemed_by, token_of}
 use Rattle.aom_families.proofs.Running.{body_runs}
 use Rattle.aom_sound.proofs.Callees.{cancel_family, cancel_quiet, only_then}
 use Rattle.aom_sound.proofs.Overriders.{body_leaves, body_quiet}
 use Rattle.aom_sound.proofs.Services.{held_served}
-use Rattle.aom_sound.specs.Servers.{is_server, opened}
+use Rattle.aom_sound.specs.Servers.{is_server}
 
 -- what runs as an object goes may run as one of the class does that its register's kind tells
 destructs_as : (p : Image) (h : Sight) (o : Object) (k : Kind) (m : ℕ) → Fits p h (Some o) k → Destructs p (Some o) m → Among m (destructors p (object_class k))
@@ -80,9 +81,7 @@ own_destructs p o m e = go o.thing e
 
 -- what comes to no entries calls nothing that may
 pushes_from : (quiet quiet' leave leave' : Bool) → (quiet ≡ true → quiet' ≡ true) → (leave' ≡ true → leave ≡ true) → (not quiet' || leave') ≡ true → (not quiet || leave) ≡ true
-pushes_from true true leave leave' q l may = l may
-pushes_from true false leave leave' q l may = absurd (false≢true (q refl))
-pushes_from false quiet' leave leave' q l may = refl
+pushes_from x quiet' leave leave' q l may = grind arith
 
 pushes_where : (quiet leave : Bool) → leave ≡ true → (not quiet || leave) ≡ true
 pushes_where quiet leave e = grind arith
@@ -91,21 +90,15 @@ pushes_loud : (quiet leave : Bool) → not quiet ≡ true → (not quiet || leav
 pushes_loud quiet leave e = grind arith
 
 pushes_none : (quiet leave : Bool) → quiet ≡ true → leave ≡ false → (not quiet || leave) ≡ true → ⊥
-pushes_none true true q l may = true≢false l
-pushes_none true false q l may = true≢false (sym may)
-pushes_none false leave q l may = true≢false (sym q)
+pushes_none x leave q l may = grind arith
 
 -- a field's place is no entry
 field_apart : (home : Home) (f k : ℕ) → same_place (field_place home f) (Entry k) ≡ false
-field_apart Static f k = refl
-field_apart AtRoot f k = refl
-field_apart (Inside o from) f k = refl
+field_apart x f k = grind arith
 
 -- nor one where a cell goes
 field_stays : (home : Home) (f k : ℕ) → same_place (field_place home f) (Going k) ≡ false
-field_stays Static f k = refl
-field_stays AtRoot f k = refl
-field_stays (Inside o from) f k = refl
+field_stays x f k = grind arith
 
 pub entry_apart : (j k : ℕ) → k < j → same_place (Entry j) (Entry k) ≡ false
 entry_apart j k lt = ap (λ b. b && (0 == 0)) (ne_eqb j k (λ e. absurd (omega (arith, lt, e))))
@@ -121,8 +114,7 @@ IsDealt _ = ⊥
 
 -- what goes from another place goes there
 pub goes_there_now : (cs : List Cell) (q : Place) (d : ℕ) → held cs (Going d) ≡ None → same_place q (Going d) ≡ false → held (moved q (Going d) cs) (Going d) ≡ held cs q
-goes_there_now cs q d free apart =
-    held_moved cs q (Going d) (Going d) free ∙ ap (λ b. cond b (held cs q) (cond (same_place q (Going d)) None (held cs (Going d)))) (same_place_refl (Going d))
+goes_there_now cs q d free apart = grind (arith, nat_tests, held_moved cs q (Going d) (Going d) free, same_place_refl (Going d))
 
 -- where all these are as they were
 pub same_all : (cs cs' : List Cell) (n d : ℕ) → ((r : Place) → IsDealt r → held cs' r ≡ held cs r) → SameBelow cs cs' n d
@@ -133,30 +125,28 @@ register_apart d a e dealt = grind arith
 
 -- what is dealt with is as it was
 stored_same : (cs : List Cell) (home : Home) (w : ℕ) (v : ℤ) (e : Place) → held (stored cs home w v) e ≡ held cs e
-stored_same cs Static w v e = refl
-stored_same cs AtRoot w v e = refl
-stored_same cs (Inside o from) w v e = held_set_word cs o.name w v e
+stored_same cs x w v e = grind (arith, nat_tests, held_set_word cs)
 
 passed_same : (p : Image) (fr : Frame) (ts : List Task) (s : State) (d : ℕ) (xs : List Argument) (first to : ℕ) (cs : List Cell) (e : Place) → IsDealt e → held (passed_cells p fr ts s d xs first to cs) e ≡ held cs e
 passed_same p fr ts s d [] first to cs e dealt = refl
 passed_same p fr ts s d (Takes_word ∷ xs) first to cs e dealt = passed_same p fr ts s d xs (suc first) (suc to) cs e dealt
-passed_same p fr ts s d (Takes_own t ∷ xs) first to cs e dealt =
-    passed_same p fr ts s d xs (suc first) (suc to) (moved (here fr ts s first) (Register d to) cs) e dealt
-    ∙ held_apart cs (here fr ts s first) (Register d to) e (register_apart (length ts) first e dealt) (register_apart d to e dealt)
+passed_same p fr ts s d (Takes_own t ∷ xs) first to cs e dealt = grind (
+  arith,
+  nat_tests,
+  passed_same p fr ts s d xs,
+  held_apart cs,
+  register_apart d to e dealt,
+)
 
 result_same : (p : Image) (fr : Frame) (ts : List Task) (s : State) (g : Gives) (a x : ℕ) (below : List Task) (e : Place) → IsDealt e → held (result_cells p fr ts s g a x below) e ≡ held s.cells e
-result_same p fr ts s (An_own t) a x below e dealt = held_apart s.cells (here fr ts s a) (Register (length below) x) e (register_apart (length ts) a e dealt) (register_apart (length below) x e dealt)
-result_same p fr ts s (A_maybe t) a x below e dealt = held_apart s.cells (here fr ts s a) (Register (length below) x) e (register_apart (length ts) a e dealt) (register_apart (length below) x e dealt)
-result_same p fr ts s _ a x below e dealt = refl
+result_same p fr ts s x a y below e dealt = grind (arith, nat_tests, held_apart s.cells, register_apart)
 
 -- a session moves to its place
 pub session_apart : (n c : ℕ) (e : Place) → IsDealt e → same_place (Elsewhere (Session n c)) e ≡ false
 session_apart n c e dealt = grind arith
 
 accepted_same : (d : Dispatch) (from : Place) (cs : List Cell) → ((e : Place) → IsDealt e → same_place from e ≡ false) → (e : Place) → IsDealt e → held (accepted_cells d from cs) e ≡ held cs e
-accepted_same (Of_server x c Accepts) from cs apart e dealt =
-    let there = Elsewhere (Session x.object.name c) in
-    held_served (moved from there cs) x.object.name (opened c (service_of (moved from there cs) x.object.name)) e ∙ held_apart cs from there e (apart e dealt) (session_apart x.object.name c e dealt)
+accepted_same (Of_server x c Accepts) from cs apart e dealt = grind (arith, nat_tests, held_served, held_apart cs from, session_apart x.object.name c e dealt)
 accepted_same _ from cs apart e dealt = refl
 
 -- the destructor that follows in the line runs as the cell goes too, and is quiet
@@ -196,14 +186,16 @@ module _ (p : Image) (t : Typing) (depth heights : ℕ → ℕ) (tables : Tables
   pub begins_over :
       (cs : List Cell) (items : List Item) (o : Object) (ts : List Task) → held cs (Going (length ts)) ≡ Some o → ((m : ℕ) → Destructs p (Some o) m → IsUnder depth (depth m) ts) → (is_server p o.thing ≡ true → NoClosing ts) →
       Roomy p depth heights cs items ts → Roomy p depth heights cs items (begun p o (length items) ts)
-  begins_over cs items o ts there under lone w = over (is_server p o.thing) refl
-    where
-      at_hand : Roomy p depth heights cs items (Destroy ∷ ts)
-      at_hand = going_begins p depth heights cs items ts (λ m e. under m (subst (λ x. Destructs p x m) there e)) w
-
-      over : (b : Bool) → is_server p o.thing ≡ b → Roomy p depth heights cs items (cond b (Closing ∷ Destroy ∷ ts) (destructed p o (length items) ts))
-      over true server = closing_begins p depth heights cs items ts (lone server) at_hand
-      over false plain = destructed_over cs items o ts under at_hand
+  begins_over cs items o ts there under lone w = grind (
+    arith,
+    nat_tests,
+    Roomy p depth heights cs items (Destroy ∷ ts),
+    going_begins p depth heights cs items ts,
+    under,
+    Roomy p depth heights cs items,
+    closing_begins p depth heights cs items ts,
+    destructed_over cs items o ts under,
+  )
 
   pub clears : (cs : List Cell) (items : List Item) (o : Object) (ts : List Task) → held cs (Entry (length items)) ≡ Some o → held cs (Going (length ts)) ≡ None → NoClosing ts → AllLow (length items) ts → Roomy p depth heights cs (An_object ∷ items) ts
       → Roomy p depth heights (moved (Entry (length items)) (Going (length ts)) cs) items (begun p o (length items) ts)
@@ -259,7 +251,7 @@ module _ (p : Image) (t : Typing) (depth heights : ℕ → ℕ) (tables : Tables
     all_low = (fr_low, lower fr.height (length s.items) ts fr_low h.low)
 
     counted_own : entries_in s.items ≡ length h.shape.entries + entries_in (below_height fr.height s.items)
-    counted_own = own_entries h.shape.entries h.below s.items h.items ∙ ap (λ n. length h.shape.entries + entries_in (below_height n s.items)) (sym h.height)
+    counted_own = grind (arith, nat_tests, own_entries h.shape.entries h.below s.items h.items)
 
     moves : (cs' : List Cell) → ((e : Place) → IsDealt e → held cs' e ≡ held s.cells e) → Roomy p depth heights cs' s.items (Run fr ∷ ts)
     moves cs' same = recelled p depth heights s.cells cs' s.items (Run fr ∷ ts) (same_all s.cells cs' (length s.items) (length (Run fr ∷ ts)) same) w
@@ -309,26 +301,14 @@ module _ (p : Image) (t : Typing) (depth heights : ℕ → ℕ) (tables : Tables
     -- ---- returns
 
     goes_back : (cs : List Cell) (items : List Item) (g : Gives) (a x : ℕ) (caller : Frame) (below : List Task) → Roomy p depth heights cs items (Run caller ∷ below) → Roomy p depth heights cs items (Run (next (received p fr ts s g a x caller)) ∷ below)
-    goes_back cs items Nothing a x caller below v = v
-    goes_back cs items A_word a x caller below v = v
-    goes_back cs items (An_own u) a x caller below v = v
-    goes_back cs items (A_maybe u) a x caller below v = v
-    goes_back cs items (Left u) a x caller below v = v
+    goes_back cs items x a y caller below v = grind arith
 
     goes_back_trapped : (cs : List Cell) (items : List Item) (g : Gives) (a x : ℕ) (caller : Frame) (below : List Task) (v : Option ℤ) → Roomy p depth heights cs items (Run caller ∷ below) → Roomy p depth heights cs items (Run (next (set_word (received p fr ts s g a x caller) (suc x) v)) ∷ below)
-    goes_back_trapped cs items Nothing a x caller below u v = v
-    goes_back_trapped cs items A_word a x caller below u v = v
-    goes_back_trapped cs items (An_own y) a x caller below u v = v
-    goes_back_trapped cs items (A_maybe y) a x caller below u v = v
-    goes_back_trapped cs items (Left y) a x caller below u v = v
+    goes_back_trapped cs items x a y caller below u v = grind arith
 
     -- the mark is gone
     low_top : (below : List Task) → AllLow (fr.height - 1) below → AllLow (length (below_top s.items)) below
-    low_top below low = go s.items fr_low
-      where
-        go : (items : List Item) → fr.height ≤ length items → AllLow (length (below_top items)) below
-        go [] le = lower (fr.height - 1) 0 below (omega (arith, le)) low
-        go (i ∷ items) le = lower (fr.height - 1) (length items) below (omega (arith, le)) low
+    low_top below low = grind (arith, nat_tests, fr_low, AllLow, lower (fr.height - 1) 0 below, lower (fr.height - 1))
 
     -- the state as the method ends
     abbrev over : State
@@ -398,7 +378,7 @@ module _ (p : Image) (t : Typing) (depth heights : ℕ → ℕ) (tables : Tables
     cancel_room m stands e =
         let its = cancel_family p fr m h.view e in
         let quiet = cancel_quiet p tables.wired fr m e in
-        let stays : leaves p m ≡ false = false_given (λ b. b ≡ true → is_quiet p m ≡ false) (leaves p m) (tables.wired.quiets m) (λ loud. absurd (true≢false (sym quiet ∙ loud refl))) (λ stays loud. stays) in
+        let stays : leaves p m ≡ false = grind (arith, nat_tests, false_given) in
         let among : Among m (cancels p (method_class p fr.method)) = subst (λ o. Among m (cancels p o)) (sym its.2) (cancel_among p (Some its.1) m (its.0, its.3, its.4)) in
         begins p depth heights (begun_cells fr s.cells) s.items (frame_as m fr.home fr.view (length s.items)) (Run fr ∷ ts) refl
         (may_call fr h.shape h.there Cancel m stands among)
@@ -476,17 +456,10 @@ module _ (p : Image) (t : Typing) (depth heights : ℕ → ℕ) (tables : Tables
     stands_as i j stands e = stands ∙ ap (λ x. Some x) e
 
     spot_apart : (x : Spot) (e : Place) → IsDealt e → same_place (spot_place p fr ts s x) e ≡ false
-    spot_apart (In_register a) e dealt = register_apart (length ts) a e dealt
-    spot_apart (In_field f) (Entry k) dealt = field_apart fr.home f k
-    spot_apart (In_field f) (Going k) dealt = field_stays fr.home f k
-    spot_apart The_message (Entry k) dealt = refl
-    spot_apart The_message (Going k) dealt = refl
-    spot_apart _ _ dealt = absurd (assumption tt)
+    spot_apart x e dealt = grind (arith, nat_tests, register_apart, field_apart fr.home, field_stays fr.home)
 
     made_same : (name x a : ℕ) (e : Place) → IsDealt e → held (cells_after p fr ts s (Made name x a)) e ≡ held s.cells e
-    made_same name x a (Entry k) dealt = refl
-    made_same name x a (Going k) dealt = refl
-    made_same name x a _ dealt = absurd (assumption tt)
+    made_same name x a y dealt = grind arith
 
     replied_same : (a : ℕ) (code : ℤ) (e : Place) → IsDealt e → held (cells_after p fr ts s (Replied a code)) e ≡ held s.cells e
     replied_same a code e dealt = go e dealt ∙ (redeemed_by_alike order code s.cells).held_so e
@@ -500,15 +473,7 @@ module _ (p : Image) (t : Typing) (depth heights : ℕ → ℕ) (tables : Tables
         go _ dealt = absurd (assumption tt)
 
     handed_same : (name a : ℕ) (e : Place) → IsDealt e → held (cells_after p fr ts s (Handed name a)) e ≡ held s.cells e
-    handed_same name a e dealt = go e dealt ∙ (rerequested_alike s.cells fr.home asked).held_so e
-      where
-        asked : Option Request
-        asked = on_request (promised (next_token s.cells)) (own_request s.cells fr.home)
-
-        go : (e : Place) → IsDealt e → held (cells_after p fr ts s (Handed name a)) e ≡ held (rerequested s.cells fr.home asked) e
-        go (Entry k) dealt = refl
-        go (Going k) dealt = refl
-        go _ dealt = absurd (assumption tt)
+    handed_same name a e dealt = grind (arith, nat_tests, rerequested_alike s.cells fr.home)
 
     -- after an update, with the method on top
     updated_room : (i : Instr) → instr_at p fr.method fr.place ≡ Some i → Ruled i → Leading i → (u : Update) → FitsUpdate ts s.items i u → After u

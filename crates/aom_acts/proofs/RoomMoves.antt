@@ -1,18 +1,16 @@
 -- Each move of a well-typed state keeps the room that a run needs.
+use Rattle.std.proofs.lemmas.Bool.Decides.{nat_tests}
 use Rattle.std.proofs.lemmas.Option.{none-some, same_Some}
-use Rattle.std.proofs.Common.{Bool, List, None, Option, Some, [], ap, arith, cond, false, inl, inr, length, pos, refl, subst, sym, true, ℕ, ℤ, ◌++◌, ◌∙◌, ◌∷◌, ◌≡◌, ◌≤◌}
+use Rattle.std.proofs.Common.{Bool, List, None, Option, Some, [], ap, arith, cond, false, inl, length, refl, subst, sym, true, ℕ, ℤ, ◌++◌, ◌∙◌, ◌∷◌, ◌≡◌, ◌≤◌}
 use Rattle.std.proofs.lemmas.Bool.{eq-eqb, true≢false}
 use Rattle.std.proofs.lemmas.List.{append-nil}
 use Rattle.std.specs.Prelude.{is_some}
-use Rattle.std.specs.Ordering.{int_eq}
-use Rattle.aom_image.specs.declared.method.Role.TheVariants.{Error as Answers}
 use Rattle.aom_image.specs.Image.{Image}
 use Rattle.aom_image.proofs.Given.{some_given}
 use Rattle.aom_image.specs.Views.{gives_of, instr_at}
 use Rattle.aom_instructions.specs.declared.instr.Instr.{Instr}
 use Rattle.aom_image.specs.declared.method.Gives.{Gives}
-use Rattle.aom_image.specs.declared.method.Gives.TheVariants.{Left, Maybe as A_maybe, Nothing, Own as An_own, Word as A_word}
-use Rattle.aom_classes.specs.Roles.{main_of}
+use Rattle.aom_image.specs.declared.method.Gives.TheVariants.{Nothing}
 use Rattle.aom_shape.specs.Needs.{AllTrue}
 use Rattle.aom_rules.specs.Rules.{flows, rule_needs}
 use Rattle.aom_shape.specs.Shape.{Shape}
@@ -47,12 +45,11 @@ use Rattle.aom_sound.specs.Laws.{IsWired}
 use Rattle.aom_sound.proofs.Destroying.{destroys_by}
 use Rattle.aom_sound.proofs.Layers.{closing_layer, dispatch_layer, method_layer}
 use Rattle.aom_sound.specs.Claims.{Dispatching, Dying, Ending, Layer, Method, claim, declared, forms, items_of, tasks_of}
-use Rattle.aom_sound.specs.Enlisted.{part_of}
-use Rattle.aom_sound.specs.Moves.{answered, asking, counted, dispatch_ends, error_frame, failed, handled, main_ends, object_ends, step}
+use Rattle.aom_sound.specs.Moves.{answered, asking, counted, dispatch_ends, main_ends, step}
 use Rattle.aom_sound.specs.Places.{service_of, Entry, Cell, Elsewhere, Going, Object, Place, Root, Session, held, moved, same_place, seen, without}
-use Rattle.aom_sound.specs.State.{Parts, Service_left, Serves, Of_server, Closing, Destroy, Accepts, Accepted, Accept_left, A_mark, An_object, An_operation, Answered, Asks, Choice, Dispatch, Dispatched, Frame, Goes, Home, Item, Main_left, Object_left, Of_main, Of_object, Of_root, Rest, Run, Seat, State, Task, Trapped, Unwind, frame_of, next}
+use Rattle.aom_sound.specs.State.{Closing, Destroy, A_mark, An_object, An_operation, Choice, Dispatch, Dispatched, Frame, Goes, Home, Item, Rest, Run, Seat, State, Task, Trapped, Unwind, frame_of, next}
 use Rattle.aom_sound.specs.WellTyped.{AllUndo, Fits as Fits_kind, Good, IsOfFamily, IsOverDying, WellTyped}
-use Rattle.aom_sound.specs.World.{boot_state, main_tasks}
+use Rattle.aom_sound.specs.World.{boot_state}
 use Rattle.aom_parts.specs.Room.{Destructs, HasRoom, entries_in}
 use Rattle.aom_parts.proofs.Depths.{Roomy, going_ends, held_apart, on_again, popped, recelled}
 use Rattle.aom_parts.proofs.Heights.{Stands_here, low_unwinding, stands_here}
@@ -175,8 +172,7 @@ lone_end p t s d ts typed at = dispatch_layer (λ ls. (length s.tasks ≡ length
 
 -- nothing is at hand to go past the tasks
 pub none_going_there : (p : Image) (t : Typing) (s : State) → WellTyped p t s → (k : ℕ) → length s.tasks ≡ k → held s.cells (Going k) ≡ None
-none_going_there p t s w k is =
-    fits_unowning p (seen s.cells) (held s.cells (Going k)) Null refl (subst (λ x. Fits_kind p (seen s.cells) (held s.cells (Going k)) x) (claim_going_above p s.cells w.layers k (omega (arith, ap length w.tasks, is))) (w.good.fits (Going k)))
+none_going_there p t s w k is = grind (arith, nat_tests, fits_unowning p, claim_going_above p s.cells w.layers k)
 
 module _ (p : Image) (t : Typing) (depth heights : ℕ → ℕ) (tables : Tables p t depth heights) where
   abbrev RoomyState : State → Type 0
@@ -188,49 +184,27 @@ module _ (p : Image) (t : Typing) (depth heights : ℕ → ℕ) (tables : Tables
 
   -- the method that goes on is the one that waited
   told : (s : State) (g : Gives) (x : ℕ) (code : ℤ) (fr : Frame) (items : List Item) (ts : List Task) → Roomy p depth heights s.cells items (Run fr ∷ ts) → Roomy p depth heights s.cells items (Run (next (code_told g x code fr)) ∷ ts)
-  told s Nothing x code fr items ts w = w
-  told s A_word x code fr items ts w = w
-  told s (An_own y) x code fr items ts w = w
-  told s (A_maybe y) x code fr items ts w = w
-  told s (Left y) x code fr items ts w = w
+  told s x y code fr items ts w = grind arith
 
   -- a dispatch ends, and its method that answers finds all the room that there is
   module _ (within : (m : ℕ) → heights m ≤ 1024) (s : State) (bare : s.items ≡ []) (free : held s.cells (Going 1) ≡ None) where
     root_roomy : (v : State) → v.cells ≡ s.cells → v.items ≡ s.items → (b : Bool) (root : Option Object) → held s.cells (Elsewhere Root) ≡ root → RoomyState (main_ends p b root v)
-    root_roomy v cells items true (Some o) holds =
-        begins_over p t depth heights tables (moved (Elsewhere Root) (Going 1) v.cells) v.items o (Dispatched Of_root ∷ [])
-        (goes_there_now v.cells (Elsewhere Root) 1 (ap (λ cs. held cs (Going 1)) cells ∙ free) refl ∙ ap (λ cs. held cs (Elsewhere Root)) cells ∙ holds)
-        (λ m e. tt) (λ server. tt) (tt, tt, tt, few v (items ∙ bare))
-    root_roomy v cells items true None holds = (tt, tt, tt, few v (items ∙ bare))
-    root_roomy v cells items false root holds = (tt, tt, tt, few v (items ∙ bare))
+    root_roomy v cells items x root holds = grind (
+      arith,
+      nat_tests,
+      begins_over p t depth heights tables,
+      goes_there_now v.cells (Elsewhere Root) 1,
+      few v (items ∙ bare),
+    )
 
     answer_roomy : (answer : ℤ) → RoomyState (answered p answer s)
-    answer_roomy answer = go (int_eq answer (pos 0))
-      where
-        go : (b : Bool) → RoomyState (cond b (object_ends p s) (failed answer s))
-        go true = root_roomy (handled s) refl refl s.rest.stopped (held s.cells (Elsewhere Root)) refl
-        go false = (tt, tt, tt, few s bare)
+    answer_roomy answer = grind (arith, nat_tests, root_roomy, few s bare)
 
     asking_roomy : (m : Option ℕ) (x : Seat) (code : ℤ) → RoomyState (asking p m x code s)
-    asking_roomy None x code = answer_roomy code
-    asking_roomy (Some m) x code =
-        subst (λ items. Roomy p depth heights s.cells items (Run (error_frame m x code (length items)) ∷ Dispatched (Asks x) ∷ [])) (sym bare)
-        ((tt, tt), (tt, tt), ((λ may. let most = within m in omega (arith, most)), tt), omega arith)
+    asking_roomy x y code = grind (arith, nat_tests, answer_roomy code, Roomy p depth heights s.cells)
 
     ends : (d : Dispatch) → RoomyState (dispatch_ends p d s)
-    ends Of_root = (tt, tt, tt, few s bare)
-    ends (Main_left code) = (tt, tt, tt, few s bare)
-    ends Of_main = root_roomy s refl refl s.rest.stopped (held s.cells (Elsewhere Root)) refl
-    ends (Of_object x) = root_roomy (handled s) refl refl s.rest.stopped (held s.cells (Elsewhere Root)) refl
-    ends (Object_left x code) = asking_roomy (part_of p Answers x.object.thing) x code
-    ends (Asks x) = root_roomy (handled s) refl refl s.rest.stopped (held s.cells (Elsewhere Root)) refl
-    ends (Answered x answer) = answer_roomy answer
-    ends (Of_server x client Accepts) = (tt, tt, tt, few s bare)
-    ends (Of_server x client Accepted) = (tt, tt, tt, few s bare)
-    ends (Of_server x client (Accept_left code)) = (tt, tt, tt, few s bare)
-    ends (Of_server x client (Serves o)) = (tt, tt, tt, few s bare)
-    ends (Of_server x client (Service_left code)) = (tt, tt, tt, few s bare)
-    ends (Of_server x client Parts) = (tt, tt, tt, few s bare)
+    ends x = grind (arith, nat_tests, few s bare, root_roomy s, asking_roomy, answer_roomy)
 
   -- a method's move
   acts :
@@ -258,8 +232,7 @@ module _ (p : Image) (t : Typing) (depth heights : ℕ → ℕ) (tables : Tables
   emptied :
       (c : Choice) (s : State) → WellTyped p t s → (ts : List Task) (o : Object) → s.tasks ≡ Closing ∷ Destroy ∷ ts → held s.cells (Going (length ts)) ≡ Some o → Roomy p depth heights s.cells s.items (Closing ∷ Destroy ∷ ts) →
       (x : Option Seat) → first_session s.cells o.name (service_of s.cells o.name).sessions ≡ x → RoomyState (parting p o x ts (counted p s))
-  emptied c s w ts o at there room None e =
-      destructed_over p t depth heights tables s.cells s.items o ts (λ m d. room.1.1.0 m (subst (λ y. Destructs p y m) (sym there) d)) (room.0, room.1.1, room.2, room.3)
+  emptied c s w ts o at there room None e = grind (arith, nat_tests, destructed_over p t depth heights tables s.cells s.items o ts)
   emptied c s w ts o at there room (Some x) e =
       let f = first_held s.cells o.name (service_of s.cells o.name).sessions x e in
       let k = length (Closing ∷ Destroy ∷ ts) in
@@ -286,10 +259,14 @@ module _ (p : Image) (t : Typing) (depth heights : ℕ → ℕ) (tables : Tables
       let before : (e : Place) → held left e ≡ held (dropped (is_queue_of o.name) s.cells) e = λ e. ap (λ cs. held cs e) (queue_dropped o.name s.cells) in
       subst RoomyState (sym same) (on_again p depth heights cells' s.items ts (recelled p depth heights s.cells cells' s.items ts (
         λ k lt. still (Entry k) ∙ held_without left (Going (length ts)) (Entry k) ∙ before (Entry k) ∙ held_dropped (is_queue_of o.name) s.cells (Entry k),
-        λ k lt. still (Going k) ∙ held_without left (Going (length ts)) (Going k) ∙ ap (λ b. cond b None (held left (Going k))) (going_apart (length ts) k lt) ∙ before (Going k) ∙ held_dropped (is_queue_of o.name) s.cells (Going k),
+        grind (arith, nat_tests, held_without left, going_apart, held_dropped),
       ) (going_ends p depth heights s.cells s.items ts (subst (λ us. Roomy p depth heights s.cells s.items us) at room))))
-  roomy_moves within typed c s u w room (Empties ts o at there same) =
-      subst RoomyState (sym same) (emptied c s w ts o at there (subst (λ us. Roomy p depth heights s.cells s.items us) at room) (first_session s.cells o.name (service_of s.cells o.name).sessions) refl)
+  roomy_moves within typed c s u w room (Empties ts o at there same) = grind (
+    arith,
+    nat_tests,
+    emptied c s w ts o at there,
+    Roomy p depth heights s.cells s.items,
+  )
   roomy_moves within typed c s u w room (Clears code ts items o at top there same) =
       subst RoomyState (sym same) (clears p t depth heights tables s.cells items o (Unwind code ∷ ts) there (none_going_there p t s w (length (Unwind code ∷ ts)) (ap length at)) tt (low_unwinding p t s code ts An_object items w at top) (with_top code ts An_object items s room at top))
   roomy_moves within typed c s u w room (Undoes code ts items m x at top same) =
@@ -314,16 +291,7 @@ keeps_room p t wired typed strongest depths heights c s u w room e =
 
 -- the boot state has it
 pub boots_with_room : (p : Image) (depth : ℕ → ℕ) (heights : HasHeights p) → HasRoom p depth (at 0 heights.heights) (boot_state p)
-boots_with_room p depth heights = go (main_of p)
-  where
-    go : (m : Option ℕ) → HasRoom p depth (at 0 heights.heights) (record (boot_state p) { tasks = main_tasks m })
-    go None = record { under = tt; runs = tt; fit = tt; entries = omega arith }
-    go (Some m) = record {
-      under = (tt, tt);
-      runs = ((λ le k e. absurd e, tt), tt);
-      fit = (λ may. let most = heights.are.within m in omega (arith, most), tt);
-      entries = omega arith;
-    }
+boots_with_room p depth heights = grind (arith, nat_tests)
 
 -- and so has a dispatch that begins
 pub dispatches_with_room :

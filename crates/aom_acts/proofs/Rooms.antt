@@ -1,4 +1,5 @@
 -- The room that a run needs is there: on the machine's side as on that of the checked machine.
+use Rattle.std.proofs.lemmas.Bool.Decides.{nat_tests}
 use Rattle.std.proofs.Common.{List, Some, ap, arith, length, suc, sym, ℕ, ◌+◌, ◌<◌, ◌∙◌, ◌∷◌, ◌≡◌}
 use Rattle.aom_image.specs.Image.{Image}
 use Rattle.aom_image.specs.Views.{instr_at}
@@ -64,10 +65,7 @@ module _ (p : Image) (m : Parts) (st : Stands (record { image = p; parts = m }))
       (f.0, f.1, f.2, ap (λ k. instr_at p k f.0.place) (sym f.3) ∙ ap (λ k. instr_at p (method_here m.stack.tasks) k) (sym f.4) ∙ here)
 
   entry_room : room.entries_in st.0.items < 1024 → entries_in m.entries.items < m.entries.depth
-  entry_room few =
-      let same = same_entries m.entries.items st.0.items st.1.agrees.entries in
-      let deep = st.1.agrees.entry_room in
-      omega (arith, few, same, deep)
+  entry_room few = grind (arith, nat_tests, same_entries m.entries.items st.0.items st.1.agrees.entries)
 
 -- for an entry where one is pushed
 pub push_room : (p : Image) (m : Parts) (a : ℕ) → IsNext p (Push a) m → entries_in m.entries.items < m.entries.depth

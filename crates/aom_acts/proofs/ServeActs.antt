@@ -1,10 +1,11 @@
 -- What the method of a server's dispatch makes of it once it has returned: what `accept` gave is the session of its client, and a message is served.
-use Rattle.std.proofs.Common.{Bool, List, None, Some, [], ap, cond, false, refl, subst, sym, true, ℕ, ◌<◌, ◌==◌, ◌∙◌, ◌∷◌, ◌≡◌, ◌≤◌}
+use Rattle.std.proofs.lemmas.Bool.Decides.{nat_tests}
+use Rattle.std.proofs.Common.{arith, Bool, List, None, Some, [], ap, cond, false, refl, subst, sym, true, ℕ, ◌<◌, ◌==◌, ◌∙◌, ◌∷◌, ◌≡◌, ◌≤◌}
 use Rattle.aom_image.specs.Image.{Image}
 use Rattle.aom_cells.specs.Heap.{null}
 use Rattle.aom_clients.specs.Clients as kept
 use Rattle.aom_clients.specs.Table.{no_cell}
-use Rattle.aom_cleanup.specs.Items.{Stack as Held_items, entry_in}
+use Rattle.aom_cleanup.specs.Items.{Stack as Held_items}
 use Rattle.aom_cleanup.specs.declared.item.Item.TheVariants.{Mark as Is_mark}
 use Rattle.aom_frames.specs.declared.dispatch.Dispatch.TheVariants.{Server as Of_one_served}
 use Rattle.aom_frames.specs.declared.dispatch.Stage.TheVariants as stages
@@ -33,7 +34,7 @@ use Rattle.aom_parts.proofs.Servicing.{connecting_here, reserved_moved}
 use Rattle.aom_parts.proofs.Sessions.{natives_moved}
 use Rattle.aom_parts.proofs.Sizing.{sized_connected}
 use Rattle.aom_parts.proofs.Still.{same_still, still_moved}
-use Rattle.aom_parts.specs.Agrees.{Agrees, Shows, number, seat_of, subject_of, word_at}
+use Rattle.aom_parts.specs.Agrees.{Agrees, Shows, seat_of, subject_of, word_at}
 use Rattle.aom_parts.specs.Places.{others, value_in}
 use Rattle.aom_parts.specs.Serving.{SameClients}
 use Rattle.aom_parts.specs.declared.parts.Parts.{Parts}
@@ -116,7 +117,7 @@ module _ (p : Image) (few : p.header.cells ≤ 4096) (m : Parts) (s : State) (ti
       where
         shown : (r : Place) → Shows (value_in (Ends (Of_one_served x c stages.Accepted) ∷ []) m.cells es.items (record (others m) { clients = k }) r) (word_at (Dispatched (Of_server (seat_of q x) c Accepted) ∷ []) r) (held after r)
         shown (Register i j) = shows_null _ _ _ (cond_same (0 == i) null) (cond_same (0 == i) None) (shut.registers i j)
-        shown (Entry i) = shows_null _ _ _ (sym (mark_shows_none es.items i) ∙ ap (λ (e : Held_items). entry_in e.items i) (sym marked) ∙ agrees.values (Entry i) ∙ ap number (sym (holds (Entry i)) ∙ shut.entries i)) refl (shut.entries i)
+        shown (Entry i) = grind (arith, nat_tests, shows_null, mark_shows_none es.items i, holds (Entry i))
         shown (Going i) = shows_null _ _ _ (cond_same (0 == i) null) refl (shut.goings i)
         shown (Field i f) = values m.stack.tasks s.tasks (Field i f) refl (agrees.values (Field i f)) refl
         shown (Elsewhere Root) = values m.stack.tasks s.tasks (Elsewhere Root) refl (agrees.values (Elsewhere Root)) refl

@@ -1,4 +1,5 @@
 -- The end of a stage of a server's dispatch: what becomes of its client, and of the message that a service left.
+use Rattle.std.proofs.lemmas.Bool.Decides.{nat_tests}
 use Rattle.std.proofs.Common.{List, None, Option, Some, [], ap, append-nil, arith, cond, length, refl, subst, sym, true, ℕ, ℤ, ◌&&◌, ◌++◌, ◌+◌, ◌<◌, ◌==◌, ◌∙◌, ◌∷◌, ◌≡◌, ◌≤◌}
 use Rattle.std.specs.Prelude.{is_some}
 use Rattle.std.proofs.lemmas.Bool.{eq-eqb}
@@ -25,13 +26,13 @@ use Rattle.aom_sound.proofs.Services.{held_served}
 use Rattle.aom_sound.proofs.Things.{stands_message}
 use Rattle.aom_sound.specs.Clients.{at_parting, client_at, with_client}
 use Rattle.aom_clients.specs.declared.client.Client.{Client}
-use Rattle.aom_clients.specs.declared.client.Client.TheVariants.{Closing as Closes, Connecting, Dead, Dying, Gone, Open, Unconnected}
+use Rattle.aom_clients.specs.declared.client.Client.TheVariants.{Unconnected}
 use Rattle.aom_clients.specs.Nodes.{is_leaving}
 use Rattle.aom_sound.specs.Kept.{IsKept, StageKept, TasksKept}
 use Rattle.aom_sound.specs.Laws.{IsWired}
 use Rattle.aom_sound.specs.Lines.{message_line, stage_lines}
 use Rattle.aom_sound.specs.Moves.{needs_end, stage_ends, written_task}
-use Rattle.aom_sound.specs.Places.{Cell, Elsewhere, In_service, Object, Place, Session, changed, held, named, seen, service_of, without}
+use Rattle.aom_sound.specs.Places.{Cell, Elsewhere, In_service, Object, Place, Session, held, named, seen, service_of, without}
 use Rattle.aom_sound.specs.Servers.{parted, reserved}
 use Rattle.aom_sound.specs.State.{Accept_left, Accepted, Accepts, Dispatched, Goes, Of_object, Of_server, Seat, Service_left, State, Rest, guarded, CompletedTwice}
 use Rattle.aom_sound.specs.State as checked
@@ -100,7 +101,12 @@ session_gone p t s x c typed top =
     dispatch_layer (Good p t s.cells) (Of_server x c checked.Parts) [] typed.layers (sym typed.tasks ∙ top) typed.good (λ seats ls _ good.
     let q = Elsewhere (Session x.object.name c) in
     let old = claim p (declared p s.cells) ls q in
-    let null_there : cond ((x.object.name == x.object.name) && (c == c)) Null old ≡ Null = ap (λ b. cond (b && (c == c)) Null old) (eq-eqb x.object.name x.object.name refl) ∙ ap (λ b. cond b Null old) (eq-eqb c c refl) in
+    let null_there : cond ((x.object.name == x.object.name) && (c == c)) Null old ≡ Null = grind (
+      arith,
+      nat_tests,
+      eq-eqb x.object.name x.object.name,
+      eq-eqb c c,
+    ) in
     fits_null p (seen s.cells) (held s.cells q) (subst (Fits p (seen s.cells) (held s.cells q)) null_there (good.fits q)))
 
 -- ---- what is left
@@ -145,11 +151,7 @@ module _ (p : Image) (formed : WellFormed p) (m : Parts) (announced : m.rest.ann
 
     -- places of tasks show nothing
     base : (q : Place) → Shows (value_in (Ends (Of_one x) ∷ []) m.cells m.entries.items (others m) q) (word_at (Dispatched (Of_object seat) ∷ []) q) (held s.cells q)
-    base q =
-        subst (λ v. Shows v (word_at (Dispatched (Of_object seat) ∷ []) q) (held s.cells q)) (end_value (Of_one_served x c stage) (Of_one x) m.cells m.entries.items (others m) q)
-        (subst (λ w. Shows (value_in (Ends (Of_one_served x c stage) ∷ []) m.cells m.entries.items (others m) q) w (held s.cells q)) (end_word (Of_server seat c (stage_of stage)) (Of_object seat) q)
-        (subst (λ us. Shows (value_in us m.cells m.entries.items (others m) q) (word_at (Dispatched (Of_server seat c (stage_of stage)) ∷ []) q) (held s.cells q)) e.held_top
-        (subst (λ us. Shows (value_in m.stack.tasks m.cells m.entries.items (others m) q) (word_at us q) (held s.cells q)) e.top (agrees.values q))))
+    base q = grind (arith, nat_tests, end_value (Of_one_served x c stage) (Of_one x) m.cells m.entries.items, end_word)
 
     -- nothing else changes
     plain : Left m.clients m.messages m.served s.cells s.clients seat
@@ -187,7 +189,7 @@ module _ (p : Image) (formed : WellFormed p) (m : Parts) (announced : m.rest.ann
       let v = parted c (service_of s.cells x.number) in
       let beside = beside_served s.cells x.number v in
       let gone : kept_session ≡ null = agrees.values (Elsewhere (Session x.number c)) ∙ ap number (session_gone p t s (seat_of e.place x) c typed e.top) in
-      let leaving : is_leaving x.number (kept.client_at m.clients c) ≡ true = sym (leaving_sessionless x.number (kept.client_at m.clients c)) ∙ ap (is_leaving x.number) (same.at c) ∙ leaves.0 in
+      let leaving : is_leaving x.number (kept.client_at m.clients c) ≡ true = grind (arith, nat_tests) in
       record {
         cells = cells_beside p m.cells s.cells _ beside agrees.cells;
         requests = requests_kept p m.active s.cells x.number v refl agrees.requests;
@@ -208,13 +210,7 @@ module _ (p : Image) (formed : WellFormed p) (m : Parts) (announced : m.rest.ann
       kept_session = session_with x.number (kept.client_at m.clients c)
 
       leaving_sessionless : (n : ℕ) (y : Client) → is_leaving n (sessionless y) ≡ is_leaving n y
-      leaving_sessionless n Unconnected = refl
-      leaving_sessionless n (Connecting server slots) = refl
-      leaving_sessionless n (Open server session slots) = refl
-      leaving_sessionless n (Closes server session) = refl
-      leaving_sessionless n (Dying server session) = refl
-      leaving_sessionless n Gone = refl
-      leaving_sessionless n Dead = refl
+      leaving_sessionless n y = grind arith
 
   -- the message of a service that was left is completed
   module _ (code : ℤ) (e : AtStage p m s x c (stages.ServiceLeft code)) where
@@ -247,10 +243,7 @@ module _ (p : Image) (formed : WellFormed p) (m : Parts) (announced : m.rest.ann
         requests = requests_completed p t s typed q its.object its.there its.message does.place name m.active agrees.requests;
         natives = natives_completed p t s typed q its.object its.there its.message does.place name m.sessions formed.header.cells agrees.natives;
         services = services_completed p t s typed q its.object its.there its.message does.place name wired fits refl sent m.clients m.messages m.tokens m.listed agrees.services mid.messages does.released does.count;
-        values = writes _ _ _ _ (held s.cells) _ q null None None (base stage e) refl
-            (λ r. served_written (Ends (Of_one x) ∷ []) m.cells m.entries.items (record (others m) { clients = k }) null r ∙ ap (λ n. changed (λ i. n) q null r) (same_values r))
-            (stays (word_at (Dispatched (Of_object (seat_of e.place x)) ∷ [])) q)
-            (held_without s.cells q);
+        values = grind (arith, nat_tests, writes, base, served_written (Ends (Of_one x) ∷ []) m.cells m.entries.items, stays, held_without s.cells);
       }
         where
           same_values : (r : Place) → value_in (Ends (Of_one x) ∷ []) m.cells m.entries.items (record (others m) { clients = k }) r ≡ value_in (Ends (Of_one x) ∷ []) m.cells m.entries.items (others m) r
@@ -288,7 +281,7 @@ module _ (p : Image) (formed : WellFormed p) (m : Parts) (announced : m.rest.ann
   -- what is below goes on with it
   over : (k : kept.State) (store : Store) (served : ℕ) (stage : Held_stage) (u : State) → AtStage p m s x c stage
       → Agrees p (record m { stack = record m.stack { tasks = Ends (Of_one x) ∷ [] }; clients = k; messages = store; served = served }) u → Agrees p (then (record m { clients = k; messages = store; served = served })) u
-  over k store served _ u e h = subst (λ us. Agrees p (record m { stack = record m.stack { tasks = Ends (Of_one x) ∷ us }; clients = k; messages = store; served = served }) u) (sym (ap below_first e.held_top)) h
+  over k store served _ u e h = grind (arith, nat_tests)
 
   ends_stage : (stage : Held_stage) (mid : Parts) (before now : Turn) (e : AtStage p m s x c stage) → EndsStage c stage m mid before now
       → Agrees p (then mid) (stage_ends (seat_of e.place x) c (stage_of stage) (at_close s)) × Told s.cells stage before now
@@ -301,7 +294,7 @@ module _ (p : Image) (formed : WellFormed p) (m : Parts) (announced : m.rest.ann
     does.1,
   )
   ends_stage (stages.AcceptLeft code) mid before now e does = (
-    subst (λ k. Agrees p (then k) (stage_ends (seat_of e.place x) c (checked.Accept_left code) (at_close s))) (sym does.0) (over (kept.after_connected c None m.clients) m.messages m.served (stages.AcceptLeft code) _ e (ends_so e.place (kept.after_connected c None m.clients) m.messages m.served s.cells (with_client c Unconnected s.clients) (left_alone code e))),
+    grind (arith, nat_tests, at_close s, over, ends_so e.place, left_alone code e),
     does.1,
   )
   ends_stage (stages.Serves o) mid before now e does = (
@@ -309,11 +302,11 @@ module _ (p : Image) (formed : WellFormed p) (m : Parts) (announced : m.rest.ann
     does.1 ∙ ap (λ ls. record before { lines = ls }) (sym (append-nil before.lines)),
   )
   ends_stage (stages.ServiceLeft code) mid before now e does = (
-    subst (λ k. Agrees p (then k) (stage_ends (seat_of e.place x) c (checked.Service_left code) (at_close s))) (sym does.rest) (over (kept.after_complete does.place m.clients) mid.messages null (stages.ServiceLeft code) _ e (ends_so e.place (kept.after_complete does.place m.clients) mid.messages null (without (Elsewhere In_service) s.cells) s.clients (completed code e mid now before does))),
+    grind (arith, nat_tests, at_close s, over, ends_so e.place, completed code e mid now before does),
     does.line ∙ ap (λ ls. record before { lines = before.lines ++ ls }) (told code e mid now before does),
   )
   ends_stage stages.Parts mid before now e does = (
-    subst (λ k. Agrees p (then k) (stage_ends (seat_of e.place x) c checked.Parts (at_close s))) (sym does.0) (over (kept.after_closed c m.clients) m.messages m.served stages.Parts _ e (ends_so e.place (kept.after_closed c m.clients) m.messages m.served (reserved (parted c) x.number s.cells) (with_client c (at_parting (client_at s.clients c)) s.clients) (parts_so e))),
+    grind (arith, nat_tests, at_close s, over, ends_so e.place, parts_so e),
     does.1 ∙ ap (λ ls. record before { lines = ls }) (sym (append-nil before.lines)),
   )
 
@@ -328,12 +321,14 @@ module _ (p : Image) (formed : WellFormed p) (m : Parts) (announced : m.rest.ann
 
   -- the client is one, and the message that a service left is still the one that is served
   can_end_stage : (stage : Held_stage) → AtStage p m s x c stage → CanEndStage c stage m
-  can_end_stage stages.Accepts e = tt
-  can_end_stage stages.Accepted e = tt
-  can_end_stage (stages.AcceptLeft code) e = let connects = stage_kept (stages.AcceptLeft code) e in connecting_below s.cells s.clients m.clients agrees.services.clients c x.number connects.0
-  can_end_stage (stages.Serves o) e = tt
-  can_end_stage (stages.ServiceLeft code) e = taken code e
-  can_end_stage stages.Parts e = let leaves = stage_kept stages.Parts e in leaving_below s.cells s.clients m.clients agrees.services.clients c x.number leaves.0
+  can_end_stage y e = grind (
+    arith,
+    nat_tests,
+    stage_kept,
+    connecting_below s.cells s.clients m.clients agrees.services.clients c x.number,
+    taken,
+    leaving_below s.cells s.clients m.clients agrees.services.clients c x.number,
+  )
 
 -- the end of a stage is a move
 pub stage_moves : (p : Image) (m : Parts) (before now : Turn) → m.rest.announced ≡ true → (x : Subject) (c : ℕ) (stage : Held_stage) (mid : Parts) → ending_here m.stack.tasks ≡ Some (Of_one_served x c stage) → EndsStage c stage m mid before now
@@ -351,18 +346,16 @@ stage_moves p m before now announced x c stage mid ending does t s sound typed f
 
 -- what its end requires of the code
 pub stage_can : (p : Image) (m : Parts) → Stands (record { image = p; parts = m }) → m.rest.announced ≡ true → (x : Subject) (c : ℕ) (stage : Held_stage) → ending_here m.stack.tasks ≡ Some (Of_one_served x c stage) → CanEndStage c stage m
-stage_can p m st announced x c stage ending =
-    let e = at_stage p st.1.typing m st.0 st.1.typed st.1.agrees x c stage ending in
-    can_end_stage p st.1.sound.formed m announced st.1.typing st.0 st.1.sound.wired st.1.typed st.1.kept st.1.agrees x c stage e
+stage_can p m st announced x c stage ending = grind (
+  arith,
+  nat_tests,
+  at_stage p st.1.typing m st.0 st.1.typed st.1.agrees x c stage ending,
+  can_end_stage p st.1.sound.formed m announced st.1.typing st.0 st.1.sound.wired st.1.typed st.1.kept st.1.agrees x c stage,
+)
 
 -- no task changes as a stage ends
 pub stage_stack : (c : ℕ) (stage : Held_stage) (old new : Parts) (told now : Turn) → EndsStage c stage old new told now → new.stack ≡ old.stack
-stage_stack c stages.Accepts old new _ _ does = ap (λ (k : Parts). k.stack) does.0
-stage_stack c stages.Accepted old new _ _ does = ap (λ (k : Parts). k.stack) does.0
-stage_stack c (stages.AcceptLeft code) old new _ _ does = ap (λ (k : Parts). k.stack) does.0
-stage_stack c (stages.Serves o) old new _ _ does = ap (λ (k : Parts). k.stack) does.0
-stage_stack c (stages.ServiceLeft code) old new _ _ does = ap (λ (k : Parts). k.stack) does.rest
-stage_stack c stages.Parts old new _ _ does = ap (λ (k : Parts). k.stack) does.0
+stage_stack c x old new _ _ does = grind arith
 
 pub stage_room : (c : ℕ) (stage : Held_stage) (old new : Parts) (told now : Turn) → EndsStage c stage old new told now → (length old.stack.tasks + 1) < old.stack.depth → length new.stack.tasks ≤ new.stack.depth
 stage_room c stage old new told now does room = subst (λ k. length k.tasks ≤ k.depth) (sym (stage_stack c stage old new told now does)) (omega (arith, room))

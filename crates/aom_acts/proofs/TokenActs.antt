@@ -1,26 +1,22 @@
 -- Tokens: one is handed out for the request of the method's object, and one is replied to, which completes the request that waits for it.
-use Rattle.std.proofs.Common.{[], Bool, List, None, Option, Some, ap, arith, cond, false, length, refl, subst, sym, true, ℕ, ℤ, ◌+◌, ◌++◌, ◌<◌, ◌==◌, ◌≤◌, ◌∙◌, ◌∷◌, ◌≡◌, inl, inr, append-nil}
-use Rattle.std.specs.Prelude.{IfSome, IsSome, IsTrue, is_none, is_some, nat_le}
-use Rattle.std.proofs.lemmas.Bool.{eq-eqb, false≢true, le-leb, lt-leb}
-use Rattle.std.proofs.lemmas.Option.{none-some, same_Some}
+use Rattle.std.proofs.lemmas.Bool.Decides.{nat_tests}
+use Rattle.std.proofs.Common.{[], Bool, List, None, Option, Some, ap, arith, cond, false, length, refl, subst, sym, true, ℕ, ℤ, ◌+◌, ◌++◌, ◌<◌, ◌≤◌, ◌∙◌, ◌∷◌, ◌≡◌, inl, inr, append-nil}
+use Rattle.std.specs.Prelude.{IfSome, IsTrue, is_some}
+use Rattle.std.proofs.lemmas.Bool.{eq-eqb, le-leb, lt-leb}
+use Rattle.std.proofs.lemmas.Option.{none-some}
 use Rattle.std.specs.Int.{w32, cast_signed}
 use Rattle.aom_active.specs.Agrees.{Active, StandsFor, queued}
-use Rattle.aom_active.specs.Meanings.{Makes, asked_anew}
+use Rattle.aom_active.specs.Meanings.{asked_anew}
 use Rattle.aom_active.proofs.Telling.{held_state}
 use Rattle.aom_cells.specs.Heap.{Lives, cell_at, class_at as class_of_cell, null}
-use Rattle.aom_cells.specs.declared.cell.Cell.{Cell as Held_cell}
 use Rattle.aom_frames.specs.Tasks.{on_top, register_here, with_register}
-use Rattle.aom_frames.specs.declared.task.Task.{Task as Held_task}
-use Rattle.aom_frames.specs.declared.task.Task.TheVariants.{Run as Runs_frame}
 use Rattle.aom_image.specs.Image.{Image}
 use Rattle.aom_image.specs.declared.class.ClassKind.{ClassKind}
-use Rattle.aom_image.specs.declared.method.Thing.{Thing}
 use Rattle.aom_image.specs.declared.method.Thing.TheVariants.{Message}
 use Rattle.aom_instructions.specs.declared.instr.Instr.TheVariants.{Hand, Reply}
 use Rattle.aom_lines.specs.Turn.{Turn}
 use Rattle.aom_messages.specs.Store.{Changes, Store, count, first_number, message_at}
 use Rattle.aom_requests.specs.Requests.{is_pending, request_at, state_at}
-use Rattle.aom_requests.specs.declared.request.Request.{Request as Held_request}
 use Rattle.aom_shape.specs.Needs.{AllTrue}
 use Rattle.aom_shape.specs.Tables.{put_at}
 use Rattle.aom_sound.proofs.Handing.{token_active}
@@ -31,8 +27,7 @@ use Rattle.aom_sound.proofs.Requesting.{active_listed}
 use Rattle.aom_sound.proofs.Storing.{rerequested_alike}
 use Rattle.aom_sound.specs.Clients.{count_messages}
 use Rattle.aom_sound.specs.Effects.{applied, hands_unless, sets}
-use Rattle.aom_sound.specs.Enlisted.{completed_at_once, home_kind, in_phase, is_idle, is_unanswered, on_request, own_request, rerequested}
-use Rattle.aom_sound.specs.Natives.{is_owed}
+use Rattle.aom_sound.specs.Enlisted.{completed_at_once, home_kind, is_idle, is_unanswered, on_request, own_request, rerequested}
 use Rattle.aom_sound.specs.Kept.{IsKept}
 use Rattle.aom_sound.specs.Moves.{is_refused, needs}
 use Rattle.aom_sound.specs.Places.{Cell, Elsewhere, Idle, Object, Place, Register, Request, Root, Token, changed, held, named, requested, same_place, service_of, set_request, without}
@@ -47,21 +42,18 @@ use Rattle.aom_parts.proofs.Owed.{pending_told}
 use Rattle.aom_parts.proofs.Sessions.{natives_rerequested}
 use Rattle.aom_parts.proofs.Redeeming.{cells_answered, its_order, its_token, natives_answered, redeemed_left, requests_answered, services_answered, waits_here}
 use Rattle.aom_parts.proofs.Replying.{completion_told, message_kept, place_below, place_of, told_no_sender}
-use Rattle.aom_parts.specs.Agrees.{Agrees, SameRequests, heard_by, thing_in}
+use Rattle.aom_parts.specs.Agrees.{Agrees, SameRequests, heard_by}
 use Rattle.aom_parts.specs.Fields.{this}
-use Rattle.aom_parts.specs.Messages.{is_a_message}
 use Rattle.aom_parts.specs.Places as places
 use Rattle.aom_parts.specs.Places.{others, set_register, value_in}
 use Rattle.aom_parts.specs.Serving.{message_name}
 use Rattle.aom_parts.specs.Tokens as meant
 use Rattle.aom_parts.specs.Tokens.{LetsGo, class_in, no_words}
 use Rattle.aom_parts.specs.declared.parts.Parts.{Parts}
-use Rattle.aom_tokens.specs.Tokens.{Kept, Sets, class_at, class_kept, object_kept, redeemed, token_at, waiting}
-use Rattle.aom_tokens.specs.declared.tokens.Token.{Token as Held_token}
+use Rattle.aom_tokens.specs.Tokens.{Kept, Sets, class_at, redeemed}
 use Rattle.aom_acts.specs.Acts.{At_hand, Does, Tells}
 use Rattle.aom_acts.specs.Next.{IsNext, counting}
-use Rattle.aom_acts.specs.Serving.{completion_lines}
-use Rattle.aom_acts.specs.Tokens.{Answers, CompletesOne, Hands, HandsNone, HandsOne, IsAnswerable, Pends, Redeems, RedeemsOne}
+use Rattle.aom_acts.specs.Tokens.{Answers, Hands, HandsNone, HandsOne, IsAnswerable, Pends, Redeems, RedeemsOne}
 use Rattle.aom_acts.proofs.GoingActs.{thing_is}
 use Rattle.aom_acts.proofs.GoingOn.{goes_on_with, still_none, written}
 use Rattle.aom_acts.proofs.Housing.{at_hand, needs_met}
@@ -78,11 +70,7 @@ awaits_answered order k n r suits waits = grind arith
 
 -- at a place without a token none is completed
 none_redeemed : (w : Kept) (place : ℕ) → class_at w place ≡ None → redeemed w place ≡ None
-none_redeemed w place none = go (token_at w place) refl none
-  where
-    go : (t : Option Held_token) → token_at w place ≡ t → class_kept (token_at w place) ≡ None → redeemed w place ≡ None
-    go None e f = ap (λ t. waiting w place (object_kept t)) e
-    go (Some t) e f = absurd (none-some t.class (sym f ∙ ap class_kept e))
+none_redeemed w place none = grind (arith, nat_tests)
 
 module _ (m : Parts) (a b place : ℕ) (store : Store) (active : Active) (w : Kept) (code : ℤ) (named_so : first_number + place ≡ register_here m.stack.tasks a) (told : is_some (class_at m.tokens place) ≡ true)
     (read_so : code ≡ cast_signed w32 (register_here m.stack.tasks b)) where
@@ -172,16 +160,11 @@ module _ (m mid new : Parts) (told now : Turn) (n : ℕ) (code : ℤ) (a b : ℕ
 
 -- the method is as it was, but for its tokens
 pub answer_rest : (n : ℕ) (code : ℤ) (old new : Parts) (told now : Turn) → Answers n code old new told now → new.stack ≡ old.stack
-answer_rest n code old new told now (inl does) = ap (λ (x : Parts). x.stack) does.redeems.rest
-answer_rest n code old new told now (inr does) = ap (λ (x : Parts). x.stack) does.completes.rest
+answer_rest n code old new told now x = grind arith
 
 -- what has a request lives
 asked_lives : (cs : List Cell) (n : ℕ) → is_some (requested cs n) ≡ true → (o : Object) × (named cs n ≡ Some o) × (o.name ≡ n)
-asked_lives cs n asked = go (named cs n) refl
-  where
-    go : (x : Option Object) → named cs n ≡ x → (o : Object) × (named cs n ≡ Some o) × (o.name ≡ n)
-    go None e = absurd (false≢true (sym (ap is_some (requested_unnamed cs n e)) ∙ asked))
-    go (Some o) e = (o, e, named_name cs n o e)
+asked_lives cs n asked = grind (arith, nat_tests, requested_unnamed cs n, named_name cs n)
 
 -- the request that waits for the token at a place is pending
 module _ (p : Image) (m : Parts) where
@@ -235,16 +218,11 @@ module _ (p : Image) (m : Parts) where
 
 -- no cell and no message has the name of a message place that is free
 place_unnamed : (p : Image) (m : Parts) (h : At_hand p m) (place : ℕ) → message_at m.messages place ≡ None → named h.state.cells (message_name place) ≡ None
-place_unnamed p m h place free = no_thing (named h.state.cells (message_name place)) (sym (h.agrees.cells.things (message_name place)) ∙ ap thing_in (none (cell_at m.cells (message_name place)) refl)) (sym (h.agrees.services.messages.there place) ∙ ap is_some free)
-  where
-    none : (c : Option Held_cell) → cell_at m.cells (message_name place) ≡ c → c ≡ None
-    none None e = refl
-    none (Some c) e = let low = lives_below p m h.state h.formed h.agrees (message_name place) (ap is_some e) in absurd (omega (arith, low))
+place_unnamed p m h place free = grind (arith, nat_tests, no_thing, free, lives_below p m h.state h.formed h.agrees)
 
 module _ (m : Parts) (refused : List ℕ) (a class : ℕ) (small : a < 16) (class_so : class_of_cell m.cells (this m) ≡ Some class) where
   busy_untold : (o : Option Request) → awaited (on_request (completed_at_once busy) o) ≡ None
-  busy_untold None = refl
-  busy_untold (Some r) = refl
+  busy_untold x = grind arith
 
   -- there is no room
   hand_none : (new : Parts) → HandsNone null (this m) m new → Does refused (Hand a) m (places.next (set_register a null new))
@@ -294,7 +272,7 @@ module _ (m : Parts) (refused : List ℕ) (a class : ℕ) (small : a < 16) (clas
     on = on_object p m h (active_listed _ (token_active _ met.1.0))
 
     asks : (q : Request) × (requested s.cells on.object.name ≡ Some q)
-    asks = let r = in_one is_idle (own_request s.cells h.frame.home) met.1.1.1.0 in (r.0, ap (requested s.cells) (sym on.number) ∙ sym (own_told p m h on) ∙ r.1)
+    asks = grind (arith, nat_tests, in_one, own_told p m h on, on)
 
     free_place : named s.cells (message_name does.place) ≡ None
     free_place = place_unnamed p m h does.place does.free
@@ -347,24 +325,16 @@ module _ (m : Parts) (refused : List ℕ) (a class : ℕ) (small : a < 16) (clas
         record { name = message_name does.place; refused = is_refused p refused h.state; answer = heard_by m },
         record { name = place_unnamed p m h does.place does.free; refusal = refl; answer = heard_fits m },
         refl,
-        λ met typed.
-            let limit = h.agrees.services.messages.limit in
-            let many = h.agrees.services.messages.count in
-            let room = does.room in
-            let quiet : is_crowded p h.state.cells ≡ false = lt-leb p.header.messages (count_messages h.state.cells) (omega (arith, limit, many, room)) in
-            subst (λ b. Agrees p (places.next (set_register a n (record m { active = new.active; messages = new.messages; tokens = new.tokens })))
-            (applied p h.frame h.below h.state (sets h.frame a None (hands_unless b (message_name does.place) a (own_request h.state.cells h.frame.home))))) (sym quiet)
-            (hand_agrees n new does p h met),
+        grind (arith, nat_tests, lt-leb p.header.messages, hand_agrees n new does p h),
       ))
 
   pub hand_does : (n : ℕ) (new : Parts) → Hands n (this m) class m new → Does refused (Hand a) m (places.next (set_register a n new))
-  hand_does n new (inl does) = subst (λ k. HandsNone k (this m) m new → Does refused (Hand a) m (places.next (set_register a k new))) (sym does.null) (hand_none new) does
+  hand_does n new (inl does) = grind (arith, nat_tests, hand_none new)
   hand_does n new (inr does) = hand_one n new does
 
 -- the method is as it was
 pub hand_rest : (n id class : ℕ) (old new : Parts) → Hands n id class old new → new.stack ≡ old.stack
-hand_rest n id class old new (inl does) = ap (λ (x : Parts). x.stack) does.rest
-hand_rest n id class old new (inr does) = ap (λ (x : Parts). x.stack) does.rest
+hand_rest n id class old new x = grind arith
 
 -- what the code needs to know of it
 module _ (p : Image) (m : Parts) (a : ℕ) (next : IsNext p (Hand a) m) where
@@ -398,5 +368,4 @@ pub place_told : (a b n : ℕ) → first_number + a ≡ n → first_number + b �
 place_told a b n e f = omega (arith, e, f)
 
 pub is_no_token : (w : Kept) (place other : ℕ) (x : Option ℕ) (b : Bool) → x ≡ class_at w place → b ≡ is_some x → b ≡ false → other ≡ place → class_at w other ≡ None
-is_no_token w place other None b is told none same = ap (class_at w) same ∙ sym is
-is_no_token w place other (Some k) b is told none same = absurd (false≢true (sym none ∙ told))
+is_no_token w place other x b is told none same = grind arith

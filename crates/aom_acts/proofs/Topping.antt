@@ -1,4 +1,5 @@
 -- What the code needs to know of the cleanup stack, and of the methods that a trap calls.
+use Rattle.std.proofs.lemmas.Bool.Decides.{nat_tests}
 use Rattle.std.proofs.Common.{suc, ◌≡◌, ◌≤◌, ◌<◌, ◌+◌, ◌^◌, ℕ, Bool, true, length, List, [], ◌∷◌, IsSome, refl, sym, ap, ◌∙◌, subst, arith}
 use Rattle.std.specs.Prelude.{is_some}
 use Rattle.std.proofs.lemmas.Bool.{eqb-true}
@@ -6,7 +7,6 @@ use Rattle.aom_image.specs.Image.{Image}
 use Rattle.aom_image.specs.Views.{gives_of, instr_at}
 use Rattle.aom_instructions.specs.declared.instr.Instr.TheVariants.{Pop, PopOperation, Return}
 use Rattle.aom_image.specs.declared.method.Gives.{Gives}
-use Rattle.aom_image.specs.declared.method.Gives.TheVariants.{Left}
 use Rattle.aom_cleanup.specs.Items.{IsAboveMark, IsMarked, IsNotAboveMark}
 use Rattle.aom_cleanup.specs.declared.item.Item.{Item as Held_item}
 use Rattle.aom_cleanup.specs.declared.item.Item.TheVariants.{Object as Holds_object, Operation as Holds_operation, Mark as Is_mark}
@@ -16,7 +16,7 @@ use Rattle.aom_sound.specs.Calls.{is_level, result_needs, result_register}
 use Rattle.aom_sound.specs.Claims.{Method, Form, Mark_form, forms, items_of, objects}
 use Rattle.aom_sound.specs.Cleanup.{tops_entry, tops_object, top_is_whole}
 use Rattle.aom_sound.specs.Places.{Entry, held}
-use Rattle.aom_sound.specs.State.{Frame, Task, Run, Trapped, Item, A_mark, State}
+use Rattle.aom_sound.specs.State.{Frame, Task, Run, Trapped, Item, State}
 use Rattle.aom_sound.specs.WellTyped.{Good, LeavesNone, WellTyped}
 use Rattle.aom_sound.proofs.Finishing.{all_parts}
 use Rattle.aom_sound.proofs.Layers.{mark_layer, method_layer}
@@ -47,14 +47,10 @@ true_tops : (test : List Item → Bool) (Q : List Held_item → Type 0) (is : Li
 true_tops test Q is js says e = says (subst (λ b. OnFalse b ⊥) (sym e) tt)
 
 pub entry_tops : (is : List Held_item) (js : List Item) → SameItems is js → tops_entry js ≡ true → IsAboveMark is
-entry_tops is js same e = true_tops tops_entry IsAboveMark is js
-    (by_items (λ is js. OnFalse (tops_entry js) ⊥ → IsAboveMark is) (λ x. x) (λ i j is js same _ _.
-    by_item (λ i j. OnFalse (tops_entry (j ∷ js)) ⊥ → IsAboveMark (i ∷ is)) (λ n x. x) (λ m n k w _ _ x. x) (λ x. x) i j same) is js same) e
+entry_tops is js same e = grind (arith, nat_tests, true_tops, by_items, by_item)
 
 pub object_tops : (is : List Held_item) (js : List Item) → SameItems is js → tops_object js ≡ true → TopsObject is
-object_tops is js same e = true_tops tops_object TopsObject is js
-    (by_items (λ is js. OnFalse (tops_object js) ⊥ → TopsObject is) (λ x. x) (λ i j is js same _ _.
-    by_item (λ i j. OnFalse (tops_object (j ∷ js)) ⊥ → TopsObject (i ∷ is)) (λ n x. x) (λ m n k w _ _ x. x) (λ x. x) i j same) is js same) e
+object_tops is js same e = grind (arith, nat_tests, true_tops, by_items, by_item)
 
 -- an object that is last lives
 pub top_lives : (p : Image) (m : Parts) (t : Typing) (s : State) → WellTyped p t s → Agrees p m s → top_is_whole s.cells s.items ≡ true → TopLives m
@@ -93,12 +89,10 @@ length_forms [] = refl
 length_forms (j ∷ js) = ap suc (length_forms js)
 
 mark_tops : (is : List Held_item) (js : List Item) (fs : List Form) → SameItems is js → forms js ≡ Mark_form ∷ fs → IsMarked is
-mark_tops (Is_mark ∷ is) (A_mark ∷ js) fs same e = tt
-mark_tops _ _ fs same e = absurd (grind arith)
+mark_tops x y fs same e = grind arith
 
 level : (p : Image) (fr : Frame) (ts : List Task) (s : State) (g : Gives) → LeavesNone g → is_level p fr ts s g ≡ true → length s.items ≡ fr.height
-level p fr ts s (Left c) none e = absurd none
-level p fr ts s _ none e = eqb-true (length s.items) fr.height e
+level p fr ts s x none e = grind (arith, nat_tests, eqb-true)
 
 marked_under : (p : Image) (t : Typing) (s : State) (fr : Frame) (ts : List Task) (is : List Held_item) → WellTyped p t s → s.tasks ≡ Run fr ∷ Trapped ∷ ts → SameItems is s.items → is_level p fr (Trapped ∷ ts) s (gives_of p fr.method) ≡ true → IsMarked is
 marked_under p t s fr ts is typed top same flat =

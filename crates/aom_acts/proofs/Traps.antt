@@ -1,5 +1,6 @@
 -- The method that sets a trap has a register for its code: the operands of an instruction are within their ranges.
-use Rattle.std.proofs.Common.{suc, ◌≡◌, ◌<◌, ℕ, length, List, ◌∷◌, Some, ap, arith}
+use Rattle.std.proofs.lemmas.Bool.Decides.{nat_tests}
+use Rattle.std.proofs.Common.{suc, ◌≡◌, ◌<◌, ℕ, length, List, ◌∷◌, Some, arith}
 use Rattle.aom_classes.proofs.Facts.{all_there, of_method}
 use Rattle.aom_image.specs.Image.{Image}
 use Rattle.aom_image.specs.Views.{instr_at, method_at}
@@ -19,8 +20,4 @@ instr_fits p formed m place i e =
     (w.0, all_there (InstrFits (limits p.header.version (length p.classes) (length p.methods) (length w.0.code))) w.0.code place i d.code w.2)
 
 pub code_register : (p : Image) → WellFormed p → (fr : Frame) (ts : List Task) → IsAtTrap p (Run fr ∷ ts) → suc (result_register (instr_at p fr.method fr.place)) < 16
-code_register p formed fr ts at =
-    let fits = instr_fits p formed fr.method fr.place _ at.4 in
-    let is = ap result_register at.4 in
-    let small = fits.1.operands.c in
-    omega arith
+code_register p formed fr ts at = grind (arith, nat_tests, instr_fits p formed fr.method fr.place)

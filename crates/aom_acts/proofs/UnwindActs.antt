@@ -1,4 +1,5 @@
 -- The moves of a leave that unwinds: what was pushed is dealt with, and then the code arrives.
+use Rattle.std.proofs.lemmas.Bool.Decides.{nat_tests}
 use Rattle.std.proofs.Common.{suc, ◌≡◌, ◌<◌, ℕ, ℤ, Bool, true, cond, length, List, [], ◌∷◌, ◌++◌, Option, Some, None, slice_set, pos, refl, sym, ap, ◌∙◌, subst, append-nil, arith}
 use Rattle.std.specs.Int.{w32, cast_unsigned}
 use Rattle.std.proofs.lemmas.Bool.{eq-eqb}
@@ -7,15 +8,12 @@ use Rattle.std.proofs.lemmas.Int.{to_z-of_z}
 use Rattle.std.proofs.lemmas.List.{length-set}
 use Rattle.aom_image.specs.Image.{Image}
 use Rattle.aom_image.specs.Views.{instr_at}
-use Rattle.aom_instructions.specs.declared.instr.Instr.{Instr}
-use Rattle.aom_instructions.specs.declared.instr.Instr.TheVariants.{Call, Trap}
 use Rattle.aom_image.specs.declared.method.Gives.{Gives}
 use Rattle.aom_image.specs.declared.method.Gives.TheVariants.{Left, Maybe as A_maybe, Nothing, Own as An_own, Word as A_word}
 use Rattle.aom_cells.specs.Heap.{null}
 use Rattle.aom_cleanup.specs.Items.{Stack as Held_items, IsAboveMark, IsMarked}
 use Rattle.aom_cleanup.specs.declared.item.Item.{Item as Held_item}
 use Rattle.aom_cleanup.specs.declared.item.Item.TheVariants.{Mark as Is_mark}
-use Rattle.aom_shape.specs.Kinds.{register}
 use Rattle.aom_shape.specs.Tables.{at, put_at}
 use Rattle.aom_rules.specs.Typing.{Typing}
 use Rattle.aom_sound.proofs.View.{under_dispatch}
@@ -38,8 +36,6 @@ use Rattle.aom_frames.specs.declared.frame.Frame.{Frame as Held_frame}
 use Rattle.aom_frames.specs.declared.task.Task.{Task as Held_task}
 use Rattle.aom_frames.specs.declared.task.Task.TheVariants.{Run as Runs_frame, Trapped as Is_trap, Unwind as Unwinds, Dispatched as Ends}
 use Rattle.aom_frames.specs.declared.dispatch.Dispatch.{Dispatch as Held_dispatch}
-use Rattle.aom_frames.specs.declared.dispatch.Dispatch.TheVariants.{Answered as One_answered, Asks as One_asks, Main, MainLeft, Object as Of_one, ObjectLeft as One_left, Root as End_of_run, Server as Of_one_served}
-use Rattle.aom_frames.specs.declared.dispatch.Stage.TheVariants as stages
 use Rattle.aom_parts.specs.declared.parts.Parts.{Parts}
 use Rattle.aom_parts.specs.Places as places
 use Rattle.aom_parts.specs.Agrees.{Shows, SameFrame, SameItems, SameTasks, dispatch_of, word_at, Agrees}
@@ -97,22 +93,10 @@ module _ (p : Image) (m : Parts) (st : Stands (record { image = p; parts = m }))
       (f.0, f.1, k.0, f.2, k.1)
 
   pub unwinds_whole : TopLives m
-  unwinds_whole =
-      let g = goes_on in
-      top_lives p m st.1.typing st.0 st.1.typed st.1.agrees (go g.0 g.1 g.2 st.0.items g.4)
-    where
-      go : (code : ℤ) (ts : List Task) (u : State) (js : List Item) → unwound p code ts (at_rest st.0) js ≡ Goes u → top_is_whole st.0.cells js ≡ true
-      go code ts u [] e = refl
-      go code ts u (An_object ∷ js) e = (whole_goes (top_is_whole st.0.cells (An_object ∷ js)) (deals_with p (An_object ∷ js) (Unwind code ∷ ts) (at_rest st.0)) u e).0
-      go code ts u (An_operation k w ∷ js) e = refl
-      go code ts u (A_mark ∷ js) e = refl
+  unwinds_whole = grind (arith, nat_tests, goes_on, top_lives p m st.1.typing st.0 st.1.typed st.1.agrees, at_rest st.0, whole_goes)
 
   pub unwinds_marked : (IsAboveMark m.entries.items → ⊥) → IsMarked m.entries.items
-  unwinds_marked none = let g = goes_on in go g.0 g.1 g.2 m.entries.items st.0.items none st.1.agrees.entries g.4
-    where
-      go : (code : ℤ) (ts : List Task) (u : State) (is : List Held_item) (js : List Item) → (IsAboveMark is → ⊥) → SameItems is js → unwound p code ts (at_rest st.0) js ≡ Goes u → IsMarked is
-      go code ts u (Is_mark ∷ is) js none same e = tt
-      go code ts u _ _ none same e = absurd (grind arith)
+  unwinds_marked none = grind (arith, nat_tests, goes_on, at_rest st.0)
 
   beneath_it : (ts : List Task) × (code : ℤ) × ReturnsTo p (below_first m.stack.tasks) × IsTrapped (below_first m.stack.tasks)
   beneath_it =
@@ -133,17 +117,10 @@ module _ (p : Image) (m : Parts) (st : Stands (record { image = p; parts = m }))
   unwinds_trapped = beneath_it.3
 
 callee_there : (p : Image) → IsWired p → (k place : ℕ) → CalleeThere p (instr_at p k place)
-callee_there p wired k place = go (instr_at p k place) refl
-  where
-    go : (o : Option Instr) → instr_at p k place ≡ o → CalleeThere p o
-    go (Some (Call target k' first x)) e = (wired.called k place target k' first x e).there
-    go (Some (Trap target k' first x)) e = (wired.trapped k place target k' first x e).there
-    go None e = tt
-    go (Some i) e = tt
+callee_there p wired k place = grind (arith, nat_tests)
 
 pub calls_there : (p : Image) → IsWired p → (ms : List Held_task) → CallsThere p ms
-calls_there p wired (Runs_frame f ∷ ms) = callee_there p wired f.method f.place
-calls_there p wired _ = tt
+calls_there p wired x = grind (arith, nat_tests, callee_there p wired)
 
 -- ---- the code arrives
 
@@ -159,19 +136,7 @@ awaited_caught p t s code caller ts typed top some =
 
 -- a dispatch is left with the code on both sides
 left_alike : (code : ℤ) (q : Place) (x : Held_dispatch) → dispatch_of q (left code x) ≡ ended_by code (dispatch_of q x)
-left_alike code q Main = refl
-left_alike code q (MainLeft c) = refl
-left_alike code q End_of_run = refl
-left_alike code q (Of_one x) = refl
-left_alike code q (One_left x c) = refl
-left_alike code q (One_asks x) = refl
-left_alike code q (One_answered x answer) = refl
-left_alike code q (Of_one_served x client stages.Accepts) = refl
-left_alike code q (Of_one_served x client stages.Accepted) = refl
-left_alike code q (Of_one_served x client (stages.AcceptLeft c)) = refl
-left_alike code q (Of_one_served x client (stages.Serves o)) = refl
-left_alike code q (Of_one_served x client (stages.ServiceLeft c)) = refl
-left_alike code q (Of_one_served x client stages.Parts) = refl
+left_alike code q x = grind arith
 
 module _ (p : Image) (m : Parts) (s : State) (agrees : Agrees p m s) (es : Held_items) (marked : m.entries ≡ record es { items = Is_mark ∷ es.items }) (g : Held_frame) (ms : List Held_task) (caller : Frame) (ts : List Task) (same_frame : SameFrame g caller) (same_below : SameTasks ms ts) (x : ℕ) (coded : suc x < 16)
     (base : (r : Place) → Shows (value_in (Runs_frame g ∷ ms) m.cells es.items (others m) r) (word_at (Run caller ∷ ts) r) (held s.cells r)) where
@@ -188,10 +153,7 @@ module _ (p : Image) (m : Parts) (s : State) (agrees : Agrees p m s) (es : Held_
       let q = Register (length ts) x in
       let wide = same_frame.wide in
       record {
-        values = writes _ _ _ _ (held s.cells) _ q n w None base shows
-            (value_written g ms m.cells es.items (others m) (length ts) x n g.place deep (omega arith))
-            (word_written caller ts x caller.place w)
-            (λ r. kept (held s.cells) q r ∙ ap (λ o. changed (held s.cells) q o r) none);
+        values = grind (arith, nat_tests, writes, value_written g ms m.cells es.items, deep, word_written caller ts x caller.place w, kept);
         wide = length-set g.registers x n ∙ wide;
       }
 
@@ -247,10 +209,7 @@ module _ (p : Image) (m : Parts) (es : Held_items) (marked : m.entries ≡ recor
   said = record t { lines = t.lines ++ Leave (code_here m.stack.tasks) ∷ [] }
 
   top_mark : (js : List Item) → SameItems m.entries.items js → (ks : List Item) × (js ≡ A_mark ∷ ks)
-  top_mark js same = go (items_alike (Is_mark ∷ es.items) js (subst (λ is. SameItems is js) (ap (λ (e : Held_items). e.items) marked) same))
-    where
-      go : {js : List Item} → Alike_items (Is_mark ∷ es.items) js → (ks : List Item) × (js ≡ A_mark ∷ ks)
-      go (both_marks _ ks _) = (ks, refl)
+  top_mark js same = grind (arith, nat_tests, items_alike (Is_mark ∷ es.items) js, Alike_items (Is_mark ∷ es.items) js, both_marks)
 
   pub arrives_method : IsUnwinding m.stack.tasks → IsTrapped (below_first m.stack.tasks) → Runs under → suc (result_register (instr_at p (method_here under) (place_here under))) < 16
       → Unwinds_by p m (told p (instr_at p (method_here under) (place_here under)) (code_here m.stack.tasks) (record (with_tasks under m) { entries = es })) t said

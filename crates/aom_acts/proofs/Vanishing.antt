@@ -1,20 +1,19 @@
 -- What goes with a server: entry by entry of its queue, and session by session.
+use Rattle.std.proofs.lemmas.Bool.Decides.{nat_tests}
 use Rattle.std.proofs.Common.{Bool, List, None, Some, [], ap, append_assoc, arith, false, length, refl, slice_index_or, subst, sym, true, ℕ, ◌+◌, ◌++◌, ◌<◌, ◌==◌, ◌∙◌, ◌∷◌, ◌≡◌, ◌≤◌}
-use Rattle.std.specs.Prelude.{IsSome, ◌||◌}
-use Rattle.std.proofs.lemmas.Bool.{eq-eqb, ne_eqb, false≢true, true≢false}
+use Rattle.std.specs.Prelude.{◌||◌}
+use Rattle.std.proofs.lemmas.Bool.{eq-eqb, ne_eqb, false≢true}
 use Rattle.std.proofs.lemmas.List.{get_or-set_other, get_or-set_same, length-append, length-set}
 use Rattle.std.proofs.lemmas.List.Folds.{list_any-append}
 use Rattle.std.proofs.lemmas.Option.{none-some, same_Some}
 use Rattle.aom_clients.specs.Clients.{State, after_next_gone, first_entry, gone, going, place_at, queue_at, queue_gone, sessions_at, taken_entry, with_queue}
-use Rattle.aom_clients.specs.Table.{sender}
 use Rattle.aom_clients.specs.declared.entry.Entry.{Entry}
 use Rattle.aom_clients.specs.declared.entry.Entry.TheVariants.{Connect, Message, Close}
 use Rattle.aom_clients.specs.declared.entry.Taken.{Taken}
-use Rattle.aom_clients.specs.declared.place.Place.TheVariants.{Free}
 use Rattle.aom_messages.specs.Store.{Store, message_at}
 use Rattle.aom_lines.specs.Turn.{Turn}
 use Rattle.aom_parts.specs.declared.parts.Parts.{Parts}
-use Rattle.aom_acts.specs.Serving.{AllKept, Drops, EntryKept, IsOnce, answers, count_messages, gone_line, gone_lines, has_message, is_message, told_of}
+use Rattle.aom_acts.specs.Serving.{AllKept, Drops, EntryKept, IsOnce, answers, count_messages, gone_line, gone_lines, has_message, is_message}
 use Rattle.aom_parts.proofs.Serving.{front_false}
 
 -- ---- messages that are kept no more
@@ -25,14 +24,10 @@ same_message m k e = ne_eqb k m (λ is. false≢true (sym e ∙ eq-eqb m k (sym 
 
 -- what waits behind an entry is another message
 apart : (e : Entry) (m : ℕ) (es : List Entry) → IsOnce e (Message m ∷ es) → has_message m (e ∷ []) ≡ false
-apart (Connect c) m es once = refl
-apart (Message k) m es once = ap (λ b. b || false) (same_message m k (front_false (m == k) (has_message k es) once).0)
-apart (Close c) m es once = refl
+apart x m es once = grind (arith, nat_tests, same_message m, front_false)
 
 once_behind : (e f : Entry) (es : List Entry) → IsOnce e (f ∷ es) → IsOnce e es
-once_behind (Connect c) f es once = tt
-once_behind (Message m) f es once = (front_false (is_message m f) (has_message m es) once).1
-once_behind (Close c) f es once = tt
+once_behind x f es once = grind (arith, nat_tests, front_false)
 
 -- those behind an entry that went are kept
 kept_still : (e : Entry) (old new : Store) → Drops (e ∷ []) old new → (es : List Entry) → IsOnce e es → AllKept old es → AllKept new es
@@ -40,9 +35,7 @@ kept_still e old new drops [] once kept = tt
 kept_still e old new drops (f ∷ es) once kept = (still f once kept.0, kept.1, kept_still e old new drops es (once_behind e f es once) kept.2)
   where
     still : (f : Entry) → IsOnce e (f ∷ es) → EntryKept old f → EntryKept new f
-    still (Connect c) once kept = kept
-    still (Message m) once kept = subst IsSome (sym (drops.others m (apart e m es once))) kept
-    still (Close c) once kept = kept
+    still x y z = grind (arith, nat_tests, apart e)
 
 counts : (xs ys : List Entry) → count_messages (xs ++ ys) ≡ count_messages xs + count_messages ys
 counts [] ys = omega arith
@@ -55,52 +48,35 @@ drops_more : (done : List Entry) (e : Entry) (old mid new : Store) → Drops don
 drops_more done e old mid new before last =
     record {
       gone = λ m is. split m (has_message m done) (has_message m (e ∷ [])) refl refl (sym (list_any-append (is_message m) done (e ∷ [])) ∙ is);
-      others = λ m is.
-          let parts = front_false (has_message m done) (has_message m (e ∷ [])) (sym (list_any-append (is_message m) done (e ∷ [])) ∙ is) in
-          last.others m parts.1 ∙ before.others m parts.0;
+      others = grind (arith, nat_tests, front_false, list_any-append);
       count = let a = before.count in let b = last.count in let c = counts done (e ∷ []) in omega (arith, a, b, c);
       limit = last.limit ∙ before.limit;
     }
   where
     split : (m : ℕ) (a b : Bool) → has_message m done ≡ a → has_message m (e ∷ []) ≡ b → (a || b) ≡ true → message_at new m ≡ None
-    split m a true is_a is_b is = last.gone m is_b
-    split m true false is_a is_b is = last.others m is_b ∙ before.gone m is_a
-    split m false false is_a is_b is = absurd (false≢true is)
+    split m a x is_a is_b is = grind arith
 
 -- ---- a queue goes entry by entry
 
 -- what becomes of an entry changes no queue
 queues_still : (e : Entry) (s : State) → (going e s).queues ≡ s.queues
-queues_still (Connect c) s = refl
-queues_still (Message m) s = refl
-queues_still (Close c) s = refl
+queues_still x s = grind arith
 
 -- nor of another message its sender
 senders_still : (e : Entry) (s : State) (m : ℕ) (es : List Entry) → IsOnce e (Message m ∷ es) → place_at (going e s) m ≡ place_at s m
-senders_still (Connect c) s m es once = refl
-senders_still (Message k) s m es once = get_or-set_other s.places k m Free Free (λ is. false≢true (sym (front_false (m == k) (has_message k es) once).0 ∙ eq-eqb m k is))
-senders_still (Close c) s m es once = refl
+senders_still x s m es once = grind (arith, nat_tests, get_or-set_other s.places, front_false, eq-eqb m)
 
 -- so that the lines of those behind it are as they were
 lines_still : (e : Entry) (s : State) (es : List Entry) → IsOnce e es → gone_lines (going e s) es ≡ gone_lines s es
 lines_still e s [] once = refl
-lines_still e s (f ∷ es) once = ap (λ ls. ls ++ gone_lines (going e s) es) (line f once) ∙ ap (λ ls. gone_line (taken_entry s f) ++ ls) (lines_still e s es (once_behind e f es once))
-  where
-    line : (f : Entry) → IsOnce e (f ∷ es) → gone_line (taken_entry (going e s) f) ≡ gone_line (taken_entry s f)
-    line (Connect c) once = refl
-    line (Message m) once = ap (λ x. told_of (Message m) (sender x)) (senders_still e s m es once)
-    line (Close c) once = refl
+lines_still e s (f ∷ es) once = grind (arith, nat_tests, lines_still e s es (once_behind e f es once), once_behind e f es once, senders_still e s)
 
 entry_taken : (s : State) (e : Entry) → (taken_entry s e).entry ≡ e
-entry_taken s (Connect c) = refl
-entry_taken s (Message m) = refl
-entry_taken s (Close c) = refl
+entry_taken s x = grind arith
 
 -- an entry is one line, or none
 line_counted : (s : State) (e : Entry) (es : List Entry) → length (gone_line (taken_entry s e)) + answers es ≡ answers (e ∷ es)
-line_counted s (Connect c) es = omega arith
-line_counted s (Message m) es = omega arith
-line_counted s (Close c) es = omega arith
+line_counted s x es = grind arith
 
 -- so far these have gone
 pub record Going (n : ℕ) (old now : Parts) (told line : Turn) : Type 0 where
@@ -158,9 +134,4 @@ goes_on n old mid new told line line' t so first is drops written = go (queue_at
 -- a queue that went left the sessions as they were
 pub sessions_still : (n : ℕ) (es : List Entry) (s : State) → sessions_at (queue_gone n es s) n ≡ sessions_at s n
 sessions_still n [] s = refl
-sessions_still n (e ∷ es) s = sessions_still n es (gone n (e ∷ es) s) ∙ ap (λ ls. slice_index_or ls n []) (lists e)
-  where
-    lists : (e : Entry) → (gone n (e ∷ es) s).sessions ≡ s.sessions
-    lists (Connect c) = refl
-    lists (Message m) = refl
-    lists (Close c) = refl
+sessions_still n (e ∷ es) s = grind (arith, nat_tests, sessions_still n es)

@@ -1,5 +1,5 @@
 -- What becomes of tokens: one is handed out for a request, or there is no room for it, and one is replied to.
-use Rattle.std.specs.Prelude.{◌≡◌, ◌<◌, ◌+◌, ◌⊎◌, ℕ, ℤ, true, is_some, IfSome, IsSome, IsTrue, List, Option, Some, None, length}
+use Rattle.std.specs.Prelude.{◌≡◌, ◌<◌, ◌+◌, ◌⊎◌, ℕ, ℤ, true, is_some, IfSome, IsSome, IsTrue, Some, None}
 use Rattle.aom_active.specs.Meanings.{Makes}
 use Rattle.aom_cells.specs.Heap.{null}
 use Rattle.aom_clients.specs.Clients.{place_at}

@@ -1,5 +1,6 @@
 -- What was found of each dispatch is its price, and an image whose dispatches cost more than is declared of them is none that keeps its budgets.
-use Rattle.std.proofs.Common.{◌≡◌, ◌∙◌, ◌<◌, ◌≤◌, ◌+◌, inl, inr, ap, ap₂, ℕ, Bool, true, false, List, [], length, Option, Some, None, IsSome, refl, sym, subst, arith}
+use Rattle.std.proofs.lemmas.Bool.Decides.{nat_tests}
+use Rattle.std.proofs.Common.{◌≡◌, ◌∙◌, ◌<◌, ◌≤◌, ◌+◌, ap, ap₂, ℕ, Bool, true, false, List, [], length, Option, Some, None, IsSome, refl, sym, subst, arith}
 use Rattle.aom_image.proofs.Given.{some_given}
 use Rattle.std.specs.Prelude.{min, slice_get, if◌then◌else◌}
 use Rattle.std.proofs.lemmas.Bool.Decides.{eqb_tells}
@@ -98,8 +99,7 @@ module _ (p : Image) (formed : WellFormed p) (linked : IsLinked p) (t d : Typing
   same_main (Some m) is = rw (same.methods m (main_there p m is), same_root p.header.root) refl
 
   pub same_payer : (payer : Payer) → payer_price p c payer ≡ payer_price p e payer
-  same_payer Main = same_main (main_of p) refl
-  same_payer (Class k) = same_class k (class_at p k)
+  same_payer x = grind (arith, nat_tests, same_main, same_class)
 
 -- ---- what was found
 
@@ -139,12 +139,10 @@ module _ (p : Image) (prices : List ℕ) (h : ArePriced p prices) where
     kind_found k Session = refl
 
     class_found : (k : ℕ) (class : Option ClassDecl) → class_by p prices k class ≡ min 4294967296 (class_price p whole k class)
-    class_found k None = refl
-    class_found k (Some d) = kind_found k d.kind
+    class_found k x = grind (arith, nat_tests, kind_found k)
 
     found : (payer : Payer) → payer_by p prices payer ≡ min 4294967296 (payer_price p whole payer)
-    found Main = let main = some_main p linked in main_found main.0 main.1
-    found (Class k) = class_found k (class_at p k)
+    found x = grind (arith, nat_tests, some_main p linked, main_found, class_found)
 
 -- ---- what is declared
 
@@ -207,10 +205,7 @@ module _ (p : Image) (prices : List ℕ) (k : ℕ) (class : ClassDecl) (is : cla
 
 -- one more is within
 pub classes_more : (p : Image) (prices : List ℕ) (count : ℕ) → ClassesWithin p prices count → IsWithin p prices (Class count) → ClassesWithin p prices (count + 1)
-classes_more p prices count below here k within = elim (eqb_tells k count) [
-  | inl w ↦ rw w.1 here
-  | inr w ↦ below k (omega (arith, within, w.1))
-]
+classes_more p prices count below here k within = grind (arith, nat_tests, eqb_tells k count)
 
 -- ---- the test
 
@@ -239,17 +234,10 @@ module _ (p : Image) (prices : List ℕ) (formed : WellFormed p) (linked : IsLin
   })
 
   pub refuses_main : (fault : BudgetFault) → TellsOver p prices Main fault → Refuses p fault
-  refuses_main fault tells = refuses_over Main fault tells earlier
-    where
-      earlier : (before : Payer) → IsBefore before Main → IsWithin p prices before
-      earlier before is_before = grind arith
+  refuses_main fault tells = grind (arith, nat_tests, refuses_over Main fault tells)
 
   pub refuses_class : (fault : BudgetFault) → IsWithin p prices Main → TellsFirst p prices fault → Refuses p fault
-  refuses_class fault main first = refuses_over (Class first.class) fault first.tells earlier
-    where
-      earlier : (before : Payer) → IsBefore before (Class first.class) → IsWithin p prices before
-      earlier Main is_before = main
-      earlier (Class j) is_before = first.earlier j is_before
+  refuses_class fault main first = grind (arith, nat_tests, refuses_over (Class first.class) fault first.tells)
 
 -- ---- what an accepted image keeps to
 
@@ -258,29 +246,23 @@ pub affordable : (p : Image) (prices : List ℕ) → WellFormed p → IsLinked p
 affordable p prices formed linked b h = (h.typing, h.strongest, whole p prices h, record { priced = h.told.whole.pays; declared = within Main p.header.budget refl }, within)
   where
     within : CostsWithin p (whole p prices h)
-    within payer most e =
-        let is = same_payer p formed linked h.typing b.typing h.strongest b.strongest (whole p prices h) b.prices h.told.whole.are b.are payer in
-        omega (arith, is, b.within payer most e)
+    within payer most e = grind (arith, nat_tests, same_payer p formed linked h.typing b.typing h.strongest b.strongest)
 
 -- an image that keeps its budgets is over none
 none_over : (p : Image) (payer : Payer) (found most : ℕ) → WellFormed p → IsLinked p → BudgetsWithin p → IsOver p payer found most → ⊥
-none_over p payer found most formed linked b h =
-    let is = same_payer p formed linked b.typing h.typing b.strongest h.strongest b.prices h.prices b.are h.are payer in
-    omega (arith, is, h.over, b.within payer most h.declares)
+none_over p payer found most formed linked b h = grind (
+  arith,
+  nat_tests,
+  same_payer p formed linked b.typing h.typing b.strongest h.strongest b.prices h.prices b.are h.are payer,
+)
 
 -- an image within its limits is refused for nothing
 pub refuses_none : (p : Image) (fault : BudgetFault) → WellFormed p → IsLinked p → Refuses p fault → BudgetsWithin p → DepthsWithin p → HeightsWithin p → ⊥
-refuses_none p (OverBudget payer found most) formed linked h budgets within low = none_over p payer found most formed linked budgets h
-refuses_none p TooDeep formed linked h budgets within low = omega (arith, within.within h.1.method h.1.count h.1.frames, h.1.many)
-refuses_none p CleanupTooDeep formed linked h budgets within low = omega (arith, low.within h.2.method h.2.count h.2.heights, h.2.many)
-refuses_none p OutOfMemory formed linked h budgets within low = h
+refuses_none p x formed linked h budgets within low = grind (arith, nat_tests, none_over p, found)
 
 -- what an image is refused for is told, and where it is within its limits memory was wanting
 pub told_or_wants : (p : Image) (fault : BudgetFault) → Refuses p fault → RefusesOrWants p fault
-told_or_wants p (OverBudget payer found most) h = h
-told_or_wants p TooDeep h = h
-told_or_wants p CleanupTooDeep h = h
-told_or_wants p OutOfMemory h = tt
+told_or_wants p x h = grind arith
 
 pub wants_memory : (p : Image) (fault : BudgetFault) → WellFormed p → IsLinked p → RefusesOrWants p fault → BudgetsWithin p → DepthsWithin p → HeightsWithin p → fault ≡ OutOfMemory
 wants_memory p (OverBudget payer found most) formed linked h budgets within low = absurd (refuses_none p (OverBudget payer found most) formed linked h budgets within low)

@@ -1,7 +1,8 @@
 -- One step more along overriders, and along parents, while a table is raised.
-use Rattle.std.proofs.Common.{Bool, None, Option, Some, ap, arith, cond, false, refl, suc, sym, true, zero, ℕ, ◌-◌, ◌<◌, ◌==◌, ◌||◌, ◌∙◌, ◌≡◌}
+use Rattle.std.proofs.lemmas.Bool.Decides.{nat_tests}
+use Rattle.std.proofs.Common.{Bool, None, Option, Some, ap, arith, cond, false, refl, suc, sym, ℕ, ◌-◌, ◌<◌, ◌==◌, ◌||◌, ◌∙◌, ◌≡◌}
 use Rattle.std.specs.Prelude.{max}
-use Rattle.std.proofs.lemmas.Bool.{eqb-true, eq-eqb}
+use Rattle.std.proofs.lemmas.Bool.{eqb-true}
 use Rattle.aom_image.specs.Image.{Image}
 use Rattle.aom_roles.proofs.Descending.{from_none, from_parent, itself, parent_below}
 use Rattle.aom_roles.specs.Families.{descends, parent_of}
@@ -9,10 +10,7 @@ use Rattle.aom_classes.specs.Overriding.{leads_in, over_of}
 
 -- what is raised by a number, where one of two counts
 or_raised : (a b : Bool) (x v : ℕ) → max x (cond (a || b) v 0) ≡ max (max x (cond a v 0)) (cond b v 0)
-or_raised true true x v = omega arith
-or_raised true false x v = omega arith
-or_raised false true x v = omega arith
-or_raised false false x v = omega arith
+or_raised x y z v = grind arith
 
 -- ---- along overriders
 
@@ -26,8 +24,7 @@ lead_last p x k t v = refl
 
 pub lead_none : (p : Image) (n k t v : ℕ) → max t (cond (leads_in p n None k) v 0) ≡ t
 unfolding leads_in
-lead_none p zero k t v = omega arith
-lead_none p (suc n) k t v = omega arith
+lead_none p x k t v = grind arith
 
 -- a method is raised: it is the last that may be, or what it overrides follows, or there is none
 module _ (p : Image) (n k t v w : ℕ) where
@@ -35,18 +32,12 @@ module _ (p : Image) (n k t v w : ℕ) where
   lead_over o none h = sym (lead_none p n k t v) ∙ ap (λ x. max t (cond (leads_in p n x k) v 0)) (sym none) ∙ h
 
   pub lead_ends : (x i u : ℕ) (o : Option ℕ) → o ≡ Some x → i ≡ x → n ≡ 0 → u ≡ max t (cond (i == k) v 0) → max t (cond (leads_in p n o k) v 0) ≡ w → u ≡ w
-  lead_ends x i u o is same last raised h =
-      raised ∙ ap (λ j. max t (cond (j == k) v 0)) same ∙ sym (lead_last p x k t v) ∙ ap (λ l. max t (cond (leads_in p l (Some x) k) v 0)) (sym last)
-      ∙ ap (λ y. max t (cond (leads_in p n y k) v 0)) (sym is) ∙ h
+  lead_ends x i u o is same last raised h = grind (arith, nat_tests, lead_last p x k t v)
 
   pub lead_goes :
       (x i u : ℕ) (o next : Option ℕ) → o ≡ Some x → i ≡ x → (n ≡ 0 → ⊥) → next ≡ over_of p x → u ≡ max t (cond (i == k) v 0) →
       max t (cond (leads_in p n o k) v 0) ≡ w → max u (cond (leads_in p (n - 1) next k) v 0) ≡ w
-  lead_goes x i u o next is same some over raised h =
-      let more : n ≡ suc (n - 1) = omega (arith, some) in
-      ap (λ y. max y (cond (leads_in p (n - 1) next k) v 0)) (raised ∙ ap (λ j. max t (cond (j == k) v 0)) same)
-      ∙ ap (λ y. max (max t (cond (x == k) v 0)) (cond (leads_in p (n - 1) y k) v 0)) over ∙ sym (lead_step p (n - 1) x k t v)
-      ∙ ap (λ l. max t (cond (leads_in p l (Some x) k) v 0)) (sym more) ∙ ap (λ y. max t (cond (leads_in p n y k) v 0)) (sym is) ∙ h
+  lead_goes x i u o next is same some over raised h = grind (arith, nat_tests, lead_step p (n - 1) x k t v)
 
 -- ---- along parents
 
@@ -61,15 +52,7 @@ generations None = 0
 generations (Some c) = suc c
 
 pub parent_step : (p : Image) (c d : ℕ) → descends p c d ≡ ((c == d) || some_descends p (parent_of p c) d)
-parent_step p c d = go (c == d) refl
-  where
-    above : (o : Option ℕ) → parent_of p c ≡ o → (c == d) ≡ false → descends p c d ≡ some_descends p o d
-    above None is other = from_none p c d other is
-    above (Some e) is other = from_parent p c e d other is
-
-    go : (b : Bool) → (c == d) ≡ b → descends p c d ≡ (b || some_descends p (parent_of p c) d)
-    go true same = ap (λ x. descends p c x) (sym (eqb-true c d same)) ∙ itself p c
-    go false other = above (parent_of p c) refl other
+parent_step p c d = grind (arith, nat_tests, from_none p c d, from_parent p c, eqb-true c d, itself p c)
 
 pub class_step : (p : Image) (c d t v : ℕ) → max t (cond (descends p c d) v 0) ≡ max (max t (cond (c == d) v 0)) (cond (some_descends p (parent_of p c) d) v 0)
 class_step p c d t v = ap (λ b. max t (cond b v 0)) (parent_step p c d) ∙ or_raised (c == d) (some_descends p (parent_of p c) d) t v
@@ -77,17 +60,10 @@ class_step p c d t v = ap (λ b. max t (cond b v 0)) (parent_step p c d) ∙ or_
 pub class_goes :
     (p : Image) (k t v w x i u : ℕ) (o next : Option ℕ) → o ≡ Some x → i ≡ x → next ≡ parent_of p x → u ≡ max t (cond (i == k) v 0) →
     max t (cond (some_descends p o k) v 0) ≡ w → max u (cond (some_descends p next k) v 0) ≡ w
-class_goes p k t v w x i u o next is same parent raised h =
-    ap (λ y. max y (cond (some_descends p next k) v 0)) (raised ∙ ap (λ j. max t (cond (j == k) v 0)) same)
-    ∙ ap (λ y. max (max t (cond (x == k) v 0)) (cond (some_descends p y k) v 0)) parent ∙ sym (class_step p x k t v)
-    ∙ ap (λ y. max t (cond (some_descends p y k) v 0)) (sym is) ∙ h
+class_goes p k t v w x i u o next is same parent raised h = grind (arith, nat_tests, class_step p x k t v)
 
 pub class_over : (p : Image) (k t v w : ℕ) (o : Option ℕ) → o ≡ None → max t (cond (some_descends p o k) v 0) ≡ w → t ≡ w
 class_over p k t v w o none h = let is = ap (λ y. max t (cond (some_descends p y k) v 0)) (sym none) ∙ h in omega (arith, is)
 
 pub fewer_left : (p : Image) (c : ℕ) → generations (parent_of p c) < generations (Some c)
-fewer_left p c = go (parent_of p c) refl
-  where
-    go : (o : Option ℕ) → parent_of p c ≡ o → generations o < suc c
-    go None is = omega arith
-    go (Some e) is = let lt = parent_below p c e is in omega (arith, lt)
+fewer_left p c = grind (arith, nat_tests, parent_below p c)

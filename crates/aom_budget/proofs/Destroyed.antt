@@ -1,6 +1,7 @@
 -- What destructions cost while the methods are priced: it grows with the destructors alone.
-use Rattle.std.proofs.Common.{List, None, cond, Option, Some, ap, arith, inl, inr, length, refl, slice_set, subst, suc, sym, true, zero, ℕ, ◌*◌, ◌+◌, ◌<◌, ◌∙◌, ◌≡◌, ◌≤◌, ⊎_elim}
-use Rattle.std.specs.Prelude.{max, min}
+use Rattle.std.proofs.lemmas.Bool.Decides.{nat_tests}
+use Rattle.std.proofs.Common.{List, cond, Some, ap, arith, length, refl, slice_set, subst, suc, sym, zero, ℕ, ◌*◌, ◌+◌, ◌<◌, ◌∙◌, ◌≡◌, ◌≤◌, ⊎_elim}
+use Rattle.std.specs.Prelude.{max}
 use Rattle.std.proofs.lemmas.Bool.{cases_lt}
 use Rattle.std.proofs.lemmas.Bool.Decides.{eqb_tells}
 use Rattle.aom_image.specs.Image.{Image}
@@ -9,16 +10,13 @@ use Rattle.aom_image.specs.WellFormed.{WellFormed}
 use Rattle.aom_image.specs.declared.method.Method.{Method}
 use Rattle.aom_image.specs.declared.method.Role.TheVariants.{Cancel, Destruct}
 use Rattle.aom_image.specs.declared.method.Thing.{Thing}
-use Rattle.aom_image.specs.declared.method.Thing.TheVariants.{Message, Object}
+use Rattle.aom_image.specs.declared.method.Thing.TheVariants.{Object}
 use Rattle.aom_roles.specs.Families.{descends}
-use Rattle.aom_classes.specs.Roles.{role_of}
 use Rattle.aom_shape.specs.Tables.{at}
 use Rattle.aom_shape.proofs.Lists.{at_past, at_set_here, at_set_other}
-use Rattle.aom_bounds.specs.Calls.{Among, cancels, destructors, listed}
-use Rattle.aom_bounds.specs.Layers.{Destructs}
+use Rattle.aom_bounds.specs.Calls.{cancels, destructors}
 use Rattle.aom_bounds.specs.Most.{most_below, most_of}
-use Rattle.aom_bounds.specs.Prices.{perhaps_sessions}
-use Rattle.aom_bounds.specs.Sweeping.{all_going, going, whole_going}
+use Rattle.aom_bounds.specs.Sweeping.{whole_going}
 use Rattle.aom_bounds.proofs.Going.{all_related, going_same}
 use Rattle.aom_bounds.proofs.Mosts.{below_related}
 use Rattle.aom_budget.specs.Greatest.{IsCancelled, IsGone, most_at}
@@ -41,19 +39,13 @@ most_kept p f c = below_related (λ x y. x ≡ kept y) refl (λ x y z w a b. ome
 
 -- what cancels cost is the most of what is listed
 pub cancels_most : (p : Image) (ns : List ℕ) (c : ℕ) → most_at ns (cancels p (Some c)) ≡ cancel_by p ns (Some c)
-cancels_most p ns c =
-    below_most p ns (λ y. listed (role_of p y Cancel)) c
-    ∙ below_related (λ x y. x ≡ y) refl (λ x y z w a b. omega (arith, a, b)) p (λ y. most_at ns (listed (role_of p y Cancel))) (λ y. price_by ns (role_of p y Cancel)) c
-    (λ y h. most_listed ns (role_of p y Cancel))
+cancels_most p ns c = grind (arith, nat_tests, below_most p ns, below_related, most_listed ns)
 
 -- one class more is looked at, and all are
 pub most_one :
     (p : Image) (f : ℕ → ℕ) (c n i x y own more : ℕ) → i ≡ n → x ≡ cond (descends p i c) (kept (f i)) 0 → y ≡ max more x →
     more ≡ max own (most_of (λ k. descends p k c) (λ k. kept (f k)) n) → y ≡ max own (most_of (λ k. descends p k c) (λ k. kept (f k)) (n + 1))
-most_one p f c n i x y own more same is most h =
-    let here : x ≡ cond (descends p n c) (kept (f n)) 0 = is ∙ ap (λ j. cond (descends p j c) (kept (f j)) 0) same in
-    let next : suc n ≡ n + 1 = omega arith in
-    subst (λ k. y ≡ max own (most_of (λ j. descends p j c) (λ j. kept (f j)) k)) next (omega (arith, here, most, h))
+most_one p f c n i x y own more same is most h = grind (arith, nat_tests)
 
 pub most_all :
     (p : Image) (f : ℕ → ℕ) (c n x : ℕ) → n ≡ length p.classes → x ≡ max (kept (f c)) (most_of (λ k. descends p k c) (λ k. kept (f k)) n) → x ≡ kept (most_below p f c)
@@ -64,10 +56,7 @@ module _ (p : Image) (formed : WellFormed p) (prices : List ℕ) where
   going_of y = whole_going p (price_by prices) (Object y)
 
   absent_going : (c : ℕ) → length p.classes ≤ c → whole_going p (price_by prices) (Object c) ≡ 1
-  absent_going c past =
-      let line = absent_line p formed c past (price_by prices) refl in
-      let none = ap (perhaps_sessions (λ k. going p (price_by prices) (Object k))) (absent_kind p formed c past) in
-      omega (arith, line, none)
+  absent_going c past = grind (arith, nat_tests, absent_line p formed c past, absent_kind p formed c past)
 
   pub destroyed_made :
       (old table : List ℕ) → length old ≡ length p.classes → ((c : ℕ) → at 0 old c ≤ destruction_by p prices (Object c)) →
@@ -82,20 +71,14 @@ module _ (p : Image) (formed : WellFormed p) (prices : List ℕ) where
           ∙ raised_all p (λ y. kept (going_of y)) old table raised c lt (omega (arith, lt, size)) (omega (arith, is, low)) ∙ is
 
       past : (c : ℕ) → length p.classes ≤ c → at 1 table c ≡ destruction_by p prices (Object c)
-      past c le =
-          let most = below_absent p going_of c le in
-          let one = absent_going c le in
-          at_past 1 table c (omega (arith, le, raised.size, size)) ∙ (omega (arith, most, one))
+      past c le = grind (arith, nat_tests, below_absent p, absent_going c le, at_past 1 table c)
 
 -- ---- where the price of a method is found
 
 module _ (p : Image) (ns : List ℕ) (m v : ℕ) (d : Method) (there : method_at p m ≡ Some d) where
   module _ (within : m < length ns) (low : at 0 ns m ≤ v) where
     price_grows : (k : ℕ) → at 0 ns k ≤ at 0 (slice_set ns m v) k
-    price_grows k = elim (eqb_tells k m) [
-      | inl w ↦ rw (w.1, at_set_here 0 ns m v within) low
-      | inr w ↦ rw (at_set_other 0 ns m k v w.1) (omega arith)
-    ]
+    price_grows k = grind (arith, nat_tests, eqb_tells k m, at_set_here 0 ns m v within, at_set_other 0 ns m k v)
 
     pub destruction_grows : (x : Thing) → destruction_by p ns x ≤ destruction_by p (slice_set ns m v) x
     destruction_grows x =
@@ -104,10 +87,7 @@ module _ (p : Image) (ns : List ℕ) (m v : ℕ) (d : Method) (there : method_at
         omega (arith, grows)
 
     pub destroyed_below : (table : List ℕ) → IsDestroyed p ns table → (c : ℕ) → at 0 table c ≤ destruction_by p (slice_set ns m v) (Object c)
-    destroyed_below table is c = ⊎_elim
-        (λ (lt : c < length table). let grows = destruction_grows (Object c) in let same = at_either 0 1 table c lt in let here = is.each c in omega (arith, grows, same, here))
-        (λ (ge : length table ≤ c). let none = at_past 0 table c ge in omega (arith, none))
-        (cases_lt c (length table))
+    destroyed_below table is c = grind (arith, nat_tests, destruction_grows (Object c), at_either 0 1 table c, at_past 0 table c, cases_lt c)
 
     pub cancelled_below : (table : List ℕ) → IsCancelled p ns table → (c : ℕ) → at 0 table c ≤ most_at (slice_set ns m v) (cancels p (Some c))
     cancelled_below table is c = let grows = most_grows ns m v within low (cancels p (Some c)) in let here = is.each c in omega (arith, grows, here)

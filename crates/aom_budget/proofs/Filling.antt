@@ -1,12 +1,13 @@
 -- What the places of a method come to it comes to, and the tables are filled by it.
-use Rattle.std.proofs.Common.{◌≡◌, ℕ, suc, ◌<◌, ◌+◌, List, length, Option, Some, None, slice_index_or, slice_set, replicate, inl, inr, refl, sym, ap, ◌∙◌, subst, arith}
+use Rattle.std.proofs.lemmas.Bool.Decides.{nat_tests}
+use Rattle.std.proofs.Common.{◌≡◌, ℕ, suc, ◌<◌, ◌+◌, List, length, Some, None, slice_index_or, slice_set, replicate, inl, inr, refl, sym, ap, ◌∙◌, subst, arith}
 use Rattle.std.specs.Prelude.{min}
 use Rattle.std.proofs.lemmas.Bool.Decides.{eqb_tells, leb_tells}
 use Rattle.std.proofs.lemmas.List.{length-set, length-replicate}
 use Rattle.aom_image.specs.Image.{Image}
 use Rattle.aom_image.specs.Views.{instr_at}
 use Rattle.aom_instructions.specs.declared.instr.Instr.{Instr}
-use Rattle.aom_instructions.specs.declared.instr.Instr.TheVariants.{Call, Trap, Push, Delete}
+use Rattle.aom_instructions.specs.declared.instr.Instr.TheVariants.{Push, Delete}
 use Rattle.aom_classes.specs.Linked.{IsLinked}
 use Rattle.aom_classes.proofs.Facts.{of_method}
 use Rattle.aom_shape.specs.Kinds.{register}
@@ -31,7 +32,6 @@ use Rattle.aom_budget.proofs.Greatest.{run_from}
 use Rattle.aom_budget.proofs.Keeping.{at_noughts}
 use Rattle.aom_budget.proofs.Most.{of_none, alike, joined, of_methods}
 use Rattle.aom_instructions.specs.declared.instr.Instr.{Instr}
-use Rattle.aom_instructions.specs.declared.instr.Target.{Target}
 
 -- ---- one place
 
@@ -54,19 +54,13 @@ module _ (p : Image) (cap : ℕ) (its_own : Shape → ℕ) (calls : Shape → In
 -- ---- what is called is found already
 
 entered_called : (p : Image) (m : ℕ) (sh : Shape) (i : Instr) (k : ℕ) → Enters p i k → Among k (callees p m sh i)
-entered_called p m sh (Call target j first c) k e = run_among p j k e
-entered_called p m sh (Trap target j first c) k e = run_among p j k e
-entered_called p m sh _ k e = absurd e
+entered_called p m sh x k e = grind (arith, nat_tests, run_among p)
 
 is_entered : (p : Image) (i : Instr) (k : ℕ) → Enters p i k → Among k (entered p i)
-is_entered p (Call target j first c) k e = run_among p j k e
-is_entered p (Trap target j first c) k e = run_among p j k e
-is_entered p _ k e = absurd e
+is_entered p x k e = grind (arith, nat_tests, run_among p)
 
 enters : (p : Image) (i : Instr) (k : ℕ) → Among k (entered p i) → Enters p i k
-enters p (Call target j first c) k h = run_from p j k h
-enters p (Trap target j first c) k h = run_from p j k h
-enters p _ k h = absurd h
+enters p x k h = grind (arith, nat_tests, run_from p)
 
 module _ (p : Image) (m : ℕ) (s : Shapes) (place : ℕ) (sh : Shape) (i : Instr) (linked : IsLinked p) (strongest : IsMethodStrongest p m s) where
   module _ (there : at None s place ≡ Some sh) (stands : instr_at p m place ≡ Some i) where
@@ -98,10 +92,7 @@ calls_more p m a b (Delete r) k h c = destroys_more p (register a r) (register b
 calls_more p m a b _ k h c = c
 
 reached_within : (s : Shapes) (place : ℕ) (sh : Shape) → at None s place ≡ Some sh → place < length s
-reached_within s place sh e = elim (leb_tells (length s) place) [
-  | inl w ↦ let past = at_past None s place w.1 in absurd cc
-  | inr w ↦ omega (arith, w.1)
-]
+reached_within s place sh e = grind (arith, nat_tests, leb_tells, at_past None s place)
 
 module _ (p : Image) (linked : IsLinked p) (m : ℕ) (s : Shapes) (strongest : IsMethodStrongest p m s) where
   -- what comes to a place that is reached comes before the end
@@ -216,9 +207,6 @@ filled_more p cap of m table n h within most =
     let inside : m < length table = omega (arith, within, h.size) in
     record {
       size = length-set table m n ∙ h.size;
-      each = λ k below. elim (eqb_tells k m) [
-        | inl w ↦ rw (w.1, at_set_here 0 table m n inside) most
-        | inr w ↦ rw (at_set_other 0 table m k n w.1) (h.each k (omega (arith, below, w.1)))
-      ];
+      each = grind (arith, nat_tests, eqb_tells, at_set_here 0 table m n inside, at_set_other 0 table m);
       others = λ k past. at_set_other 0 table m k n (λ same. omega (arith, past, same)) ∙ h.others k (omega (arith, past));
     }

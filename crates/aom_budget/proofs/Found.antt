@@ -1,5 +1,6 @@
 -- Once a number is found of a method, the tables by it are those by the numbers with this one more.
-use Rattle.std.proofs.Common.{List, Some, ap, ap₂, arith, cond, length, slice_set, subst, sym, IsSome, ℕ, ◌<◌, ◌∙◌, ◌≡◌, ◌≤◌}
+use Rattle.std.proofs.lemmas.Bool.Decides.{nat_tests}
+use Rattle.std.proofs.Common.{List, Some, ap, arith, cond, length, slice_set, subst, sym, IsSome, ℕ, ◌<◌, ◌∙◌, ◌≡◌, ◌≤◌}
 use Rattle.std.specs.Prelude.{max}
 use Rattle.std.proofs.lemmas.List.{length-set}
 use Rattle.aom_image.specs.Image.{Image}
@@ -40,10 +41,12 @@ module _ (p : Image) (ns : List ℕ) (m v : ℕ) (now : List ℕ) (h : IsSet p n
   pub called_now :
       WellFormed p → (q : Image) (u : ℕ) (old new : List ℕ) → q ≡ p → u ≡ v → IsCalled p ns old → length new ≡ length old →
       ((k : ℕ) → k < length old → at 0 new k ≡ max (at 0 old k) (cond (is_body q m k) u 0)) → IsCalled p now new
-  called_now formed q u old new same is called size each =
-      subst (λ xs. IsCalled p xs new) (sym h.is)
-      (called_raised p formed m v ns old new called h.there h.sized h.unset size
-      (λ k lt. each k lt ∙ ap₂ (λ r w. max (at 0 old k) (cond (is_body r m k) w 0)) same is))
+  called_now formed q u old new same is called size each = grind (
+    arith,
+    nat_tests,
+    called_raised p formed m v ns old new called h.there h.sized h.unset size,
+    is,
+  )
 
   module _ (d : Method) (there : method_at p m ≡ Some d) (table : List ℕ) where
     pub destroyed_low : IsDestroyed p ns table → (c : ℕ) → at 0 table c ≤ destruction_by p now (Object c)

@@ -1,10 +1,9 @@
 -- The greatest number of some methods, by the methods listed and by what counts.
-use Rattle.std.proofs.Common.{Bool, List, None, Option, Some, [], ap, ap₂, arith, cond, false, inl, inr, length, refl, replicate, slice_set, subst, suc, sym, true, zero, ℕ, ◌++◌, ◌<◌, ◌==◌, ◌||◌, ◌∙◌, ◌∷◌, ◌≡◌, ◌≤◌, ◌⊎◌}
+use Rattle.std.proofs.lemmas.Bool.Decides.{nat_tests}
+use Rattle.std.proofs.Common.{Bool, List, Some, [], ap₂, arith, inl, inr, length, refl, replicate, slice_set, suc, sym, true, zero, ℕ, ◌++◌, ◌<◌, ◌∷◌, ◌≡◌, ◌≤◌}
 use Rattle.std.specs.Prelude.{max}
 use Rattle.std.proofs.lemmas.Bool.Decides.{eqb_tells}
 use Rattle.aom_image.specs.Image.{Image}
-use Rattle.aom_roles.specs.Families.{descends}
-use Rattle.aom_classes.specs.Overriding.{overrides}
 use Rattle.aom_shape.specs.Tables.{at}
 use Rattle.aom_shape.proofs.Lists.{at_set_here, at_set_other}
 use Rattle.aom_bounds.specs.Calls.{Among, bodies, each_below, each_of}
@@ -33,20 +32,14 @@ module _ (ns : List ℕ) (m v : ℕ) where
 
   module _ (within : m < length ns) (low : at 0 ns m ≤ v) where
     grows_at : (x : ℕ) → at 0 ns x ≤ at 0 (slice_set ns m v) x
-    grows_at x = elim (eqb_tells x m) [
-      | inl w ↦ rw (w.1, at_set_here 0 ns m v within) low
-      | inr w ↦ rw (at_set_other 0 ns m x v w.1) (omega arith)
-    ]
+    grows_at x = grind (arith, nat_tests, eqb_tells x m, at_set_here 0 ns m v within, at_set_other 0 ns m x v)
 
     pub most_grows : (xs : List ℕ) → most_at ns xs ≤ most_at (slice_set ns m v) xs
     most_grows [] = omega arith
     most_grows (x ∷ xs) = let here = grows_at x in let rest = most_grows xs in omega (arith, here, rest)
 
     set_within : (x : ℕ) → at 0 (slice_set ns m v) x ≤ max (at 0 ns x) v
-    set_within x = elim (eqb_tells x m) [
-      | inl w ↦ rw (w.1, at_set_here 0 ns m v within) (omega arith)
-      | inr w ↦ rw (at_set_other 0 ns m x v w.1) (omega arith)
-    ]
+    set_within x = grind (arith, nat_tests, eqb_tells x m, at_set_here 0 ns m v within, at_set_other 0 ns m x v)
 
     most_within : (xs : List ℕ) → most_at (slice_set ns m v) xs ≤ max (most_at ns xs) v
     most_within [] = omega arith
@@ -54,56 +47,33 @@ module _ (ns : List ℕ) (m v : ℕ) where
 
     most_reached : (xs : List ℕ) → Among m xs → v ≤ most_at (slice_set ns m v) xs
     most_reached [] h = absurd h
-    most_reached (x ∷ xs) (inl same) = let here = ap (at 0 (slice_set ns m v)) (sym same) ∙ at_set_here 0 ns m v within in omega (arith, here)
+    most_reached (x ∷ xs) (inl same) = grind (arith, nat_tests, at_set_here 0 ns m v within)
     most_reached (x ∷ xs) (inr h) = let rest = most_reached xs h in omega (arith, rest)
 
     pub most_set : (xs : List ℕ) → Among m xs → most_at (slice_set ns m v) xs ≡ max (most_at ns xs) v
-    most_set xs h =
-        let up = most_within xs in
-        let down = most_grows xs in
-        let reached = most_reached xs h in
-        omega (arith, up, down, reached)
+    most_set xs h = grind (arith, nat_tests, most_within xs, most_grows xs, most_reached xs h)
 
 -- ---- by what counts
 
 each_most : (ns : List ℕ) (counts : ℕ → Bool) (f : ℕ → List ℕ) (n : ℕ) → most_at ns (each_of counts f n) ≡ most_of counts (λ k. most_at ns (f k)) n
 each_most ns counts f zero = refl
-each_most ns counts f (suc n) = most_append ns (cond (counts n) (f n) []) (each_of counts f n) ∙ ap₂ max (go (counts n)) (each_most ns counts f n)
-  where
-    go : (b : Bool) → most_at ns (cond b (f n) []) ≡ cond b (most_at ns (f n)) 0
-    go true = refl
-    go false = refl
+each_most ns counts f (suc n) = grind (arith, nat_tests, most_append ns, each_most ns counts f n)
 
 pub below_most : (p : Image) (ns : List ℕ) (f : ℕ → List ℕ) (c : ℕ) → most_at ns (each_below p f (Some c)) ≡ most_below p (λ y. most_at ns (f y)) c
-below_most p ns f c =
-    most_append ns (f c) (each_of (λ y. descends p y c) f (length p.classes)) ∙ ap (max (most_at ns (f c))) (each_most ns (λ y. descends p y c) f (length p.classes))
+below_most p ns f c = grind (arith, nat_tests, most_append ns (f c), each_most ns)
 
 of_one : (ns : List ℕ) (counts : ℕ → Bool) (n : ℕ) → most_of counts (λ k. most_at ns (k ∷ [])) n ≡ most_of counts (at 0 ns) n
 of_one ns counts zero = refl
-of_one ns counts (suc n) =
-    let one : most_at ns (n ∷ []) ≡ at 0 ns n = omega arith in
-    ap₂ max (ap (λ x. cond (counts n) x 0) one) (of_one ns counts n)
+of_one ns counts (suc n) = grind (arith, nat_tests, of_one ns counts n)
 
 pub bodies_most : (p : Image) (ns : List ℕ) (k : ℕ) → most_at ns (bodies p k) ≡ most_run p (at 0 ns) k
-bodies_most p ns k =
-    ap (max (at 0 ns k)) (each_most ns (λ j. overrides p j k) (λ j. j ∷ []) (length p.methods) ∙ of_one ns (λ j. overrides p j k) (length p.methods))
+bodies_most p ns k = grind (arith, nat_tests, each_most ns, of_one ns)
 
 -- ---- what is listed of a call
 
 each_counts : (counts : ℕ → Bool) (n k : ℕ) → Among k (each_of counts (λ j. j ∷ []) n) → counts k ≡ true
 each_counts counts zero k h = absurd h
-each_counts counts (suc n) k h = go (counts n) refl (among_either k (cond (counts n) (n ∷ []) []) (each_of counts (λ j. j ∷ []) n) h) (each_counts counts n k)
-  where
-    one : Among k (n ∷ []) → counts n ≡ true → counts k ≡ true
-    one (inl same) is = ap counts same ∙ is
-    one (inr none) is = absurd none
-
-    go : (b : Bool) → counts n ≡ b → Among k (cond (counts n) (n ∷ []) []) ⊎ Among k (each_of counts (λ j. j ∷ []) n) →
-        (Among k (each_of counts (λ j. j ∷ []) n) → counts k ≡ true) → counts k ≡ true
-    go true is (inl here) later = one (subst (λ b. Among k (cond b (n ∷ []) [])) is here) is
-    go false is (inl here) later = absurd (subst (λ b. Among k (cond b (n ∷ []) [])) is here)
-    go b is (inr rest) later = later rest
+each_counts counts (suc n) k h = grind (arith, nat_tests, among_either k, each_counts counts n k)
 
 pub run_from : (p : Image) (j k : ℕ) → Among k (bodies p j) → MayRun p j k
-run_from p j k (inl same) = inl (sym same)
-run_from p j k (inr rest) = inr (each_counts (λ b. overrides p b j) (length p.methods) k rest)
+run_from p j k x = grind (arith, nat_tests, each_counts)

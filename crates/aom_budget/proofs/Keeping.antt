@@ -1,5 +1,6 @@
 -- Sums that are set stay kept.
-use Rattle.std.proofs.Common.{◌≡◌, ◌==◌, ℕ, zero, suc, ◌<◌, ◌≤◌, Bool, true, false, cond, ap, sym, List, [], ◌∷◌, length, slice_index_or, slice_set, replicate, inl, inr, refl, arith, ◌∙◌}
+use Rattle.std.proofs.lemmas.Bool.Decides.{nat_tests}
+use Rattle.std.proofs.Common.{◌≡◌, ◌==◌, ℕ, zero, suc, ◌<◌, ◌≤◌, cond, List, [], ◌∷◌, length, slice_index_or, slice_set, replicate, refl, arith, ◌∙◌}
 use Rattle.std.specs.Prelude.{max}
 use Rattle.std.proofs.lemmas.Bool.{eq-eqb, eqb-true}
 use Rattle.std.proofs.lemmas.Bool.Decides.{eqb_tells}
@@ -17,10 +18,7 @@ noughts_kept n = record { each = λ i. let none = at_noughts n i in omega (arith
 
 pub set_kept : (sums : List ℕ) (i v : ℕ) → i < length sums → v ≤ 4294967296 → AreKept sums → AreKept (slice_set sums i v)
 set_kept sums i v within low h = record {
-  each = λ j. elim (eqb_tells j i) [
-    | inl w ↦ rw (w.1, at_set_here 0 sums i v within) low
-    | inr w ↦ rw (at_set_other 0 sums i j v w.1) (h.each j)
-  ];
+  each = grind (arith, nat_tests, eqb_tells, at_set_here 0 sums i v within, at_set_other 0 sums i);
 }
 
 -- within a list it does not matter what lies past its end
@@ -35,8 +33,4 @@ read_past ds xs past i n e h r = (rw e at r) ∙ at_within past n ds i h
 
 -- what is raised
 pub raised_set : (xs : List ℕ) (i v u k : ℕ) → i < length xs → u ≡ max (at 0 xs i) v → at 0 (slice_set xs i u) k ≡ max (at 0 xs k) (cond (i == k) v 0)
-raised_set xs i v u k lt is = go (i == k) refl
-  where
-    go : (b : Bool) → (i == k) ≡ b → at 0 (slice_set xs i u) k ≡ max (at 0 xs k) (cond b v 0)
-    go true same = let here = eqb-true i k same in ap (at 0 (slice_set xs i u)) (sym here) ∙ at_set_here 0 xs i u lt ∙ is ∙ ap (λ j. max (at 0 xs j) v) here
-    go false other = at_set_other 0 xs i k u (λ same. let yes = eq-eqb i k (sym same) in cc) ∙ omega arith
+raised_set xs i v u k lt is = grind (arith, nat_tests, eqb-true i k, at_set_here 0 xs i u lt, at_set_other 0 xs i k u, eq-eqb i k)

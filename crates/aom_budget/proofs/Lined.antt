@@ -1,5 +1,6 @@
 -- A line of destructors, class by class from below, and what is in it.
-use Rattle.std.proofs.Common.{Bool, IfSome, List, None, Option, Some, [], ap, ap₂, arith, inl, inr, length, refl, subst, suc, sym, true, zero, ℕ, ◌++◌, ◌+◌, ◌==◌, ◌||◌, ◌∙◌, ◌∷◌, ◌≡◌, ◌≤◌}
+use Rattle.std.proofs.lemmas.Bool.Decides.{nat_tests}
+use Rattle.std.proofs.Common.{Bool, IfSome, List, None, Option, Some, [], ap, arith, inl, inr, length, refl, suc, sym, true, zero, ℕ, ◌++◌, ◌+◌, ◌==◌, ◌||◌, ◌∙◌, ◌∷◌, ◌≡◌, ◌≤◌}
 use Rattle.std.specs.Prelude.{max}
 use Rattle.std.proofs.lemmas.Bool.{eq-eqb}
 use Rattle.std.proofs.lemmas.Option.{slice_get_past, same_Some}
@@ -18,8 +19,7 @@ use Rattle.aom_roles.specs.Families.{descends, descends_in, parent_of}
 use Rattle.aom_classes.proofs.Keeping.{child_there, keeper_own, none_there}
 use Rattle.aom_classes.proofs.Playing.{own_found, role_inherits}
 use Rattle.aom_linked.proofs.Rows.{no_player}
-use Rattle.aom_classes.specs.Roles.{keeper_of, own_role, role_by, role_of}
-use Rattle.aom_shape.specs.Tables.{at}
+use Rattle.aom_classes.specs.Roles.{own_role, role_by, role_of}
 use Rattle.aom_bounds.specs.Calls.{Among, cancels, destructors, lines, lines_of, listed}
 use Rattle.aom_bounds.specs.Layers.{Destructs, InLine, Runs}
 use Rattle.aom_bounds.proofs.Lines.{line_step}
@@ -42,26 +42,13 @@ module _ (p : Image) where
 
   pub is_own : (c m : ℕ) → role_of p c Destruct ≡ Some m → method_class p m ≡ Some c → own_role p c Destruct ≡ Some m
   unfolding role_of
-  is_own c m role class =
-      some_given (λ o. role_by p Destruct o ≡ Some m) (keeper_of p c Destruct) role (λ none. cc) (λ y at own.
-      let same : y ≡ c = let of = class_of_own y m own in cc in
-      subst (λ x. own_role p x Destruct ≡ Some m) same own)
+  is_own c m role class = grind (arith, nat_tests, some_given, class_of_own)
 
   pub not_own : (c m : ℕ) → role_of p c Destruct ≡ Some m → (method_class p m ≡ Some c → ⊥) → own_role p c Destruct ≡ None
-  not_own c m role other = go (own_role p c Destruct) refl
-    where
-      go : (o : Option ℕ) → own_role p c Destruct ≡ o → o ≡ None
-      go None is = refl
-      go (Some k) is =
-          let same : k ≡ m = let has = inherits_own c k is in cc in
-          absurd (other (subst (λ x. method_class p x ≡ Some c) same (class_of_own c k is)))
+  not_own c m role other = grind (arith, nat_tests, inherits_own c, class_of_own c)
 
   pub none_own : (c : ℕ) → role_of p c Destruct ≡ None → own_role p c Destruct ≡ None
-  none_own c role = go (own_role p c Destruct) refl
-    where
-      go : (o : Option ℕ) → own_role p c Destruct ≡ o → o ≡ None
-      go None is = refl
-      go (Some k) is = let has = inherits_own c k is in cc
+  none_own c role = grind (arith, nat_tests, inherits_own c)
 
 -- ---- what a line costs, one class first
 
@@ -70,11 +57,7 @@ module _ (p : Image) (cost : Option ℕ → ℕ) where
   pub line_goes :
       (x own t y : ℕ) (o next : Option ℕ) (w : ℕ) → o ≡ Some x → own ≡ cost (own_role p x Destruct) → y ≡ kept (t + own) → next ≡ parent_of p x →
       kept (t + line_from p cost o) ≡ w → kept (y + line_from p cost next) ≡ w
-  line_goes x own t y o next w is price sum parent h =
-      let step = line_step p cost x in
-      let from = ap (line_from p cost) is in
-      let to = ap (line_from p cost) parent in
-      omega (arith, step, from, to, price, sum, h)
+  line_goes x own t y o next w is price sum parent h = grind (arith, nat_tests, line_step p cost x)
 
 -- ---- and what is listed of it
 
@@ -84,13 +67,10 @@ module _ (p : Image) where
   nothing_after (x ∷ xs) = ap (λ ys. x ∷ ys) (nothing_after xs)
 
   none_listed : (n : ℕ) → lines p n None ≡ []
-  none_listed zero = refl
-  none_listed (suc n) = refl
+  none_listed x = grind arith
 
   last_listed : (n c : ℕ) → c ≤ 0 → (listed (own_role p c Destruct) ++ lines p n (parent_of p c)) ≡ listed (own_role p c Destruct)
-  last_listed n c le =
-      let first : c ≡ 0 = omega (arith, le) in
-      ap (λ xs. listed (own_role p c Destruct) ++ xs) (ap (lines p n) (ap (parent_of p) first ∙ none_below p) ∙ none_listed n) ∙ nothing_after (listed (own_role p c Destruct))
+  last_listed n c le = grind (arith, nat_tests, none_below p, none_listed n, nothing_after)
 
   enough_listed : (n m : ℕ) (o : Option ℕ) → IfSome o (λ c. c ≤ n) → IfSome o (λ c. c ≤ m) → lines p n o ≡ lines p m o
   enough_listed zero zero None a b = refl
@@ -103,12 +83,7 @@ module _ (p : Image) where
   enough_listed (suc n) (suc m) (Some c) a b = ap (λ xs. listed (own_role p c Destruct) ++ xs) (enough_listed n m (parent_of p c) (fewer p c n a) (fewer p c m b))
 
   lines_step : (c : ℕ) → lines_of p (Some c) ≡ (listed (own_role p c Destruct) ++ lines_of p (parent_of p c))
-  lines_step zero = sym (ap (λ o. listed (own_role p 0 Destruct) ++ lines_of p o) (none_below p) ∙ nothing_after (listed (own_role p 0 Destruct)))
-  lines_step (suc n) = ap (λ xs. listed (own_role p (suc n) Destruct) ++ xs) (go (parent_of p (suc n)) refl)
-    where
-      go : (o : Option ℕ) → parent_of p (suc n) ≡ o → lines p n o ≡ lines_of p o
-      go None is = none_listed n
-      go (Some e) is = let lt = parent_below p (suc n) e is in enough_listed n e (Some e) (omega (arith, lt)) (omega arith)
+  lines_step x = grind (arith, nat_tests, none_below p, nothing_after, none_listed, parent_below p, enough_listed)
 
   pub most_step : (ds : List ℕ) (c : ℕ) → most_at ds (lines_of p (Some c)) ≡ max (most_at ds (listed (own_role p c Destruct))) (most_at ds (lines_of p (parent_of p c)))
   most_step ds c = ap (most_at ds) (lines_step c) ∙ most_append ds (listed (own_role p c Destruct)) (lines_of p (parent_of p c))
@@ -116,22 +91,15 @@ module _ (p : Image) where
   pub most_goes :
       (ds : List ℕ) (x own t y : ℕ) (o next : Option ℕ) (w : ℕ) → o ≡ Some x → own ≡ most_at ds (listed (own_role p x Destruct)) → y ≡ max t own → next ≡ parent_of p x →
       max t (most_at ds (lines_of p o)) ≡ w → max y (most_at ds (lines_of p next)) ≡ w
-  most_goes ds x own t y o next w is depth most parent h =
-      let step = most_step ds x in
-      let from = ap (λ z. most_at ds (lines_of p z)) is in
-      let to = ap (λ z. most_at ds (lines_of p z)) parent in
-      omega (arith, step, from, to, depth, most, h)
+  most_goes ds x own t y o next w is depth most parent h = grind (arith, nat_tests, most_step ds x)
 
 pub most_listed : (ns : List ℕ) (o : Option ℕ) → most_at ns (listed o) ≡ price_by ns o
-most_listed ns None = refl
-most_listed ns (Some k) = omega arith
+most_listed ns x = grind arith
 
 -- ---- what is in a line
 
 listed_is : (o : Option ℕ) (k : ℕ) → Among k (listed o) → o ≡ Some k
-listed_is None k h = absurd h
-listed_is (Some x) k (inl same) = ap (λ i. Some i) (sym same)
-listed_is (Some x) k (inr h) = absurd h
+listed_is x k h = grind arith
 
 in_lines : (p : Image) (n : ℕ) (o : Option ℕ) (k : ℕ) → Among k (lines p n o) → (d : ℕ) × (descends_in p n o d ≡ true) × (own_role p d Destruct ≡ Some k)
 unfolding descends_in
@@ -150,14 +118,7 @@ in_line : (p : Image) (c k : ℕ) → Among k (lines_of p (Some c)) → InLine p
 in_line p c k h = in_lines p c (Some c) k h
 
 gone_runs : (p : Image) (y k : ℕ) → Among k (gone_with p y) → Runs p (Object y) k
-gone_runs p y k h = elim (among_either k (lines_of p (Some y)) (lines_of p (sessions_at p y)) h) [
-  | inl own ↦ inl (in_line p y k own)
-  | inr theirs ↦ inr (go (sessions_at p y) refl theirs)
-]
-  where
-    go : (o : Option ℕ) → sessions_at p y ≡ o → Among k (lines_of p o) → (s : ℕ) × (sessions_at p y ≡ Some s) × InLine p (Object s) k
-    go None is h = absurd h
-    go (Some s) is h = (s, is, in_line p s k h)
+gone_runs p y k h = grind (arith, nat_tests, among_either k, in_line p y k, in_line p)
 
 -- of all that may stand for a class
 pub destructors_from : (p : Image) (c k : ℕ) → Among k (destructors p (Some c)) → (y : ℕ) × (descends p y c ≡ true) × Runs p (Object y) k
@@ -203,11 +164,7 @@ module _ (p : Image) (formed : WellFormed p) (c : ℕ) (past : length p.classes 
   absent_role r = none_there p r c past (absent_own r)
 
   absent_parent : parent_of p c ≡ None
-  absent_parent = go (parent_of p c) refl
-    where
-      go : (o : Option ℕ) → parent_of p c ≡ o → o ≡ None
-      go None is = refl
-      go (Some e) is = let there = child_there p c e is in absurd (omega (arith, there, past))
+  absent_parent = grind (arith, nat_tests, child_there p c)
 
   pub absent_kind : kind_at p c ≡ None
   unfolding kind_in class_at
@@ -218,15 +175,10 @@ module _ (p : Image) (formed : WellFormed p) (c : ℕ) (past : length p.classes 
   absent_sessions = ap sessions_in absent_kind
 
   pub absent_line : (cost : Option ℕ → ℕ) → cost None ≡ 0 → line p cost (Object c) ≡ 0
-  absent_line cost nobody =
-      let own = ap cost (absent_own Destruct) in
-      let above = ap (line_from p cost) absent_parent in
-      let is = line_step p cost c in
-      omega (arith, is, own, above, nobody)
+  absent_line cost nobody = grind (arith, nat_tests, absent_own Destruct, absent_parent, line_step p cost c)
 
   pub absent_gone : gone_with p c ≡ []
-  absent_gone =
-      ap₂ (λ xs ys. xs ++ ys) (lines_step p c ∙ ap₂ (λ xs ys. xs ++ ys) (ap listed (absent_own Destruct)) (ap (lines_of p) absent_parent)) (ap (lines_of p) absent_sessions)
+  absent_gone = grind (arith, nat_tests, lines_step p c, absent_own Destruct, absent_parent, absent_sessions)
 
   pub absent_cancels : listed (role_of p c Cancel) ≡ []
   absent_cancels = ap listed (absent_role Cancel)

@@ -1,5 +1,6 @@
 -- Each class that a state of the strongest typing names is one that the method mentions; so what a method may call has a lower number.
-use Rattle.std.proofs.Common.{◌≡◌, ℕ, zero, suc, ◌<◌, ◌==◌, Bool, true, false, cond, ◌&&◌, All, IsTrue, IfSome, List, [], ◌∷◌, map, position, Option, Some, None, slice_get, inl, inr, refl, sym, ap, ◌∙◌, subst, arith}
+use Rattle.std.proofs.lemmas.Bool.Decides.{nat_tests}
+use Rattle.std.proofs.Common.{◌≡◌, ℕ, zero, suc, ◌<◌, ◌==◌, Bool, true, false, cond, ◌&&◌, All, IsTrue, IfSome, List, [], ◌∷◌, map, Option, Some, None, inl, inr, refl, sym, ap, ◌∙◌, subst, arith}
 use Rattle.aom_image.proofs.Given.{some_given, true_given}
 use Rattle.std.specs.Prelude.{nat_lt}
 use Rattle.std.specs.List.{list_all}
@@ -7,7 +8,7 @@ use Rattle.std.proofs.lemmas.Bool.{lt-ltb}
 use Rattle.aom_image.specs.Image.{Image}
 use Rattle.aom_image.specs.Views.{arguments_of, arguments_in, class_in, fields_of, gives_of, instr_at, method_at, method_class, role_in}
 use Rattle.aom_instructions.specs.declared.instr.Instr.{Instr}
-use Rattle.aom_instructions.specs.declared.instr.Instr.TheVariants.{New, NewOrLeave, Delete, Push, PushOperation, Call, Trap, Cancel}
+use Rattle.aom_instructions.specs.declared.instr.Instr.TheVariants.{Delete, Push, PushOperation, Call, Trap, Cancel}
 use Rattle.aom_instructions.specs.declared.instr.Target.{Target}
 use Rattle.aom_instructions.specs.declared.instr.Target.TheVariants.{This, Register, Field, Entry as On_entry}
 use Rattle.aom_image.specs.declared.method.Argument.{Argument}
@@ -20,9 +21,9 @@ use Rattle.aom_image.specs.declared.method.Role.TheVariants as roles
 use Rattle.aom_image.specs.declared.method.Thing.{Thing}
 use Rattle.aom_image.specs.declared.method.Thing.TheVariants.{Object, Message}
 use Rattle.aom_roles.specs.Roles.{role_number}
-use Rattle.aom_classes.specs.Calls.{AllBelow, CallsBelow, EndsBelow, GoesBelow, MayCancel, Mentions, MentionsThing, MentionsArgument, MentionsResult, MentionsFields, MentionsRoot, RunsBelow, CallsOrdered}
+use Rattle.aom_classes.specs.Calls.{AllBelow, CallsBelow, EndsBelow, Mentions, MentionsThing, MentionsArgument, MentionsResult, MentionsFields, MentionsRoot, RunsBelow, CallsOrdered}
 use Rattle.aom_classes.specs.Linked.{IsLinked}
-use Rattle.aom_classes.specs.Overriding.{leads_to, over_in}
+use Rattle.aom_classes.specs.Overriding.{over_in}
 use Rattle.aom_classes.specs.Roles.{own_role, plays, same_role}
 use Rattle.aom_classes.proofs.Each.{both, join}
 use Rattle.aom_classes.proofs.Facts.{at_place, all_there, of_method}
@@ -48,9 +49,9 @@ use Rattle.aom_shape.specs.Tables.{at}
 use Rattle.aom_shape.specs.Things.{Holder, Member, root_thing, field_thing, holder_by, holder_of}
 use Rattle.aom_shape.specs.declared.kind.Entry.{Entry}
 use Rattle.aom_shape.specs.declared.kind.Age.TheVariants.{Ready}
-use Rattle.aom_shape.specs.declared.kind.Entry.TheVariants.{Object as An_object, Operation}
+use Rattle.aom_shape.specs.declared.kind.Entry.TheVariants.{Operation}
 use Rattle.aom_shape.specs.declared.kind.Filling.{Filling}
-use Rattle.aom_shape.specs.declared.kind.Filling.TheVariants.{Empty, Full, Perhaps}
+use Rattle.aom_shape.specs.declared.kind.Filling.TheVariants.{Empty, Full}
 use Rattle.aom_shape.specs.declared.kind.Kind.{Kind}
 use Rattle.aom_shape.specs.declared.kind.Kind.TheVariants.{Unset, Word, Null, Own, Maybe}
 use Rattle.aom_shape.proofs.Lists.{at_put}
@@ -59,7 +60,7 @@ use Rattle.aom_rules.proofs.Monotone.{needs_more, flows_more}
 use Rattle.aom_bounds.specs.Shapes.{Shapes, Meets, AllMet, Applies, IsMethodTyped}
 use Rattle.aom_bounds.specs.Strongest.{IsMethodStrongest}
 use Rattle.aom_bounds.specs.Calls.{Among, MayCall, bodies, callees, cancels, destructors, object_class, thing_class}
-use Rattle.aom_bounds.specs.Layers.{MayRun, Runs}
+use Rattle.aom_bounds.specs.Layers.{Runs}
 use Rattle.aom_budget.proofs.Greatest.{run_from}
 use Rattle.aom_budget.proofs.Lined.{cancels_from, destructors_from}
 use Rattle.aom_budget.proofs.Overridden.{overrider_is}
@@ -80,17 +81,13 @@ unfolding own_role
 role_below p m d k r all own = let w = found (plays d r) p.methods k own in (subst (λ o. IfSome o (λ e. IsTrue (plays d r e) → k < m)) w.1 (all k)) w.2
 
 ends_below : (p : Image) (m y k : ℕ) → EndsBelow p m y → Runs p (Object y) k → k < m
-ends_below p m y k ends (inl w) = role_below p m w.0 k roles.Destruct (ends.own w.0 w.1) w.2
-ends_below p m y k ends (inr w) =
-    let theirs : GoesBelow p m w.0 = subst (λ o. IfSome o (GoesBelow p m)) w.1 ends.sessions in
-    role_below p m w.2.0 k roles.Destruct (theirs w.2.0 w.2.1) w.2.2
+ends_below p m y k ends x = grind (arith, nat_tests, role_below p m)
 
 mentioned : (p : Image) (m c : ℕ) → Mentions p m c → IsTrue (runs_below p m (Some c))
 mentioned p m c h = all_below m (destructors p (Some c)) (λ k among. let w = destructors_from p c k among in ends_below p m w.0 k (h w.0 w.1) w.2)
 
 thing_mentioned : (p : Image) (m : ℕ) (t : Thing) → MentionsThing p m t → IsTrue (runs_below p m (thing_class t))
-thing_mentioned p m (Object c) h = mentioned p m c h
-thing_mentioned p m Message h = refl
+thing_mentioned p m x h = grind (arith, nat_tests, mentioned p m)
 
 -- ---- states that name such classes alone
 
@@ -113,22 +110,14 @@ FieldsLow p m holder = (f : ℕ) → IfSome (field_thing p holder f) (λ t. IsTr
 
 module _ (p : Image) (m : ℕ) where
   root_low : (root : Option ℕ) → IfSome root (Mentions p m) → (f : ℕ) → IfSome (root_thing root f) (λ t. IsTrue (runs_below p m (thing_class t)))
-  root_low None h zero = tt
-  root_low (Some c) h zero = mentioned p m c h
-  root_low root h (suc f) = tt
+  root_low root h x = grind (arith, nat_tests, mentioned p m)
 
   member_low : (c : ℕ) → All (MentionsThing p m) (fields_of p c) → FieldsLow p m (Member c)
-  member_low c h f = go (slice_get (fields_of p c) f) refl
-    where
-      go : (o : Option Thing) → slice_get (fields_of p c) f ≡ o → IfSome o (λ t. IsTrue (runs_below p m (thing_class t)))
-      go None e = tt
-      go (Some t) e = thing_mentioned p m t (all_there (MentionsThing p m) (fields_of p c) f t h e)
+  member_low c h f = grind (arith, nat_tests, thing_mentioned p m, all_there (MentionsThing p m))
 
   class_low : (own : Option ℕ) (r : Role) → (IsTrue (same_role r roles.Main) → MentionsRoot p m) → MentionsFields p m own → FieldsLow p m (holder_by (Some r) own)
   unfolding role_number
-  class_low own roles.Main root fields = root_low p.header.root (root refl)
-  class_low None _ root fields = λ f. tt
-  class_low (Some c) _ root fields = member_low c fields
+  class_low own x root fields = grind (arith, nat_tests, root_low p.header.root, member_low)
 
   holder_low : (d : Method) → method_at p m ≡ Some d → CallsOrdered p m d → FieldsLow p m (holder_of p m)
   unfolding role_in class_in
@@ -141,29 +130,20 @@ module _ (p : Image) (m : ℕ) where
   }
     where
       either : (j : ℕ) (b : Bool) → IsTrue (is_low p m (cond b k (register sh j)))
-      either j true = low
-      either j false = h.registers j
+      either j x = grind arith
 
   -- what a field has is no part of it
   field_low : (sh : Shape) (f : ℕ) (x : Filling) → IsLow p m sh → IsLow p m (set_field sh f x)
   field_low sh f x h = record { registers = h.registers; entries = h.entries }
 
   filled_low : (o : Option Thing) (x : Filling) → IfSome o (λ t. IsTrue (runs_below p m (thing_class t))) → IsTrue (is_low p m (filled o x))
-  filled_low None x h = refl
-  filled_low (Some t) Empty h = refl
-  filled_low (Some t) Full h = h
-  filled_low (Some t) Perhaps h = h
+  filled_low x y h = grind arith
 
   with_low : (e : Entry) (sh : Shape) → IsTrue (entry_low p m e) → IsLow p m sh → IsLow p m (with_entry e sh)
   with_low e sh low h = record { registers = h.registers; entries = join (entry_low p m e) (list_all (entry_low p m) sh.entries) low h.entries }
 
   pushed_low : (k : Kind) → IsTrue (is_low p m k) → IsTrue (entry_low p m (entry_of k))
-  pushed_low Unset h = refl
-  pushed_low Word h = refl
-  pushed_low Null h = refl
-  pushed_low (Own (Object c) a) h = h
-  pushed_low (Own Message a) h = refl
-  pushed_low (Maybe t a) h = refl
+  pushed_low x h = grind arith
 
   top_low : (es : List Entry) → IsTrue (list_all (entry_low p m) es) → IsTrue (is_low p m (top_kind es))
   top_low [] h = refl
@@ -179,26 +159,18 @@ module _ (p : Image) (m : ℕ) where
   -- ---- calls
 
   readied_low : (k : Kind) → IsTrue (is_low p m k) → IsTrue (is_low p m (readied k))
-  readied_low Unset h = refl
-  readied_low Word h = refl
-  readied_low Null h = refl
-  readied_low (Own t a) h = h
-  readied_low (Maybe t a) h = h
+  readied_low x h = grind arith
 
   readied_entry_low : (e : Entry) → IsTrue (entry_low p m e) → IsTrue (entry_low p m (readied_entry e))
-  readied_entry_low (An_object c a) h = h
-  readied_entry_low Operation h = h
+  readied_entry_low x h = grind arith
 
   readied_at_low : (es : List Entry) (k : ℕ) → IsTrue (list_all (entry_low p m) es) → IsTrue (list_all (entry_low p m) (readied_at es k))
   readied_at_low [] k h = refl
   readied_at_low (e ∷ es) zero h = let w = both (entry_low p m e) (list_all (entry_low p m) es) h in join (entry_low p m (readied_entry e)) (list_all (entry_low p m) es) (readied_entry_low e w.0) w.1
-  readied_at_low (e ∷ es) (suc k) h =
-      let w = both (entry_low p m e) (list_all (entry_low p m) es) h in
-      join (entry_low p m e) (list_all (entry_low p m) (readied_at es k)) w.0 (readied_at_low es k w.1)
+  readied_at_low (e ∷ es) (suc k) h = grind (arith, nat_tests, both, join, readied_at_low es k)
 
   argument_low : (x : Argument) (r : ℕ) (sh : Shape) → IsLow p m sh → IsLow p m (argument_moved x r sh)
-  argument_low A_word_argument r sh h = h
-  argument_low (An_own_argument t) r sh h = set_low sh r Null h refl
+  argument_low x r sh h = grind (arith, nat_tests, set_low sh r Null h)
 
   arguments_low : (xs : List Argument) (first : ℕ) (sh : Shape) → IsLow p m sh → IsLow p m (arguments_moved xs first sh)
   arguments_low [] first sh h = h
@@ -241,9 +213,7 @@ module _ (p : Image) (m : ℕ) where
   null_low pc sh (Maybe t a) r to h low = (set_low sh r (Own t a) h low, (set_low sh r Null h refl, tt))
 
   empty_low : (pc : ℕ) (sh : Shape) (x : Filling) (f to : ℕ) → IsLow p m sh → AllLow p m (flow_jump_empty p m pc sh x f to)
-  empty_low pc sh Empty f to h = (h, tt)
-  empty_low pc sh Full f to h = (h, tt)
-  empty_low pc sh Perhaps f to h = (field_low sh f Full h, (field_low sh f Empty h, tt))
+  empty_low pc sh x f to h = grind (arith, nat_tests, field_low sh f Full h, field_low sh f Empty h)
 
   -- the kind that a register comes to have names such a class, and so does what a call gives
   NamesLow : Ways → Type 0
@@ -254,11 +224,7 @@ module _ (p : Image) (m : ℕ) where
 
   names_low : (own : Option ℕ) (i : Instr) → RunsBelow p m own i → NamesLow (ways_of p i)
   unfolding NamesLow
-  names_low own (New a c) r = mentioned p m c r
-  names_low own (NewOrLeave a c) r = mentioned p m c r
-  names_low own (Call target called first c) r = r.gives
-  names_low own (Trap target called first c) r = r.gives
-  names_low own _ r = refl
+  names_low own x r = grind (arith, nat_tests, mentioned p m)
 
   module _ (own : Option ℕ) (fields : FieldsLow p m (holder_of p m)) where
     after_low : (pc : ℕ) (sh : Shape) (news : News) → NamesLow (Goes_on news) → IsLow p m sh → IsLow p m (after p m pc sh news)
@@ -368,15 +334,7 @@ module _ (p : Image) (m : ℕ) where
   }
 
   raised_low : (k : Kind) → IsTrue (owned_low p m k) → IsTrue (is_low p m (raised p m k))
-  raised_low Unset h = refl
-  raised_low Word h = refl
-  raised_low Null h = refl
-  raised_low (Own t a) h = h
-  raised_low (Maybe t a) h = go (runs_below p m (thing_class t)) refl
-    where
-      go : (b : Bool) → runs_below p m (thing_class t) ≡ b → IsTrue (is_low p m (cond b (Maybe t a) Null))
-      go true e = e
-      go false e = refl
+  raised_low x h = grind arith
 
   owned_at : (ks : List Kind) (i : ℕ) → IsTrue (list_all (owned_low p m) ks) → IsTrue (owned_low p m (at Unset ks i))
   owned_at [] i h = refl
@@ -396,11 +354,7 @@ module _ (p : Image) (m : ℕ) where
       }
 
   low_owned : (k : Kind) → IsTrue (is_low p m k) → IsTrue (owned_low p m k)
-  low_owned Unset h = refl
-  low_owned Word h = refl
-  low_owned Null h = refl
-  low_owned (Own t a) h = h
-  low_owned (Maybe t a) h = refl
+  low_owned x h = grind arith
 
   -- what says no more than a kind of such a class
   weaker_owned : (x y : Kind) → Weaker x y → IsTrue (is_low p m y) → IsTrue (owned_low p m x)
@@ -411,11 +365,7 @@ module _ (p : Image) (m : ℕ) where
   weaker_owned x y (maybe_own {t = t} {a = age}) h = refl
 
   low_raised : (k : Kind) → IsTrue (is_low p m k) → raised p m k ≡ k
-  low_raised Unset h = refl
-  low_raised Word h = refl
-  low_raised Null h = refl
-  low_raised (Own t a) h = refl
-  low_raised (Maybe t a) h = rw h refl
+  low_raised x h = grind arith
 
   -- still says no more once it is raised
   weaker_raised : (x y : Kind) → Weaker x y → IsTrue (is_low p m y) → Weaker (raised p m x) y
@@ -452,8 +402,7 @@ module _ (p : Image) (m : ℕ) where
 
   -- what is kept stood there
   stood : (o : Option Shape) (x : Shape) → kept p m o ≡ Some x → (sh : Shape) × (o ≡ Some sh) × IsTrue (stays p m sh) × (x ≡ raised_shape p m sh)
-  stood o x e = some_given (λ y. kept p m y ≡ Some x) o e (λ none. cc) (λ sh is f.
-      true_given (λ b. cond b (Some (raised_shape p m sh)) None ≡ Some x) (stays p m sh) f (λ g. cc) (λ stay g. let same : x ≡ raised_shape p m sh = cc in (sh, is, stay, same)))
+  stood o x e = grind (arith, nat_tests, some_given, true_given)
 
   ordered : IsLinked p → (d : Method) → method_at p m ≡ Some d → CallsOrdered p m d
   unfolding method_at
@@ -490,15 +439,7 @@ module _ (p : Image) (m : ℕ) where
   }
 
   was_low : (k : Kind) → IsTrue (owned_low p m k) → Weaker (raised p m k) k → IsTrue (is_low p m k)
-  was_low Unset h w = refl
-  was_low Word h w = refl
-  was_low Null h w = refl
-  was_low (Own t a) h w = h
-  was_low (Maybe t a) h w = go (runs_below p m (thing_class t)) refl w
-    where
-      go : (b : Bool) → runs_below p m (thing_class t) ≡ b → Weaker (cond b (Maybe t a) Null) (Maybe t a) → IsTrue (runs_below p m (thing_class t))
-      go true e w = e
-      go false e w = elim w [ ]
+  was_low x h w = grind arith
 
   states_low : (s : Shapes) (pc : ℕ) (sh : Shape) → IsLinked p → IsMethodStrongest p m s → at None s pc ≡ Some sh → IsLow p m sh
   states_low s pc sh linked h there =
@@ -523,20 +464,11 @@ module _ (p : Image) (m : ℕ) where
 
   cancel_low : (own : Option ℕ) (k : ℕ) → RunsBelow p m own Cancel → Among k (cancels p own) → k < m
   cancel_low None k h among = absurd among
-  cancel_low (Some c) k h among =
-      let w = cancels_from p c k among in
-      let may : MayCancel p m w.0 = λ x descends. h x (through p x w.0 c descends w.1) in
-      subst (λ o. IfSome o (λ j. j < m)) w.2 (cancels_own p m w.0 may)
+  cancel_low (Some c) k h among = grind (arith, nat_tests, cancels_from p c k among, through p, cancels_own p m)
 
   body_low : (called k : ℕ) → CallsBelow p m called → Among k (bodies p called) → k < m
   unfolding over_in method_at
-  body_low called k h among = go (run_from p called k among)
-    where
-      go : MayRun p called k → k < m
-      go (inl same) = subst (λ j. j < m) same h.below
-      go (inr over) =
-          let w = overrider_is p k called over in
-          (subst (λ o. IfSome o (λ d. IsTrue (leads_to p d.over called) → k < m)) w.1 (h.overriders k)) (ap (λ o. leads_to p (over_in o) called) (sym w.1) ∙ over)
+  body_low called k h among = grind (arith, nat_tests, run_from p called k among, overrider_is p k called)
 
   callee_low : (sh : Shape) (i : Instr) (k : ℕ) → RunsBelow p m (method_class p m) i → IsLow p m sh → Among k (callees p m sh i) → k < m
   callee_low sh (Call target called first c) k r h among = body_low called k r among
@@ -550,8 +482,10 @@ module _ (p : Image) (m : ℕ) where
 
   pub called_lower : (k : ℕ) → IsLinked p → MayCall p m k → k < m
   unfolding class_in
-  called_lower k linked call =
-      let runs = runs_ordered linked call.place call.calls.instr call.calls.stands in
-      let own : RunsBelow p m (method_class p m) call.calls.instr = rw runs.1 runs.3 in
-      let low = states_low call.states call.place call.calls.shape linked call.strongest call.calls.there in
-      callee_low call.calls.shape call.calls.instr k own low call.calls.calls
+  called_lower k linked call = grind (
+    arith,
+    nat_tests,
+    runs_ordered linked call.place call.calls.instr call.calls.stands,
+    states_low call.states call.place call.calls.shape linked call.strongest call.calls.there,
+    callee_low call.calls.shape call.calls.instr k,
+  )

@@ -1,4 +1,5 @@
 -- The greatest of some numbers up to a cap, put together from parts.
+use Rattle.std.proofs.lemmas.Bool.Decides.{nat_tests}
 use Rattle.std.proofs.Common.{◌≡◌, ℕ, ◌<◌, ◌≤◌, ◌+◌, ◌⊎◌, List, [], ◌∷◌, inl, inr, refl, subst, arith}
 use Rattle.std.specs.Prelude.{min, max}
 use Rattle.std.proofs.lemmas.Bool.Decides.{eqb_tells, leb_tells}
@@ -13,36 +14,18 @@ of_none cap some none = record { above = λ k h. absurd (none k h); met = inl re
 pub alike : (cap : ℕ) (a b : ℕ → Type 0) (n : ℕ) → ((k : ℕ) → a k → b k) → ((k : ℕ) → b k → a k) → IsMost cap a n → IsMost cap b n
 alike cap a b n there back h = record {
   above = λ k c. h.above k (back k c);
-  met = elim h.met [
-    | inl e ↦ inl e
-    | inr w ↦ inr (w.0, there w.0 w.1, w.2)
-  ];
+  met = grind (arith, nat_tests);
 }
 
 pub of_either : (cap : ℕ) (a b : ℕ → Type 0) (x y : ℕ) → IsMost cap a x → IsMost cap b y → IsMost cap (λ k. a k ⊎ b k) (max x y)
 of_either cap a b x y h i = record {
-  above = λ k c. elim c [
-    | inl c ↦ omega (arith, h.above k c)
-    | inr c ↦ omega (arith, i.above k c)
-  ];
-  met = elim (leb_tells x y) [
-    | inl w ↦ elim i.met [
-      | inl e ↦ inl (omega (arith, w.1, e))
-      | inr v ↦ inr (v.0, inr v.1, omega (arith, w.1, v.2))
-    ]
-    | inr w ↦ elim h.met [
-      | inl e ↦ inl (omega (arith, w.1, e))
-      | inr v ↦ inr (v.0, inl v.1, omega (arith, w.1, v.2))
-    ]
-  ];
+  above = grind (arith, nat_tests);
+  met = grind (arith, nat_tests, leb_tells x y);
 }
 
 pub joined : (cap own : ℕ) (others : ℕ → Type 0) (n : ℕ) → IsMost cap others n → IsMost cap (Joined own others) (min (own + n) cap)
 joined cap own others n h = record {
-  above = λ k c. elim c [
-    | inl e ↦ omega (arith, e)
-    | inr w ↦ omega (arith, w.2, h.above w.0 w.1)
-  ];
+  above = grind (arith, nat_tests);
   met = elim h.met [
     | inl e ↦ inr (own, inl refl, omega (arith, e))
     | inr w ↦ inr (own + w.0, inr (w.0, w.1, refl), omega (arith, w.2))
@@ -52,8 +35,7 @@ joined cap own others n h = record {
 -- ---- of the methods in a list
 
 first_or_others : (of : ℕ → ℕ → Type 0) (k : ℕ) (ks : List ℕ) (n : ℕ) → of k n ⊎ OfSome of ks n → OfSome of (k ∷ ks) n
-first_or_others of k ks n (inl h) = record { method = k; among = inl refl; has = h }
-first_or_others of k ks n (inr h) = record { method = h.method; among = inr h.among; has = h.has }
+first_or_others of k ks n x = grind arith
 
 is_first_or_other : (of : ℕ → ℕ → Type 0) (k : ℕ) (ks : List ℕ) (n : ℕ) → OfSome of (k ∷ ks) n → of k n ⊎ OfSome of ks n
 is_first_or_other of k ks n h = elim h.among [
@@ -74,8 +56,7 @@ pub before_first : (cap : ℕ) (here : ℕ → ℕ → Type 0) → IsMost cap (B
 before_first cap here = of_none cap (Before here 0) (λ k h. absurd (omega (arith, h.below)))
 
 join_last : (here : ℕ → ℕ → Type 0) (count n : ℕ) → Before here count n ⊎ here count n → Before here (count + 1) n
-join_last here count n (inl h) = record { place = h.place; below = omega (arith, h.below); comes = h.comes }
-join_last here count n (inr h) = record { place = count; below = omega arith; comes = h }
+join_last here count n x = grind arith
 
 split_last : (here : ℕ → ℕ → Type 0) (count n : ℕ) → Before here (count + 1) n → Before here count n ⊎ here count n
 split_last here count n h = elim (eqb_tells h.place count) [
@@ -84,9 +65,14 @@ split_last here count n h = elim (eqb_tells h.place count) [
 ]
 
 pub before_more : (cap : ℕ) (here : ℕ → ℕ → Type 0) (count x y : ℕ) → IsMost cap (Before here count) x → IsMost cap (here count) y → IsMost cap (Before here (count + 1)) (max x y)
-before_more cap here count x y h i =
-    alike cap (λ n. Before here count n ⊎ here count n) (Before here (count + 1)) _ (join_last here count) (split_last here count)
-    (of_either cap (Before here count) (here count) x y h i)
+before_more cap here count x y h i = grind (
+  arith,
+  nat_tests,
+  alike cap,
+  join_last here count,
+  split_last here count,
+  of_either cap (Before here count) (here count) x y h i,
+)
 
 -- ---- below the cap it is the greatest
 
@@ -100,7 +86,4 @@ is_one cap some n k h few c = elim h.met [
 ]
 
 pub one_exceeds : (cap : ℕ) (some : ℕ → Type 0) (n most : ℕ) → IsMost cap some n → most < n → (k : ℕ) × some k × (most < k)
-one_exceeds cap some n most h many = elim h.met [
-  | inl e ↦ absurd (omega (arith, e, many))
-  | inr w ↦ (w.0, w.1, omega (arith, w.2, many))
-]
+one_exceeds cap some n most h many = grind (arith, nat_tests)

@@ -1,5 +1,6 @@
 -- What goes from a method to what overrides it holds of all that override it, by an induction over the steps between them.
-use Rattle.std.proofs.Common.{All, Bool, None, Option, Some, ap, false, length, refl, slice_get, subst, suc, sym, true, zero, ℕ, ◌<◌, ◌==◌, ◌||◌, ◌∙◌, ◌≡◌}
+use Rattle.std.proofs.lemmas.Bool.Decides.{nat_tests}
+use Rattle.std.proofs.Common.{arith, Bool, None, Option, Some, false, length, refl, subst, suc, sym, true, zero, ℕ, ◌<◌, ◌==◌, ◌||◌, ◌≡◌}
 use Rattle.std.proofs.lemmas.Bool.{eqb-true}
 use Rattle.std.proofs.lemmas.List.Elements.{All-get_or}
 use Rattle.std.proofs.lemmas.Option.{get_or_from_slice_get, slice_get_within}
@@ -32,24 +33,23 @@ module _ (p : Image) (P : ℕ → Type 0) (j : ℕ) (down : (k x : ℕ) → over
 -- a method that overrides is one of the image's
 pub overrider_is : (p : Image) (k j : ℕ) → overrides p k j ≡ true → (d : Method) × (method_at p k ≡ Some d)
 unfolding over_in
-overrider_is p k j over = go (method_at p k) refl over
-  where
-    go : (o : Option Method) → method_at p k ≡ o → leads_in p (length p.methods) (over_in o) j ≡ true → (d : Method) × (method_at p k ≡ Some d)
-    go None is h = absurd (no_lead p (length p.methods) j h)
-    go (Some d) is h = (d, is)
+overrider_is p k j over = grind (arith, nat_tests, no_lead p)
 
 -- and so is what is overridden
 over_fits : (p : Image) (y : ℕ) (o : Option ℕ) → OverFits p.header.version (length p.methods) o → o ≡ Some y → y < length p.methods
-over_fits p y None f is = cc
-over_fits p y (Some z) f is = let same : z ≡ y = cc in subst (λ i. i < length p.methods) same f.1
+over_fits p y x f is = grind arith
 
 over_there : (p : Image) → WellFormed p → (x y : ℕ) (o : Option Method) → method_at p x ≡ o → over_in o ≡ Some y → y < length p.methods
 unfolding over_in method_at
 over_there p formed x y None is at = cc
-over_there p formed x y (Some d) is at =
-    let fit = subst (λ d. OverFits p.header.version (length p.methods) d.over) (get_or_from_slice_get p.methods x d d is)
-    (All-get_or (λ d. OverFits p.header.version (length p.methods) d.over) p.methods x d (slice_get_within p.methods x d is) formed.families.overs) in
-    over_fits p y d.over fit at
+over_there p formed x y (Some d) is at = grind (
+  arith,
+  nat_tests,
+  get_or_from_slice_get p.methods x d d is,
+  All-get_or,
+  slice_get_within p.methods x d is,
+  over_fits p y d.over,
+)
 
 method_within : (p : Image) (x : ℕ) (d : Method) → method_at p x ≡ Some d → x < length p.methods
 unfolding method_at

@@ -1,24 +1,23 @@
 -- One place more of a pass: tables that agree with what is found there too are swept there too.
-use Rattle.std.proofs.Common.{◌≡◌, ◌≢◌, ◌==◌, ℕ, suc, ◌<◌, ◌≤◌, ◌+◌, Bool, true, false, cond, List, [], ◌∷◌, ◌++◌, map, Option, Some, None, IsSome, inl, inr, refl, sym, ap, ◌∙◌, subst, arith}
+use Rattle.std.proofs.lemmas.Bool.Decides.{nat_tests}
+use Rattle.std.proofs.Common.{◌≡◌, ◌≢◌, ℕ, suc, ◌<◌, ◌≤◌, ◌+◌, List, [], ◌∷◌, ◌++◌, map, Option, Some, None, IsSome, inl, inr, refl, sym, ap, ◌∙◌, subst, arith}
 use Rattle.std.proofs.lemmas.Bool.Decides.{eqb_tells}
 use Rattle.std.specs.Prelude.{bit_and}
 use Rattle.aom_image.specs.Image.{Image}
 use Rattle.aom_image.specs.Views.{method_class}
 use Rattle.aom_instructions.specs.declared.instr.Instr.{Instr}
-use Rattle.aom_instructions.specs.declared.instr.Instr.TheVariants.{JumpNull, JumpEmpty, JumpActive, JumpAdded, Call, Cancel, Trap, PushOperation, Push, Delete}
+use Rattle.aom_instructions.specs.declared.instr.Instr.TheVariants.{Call, Cancel, Trap, PushOperation, Push, Delete}
 use Rattle.aom_image.specs.declared.method.Thing.{Thing}
 use Rattle.aom_classes.specs.Bodies.{Body, IsLooped}
-use Rattle.aom_shape.specs.Kinds.{register, field}
+use Rattle.aom_shape.specs.Kinds.{register}
 use Rattle.aom_shape.specs.Needs.{Flow, AllTrue}
-use Rattle.aom_roles.specs.States.{unlisted}
 use Rattle.aom_rules.specs.Objects.{flow_jump_null, flow_jump_empty}
-use Rattle.aom_rules.specs.Requests.{enlisted, flow_narrowed, inactive, outstanding}
+use Rattle.aom_rules.specs.Requests.{flow_narrowed}
 use Rattle.aom_rules.specs.Rules.{rule_needs, flows}
 use Rattle.aom_shape.specs.Shape.{Shape}
 use Rattle.aom_shape.specs.Tables.{at}
 use Rattle.aom_rules.specs.Typing.{Typing, shape_at}
 use Rattle.aom_shape.specs.declared.kind.Filling.{Filling}
-use Rattle.aom_shape.specs.declared.kind.Filling.TheVariants.{Empty, Full, Perhaps}
 use Rattle.aom_shape.specs.declared.kind.Kind.{Kind}
 use Rattle.aom_shape.specs.declared.kind.Kind.TheVariants.{Unset, Word, Null, Own, Maybe}
 use Rattle.aom_bounds.specs.Shapes.{Shapes}
@@ -44,32 +43,16 @@ abbrev pub targets : List Flow → List ℕ
 targets ways = map (λ way. way.0) ways
 
 null_same : (p : Image) (m place : ℕ) (sh : Shape) (k : Kind) (a to : ℕ) → null_targets (suc place) k to ≡ targets (flow_jump_null p m place sh k a to)
-null_same p m place sh Unset a to = refl
-null_same p m place sh Word a to = refl
-null_same p m place sh Null a to = refl
-null_same p m place sh (Own t age) a to = refl
-null_same p m place sh (Maybe t age) a to = refl
+null_same p m place sh x a to = grind arith
 
 empty_same : (p : Image) (m place : ℕ) (sh : Shape) (x : Filling) (f to : ℕ) → empty_targets (suc place) x to ≡ targets (flow_jump_empty p m place sh x f to)
-empty_same p m place sh Empty f to = refl
-empty_same p m place sh Full f to = refl
-empty_same p m place sh Perhaps f to = refl
+empty_same p m place sh x f to = grind arith
 
 states_same : (sh : Shape) (next here to there : ℕ) → states_targets next (bit_and sh.states here) to (bit_and sh.states there) ≡ targets (flow_narrowed sh next here ++ flow_narrowed sh to there)
-states_same sh next here to there = go (bit_and sh.states here) (bit_and sh.states there) (bit_and sh.states here == 0) (bit_and sh.states there == 0)
-  where
-    go : (s t : ℕ) (x y : Bool) → (cond x [] (next ∷ []) ++ cond y [] (to ∷ [])) ≡ targets (cond x [] ((next, record sh { states = s }) ∷ []) ++ cond y [] ((to, record sh { states = t }) ∷ []))
-    go s t true true = refl
-    go s t true false = refl
-    go s t false true = refl
-    go s t false false = refl
+states_same sh next here to there = grind (arith, nat_tests)
 
 pub targets_same : (p : Image) (m place : ℕ) (sh : Shape) (i : Instr) → AllTrue (rule_needs p m place sh i) → targets_of place sh i ≡ targets (flows p m place sh i)
-targets_same p m place sh (JumpNull a to) needs = null_same p m place sh (register sh a) a to
-targets_same p m place sh (JumpEmpty f to) needs = empty_same p m place sh (field sh f) f to
-targets_same p m place sh (JumpActive to) needs = states_same sh (suc place) inactive to outstanding
-targets_same p m place sh (JumpAdded to) needs = states_same sh (suc place) unlisted to enlisted
-targets_same p m place sh _ needs = first_of (cc, grind arith)
+targets_same p m place sh x needs = grind (arith, nat_tests, null_same p m place sh, empty_same p m place sh, states_same sh)
 
 pub among_flows : (to : ℕ) (fs : List Flow) → Among to (targets fs) → AmongFlows to fs
 among_flows to [] h = absurd h
@@ -89,8 +72,7 @@ below_first : (o : Option ℕ) (j : ℕ) (rest : List ℕ) → o ≡ Some j → 
 below_first o j rest e = subst (λ x. Among j (listed x ++ rest)) (sym e) (inl refl)
 
 below_second : (o : Option ℕ) (j : ℕ) (rest : List ℕ) → Among j rest → Among j (listed o ++ rest)
-below_second None j rest h = h
-below_second (Some k) j rest h = inr h
+below_second x j rest h = grind arith
 
 module _ (p : Image) (prices : List ℕ) (m : ℕ) (c : Prices) (lower : (k : ℕ) → k < m → price c k ≡ at 0 prices k) where
   module _ (classes : (x : Thing) → c.destruction x ≡ kept (all_going p (destructor_price c) x)) where

@@ -1,4 +1,5 @@
 -- What a pass finds at a place, by the instruction that stands there: a plain one, a loop, or a next.
+use Rattle.std.proofs.lemmas.Bool.Decides.{nat_tests}
 use Rattle.std.proofs.lemmas.Option.{same_Some}
 use Rattle.std.proofs.Common.{◌≡◌, ℕ, suc, ◌<◌, ◌≤◌, ◌+◌, ◌-◌, ◌*◌, List, [], Some, None, inl, inr, refl, sym, ap, ◌∙◌, subst, arith}
 use Rattle.std.specs.Prelude.{max}
@@ -91,13 +92,7 @@ module _ (p : Image) (prices : List ℕ) (m : ℕ) (s : Shapes) (looped : IsLoop
           IsPassed p prices m s x new
       plain_more low value = passed_more p prices m s looped x old new extends h
           (λ t c a agrees. record {
-            plain = λ sh j u there j_no_loop j_no_next u_inner.
-                let same_instr : i ≡ j = same_Some i j (sym stands ∙ there.instr) in
-                let same_region : r ≡ u = one_innermost p looped m x r u inner u_inner in
-                let here = stands_there t x sh agrees.states there.shape in
-                let is = plain_value c a t sh here agrees (value sh here) in
-                subst (λ y. c.from m x ≡ kept (own p m c sh j + max (after a m y) (most_within c m y (flows p m x sh j)))) same_region
-                (subst (λ y. c.from m x ≡ kept (own p m c sh y + max (after a m r) (most_within c m r (flows p m x sh y)))) same_instr is);
+            plain = grind (arith, nat_tests, same_Some i, one_innermost p looped m x r, stands_there t x, plain_value c a t);
             loops = λ d n sh there. absurd (no_loop_here i d n no_loop (same_Some i (Loop d n) (sym stands ∙ there.instr)));
             nexts = λ d f sh there. absurd (no_next_here i d (suc f) no_next (same_Some i (Next d (suc f)) (sym stands ∙ there.instr)));
             rounds = round_found p prices m s looped x old new extends h t c a agrees;
@@ -127,9 +122,7 @@ module _ (p : Image) (prices : List ℕ) (m : ℕ) (s : Shapes) (looped : IsLoop
       loop_value :
           (t : Typing) (c : Prices) (a : Afters) → Agrees p prices m s x new t c a → at 0 new.from x ≡ kept (1 + (n - 1) * round_of + at 0 old.from (suc x)) →
           c.from m x ≡ kept (1 + (n - 1) * c.round m x + c.from m (suc x))
-      loop_value t c a agrees is =
-          let first : c.from m (suc x) ≡ at 0 old.from (suc x) = agrees.froms (suc x) (omega arith) ∙ extends.froms (suc x) (omega arith) in
-          rw (rounds_same t c a agrees, first) (agrees.froms x (omega arith) ∙ is)
+      loop_value t c a agrees is = grind (arith, nat_tests, rounds_same t c a agrees)
 
       body_reached : (sh : Shape) → at None s x ≡ Some sh → (y : Shape) × (at None s (suc x) ≡ Some y)
       body_reached sh there =
@@ -204,7 +197,7 @@ module _ (p : Image) (prices : List ℕ) (m : ℕ) (s : Shapes) (looped : IsLoop
                 instr = g.instr;
                 stands = g.stands.instr;
                 out = out;
-                flow = subst (λ l. Among out l) (sym (targets_at g.place g.shape g.instr there g.stands.instr)) (flows_among out (flows p m g.place g.shape g.instr) g.flow);
+                flow = grind (arith, nat_tests, targets_at g.place g.shape g.instr there g.stands.instr, flows_among out);
                 outside = g.outside;
                 is = refl;
               };
@@ -224,9 +217,7 @@ module _ (p : Image) (prices : List ℕ) (m : ℕ) (s : Shapes) (looped : IsLoop
         follows_after : (t : Typing) (c : Prices) (a : Afters) → Agrees p prices m s x new t c a → IsAfter p t c a m f x r
         follows_after t c a agrees = record {
           around = omega (arith, around_same t c a agrees, closed t c a agrees);
-          out = λ place g.
-              let more = exits.above (at 0 old.from place) (exit_of t agrees.states place g) in
-              omega (arith, found_out t c a agrees place g.outside, closed t c a agrees, more, small.each place);
+          out = grind (arith, nat_tests, exit_of t agrees.states, found_out t c a agrees, closed t c a agrees);
           met = elim exits.met [
             | inl none ↦ inl (omega (arith, closed t c a agrees, around_same t c a agrees, none))
             | inr w ↦ elim (leb_tells u (after_in old.after r)) [
@@ -246,7 +237,7 @@ module _ (p : Image) (prices : List ℕ) (m : ℕ) (s : Shapes) (looped : IsLoop
         unfolding next_in loop_in
         next_more value low = passed_more p prices m s looped x old new extends h
             (λ t c a agrees. record {
-              plain = λ sh j v there j_no_loop j_no_next v_inner. absurd (no_next_here j d (suc f) j_no_next (same_Some j (Next d (suc f)) (sym there.instr ∙ body.ends)));
+              plain = grind (arith, nat_tests, no_next_here, same_Some);
               loops = λ e l sh there. absurd (no_loop_here (Next d (suc f)) e l refl (same_Some (Next d (suc f)) (Loop e l) (sym body.ends ∙ there.instr)));
               nexts = λ e g sh there.
                   let back = one_next e g (sym body.ends ∙ there.instr) in

@@ -1,20 +1,19 @@
 -- What was found of each method makes one table, and it says the prices.
+use Rattle.std.proofs.lemmas.Bool.Decides.{nat_tests}
 use Rattle.std.proofs.Common.{◌≡◌, ℕ, zero, suc, ◌<◌, ◌≤◌, ◌+◌, ◌-◌, ◌⊎◌, ⊎_elim, List, [], ◌∷◌, length, Option, Some, None, IsSome, slice_set, replicate, inl, inr, refl, sym, ap, ◌∙◌, subst, arith}
 use Rattle.std.proofs.lemmas.Bool.{cases_lt}
 use Rattle.std.proofs.lemmas.Bool.Decides.{eqb_tells}
 use Rattle.std.proofs.lemmas.List.{length-set, length-replicate}
 use Rattle.aom_image.specs.Image.{Image}
-use Rattle.aom_image.specs.Views.{instr_at, method_at, method_class}
+use Rattle.aom_image.specs.Views.{instr_at, method_at}
 use Rattle.aom_image.specs.WellFormed.{WellFormed}
 use Rattle.aom_instructions.specs.declared.instr.Instr.{Instr}
-use Rattle.aom_instructions.specs.declared.instr.Instr.TheVariants.{Call, Cancel, Delete, Push, PushOperation, Trap}
 use Rattle.aom_image.specs.declared.method.Thing.{Thing}
 use Rattle.aom_classes.specs.Linked.{IsLinked}
 use Rattle.aom_classes.proofs.Facts.{of_method}
 use Rattle.aom_shape.specs.Shape.{Shape}
 use Rattle.aom_shape.specs.Tables.{at}
 use Rattle.aom_rules.specs.Typing.{Typing}
-use Rattle.aom_shape.specs.Kinds.{register}
 use Rattle.aom_shape.specs.declared.kind.Kind.{Kind}
 use Rattle.aom_shape.specs.declared.kind.Kind.TheVariants.{Maybe, Own}
 use Rattle.aom_shape.proofs.Lists.{at_set_here, at_set_other}
@@ -44,13 +43,7 @@ kind_called p (Maybe t a) m runs = runs_among p t m runs
 kind_called p _ m runs = absurd runs
 
 paid_called : (p : Image) (m : ℕ) (sh : Shape) (i : Instr) (k : ℕ) → Pays p m sh i k → Among k (callees p m sh i)
-paid_called p m sh (Call target j first c) k e = run_among p j k e
-paid_called p m sh (Trap target j first c) k e = run_among p j k e
-paid_called p m sh (PushOperation r j) k e = inl (sym e)
-paid_called p m sh (Push r) k e = kind_called p (register sh r) k e
-paid_called p m sh (Delete r) k e = kind_called p (register sh r) k e
-paid_called p m sh Cancel k e = cancel_among p (method_class p m) k e
-paid_called p m sh _ k e = absurd e
+paid_called p m sh x k e = grind (arith, nat_tests, run_among p, kind_called p, cancel_among p)
 
 pub method_there : (p : Image) (m place : ℕ) (i : Instr) → instr_at p m place ≡ Some i → IsSome (method_at p m)
 method_there p m place i stands = let w = of_method p m place i stands in rw w.1 refl
@@ -154,8 +147,7 @@ module _ (p : Image) (prices : List ℕ) (h : Chosen p prices (length p.methods)
   }
 
   nothing_past : (m place : ℕ) → length p.methods ≤ m → instr_at p m place ≡ None
-  nothing_past m place past =
-      none_given (λ o. instr_at p m place ≡ o) (instr_at p m place) refl (λ i e. omega (arith, past, method_within p m (method_there p m place i e))) (λ none e. e)
+  nothing_past m place past = grind (arith, nat_tests, none_given, method_within p m, method_there p m place)
 
   table_swept : IsSweptUpTo 4294967296 p typing table afters
   table_swept = record {

@@ -1,10 +1,11 @@
 -- A quiet method has no cleanup entries, and calls none that has.
+use Rattle.std.proofs.lemmas.Bool.Decides.{nat_tests}
 use Rattle.std.proofs.Common.{◌≡◌, ℕ, zero, suc, ◌≤◌, true, false, List, [], ◌∷◌, ◌++◌, length, map, IfSome, IsTrue, Option, Some, None, inl, inr, refl, subst, sym, ap, ◌∙◌, arith}
 use Rattle.aom_image.proofs.Given.{nil_given, some_given}
 use Rattle.std.specs.Prelude.{not}
 use Rattle.std.proofs.lemmas.Bool.{true≢false}
 use Rattle.aom_image.specs.Image.{Image}
-use Rattle.aom_image.specs.Views.{arguments_of, gives_of, gives_in, is_quiet, quiet_in, leaves, leaves_in, method_at, method_class, method_role}
+use Rattle.aom_image.specs.Views.{gives_of, gives_in, is_quiet, quiet_in, leaves, leaves_in, method_at}
 use Rattle.aom_instructions.specs.declared.instr.Instr.{Instr}
 use Rattle.aom_instructions.specs.declared.instr.Instr.TheVariants.{Push, PushOperation, Call, Trap}
 use Rattle.aom_instructions.specs.declared.instr.Target.{Target}
@@ -15,23 +16,19 @@ use Rattle.aom_roles.specs.Shapes.{IsShaped, gives_left}
 use Rattle.aom_classes.specs.Linked.{IsLinked}
 use Rattle.aom_classes.proofs.Facts.{all_there}
 use Rattle.aom_classes.specs.Overriding.{StandsIn, StandsInNamed, over_in, over_of}
-use Rattle.aom_rules.specs.Calls.{brought, lasting, rule_target, rule_arguments}
-use Rattle.aom_rules.specs.Requests.{is_construct}
+use Rattle.aom_rules.specs.Calls.{brought}
 use Rattle.aom_shape.specs.Entries.{without_top}
-use Rattle.aom_shape.specs.Kinds.{register, field}
 use Rattle.aom_rules.specs.Laws.{HaveAtMost}
 use Rattle.aom_shape.specs.Needs.{AllTrue, Need, Flow}
 use Rattle.aom_rules.specs.Objects.{flow_jump_null, flow_jump_empty}
 use Rattle.aom_rules.specs.Rules.{rule_needs, flows, ways_of}
 use Rattle.aom_shape.specs.Shape.{Shape}
-use Rattle.aom_rules.specs.Ways.{Branches, Branches_in, Branches_on_empty, Branches_on_null, Called, Caught, Dropped, Ends, Goes_back, Goes_on, Goes_to, News, Popped, Pushed, Pushed_operation, Ways, after, flowing}
+use Rattle.aom_rules.specs.Ways.{Called, Caught, Goes_on, News, Pushed, Pushed_operation, Ways, after, flowing}
 use Rattle.aom_shape.specs.Tables.{at}
-use Rattle.aom_shape.specs.Arguments.{after_of, entry_shape}
+use Rattle.aom_shape.specs.Arguments.{entry_shape}
 use Rattle.aom_shape.specs.declared.kind.Entry.{Entry}
 use Rattle.aom_shape.specs.declared.kind.Filling.{Filling}
-use Rattle.aom_shape.specs.declared.kind.Filling.TheVariants.{Empty, Full, Perhaps}
 use Rattle.aom_shape.specs.declared.kind.Kind.{Kind}
-use Rattle.aom_shape.specs.declared.kind.Kind.TheVariants.{Unset, Word, Null, Own, Maybe}
 use Rattle.aom_rules.proofs.Branching.{by_states}
 use Rattle.aom_rules.proofs.Growing.{lasting_has}
 use Rattle.aom_bounds.specs.Shapes.{Shapes, Meets, AllMet, IsMethodTyped}
@@ -94,8 +91,7 @@ top_low es none = rw none (omega arith)
 
 brings_none : (g : Gives) (c : ℕ) (sh : Shape) → gives_left g ≡ false → length (brought g c sh).entries ≡ length sh.entries
 unfolding gives_left
-brings_none (Left x) c sh e = absurd (true≢false e)
-brings_none _ c sh e = refl
+brings_none x c sh e = grind arith
 
 rest_true : (xs ys : List Need) → AllTrue (xs ++ ys) → AllTrue ys
 rest_true [] ys h = h
@@ -106,25 +102,16 @@ module _ (p : Image) (m : ℕ) (linked : IsLinked p) (quiet : is_quiet p m ≡ t
   unleft e = true≢false (sym e ∙ quiet_stays p m linked quiet)
 
   callee_quiet : (pc : ℕ) (sh : Shape) (target : Target) (k first c : ℕ) → AllTrue (rule_needs p m pc sh (Call target k first c)) → is_quiet p k ≡ true
-  callee_quiet pc sh target k first c needs =
-      let targets = rule_target p m sh target k (method_class p k) (is_construct (method_role p k)) first (length (arguments_of p k)) in
-      let moved = rest_true (rule_arguments p sh (arguments_of p k) first) _ (rest_true targets _ needs) in
-      rw quiet at moved.1.0
+  callee_quiet pc sh target k first c needs = grind (arith, nat_tests, rest_true)
 
   untrapped : (pc : ℕ) (sh : Shape) (target : Target) (k first c : ℕ) → AllTrue (rule_needs p m pc sh (Trap target k first c)) → ⊥
   untrapped pc sh target k first c needs = true≢false (sym needs.0 ∙ ap not quiet)
 
   null_low : (pc : ℕ) (sh : Shape) (kind : Kind) (r to : ℕ) → sh.entries ≡ [] → HaveAtMost 0 (flow_jump_null p m pc sh kind r to)
-  null_low pc sh Unset r to none = tt
-  null_low pc sh Word r to none = tt
-  null_low pc sh Null r to none = (low none, tt)
-  null_low pc sh (Own t age) r to none = (low none, tt)
-  null_low pc sh (Maybe t age) r to none = (low none, (low none, tt))
+  null_low pc sh x r to none = grind (arith, nat_tests, low none)
 
   empty_low : (pc : ℕ) (sh : Shape) (x : Filling) (f to : ℕ) → sh.entries ≡ [] → HaveAtMost 0 (flow_jump_empty p m pc sh x f to)
-  empty_low pc sh Empty f to none = (low none, tt)
-  empty_low pc sh Full f to none = (low none, tt)
-  empty_low pc sh Perhaps f to none = (low none, (low none, tt))
+  empty_low pc sh x f to none = grind (arith, nat_tests, low none)
 
   -- nothing is pushed, no trap is set, and what is called is quiet too
   IsQuietly : Ways → Type 0
@@ -144,21 +131,10 @@ module _ (p : Image) (m : ℕ) (linked : IsLinked p) (quiet : is_quiet p m ≡ t
 
   after_none : (pc : ℕ) (sh : Shape) (news : News) → IsQuietly (Goes_on news) → sh.entries ≡ [] → length (after p m pc sh news).entries ≤ 0
   unfolding IsQuietly
-  after_none pc sh (Popped r) q none = top_low sh.entries none
-  after_none pc sh Dropped q none = top_low sh.entries none
-  after_none pc sh (Called target k first c) q none =
-      omega (arith, brings_none (gives_of p k) c (lasting p m pc sh target k first (after_of p k)) (quiet_keeps p k linked q), lasting_has target (method_class p k) (after_of p k) (arguments_of p k) first sh, low none)
-  after_none pc sh _ q none = search (low none)
+  after_none pc sh x q none = grind (arith, nat_tests, top_low sh.entries none, brings_none, quiet_keeps p, lasting_has, low none)
 
   ways_none : (pc : ℕ) (sh : Shape) (ways : Ways) → IsQuietly ways → sh.entries ≡ [] → HaveAtMost 0 (flowing p m pc sh ways)
-  ways_none pc sh Ends q none = tt
-  ways_none pc sh (Goes_on news) q none = (after_none pc sh news q none, tt)
-  ways_none pc sh (Goes_to to) q none = (low none, tt)
-  ways_none pc sh (Branches to) q none = (low none, (low none, tt))
-  ways_none pc sh (Goes_back to) q none = (low none, (low none, tt))
-  ways_none pc sh (Branches_on_null r to) q none = null_low pc sh (register sh r) r to none
-  ways_none pc sh (Branches_on_empty f to) q none = empty_low pc sh (field sh f) f to none
-  ways_none pc sh (Branches_in there here to) q none = by_states (λ fs. HaveAtMost 0 fs) sh (suc pc) there here to tt (λ s. (low none, tt)) (λ t. (low none, tt)) (λ s t. (low none, (low none, tt)))
+  ways_none pc sh x q none = grind (arith, nat_tests, after_none pc sh, low none, null_low pc sh, empty_low pc sh, by_states)
 
   stays_low : (pc : ℕ) (sh : Shape) (i : Instr) → AllTrue (rule_needs p m pc sh i) → sh.entries ≡ [] → HaveAtMost 0 (flows p m pc sh i)
   stays_low pc sh i needs none = ways_none pc sh (ways_of p i) (quietly pc sh i needs) none
@@ -185,8 +161,7 @@ at_lowest (x ∷ xs) (suc pc) = at_lowest xs pc
 -- what stands there stood there, with no entries
 stood : (o : Option Shape) (sh : Shape) → lowest_at o ≡ Some sh → (o ≡ Some sh) × (sh.entries ≡ [])
 unfolding lowest_at with_none
-stood o sh e = some_given (λ x. lowest_at x ≡ Some sh) o e (λ none. cc) (λ x is stays.
-    nil_given (λ es. with_none x es ≡ Some sh) x.entries stays (λ y ys g. cc) (λ f g. let same : x ≡ sh = cc in (is ∙ g, rw same at f)))
+stood o sh e = grind (arith, nat_tests, some_given, lowest_at, nil_given, with_none)
 
 stays_there : (sh : Shape) → sh.entries ≡ [] → lowest_at (Some sh) ≡ Some sh
 unfolding lowest_at with_none
@@ -230,9 +205,13 @@ stands_lowest p m place sh linked quiet h =
 -- ---- heights
 
 entered_quiet : (p : Image) (m pc : ℕ) (sh : Shape) (i : Instr) (k : ℕ) → IsLinked p → is_quiet p m ≡ true → Enters p i k → AllTrue (rule_needs p m pc sh i) → is_quiet p k ≡ true
-entered_quiet p m pc sh (Call target j first c) k linked quiet enters needs = run_quiet p linked j k (callee_quiet p m linked quiet pc sh target j first c needs) enters
-entered_quiet p m pc sh (Trap target j first c) k linked quiet enters needs = absurd (untrapped p m linked quiet pc sh target j first c needs)
-entered_quiet p m pc sh _ k linked quiet enters needs = absurd enters
+entered_quiet p m pc sh x k linked quiet enters needs = grind (
+  arith,
+  nat_tests,
+  run_quiet p linked,
+  callee_quiet p m linked quiet pc sh,
+  untrapped p m linked quiet pc sh,
+)
 
 called_quiet : (p : Image) (m k h : ℕ) → IsLinked p → is_quiet p m ≡ true → CallsOver p m k h → is_quiet p k ≡ true
 called_quiet p m k h linked quiet call =

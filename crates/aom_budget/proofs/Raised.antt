@@ -1,14 +1,13 @@
 -- Tables raised class by class have at each class the greatest of what descends from it, and tables raised along overriders that of all that a call runs.
-use Rattle.std.proofs.Common.{Bool, List, None, Option, Some, [], ap, ap₂, arith, cond, false, inl, inr, length, refl, replicate, slice_set, subst, suc, sym, true, zero, ℕ, ◌++◌, ◌+◌, ◌<◌, ◌==◌, ◌||◌, ◌∙◌, ◌∷◌, ◌≡◌, ◌≢◌, ◌≤◌, ⊎_elim}
-use Rattle.std.specs.Prelude.{max, min}
+use Rattle.std.proofs.lemmas.Bool.Decides.{nat_tests}
+use Rattle.std.proofs.Common.{Bool, List, Some, [], arith, cond, false, inl, inr, length, refl, replicate, slice_set, suc, sym, true, ℕ, ◌+◌, ◌<◌, ◌∙◌, ◌≡◌, ◌≤◌, ⊎_elim}
+use Rattle.std.specs.Prelude.{max}
 use Rattle.std.proofs.lemmas.Bool.{cases_lt, eq-eqb, eqb-true}
-use Rattle.std.proofs.lemmas.Bool.Decides.{eqb_tells}
-use Rattle.std.proofs.lemmas.List.{length-set, length-replicate}
+use Rattle.std.proofs.lemmas.List.{length-replicate}
 use Rattle.aom_image.specs.Image.{Image}
 use Rattle.aom_image.specs.WellFormed.{WellFormed}
 use Rattle.aom_roles.proofs.Descending.{itself, no_higher}
 use Rattle.aom_roles.specs.Families.{descends}
-use Rattle.aom_classes.specs.Overriding.{overrides}
 use Rattle.aom_shape.specs.Tables.{at}
 use Rattle.aom_shape.proofs.Lists.{at_past}
 use Rattle.aom_bounds.specs.Calls.{Among, bodies, each_below}
@@ -37,20 +36,13 @@ module _ (p : Image) (f : ℕ → ℕ) (old : List ℕ) where
       ((c : ℕ) → c < length table → at 0 new c ≡ max (at 0 table c) (cond (descends p n c) (f n) 0)) → IsRaised p f old (suc n) new
   raised_more n table new h size each = record {
     size = size ∙ h.size;
-    each = λ c lt.
-        let here = each c (omega (arith, lt, h.size)) in
-        let before = h.each c lt in
-        omega (arith, here, before);
+    each = grind (arith, nat_tests, each);
   }
 
   pub raised_next :
       (q : Image) (n i v : ℕ) (table new : List ℕ) → q ≡ p → i ≡ n → v ≡ f i → IsRaised p f old n table → length new ≡ length table →
       ((c : ℕ) → c < length table → at 0 new c ≡ max (at 0 table c) (cond (descends q i c) v 0)) → IsRaised p f old (n + 1) new
-  raised_next q n i v table new image same is h size each =
-      let more : suc n ≡ n + 1 = omega arith in
-      subst (λ k. IsRaised p f old k new) more
-      (raised_more n table new h size (λ c lt.
-      each c lt ∙ ap (λ r. max (at 0 table c) (cond (descends r i c) v 0)) image ∙ ap₂ (λ j y. max (at 0 table c) (cond (descends p j c) y 0)) same (is ∙ ap f same)))
+  raised_next q n i v table new image same is h size each = grind (arith, nat_tests, raised_more n table new h size, size, each)
 
   pub raised_all :
       (table : List ℕ) → IsRaised p f old (length p.classes) table → (c : ℕ) → c < length p.classes → c < length old → at 0 old c ≤ most_below p f c →
@@ -80,9 +72,7 @@ greatest_made p ns lists absent old table size below raised = record { size = ra
         raised_all p (λ y. most_at ns (lists y)) old table raised c lt (omega (arith, lt, size)) (omega (arith, is, low)) ∙ sym is
 
     past : (c : ℕ) → length p.classes ≤ c → at 0 table c ≡ most_at ns (each_below p lists (Some c))
-    past c le =
-        at_past 0 table c (omega (arith, le, raised.size, size))
-        ∙ sym (below_most p ns lists c ∙ below_absent p (λ y. most_at ns (lists y)) c le ∙ ap (most_at ns) (absent c le))
+    past c le = grind (arith, nat_tests, at_past 0 table c, size, below_most p ns lists c, below_absent p)
 
 -- ---- where nothing is found yet
 
@@ -100,22 +90,10 @@ module _ (p : Image) (formed : WellFormed p) (m v : ℕ) (ns old new : List ℕ)
   within = omega (arith, here, sized)
 
   is_listed : (k : ℕ) → is_body p m k ≡ true → Among m (bodies p k)
-  is_listed k body = run_among p k m (go (m == k) refl body)
-    where
-      go : (b : Bool) → (m == k) ≡ b → (b || overrides p m k) ≡ true → MayRun p k m
-      go true same h = inl (sym (eqb-true m k same))
-      go false other h = inr h
+  is_listed k body = grind (arith, nat_tests, run_among p k m, eqb-true m k)
 
   not_listed : (k : ℕ) → is_body p m k ≡ false → Among m (bodies p k) → ⊥
-  not_listed k none h = go (run_from p k m h)
-    where
-      go : MayRun p k m → ⊥
-      go (inl same) = let yes = ap (λ b. b || overrides p m k) (eq-eqb m k (sym same)) in cc
-      go (inr over) = let so : ((m == k) || true) ≡ true = or_true (m == k) in let no = ap (λ b. (m == k) || b) (sym over) ∙ none in cc
-        where
-          or_true : (b : Bool) → (b || true) ≡ true
-          or_true true = refl
-          or_true false = refl
+  not_listed k none h = grind (arith, nat_tests, run_from p k m h, eq-eqb m k)
 
   raised_call : (k : ℕ) → k < length old → (b : Bool) → is_body p m k ≡ b → at 0 new k ≡ max (at 0 old k) (cond b v 0) → at 0 new k ≡ most_at (slice_set ns m v) (bodies p k)
   raised_call k lt true body more = let set = most_set ns m v within (omega (arith, unset)) (bodies p k) (is_listed k body) in let was = is.each k in omega (arith, set, was, more)

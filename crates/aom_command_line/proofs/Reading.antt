@@ -18,7 +18,7 @@ use Rattle.aom_command_line.specs.declared.words.WordsFault.{WordsFault}
 use Rattle.aom_command_line.specs.declared.words.WordsFault.TheVariants as faults
 use Rattle.aom_natives.specs.Kinds.{word_of as word_of_kind}
 use Rattle.aom_natives.specs.declared.kind.NativeKind.{NativeKind}
-use Rattle.aom_command_line.specs.CommandLine.{IsCommand, HasNoUseForText, Declines, AsksLines, AsksNames, AsksText, DeclinesLines, DeclinesText, DeclinesTextless, HasForm, IsFlag, NamesTwoTexts, NamesKinds, NamesNoKinds, Says, form, texts_in, word_of}
+use Rattle.aom_command_line.specs.CommandLine.{IsCommand, HasNoUseForText, Declines, AsksLines, AsksNames, AsksText, DeclinesLines, DeclinesTextless, HasForm, IsFlag, NamesTwoTexts, NamesKinds, NamesNoKinds, Says, form, texts_in, word_of}
 
 same : {E : Type 0} (v n : ℕ) (r : Result ℕ E) → r ≡ Ok v → r ≡ Ok n → Some v ≡ Some n
 same v n r a b = cc
@@ -88,10 +88,6 @@ set rows id flag is some asked = both flag some (is.unused asked)
     both : (f : Bool) → f ≡ true → f ≡ false → ⊥
     both f a b = cc
 
--- neither of two flags is set
-neither : (a b : Bool) → (a || b) ≡ false → (a ≡ false) × (b ≡ false)
-neither a b none = grind arith
-
 -- lines that nobody asks for, and those of a text
 pub unlined : (rows : List Row) (explain asm lines : Bool) → IsFlag (one_of (codes "lines") rows) lines → lines ≡ false → AsksLines rows explain asm lines
 unlined rows explain asm lines is none = record { set = is; textual = λ some. absurd (both lines none some); alone = λ some. absurd (both lines none some) }
@@ -123,48 +119,6 @@ unnamed rows asm names is none = record { set = is; textual = λ some. absurd (b
   where
     both : (f : Bool) → f ≡ false → f ≡ true → ⊥
     both f a b = cc
-
--- `check` declines a text that it has no use for, and lines that it cannot tell
-pub check_declines : (rows : List Row) (explain lines prices : Bool) (fault : WordsFault) → IsFlag (one_of (codes "explain") rows) explain → IsFlag (one_of (codes "lines") rows) lines
-    → IsFlag (one_of (codes "prices") rows) prices → DeclinesText rows ((explain || lines) || prices) fault → Declines true (Some (codes "check", rows)) fault
-check_declines rows explain lines prices (faults.Text text) e l p (inl (named, unused)) = λ taken command.
-    let (untold, unpriced) = neither (explain || lines) prices unused in
-    let (unexplained, unlined) = neither explain lines untold in
-    inl (refl, inl (record { named = named; unasked = (unset rows _ explain e unexplained, (unset rows _ lines l unlined, (unset rows _ prices p unpriced, tt))) }))
-check_declines rows explain lines prices (faults.Text text) e l p (inr two) = λ taken command. inl (refl, inr (inl two))
-check_declines rows explain lines prices faults.Native e l p declines = elim declines [ ]
-check_declines rows explain lines prices faults.Memory e l p declines = declines
-
-pub lines_decline : (rows : List Row) (fault : WordsFault) → DeclinesLines rows fault → Declines true (Some (codes "check", rows)) fault
-lines_decline rows (faults.Text text) (inl both) = λ taken command. inl (refl, inr (inr (inr both)))
-lines_decline rows (faults.Text text) (inr lacks) = λ taken command. inl (refl, inr (inr (inl lacks)))
-lines_decline rows faults.Native declines = elim declines [ ]
-lines_decline rows faults.Memory declines = declines
-
--- `run` declines a text that it has no use for, and names where there is none
-pub run_declines : (rows : List Row) (explain names : Bool) (fault : WordsFault) → IsFlag (one_of (codes "explain") rows) explain → IsFlag (one_of (codes "names") rows) names
-    → DeclinesText rows (explain || names) fault → Declines true (Some (codes "run", rows)) fault
-run_declines rows explain names (faults.Text text) e n (inl (named, unused)) = λ taken command.
-    let (unexplained, unspelled) = neither explain names unused in
-    inr (inl (refl, inl (record { named = named; unasked = (unset rows _ explain e unexplained, (unset rows _ names n unspelled, tt)) })))
-run_declines rows explain names (faults.Text text) e n (inr two) = λ taken command. inr (inl (refl, inr (inl two)))
-run_declines rows explain names faults.Native e n declines = elim declines [ ]
-run_declines rows explain names faults.Memory e n declines = declines
-
-pub names_decline : (rows : List Row) (fault : WordsFault) → DeclinesTextless (codes "names") rows fault → Declines true (Some (codes "run", rows)) fault
-names_decline rows (faults.Text text) lacks = λ taken command. inr (inl (refl, inr (inr lacks)))
-names_decline rows faults.Native declines = elim declines [ ]
-names_decline rows faults.Memory declines = declines
-
--- where a text is always of use, it is declined beside another
-pub two_decline : (command : Text) (rows : List Row) (fault : WordsFault) → (command ≡ codes "explore") ⊎ (command ≡ codes "debug") ⊎ (command ≡ codes "dot") → DeclinesText rows true fault → Declines true (Some (command, rows)) fault
-two_decline command rows (faults.Text text) is (inl (named, unused)) = absurd (true_is_used unused)
-  where
-    true_is_used : true ≡ false → ⊥
-    true_is_used a = cc
-two_decline command rows (faults.Text text) is (inr two) = λ taken asked. inr (inr (is, two))
-two_decline command rows faults.Native is declines = elim declines [ ]
-two_decline command rows faults.Memory is declines = declines
 
 -- what `clap` takes, and what it does not
 pub declines : (taken : Bool) (met : Option (Text × List Row)) (fault : WordsFault) → Declines true met fault → Declines taken met fault

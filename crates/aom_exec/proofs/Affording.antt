@@ -19,8 +19,7 @@ use Rattle.aom_steps.specs.Payers.{AffordsObjects, class_budget, dispatch_price}
 
 -- the price of a method that may not be there
 same_price : (c : Prices) (m : Option ℕ) → perhaps_price c m ≡ destructor_price c m
-same_price c None = refl
-same_price c (Some m) = refl
+same_price c x = grind arith
 
 module _ (p : Image) (c : Prices) (x : ℕ) where
   of_kind : (k : ClassKind) (budget : ℕ) → ((most : ℕ) → (if is_dispatched k then Some budget else None) ≡ Some most → kind_price p c x k ≤ most)

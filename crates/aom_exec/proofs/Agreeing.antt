@@ -1,12 +1,13 @@
 -- Each state that a machine stands for has agreement: from what the machine's numbers show, and from what the typing says of the methods at hand.
+use Rattle.std.proofs.lemmas.Bool.Decides.{nat_tests}
 use Rattle.std.proofs.lemmas.Option.{same_Some}
-use Rattle.std.proofs.Common.{Bool, List, None, Option, Some, [], ap, arith, cond, false, inl, inr, length, refl, subst, sym, true, ℕ, ℤ, ◌++◌, ◌<◌, ◌==◌, ◌∙◌, ◌∷◌, ◌≡◌}
+use Rattle.std.proofs.Common.{Bool, List, None, Option, Some, [], ap, arith, cond, false, length, refl, subst, sym, true, ℕ, ℤ, ◌++◌, ◌<◌, ◌==◌, ◌∙◌, ◌∷◌, ◌≡◌}
 use Rattle.aom_image.proofs.Given.{false_given, none_given}
 use Rattle.std.proofs.lemmas.Bool.{eq-eqb, eqb-true, ne_eqb}
 use Rattle.std.specs.Prelude.{is_some}
 use Rattle.aom_image.specs.Image.{Image}
 use Rattle.aom_image.specs.declared.method.Thing.{Thing}
-use Rattle.aom_shape.specs.Kinds.{entry_kind, field, filled}
+use Rattle.aom_shape.specs.Kinds.{field, filled}
 use Rattle.aom_shape.specs.Shape.{Shape}
 use Rattle.aom_shape.specs.Things.{Program, field_thing, holder_of}
 use Rattle.aom_rules.specs.Typing.{Typing, shape_at}
@@ -19,14 +20,14 @@ use Rattle.aom_sound.proofs.Housing.{houses_field}
 use Rattle.aom_sound.proofs.Items.{length_forms}
 use Rattle.aom_sound.proofs.Maps.{held_lives, one_place}
 use Rattle.aom_sound.proofs.Straight.{claim_field}
-use Rattle.aom_sound.specs.Claims.{Dispatching, Dying, Ending, Layer, Mark, Mark_form, Method, Object_form, Unwinding, claim, declared, declared_field, entry_claim, entry_form, form, forms, home_claim, is_of_root, items_of, objects, own_field, root_claim}
+use Rattle.aom_sound.specs.Claims.{Dispatching, Dying, Ending, Layer, Mark, Mark_form, Method, Object_form, Unwinding, claim, declared, declared_field, entry_claim, forms, home_claim, items_of, objects, own_field}
 use Rattle.aom_sound.specs.Owned.{over}
 use Rattle.aom_sound.specs.Places.{Cell, Elsewhere, Entry, Field, Object, Place, Register, Root, Sight, held, named, seen}
 use Rattle.aom_sound.specs.State.{An_object, AtRoot, Closing, Destroy, Dispatched, Frame, Home, Inside, Item, Run, State, Static, Task, Trapped, Unwind, field_place, home_holder, thing_holder, word}
 use Rattle.aom_sound.specs.WellTyped.{Back, Caught, Fits, Gone, Houses, IsHoused, Leaves, Now, Returns, Stack, Good}
 use Rattle.aom_sound.proofs.Layers.{method_layer}
 use Rattle.aom_exec.specs.Agreement.{Agreement, AgreesInAll, FieldsAgree, NumberSays, RegistersAgree}
-use Rattle.aom_parts.specs.Agrees.{Shows, number, word_at, word_in, word_of}
+use Rattle.aom_parts.specs.Agrees.{Shows, number, word_at, word_in}
 use Rattle.aom_parts.specs.Places.{value}
 use Rattle.aom_parts.specs.Stands.{Machine, StandsFor}
 use Rattle.aom_parts.specs.Waits.{AllWait, KindSays, OthersWait, Waits}
@@ -36,13 +37,7 @@ use Rattle.aom_exec.proofs.Waiting.{runs_typed}
 -- ---- registers
 
 number_says : (p : Image) (k : Kind) (n : ℕ) (w : Option ℤ) (o : Option Object) → KindSays p k w o → Shows n w o → NumberSays p k n o
-number_says p Unset n w o says shows = says
-number_says p Word n w o says shows = says.1
-number_says p Null n w o says shows = record { number = subst (λ x. n ≡ number x) says.1 (subst (λ x. Shows n x o) says.0 shows); none = says.1 }
-number_says p (Own t a) n w None says shows = let none = says.1 in cc
-number_says p (Own t a) n w (Some x) says shows = record { object = x; owned = refl; number = subst (λ y. Shows n y (Some x)) says.0 shows; thing = says.2 }
-number_says p (Maybe t a) n w None says shows = inl (record { number = subst (λ y. Shows n y None) says.0 shows; none = refl })
-number_says p (Maybe t a) n w (Some x) says shows = inr (record { object = x; owned = refl; number = subst (λ y. Shows n y (Some x)) says.0 shows; thing = says.1 })
+number_says p x n w o says shows = grind arith
 
 -- a method under other tasks waits
 waits_under : (p : Image) (t : Typing) (cs : List Cell) (above : List Task) (fr : Frame) (below : List Task) → AllWait p t cs (above ++ Run fr ∷ below) → Waits p t cs (length below) fr
@@ -60,10 +55,7 @@ deeper (task ∷ above) fr below = let rest = deeper above fr below in omega (ar
 
 word_under : (above : List Task) (fr : Frame) (below : List Task) (i : ℕ) → word_in (above ++ Run fr ∷ below) (length below) i ≡ word fr i
 word_under [] fr below i = ap (λ b. cond b (word fr i) (word_in below (length below) i)) (eq-eqb (length below) (length below) refl)
-word_under (task ∷ above) fr below i =
-    let deep = deeper above fr below in
-    ap (λ b. cond b (word_of task i) (word_in (above ++ Run fr ∷ below) (length below) i)) (ne_eqb (length (above ++ Run fr ∷ below)) (length below) (λ e. absurd (omega (arith, deep, e))))
-    ∙ word_under above fr below i
+word_under (task ∷ above) fr below i = grind (arith, nat_tests, deeper above fr below, ne_eqb, word_under above fr below i)
 
 -- ---- fields, the root and entries
 
@@ -77,8 +69,7 @@ filled_says : (p : Image) (h : Sight) (t : Thing) (x : Filling) (n : ℕ) (o : O
 filled_says p h t x n y same fits = grind arith
 
 empty_fits : (p : Image) (h : Sight) (thing : Option Thing) (o : Option Object) → Fits p h o Null → Fits p h o (filled thing Empty)
-empty_fits p h None o fits = fits
-empty_fits p h (Some t) o fits = fits
+empty_fits p h x o fits = grind arith
 
 module _ (p : Image) (t : Typing) (cs : List Cell) (n : ℕ) (o : Option Object) (same : n ≡ number o) where
   abbrev F : Kind → Type 0
@@ -111,40 +102,25 @@ module _ (p : Image) (t : Typing) (cs : List Cell) (n : ℕ) (o : Option Object)
           inside false e own is fits = below fits
   field_says x f lives (Mark gv ∷ ls) back st fits = field_says x f lives ls (Caught gv) st.1 fits
   field_says x f lives (Unwinding code es ∷ ls) back st fits = field_says x f lives ls Leaves st.1 fits
-  field_says x f lives (Dispatching d seats ∷ ls) back st fits =
-      declared_says p (seen cs) (field_thing p (thing_holder x.thing) f) Perhaps n o same
-      (subst (λ y. F (declared_field p y f)) lives (subst (λ l. F (claim p (declared p cs) l (Field x.name f))) st.1 fits))
-  field_says x f lives (Dying y ∷ ls) back st fits = go (y.name == x.name) (field_says x f lives ls Gone st.2) fits
-    where
-      go : (b : Bool) → (F (claim p (declared p cs) ls (Field x.name f)) → Declared x f) → F (cond b Null (claim p (declared p cs) ls (Field x.name f))) → Declared x f
-      go true below fits = let thing = field_thing p (thing_holder x.thing) f in declared_says p (seen cs) thing Empty n o same (empty_fits p (seen cs) thing o fits)
-      go false below fits = below fits
-  field_says x f lives (Ending y left ∷ ls) back st fits = go (y.name == x.name) refl (field_says x f lives ls Now st.3) fits
-    where
-      go : (b : Bool) → (y.name == x.name) ≡ b → (F (claim p (declared p cs) ls (Field x.name f)) → Declared x f) → F (cond b (filled (field_thing p (thing_holder y.thing) f) Perhaps) (claim p (declared p cs) ls (Field x.name f))) → Declared x f
-      go true e below fits =
-          let alike : y ≡ x = same_Some y x (sym st.0.lives ∙ ap (λ k. named cs k) (eqb-true y.name x.name e) ∙ lives) in
-          declared_says p (seen cs) (field_thing p (thing_holder x.thing) f) Perhaps n o same
-          (subst (λ (z : Object). F (filled (field_thing p (thing_holder z.thing) f) Perhaps)) alike fits)
-      go false e below fits = below fits
+  field_says x f lives (Dispatching d seats ∷ ls) back st fits = grind (arith, nat_tests, declared_says p)
+  field_says x f lives (Dying y ∷ ls) back st fits = grind (arith, nat_tests, field_says x f lives ls Gone st.2, declared_says p, empty_fits p)
+  field_says x f lives (Ending y left ∷ ls) back st fits = grind (
+    arith,
+    nat_tests,
+    field_says x f lives ls Now st.3,
+    same_Some y x,
+    eqb-true y.name x.name,
+    declared_says p,
+  )
 
   root_says : (ls : List Layer) → F (claim p (declared p cs) ls (Elsewhere Root)) → RootDeclared
   root_says [] fits = declared_says p (seen cs) (field_thing p Program 0) Perhaps n o same fits
-  root_says (Method fr sh ∷ ls) fits = go fr.home (root_says ls) fits
-    where
-      go : (home : Home) → (F (claim p (declared p cs) ls (Elsewhere Root)) → RootDeclared) → F (root_claim p home sh (claim p (declared p cs) ls (Elsewhere Root))) → RootDeclared
-      go Static below fits = below fits
-      go AtRoot below fits = declared_says p (seen cs) (field_thing p Program 0) (field sh 0) n o same fits
-      go (Inside y from) below fits = below fits
+  root_says (Method fr sh ∷ ls) fits = grind (arith, nat_tests, root_says ls, declared_says p)
   root_says (Mark gv ∷ ls) fits = root_says ls fits
   root_says (Dying y ∷ ls) fits = root_says ls fits
   root_says (Ending y left ∷ ls) fits = root_says ls fits
   root_says (Unwinding code es ∷ ls) fits = root_says ls fits
-  root_says (Dispatching d seats ∷ ls) fits = go (is_of_root d) (root_says ls) fits
-    where
-      go : (b : Bool) → (F (claim p (declared p cs) ls (Elsewhere Root)) → RootDeclared) → F (cond b Null (claim p (declared p cs) ls (Elsewhere Root))) → RootDeclared
-      go true below fits = declared_says p (seen cs) (field_thing p Program 0) Empty n o same (empty_fits p (seen cs) (field_thing p Program 0) o fits)
-      go false below fits = below fits
+  root_says (Dispatching d seats ∷ ls) fits = grind (arith, nat_tests, root_says ls, declared_says p, empty_fits p)
 
 -- an object's item is claimed to own
 abbrev IsOwn : Kind → Type 0
@@ -155,20 +131,11 @@ IsOwn (Own t a) = Unit {0}
 IsOwn (Maybe t a) = ⊥
 
 owns_one : (p : Image) (h : Sight) (k : Kind) (o : Option Object) → IsOwn k → Fits p h o k → (x : Object) × (o ≡ Some x)
-owns_one p h (Own t a) (Some x) own fits = (x, refl)
-owns_one p h _ _ own fits = absurd (assumption tt)
+owns_one p h x y own fits = grind arith
 
 over_forms : (items : List Item) (k : ℕ) → over items k ≡ Some An_object → over (forms items) k ≡ Some Object_form
 over_forms [] k e = cc
-over_forms (i ∷ items) k e = go (length items == k) refl (over_forms items k) e
-  where
-    shown : (i : Item) → Some i ≡ Some An_object → Some (form i) ≡ Some Object_form
-    shown x e = grind arith
-
-    go : (b : Bool) → (length items == k) ≡ b → (over items k ≡ Some An_object → over (forms items) k ≡ Some Object_form) → cond b (Some i) (over items k) ≡ Some An_object
-        → cond (length (forms items) == k) (Some (form i)) (over (forms items) k) ≡ Some Object_form
-    go true is below e = ap (λ n. cond (n == k) (Some (form i)) (over (forms items) k)) (length_forms items) ∙ ap (λ b. cond b (Some (form i)) (over (forms items) k)) is ∙ shown i e
-    go false is below e = ap (λ n. cond (n == k) (Some (form i)) (over (forms items) k)) (length_forms items) ∙ ap (λ b. cond b (Some (form i)) (over (forms items) k)) is ∙ below e
+over_forms (i ∷ items) k e = grind (arith, nat_tests, over_forms items k, length_forms items)
 
 module _ (p : Image) (d : Place → Kind) (k : ℕ) where
   abbrev ClaimedOwn : List Layer → Type 0
@@ -176,15 +143,7 @@ module _ (p : Image) (d : Place → Kind) (k : ℕ) where
 
   pushed_own : (es : List Pushed) (ls : List Layer) → ClaimedOwn ls → over (objects es (items_of ls)) k ≡ Some Object_form → IsOwn (entry_claim es (items_of ls) k (claim p d ls (Entry k)))
   pushed_own [] ls below e = below e
-  pushed_own (x ∷ es) ls below e = go (length (objects es (items_of ls)) == k) (pushed_own es ls below) e
-    where
-      own : (x : Pushed) → Some (entry_form x) ≡ Some Object_form → IsOwn (entry_kind x)
-      own x e = grind arith
-
-      go : (b : Bool) → (over (objects es (items_of ls)) k ≡ Some Object_form → IsOwn (entry_claim es (items_of ls) k (claim p d ls (Entry k))))
-          → cond b (Some (entry_form x)) (over (objects es (items_of ls)) k) ≡ Some Object_form → IsOwn (cond b (entry_kind x) (entry_claim es (items_of ls) k (claim p d ls (Entry k))))
-      go true rest e = own x e
-      go false rest e = rest e
+  pushed_own (x ∷ es) ls below e = grind (arith, nat_tests, pushed_own es ls below)
 
   entries_own : (ls : List Layer) → ClaimedOwn ls
   entries_own [] e = cc
@@ -217,9 +176,7 @@ module _ (m : Machine) (s : State) (st : StandsFor m s) where
 
   shown : (above : List Task) (fr : Frame) (below : List Task) → s.tasks ≡ above ++ Run fr ∷ below → (i : ℕ)
       → Shows (value m.parts (Register (length below) i)) (word fr i) (held s.cells (Register (length below) i))
-  shown above fr below top i =
-      subst (λ w. Shows (value m.parts (Register (length below) i)) w (held s.cells (Register (length below) i))) (ap (λ us. word_in us (length below) i) top ∙ word_under above fr below i)
-      (st.agrees.values (Register (length below) i))
+  shown above fr below top i = grind (arith, nat_tests, word_under above fr below i)
 
   registers_agree : (above : List Task) (fr : Frame) (below : List Task) → s.tasks ≡ above ++ Run fr ∷ below → RegistersAgree p st.typing m.parts s above fr (length below)
   registers_agree [] fr below top =
@@ -258,8 +215,7 @@ module _ (m : Machine) (s : State) (st : StandsFor m s) where
     registers = registers_agree;
     own_fields = own_fields_agree;
     fields =
-        λ x f lives. field_says p st.typing s.cells (value m.parts (Field x.name f)) (held s.cells (Field x.name f))
-        (plain (Field x.name f) refl) x f lives st.typed.layers Now st.typed.good.stack (st.typed.good.fits (Field x.name f));
+        grind (arith, nat_tests, field_says, plain);
     root = root_says p st.typing s.cells (value m.parts (Elsewhere Root)) (held s.cells (Elsewhere Root)) (plain (Elsewhere Root) refl) st.typed.layers (st.typed.good.fits (Elsewhere Root));
     entries = λ k object.
         let own = entries_own p (declared p s.cells) k st.typed.layers (ap (λ fs. over fs k) (sym st.typed.items) ∙ over_forms s.items k object) in

@@ -1,23 +1,21 @@
 -- From the first move on main's line is written: a move takes its course, or ends a dispatch, and neither takes that back.
-use Rattle.std.proofs.Common.{arith, Bool, None, Option, Some, ap, cond, false, inl, inr, pos, refl, subst, sym, true, ℕ, ℤ, ◌∙◌, ◌≡◌}
-use Rattle.std.specs.Ordering.{int_eq}
+use Rattle.std.proofs.lemmas.Bool.Decides.{nat_tests}
+use Rattle.std.proofs.Common.{arith, Bool, Option, true, ℕ, ℤ, ◌≡◌}
 use Rattle.std.specs.Prelude.{◌⊎◌}
 use Rattle.aom_image.specs.Image.{Image}
 use Rattle.aom_sound.proofs.Moving.{steps_are_moves}
 use Rattle.aom_sound.proofs.Resting.{IsEnd, Takes, course_announced, move_rest}
 use Rattle.aom_image.specs.declared.method.Role.TheVariants.{Error as Answers}
 use Rattle.aom_sound.specs.Enlisted.{part_of}
-use Rattle.aom_sound.specs.Moves.{answered, asking, counted, dispatch_ends, failed, handled, main_ends, object_ends, stage_ends, step}
+use Rattle.aom_sound.specs.Moves.{answered, asking, dispatch_ends, handled, main_ends, object_ends, stage_ends, step}
 use Rattle.aom_sound.specs.Places.{Elsewhere, Object, Root, held}
-use Rattle.aom_sound.specs.State.{Accept_left, Accepted, Accepts, Answered, Asks, Choice, Dispatch, Goes, Main_left, Object_left, Of_main, Of_object, Of_root, Of_server, Parts, Rest, Seat, Serves, Service_left, Stage, State}
+use Rattle.aom_sound.specs.State.{Answered, Asks, Choice, Dispatch, Goes, Main_left, Object_left, Of_main, Of_object, Of_root, Of_server, Seat, Stage, State}
 
 abbrev IsTold : State → Type 0
 IsTold s = s.rest.announced ≡ true
 
 main_told : (p : Image) (s : State) → IsTold s → (b : Bool) (o : Option Object) → IsTold (main_ends p b o s)
-main_told p s told true (Some o) = told
-main_told p s told true None = told
-main_told p s told false o = told
+main_told p s told x o = grind arith
 
 module _ (p : Image) (s : State) (told : IsTold s) where
   object_told : IsTold (object_ends p s)
@@ -27,8 +25,7 @@ module _ (p : Image) (s : State) (told : IsTold s) where
   answer_told answer = grind (arith, object_told)
 
   asking_told : (m : Option ℕ) (x : Seat) (code : ℤ) → IsTold (asking p m x code s)
-  asking_told None x code = answer_told code
-  asking_told (Some m) x code = told
+  asking_told x y code = grind (arith, nat_tests, answer_told code)
 
   stage_told : (x : Seat) (client : ℕ) (stage : Stage) → IsTold (stage_ends x client stage s)
   stage_told x client stage = grind arith
@@ -44,8 +41,13 @@ module _ (p : Image) (s : State) (told : IsTold s) where
   end_told (Of_server x client stage) = stage_told x client stage
 
 pub step_told : (p : Image) (c : Choice) (s u : State) → step p c s ≡ Goes u → u.rest.announced ≡ true
-step_told p c s u e = go (move_rest p c s u (steps_are_moves p c s u e))
-  where
-    go : Takes p s u ⊎ IsEnd p s u → IsTold u
-    go (inl t) = ap (λ (r : Rest). r.announced) t.1 ∙ course_announced t.0 (counted p s).rest
-    go (inr e) = subst IsTold (sym e.3) (end_told p (counted p s) refl e.0)
+step_told p c s u e = grind (
+  arith,
+  nat_tests,
+  move_rest p c s u (steps_are_moves p c s u e),
+  steps_are_moves p c s u e,
+  Takes p s u ⊎ IsEnd p s u,
+  IsEnd p s u,
+  course_announced,
+  end_told p,
+)

@@ -1,24 +1,22 @@
 -- What waits at a server that goes is answered by few lines: so many connects wait as it has seats, and so many messages as there may be.
-use Rattle.std.proofs.Common.{List, None, Option, Some, [], ap, arith, cond, false, length, refl, subst, sym, true, ℕ, ◌&&◌, ◌+◌, ◌==◌, ◌≤◌, ◌∙◌, ◌∷◌, ◌≡◌}
+use Rattle.std.proofs.lemmas.Bool.Decides.{nat_tests}
+use Rattle.std.proofs.Common.{List, None, Option, Some, [], ap, arith, cond, false, length, refl, true, ℕ, ◌+◌, ◌==◌, ◌≤◌, ◌∙◌, ◌∷◌, ◌≡◌}
 use Rattle.std.specs.List.{list_any}
 use Rattle.std.specs.Prelude.{filter, flat_map, map, suc, ◌||◌}
-use Rattle.std.proofs.lemmas.Bool.{eq-eqb, false≢true, ne_eqb, or_parts, or_right}
+use Rattle.std.proofs.lemmas.Bool.{eq-eqb, ne_eqb, or_parts, or_right}
 use Rattle.std.proofs.lemmas.List.{length-append}
 use Rattle.aom_acts.specs.Serving.{answers}
 use Rattle.aom_classes.proofs.Facts.{all_there}
 use Rattle.aom_clients.specs.Clients as kept
-use Rattle.aom_clients.specs.Table.{code_of}
 use Rattle.aom_clients.specs.declared.entry.Entry.{Entry}
 use Rattle.aom_clients.specs.declared.entry.Entry.TheVariants.{Close, Connect, Message}
 use Rattle.aom_clients.specs.declared.place.Place.{Place}
-use Rattle.aom_clients.specs.declared.refusal.Refusal.TheVariants.{ServerTerminated}
 use Rattle.aom_image.specs.Image.{Image}
 use Rattle.aom_image.specs.Views.{class_at}
 use Rattle.aom_image.specs.WellFormed.{ClassFits, KindFits, WellFormed}
 use Rattle.aom_instructions.specs.declared.version.Version.{Version}
 use Rattle.aom_image.specs.declared.class.ClassDecl.{ClassDecl}
 use Rattle.aom_image.specs.declared.class.ClassKind.{ClassKind}
-use Rattle.aom_image.specs.declared.class.ClassKind.TheVariants as kinds
 use Rattle.aom_image.specs.declared.method.Thing.{Thing}
 use Rattle.aom_image.specs.declared.method.Thing.TheVariants.{Message as A_message, Object as An_object_of}
 use Rattle.aom_messages.specs.Store.{count}
@@ -36,10 +34,10 @@ use Rattle.aom_sound.proofs.Services.{service_unnamed}
 use Rattle.aom_sound.specs.Clients.{count_messages, most_of}
 use Rattle.aom_sound.specs.Enlisted.{thing_kind}
 use Rattle.aom_sound.specs.Kept.{ClientsFit, QueueFits}
-use Rattle.aom_sound.specs.Lines.{ended_line, queue_lines}
-use Rattle.aom_sound.specs.Places.{Asked, Cell, Close_of, Connect_of, Elsewhere, Going, Message_of, Object, Queued as Waits_at, Tidy, held, named, same_place, service_of, without}
-use Rattle.aom_sound.specs.Servers.{is_connect, is_message, seats_taken}
-use Rattle.aom_sound.specs.State.{Destroy, State, Task}
+use Rattle.aom_sound.specs.Lines.{ended_line}
+use Rattle.aom_sound.specs.Places.{Asked, Cell, Close_of, Connect_of, Elsewhere, Message_of, Object, Queued as Waits_at, Tidy, held, service_of, without}
+use Rattle.aom_sound.specs.Servers.{is_connect, is_message}
+use Rattle.aom_sound.specs.State.{State}
 use Rattle.aom_exec.proofs.StepLines.{going_lines, told_one}
 
 -- ---- messages that wait
@@ -63,16 +61,16 @@ still_there : (cs : List Cell) (n m : ℕ) (es : List Asked) → list_any (is_me
 still_there cs n m [] none there = tt
 still_there cs n m (Connect_of c ∷ es) none there = still_there cs n m es none there
 still_there cs n m (Close_of c ∷ es) none there = still_there cs n m es none there
-still_there cs n m (Message_of c k ∷ es) none there =
-    let both = or_parts (k == m) (list_any (is_message m) es) none in
-    let x = there.0 in
-    ((x.0, held_without cs (Elsewhere (Waits_at n m)) (Elsewhere (Waits_at n k)) ∙ apart both.0 ∙ x.1, x.2), there.1, still_there cs n m es both.1 there.2)
-  where
-    flipped : (k == m) ≡ false → (m == k) ≡ false
-    flipped e = ne_eqb m k (λ same. absurd (false≢true (sym e ∙ eq-eqb k m (sym same))))
-
-    apart : (k == m) ≡ false → cond (same_place (Elsewhere (Waits_at n m)) (Elsewhere (Waits_at n k))) None (held cs (Elsewhere (Waits_at n k))) ≡ held cs (Elsewhere (Waits_at n k))
-    apart e = ap (λ b. cond ((n == n) && b) None (held cs (Elsewhere (Waits_at n k)))) (flipped e) ∙ ap (λ b. cond (b && false) None (held cs (Elsewhere (Waits_at n k)))) (eq-eqb n n refl)
+still_there cs n m (Message_of c k ∷ es) none there = grind (
+  arith,
+  nat_tests,
+  or_parts (k == m),
+  held_without cs (Elsewhere (Waits_at n m)) (Elsewhere (Waits_at n k)),
+  still_there cs n m es,
+  ne_eqb m k,
+  eq-eqb k m,
+  eq-eqb n n,
+)
 
 -- so there are as many messages at least
 few_wait : (n : ℕ) (es : List Asked) (cs : List Cell) → Tidy cs → AreThere cs n es → messages_of es ≤ count_messages cs
@@ -95,11 +93,7 @@ answered es = length (filter is_connect es) + messages_of es
 few_lines : (cs : List Cell) (es : List Asked) → length (flat_map (ended_line cs) es) ≤ answered es
 few_lines cs [] = omega arith
 few_lines cs (Connect_of c ∷ es) = let few = few_lines cs es in omega (arith, few)
-few_lines cs (Message_of c m ∷ es) =
-    let few = few_lines cs es in
-    let one = told_one (code_of ServerTerminated) (service_of cs m).sender in
-    let all = length-append (ended_line cs (Message_of c m)) (flat_map (ended_line cs) es) in
-    omega (arith, few, one, all)
+few_lines cs (Message_of c m ∷ es) = grind (arith, nat_tests, few_lines cs es, told_one, length-append)
 few_lines cs (Close_of c ∷ es) = few_lines cs es
 
 few_answers : (places : List Place) (es : List Entry) → answers es ≡ answered (map (asked_by places) es)
@@ -111,10 +105,7 @@ few_answers places (Close c ∷ es) = few_answers places es
 -- ---- the seats of a class
 
 kind_few : (version : Version) (classes natives : ℕ) (k : ClassKind) → KindFits version classes natives k → most_of (Some k) ≤ 64
-kind_few version classes natives kinds.Plain fits = omega arith
-kind_few version classes natives (kinds.Active provider) fits = omega arith
-kind_few version classes natives (kinds.Server sessions session) fits = fits.1
-kind_few version classes natives kinds.Session fits = omega arith
+kind_few version classes natives x fits = grind arith
 
 most_few : (p : Image) → WellFormed p → (t : Thing) → most_of (thing_kind p t) ≤ 64
 unfolding class_at kind_in kind_of
@@ -143,43 +134,14 @@ module _ (p : Image) (m : Parts) (s : State) (st : StandsFor (record { image = p
       ((x.0, x.1, waits_message n k x.0 x.1), fits.0.1, are_there n es fits.1 (λ j e. each j (or_right (k == j) (list_any (is_message j) es) e)))
 
   few_messages : (n : ℕ) → messages_of (service_of s.cells n).queue ≤ p.header.messages
-  few_messages n =
-      let few = few_wait n (service_of s.cells n).queue s.cells st.typed.good.tidy (are_there n (service_of s.cells n).queue (fit.queues n) (λ k e. e)) in
-      let same = st.agrees.services.messages.count in
-      let limit = st.agrees.services.messages.limit in
-      omega (arith, few, same, limit, bound)
+  few_messages n = grind (arith, nat_tests, few_wait n, are_there n)
 
   few_at : (n : ℕ) → answered (service_of s.cells n).queue ≤ p.header.messages + 64
-  few_at n = go (named s.cells n) refl
-    where
-      go : (o : Option Object) → named s.cells n ≡ o → answered (service_of s.cells n).queue ≤ p.header.messages + 64
-      go None e = subst (λ v. answered v.queue ≤ p.header.messages + 64) (sym (service_unnamed s.cells n e)) (omega arith)
-      go (Some o) e =
-          let name = named_name s.cells n o e in
-          let lives : named s.cells o.name ≡ Some o = ap (named s.cells) name ∙ e in
-          let seats : seats_taken (service_of s.cells n) ≤ most_of (thing_kind p o.thing) = subst (λ i. seats_taken (service_of s.cells i) ≤ most_of (thing_kind p o.thing)) name (fit.seats o lives) in
-          let most = most_few p st.sound.formed o.thing in
-          let few = few_messages n in
-          omega (arith, seats, most, few)
+  few_at n = grind (arith, nat_tests, service_unnamed s.cells n, named_name s.cells n, most_few p st.sound.formed, few_messages n)
 
   -- what waits in the queue of a cell that goes is answered by few lines
   pub few_answered : (n : ℕ) → answers (kept.queue_at m.clients n) ≤ p.header.messages + 64
-  few_answered n =
-      let same = few_answers m.clients.places (kept.queue_at m.clients n) ∙ ap answered (st.agrees.services.clients.queues n) in
-      let few = few_at n in
-      omega (arith, same, few)
+  few_answered n = grind (arith, nat_tests, few_answers m.clients.places, few_at n)
 
   pub few_going : going_lines s s.tasks ≤ p.header.messages + 64
-  few_going = of_tasks s.tasks
-    where
-      of_cell : (o : Option Object) → length (queue_lines s.cells o) ≤ p.header.messages + 64
-      of_cell None = omega arith
-      of_cell (Some o) =
-          let lines = few_lines s.cells (service_of s.cells o.name).queue in
-          let few = few_at o.name in
-          omega (arith, lines, few)
-
-      of_tasks : (us : List Task) → going_lines s us ≤ p.header.messages + 64
-      of_tasks [] = omega arith
-      of_tasks (Destroy ∷ ts) = of_cell (held s.cells (Going (length ts)))
-      of_tasks (_ ∷ ts) = omega arith
+  few_going = grind (arith, nat_tests, few_lines s.cells, few_at, going_lines s)

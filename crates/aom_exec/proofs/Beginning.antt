@@ -1,8 +1,9 @@
 -- A method begins under the trap of a dispatch, where nothing is at hand: of what its frame shows, which is nothing but for the words of a message.
-use Rattle.std.proofs.Common.{Bool, List, None, Option, [], ap, arith, cond, false, inl, inr, length, refl, slice_index_or, subst, suc, sym, true, zero, ℕ, ℤ, ◌<◌, ◌≤◌, ◌==◌, ◌∙◌, ◌∷◌, ◌≡◌, ◌⊎◌}
+use Rattle.std.proofs.lemmas.Bool.Decides.{nat_tests}
+use Rattle.std.proofs.Common.{List, None, Option, [], ap, arith, cond, length, refl, slice_index_or, subst, suc, sym, zero, ℕ, ℤ, ◌<◌, ◌≤◌, ◌∙◌, ◌∷◌, ◌≡◌}
 use Rattle.std.specs.Prelude.{nat_lt}
 use Rattle.std.specs.Int.{w32, cast_signed, cast_unsigned}
-use Rattle.std.proofs.lemmas.Bool.{cases_lt, eq-eqb, eqb-true, false≢true, le-ltb, lt-ltb}
+use Rattle.std.proofs.lemmas.Bool.{cases_lt, eqb-true, le-ltb, lt-ltb}
 use Rattle.std.proofs.lemmas.List.{length-set}
 use Rattle.aom_cells.specs.Heap.{null}
 use Rattle.aom_cleanup.specs.declared.item.Item.TheVariants.{Mark as Is_mark}
@@ -39,22 +40,10 @@ module _ (p : Image) (m : Parts) (v : State) (d : Held_dispatch) (d' : Dispatch)
   ts = Run fr ∷ Trapped ∷ Dispatched d' ∷ []
 
   values : (q : Place) → Shows (value_in us m.cells (Is_mark ∷ m.entries.items) (others m) q) (word_at ts q) (held v.cells q)
-  values (Register k i) = subst (λ o. Shows (value_in us m.cells (Is_mark ∷ m.entries.items) (others m) (Register k i)) (word_at ts (Register k i)) o) (sym (unowned k i)) (go (length (Is_trap ∷ Ends d ∷ []) == k) (length (Ends d ∷ []) == k) (0 == k))
-    where
-      go : (a b c : Bool) → Shows (cond a (slice_index_or f.registers i null) (cond b null (cond c null null))) (cond a (word fr i) (cond b None (cond c None None))) None
-      go true b c = words i
-      go false true c = refl
-      go false false true = refl
-      go false false false = refl
+  values (Register k i) = grind (arith, nat_tests)
   values (Entry k) = subst (λ n. Shows n None (held v.cells (Entry k))) (sym (mark_shows_none m.entries.items k)) (shows (Entry k))
   values (Field n g) = shows (Field n g)
-  values (Going k) = subst (λ n. Shows n None (held v.cells (Going k))) (sym (go (length (Is_trap ∷ Ends d ∷ []) == k) (length (Ends d ∷ []) == k) (0 == k))) (shows (Going k))
-    where
-      go : (a b c : Bool) → cond a null (cond b null (cond c null null)) ≡ null
-      go true b c = refl
-      go false true c = refl
-      go false false true = refl
-      go false false false = refl
+  values (Going k) = grind (arith, nat_tests)
   values (Elsewhere o) = shows (Elsewhere o)
 
   pub begins_agrees : Agrees p (begins_under d f m) (record v { tasks = ts; items = A_mark ∷ v.items })
@@ -86,20 +75,19 @@ module _ (s : Store) (place : ℕ) where
   -- so many registers have them, and the others are as they were
   told_register : (many : ℕ) (f : Held_frame) → many ≤ length f.registers → (i : ℕ) → slice_index_or (told_first s place many f).registers i null ≡ cond (nat_lt i many) (number_of i) (slice_index_or f.registers i null)
   told_register zero f room i = sym (ap (λ b. cond b (number_of i) (slice_index_or f.registers i null)) (le-ltb i 0 (omega arith)))
-  told_register (suc n) f room i =
-      at_set null (told_first s place n f).registers n i (number_of n) (let wide = told_wide n f in omega (arith, wide, room)) ∙ ap (λ x. cond (n == i) (number_of n) x) (told_register n f (omega (arith, room)) i) ∙ go (n == i) refl (cases_lt i n)
-    where
-      go : (b : Bool) → (n == i) ≡ b → (i < n) ⊎ (n ≤ i) → cond b (number_of n) (cond (nat_lt i n) (number_of i) (slice_index_or f.registers i null)) ≡ cond (nat_lt i (suc n)) (number_of i) (slice_index_or f.registers i null)
-      go true e x = ap number_of (eqb-true n i e) ∙ sym (ap (λ b. cond b (number_of i) (slice_index_or f.registers i null)) (lt-ltb i (suc n) (let same = eqb-true n i e in omega (arith, same))))
-      go false e (inl below) = ap (λ b. cond b (number_of i) (slice_index_or f.registers i null)) (lt-ltb i n below ∙ sym (lt-ltb i (suc n) (omega (arith, below))))
-      go false e (inr above) = ap (λ b. cond b (number_of i) (slice_index_or f.registers i null)) (le-ltb i n above ∙ sym (le-ltb i (suc n) (past i above (λ same. false≢true (sym e ∙ eq-eqb n i same)))))
-        where
-          past : (i : ℕ) → n ≤ i → (n ≡ i → ⊥) → suc n ≤ i
-          past i above apart = by (cases_lt n i)
-            where
-              by : (n < i) ⊎ (i ≤ n) → suc n ≤ i
-              by (inl less) = omega (arith, less)
-              by (inr more) = absurd (apart (omega (arith, above, more)))
+  told_register (suc n) f room i = grind (
+    arith,
+    nat_tests,
+    at_set,
+    told_wide n f,
+    told_register n f,
+    cases_lt i n,
+    eqb-true n i,
+    lt-ltb i (suc n),
+    lt-ltb i n,
+    le-ltb i n,
+    le-ltb i (suc n),
+  )
 
   pub told_frame : (many : ℕ) (f : Held_frame) (fr : Frame) (ws : List (Option ℤ)) → SameFrame f fr → SameFrame (told_first s place many f) (record fr { words = ws })
   told_frame zero f fr ws same = record { method = same.method; place = same.place; this = same.this; view = same.view; housed = same.housed; wide = same.wide; counters = same.counters; loops = same.loops }
@@ -110,7 +98,7 @@ module _ (s : Store) (place : ℕ) where
   -- each word is read again as it was
   module _ (cs : List Cell) (name : ℕ) (f : Held_frame) (wide : length f.registers ≡ 16) (bare : (i : ℕ) → slice_index_or f.registers i null ≡ null) (reads : (w : ℕ) → w < 5 → cast_signed w32 (number_of w) ≡ word_field cs name w) where
     here : (i : ℕ) → i < 5 → slice_index_or (told_words s place f).registers i null ≡ number_of i
-    here i small = told_register 5 f (omega (arith, wide)) i ∙ ap (λ b. cond b (number_of i) (slice_index_or f.registers i null)) (lt-ltb i 5 small)
+    here i small = grind (arith, nat_tests, told_register 5 f, lt-ltb i 5 small)
 
     shown : (i : ℕ) → i < 5 → cast_signed w32 (slice_index_or (told_words s place f).registers i null) ≡ word_field cs name i
     shown i small = ap (cast_signed w32) (here i small) ∙ reads i small
@@ -121,5 +109,4 @@ module _ (s : Store) (place : ℕ) where
     words_shown (suc (suc zero)) = shown 2 (omega arith)
     words_shown (suc (suc (suc zero))) = shown 3 (omega arith)
     words_shown (suc (suc (suc (suc zero)))) = shown 4 (omega arith)
-    words_shown (suc (suc (suc (suc (suc i))))) =
-        told_register 5 f (omega (arith, wide)) (suc (suc (suc (suc (suc i))))) ∙ ap (λ b. cond b (number_of (suc (suc (suc (suc (suc i)))))) (slice_index_or f.registers (suc (suc (suc (suc (suc i))))) null)) (le-ltb (suc (suc (suc (suc (suc i))))) 5 (omega arith)) ∙ bare (suc (suc (suc (suc (suc i)))))
+    words_shown (suc (suc (suc (suc (suc i))))) = grind (arith, nat_tests, told_register 5 f, le-ltb (suc (suc (suc (suc (suc i))))) 5)

@@ -1,5 +1,6 @@
 -- A server is dispatched: with what begins to serve its queue the machine stands for the state in which the checked machine goes on, and its line is the same.
-use Rattle.std.proofs.Common.{Bool, List, None, Option, Some, [], ap, arith, cond, false, inl, inr, length, map, refl, subst, suc, sym, true, zero, ℕ, ℤ, ◌<◌, ◌≤◌, ◌++◌, ◌∙◌, ◌∷◌, ◌≡◌, ◌⊎◌}
+use Rattle.std.proofs.lemmas.Bool.Decides.{nat_tests}
+use Rattle.std.proofs.Common.{Bool, List, None, Option, Some, [], ap, arith, cond, false, length, map, refl, subst, suc, sym, true, zero, ℕ, ℤ, ◌<◌, ◌≤◌, ◌++◌, ◌∙◌, ◌∷◌, ◌≡◌}
 use Rattle.std.specs.List.{list_any}
 use Rattle.std.specs.Prelude.{is_some}
 use Rattle.std.proofs.lemmas.Bool.{cases_lt, true≢false}
@@ -29,20 +30,20 @@ use Rattle.aom_sound.proofs.Seated.{seats_first}
 use Rattle.aom_sound.proofs.Services.{held_served, service_here, service_moved}
 use Rattle.aom_sound.proofs.Signals.{at_rest}
 use Rattle.aom_sound.proofs.Straight.{fits_unowning}
-use Rattle.aom_sound.specs.Claims.{claim, declared}
+use Rattle.aom_sound.specs.Claims.{declared}
 use Rattle.aom_sound.specs.Clients.{most_of}
 use Rattle.aom_sound.specs.Destruction.{begun, begun_by}
 use Rattle.aom_sound.specs.Enlisted.{thing_kind}
 use Rattle.aom_sound.specs.Kept.{ClientsFit, IsKept, is_close_of, is_connect_of}
 use Rattle.aom_sound.specs.Laws.{IsWired}
-use Rattle.aom_sound.specs.Lines.{serve_line, serve_of}
-use Rattle.aom_sound.specs.Places.{Cell, Elsewhere, Going, In_service, Object, Place, Queued, Service, Session, held, moved, named, requested, seen, service_of}
+use Rattle.aom_sound.specs.Lines.{serve_of}
+use Rattle.aom_sound.specs.Places.{Cell, Elsewhere, Going, In_service, Object, Place, Queued, Session, held, moved, named, requested, service_of}
 use Rattle.aom_sound.specs.Quiet.{IsCalm}
-use Rattle.aom_sound.specs.Servers.{is_server, reserved, rest_of, seats_taken, taken_first}
+use Rattle.aom_sound.specs.Servers.{is_server, reserved, seats_taken, taken_first}
 use Rattle.aom_sound.specs.State.{A_mark, Accepts, Closing, Destroy, Dispatch, Dispatched, Goes, Inside, Item, Home, Of_server, Parts, Rest, Seat, Serves, Stage, State, Task, frame_of}
 use Rattle.aom_sound.specs.Traps.{AllAtTraps}
-use Rattle.aom_sound.specs.WellTyped.{Fits, Keeps}
-use Rattle.aom_sound.specs.World.{IsBetween, Picks, message_words, pick_line, picked, run_line, serving, taken_from as checked_taken}
+use Rattle.aom_sound.specs.WellTyped.{Keeps}
+use Rattle.aom_sound.specs.World.{IsBetween, Picks, message_words, pick_line, picked, serving, taken_from as checked_taken}
 use Rattle.aom_steps.proofs.Payers.{begun_payer}
 use Rattle.aom_steps.proofs.Turns.{picking}
 use Rattle.aom_steps.specs.Left.{left}
@@ -73,50 +74,25 @@ module _ (p : Image) (o : Object) (height : ℕ) (d : Dispatch) where
   by_begun P closing other = go (is_server p o.thing)
     where
       go : (b : Bool) → P (cond b (Closing ∷ Destroy ∷ ends) (begun_by p (destructor_of p o.thing) o height ends))
-      go true = closing
-      go false = other (destructor_of p o.thing) refl
+      go x = grind arith
 
   begun_calm : IsWired p → IsCalm p (begun p o height ends)
-  begun_calm wired = by_begun (λ ts. IsCalm p ts) tt by
-    where
-      by : (m : Option ℕ) → destructor_of p o.thing ≡ m → IsCalm p (begun_by p m o height ends)
-      by None e = tt
-      by (Some m) e = (λ clearing. (destroys p wired o.thing m e).quiet, tt)
+  begun_calm wired = grind (arith, nat_tests, by_begun, destroys p wired o.thing)
 
   begun_traps : AllAtTraps p (begun p o height ends)
-  begun_traps = by_begun (λ ts. AllAtTraps p ts) tt by
-    where
-      by : (m : Option ℕ) → destructor_of p o.thing ≡ m → AllAtTraps p (begun_by p m o height ends)
-      by None e = tt
-      by (Some m) e = (tt, tt)
+  begun_traps = grind (arith, nat_tests, by_begun)
 
   begun_waits : (t : Typing) (cs : List Cell) → OthersWait p t cs (begun p o height ends)
-  begun_waits t cs = by_begun (λ ts. OthersWait p t cs ts) tt by
-    where
-      by : (m : Option ℕ) → destructor_of p o.thing ≡ m → OthersWait p t cs (begun_by p m o height ends)
-      by None e = tt
-      by (Some m) e = tt
+  begun_waits t cs = grind (arith, nat_tests, by_begun)
 
   begun_under : (depth : ℕ → ℕ) → AllUnder depth (begun p o height ends)
-  begun_under depth = by_begun (λ ts. AllUnder depth ts) tt by
-    where
-      by : (m : Option ℕ) → destructor_of p o.thing ≡ m → AllUnder depth (begun_by p m o height ends)
-      by None e = tt
-      by (Some m) e = (tt, tt)
+  begun_under depth = grind (arith, nat_tests, by_begun)
 
   begun_runs : (depth : ℕ → ℕ) (cs : List Cell) → AllRunUnder p depth cs [] (begun p o height ends)
-  begun_runs depth cs = by_begun (λ ts. AllRunUnder p depth cs [] ts) (tt, (λ m h. tt, tt)) by
-    where
-      by : (m : Option ℕ) → destructor_of p o.thing ≡ m → AllRunUnder p depth cs [] (begun_by p m o height ends)
-      by None e = (λ m h. tt, tt)
-      by (Some m) e = (tt, (λ m h. tt, tt))
+  begun_runs depth cs = grind (arith, nat_tests, by_begun)
 
   begun_fit : (heights : HasHeights p) → AllFit p (at 0 heights.heights) [] (begun p o height ends)
-  begun_fit heights = by_begun (λ ts. AllFit p (at 0 heights.heights) [] ts) tt by
-    where
-      by : (m : Option ℕ) → destructor_of p o.thing ≡ m → AllFit p (at 0 heights.heights) [] (begun_by p m o height ends)
-      by None e = tt
-      by (Some m) e = (λ may. let most = heights.are.within m in omega (arith, most), tt)
+  begun_fit heights = grind (arith, nat_tests, by_begun)
 
   begun_room : (depth : ℕ → ℕ) (heights : HasHeights p) (cs : List Cell) (items : List Item) (r : Rest) (dead : List ℕ) (clients : List Client) → items ≡ [] →
       HasRoom p depth (at 0 heights.heights) (record { cells = cs; tasks = begun p o height ends; items = items; rest = r; killed = dead; clients = clients })
@@ -129,11 +105,7 @@ module _ (p : Image) (o : Object) (height : ℕ) (d : Dispatch) where
 -- each of so many words is such as registers have
 each_read : (s : Store) (place many : ℕ) → AreRead s place many → (w : ℕ) → w < many → IsWord (word_at s place w)
 each_read s place zero read w small = absurd (omega (arith, small))
-each_read s place (suc k) read w small = go (cases_lt w k) (λ less. each_read s place k read.1 w less)
-  where
-    go : (w < k) ⊎ (k ≤ w) → (w < k → IsWord (word_at s place w)) → IsWord (word_at s place w)
-    go (inl less) earlier = earlier less
-    go (inr more) earlier = let last : k ≡ w = omega (arith, small, more) in subst (λ i. IsWord (word_at s place i)) last read.0
+each_read s place (suc k) read w small = grind (arith, nat_tests, cases_lt w k, each_read s place k read.1 w)
 
 module _ (p : Image) (m : Machine_parts) (s : State) (st : StandsFor (record { image = p; parts = m }) s) (idle : s.tasks ≡ []) (x : Seat) (lives : named s.cells x.object.name ≡ Some x.object) (serves : is_server p x.object.thing ≡ true)
     (keeps : Keeps p st.typing (picked p x s)) (asked : is_some (requested s.cells x.object.name) ≡ true)
@@ -168,10 +140,7 @@ module _ (p : Image) (m : Machine_parts) (s : State) (st : StandsFor (record { i
   -- ---- what clients have is kept
 
   empty_now : (q : Place) → declared p s.cells q ≡ Null → held cs q ≡ None
-  empty_now q e =
-      held_served s.cells n (taken_first (service_of s.cells n)) q
-      ∙ fits_unowning p (seen s.cells) (held s.cells q) Null refl
-      (subst (λ k. Fits p (seen s.cells) (held s.cells q) k) e (subst (λ ls. Fits p (seen s.cells) (held s.cells q) (claim p (declared p s.cells) ls q)) (at_rest p st.typing s st.typed idle) (st.typed.good.fits q)))
+  empty_now q e = grind (arith, nat_tests, held_served s.cells, fits_unowning p, at_rest p st.typing s st.typed idle)
 
   -- no token comes as the first is taken, nor as what it is moves
   taken_apart : TokensApart cs
@@ -185,7 +154,7 @@ module _ (p : Image) (m : Machine_parts) (s : State) (st : StandsFor (record { i
     fit_now = fit_taken p s.clients s.cells x.object lives asked (asked_by m.clients.places e) (map (asked_by m.clients.places) es) (queue_so (e ∷ es) at) st.kept.fit
 
     queue_now : (service_of cs n).queue ≡ map (asked_by m.clients.places) es
-    queue_now = ap (λ (v : Service). v.queue) (service_here s.cells n (taken_first (service_of s.cells n)) x.object lives) ∙ ap rest_of (queue_so (e ∷ es) at)
+    queue_now = grind (arith, nat_tests, service_here s.cells, queue_so (e ∷ es) at)
 
   -- ---- what it costs
 
@@ -225,10 +194,7 @@ module _ (p : Image) (m : Machine_parts) (s : State) (st : StandsFor (record { i
     accepted_goes = accept_goes p m s st idle x lives serves class is active noted c es at_first method accepts
 
     seat_left : seats_taken (service_of cs n) < most_of (thing_kind p x.object.thing)
-    seat_left =
-        let was = st.kept.fit.seats x.object lives in
-        let one = seats_first (service_of s.cells n) (asked_by m.clients.places (Connect c)) (map (asked_by m.clients.places) es) (queue_so (Connect c ∷ es) at_first) in
-        subst (λ v. seats_taken v < most_of (thing_kind p x.object.thing)) (sym (service_here s.cells n (taken_first (service_of s.cells n)) x.object lives)) (omega (arith, was, one))
+    seat_left = grind (arith, nat_tests, seats_first, queue_so (Connect c ∷ es) at_first, service_here s.cells)
 
     accept_stands : StandsFor (record { image = p; parts = accepting method subject c taken }) accepted
     accept_stands =
@@ -305,8 +271,14 @@ module _ (p : Image) (m : Machine_parts) (s : State) (st : StandsFor (record { i
       waits = begun_waits p o (length s.items) d st.typing parted_cells;
       kept = record {
         fit = fit_moved p s.clients cs (Elsewhere (Session n c)) (Going 1) (empty_now (Going 1) refl) (λ i k. refl) (λ b. cc) (fit_now (Close c) es at_first);
-        stage = tasks_begun p s.clients parted_cells o (length s.items) (Dispatched d ∷ [])
-            (first_fits p m s st idle x lives serves keeps (Close c) es at_first, ap (λ q. list_any (is_close_of c) q) (ap (λ (v : Service). v.queue) (service_moved cs (Elsewhere (Session n c)) (Going 1) n) ∙ queue_now (Close c) es at_first) ∙ not_again);
+        stage = grind (
+          arith,
+          nat_tests,
+          tasks_begun p s.clients,
+          first_fits p m s st idle x lives serves keeps (Close c) es at_first,
+          service_moved,
+          queue_now (Close c) es at_first,
+        );
         tokens = moved_apart (Elsewhere (Session n c)) (Going 1);
       };
       within = record { within = omega (arith, pays parted parted_goes, affords, ap (λ y. price_of p st.sound.prices y) (begun_payer p o (length s.items) (Dispatched d ∷ [])), ap (λ y. declared_of p y) (begun_payer p o (length s.items) (Dispatched d ∷ []))) };
@@ -323,7 +295,7 @@ module _ (p : Image) (m : Machine_parts) (s : State) (st : StandsFor (record { i
   Went new = (u : State) × (picked p x s ≡ Goes u) × StandsFor (record { image = p; parts = new }) u
 
   went : (e : Entry) (es : List Entry) → queue ≡ e ∷ es → (new : Machine_parts) → Begins p subject (kept.taken_entry m.clients e).client (kept.taken_entry m.clients e).entry taken new → Went new
-  went (Connect c) es at new b = (accepted c es at b.0 b.1, accepted_goes c es at b.0 b.1, subst (λ y. StandsFor (record { image = p; parts = y }) (accepted c es at b.0 b.1)) (sym b.2) (accept_stands c es at b.0 b.1))
+  went (Connect c) es at new b = (accepted c es at b.0 b.1, accepted_goes c es at b.0 b.1, grind (arith, nat_tests, accept_stands c es at b.0 b.1))
   went (Message j) es at new b =
       let y = attend_there p m s st idle x lives serves keeps j es at in
       let c = sender (kept.place_at m.clients j) in
@@ -332,13 +304,13 @@ module _ (p : Image) (m : Machine_parts) (s : State) (st : StandsFor (record { i
       let u = attended j es at y.0 b.1 is' y.1 b.2 b.5 b.6 in (
         u,
         attended_goes j es at y.0 b.1 is' y.1 b.2 b.5 b.6,
-        subst (λ z. StandsFor (record { image = p; parts = z }) u) (sym (b.7 ∙ ap (λ i. attending b.2 (record { number = i; class = b.1 }) subject c j taken) same)) (attend_stands j es at y.0 b.1 is' y.1 b.2 b.5 b.6),
+        grind (arith, nat_tests, attend_stands j es at y.0 b.1 is' y.1 b.2 b.5 b.6),
       )
   went (Close c) es at new b =
       let y = part_there p m s st idle x lives serves keeps c es at in
       let same : b.0 ≡ y.0.name = same_Some b.0 y.0.name (sym b.1 ∙ ap session_of (client_same m n (Close c) es at c) ∙ y.2.1.named) in
       let u = parted c es at y.0 y.1 in
-      (u, parted_goes c es at y.0 y.1, subst (λ z. StandsFor (record { image = p; parts = z }) u) (sym (b.2 ∙ ap (λ i. parting p i subject c taken) same)) (part_stands c es at y.0 y.1))
+      (u, parted_goes c es at y.0 y.1, grind (arith, nat_tests, part_stands c es at y.0 y.1))
 
   -- its line
   entry_line : (time : ℕ) (e : Entry) → Serve time class (serve_asked (kept.taken_entry m.clients e).entry) (kept.taken_entry m.clients e).client ≡ serve_of time class (asked_by m.clients.places e)
@@ -347,10 +319,7 @@ module _ (p : Image) (m : Machine_parts) (s : State) (st : StandsFor (record { i
   entry_line time (Close c) = refl
 
   line_so : (e : Entry) (es : List Entry) → queue ≡ e ∷ es → Serve m.rest.clock class (serve_asked (kept.taken_entry m.clients e).entry) (kept.taken_entry m.clients e).client ∷ [] ≡ pick_line p s x.object
-  line_so e es at =
-      ap (λ l. l ∷ []) (ap (λ (r : Rest). Serve r.clock class (serve_asked (kept.taken_entry m.clients e).entry) (kept.taken_entry m.clients e).client) st.agrees.rest ∙ entry_line s.rest.clock e)
-      ∙ ap (λ q. serve_line s.rest.clock (An_object_of class) q) (sym (queue_so (e ∷ es) at)) ∙ ap (λ t. serve_line s.rest.clock t (service_of s.cells n).queue) (sym thing)
-      ∙ ap (λ b. cond b (serve_line s.rest.clock x.object.thing (service_of s.cells n).queue) (run_line s x.object)) (sym serves)
+  line_so e es at = grind (arith, nat_tests, entry_line s.rest.clock e, queue_so (e ∷ es) at, thing)
 
 -- a server is picked: what the machine does is what the checked machine does
 pub server_served :

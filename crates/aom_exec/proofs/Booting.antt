@@ -1,12 +1,12 @@
 -- A machine that has booted stands for the boot state.
-use Rattle.std.proofs.Common.{◌≡◌, ◌==◌, ℕ, Bool, true, false, cond, [], ◌∷◌, Some, None, refl, sym, ap, ◌∙◌, subst, arith, length, replicate, slice_index_or}
-use Rattle.std.specs.List.{list_any}
+use Rattle.std.proofs.lemmas.Bool.Decides.{nat_tests}
+use Rattle.std.proofs.Common.{◌≡◌, ℕ, Bool, false, cond, [], ◌∷◌, Some, None, refl, sym, ap, ◌∙◌, subst, arith, length, replicate, slice_index_or}
 use Rattle.aom_image.specs.Image.{Image}
 use Rattle.aom_classes.specs.Linked.{IsLinked}
 use Rattle.aom_classes.specs.Roles.{main_of}
-use Rattle.aom_cells.specs.Heap.{Heap, null, cell_at, word_of, field_at, count}
+use Rattle.aom_cells.specs.Heap.{Heap, null, cell_at, word_of, count}
 use Rattle.aom_cells.specs.declared.cell.Cell.{Cell as Held_cell}
-use Rattle.aom_cleanup.specs.Items.{Stack as Held_items, entry_in}
+use Rattle.aom_cleanup.specs.Items.{Stack as Held_items}
 use Rattle.aom_frames.specs.Tasks.{fresh}
 use Rattle.aom_frames.specs.declared.task.Task.TheVariants.{Run as Runs_frame, Trapped as Is_trap, Dispatched as Ends}
 use Rattle.aom_frames.specs.declared.dispatch.Dispatch.TheVariants.{Main}
@@ -16,7 +16,7 @@ use Rattle.aom_bounds.specs.Strongest.{IsStrongest}
 use Rattle.aom_bounds.specs.Depths.{HasDepths}
 use Rattle.aom_bounds.specs.Heights.{HasHeights}
 use Rattle.aom_budget.specs.Budgets.{CostsWithin}
-use Rattle.aom_sound.specs.Places.{Place, Register, Entry, Field, Going, Elsewhere, Root, Session, In_service, Queued}
+use Rattle.aom_sound.specs.Places.{Place, Elsewhere, Root}
 use Rattle.aom_sound.specs.Laws.{BootKeeps, StepKeeps, LinkedIsWired}
 use Rattle.aom_sound.proofs.ClientsKeep.{clients_keep}
 use Rattle.aom_sound.specs.Quiet.{CalmKeeps}
@@ -28,10 +28,9 @@ use Rattle.aom_sound.proofs.Standing.{boot as boots_at_traps}
 use Rattle.aom_sound.proofs.Maps.{cond_same}
 use Rattle.aom_parts.specs.declared.parts.Parts.{Parts}
 use Rattle.aom_parts.specs.Boot.{Booted}
-use Rattle.aom_clients.specs.Clients.{client_at, queue_at}
 use Rattle.aom_parts.proofs.Beginning.{first_client, first_queue, services_begin}
-use Rattle.aom_parts.specs.Places.{is_numbered, register_in, going_in, session_with, value}
-use Rattle.aom_parts.specs.Agrees.{SameTasks, SameItems, word_in, word_at, thing_in, Agrees}
+use Rattle.aom_parts.specs.Places.{value}
+use Rattle.aom_parts.specs.Agrees.{SameTasks, SameItems, word_at, thing_in, Agrees}
 use Rattle.aom_exec.proofs.Affording.{affords}
 use Rattle.aom_acts.proofs.CallActs.{shows_null}
 use Rattle.aom_parts.proofs.Entries.{mark_shows_none}
@@ -46,9 +45,7 @@ use Rattle.std.proofs.lemmas.List.{length-replicate}
 
 -- three tasks, none of which has anything there
 all_none : {A : Type 0} (a b c : Bool) (x y : A) → x ≡ y → cond a x (cond b y (cond c y y)) ≡ y
-all_none true b c x y e = e
-all_none false true c x y e = refl
-all_none false false c x y e = cond_same c y
+all_none x b c y z e = grind (arith, nat_tests, cond_same c y)
 
 boot_tasks : (p : Image) (main : ℕ) → main_of p ≡ Some main → main_tasks (main_of p) ≡ Run (frame_of main AtRoot 1) ∷ Trapped ∷ Dispatched Of_main ∷ []
 boot_tasks p main e = ap main_tasks e
@@ -60,18 +57,10 @@ all_closed k n = all_same k n false
 module _ (p : Image) (m : Parts) (booted : Booted p m) where
   -- no place has anything
   no_value : (r : Place) → value m r ≡ null
-  no_value (Register d i) = ap (λ us. register_in us d i) booted.tasks ∙ all_none (2 == d) (1 == d) (0 == d) _ null (begun_registers booted.main null i)
-  no_value (Entry k) = ap (λ (e : Held_items). entry_in e.items k) booted.entries ∙ mark_shows_none [] k
-  no_value (Field n f) = ap (λ h. field_at h n f) booted.cells
-  no_value (Going k) = ap (λ us. going_in us k) booted.tasks ∙ all_none (2 == k) (1 == k) (0 == k) null null refl
-  no_value (Elsewhere Root) = booted.root
-  no_value (Elsewhere (Session s c)) = ap (λ k. session_with s (client_at k c)) booted.clients ∙ ap (session_with s) (first_client p.header.cells c)
-  no_value (Elsewhere In_service) = booted.served
-  no_value (Elsewhere (Queued s n)) = ap (λ k. cond (list_any (is_numbered n) (queue_at k s)) n null) booted.clients ∙ ap (λ q. cond (list_any (is_numbered n) q) n null) (first_queue p.header.cells s)
+  no_value x = grind (arith, nat_tests, all_none, begun_registers booted.main, mark_shows_none, first_client p.header.cells, first_queue p.header.cells)
 
   no_word_yet : (r : Place) → word_at (main_tasks (main_of p)) r ≡ None
-  no_word_yet (Register d i) = ap (λ us. word_in us d i) (boot_tasks p booted.main booted.is_main) ∙ all_none (2 == d) (1 == d) (0 == d) None None refl
-  no_word_yet _ = refl
+  no_word_yet x = grind (arith, nat_tests, boot_tasks p booted.main booted.is_main, all_none)
 
   no_cell : (n : ℕ) → cell_at m.cells n ≡ None
   no_cell n = ap (λ h. cell_at h n) booted.cells

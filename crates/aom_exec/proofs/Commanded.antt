@@ -1,20 +1,20 @@
 -- What a command of a client leaves as it was: the sessions of clients, the cells but for messages, and the queues of all servers but one.
-use Rattle.std.proofs.Common.{ap, Bool, cond, false, length, List, None, Option, refl, Some, subst, sym, true, ℕ, ◌<◌, ◌≤◌, ◌==◌, ◌∙◌, ◌∷◌, ◌≡◌, [], arith}
-use Rattle.std.specs.Prelude.{filter, not, ◌&&◌}
+use Rattle.std.proofs.lemmas.Bool.Decides.{nat_tests}
+use Rattle.std.proofs.Common.{ap, Bool, cond, false, length, List, None, Option, refl, Some, sym, true, ℕ, ◌<◌, ◌≤◌, ◌==◌, ◌∙◌, ◌∷◌, ◌≡◌, [], arith}
+use Rattle.std.specs.Prelude.{filter, ◌&&◌}
 use Rattle.std.proofs.lemmas.Bool.{eqb-true, ne_eqb}
 use Rattle.aom_clients.specs.Clients as kept
 use Rattle.aom_clients.specs.Nodes.{is_connecting_at, is_open_at, named_by}
 use Rattle.aom_clients.specs.Table.{row}
 use Rattle.aom_clients.specs.declared.client.Client.{Client}
-use Rattle.aom_clients.specs.declared.client.Client.TheVariants.{Connecting, Open, Unconnected}
+use Rattle.aom_clients.specs.declared.client.Client.TheVariants.{Unconnected}
 use Rattle.aom_clients.specs.declared.refusal.Refusal.{Refusal}
 use Rattle.aom_clients.specs.declared.server.Server.{Server}
 use Rattle.aom_image.specs.Image.{Image}
-use Rattle.aom_image.specs.declared.method.Thing.TheVariants.{Message}
 use Rattle.aom_sound.proofs.Services.{held_served, named_served, service_there, service_unnamed}
 use Rattle.aom_sound.proofs.Sifted.{cell_of, cell_of_sifted, kept as kept_cell, service_cell, service_in, sifted, withdrawn_so}
 use Rattle.aom_sound.specs.Kept.{ClientsFit, QueueFits}
-use Rattle.aom_sound.specs.Clients.{Listed, asked_server, client_at, commanded, leaving, refusal, sent_message, with_message}
+use Rattle.aom_sound.specs.Clients.{Listed, asked_server, client_at, commanded, leaving, refusal, sent_message}
 use Rattle.aom_sound.specs.Places.{Asked, Cell, Close_of, Connect_of, Elsewhere, Message_of, Place, Queued, Service, Tidy, held, named, same_place, service_of}
 use Rattle.aom_sound.specs.Servers.{asked_last, is_from, is_queue, left_by, reserved, stays, withdrawn}
 use Rattle.aom_sound.specs.State.{State}
@@ -33,11 +33,7 @@ apart_queue n k r e = grind arith
 
 -- a new cell that is no token
 told_fresh : (x : Cell) (cs : List Cell) → named cs x.object.name ≡ None → x.service.token ≡ None → Told_alike cs (x ∷ cs)
-told_fresh x cs free none n = go (x.object.name == n) refl
-  where
-    go : (b : Bool) → (x.object.name == n) ≡ b → (cond b x.service (service_of cs n)).token ≡ (service_of cs n).token
-    go true e = none ∙ sym (ap (λ (v : Service). v.token) (ap (service_of cs) (sym (eqb-true x.object.name n e)) ∙ service_unnamed cs x.object.name free))
-    go false e = refl
+told_fresh x cs free none n = grind (arith, nat_tests, eqb-true x.object.name n, service_unnamed cs x.object.name free)
 
 -- ---- the sessions of clients
 
@@ -47,31 +43,18 @@ module _ (s : kept.State) (c : ℕ) (small : c < length s.clients) where
   client_then to d = at_set Unconnected s.clients c d to small
 
   sessions_with : (to : Client) → ((n : ℕ) → session_with n to ≡ session_with n (kept.client_at s c)) → SessionsSame s (kept.with_client c to s)
-  sessions_with to same n d = ap (session_with n) (client_then to d) ∙ go (c == d) refl
-    where
-      go : (b : Bool) → (c == d) ≡ b → session_with n (cond b to (kept.client_at s d)) ≡ session_with n (kept.client_at s d)
-      go true e = same n ∙ ap (λ i. session_with n (kept.client_at s i)) (eqb-true c d e)
-      go false e = refl
+  sessions_with to same n d = grind (arith, nat_tests, client_then to d, eqb-true c d)
 
 -- a connect
 connected_none : (x : Client) (refused : Option Refusal) (server : Option Server) (s : kept.State) → kept.asked (row x).connect server s ≡ None → (n : ℕ) → session_with n x ≡ session_with n Unconnected
 connected_none x refused server s e n = grind arith
 
 pub sessions_connect : (s : kept.State) (c : ℕ) (server : Option Server) (slots : ℕ) → c < length s.clients → SessionsSame s (kept.after_connect c server slots s)
-sessions_connect s c server slots small = go (kept.connect_refusal c server s) refl server
-  where
-    go : (r : Option Refusal) → kept.connect_refusal c server s ≡ r → (x : Option Server) → SessionsSame s (kept.connecting r c x slots s)
-    go None e (Some x) = sessions_with s c small (Connecting x.cell slots) (λ n. sym (connected_none (kept.client_at s c) None server s e n))
-    go None e None = λ n d. refl
-    go (Some r) e x = λ n d. refl
+sessions_connect s c server slots small = grind (arith, nat_tests, SessionsSame s, sessions_with s c small, connected_none)
 
 -- a send
 pub sessions_send : (s : kept.State) (c : ℕ) (place : Option ℕ) → SessionsSame s (kept.after_send c place s)
-sessions_send s c place = go (kept.send_refusal c place s) (kept.client_at s c) place
-  where
-    go : (r : Option Refusal) (x : Client) (y : Option ℕ) → SessionsSame s (kept.sending r x c y s)
-    go None (Open server session slots) (Some m) = λ n d. refl
-    go _ _ _ = λ n d. refl
+sessions_send s c place = grind (arith, nat_tests, SessionsSame s)
 
 -- a close, and a death
 closes_alike : (x to : Client) → (row x).close ≡ Some to → (n : ℕ) → session_with n to ≡ session_with n x
@@ -82,8 +65,7 @@ dies_alike x to e n = grind arith
 
 module _ (s : kept.State) (c : ℕ) (small : c < length s.clients) where
   sessions_left : (to : Client) → ((n : ℕ) → session_with n to ≡ session_with n (kept.client_at s c)) → (x : Client) → SessionsSame s (kept.told x c (kept.with_client c to (kept.withdrawn c s)))
-  sessions_left to same (Open server session slots) = sessions_with s c small to same
-  sessions_left to same _ = sessions_with s c small to same
+  sessions_left to same x = grind (arith, nat_tests, sessions_with s c small to same)
 
   sessions_leaving : (to : Option Client) → ((x : Client) → to ≡ Some x → (n : ℕ) → session_with n x ≡ session_with n (kept.client_at s c)) → SessionsSame s (kept.leaving to c s)
   sessions_leaving None same = λ n d. refl
@@ -141,8 +123,7 @@ module _ (p : Image) (c : ℕ) (s : State) where
     commanded_holds command name = by_command p c s (λ t. held t.cells r ≡ held s.cells r) name (record {
       same = refl;
       connects = λ x slots. held_served s.cells x.name _ r;
-      sends = λ words server.
-          ap (λ b. cond b (Some (record { name = name; thing = Message })) (held (reserved (asked_last (Message_of c name)) server s.cells) r)) (apart_queue server name r apart) ∙ held_served s.cells server _ r;
+      sends = grind (arith, nat_tests, apart_queue, held_served s.cells);
       leaves = λ to. stay r apart;
       closes = λ to server. held_served (withdrawn c s.cells) server _ r ∙ stay r apart;
     }) command
@@ -162,16 +143,8 @@ module _ (clients : List Client) (c n : ℕ) (away : named_by (client_at clients
   all_stay : (es : List Asked) → QueueFits clients n es → filter (stays c) es ≡ es
   all_stay [] fits = refl
   all_stay (Close_of d ∷ es) fits = ap (λ l. Close_of d ∷ l) (all_stay es fits.1)
-  all_stay (Connect_of d ∷ es) fits = go (d == c) refl ∙ ap (λ l. Connect_of d ∷ l) (all_stay es fits.1)
-    where
-      go : (b : Bool) → (d == c) ≡ b → filter (stays c) (Connect_of d ∷ es) ≡ Connect_of d ∷ filter (stays c) es
-      go true e = absurd (away (connecting_named n _ (subst (λ i. is_connecting_at n (client_at clients i) ≡ true) (eqb-true d c e) fits.0.0)))
-      go false e = ap (λ b. cond (not b) (Connect_of d ∷ filter (stays c) es) (filter (stays c) es)) e
-  all_stay (Message_of d m ∷ es) fits = go (d == c) refl ∙ ap (λ l. Message_of d m ∷ l) (all_stay es fits.1)
-    where
-      go : (b : Bool) → (d == c) ≡ b → filter (stays c) (Message_of d m ∷ es) ≡ Message_of d m ∷ filter (stays c) es
-      go true e = absurd (away (open_named n _ (subst (λ i. is_open_at n (client_at clients i) ≡ true) (eqb-true d c e) fits.0.0)))
-      go false e = ap (λ b. cond (not b) (Message_of d m ∷ filter (stays c) es) (filter (stays c) es)) e
+  all_stay (Connect_of d ∷ es) fits = grind (arith, nat_tests, all_stay es fits.1, connecting_named n, eqb-true d c)
+  all_stay (Message_of d m ∷ es) fits = grind (arith, nat_tests, all_stay es fits.1, open_named n, eqb-true d c)
 
 -- what a client leaves of a queue
 module _ (c : ℕ) (s : State) (tidy : Tidy s.cells) (bare : (n : ℕ) (x : Cell) → cell_of s.cells n ≡ Some x → is_queue x.owner ≡ true → x.service.queue ≡ []) where
@@ -200,11 +173,16 @@ module _ (p : Image) (c : ℕ) (s : State) (tidy : Tidy s.cells) (fit : ClientsF
   other k n never = ne_eqb k n (λ e. absurd (never e))
 
   leaving_queue : (to : Option Client) (n : ℕ) → (named_by (client_at s.clients c) ≡ Some n → ⊥) → SameQueue (leaving p c s to).cells n
-  leaving_queue to n away = by_leaving p c s (λ t. SameQueue t.cells n) refl to (λ x is. by_told p c s (λ cs. SameQueue cs n) (withdrawn c s.cells) taken_out (client_at s.clients c) (λ server session slots at.
-      ap (λ (v : Service). v.queue) (service_there (withdrawn c s.cells) server n _ (other server n (λ e. away (ap named_by at ∙ ap Some e)))) ∙ taken_out))
-    where
-      taken_out : SameQueue (withdrawn c s.cells) n
-      taken_out = queue_withdrawn c s tidy bare n ∙ all_stay s.clients c n away (service_of s.cells n).queue (fit.queues n)
+  leaving_queue to n away = grind (
+    arith,
+    nat_tests,
+    by_leaving p c s,
+    by_told p c s,
+    service_there,
+    other,
+    queue_withdrawn c s tidy bare n,
+    all_stay s.clients c n away,
+  )
 
   -- the queue at a number, which may be the message's
   abbrev queue_beside : (name n server : ℕ) → Bool → List Asked
@@ -213,14 +191,14 @@ module _ (p : Image) (c : ℕ) (s : State) (tidy : Tidy s.cells) (fit : ClientsF
   pub commanded_queue : (command : Command) (name : ℕ) → named s.cells name ≡ None → (n : ℕ) → Untouched p c s command n → SameQueue (commanded p c s command name).cells n
   commanded_queue (Connect class slots) name free n away = by_connecting p c s (λ t. SameQueue t.cells n) refl (refusal p c s (Connect class slots)) (asked_server p class s.cells) slots (λ x e.
       ap (λ (v : Service). v.queue) (service_there s.cells x.name n _ (other x.name n (away x e))))
-  commanded_queue (Send words) name free n away = by_sending p c s (λ t. SameQueue t.cells n) refl (refusal p c s (Send words)) (client_at s.clients c) name words (λ server session slots goes at.
-      queued server (ap (λ (v : Service). v.queue) (service_there s.cells server n _ (other server n (λ e. away (ap named_by at ∙ ap Some e))))))
-    where
-      queued : (server : ℕ) → SameQueue (reserved (asked_last (Message_of c name)) server s.cells) n → SameQueue (with_message p c s name words server) n
-      queued server before = by (name == n) refl
-        where
-          by : (b : Bool) → (name == n) ≡ b → SameQueue (with_message p c s name words server) n
-          by true e = ap (queue_beside name n server) e ∙ sym (ap (λ (v : Service). v.queue) (service_unnamed s.cells n (ap (named s.cells) (sym (eqb-true name n e)) ∙ free)))
-          by false e = ap (queue_beside name n server) e ∙ before
+  commanded_queue (Send words) name free n away = grind (
+    arith,
+    nat_tests,
+    by_sending p c s,
+    service_there s.cells,
+    other,
+    service_unnamed s.cells n,
+    eqb-true name n,
+  )
   commanded_queue Close name free n away = leaving_queue (row (client_at s.clients c)).close n away
   commanded_queue Die name free n away = leaving_queue (row (client_at s.clients c)).die n away

@@ -1,15 +1,15 @@
 -- A command as the machine does it: its parts in one, from each state that the machine stands for.
-use Rattle.std.proofs.Common.{ap, arith, Bool, false, length, List, None, Option, refl, Some, subst, suc, sym, true, ℕ, ◌++◌, ◌<◌, ◌≤◌, ◌==◌, ◌∙◌, ◌∷◌, ◌≡◌, []}
-use Rattle.std.specs.Prelude.{Err, IfSome, Ok, Result, is_some, nat_lt, not, option_map, ◌||◌}
+use Rattle.std.proofs.lemmas.Bool.Decides.{nat_tests}
+use Rattle.std.proofs.Common.{ap, arith, Bool, length, List, None, Option, refl, Some, subst, suc, sym, true, ℕ, ◌++◌, ◌<◌, ◌≤◌, ◌==◌, ◌∙◌, ◌∷◌, ◌≡◌, []}
+use Rattle.std.specs.Prelude.{Err, IfSome, Ok, Result, is_some, nat_lt, option_map, ◌||◌}
 use Rattle.std.proofs.lemmas.Bool.{eq-eqb}
 use Rattle.std.proofs.lemmas.Option.{none-some, same_Some}
 use Rattle.aom_active.specs.Agrees.{Active}
 use Rattle.aom_clients.specs.Clients as kept
 use Rattle.aom_clients.specs.Nodes.{named_by}
-use Rattle.aom_clients.specs.Table.{code_of, row}
+use Rattle.aom_clients.specs.Table.{code_of}
 use Rattle.aom_clients.specs.declared.client.Client.{Client}
 use Rattle.aom_clients.specs.declared.client.Client.TheVariants.{Unconnected}
-use Rattle.aom_clients.specs.declared.place.Place.{Place as Message_place}
 use Rattle.aom_clients.specs.declared.place.Place.TheVariants.{Free}
 use Rattle.aom_clients.specs.declared.refusal.Refusal.{Refusal}
 use Rattle.aom_image.specs.Image.{Image}
@@ -33,7 +33,7 @@ use Rattle.aom_parts.proofs.Listing.{first_asked}
 use Rattle.aom_parts.proofs.Sizing.{sized_close, sized_connect, sized_die, sized_send}
 use Rattle.aom_parts.proofs.Elsewhere.{SessionsSame}
 use Rattle.aom_parts.specs.Messages.{SameMessages}
-use Rattle.aom_parts.specs.Serving.{AreSized, Once, SameClients, is_taken, message_name, sessionless}
+use Rattle.aom_parts.specs.Serving.{AreSized, Once, SameClients, message_name, sessionless}
 use Rattle.aom_parts.specs.Stands.{Machine, StandsFor}
 use Rattle.aom_parts.specs.declared.parts.Parts.{Parts}
 use Rattle.aom_parts.proofs.Serving.{taken_sent}
@@ -49,8 +49,7 @@ told_refusal c (Ok u) = []
 told_refusal c (Err r) = Refuse c (code_of r) ∷ []
 
 same_refusal : (c : ℕ) (r : Option Refusal) → told_refusal c (kept.answer r) ≡ refusal_line c r
-same_refusal c None = refl
-same_refusal c (Some r) = refl
+same_refusal c x = grind arith
 
 -- where a client is does not hang on the cell of its session
 named_alike : (x : Client) → named_by (sessionless x) ≡ named_by x
@@ -62,8 +61,7 @@ all_kept store [] once each = tt
 all_kept store (m ∷ ms) once each = (each m (ap (λ b. b || is_among m ms) (eq-eqb m m refl)), once.0, all_kept store ms once.1 (λ k e. each k (later (m == k) (is_among k ms) e)))
   where
     later : (a b : Bool) → b ≡ true → (a || b) ≡ true
-    later true b e = refl
-    later false b e = e
+    later x b e = grind arith
 
 module _ (p : Image) (m : Parts) (s : State) (st : StandsFor (record { image = p; parts = m }) s) (idle : s.tasks ≡ []) (c : ℕ) (one : c < 64) where
   abbrev same : SameClients m.clients s.cells s.clients
@@ -81,8 +79,7 @@ module _ (p : Image) (m : Parts) (s : State) (st : StandsFor (record { image = p
   first_found class = ap (λ o. option_map (λ n. record { cell = n; most = most_of (kind_of p (Some class)) }) o) (first_asked p m.listed s.cells st.typed.good.tidy st.agrees.services.listed class) ∙ go (asked_server p class s.cells)
     where
       go : (x : Option Listed) → option_map (λ n. record { cell = n; most = most_of (kind_of p (Some class)) }) (option_map (λ (y : Listed). y.name) x) ≡ found_server (most_of (kind_of p (Some class))) x
-      go None = refl
-      go (Some x) = refl
+      go x = grind arith
 
   -- ---- what an act needs
 
@@ -90,10 +87,7 @@ module _ (p : Image) (m : Parts) (s : State) (st : StandsFor (record { image = p
   nothing_named = free_name p m.cells m.messages s.cells st.agrees.cells st.sound.formed.header.cells st.agrees.services.messages
 
   no_message : (k : ℕ) → message_at m.messages k ≡ None → kept.place_at m.clients k ≡ Free
-  no_message k none = free (kept.place_at m.clients k) (taken_sent m.clients s.cells s.clients same k ∙ ap (λ v. is_some v.sender) (service_unnamed s.cells (message_name k) (nothing_named k none)))
-    where
-      free : (x : Message_place) → is_taken x ≡ false → x ≡ Free
-      free x e = grind arith
+  no_message k none = grind (arith, nat_tests, taken_sent m.clients s.cells s.clients, service_unnamed s.cells, nothing_named k none)
 
   -- ---- what an act needs
 
@@ -105,10 +99,7 @@ module _ (p : Image) (m : Parts) (s : State) (st : StandsFor (record { image = p
       (λ k e. freed_kept p st.typing st.sound.wired w (typed_now p m s st idle c) st.kept.fit m.clients same c m.messages st.agrees.services.messages k e)
 
   pub can_act : (command : Command) → IsInRange command → CanAct c command m.clients m.messages
-  can_act (Connect class slots) ranged = ranged
-  can_act (Send words) ranged = λ k none. no_message k none
-  can_act Close ranged = freed_all (row (kept.client_at m.clients c)).close
-  can_act Die ranged = freed_all (row (kept.client_at m.clients c)).die
+  can_act x ranged = grind (arith, nat_tests, no_message, freed_all)
 
   -- ---- what it comes to
 
@@ -141,8 +132,7 @@ module _ (p : Image) (m : Parts) (s : State) (st : StandsFor (record { image = p
         )
       where
         high : (place : Option ℕ) → 4096 ≤ sent_name place
-        high None = omega arith
-        high (Some n) = omega arith
+        high x = grind arith
 
     -- the queue that is told of is the one that changes
     away_named : (n : ℕ) → (queue_changed None (kept.client_at m.clients c) ≡ Some n → ⊥) → named_by (client_at s.clients c) ≡ Some n → ⊥

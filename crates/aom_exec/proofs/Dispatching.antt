@@ -1,4 +1,5 @@
 -- A server is dispatched: the first of its queue is taken and begins to be served, on both sides alike.
+use Rattle.std.proofs.lemmas.Bool.Decides.{nat_tests}
 use Rattle.std.proofs.Common.{Bool, List, None, Option, Some, [], ap, arith, cond, false, length, map, refl, subst, sym, true, ℕ, ℤ, ◌<◌, ◌==◌, ◌∙◌, ◌∷◌, ◌≡◌}
 use Rattle.std.specs.List.{list_any}
 use Rattle.std.specs.Prelude.{is_some, ◌||◌, option_map}
@@ -10,9 +11,8 @@ use Rattle.aom_cells.specs.Heap.{cell_at, class_at, class_of, null}
 use Rattle.aom_cells.specs.declared.cell.Cell.{Cell as Held_cell}
 use Rattle.aom_classes.specs.Roles.{role_of}
 use Rattle.aom_clients.specs.Clients as kept
-use Rattle.aom_clients.specs.Table.{no_cell, sender, server_of, session_of}
+use Rattle.aom_clients.specs.Table.{sender, server_of, session_of}
 use Rattle.aom_clients.specs.declared.client.Client.{Client}
-use Rattle.aom_clients.specs.declared.client.Client.TheVariants.{Closing, Connecting, Dead, Dying, Gone, Open, Unconnected}
 use Rattle.aom_clients.specs.declared.entry.Entry.{Entry}
 use Rattle.aom_clients.specs.declared.entry.Entry.TheVariants.{Close, Connect, Message}
 use Rattle.aom_frames.specs.Tasks.{fresh}
@@ -31,17 +31,15 @@ use Rattle.aom_sound.proofs.Services.{held_served, service_moved, service_there}
 use Rattle.aom_sound.proofs.Signals.{at_rest}
 use Rattle.aom_sound.proofs.Straight.{fits_unowning}
 use Rattle.aom_sound.proofs.Things.{message_plain}
-use Rattle.aom_sound.specs.Claims.{claim, declared}
 use Rattle.aom_sound.specs.Destruction as checked
 use Rattle.aom_sound.specs.Enlisted.{part_of}
-use Rattle.aom_sound.specs.Places.{Cell, Elsewhere, Entry as Entry_at, Field, Going, In_service, Object, Place, Queued, Register, Service, Session, changed, held, moved, named, seen, service_of, same_place, word_field}
+use Rattle.aom_sound.specs.Places.{Cell, Elsewhere, Entry as Entry_at, Field, Going, In_service, Object, Place, Queued, Register, Service, Session, changed, held, moved, named, service_of, same_place, word_field}
 use Rattle.aom_sound.specs.Servers.{is_server, reserved, taken_first, has_more}
 use Rattle.aom_sound.specs.State.{A_mark, Accepts, Dispatched, Frame, Goes, Inside, Of_server, Parts, Rest, Seat, Serves, State, Task, frame_of}
-use Rattle.aom_sound.specs.WellTyped.{Fits}
-use Rattle.aom_sound.specs.World.{accepting as checked_accepting, attended, attending as checked_attending, message_words, parting_with, picked, serves_first, serving, taken_from as checked_taken, dispatched}
+use Rattle.aom_sound.specs.World.{message_words, parting_with, picked, serves_first, serving, taken_from as checked_taken, dispatched}
 use Rattle.aom_parts.specs.declared.parts.Parts.{Parts as Machine_parts}
 use Rattle.aom_parts.specs.Agrees.{Agrees, SameRequests, Shows, number, word_at}
-use Rattle.aom_parts.specs.Places.{others, session_number, session_with, value, value_in, with_tasks, is_numbered}
+use Rattle.aom_parts.specs.Places.{others, session_with, value_in, with_tasks, is_numbered}
 use Rattle.aom_parts.specs.Services.{SameServices}
 use Rattle.aom_parts.specs.Serving.{SameClients, asked_by, message_name, Once}
 use Rattle.aom_parts.specs.Tokens.{SameTokens}
@@ -66,7 +64,6 @@ use Rattle.aom_sound.proofs.Owned.{session_object}
 use Rattle.aom_acts.proofs.Running.{Aside, begun_frame, begun_registers, nothing_held, object_class, object_small}
 use Rattle.aom_acts.specs.Going.{dying}
 use Rattle.aom_parts.proofs.Asking.{requests_moved}
-use Rattle.aom_shape.specs.declared.kind.Kind.TheVariants.{Null}
 use Rattle.aom_parts.proofs.Departing.{is_at}
 use Rattle.aom_parts.proofs.Vanishing.{names_same}
 use Rattle.aom_exec.specs.Servers.{Notes, accepting, attending, is_queued, parting, taken_from, told_words}
@@ -76,29 +73,11 @@ use Rattle.aom_exec.proofs.Turning.{none_running}
 
 -- what serves is an object
 pub served_object : (p : Image) (y : Thing) → is_server p y ≡ true → is_object y ≡ true
-served_object p (An_object_of c) serves = refl
-served_object p A_message serves = absurd (false≢true (sym (message_plain p A_message refl) ∙ serves))
+served_object p x serves = grind (arith, nat_tests, message_plain p A_message)
 
 -- the number of the session that its place has is what the client says
 pub session_named : (n : ℕ) (k : Client) (name : ℕ) → session_with n k ≡ name → name < 4096 → session_of k ≡ Some name
-session_named n k name e small = go k e
-  where
-    one : (b : Bool) (session : ℕ) → cond b (session_number session) null ≡ name → Some session ≡ Some name
-    one false session e = absurd (omega (arith, e, small))
-    one true session e = by (session == no_cell) e
-      where
-        by : (c : Bool) → cond c null session ≡ name → Some session ≡ Some name
-        by true e = absurd (omega (arith, e, small))
-        by false e = ap Some e
-
-    go : (k : Client) → session_with n k ≡ name → session_of k ≡ Some name
-    go (Open server session slots) e = one (server == n) session e
-    go (Closing server session) e = one (server == n) session e
-    go (Dying server session) e = one (server == n) session e
-    go Unconnected e = absurd (omega (arith, e, small))
-    go (Connecting server slots) e = absurd (omega (arith, e, small))
-    go Gone e = absurd (omega (arith, e, small))
-    go Dead e = absurd (omega (arith, e, small))
+session_named n k name e small = grind (arith, nat_tests)
 
 module _ (p : Image) (m : Machine_parts) (s : State) (st : StandsFor (record { image = p; parts = m }) s) (idle : s.tasks ≡ []) (x : Seat) (lives : named s.cells x.object.name ≡ Some x.object) (serves : is_server p x.object.thing ≡ true)
     (class : ℕ) (is : class_at m.cells x.object.name ≡ Some class) (active : Active) (noted : Notes x.object.name (kept.after_next x.object.name m.clients) m.active active) where
@@ -146,7 +125,7 @@ module _ (p : Image) (m : Machine_parts) (s : State) (st : StandsFor (record { i
 
   -- what places show where nothing is at hand
   shows : ShowsIdle m s.cells
-  shows q = subst (λ us. Shows (value_in us m.cells m.entries.items (others m) q) (word_at [] q) (held s.cells q)) (none_running p m s st idle) (subst (λ ts. Shows (value m q) (word_at ts q) (held s.cells q)) idle (st.agrees.values q))
+  shows q = grind (arith, nat_tests, none_running p m s st idle)
 
   nothing_at : (q : Place) → value_in [] m.cells m.entries.items (others m) q ≡ null → Shows (value_in [] m.cells m.entries.items (others m) q) None (held s.cells q) → held s.cells q ≡ None
   nothing_at q e h = nothing_held p m st.typing s st.typed st.agrees q (sym e ∙ h)
@@ -160,8 +139,7 @@ module _ (p : Image) (m : Machine_parts) (s : State) (st : StandsFor (record { i
   requests_taken waits = noted_requests p m.active active s.cells cs (beside_served s.cells n (taken_first (service_of s.cells n))) st.agrees.requests n (λ i other. ap (λ (v : Service). v.queue) (service_there s.cells n i (taken_first (service_of s.cells n)) other)) (is_queued k' n) waits noted
 
   tokens_taken : SameTokens p m.tokens cs
-  tokens_taken =
-      tokens_beside p m.tokens s.cells cs (beside_served s.cells n (taken_first (service_of s.cells n))) (told_served s.cells n (taken_first (service_of s.cells n)) refl) st.agrees.services.tokens
+  tokens_taken = grind (arith, nat_tests, tokens_beside p m.tokens s.cells, beside_served s.cells, told_served s.cells)
 
   services_with : SameClients k' cs s.clients → SameServices p k' m.messages m.tokens m.listed cs s.clients
   services_with clients = record {
@@ -190,9 +168,7 @@ module _ (p : Image) (m : Machine_parts) (s : State) (st : StandsFor (record { i
     }
 
     no_number : (e : Entry) → ((j : ℕ) → e ≡ Message j → ⊥) → (j : ℕ) → is_numbered j e ≡ false
-    no_number (Connect c) other j = refl
-    no_number (Close c) other j = refl
-    no_number (Message i) other j = absurd (other i refl)
+    no_number y z w = grind arith
 
     pub shows_taken : ShowsIdle taken cs
     shows_taken q =
@@ -215,12 +191,20 @@ module _ (p : Image) (m : Machine_parts) (s : State) (st : StandsFor (record { i
     accept_frame = frame_of method (Inside x.object x.place) (length (A_mark ∷ s.items))
 
     pub accept_goes : picked p x s ≡ Goes (serving x c Accepts accept_frame then)
-    accept_goes = picked_so ∙ ap (λ q. serves_first p x q s) (first_asked_so (Connect c) es at) ∙ ap (λ h. checked_accepting h x c then) (ap (part_of p Accepts_role) server_thing ∙ accepts)
+    accept_goes = grind (arith, nat_tests, picked_so, first_asked_so (Connect c) es at, server_thing)
 
     pub accept_agrees : Agrees p (accepting method subject c taken) (serving x c Accepts accept_frame then)
     accept_agrees =
         begins_agrees p taken then (Server subject c stages.Accepts) (Of_server x c Accepts) (fresh method n) accept_frame (none_running p m s st idle) (aside_taken (Connect c) es at (λ j e. cc))
-        (begun_frame method n (Inside x.object x.place) (length (A_mark ∷ s.items)) refl (λ there. small)) (x.place, ap (λ t. Of_server (record { object = record { name = n; thing = t }; place = x.place }) c Accepts) (sym server_thing))
+        (begun_frame method n (Inside x.object x.place) (length (A_mark ∷ s.items)) refl (λ there. small)) (
+          x.place,
+          grind (
+            arith,
+            nat_tests,
+            object,
+            server_thing,
+          ),
+        )
         (shows_taken (Connect c) es at (λ j e. cc)) unowned_taken (λ i. begun_registers method n i)
 
   -- ---- a message
@@ -267,9 +251,7 @@ module _ (p : Image) (m : Machine_parts) (s : State) (st : StandsFor (record { i
 
     -- nothing is served before
     none_served : held s.cells (Elsewhere In_service) ≡ None
-    none_served =
-        fits_unowning p (seen s.cells) (held s.cells (Elsewhere In_service)) Null refl
-        (subst (λ ls. Fits p (seen s.cells) (held s.cells (Elsewhere In_service)) (claim p (declared p s.cells) ls (Elsewhere In_service))) (at_rest p st.typing s st.typed idle) (st.typed.good.fits (Elsewhere In_service)))
+    none_served = grind (arith, nat_tests, fits_unowning p, at_rest p st.typing s st.typed idle)
 
     once : list_any (is_numbered (message_name j)) es ≡ false
     once = numbered es ∙ sym (among_places es j) ∙ (subst (λ l. Once (places_in l)) at (waiting_once p st.typing st.sound.wired s st.typed st.kept.fit m.clients same n)).0
@@ -282,9 +264,7 @@ module _ (p : Image) (m : Machine_parts) (s : State) (st : StandsFor (record { i
 
     -- the message was where it waited
     waited : value_in [] m.cells m.entries.items (others m) from ≡ message_name j
-    waited =
-        ap (λ b. cond b (message_name j) null)
-        (ap (list_any (is_numbered (message_name j))) at ∙ ap (λ b. b || list_any (is_numbered (message_name j)) es) (eq-eqb (message_name j) (message_name j) refl))
+    waited = grind (arith, nat_tests, eq-eqb)
 
     shows_served : ShowsIdle served serving_cells
     shows_served =
@@ -308,7 +288,7 @@ module _ (p : Image) (m : Machine_parts) (s : State) (st : StandsFor (record { i
             never false = refl
 
     unowned_served : (d i : ℕ) → held serving_cells (Register d i) ≡ None
-    unowned_served d i = held_moved cs from (Elsewhere In_service) (Register d i) (held_served s.cells n (taken_first (service_of s.cells n)) (Elsewhere In_service) ∙ none_served) ∙ unowned_taken d i
+    unowned_served d i = grind (arith, nat_tests, held_moved, held_served s.cells, none_served, unowned_taken d i)
 
     session_lives : named s.cells o.name ≡ Some o
     session_lives = held_lives s.cells (Elsewhere (Session n c)) o st.typed.good.tidy there
@@ -326,9 +306,7 @@ module _ (p : Image) (m : Machine_parts) (s : State) (st : StandsFor (record { i
     word_so w = (messages_served p m.messages s.cells n (taken_first (service_of s.cells n)) st.agrees.services.messages).words j w
 
     pub attend_goes : picked p x s ≡ Goes (serving x c (Serves o) attend_frame then_served)
-    attend_goes =
-        picked_so ∙ ap (λ q. serves_first p x q s) (first_asked_so (Message j) es at) ∙ ap (λ y. attended p x c y (message_name j) then) there
-        ∙ ap (λ h. checked_attending h x c o (message_name j) then) (ap (part_of p Attends_role) session_thing_so ∙ attends)
+    attend_goes = grind (arith, nat_tests, picked_so, first_asked_so (Message j) es at, session_thing_so)
 
     pub attend_agrees : Agrees p (attending method (record { number = o.name; class = class' }) subject c j taken) (serving x c (Serves o) attend_frame then_served)
     attend_agrees =
@@ -336,7 +314,7 @@ module _ (p : Image) (m : Machine_parts) (s : State) (st : StandsFor (record { i
         let begun = begun_frame method o.name (Inside o (Elsewhere (Session n c))) (length (A_mark ∷ s.items)) refl (λ there. object_small p m s st.sound.formed st.agrees o session_lives session_is_object) in
         begins_agrees p served then_served (Server subject c (stages.Serves (record { number = o.name; class = class' }))) (Of_server x c (Serves o)) (told_words m.messages j f) attend_frame (none_running p m s st idle) aside_served
         (told_frame m.messages j 5 f (frame_of method (Inside o (Elsewhere (Session n c))) (length (A_mark ∷ s.items))) (message_words cs (message_name j)) begun)
-        (x.place, ap (λ t. Of_server (record { object = record { name = n; thing = t }; place = x.place }) c (Serves (record { name = o.name; thing = An_object_of class' }))) (sym server_thing) ∙ ap (λ t. Of_server x c (Serves (record { name = o.name; thing = t }))) (sym session_thing_so))
+        (x.place, grind (arith, nat_tests, object, server_thing, session_thing_so))
         shows_served unowned_served (words_shown m.messages j cs (message_name j) f (length-replicate 16 null) (begun_registers method o.name) (λ w small. reads w small ∙ word_so w))
 
   -- ---- a close
@@ -388,41 +366,13 @@ module _ (p : Image) (m : Machine_parts) (s : State) (st : StandsFor (record { i
 
     -- the client has its session there
     its_server : server_of (kept.client_at k' c) ≡ Some n
-    its_server = with_server (kept.client_at k' c) (shows_taken (Close c) es at no_messages gone_from ∙ ap number there_now)
-      where
-        by : (server session : ℕ) → cond (server == n) (session_number session) null ≡ o.name → Some server ≡ Some n
-        by server session e = go (server == n) refl e
-          where
-            go : (b : Bool) → (server == n) ≡ b → cond b (session_number session) null ≡ o.name → Some server ≡ Some n
-            go true f e = ap Some (eqb-true server n f)
-            go false f e = absurd (omega (arith, e, part_small))
-
-        with_server : (y : Client) → session_with n y ≡ o.name → server_of y ≡ Some n
-        with_server (Open server session slots) e = by server session e
-        with_server (Closing server session) e = by server session e
-        with_server (Dying server session) e = by server session e
-        with_server Unconnected e = absurd (omega (arith, e, part_small))
-        with_server (Connecting server slots) e = absurd (omega (arith, e, part_small))
-        with_server Gone e = absurd (omega (arith, e, part_small))
-        with_server Dead e = absurd (omega (arith, e, part_small))
+    its_server = grind (arith, nat_tests, shows_taken (Close c) es at no_messages, no_messages, there_now, eqb-true, part_small)
 
     numbered : c < length k'.clients
     numbered = subst (λ i. c < i) (sym (aside_taken (Close c) es at no_messages).services.clients.many) client
 
     end_shows : (d : _) (q : Place) → value_in (Ends d ∷ []) m.cells m.entries.items (others taken) q ≡ value_in [] m.cells m.entries.items (others taken) q
-    end_shows d (Register i r) = never (0 == i)
-      where
-        never : (b : Bool) → cond b null null ≡ null
-        never true = refl
-        never false = refl
-    end_shows d (Going i) = never (0 == i)
-      where
-        never : (b : Bool) → cond b null null ≡ null
-        never true = refl
-        never false = refl
-    end_shows d (Entry_at i) = refl
-    end_shows d (Field i f) = refl
-    end_shows d (Elsewhere y) = refl
+    end_shows d y = grind arith
 
     pub part_agrees : Agrees p (parting p o.name subject c taken) parting_state
     part_agrees =
@@ -440,12 +390,4 @@ module _ (p : Image) (m : Machine_parts) (s : State) (st : StandsFor (record { i
         nothing_going = held_served s.cells n (taken_first (service_of s.cells n)) (Going 1) ∙ nothing_at (Going 1) refl (shows (Going 1))
 
         ended_word : (q : Place) → word_at below_tasks q ≡ word_at [] q
-        ended_word (Register i r) = never (0 == i)
-          where
-            never : (b : Bool) → ◌≡◌ {A = Option ℤ} (cond b None None) None
-            never true = refl
-            never false = refl
-        ended_word (Going i) = refl
-        ended_word (Entry_at i) = refl
-        ended_word (Field i f) = refl
-        ended_word (Elsewhere y) = refl
+        ended_word y = grind arith

@@ -1,4 +1,5 @@
 -- The server of a class that was enlisted first: it lives, is of that class, and clients find its queue.
+use Rattle.std.proofs.lemmas.Bool.Decides.{nat_tests}
 use Rattle.std.proofs.Common.{List, None, Option, Some, [], ap, arith, length, refl, sym, true, ℕ, ◌<◌, ◌∙◌, ◌∷◌, ◌≡◌}
 use Rattle.std.specs.Prelude.{IsSome, is_some, option_map, ◌||◌}
 use Rattle.std.proofs.lemmas.Bool.{and_parts, eq-eqb, eqb-true, false≢true}
@@ -97,9 +98,7 @@ module _ (p : Image) (m : Parts) (class n : ℕ) (known : IsFirst p m class n) w
 
   -- and a class of servers
   pub of_kind : (k : ℕ) (d : ClassDecl) → class_at m.cells n ≡ Some k → declared_at p k ≡ Some d → d.kind ≡ Server known.most known.session
-  of_kind k d found declared =
-      let same = same_Some class k (sym known.is ∙ found) in
-      same_Some d.kind _ (sym (kind_found p (Some class) k d (ap Some same) declared) ∙ known.kind)
+  of_kind k d found declared = grind (arith, nat_tests, same_Some class k, same_Some d.kind, kind_found p (Some class) k d)
 
   -- it is found with the most sessions that its class takes
   pub first_served : first_of (list_at m.listed class) ≡ Some n → (most session : ℕ) → Server known.most known.session ≡ Server most session →

@@ -1,4 +1,5 @@
 -- Messages are kept no more, one after another.
+use Rattle.std.proofs.lemmas.Bool.Decides.{nat_tests}
 use Rattle.std.proofs.Common.{ap, arith, Bool, false, length, List, None, refl, subst, suc, sym, true, ℕ, zero, ◌+◌, ◌<◌, ◌==◌, ◌∙◌, ◌∷◌, ◌≡◌, drop, slice_index_or, take, []}
 use Rattle.std.specs.Prelude.{is_some, ◌||◌}
 use Rattle.std.proofs.lemmas.Bool.{eq-eqb, eqb-true, false≢true}
@@ -23,16 +24,8 @@ next_kept (m ∷ ms) (suc i) store within kept = next_kept ms i store (omega (ar
 -- one more is not among those that come after it, nor among those before
 among_more : (places : List ℕ) (i m : ℕ) → i < length places → is_among m (take (suc i) places) ≡ (is_among m (take i places) || (slice_index_or places i 0 == m))
 among_more [] i m within = absurd (omega (arith, within))
-among_more (x ∷ xs) zero m within = or_false (x == m)
-  where
-    or_false : (b : Bool) → (b || false) ≡ b
-    or_false true = refl
-    or_false false = refl
-among_more (x ∷ xs) (suc i) m within = ap (λ b. (x == m) || b) (among_more xs i m (omega (arith, within))) ∙ assoc (x == m)
-  where
-    assoc : (b : Bool) → (b || (is_among m (take i xs) || (slice_index_or xs i 0 == m))) ≡ ((b || is_among m (take i xs)) || (slice_index_or xs i 0 == m))
-    assoc true = refl
-    assoc false = refl
+among_more (x ∷ xs) zero m within = grind (arith, nat_tests)
+among_more (x ∷ xs) (suc i) m within = grind (arith, nat_tests, among_more xs i m)
 
 still_kept : (old now : Store) (m : ℕ) (ms : List ℕ) → Changes old now m None → is_among m ms ≡ false → AreKept old ms → AreKept now ms
 still_kept old now m [] ch out kept = tt
@@ -65,23 +58,10 @@ one_more places i start old now within f ch fewer = record {
         go (x ∷ xs) (suc j) within = ap suc (go xs j (omega (arith, within)))
 
     gone : (m : ℕ) → is_among m (take (suc i) places) ≡ true → message_at now m ≡ None
-    gone m e = go (at == m) refl (sym (among_more places i m within) ∙ e)
-      where
-        go : (b : Bool) → (at == m) ≡ b → (is_among m (take i places) || b) ≡ true → message_at now m ≡ None
-        go true same e = ap (message_at now) (sym (eqb-true at m same)) ∙ ch.here
-        go false other e = ch.others m (λ same. false≢true (sym other ∙ eq-eqb at m (sym same))) ∙ f.first.gone m (left (is_among m (take i places)) e)
-          where
-            left : (b : Bool) → (b || false) ≡ true → b ≡ true
-            left true e = refl
-            left false e = e
+    gone m e = grind (arith, nat_tests, among_more places i m within, eqb-true at m, eq-eqb at m)
 
     others : (m : ℕ) → is_among m (take (suc i) places) ≡ false → message_at now m ≡ message_at start m
-    others m e = go (at == m) refl (is_among m (take i places)) refl (sym (among_more places i m within) ∙ e)
-      where
-        go : (b : Bool) → (at == m) ≡ b → (c : Bool) → is_among m (take i places) ≡ c → (c || b) ≡ false → message_at now m ≡ message_at start m
-        go b same true among e = absurd (false≢true (sym e))
-        go true same false among e = absurd (false≢true (sym e))
-        go false other false among e = ch.others m (λ same. false≢true (sym other ∙ eq-eqb at m (sym same))) ∙ f.first.others m among
+    others m e = grind (arith, nat_tests, among_more places i m within, eq-eqb at m)
 
 pub all_gone : (places : List ℕ) (i : ℕ) (old now : Store) → take i places ≡ places → ForgetsFirst places i old now → Forgets places old now
 all_gone places i old now whole f = subst (λ ms. Forgets ms old now) whole f.first

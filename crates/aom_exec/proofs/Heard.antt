@@ -1,4 +1,5 @@
 -- A command of a client as the machine hears it: from the parts that it leaves, with the line of a refusal.
+use Rattle.std.proofs.lemmas.Bool.Decides.{nat_tests}
 use Rattle.std.proofs.Common.{Bool, None, Option, Some, append-nil, ap, false, refl, subst, suc, sym, true, ℕ, ℤ, ◌++◌, ◌<◌, ◌≤◌, ◌∙◌, ◌∷◌, ◌≡◌, [], arith}
 use Rattle.std.specs.Prelude.{Err, IfSome, Ok, Result, length}
 use Rattle.aom_active.specs.Agrees.{Active, queued}
@@ -33,8 +34,7 @@ pub told_none : (c : ℕ) (told : Turn) (result : Result (Unit {0}) Refusal) (u 
 told_none c told result u is = ap (λ ls. record told { lines = ls }) (sym (append-nil told.lines) ∙ ap (λ r. told.lines ++ told_refusal c r) (sym is))
 
 pub told_one : (c : ℕ) (told now : Turn) (result : Result (Unit {0}) Refusal) (r : Refusal) (code : ℤ) → result ≡ Err r → code ≡ code_of r → now ≡ record told { lines = told.lines ++ Refuse c code ∷ [] } → now ≡ record told { lines = told.lines ++ told_refusal c result }
-told_one c told now result r code is coded wrote =
-    wrote ∙ ap (λ k. record told { lines = told.lines ++ Refuse c k ∷ [] }) coded ∙ ap (λ x. record told { lines = told.lines ++ told_refusal c x }) (sym is)
+told_one c told now result r code is coded wrote = grind (arith, nat_tests, told_refusal c)
 
 -- ---- the queue that is told of
 
@@ -50,8 +50,7 @@ sized_acts cells k new sized c Die asked before after result acts = sized_alike 
 
 -- the queue that is told of is one of them
 pub small_queue : (queue : Option ℕ) (many now : ℕ) → IfSome queue (λ n. n < many) → many ≤ 4096 → now ≡ many → IfSome queue (λ n. (n < 4096) × (n < now))
-small_queue None many now below few same = tt
-small_queue (Some n) many now below few same = (omega arith, omega arith)
+small_queue x many now below few same = grind arith
 
 -- no timer is another
 pub hears_timers : (p : Image) (m : Parts) → Stands (record { image = p; parts = m }) → (queue : Option ℕ) (k : kept.State) (new : Active) → NotesIf queue k m.active new → new.pending.timers ≡ m.active.pending.timers

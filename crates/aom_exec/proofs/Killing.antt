@@ -1,22 +1,20 @@
 -- A native is killed: cell by cell, what each has outstanding there is completed and its session is over, and the machine then stands for
 -- the state that the checked machine goes to.
+use Rattle.std.proofs.lemmas.Bool.Decides.{nat_tests}
 use Rattle.std.proofs.Common.{ap, arith, Bool, cond, false, List, None, Option, pos, refl, Some, subst, suc, sym, true, ℕ, ◌++◌, ◌+◌, ◌<◌, ◌==◌, ◌∙◌, ◌∷◌, ◌≡◌, []}
 use Rattle.std.specs.Prelude.{◌&&◌, ◌||◌, is_some, nat_lt, not}
 use Rattle.std.proofs.lemmas.Bool.{and_parts, eqb-false, eqb-true, false≢true}
-use Rattle.std.proofs.lemmas.Option.{none-some}
 use Rattle.std.specs.Prelude.{option_map}
-use Rattle.aom_image.specs.declared.method.Thing.{Thing}
 use Rattle.aom_shape.specs.Kinds.{is_object}
 use Rattle.aom_image.specs.Image.{Image}
-use Rattle.aom_cells.specs.Heap.{Heap, Lives, cell_at, class_at}
-use Rattle.aom_cells.specs.declared.cell.Cell.{Cell as Held_cell}
+use Rattle.aom_cells.specs.Heap.{Heap, Lives, class_at}
 use Rattle.aom_lines.specs.Turn.{Turn}
 use Rattle.aom_active.proofs.Cells.{asked_lives}
 use Rattle.aom_active.proofs.Asking.{queued_same}
 use Rattle.aom_active.proofs.Telling.{standing_follows}
 use Rattle.aom_active.specs.Agrees.{Active, StandsFor as Asks_for, queued, timer_in}
 use Rattle.aom_active.specs.Meanings.{Makes, asked_anew}
-use Rattle.aom_endings.specs.Owed.{serves, serves_object}
+use Rattle.aom_endings.specs.Owed.{serves}
 use Rattle.aom_sessions.specs.Sessions.{Sets, Standing, is_open}
 use Rattle.aom_shape.specs.Tables.{at}
 use Rattle.aom_sound.proofs.ClientsTurn.{fit_same, same_bereaved}
@@ -25,8 +23,8 @@ use Rattle.aom_sound.proofs.Orders.{comes_bereaved}
 use Rattle.aom_sound.proofs.Storing.{bereaved_alike}
 use Rattle.aom_sound.proofs.Turning.{bereaved_well}
 use Rattle.aom_sound.specs.Enlisted.{completed_with, is_unanswered, on_request}
-use Rattle.aom_sound.specs.Natives.{all_bereaved, bereaved, is_owed, is_served_by, terminated, terminated_request}
-use Rattle.aom_sound.specs.Places.{Cell, Object, Request, in_session, named, requested, word_field}
+use Rattle.aom_sound.specs.Natives.{all_bereaved, bereaved, is_owed, terminated, terminated_request}
+use Rattle.aom_sound.specs.Places.{Cell, Request, in_session, named, requested, word_field}
 use Rattle.aom_sound.specs.State.{Rest, State}
 use Rattle.aom_sound.specs.Tokens.{awaited}
 use Rattle.aom_tokens.specs.Tokens.{Kept as Kept_tokens}
@@ -36,7 +34,7 @@ use Rattle.aom_steps.proofs.Pushed.{reset_same}
 use Rattle.aom_transcript.specs.declared.line.Line.TheVariants.{Killed}
 use Rattle.aom_parts.specs.declared.parts.Parts.{Parts}
 use Rattle.aom_parts.specs.declared.progress.Progress.TheVariants.{Turned}
-use Rattle.aom_parts.specs.Agrees.{Agrees, SameCells, Shows, thing_in, thing_of, word_at}
+use Rattle.aom_parts.specs.Agrees.{Agrees, SameCells, Shows, thing_of, word_at}
 use Rattle.aom_parts.specs.Places.{value}
 use Rattle.aom_parts.specs.Progress.{progress_by}
 use Rattle.aom_exec.specs.Serving.{Bereaves, KeepsOthers, serves_class}
@@ -72,11 +70,7 @@ terminates old new id asked queues stands owed makes = go (asked id) refl owed
         subst (λ q. Asks_for new (asked_anew id q asked) queues) (sym (ap terminated_request e ∙ ap (λ b. cond b (Some (completed_with terminated r)) (Some r)) owed)) (makes.stands asked queues r stands e)
 
 pub spares : (a : Active) (id : ℕ) (asked : ℕ → Option Request) (queues : ℕ → Option Bool) → Asks_for a asked queues → is_owed (asked id) ≡ false → Asks_for a (asked_anew id (terminated_request (asked id)) asked) queues
-spares a id asked queues stands owed = standing_follows a asked (asked_anew id (terminated_request (asked id)) asked) queues queues (λ n. go n (id == n) refl) (λ n there. refl) stands
-  where
-    go : (n : ℕ) (b : Bool) → (id == n) ≡ b → asked n ≡ cond b (terminated_request (asked id)) (asked n)
-    go n true same = ap asked (sym (eqb-true id n same)) ∙ sym (ap (λ b. cond b (on_request (completed_with terminated) (asked id)) (asked id)) owed)
-    go n false other = refl
+spares a id asked queues stands owed = grind (arith, nat_tests, standing_follows a asked, eqb-true id)
 
 -- ---- the cells once a native is killed
 
@@ -86,24 +80,11 @@ module _ (p : Image) (native : ℕ) where
 
   request_after : (cs : List Cell) (id : ℕ) → requested (after cs) id ≡ cond (serves p cs native id) (terminated_request (requested cs id)) (requested cs id)
   request_after [] id = refl
-  request_after (c ∷ cs) id = go (c.object.name == id) (request_after cs id)
-    where
-      becomes : Bool → Option Request → Option Request
-      becomes b q = cond b (terminated_request q) q
-
-      go : (b : Bool) → requested (after cs) id ≡ becomes (serves p cs native id) (requested cs id) →
-          cond b (becomes (is_served_by p native c.object.thing) c.request) (requested (after cs) id) ≡ becomes (serves_object p native (cond b (Some c.object) (named cs id))) (cond b c.request (requested cs id))
-      go true rest = refl
-      go false rest = rest
+  request_after (c ∷ cs) id = grind (arith, nat_tests, request_after cs id)
 
   session_after : (cs : List Cell) (id : ℕ) → in_session (after cs) id ≡ (not (serves p cs native id) && in_session cs id)
   session_after [] id = refl
-  session_after (c ∷ cs) id = go (c.object.name == id) (session_after cs id)
-    where
-      go : (b : Bool) → in_session (after cs) id ≡ (not (serves p cs native id) && in_session cs id) →
-          cond b (not (is_served_by p native c.object.thing) && c.session) (in_session (after cs) id) ≡ (not (serves_object p native (cond b (Some c.object) (named cs id))) && cond b c.session (in_session cs id))
-      go true rest = refl
-      go false rest = rest
+  session_after (c ∷ cs) id = grind (arith, nat_tests, session_after cs id)
 
   words_after : (cs : List Cell) (id w : ℕ) → word_field (after cs) id w ≡ word_field cs id w
   words_after [] id w = refl
@@ -203,11 +184,7 @@ same_below : (k n : ℕ) → (k == n) ≡ false → nat_lt n (k + 1) ≡ nat_lt 
 same_below k n other = grind (arith)
 
 up_to_next : {A : Type 0} (k : ℕ) (now was : ℕ → A) (n : ℕ) → up_to (k + 1) now was n ≡ cond (k == n) (now n) (up_to k now was n)
-up_to_next k now was n = go (k == n) refl
-  where
-    go : (b : Bool) → (k == n) ≡ b → up_to (k + 1) now was n ≡ cond b (now n) (up_to k now was n)
-    go true same = ap (λ b. cond b (now n) (was n)) (is_below n (k + 1) (omega (arith, eqb-true k n same)))
-    go false other = ap (λ b. cond b (now n) (was n)) (same_below k n other)
+up_to_next k now was n = grind (arith, nat_tests, is_below n (k + 1), eqb-true k n, same_below k n)
 
 -- the cells below a number are bereaved
 pub record BereavesBelow (p : Image) (native k : ℕ) (old new : Parts) : Type 0 where
@@ -217,9 +194,7 @@ pub record BereavesBelow (p : Image) (native k : ℕ) (old new : Parts) : Type 0
 
 pub none_yet : (p : Image) (native : ℕ) (m : Parts) → BereavesBelow p native 0 m m
 none_yet p native m = record {
-  requests = λ s st.
-      standing_follows m.active (requested s.cells) (up_to 0 (requested (all_bereaved p native s.cells)) (requested s.cells)) (queued p s.cells) (queued p s.cells)
-      (λ n. ap (λ b. cond b (requested (all_bereaved p native s.cells) n) (requested s.cells n)) (sym (none_below n))) (λ n there. refl) st.agrees.requests.stands;
+  requests = grind (arith, nat_tests, standing_follows m.active, none_below);
   sessions = λ s st n. st.agrees.natives.sessions n ∙ ap (λ b. cond b (in_session (all_bereaved p native s.cells) n) (in_session s.cells n)) (sym (none_below n));
   others = record { numbers = refl; places = refl; killed = refl; rest = refl };
 }
@@ -239,40 +214,21 @@ module _ (p : Image) (native : ℕ) (old : Parts) (k : ℕ) (now : Parts) (so_fa
     own_request = ap (λ b. cond b (requested (all_bereaved p native s.cells) k) (requested s.cells k)) (not_below k)
 
     own_session : is_open now.sessions k ≡ in_session s.cells k
-    own_session = so_far.sessions s st k ∙ ap (λ b. cond b (in_session (all_bereaved p native s.cells) k) (in_session s.cells k)) (not_below k)
+    own_session = grind (arith, nat_tests, not_below k)
 
     something : (is_owed (asked k) || is_open now.sessions k) ≡ (is_owed (requested s.cells k) || in_session s.cells k)
     something = ap (λ q. is_owed q || is_open now.sessions k) own_request ∙ ap (λ b. is_owed (requested s.cells k) || b) own_session
 
     -- what the machine finds is whether the cell is hit
     hit_told : ((is_owed (asked k) || is_open now.sessions k) && serves_class p native (class_at now.cells k)) ≡ is_hit p native s.cells k
-    hit_told =
-        ap (λ b. b && serves_class p native (class_at now.cells k)) something
-        ∙ ap (λ b. (is_owed (requested s.cells k) || in_session s.cells k) && b) (ap (λ h. serves_class p native (class_at h k)) same_cells ∙ class_told p old s st native k)
+    hit_told = grind (arith, nat_tests, something, same_cells, class_told p old s st native k)
 
     -- what has anything lives
     something_lives : (is_owed (requested s.cells k) || in_session s.cells k) ≡ true → is_some (named s.cells k) ≡ true
-    something_lives e = go (named s.cells k) refl
-      where
-        no_request : (q : Option Request) → named s.cells k ≡ None → requested s.cells k ≡ q → is_owed q ≡ false
-        no_request None none f = refl
-        no_request (Some r) none f = absurd (false≢true (sym (ap is_some none) ∙ asked_lives s.cells k r f))
-
-        go : (o : Option Object) → named s.cells k ≡ o → is_some o ≡ true
-        go (Some o) f = refl
-        go None f = absurd (false≢true (sym (ap (λ b. b || in_session s.cells k) (no_request (requested s.cells k) f refl) ∙ session_unnamed s.cells k f) ∙ e))
+    something_lives e = grind (arith, nat_tests, asked_lives s.cells k, session_unnamed s.cells k)
 
     lives_here : (is_owed (asked k) || is_open now.sessions k) ≡ true → Lives now.cells k
-    lives_here e = go (cell_at now.cells k) (named s.cells k) refl (ap (λ h. thing_in (cell_at h k)) same_cells ∙ st.agrees.cells.things k) (something_lives (sym something ∙ e))
-      where
-        by_kind : (o : Object) → named s.cells k ≡ Some o → (b : Bool) → is_object o.thing ≡ b → None ≡ cond b (Some o.thing) None → is_some {T = Held_cell} None ≡ true
-        by_kind o there true is f = absurd (none-some _ f)
-        by_kind o there false is f = absurd (false≢true (sym (message_silent p old s st native k o there is) ∙ sym something ∙ e))
-
-        go : (c : Option Held_cell) (o : Option Object) → named s.cells k ≡ o → thing_in c ≡ thing_of o → is_some o ≡ true → is_some c ≡ true
-        go (Some c) o there f some = refl
-        go None None there f some = some
-        go None (Some o) there f some = by_kind o there (is_object o.thing) refl f
+    lives_here e = grind (arith, nat_tests, same_cells, something_lives, something, message_silent p old s st native k)
 
     coded_here : is_hit p native s.cells k ≡ true → is_unanswered (asked k) ≡ false
     coded_here hit = ap is_unanswered own_request ∙ coded p old s st native k (and_parts (is_owed (requested s.cells k) || in_session s.cells k) (serves p s.cells native k) hit).1
@@ -318,9 +274,13 @@ module _ (p : Image) (native : ℕ) (old : Parts) (k : ℕ) (now : Parts) (so_fa
     where
       open_next : (s : State) → StandsFor first s → (n : ℕ) (x : Bool) → (k == n) ≡ x →
           is_open new.sessions n ≡ cond x (in_session (all_bereaved p native s.cells) n) (up_to k (in_session (all_bereaved p native s.cells)) (in_session s.cells) n)
-      open_next s st n true same =
-          let is = eqb-true k n same in
-          ap (is_open new.sessions) (sym is) ∙ sets.here ∙ sym (hit_session p native s.cells k true (hit_in true hit s st)) ∙ ap (in_session (all_bereaved p native s.cells)) is
+      open_next s st n true same = grind (
+        arith,
+        nat_tests,
+        eqb-true k n same,
+        hit_session p native s.cells k true (hit_in true hit s st),
+        hit_in true hit s st,
+      )
       open_next s st n false other = sets.others n (λ e. eqb-false k n other (sym e)) ∙ so_far.sessions s st n
 
   -- the cell is not
@@ -332,11 +292,7 @@ module _ (p : Image) (native : ℕ) (old : Parts) (k : ℕ) (now : Parts) (so_fa
   }
     where
       same_request : (s : State) (st : StandsFor first s) (n : ℕ) → asked s st n ≡ asked_anew k (asked s st k) (asked s st) n
-      same_request s st n = go (k == n) refl
-        where
-          go : (x : Bool) → (k == n) ≡ x → asked s st n ≡ cond x (asked s st k) (asked s st n)
-          go true same = ap (asked s st) (sym (eqb-true k n same))
-          go false other = refl
+      same_request s st n = grind (arith, nat_tests, eqb-true k n)
 
       same_session : (s : State) → StandsFor first s → (n : ℕ) (x : Bool) → (k == n) ≡ x →
           up_to k (in_session (all_bereaved p native s.cells)) (in_session s.cells) n ≡ cond x (in_session (all_bereaved p native s.cells) n) (up_to k (in_session (all_bereaved p native s.cells)) (in_session s.cells) n)
@@ -358,24 +314,13 @@ module _ (p : Image) (native : ℕ) (old : Parts) (k : ℕ) (now : Parts) (so_fa
   }
     where
       unnamed : (s : State) → StandsFor first s → (n : ℕ) → nat_lt n k ≡ false → serves p s.cells native n ≡ false
-      unnamed s st n past = go (cell_at old.cells n) refl (named s.cells n) (st.agrees.cells.things n)
-        where
-          no_object : (b : Bool) (t : Thing) → ◌≡◌ {A = Option Thing} None (cond b (Some t) None) → b ≡ false
-          no_object true t f = absurd (none-some _ f)
-          no_object false t f = refl
-
-          go : (c : Option Held_cell) → cell_at old.cells n ≡ c → (o : Option Object) → thing_in c ≡ thing_of o → serves_object p native o ≡ false
-          go None e None f = refl
-          go None e (Some o) f = unserved_message p native o.thing (no_object (is_object o.thing) o.thing f)
-          go (Some c) e o f = let less = st.agrees.cells.below n c e in absurd (false≢true (sym past ∙ is_below n k (omega (arith, less, end))))
+      unnamed s st n past = grind (arith, nat_tests, unserved_message p native, is_below n k)
 
       request_of : (s : State) → StandsFor first s → (n : ℕ) (b : Bool) → nat_lt n k ≡ b → cond b (requested (all_bereaved p native s.cells) n) (requested s.cells n) ≡ requested (all_bereaved p native s.cells) n
-      request_of s st n true below = refl
-      request_of s st n false past = sym (request_after p native s.cells n ∙ ap (λ b. cond b (terminated_request (requested s.cells n)) (requested s.cells n)) (unnamed s st n past))
+      request_of s st n x below = grind (arith, nat_tests, request_after p native s.cells n, unnamed s st n)
 
       session_of : (s : State) → StandsFor first s → (n : ℕ) (b : Bool) → nat_lt n k ≡ b → cond b (in_session (all_bereaved p native s.cells) n) (in_session s.cells n) ≡ in_session (all_bereaved p native s.cells) n
-      session_of s st n true below = refl
-      session_of s st n false past = sym (session_after p native s.cells n ∙ ap (λ b. not b && in_session s.cells n) (unnamed s st n past))
+      session_of s st n x below = grind (arith, nat_tests, session_after p native s.cells n, unnamed s st n)
 
 -- ---- the turn
 
@@ -388,10 +333,7 @@ module _ (p : Image) (native : ℕ) (m b : Parts) (bereaves : Bereaves p native 
   killed_parts = record m { active = b.active; sessions = record b.sessions { killed = m.sessions.killed ++ native ∷ [] }; rest = record m.rest { delivered = suc m.rest.delivered } }
 
   pub killed_is : (w : Standing) (r : Rest) → w ≡ record b.sessions { killed = b.sessions.killed ++ native ∷ [] } → r ≡ record b.rest { delivered = suc b.rest.delivered } → record b { sessions = w; rest = r } ≡ killed_parts
-  killed_is w r sessions rest =
-      ap (λ (x : Parts). record x { sessions = w; rest = r }) bereaves.others.rest
-      ∙ ap (λ x. record m { active = b.active; sessions = x; rest = r }) (sessions ∙ ap (λ ks. record b.sessions { killed = ks ++ native ∷ [] }) bereaves.others.killed)
-      ∙ ap (λ x. record m { active = b.active; sessions = record b.sessions { killed = m.sessions.killed ++ native ∷ [] }; rest = x }) (rest ∙ ap (λ (x : Parts). record x.rest { delivered = suc x.rest.delivered }) bereaves.others.rest)
+  killed_is w r sessions rest = grind (arith, nat_tests, sessions)
 
   module _ (s : State) (st : StandsFor was s) where
     abbrev cs : List Cell

@@ -1,77 +1,52 @@
 -- What the schedule hears of the queue of one server: it stands for the requests again where messages alone came and went beside.
-use Rattle.std.proofs.Common.{ap, Bool, cond, false, inl, inr, List, map, None, Option, refl, Some, subst, sym, true, ℕ, ◌==◌, ◌∙◌, ◌∷◌, ◌≡◌, []}
+use Rattle.std.proofs.lemmas.Bool.Decides.{nat_tests}
+use Rattle.std.proofs.Common.{arith, ap, Bool, cond, false, List, None, Option, refl, Some, subst, sym, true, ℕ, ◌==◌, ◌∙◌, ◌≡◌}
 use Rattle.std.specs.Prelude.{is_some}
-use Rattle.std.proofs.lemmas.Bool.{eqb-true, false≢true, true≢false}
+use Rattle.std.proofs.lemmas.Bool.{eqb-true}
 use Rattle.aom_active.proofs.Telling.{standing_follows, told_server}
 use Rattle.aom_active.specs.Agrees.{Active, queue_in, queued}
 use Rattle.aom_active.specs.Meanings.{queued_anew}
 use Rattle.aom_clients.specs.Clients as kept
 use Rattle.aom_clients.specs.declared.client.Client.{Client}
-use Rattle.aom_clients.specs.declared.entry.Entry.{Entry}
 use Rattle.aom_image.specs.Image.{Image}
 use Rattle.aom_requests.specs.Requests.{is_server as is_kept_server, request_at}
 use Rattle.aom_sound.specs.Places.{Cell, Object, Request, Service, named, requested, service_of}
-use Rattle.aom_sound.specs.Servers.{has_more, is_server}
+use Rattle.aom_sound.specs.Servers.{has_more}
 use Rattle.aom_parts.proofs.Beside.{Beside, NamedBeside}
 use Rattle.aom_parts.specs.Agrees.{SameRequests}
-use Rattle.aom_parts.specs.Serving.{SameClients, asked_by}
+use Rattle.aom_parts.specs.Serving.{SameClients}
 use Rattle.aom_exec.specs.Servers.{NotesBy, is_queued}
 use Rattle.aom_active.proofs.Asking.{queue_same}
 
 -- whose queue it is does not hang on what waits there
 kind_alone : (p : Image) (o : Option Object) (v w : Service) → is_some (queue_in p o v) ≡ is_some (queue_in p o w)
-kind_alone p None v w = refl
-kind_alone p (Some o) v w = go (is_server p o.thing)
-  where
-    go : (b : Bool) → is_some (cond b (Some (has_more v.queue)) None) ≡ is_some (cond b (Some (has_more w.queue)) None)
-    go true = refl
-    go false = refl
+kind_alone p x v w = grind arith
 
 of_server : (p : Image) (o : Option Object) (v : Service) → is_some (queue_in p o v) ≡ true → queue_in p o v ≡ Some (has_more v.queue)
-of_server p None v e = absurd (false≢true e)
-of_server p (Some o) v e = go (is_server p o.thing) e
-  where
-    go : (b : Bool) → is_some (cond b (Some (has_more v.queue)) None) ≡ true → cond b (Some (has_more v.queue)) None ≡ Some (has_more v.queue)
-    go true e = refl
-    go false e = absurd (false≢true e)
+of_server p x v e = grind arith
 
 of_none : (x : Option Bool) → is_some x ≡ false → x ≡ None
-of_none None e = refl
-of_none (Some b) e = absurd (true≢false e)
+of_none x e = grind arith
 
 -- something waits on both sides
 pub waits_alike : (k : kept.State) (cs : List Cell) (clients : List Client) → SameClients k cs clients → (n : ℕ) → is_queued k n ≡ has_more (service_of cs n).queue
-waits_alike k cs clients same n = go (kept.queue_at k n) ∙ ap has_more (same.queues n)
-  where
-    go : (es : List Entry) → is_some (kept.first_entry k es) ≡ has_more (map (asked_by k.places) es)
-    go [] = refl
-    go (e ∷ es) = refl
+waits_alike k cs clients same n = grind (arith, nat_tests)
 
 module _ (p : Image) (old new : Active) (cs ds : List Cell) (b : Beside cs ds) (same : SameRequests p old cs) (j : ℕ) where
   -- one that is enlisted is the same
   there : (n : ℕ) → is_some (requested cs n) ≡ true → named ds n ≡ named cs n
-  there n asked = go (b.names n)
-    where
-      go : NamedBeside cs ds n → named ds n ≡ named cs n
-      go (inl e) = e
-      go (inr e) = absurd (false≢true (ap is_some (sym e.2) ∙ asked))
+  there n asked = grind (arith, nat_tests, NamedBeside cs ds n)
 
   request_of : (n : ℕ) → is_some (requested cs n) ≡ true → (r : Request) × (requested cs n ≡ Some r)
-  request_of n asked = go (requested cs n) refl asked
-    where
-      go : (q : Option Request) → requested cs n ≡ q → is_some q ≡ true → (r : Request) × (requested cs n ≡ Some r)
-      go None e some = absurd (false≢true some)
-      go (Some r) e some = (r, e)
+  request_of n asked = grind (arith, nat_tests)
 
   -- of that name the table tells whether it is a server
   told : (n : ℕ) → is_some (requested cs n) ≡ true → is_kept_server (request_at old.table n) ≡ is_some (queued p ds n)
-  told n asked =
-      let r = request_of n asked in
-      told_server old (requested cs) (queued p cs) same.stands n r.0 r.1 ∙ kind_alone p (named cs n) (service_of cs n) (service_of ds n) ∙ ap (λ o. is_some (queue_in p o (service_of ds n))) (sym (there n asked))
+  told n asked = grind (arith, nat_tests, request_of n asked, told_server old, kind_alone p, there n asked)
 
   module _ (elsewhere : (n : ℕ) → (j == n) ≡ false → (service_of ds n).queue ≡ (service_of cs n).queue) where
     others : (n : ℕ) → is_some (requested cs n) ≡ true → (j == n) ≡ false → queued p cs n ≡ queued p ds n
-    others n asked other = queue_same p (named cs n) (service_of cs n) (service_of ds n) (sym (elsewhere n other)) ∙ ap (λ o. queue_in p o (service_of ds n)) (sym (there n asked))
+    others n asked other = grind (arith, nat_tests, queue_same p, there n asked)
 
     pub noted_requests : (waits : Bool) → waits ≡ has_more (service_of ds j).queue → NotesBy (is_kept_server (request_at old.table j)) old new j waits → SameRequests p new ds
     noted_requests waits is notes = go (is_kept_server (request_at old.table j)) refl notes

@@ -1,16 +1,13 @@
 -- The machine stands for what the checked machine comes to by a command of a client.
-use Rattle.std.proofs.Common.{ap, arith, cond, false, None, Option, refl, Some, subst, suc, sym, true, ℕ, ◌<◌, ◌≤◌, ◌∙◌, ◌≡◌, []}
+use Rattle.std.proofs.lemmas.Bool.Decides.{nat_tests}
+use Rattle.std.proofs.Common.{ap, arith, false, None, Option, refl, Some, subst, suc, sym, true, ℕ, ◌<◌, ◌≤◌, ◌∙◌, ◌≡◌, []}
 use Rattle.std.proofs.lemmas.Bool.{eq-eqb, false≢true}
 use Rattle.std.proofs.lemmas.Option.{none-some, same_Some}
 use Rattle.aom_active.specs.Agrees.{Active}
-use Rattle.aom_cells.specs.Heap.{cell_at}
-use Rattle.aom_cells.specs.declared.cell.Cell.{Cell as Held_cell}
 use Rattle.aom_clients.specs.Clients as kept
 use Rattle.aom_image.specs.Image.{Image}
-use Rattle.aom_image.specs.declared.method.Thing.{Thing}
-use Rattle.aom_image.specs.declared.method.Thing.TheVariants.{Message, Object as An_object_of}
+use Rattle.aom_image.specs.declared.method.Thing.TheVariants.{Message}
 use Rattle.aom_messages.specs.Store.{Store}
-use Rattle.aom_shape.specs.Kinds.{is_object}
 use Rattle.aom_sound.proofs.ClientsCommand.{fit_commanded}
 use Rattle.aom_sound.proofs.ClientsFacts.{waiting_well}
 use Rattle.aom_sound.proofs.Obeying.{commanded_well}
@@ -33,7 +30,7 @@ use Rattle.aom_parts.proofs.Elsewhere.{SessionsSame, shows_again}
 use Rattle.aom_parts.proofs.Leaving.{beside_withdrawn, holds_withdrawn, told_withdrawn}
 use Rattle.aom_parts.proofs.Premises.{queue_empty}
 use Rattle.aom_parts.proofs.Told.{Told_alike, tokens_beside}
-use Rattle.aom_parts.specs.Agrees.{Agrees, SameRequests, Shows, thing_in, thing_of, word_at}
+use Rattle.aom_parts.specs.Agrees.{Agrees, SameRequests, Shows, word_at}
 use Rattle.aom_parts.specs.Messages.{SameMessages}
 use Rattle.aom_parts.specs.Places.{others, value}
 use Rattle.aom_parts.specs.Serving.{AreSized, SameClients}
@@ -76,15 +73,7 @@ module _ (p : Image) (m : Parts) (s : State) (st : StandsFor (record { image = p
 
   -- servers that live are among the cells that there may be
   pub servers_below : (o : Object) → named s.cells o.name ≡ Some o → is_server p o.thing ≡ true → o.name < p.header.cells
-  servers_below o lives serves = go (cell_at m.cells o.name) refl (st.agrees.cells.things o.name ∙ ap thing_of lives)
-    where
-      object : (t : Thing) → is_server p t ≡ true → is_object t ≡ true
-      object (An_object_of class) e = refl
-      object Message e = absurd (false≢true (sym (message_plain p Message refl) ∙ e))
-
-      go : (x : Option Held_cell) → cell_at m.cells o.name ≡ x → thing_in x ≡ thing_of (Some o) → o.name < p.header.cells
-      go None e same = absurd (none-some _ (same ∙ ap (λ b. cond b (Some o.thing) None) (object o.thing serves)))
-      go (Some x) e same = let low = st.agrees.cells.below o.name x e in omega (arith, low, st.agrees.cells.limit)
+  servers_below o lives serves = grind (arith, nat_tests, message_plain p Message)
 
   module _
       (command : Command) (name : ℕ) (free : named s.cells name ≡ None) (high : 4096 ≤ name) (k : kept.State) (store : Store) (a : Active) (clients : SameClients k (commanded p c v command name).cells (commanded p c v command name).clients)
@@ -141,8 +130,7 @@ module _ (p : Image) (m : Parts) (s : State) (st : StandsFor (record { image = p
     }
       where
         apart : (r : Place) → ((i j : ℕ) → r ≡ Elsewhere (Queued i j) → ⊥) → is_queue r ≡ false
-        apart (Elsewhere (Queued i j)) out = absurd (out i j refl)
-        apart _ out = refl
+        apart x out = grind arith
 
         values : (r : Place) → Shows (value new r) (word_at s.tasks r) (held then.cells r)
         values r = shows_again p st.typing there (others m) k m.stack.tasks m.cells m.entries.items s.cells s.tasks typed fit clients sessions (λ q out. commanded_holds p c v (λ i e. holds_withdrawn p st.typing st.sound.wired v typed_now st.kept.fit m.clients st.agrees.services.clients c i e) q (apart q out) command name) st.agrees.values r

@@ -1,5 +1,6 @@
 -- A command of a client: what clients are at, the messages that are kept and the schedule stand for what the checked machine comes to.
-use Rattle.std.proofs.Common.{ap, arith, Bool, false, length, List, None, Option, pos, refl, Some, subst, suc, sym, zero, ℕ, ℤ, ◌∙◌, ◌∷◌, ◌≡◌, slice_index_or, [], ◌<◌, ◌≤◌}
+use Rattle.std.proofs.lemmas.Bool.Decides.{nat_tests}
+use Rattle.std.proofs.Common.{ap, arith, Bool, length, List, None, Option, pos, refl, Some, subst, suc, sym, zero, ℕ, ℤ, ◌∙◌, ◌∷◌, ◌≡◌, slice_index_or, [], ◌<◌, ◌≤◌}
 use Rattle.std.specs.Prelude.{IfSome, is_some, option_map}
 use Rattle.std.proofs.lemmas.Bool.{false≢true}
 use Rattle.aom_clients.specs.Clients as kept
@@ -10,7 +11,7 @@ use Rattle.aom_clients.specs.declared.refusal.Refusal.{Refusal}
 use Rattle.aom_image.specs.Image.{Image}
 use Rattle.aom_messages.specs.Store.{Store, word_of, message_at}
 use Rattle.aom_shape.specs.Tables.{at}
-use Rattle.aom_sound.specs.Clients.{asked_server, client_at, commanded, leaving, refusal, room, sending}
+use Rattle.aom_sound.specs.Clients.{client_at, commanded, leaving, refusal, room, sending}
 use Rattle.aom_sound.specs.Places.{Cell, Message_of, named}
 use Rattle.aom_sound.specs.Servers.{asked_last, reserved, withdrawn}
 use Rattle.aom_sound.specs.State.{State}
@@ -20,11 +21,10 @@ use Rattle.aom_parts.proofs.Messages.{message_made, messages_served}
 use Rattle.aom_parts.specs.Messages.{SameMessages}
 use Rattle.aom_parts.specs.Serving.{SameClients, message_name, sessionless}
 use Rattle.aom_parts.proofs.Cells.{cell_small}
-use Rattle.aom_parts.specs.Agrees.{SameCells, thing_in}
+use Rattle.aom_parts.specs.Agrees.{SameCells}
 use Rattle.aom_exec.proofs.ByCommand.{by_connecting, by_told}
 use Rattle.aom_exec.specs.Clients.{Forgets, Keeps_sent, SameKept}
-use Rattle.aom_cells.specs.Heap.{Heap, cell_at}
-use Rattle.aom_cells.specs.declared.cell.Cell.{Cell as Held_cell}
+use Rattle.aom_cells.specs.Heap.{Heap}
 use Rattle.aom_acts.proofs.Running.{no_thing}
 
 -- ---- the name of what is sent
@@ -37,16 +37,10 @@ sent_name (Some m) = message_name m
 -- which is free where nothing is kept
 module _ (p : Image) (h : Heap) (store : Store) (cs : List Cell) (cells : SameCells p h cs) (few : p.header.cells ≤ 4096) (messages : SameMessages p store cs) where
   pub free_name : (m : ℕ) → message_at store m ≡ None → named cs (message_name m) ≡ None
-  free_name m none = no_thing (named cs (message_name m)) (sym (cells.things (message_name m)) ∙ no_cell (cell_at h (message_name m)) refl) (sym (messages.there m) ∙ ap is_some none)
-    where
-      -- no cell has such a number
-      no_cell : (x : Option Held_cell) → cell_at h (message_name m) ≡ x → thing_in x ≡ None
-      no_cell None e = refl
-      no_cell (Some c) e = let small = cell_small p h cs cells few (message_name m) c e in absurd (omega (arith, small))
+  free_name m none = grind (arith, nat_tests, no_thing, cell_small p h cs cells few)
 
   pub sent_free : (place : Option ℕ) → IfSome place (λ m. (m < 1024) × (message_at store m ≡ None)) → named cs (sent_name place) ≡ None
-  sent_free None free = free_name 1024 (messages.within 1024 (omega arith))
-  sent_free (Some m) free = free_name m free.1
+  sent_free x free = grind (arith, nat_tests, free_name 1024)
 
 -- ---- the messages
 
@@ -80,8 +74,7 @@ unrefused p c v r e = grind arith
 
 module _ (p : Image) (c : ℕ) (v : State) (k : kept.State) (same : SameClients k v.cells v.clients) (before after : Store) (messages : SameMessages p before v.cells) where
   pub messages_connect : (class slots name : ℕ) → after ≡ before → SameMessages p after (commanded p c v (Connect class slots) name).cells
-  messages_connect class slots name still = subst (λ s. SameMessages p s (commanded p c v (Connect class slots) name).cells) (sym still)
-      (by_connecting p c v (λ t. SameMessages p before t.cells) messages (refusal p c v (Connect class slots)) (asked_server p class v.cells) slots (λ x is. messages_served p before v.cells x.name _ messages))
+  messages_connect class slots name still = grind (arith, nat_tests, by_connecting p c v, messages_served p before v.cells)
 
   -- what is sent is kept, where it is not refused
   pub messages_send : (words : List ℤ) (place : Option ℕ) → IfSome place (λ m. (m < 1024) × (message_at before m ≡ None)) → kept.send_refusal c place k ≡ refusal p c v (Send words) → Keeps_sent (kept.send_refusal c place k) place words before after → SameMessages p after (commanded p c v (Send words) (sent_name place)).cells
@@ -109,12 +102,10 @@ module _ (p : Image) (c : ℕ) (v : State) (k : kept.State) (same : SameClients 
     messages_left None None e f = still_kept p before after v.cells (forgets_none before after f) messages
     messages_left None (Some x) e f = absurd (false≢true e)
     messages_left (Some x) None e f = absurd (false≢true (sym e))
-    messages_left (Some x) (Some y) e f =
-        by_told p c v (λ cs. SameMessages p after cs) (withdrawn c v.cells) (withdraws f) (client_at v.clients c) (λ server session slots at. messages_served p after (withdrawn c v.cells) server _ (withdraws f))
+    messages_left (Some x) (Some y) e f = grind (arith, nat_tests, by_told p c v, messages_served p after)
 
     some_alike : (x y : Option Client) → y ≡ option_map sessionless x → is_some x ≡ is_some y
-    some_alike None y e = ap is_some (sym e)
-    some_alike (Some x) y e = ap is_some (sym e)
+    some_alike x y e = grind arith
 
     pub messages_close : Forgets (kept.freed (row (kept.client_at k c)).close c k) before after → (name : ℕ) → SameMessages p after (commanded p c v Close name).cells
     messages_close f name = messages_left (row (kept.client_at k c)).close (row (client_at v.clients c)).close (some_alike _ _ (ap (λ x. (row x).close) (sym (same.at c)) ∙ row_close (kept.client_at k c))) f

@@ -1,5 +1,5 @@
 -- Each move keeps a dispatch within what is declared of it.
-use Rattle.std.proofs.Common.{ap, arith, Bool, cond, false, None, Option, refl, Some, true, ℕ, ◌∙◌, ◌≡◌}
+use Rattle.std.proofs.Common.{ap, arith, Bool, cond, false, None, Option, refl, true, ℕ, ◌∙◌, ◌≡◌}
 use Rattle.aom_image.specs.Image.{Image}
 use Rattle.aom_classes.specs.Linked.{IsLinked}
 use Rattle.aom_classes.specs.Roles.{main_of}
@@ -40,5 +40,4 @@ module _ (p : Image) (t : Typing) (c : Prices) (linked : IsLinked p) (typed : Is
   boots_within boot_within = record { within = omega (arith, (boot_within p c).within, affordable.declared, ap (λ x. declared_of p x) (by_main (main_of p))) }
     where
       by_main : (m : Option ℕ) → payer (main_tasks m) ≡ None
-      by_main None = refl
-      by_main (Some m) = refl
+      by_main x = grind arith

@@ -1,4 +1,5 @@
 -- A native is polled: what it completes is outstanding there, and the machine then stands for the state that the checked machine goes to.
+use Rattle.std.proofs.lemmas.Bool.Decides.{nat_tests}
 use Rattle.std.proofs.Common.{ap, cond, None, Option, refl, Some, subst, suc, sym, true, ℕ, ℤ, ◌∙◌, ◌≡◌, [], arith}
 use Rattle.std.specs.Prelude.{◌&&◌, IfSome, IsTrue, is_some}
 use Rattle.std.proofs.lemmas.Bool.{and_parts}
@@ -162,13 +163,7 @@ module _ (p : Image) (m : Parts) (native : ℕ) where
           Some (answer s st x.0 here x.1 a makes idle),
           (c.cell, c.at, c.name, refl),
           (c.cell, c.at, outstanding s st x.0 here x.1 a makes idle, fits),
-          λ told. record {
-            between = machine_between was s st turned_now;
-            state = then s st x.0 here x.1 a makes idle;
-            goes = goes s st x.0 here x.1 a makes idle;
-            lines = silent told;
-            stands = polled_stands s st x.0 here x.1 a makes idle;
-          },
+          grind (arith, nat_tests, machine_between, goes s st x.0 here x.1 a makes idle, silent, polled_stands s st x.0 here x.1 a makes idle),
         )
 
     -- and it stands for one again

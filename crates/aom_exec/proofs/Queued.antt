@@ -1,5 +1,6 @@
 -- What the machine needs to know of a server that it serves: by the state that it stands for, in which the dispatch goes on.
-use Rattle.std.proofs.Common.{List, None, Option, Some, [], ap, arith, cond, false, inl, inr, length, map, refl, subst, sym, true, ℕ, ◌<◌, ◌≤◌, ◌∙◌, ◌∷◌, ◌≡◌, ◌⊎◌}
+use Rattle.std.proofs.lemmas.Bool.Decides.{nat_tests}
+use Rattle.std.proofs.Common.{List, None, Option, Some, [], ap, arith, false, length, map, refl, subst, sym, true, ℕ, ◌<◌, ◌∙◌, ◌∷◌, ◌≡◌}
 use Rattle.std.specs.List.{list_any}
 use Rattle.std.specs.Prelude.{IfSome, IsSome, is_some, ◌||◌}
 use Rattle.std.proofs.lemmas.Bool.{cases_lt, eq-eqb, false≢true}
@@ -10,13 +11,13 @@ use Rattle.aom_cells.specs.Heap.{cell_at, class_of}
 use Rattle.aom_cells.specs.declared.cell.Cell.{Cell as Held_cell}
 use Rattle.aom_classes.specs.Roles.{role_of}
 use Rattle.aom_clients.specs.Clients as kept
-use Rattle.aom_clients.specs.Table.{is_queued, sender, session_of}
+use Rattle.aom_clients.specs.Table.{sender}
 use Rattle.aom_clients.specs.declared.entry.Entry.{Entry}
 use Rattle.aom_clients.specs.declared.entry.Entry.TheVariants.{Close, Connect, Message}
 use Rattle.aom_clients.specs.declared.entry.Taken.{Taken}
 use Rattle.aom_clients.specs.declared.place.Place.TheVariants.{Free}
 use Rattle.aom_image.specs.Image.{Image}
-use Rattle.aom_image.specs.declared.method.Role.TheVariants.{Accept as Accepts_role, Run as Handles, Service as Attends_role}
+use Rattle.aom_image.specs.declared.method.Role.TheVariants.{Accept as Accepts_role, Service as Attends_role}
 use Rattle.aom_image.specs.declared.method.Thing.{Thing}
 use Rattle.aom_image.specs.declared.method.Thing.TheVariants.{Object as An_object_of}
 use Rattle.aom_messages.specs.Store.{IsKept}
@@ -30,7 +31,7 @@ use Rattle.aom_sound.specs.Places.{Elsewhere, Object, Session, held, named, serv
 use Rattle.aom_sound.specs.Servers.{is_server}
 use Rattle.aom_sound.specs.State.{Seat, State}
 use Rattle.aom_sound.specs.WellTyped.{Keeps}
-use Rattle.aom_sound.specs.World.{accepting, attended, dispatched, parting_with, picked, serves_first, taken_from}
+use Rattle.aom_sound.specs.World.{attended, parting_with, picked, serves_first, taken_from}
 use Rattle.aom_parts.specs.declared.parts.Parts.{Parts as Machine_parts}
 use Rattle.aom_parts.specs.Agrees.{number, thing_in}
 use Rattle.aom_parts.specs.Serving.{SameClients, asked_by, message_name}
@@ -87,9 +88,7 @@ module _ (p : Image) (m : Machine_parts) (s : State) (st : StandsFor (record { i
 
     -- so it goes on, whatever waits first
     pub first_keeps : (es : List Entry) → queue ≡ es → Keeps p st.typing (serves_first p x (map (asked_by m.clients.places) es) s)
-    first_keeps es at =
-        subst (λ q. Keeps p st.typing (serves_first p x q s)) (queue_so es at)
-        (subst (λ b. Keeps p st.typing (cond b (serves_first p x (service_of s.cells n).queue s) (dispatched (part_of p Handles x.object.thing) x s))) serves keeps)
+    first_keeps es at = grind (arith, nat_tests, queue_so es at)
 
     -- what waits first fits its client
     pub first_fits : (e : Entry) (es : List Entry) → queue ≡ e ∷ es → EntryFits s.clients n (asked_by m.clients.places e)
@@ -102,14 +101,15 @@ module _ (p : Image) (m : Machine_parts) (s : State) (st : StandsFor (record { i
     -- a message that waits there is kept, at one of the places that there are
     module _ (j : ℕ) (es : List Entry) (at : queue ≡ Message j ∷ es) where
       pub place_there : j < 1024
-      place_there = go (cases_lt j 1024)
-        where
-          waits : is_queued (kept.place_at m.clients j) ≡ true
-          waits = (subst (λ q. AllWait m.clients.places q) at (messages_wait p st.typing st.sound.wired s st.typed s.clients st.kept.fit m.clients same n)).0
-
-          go : (j < 1024) ⊎ (1024 ≤ j) → j < 1024
-          go (inl small) = small
-          go (inr large) = absurd (false≢true (ap is_queued (sym (get_or_past m.clients.places j Free (subst (λ i. i ≤ j) (sym st.agrees.services.sized.places) large))) ∙ waits))
+      place_there = grind (
+        arith,
+        nat_tests,
+        cases_lt j 1024,
+        AllWait m.clients.places,
+        messages_wait p st.typing st.sound.wired s st.typed s.clients st.kept.fit m.clients same,
+        same,
+        get_or_past m.clients.places j Free,
+      )
 
       pub message_there : IsKept m.messages j
       message_there =
@@ -125,10 +125,7 @@ module _ (p : Image) (m : Machine_parts) (s : State) (st : StandsFor (record { i
     -- ---- what serves it is there
 
     pub accept_there : (c : ℕ) (es : List Entry) → queue ≡ Connect c ∷ es → (class : ℕ) → x.object.thing ≡ An_object_of class → IsSome (role_of p class Accepts_role)
-    accept_there c es at class thing = go (part_of p Accepts_role x.object.thing) refl (first_keeps (Connect c ∷ es) at)
-      where
-        go : (r : Option ℕ) → part_of p Accepts_role x.object.thing ≡ r → Keeps p st.typing (accepting r x c (taken_from n s)) → IsSome (role_of p class Accepts_role)
-        go x e k = grind arith
+    accept_there c es at class thing = grind (arith, nat_tests, first_keeps (Connect c ∷ es) at)
 
     -- the session of the client, and its method
     pub attend_there :
@@ -196,28 +193,8 @@ module _ (p : Image) (m : Machine_parts) (s : State) (st : StandsFor (record { i
 
 -- no client is at anything else
 pub client_same : (m : Machine_parts) (n : ℕ) (e : Entry) (es : List Entry) → kept.queue_at m.clients n ≡ e ∷ es → (c : ℕ) → kept.client_at (kept.after_next n m.clients) c ≡ kept.client_at m.clients c
-client_same m n e es at c = ap (λ q. kept.client_at (kept.taken n q m.clients) c) at ∙ by e
-  where
-    by : (e : Entry) → kept.client_at (kept.taking e (kept.with_queue n es m.clients)) c ≡ kept.client_at m.clients c
-    by (Connect i) = refl
-    by (Message i) = refl
-    by (Close i) = refl
+client_same m n e es at c = grind (arith, nat_tests)
 
 -- and what serves it is there still
 pub take_again : (p : Image) (m : Machine_parts) (n : ℕ) (active : Active) (can : HasCaller p m n) (t : Taken) → kept.first_entry m.clients (kept.queue_at m.clients n) ≡ Some t → CanTake p can.class t.client t.entry (machine_taken n active m)
-take_again p m n active can t waits = go (kept.queue_at m.clients n) refl
-  where
-    session_again : (e : Entry) (es : List Entry) → kept.queue_at m.clients n ≡ e ∷ es → (c session kind : ℕ) → HasSession m c session kind → HasSession (machine_taken n active m) c session kind
-    session_again e es at c session kind has = record { one = has.one; named = ap session_of (client_same m n e es at c) ∙ has.named; lives = record { is = has.lives.is; small = has.lives.small } }
-
-    by : (e : Entry) (es : List Entry) → kept.queue_at m.clients n ≡ e ∷ es → CanTake p can.class (kept.taken_entry m.clients e).client (kept.taken_entry m.clients e).entry m → CanTake p can.class (kept.taken_entry m.clients e).client (kept.taken_entry m.clients e).entry (machine_taken n active m)
-    by (Connect c) es at has = has
-    by (Message j) es at has = (has.0, has.1, (has.2.0, has.2.1, session_again (Message j) es at (sender (kept.place_at m.clients j)) has.2.0 has.2.1 has.2.2, has.2.3))
-    by (Close c) es at has = (has.0, has.1, session_again (Close c) es at c has.0 has.1 has.2)
-
-    go : (es : List Entry) → kept.queue_at m.clients n ≡ es → CanTake p can.class t.client t.entry (machine_taken n active m)
-    go [] at = absurd (none-some t (sym (ap (kept.first_entry m.clients) at) ∙ waits))
-    go (e ∷ es) at =
-        let same : kept.taken_entry m.clients e ≡ t = same_Some (kept.taken_entry m.clients e) t (sym (ap (kept.first_entry m.clients) at) ∙ waits) in
-        let first : can.first ≡ kept.taken_entry m.clients e = same_Some can.first (kept.taken_entry m.clients e) (sym can.waits ∙ waits ∙ ap Some (sym same)) in
-        subst (λ y. CanTake p can.class y.client y.entry (machine_taken n active m)) same (by e es at (subst (λ y. CanTake p can.class y.client y.entry m) first can.can))
+take_again p m n active can t waits = grind (arith, nat_tests, client_same m n, same, same_Some can.first)

@@ -1,34 +1,32 @@
 -- The machine's rank is that of the states that it stands for, and each move lowers that.
-use Rattle.std.proofs.Common.{zero, suc, ◌≡◌, ℕ, ◌<◌, ◌+◌, ◌-◌, ◌*◌, length, List, [], ◌∷◌, Option, Some, None, Bool, true, false, cond, ◌==◌, inl, inr, ⊎_elim, slice_index_or, refl, sym, subst, ap, ◌∙◌, arith}
+use Rattle.std.proofs.lemmas.Bool.Decides.{nat_tests}
+use Rattle.std.proofs.Common.{zero, suc, ◌≡◌, ℕ, ◌<◌, ◌+◌, ◌*◌, length, List, [], ◌∷◌, Option, Bool, cond, ◌==◌, inl, inr, slice_index_or, refl, ap, ◌∙◌, arith}
 use Rattle.std.specs.Prelude.{map, ◌⊎◌}
-use Rattle.std.proofs.lemmas.Option.{none-some}
 use Rattle.aom_image.specs.Image.{Image}
 use Rattle.aom_image.specs.Views.{method_at}
 use Rattle.aom_image.specs.declared.method.Method.{Method}
-use Rattle.aom_cells.specs.Heap.{count, null}
+use Rattle.aom_cells.specs.Heap.{null}
 use Rattle.aom_shape.specs.Tables.{at}
 use Rattle.aom_rules.specs.Typing.{Typing}
-use Rattle.aom_sound.specs.State.{Closing, Dispatch, Frame, Task, Trapped, Destroy, Unwind, Dispatched, Item, State, next}
+use Rattle.aom_sound.specs.State.{Closing, Dispatch, Frame, Task, Trapped, Destroy, Unwind, Dispatched, Item, State}
 use Rattle.aom_sound.specs.WellTyped.{WellTyped}
 use Rattle.aom_frames.specs.declared.frame.Frame.{Frame as Held_frame}
 use Rattle.aom_frames.specs.declared.task.Task.{Task as Held_task}
 use Rattle.aom_frames.specs.declared.task.Task.TheVariants.{Trapped as Is_trap, Closing as Closes, Destroy as Destroys, Unwind as Unwinds, Dispatched as Ends}
 use Rattle.aom_cleanup.specs.declared.item.Item.{Item as Held_item}
-use Rattle.aom_steps.specs.Within.{rounds_weight, weight}
 use Rattle.aom_steps.specs.Worths.{over_worth}
-use Rattle.aom_steps.specs.Ranks.{closing_rank, price, rank_worths, left_in, end_rank, waiting_rank, tasks_rank, standing, destructions, operations, cell_rank, rank}
+use Rattle.aom_steps.specs.Ranks.{closing_rank, price, rank_worths, left_in, end_rank, waiting_rank, tasks_rank, destructions, operations, rank}
 use Rattle.aom_steps.proofs.Goings.{cells_stand_or_go}
 use Rattle.aom_steps.proofs.Ranking.{moves_lower_ranks}
 use Rattle.aom_steps.proofs.Rounds.{worth_alike}
 use Rattle.aom_sound.proofs.Maps.{held_lives}
-use Rattle.aom_sound.specs.Places.{Elsewhere, Going, Place, Root, named}
-use Rattle.aom_parts.specs.Agrees.{SameDispatch, Shows, dispatch_of, SameFrame, SameTasks, SameItems, Agrees, heard_by}
-use Rattle.aom_parts.specs.Places.{going_in, going_of, value}
+use Rattle.aom_sound.specs.Places.{Elsewhere, Going, Place, Root}
+use Rattle.aom_parts.specs.Agrees.{SameDispatch, dispatch_of, SameFrame, SameTasks, SameItems, Agrees, heard_by}
+use Rattle.aom_parts.specs.Places.{going_in, going_of}
 use Rattle.aom_acts.proofs.Running.{null_unnamed, object_there}
 use Rattle.aom_steps.specs.RankLaws.{GoesNoMessage}
 use Rattle.aom_parts.specs.declared.parts.Parts.{Parts}
 use Rattle.aom_frames.specs.declared.dispatch.Dispatch.{Dispatch as Held_dispatch}
-use Rattle.aom_frames.specs.declared.dispatch.Dispatch.TheVariants.{Answered as One_answered, Asks as One_asks, Main, MainLeft, Object as Of_one, ObjectLeft as One_left, Root as End_of_run, Server as One_served}
 use Rattle.aom_exec.specs.Ranks.{ranked, operations_in, rank_in}
 use Rattle.aom_parts.specs.Stands.{Sound}
 use Rattle.aom_acts.specs.Moves.{Moved}
@@ -44,27 +42,16 @@ at_index none (x ∷ xs) zero = refl
 at_index none (x ∷ xs) (suc i) = at_index none xs i
 
 left_alike : (cs ds : List ℕ) → ((i : ℕ) → at 0 cs i ≡ at 0 ds i) → (o : Option Method) (place : ℕ) → left_in o cs place ≡ left_in o ds place
-left_alike cs ds alike None place = refl
-left_alike cs ds alike (Some m) place = ap (λ k. weight m.code place + k) (worth_alike m.code (rounds_weight m.code) cs ds alike place)
+left_alike cs ds alike x place = grind (arith, nat_tests, worth_alike)
 
 -- ---- tasks that stand for each other have the same rank
 
 frame_alike : (p : Image) (f : Held_frame) (fr : Frame) (to to' : ℕ) → SameFrame f fr → to ≡ to' → left_in (method_at p f.method) f.counters to * price p f.method ≡ left_in (method_at p fr.method) fr.counters to' * price p fr.method
-frame_alike p f fr to to' same there =
-    ap (λ k. left_in (method_at p k) f.counters to * price p k) same.method
-    ∙ ap (λ k. left_in (method_at p fr.method) f.counters k * price p fr.method) there
-    ∙ ap (λ k. k * price p fr.method) (left_alike f.counters fr.counters (λ i. at_index 0 f.counters i ∙ same.counters i) (method_at p fr.method) to')
+frame_alike p f fr to to' same there = grind (arith, nat_tests, left_alike f.counters fr.counters, at_index 0 f.counters)
 
 -- where an object sits its rank does not tell
 placed_alike : (p : Image) (q r : Place) (x : Held_dispatch) → end_rank p (dispatch_of q x) ≡ end_rank p (dispatch_of r x)
-placed_alike p q r Main = refl
-placed_alike p q r (MainLeft code) = refl
-placed_alike p q r End_of_run = refl
-placed_alike p q r (Of_one x) = refl
-placed_alike p q r (One_left x code) = refl
-placed_alike p q r (One_asks x) = refl
-placed_alike p q r (One_answered x answer) = refl
-placed_alike p q r (One_served x client stage) = refl
+placed_alike p q r x = grind arith
 
 end_alike : (p : Image) (x : Held_dispatch) (d : Dispatch) → SameDispatch x d → end_rank p (dispatch_of (Elsewhere Root) x) ≡ end_rank p d
 end_alike p x d same = placed_alike p (Elsewhere Root) same.0 x ∙ ap (end_rank p) same.1
@@ -87,11 +74,12 @@ runs_alike :
     waiting_rank p (map ranked ms) ≡ waiting_rank p us →
     left_in (method_at p f.method) f.counters place * price p f.method + (over_worth (rank_worths p) f.method (map ranked ms) + waiting_rank p (map ranked ms))
     ≡ left_in (method_at p fr.method) fr.counters place' * price p fr.method + (over_worth (rank_worths p) fr.method us + waiting_rank p us)
-runs_alike p f fr place place' ms us same there below waits =
-    ap (λ k. k + (over_worth (rank_worths p) f.method (map ranked ms) + waiting_rank p (map ranked ms))) (frame_alike p f fr place place' same there)
-    ∙ ap (λ k. left_in (method_at p fr.method) fr.counters place' * price p fr.method + (k + waiting_rank p (map ranked ms)))
-    (ap (λ j. over_worth (rank_worths p) j (map ranked ms)) same.method ∙ over_alike p fr.method ms us below)
-    ∙ ap (λ k. left_in (method_at p fr.method) fr.counters place' * price p fr.method + (over_worth (rank_worths p) fr.method us + k)) waits
+runs_alike p f fr place place' ms us same there below waits = grind (
+  arith,
+  nat_tests,
+  frame_alike p f fr place place' same there,
+  over_alike p fr.method ms us below,
+)
 
 waits_alike : (p : Image) (ms : List Held_task) (us : List Task) → SameTasks ms us → waiting_rank p (map ranked ms) ≡ waiting_rank p us
 waits_alike p = by_tasks (λ ms us. waiting_rank p (map ranked ms) ≡ waiting_rank p us) refl (λ m u ms us same rest e.
@@ -136,8 +124,7 @@ abbrev IsSmall : ℕ → Type 0
 IsSmall n = (n ≡ null) ⊎ (n < 4096)
 
 either_small : (b : Bool) (x y : ℕ) → IsSmall x → IsSmall y → IsSmall (cond b x y)
-either_small true x y small other = small
-either_small false x y small other = other
+either_small x y z small other = grind arith
 
 goes_small : (ms : List Held_task) (us : List Task) → SameTasks ms us → (k : ℕ) → IsSmall (going_in ms k)
 goes_small = by_tasks (λ ms us. (k : ℕ) → IsSmall (going_in ms k)) (λ k. inl refl) (λ m u ms us same _ e k.
@@ -153,23 +140,26 @@ goes_small = by_tasks (λ ms us. (k : ℕ) → IsSmall (going_in ms k)) (λ k. i
 
 -- so it is no message
 goes_no_message : (p : Image) (t : Typing) (m : Parts) (s : State) → WellTyped p t s → Agrees p m s → GoesNoMessage s.cells
-goes_no_message p t m s typed agrees k o there =
-    let lives = held_lives s.cells (Going k) o typed.good.tidy there in
-    let shown : value m (Going k) ≡ o.name = subst (λ x. Shows (value m (Going k)) None x) there (agrees.values (Going k)) in
-    ⊎_elim (λ is. absurd (none-some o (sym (null_unnamed p m s agrees) ∙ ap (named s.cells) (sym is ∙ shown) ∙ lives)))
-    (λ small. object_there p m s agrees o lives (subst (λ n. n < 4096) shown small)) (goes_small m.stack.tasks s.tasks agrees.tasks k)
+goes_no_message p t m s typed agrees k o there = grind (
+  arith,
+  nat_tests,
+  held_lives s.cells (Going k) o typed.good.tidy there,
+  null_unnamed p m s agrees,
+  object_there p m s agrees o,
+  goes_small m.stack.tasks s.tasks agrees.tasks k,
+)
 
 -- the machine's rank is its state's
 pub same_rank : (p : Image) (t : Typing) (m : Parts) (s : State) → WellTyped p t s → Agrees p m s → rank_in p m ≡ rank p s
-same_rank p t m s typed agrees =
-    let gone = destructions_alike m.stack.tasks s.tasks agrees.tasks in
-    let cells = agrees.cells.count in
-    let all = cells_stand_or_go p t s typed (goes_no_message p t m s typed agrees) in
-    let stand : count m.cells - destructions (map ranked m.stack.tasks) ≡ standing s.cells = omega (arith, gone, cells, all) in
-    let run = operations_alike m.entries.items s.items agrees.entries in
-    ap (λ k. k + ((count m.cells - destructions (map ranked m.stack.tasks)) + operations_in m.entries.items) * cell_rank p) (tasks_alike p m.stack.tasks s.tasks agrees.tasks)
-    ∙ ap (λ k. tasks_rank p s.tasks + (k + operations_in m.entries.items) * cell_rank p) stand
-    ∙ ap (λ k. tasks_rank p s.tasks + (standing s.cells + k) * cell_rank p) run
+same_rank p t m s typed agrees = grind (
+  arith,
+  nat_tests,
+  destructions_alike m.stack.tasks s.tasks agrees.tasks,
+  cells_stand_or_go p t s typed (goes_no_message p t m s typed agrees),
+  goes_no_message p t m s typed agrees,
+  operations_alike m.entries.items s.items agrees.entries,
+  tasks_alike p m.stack.tasks s.tasks agrees.tasks,
+)
 
 -- ---- a move
 
@@ -178,8 +168,11 @@ busy_state ms us same busy = cons_given (λ vs. 0 < length vs) us (let even = sa
 
 pub moved_falls : (p : Image) (t : Typing) (refused : List ℕ) (m new : Parts) (s : State) → Sound p t → WellTyped p t s → Agrees p m s → Moved p refused (heard_by m) t s new → 0 < length m.stack.tasks
     → rank_in p new < rank_in p m
-moved_falls p t refused m new s sound typed agrees moved busy =
-    let before = same_rank p t m s typed agrees in
-    let after = same_rank p t new moved.state moved.typed moved.agrees in
-    let lower = moves_lower_ranks p t sound.linked sound.typed moved.choice s moved.state typed (busy_state m.stack.tasks s.tasks agrees.tasks busy) moved.goes in
-    rw (before, after) lower
+moved_falls p t refused m new s sound typed agrees moved busy = grind (
+  arith,
+  nat_tests,
+  same_rank p t m s typed agrees,
+  same_rank p t new moved.state moved.typed moved.agrees,
+  moves_lower_ranks p t sound.linked sound.typed moved.choice s moved.state typed (busy_state m.stack.tasks s.tasks agrees.tasks busy) moved.goes,
+  busy_state m.stack.tasks s.tasks agrees.tasks busy,
+)

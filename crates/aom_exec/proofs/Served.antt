@@ -1,26 +1,21 @@
 -- What is known of a cell that a native serves: its place, and its request, which has no timer.
+use Rattle.std.proofs.lemmas.Bool.Decides.{nat_tests}
 use Rattle.std.proofs.Common.{ap, arith, Bool, cond, false, List, None, Option, refl, Some, subst, suc, sym, true, zero, ℕ, ◌==◌, ◌∙◌, ◌∷◌, ◌≡◌, []}
 use Rattle.std.specs.Prelude.{◌&&◌, ◌||◌, ◌≤◌, is_none, is_some, nat_lt, not}
-use Rattle.std.specs.Ordering.{int_eq}
 use Rattle.std.proofs.lemmas.Bool.{eqb-true, false≢true, ltb-false, ltb-true}
 use Rattle.std.proofs.lemmas.List.{get_or_past}
-use Rattle.std.proofs.lemmas.Option.{none-some}
 use Rattle.aom_image.specs.Image.{Image}
 use Rattle.aom_image.specs.declared.class.ClassKind.{ClassKind}
 use Rattle.aom_image.specs.declared.method.Thing.{Thing}
-use Rattle.aom_image.specs.declared.method.Thing.TheVariants.{Object as An_object_of}
 use Rattle.aom_roles.specs.Shapes.{kind_of}
 use Rattle.aom_shape.specs.Kinds.{is_object}
 use Rattle.aom_sound.proofs.Maps.{named_name}
-use Rattle.aom_cells.specs.Heap.{cell_at, class_at, class_of}
-use Rattle.aom_cells.specs.declared.cell.Cell.{Cell as Held_cell}
-use Rattle.aom_requests.specs.Requests.{is_pending, request_at}
-use Rattle.aom_requests.specs.declared.request.Request.{Request as Held_request}
-use Rattle.aom_requests.specs.declared.request.Request.TheVariants.{Object as Held_object}
-use Rattle.aom_active.specs.Agrees.{Tells, phase_of, queued, timer_in}
+use Rattle.aom_cells.specs.Heap.{class_at}
+use Rattle.aom_requests.specs.Requests.{request_at}
+use Rattle.aom_active.specs.Agrees.{timer_in}
 use Rattle.aom_endings.proofs.Cells.{native_served}
-use Rattle.aom_endings.specs.Owed.{owes, serves, serves_object}
-use Rattle.aom_sound.specs.Enlisted.{is_aborted, is_idle, is_unanswered, pending, thing_kind}
+use Rattle.aom_endings.specs.Owed.{owes, serves}
+use Rattle.aom_sound.specs.Enlisted.{is_unanswered, thing_kind}
 use Rattle.aom_sound.specs.Natives.{is_owed, is_served_by, native_of}
 use Rattle.aom_sound.specs.Places.{Cell, Object, Request, Timer, in_session, named, requested}
 use Rattle.aom_sound.specs.Requests.{Known, Suits, states_claim}
@@ -29,7 +24,6 @@ use Rattle.aom_sound.specs.Tokens.{awaited}
 use Rattle.aom_sound.specs.World.{cell_at as standing_at}
 use Rattle.aom_parts.proofs.Owed.{held_owed, told_alike}
 use Rattle.aom_parts.specs.declared.parts.Parts.{Parts}
-use Rattle.aom_parts.specs.Agrees.{thing_in, thing_of}
 use Rattle.aom_parts.specs.Messages.{is_a_message}
 use Rattle.aom_exec.specs.Serving.{serves_class}
 use Rattle.aom_parts.specs.Stands.{StandsFor}
@@ -93,13 +87,11 @@ ticks_untold k known q suits runs = grind (arith, no_order)
 -- the objects of a class are served by the one native that does
 pub served_class : (p : Image) (native n : ℕ) (class : Option ℕ) → native_of (kind_of p class) ≡ Some n → (n == native) ≡ serves_class p native class
 unfolding kind_of
-served_class p native n None e = absurd (none-some n e)
-served_class p native n (Some class) e = rw e refl
+served_class p native n x e = grind arith
 
 pub unserved_class : (p : Image) (native : ℕ) (class : Option ℕ) → native_of (kind_of p class) ≡ None → serves_class p native class ≡ false
 unfolding kind_of
-unserved_class p native None e = refl
-unserved_class p native (Some class) e = rw e refl
+unserved_class p native x e = grind arith
 
 -- a message is served by no native, and has no request
 pub unserved_message : (p : Image) (native : ℕ) (t : Thing) → is_object t ≡ false → is_served_by p native t ≡ false
@@ -117,22 +109,13 @@ served_object p native t served = grind arith
 
 module _ (p : Image) (m : Parts) (s : State) (st : StandsFor (record { image = p; parts = m }) s) (native id : ℕ) where
   lives_served : serves p s.cells native id ≡ true → is_some (named s.cells id) ≡ true
-  lives_served served = go (named s.cells id) served
-    where
-      go : (o : Option Object) → serves_object p native o ≡ true → is_some o ≡ true
-      go x e = grind arith
+  lives_served served = grind (arith, nat_tests)
 
   pub its_place : serves p s.cells native id ≡ true → Placed s.cells id
   its_place served = placed s.cells id (lives_served served)
 
   answered : serves p s.cells native id ≡ true → Answered (requested s.cells id)
-  answered served =
-      let c = its_place served in
-      let o = c.cell.object in
-      let thing : is_served_by p native o.thing ≡ true = sym (ap (serves_object p native) c.lives) ∙ served in
-      let suits : Suits (thing_kind p o.thing) (states_claim p o st.typed.layers) (requested s.cells id) =
-      subst (λ n. Suits (thing_kind p o.thing) (states_claim p o st.typed.layers) (requested s.cells n)) c.name (st.typed.good.suits o (ap (named s.cells) c.name ∙ c.lives)) in
-      answered_by (thing_kind p o.thing) native (states_claim p o st.typed.layers) (requested s.cells id) (native_served p native o.thing thing) suits
+  answered served = grind (arith, nat_tests, its_place served, answered_by, native_served p native)
 
   pub coded : serves p s.cells native id ≡ true → is_unanswered (requested s.cells id) ≡ false
   coded served = (answered served).code
@@ -145,20 +128,7 @@ module _ (p : Image) (m : Parts) (s : State) (st : StandsFor (record { image = p
 
   -- the machine finds its class
   pub class_told : serves_class p native (class_at m.cells id) ≡ serves p s.cells native id
-  class_told = go (cell_at m.cells id) (named s.cells id) (st.agrees.cells.things id)
-    where
-      by_none : (b : Bool) (t : Thing) → ◌≡◌ {A = Option Thing} None (cond b (Some t) None) → b ≡ false
-      by_none true t e = absurd (none-some _ e)
-      by_none false t e = refl
-
-      by_class : (k : ℕ) (t : Thing) → Some (An_object_of k) ≡ cond (is_object t) (Some t) None → is_served_by p native (An_object_of k) ≡ is_served_by p native t
-      by_class k x e = grind arith
-
-      go : (c : Option Held_cell) (o : Option Object) → thing_in c ≡ thing_of o → serves_class p native (class_of c) ≡ serves_object p native o
-      go None None e = refl
-      go None (Some o) e = sym (unserved_message p native o.thing (by_none (is_object o.thing) o.thing e))
-      go (Some c) None e = cc
-      go (Some c) (Some o) e = by_class c.class o.thing e
+  class_told = grind (arith, nat_tests, unserved_message p native)
 
   -- a message has no request, and no session
   pub message_silent : (o : Object) → named s.cells id ≡ Some o → is_object o.thing ≡ false → (is_owed (requested s.cells id) || in_session s.cells id) ≡ false
@@ -186,9 +156,7 @@ module _ (p : Image) (m : Parts) (s : State) (st : StandsFor (record { image = p
 
 module _ (p : Image) (m : Parts) (native id : ℕ) where
   owes_told : (s : State) → StandsFor (record { image = p; parts = m }) s → owes p s.cells native id ≡ (serves_class p native (class_at m.cells id) && held_owed (request_at m.active.table id))
-  owes_told s st =
-      ap (λ b. b && is_owed (requested s.cells id)) (sym (class_told p m s st native id))
-      ∙ ap (λ b. serves_class p native (class_at m.cells id) && b) (told_alike _ (requested s.cells id) (queued p s.cells id) (st.agrees.requests.stands.tells id)).0
+  owes_told s st = grind (arith, nat_tests, class_told p m s st native id, told_alike)
 
   pub owes_in_all : (s u : State) → StandsFor (record { image = p; parts = m }) s → StandsFor (record { image = p; parts = m }) u → owes p s.cells native id ≡ true → owes p u.cells native id ≡ true
   owes_in_all s u st su owed = owes_told u su ∙ sym (owes_told s st) ∙ owed

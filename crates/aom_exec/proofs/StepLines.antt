@@ -1,16 +1,13 @@
 -- The lines of a step: what its move writes, and the moves after it that count as none.
-use Rattle.std.proofs.Common.{◌≡◌, ◌≤◌, ◌+◌, ℕ, ℤ, Bool, true, false, cond, length, List, [], ◌∷◌, Option, Some, None, refl, sym, subst, arith}
+use Rattle.std.proofs.lemmas.Bool.Decides.{nat_tests}
+use Rattle.std.proofs.Common.{◌≡◌, ◌≤◌, ◌+◌, ℕ, ℤ, length, List, [], ◌∷◌, Option, Some, sym, subst, arith}
 use Rattle.std.proofs.lemmas.List.{length-append}
 use Rattle.aom_image.specs.Image.{Image}
-use Rattle.aom_image.specs.Views.{instr_at}
-use Rattle.aom_instructions.specs.declared.instr.Instr.{Instr}
-use Rattle.aom_instructions.specs.declared.instr.Instr.TheVariants.{Print, Reply}
 use Rattle.aom_sound.specs.Cleanup.{arrival}
 use Rattle.aom_sound.specs.Lines.{message_line, queue_lines, stage_lines, told_line}
-use Rattle.aom_sound.specs.Moves.{announcement, goes_line, step, written, written_instr, written_task}
-use Rattle.aom_sound.specs.Places.{Cell, Elsewhere, Going, In_service, Object, Sender, held, service_of}
-use Rattle.aom_sound.specs.State.{A_mark, Accept_left, Accepted, Accepts, An_object, An_operation, Choice, Closing, Destroy, Dispatched, Goes, Item, Of_server, Parts, Rest, Run, Serves, Service_left, Stage, State, Task, Trapped, Unwind}
-use Rattle.aom_transcript.specs.declared.line.Line.TheVariants.{Main}
+use Rattle.aom_sound.specs.Moves.{announcement, goes_line, step, written, written_task}
+use Rattle.aom_sound.specs.Places.{Cell, Going, Object, Sender, held}
+use Rattle.aom_sound.specs.State.{A_mark, An_object, An_operation, Choice, Closing, Destroy, Dispatched, Goes, Item, Of_server, Rest, Run, Stage, State, Task, Trapped, Unwind}
 use Rattle.aom_image.specs.declared.method.Thing.{Thing}
 use Rattle.aom_image.specs.declared.method.Thing.TheVariants.{Object as An_object_of, Message}
 use Rattle.aom_exec.specs.Steps.{IsUncounted}
@@ -25,26 +22,18 @@ of_thing o (An_object_of c) e = with_line o (An_object_of c) e (omega arith)
 of_thing o Message e = with_line o Message e (omega arith)
 
 going_one : (o : Option Object) → length (goes_line o) ≤ 1
-going_one None = omega arith
-going_one (Some o) = of_thing o o.thing refl
+going_one x = grind (arith, nat_tests, of_thing)
 
 -- a completion is told by one line
 pub told_one : (code : ℤ) (m : Option Sender) → length (told_line code m) ≤ 1
-told_one code None = omega arith
-told_one code (Some m) = omega arith
+told_one code x = grind arith
 
 message_one : (cs : List Cell) (o : Option Object) (code : ℤ) → length (message_line cs o code) ≤ 1
-message_one cs None code = omega arith
-message_one cs (Some o) code = told_one code (service_of cs o.name).sender
+message_one cs x code = grind (arith, nat_tests, told_one code)
 
 -- and so is the end of a stage
 stage_one : (cs : List Cell) (c : ℕ) (stage : Stage) → length (stage_lines cs c stage) ≤ 1
-stage_one cs c Accepts = omega arith
-stage_one cs c Accepted = omega arith
-stage_one cs c (Accept_left code) = omega arith
-stage_one cs c (Serves o) = omega arith
-stage_one cs c (Service_left code) = message_one cs (held cs (Elsewhere In_service)) code
-stage_one cs c Parts = omega arith
+stage_one cs c x = grind (arith, nat_tests, message_one cs)
 
 arrival_one : (code : ℤ) (items : List Item) → length (arrival code items) ≤ 1
 arrival_one code [] = omega arith
@@ -60,37 +49,19 @@ going_lines s _ = 0
 -- a move writes one line more at most, and main's before that
 writes_one : (p : Image) (s : State) (us : List Task) → length (written_task p s us) ≤ going_lines s us + 1
 writes_one p s [] = omega arith
-writes_one p s (Run fr ∷ ts) = of_instr (instr_at p fr.method fr.place)
-  where
-    of_instr : (o : Option Instr) → length (written_instr fr ts s o) ≤ 1
-    of_instr None = omega arith
-    of_instr (Some (Print a)) = omega arith
-    of_instr (Some (Reply a b)) = message_one s.cells _ _
-    of_instr (Some i) = omega arith
+writes_one p s (Run fr ∷ ts) = grind (arith, nat_tests, message_one s.cells)
 writes_one p s (Trapped ∷ ts) = omega arith
 writes_one p s (Closing ∷ ts) = omega arith
-writes_one p s (Destroy ∷ ts) =
-    let o = held s.cells (Going (length ts)) in
-    let one = going_one o in
-    let all = length-append (queue_lines s.cells o) (goes_line o) in
-    omega (arith, one, all)
+writes_one p s (Destroy ∷ ts) = grind (arith, nat_tests, going_one, length-append)
 writes_one p s (Unwind code ∷ ts) = arrival_one code s.items
 writes_one p s (Dispatched (Of_server x c stage) ∷ ts) = stage_one s.cells c stage
 writes_one p s (Dispatched d ∷ ts) = omega arith
 
 announces_one : (r : Rest) → length (announcement r) ≤ 1
-announces_one r = go r.announced
-  where
-    go : (b : Bool) → length (cond b [] (Main r.clock ∷ [])) ≤ 1
-    go true = omega arith
-    go false = omega arith
+announces_one r = grind (arith, nat_tests)
 
 pub writes_few : (p : Image) (s : State) → length (written p s) ≤ going_lines s s.tasks + 2
-writes_few p s =
-    let one = announces_one s.rest in
-    let other = writes_one p s s.tasks in
-    let all = length-append (announcement s.rest) (written_task p s s.tasks) in
-    omega (arith, one, other, all)
+writes_few p s = grind (arith, nat_tests, announces_one s.rest, writes_one p s s.tasks, length-append)
 
 -- ---- what the moves write that count as none
 

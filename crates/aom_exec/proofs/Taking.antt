@@ -1,5 +1,6 @@
 -- A server is picked: the machine can serve it, and what it does then is what the checked machine does.
-use Rattle.std.proofs.Common.{Some, ap, subst, sym, true, ℕ, ◌∙◌, ◌≡◌}
+use Rattle.std.proofs.lemmas.Bool.Decides.{nat_tests}
+use Rattle.std.proofs.Common.{arith, Some, ap, subst, sym, true, ℕ, ◌∙◌, ◌≡◌}
 use Rattle.std.specs.Prelude.{is_some}
 use Rattle.aom_image.specs.Image.{Image}
 use Rattle.aom_active.specs.Agrees.{Active}
@@ -36,7 +37,7 @@ module _ (p : Image) (m : Parts) (turned : progress_by m.rest.ended m.stack.task
 
     -- the pick of a server takes no signal
     same_active : a ≡ m.active
-    same_active = subst (λ b. meanings.TakesUp b m.active a id) (serving_told p m s st (machine_between was s st turned).idle id it_is ∙ serving) picks.0
+    same_active = grind (arith, nat_tests, serving_told p m s st, machine_between, it_is, serving)
 
     lives : named s.cells x.object.name ≡ Some x.object
     lives = ap (named s.cells) it_is.name ∙ it_is.lives

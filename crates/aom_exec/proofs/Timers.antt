@@ -1,4 +1,5 @@
 -- Timers stand in one order: what stands for requests with the same timers has the same list of them.
+use Rattle.std.proofs.lemmas.Bool.Decides.{nat_tests}
 use Rattle.std.proofs.Common.{ap, Bool, List, None, Option, Some, [], false, refl, subst, sym, true, ℕ, ◌==◌, ◌≡◌, ◌∙◌, ◌∷◌, ◌<◌, arith}
 use Rattle.std.specs.Prelude.{get_or, option_map}
 use Rattle.std.proofs.lemmas.Bool.{eqb-false, eqb-true, true≢false}
@@ -22,8 +23,7 @@ use Rattle.aom_exec.specs.Turns.{NoneDue}
 
 -- none is sooner than itself
 not_itself : (o : Option Timer) → ComesSooner o o → ⊥
-not_itself None e = e
-not_itself (Some t) e = true≢false (sym e ∙ not_both t t e)
+not_itself x e = grind (arith, nat_tests, not_both)
 
 distinct : (asked : ℕ → Option Request) (ts : List Held_timer) → Timely asked ts → AreDistinct id_of ts
 distinct asked ts t = λ i j d less within same. not_itself (timer_in (asked (get_or ts j d).id)) (subst (λ n. ComesSooner (timer_in (asked n)) (timer_in (asked (get_or ts j d).id))) same (t.sooner i j d less within))
@@ -36,8 +36,8 @@ behind asked t ts timely =
 
 one_list : (asked : ℕ → Option Request) (ts us : List Held_timer) → Timely asked ts → Timely asked us → ts ≡ us
 one_list asked [] [] a b = refl
-one_list asked [] (u ∷ us) a b = let g = first_timer asked u us b in absurd (none-some _ (a.dues u.id ∙ ap (option_map (λ v. v.due)) g.runs))
-one_list asked (t ∷ ts) [] a b = let f = first_timer asked t ts a in absurd (none-some _ (b.dues t.id ∙ ap (option_map (λ v. v.due)) f.runs))
+one_list asked [] (u ∷ us) a b = grind (arith, nat_tests, first_timer asked u us b)
+one_list asked (t ∷ ts) [] a b = grind (arith, nat_tests, first_timer asked t ts a)
 one_list asked (t ∷ ts) (u ∷ us) a b = go (t.id == u.id) refl (λ same. one_list (asked_anew t.id None asked) ts us (behind asked t ts a) (subst (λ n. Timely (asked_anew n None asked) us) (sym same) (behind asked u us b)))
   where
     go : (x : Bool) → (t.id == u.id) ≡ x → (t.id ≡ u.id → ts ≡ us) → t ∷ ts ≡ u ∷ us

@@ -1,9 +1,10 @@
 -- The parts of a turn: what the machine does between dispatches is what the checked machine does.
+use Rattle.std.proofs.lemmas.Bool.Decides.{nat_tests}
 use Rattle.std.proofs.Common.{ap, append-nil, arith, Bool, cond, false, length, List, None, Option, pos, refl, Some, subst, suc, sym, true, ℕ, ◌<◌, ◌≤◌, ◌∙◌, ◌∷◌, ◌++◌, ◌≡◌, []}
 use Rattle.std.specs.Prelude.{IfSome, IsSome, is_some, not, option_map, ◌||◌, ◌≢◌}
 use Rattle.std.proofs.lemmas.Bool.{eq-eqb, true≢false}
 use Rattle.std.proofs.lemmas.List.{nil_from_length}
-use Rattle.std.proofs.lemmas.Option.{none-some, same_Some}
+use Rattle.std.proofs.lemmas.Option.{same_Some}
 use Rattle.aom_image.specs.Image.{Image}
 use Rattle.aom_image.specs.declared.method.Role.TheVariants.{Run as Handles}
 use Rattle.aom_image.specs.declared.method.Thing.{Thing}
@@ -27,7 +28,7 @@ use Rattle.aom_active.proofs.Asking.{are_wanted, asked_set, queued_same}
 use Rattle.aom_active.proofs.Choosing as choosing
 use Rattle.aom_active.proofs.Dues.{due_first, none_due}
 use Rattle.aom_active.proofs.Telling.{standing_follows, told_server, told_state, told_status}
-use Rattle.aom_active.specs.Agrees.{Active, StandsFor as Asks_for, queue_in, queued, timer_in}
+use Rattle.aom_active.specs.Agrees.{Active, StandsFor as Asks_for, queued, timer_in}
 use Rattle.aom_active.specs.Meanings.{IsFirstDue, IsFirstReady, Makes, asked_anew}
 use Rattle.aom_active.specs.Meanings as meanings
 use Rattle.aom_requests.specs.Requests.{is_server as is_served, request_at}
@@ -37,15 +38,13 @@ use Rattle.aom_sound.proofs.ClientsTurn.{fit_same, on_none, same_requested}
 use Rattle.aom_sound.proofs.Turned.{picked}
 use Rattle.aom_sound.proofs.Turning.{completed, picked_well}
 use Rattle.aom_sound.specs.Claims.{items_of}
-use Rattle.aom_sound.specs.Lines.{serve_line}
 use Rattle.aom_sound.proofs.Orders.{apart_still, comes_asked}
-use Rattle.aom_sound.specs.Enlisted.{on_request, part_of, status_of, taken_up, thing_kind, timed_out}
-use Rattle.aom_sound.specs.Requests.{states_claim}
+use Rattle.aom_sound.specs.Enlisted.{on_request, part_of, status_of, taken_up, timed_out}
 use Rattle.aom_sound.specs.Tokens.{awaited}
 use Rattle.aom_shape.specs.Kinds.{is_object}
 use Rattle.aom_sound.specs.Servers.{has_more, is_server}
-use Rattle.aom_sound.specs.Places.{Cell, Elsewhere, Entry, Object, Going, Place, Register, Request, Root, Timer, held, named, requested, service_of}
-use Rattle.aom_sound.specs.State.{Dispatch, Dispatched, Goes, Inside, Of_object, Rest, Seat, State, Trapped}
+use Rattle.aom_sound.specs.Places.{Cell, Elsewhere, Object, Place, Register, Request, Root, Timer, held, named, requested, service_of}
+use Rattle.aom_sound.specs.State.{Dispatch, Dispatched, Goes, Inside, Of_object, Rest, Seat, State}
 use Rattle.aom_sound.specs.WellTyped.{Keeps}
 use Rattle.aom_sound.specs.World.{Candidate, Cuts, Hears, IsBetween, Passes, Picks, Timed, Turning, Waits, dispatched, serves_first, due_of, first_due, first_ready, is_ready, picked as any_picked, run_line, turned, with_request, written_by, ready_count, signal_count}
 use Rattle.aom_steps.proofs.Pushed.{asked_same}
@@ -56,7 +55,7 @@ use Rattle.aom_steps.specs.Payers.{declared_of, payer, price_of}
 use Rattle.aom_parts.specs.declared.parts.Parts.{Parts}
 use Rattle.aom_parts.specs.declared.progress.Progress.TheVariants.{Turned}
 use Rattle.aom_parts.specs.Agrees.{Agrees, SameCells, SameRequests, SameTasks, Shows, seat_of, thing_in, thing_of, word_at}
-use Rattle.aom_parts.specs.Places.{Others, going_in, others, register_in, value, value_in}
+use Rattle.aom_parts.specs.Places.{Others, others, value, value_in}
 use Rattle.aom_parts.specs.Progress.{progress_by}
 use Rattle.aom_parts.specs.Stands.{KeepsWithin, Machine, Stands, StandsFor}
 use Rattle.aom_exec.specs.Steps.{progress}
@@ -94,12 +93,11 @@ module _ (cs : List Cell) (o : Object) (f : Request → Request) where
   }
     where
       now : (n : ℕ) → asked_anew o.name (Some (f r)) (requested cs) n ≡ requested (with_request f o cs) n
-      now n = ap (λ q. asked_anew o.name (on_request f q) (requested cs) n) (sym is) ∙ asked_set cs o.name (on_request f (requested cs o.name)) (ap is_some lives) n
+      now n = grind (arith, nat_tests, asked_set cs o.name)
 
 -- where the request keeps its order
 pub order_same : (f : Request → Request) → ((r : Request) → (f r).order ≡ r.order) → (q : Option Request) → option_map (λ x. x.order) (on_request f q) ≡ option_map (λ x. x.order) q
-order_same f same None = refl
-order_same f same (Some r) = ap (λ n. Some n) (same r)
+order_same f same x = grind arith
 
 -- ---- nothing is at hand
 
@@ -168,8 +166,7 @@ module _ (p : Image) (m : Parts) (view : Machine) (is : record { image = p; part
 
 -- when the timer that is due first is due
 due_same : (o : Option Timed) → option_map (λ x. x.timer.due) o ≡ due_of o
-due_same None = refl
-due_same (Some x) = refl
+due_same x = grind arith
 
 pub next_due_told : (m : Machine) (due : Option ℕ) → meanings.IsNextDue m.parts.active due → (s : State) → StandsFor m s → due ≡ due_of (first_due s.cells)
 next_due_told m due next s st = next s.cells (queued m.image s.cells) st.typed.good.tidy st.agrees.requests.stands ∙ due_same (first_due s.cells)
@@ -236,7 +233,7 @@ module _ (p : Image) (m : Parts) (a : Active) (turned : progress_by m.rest.ended
       let lives : named s.cells o.name ≡ Some o = ap (named s.cells) same ∙ d.3 in
       let is : requested s.cells o.name ≡ Some r.0 = ap (requested s.cells) same ∙ r.1 in
       let untold : awaited (requested s.cells o.name) ≡ None =
-      ticks_untold (thing_kind p o.thing) (states_claim p o st.typed.layers) (requested s.cells o.name) (st.typed.good.suits o lives) (ap (λ n. is_some (timer_in (requested s.cells n))) same ∙ ap is_some f.runs) in
+      grind (arith, nat_tests, ticks_untold) in
       let made = subst (λ n. Makes m.active a n timed_out) (sym same) makes in (
         d.0,
         d.1,
@@ -251,8 +248,7 @@ module _ (p : Image) (m : Parts) (a : Active) (turned : progress_by m.rest.ended
       )
     where
       has_timer : (q : Option Request) (t : Timer) → timer_in q ≡ Some t → (r : Request) × (q ≡ Some r)
-      has_timer None t e = absurd (none-some _ e)
-      has_timer (Some r) t e = (r, refl)
+      has_timer x t e = grind arith
 
   nothing_due : a ≡ m.active → ((asked : ℕ → Option Request) (queues : ℕ → Option Bool) → Asks_for m.active asked queues → meanings.NoneDue m.rest.clock asked) → Completed before false after
   nothing_due same none = (
@@ -294,10 +290,7 @@ dispatch_line s o class e = ap (λ (t : Thing). run_line s (record o { thing = t
 
 -- no task of a dispatch that begins shows anything, and nor does its mark
 begun_value : (d : Held_dispatch) (us : List Held_task) (h : Heap) (es : List Held_item) (others : Others) (q : Place) → value_in (Ends d ∷ us) h (Is_mark ∷ es) others q ≡ value_in us h es others q
-begun_value d us h es others (Register k i) = at_depth (length us) k null (register_in us k i) (λ e. register_past us k i (omega arith))
-begun_value d us h es others (Going k) = at_depth (length us) k null (going_in us k) (λ e. going_past us k (omega arith))
-begun_value d us h es others (Entry k) = mark_shows_none es k
-begun_value d us h es others _ = refl
+begun_value d us h es others x = grind (arith, nat_tests, at_depth, register_past us, going_past us, mark_shows_none es)
 
 no_word : (d : Dispatch) (q : Place) → word_at (Dispatched d ∷ []) q ≡ word_at [] q
 no_word d (Register k i) = at_depth 0 k None None (λ e. refl)
@@ -348,7 +341,7 @@ module _ (p : Image) (m : Parts) (s : State) (st : StandsFor (record { image = p
 
   -- what waits at it
   queue_told : (id : ℕ) (k : Found id) (b : Bool) → is_server p k.candidate.seat.object.thing ≡ b → queued p s.cells id ≡ cond b (Some (has_more (service_of s.cells id).queue)) None
-  queue_told id k b e = ap (λ o. queue_in p o (service_of s.cells id)) k.lives ∙ ap (λ b. cond b (Some (has_more (service_of s.cells id).queue)) None) e
+  queue_told id k b e = grind (arith, nat_tests)
 
   -- whether it is a server the table tells
   pub serving_told : (id : ℕ) (k : Found id) → is_served (request_at m.active.table id) ≡ is_server p k.candidate.seat.object.thing
@@ -381,12 +374,10 @@ module _ (p : Image) (m : Parts) (s : State) (st : StandsFor (record { image = p
 
   -- what is taken up waits for the token that it waited for
   same_waits : (q : Option Request) → awaited (on_request taken_up q) ≡ awaited q
-  same_waits None = refl
-  same_waits (Some r) = refl
+  same_waits x = grind arith
 
   or_false : (b : Bool) → (b || false) ≡ b
-  or_false true = refl
-  or_false false = refl
+  or_false x = grind arith
 
   pick_of : (id : ℕ) (k : Found id) → is_server p k.candidate.seat.object.thing ≡ false → Pick id
   pick_of id k plain =
@@ -444,7 +435,7 @@ module _ (p : Image) (m : Parts) (s : State) (st : StandsFor (record { image = p
       method = ap (part_of p Handles) thing ∙ d.handles
 
       goes : turned p s (Picks k.found.candidate.seat) ≡ Goes then
-      goes = ap (λ b. cond b (serves_first p k.found.candidate.seat (service_of s.cells object.name).queue s) (dispatched (part_of p Handles object.thing) k.found.candidate.seat s)) k.plain ∙ ap (λ h. dispatched h k.found.candidate.seat s) method
+      goes = grind (arith, nat_tests, method)
 
       lives : named s.cells object.name ≡ Some object
       lives = ap (named s.cells) k.found.name ∙ k.found.lives
@@ -454,10 +445,7 @@ module _ (p : Image) (m : Parts) (s : State) (st : StandsFor (record { image = p
 
       -- its cell lives, below all messages
       small : id ≢ null → id < 4096
-      small there = lives_below p m s st.sound.formed st.agrees id (cell_there (cell_at m.cells id) d.is)
-        where
-          cell_there : (o : Option Held_cell) → class_of o ≡ Some d.class → IsSome o
-          cell_there o e = grind arith
+      small there = grind (arith, nat_tests, lives_below p m s st.sound.formed st.agrees id)
 
       made : Makes m.active a object.name taken_up
       made = subst (λ n. Makes m.active a n taken_up) name makes
@@ -493,22 +481,17 @@ module _ (p : Image) (m : Parts) (s : State) (st : StandsFor (record { image = p
               ∙ begun_value (Of_one subject) m.stack.tasks m.cells m.entries.items (others m) q
 
           worded : (q : Place) → word_at then.tasks q ≡ word_at s.tasks q
-          worded q =
-              fresh_word d.method (Inside object k.found.candidate.seat.place) (length then.items) (Trapped ∷ Dispatched (Of_object k.found.candidate.seat) ∷ []) q
-              ∙ over_words true (Dispatched (Of_object k.found.candidate.seat) ∷ []) q ∙ no_word (Of_object k.found.candidate.seat) q ∙ ap (λ ts. word_at ts q) (sym idle)
+          worded q = grind (arith, nat_tests, fresh_word d.method, over_words, no_word (Of_object k.found.candidate.seat) q)
 
           values : (q : Place) → Shows (value_in (Runs_frame (fresh d.method id) ∷ Is_trap ∷ dispatch) m.cells (Is_mark ∷ m.entries.items) (others m) q) (word_at then.tasks q) (held then.cells q)
-          values q =
-              subst (λ n. Shows n (word_at then.tasks q) (held then.cells q)) (sym (shown q))
-              (subst (λ w. Shows (value m q) w (held then.cells q)) (sym (worded q))
-              (subst (λ h. Shows (value m q) (word_at s.tasks q) h) (sym ((alike s.cells object taken_up).held_so q)) (st.agrees.values q)))
+          values q = grind (arith, nat_tests, shown q, worded q, alike s.cells)
 
       -- it costs no more than its class declares
       dispatch_within : KeepsWithin p st.sound.prices then
       dispatch_within = record { within = omega (arith, picking p st.typing st.sound.prices st.sound.wired.family st.sound.linked st.sound.affordable.priced s st.typed idle (Picks k.found.candidate.seat) lives refl then goes, affords) }
         where
           affords : price_of p st.sound.prices (payers.class_of object.thing) ≤ declared_of p (payers.class_of object.thing)
-          affords = subst (λ t. price_of p st.sound.prices (payers.class_of t) ≤ declared_of p (payers.class_of t)) (sym thing) (st.sound.objects.each d.class)
+          affords = grind (arith, nat_tests, thing)
 
       dispatch_stands : StandsFor (record { image = p; parts = running d.method d.class id (record m { active = a }) }) then
       dispatch_stands = record {
@@ -522,7 +505,7 @@ module _ (p : Image) (m : Parts) (s : State) (st : StandsFor (record { image = p
         kept = record {
           fit = fit_same p s.clients s.cells then.cells (same_requested s.cells object (on_request taken_up (requested s.cells object.name)) (λ e. on_none taken_up (requested s.cells object.name) e)) st.kept.fit;
           stage = tt;
-          tokens = apart_still s.cells then.cells (comes_asked s.cells object.name (on_request taken_up (requested s.cells object.name)) (λ k e. sym (same_waits (requested s.cells object.name)) ∙ e)) st.kept.tokens;
+          tokens = grind (arith, nat_tests, apart_still s.cells, comes_asked s.cells, same_waits);
         };
         within = dispatch_within;
         agrees = dispatch_agrees;
@@ -534,8 +517,7 @@ module _ (p : Image) (m : Parts) (s : State) (st : StandsFor (record { image = p
           ∙ sym (ap status_of asked)
 
       same_line : Run_line m.rest.clock d.class d.status ∷ [] ≡ run_line s object
-      same_line =
-          ap (λ t. Run_line t d.class d.status ∷ []) (ap (λ (r : Rest). r.clock) st.agrees.rest) ∙ ap (λ v. Run_line s.rest.clock d.class v ∷ []) same_status ∙ sym (dispatch_line s object d.class thing)
+      same_line = grind (arith, nat_tests, same_status, dispatch_line s, thing)
 
 module _ (p : Image) (m : Parts) (turned : progress_by m.rest.ended m.stack.tasks ≡ Turned) where
   abbrev was : Machine
@@ -573,14 +555,14 @@ module _ (p : Image) (m : Parts) (turned : progress_by m.rest.ended m.stack.task
           between = machine_between was s st turned;
           state = then p m s st idle id k a told now new makes d;
           goes = goes p m s st idle id k a told now new makes d;
-          lines = d.lines ∙ ap (λ ls. record told { lines = told.lines ++ ls }) (same_line p m s st idle id k a told now new makes d ∙ written_plain s k.found.candidate.seat k.plain);
-          stands = subst (λ x. StandsFor (record { image = p; parts = x }) (then p m s st idle id k a told now new makes d)) (sym d.runs) (dispatch_stands p m s st idle id k a told now new makes d);
+          lines = grind (arith, nat_tests, same_line p m s st idle id k a told now new makes d);
+          stands = grind (arith, nat_tests, dispatch_stands p m s st idle id k a told now new makes d);
         },
       )
     where
       -- it is the line of an object
       written_plain : (s : State) (x : Seat) → is_server p x.object.thing ≡ false → run_line s x.object ≡ written_by p s (Picks x)
-      written_plain s x plain = sym (ap (λ b. cond b (serve_line s.rest.clock x.object.thing (service_of s.cells x.object.name).queue) (run_line s x.object)) plain)
+      written_plain s x plain = grind (arith, nat_tests, plain)
 
   pub picks_none : (a : Active) (told : Turn) (o : Option ℕ) → ((id : ℕ) → o ≡ Some id → ⊥) → meanings.Picks m.active a o → Picked was false told told (record { image = p; parts = record m { active = a } })
   picks_none a told (Some id) not c = absurd (not id refl)

@@ -1,30 +1,25 @@
 -- Where the image names no native, nothing is wanted of one.
-use Rattle.std.proofs.Common.{◌≡◌, ◌<◌, ℕ, List, ◌∷◌, [], Option, Some, None, refl, ap, length, slice_get, arith}
+use Rattle.std.proofs.lemmas.Bool.Decides.{nat_tests}
+use Rattle.std.proofs.Common.{◌≡◌, ℕ, List, ◌∷◌, [], Option, Some, None, refl, length, slice_get, arith}
 use Rattle.aom_image.specs.Image.{Image}
 use Rattle.aom_image.specs.Views.{class_at, instr_at}
 use Rattle.aom_image.specs.WellFormed.{ClassFits, KindFits, WellFormed}
 use Rattle.aom_image.specs.declared.class.ClassDecl.{ClassDecl}
 use Rattle.aom_image.specs.declared.class.ClassKind.{ClassKind}
-use Rattle.aom_image.specs.declared.class.ClassKind.TheVariants.{Active as An_active}
-use Rattle.aom_image.specs.declared.class.Provider.TheVariants.{Native, Own, Timer}
 use Rattle.aom_image.specs.declared.method.Thing.{Thing}
 use Rattle.aom_image.specs.declared.method.Thing.TheVariants.{Object as An_object_of, Message}
 use Rattle.aom_classes.proofs.Facts.{all_there}
 use Rattle.aom_roles.specs.Classes.{kind_in}
 use Rattle.aom_roles.specs.Shapes.{kind_of}
-use Rattle.aom_instructions.specs.declared.instr.Instr.{Instr}
 use Rattle.aom_sound.specs.Enlisted.{thing_kind}
 use Rattle.aom_sound.specs.Natives.{native_of}
 use Rattle.aom_sound.specs.Places.{Going, Object, held}
-use Rattle.aom_sound.specs.State.{AtRoot, Closing, Destroy, Dispatched, Frame, Home, Inside, Run, State, Static, Task, Trapped, Unwind}
-use Rattle.aom_sound.specs.Wanted.{Exchange, exchange_at, wanted, wanted_at, wanted_by, wanted_going, wanted_gone, wanted_task}
+use Rattle.aom_sound.specs.State.{Closing, Destroy, Dispatched, Frame, Home, Run, State, Task, Trapped, Unwind}
+use Rattle.aom_sound.specs.Wanted.{Exchange, exchange_at, wanted, wanted_by, wanted_gone, wanted_task}
 
 module _ (p : Image) (none_named : p.header.natives ≡ 0) (formed : WellFormed p) where
   kind_no_native : (k : ClassKind) → KindFits p.header.version (length p.classes) p.header.natives k → native_of (Some k) ≡ None
-  kind_no_native (An_active (Native n)) fits = absurd (let below : n < p.header.natives = fits in omega (arith, below, none_named))
-  kind_no_native (An_active Own) fits = refl
-  kind_no_native (An_active Timer) fits = refl
-  kind_no_native _ fits = refl
+  kind_no_native x fits = grind arith
 
   class_no_native : (class : Option ℕ) → native_of (kind_of p class) ≡ None
   unfolding kind_of kind_in class_at
@@ -41,13 +36,10 @@ module _ (p : Image) (none_named : p.header.natives ≡ 0) (formed : WellFormed 
 
   module _ (s : State) where
     none_at_home : (fr : Frame) (ts : List Task) (home : Home) (x : Exchange) → wanted_by s p fr ts home x ≡ None
-    none_at_home fr ts Static x = refl
-    none_at_home fr ts AtRoot x = refl
-    none_at_home fr ts (Inside o from) x = ap (λ n. wanted_at s fr ts o n x) (thing_no_native o.thing)
+    none_at_home fr ts x y = grind (arith, nat_tests, thing_no_native)
 
     none_gone : (o : Option Object) → wanted_gone s p o ≡ None
-    none_gone None = refl
-    none_gone (Some o) = ap (wanted_going s o) (thing_no_native o.thing)
+    none_gone x = grind (arith, nat_tests, thing_no_native)
 
     none_of_task : (ts : List Task) → wanted_task s p ts ≡ None
     none_of_task [] = refl

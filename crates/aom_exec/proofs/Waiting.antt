@@ -1,4 +1,5 @@
 -- Each move keeps what the typing says of the methods that wait: what runs over a method leaves its registers alone, and a method begins to wait with its operands moved.
+use Rattle.std.proofs.lemmas.Bool.Decides.{nat_tests}
 use Rattle.std.proofs.Common.{Bool, List, None, Option, Some, [], ap, arith, cond, false, length, pos, refl, subst, suc, sym, true, ℕ, ℤ, ◌&&◌, ◌<◌, ◌≤◌, ◌==◌, ◌∙◌, ◌∷◌, ◌≡◌}
 use Rattle.std.proofs.lemmas.Bool.{eq-eqb, eqb-true, ne_eqb}
 use Rattle.std.proofs.lemmas.Option.{same_Some}
@@ -7,13 +8,10 @@ use Rattle.aom_image.specs.Views.{arguments_of, instr_at, method_class}
 use Rattle.aom_instructions.specs.declared.instr.Instr.{Instr}
 use Rattle.aom_instructions.specs.declared.instr.Instr.TheVariants.{Cancel, Delete}
 use Rattle.aom_instructions.specs.declared.instr.Target.{Target}
-use Rattle.aom_instructions.specs.declared.instr.Target.TheVariants.{Entry as On_entry, Field as On_field, Register as On_register, This}
 use Rattle.aom_image.specs.declared.method.Argument.{Argument}
 use Rattle.aom_image.specs.declared.method.Argument.TheVariants.{Own as Takes_own, Word as Takes_word}
 use Rattle.aom_image.specs.declared.method.Gives.{Gives}
-use Rattle.aom_image.specs.declared.method.Gives.TheVariants.{Maybe as A_maybe, Own as An_own}
 use Rattle.aom_image.specs.declared.method.Thing.TheVariants.{Message, Object as An_object_of}
-use Rattle.aom_classes.specs.Roles.{main_of}
 use Rattle.aom_shape.specs.Entries.{without_entry}
 use Rattle.aom_shape.specs.Arguments.{after_of, arguments_moved}
 use Rattle.aom_rules.specs.Calls.{while_called}
@@ -24,7 +22,7 @@ use Rattle.aom_shape.specs.Shape.{Shape}
 use Rattle.aom_shape.specs.Tables.{at, put_at}
 use Rattle.aom_rules.specs.Typing.{Typing, shape_at}
 use Rattle.aom_shape.specs.declared.kind.Kind.{Kind}
-use Rattle.aom_shape.specs.declared.kind.Kind.TheVariants.{Maybe, Null, Own, Unset, Word}
+use Rattle.aom_shape.specs.declared.kind.Kind.TheVariants.{Null, Unset}
 use Rattle.aom_sound.proofs.Finishing.{all_parts}
 use Rattle.aom_sound.proofs.Guarded.{guarded_goes, guarded_met}
 use Rattle.aom_sound.proofs.Maps.{at-put_at, held_without, same_place-true}
@@ -34,21 +32,20 @@ use Rattle.aom_sound.proofs.Storing.{ended_alike, held_set_word, rerequested_ali
 use Rattle.aom_sound.proofs.Straight.{register_fits}
 use Rattle.aom_sound.specs.Calls.{accepted_cells, needs_each, needs_entering, needs_target, passed_cells, result_cells, returned}
 use Rattle.aom_sound.specs.Cleanup.{to_trap, top_place}
-use Rattle.aom_sound.specs.Destruction.{begun, begun_by, destructed, line_on, next_destructor, first_session, parting, seat_or}
+use Rattle.aom_sound.specs.Destruction.{begun, destructed, line_on, first_session, parting}
 use Rattle.aom_sound.proofs.Dropping.{held_dropped, queue_dropped}
 use Rattle.aom_sound.proofs.Services.{held_served}
 use Rattle.aom_sound.proofs.Unslotting.{each_unslotted_alike}
 use Rattle.aom_sound.specs.Clients.{each_unslotted}
-use Rattle.aom_sound.specs.Servers.{is_queue_of, is_server, opened, without_queue}
-use Rattle.aom_classes.specs.Roles.{destructor_of}
-use Rattle.aom_sound.specs.Effects.{Calls, Cancels, Carried, Counts, Destroys, Destroys_last, Effect, Goes_on, Handed, In_field, In_register, Jumps, Replied, The_message, Leaves, Made, Operates, Popped, Pushed, Repeats, Requested, Returns, Sets_trap, Spot, Update, Written, applied, cells_after, deletes, spot_place, with_words, Sessioned}
+use Rattle.aom_sound.specs.Servers.{without_queue}
+use Rattle.aom_sound.specs.Effects.{Calls, Cancels, Carried, Counts, Destroys, Destroys_last, Effect, Goes_on, Handed, Jumps, Replied, Leaves, Made, Operates, Popped, Pushed, Repeats, Requested, Returns, Sets_trap, Spot, Update, Written, applied, cells_after, deletes, spot_place, with_words, Sessioned}
 use Rattle.aom_sound.specs.Moves.{answered, asking, counted, dispatch_ends, does, failed, handled, main_ends, needs, object_ends, stage_ends, step}
-use Rattle.aom_sound.specs.Places.{Cell, Elsewhere, Entry, Going, Object, Place, Register, Root, Session, Sight, held, moved, same_place, seen, service_of, without}
-use Rattle.aom_sound.specs.State.{Accept_left, Accepted, Accepts, Answered, Asks, AtRoot, Choice, Closing, Destroy, Dispatch, Dispatched, Frame, Goes, Home, Inside, Main_left, Need, Object_left, Of_main, Of_object, Of_root, Of_server, Parts, Run, Seat, Serves, Service_left, Stage, State, Static, Task, Trapped, Unwind, field_place, guarded, resumed, word}
+use Rattle.aom_sound.specs.Places.{Cell, Elsewhere, Entry, Going, Object, Place, Register, Root, Session, Sight, held, moved, same_place, service_of, without}
+use Rattle.aom_sound.specs.State.{Accept_left, Accepted, Accepts, Answered, Asks, Choice, Closing, Destroy, Dispatch, Dispatched, Frame, Goes, Home, Main_left, Need, Object_left, Of_main, Of_object, Of_root, Of_server, Parts, Run, Seat, Serves, Service_left, Stage, State, Task, Trapped, Unwind, field_place, guarded, resumed, word}
 use Rattle.aom_sound.specs.Steps.{Acts, Arrives, Clears, Comes_out, Empties, Ends, Fits as May, Move, Rests, Undoes, Vanishes}
 use Rattle.aom_sound.specs.WellTyped.{Fits, Good, WellTyped, WordFits}
 use Rattle.aom_sound.specs.Words.{here, stored}
-use Rattle.aom_sound.specs.World.{boot_state, main_tasks}
+use Rattle.aom_sound.specs.World.{boot_state}
 use Rattle.aom_sound.proofs.Layers.{method_layer}
 use Rattle.aom_acts.specs.Acts.{requested}
 use Rattle.aom_parts.specs.Waits.{AllWait, KindSays, OthersWait, Waits, while_waiting}
@@ -57,27 +54,17 @@ use Rattle.aom_acts.proofs.Running.{no_word}
 use Rattle.aom_acts.proofs.Stepping.{at_step, step_of_instr}
 use Rattle.std.specs.Ordering.{int_eq}
 use Rattle.aom_image.specs.declared.method.Role.TheVariants.{Error as Answers}
-use Rattle.aom_sound.specs.Enlisted.{begun_cells, cancelling, ended_cells, on_request, own_request, part_of, rerequested}
+use Rattle.aom_sound.specs.Enlisted.{begun_cells, ended_cells, on_request, own_request, part_of, rerequested}
 use Rattle.aom_sound.specs.Tokens.{next_token, promised, redeemed_by, token_of}
 
 -- ---- kinds
 
 pub kind_says : (p : Image) (h : Sight) (k : Kind) (w : Option ℤ) (o : Option Object) → WordFits w k → Fits p h o k → KindSays p k w o
-kind_says p h Word (Some w) None words fits = (refl, refl)
-kind_says p h Unset w None words fits = refl
-kind_says p h Null w None words fits = (words, refl)
-kind_says p h (Own t a) w (Some o) words fits = (words, refl, fits.0)
-kind_says p h (Maybe t a) w None words fits = (words, tt)
-kind_says p h (Maybe t a) w (Some o) words fits = (words, fits.0)
-kind_says p h _ _ _ words fits = absurd (assumption tt)
+kind_says p h x w y words fits = grind arith
 
 -- ages are no part of it
 readied_says : (p : Image) (k : Kind) (w : Option ℤ) (o : Option Object) → KindSays p k w o → KindSays p (readied k) w o
-readied_says p Unset w o says = says
-readied_says p Word w o says = says
-readied_says p Null w o says = says
-readied_says p (Own t a) w o says = says
-readied_says p (Maybe t a) w o says = says
+readied_says p x w o says = grind arith
 
 -- ---- registers below a depth
 
@@ -90,7 +77,7 @@ still_wait p t cs cs' (Run fr ∷ ts) same w = (
   record {
     shape = w.0.shape;
     typed = w.0.typed;
-    says = λ i. subst (λ o. KindSays p (register (while_waiting p (instr_at p fr.method fr.place) w.0.shape) i) (word fr i) o) (sym (same (length ts) i (omega arith))) (w.0.says i);
+    says = grind (arith, nat_tests);
   },
   still_wait p t cs cs' ts (λ d i lt. same d i (omega (arith, lt))) w.1,
 )
@@ -104,35 +91,22 @@ higher_apart : (d a e i : ℕ) → e < d → same_place (Register d a) (Register
 higher_apart d a e i lt = ap (λ b. b && (a == i)) (ne_eqb d e (λ x. absurd (omega (arith, lt, x))))
 
 field_apart : (home : Home) (f e i : ℕ) → same_place (field_place home f) (Register e i) ≡ false
-field_apart Static f e i = refl
-field_apart AtRoot f e i = refl
-field_apart (Inside o from) f e i = refl
+field_apart x f e i = grind arith
 
 stored_same : (cs : List Cell) (home : Home) (w : ℕ) (v : ℤ) (n : ℕ) → SameBelow cs (stored cs home w v) n
-stored_same cs Static w v n d i lt = refl
-stored_same cs AtRoot w v n d i lt = refl
-stored_same cs (Inside o from) w v n d i lt = held_set_word cs o.name w v (Register d i)
+stored_same cs x w v n d i lt = grind (arith, nat_tests, held_set_word cs)
 
 -- where a session is accepted from a register of a method over these
 accepted_same : (d : Dispatch) (a depth : ℕ) (cs : List Cell) (n : ℕ) → n ≤ depth → SameBelow cs (accepted_cells d (Register depth a) cs) n
-accepted_same (Of_server x client Accepts) a depth cs n deep e i lt =
-    let place = Elsewhere (Session x.object.name client) in
-    let cs2 = moved (Register depth a) place cs in
-    held_served cs2 x.object.name (opened client (service_of cs2 x.object.name)) (Register e i)
-    ∙ held_apart cs (Register depth a) place (Register e i) (higher_apart depth a e i (omega (arith, lt, deep))) refl
-accepted_same _ a depth cs n deep e i lt = refl
+accepted_same x a depth cs n deep e i lt = grind (arith, nat_tests, held_served, held_apart cs (Register depth a), higher_apart depth a e i)
 
 -- where a cell goes, with what waits in its queue
 gone_same : (clients : List ℕ) (k m n : ℕ) (cs : List Cell) → SameBelow cs (each_unslotted clients (without (Going k) (without_queue m cs))) n
-gone_same clients k m n cs d i lt =
-    (each_unslotted_alike clients (without (Going k) (without_queue m cs))).held_so (Register d i) ∙ held_without (without_queue m cs) (Going k) (Register d i)
-    ∙ ap (λ l. held l (Register d i)) (queue_dropped m cs) ∙ held_dropped (is_queue_of m) cs (Register d i)
+gone_same clients k m n cs d i lt = grind (arith, nat_tests, each_unslotted_alike clients, held_without, queue_dropped m cs, held_dropped)
 
 module _ (p : Image) (fr : Frame) (ts : List Task) (s : State) where
   spot_apart : (spot : Spot) (e i : ℕ) → e < length ts → same_place (spot_place p fr ts s spot) (Register e i) ≡ false
-  spot_apart (In_register a) e i lt = higher_apart (length ts) a e i lt
-  spot_apart (In_field f) e i lt = field_apart fr.home f e i
-  spot_apart The_message e i lt = refl
+  spot_apart x e i lt = grind (arith, nat_tests, higher_apart, field_apart fr.home)
 
   updated_same : (u : Update) → SameBelow s.cells (cells_after p fr ts s u) (length ts)
   updated_same (Carried from to) d i lt = held_apart s.cells (spot_place p fr ts s from) (spot_place p fr ts s to) (Register d i) (spot_apart from d i lt) (spot_apart to d i lt)
@@ -155,16 +129,10 @@ module _ (p : Image) (fr : Frame) (ts : List Task) (s : State) where
   passed_same : (depth : ℕ) (xs : List Argument) (first to : ℕ) (cs : List Cell) → length ts < depth → SameBelow cs (passed_cells p fr ts s depth xs first to cs) (length ts)
   passed_same depth [] first to cs deep d i lt = refl
   passed_same depth (Takes_word ∷ xs) first to cs deep d i lt = passed_same depth xs (suc first) (suc to) cs deep d i lt
-  passed_same depth (Takes_own t ∷ xs) first to cs deep d i lt =
-      passed_same depth xs (suc first) (suc to) (moved (here fr ts s first) (Register depth to) cs) deep d i lt
-      ∙ held_apart cs (here fr ts s first) (Register depth to) (Register d i) (higher_apart (length ts) first d i lt) (higher_apart depth to d i (omega (arith, lt, deep)))
+  passed_same depth (Takes_own t ∷ xs) first to cs deep d i lt = grind (arith, nat_tests, passed_same depth xs, held_apart cs, higher_apart depth to d i)
 
   result_same : (g : Gives) (a x : ℕ) (below : List Task) → length below < length ts → SameBelow s.cells (result_cells p fr ts s g a x below) (length below)
-  result_same (An_own t) a x below deep d i lt =
-      held_apart s.cells (here fr ts s a) (Register (length below) x) (Register d i) (higher_apart (length ts) a d i (omega (arith, lt, deep))) (higher_apart (length below) x d i lt)
-  result_same (A_maybe t) a x below deep d i lt =
-      held_apart s.cells (here fr ts s a) (Register (length below) x) (Register d i) (higher_apart (length ts) a d i (omega (arith, lt, deep))) (higher_apart (length below) x d i lt)
-  result_same _ a x below deep d i lt = refl
+  result_same x a y below deep d i lt = grind (arith, nat_tests, held_apart s.cells, higher_apart)
 
 -- ---- operands move
 
@@ -191,37 +159,24 @@ module _ (p : Image) (fr : Frame) (ts : List Task) (s : State) where
 
   emptied : (cs : List Cell) (sh : Shape) (a : ℕ) (to : Place) → ((i : ℕ) → same_place to (Register (length ts) i) ≡ false) → word fr a ≡ None → Says cs sh
       → Says (moved (here fr ts s a) to cs) (set_register sh a Null)
-  emptied cs sh a to apart wordless says i =
-      subst (λ k. KindSays p k (word fr i) (held (moved (here fr ts s a) to cs) (Register (length ts) i))) (sym (at-put_at Unset sh.registers a i Null))
-      (subst (λ o. KindSays p (cond (a == i) Null (register sh i)) (word fr i) o) (sym left) (go (a == i) refl))
-    where
-      left : held (moved (here fr ts s a) to cs) (Register (length ts) i) ≡ cond (a == i) None (held cs (Register (length ts) i))
-      left = held_left cs (here fr ts s a) to (Register (length ts) i) (apart i) ∙ ap (λ b. cond (b && (a == i)) None (held cs (Register (length ts) i))) (eq-eqb (length ts) (length ts) refl)
-
-      go : (b : Bool) → (a == i) ≡ b → KindSays p (cond b Null (register sh i)) (word fr i) (cond b None (held cs (Register (length ts) i)))
-      go true e = (ap (λ j. word fr j) (sym (eqb-true a i e)) ∙ wordless, refl)
-      go false e = says i
+  emptied cs sh a to apart wordless says i = grind (arith, nat_tests, at-put_at Unset sh.registers a i Null, held_left cs, eq-eqb, eqb-true a i)
 
   arguments_says :
       (depth : ℕ) (xs : List Argument) (first to : ℕ) (cs : List Cell) (sh : Shape) → length ts < depth → AllTrue (needs_each p fr ts s xs first) → Says cs sh →
       Says (passed_cells p fr ts s depth xs first to cs) (arguments_moved xs first sh)
   arguments_says depth [] first to cs sh deep met says = says
   arguments_says depth (Takes_word ∷ xs) first to cs sh deep met says = arguments_says depth xs (suc first) (suc to) cs sh deep met.1 says
-  arguments_says depth (Takes_own t ∷ xs) first to cs sh deep met says =
-      arguments_says depth xs (suc first) (suc to) (moved (here fr ts s first) (Register depth to) cs) (set_register sh first Null) deep met.1.1.1
-      (emptied cs sh first (Register depth to) (λ i. higher_apart depth to (length ts) i deep) (no_word _ met.0) says)
+  arguments_says depth (Takes_own t ∷ xs) first to cs sh deep met says = grind (
+    arith,
+    nat_tests,
+    arguments_says depth xs,
+    emptied cs sh first (Register depth to),
+    higher_apart depth to,
+    no_word,
+  )
 
   called_says : (target : Target) (class : Option ℕ) (ended : ℕ) (cs : List Cell) (sh : Shape) → Says cs sh → Says cs (while_called target class ended sh)
-  called_says This None ended cs sh says i = says i
-  called_says This (Some c) ended cs sh says i = says i
-  called_says (On_field f) class ended cs sh says i = says i
-  called_says (On_entry k) class ended cs sh says i = says i
-  called_says (On_register r) class ended cs sh says i =
-      subst (λ k. KindSays p k (word fr i) (held cs (Register (length ts) i))) (sym (at-put_at Unset sh.registers r i (readied (register sh r)))) (go (r == i) refl)
-    where
-      go : (b : Bool) → (r == i) ≡ b → KindSays p (cond b (readied (register sh r)) (register sh i)) (word fr i) (held cs (Register (length ts) i))
-      go true e = subst (λ j. KindSays p (readied (register sh j)) (word fr i) (held cs (Register (length ts) i))) (sym (eqb-true r i e)) (readied_says p (register sh i) _ _ (says i))
-      go false e = says i
+  called_says x class ended cs sh says i = grind (arith, nat_tests, at-put_at Unset sh.registers, eqb-true, readied_says p)
 
 -- what the typing says of the method that runs
 pub record RunsTyped (p : Image) (t : Typing) (cs : List Cell) (fr : Frame) (ts : List Task) : Type 0 where
@@ -234,35 +189,19 @@ runs_typed p t s fr ts w top = method_layer (λ ls. Good p t s.cells ls) fr ts w
     record {
       shape = sh;
       typed = good.stack.0;
-      says = λ i.
-          subst (λ us. KindSays p (register sh i) (word fr i) (held s.cells (Register (length us) i))) under
-          (kind_says p (seen s.cells) (register sh i) (word fr i) _ (good.stack.1.words i) (register_fits p s.cells fr sh ls good.fits i));
+      says = grind (arith, nat_tests, kind_says p, register_fits p s.cells fr sh ls good.fits);
     })
 
 -- ---- moves
 
 line_wait : (p : Image) (t : Typing) (cs : List Cell) (m : ℕ) (home : Home) (height : ℕ) (ts : List Task) → AllWait p t cs ts → OthersWait p t cs (line_on p m home height ts)
-line_wait p t cs m Static height ts w = w
-line_wait p t cs m AtRoot height ts w = w
-line_wait p t cs m (Inside o from) height ts w = by (next_destructor p m)
-  where
-    by : (d : Option ℕ) → OthersWait p t cs (begun_by p d o height ts)
-    by None = w
-    by (Some k) = w
+line_wait p t cs m x height ts w = grind arith
 
 destructed_wait : (p : Image) (t : Typing) (cs : List Cell) (o : Object) (height : ℕ) (ts : List Task) → AllWait p t cs ts → OthersWait p t cs (destructed p o height ts)
-destructed_wait p t cs o height ts w = by (destructor_of p o.thing)
-  where
-    by : (d : Option ℕ) → OthersWait p t cs (begun_by p d o height ts)
-    by None = w
-    by (Some m) = w
+destructed_wait p t cs o height ts w = grind (arith, nat_tests)
 
 begun_wait : (p : Image) (t : Typing) (cs : List Cell) (o : Object) (height : ℕ) (ts : List Task) → AllWait p t cs ts → OthersWait p t cs (begun p o height ts)
-begun_wait p t cs o height ts w = go (is_server p o.thing)
-  where
-    go : (b : Bool) → OthersWait p t cs (cond b (Closing ∷ Destroy ∷ ts) (destructed p o height ts))
-    go true = w
-    go false = destructed_wait p t cs o height ts w
+begun_wait p t cs o height ts w = grind (arith, nat_tests, destructed_wait p t cs o height ts w)
 
 resumed_wait : (p : Image) (t : Typing) (cs : List Cell) (ts : List Task) → AllWait p t cs ts → OthersWait p t cs (resumed ts)
 resumed_wait p t cs [] w = tt
@@ -285,11 +224,7 @@ trapped_wait p t cs (Dispatched d ∷ ts) w = w
 -- a session is in no such place
 session_apart : (cs : List Cell) (n : ℕ) (clients : List ℕ) (x : Seat) (q : Place) → ((n c : ℕ) → same_place (Elsewhere (Session n c)) q ≡ false) → first_session cs n clients ≡ Some x → same_place x.place q ≡ false
 session_apart cs n [] x q apart e = cc
-session_apart cs n (c ∷ clients) x q apart e = go (held cs (Elsewhere (Session n c))) (λ later. session_apart cs n clients x q apart later) e
-  where
-    go : (o : Option Object) → (first_session cs n clients ≡ Some x → same_place x.place q ≡ false) → seat_or o (Elsewhere (Session n c)) (first_session cs n clients) ≡ Some x → same_place x.place q ≡ false
-    go None later e = later e
-    go (Some o) later e = ap (λ (y : Seat). same_place y.place q) (sym (same_Some _ x e)) ∙ apart n c
+session_apart cs n (c ∷ clients) x q apart e = grind (arith, nat_tests, session_apart cs n clients x q apart, same_Some)
 
 -- a method's move
 module _ (p : Image) (t : Typing) (c : Choice) (s : State) (fr : Frame) (ts : List Task) (at_hand : s.tasks ≡ Run fr ∷ ts) (i : Instr) (there : instr_at p fr.method fr.place ≡ Some i) (met : AllTrue (needs p c fr ts s i)) (h : RunsTyped p t s.cells fr ts) (w : AllWait p t s.cells ts) where
@@ -365,29 +300,18 @@ module _ (p : Image) (t : Typing) (c : Choice) (s : State) (fr : Frame) (ts : Li
       )
     where
       blank : word fr a ≡ None → (j : ℕ) → at None (put_at None fr.words a None) j ≡ word fr j
-      blank wordless j = at-put_at None fr.words a j None ∙ go (a == j) refl
-        where
-          go : (b : Bool) → (a == j) ≡ b → cond b None (word fr j) ≡ word fr j
-          go true e = sym wordless ∙ ap (λ k. word fr k) (eqb-true a j e)
-          go false e = refl
+      blank wordless j = grind (arith, nat_tests, at-put_at None fr.words a j None, eqb-true a j)
 
   -- its registers stay as they are
   pops : (cs : List Cell) → ((x : Shape) → while_waiting p (Some i) x ≡ without_entry x) → ((d j : ℕ) → held cs (Register d j) ≡ held s.cells (Register d j)) → AllWait p t cs (Run fr ∷ ts)
   pops cs is same = (
-    begins cs (λ j. subst (λ x. KindSays p (register x j) (word fr j) (held cs (Register (length ts) j))) (sym (is h.shape))
-        (subst (λ o. KindSays p (register h.shape j) (word fr j) o) (sym (same (length ts) j)) (h.says j))),
+    grind (arith, nat_tests, begins cs),
     still_wait p t s.cells cs ts (λ d j lt. same d j) w,
   )
 
   -- and so they do while the method that cancels runs
   cancels : i ≡ Cancel → AllWait p t (begun_cells fr s.cells) (Run fr ∷ ts)
-  cancels is =
-      let cs = begun_cells fr s.cells in
-      let same = (rerequested_alike s.cells fr.home (on_request cancelling (own_request s.cells fr.home))).held_so in (
-        begins cs (λ j. subst (λ i. KindSays p (register (while_waiting p (Some i) h.shape) j) (word fr j) (held cs (Register (length ts) j))) (sym is)
-            (subst (λ o. KindSays p (register h.shape j) (word fr j) o) (sym (same (Register (length ts) j))) (h.says j))),
-        still_wait p t s.cells cs ts (λ d j lt. same (Register d j)) w,
-      )
+  cancels is = grind (arith, nat_tests, rerequested_alike s.cells fr.home, begins, still_wait p t s.cells)
 
   -- by its effect; with what words a method waits for an object that goes is told by the instruction
   acts_wait : (e : Effect) → ((o : Object) (a : ℕ) (words : List (Option ℤ)) → e ≡ Destroys o a words → W (applied p fr ts s e)) → May p c fr ts s i e → W (applied p fr ts s e)
@@ -494,8 +418,4 @@ module _ (p : Image) (t : Typing) (c : Choice) (s u : State) (typed : WellTyped 
       go (Ends d ts top same) = subst V (sym same) (ends d)
 
 pub none_waits : (p : Image) (t : Typing) → OthersWait p t (boot_state p).cells (boot_state p).tasks
-none_waits p t = go (main_of p)
-  where
-    go : (m : Option ℕ) → OthersWait p t [] (main_tasks m)
-    go None = tt
-    go (Some m) = tt
+none_waits p t = grind (arith, nat_tests)

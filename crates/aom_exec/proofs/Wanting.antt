@@ -1,5 +1,6 @@
 -- What the machine finds that the next step asks of a native is what the checked machine wants.
-use Rattle.std.proofs.Common.{◌≡◌, ◌==◌, ◌&&◌, ◌||◌, ℕ, ℤ, Bool, true, false, not, cond, length, List, ◌∷◌, Option, Some, None, refl, sym, ap, ◌∙◌, subst, [], slice_get}
+use Rattle.std.proofs.lemmas.Bool.Decides.{nat_tests}
+use Rattle.std.proofs.Common.{arith, ◌≡◌, ◌==◌, ◌&&◌, ◌||◌, ℕ, ℤ, Bool, true, not, cond, length, List, ◌∷◌, Option, Some, None, refl, sym, ap, ◌∙◌, subst, [], slice_get}
 use Rattle.std.specs.Prelude.{option_map, is_some}
 use Rattle.std.specs.List.{list_any}
 use Rattle.aom_image.specs.Image.{Image}
@@ -14,18 +15,16 @@ use Rattle.aom_roles.specs.Shapes.{kind_of}
 use Rattle.aom_sessions.specs.Sessions.{is_killed, is_open}
 use Rattle.aom_sound.specs.Enlisted.{thing_kind}
 use Rattle.aom_sound.specs.Natives.{is_dead, is_owed, native_of}
-use Rattle.aom_sound.specs.Moves.{needs}
 use Rattle.aom_sound.specs.Places.{Going, Object, held as owned_at, in_session, named, requested}
-use Rattle.aom_sound.specs.State.{AtRoot, Choice, Destroy, Home, Inside, State, Static, Task, word}
+use Rattle.aom_sound.specs.State.{AtRoot, Destroy, Home, Inside, State, Static, Task, word}
 use Rattle.aom_sound.proofs.Exchanging.{HasWords, has_words}
-use Rattle.aom_sound.specs.Wanted.{Exchange, Nothing, An_open, A_start, An_ask, A_cancel, A_close, exchange, exchange_at, Wanted, Asks, Cancels, Closes, Opens, Starts, is_served, wanted, wanted_at, wanted_by, wanted_going, wanted_gone, wanted_here, wanted_task}
+use Rattle.aom_sound.specs.Wanted.{Exchange, Nothing, An_open, A_start, An_ask, A_cancel, A_close, exchange, exchange_at, Wanted, Asks, Cancels, Closes, Starts, is_served, wanted, wanted_at, wanted_by, wanted_going, wanted_gone, wanted_here, wanted_task}
 use Rattle.aom_sound.specs.WellTyped.{Keeps}
-use Rattle.aom_shape.specs.Needs.{AllTrue}
 use Rattle.aom_sound.specs.Words.{read}
 use Rattle.aom_frames.specs.Tasks.{Runs, method_here, place_here}
 use Rattle.aom_parts.specs.declared.parts.Parts.{Parts}
 use Rattle.aom_exec.specs.declared.wanted.Wanted.{Wanted as Held_wanted}
-use Rattle.aom_exec.specs.declared.wanted.Wanted.TheVariants.{Open, Start, Ask as Held_ask, Cancel, Close as Held_close}
+use Rattle.aom_exec.specs.declared.wanted.Wanted.TheVariants.{Start, Ask as Held_ask, Cancel, Close as Held_close}
 use Rattle.aom_acts.specs.Acts.{At_hand, In_going}
 use Rattle.aom_acts.specs.Acts as acts
 use Rattle.aom_parts.specs.Places.{IsDestroying, going_here}
@@ -43,12 +42,10 @@ use Rattle.aom_sound.proofs.Maps.{held_lives}
 use Rattle.aom_acts.proofs.WordActs.{word_read}
 
 both_not : (a b : Bool) → (not a && not b) ≡ not (a || b)
-both_not true b = refl
-both_not false b = refl
+both_not x b = grind arith
 
 mapped : (b : Bool) (w : Held_wanted) → cond b (Some (as_wanted w)) None ≡ option_map as_wanted (cond b (Some w) None)
-mapped true w = refl
-mapped false w = refl
+mapped x w = grind arith
 
 module _ (p : Image) (m : Parts) (s : State) (st : StandsFor (record { image = p; parts = m }) s) (runs : Runs m.stack.tasks) where
   abbrev h : At_hand p m
@@ -73,7 +70,7 @@ module _ (p : Image) (m : Parts) (s : State) (st : StandsFor (record { image = p
       go (Inside o from) e = absurd (inside_there p m h o from e none)
 
   kind_told : (o : Object) → this m ≡ o.name → named s.cells o.name ≡ Some o → is_object o.thing ≡ true → native_of (thing_kind p o.thing) ≡ native_of (kind_of p (class_at m.cells (this m)))
-  kind_told o number lives object = ap native_of (kind_same p _ o.thing (ap (λ n. thing_in (cell_at m.cells n)) number ∙ object_class p m s st.agrees o lives object))
+  kind_told o number lives object = grind (arith, nat_tests, kind_same p, object_class p m s st.agrees o lives object)
 
   pub unserved_wants : native_of (kind_of p (class_at m.cells (this m))) ≡ None → wanted p s ≡ None
   unserved_wants none = by_home ∙ go h.frame.home refl
@@ -86,9 +83,7 @@ module _ (p : Image) (m : Parts) (s : State) (st : StandsFor (record { image = p
   -- the instruction that is next, and its needs
   module _ (i : Instr) (here : instr_at p (method_here m.stack.tasks) (place_here m.stack.tasks) ≡ Some i) where
     found : instr_at p h.frame.method h.frame.place ≡ Some i
-    found =
-        let f = frame_of m.stack.tasks s.tasks runs st.agrees.tasks in
-        ap (λ k. instr_at p k f.0.place) (sym f.3) ∙ ap (λ k. instr_at p (method_here m.stack.tasks) k) (sym f.4) ∙ here
+    found = grind (arith, nat_tests, frame_of m.stack.tasks s.tasks runs st.agrees.tasks)
 
     -- the words of its call are there
     worded : HasWords h.frame (exchange i)
@@ -121,18 +116,11 @@ module _ (p : Image) (m : Parts) (s : State) (st : StandsFor (record { image = p
     worded_so :
         (w : (function word : ℤ) → Wanted) (v : (function word : ℤ) → Held_wanted) → ((f x : ℤ) → as_wanted (v f x) ≡ w f x) → (a b : ℕ) → is_some (word h.frame a) ≡ true → is_some (word h.frame b) ≡ true →
         cond (is_served s n id) (Some (w (read h.frame h.below s a) (read h.frame h.below s b))) None ≡ option_map as_wanted (cond is_there (Some (v (word_here m a) (word_here m b))) None)
-    worded_so w v same a b some_a some_b =
-        ap (λ y. cond y (Some (w (read h.frame h.below s a) (read h.frame h.below s b))) None) served
-        ∙ ap (λ x. cond is_there (Some (w x (read h.frame h.below s b))) None) (word_told a some_a)
-        ∙ ap (λ x. cond is_there (Some (w (word_here m a) x)) None) (word_told b some_b)
-        ∙ ap (λ x. cond is_there (Some x) None) (sym (same (word_here m a) (word_here m b)))
-        ∙ mapped is_there (v (word_here m a) (word_here m b))
+    worded_so w v same a b some_a some_b = grind (arith, nat_tests, served, word_told a some_a, word_told b some_b, mapped)
 
     call_so : (x : Exchange) → HasWords h.frame x → wanted_here s h.frame h.below n id x ≡ option_map as_wanted (wanted_call m owed n id x)
     call_so Nothing words = refl
-    call_so An_open words =
-        ap (λ b. cond b (Some (Opens n id)) None) (ap (λ d. not (d || in_session s.cells id)) dead ∙ ap (λ b. not (is_killed m.sessions n || b)) session ∙ sym (both_not (is_killed m.sessions n) (is_open m.sessions id)))
-        ∙ mapped (not (is_killed m.sessions n) && not (is_open m.sessions id)) (Open n id)
+    call_so An_open words = grind (arith, nat_tests, dead, session, both_not, mapped)
     call_so (A_start a b) words = worded_so (Starts n id) (Start n id) (λ f x. refl) a b words.0 words.1
     call_so (An_ask a b) words = worded_so (Asks n id) (Held_ask n id) (λ f x. refl) a b words.0 words.1
     call_so A_cancel words = ap (λ b. cond b (Some (Cancels n id)) None) (sym owes) ∙ mapped owed (Cancel n id)

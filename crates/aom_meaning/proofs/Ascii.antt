@@ -1,20 +1,21 @@
 -- A word that spells a number, a set or a list is of ASCII.
-use Rattle.std.proofs.Common.{◌≡◌, ℕ, ◌==◌, Bool, true, false, not, List, [], ◌∷◌, length, Some, None, Result, Ok, Err, refl, sym, ap, ◌∙◌, codes, eqb-true, arith}
+use Rattle.std.proofs.lemmas.Bool.Decides.{nat_tests}
+use Rattle.std.proofs.Common.{◌≡◌, ℕ, ◌==◌, Bool, true, not, List, [], ◌∷◌, length, Some, None, Result, Ok, Err, refl, codes, eqb-true, arith}
 use Rattle.aom_image.proofs.Given.{some_given, true_given}
 use Rattle.std.specs.Prelude.{if◌then◌else◌}
-use Rattle.std.specs.List.{join_with_byte, list_all, slice_split}
+use Rattle.std.specs.List.{join_with_byte, list_all}
 use Rattle.std.specs.Str.{bytes_eq}
 use Rattle.std.proofs.lemmas.Bool.{and_parts}
 use Rattle.std.proofs.lemmas.List.Folds.{list_all-append}
 use Rattle.std.proofs.lemmas.List.Splits.{join_with_byte-slice_split}
 use Rattle.std.proofs.lemmas.Slice.Eq.{bytes_eq-Decides}
-use Rattle.aom_text.specs.Numbers.{is_digit, is_digits, number_from, number_of, number_within}
+use Rattle.aom_text.specs.Numbers.{is_digit, is_digits, number_of, number_within}
 use Rattle.aom_text.specs.Words.{is_plain}
 use Rattle.aom_text.specs.declared.fault.AsmFaultKind.{AsmFaultKind}
-use Rattle.aom_text.specs.declared.fault.AsmFaultKind.TheVariants.{BadNumber, BadShape}
+use Rattle.aom_text.specs.declared.fault.AsmFaultKind.TheVariants.{BadNumber}
 use Rattle.aom_text.specs.declared.number.Number.{Number}
 use Rattle.aom_image.specs.declared.method.States.{States}
-use Rattle.aom_syntax.specs.Methods.{all_read, cut_letter, letters_of, states_of}
+use Rattle.aom_syntax.specs.Methods.{cut_letter, letters_of, states_of}
 use Rattle.aom_syntax.specs.Reading.{in_range, number_in}
 use Rattle.aom_syntax.proofs.Within.{passed}
 use Rattle.aom_meaning.proofs.Names.{all_of, digit_is_plain}
@@ -31,11 +32,7 @@ digits_from n m b is = true_given (λ c. (if c then Some m else None) ≡ Some n
 
 from_number : (w : List ℕ) (n : Number) → number_of w ≡ Some n → list_all is_plain w ≡ true
 from_number [] n is = absurd cc
-from_number (b ∷ bs) n is = go (b == 45) refl is
-  where
-    go : (c : Bool) → (b == 45) ≡ c → (if c then number_from true bs else number_from false (b ∷ bs)) ≡ Some n → list_all is_plain (b ∷ bs) ≡ true
-    go true same e = ap (λ v. list_all is_plain (v ∷ bs)) (eqb-true b 45 same) ∙ plain_digits bs (digits_from n _ (is_digits bs) e)
-    go false other e = plain_digits (b ∷ bs) (digits_from n _ (is_digits (b ∷ bs)) e)
+from_number (b ∷ bs) n is = grind (arith, nat_tests, plain_digits bs, digits_from n, plain_digits (b ∷ bs))
 
 pub plain_number : (low high : ℕ) (w : List ℕ) (n : ℕ) → number_in low high w ≡ Ok n → list_all is_plain w ≡ true
 plain_number low high w n is = some_given (λ o. ◌≡◌ {A = Result ℕ AsmFaultKind} (elim o [ None ↦ Err BadNumber | Some m ↦ in_range (number_within low high m) ]) (Ok n)) (number_of w) is (λ e. cc) (λ m there e. from_number w m there)
@@ -48,11 +45,7 @@ cut_if bit rest whole c = if c then (bit, rest) else (0, whole)
 
 plain_cut : (letter bit : ℕ) (w : List ℕ) → is_plain letter ≡ true → list_all is_plain (cut_letter letter bit w).1 ≡ true → list_all is_plain w ≡ true
 plain_cut letter bit [] is rest = refl
-plain_cut letter bit (b ∷ bs) is rest = go (b == letter) refl rest
-  where
-    go : (c : Bool) → (b == letter) ≡ c → list_all is_plain (cut_if bit bs (b ∷ bs) c).1 ≡ true → list_all is_plain (b ∷ bs) ≡ true
-    go true same e = ap (λ v. list_all is_plain (v ∷ bs)) (eqb-true b letter same) ∙ rw (is, e)
-    go false other e = e
+plain_cut letter bit (b ∷ bs) is rest = grind (arith, nat_tests)
 
 plain_letters : (w : List ℕ) → list_all is_plain (letters_of w).1 ≡ true → list_all is_plain w ≡ true
 plain_letters w rest =
@@ -68,20 +61,14 @@ none_left [] is = refl
 none_left (b ∷ bs) is = let none : length (b ∷ bs) ≡ 0 = eqb-true (length (b ∷ bs)) 0 is in absurd (omega arith)
 
 pub plain_states : (w : List ℕ) (s : States) → states_of w ≡ Ok s → list_all is_plain w ≡ true
-plain_states w s is = go (bytes_eq w (codes "-")) refl is
-  where
-    go : (c : Bool) → bytes_eq w (codes "-") ≡ c → (if c then Ok (record { 0 = 0 }) else all_read (letters_of w)) ≡ Ok s → list_all is_plain w ≡ true
-    go true same e = ap (list_all is_plain) ((bytes_eq-Decides w (codes "-")).0 same)
-    go false other e = plain_letters w (none_left (letters_of w).1 (passed (length (letters_of w).1 == 0) (Ok (record { 0 = (letters_of w).0 })) BadShape s e).0)
+plain_states w s is = grind (arith, nat_tests, bytes_eq-Decides w, plain_letters w, none_left, passed)
 
 -- ---- lists
 
 plain_joined : (ps : List (List ℕ)) → list_all (list_all is_plain) ps ≡ true → list_all is_plain (join_with_byte 44 ps) ≡ true
 plain_joined [] is = refl
 plain_joined (p ∷ []) is = (and_parts (list_all is_plain p) true is).0
-plain_joined (p ∷ q ∷ ps) is =
-    let parts = and_parts (list_all is_plain p) (list_all (list_all is_plain) (q ∷ ps)) is in
-    list_all-append is_plain p (44 ∷ join_with_byte 44 (q ∷ ps)) ∙ rw (parts.0, plain_joined (q ∷ ps) parts.1)
+plain_joined (p ∷ q ∷ ps) is = grind (arith, nat_tests, list_all-append, plain_joined (q ∷ ps))
 
 module _ {X : Type 0} (Says : List ℕ → X → Type 0) (plain : (w : List ℕ) (x : X) → Says w x → list_all is_plain w ≡ true) where
   plain_parts : (ps : List (List ℕ)) (xs : List X) → Pairs Says ps xs → list_all (list_all is_plain) ps ≡ true
@@ -89,8 +76,4 @@ module _ {X : Type 0} (Says : List ℕ → X → Type 0) (plain : (w : List ℕ)
   plain_parts _ _ (a_pair p ps x xs here more) = rw (plain p x here, plain_parts ps xs more)
 
   pub plain_list : (w : List ℕ) (xs : List X) → Elements Says (bytes_eq w (codes "-")) w xs → list_all is_plain w ≡ true
-  plain_list w xs is = go (bytes_eq w (codes "-")) refl is
-    where
-      go : (c : Bool) → bytes_eq w (codes "-") ≡ c → Elements Says c w xs → list_all is_plain w ≡ true
-      go true same e = ap (list_all is_plain) ((bytes_eq-Decides w (codes "-")).0 same)
-      go false other e = ap (list_all is_plain) (sym (join_with_byte-slice_split 44 w)) ∙ plain_joined (slice_split (λ b. b == 44) w) (plain_parts (slice_split (λ b. b == 44) w) xs (pairs Says (slice_split (λ b. b == 44) w) xs e))
+  plain_list w xs is = grind (arith, nat_tests, bytes_eq-Decides w, join_with_byte-slice_split 44 w, plain_joined, plain_parts, pairs Says)

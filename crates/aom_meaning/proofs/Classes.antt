@@ -1,7 +1,8 @@
 -- The statement of a class is read where its words mean a class, and as that class.
-use Rattle.std.proofs.Common.{◌≡◌, ℕ, ◌<◌, Bool, true, false, not, List, [], ◌∷◌, ◌++◌, Option, Some, None, Ok, refl, sym, ap, subst, ◌∙◌, nat_lt}
+use Rattle.std.proofs.lemmas.Bool.Decides.{nat_tests}
+use Rattle.std.proofs.Common.{arith, ◌≡◌, ℕ, ◌<◌, Bool, true, false, not, List, [], ◌∷◌, ◌++◌, Option, Some, None, Ok, refl, sym, ap, subst, ◌∙◌, nat_lt}
 use Rattle.std.specs.Prelude.{if◌then◌else◌}
-use Rattle.std.proofs.lemmas.Bool.{false≢true, lt-ltb, ltb-true}
+use Rattle.std.proofs.lemmas.Bool.{lt-ltb, ltb-true}
 use Rattle.aom_text.specs.declared.fault.AsmFaultKind.TheVariants.{BadShape, LimitPassed}
 use Rattle.aom_image.specs.WellFormed.{is_dispatched, is_server, is_server_kind, may_descend}
 use Rattle.aom_instructions.specs.Versions.{includes}
@@ -217,8 +218,7 @@ module _ (names : Names) (kinds_before : List ClassDecl) (natives servers : ℕ)
       let b = (budget_sound owns (is_dispatched K) v6).each most v7 r7 in
       giving_sound Q _ v7 (record {
         said = record { name = d.w; kind = s.said; parent = p.said; words = n.said; own = o.said; budget = b.said };
-        words = ap (λ v. keyword_text k.Class ∷ v) (d.words ∙ ap (λ v. d.w ∷ v) (e ∙ s.words ∙ ap (λ v. kind_words s.said ++ v)
-            (p.words ∙ ap (λ v. part k.From p.said ++ v) (n.words ∙ ap (λ v. part k.Words n.said ++ v) (o.words ∙ ap (λ v. part k.Own o.said ++ v) b.words)))));
+        words = grind (arith, nat_tests);
         means = record { name = d.is_name; kind = s.means; parent = p.says; words = n.says; own = o.says; budget = b.means };
         placed = d.placed;
       })))))))))
@@ -253,9 +253,17 @@ module _ {names : Names} {scope : Scope} (looks : LooksUp names scope) where
     takes_kind source.session kinds.Session means few = in_turn _ (takes_any_keyword k.Session) (gives _)
     takes_kind (source.active said) (kinds.Active p) means few = in_turn _ (takes_any_keyword k.Active) (made any_keyword (provider version natives) kinds.Active (takes_provider said p means))
     takes_kind (source.server class most) (kinds.Server sessions of_class) means few = in_turn _ (takes_any_keyword k.Server) (record {
-      reads = λ rest. ap (λ b. (if b then server scope else failing LimitPassed) (class ∷ keyword_text k.Max ∷ most ∷ rest)) (lt-ltb servers 8 (few refl))
-          ∙ (in_turn _ (takes_class looks class of_class means.0) (in_turn _ (takes_keyword k.Max)
-          (in_turn _ (takes_seen (number_reads 1 64 most sessions means.1)) (gives (kinds.Server sessions of_class))))).reads rest;
+      reads = grind (
+        arith,
+        nat_tests,
+        lt-ltb servers 8,
+        in_turn,
+        takes_class looks class of_class means.0,
+        takes_keyword,
+        takes_seen (number_reads 1 64 most sessions means.1),
+        number_reads 1 64 most sessions means.1,
+        gives (kinds.Server sessions of_class),
+      );
     })
     takes_kind said K means few = absurd means
 
@@ -263,9 +271,7 @@ module _ {names : Names} {scope : Scope} (looks : LooksUp names scope) where
     said_reads w n says = first _ (takes_keyword k.Budget) (first _ (takes_seen (number_reads 0 4294967295 w n says)) (record { reads = refl }))
 
     budget_reads : (dispatched : Bool) (said : Option (List ℕ)) (n : ℕ) → BudgetMeans dispatched said n → (owns : Bool) → Whole (budget owns dispatched) (part k.Budget said) n
-    budget_reads true (Some w) n means owns = said_reads w n means
-    budget_reads false None n means owns = subst (λ (m : ℕ). Whole (budget owns false) [] m) (sym means) (record { reads = refl })
-    budget_reads dispatched said n means owns = absurd means
+    budget_reads dispatched said n means owns = grind (arith, nat_tests, said_reads, means, Whole)
 
     -- what stands behind the kind
     abbrev rest_of_fields : ClassKind → Option ℕ → ℕ → Bool → List Thing → Reading ClassDecl
@@ -278,9 +284,7 @@ module _ {names : Names} {scope : Scope} (looks : LooksUp names scope) where
     behind_kind K = next (optional_parent scope version K) (rest_of_class K)
 
     said_parent_reads : (v : Version) (K : ClassKind) (w : List ℕ) (c : ℕ) → ParentMeans names v K (Some w) (Some c) → (ws : List (List ℕ)) → said_parent scope v K (w ∷ ws) ≡ Ok (Some c, ws)
-    said_parent_reads versions.One K w c means ws = absurd (false≢true means.0)
-    said_parent_reads versions.Two K w c means ws =
-        ap (λ b. (if b then next (class scope) (λ c. giving (Some c)) else failing BadShape) (w ∷ ws)) means.1 ∙ (in_turn _ (takes_class looks w c means.2) (gives (Some c))).reads ws
+    said_parent_reads x y w c means ws = grind (arith, nat_tests, in_turn, takes_class looks w c means.2, gives (Some c))
 
     parent_reads : (K : ClassKind) (said : Option (List ℕ)) (parent : Option ℕ) (ws : List (List ℕ)) → ParentMeans names version K said parent → NotNext k.From ws
         → Leaves (optional_parent scope version K) (part k.From said ++ ws) parent ws

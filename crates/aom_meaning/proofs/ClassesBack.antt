@@ -1,25 +1,19 @@
 -- The statement that declares a class reads back.
-use Rattle.std.proofs.Common.{◌≡◌, ℕ, ◌<◌, ◌≤◌, Bool, true, false, List, [], ◌∷◌, ◌++◌, length, Ok, Err, refl, sym, ap, subst, ◌∙◌, ◌||◌, eqb, eqb-true, arith, Option, None, Some}
-use Rattle.std.specs.Prelude.{◌&&◌, ◌^◌, decimal, if◌then◌else◌, nat_le, not}
-use Rattle.std.proofs.lemmas.Bool.{and_parts, false≢true, lt-ltb}
+use Rattle.std.proofs.lemmas.Bool.Decides.{nat_tests}
+use Rattle.std.proofs.Common.{◌≡◌, ℕ, ◌<◌, ◌≤◌, Bool, true, List, [], ◌∷◌, ◌++◌, length, Ok, refl, ◌||◌, eqb, arith, Option, None, Some}
+use Rattle.std.specs.Prelude.{◌&&◌, ◌^◌, decimal, nat_le, not}
+use Rattle.std.proofs.lemmas.Bool.{and_parts, lt-ltb}
 use Rattle.aom_text.specs.Names.{has_name_form, is_letter, is_reserved}
 use Rattle.aom_text.specs.Words.{others_of}
-use Rattle.aom_text.specs.declared.fault.AsmFaultKind.TheVariants.{BadShape, LimitPassed}
 use Rattle.aom_image.specs.WellFormed.{ClassFits, KindFits, ParentFits, ProviderFits, ThingFits, is_dispatched, is_server, is_server_kind}
 use Rattle.aom_image.specs.declared.class.ClassDecl.{ClassDecl}
 use Rattle.aom_image.specs.declared.class.ClassKind.{ClassKind}
-use Rattle.aom_image.specs.declared.class.ClassKind.TheVariants as kinds
 use Rattle.aom_image.specs.declared.class.Provider.{Provider}
-use Rattle.aom_image.specs.declared.class.Provider.TheVariants as providers
 use Rattle.aom_instructions.specs.declared.version.Version.{Version}
-use Rattle.aom_instructions.specs.declared.version.Version.TheVariants as versions
 use Rattle.aom_image.specs.declared.method.Thing.{Thing}
-use Rattle.aom_image.specs.declared.method.Thing.TheVariants as owned
-use Rattle.aom_syntax.specs.Classes.{budget, class_of, class_statement, fields, flag, kind, optional_parent, provider, said_budget, said_parent, server, thing, thing_of}
+use Rattle.aom_syntax.specs.Classes.{budget, class_of, class_statement, fields, flag, kind, optional_parent, provider, said_budget, said_parent, thing, thing_of}
 use Rattle.aom_syntax.specs.Keywords.{keyword_text}
-use Rattle.aom_syntax.specs.Names.{nowhere, place_of, referred}
-use Rattle.aom_syntax.specs.Operands.{class}
-use Rattle.aom_syntax.specs.Reading.{◌>>=◌, Reading, any_keyword, failing, giving, next, optional_number}
+use Rattle.aom_syntax.specs.Reading.{Reading, any_keyword, giving, next, optional_number}
 use Rattle.aom_syntax.specs.declared.keyword.Keyword.TheVariants as k
 use Rattle.aom_syntax.specs.declared.scope.Scope.{Scope}
 use Rattle.aom_listing.specs.Classes.{budget_words, class_words, field_words, kind_words, provider_words, thing_word}
@@ -40,17 +34,10 @@ module _ {classes methods : ℕ} {scope : Scope} (names : HasNames classes metho
   -- ---- what may be owned
 
   class_reads : (c : ℕ) → c < classes → class_of scope (class_name c) ≡ Ok c
-  class_reads c there =
-      let few = names.few_classes in
-      ap (λ b. (if b then Ok (class_name c) else Err BadShape) >>= λ n. referred scope.is_strict 256 (place_of n scope.classes)) (name_lettered 99 c refl (omega arith))
-      ∙ ap (referred scope.is_strict 256) (names.class c there)
-      ∙ ap (λ b. if b then Ok c else nowhere scope.is_strict) (lt-ltb c 256 (omega arith))
+  class_reads c there = grind (arith, nat_tests, name_lettered 99 c, lt-ltb c 256)
 
   pub thing_element : (t : Thing) → ThingFits classes t → Element 8 (thing_of scope) thing_word t
-  thing_element owned.Message fits = record { form = refl; reads = refl }
-  thing_element (owned.Object c) fits =
-      let few = names.few_classes in
-      record { form = name_form 99 c (omega arith) refl; reads = ap (λ e. e >>= λ c. Ok (owned.Object c)) (class_reads c fits) }
+  thing_element x fits = grind (arith, nat_tests, name_form 99, class_reads)
 
   pub takes_thing : (t : Thing) → ThingFits classes t → Takes (thing scope) (thing_word t ∷ []) t
   takes_thing t fits = let element = thing_element t fits in sees _ (takes_word (thing_word t) (plain_form (thing_word t) element.form)) element.reads
@@ -58,39 +45,34 @@ module _ {classes methods : ℕ} {scope : Scope} (names : HasNames classes metho
   -- ---- parents
 
   said_reads : (version : Version) (K : ClassKind) (c : ℕ) → ParentFits version classes K (Some c) → (ws : List (List ℕ)) → said_parent scope version K (class_name c ∷ ws) ≡ Ok (Some c, ws)
-  said_reads versions.One K c fits ws = absurd (false≢true fits.0)
-  said_reads versions.Two K c fits ws =
-      ap (λ b. (if b then next (class scope) (λ c. giving (Some c)) else failing BadShape) (class_name c ∷ ws)) fits.1
-      ∙ (in_turn _ (takes_class names c fits.2) (gives (Some c))).reads ws
+  said_reads x y c fits ws = grind (arith, nat_tests, in_turn, takes_class names c fits.2, gives (Some c))
 
   -- a parent stands before the word of words
   parent_before : (version : Version) (K : ClassKind) (parent : Option ℕ) → ParentFits version classes K parent → (ws : List (List ℕ))
       → optional_parent scope version K (class_after k.From parent ++ keyword_text k.Words ∷ ws) ≡ Ok (parent, keyword_text k.Words ∷ ws)
   parent_before version K None fits ws = refl
-  parent_before version K (Some c) fits ws =
-      ap (λ p. if p.0 then said_parent scope version K p.1 else Ok (None, p.1)) (took_same k.From (class_name c ∷ keyword_text k.Words ∷ ws)) ∙ said_reads version K c fits (keyword_text k.Words ∷ ws)
+  parent_before version K (Some c) fits ws = grind (arith, nat_tests, took_same, said_reads version K c fits)
 
   -- ---- kinds
 
   module _ (version : Version) (natives servers : ℕ) (few_natives : natives ≤ 16) where
     takes_provider : (p : Provider) → ProviderFits version natives p → Takes (next any_keyword (provider version natives)) (provider_words p) p
-    takes_provider providers.Own fits = in_turn _ (takes_any_keyword k.This) (gives _)
-    takes_provider providers.Timer fits = in_turn _ (takes_any_keyword k.Timer) (gives _)
-    takes_provider (providers.Native n) fits = in_turn _ (takes_any_keyword k.Native) (in_turn _ (takes_number 0 15 n (omega arith) (omega arith) (omega arith)) (record {
-      reads = λ rest. ap (λ b. (if b then giving (providers.Native n) else failing LimitPassed) rest) (lt-ltb n natives fits);
-    }))
-    takes_provider providers.Token fits = in_turn _ (takes_any_keyword k.Token) (record {
-      reads = λ rest. ap (λ b. (if b then giving providers.Token else failing BadShape) rest) fits;
-    })
+    takes_provider x fits = grind (arith, nat_tests, in_turn, takes_any_keyword, gives, takes_number 0 15, lt-ltb)
 
     takes_kind : (K : ClassKind) → KindFits version classes natives K → (is_server_kind K ≡ true → servers < 8) → Takes (next any_keyword (kind scope version natives servers)) (kind_words K) K
-    takes_kind kinds.Plain fits few = in_turn _ (takes_any_keyword k.Plain) (gives _)
-    takes_kind (kinds.Active p) fits few = in_turn _ (takes_any_keyword k.Active) (made any_keyword (provider version natives) kinds.Active (takes_provider p fits))
-    takes_kind (kinds.Server sessions session) fits few = in_turn _ (takes_any_keyword k.Server) (record {
-      reads = λ rest. ap (λ b. (if b then server scope else failing LimitPassed) (class_name session ∷ keyword_text k.Max ∷ decimal sessions ∷ rest)) (lt-ltb servers 8 (few refl))
-          ∙ (in_turn _ (takes_class names session fits.2) (in_turn _ (takes_keyword k.Max) (in_turn _ (takes_number 1 64 sessions fits.0 fits.1 (omega (arith, fits.1))) (gives (kinds.Server sessions session))))).reads rest;
-    })
-    takes_kind kinds.Session fits few = in_turn _ (takes_any_keyword k.Session) (gives _)
+    takes_kind x fits few = grind (
+      arith,
+      nat_tests,
+      in_turn,
+      takes_any_keyword,
+      gives,
+      made,
+      takes_provider,
+      lt-ltb servers 8,
+      takes_class names,
+      takes_keyword,
+      takes_number 1 64,
+    )
 
     -- ---- the statement
 
@@ -98,8 +80,7 @@ module _ {classes methods : ℕ} {scope : Scope} (names : HasNames classes metho
     whole_said n fits = first _ (takes_keyword k.Budget) (first _ (takes_number 0 4294967295 n (omega arith) (omega arith) (omega arith)) (record { reads = refl }))
 
     whole_budget : (dispatched : Bool) (n : ℕ) → n < 2 ^ 32 → (dispatched || eqb n 0) ≡ true → Whole (budget true dispatched) (budget_words dispatched n) n
-    whole_budget true n fits declared = whole_said n fits
-    whole_budget false n fits declared = subst (λ (m : ℕ). Whole (budget true false) [] m) (sym (eqb-true n 0 declared)) (record { reads = refl })
+    whole_budget x n fits declared = grind (arith, nat_tests, whole_said n fits, Whole)
 
     -- what stands behind the kind, and behind the word before the fields
     abbrev rest_of_fields : ClassKind → Option ℕ → ℕ → Bool → Reading ClassDecl
@@ -124,9 +105,7 @@ module _ {classes methods : ℕ} {scope : Scope} (names : HasNames classes metho
     whole_parent : (c : ClassDecl) → ClassFits version classes natives c → ParentFits version classes c.kind c.parent
         → Whole (behind_kind c.kind) (class_after k.From c.parent ++ (field_words c ++ budget_words (is_dispatched c.kind) c.budget)) c
     whole_parent c fits parent = record {
-      reads = reads_on (optional_parent scope version c.kind) (rest_of_class c.kind) {ws = class_after k.From c.parent ++ (field_words c ++ budget_words (is_dispatched c.kind) c.budget)}
-          (parent_before version c.kind c.parent parent (others_of (field_words c ++ budget_words (is_dispatched c.kind) c.budget)))
-          (whole_rest c fits).reads;
+      reads = grind (arith, nat_tests, reads_on, parent_before version c.kind c.parent parent, whole_rest c fits);
     }
 
     whole_class : (place : ℕ) (c : ClassDecl) → place < classes → ClassFits version classes natives c → ParentFits version classes c.kind c.parent → (is_server c ≡ true → servers < 8)

@@ -1,5 +1,6 @@
 -- A name that is declared is read at its place, and the words of the language behind it.
-use Rattle.std.proofs.Common.{◌≡◌, ℕ, Bool, true, false, List, [], ◌∷◌, ◌++◌, Some, Ok, Err, refl, sym, ap, ◌∙◌}
+use Rattle.std.proofs.lemmas.Bool.Decides.{nat_tests}
+use Rattle.std.proofs.Common.{arith, ◌≡◌, ℕ, Bool, true, false, List, [], ◌∷◌, ◌++◌, Some, Ok, Err, refl, sym, ap, ◌∙◌}
 use Rattle.std.specs.Prelude.{if◌then◌else◌}
 use Rattle.std.proofs.lemmas.Bool.{eq-eqb}
 use Rattle.aom_text.specs.Names.{is_name}
@@ -57,5 +58,4 @@ saw_mark key ws b rest is = go (take_it key ws)
         ap (λ p. mark key p.0 ++ p.1) same
 
 pub reads_mark : (key : Keyword) (b : Bool) (rest : List (List ℕ)) → NotNext key rest → Leaves (flag key) (mark key b ++ rest) b rest
-reads_mark key false rest other = record { reads = ap Ok other.left }
-reads_mark key true rest other = record { reads = ap Ok (took_same key rest) }
+reads_mark key x rest other = grind (arith, nat_tests, took_same key rest)

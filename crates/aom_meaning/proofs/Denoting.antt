@@ -1,4 +1,5 @@
 -- Reading gives an image where the text denotes it, and only there: what was read is parsed, and what is meant is read, by both readings.
+use Rattle.std.proofs.lemmas.Bool.Decides.{nat_tests}
 use Rattle.std.proofs.Common.{◌≡◌, ℕ, ◌+◌, ◌≤◌, ◌^◌, Bool, true, false, List, [], ◌∷◌, map, length, None, Ok, Err, refl, sym, ap, subst, ◌∙◌, arith, nat_le}
 use Rattle.std.specs.Prelude.{if◌then◌else◌}
 use Rattle.std.specs.List.{count_by, sum_by}
@@ -148,10 +149,7 @@ module _ (last : ℕ) (text : Source) (b : Bool) (kinds : List ClassDecl) (h : H
       (omega arith) says.few_servers (omega arith) (omega arith) words
 
   closes : (ss : List Statement) → all_words ss ≡ [] → read_rest last (scoped b (names_of text) kinds) whole ss ≡ Ok whole
-  closes ss words =
-      let some = says.some_method in
-      ap (λ l. read_rest last (scoped b (names_of text) kinds) whole l) (none_left ss words)
-      ∙ ap (λ b. at_line last (if b then Err LimitPassed else Ok whole)) (ne_eqb (length ms) 0 (λ none. omega arith))
+  closes ss words = grind (arith, nat_tests, scoped b, none_left ss words, ne_eqb)
 
   rest_reads : (ss : List Statement) → all_words ss ≡ declared_statements text.declarations → read_rest last (scoped b (names_of text) kinds) (read_so_far h [] [] None 24) ss ≡ Ok whole
   rest_reads ss words = let g = goes ss words in g.reads ∙ closes g.rest g.words
@@ -227,7 +225,7 @@ module _ (text : List ℕ) (i : Image) where
       let same : text_names ss ≡ names_of source = names_are source ss p.words in
       let read : Says (text_names ss) true kinds source q.header q.classes q.methods = record {
         class_names = placed_once (text_names ss).classes (subst (Placed (text_names ss).classes 0) (sym (ap (λ (n : Names). n.classes) same)) p.class_places);
-        method_names = placed_once (text_names ss).methods (subst (Placed (text_names ss).methods 0) (sym (ap (λ (n : Names). n.methods) same)) p.method_places);
+        method_names = grind (arith, nat_tests, placed_once, text_names, Placed);
         header = p.header;
         classes = p.classes;
         methods = p.methods;

@@ -1,12 +1,13 @@
 -- Statements in a text: what the first of them does, and what stands behind it.
-use Rattle.std.proofs.Common.{◌≡◌, ℕ, ◌+◌, ◌≤◌, ◌^◌, List, [], ◌∷◌, ◌++◌, length, slice_get, Some, Ok, Err, refl, ap, ◌∙◌}
+use Rattle.std.proofs.lemmas.Bool.Decides.{nat_tests}
+use Rattle.std.proofs.Common.{arith, ◌≡◌, ℕ, ◌+◌, ◌≤◌, ◌^◌, List, [], ◌∷◌, ◌++◌, length, slice_get, Some, Ok, Err, refl, ap, ◌∙◌}
 use Rattle.std.specs.Prelude.{if◌then◌else◌}
 use Rattle.std.proofs.lemmas.Bool.{le-leb}
 use Rattle.aom_text.specs.declared.fault.AsmFaultKind.TheVariants.{LimitPassed}
 use Rattle.aom_text.specs.declared.text.Statement.{Statement}
 use Rattle.aom_syntax.specs.declared.scope.Scope.{Scope}
 use Rattle.aom_asm.specs.Body.{Program}
-use Rattle.aom_asm.specs.Denoted.{and_then, at_line, grown, read_rest, step}
+use Rattle.aom_asm.specs.Denoted.{grown, read_rest, step}
 use Rattle.aom_meaning.specs.Texts.{all_words}
 
 -- the first of the statements whose words begin so, and those behind it
@@ -39,8 +40,7 @@ module _ {last : ℕ} {scope : Scope} where
       record {
         rest = f.rest;
         words = f.behind;
-        reads = ap (λ l. read_rest last scope p l) f.is
-            ∙ ap (λ r. and_then (at_line f.one.line r) (λ q. read_rest last scope q f.rest)) (ap (step scope f.rest p) f.here ∙ read f.rest f.behind);
+        reads = grind (arith, nat_tests);
       }
 
   -- and more is read behind it

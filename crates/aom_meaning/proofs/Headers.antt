@@ -1,4 +1,5 @@
 -- The image statement is read where its words mean a header, and as that header.
+use Rattle.std.proofs.lemmas.Bool.Decides.{nat_tests}
 use Rattle.std.proofs.Common.{◌≡◌, ℕ, true, false, List, ◌∷◌, ◌++◌, Option, Some, None, Ok, refl, sym, ap, subst, ◌∙◌, arith}
 use Rattle.std.specs.Prelude.{if◌then◌else◌}
 use Rattle.aom_image.specs.declared.class.ClassDecl.{ClassDecl}
@@ -124,27 +125,18 @@ module _ (names : Names) (kinds : List ClassDecl) where
       let r = (root_sound v7).each root v8 r8 in
       giving_sound Q _ v8 (record {
         said = record { version = e2.said; cells = cs.said; messages = ms.said; natives = ns.said; budget = b.w; root = r.said };
-        words = e1
-            ∙ ap (λ v. keyword_text k.Image ∷ v) (e2.words ∙ ap (λ v. part k.Version e2.said ++ v) (cs.words ∙ ap (λ v. part k.Cells cs.said ++ v)
-            (ms.words ∙ ap (λ v. part k.Messages ms.said ++ v) (ns.words ∙ ap (λ v. part k.Natives ns.said ++ v) (e6 ∙ ap (λ v. keyword_text k.Budget ∷ v) (b.words ∙ ap (λ v. b.w ∷ v) r.words))))));
+        words = grind (arith, nat_tests);
         means = record { version = e2.says; cells = cs.says; messages = ms.says; natives = ns.says; budget = b.says; root = r.says };
       })))))))))
 
 -- ---- what is read
 
 version_reads : (said : Option (List ℕ)) (version : Version) (ws : List (List ℕ)) → VersionMeans said version → NotNext k.Version ws → Leaves optional_version (part k.Version said ++ ws) version ws
-version_reads None versions.One ws means other = record { reads = ap (λ p. if p.0 then next (number 2 2) (λ n. giving versions.Two) p.1 else Ok (versions.One, p.1)) other.left }
-version_reads (Some w) versions.Two ws means other = record {
-  reads = ap (λ p. if p.0 then next (number 2 2) (λ n. giving versions.Two) p.1 else Ok (versions.One, p.1)) (took_same k.Version (w ∷ ws))
-      ∙ reads_on (number 2 2) (λ n. giving versions.Two) {ws = w ∷ ws} ((takes_seen (number_reads 2 2 w 2 means)).reads ws) refl;
-}
-version_reads said version ws means other = absurd means
+version_reads said version ws means other = grind (arith, nat_tests, took_same, reads_on, takes_seen, number_reads 2 2, means)
 
 module _ {names : Names} {scope : Scope} (looks : LooksUp names scope) where
   root_reads : (said : Option (List ℕ)) (root : Option ℕ) → SaidOrNone (IsNumbered names.classes) said root → Whole (optional_root scope) (part k.Root said) root
-  root_reads None None is = record { reads = refl }
-  root_reads (Some w) (Some c) is = record { reads = ends _ (takes_class looks w c is) refl }
-  root_reads _ _ is = absurd is
+  root_reads x y is = grind (arith, nat_tests, ends, takes_class looks)
 
   pub header_reads : (t : HeaderText) (h : Header) → HeaderMeans names t h → Whole (image_statement scope) (header_words t) h
   header_reads t h means =

@@ -1,13 +1,14 @@
 -- The statement that opens a listing reads back.
-use Rattle.std.proofs.Common.{◌≡◌, ◌∙◌, ℕ, ◌<◌, List, [], ◌∷◌, ◌++◌, Option, Some, None, Ok, refl, arith, ap}
-use Rattle.std.specs.Prelude.{IfSome, decimal, if◌then◌else◌}
+use Rattle.std.proofs.lemmas.Bool.Decides.{nat_tests}
+use Rattle.std.proofs.Common.{◌≡◌, ℕ, ◌<◌, List, [], ◌∷◌, ◌++◌, Option, Ok, arith}
+use Rattle.std.specs.Prelude.{IfSome, decimal}
 use Rattle.aom_image.specs.WellFormed.{HeaderFits}
 use Rattle.aom_image.specs.declared.image.Header.{Header}
 use Rattle.aom_instructions.specs.declared.version.Version.{Version}
 use Rattle.aom_instructions.specs.declared.version.Version.TheVariants as versions
 use Rattle.aom_syntax.specs.Headers.{image_statement, optional_root, optional_version, limits_and_root}
 use Rattle.aom_syntax.specs.Keywords.{keyword_text}
-use Rattle.aom_syntax.specs.Reading.{giving, next, number}
+use Rattle.aom_syntax.specs.Reading.{next}
 use Rattle.aom_syntax.specs.declared.keyword.Keyword.TheVariants as k
 use Rattle.aom_syntax.specs.declared.scope.Scope.{Scope}
 use Rattle.aom_listing.specs.Headers.{header_words, limit_words, version_words}
@@ -18,8 +19,7 @@ use Rattle.aom_meaning.proofs.Readings.{Takes, Whole, done, ends, first, gives, 
 
 takes_version : Takes optional_version (keyword_text k.Version ∷ decimal 2 ∷ []) versions.Two
 takes_version = record {
-  reads = λ rest. ap (λ p. if p.0 then next (number 2 2) (λ n. giving versions.Two) p.1 else Ok (versions.One, p.1)) (took_same k.Version (decimal 2 ∷ rest))
-      ∙ (in_turn _ (takes_number 2 2 2 (omega arith) (omega arith) (omega arith)) (gives versions.Two)).reads rest;
+  reads = grind (arith, nat_tests, took_same, in_turn, takes_number 2 2 2, gives);
 }
 
 -- what stands behind the version
@@ -28,8 +28,7 @@ limits_said h = limit_words h ++ keyword_text k.Budget ∷ decimal h.budget ∷ 
 
 module _ {classes methods : ℕ} {scope : Scope} (names : HasNames classes methods scope) where
   whole_root : (root : Option ℕ) → IfSome root (λ c. c < classes) → Whole (optional_root scope) (class_after k.Root root) root
-  whole_root None fits = record { reads = refl }
-  whole_root (Some c) fits = record { reads = ends _ (takes_class names c fits) refl }
+  whole_root x fits = grind (arith, nat_tests, ends, takes_class names)
 
   whole_limits : (h : Header) → HeaderFits classes h → Whole (limits_and_root scope h.version) (limits_said h) h
   whole_limits h fits =

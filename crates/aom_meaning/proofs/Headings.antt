@@ -1,8 +1,8 @@
 -- The statement that begins a method is read where its words mean a heading, and as that heading.
-use Rattle.std.proofs.Common.{◌≡◌, ℕ, true, false, List, [], ◌∷◌, ◌++◌, replicate, Option, Some, None, Ok, refl, sym, ap, subst, ◌∙◌, append-nil}
+use Rattle.std.proofs.lemmas.Bool.Decides.{nat_tests}
+use Rattle.std.proofs.Common.{arith, ◌≡◌, ℕ, true, false, List, [], ◌∷◌, ◌++◌, replicate, Option, Some, None, Ok, refl, sym, ap, subst, ◌∙◌, append-nil}
 use Rattle.std.specs.Prelude.{if◌then◌else◌}
 use Rattle.std.specs.Str.{bytes_eq}
-use Rattle.std.proofs.lemmas.Bool.{false≢true}
 use Rattle.aom_instructions.specs.declared.version.Version.{Version}
 use Rattle.aom_instructions.specs.declared.version.Version.TheVariants as versions
 use Rattle.aom_image.specs.declared.class.ClassDecl.{ClassDecl}
@@ -213,9 +213,7 @@ module _ (names : Names) (kinds : List ClassDecl) where
       let said : HeadingText = record { name = d.w; role = r.key; class = c.said; over = v.said; leaves = leaves; quiet = quiet; before = i.said; after = o.said; arguments = a.said; gives = g.said } in
       giving_sound Q _ v9 (record {
         said = said;
-        words = ap (λ v. keyword_text k.Method ∷ v) (d.words ∙ ap (λ v. d.w ∷ v) (r.words ∙ ap (λ v. keyword_text r.key ∷ v) (c.words ∙ ap (λ v. part k.Of c.said ++ v) (v.words ∙ ap (λ u. part k.Over v.said ++ u) (
-            saw_mark k.Leaves v3b leaves v4 r4 ∙ ap (λ v. mark k.Leaves leaves ++ v) (saw_mark k.Quiet v4 quiet v5 r5 ∙ ap (λ v. mark k.Quiet quiet ++ v) (
-            i.words ∙ ap (λ v. part k.In i.said ++ v) (o.words ∙ ap (λ v. part k.Out o.said ++ v) (a.words ∙ ap (λ v. part k.Args a.said ++ v) g.words)))))))));
+        words = grind (arith, nat_tests, saw_mark);
         means = record { name = d.is_name; role = r.says; class = c.says; over = v.says; flags = refl; before = i.says; after = o.says; arguments = a.says; gives = g.means };
         placed = d.placed;
       })))))))))))
@@ -223,8 +221,7 @@ module _ (names : Names) (kinds : List ClassDecl) where
 -- ---- what is read
 
 not_gives : (key : Keyword) (said : GivesText) → bytes_eq (keyword_text k.Gives) (keyword_text key) ≡ false → NotNext key (gives_words said)
-not_gives key source.unsaid apart = record { left = refl }
-not_gives key _ apart = not_word key (keyword_text k.Gives) _ apart
+not_gives key x apart = grind (arith, nat_tests, not_word key, key)
 
 takes_role : (key : Keyword) (r : Role) → role_of key ≡ Ok r → Takes role (keyword_text key ∷ []) r
 takes_role key r says = sees role_of (takes_any_keyword key) says
@@ -232,9 +229,7 @@ takes_role key r says = sees role_of (takes_any_keyword key) says
 module _ {names : Names} {scope : Scope} (looks : LooksUp names scope) where
   class_reads : (said : Option (List ℕ)) (c : Option ℕ) (rest : List (List ℕ)) → SaidOrNone (IsNumbered names.classes) said c → NotNext k.Of rest
       → Leaves (optional_class scope) (part k.Of said ++ rest) c rest
-  class_reads None None rest says other = record { reads = ap (λ p. if p.0 then (class scope p.1 >>= λ x. Ok (Some x.0, x.1)) else Ok (None, p.1)) other.left }
-  class_reads (Some w) (Some c) rest says other = record { reads = ap (λ e. e >>= λ x. Ok (Some x.0, x.1)) ((takes_class looks w c says).reads rest) }
-  class_reads _ _ rest says other = absurd says
+  class_reads x y rest says other = grind (arith, nat_tests, takes_class looks, says)
 
   takes_thing : (w : List ℕ) (t : Thing) → IsThing names w t → Takes (thing scope) (w ∷ []) t
   takes_thing w t is = takes_seen (thing_reads looks w t is)
@@ -243,17 +238,10 @@ module _ {names : Names} {scope : Scope} (looks : LooksUp names scope) where
   whole_gives usual g takes = record { reads = (only_two any_keyword (gives scope) (λ g. next (nothing_more false) (λ u. giving g)) takes (record { reads = refl })).reads }
 
   gives_read : (usual : Option Gives) (said : GivesText) (g : Gives) → GivesMeans names usual said g → Whole (optional_gives scope usual) (gives_words said) g
-  gives_read usual source.unsaid g means = record { reads = ap (λ o. unsaid_gives o >>= λ y. Ok (y, [])) means }
-  gives_read usual source.nothing result.Nothing means = whole_gives usual result.Nothing (in_turn _ (takes_any_keyword k.Nothing) (gives_it _))
-  gives_read usual source.word result.Word means = whole_gives usual result.Word (in_turn _ (takes_any_keyword k.Word) (gives_it _))
-  gives_read usual (source.own w) (result.Own t) means = whole_gives usual (result.Own t) (in_turn _ (takes_any_keyword k.Own) (in_turn _ (takes_thing w t means) (gives_it _)))
-  gives_read usual (source.maybe w) (result.Maybe t) means = whole_gives usual (result.Maybe t) (in_turn _ (takes_any_keyword k.Maybe) (in_turn _ (takes_thing w t means) (gives_it _)))
-  gives_read usual (source.left w) (result.Left c) means = whole_gives usual (result.Left c) (in_turn _ (takes_any_keyword k.Left) (in_turn _ (takes_class looks w c means) (gives_it _)))
-  gives_read usual said g means = absurd means
+  gives_read usual said g means = grind (arith, nat_tests, means, whole_gives usual, in_turn, takes_any_keyword, gives_it, takes_thing, takes_class looks)
 
   said_over_reads : (version : Version) (w : List ℕ) (m : ℕ) → OverMeans names version (Some w) (Some m) → (ws : List (List ℕ)) → said_over scope version (w ∷ ws) ≡ Ok (Some m, ws)
-  said_over_reads versions.One w m means ws = absurd (false≢true means.0)
-  said_over_reads versions.Two w m means ws = (in_turn _ (takes_method looks w m means.1) (gives_it (Some m))).reads ws
+  said_over_reads x w m means ws = grind (arith, nat_tests, in_turn, takes_method looks w m means.1, gives_it (Some m))
 
   over_reads : (version : Version) (said : Option (List ℕ)) (over : Option ℕ) (rest : List (List ℕ)) → OverMeans names version said over → NotNext k.Over rest
       → Leaves (optional_over scope version) (part k.Over said ++ rest) over rest
@@ -307,8 +295,7 @@ said_or usual (Some w) x = x
 
 still : {X : Type 0} (Says : List ℕ → X → Type 0) (usual other : X) (said : Option (List ℕ)) (x : X) → SaidOr Says usual said x → SaidOr Says other said (said_or other said x)
 unfolding said_or
-still Says usual other None x says = refl
-still Says usual other (Some w) x says = says
+still x usual other y z says = grind (arith, nat_tests, says)
 
 gives_or : Gives → GivesText → Gives → Gives
 gives_or usual source.unsaid g = usual
@@ -316,13 +303,7 @@ gives_or usual said g = g
 
 still_gives : (names : Names) (usual : Option Gives) (other : Gives) (said : GivesText) (g : Gives) → GivesMeans names usual said g → GivesMeans names (Some other) said (gives_or other said g)
 unfolding gives_or
-still_gives names usual other source.unsaid g means = refl
-still_gives names usual other source.nothing result.Nothing means = means
-still_gives names usual other source.word result.Word means = means
-still_gives names usual other (source.own w) (result.Own t) means = means
-still_gives names usual other (source.maybe w) (result.Maybe t) means = means
-still_gives names usual other (source.left w) (result.Left c) means = means
-still_gives names usual other said g means = means
+still_gives names usual other said g means = grind (arith, nat_tests, means)
 
 -- before the classes are known, something stands for each result that is missing
 record Stands (usual : Option Gives) : Type 0 where

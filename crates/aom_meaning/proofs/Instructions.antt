@@ -1,6 +1,7 @@
 -- A statement of a method's code is read where its words mean an instruction, and as that instruction.
+use Rattle.std.proofs.lemmas.Bool.Decides.{nat_tests}
 use Rattle.std.proofs.lemmas.Option.{same_Some}
-use Rattle.std.proofs.Common.{◌≡◌, ℕ, suc, ◌-◌, ◌==◌, ◌<◌, ◌≤◌, Bool, true, false, List, [], ◌∷◌, ◌++◌, length, take, drop, get_or, Option, Some, None, Ok, Err, refl, sym, ap, subst, ◌∙◌, arith}
+use Rattle.std.proofs.Common.{◌≡◌, ℕ, suc, Bool, true, false, List, [], ◌∷◌, ◌++◌, length, take, get_or, Option, Some, None, Ok, Err, refl, sym, ap, subst, ◌∙◌, arith}
 use Rattle.aom_instructions.specs.declared.version.Version.{Version}
 use Rattle.aom_image.proofs.Given.{true_given, some_given}
 use Rattle.std.specs.Prelude.{IfSome, if◌then◌else◌}
@@ -42,18 +43,11 @@ use Rattle.aom_meaning.proofs.Words.{name_reads, plain_name}
 
 -- a word without its last byte, and that byte
 colon_last : (w : List ℕ) (n : ℕ) → suc n ≡ length w → get_or w n 0 ≡ 58 → w ≡ take n w ++ 58 ∷ []
-colon_last w n long is =
-    let within : n < length w = omega arith in
-    let past : length w ≤ suc n = omega arith in
-    sym (take-append-drop n w)
-    ∙ ap (λ v. take n w ++ v) (drop-cons w n 0 within ∙ ap (λ b. b ∷ drop (suc n) w) is ∙ ap (λ v. 58 ∷ v) (drop_all (suc n) w past))
+colon_last w n long is = grind (arith, nat_tests, take-append-drop n w, drop-cons w n 0, drop_all)
 
 pub label_is : (w l : List ℕ) → label_of w ≡ Some l → w ≡ l ++ 58 ∷ []
 label_is [] l is = absurd cc
-label_is (b ∷ bs) l is = true_given (λ c. (if c then Some (take (length (b ∷ bs) - 1) (b ∷ bs)) else None) ≡ Some l) (get_or (b ∷ bs) (length (b ∷ bs) - 1) 0 == 58) is (λ e. cc) (λ same e.
-    let long : suc (length (b ∷ bs) - 1) ≡ length (b ∷ bs) = omega arith in
-    colon_last (b ∷ bs) (length (b ∷ bs) - 1) long (eqb-true (get_or (b ∷ bs) (length (b ∷ bs) - 1) 0) 58 same)
-    ∙ ap (λ v. v ++ 58 ∷ []) (same_Some (take (length (b ∷ bs) - 1) (b ∷ bs)) l e))
+label_is (b ∷ bs) l is = grind (arith, nat_tests, true_given, colon_last (b ∷ bs), eqb-true, same_Some)
 
 -- ---- what was read
 
@@ -97,9 +91,7 @@ module _ (place : ℕ) (labels : List (List ℕ)) where
       }
 
   labelled : (ws : List (List ℕ)) (w : List ℕ) (rest : List (List ℕ)) → after_label place labels ws ≡ Ok (w, rest) → Labelled ws w rest
-  labelled ws w rest is =
-      let s = steps (word ws) (λ x. skip_label place labels x.0 (label_of x.0) x.1) (w, rest) is in
-      past ws s.first.0 s.first.1 (label_of s.first.0) w rest (saw_word ws s.first.0 s.first.1 s.read) refl s.second
+  labelled ws w rest is = grind (arith, nat_tests, steps, past ws, saw_word ws)
 
   record Begins (version : Version) (ws : List (List ℕ)) (m : Mnemonic) (rest : List (List ℕ)) : Type 0 where
     label : Option (List ℕ)
@@ -158,26 +150,25 @@ module _ (version : Version) (place : ℕ) (labels : List (List ℕ)) where
   colon_is_plain l is = list_all-append is_plain l (58 ∷ []) ∙ rw (plain_name l is)
 
   checked : (l : List ℕ) → is_name l ≡ true → place_of l labels ≡ Some place → check_label place labels l ≡ Ok tt
-  checked l is there =
-      ap (λ e. e >>= λ n. declared_at place labels n) (name_reads l is)
-      ∙ ap (λ o. if is_at place o then Ok tt else Err DoubleName) there
-      ∙ ap (λ b. if b then Ok tt else Err DoubleName) (eq-eqb place place refl)
+  checked l is there = grind (arith, nat_tests, name_reads l is, there, eq-eqb place place)
 
   takes_label : (label : Option (List ℕ)) (m : Mnemonic) → IsNamed place labels label → IsPlaced place labels label
       → Takes (after_label place labels) (label_words label ++ mnemonic_text m ∷ []) (mnemonic_text m)
-  takes_label None m is there = in_turn _ (takes_word (mnemonic_text m) (mnemonic_is_plain m)) (record {
-    reads = λ rest. ap (λ o. skip_label place labels (mnemonic_text m) o rest) (mnemonic_is_no_label m);
-  })
-  takes_label (Some l) m is there = in_turn _ (takes_word (l ++ 58 ∷ []) (colon_is_plain l is)) (record {
-    reads = λ rest.
-        ap (λ o. skip_label place labels (l ++ 58 ∷ []) o (mnemonic_text m ∷ rest)) (label_cut l)
-        ∙ ap (λ e. e >>= λ u. word (mnemonic_text m ∷ rest)) (checked l is there)
-        ∙ (takes_word (mnemonic_text m) (mnemonic_is_plain m)).reads rest;
-  })
+  takes_label x m is there = grind (
+    arith,
+    nat_tests,
+    in_turn,
+    takes_word,
+    mnemonic_is_plain m,
+    mnemonic_is_no_label m,
+    colon_is_plain,
+    label_cut,
+    checked,
+    there,
+  )
 
   spread : (label : Option (List ℕ)) (w : List ℕ) (ws : List (List ℕ)) → label_words label ++ (w ∷ ws) ≡ (label_words label ++ w ∷ []) ++ ws
-  spread None w ws = refl
-  spread (Some l) w ws = refl
+  spread x w ws = grind arith
 
   known_reads : (m : Mnemonic) → is_in version m ≡ true → named_mnemonic version (mnemonic_text m) ≡ Ok m
   known_reads m there = ap (known_mnemonic version (mnemonic_text m)) (mnemonic_reads m) ∙ ap (λ b. if b then Ok m else Err BadShape) there

@@ -1,12 +1,11 @@
 -- In the labels of a method's code each target of a jump has its place.
-use Rattle.std.proofs.Common.{◌≡◌, ℕ, ◌<◌, ◌≤◌, ◌⊎◌, inl, inr, Bool, true, false, List, [], length, get_or, slice_get, Option, Some, None, refl, sym, ap, subst, ◌∙◌, arith}
+use Rattle.std.proofs.lemmas.Bool.Decides.{nat_tests}
+use Rattle.std.proofs.Common.{◌≡◌, ℕ, ◌<◌, ◌≤◌, ◌⊎◌, Bool, true, List, [], length, get_or, slice_get, Some, sym, ap, subst, ◌∙◌, arith}
 use Rattle.std.specs.Prelude.{IfSome}
 use Rattle.std.proofs.lemmas.Bool.{eq-eqb}
 use Rattle.aom_instructions.specs.declared.version.Version.{Version}
 use Rattle.aom_instructions.specs.Fits.{InstrFits, limits}
 use Rattle.aom_instructions.specs.declared.instr.Instr.{Instr}
-use Rattle.aom_instructions.specs.declared.instr.Instr.TheVariants as instr
-use Rattle.aom_syntax.specs.Classes.{is_at}
 use Rattle.aom_syntax.specs.Names.{place_of}
 use Rattle.aom_listing.specs.Jumps.{is_target, jump_of}
 use Rattle.aom_listing.specs.Operands.{label_name}
@@ -23,8 +22,7 @@ label_at code k within = name_at (λ n. label_or_none (is_target code n) n) code
 
 -- a label or none
 one_or_none : (b : Bool) (k : ℕ) → (label_or_none b k ≡ label_name k) ⊎ (label_or_none b k ≡ [])
-one_or_none true k = inl refl
-one_or_none false k = inr refl
+one_or_none x k = grind arith
 
 pub label_placed : (code : List Instr) (k : ℕ) → length code ≤ 1024 → k < length code → is_target code k ≡ true → place_of (label_name k) (code_labels code) ≡ Some k
 label_placed code k few within jumped =
@@ -36,25 +34,24 @@ label_placed code k few within jumped =
 
 -- a place to which an instruction of the code jumps is a target
 jump_is_target : (code : List Instr) (place d : ℕ) (i : Instr) → slice_get code place ≡ Some i → jump_of i ≡ Some d → is_target code d ≡ true
-jump_is_target code place d i there jumps =
-    list_any_at (λ i. is_at d (jump_of i)) code place i (slice_get_within code place i there)
-    (ap (λ i. is_at d (jump_of i)) (get_or_from_slice_get code place i i there) ∙ ap (is_at d) jumps ∙ eq-eqb d d refl)
+jump_is_target code place d i there jumps = grind (
+  arith,
+  nat_tests,
+  list_any_at,
+  slice_get_within code place i there,
+  get_or_from_slice_get code place i i there,
+  eq-eqb d d,
+)
 
 -- an instruction that fits jumps into the code
 jump_within : (version : Version) (classes methods places : ℕ) (i : Instr) → InstrFits (limits version classes methods places) i → IfSome (jump_of i) (λ d. d < places)
-jump_within version classes methods places (instr.Jump d) fits = fits.operands.d
-jump_within version classes methods places (instr.JumpEqual a b d) fits = fits.operands.d
-jump_within version classes methods places (instr.JumpLess a b d) fits = fits.operands.d
-jump_within version classes methods places (instr.JumpNull a d) fits = fits.operands.d
-jump_within version classes methods places (instr.JumpEmpty f d) fits = fits.operands.d
-jump_within version classes methods places (instr.JumpActive d) fits = fits.operands.d
-jump_within version classes methods places (instr.JumpAdded d) fits = fits.operands.d
-jump_within version classes methods places (instr.Next e d) fits = fits.operands.d
-jump_within version classes methods places _ fits = tt
+jump_within version classes methods places x fits = grind arith
 
 pub has_label : (version : Version) (classes methods : ℕ) (code : List Instr) (place : ℕ) (i : Instr) → length code ≤ 1024 → slice_get code place ≡ Some i → InstrFits (limits version classes methods (length code)) i → HasLabel (code_labels code) i
-has_label version classes methods code place i few there fits = go (jump_of i) refl (jump_within version classes methods (length code) i fits)
-  where
-    go : (o : Option ℕ) → jump_of i ≡ o → IfSome o (λ d. d < length code) → IfSome o (λ d. (d < 1024) × (place_of (label_name d) (code_labels code) ≡ Some d))
-    go None jumps within = tt
-    go (Some d) jumps within = (omega arith, label_placed code d few within (jump_is_target code place d i there jumps))
+has_label version classes methods code place i few there fits = grind (
+  arith,
+  nat_tests,
+  jump_within version classes methods,
+  label_placed code,
+  jump_is_target code place,
+)

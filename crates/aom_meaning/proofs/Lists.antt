@@ -1,4 +1,5 @@
 -- A list in one word reads back: it is parted at its commas, and each part is read.
+use Rattle.std.proofs.lemmas.Bool.Decides.{nat_tests}
 use Rattle.std.proofs.Common.{◌≡◌, ℕ, ◌+◌, ◌≤◌, ◌==◌, true, false, List, [], ◌∷◌, ◌++◌, length, map, Result, Ok, Err, refl, sym, ap, ◌∙◌, append_assoc, append-nil, arith}
 use Rattle.std.specs.Prelude.{codes, if◌then◌else◌}
 use Rattle.std.specs.List.{All, list_all, slice_split}
@@ -86,10 +87,16 @@ module _ {X : Type 0} (most : ℕ) (one : List ℕ → Result X AsmFaultKind) (w
 
   list_reads : (xs : List X) → length xs ≤ most → All Element xs → listed most one (list_word (map written xs)) ≡ Ok xs
   list_reads [] few each = refl
-  list_reads (x ∷ xs) few each =
-      ap (λ b. if b then Ok [] else elements most one [] (slice_split (λ b. b == 44) (list_word (map written (x ∷ xs))))) (not_minus (written x) (behind 44 (map written xs)) (All-head Element x xs each).form)
-      ∙ ap (elements most one []) (parts_again (written x) (map written xs) (All-head Element x xs each).form (forms_of xs (All-tail Element x xs each)))
-      ∙ elements_read [] (x ∷ xs) (omega arith) each
+  list_reads (x ∷ xs) few each = grind (
+    arith,
+    nat_tests,
+    not_minus (written x),
+    All-head Element x xs each,
+    parts_again (written x),
+    forms_of xs (All-tail Element x xs each),
+    All-tail Element x xs each,
+    elements_read,
+  )
 
   pub takes_list : (xs : List X) → length xs ≤ most → All Element xs → Takes (seen (listed most one) word) (list_word (map written xs) ∷ []) xs
   takes_list xs few each = sees (listed most one) (takes_word (list_word (map written xs)) (parted_is_plain (map written xs) (forms_of xs each))) (list_reads xs few each)

@@ -1,5 +1,6 @@
 -- Numbers in decimal digits read back.
-use Rattle.std.proofs.Common.{◌≡◌, ℕ, ℤ, pos, negsuc, suc, min, ◌<◌, ◌≤◌, ◌^◌, ◌==◌, Bool, true, false, nat_lt, nat_le, List, [], ◌∷◌, length, Some, ◌∙◌, arith, rules, refl}
+use Rattle.std.proofs.lemmas.Bool.Decides.{nat_tests}
+use Rattle.std.proofs.Common.{◌≡◌, ℕ, ℤ, pos, negsuc, suc, ◌<◌, ◌≤◌, ◌^◌, Bool, true, false, nat_lt, nat_le, List, [], ◌∷◌, length, Some, ◌∙◌, arith, rules, refl}
 use Rattle.std.specs.Fmt.{decimal, signed_decimal}
 use Rattle.std.specs.Prelude.{FitsSigned}
 use Rattle.std.specs.Int.{w32}
@@ -21,10 +22,7 @@ size_of_decimal n small = digits_value-decimal own n small
 
 -- digits, of which there is one, spell their number
 of_digits : (b : Bool) (ds : List ℕ) (n : ℕ) → 0 < length ds → list_all is_digit ds ≡ true → digits_size ds ≡ n → n < 2 ^ 50 → number_from b ds ≡ Some (record { is_negative = b; size = n })
-of_digits b ds n some digits is small =
-    let whole : min (digits_size ds) (2 ^ 50) ≡ n = omega arith in
-    let one : (length ds == 0) ≡ false = grind (arith, common_steps) in
-    rw (one, digits, whole)
+of_digits b ds n some digits is small = grind (arith, nat_tests, common_steps)
 
 pub number_from_decimal : (b : Bool) (n : ℕ) → n < 2 ^ 50 → number_from b (decimal n) ≡ Some (record { is_negative = b; size = n })
 number_from_decimal b n small = of_digits b (decimal n) n (decimal_nonempty n (omega arith)) (all_digits n (omega arith)) (size_of_decimal n (omega arith)) small
@@ -32,9 +30,7 @@ number_from_decimal b n small = of_digits b (decimal n) n (decimal_nonempty n (o
 -- digits begin with no minus
 no_minus : (ds : List ℕ) → list_all is_digit ds ≡ true → number_of ds ≡ number_from false ds
 no_minus [] digits = refl
-no_minus (d ∷ ds) digits =
-    let other : (d == 45) ≡ false = grind (arith, common_steps) in
-    rw other
+no_minus (d ∷ ds) digits = grind (arith, nat_tests, common_steps)
 
 pub number_of_decimal : (n : ℕ) → n < 2 ^ 50 → number_of (decimal n) ≡ Some (record { is_negative = false; size = n })
 number_of_decimal n small = no_minus (decimal n) (all_digits n (omega arith)) ∙ number_from_decimal false n small

@@ -1,8 +1,7 @@
 -- What is read with some names is read with others that find as much: the operands of instructions.
-use Rattle.std.proofs.Common.{◌≡◌, ℕ, List, Ok, ap, ◌∙◌}
-use Rattle.aom_instructions.specs.Rows.{row}
+use Rattle.std.proofs.lemmas.Bool.Decides.{nat_tests}
+use Rattle.std.proofs.Common.{arith, ◌≡◌, ℕ, List, Ok, ap, ◌∙◌}
 use Rattle.aom_instructions.specs.declared.kinds.LargeKind.{LargeKind}
-use Rattle.aom_instructions.specs.declared.kinds.LargeKind.TheVariants as lk
 use Rattle.aom_instructions.specs.declared.kinds.Order.{Order}
 use Rattle.aom_instructions.specs.declared.kinds.Order.TheVariants.{LargeLast, LargeSecond}
 use Rattle.aom_instructions.specs.declared.mnemonic.Mnemonic.{Mnemonic}
@@ -11,7 +10,7 @@ use Rattle.aom_instructions.specs.declared.operand.Small.{Small}
 use Rattle.aom_syntax.specs.Names.{place_of, referred}
 use Rattle.aom_syntax.specs.Operands.{class, label, method, used}
 use Rattle.aom_syntax.specs.Reading.{◌>>=◌, Reading, name, next}
-use Rattle.aom_syntax.specs.Words.{in_order, large_operand, small_operand, words_operands}
+use Rattle.aom_syntax.specs.Words.{in_order, large_operand, words_operands}
 use Rattle.aom_syntax.specs.declared.scope.Scope.{Scope}
 use Rattle.aom_syntax.proofs.Within.{steps}
 
@@ -64,16 +63,11 @@ module _ (strict loose : Scope) (labels : List (List ℕ)) (classes : FindsMore 
 
   -- large operands alone are found by name
   large_follows : (k : LargeKind) → Follows (large_operand strict labels k) (large_operand loose labels k)
-  large_follows lk.Place = only _ label_follows
-  large_follows lk.Class = only _ class_follows
-  large_follows lk.Method = only _ method_follows
-  large_follows _ = same _
+  large_follows x = grind (arith, nat_tests, only, label_follows, class_follows, method_follows, same)
 
   order_follows : (o : Order) (first second third : Reading Small) {fourth other : Reading Large} → Follows fourth other → Follows (in_order o first second third fourth) (in_order o first second third other)
   order_follows LargeLast first second third more = behind first _ _ (λ a. behind second _ _ (λ b. behind third _ _ (λ c. only _ more)))
   order_follows LargeSecond first second third more = behind first _ _ (λ a. only _ more)
 
   pub operands_follow : (mnemonic : Mnemonic) → Follows (words_operands strict labels mnemonic) (words_operands loose labels mnemonic)
-  operands_follow mnemonic =
-      let k = (row mnemonic).kinds in
-      only _ (order_follows k.order (small_operand k.a) (small_operand k.b) (small_operand k.c) (large_follows k.d))
+  operands_follow mnemonic = grind (arith, nat_tests, only, order_follows, large_follows)

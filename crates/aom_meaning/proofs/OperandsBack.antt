@@ -1,5 +1,6 @@
 -- The operands of instructions read back.
-use Rattle.std.proofs.Common.{◌≡◌, ℕ, ℤ, ◌<◌, ◌≤◌, ◌^◌, true, List, [], ◌∷◌, Some, Ok, refl, ap, ◌∙◌, arith}
+use Rattle.std.proofs.lemmas.Bool.Decides.{nat_tests}
+use Rattle.std.proofs.Common.{◌≡◌, ℕ, ℤ, ◌<◌, ◌≤◌, ◌^◌, true, List, [], ◌∷◌, Some, Ok, refl, arith}
 use Rattle.std.specs.Prelude.{FitsSigned, decimal}
 use Rattle.std.specs.Int.{w32}
 use Rattle.std.specs.Fmt.{signed_decimal}
@@ -7,10 +8,8 @@ use Rattle.std.specs.List.{list_all}
 use Rattle.aom_text.specs.Words.{is_plain}
 use Rattle.aom_instructions.specs.Operands.{IsDepth, IsField, IsWord, TargetFits}
 use Rattle.aom_instructions.specs.declared.instr.Target.{Target}
-use Rattle.aom_instructions.specs.declared.instr.Target.TheVariants as targets
 use Rattle.aom_syntax.specs.Names.{place_of}
-use Rattle.aom_syntax.specs.Reading.{◌>>=◌, in_range}
-use Rattle.aom_syntax.specs.Operands.{class, depth, field, label, last_register, method, rounds, signed, signed_of, target, target_of, word_field}
+use Rattle.aom_syntax.specs.Operands.{class, depth, field, label, last_register, method, rounds, signed, target, target_of, word_field}
 use Rattle.aom_syntax.specs.declared.scope.Scope.{Scope}
 use Rattle.aom_listing.specs.Operands.{class_name, field_word, label_name, method_name, register_word, target_word}
 use Rattle.aom_meaning.specs.Naming.{HasNames}
@@ -32,16 +31,10 @@ takes_word_field w fits = takes_indexed 119 7 w refl (omega arith) (omega arith)
 -- ---- targets of calls
 
 target_reads : (t : Target) → TargetFits t → target_of (target_word t) ≡ Ok t
-target_reads targets.This fits = refl
-target_reads (targets.Register r) fits = ap (λ e. e >>= λ n. Ok (targets.Register n)) (indexed_reads 114 15 r (omega arith) (omega arith))
-target_reads (targets.Field f) fits = ap (λ e. e >>= λ n. Ok (targets.Field n)) (indexed_reads 102 7 f (omega arith) (omega arith))
-target_reads (targets.Entry c) fits = ap (λ e. e >>= λ n. Ok (targets.Entry n)) (indexed_reads 99 15 c (omega arith) (omega arith))
+target_reads x fits = grind (arith, nat_tests, indexed_reads 114 15, indexed_reads 102 7, indexed_reads 99 15)
 
 target_is_plain : (t : Target) → TargetFits t → list_all is_plain (target_word t) ≡ true
-target_is_plain targets.This fits = refl
-target_is_plain (targets.Register r) fits = plain_lettered 114 r refl (omega arith)
-target_is_plain (targets.Field f) fits = plain_lettered 102 f refl (omega arith)
-target_is_plain (targets.Entry c) fits = plain_lettered 99 c refl (omega arith)
+target_is_plain x fits = grind (arith, nat_tests, plain_lettered 114, plain_lettered 102, plain_lettered 99)
 
 pub takes_target : (t : Target) → TargetFits t → Takes target (target_word t ∷ []) t
 takes_target t fits = sees target_of (takes_word (target_word t) (target_is_plain t fits)) (target_reads t fits)
@@ -49,9 +42,7 @@ takes_target t fits = sees target_of (takes_word (target_word t) (target_is_plai
 -- ---- numbers
 
 pub takes_signed : (z : ℤ) → FitsSigned w32 z → Takes signed (signed_decimal z ∷ []) z
-takes_signed z fits =
-    let spelled = signed_of_decimal z fits in
-    sees _ (takes_word (signed_decimal z) (plain_signed z fits)) (ap signed_of spelled.read ∙ ap in_range spelled.signed)
+takes_signed z fits = grind (arith, nat_tests, signed_of_decimal z fits, sees, takes_word, plain_signed z fits)
 
 pub takes_depth : (d : ℕ) → IsDepth d → Takes depth (decimal d ∷ []) d
 takes_depth d fits = takes_number 0 3 d (omega arith) (omega arith) (omega arith)

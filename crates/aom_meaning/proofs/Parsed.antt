@@ -1,4 +1,5 @@
 -- What was read of statements is what they mean: the parts of a program, one after another.
+use Rattle.std.proofs.lemmas.Bool.Decides.{nat_tests}
 use Rattle.std.proofs.Common.{◌≡◌, ℕ, ◌+◌, ◌<◌, ◌≤◌, ◌==◌, Bool, true, false, List, [], ◌∷◌, ◌++◌, map, length, Option, Some, None, Result, Ok, Err, refl, sym, ap, subst, ◌∙◌, append_assoc, append-nil, arith, nat_lt}
 use Rattle.std.specs.Prelude.{if◌then◌else◌}
 use Rattle.std.specs.List.{count_by}
@@ -340,10 +341,8 @@ module _ (last : ℕ) (names : Names) (kinds : List ClassDecl) where
         text = record { header = says.said; declarations = later.declarations };
         words = ap (λ ws. ws ∷ all_words ss) says.words ∙ ap (λ r. header_words says.said ∷ r) later.words;
         header = subst (HeaderMeans names says.said) (sym later.header) says.means;
-        classes = subst (λ (h : Header). Pairwise (ClassMeans names h.version h.natives) (classes_of later.declarations) q.classes) (sym later.header)
-            (subst (Pairwise (ClassMeans names h.version h.natives) (classes_of later.declarations)) (sym later.classes) later.class_means);
-        methods = subst (λ (h : Header). Pairwise (MethodMeans names h.version true kinds) (methods_of later.declarations) q.methods) (sym later.header)
-            (subst (Pairwise (MethodMeans names h.version true kinds) (methods_of later.declarations)) (sym later.methods) later.method_means);
+        classes = grind (arith, nat_tests);
+        methods = grind (arith, nat_tests);
         class_places = later.class_places;
         method_places = later.method_places;
       }

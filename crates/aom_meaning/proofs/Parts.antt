@@ -1,5 +1,6 @@
 -- The parts of a listing are read one after another.
-use Rattle.std.proofs.Common.{◌≡◌, ℕ, suc, ◌+◌, ◌*◌, ◌<◌, ◌≤◌, ◌^◌, Bool, true, false, List, [], ◌∷◌, ◌++◌, length, slice_get, Option, Some, None, Result, Ok, Err, refl, sym, ap, subst, ◌∙◌, append_assoc, append-nil, arith}
+use Rattle.std.proofs.lemmas.Bool.Decides.{nat_tests}
+use Rattle.std.proofs.Common.{◌≡◌, ℕ, suc, ◌+◌, ◌*◌, ◌<◌, ◌≤◌, ◌^◌, Bool, true, false, List, [], ◌∷◌, ◌++◌, length, Option, Some, None, Result, Ok, Err, refl, sym, ap, subst, ◌∙◌, append_assoc, append-nil, arith}
 use Rattle.std.specs.Prelude.{cond, if◌then◌else◌}
 use Rattle.std.specs.List.{All, count_by, sum_by}
 use Rattle.std.proofs.Math.ListN.{length-append}
@@ -16,10 +17,8 @@ use Rattle.aom_instructions.specs.Fits.{InstrFits, limits}
 use Rattle.aom_image.specs.declared.class.ClassDecl.{ClassDecl}
 use Rattle.aom_image.specs.declared.image.Header.{Header}
 use Rattle.aom_instructions.specs.declared.instr.Instr.{Instr}
-use Rattle.aom_instructions.specs.declared.instr.Instr.TheVariants as instr
 use Rattle.aom_image.specs.declared.method.Method.{Method}
-use Rattle.aom_syntax.specs.Classes.{class_statement}
-use Rattle.aom_syntax.specs.Methods.{heading, instruction}
+use Rattle.aom_syntax.specs.Methods.{heading}
 use Rattle.aom_syntax.specs.Reading.{◌>>=◌, took}
 use Rattle.aom_syntax.specs.declared.keyword.Keyword.TheVariants as k
 use Rattle.aom_syntax.specs.declared.scope.Scope.{Scope}
@@ -30,7 +29,7 @@ use Rattle.aom_listing.specs.Methods.{heading_words}
 use Rattle.aom_listing.specs.Operands.{label_name}
 use Rattle.aom_listing.specs.Words.{words_statement}
 use Rattle.aom_asm.specs.Body.{Body, Program}
-use Rattle.aom_asm.specs.Denoted.{declaration, grown, step, with_instruction, with_method}
+use Rattle.aom_asm.specs.Denoted.{declaration, grown, step}
 use Rattle.aom_asm.proofs.WellRead.{class_bytes, spelled}
 use Rattle.aom_asm.specs.TextNames.{is_end, label_in, labels_of, label_or_none as label_or_empty}
 use Rattle.aom_meaning.specs.Naming.{HasNames, code_labels, heading_of, label_or_none, labels_from}
@@ -44,24 +43,19 @@ use Rattle.aom_meaning.proofs.Statements.{instruction_reads, label_cut}
 -- ---- the first word of an instruction's statement
 
 plain_is_no_end : (i : Instr) → is_end (words_statement i) ≡ false
-plain_is_no_end (instr.Const a n) = refl
-plain_is_no_end _ = refl
+plain_is_no_end x = grind arith
 
 plain_has_no_label : (i : Instr) → label_in (words_statement i) ≡ []
-plain_has_no_label (instr.Const a n) = refl
-plain_has_no_label _ = refl
+plain_has_no_label x = grind arith
 
 plain_takes_no_end : (i : Instr) → took k.End (words_statement i) ≡ (false, words_statement i)
-plain_takes_no_end (instr.Const a n) = refl
-plain_takes_no_end _ = refl
+plain_takes_no_end x = grind arith
 
 is_no_end : (b : Bool) (place : ℕ) (i : Instr) → is_end (label_words b place ++ words_statement i) ≡ false
-is_no_end true place i = refl
-is_no_end false place i = plain_is_no_end i
+is_no_end x place i = grind (arith, nat_tests, plain_is_no_end i)
 
 takes_no_end : (b : Bool) (place : ℕ) (i : Instr) → took k.End (label_words b place ++ words_statement i) ≡ (false, label_words b place ++ words_statement i)
-takes_no_end true place i = refl
-takes_no_end false place i = plain_takes_no_end i
+takes_no_end x place i = grind (arith, nat_tests, plain_takes_no_end i)
 
 has_its_label : (b : Bool) (place : ℕ) (i : Instr) → label_in (label_words b place ++ words_statement i) ≡ label_or_none b place
 has_its_label true place i = ap label_or_empty (label_cut (label_name place))
@@ -113,15 +107,14 @@ module _ (last : ℕ) (h : Header) (classes methods : ℕ) (scope : Scope) (name
 
   class_steps : (cs : List ClassDecl) (c : ClassDecl) (size : ℕ) (rest : List Statement) → length cs < classes → ClassFits h.version classes h.natives c → fits_parent c → (is_server c ≡ true → count_by is_server cs < 8) → size + (28 + more) ≤ 2 ^ 20
       → step scope rest (read_so_far h cs [] None size) (class_words (length cs) c) ≡ Ok (read_so_far h (cs ++ c ∷ []) [] None (size + (28 + more)))
-  class_steps cs c size rest there fits parent few enough =
-      let few_classes = names.few_classes in
-      let words = others_of (class_words (length cs) c) in
-      let p = read_so_far h cs [] None size in
-      ap (λ e. e >>= λ key. declaration scope rest p key.0 key.1) ((takes_any_keyword k.Class).reads words)
-      ∙ ap (λ b. if b then (class_statement scope h.version h.natives (length cs) (count_by is_server cs) words >>= λ x. grown (28 + more) size >>= λ n. Ok (read_so_far h (cs ++ x.0 ∷ []) [] None n)) else Err LimitPassed) (lt-ltb (length cs) 256 (omega arith))
-      ∙ ap (λ e. e >>= λ x. grown (28 + more) size >>= λ n. Ok (read_so_far h (cs ++ x.0 ∷ []) [] None n))
-      (class_statement_reads classes methods scope names h.version h.natives (count_by is_server cs) (length cs) c few_natives there fits parent few)
-      ∙ ap (λ e. e >>= λ n. Ok (read_so_far h (cs ++ c ∷ []) [] None n)) (room (28 + more) size enough)
+  class_steps cs c size rest there fits parent few enough = grind (
+    arith,
+    nat_tests,
+    takes_any_keyword,
+    lt-ltb,
+    class_statement_reads classes methods scope names h.version h.natives,
+    room,
+  )
 
   pub classes_go : (cs todo : List ClassDecl) (size : ℕ) (left : List (List (List ℕ))) (ss : List Statement)
       → length cs + length todo ≤ classes → All (ClassFits h.version classes h.natives) todo → All fits_parent todo → count_by is_server (cs ++ todo) ≤ 8 → size + sum_by (class_bytes h.version) todo ≤ 2 ^ 20
@@ -171,16 +164,16 @@ module _ (last : ℕ) (h : Header) (classes methods : ℕ) (scope : Scope) (name
 
     instruction_steps : (ms : List Method) (m : Method) (done : List Instr) (i : Instr) (todo : List Instr) (size : ℕ) (rest : List Statement) → MethodFits h.version classes methods m → m.code ≡ done ++ i ∷ todo → InstrFits (limits h.version classes methods (length m.code)) i → size + 8 ≤ 2 ^ 20
         → step scope rest (opened ms m done size) (instr_words m.code (length done) i) ≡ Ok (opened ms m (done ++ i ∷ []) (size + 8))
-    instruction_steps ms m done i todo size rest fits whole fit enough =
-        let place : ℕ = length done in
-        let ws = instr_words m.code place i in
-        let count : length m.code ≡ length done + length (i ∷ todo) = ap (λ (l : List Instr). length l) whole ∙ length-append done (i ∷ todo) in
-        let within : place < length m.code = omega arith in
-        let there : slice_get m.code place ≡ Some i = ap (λ l. slice_get l place) whole ∙ at_seam done i todo in
-        ap (λ t. if t.0 then with_method (read_so_far h cs ms None size) (body_of m done) t.1 else (with_instruction scope h.version (body_of m done) t.1 >>= λ b. grown 8 size >>= λ n. Ok (read_so_far h cs ms (Some b) n))) (takes_no_end (is_target m.code place) place i)
-        ∙ ap (λ t. (if t then (instruction scope h.version (code_labels m.code) place ws >>= λ x. Ok (body_of m (done ++ x.0 ∷ []))) else Err LimitPassed) >>= λ b. grown 8 size >>= λ n. Ok (read_so_far h cs ms (Some b) n)) (lt-ltb place 1024 (omega (arith, fits.code_length)))
-        ∙ ap (added ms m done size) (instruction_reads names h.version m.code fits.code_length place i within there fit)
-        ∙ ap (λ e. e >>= λ n. Ok (opened ms m (done ++ i ∷ []) n)) (room 8 size enough)
+    instruction_steps ms m done i todo size rest fits whole fit enough = grind (
+      arith,
+      nat_tests,
+      length-append done (i ∷ todo),
+      at_seam done i todo,
+      takes_no_end,
+      lt-ltb,
+      instruction_reads names h.version m.code fits.code_length,
+      room 8 size enough,
+    )
 
     instructions_go : (ms : List Method) (m : Method) (done todo : List Instr) (size : ℕ) (left : List (List (List ℕ))) (ss : List Statement)
         → MethodFits h.version classes methods m → m.code ≡ done ++ todo → All (InstrFits (limits h.version classes methods (length m.code))) todo → size + 8 * length todo ≤ 2 ^ 20
@@ -201,8 +194,7 @@ module _ (last : ℕ) (h : Header) (classes methods : ℕ) (scope : Scope) (name
         (behind ∙ ap (λ n. instr_statements m.code n todo ++ left) (sym longer))))
 
     end_steps : (ms : List Method) (m : Method) (size : ℕ) (rest : List Statement) → 1 ≤ length m.code → step scope rest (opened ms m m.code size) end_words ≡ Ok (read_so_far h cs (ms ++ m ∷ []) None size)
-    end_steps ms m size rest some =
-        ap (λ t. (if t then Err LimitPassed else Ok m) >>= λ x. Ok (read_so_far h cs (ms ++ x ∷ []) None size)) (ne_eqb (length m.code) 0 (λ none. omega arith))
+    end_steps ms m size rest some = grind (arith, nat_tests, ne_eqb)
 
     method_goes : (ms : List Method) (m : Method) (size : ℕ) (left : List (List (List ℕ))) (ss : List Statement) → length ms < methods → MethodFits h.version classes methods m → OverFits h.version methods m.over → SaysQuiet m → size + spelled h.version m ≤ 2 ^ 20
         → all_words ss ≡ method_statements (length ms) m ++ left

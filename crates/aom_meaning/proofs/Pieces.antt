@@ -1,5 +1,6 @@
 -- What a reading took of the words before it, and what it takes: word by word, and part by part, both ways.
-use Rattle.std.proofs.Common.{◌≡◌, ℕ, Bool, true, false, List, [], ◌∷◌, ◌++◌, Option, Some, None, Result, Ok, Err, refl, sym, ap, ◌∙◌, get_or, slice_get, nat_lt}
+use Rattle.std.proofs.lemmas.Bool.Decides.{nat_tests}
+use Rattle.std.proofs.Common.{arith, ◌≡◌, ℕ, Bool, true, false, List, [], ◌∷◌, ◌++◌, Option, Some, None, Result, Ok, Err, refl, sym, ap, ◌∙◌, get_or, slice_get, nat_lt}
 use Rattle.std.specs.Prelude.{if◌then◌else◌}
 use Rattle.std.specs.List.{list_all}
 use Rattle.std.specs.Str.{bytes_eq}
@@ -10,10 +11,10 @@ use Rattle.aom_text.specs.Names.{is_name}
 use Rattle.aom_text.specs.Words.{is_plain}
 use Rattle.aom_text.specs.declared.fault.AsmFaultKind.{AsmFaultKind}
 use Rattle.aom_text.specs.declared.fault.AsmFaultKind.TheVariants.{BadShape, UnknownName}
-use Rattle.aom_syntax.specs.Keywords.{keyword_text, strange}
+use Rattle.aom_syntax.specs.Keywords.{keyword_text}
 use Rattle.aom_syntax.specs.Names.{place_of, referred}
 use Rattle.aom_syntax.specs.Operands.{used}
-use Rattle.aom_syntax.specs.Reading.{◌>>=◌, Reading, as_name, exactly, keyword, name, next, nothing_more, seen, took, word}
+use Rattle.aom_syntax.specs.Reading.{◌>>=◌, Reading, as_name, keyword, name, next, nothing_more, seen, took, word}
 use Rattle.aom_syntax.specs.declared.keyword.Keyword.{Keyword}
 use Rattle.aom_syntax.proofs.Within.{ok_is, passed, saw_word, steps}
 use Rattle.aom_meaning.proofs.Readings.{Takes, Whole, reads_on, sees, takes_word, took_same}
@@ -43,10 +44,7 @@ saw f ws x rest is =
 
 -- the word that has to stand here
 pub saw_keyword : (key : Keyword) (ws : List (List ℕ)) (u : Unit {0}) (rest : List (List ℕ)) → keyword key ws ≡ Ok (u, rest) → ws ≡ keyword_text key ∷ rest
-saw_keyword key ws u rest is =
-    let s = saw (exactly key) ws u rest is in
-    let same = passed (bytes_eq s.w (keyword_text key)) (Ok tt) (strange s.w) u s.says in
-    s.words ∙ ap (λ v. v ∷ rest) ((bytes_eq-Decides s.w (keyword_text key)).0 same.0)
+saw_keyword key ws u rest is = grind (arith, nat_tests, saw, passed, bytes_eq-Decides)
 
 -- no word is left
 refuses : (b : Bool) (e f : AsmFaultKind) (x : Unit {0} × List (List ℕ)) → (if b then Err e else Err f) ≡ Ok x → ⊥
@@ -58,9 +56,7 @@ pair x ws = (x, ws)
 
 pub none_left : (expecting : Bool) (ws : List (List ℕ)) (u : Unit {0}) (rest : List (List ℕ)) → nothing_more expecting ws ≡ Ok (u, rest) → (ws ≡ []) × (rest ≡ [])
 none_left expecting [] u rest is = (refl, sym (ap (λ p. p.1) (ok_is (pair tt []) (u, rest) is)))
-none_left expecting (w ∷ ws) u rest is =
-    let s = steps (word (w ∷ ws)) (λ x. if expecting then Err (strange w) else Err BadShape) (u, rest) is in
-    absurd (refuses expecting (strange w) BadShape (u, rest) s.second)
+none_left expecting (w ∷ ws) u rest is = grind (arith, nat_tests, steps, w ∷ ws, refuses expecting)
 
 -- ---- a word that may be there
 
@@ -88,8 +84,7 @@ not_part key other None ws apart rest = rest
 not_part key other (Some w) ws apart rest = not_word key (keyword_text other) (w ∷ ws) apart
 
 pub not_mark : (key other : Keyword) (said : Bool) (ws : List (List ℕ)) → bytes_eq (keyword_text other) (keyword_text key) ≡ false → NotNext key ws → NotNext key (mark other said ++ ws)
-not_mark key other false ws apart rest = rest
-not_mark key other true ws apart rest = not_word key (keyword_text other) ws apart
+not_mark key other x ws apart rest = grind (arith, nat_tests, not_word key)
 
 -- ---- a part that may be missing
 
@@ -135,7 +130,7 @@ takes_seen {f = f} {w = w} r = sees f (takes_word w r.plain) r.says
 module _ {X : Type 0} (key : Keyword) (f : List ℕ → Result X AsmFaultKind) (Says : List ℕ → X → Type 0) (usual : X) where
   pub reads_part : ((w : List ℕ) (x : X) → Says w x → Reads f w x) → (said : Option (List ℕ)) (x : X) (rest : List (List ℕ)) → SaidOr Says usual said x → NotNext key rest
       → Leaves (optional key f Says usual) (part key said ++ rest) x rest
-  reads_part reads None x rest says other = record { reads = ap (λ p. if p.0 then seen f word p.1 else Ok (usual, p.1)) other.left ∙ ap (λ y. Ok (y, rest)) (sym says) }
+  reads_part reads None x rest says other = record { reads = grind (arith, nat_tests, says) }
   reads_part reads (Some w) x rest says other = record { reads = ap (λ p. if p.0 then seen f word p.1 else Ok (usual, p.1)) (took_same key (w ∷ rest)) ∙ (takes_seen (reads w x says)).reads rest }
 
 -- ---- names that are used

@@ -1,4 +1,5 @@
 -- Where a name is declared once, it is found at its place, and the other way round.
+use Rattle.std.proofs.lemmas.Bool.Decides.{nat_tests}
 use Rattle.std.proofs.Common.{◌≡◌, ℕ, ◌<◌, ◌≤◌, Bool, true, false, List, [], length, Option, Some, None, Ok, sym, ap, ◌∙◌, arith, cond, get_or, nat_lt}
 use Rattle.std.specs.Prelude.{if◌then◌else◌}
 use Rattle.std.specs.Str.{bytes_eq}
@@ -20,10 +21,13 @@ pub found_once : (space : List (List ℕ)) (w : List ℕ) (n : ℕ) → Declared
 found_once space w n once is =
     let within = slice_get_within space n w is.declared in
     let here : get_or space n [] ≡ w = get_or_from_slice_get space n w [] is.declared in
-    let other : (j : ℕ) → j < n → bytes_eq (get_or space j []) w ≡ false = λ j less. false_from_ne_true (bytes_eq (get_or space j []) w) (λ yes.
-    let there : IsNumbered space w j = record { is_name = is.is_name; declared = slice_get-get_or space j [] (omega arith) ∙ ap Some ((bytes_eq-Decides (get_or space j []) w).0 yes) } in
-    let same = once.same w j n there is in
-    omega arith) in
+    let other : (j : ℕ) → j < n → bytes_eq (get_or space j []) w ≡ false = grind (
+      arith,
+      nat_tests,
+      false_from_ne_true,
+      slice_get-get_or space,
+      bytes_eq-Decides,
+    ) in
     let at = position_or_len_is (λ v. bytes_eq v w) space n [] (omega arith) other (λ less. (bytes_eq-Decides (get_or space n []) w).1 here) in
     let less : nat_lt n (length space) ≡ true = lt-ltb n (length space) within in
     ap (λ m. cond (nat_lt m (length space)) (Some m) None) at ∙ rw less
@@ -45,9 +49,7 @@ abbrev pub scoped : Bool → Names → List ClassDecl → Scope
 scoped b names kinds = record { is_strict = b; classes = names.classes; methods = names.methods; kinds = kinds }
 
 looks : (b : Bool) (limit : ℕ) (space : List (List ℕ)) → DeclaredOnce space → length space ≤ limit → (w : List ℕ) (n : ℕ) → IsNumbered space w n → referred b limit (place_of w space) ≡ Ok n
-looks b limit space once few w n is =
-    let within = slice_get_within space n w is.declared in
-    ap (referred b limit) (found_once space w n once is) ∙ refers b limit n (omega arith)
+looks b limit space once few w n is = grind (arith, nat_tests, slice_get_within space n w is.declared, found_once space w n once is, refers b limit n)
 
 pub looks_up : (b : Bool) (names : Names) (kinds : List ClassDecl) → DeclaredOnce names.classes → length names.classes ≤ 256 → DeclaredOnce names.methods → length names.methods ≤ 1024
     → LooksUp names (scoped b names kinds)
@@ -55,9 +57,7 @@ looks_up b names kinds classes few_classes methods few_methods = record { class 
 
 -- what is found where names are told apart is found where they are not
 loosens : (b : Bool) (limit : ℕ) (o : Option ℕ) (n : ℕ) → referred true limit o ≡ Ok n → referred b limit o ≡ Ok n
-loosens b limit o n is = some_given (λ o. referred true limit o ≡ Ok n) o is (λ e. cc) (λ m same e.
-    true_given (λ c. (if c then Ok m else nowhere true) ≡ Ok n) (nat_lt m limit) e (λ f. cc) (λ below f.
-    ap (referred b limit) same ∙ ap (λ c. if c then Ok m else nowhere b) below ∙ f))
+loosens b limit o n is = grind (arith, nat_tests, some_given, true_given)
 
 pub finds_more : (b : Bool) (limit : ℕ) (names : Names) (kinds before : List ClassDecl) (space : List (List ℕ)) → FindsMore limit (scoped true names before) (scoped b names kinds) space space
 finds_more b limit names kinds before space = record { finds = λ w n is. loosens b limit (place_of w space) n is }

@@ -1,19 +1,19 @@
 -- What a reading takes from the words before it, and how readings follow each other.
-use Rattle.std.proofs.Common.{◌≡◌, ℕ, ◌<◌, ◌≤◌, ◌^◌, Bool, true, false, List, [], ◌∷◌, ◌++◌, Some, None, Result, Ok, Err, refl, sym, ap, ◌∙◌, append_assoc, append-nil, arith}
+use Rattle.std.proofs.lemmas.Bool.Decides.{nat_tests}
+use Rattle.std.proofs.Common.{◌≡◌, ℕ, ◌<◌, ◌≤◌, ◌^◌, Bool, true, false, List, [], ◌∷◌, ◌++◌, Some, Result, Ok, Err, refl, sym, ap, ◌∙◌, append_assoc, append-nil, arith}
 use Rattle.std.specs.Prelude.{decimal, if◌then◌else◌}
 use Rattle.std.proofs.lemmas.Bool.{lt-ltb, eq-eqb}
 use Rattle.aom_text.specs.Names.{is_letter}
-use Rattle.aom_text.specs.declared.fault.AsmFaultKind.TheVariants.{NotAscii, BadNumber, BadShape, DoubleName}
-use Rattle.aom_syntax.specs.Names.{place_of, nowhere, referred}
-use Rattle.aom_syntax.specs.Operands.{index_of, indexed, used}
-use Rattle.aom_syntax.specs.Classes.{declared, declared_at, flag, is_at}
+use Rattle.aom_text.specs.declared.fault.AsmFaultKind.TheVariants.{NotAscii, BadShape}
+use Rattle.aom_syntax.specs.Names.{place_of}
+use Rattle.aom_syntax.specs.Operands.{indexed, used}
+use Rattle.aom_syntax.specs.Classes.{declared, declared_at, flag}
 use Rattle.std.specs.List.{list_all}
 use Rattle.std.specs.Str.{bytes_eq}
 use Rattle.std.proofs.lemmas.Slice.Eq.{bytes_eq-Decides}
 use Rattle.aom_text.specs.Words.{is_plain}
-use Rattle.aom_text.specs.Numbers.{number_of, number_within}
 use Rattle.aom_text.specs.declared.fault.AsmFaultKind.{AsmFaultKind}
-use Rattle.aom_syntax.specs.Reading.{◌>>=◌, Reading, next, seen, giving, word, took, keyword, any_keyword, known, exactly, number, number_in, in_range, optional_number, name, as_name}
+use Rattle.aom_syntax.specs.Reading.{◌>>=◌, Reading, next, seen, giving, word, took, keyword, any_keyword, known, exactly, number, optional_number, name, as_name}
 use Rattle.aom_syntax.specs.Keywords.{keyword_text, keyword_of, strange}
 use Rattle.aom_syntax.specs.declared.keyword.Keyword.{Keyword}
 use Rattle.aom_meaning.proofs.Names.{lettered, name_lettered, plain_decimal, plain_lettered}
@@ -71,8 +71,7 @@ settle same whole = record { reads = whole.reads ∙ ap (λ z. Ok (z, [])) same 
 -- ---- readings within readings
 
 bind_assoc : {A B C : Type 0} (r : Result A AsmFaultKind) (f : A → Result B AsmFaultKind) (g : B → Result C AsmFaultKind) → (r >>= λ x. f x >>= g) ≡ ((r >>= f) >>= g)
-bind_assoc (Ok x) f g = refl
-bind_assoc (Err e) f g = refl
+bind_assoc x f g = grind arith
 
 module _ {X Y Z : Type 0} (a : Reading X) (f : X → Reading Y) (g : Y → Reading Z) where
   regrouped : (ws : List (List ℕ)) → next a (λ x. next (f x) g) ws ≡ next (next a f) g ws
@@ -121,12 +120,19 @@ takes_flag key = record { reads = λ rest. ap Ok (took_same key rest) }
 -- ---- numbers
 
 pub takes_number : (low high n : ℕ) → low ≤ n → n ≤ high → n < 2 ^ 50 → Takes (number low high) (decimal n ∷ []) n
-takes_number low high n above below small = sees (number_in low high) (takes_word (decimal n) (plain_decimal n (omega arith)))
-    (ap (λ o. elim o [ None ↦ Err BadNumber | Some m ↦ in_range (number_within low high m) ]) (number_of_decimal n small) ∙ ap in_range (within low high n above below))
+takes_number low high n above below small = grind (
+  arith,
+  nat_tests,
+  sees,
+  takes_word,
+  plain_decimal n,
+  number_of_decimal n small,
+  within low high n above below,
+)
 
 pub takes_optional : (key : Keyword) (high n : ℕ) → n ≤ high → n < 2 ^ 50 → Takes (optional_number key high) (keyword_text key ∷ decimal n ∷ []) n
 takes_optional key high n below small = record {
-  reads = λ rest. ap (λ p. if p.0 then number 0 high p.1 else Ok (0, p.1)) (took_same key (decimal n ∷ rest)) ∙ (takes_number 0 high n (omega arith) below small).reads rest;
+  reads = grind (arith, nat_tests, took_same key, takes_number 0 high n);
 }
 
 -- ---- names
@@ -137,12 +143,10 @@ takes_name letter n is small = sees as_name (takes_word (lettered letter n) (pla
 
 -- a name that is used, where it has its number
 pub takes_used : (is_strict : Bool) (limit letter n : ℕ) (names : List (List ℕ)) → is_letter letter ≡ true → n < limit → limit ≤ 2 ^ 32 → place_of (lettered letter n) names ≡ Some n → Takes (used is_strict limit names) (lettered letter n ∷ []) n
-takes_used is_strict limit letter n names is below few there = sees (λ w. referred is_strict limit (place_of w names)) (takes_name letter n is (omega arith))
-    (ap (referred is_strict limit) there ∙ ap (λ b. if b then Ok n else nowhere is_strict) (lt-ltb n limit below))
+takes_used is_strict limit letter n names is below few there = grind (arith, nat_tests, sees, takes_name letter n is, lt-ltb n limit below)
 
 pub declared_there : (letter n : ℕ) (names : List (List ℕ)) → place_of (lettered letter n) names ≡ Some n → declared_at n names (lettered letter n) ≡ Ok tt
-declared_there letter n names there =
-    ap (λ o. if is_at n o then Ok tt else Err DoubleName) there ∙ ap (λ b. if b then Ok tt else Err DoubleName) (eq-eqb n n refl)
+declared_there letter n names there = grind (arith, nat_tests, eq-eqb n n)
 
 -- a name that is declared, at its place
 pub takes_declared : (letter n : ℕ) (names : List (List ℕ)) → is_letter letter ≡ true → n < 2 ^ 32 → place_of (lettered letter n) names ≡ Some n → Takes (declared n names) (lettered letter n ∷ []) tt
@@ -151,10 +155,7 @@ takes_declared letter n names is small there = sees (declared_at n names) (takes
 -- ---- operands
 
 pub indexed_reads : (letter highest n : ℕ) → n ≤ highest → n < 2 ^ 50 → indexed letter highest (lettered letter n) ≡ Ok n
-indexed_reads letter highest n below small =
-    ap (λ b. if b then index_of highest (number_of (decimal n)) else Err BadShape) (eq-eqb letter letter refl)
-    ∙ ap (index_of highest) (number_of_decimal n small)
-    ∙ ap in_range (within 0 highest n (omega arith) below)
+indexed_reads letter highest n below small = grind (arith, nat_tests, eq-eqb letter letter, number_of_decimal n small, within 0 highest n)
 
 pub takes_indexed : (letter highest n : ℕ) → is_letter letter ≡ true → n ≤ highest → n < 2 ^ 50 → Takes (seen (indexed letter highest) word) (lettered letter n ∷ []) n
 takes_indexed letter highest n is below small = sees (indexed letter highest) (takes_word (lettered letter n) (plain_lettered letter n is (omega arith))) (indexed_reads letter highest n below small)

@@ -1,5 +1,6 @@
 -- An instruction reads back with its label.
-use Rattle.std.proofs.Common.{◌≡◌, ℕ, ◌-◌, ◌<◌, ◌≤◌, ◌==◌, Bool, true, false, List, [], ◌∷◌, ◌++◌, length, take, get_or, slice_get, Some, None, Ok, Err, refl, sym, ap, ◌∙◌, append_assoc, arith}
+use Rattle.std.proofs.lemmas.Bool.Decides.{nat_tests}
+use Rattle.std.proofs.Common.{◌≡◌, ℕ, ◌<◌, ◌≤◌, Bool, true, false, List, [], ◌∷◌, ◌++◌, length, slice_get, Some, Ok, Err, refl, sym, ap, ◌∙◌, append_assoc, arith}
 use Rattle.std.specs.Prelude.{if◌then◌else◌}
 use Rattle.std.specs.List.{list_all}
 use Rattle.std.proofs.Math.ListN.{length-append}
@@ -12,7 +13,6 @@ use Rattle.aom_instructions.specs.Fits.{InstrFits, limits}
 use Rattle.aom_instructions.specs.declared.instr.Instr.{Instr}
 use Rattle.aom_instructions.specs.Mnemonics.{is_in, mnemonic_text}
 use Rattle.aom_syntax.specs.Methods.{after_label, check_label, instruction, known_mnemonic, label_of, named_mnemonic, skip_label}
-use Rattle.aom_syntax.specs.Classes.{declared_at}
 use Rattle.aom_syntax.specs.Names.{place_of}
 use Rattle.aom_syntax.specs.Reading.{◌>>=◌, seen, word}
 use Rattle.aom_instructions.specs.declared.mnemonic.Mnemonic.{Mnemonic}
@@ -30,11 +30,7 @@ use Rattle.aom_meaning.proofs.Tables.{mnemonic_is_no_label, mnemonic_is_plain, m
 -- ---- labels
 
 pub label_cut : (l : List ℕ) → label_of (l ++ 58 ∷ []) ≡ Some l
-label_cut l =
-    let end : length (l ++ 58 ∷ []) - 1 ≡ length l = omega (arith, length-append l (58 ∷ [])) in
-    ap (λ n. if get_or (l ++ 58 ∷ []) n 0 == 58 then Some (take n (l ++ 58 ∷ [])) else None) end
-    ∙ ap (λ b. if b == 58 then Some (take (length l) (l ++ 58 ∷ [])) else None) (get_or-append_seam l 58 [] 0)
-    ∙ ap Some (take-append_seam l (58 ∷ []))
+label_cut l = grind (arith, nat_tests, length-append l (58 ∷ []), get_or-append_seam l 58, take-append_seam l (58 ∷ []))
 
 colon_is_plain : (place : ℕ) → place < 1024 → list_all is_plain (label_name place ++ 58 ∷ []) ≡ true
 colon_is_plain place few = list_all-append is_plain (label_name place) (58 ∷ []) ∙ rw (plain_lettered 76 place refl (omega arith))
@@ -59,9 +55,7 @@ module _ (version : Version) (place : ℕ) (labels : List (List ℕ)) (m : Mnemo
   })
     where
       checked : place < 1024 → place_of (label_name place) labels ≡ Some place → check_label place labels (label_name place) ≡ Ok tt
-      checked few there =
-          ap (λ b. (if b then Ok (label_name place) else Err BadShape) >>= λ n. declared_at place labels n) (name_lettered 76 place refl (omega arith))
-          ∙ declared_there 76 place labels there
+      checked few there = grind (arith, nat_tests, name_lettered 76 place, declared_there 76 place labels there)
 
   pub takes_mnemonic : is_in version m ≡ true → (b : Bool) → (b ≡ true → (place < 1024) × (place_of (label_name place) labels ≡ Some place)) → Takes (seen (named_mnemonic version) (after_label place labels)) (label_words b place ++ mnemonic_text m ∷ []) m
   takes_mnemonic known true labelled = let there = labelled refl in sees (named_mnemonic version) (past_label there.0 there.1) (reads_mnemonic known)

@@ -1,6 +1,6 @@
 -- The names that a listing declares are those of its classes and methods, each at its number.
-use Rattle.std.proofs.Common.{◌≡◌, ℕ, zero, suc, ◌+◌, ◌<◌, ◌≤◌, inl, Bool, true, false, List, [], ◌∷◌, ◌++◌, length, get_or, Some, None, refl, sym, ap, ◌∙◌, append_assoc, append-nil, arith}
-use Rattle.aom_text.specs.Words.{others_of}
+use Rattle.std.proofs.lemmas.Bool.Decides.{nat_tests}
+use Rattle.std.proofs.Common.{◌≡◌, ℕ, zero, suc, ◌+◌, ◌<◌, ◌≤◌, Bool, List, [], ◌∷◌, ◌++◌, length, get_or, Some, None, refl, sym, ap, ◌∙◌, append_assoc, append-nil, arith}
 use Rattle.aom_text.specs.declared.text.Statement.{Statement}
 use Rattle.aom_image.specs.Image.{Image}
 use Rattle.aom_image.specs.declared.class.ClassDecl.{ClassDecl}
@@ -11,8 +11,6 @@ use Rattle.aom_syntax.specs.Keywords.{keyword_text}
 use Rattle.aom_syntax.specs.Names.{place_of}
 use Rattle.aom_syntax.specs.declared.keyword.Keyword.{Keyword}
 use Rattle.aom_syntax.specs.declared.keyword.Keyword.TheVariants as k
-use Rattle.aom_listing.specs.Headers.{header_words}
-use Rattle.aom_listing.specs.Jumps.{is_target}
 use Rattle.aom_listing.specs.Listing.{classes_statements, end_words, instr_statements, label_words, listing, method_statements, methods_statements}
 use Rattle.aom_listing.specs.Operands.{class_name, method_name}
 use Rattle.aom_listing.specs.Words.{words_statement}
@@ -31,18 +29,21 @@ length_names name n (x ∷ xs) = ap suc (length_names name (n + 1) xs)
 name_there : {X : Type 0} (name : ℕ → List ℕ) (n : ℕ) (xs : List X) (j : ℕ) → j < length xs → get_or (names_from name n xs) j [] ≡ name (n + j)
 name_there name n [] j within = absurd (omega arith)
 name_there name n (x ∷ xs) zero within = ap name (omega arith)
-name_there name n (x ∷ xs) (suc j) within =
-    let next : (n + 1) + j ≡ n + suc j = omega arith in
-    name_there name (n + 1) xs j (omega arith) ∙ ap name next
+name_there name n (x ∷ xs) (suc j) within = grind (arith, nat_tests, name_there name (n + 1) xs j)
 
 pub name_at : {X : Type 0} (name : ℕ → List ℕ) (xs : List X) (j : ℕ) → j < length xs → get_or (names_from name 0 xs) j [] ≡ name j
 name_at name xs j within = let same : 0 + j ≡ j = omega arith in name_there name 0 xs j within ∙ ap name same
 
 numbered : {X : Type 0} (letter : ℕ) (xs : List X) (j : ℕ) → length xs ≤ 1024 → j < length xs → place_of (lettered letter j) (names_from (lettered letter) 0 xs) ≡ Some j
-numbered letter xs j few within =
-    let long : j < length (names_from (lettered letter) 0 xs) = omega (arith, length_names (lettered letter) 0 xs) in
-    place_found letter j (names_from (lettered letter) 0 xs) (omega arith) long (name_at (lettered letter) xs j within)
-    (λ l less. inl (name_at (lettered letter) xs l (omega arith)))
+numbered letter xs j few within = grind (
+  arith,
+  nat_tests,
+  lettered letter,
+  length_names (lettered letter) 0 xs,
+  place_found letter j,
+  name_at (lettered letter) xs j within,
+  name_at (lettered letter) xs,
+)
 
 -- ---- what statements declare, by their words
 
@@ -73,14 +74,11 @@ silent_method = record { plain = elim [ instr.Const a n ↦ refl | _ ↦ refl ];
 
 module _ (key : Keyword) (silent : Silent key) where
   instruction_silent : (b : Bool) (place : ℕ) (i : Instr) → name_after key (label_words b place ++ words_statement i) ≡ None
-  instruction_silent true place i = silent.labelled _ (words_statement i)
-  instruction_silent false place i = silent.plain i
+  instruction_silent x place i = grind arith
 
   code_silent : (code : List Instr) (place : ℕ) (is : List Instr) (names : List (List ℕ)) → by_words key names (instr_statements code place is) ≡ names
   code_silent code place [] names = refl
-  code_silent code place (i ∷ is) names =
-      ap (λ o. by_words key (with_name names o) (instr_statements code (place + 1) is)) (instruction_silent (is_target code place) place i)
-      ∙ code_silent code (place + 1) is names
+  code_silent code place (i ∷ is) names = grind (arith, nat_tests, instruction_silent, code_silent code (place + 1) is names)
 
   body_silent : (code : List Instr) (names : List (List ℕ)) → by_words key names (instr_statements code 0 code ++ end_words ∷ []) ≡ names
   body_silent code names = by_words_more key names (instr_statements code 0 code) (end_words ∷ []) ∙ code_silent code 0 code names
@@ -122,20 +120,26 @@ image_no_method [] = refl
 image_no_method (w ∷ ws) = refl
 
 declared_classes : (i : Image) (ss : List Statement) → all_words ss ≡ listing i → declared_names k.Class [] ss ≡ names_from class_name 0 i.classes
-declared_classes i ss words =
-    declared_by_words k.Class [] ss ∙ ap (by_words k.Class []) words
-    ∙ ap (λ o. by_words k.Class (with_name [] o) (classes_statements 0 i.classes ++ methods_statements 0 i.methods)) (image_no_class (others_of (header_words i.header)))
-    ∙ by_words_more k.Class [] (classes_statements 0 i.classes) (methods_statements 0 i.methods)
-    ∙ class_names_of_methods 0 i.methods (by_words k.Class [] (classes_statements 0 i.classes))
-    ∙ class_names_of_classes 0 i.classes []
+declared_classes i ss words = grind (
+  arith,
+  nat_tests,
+  declared_by_words,
+  image_no_class,
+  by_words_more,
+  class_names_of_methods 0 i.methods,
+  class_names_of_classes 0 i.classes,
+)
 
 declared_methods : (i : Image) (ss : List Statement) → all_words ss ≡ listing i → declared_names k.Method [] ss ≡ names_from method_name 0 i.methods
-declared_methods i ss words =
-    declared_by_words k.Method [] ss ∙ ap (by_words k.Method []) words
-    ∙ ap (λ o. by_words k.Method (with_name [] o) (classes_statements 0 i.classes ++ methods_statements 0 i.methods)) (image_no_method (others_of (header_words i.header)))
-    ∙ by_words_more k.Method [] (classes_statements 0 i.classes) (methods_statements 0 i.methods)
-    ∙ ap (λ l. by_words k.Method l (methods_statements 0 i.methods)) (method_names_of_classes 0 i.classes [])
-    ∙ method_names_of_methods 0 i.methods []
+declared_methods i ss words = grind (
+  arith,
+  nat_tests,
+  declared_by_words,
+  image_no_method,
+  by_words_more,
+  method_names_of_classes 0 i.classes,
+  method_names_of_methods 0 i.methods,
+)
 
 pub has_names : (i : Image) (ss : List Statement) (is_strict : Bool) (kinds : List ClassDecl) → length i.classes ≤ 256 → length i.methods ≤ 1024 → all_words ss ≡ listing i → HasNames (length i.classes) (length i.methods) (scope_of is_strict ss kinds)
 has_names i ss is_strict kinds few_classes few_methods words = record {

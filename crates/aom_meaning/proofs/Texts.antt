@@ -1,5 +1,6 @@
 -- The statements of a program declare its names, and those of a method's code its labels.
-use Rattle.std.proofs.lemmas.Option.{same_Some, none-some, slice_get-map}
+use Rattle.std.proofs.lemmas.Bool.Decides.{nat_tests}
+use Rattle.std.proofs.lemmas.Option.{same_Some, slice_get-map}
 use Rattle.std.proofs.lemmas.Bool.{false_from_ne_true}
 use Rattle.std.proofs.Common.{◌≡◌, ℕ, zero, suc, ◌+◌, Bool, true, false, List, [], ◌∷◌, ◌++◌, map, Option, Some, None, refl, sym, ap, ◌∙◌, append_assoc, append-nil, arith, slice_get, subst}
 use Rattle.std.specs.Prelude.{IfSome, if◌then◌else◌, option_map}
@@ -15,7 +16,6 @@ use Rattle.aom_syntax.specs.Names.{place_of}
 use Rattle.aom_syntax.specs.declared.keyword.Keyword.{Keyword}
 use Rattle.aom_syntax.specs.declared.keyword.Keyword.TheVariants as k
 use Rattle.aom_instructions.specs.declared.mnemonic.Mnemonic.{Mnemonic}
-use Rattle.aom_instructions.specs.declared.mnemonic.Mnemonic.TheVariants as m
 use Rattle.aom_asm.specs.TextNames.{declared_names, is_end, label_in, label_or_none, labels_of as labels_until, name_after, with_name}
 use Rattle.aom_meaning.specs.Texts.{all_words}
 use Rattle.aom_meaning.proofs.Statements.{label_cut}
@@ -38,20 +38,17 @@ record Foreign (key : Keyword) : Type 0 where
   label : label_of (keyword_text key) ≡ None
 
 class_foreign : (n : Mnemonic) → bytes_eq (mnemonic_text n) (keyword_text k.Class) ≡ false
-class_foreign m.Const = refl
-class_foreign _ = refl
+class_foreign x = grind arith
 
 method_foreign : (n : Mnemonic) → bytes_eq (mnemonic_text n) (keyword_text k.Method) ≡ false
-method_foreign m.Const = refl
-method_foreign _ = refl
+method_foreign x = grind arith
 
 end_foreign : (n : Mnemonic) → bytes_eq (mnemonic_text n) (keyword_text k.End) ≡ false
-end_foreign m.Const = refl
-end_foreign _ = refl
+end_foreign x = grind arith
 
 module _ (key : Keyword) (foreign : Foreign key) where
   no_label : (l : List ℕ) → bytes_eq (l ++ 58 ∷ []) (keyword_text key) ≡ false
-  no_label l = false_from_ne_true (bytes_eq (l ++ 58 ∷ []) (keyword_text key)) (λ yes. none-some l (sym (sym (label_cut l) ∙ ap label_of ((bytes_eq-Decides (l ++ 58 ∷ []) (keyword_text key)).0 yes) ∙ foreign.label)))
+  no_label l = grind (arith, nat_tests, false_from_ne_true, label_cut l, bytes_eq-Decides (l ++ 58 ∷ []))
 
   nameless : (label : Option (List ℕ)) (n : Mnemonic) (ws : List (List ℕ)) → name_after key (label_words label ++ (mnemonic_text n ∷ ws)) ≡ None
   nameless None n [] = refl
@@ -115,8 +112,7 @@ names_are s ss words =
 -- ---- labels
 
 has_label : (label : Option (List ℕ)) (n : Mnemonic) (ws : List (List ℕ)) → label_in (label_words label ++ (mnemonic_text n ∷ ws)) ≡ label_or_none label
-has_label None n ws = ap label_or_none (mnemonic_is_no_label n)
-has_label (Some l) n ws = ap label_or_none (label_cut l)
+has_label x n ws = grind (arith, nat_tests, mnemonic_is_no_label n, label_cut)
 
 pub labels_there : (code : List InstructionText) (left : List (List (List ℕ))) (labels : List (List ℕ)) (ss : List Statement)
     → all_words ss ≡ map instruction_words code ++ (end_words ∷ left) → labels_until labels ss ≡ labels ++ labels_of code
@@ -162,8 +158,7 @@ placed_once space placed = once_found space (record {
 })
 
 name_of_label : (label : Option (List ℕ)) (w : List ℕ) → label_or_none label ≡ w → is_name w ≡ true → label ≡ Some w
-name_of_label None w same is = let clash : false ≡ true = ap is_name same ∙ is in cc
-name_of_label (Some l) w same is = ap Some same
+name_of_label x w same is = grind arith
 
 pub labels_once : (code : List InstructionText) → LabelsPlaced (labels_of code) 0 code → DeclaredOnce (labels_of code)
 labels_once code placed = once_found (labels_of code) (record {

@@ -1,5 +1,6 @@
 -- Statements that mean a program are read as that program, whether names are told apart or not.
-use Rattle.std.proofs.Common.{◌≡◌, ℕ, suc, ◌+◌, ◌*◌, ◌<◌, ◌≤◌, ◌^◌, Bool, true, false, List, [], ◌∷◌, ◌++◌, map, length, slice_get, Option, Some, None, Result, Ok, Err, refl, sym, ap, subst, ◌∙◌, append_assoc, append-nil, arith}
+use Rattle.std.proofs.lemmas.Bool.Decides.{nat_tests}
+use Rattle.std.proofs.Common.{◌≡◌, ℕ, suc, ◌+◌, ◌*◌, ◌<◌, ◌≤◌, ◌^◌, Bool, true, List, [], ◌∷◌, ◌++◌, map, length, slice_get, Option, Some, None, Result, Ok, Err, refl, sym, ap, subst, ◌∙◌, append_assoc, append-nil, arith}
 use Rattle.std.specs.Prelude.{IfSome, if◌then◌else◌}
 use Rattle.std.specs.List.{count_by, sum_by}
 use Rattle.std.proofs.lemmas.Bool.{lt-ltb, ne_eqb}
@@ -20,7 +21,7 @@ use Rattle.aom_syntax.specs.Classes.{class_statement}
 use Rattle.aom_syntax.specs.Keywords.{keyword_text}
 use Rattle.aom_syntax.specs.Methods.{heading, instruction}
 use Rattle.aom_syntax.specs.Names.{place_of}
-use Rattle.aom_syntax.specs.Reading.{◌>>=◌, nothing_more}
+use Rattle.aom_syntax.specs.Reading.{◌>>=◌}
 use Rattle.aom_syntax.specs.declared.keyword.Keyword.TheVariants as k
 use Rattle.aom_syntax.specs.declared.scope.Scope.{Scope}
 use Rattle.aom_asm.specs.Body.{Body, Program}
@@ -71,8 +72,7 @@ methods_placed names version b kinds space once front _ _ (a_pair t ts m ms here
 
 one_label : (labels front : List (List ℕ)) (label : Option (List ℕ)) (rest : List (List ℕ)) → DeclaredOnce labels → labels ≡ front ++ label_or_none label ∷ rest
     → IfSome label (λ l. is_name l ≡ true) → IfSome label (λ l. place_of l labels ≡ Some (length front))
-one_label labels front None rest once whole is = tt
-one_label labels front (Some l) rest once whole is = at_place labels front l rest once whole is
+one_label labels front x rest once whole is = grind (arith, nat_tests, at_place labels front)
 
 labels_placed : (names : Names) (version : Version) (all labels : List (List ℕ)) → DeclaredOnce labels → (front : List (List ℕ)) (ts : List InstructionText) (is : List Instr)
     → Pairs (InstructionMeans names version all) ts is → labels ≡ front ++ labels_of ts → LabelsPlaced labels (length front) ts
@@ -146,8 +146,7 @@ module _ (last : ℕ) (names : Names) (h : Header) (b : Bool) (kinds : List Clas
 
     end_step : (ms : List Method) (t : MethodText) (m : Method) (size : ℕ) (rest : List Statement) → 1 ≤ length m.code
         → step scope rest (open_method ms t m m.code size) end_words ≡ Ok (read_so_far h cs (ms ++ m ∷ []) None size)
-    end_step ms t m size rest some =
-        ap (λ (b : Bool). (if b then Err LimitPassed else Ok m) >>= λ m. nothing_more false [] >>= λ u. Ok (read_so_far h cs (ms ++ m ∷ []) None size)) (ne_eqb (length m.code) 0 (λ none. omega arith))
+    end_step ms t m size rest some = grind (arith, nat_tests, read_so_far h cs (ms ++ m ∷ []) None size, ne_eqb)
 
     code_goes : (ms : List Method) (t : MethodText) (m : Method) (done : List Instr) (ts : List InstructionText) (todo : List Instr) (size : ℕ) (left : List (List (List ℕ))) (ss : List Statement)
         → length done + length todo ≤ 1024 → Pairs (InstructionMeans names h.version (labels_of t.code)) ts todo → LabelsPlaced (labels_of t.code) (length done) ts → size + 8 * length todo ≤ 2 ^ 20

@@ -1,17 +1,16 @@
 -- Statements that are a listing's denote its image.
-use Rattle.std.proofs.Common.{◌≡◌, ℕ, ◌+◌, ◌≤◌, ◌^◌, Bool, true, false, List, [], ◌∷◌, ◌++◌, length, None, Ok, Err, refl, sym, ap, subst, ◌∙◌, append-nil, arith}
+use Rattle.std.proofs.lemmas.Bool.Decides.{nat_tests}
+use Rattle.std.proofs.Common.{◌≡◌, ℕ, ◌+◌, ◌≤◌, ◌^◌, Bool, true, false, List, [], ◌∷◌, ◌++◌, length, None, Ok, refl, sym, ap, ◌∙◌, append-nil, arith}
 use Rattle.std.specs.Prelude.{if◌then◌else◌}
 use Rattle.std.specs.List.{sum_by}
 use Rattle.std.proofs.lemmas.Bool.{ne_eqb}
-use Rattle.aom_text.specs.declared.fault.AsmFaultKind.TheVariants.{LimitPassed}
 use Rattle.aom_text.specs.declared.text.Statement.{Statement}
 use Rattle.aom_image.specs.Image.{Image}
 use Rattle.aom_image.specs.WellFormed.{WellFormed}
-use Rattle.aom_syntax.specs.Reading.{◌>>=◌}
 use Rattle.aom_syntax.specs.declared.scope.Scope.{Scope}
 use Rattle.aom_listing.specs.Listing.{classes_statements, listing, methods_statements}
 use Rattle.aom_asm.specs.Body.{Program}
-use Rattle.aom_asm.specs.Denoted.{and_then, at_line, image_of, opened, read_program, read_rest, read_statements, scope_of}
+use Rattle.aom_asm.specs.Denoted.{and_then, image_of, read_program, read_rest, read_statements, scope_of}
 use Rattle.aom_meaning.specs.Naming.{HasNames}
 use Rattle.aom_meaning.specs.Texts.{AllSayQuiet, all_words}
 use Rattle.aom_meaning.proofs.Following.{Goes, goes_on, first_of}
@@ -36,7 +35,7 @@ none_left (s ∷ ss) words = absurd cc
 
 module _ (last : ℕ) (i : Image) (formed : WellFormed i) (quiet : AllSayQuiet i) (scope : Scope) (names : HasNames (length i.classes) (length i.methods) scope) where
   small : whole_size i ≤ 2 ^ 20
-  small = subst (λ n. (24 + n) + sum_by (spelled i.header.version) i.methods ≤ 2 ^ 20) (sym (class_sizes i.header.version i.classes)) formed.size
+  small = grind (arith, nat_tests, spelled i.header.version, class_sizes i.header.version i.classes)
 
   parts_go : (ss : List Statement) → all_words ss ≡ classes_statements 0 i.classes ++ methods_statements 0 i.methods → Goes last scope (read_so_far i.header [] [] None 24) ss (all_read i) []
   parts_go ss words =
@@ -47,21 +46,13 @@ module _ (last : ℕ) (i : Image) (formed : WellFormed i) (quiet : AllSayQuiet i
       (behind ∙ sym (append-nil (methods_statements 0 i.methods))))
 
   closes : (ss : List Statement) → all_words ss ≡ [] → read_rest last scope (all_read i) ss ≡ Ok (all_read i)
-  closes ss words =
-      let some = formed.methods.some in
-      ap (λ l. read_rest last scope (all_read i) l) (none_left ss words)
-      ∙ ap (λ b. at_line last (if b then Err LimitPassed else Ok (all_read i))) (ne_eqb (length i.methods) 0 (λ none. omega arith))
+  closes ss words = grind (arith, nat_tests, none_left ss words, ne_eqb)
 
   rest_reads : (ss : List Statement) → all_words ss ≡ classes_statements 0 i.classes ++ methods_statements 0 i.methods → read_rest last scope (read_so_far i.header [] [] None 24) ss ≡ Ok (all_read i)
   rest_reads ss words = let goes = parts_go ss words in goes.reads ∙ closes goes.rest goes.words
 
   program_reads : (ss : List Statement) → all_words ss ≡ listing i → read_program last scope ss ≡ Ok (all_read i)
-  program_reads ss words =
-      let f = first_of ss words in
-      ap (read_program last scope) f.is
-      ∙ ap (λ ws. and_then (at_line f.one.line (opened scope ws)) (λ p. read_rest last scope p f.rest)) f.here
-      ∙ ap (λ e. and_then (at_line f.one.line (e >>= λ x. Ok (read_so_far x.0 [] [] None 24))) (λ p. read_rest last scope p f.rest)) (header_reads names i.header formed.header)
-      ∙ rest_reads f.rest f.behind
+  program_reads ss words = grind (arith, nat_tests, first_of ss words, read_so_far, header_reads names i.header formed.header, rest_reads)
 
 -- ---- both readings
 

@@ -1,4 +1,5 @@
 -- What one word says is what is read of it: names, numbers, sets, things, arguments and lists, both ways.
+use Rattle.std.proofs.lemmas.Bool.Decides.{nat_tests}
 use Rattle.std.proofs.Common.{◌≡◌, ℕ, ◌+◌, ◌≤◌, ◌==◌, Bool, true, false, List, [], ◌∷◌, ◌++◌, length, Result, Ok, Err, sym, ap, subst, ◌∙◌, append_assoc, append-nil, codes, arith, length-append}
 use Rattle.std.specs.Prelude.{◌&&◌, if◌then◌else◌, nat_le, nat_lt, not}
 use Rattle.std.specs.List.{list_all, slice_split}
@@ -41,9 +42,7 @@ pub record LooksUp (names : Names) (scope : Scope) : Type 0 where
 -- ---- names
 
 pub plain_name : (w : List ℕ) → is_name w ≡ true → list_all is_plain w ≡ true
-plain_name w is =
-    let whole = and_parts (has_name_form w && nat_le (length w) 32) (not (is_reserved w)) is in
-    plain_form w (and_parts (has_name_form w) (nat_le (length w) 32) whole.0).0
+plain_name w is = grind (arith, nat_tests, plain_form w)
 
 pub name_reads : (w : List ℕ) → is_name w ≡ true → as_name w ≡ Ok w
 name_reads w is = ap (λ b. if b then Ok w else Err BadShape) is
@@ -88,9 +87,7 @@ module _ {names : Names} {scope : Scope} (looks : LooksUp names scope) where
   thing_reads w owned.Message is = record { plain = ap (list_all is_plain) is; says = ap (thing_of scope) is }
   thing_reads w (owned.Object c) is = record {
     plain = plain_name w is.is_name;
-    says = ap (λ b. if b then Ok owned.Message else (class_of scope w >>= λ c. Ok (owned.Object c))) (no_message w is.is_name)
-        ∙ ap (λ e. (e >>= λ n. referred scope.is_strict 256 (place_of n scope.classes)) >>= λ c. Ok (owned.Object c)) (name_reads w is.is_name)
-        ∙ ap (λ e. e >>= λ c. Ok (owned.Object c)) (looks.class w c is);
+    says = grind (arith, nat_tests, no_message w is.is_name, name_reads w is.is_name);
   }
 
   pub argument_reads : (w : List ℕ) (a : Argument) → IsArgument names w a → Reads (argument_of scope) w a
@@ -100,7 +97,7 @@ module _ {names : Names} {scope : Scope} (looks : LooksUp names scope) where
       let t = thing_reads w (owned.Object c) is in
       record {
         plain = t.plain;
-        says = ap (λ b. if b then Ok arg.Word else (thing_of scope w >>= λ t. Ok (arg.Own t))) (no_word w is.is_name) ∙ ap (λ e. e >>= λ t. Ok (arg.Own t)) t.says;
+        says = grind (arith, nat_tests, no_word w is.is_name);
       }
 
 -- ---- lists

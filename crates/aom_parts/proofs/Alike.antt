@@ -1,5 +1,6 @@
 -- What holds of lists that stand for each other, shown member by member.
-use Rattle.std.proofs.Common.{List, [], ◌∷◌, ◌≡◌, ◌<◌, ℕ, ℤ, length, ap, sym, subst, arith}
+use Rattle.std.proofs.lemmas.Bool.Decides.{nat_tests}
+use Rattle.std.proofs.Common.{List, [], ◌∷◌, ◌≡◌, ◌<◌, ℕ, ℤ, length, ap, arith}
 use Rattle.std.specs.Int.{w32, cast_signed}
 use Rattle.aom_image.proofs.Given.{cons_given}
 use Rattle.aom_cleanup.specs.Items.{IsAboveMark}
@@ -63,7 +64,7 @@ alike = by_tasks Alike no_tasks (λ m u ms us same below more. by_task (λ m u. 
 
 -- the tasks below it
 pub same_below : (ms : List Held_task) (u : Task) (ts : List Task) → SameTasks ms (u ∷ ts) → SameTasks (below_first ms) ts
-same_below ms u ts same = cons_given (λ xs. SameTasks xs (u ∷ ts)) ms same (λ none. none) (λ m rest e here. subst (λ xs. SameTasks (below_first xs) ts) (sym e) here.1)
+same_below ms u ts same = grind (arith, nat_tests, cons_given)
 
 pub data Alike_items : List Held_item → List Item → Type 0 where
   no_items : Alike_items [] []
@@ -72,8 +73,7 @@ pub data Alike_items : List Held_item → List Item → Type 0 where
   both_marks : (is : List Held_item) (js : List Item) → SameItems is js → Alike_items (Is_mark ∷ is) (A_mark ∷ js)
 
 pub items_alike : (is : List Held_item) (js : List Item) → SameItems is js → Alike_items is js
-items_alike = by_items Alike_items no_items (λ i j is js same below _. by_item (λ i j. Alike_items (i ∷ is) (j ∷ js))
-    (λ n. both_objects n is js below) (λ m n k w which word. both_operations m n k w is js which word below) (both_marks is js below) i j same)
+items_alike = grind (arith, nat_tests, by_items Alike_items no_items, no_items, by_item, both_objects, both_operations, both_marks)
 
 -- where the last item is an entry
 pub data Entries_alike : List Held_item → List Item → Type 0 where
@@ -81,9 +81,7 @@ pub data Entries_alike : List Held_item → List Item → Type 0 where
   entries_run : (m n k : ℕ) (w : ℤ) (is : List Held_item) (js : List Item) → m ≡ k → cast_signed w32 n ≡ w → SameItems is js → Entries_alike (Holds_operation m n ∷ is) (An_operation k w ∷ js)
 
 pub entries_alike : (is : List Held_item) (js : List Item) → SameItems is js → IsAboveMark is → Entries_alike is js
-entries_alike (Holds_object n ∷ is) (An_object ∷ js) same above = entries_own n is js same.1
-entries_alike (Holds_operation m n ∷ is) (An_operation k w ∷ js) same above = entries_run m n k w is js same.0.0 same.0.1 same.1
-entries_alike _ _ same above = absurd (assumption tt)
+entries_alike x y same above = grind (arith, nat_tests, entries_own, entries_run)
 
 -- ---- what is known to be on top of the machine's tasks
 

@@ -1,4 +1,5 @@
 -- The requests of the enlisted objects, where cells move, change, come and go.
+use Rattle.std.proofs.lemmas.Bool.Decides.{nat_tests}
 use Rattle.std.specs.Prelude.{is_some}
 use Rattle.std.proofs.Common.{ap, Bool, false, inl, inr, List, None, Option, refl, Some, subst, suc, sym, true, ℕ, ℤ, ◌==◌, ◌∙◌, ◌∷◌, ◌≡◌, [], cond, pos, arith}
 use Rattle.std.proofs.lemmas.Bool.{eqb-true, false≢true}
@@ -8,7 +9,7 @@ use Rattle.aom_image.specs.declared.method.Argument.TheVariants.{Own as Takes_ow
 use Rattle.aom_image.specs.declared.method.Thing.{Thing}
 use Rattle.aom_sound.proofs.Counts.{count_asked}
 use Rattle.aom_sound.specs.Calls.{passed_cells}
-use Rattle.aom_sound.specs.Places.{Cell, Object, Place, Register, Request, Service, Tidy, held, moved, named, requested, service_of, set_service, set_word_field, unserved, with_new, without, Elsewhere, Root, set_request, word_field}
+use Rattle.aom_sound.specs.Places.{Cell, Object, Place, Register, Request, Service, Tidy, held, moved, named, requested, service_of, set_service, set_word_field, with_new, without, Elsewhere, Root, set_request, word_field}
 use Rattle.aom_sound.specs.Clients.{each_unslotted}
 use Rattle.aom_sound.specs.State.{AtRoot, Frame, Home, Inside, State, Static, Task}
 use Rattle.aom_sound.specs.Words.{here, stored}
@@ -16,7 +17,7 @@ use Rattle.aom_requests.specs.Requests.{request_at}
 use Rattle.aom_sound.proofs.Maps.{named_moved, requested_moved, requested_without, unrequested}
 use Rattle.aom_sound.proofs.Services.{named_served, requested_served, service_here, service_moved, service_stored, service_there}
 use Rattle.aom_sound.proofs.Unslotting.{each_unslotted_alike, each_unslotted_requests}
-use Rattle.aom_active.specs.Agrees.{Active, Tells, queue_in, queued}
+use Rattle.aom_active.specs.Agrees.{Active, Tells, queued}
 use Rattle.aom_active.specs.Meanings.{Removes, asked_anew}
 use Rattle.aom_active.proofs.Asking.{asked_gone, asked_new, asked_written, queued_gone, queued_same}
 use Rattle.aom_active.proofs.Telling.{standing_follows}
@@ -50,30 +51,24 @@ module _ (p : Image) (a : Active) where
   requests_stored cs (Inside o from) w v h = requests_written cs o.name w v h
 
   pub requests_made : (cs : List Cell) (n : ℕ) (thing : Thing) (words : List ℤ) (owner : Place) → named cs n ≡ None → SameRequests p a cs → SameRequests p a (with_new n thing words owner cs)
-  requests_made cs n thing words owner fresh h = requests_as cs (with_new n thing words owner cs) (λ k. sym (asked_new cs n thing words owner fresh k)) (λ k. waits k (n == k)) h
-    where
-      waits : (k : ℕ) (b : Bool) → is_some (cond b None (requested cs k)) ≡ true → queued p cs k ≡ queue_in p (cond b (Some (record { name = n; thing = thing })) (named cs k)) (cond b unserved (service_of cs k))
-      waits k true asked = absurd (false≢true asked)
-      waits k false asked = refl
+  requests_made cs n thing words owner fresh h = grind (arith, nat_tests, requests_as cs, asked_new cs n thing words owner fresh)
 
   -- what clients have at a cell changes, but for its queue
   pub requests_kept : (cs : List Cell) (n : ℕ) (v : Service) → v.queue ≡ (service_of cs n).queue → SameRequests p a cs → SameRequests p a (set_service n v cs)
-  requests_kept cs n v same h = requests_alike cs (set_service n v cs) (requested_served cs n v) (named_served cs n v) queues h
-    where
-      queues : (k : ℕ) → (service_of (set_service n v cs) k).queue ≡ (service_of cs k).queue
-      queues k = go (n == k) refl (named cs n) refl
-        where
-          go : (b : Bool) → (n == k) ≡ b → (o : Option Object) → named cs n ≡ o → (service_of (set_service n v cs) k).queue ≡ (service_of cs k).queue
-          go false e o there = ap (λ (x : Service). x.queue) (service_there cs n k v e)
-          go true e (Some o) there =
-              let is = eqb-true n k e in
-              ap (λ i. (service_of (set_service n v cs) i).queue) (sym is) ∙ ap (λ (x : Service). x.queue) (service_here cs n v o there) ∙ same ∙ ap (λ i. (service_of cs i).queue) is
-          go true e None there = ap (λ l. (service_of l k).queue) (absent_served cs n v there)
+  requests_kept cs n v same h = grind (
+    arith,
+    nat_tests,
+    requests_alike cs,
+    requested_served cs n v,
+    named_served cs n v,
+    service_there cs n,
+    eqb-true n,
+    service_here cs n v,
+    absent_served cs n v,
+  )
 
   pub requests_unslotted : (clients : List ℕ) (cs : List Cell) → SameRequests p a cs → SameRequests p a (each_unslotted clients cs)
-  requests_unslotted clients cs h =
-      let alike = each_unslotted_alike clients cs in
-      requests_alike cs (each_unslotted clients cs) (each_unslotted_requests clients cs) alike.named_so alike.queues_so h
+  requests_unslotted clients cs h = grind (arith, nat_tests, each_unslotted_alike clients cs, requests_alike cs, each_unslotted_requests clients cs)
 
 module _ (p : Image) (fr : Frame) (ts : List Task) (s : State) (a : Active) where
   pub requests_passed : (depth : ℕ) (xs : List Argument) (first to : ℕ) (cs : List Cell) → SameRequests p a cs → SameRequests p a (passed_cells p fr ts s depth xs first to cs)

@@ -1,9 +1,10 @@
 -- Where messages come and go, and queues change, the cells and requests, the natives' sessions and the lists of servers stay: by the cells one after another.
-use Rattle.std.proofs.Common.{Bool, List, None, Option, Some, [], ap, arith, cond, false, inl, inr, refl, subst, suc, sym, true, ℕ, pos, ◌<◌, ◌==◌, ◌≤◌, ◌∙◌, ◌∷◌, ◌≡◌, ◌⊎◌}
+use Rattle.std.proofs.lemmas.Bool.Decides.{nat_tests}
+use Rattle.std.proofs.Common.{Bool, List, None, Option, Some, [], ap, arith, cond, false, inl, inr, refl, suc, sym, true, ℕ, pos, ◌<◌, ◌==◌, ◌≤◌, ◌∙◌, ◌∷◌, ◌≡◌, ◌⊎◌}
 use Rattle.std.specs.Prelude.{is_some}
 use Rattle.std.proofs.lemmas.Bool.{eqb-true, false≢true, ne_eqb}
 use Rattle.std.proofs.lemmas.List.{get_or_past}
-use Rattle.aom_active.specs.Agrees.{Active, queue_in, queued}
+use Rattle.aom_active.specs.Agrees.{Active}
 use Rattle.aom_cells.specs.Heap.{Heap}
 use Rattle.aom_image.specs.Image.{Image}
 use Rattle.aom_image.specs.declared.method.Thing.TheVariants.{Message}
@@ -14,7 +15,7 @@ use Rattle.aom_shape.specs.Tables.{at}
 use Rattle.aom_sound.proofs.Dropping.{requested_unnamed}
 use Rattle.aom_sound.proofs.Services.{named_served, requested_served}
 use Rattle.aom_sound.proofs.Sifted.{cell_in, cell_in_sifted, cell_lives, cell_of, cell_of_sifted, cell_owner, held_cell, kept as left_cell, named_cell, object_in, request_in, requested_cell, sifted}
-use Rattle.aom_sound.specs.Places.{Cell, Object, Place, Service, Tidy, count_cells, held, in_session, named, requested, service_of, set_service, word_field}
+use Rattle.aom_sound.specs.Places.{Cell, Place, Service, Tidy, count_cells, held, in_session, named, requested, service_of, set_service, word_field}
 use Rattle.aom_sound.specs.Servers.{is_queue}
 use Rattle.aom_parts.proofs.Asking.{requests_as}
 use Rattle.aom_parts.proofs.Cells.{cells_as}
@@ -22,7 +23,7 @@ use Rattle.aom_parts.proofs.Forgetting.{words_cell, words_in}
 use Rattle.aom_parts.proofs.Listing.{listed_same}
 use Rattle.aom_parts.proofs.Vanishing.{AllCells, each_cell}
 use Rattle.aom_parts.specs.Agrees.{SameCells, SameNatives, SameRequests, thing_of}
-use Rattle.aom_parts.specs.Listing.{SameListed, is_listed, lists, order_in}
+use Rattle.aom_parts.specs.Listing.{SameListed}
 
 -- at a name there is the same, or a message came or went, which is not enlisted
 abbrev pub NamedBeside : List Cell → List Cell → ℕ → Type 0
@@ -50,54 +51,28 @@ beside_then cs ds es a b = record {
 }
   where
     names : (n : ℕ) → NamedBeside cs ds n → NamedBeside ds es n → NamedBeside cs es n
-    names n (inl e) (inl f) = inl (f ∙ e)
-    names n (inl e) (inr f) = inr (f.0, ap thing_of (sym e) ∙ f.1, sym (a.requests n) ∙ f.2)
-    names n (inr e) (inl f) = inr (ap thing_of f ∙ e.0, e.1, e.2)
-    names n (inr e) (inr f) = inr (f.0, e.1, e.2)
+    names n x y = grind arith
 
     sessions : (n : ℕ) → (in_session ds n ≡ in_session cs n) ⊎ ((in_session ds n ≡ false) × (4096 ≤ n)) → (in_session es n ≡ in_session ds n) ⊎ ((in_session es n ≡ false) × (4096 ≤ n)) → (in_session es n ≡ in_session cs n) ⊎ ((in_session es n ≡ false) × (4096 ≤ n))
-    sessions n (inl e) (inl f) = inl (f ∙ e)
-    sessions n (inr e) (inl f) = inr (f ∙ e.0, e.1)
-    sessions n x (inr f) = inr f
+    sessions n x y = grind arith
 
 -- ---- what stands beside it
 
 pub cells_beside : (p : Image) (h : Heap) (cs ds : List Cell) → Beside cs ds → SameCells p h cs → SameCells p h ds
-cells_beside p h cs ds b = cells_as p h cs ds (λ n. things n (b.names n)) b.words b.count
-  where
-    things : (n : ℕ) → NamedBeside cs ds n → thing_of (named ds n) ≡ thing_of (named cs n)
-    things n (inl e) = ap thing_of e
-    things n (inr e) = e.0 ∙ sym e.1
+cells_beside p h cs ds b = grind (arith, nat_tests, cells_as p h cs ds)
 
 pub natives_beside : (p : Image) (w : Standing) (killed : List ℕ) (cs ds : List Cell) → p.header.cells ≤ 4096 → Beside cs ds → SameNatives p w cs killed → SameNatives p w ds killed
 natives_beside p w killed cs ds few b same = record { sessions = λ n. sessions n (b.sessions n); dead = same.dead; limit = same.limit }
   where
     sessions : (n : ℕ) → (in_session ds n ≡ in_session cs n) ⊎ ((in_session ds n ≡ false) × (4096 ≤ n)) → is_open w n ≡ in_session ds n
-    sessions n (inl e) = same.sessions n ∙ sym e
-    sessions n (inr e) = let long = same.limit in let past = e.1 in get_or_past w.flags n false (omega (arith, long, past, few)) ∙ sym e.0
+    sessions n x = grind (arith, nat_tests, get_or_past w.flags n)
 
 pub listed_beside : (p : Image) (t : Table) (cs ds : List Cell) → Beside cs ds → SameListed p t cs → SameListed p t ds
-listed_beside p t cs ds b same = listed_same p t cs ds (λ n class. listed n class (b.names n)) (λ n. ap order_in (b.requests n)) same
-  where
-    unlisted : (class : ℕ) (o : Option Object) → lists p class o None ≡ false
-    unlisted class None = refl
-    unlisted class (Some o) = refl
-
-    listed : (n class : ℕ) → NamedBeside cs ds n → is_listed p ds class n ≡ is_listed p cs class n
-    listed n class (inl e) = ap (λ o. lists p class o (requested ds n)) e ∙ ap (lists p class (named cs n)) (b.requests n)
-    listed n class (inr e) = ap (lists p class (named ds n)) (b.requests n ∙ e.2) ∙ unlisted class (named ds n) ∙ sym (ap (lists p class (named cs n)) e.2 ∙ unlisted class (named cs n))
+listed_beside p t cs ds b same = grind (arith, nat_tests, listed_same p t cs ds)
 
 -- where the same waits at all that are enlisted
 pub requests_beside : (p : Image) (a : Active) (cs ds : List Cell) → Beside cs ds → ((n : ℕ) → is_some (requested cs n) ≡ true → (service_of ds n).queue ≡ (service_of cs n).queue) → SameRequests p a cs → SameRequests p a ds
-requests_beside p a cs ds b queues same = requests_as p a cs ds (λ n. sym (b.requests n)) (λ n asked. waits n (ap is_some (sym (b.requests n)) ∙ asked) (b.names n)) same
-  where
-    waits : (n : ℕ) → is_some (requested cs n) ≡ true → NamedBeside cs ds n → queued p cs n ≡ queued p ds n
-    waits n asked (inl e) = ap (λ q. queue_in p (named cs n) (record (service_of cs n) { queue = q })) (sym (queues n asked)) ∙ ap (λ o. queue_in p o (record (service_of cs n) { queue = (service_of ds n).queue })) (sym e) ∙ alike (named ds n)
-      where
-        alike : (o : Option Object) → queue_in p o (record (service_of cs n) { queue = (service_of ds n).queue }) ≡ queue_in p o (service_of ds n)
-        alike None = refl
-        alike (Some o) = refl
-    waits n asked (inr e) = absurd (false≢true (ap is_some (sym e.2) ∙ asked))
+requests_beside p a cs ds b queues same = grind (arith, nat_tests, requests_as p a cs ds)
 
 -- ---- what clients have at a cell changes
 
@@ -131,11 +106,7 @@ module _ (drops : Cell → Bool) (f : Cell → Service) (cs : List Cell) (tidy :
 
   session_cell : (cs : List Cell) (n : ℕ) → in_session cs n ≡ session_in (cell_of cs n)
   session_cell [] n = refl
-  session_cell (c ∷ cs) n = go (c.object.name == n) (session_cell cs n)
-    where
-      go : (b : Bool) → in_session cs n ≡ session_in (cell_of cs n) → cond b c.session (in_session cs n) ≡ session_in (cond b (Some c) (cell_of cs n))
-      go true e = refl
-      go false e = e
+  session_cell (c ∷ cs) n = grind (arith, nat_tests, session_cell cs n, cell_of cs n)
 
   names_so : (n : ℕ) → NamedBeside cs ds n
   names_so n = go (cell_of cs n) refl
@@ -194,11 +165,7 @@ module _ (drops : Cell → Bool) (f : Cell → Service) (cs : List Cell) (tidy :
 
   count_so : (cs : List Cell) → AllCells (λ x. drops x ≡ true → is_object x.object.thing ≡ false) cs → count_cells (sifted drops f cs) ≡ count_cells cs
   count_so [] all = refl
-  count_so (c ∷ cs) all = go (drops c) refl (count_so cs all.1)
-    where
-      go : (b : Bool) → drops c ≡ b → count_cells (sifted drops f cs) ≡ count_cells cs → count_cells (cond b (sifted drops f cs) (record c { service = f c } ∷ sifted drops f cs)) ≡ cond (is_object c.object.thing) (suc (count_cells cs)) (count_cells cs)
-      go true d rest = rest ∙ sym (ap (λ b. cond b (suc (count_cells cs)) (count_cells cs)) (all.0 d))
-      go false d rest = ap (λ k. cond (is_object c.object.thing) (suc k) k) rest
+  count_so (c ∷ cs) all = grind (arith, nat_tests, count_so cs all.1, sifted drops f cs)
 
   pub beside_sifted : Beside cs ds
   beside_sifted = record {
@@ -234,14 +201,12 @@ beside_message cs c free message past unasked closed = record {
   where
     names : (n : ℕ) (b : Bool) → (c.object.name == n) ≡ b → NamedBeside cs (c ∷ cs) n
     names n false e = inl (ap (λ b. cond b (Some c.object) (named cs n)) e)
-    names n true e =
-        let unnamed : named cs n ≡ None = ap (named cs) (sym (eqb-true c.object.name n e)) ∙ free in
-        inr (ap (λ b. thing_of (cond b (Some c.object) (named cs n))) e ∙ ap (λ x. cond (is_object x) (Some x) None) message, ap thing_of unnamed, requested_unnamed cs n unnamed)
+    names n true e = grind (arith, nat_tests, eqb-true c.object.name n e, requested_unnamed cs n)
 
     requests : (n : ℕ) (b : Bool) → (c.object.name == n) ≡ b → cond (c.object.name == n) c.request (requested cs n) ≡ requested cs n
-    requests n true e = ap (λ b. cond b c.request (requested cs n)) e ∙ unasked ∙ sym (requested_unnamed cs n (ap (named cs) (sym (eqb-true c.object.name n e)) ∙ free))
+    requests n true e = grind (arith, nat_tests, requested_unnamed cs n, eqb-true c.object.name n e)
     requests n false e = ap (λ b. cond b c.request (requested cs n)) e
 
     sessions : (n : ℕ) (b : Bool) → (c.object.name == n) ≡ b → (in_session (c ∷ cs) n ≡ in_session cs n) ⊎ ((in_session (c ∷ cs) n ≡ false) × (4096 ≤ n))
-    sessions n true e = inr (ap (λ b. cond b c.session (in_session cs n)) e ∙ closed, subst (λ k. 4096 ≤ k) (eqb-true c.object.name n e) past)
+    sessions n true e = grind (arith, nat_tests, eqb-true c.object.name n e)
     sessions n false e = inl (ap (λ b. cond b c.session (in_session cs n)) e)

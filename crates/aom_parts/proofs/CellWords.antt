@@ -1,15 +1,15 @@
 -- The words of cells: what moves, goes, is made and is written leaves all others as they were.
-use Rattle.std.proofs.Common.{zero, suc, inl, inr, ◌≡◌, ℕ, ℤ, pos, Bool, true, false, cond, ◌==◌, ◌&&◌, List, [], ◌∷◌, Option, Some, None, replicate, slice_index_or, refl, sym, ap, ◌∙◌, arith, ◌<◌, subst}
+use Rattle.std.proofs.lemmas.Bool.Decides.{nat_tests}
+use Rattle.std.proofs.Common.{zero, suc, inl, inr, ◌≡◌, ℕ, ℤ, pos, false, cond, ◌==◌, ◌&&◌, List, [], ◌∷◌, Option, Some, None, replicate, slice_index_or, refl, sym, ap, ◌∙◌, arith, ◌<◌}
 use Rattle.std.specs.Prelude.{is_some}
 use Rattle.std.proofs.lemmas.Bool.{cases_lt, eq-eqb, eqb-true, false≢true}
 use Rattle.std.proofs.lemmas.List.{get_or_past, get_or-replicate, get_or-set_other, length-replicate}
 use Rattle.aom_cells.specs.Heap.{Heap, cell_at, word_of, with_word, Changes}
 use Rattle.aom_cells.specs.Heap.{word_at as cell_word}
 use Rattle.aom_cells.specs.declared.cell.Cell.{Cell as Held_cell}
-use Rattle.aom_shape.specs.Tables.{at, put_at}
+use Rattle.aom_shape.specs.Tables.{at}
 use Rattle.aom_sound.specs.Places.{Place, Object, Cell, named, moved, word_field, set_word_field}
 use Rattle.aom_sound.proofs.Maps.{at-put_at, front_free}
-use Rattle.aom_parts.proofs.Values.{cases}
 
 -- a list of equal elements has that element everywhere, if it also stands for those past the end
 pub all_same : {A : Type 0} (n i : ℕ) (x : A) → slice_index_or (replicate n x) i x ≡ x
@@ -27,32 +27,16 @@ words_moved (c ∷ cs) from to n w = ap (λ x. cond (c.object.name == n) (at (po
 -- where no cell has that name
 pub words_unnamed : (cs : List Cell) (n w : ℕ) → named cs n ≡ None → word_field cs n w ≡ pos 0
 words_unnamed [] n w e = refl
-words_unnamed (c ∷ cs) n w e =
-    let f = front_free _ _ _ e in
-    ap (λ b. cond b (at (pos 0) c.words w) (word_field cs n w)) f.0 ∙ words_unnamed cs n w f.1
+words_unnamed (c ∷ cs) n w e = grind (arith, nat_tests, front_free, words_unnamed cs n w)
 
 -- a word is written, in another cell or in this one
 pub words_other : (cs : List Cell) (n w : ℕ) (v : ℤ) (k x : ℕ) → (n == k) ≡ false → word_field (set_word_field n w v cs) k x ≡ word_field cs k x
 words_other [] n w v k x d = refl
-words_other (c ∷ cs) n w v k x d = go (c.object.name == n) refl (words_other cs n w v k x d)
-  where
-    go : (b : Bool) → (c.object.name == n) ≡ b → word_field (set_word_field n w v cs) k x ≡ word_field cs k x → cond (c.object.name == k) (at (pos 0) (cond b (put_at (pos 0) c.words w v) c.words) x) (word_field (set_word_field n w v cs) k x) ≡ cond (c.object.name == k) (at (pos 0) c.words x) (word_field cs k x)
-    go false e rest = ap (λ y. cond (c.object.name == k) (at (pos 0) c.words x) y) rest
-    go true e rest =
-        let other : (c.object.name == k) ≡ false = ap (λ i. i == k) (eqb-true c.object.name n e) ∙ d in
-        ap (λ b. cond b (at (pos 0) (put_at (pos 0) c.words w v) x) (word_field (set_word_field n w v cs) k x)) other
-        ∙ rest
-        ∙ sym (ap (λ b. cond b (at (pos 0) c.words x) (word_field cs k x)) other)
+words_other (c ∷ cs) n w v k x d = grind (arith, nat_tests, words_other cs n w v k x d, eqb-true c.object.name n)
 
 pub words_here : (cs : List Cell) (n w : ℕ) (v : ℤ) (x : ℕ) → word_field (set_word_field n w v cs) n x ≡ cond (is_some (named cs n) && (w == x)) v (word_field cs n x)
 words_here [] n w v x = refl
-words_here (c ∷ cs) n w v x = go (c.object.name == n) (words_here cs n w v x)
-  where
-    go : (b : Bool) → word_field (set_word_field n w v cs) n x ≡ cond (is_some (named cs n) && (w == x)) v (word_field cs n x)
-        → cond b (at (pos 0) (cond b (put_at (pos 0) c.words w v) c.words) x) (word_field (set_word_field n w v cs) n x)
-        ≡ cond (is_some (cond b (Some c.object) (named cs n)) && (w == x)) v (cond b (at (pos 0) c.words x) (word_field cs n x))
-    go true rest = at-put_at (pos 0) c.words w x v
-    go false rest = rest
+words_here (c ∷ cs) n w v x = grind (arith, nat_tests, words_here cs n w v x, at-put_at)
 
 -- the machine writes a word of a cell
 word_left : (c : Option Held_cell) (w x : ℕ) (v : ℤ) → (w == x) ≡ false → word_of (with_word c w v) x ≡ word_of c x
@@ -61,14 +45,13 @@ word_left (Some c) w x v d = get_or-set_other c.words w x v (pos 0) (λ e. false
 
 pub words_stored : (h h' : Heap) (cs : List Cell) (n w : ℕ) (v : ℤ) (o : Object) → ((k x : ℕ) → k < 4096 → cell_word h k x ≡ word_field cs k x) → named cs n ≡ Some o → Changes h h' n (with_word (cell_at h n) w v) → cell_word h' n w ≡ v
     → (k x : ℕ) → k < 4096 → cell_word h' k x ≡ word_field (set_word_field n w v cs) k x
-words_stored h h' cs n w v o same lives ch here k x small = cases (n == k)
-    (λ e. ap (λ i. cell_word h' i x) (sym (eqb-true n k e)) ∙ this (subst (λ i. i < 4096) (sym (eqb-true n k e)) small) ∙ ap (λ i. word_field (set_word_field n w v cs) i x) (eqb-true n k e))
-    (λ e. ap (λ c. word_of c x) (ch.others k (λ d. false≢true (sym e ∙ eq-eqb n k (sym d)))) ∙ same k x small ∙ sym (words_other cs n w v k x e))
-  where
-    now : (b : Bool) → (w == x) ≡ b → word_field (set_word_field n w v cs) n x ≡ cond b v (word_field cs n x)
-    now b e = words_here cs n w v x ∙ ap (λ o. cond (is_some o && (w == x)) v (word_field cs n x)) lives ∙ ap (λ b. cond b v (word_field cs n x)) e
-
-    this : n < 4096 → cell_word h' n x ≡ word_field (set_word_field n w v cs) n x
-    this few = cases (w == x)
-        (λ e. ap (λ i. cell_word h' n i) (sym (eqb-true w x e)) ∙ here ∙ sym (now true e))
-        (λ e. ap (λ c. word_of c x) ch.here ∙ word_left (cell_at h n) w x v e ∙ same n x few ∙ sym (now false e))
+words_stored h h' cs n w v o same lives ch here k x small = grind (
+  arith,
+  nat_tests,
+  eqb-true n k,
+  eq-eqb n k,
+  words_other cs n w v k x,
+  words_here cs n w v x,
+  eqb-true w x,
+  word_left,
+)

@@ -1,13 +1,13 @@
 -- The machine's cells, where owners move and where a cell goes.
-use Rattle.std.proofs.Common.{◌≡◌, ℕ, pos, ◌+◌, Bool, true, false, cond, not, ◌==◌, List, [], ◌∷◌, Option, Some, None, refl, sym, ap, ◌∙◌, arith, subst, ◌<◌, ◌≤◌}
+use Rattle.std.proofs.lemmas.Bool.Decides.{nat_tests}
+use Rattle.std.proofs.Common.{◌≡◌, ℕ, ◌+◌, Bool, true, false, cond, not, ◌==◌, List, [], ◌∷◌, Some, None, refl, sym, ap, ◌∙◌, arith, subst, ◌<◌, ◌≤◌}
 use Rattle.std.specs.Prelude.{IsSome}
-use Rattle.std.proofs.lemmas.Bool.{eqb-true, eq-eqb, false≢true, false_from_ne_true, not-true, true≢false}
+use Rattle.std.proofs.lemmas.Bool.{eqb-true, eq-eqb, false≢true, false_from_ne_true, not-true}
 use Rattle.aom_image.specs.Image.{Image}
 use Rattle.aom_cells.specs.declared.cell.Cell.{Cell as Held_cell}
-use Rattle.aom_cells.specs.Heap.{Heap, null, cell_at, word_of, count, Changes}
-use Rattle.aom_shape.specs.Tables.{at}
+use Rattle.aom_cells.specs.Heap.{Heap, cell_at, word_of, count, Changes}
 use Rattle.aom_shape.specs.Kinds.{is_object}
-use Rattle.aom_sound.specs.Places.{Place, Object, Cell, count_cells, same_place, held, named, moved, without, Tidy, word_field}
+use Rattle.aom_sound.specs.Places.{Place, Object, Cell, count_cells, held, named, moved, without, Tidy, word_field}
 use Rattle.aom_sound.proofs.Counts.{count_moved, count_without, counted_in}
 use Rattle.aom_sound.proofs.Maps.{same_place-true, named_moved, named_without, unnamed, without_none}
 use Rattle.aom_parts.specs.Agrees.{SameCells, thing_in, thing_of}
@@ -20,12 +20,7 @@ class_told p h cs n o same lives object = same.things n ∙ ap thing_of lives �
 
 -- and what it has the cell of is one
 pub is_an_object : (p : Image) (h : Heap) (cs : List Cell) (n : ℕ) (o : Object) → SameCells p h cs → named cs n ≡ Some o → IsSome (cell_at h n) → is_object o.thing ≡ true
-is_an_object p h cs n o same lives there = go (cell_at h n) there (same.things n ∙ ap thing_of lives) (is_object o.thing) refl
-  where
-    go : (c : Option Held_cell) → IsSome c → thing_in c ≡ cond (is_object o.thing) (Some o.thing) None → (b : Bool) → is_object o.thing ≡ b → b ≡ true
-    go c some e true object = refl
-    go None some e false object = absurd (false≢true some)
-    go (Some c) some e false object = let other = e ∙ ap (λ b. cond b (Some o.thing) None) object in cc
+is_an_object p h cs n o same lives there = grind (arith, nat_tests)
 
 -- a cell's number is below all messages'
 pub cell_small : (p : Image) (h : Heap) (cs : List Cell) → SameCells p h cs → p.header.cells ≤ 4096 → (n : ℕ) (c : Held_cell) → cell_at h n ≡ Some c → n < 4096
@@ -49,28 +44,17 @@ cells_moved p h cs from to = cells_as p h cs (moved from to cs) (λ n. ap thing_
 
 -- the place of a cell that is not owned so is another
 pub unowned : (c : Cell) (cs : List Cell) (r : Place) (is : Place → Bool) → is r ≡ true → not (is c.owner) ≡ true → held cs r ≡ None → held (c ∷ cs) r ≡ None
-unowned c cs r is here other none =
-    let apart = false_from_ne_true (same_place c.owner r) (λ same. true≢false (sym here ∙ ap is (sym (same_place-true c.owner r same)) ∙ not-true _ other)) in
-    ap (λ b. cond b (Some c.object) (held cs r)) apart ∙ none
+unowned c cs r is here other none = grind (arith, nat_tests, false_from_ne_true, same_place-true c.owner r, not-true)
 
 -- the words of another cell than the one that goes
 pub words_without : (cs : List Cell) (g : Place) (o : Object) (n w : ℕ) → Tidy cs → held cs g ≡ Some o → (o.name == n) ≡ false → word_field (without g cs) n w ≡ word_field cs n w
 words_without [] g o n w t e d = refl
-words_without (c ∷ cs) g o n w t e d = go (same_place c.owner g) refl (words_without cs g o n w t.2) e
-  where
-    go : (x : Bool) → same_place c.owner g ≡ x → (held cs g ≡ Some o → (o.name == n) ≡ false → word_field (without g cs) n w ≡ word_field cs n w) → cond x (Some c.object) (held cs g) ≡ Some o → word_field (cond x (without g cs) (c ∷ without g cs)) n w ≡ cond (c.object.name == n) (at (pos 0) c.words w) (word_field cs n w)
-    go true f rest e =
-        let same : c.object ≡ o = cc in
-        ap (λ l. word_field l n w) (without_none cs g (ap (λ q. held cs q) (sym (same_place-true c.owner g f)) ∙ t.0))
-        ∙ ap (λ b. cond b (at (pos 0) c.words w) (word_field cs n w)) (sym (ap (λ x. x.name == n) same ∙ d))
-    go false f rest e = ap (λ x. cond (c.object.name == n) (at (pos 0) c.words w) x) (rest e d)
+words_without (c ∷ cs) g o n w t e d = grind (arith, nat_tests, words_without cs g o n w t.2, without_none cs g, same_place-true c.owner g)
 
 -- the cell that a place owned goes
 pub cells_without : (p : Image) (h h' : Heap) (cs : List Cell) (g : Place) (o : Object) → SameCells p h cs → Tidy cs → held cs g ≡ Some o → is_object o.thing ≡ true → Changes h h' o.name None → count h' + 1 ≡ count h → SameCells p h' (without g cs)
 cells_without p h h' cs g o same tidy is object ch less = record {
-  things = λ k. cases (o.name == k)
-      (λ e. ap (λ i. thing_in (cell_at h' i)) (sym (eqb-true o.name k e)) ∙ ap thing_in ch.here ∙ sym (ap thing_of (ap (named (without g cs)) (sym (eqb-true o.name k e)) ∙ unnamed cs g o tidy is)))
-      (λ e. ap thing_in (other k e) ∙ same.things k ∙ ap thing_of (sym (named_without cs g o k tidy is e)));
+  things = grind (arith, nat_tests, eqb-true o.name, unnamed cs g o tidy is, named_without cs g o);
   words = λ k w small. cases (o.name == k)
       (λ e. ap (λ i. word_of (cell_at h' i) w) (sym (eqb-true o.name k e)) ∙ ap (λ c. word_of c w) ch.here ∙ sym (words_unnamed (without g cs) k w (ap (named (without g cs)) (sym (eqb-true o.name k e)) ∙ unnamed cs g o tidy is)))
       (λ e. ap (λ c. word_of c w) (other k e) ∙ same.words k w small ∙ sym (words_without cs g o k w tidy is e));
@@ -78,9 +62,7 @@ cells_without p h h' cs g o same tidy is object ch less = record {
   limit = ch.limit ∙ same.limit;
   wide = λ k c e. same.wide k c (sym (still k c e) ∙ e);
   classes = λ k c e. same.classes k c (sym (still k c e) ∙ e);
-  null_is_none = cases (o.name == null)
-      (λ e. ap (cell_at h') (sym (eqb-true o.name null e)) ∙ ch.here)
-      (λ e. other null e ∙ same.null_is_none);
+  null_is_none = grind (arith, nat_tests, eqb-true o.name);
   below = λ k c e. subst (λ l. k < l) (sym ch.limit) (same.below k c (sym (still k c e) ∙ e));
 }
   where
@@ -88,6 +70,4 @@ cells_without p h h' cs g o same tidy is object ch less = record {
     other k e = ch.others k (λ d. false≢true (sym e ∙ eq-eqb o.name k (sym d)))
 
     still : (k : ℕ) (c : _) → cell_at h' k ≡ Some c → cell_at h' k ≡ cell_at h k
-    still k c is' = cases (o.name == k)
-        (λ e. let none : cell_at h' k ≡ None = ap (cell_at h') (sym (eqb-true o.name k e)) ∙ ch.here in absurd (let clash : Some c ≡ None = sym is' ∙ none in cc))
-        (λ e. other k e)
+    still k c is' = grind (arith, nat_tests, eqb-true o.name k, other k)

@@ -1,10 +1,11 @@
 -- What a client does is refused on both sides alike, and what stands for clients goes on through it: command by command.
+use Rattle.std.proofs.lemmas.Bool.Decides.{nat_tests}
 use Rattle.std.proofs.Common.{Bool, List, None, Option, Some, [], ap, cond, false, length, map, refl, subst, suc, sym, true, ℕ, ℤ, ◌&&◌, ◌+◌, ◌<◌, ◌∙◌, ◌∷◌, ◌≡◌, arith}
 use Rattle.std.specs.Prelude.{filter, is_some, nat_lt, option_map}
 use Rattle.std.proofs.lemmas.Bool.{false≢true}
 use Rattle.std.proofs.lemmas.List.{length-map}
 use Rattle.aom_clients.specs.Clients as kept
-use Rattle.aom_clients.specs.Table.{row, server_of}
+use Rattle.aom_clients.specs.Table.{row}
 use Rattle.aom_clients.specs.declared.client.Client.{Client}
 use Rattle.aom_clients.specs.declared.client.Client.TheVariants.{Closing, Connecting, Dead, Dying, Gone, Open, Unconnected}
 use Rattle.aom_clients.specs.declared.entry.Entry.{Entry}
@@ -22,7 +23,7 @@ use Rattle.aom_sound.proofs.ClientsAsk.{asked_there}
 use Rattle.aom_sound.proofs.ClientsCommand.{server_there}
 use Rattle.aom_sound.proofs.ClientsFacts.{waiting_well}
 use Rattle.aom_sound.proofs.Sifted.{a_cell_of, cell_of, cell_placed, held_cell, named_cell, named_sifted, object_in, tidy_sifted, withdrawn_so}
-use Rattle.aom_sound.specs.Clients.{Listed, asked_of, asked_server, client_at, commanded, connecting, count_messages, first_listed, is_of_class, leaving, most_of, refusal, room, sending, slots_of, told, with_client}
+use Rattle.aom_sound.specs.Clients.{Listed, asked_server, client_at, commanded, connecting, count_messages, is_of_class, leaving, most_of, refusal, room, sending, slots_of, told, with_client}
 use Rattle.aom_sound.specs.Kept.{ClientsFit}
 use Rattle.aom_sound.specs.Laws.{IsWired}
 use Rattle.aom_sound.specs.Places.{Cell, Connect_of, Elsewhere, Object, Queued as Waits_at, Tidy, held, named, service_of}
@@ -55,8 +56,7 @@ connects_counted places (entry.Message m ∷ es) = connects_counted places es
 connects_counted places (entry.Close c ∷ es) = connects_counted places es
 
 pub seats_counted : (k : kept.State) (cs : List Cell) (clients : List Client) → SameClients k cs clients → (n : ℕ) → length (kept.sessions_at k n) + length (filter kept.is_connect (kept.queue_at k n)) ≡ seats_taken (service_of cs n)
-seats_counted k cs clients same n =
-    ap (λ l. length l + length (filter kept.is_connect (kept.queue_at k n))) (same.sessions n) ∙ ap (λ i. length (service_of cs n).sessions + i) (connects_counted k.places (kept.queue_at k n) ∙ ap (λ q. length (filter is_connect q)) (same.queues n))
+seats_counted k cs clients same n = grind (arith, nat_tests, connects_counted k.places)
 
 -- the server that the machine found, with the most sessions that its class takes
 abbrev pub found_server : ℕ → Option Listed → Option Server
@@ -66,37 +66,11 @@ found_server most (Some x) = Some (record { cell = x.name; most = most })
 module _ (p : Image) (c : ℕ) (s : State) (k : kept.State) (same : SameClients k s.cells s.clients) where
   -- a connect is refused on both sides alike
   pub connect_refused : (class slots : ℕ) → kept.connect_refusal c (found_server (most_of (kind_of p (Some class))) (asked_server p class s.cells)) k ≡ refusal p c s (Connect class slots)
-  connect_refused class slots = go (row (kept.client_at k c)).connect (asked_server p class s.cells) ∙ ap (λ r. asked_of r (most_of (kind_of p (Some class))) (asked_server p class s.cells) s.cells) (sym (row_connect (kept.client_at k c)) ∙ ap (λ x. (row x).connect) (same.at c))
-    where
-      go : (r : Option Refusal) (x : Option Listed) → kept.asked r (found_server (most_of (kind_of p (Some class))) x) k ≡ asked_of r (most_of (kind_of p (Some class))) x s.cells
-      go (Some r) x = refl
-      go None None = refl
-      go None (Some x) = ap (λ n. cond (nat_lt n (most_of (kind_of p (Some class)))) None (Some ServerBusy)) (seats_counted k s.cells s.clients same x.name)
+  connect_refused class slots = grind (arith, nat_tests, row_connect, seats_counted k s.cells s.clients same)
 
   -- and so is a send, where a place is found while fewer messages are kept than may be
   pub send_refused : (words : List ℤ) (place : Option ℕ) → is_some place ≡ nat_lt (count_messages s.cells) p.header.messages → kept.send_refusal c place k ≡ refusal p c s (Send words)
-  send_refused words place found = go (kept.client_at k c) (same.at c)
-    where
-      full : (a : Bool) (place : Option ℕ) (b : Bool) → is_some place ≡ b → kept.sending_to None a place ≡ cond (a && b) None (Some ServerBusy)
-      full true None b e = ap (λ x. cond x None (Some ServerBusy)) e
-      full true (Some m) b e = ap (λ x. cond x None (Some ServerBusy)) e
-      full false None b e = refl
-      full false (Some m) b e = refl
-
-      at : (x : Client) → sessionless x ≡ client_at s.clients c → room p c s (row (sessionless x)).send ≡ room p c s (row (client_at s.clients c)).send
-      at x e = ap (λ y. room p c s (row y).send) e
-
-      go : (x : Client) → sessionless x ≡ client_at s.clients c → kept.sending_to (row x).send (kept.has_slot (length (kept.sent_at k c)) x) place ≡ room p c s (row (client_at s.clients c)).send
-      go (Open n session slots) e =
-          full (nat_lt (length (kept.sent_at k c)) slots) place (nat_lt (count_messages s.cells) p.header.messages) found
-          ∙ ap (λ i. cond (nat_lt i slots && nat_lt (count_messages s.cells) p.header.messages) None (Some ServerBusy)) (same.slots c)
-          ∙ ap (λ y. cond (nat_lt (slots_taken c s.cells) (slots_of y) && nat_lt (count_messages s.cells) p.header.messages) None (Some ServerBusy)) e ∙ at (Open n session slots) e
-      go Unconnected e = at Unconnected e
-      go (Connecting n slots) e = at (Connecting n slots) e
-      go (Closing n session) e = at (Closing n session) e
-      go Gone e = at Gone e
-      go Dead e = at Dead e
-      go (Dying n session) e = at (Dying n session) e
+  send_refused words place found = grind (arith, nat_tests)
 
 -- ---- commands
 
@@ -110,10 +84,7 @@ module _
   -- ---- a connect
 
   asked_serves : (class : ℕ) (x : Listed) → asked_server p class s.cells ≡ Some x → is_server p (An_object_of class) ≡ true
-  asked_serves class x e = go (is_server p (An_object_of class)) refl e
-    where
-      go : (b : Bool) → is_server p (An_object_of class) ≡ b → cond b (first_listed class s.cells) None ≡ Some x → b ≡ true
-      go x f e = grind arith
+  asked_serves class x e = grind (arith, nat_tests)
 
   serves_class : (class : ℕ) (y : Thing) → is_of_class class y ≡ true → is_server p (An_object_of class) ≡ true → is_server p y ≡ true
   serves_class class x of serves = grind arith
@@ -135,7 +106,7 @@ module _
 
   -- the server at which it is open
   server_open : (n session slots : ℕ) → kept.client_at k c ≡ Open n session slots → (o : Object) × (o.name ≡ n) × (named s.cells o.name ≡ Some o) × (is_server p o.thing ≡ true)
-  server_open n session slots at = server_there p c s w.good.tidy fit n (fit.listed n c (ap server_of (sym (same.at c) ∙ ap sessionless at)))
+  server_open n session slots at = grind (arith, nat_tests, server_there p c s w.good.tidy fit n)
 
   pub same_send : (words : List ℤ) (place : Option ℕ) → is_some place ≡ nat_lt (count_messages s.cells) p.header.messages → ((m : ℕ) → place ≡ Some m → (m < 1024) × (named s.cells (message_name m) ≡ None)) →
       (name : ℕ) → ((m : ℕ) → place ≡ Some m → name ≡ message_name m) → After (kept.after_send c place k) (commanded p c s (Send words) name)

@@ -1,14 +1,15 @@
 -- A message is completed: its cell goes, its place and its slot are free, and all else goes on standing for what it stood for.
+use Rattle.std.proofs.lemmas.Bool.Decides.{nat_tests}
 use Rattle.std.proofs.Common.{Bool, List, None, Option, Some, [], ap, arith, cond, false, length, refl, subst, suc, sym, true, ℕ, ◌+◌, ◌<◌, ◌==◌, ◌∙◌, ◌∷◌, ◌≡◌}
 use Rattle.std.specs.List.{list_any}
-use Rattle.std.specs.Prelude.{filter, map, not, ◌||◌}
+use Rattle.std.specs.Prelude.{filter, map, ◌||◌}
 use Rattle.std.proofs.lemmas.Bool.{eq-eqb, eqb-true, false≢true, ne_eqb}
 use Rattle.std.proofs.lemmas.List.{length-map}
 use Rattle.aom_clients.specs.Clients as kept
 use Rattle.aom_clients.specs.declared.client.Client.{Client}
 use Rattle.aom_clients.specs.declared.place.Place.{Place as Message_place}
 use Rattle.aom_clients.specs.declared.place.Place.TheVariants.{Free, Queued}
-use Rattle.aom_clients.specs.Table.{is_queued, sender}
+use Rattle.aom_clients.specs.Table.{is_queued}
 use Rattle.aom_sound.proofs.Maps.{front_free, held_lives, same_place-true, tidy_without, unnamed}
 use Rattle.aom_sound.proofs.Parting.{among_others, among_parted}
 use Rattle.aom_sound.proofs.Services.{service_unnamed, service_without}
@@ -27,50 +28,26 @@ queued_still b p d e = grind arith
 -- of what is there once, one goes where it was there
 length_without : (m : ℕ) (ms : List ℕ) → Once ms → length ms ≡ length (filter (is_other m) ms) + cond (is_among m ms) 1 0
 length_without m [] once = refl
-length_without m (k ∷ ms) once = go (k == m) refl (length_without m ms once.1)
-  where
-    go : (b : Bool) → (k == m) ≡ b → length ms ≡ length (filter (is_other m) ms) + cond (is_among m ms) 1 0 →
-        suc (length ms) ≡ length (cond (not b) (k ∷ filter (is_other m) ms) (filter (is_other m) ms)) + cond (b || is_among m ms) 1 0
-    go true e rest =
-        let none : is_among m ms ≡ false = ap (λ i. is_among i ms) (sym (eqb-true k m e)) ∙ once.0 in
-        let same : length ms ≡ length (filter (is_other m) ms) + 0 = rest ∙ ap (λ b. length (filter (is_other m) ms) + cond b 1 0) none in
-        omega (arith, same)
-    go false e rest = omega (arith, rest)
+length_without m (k ∷ ms) once = grind (arith, nat_tests, length_without m ms once.1, eqb-true k m)
 
 pub once_without : (m : ℕ) (ms : List ℕ) → Once ms → Once (filter (is_other m) ms)
 once_without m [] once = tt
-once_without m (k ∷ ms) once = go (k == m) refl (once_without m ms once.1)
-  where
-    go : (b : Bool) → (k == m) ≡ b → Once (filter (is_other m) ms) → Once (cond (not b) (k ∷ filter (is_other m) ms) (filter (is_other m) ms))
-    go true e rest = rest
-    go false e rest = (among_others k m ms (ne_eqb m k (λ same. false≢true (sym e ∙ eq-eqb k m (sym same)))) ∙ once.0, rest)
+once_without m (k ∷ ms) once = grind (arith, nat_tests, once_without m ms once.1, among_others k m ms, ne_eqb m k, eq-eqb k m)
 
 -- ---- a cell goes
 
 pub owner_unnamed : (cs : List Cell) (n : ℕ) → named cs n ≡ None → owner_of cs n ≡ None
 owner_unnamed [] n e = refl
-owner_unnamed (c ∷ cs) n e =
-    let f = front_free (c.object.name == n) c.object (named cs n) e in
-    ap (λ b. cond b (Some c.owner) (owner_of cs n)) f.0 ∙ owner_unnamed cs n f.1
+owner_unnamed (c ∷ cs) n e = grind (arith, nat_tests, front_free (c.object.name == n) c.object, owner_unnamed cs n)
 
 nothing_goes : (cs : List Cell) (g : Owner) → held cs g ≡ None → without g cs ≡ cs
 nothing_goes [] g e = refl
-nothing_goes (c ∷ cs) g e =
-    let f = front_free (same_place c.owner g) c.object (held cs g) e in
-    ap (λ b. cond b (without g cs) (c ∷ without g cs)) f.0 ∙ ap (λ l. c ∷ l) (nothing_goes cs g f.1)
+nothing_goes (c ∷ cs) g e = grind (arith, nat_tests, front_free, nothing_goes cs g)
 
 module _ (g : Owner) (o : Object) where
   pub owner_without : (cs : List Cell) (n : ℕ) → Tidy cs → held cs g ≡ Some o → (o.name == n) ≡ false → owner_of (without g cs) n ≡ owner_of cs n
   owner_without [] n tidy e other = refl
-  owner_without (c ∷ cs) n tidy e other = go (same_place c.owner g) refl e (owner_without cs n tidy.2)
-    where
-      go : (b : Bool) → same_place c.owner g ≡ b → cond b (Some c.object) (held cs g) ≡ Some o → (held cs g ≡ Some o → (o.name == n) ≡ false → owner_of (without g cs) n ≡ owner_of cs n) →
-          owner_of (cond b (without g cs) (c ∷ without g cs)) n ≡ cond (c.object.name == n) (Some c.owner) (owner_of cs n)
-      go true at e rest =
-          let same : c.object ≡ o = cc in
-          ap (λ l. owner_of l n) (nothing_goes cs g (ap (λ q. held cs q) (sym (same_place-true c.owner g at)) ∙ tidy.0))
-          ∙ sym (ap (λ b. cond b (Some c.owner) (owner_of cs n)) (ap (λ (x : Object). x.name == n) same ∙ other))
-      go false at e rest = ap (λ p. cond (c.object.name == n) (Some c.owner) p) (rest e other)
+  owner_without (c ∷ cs) n tidy e other = grind (arith, nat_tests, owner_without cs n tidy.2, nothing_goes cs g, same_place-true c.owner g)
 
   pub slots_without : (cs : List Cell) (d : ℕ) → Tidy cs → held cs g ≡ Some o → slots_taken d cs ≡ slots_taken d (without g cs) + cond (holds_slot d (service_of cs o.name).sender) 1 0
   slots_without [] d tidy e = cc
@@ -101,16 +78,7 @@ module _ (g : Owner) (o : Object) where
 
 none_taken : (d : ℕ) (cs : List Cell) → slots_taken d cs ≡ 0 → (n : ℕ) → holds_slot d (service_of cs n).sender ≡ false
 none_taken d [] none n = refl
-none_taken d (c ∷ cs) none n = go (holds_slot d c.service.sender) refl none (none_taken d cs)
-  where
-    go : (b : Bool) → holds_slot d c.service.sender ≡ b → cond b (suc (slots_taken d cs)) (slots_taken d cs) ≡ 0 → (slots_taken d cs ≡ 0 → (n : ℕ) → holds_slot d (service_of cs n).sender ≡ false) →
-        holds_slot d (cond (c.object.name == n) c.service (service_of cs n)).sender ≡ false
-    go true e none rest = absurd (omega (arith, none))
-    go false e none rest = by (c.object.name == n)
-      where
-        by : (x : Bool) → holds_slot d (cond x c.service (service_of cs n)).sender ≡ false
-        by true = e
-        by false = rest none n
+none_taken d (c ∷ cs) none n = grind (arith, nat_tests, none_taken d cs)
 
 -- the messages of a client hold all its slots, so that no other cell does
 others_hold_none : (d : ℕ) (ms : List ℕ) (cs : List Cell) → Tidy cs → Once ms → ((m : ℕ) → is_among m ms ≡ holds_slot d (service_of cs (message_name m)).sender) → length ms ≡ slots_taken d cs → (n : ℕ) → n < 4096 → holds_slot d (service_of cs n).sender ≡ false
@@ -197,44 +165,19 @@ module _ (s : kept.State) (cs : List Cell) (clients : List Client) (same : SameC
       ∙ by_gone (λ n v. (service_of cs n).queue ≡ v.queue) plain.0 (λ n other. refl) n
 
   senders_then : (j : ℕ) → sent_by (holds then j) (kept.place_at then j) ≡ (service_of left (message_name j)).sender
-  senders_then j = ap (λ x. sent_by (is_among j (kept.sent_at then (sender x))) x) (places_at j) ∙ go (m == j) refl
-    where
-      go : (b : Bool) → (m == j) ≡ b → sent_by (is_among j (kept.sent_at then (sender (cond b Free (kept.place_at s j))))) (cond b Free (kept.place_at s j)) ≡ (service_of left (message_name j)).sender
-      go true e = sym (ap (λ (v : Service). v.sender) (ap (λ k. service_of left (message_name k)) (sym (eqb-true m j e)) ∙ gone))
-      go false e = ap (λ b. sent_by b (kept.place_at s j)) (among_then (sender (kept.place_at s j)) j e) ∙ same.senders j ∙ sym (ap (λ (v : Service). v.sender) (apart j e))
+  senders_then j = grind (arith, nat_tests, places_at j, eqb-true m j, gone, among_then, apart j)
 
   waits_then : (j : ℕ) → is_queued (kept.place_at then j) ≡ waits_in (owner_of left (message_name j))
-  waits_then j = ap is_queued (places_at j) ∙ go (m == j) refl
-    where
-      go : (b : Bool) → (m == j) ≡ b → is_queued (cond b Free (kept.place_at s j)) ≡ waits_in (owner_of left (message_name j))
-      go true e = sym (ap waits_in (ap (λ k. owner_of left k) (ap message_name (sym (eqb-true m j e)) ∙ sym name) ∙ owner_unnamed left o.name (unnamed cs g o tidy there)))
-      go false e = same.waits j ∙ sym (ap waits_in (owner_without g o cs (message_name j) tidy there (ap (λ k. k == message_name j) name ∙ names_apart m j e)))
+  waits_then j = grind (arith, nat_tests, places_at j, eqb-true m j, owner_unnamed, unnamed cs g o tidy there, owner_without g o cs, names_apart m j)
 
   slots_of_then : (d j : ℕ) → is_among j (kept.sent_at then d) ≡ holds_slot d (service_of left (message_name j)).sender
-  slots_of_then d j = go (m == j) refl
-    where
-      go : (b : Bool) → (m == j) ≡ b → is_among j (kept.sent_at then d) ≡ holds_slot d (service_of left (message_name j)).sender
-      go true e =
-          ap (λ l. is_among j l) (sent_of d) ∙ ap (λ k. is_among k (filter (is_other m) (kept.sent_at s d))) (sym (eqb-true m j e)) ∙ among_parted m (kept.sent_at s d)
-          ∙ sym (ap (λ (v : Service). holds_slot d v.sender) (ap (λ k. service_of left (message_name k)) (sym (eqb-true m j e)) ∙ gone))
-      go false e = among_then d j e ∙ same.slots_of d j ∙ sym (ap (λ (v : Service). holds_slot d v.sender) (apart j e))
+  slots_of_then d j = grind (arith, nat_tests, sent_of d, eqb-true m j, among_parted m, gone, among_then d j, apart j)
 
   slotted_then : (j d : ℕ) → kept.place_at then j ≡ Queued d → is_among j (kept.sent_at then d) ≡ true
-  slotted_then j d e =
-      let was = queued_still (m == j) (kept.place_at s j) d (sym (places_at j) ∙ e) in
-      among_then d j was.0 ∙ same.slotted j d was.1
+  slotted_then j d e = grind (arith, nat_tests, queued_still (m == j), places_at j, among_then d j)
 
   slots_then : (d : ℕ) → length (kept.sent_at then d) ≡ slots_taken d left
-  slots_then d =
-      let fewer = length_without m (kept.sent_at s d) (same.once d) in
-      let cells = slots_without g o cs d tidy there in
-      let one : is_among m (kept.sent_at s d) ≡ holds_slot d (service_of cs o.name).sender = same.slots_of d m ∙ ap (λ n. holds_slot d (service_of cs n).sender) (sym name) in
-      ap length (sent_of d)
-      ∙ less (length (kept.sent_at s d)) (length (filter (is_other m) (kept.sent_at s d))) (slots_taken d cs) (slots_taken d left) (cond (is_among m (kept.sent_at s d)) 1 0) (cond (holds_slot d (service_of cs o.name).sender) 1 0) fewer cells (same.slots d)
-      (ap (λ b. cond b 1 0) one)
-    where
-      less : (a b x y k j : ℕ) → a ≡ b + k → x ≡ y + j → a ≡ x → k ≡ j → b ≡ y
-      less a b x y k j e f g h = omega (arith, e, f, g, h)
+  slots_then d = grind (arith, nat_tests, length_without m, slots_without g o cs d tidy there, sent_of d)
 
   pub same_completed : SameClients then left clients
   same_completed = record {

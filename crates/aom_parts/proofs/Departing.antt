@@ -1,8 +1,9 @@
 -- What is left of clients, queues, places and slots once a server went: by the entries of its queue and then its sessions, one after another.
-use Rattle.std.proofs.Common.{Bool, List, [], ap, arith, cond, false, inl, inr, length, refl, slice_index_or, slice_set, subst, sym, true, ℕ, ◌<◌, ◌==◌, ◌≤◌, ◌∙◌, ◌∷◌, ◌≡◌, ◌⊎◌}
+use Rattle.std.proofs.lemmas.Bool.Decides.{nat_tests}
+use Rattle.std.proofs.Common.{Bool, List, [], ap, arith, cond, false, length, refl, slice_index_or, slice_set, subst, sym, true, ℕ, ◌<◌, ◌==◌, ◌≤◌, ◌∙◌, ◌∷◌, ◌≡◌}
 use Rattle.std.specs.List.{list_any}
 use Rattle.std.specs.Prelude.{filter, not, ◌||◌}
-use Rattle.std.proofs.lemmas.Bool.{cases_lt, eq-eqb, eqb-true, false≢true}
+use Rattle.std.proofs.lemmas.Bool.{cases_lt, eq-eqb, eqb-true}
 use Rattle.std.proofs.lemmas.List.{get_or-set_other, get_or-set_same, get_or_past, length-map, length-set, set_past}
 use Rattle.aom_clients.specs.Clients as kept
 use Rattle.aom_clients.specs.Table.{at_gone}
@@ -17,41 +18,32 @@ use Rattle.aom_parts.proofs.Serving.{map_at}
 
 -- also past the end, where what is written is what is read there
 pub at_set_or : {A : Type 0} (none : A) (xs : List A) (i j : ℕ) (x : A) → (length xs ≤ i → x ≡ none) → slice_index_or (slice_set xs i x) j none ≡ cond (i == j) x (slice_index_or xs j none)
-at_set_or none xs i j x past = go (i == j) refl
-  where
-    here : (i < length xs) ⊎ (length xs ≤ i) → slice_index_or (slice_set xs i x) i none ≡ x
-    here (inl small) = get_or-set_same xs i x none small
-    here (inr large) = ap (λ l. slice_index_or l i none) (set_past xs i x large) ∙ get_or_past xs i none large ∙ sym (past large)
-
-    go : (b : Bool) → (i == j) ≡ b → slice_index_or (slice_set xs i x) j none ≡ cond b x (slice_index_or xs j none)
-    go true e = ap (λ k. slice_index_or (slice_set xs i x) k none) (sym (eqb-true i j e)) ∙ here (cases_lt i (length xs))
-    go false e = get_or-set_other xs i j x none (λ d. false≢true (sym e ∙ eq-eqb i j (sym d)))
+at_set_or none xs i j x past = grind (
+  arith,
+  nat_tests,
+  get_or-set_same xs i x none,
+  set_past xs i x,
+  get_or_past xs i none,
+  eqb-true i j,
+  cases_lt i,
+  get_or-set_other xs i j x none,
+  eq-eqb i j,
+)
 
 pub at_set_none : {A : Type 0} (none : A) (xs : List A) (i j : ℕ) → slice_index_or (slice_set xs i none) j none ≡ cond (i == j) none (slice_index_or xs j none)
 at_set_none none xs i j = at_set_or none xs i j none (λ large. refl)
 
 -- one test or another, and the same then
 either : {A : Type 0} (a b : Bool) (x y : A) → cond a x (cond b x y) ≡ cond (b || a) x y
-either true true x y = refl
-either true false x y = refl
-either false b x y = ap (λ c. cond c x y) (same b)
-  where
-    same : (b : Bool) → b ≡ (b || false)
-    same true = refl
-    same false = refl
+either x b y z = grind arith
 
 -- what is told of one number is told of it by a test
 told_there : {A : Type 0} (k n : ℕ) (at : ℕ → A) (x : A) → at k ≡ x → at n ≡ cond (k == n) x (at n)
-told_there k n at x e = go (k == n) refl
-  where
-    go : (b : Bool) → (k == n) ≡ b → at n ≡ cond b x (at n)
-    go true same = ap at (sym (eqb-true k n same)) ∙ e
-    go false same = refl
+told_there k n at x e = grind (arith, nat_tests, eqb-true k n)
 
 -- the same test twice
 once_more : {A : Type 0} (b : Bool) (x y z : A) → cond b x (cond b y z) ≡ cond b x z
-once_more true x y z = refl
-once_more false x y z = refl
+once_more x y z w = grind arith
 
 -- ---- the entries of its queue
 
@@ -76,8 +68,7 @@ module _ (k : ℕ) where
   -- clients whose connects wait are unconnected
   pub client_after_queue : (es : List Entry) (s : kept.State) (c : ℕ) → kept.client_at (kept.queue_gone k es s) c ≡ cond (list_any (connects c) es) Unconnected (kept.client_at s c)
   client_after_queue [] s c = refl
-  client_after_queue (Connect d ∷ es) s c =
-      client_after_queue es (kept.gone k (Connect d ∷ es) s) c ∙ ap (λ x. cond (list_any (connects c) es) Unconnected x) (at_set_none Unconnected s.clients d c) ∙ either (list_any (connects c) es) (d == c) Unconnected (kept.client_at s c)
+  client_after_queue (Connect d ∷ es) s c = grind (arith, nat_tests, client_after_queue es, at_set_none Unconnected s.clients d c, either)
   client_after_queue (Message m ∷ es) s c = client_after_queue es (kept.gone k (Message m ∷ es) s) c
   client_after_queue (Close d ∷ es) s c = client_after_queue es (kept.gone k (Close d ∷ es) s) c
 
@@ -85,8 +76,7 @@ module _ (k : ℕ) where
   pub place_after_queue : (es : List Entry) (s : kept.State) (m : ℕ) → kept.place_at (kept.queue_gone k es s) m ≡ cond (list_any (is_at m) es) Free (kept.place_at s m)
   place_after_queue [] s m = refl
   place_after_queue (Connect d ∷ es) s m = place_after_queue es (kept.gone k (Connect d ∷ es) s) m
-  place_after_queue (Message j ∷ es) s m =
-      place_after_queue es (kept.gone k (Message j ∷ es) s) m ∙ ap (λ x. cond (list_any (is_at m) es) Free x) (at_set_none Free s.places j m) ∙ either (list_any (is_at m) es) (j == m) Free (kept.place_at s m)
+  place_after_queue (Message j ∷ es) s m = grind (arith, nat_tests, place_after_queue es, at_set_none Free s.places j m, either)
   place_after_queue (Close d ∷ es) s m = place_after_queue es (kept.gone k (Close d ∷ es) s) m
 
   -- and hold no slot
@@ -96,7 +86,7 @@ module _ (k : ℕ) where
   pub sent_after_queue : (es : List Entry) (s : kept.State) (c : ℕ) → kept.sent_at (kept.queue_gone k es s) c ≡ all_without es (kept.sent_at s c)
   sent_after_queue [] s c = refl
   sent_after_queue (Connect d ∷ es) s c = sent_after_queue es (kept.gone k (Connect d ∷ es) s) c
-  sent_after_queue (Message m ∷ es) s c = sent_after_queue es (kept.gone k (Message m ∷ es) s) c ∙ ap (all_without es) (sent_completed m (kept.with_queue k es s) c)
+  sent_after_queue (Message m ∷ es) s c = grind (arith, nat_tests, sent_after_queue es, sent_completed m)
   sent_after_queue (Close d ∷ es) s c = sent_after_queue es (kept.gone k (Close d ∷ es) s) c
 
   -- the queue is empty, and all others are as they were
@@ -149,8 +139,7 @@ module _ (k : ℕ) where
 
   pub sent_after_sessions : (cs : List ℕ) (s : kept.State) (c : ℕ) → kept.sent_at (kept.sessions_gone k cs s) c ≡ cond (list_any (λ d. d == c) cs) [] (kept.sent_at s c)
   sent_after_sessions [] s c = refl
-  sent_after_sessions (d ∷ cs) s c =
-      sent_after_sessions cs (kept.session_gone k (d ∷ cs) s) c ∙ ap (λ x. cond (list_any (λ d. d == c) cs) [] x) (at_set_none [] s.sent d c) ∙ either (list_any (λ d. d == c) cs) (d == c) [] (kept.sent_at s c)
+  sent_after_sessions (d ∷ cs) s c = grind (arith, nat_tests, sent_after_sessions cs, at_set_none, either)
 
   pub places_after_sessions : (cs : List ℕ) (s : kept.State) → (kept.sessions_gone k cs s).places ≡ s.places
   places_after_sessions [] s = refl
@@ -175,19 +164,20 @@ module _ (k : ℕ) where
       (length (kept.queue_gone k es s).clients ≡ length s.clients) × (length (kept.queue_gone k es s).places ≡ length s.places) × (length (kept.queue_gone k es s).queues ≡ length s.queues)
       × (length (kept.queue_gone k es s).sent ≡ length s.sent)
   lengths_after_queue [] s = (refl, refl, refl, refl)
-  lengths_after_queue (Connect d ∷ es) s =
-      let r = lengths_after_queue es (kept.gone k (Connect d ∷ es) s) in
-      (r.0 ∙ length-set s.clients d Unconnected, r.1, r.2 ∙ length-set s.queues k es, r.3)
+  lengths_after_queue (Connect d ∷ es) s = grind (arith, nat_tests, lengths_after_queue es, length-set s.clients d Unconnected, length-set s.queues k es)
   lengths_after_queue (Message m ∷ es) s =
       let r = lengths_after_queue es (kept.gone k (Message m ∷ es) s) in
       (r.0, r.1 ∙ length-set s.places m Free, r.2 ∙ length-set s.queues k es, r.3 ∙ length-map s.sent (λ ms. filter (λ n. not (n == m)) ms))
-  lengths_after_queue (Close d ∷ es) s =
-      let r = lengths_after_queue es (kept.gone k (Close d ∷ es) s) in
-      (r.0, r.1, r.2 ∙ length-set s.queues k es, r.3)
+  lengths_after_queue (Close d ∷ es) s = grind (arith, nat_tests, lengths_after_queue es, length-set s.queues k es)
 
   pub lengths_after_sessions : (cs : List ℕ) (s : kept.State) →
       (length (kept.sessions_gone k cs s).clients ≡ length s.clients) × (length (kept.sessions_gone k cs s).sessions ≡ length s.sessions) × (length (kept.sessions_gone k cs s).sent ≡ length s.sent)
   lengths_after_sessions [] s = (refl, refl, refl)
-  lengths_after_sessions (c ∷ cs) s =
-      let r = lengths_after_sessions cs (kept.session_gone k (c ∷ cs) s) in
-      (r.0 ∙ length-set s.clients c (at_gone (kept.client_at s c)), r.1 ∙ length-set s.sessions k cs, r.2 ∙ length-set s.sent c [])
+  lengths_after_sessions (c ∷ cs) s = grind (
+    arith,
+    nat_tests,
+    lengths_after_sessions cs,
+    length-set s.clients c,
+    length-set s.sessions k cs,
+    length-set s.sent c,
+  )

@@ -1,12 +1,13 @@
 -- The room that a run needs, and what a move does to it: a frame begins or ends, an item comes or goes, cells move.
-use Rattle.std.proofs.Common.{Bool, List, Some, [], ap, arith, cond, false, length, refl, subst, suc, sym, true, ℕ, ◌+◌, ◌<◌, ◌∙◌, ◌∷◌, ◌≡◌, ◌≤◌}
+use Rattle.std.proofs.lemmas.Bool.Decides.{nat_tests}
+use Rattle.std.proofs.Common.{List, [], ap, arith, cond, false, length, refl, subst, suc, sym, true, ℕ, ◌+◌, ◌<◌, ◌∷◌, ◌≡◌, ◌≤◌}
 use Rattle.std.proofs.lemmas.Bool.{le-ltb, lt-ltb}
 use Rattle.aom_image.specs.Image.{Image}
 use Rattle.aom_sound.proofs.Maps.{same_place-true}
 use Rattle.aom_sound.specs.Cleanup.{to_trap}
 use Rattle.aom_sound.specs.Calls.{below_top}
 use Rattle.aom_sound.specs.Places.{Cell, Entry, Going, Place, held, moved, same_place}
-use Rattle.aom_sound.specs.State.{A_mark, An_object, An_operation, Closing, Destroy, Dispatched, Frame, Item, Run, Task, Trapped, Unwind, resumed}
+use Rattle.aom_sound.specs.State.{Closing, Destroy, Dispatched, Frame, Item, Run, Task, Trapped, Unwind, resumed}
 use Rattle.aom_parts.specs.Room.{AllFit, AllRunUnder, AllUnder, Destructs, GoesUnder, IsUnder, NoClosing, RunsBy, RunsUnder, below_height, entries_in, may_push}
 
 -- each method at hand began where the cleanup stack had no more items than that
@@ -35,14 +36,7 @@ SameBelow cs cs' n d = ((k : ℕ) → k < n → held cs' (Entry k) ≡ held cs (
 -- what moves from one place to another leaves the others as they are
 pub held_apart : (cs : List Cell) (q r e : Place) → same_place q e ≡ false → same_place r e ≡ false → held (moved q r cs) e ≡ held cs e
 held_apart [] q r e apart apart' = refl
-held_apart (c ∷ cs) q r e apart apart' = go (same_place c.owner q) refl (held_apart cs q r e apart apart')
-  where
-    go : (b : Bool) → same_place c.owner q ≡ b → held (moved q r cs) e ≡ held cs e → cond (same_place (cond b r c.owner) e) (Some c.object) (held (moved q r cs) e) ≡ cond (same_place c.owner e) (Some c.object) (held cs e)
-    go true h rest =
-        ap (λ b. cond b (Some c.object) (held (moved q r cs) e)) apart'
-        ∙ rest
-        ∙ sym (ap (λ b. cond b (Some c.object) (held cs e)) (ap (λ x. same_place x e) (same_place-true c.owner q h) ∙ apart))
-    go false h rest = ap (λ x. cond (same_place c.owner e) (Some c.object) x) rest
+held_apart (c ∷ cs) q r e apart apart' = grind (arith, nat_tests, held_apart cs q r e apart apart', same_place-true c.owner q)
 
 -- the items below a height, as one is pushed over it
 pub below_pushed : (height : ℕ) (i : Item) (items : List Item) → height ≤ length items → below_height height (i ∷ items) ≡ below_height height items
@@ -53,9 +47,7 @@ below_all height [] le = refl
 below_all height (i ∷ items) le = ap (λ b. cond b (i ∷ items) (below_height height items)) (lt-ltb (length items) height (omega (arith, le)))
 
 pub fewer_entries : (i : Item) (items : List Item) → entries_in items ≤ entries_in (i ∷ items)
-fewer_entries An_object items = omega arith
-fewer_entries (An_operation m w) items = omega arith
-fewer_entries A_mark items = omega arith
+fewer_entries x items = grind arith
 
 module _ (p : Image) (depth heights : ℕ → ℕ) where
   abbrev pub Roomy : List Cell → List Item → List Task → Type 0
@@ -77,9 +69,7 @@ module _ (p : Image) (depth heights : ℕ → ℕ) where
   same_runs cs cs' height n (i ∷ items) same w = (λ le m e. w.0 le m (same_run i m e), same_runs cs cs' height n items (λ k lt. same k (omega (arith, lt))) w.1)
     where
       same_run : (i : Item) (m : ℕ) → RunsBy p cs' i (length items) m → RunsBy p cs i (length items) m
-      same_run An_object m e = subst (λ o. Destructs p o m) (same (length items) (omega arith)) e
-      same_run (An_operation k w) m e = e
-      same_run A_mark m e = e
+      same_run x m e = grind arith
 
   same_going : (cs cs' : List Cell) (ts : List Task) → ((k : ℕ) → k < length (Destroy ∷ ts) → held cs' (Going k) ≡ held cs (Going k)) → GoesUnder p depth cs ts → GoesUnder p depth cs' ts
   same_going cs cs' ts same w m e = w m (subst (λ o. Destructs p o m) (same (length ts) (omega arith)) e)
@@ -113,7 +103,7 @@ module _ (p : Image) (depth heights : ℕ → ℕ) where
 
   same_fit : (items items' : List Item) (ts : List Task) (n : ℕ) → AllLow n ts → ((h : ℕ) → h ≤ n → below_height h items' ≡ below_height h items) → AllFit p heights items ts → AllFit p heights items' ts
   same_fit items items' [] n low same w = tt
-  same_fit items items' (Run fr ∷ ts) n low same w = (λ may. subst (λ is. entries_in is + heights fr.method ≤ 1024) (sym (same fr.height low.0)) (w.0 may), same_fit items items' ts n low.1 same w.1)
+  same_fit items items' (Run fr ∷ ts) n low same w = (grind (arith, nat_tests), same_fit items items' ts n low.1 same w.1)
   same_fit items items' (Trapped ∷ ts) n low same w = same_fit items items' ts n low same w
   same_fit items items' (Destroy ∷ ts) n low same w = same_fit items items' ts n low same w
   same_fit items items' (Closing ∷ ts) n low same w = same_fit items items' ts n low same w
@@ -158,13 +148,7 @@ module _ (p : Image) (depth heights : ℕ → ℕ) where
   runs_above cs height n (i ∷ items) le = (λ low m e. absurd (omega (arith, le, low)), runs_above cs height n items (omega (arith, le)))
 
   pub begins : (cs : List Cell) (items : List Item) (fr : Frame) (ts : List Task) → fr.height ≡ length items → IsUnder depth (depth fr.method) ts → (may_push p fr.method ≡ true → entries_in items + heights fr.method ≤ 1024) → Roomy cs items ts → Roomy cs items (Run fr ∷ ts)
-  begins cs items fr ts high under fit w =
-      let le : length items ≤ fr.height = omega (arith, high) in (
-        (under, w.0),
-        (runs_above cs fr.height (depth fr.method) items le, w.1),
-        (λ may. subst (λ is. entries_in is + heights fr.method ≤ 1024) (sym (below_all fr.height items le)) (fit may), w.2),
-        w.3,
-      )
+  begins cs items fr ts high under fit w = grind (arith, nat_tests, runs_above cs fr.height (depth fr.method) items, below_all fr.height items)
 
   -- what the last item runs is less deep than the method below
   pub top_under : (cs : List Cell) (i : Item) (items : List Item) (ts : List Task) (m : ℕ) → AllLow (length items) ts → RunsBy p cs i (length items) m → AllRunUnder p depth cs (i ∷ items) ts → IsUnder depth (depth m) ts

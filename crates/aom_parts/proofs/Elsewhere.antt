@@ -1,8 +1,9 @@
 -- What the calls of clients make of the numbers in the places of servers: their sessions, and the messages in their queues.
-use Rattle.std.proofs.Common.{Bool, List, None, Option, Some, [], ap, arith, cond, false, length, refl, subst, sym, true, ℕ, ◌&&◌, ◌<◌, ◌==◌, ◌∙◌, ◌∷◌, ◌≡◌}
+use Rattle.std.proofs.lemmas.Bool.Decides.{nat_tests}
+use Rattle.std.proofs.Common.{Bool, List, None, Some, [], ap, arith, cond, false, length, refl, sym, true, ℕ, ◌&&◌, ◌<◌, ◌==◌, ◌∙◌, ◌∷◌, ◌≡◌}
 use Rattle.std.specs.List.{list_any}
 use Rattle.std.specs.Prelude.{filter, map, ◌||◌}
-use Rattle.std.proofs.lemmas.Bool.{eq-eqb, eqb-true, false≢true, ne_eqb, true≢false}
+use Rattle.std.proofs.lemmas.Bool.{eq-eqb, eqb-true, ne_eqb}
 use Rattle.aom_cells.specs.Heap.{Heap, null}
 use Rattle.aom_cleanup.specs.declared.item.Item.{Item}
 use Rattle.aom_clients.specs.Clients as kept
@@ -18,8 +19,6 @@ use Rattle.aom_frames.specs.declared.task.Task.{Task as Held_task}
 use Rattle.aom_image.specs.Image.{Image}
 use Rattle.aom_image.specs.declared.method.Thing.TheVariants.{Message as A_message}
 use Rattle.aom_rules.specs.Typing.{Typing}
-use Rattle.aom_shape.specs.Kinds.{filled}
-use Rattle.aom_shape.specs.declared.kind.Filling.TheVariants.{Full}
 use Rattle.aom_shape.specs.declared.kind.Age.TheVariants.{Ready}
 use Rattle.aom_shape.specs.declared.kind.Kind.{Kind}
 use Rattle.aom_shape.specs.declared.kind.Kind.TheVariants.{Null, Own}
@@ -30,8 +29,8 @@ use Rattle.aom_sound.proofs.Services.{service_unnamed}
 use Rattle.aom_sound.proofs.Straight.{fits_unowning}
 use Rattle.aom_sound.specs.Claims.{declared}
 use Rattle.aom_sound.specs.Kept.{ClientsFit}
-use Rattle.aom_sound.specs.Places.{Cell, Elsewhere, Entry as Entry_at, Field, Going, In_service, Object, Other, Place, Queued, Register, Root, Session, changed, held, named, seen, service_of}
-use Rattle.aom_sound.specs.Servers.{has_message, is_message, is_server, message_thing}
+use Rattle.aom_sound.specs.Places.{Cell, Elsewhere, Entry as Entry_at, Field, Going, In_service, Object, Other, Place, Queued, Register, Root, Session, changed, held, seen, service_of}
+use Rattle.aom_sound.specs.Servers.{has_message, is_message}
 use Rattle.aom_sound.specs.State.{State, Task}
 use Rattle.aom_sound.specs.WellTyped.{Fits, WellTyped}
 use Rattle.aom_parts.specs.Agrees.{Shows, number, word_at}
@@ -54,50 +53,20 @@ module _ (p : Image) (t : Typing) (s : State) (w : WellTyped p t s) (fit : Clien
   waiting n m = Elsewhere (Queued n m)
 
   waits_as : (n m : ℕ) (k : Kind) → declared p s.cells (waiting n m) ≡ k → Fits p (seen s.cells) (held s.cells (waiting n m)) k
-  waits_as n m k e = subst (λ x. Fits p (seen s.cells) (held s.cells (waiting n m)) x) (queued_claim p (declared p s.cells) w.layers n m ∙ e) (w.good.fits (waiting n m))
+  waits_as n m k e = grind (arith, nat_tests, queued_claim p)
 
   waits_well : (n m : ℕ) → has_message (service_of s.cells n) m ≡ true → (x : Object) × (held s.cells (waiting n m) ≡ Some x)
-  waits_well n m has = go (named s.cells n) refl
-    where
-      at : (o : Object) → named s.cells n ≡ Some o → (b : Bool) → is_server p o.thing ≡ b → (x : Object) × (held s.cells (waiting n m) ≡ Some x)
-      at o e true serves =
-          let kind : declared p s.cells (waiting n m) ≡ Own A_message Ready = ap (λ b. cond b (filled (message_thing p (named s.cells n)) Full) Null) has ∙ ap (λ y. filled (message_thing p y) Full) e ∙ ap (λ b. filled (cond b (Some A_message) None) Full) serves in
-          let x = own_held p (seen s.cells) (held s.cells (waiting n m)) A_message (waits_as n m (Own A_message Ready) kind) in
-          (x.0, x.1)
-      at o e false plain =
-          let name : o.name ≡ n = named_name s.cells n o e in
-          let none = (fit.servers o (ap (λ k. named s.cells k) name ∙ e) plain).0 in
-          absurd (true≢false (sym has ∙ ap (λ k. has_message (service_of s.cells k) m) (sym name) ∙ ap (λ q. list_any (λ e. is_message m e) q) none))
-
-      go : (o : Option Object) → named s.cells n ≡ o → (x : Object) × (held s.cells (waiting n m) ≡ Some x)
-      go None e = absurd (true≢false (sym has ∙ ap (λ v. has_message v m) (service_unnamed s.cells n e)))
-      go (Some o) e = at o e (is_server p o.thing) refl
+  waits_well n m has = grind (arith, nat_tests, own_held p, waits_as n m (Own A_message Ready), named_name s.cells n, service_unnamed s.cells n)
 
   pub queued_shows : (k : kept.State) → SameClients k s.cells s.clients → (n m : ℕ) → cond (list_any (is_numbered m) (queue_at k n)) m null ≡ number (held s.cells (Elsewhere (Queued n m)))
-  queued_shows k same n m = ap (λ b. cond b m null) (numbered_asked k.places m (queue_at k n) ∙ ap (list_any (is_message m)) (same.queues n)) ∙ go (has_message (service_of s.cells n) m) refl
-    where
-      go : (b : Bool) → has_message (service_of s.cells n) m ≡ b → cond b m null ≡ number (held s.cells (waiting n m))
-      go true e = let x = waits_well n m e in sym (ap number x.1 ∙ fit.names n m x.0 x.1)
-      go false e = sym (ap number (fits_unowning p (seen s.cells) (held s.cells (waiting n m)) Null refl (waits_as n m Null (ap (λ b. cond b (filled (message_thing p (named s.cells n)) Full) Null) e))))
+  queued_shows k same n m = grind (arith, nat_tests, numbered_asked k.places m, waits_well n m, fits_unowning p, waits_as n m Null)
 
 -- ---- the sessions of clients
 
 -- a client is at something else, and by that one place has another number
 sessions_now : (s s' : kept.State) (c k x : ℕ) (to : Client) → ((d : ℕ) → client_at s' d ≡ cond (c == d) to (client_at s d)) → ((n : ℕ) → session_with n to ≡ cond (k == n) x (session_with n (client_at s c)))
     → (n d : ℕ) → session_with n (client_at s' d) ≡ cond ((k == n) && (c == d)) x (session_with n (client_at s d))
-sessions_now s s' c k x to at here n d = ap (session_with n) (at d) ∙ go (c == d) refl
-  where
-    same : (b : Bool) → cond b x (session_with n (client_at s c)) ≡ cond (b && true) x (session_with n (client_at s c))
-    same true = refl
-    same false = refl
-
-    other : (b : Bool) → session_with n (client_at s d) ≡ cond (b && false) x (session_with n (client_at s d))
-    other true = refl
-    other false = refl
-
-    go : (b : Bool) → (c == d) ≡ b → session_with n (cond b to (client_at s d)) ≡ cond ((k == n) && b) x (session_with n (client_at s d))
-    go true e = here n ∙ same (k == n) ∙ ap (λ i. cond ((k == n) && true) x (session_with n (client_at s i))) (eqb-true c d e)
-    go false e = other (k == n)
+sessions_now s s' c k x to at here n d = grind (arith, nat_tests, eqb-true c d)
 
 -- the queues show the same messages
 abbrev pub ShowSame : kept.State → kept.State → Type 0
@@ -117,11 +86,7 @@ session_written others s' c k x sessions queues us h es r = elsewhere_written us
 -- the same is shown where no message goes
 shows_filtered : (stays : Entry → Bool) (m : ℕ) → ((e : Entry) → stays e ≡ false → is_numbered m e ≡ false) → (es : List Entry) → list_any (is_numbered m) (filter stays es) ≡ list_any (is_numbered m) es
 shows_filtered stays m apart [] = refl
-shows_filtered stays m apart (e ∷ es) = go (stays e) refl ∙ ap (λ b. is_numbered m e || b) (shows_filtered stays m apart es)
-  where
-    go : (b : Bool) → stays e ≡ b → list_any (is_numbered m) (cond b (e ∷ filter stays es) (filter stays es)) ≡ (is_numbered m e || list_any (is_numbered m) (filter stays es))
-    go true stay = refl
-    go false gone = sym (ap (λ b. b || list_any (is_numbered m) (filter stays es)) (apart e gone))
+shows_filtered stays m apart (e ∷ es) = grind (arith, nat_tests, shows_filtered stays m apart es)
 
 -- no connect and no close is a message
 no_connect_shows : (c m : ℕ) (e : Entry) → kept.is_no_connect_of c e ≡ false → is_numbered m e ≡ false
@@ -187,11 +152,7 @@ module _ (others : Others) (us : List Held_task) (h : Heap) (es : List Item) (c 
 
   -- a client is at something else, and has no cell of a session before or after, or the same one
   sessions_same : (s' : kept.State) (to : Client) → ((d : ℕ) → client_at s' d ≡ cond (c == d) to (client_at s d)) → ((n : ℕ) → session_with n to ≡ session_with n (client_at s c)) → (n d : ℕ) → session_with n (client_at s' d) ≡ session_with n (client_at s d)
-  sessions_same s' to at here n d = ap (session_with n) (at d) ∙ go (c == d) refl
-    where
-      go : (b : Bool) → (c == d) ≡ b → session_with n (cond b to (client_at s d)) ≡ session_with n (client_at s d)
-      go true e = here n ∙ ap (λ i. session_with n (client_at s i)) (eqb-true c d e)
-      go false e = refl
+  sessions_same s' to at here n d = grind (arith, nat_tests, eqb-true c d)
 
   -- a connect is left
   pub connect_left : (slots : ℕ) → client_at s c ≡ Connecting k slots → (r : Place) → after (kept.after_connected c None s) r ≡ before r
@@ -251,46 +212,12 @@ queue_written others s' k m x to sessions at here us h es r = elsewhere_written 
 -- the first of a queue is a message, which is taken
 pub message_taken : (others : Others) (k m : ℕ) (rest : List Entry) → k < length others.clients.queues → queue_at others.clients k ≡ Message m ∷ rest → list_any (is_numbered (message_name m)) rest ≡ false
     → (us : List Held_task) (h : Heap) (es : List Item) (r : Place) → value_in us h es (record others { clients = kept.after_next k others.clients }) r ≡ changed (value_in us h es others) (Elsewhere (Queued k (message_name m))) null r
-message_taken others k m rest small first once us h es r =
-    ap (λ q. value_in us h es (record others { clients = kept.taken k q others.clients }) r) first
-    ∙ queue_written others (kept.taken k (Message m ∷ rest) others.clients) k (message_name m) null rest (λ n d. refl) (λ n. at_set [] others.clients.queues k n rest small) here us h es r
-  where
-    here : (j : ℕ) → cond (list_any (is_numbered j) rest) j null ≡ cond (message_name m == j) null (cond (list_any (is_numbered j) (queue_at others.clients k)) j null)
-    here j = go (message_name m == j) refl ∙ ap (λ q. cond (message_name m == j) null (cond (list_any (is_numbered j) q) j null)) (sym first)
-      where
-        go : (b : Bool) → (message_name m == j) ≡ b → cond (list_any (is_numbered j) rest) j null ≡ cond b null (cond (b || list_any (is_numbered j) rest) j null)
-        go true e = ap (λ i. cond (list_any (is_numbered i) rest) i null) (sym (eqb-true (message_name m) j e)) ∙ ap (λ b. cond b (message_name m) null) once
-        go false e = refl
+message_taken others k m rest small first once us h es r = grind (arith, nat_tests, queue_written others, at_set, eqb-true)
 
 -- anything else that is first is no message
 pub entry_taken : (others : Others) (k : ℕ) (e : Entry) (rest : List Entry) → k < length others.clients.queues → queue_at others.clients k ≡ e ∷ rest → ((j : ℕ) → is_numbered j e ≡ false)
     → (us : List Held_task) (h : Heap) (es : List Item) (r : Place) → value_in us h es (record others { clients = kept.after_next k others.clients }) r ≡ value_in us h es others r
-entry_taken others k e rest small first none us h es r = at r
-  where
-    then : kept.State
-    then = kept.after_next k others.clients
-
-    no_message : (e : Entry) → ((j : ℕ) → is_numbered j e ≡ false) → (s : kept.State) → kept.taking e s ≡ s
-    no_message (Connect c) none s = refl
-    no_message (Message m) none s = absurd (false≢true (sym (none (message_name m)) ∙ eq-eqb (message_name m) (message_name m) refl))
-    no_message (Close c) none s = refl
-
-    is_then : then ≡ kept.with_queue k rest others.clients
-    is_then = ap (λ q. kept.taken k q others.clients) first ∙ no_message e none (kept.with_queue k rest others.clients)
-
-    shown : (n m : ℕ) (b : Bool) → (k == n) ≡ b → list_any (is_numbered m) (cond b rest (queue_at others.clients n)) ≡ list_any (is_numbered m) (queue_at others.clients n)
-    shown n m true it = sym (ap (λ b. b || list_any (is_numbered m) rest) (none m)) ∙ ap (list_any (is_numbered m)) (sym first) ∙ ap (λ i. list_any (is_numbered m) (queue_at others.clients i)) (eqb-true k n it)
-    shown n m false it = refl
-
-    at : (r : Place) → value_in us h es (record others { clients = then }) r ≡ value_in us h es others r
-    at (Elsewhere Root) = refl
-    at (Elsewhere (Session n d)) = ap (λ s. session_with n (client_at s d)) is_then
-    at (Elsewhere In_service) = refl
-    at (Elsewhere (Queued n m)) = ap (λ b. cond b m null) (ap (λ s. list_any (is_numbered m) (queue_at s n)) is_then ∙ ap (list_any (is_numbered m)) (at_set [] others.clients.queues k n rest small) ∙ shown n m (k == n) refl)
-    at (Register d i) = refl
-    at (Entry_at i) = refl
-    at (Field n f) = refl
-    at (Going i) = refl
+entry_taken others k e rest small first none us h es r = grind (arith, nat_tests, eq-eqb, eqb-true k, at_set)
 
 -- ---- where many messages come or go at once: what is no message in a queue is as it was
 
@@ -300,29 +227,14 @@ SessionsSame s s' = (n d : ℕ) → session_with n (client_at s' d) ≡ session_
 
 -- the number of any place but of those in queues
 pub others_same : (others : Others) (s' : kept.State) → SessionsSame others.clients s' → (us : List Held_task) (h : Heap) (es : List Item) (r : Place) → ((n m : ℕ) → r ≡ Elsewhere (Queued n m) → ⊥) → value_in us h es (record others { clients = s' }) r ≡ value_in us h es others r
-others_same others s' sessions us h es (Elsewhere Root) aside = refl
-others_same others s' sessions us h es (Elsewhere (Session n d)) aside = sessions n d
-others_same others s' sessions us h es (Elsewhere In_service) aside = refl
-others_same others s' sessions us h es (Elsewhere (Queued n m)) aside = absurd (aside n m refl)
-others_same others s' sessions us h es (Register d i) aside = refl
-others_same others s' sessions us h es (Entry_at i) aside = refl
-others_same others s' sessions us h es (Field n f) aside = refl
-others_same others s' sessions us h es (Going i) aside = refl
+others_same others s' sessions us h es x aside = grind arith
 
 -- what places show goes on so where messages come and go in queues alone
 pub shows_again : (p : Image) (t : Typing) (s : State) (others : Others) (s' : kept.State) (us : List Held_task) (h : Heap) (es : List Item) (cs : List Cell) (ts : List Task) → WellTyped p t s → ClientsFit p s.clients s.cells → SameClients s' s.cells s.clients → SessionsSame others.clients s'
     → ((r : Place) → ((n m : ℕ) → r ≡ Elsewhere (Queued n m) → ⊥) → held s.cells r ≡ held cs r) → ((r : Place) → Shows (value_in us h es others r) (word_at ts r) (held cs r)) → (r : Place) → Shows (value_in us h es (record others { clients = s' }) r) (word_at ts r) (held s.cells r)
-shows_again p t s others s' us h es cs ts w fit same sessions holds old r = go r
-  where
-    still : (r : Place) → ((n m : ℕ) → r ≡ Elsewhere (Queued n m) → ⊥) → Shows (value_in us h es (record others { clients = s' }) r) (word_at ts r) (held s.cells r)
-    still r aside = subst (λ n. Shows n (word_at ts r) (held s.cells r)) (sym (others_same others s' sessions us h es r aside)) (subst (λ o. Shows (value_in us h es others r) (word_at ts r) o) (sym (holds r aside)) (old r))
-
-    go : (r : Place) → Shows (value_in us h es (record others { clients = s' }) r) (word_at ts r) (held s.cells r)
-    go (Elsewhere (Queued n m)) = queued_shows p t s w fit s' same n m
-    go (Elsewhere Root) = still (Elsewhere Root) (λ n m e. cc)
-    go (Elsewhere (Session n c)) = still (Elsewhere (Session n c)) (λ i m e. cc)
-    go (Elsewhere In_service) = still (Elsewhere In_service) (λ n m e. cc)
-    go (Register d i) = still (Register d i) (λ n m e. cc)
-    go (Entry_at i) = still (Entry_at i) (λ n m e. cc)
-    go (Field n f) = still (Field n f) (λ i m e. cc)
-    go (Going i) = still (Going i) (λ n m e. cc)
+shows_again p t s others s' us h es cs ts w fit same sessions holds old r = grind (
+  arith,
+  nat_tests,
+  others_same others s' sessions us h es r,
+  queued_shows p t s w fit s' same,
+)

@@ -1,5 +1,6 @@
 -- The items of the cleanup stack, on the machine's side and on the checked machine's.
-use Rattle.std.proofs.Common.{zero, suc, ◌≡◌, ℕ, ◌<◌, ◌≤◌, ◌-◌, Bool, true, false, cond, ◌==◌, ◌&&◌, length, List, [], ◌∷◌, refl, sym, ap, ◌∙◌, subst, arith}
+use Rattle.std.proofs.lemmas.Bool.Decides.{nat_tests}
+use Rattle.std.proofs.Common.{zero, suc, ◌≡◌, ℕ, ◌<◌, ◌≤◌, ◌-◌, Bool, true, cond, ◌&&◌, length, List, [], ◌∷◌, refl, sym, ap, ◌∙◌, subst, arith}
 use Rattle.std.specs.Prelude.{is_some}
 use Rattle.std.proofs.lemmas.Bool.{eq-eqb, eqb-true, false≢true, ne_eqb}
 use Rattle.aom_cells.specs.Heap.{Heap, null}
@@ -12,7 +13,7 @@ use Rattle.aom_sound.specs.State.{Item, An_object, An_operation}
 use Rattle.aom_frames.specs.declared.task.Task.{Task as Held_task}
 use Rattle.aom_parts.specs.Places.{Others, number_in, value_in}
 use Rattle.aom_parts.specs.Agrees.{SameItems}
-use Rattle.aom_parts.proofs.Values.{at_depth, cases}
+use Rattle.aom_parts.proofs.Values.{at_depth}
 use Rattle.aom_image.proofs.Given.{cons_given}
 use Rattle.aom_parts.proofs.Alike.{by_items, some_members}
 
@@ -22,7 +23,7 @@ same_items_length = by_items (λ is js. length is ≡ length js) refl (λ i j is
 -- past the items there is nothing
 pub entry_past : (is : List Held_item) (k : ℕ) → length is ≤ k → entry_in is k ≡ null
 entry_past [] k e = refl
-entry_past (i ∷ is) k e = ap (λ b. cond b (owned_by i) (entry_in is k)) (ne_eqb (length is) k (λ q. let n = q in omega (arith, e, n))) ∙ entry_past is k (omega arith)
+entry_past (i ∷ is) k e = grind (arith, nat_tests, ne_eqb, entry_past is k)
 
 -- an item that owns nothing comes and goes
 pub owns_none : (i : Held_item) (is : List Held_item) (k : ℕ) → owned_by i ≡ null → entry_in (i ∷ is) k ≡ entry_in is k
@@ -32,34 +33,25 @@ pub mark_shows_none : (is : List Held_item) (k : ℕ) → entry_in (Is_mark ∷ 
 mark_shows_none is k = owns_none Is_mark is k refl
 
 pub value_alike : (us : List Held_task) (h : Heap) (es es' : List Held_item) (others : Others) → ((k : ℕ) → entry_in es k ≡ entry_in es' k) → (r : Place) → value_in us h es others r ≡ value_in us h es' others r
-value_alike us h es es' others same (Entry k) = same k
-value_alike us h es es' others same _ = refl
+value_alike us h es es' others same x = grind arith
 
 -- the items below what is last
 pub below_same : (i : Held_item) (is : List Held_item) (js : List Item) → SameItems (i ∷ is) js → SameItems is (below_top js)
-below_same i is js same = cons_given (λ xs. SameItems (i ∷ is) xs) js same (λ none. none) (λ j rest e here. subst (λ xs. SameItems is (below_top xs)) (sym e) here.1)
+below_same i is js same = grind (arith, nat_tests, cons_given)
 
 -- where a mark goes the items below it stay
 pub unmarked : (is below : List Held_item) (js : List Item) → is ≡ Is_mark ∷ below → SameItems is js → SameItems below (below_top js)
 unmarked is below js e same = below_same Is_mark below js (subst (λ xs. SameItems xs js) e same)
 
 pub and_true : {A : Type 0} (b : Bool) (x y : A) → cond b x y ≡ cond (b && true) x y
-and_true true x y = refl
-and_true false x y = refl
+and_true x y z = grind arith
 
 -- an object is pushed, and popped
 pub value_pushed : (us : List Held_task) (h : Heap) (es : List Held_item) (others : Others) (n d : ℕ) → length es ≡ d → (r : Place) → value_in us h (Holds_object n ∷ es) others r ≡ changed (value_in us h es others) (Entry d) n r
-value_pushed us h es others n d deep (Entry k) = ap (λ z. cond (z == k) n (entry_in es k)) deep ∙ and_true (d == k) n (entry_in es k)
-value_pushed us h es others n d deep _ = refl
+value_pushed us h es others n d deep x = grind (arith, nat_tests, and_true)
 
 pub value_popped : (us : List Held_task) (h : Heap) (es : List Held_item) (others : Others) (n d : ℕ) → length es ≡ d → (r : Place) → value_in us h es others r ≡ changed (value_in us h (Holds_object n ∷ es) others) (Entry d) null r
-value_popped us h es others n d deep (Entry k) = cases (d == k)
-    (λ b. entry_past es k (let same = eqb_same b in omega arith) ∙ ap (λ c. cond (c && true) null (entry_in (Holds_object n ∷ es) k)) (sym b))
-    (λ b. sym (ap (λ c. cond c n (entry_in es k)) (ap (λ z. z == k) deep ∙ b)) ∙ ap (λ c. cond (c && true) null (entry_in (Holds_object n ∷ es) k)) (sym b))
-  where
-    eqb_same : (d == k) ≡ true → d ≡ k
-    eqb_same b = eqb-true d k b
-value_popped us h es others n d deep _ = refl
+value_popped us h es others n d deep x = grind (arith, nat_tests, entry_past es, eqb-true d)
 
 -- what it owns is found there
 pub top_value : (us : List Held_task) (h : Heap) (es : List Held_item) (others : Others) (n d : ℕ) → length es ≡ d → value_in us h (Holds_object n ∷ es) others (Entry d) ≡ n
@@ -78,12 +70,20 @@ less n = omega arith
 pub entry_number : (is : List Held_item) (js : List Item) (k n : ℕ) → SameItems is js → is_some (entry_at js k) ≡ true → n ≡ length js - suc k → number_in (item_at is k) ≡ entry_in is n
 entry_number (i ∷ is) (An_object ∷ js) zero n same some at = last_number i is n (same_items_length is js same.1 ∙ sym (at ∙ less (length js)))
 entry_number (i ∷ is) (An_operation m w ∷ js) zero n same some at = last_number i is n (same_items_length is js same.1 ∙ sym (at ∙ less (length js)))
-entry_number (i ∷ is) (An_object ∷ js) (suc k) n same some at =
-    let deep = same_items_length is js same.1 in
-    let there = some_entry js k some in
-    entry_number is js k n same.1 some (omega arith) ∙ sym (ap (λ b. cond b (owned_by i) (entry_in is n)) (ne_eqb (length is) n (λ e. absurd (omega arith))))
-entry_number (i ∷ is) (An_operation m w ∷ js) (suc k) n same some at =
-    let deep = same_items_length is js same.1 in
-    let there = some_entry js k some in
-    entry_number is js k n same.1 some (omega arith) ∙ sym (ap (λ b. cond b (owned_by i) (entry_in is n)) (ne_eqb (length is) n (λ e. absurd (omega arith))))
+entry_number (i ∷ is) (An_object ∷ js) (suc k) n same some at = grind (
+  arith,
+  nat_tests,
+  same_items_length is js same.1,
+  some_entry js k some,
+  entry_number is js k n same.1 some,
+  ne_eqb,
+)
+entry_number (i ∷ is) (An_operation m w ∷ js) (suc k) n same some at = grind (
+  arith,
+  nat_tests,
+  same_items_length is js same.1,
+  some_entry js k some,
+  entry_number is js k n same.1 some,
+  ne_eqb,
+)
 entry_number _ _ k n same some at = absurd (grind arith)

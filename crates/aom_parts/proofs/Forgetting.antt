@@ -1,4 +1,5 @@
 -- Messages that wait are kept no more where their client leaves, or their server goes: by their cells one after another.
+use Rattle.std.proofs.lemmas.Bool.Decides.{nat_tests}
 use Rattle.std.proofs.Common.{Bool, List, None, Option, Some, [], ap, arith, cond, false, length, refl, suc, sym, true, ℕ, ℤ, pos, ◌+◌, ◌<◌, ◌==◌, ◌≤◌, ◌∙◌, ◌∷◌, ◌≡◌}
 use Rattle.std.specs.Prelude.{is_some, ◌||◌}
 use Rattle.std.proofs.lemmas.Bool.{eq-eqb, eqb-true, false≢true, ne_eqb}
@@ -23,11 +24,7 @@ words_in (Some c) w = at (pos 0) c.words w
 
 pub words_cell : (cs : List Cell) (n w : ℕ) → word_field cs n w ≡ words_in (cell_of cs n) w
 words_cell [] n w = refl
-words_cell (c ∷ cs) n w = go (c.object.name == n) (words_cell cs n w)
-  where
-    go : (b : Bool) → word_field cs n w ≡ words_in (cell_of cs n) w → cond b (at (pos 0) c.words w) (word_field cs n w) ≡ words_in (cond b (Some c) (cell_of cs n)) w
-    go true e = refl
-    go false e = e
+words_cell (c ∷ cs) n w = grind (arith, nat_tests, words_cell cs n w, cell_of cs n)
 
 -- the cell at a place goes
 pub without_sifted : (q : Owner) (cs : List Cell) → without q cs ≡ sifted (λ c. same_place c.owner q) (λ c. c.service) cs
@@ -35,7 +32,7 @@ without_sifted q [] = refl
 without_sifted q (c ∷ cs) = ap (λ l. cond (same_place c.owner q) l (c ∷ l)) (without_sifted q cs)
 
 cell_without : (cs : List Cell) (q : Owner) (n : ℕ) → Tidy cs → cell_of (without q cs) n ≡ left_cell (λ c. same_place c.owner q) (λ c. c.service) (cell_of cs n)
-cell_without cs q n tidy = ap (λ l. cell_of l n) (without_sifted q cs) ∙ cell_of_sifted (λ c. same_place c.owner q) (λ c. c.service) cs n tidy
+cell_without cs q n tidy = grind (arith, nat_tests, cell_of, without_sifted q cs, cell_of_sifted)
 
 -- what is there then was there, and was at another place
 before_without : (cs : List Cell) (q : Owner) (n : ℕ) (y : Cell) → Tidy cs → cell_of (without q cs) n ≡ Some y → (cell_of cs n ≡ Some y) × (same_place y.owner q ≡ false)
@@ -74,20 +71,19 @@ module _ (drops : Cell → Bool) (f : Cell → Service) where
 
   count_stay : (cs : List Cell) → AllCells (λ x. drops x ≡ false) cs → count_messages (left cs) ≡ count_messages cs
   count_stay [] all = refl
-  count_stay (c ∷ cs) all =
-      ap (λ b. count_messages (cond b (left cs) (record c { service = f c } ∷ left cs))) all.0 ∙ ap (λ n. cond (is_object c.object.thing) n (suc n)) (count_stay cs all.1)
+  count_stay (c ∷ cs) all = grind (arith, nat_tests, count_stay cs all.1)
 
   -- it does not matter that one of them goes first
   left_without : (cs : List Cell) (x : Cell) → Tidy cs → cell_in cs x.owner ≡ Some x → drops x ≡ true → left (without x.owner cs) ≡ left cs
   left_without [] x tidy e h = cc
-  left_without (c ∷ cs) x tidy e h = go (same_place c.owner x.owner) refl e (left_without cs x tidy.2)
-    where
-      go : (b : Bool) → same_place c.owner x.owner ≡ b → cond b (Some c) (cell_in cs x.owner) ≡ Some x → (cell_in cs x.owner ≡ Some x → drops x ≡ true → left (without x.owner cs) ≡ left cs) →
-          left (cond b (without x.owner cs) (c ∷ without x.owner cs)) ≡ cond (drops c) (left cs) (record c { service = f c } ∷ left cs)
-      go true g e rest =
-          let one : c ≡ x = cc in
-          ap left (without_none cs x.owner (ap (held cs) (sym (same_place-true c.owner x.owner g)) ∙ tidy.0)) ∙ sym (ap (λ b. cond b (left cs) (record c { service = f c } ∷ left cs)) (ap drops one ∙ h))
-      go false g e rest = ap (λ l. cond (drops c) l (record c { service = f c } ∷ l)) (rest e h)
+  left_without (c ∷ cs) x tidy e h = grind (
+    arith,
+    nat_tests,
+    left_without cs x tidy.2,
+    cell_in cs x.owner,
+    without_none cs x.owner,
+    same_place-true c.owner x.owner,
+  )
 
   -- what goes are just the messages of these places
   pub record Forgets (places : List ℕ) (cs : List Cell) : Type 0 where
@@ -95,17 +91,7 @@ module _ (drops : Cell → Bool) (f : Cell → Service) where
     pub gone : (n : ℕ) (x : Cell) → cell_of cs n ≡ Some x → drops x ≡ true → (m : ℕ) × (n ≡ message_name m) × (is_among m places ≡ true)
 
   count_left : (places : List ℕ) → Once places → (cs : List Cell) → Tidy cs → Forgets places cs → count_messages (left cs) + length places ≡ count_messages cs
-  count_left [] once cs tidy forgets = plus_none (count_messages (left cs)) ∙ count_stay cs (each_cell (λ x. drops x ≡ false) cs tidy stays)
-    where
-      plus_none : (n : ℕ) → n + 0 ≡ n
-      plus_none n = omega arith
-
-      stays : (n : ℕ) (x : Cell) → cell_of cs n ≡ Some x → drops x ≡ false
-      stays n x e = go (drops x) refl
-        where
-          go : (b : Bool) → drops x ≡ b → b ≡ false
-          go false h = refl
-          go true h = let g = forgets.gone n x e h in absurd (false≢true g.2)
+  count_left [] once cs tidy forgets = grind (arith, nat_tests, count_stay cs, each_cell, cell_of cs)
   count_left (m ∷ ms) once cs tidy forgets =
       more (count_messages (left cs)) (length ms) (count_messages (without x.owner cs)) (count_messages cs)
       (ap (λ l. count_messages l + length ms) (sym (left_without cs x tidy placed w.2)) ∙ count_left ms once.1 (without x.owner cs) (tidy_without cs x.owner tidy) rest) (count_without cs x (message_name m) tidy w.1 w.3)
@@ -182,26 +168,14 @@ module _ (drops : Cell → Bool) (f : Cell → Service) where
       cell_left n = cell_of_sifted drops f cs n tidy
 
       went : (m : ℕ) → is_among m places ≡ true → cell_of (left cs) (message_name m) ≡ None
-      went m h = let x = forgets.goes m h in cell_left (message_name m) ∙ ap (left_cell drops f) x.1 ∙ ap (λ b. cond b None (Some (record x.0 { service = f x.0 }))) x.2
+      went m h = grind (arith, nat_tests, cell_left, left_cell drops f)
 
       -- what stays
       stays : (m : ℕ) → is_among m places ≡ false → (x : Cell) → cell_of cs (message_name m) ≡ Some x → drops x ≡ false
-      stays m h x e = go (drops x) refl
-        where
-          go : (b : Bool) → drops x ≡ b → b ≡ false
-          go false g = refl
-          go true g =
-              let y = forgets.gone (message_name m) x e g in
-              let names : message_name m ≡ message_name y.0 = y.1 in
-              let one : m ≡ y.0 = omega (arith, names) in
-              absurd (false≢true (sym h ∙ ap (λ i. is_among i places) one ∙ y.2))
+      stays m h x e = grind (arith, nat_tests)
 
       stays_below : (n : ℕ) → n < message_name 0 → (x : Cell) → cell_of cs n ≡ Some x → drops x ≡ false
-      stays_below n small x e = go (drops x) refl
-        where
-          go : (b : Bool) → drops x ≡ b → b ≡ false
-          go false g = refl
-          go true g = let y = forgets.gone n x e g in let name = y.1 in absurd (omega (arith, name, small))
+      stays_below n small x e = grind (arith, nat_tests)
 
       still : (n : ℕ) → ((x : Cell) → cell_of cs n ≡ Some x → drops x ≡ false) → named (left cs) n ≡ named cs n
       still n h = named_cell (left cs) n ∙ ap object_in (cell_left n) ∙ go (cell_of cs n) refl ∙ sym (named_cell cs n)
@@ -215,7 +189,7 @@ module _ (drops : Cell → Bool) (f : Cell → Service) where
       there m false h = ap is_some (others m h) ∙ same.there m ∙ sym (ap is_a_message (still (message_name m) (stays m h)))
 
       words : (m w : ℕ) (b : Bool) → is_among m places ≡ b → word_at after m w ≡ word_field (left cs) (message_name m) w
-      words m w true h = ap (λ x. word_of x w) (gone m h) ∙ sym (words_cell (left cs) (message_name m) w ∙ ap (λ x. words_in x w) (went m h))
+      words m w true h = grind (arith, nat_tests, gone m h, words_cell, went m h)
       words m w false h =
           ap (λ x. word_of x w) (others m h) ∙ same.words m w ∙ words_cell cs (message_name m) w ∙ sym (words_cell (left cs) (message_name m) w ∙ ap (λ x. words_in x w) (cell_left (message_name m)) ∙ go (cell_of cs (message_name m)) refl)
         where

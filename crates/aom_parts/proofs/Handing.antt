@@ -1,7 +1,8 @@
 -- A token is handed out: one more message, which clients have nothing of, and a request that waits for it; all that the machine keeps goes on standing for the cells.
-use Rattle.std.proofs.Common.{Bool, List, None, Option, Some, [], ap, arith, cond, false, refl, sym, true, ℕ, ℤ, pos, ◌+◌, ◌<◌, ◌==◌, ◌≤◌, ◌∙◌, ◌∷◌, ◌≡◌}
-use Rattle.std.specs.Prelude.{is_some, option_map, replicate}
-use Rattle.std.proofs.lemmas.Bool.{eq-eqb, eqb-true, false≢true, ne_eqb}
+use Rattle.std.proofs.lemmas.Bool.Decides.{nat_tests}
+use Rattle.std.proofs.Common.{List, None, Option, Some, [], ap, arith, cond, false, refl, sym, ℕ, pos, ◌+◌, ◌<◌, ◌==◌, ◌≤◌, ◌∙◌, ◌≡◌}
+use Rattle.std.specs.Prelude.{is_some, option_map}
+use Rattle.std.proofs.lemmas.Bool.{eq-eqb, eqb-true}
 use Rattle.aom_active.proofs.Asking.{asked_set}
 use Rattle.aom_active.specs.Agrees.{Active}
 use Rattle.aom_cells.specs.Heap.{Heap}
@@ -9,16 +10,15 @@ use Rattle.aom_clients.specs.Clients.{State as Kept_state}
 use Rattle.aom_clients.specs.declared.client.Client.{Client}
 use Rattle.aom_image.specs.Image.{Image}
 use Rattle.aom_image.specs.declared.method.Thing.TheVariants.{Message}
-use Rattle.aom_messages.specs.Store.{Changes, Store, count, word_of}
+use Rattle.aom_messages.specs.Store.{Changes, Store, count}
 use Rattle.aom_queues.specs.Lists.{Table}
 use Rattle.aom_sessions.specs.Sessions.{Standing}
 use Rattle.aom_sound.proofs.Services.{service_asked, service_unnamed}
 use Rattle.aom_sound.proofs.Storing.{rerequested_alike}
 use Rattle.aom_sound.specs.Places.{Cell, Elsewhere, Object, Place, Request, Root, Service, Token, named, requested, service_of, set_request, unserved}
-use Rattle.aom_sound.specs.Servers.{is_queue, slots_taken}
+use Rattle.aom_sound.specs.Servers.{is_queue}
 use Rattle.aom_sound.specs.State.{Inside}
 use Rattle.aom_sound.specs.Tokens.{awaited, promised, with_token}
-use Rattle.aom_shape.specs.Tables.{at}
 use Rattle.aom_tokens.specs.Tokens.{Kept, Sets}
 use Rattle.aom_parts.proofs.Asking.{cells_asked}
 use Rattle.aom_parts.proofs.Beside.{Beside, beside_message, cells_beside, listed_beside, natives_beside, requests_beside}
@@ -31,10 +31,8 @@ use Rattle.aom_parts.proofs.Serving.{names_apart}
 use Rattle.aom_parts.proofs.Still.{same_still, same_untold, still_requested, untold}
 use Rattle.aom_parts.proofs.Tokens.{tokens_handed}
 use Rattle.aom_parts.specs.Agrees.{SameCells, SameNatives, SameRequests}
-use Rattle.aom_parts.specs.Listing.{SameListed}
-use Rattle.aom_parts.specs.Messages.{SameMessages}
 use Rattle.aom_parts.specs.Services.{SameServices}
-use Rattle.aom_parts.specs.Serving.{SameClients, message_name, owner_of, waits_in}
+use Rattle.aom_parts.specs.Serving.{SameClients, message_name}
 use Rattle.aom_parts.specs.Tokens.{SameTokens, no_words}
 
 module _
@@ -71,24 +69,25 @@ module _
 
   -- clients have the same at all names
   services_so : (n : ℕ) → untold (service_of with_its_token n) ≡ untold (service_of us n)
-  services_so n = go (message_name m == n) refl
-    where
-      go : (b : Bool) → (message_name m == n) ≡ b → untold (cond b (record unserved { token = Some token }) (service_of us n)) ≡ untold (service_of us n)
-      go true e = sym (ap untold (service_unnamed us n (ap (named us) (sym (eqb-true (message_name m) n e)) ∙ free_then)))
-      go false e = refl
+  services_so n = grind (arith, nat_tests, untold, service_unnamed, eqb-true, free_then)
 
   pub requests_handed : (a : Active) → SameRequests p a us → SameRequests p a with_its_token
   requests_handed a same = requests_beside p a us with_its_token beside (λ n some. ap (λ (v : Service). v.queue) (services_so n)) same
 
   clients_handed : (k : Kept_state) (clients : List Client) → SameClients k cs clients → SameClients k with_its_token clients
-  clients_handed k clients same = same_untold k us with_its_token clients services_so (λ j. owners j (m == j) refl) (λ c. refl) (same_still k cs us clients (still_requested cs o.name its) same)
-    where
-      owners : (j : ℕ) (b : Bool) → (m == j) ≡ b → waits_in (owner_of with_its_token (message_name j)) ≡ waits_in (owner_of us (message_name j))
-      owners j true e =
-          let one : message_name m ≡ message_name j = ap message_name (eqb-true m j e) in
-          ap (λ b. waits_in (cond b (Some owner) (owner_of us (message_name j)))) (eq-eqb (message_name m) (message_name j) one) ∙ apart
-          ∙ sym (ap waits_in (owner_unnamed us (message_name j) (ap (named us) (sym one) ∙ free_then)))
-      owners j false e = ap (λ b. waits_in (cond b (Some owner) (owner_of us (message_name j)))) (names_apart m j e)
+  clients_handed k clients same = grind (
+    arith,
+    nat_tests,
+    same_untold k,
+    services_so,
+    same_still k cs,
+    still_requested cs o.name,
+    eqb-true m,
+    eq-eqb,
+    owner_unnamed,
+    free_then,
+    names_apart m,
+  )
 
   -- the object's request waits for it, and all others are as before
   asked_then : (n : ℕ) → requested us n ≡ cond (o.name == n) its (requested cs n)
@@ -101,11 +100,7 @@ module _
       (λ n other. ap awaited (asked_then n) ∙ ap (λ b. awaited (cond b its (requested cs n))) other) hands living
 
   order_so : (n : ℕ) → option_map (λ x. x.order) (requested us n) ≡ option_map (λ x. x.order) (requested cs n)
-  order_so n = ap (option_map (λ x. x.order)) (asked_then n) ∙ go (o.name == n) refl
-    where
-      go : (b : Bool) → (o.name == n) ≡ b → option_map (λ x. x.order) (cond b its (requested cs n)) ≡ option_map (λ x. x.order) (requested cs n)
-      go true e = sym (ap (option_map (λ x. x.order)) (ap (requested cs) (sym (eqb-true o.name n e)) ∙ asked))
-      go false e = refl
+  order_so n = grind (arith, nat_tests, asked_then n, eqb-true o.name n)
 
   pub services_handed :
       (k : Kept_state) (store after : Store) (w now : Kept) (table : Table) (clients : List Client) → m < 1024 → Changes store after m (Some no_words) → count after ≡ count store + 1 →

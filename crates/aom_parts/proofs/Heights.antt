@@ -1,4 +1,5 @@
 -- What the room of a well-typed state rests on: where the methods at hand began, and what the one that runs has pushed.
+use Rattle.std.proofs.lemmas.Bool.Decides.{nat_tests}
 use Rattle.std.proofs.Common.{List, None, Some, [], ap, arith, length, refl, subst, suc, sym, ℕ, ℤ, ◌+◌, ◌-◌, ◌∙◌, ◌∷◌, ◌≡◌, ◌≤◌}
 use Rattle.aom_image.specs.Image.{Image}
 use Rattle.aom_shape.specs.Kinds.{register}
@@ -22,10 +23,7 @@ use Rattle.aom_shape.specs.Things.{holder_of}
 -- each method at hand began within the items of its layers
 low_stack : (p : Image) (t : Typing) (cs : List Cell) (back : Back) (ls : List Layer) (n : ℕ) → Stack p t cs back ls → length (items_of ls) ≤ n → AllLow n (tasks_of ls)
 low_stack p t cs back [] n s le = tt
-low_stack p t cs back (Method fr sh ∷ ls) n s le =
-    let more = length_objects sh.entries (items_of ls) in
-    let high = s.1.height in
-    (omega (arith, more, high, le), low_stack p t cs (Returns fr.method fr.home) ls n s.4 (omega (arith, more, le)))
+low_stack p t cs back (Method fr sh ∷ ls) n s le = grind (arith, nat_tests, length_objects sh.entries, low_stack p t cs (Returns fr.method fr.home) ls n s.4)
 low_stack p t cs back (Mark gv ∷ ls) n s le = low_stack p t cs (Caught gv) ls n s.1 (omega (arith, le))
 low_stack p t cs back (Dying o ∷ ls) n s le = low_stack p t cs Gone ls n s.2 le
 low_stack p t cs back (Ending o left ∷ ls) n s le = low_stack p t cs Now ls n s.3 le
@@ -74,21 +72,17 @@ stands_here p t s fr ts w at = method_layer (λ ls. (forms s.items ≡ items_of 
       holder = h.1.stack.1.holder;
       view = h.1.stack.1.view;
       low = subst (λ us. AllLow fr.height us) under (low_stack p t s.cells (Returns fr.method fr.home) ls fr.height h.1.stack.4 (omega (arith, high)));
-      low_under = subst (λ us. LowUnder fr.height us) under (subst (λ n. LowUnder n (tasks_of ls)) (sym high) (low_under p t s.cells (Returns fr.method fr.home) ls h.1.stack.4));
+      low_under = grind (arith, nat_tests, low_under p t s.cells (Returns fr.method fr.home) ls h.1.stack.4);
       fits = λ a. subst (λ us. Fits p (seen s.cells) (held s.cells (Register (length us) a)) (register sh a)) under (register_fits p s.cells fr sh ls h.1.fits a);
       free = fits_unowning p (seen s.cells) _ Null refl (subst (λ k. Fits p (seen s.cells) (held s.cells (Entry (length s.items))) k) none (h.1.fits (Entry (length s.items))));
     })
 
 -- the items over a height are a method's own entries
 one_more : (es : List Pushed) (below : List Form) (i : Item) (items : List Item) → entries_in (i ∷ items) ≡ suc (entries_in items) → forms items ≡ objects es below → entries_in items ≡ length es + entries_in (below_height (length below) items) → entries_in (i ∷ items) ≡ suc (length es) + entries_in (below_height (length below) (i ∷ items))
-one_more es below i items one same h =
-    let deep = ap entries_in (below_pushed (length below) i items (omega (arith, length_forms items, ap length same, length_objects es below))) in
-    omega (arith, one, h, deep)
+one_more es below i items one same h = grind (arith, nat_tests, below_pushed, below, items, length_forms items, length_objects es below)
 
 pub own_entries : (es : List Pushed) (below : List Form) (items : List Item) → forms items ≡ objects es below → entries_in items ≡ length es + entries_in (below_height (length below) items)
-own_entries [] below items e =
-    let all = ap entries_in (below_all (length below) items (omega (arith, length_forms items, ap length e))) in
-    omega (arith, all)
+own_entries [] below items e = grind (arith, nat_tests, below_all, below, items, length_forms items)
 own_entries (Pushed_object c a ∷ es) below (An_object ∷ items) e =
     let same : forms items ≡ objects es below = cc in
     one_more es below An_object items (omega arith) same (own_entries es below items same)

@@ -1,5 +1,6 @@
 -- The messages that a client leaves as it closes or dies, and those in the queue of a server that goes, are kept no more: what is kept stands for what is left.
-use Rattle.std.proofs.Common.{Bool, List, None, Option, Some, [], ap, arith, cond, false, inl, inr, length, map, refl, subst, sym, true, ℕ, ◌&&◌, ◌+◌, ◌<◌, ◌==◌, ◌≤◌, ◌∙◌, ◌∷◌, ◌≡◌, ◌⊎◌}
+use Rattle.std.proofs.lemmas.Bool.Decides.{nat_tests}
+use Rattle.std.proofs.Common.{Bool, List, None, Option, Some, [], ap, arith, false, inl, inr, length, map, refl, subst, sym, true, ℕ, ◌&&◌, ◌+◌, ◌<◌, ◌==◌, ◌≤◌, ◌∙◌, ◌∷◌, ◌≡◌, ◌⊎◌}
 use Rattle.std.specs.List.{list_any}
 use Rattle.std.specs.Prelude.{filter, is_some, not, ◌-◌, ◌||◌}
 use Rattle.std.proofs.lemmas.Bool.{and_parts, cases_lt, eq-eqb, eqb-true, false≢true}
@@ -12,8 +13,6 @@ use Rattle.aom_clients.specs.declared.entry.Entry.TheVariants.{Close, Connect, M
 use Rattle.aom_clients.specs.declared.place.Place.{Place}
 use Rattle.aom_clients.specs.declared.place.Place.TheVariants.{Queued}
 use Rattle.aom_image.specs.Image.{Image}
-use Rattle.aom_image.specs.declared.method.Thing.TheVariants.{Message as A_message, Object as An_object_of}
-use Rattle.aom_image.specs.declared.method.Thing.{Thing}
 use Rattle.aom_messages.specs.Store.{Store, count, message_at}
 use Rattle.aom_roles.specs.Shapes.{kind_of}
 use Rattle.aom_rules.specs.Typing.{Typing}
@@ -21,11 +20,9 @@ use Rattle.aom_shape.specs.Kinds.{is_object}
 use Rattle.aom_sound.proofs.ClientsFacts.{waiting_message as queued_message}
 use Rattle.aom_sound.proofs.Sifted.{a_cell_of, cell_in, cell_lives, cell_name, cell_of, cell_owner, cell_placed, held_cell, named_cell, object_in, request_in, requested_cell, service_cell, service_in, unqueued_so, withdrawn_so}
 use Rattle.aom_sound.proofs.Sources.{from_some}
-use Rattle.aom_sound.specs.Enlisted.{thing_kind}
-use Rattle.aom_sound.specs.Requests.{Suits, states_claim}
-use Rattle.aom_sound.specs.Kept.{ClientsFit, QueueFits, sources_of}
+use Rattle.aom_sound.specs.Kept.{ClientsFit, QueueFits}
 use Rattle.aom_sound.specs.Laws.{IsWired}
-use Rattle.aom_sound.specs.Places.{Cell, Elsewhere, Object, Place as Owner, Queued as Waits_at, Sender, Service, held, requested, service_of}
+use Rattle.aom_sound.specs.Places.{Cell, Elsewhere, Object, Place as Owner, Queued as Waits_at, Sender, Service, held, service_of}
 use Rattle.aom_sound.specs.Servers.{has_message, holds_slot, is_among, is_from, is_message, is_queue, is_queue_of, left_by, withdrawn, without_queue}
 use Rattle.aom_sound.specs.State.{State}
 use Rattle.aom_sound.specs.WellTyped.{WellTyped}
@@ -60,34 +57,12 @@ among_places (Message k ∷ es) m = ap (λ b. (k == m) || b) (among_places es m)
 among_places (Close c ∷ es) m = among_places es m
 
 among_filtered : (test : ℕ → Bool) (ms : List ℕ) (j : ℕ) → is_among j (filter test ms) ≡ (test j && is_among j ms)
-among_filtered test [] j = sym (none (test j))
-  where
-    none : (a : Bool) → (a && false) ≡ false
-    none true = refl
-    none false = refl
-among_filtered test (m ∷ ms) j = go (test m) refl (m == j) refl (among_filtered test ms j)
-  where
-    go : (a : Bool) → test m ≡ a → (b : Bool) → (m == j) ≡ b → is_among j (filter test ms) ≡ (test j && is_among j ms) →
-        is_among j (cond a (m ∷ filter test ms) (filter test ms)) ≡ (test j && (b || is_among j ms))
-    go true e true f rest = ap (λ b. b || is_among j (filter test ms)) f ∙ sym (ap (λ b. b && true) (ap test (sym (eqb-true m j f)) ∙ e))
-    go true e false f rest = ap (λ b. b || is_among j (filter test ms)) f ∙ rest
-    go false e true f rest = rest ∙ ap (λ b. b && is_among j ms) off ∙ sym (ap (λ b. b && true) off)
-      where
-        off : test j ≡ false
-        off = ap test (sym (eqb-true m j f)) ∙ e
-    go false e false f rest = rest
+among_filtered test [] j = grind (arith, nat_tests)
+among_filtered test (m ∷ ms) j = grind (arith, nat_tests, among_filtered test ms j, eqb-true m j)
 
 once_filtered : (test : ℕ → Bool) (ms : List ℕ) → Once ms → Once (filter test ms)
 once_filtered test [] once = tt
-once_filtered test (m ∷ ms) once = go (test m) (once_filtered test ms once.1)
-  where
-    none : (a b : Bool) → b ≡ false → (a && b) ≡ false
-    none true b e = e
-    none false b e = refl
-
-    go : (a : Bool) → Once (filter test ms) → Once (cond a (m ∷ filter test ms) (filter test ms))
-    go true rest = (among_filtered test ms m ∙ none (test m) (is_among m ms) once.0, rest)
-    go false rest = rest
+once_filtered test (m ∷ ms) once = grind (arith, nat_tests, once_filtered test ms once.1, among_filtered test ms m)
 
 -- no message waits twice
 once_asked : (clients : List Client) (n : ℕ) (places : List Place) (es : List Entry) → QueueFits clients n (map (asked_by places) es) → Once (places_in es)
@@ -119,19 +94,13 @@ module _ (p : Image) (t : Typing) (wired : IsWired p) (s : State) (w : WellTyped
   owner_there n x e = owner_cell s.cells n ∙ ap owner_in e
 
   cell_there : (n : ℕ) → waits_in (owner_of s.cells n) ≡ true → (x : Cell) × (cell_of s.cells n ≡ Some x) × (is_queue x.owner ≡ true)
-  cell_there n h = go (cell_of s.cells n) refl (ap waits_in (sym (owner_cell s.cells n)) ∙ h)
-    where
-      go : (x : Option Cell) → cell_of s.cells n ≡ x → waits_in (owner_in (cell_of s.cells n)) ≡ true → (x : Cell) × (cell_of s.cells n ≡ Some x) × (is_queue x.owner ≡ true)
-      go None e h = absurd (false≢true (ap (λ y. waits_in (owner_in y)) (sym e) ∙ h))
-      go (Some x) e h = (x, e, ap (λ y. waits_in (owner_in y)) (sym e) ∙ h)
+  cell_there n h = grind (arith, nat_tests, cell_of s.cells n, owner_cell s.cells n, owner_in (cell_of s.cells n))
 
   -- ---- a client leaves
 
   -- a message that is forgotten was kept
   forgotten_kept : {drops : Cell → Bool} {f : Cell → Service} {ms : List ℕ} {before : Store} → Forgets drops f ms s.cells → SameMessages p before s.cells → (m : ℕ) → is_among m ms ≡ true → is_some (message_at before m) ≡ true
-  forgotten_kept goes kept_so m h =
-      let x = goes.goes m h in
-      kept_so.there m ∙ ap is_a_message (named_cell s.cells (message_name m) ∙ ap object_in x.1) ∙ ap not x.3
+  forgotten_kept goes kept_so m h = grind (arith, nat_tests, named_cell s.cells, object_in)
 
   module _ (c : ℕ) where
     abbrev drops : Cell → Bool
@@ -153,11 +122,7 @@ module _ (p : Image) (t : Typing) (wired : IsWired p) (s : State) (w : WellTyped
     forgets before kept_so = record { goes = goes; gone = gone }
       where
         goes : (m : ℕ) → is_among m freed ≡ true → (x : Cell) × (cell_of s.cells (message_name m) ≡ Some x) × (drops x ≡ true) × (is_object x.object.thing ≡ false)
-        goes m h =
-            let b = and_parts (is_queued (kept.place_at k m)) (is_among m (kept.sent_at k c)) (sym (among_freed m) ∙ h) in
-            let x = cell_there (message_name m) (sym (same.waits m) ∙ b.0) in
-            let from : is_from c x.0.service.sender ≡ true = from_slot x.0.service.sender (ap (λ (v : Service). holds_slot c v.sender) (sym (service_cell s.cells (message_name m) ∙ ap service_in x.1)) ∙ sym (same.slots_of c m) ∙ b.1) in
-            (x.0, x.1, ap (λ y. y && is_from c x.0.service.sender) x.2 ∙ from, waiting_message (message_name m) x.0 x.1 x.2)
+        goes m h = grind (arith, nat_tests, among_freed m, cell_there, from_slot, service_cell s.cells, service_in, waiting_message)
 
         gone : (n : ℕ) (x : Cell) → cell_of s.cells n ≡ Some x → drops x ≡ true → (m : ℕ) × (n ≡ message_name m) × (is_among m freed ≡ true)
         gone n x e h =
@@ -191,7 +156,7 @@ module _ (p : Image) (t : Typing) (wired : IsWired p) (s : State) (w : WellTyped
     asked_so m = among_places (kept.queue_at k n) m ∙ sym (asks_message k.places (kept.queue_at k n) m) ∙ ap (λ q. list_any (is_message (message_name m)) q) (same.queues n)
 
     pub waiting_once : Once waiting
-    waiting_once = once_asked s.clients n k.places (kept.queue_at k n) (subst (λ q. QueueFits s.clients n q) (sym (same.queues n)) (fit.queues n))
+    waiting_once = grind (arith, nat_tests, once_asked s.clients n k.places)
 
     unqueues : (before : Store) → SameMessages p before s.cells → Forgets (λ x. is_queue_of n x.owner) (λ x. x.service) waiting s.cells
     unqueues before kept_so = record { goes = goes; gone = gone }
@@ -226,14 +191,18 @@ module _ (p : Image) (t : Typing) (wired : IsWired p) (s : State) (w : WellTyped
   -- a message is not enlisted
   waiting_unasked : (n : ℕ) (x : Cell) → cell_of s.cells n ≡ Some x → is_queue x.owner ≡ true → x.request ≡ None
   unfolding kind_of
-  waiting_unasked n x e h = sym (requested_cell s.cells x.object.name ∙ ap request_in lives) ∙ go x.object.thing refl (waiting_message n x e h) (w.good.suits x.object (named_cell s.cells x.object.name ∙ ap object_in lives))
-    where
-      lives : cell_of s.cells x.object.name ≡ Some x
-      lives = cell_lives s.cells x.owner x w.good.tidy (cell_placed s.cells n x w.good.tidy e)
-
-      go : (y : Thing) → x.object.thing ≡ y → is_object x.object.thing ≡ false → Suits (thing_kind p x.object.thing) (states_claim p x.object w.layers) (requested s.cells x.object.name) → requested s.cells x.object.name ≡ None
-      go A_message f message suits = subst (λ y. Suits (thing_kind p y) (states_claim p x.object w.layers) (requested s.cells x.object.name)) f suits
-      go (An_object_of class) f message suits = absurd (false≢true (sym message ∙ ap is_object f))
+  waiting_unasked n x e h = grind (
+    arith,
+    nat_tests,
+    requested_cell s.cells x.object.name,
+    request_in,
+    waiting_message n x e h,
+    named_cell s.cells x.object.name,
+    object_in,
+    cell_of s.cells x.object.name,
+    cell_lives s.cells x.owner x w.good.tidy (cell_placed s.cells n x w.good.tidy e),
+    cell_placed s.cells n x w.good.tidy e,
+  )
 
   gone_message : (before : Store) → SameMessages p before s.cells → (n : ℕ) (x : Cell) → cell_of s.cells n ≡ Some x → is_queue x.owner ≡ true → (4096 ≤ n) × (is_object x.object.thing ≡ false) × (x.request ≡ None)
   gone_message before kept_so n x e h = let m = message_place before kept_so n x e h in let name = m.1 in (omega (arith, name), waiting_message n x e h, waiting_unasked n x e h)
@@ -251,21 +220,22 @@ module _ (p : Image) (t : Typing) (wired : IsWired p) (s : State) (w : WellTyped
 
   -- what waits was sent, and is no token
   sent_untold : (n : ℕ) (x : Cell) → cell_of s.cells n ≡ Some x → is_queue x.owner ≡ true → is_some x.service.sender ≡ true → x.service.token ≡ None
-  sent_untold n x e h sent = untold_sent x.service one sent
-    where
-      lives : cell_of s.cells x.object.name ≡ Some x
-      lives = cell_lives s.cells x.owner x w.good.tidy (cell_placed s.cells n x w.good.tidy e)
-
-      one : sources_of x.service ≡ 1
-      one =
-          ap sources_of (sym (service_cell s.cells x.object.name ∙ ap service_in lives)) ∙ fit.sources x.object (named_cell s.cells x.object.name ∙ ap object_in lives)
-          ∙ ap {B = ℕ} (λ b. cond b 0 1) (waiting_message n x e h)
+  sent_untold n x e h sent = grind (
+    arith,
+    nat_tests,
+    untold_sent x.service,
+    cell_of s.cells x.object.name,
+    cell_lives s.cells x.owner x w.good.tidy (cell_placed s.cells n x w.good.tidy e),
+    cell_placed s.cells n x w.good.tidy e,
+    service_cell s.cells x.object.name,
+    service_in,
+    named_cell s.cells x.object.name,
+    object_in,
+    waiting_message n x e h,
+  )
 
   pub told_withdrawn : (c : ℕ) → Told_alike s.cells (withdrawn c s.cells)
-  told_withdrawn c =
-      subst (Told_alike s.cells) (sym (withdrawn_so c s.cells))
-      (told_sifted (drops c) (λ x. left_by c x.service) s.cells w.good.tidy
-      (λ n x e h. let b = and_parts (is_queue x.owner) (is_from c x.service.sender) h in sent_untold n x e b.0 (from_some c x.service.sender b.1)) (λ x. refl))
+  told_withdrawn c = grind (arith, nat_tests, Told_alike s.cells, withdrawn_so c s.cells, told_sifted, sent_untold, from_some c)
 
   pub told_unqueued : (before : Store) → SameMessages p before s.cells → (n : ℕ) → Told_alike s.cells (without_queue n s.cells)
   told_unqueued before kept_so n = subst (Told_alike s.cells) (sym (unqueued_so n s.cells)) (told_sifted (λ x. is_queue_of n x.owner) (λ x. x.service) s.cells w.good.tidy none (λ x. refl))
@@ -280,11 +250,7 @@ module _ (p : Image) (t : Typing) (wired : IsWired p) (s : State) (w : WellTyped
 
   -- and what no queue owns
   pub holds_withdrawn : (c : ℕ) (r : Owner) → is_queue r ≡ false → held (withdrawn c s.cells) r ≡ held s.cells r
-  holds_withdrawn c r apart =
-      ap (λ l. held l r) (withdrawn_so c s.cells) ∙ holds_sifted (drops c) (λ x. left_by c x.service) s.cells w.good.tidy (λ n x e h. (and_parts (is_queue x.owner) (is_from c x.service.sender) h).0) r apart
+  holds_withdrawn c r apart = grind (arith, nat_tests, withdrawn_so c s.cells, holds_sifted)
 
   pub holds_unqueued : (n : ℕ) (r : Owner) → is_queue r ≡ false → held (without_queue n s.cells) r ≡ held s.cells r
-  holds_unqueued n r apart = ap (λ l. held l r) (unqueued_so n s.cells) ∙ holds_sifted (λ x. is_queue_of n x.owner) (λ x. x.service) s.cells w.good.tidy (λ i x e h. queued x.owner h) r apart
-    where
-      queued : (q : Owner) → is_queue_of n q ≡ true → is_queue q ≡ true
-      queued x h = grind arith
+  holds_unqueued n r apart = grind (arith, nat_tests, unqueued_so n s.cells, holds_sifted)

@@ -1,4 +1,5 @@
 -- The servers of each class in the order in which they were enlisted: the first is the one that a connect asks, and the lists go on.
+use Rattle.std.proofs.lemmas.Bool.Decides.{nat_tests}
 use Rattle.std.proofs.Common.{ap, arith, Bool, cond, false, inl, inr, length, List, None, Option, refl, Some, subst, suc, sym, true, ℕ, ◌&&◌, ◌++◌, ◌<◌, ◌==◌, ◌≤◌, ◌∙◌, ◌∷◌, ◌≡◌, ◌⊎◌, []}
 use Rattle.std.specs.Prelude.{◌||◌, AllPairs, nat_lt, not, option_map, slice_index_or, slice_set}
 use Rattle.std.proofs.lemmas.Bool.{and_parts, eq-eqb, eqb-true, ne_eqb, false≢true, ltb-false, ltb-true}
@@ -11,7 +12,7 @@ use Rattle.std.proofs.lemmas.Map.Views.{any-filter_same}
 use Rattle.std.proofs.lemmas.Option.{none-some, same_Some}
 use Rattle.aom_image.specs.Image.{Image}
 use Rattle.aom_image.specs.declared.method.Thing.{Thing}
-use Rattle.aom_image.specs.declared.method.Thing.TheVariants.{Message, Object as An_object_of}
+use Rattle.aom_image.specs.declared.method.Thing.TheVariants.{Object as An_object_of}
 use Rattle.aom_queues.specs.Lists.{Table, first_of, list_at, with_list, without as without_node}
 use Rattle.aom_sound.proofs.ClientsAsk.{listed_there}
 use Rattle.aom_sound.specs.Clients.{Listed, among_listed, asked_server, earlier, first_listed, is_of_class}
@@ -27,15 +28,7 @@ abbrev Found : ℕ → List Cell → ℕ → Type 0
 Found class cs order = (x : Listed) × (first_listed class cs ≡ Some x) × (x.order ≤ order)
 
 earlier_least : (a : Listed) (others : Option Listed) (order : ℕ) → (a.order ≤ order) ⊎ ((x : Listed) × (others ≡ Some x) × (x.order ≤ order)) → (earlier a others).order ≤ order
-earlier_least a None order (inl low) = low
-earlier_least a None order (inr x) = absurd (none-some _ x.1)
-earlier_least a (Some b) order least = go (nat_lt b.order a.order) refl least
-  where
-    go : (c : Bool) → nat_lt b.order a.order ≡ c → (a.order ≤ order) ⊎ ((x : Listed) × (Some b ≡ Some x) × (x.order ≤ order)) → (cond c b a).order ≤ order
-    go true less (inl low) = let l = ltb-true b.order a.order less in omega (arith, l, low)
-    go true less (inr x) = subst (λ (y : Listed). y.order ≤ order) (sym (same_Some _ _ x.1)) x.2
-    go false more (inl low) = low
-    go false more (inr x) = let low : b.order ≤ order = subst (λ (y : Listed). y.order ≤ order) (sym (same_Some _ _ x.1)) x.2 in let above = ltb-false b.order a.order more in omega (arith, low, above)
+earlier_least a x order least = grind (arith, nat_tests, ltb-true, same_Some, ltb-false)
 
 found : (class : ℕ) (cs : List Cell) (n : ℕ) (o : Object) (r : Request) → named cs n ≡ Some o → requested cs n ≡ Some r → is_of_class class o.thing ≡ true → Found class cs r.order
 found class [] n o r is asked of = absurd (none-some _ is)
@@ -120,12 +113,11 @@ entry p cs class n e = go (named cs n) (requested cs n) refl refl e
     go (Some o) (Some r) is asked e = let both = and_parts (is_server p o.thing) (is_of_class class o.thing) e in record { object = o; request = r; lives = is; asked = asked; serves = both.0; of = both.1 }
 
 listed_entry : (p : Image) (cs : List Cell) (class n : ℕ) (o : Object) (r : Request) → named cs n ≡ Some o → requested cs n ≡ Some r → is_server p o.thing ≡ true → is_of_class class o.thing ≡ true → is_listed p cs class n ≡ true
-listed_entry p cs class n o r is asked serves of = ap (λ x. lists p class x (requested cs n)) is ∙ ap (lists p class (Some o)) asked ∙ ap (λ b. b && is_of_class class o.thing) serves ∙ of
+listed_entry p cs class n o r is asked serves of = grind (arith, nat_tests, asked, serves, of)
 
 -- whose class is one of servers
 serves_class : (p : Image) (class : ℕ) (x : Thing) → is_of_class class x ≡ true → is_server p x ≡ is_server p (An_object_of class)
-serves_class p class (An_object_of d) of = ap (λ k. is_server p (An_object_of k)) (eqb-true d class of)
-serves_class p class Message of = absurd (false≢true of)
+serves_class p class x of = grind (arith, nat_tests, eqb-true, of)
 
 -- one that is in the rest of a list was enlisted after its first
 after_first : (f : ℕ → ℕ) (n : ℕ) (ns : List ℕ) (m : ℕ) → AllPairs (λ a b. f a < f b) (n ∷ ns) → is_among m ns ≡ true → f n < f m
@@ -191,20 +183,7 @@ listed_same p t cs ds listed orders same = record {
 
 -- so it is where no name, no order and no one enlisted is another
 pub listed_alike : (p : Image) (t : Table) (cs ds : List Cell) → ((n : ℕ) → named ds n ≡ named cs n) → ((n : ℕ) → option_map (λ r. r.order) (requested ds n) ≡ option_map (λ r. r.order) (requested cs n)) → SameListed p t cs → SameListed p t ds
-listed_alike p t cs ds names orders same = listed_same p t cs ds (λ n class. ap (λ o. lists p class o (requested ds n)) (names n) ∙ alike (named cs n) class (requested ds n) (requested cs n) (orders n)) (λ n. order_alike (requested ds n) (requested cs n) (orders n)) same
-  where
-    order_alike : (q r : Option Request) → option_map (λ r. r.order) q ≡ option_map (λ r. r.order) r → order_in q ≡ order_in r
-    order_alike None None e = refl
-    order_alike None (Some r) e = absurd (none-some _ e)
-    order_alike (Some q) None e = absurd (none-some _ (sym e))
-    order_alike (Some q) (Some r) e = same_Some _ _ e
-
-    alike : (o : Option Object) (class : ℕ) (q r : Option Request) → option_map (λ r. r.order) q ≡ option_map (λ r. r.order) r → lists p class o q ≡ lists p class o r
-    alike None class q r e = refl
-    alike (Some o) class None None e = refl
-    alike (Some o) class None (Some r) e = absurd (none-some _ e)
-    alike (Some o) class (Some q) None e = absurd (none-some _ (sym e))
-    alike (Some o) class (Some q) (Some r) e = refl
+listed_alike p t cs ds names orders same = grind (arith, nat_tests, listed_same p t cs ds, same_Some)
 
 or_true : (b : Bool) → (b || true) ≡ true
 or_true b = grind arith
@@ -234,19 +213,10 @@ module _ (p : Image) (t : Table) (cs ds : List Cell) (id class : ℕ) where
           go false e = get_or-set_other t.lists class k longer [] (λ d. false≢true (sym e ∙ eq-eqb class k (sym d)))
 
       in_longer : (n : ℕ) → is_among n longer ≡ (is_listed p cs class n || (id == n))
-      in_longer n = list_any-append (λ d. d == n) (list_at t class) (id ∷ []) ∙ ap (λ b. b || ((id == n) || false)) (same.there n class) ∙ ap (λ b. is_listed p cs class n || b) (or_false (id == n))
+      in_longer n = grind (arith, nat_tests, list_any-append, or_false (id == n))
 
       among : (n k : ℕ) → is_among n (cond (class == k) longer (list_at t k)) ≡ is_listed p ds k n
-      among n k = by (class == k) refl (id == n) refl
-        where
-          by : (b : Bool) → (class == k) ≡ b → (c : Bool) → (id == n) ≡ c → is_among n (cond b longer (list_at t k)) ≡ is_listed p ds k n
-          by true e true f =
-              in_longer n ∙ ap (λ b. is_listed p cs class n || b) f ∙ or_true (is_listed p cs class n) ∙ sym (ap (λ m. is_listed p ds k m) (sym (eqb-true id n f)) ∙ here k ∙ e)
-          by true e false f =
-              in_longer n ∙ ap (λ b. is_listed p cs class n || b) f ∙ or_false (is_listed p cs class n) ∙ ap (λ j. is_listed p cs j n) (eqb-true class k e) ∙ sym (others n k f)
-          by false e true f =
-              same.there n k ∙ ap (λ m. is_listed p cs k m) (sym (eqb-true id n f)) ∙ free k ∙ sym (ap (λ m. is_listed p ds k m) (sym (eqb-true id n f)) ∙ here k ∙ e)
-          by false e false f = same.there n k ∙ sym (others n k f)
+      among n k = grind (arith, nat_tests, longer, in_longer n, or_true, eqb-true id n, or_false, eqb-true class k)
 
       -- what stands in a list is another
       other : (k : ℕ) (i d : ℕ) → i < length (list_at t k) → (id == slice_index_or (list_at t k) i d) ≡ false
@@ -291,11 +261,7 @@ module _ (p : Image) (t : Table) (cs ds : List Cell) (id : ℕ) where
       passes n ns = any-filter_same (λ d. d == n) (λ y. not (y == id)) (not (n == id)) (λ k e. ap (λ m. not (m == id)) (eqb-true k n e)) ns
 
       among : (n k : ℕ) (ns : List ℕ) → is_among n ns ≡ is_listed p cs k n → is_among n (without_node id ns) ≡ is_listed p ds k n
-      among n k ns is = passes n ns ∙ by (n == id) refl
-        where
-          by : (b : Bool) → (n == id) ≡ b → (not b && is_among n ns) ≡ is_listed p ds k n
-          by true e = sym (ap (is_listed p ds k) (eqb-true n id e) ∙ free k)
-          by false e = is ∙ sym (others n k (ne_eqb id n (λ same. false≢true (sym e ∙ eq-eqb n id (sym same)))))
+      among n k ns is = grind (arith, nat_tests, passes n ns, eqb-true n id, ne_eqb id n, eq-eqb n id)
 
       -- what is left is another
       other : (ns : List ℕ) (i d : ℕ) → i < length (without_node id ns) → (id == slice_index_or (without_node id ns) i d) ≡ false

@@ -1,4 +1,5 @@
 -- The messages that are kept, where cells move, change, come and go: by the cells one after another.
+use Rattle.std.proofs.lemmas.Bool.Decides.{nat_tests}
 use Rattle.std.proofs.Common.{Bool, List, None, Option, Some, [], ap, arith, cond, false, not, refl, suc, sym, true, ℕ, ℤ, pos, ◌+◌, ◌<◌, ◌==◌, ◌≤◌, ◌∙◌, ◌∷◌, ◌≡◌}
 use Rattle.std.specs.Prelude.{is_some}
 use Rattle.std.proofs.lemmas.Bool.{eq-eqb, eqb-true, false≢true, ne_eqb}
@@ -68,19 +69,13 @@ messages_in None = 0
 messages_in (Some o) = cond (is_object o.thing) 0 1
 
 messages_counted : (o : Option Object) → counted_by (λ t. not (is_object t)) o ≡ messages_in o
-messages_counted None = refl
-messages_counted (Some o) = go (is_object o.thing)
-  where
-    go : (b : Bool) → ◌≡◌ {A = ℕ} (cond (not b) 1 0) (cond b 0 1)
-    go true = refl
-    go false = refl
+messages_counted x = grind arith
 
 pub many_without : (cs : List Cell) (g : Place) → Tidy cs → count_messages cs ≡ messages_in (held cs g) + count_messages (without g cs)
 many_without cs g tidy = counted_without (record { passes = λ t. not (is_object t); some = λ c cs. go (is_object c.object.thing) (count_messages cs) }) cs g tidy ∙ ap (λ n. n + count_messages (without g cs)) (messages_counted (held cs g))
   where
     go : (b : Bool) (n : ℕ) → cond b n (suc n) ≡ cond (not b) (suc n) n
-    go true n = refl
-    go false n = refl
+    go x n = grind arith
 
 -- ---- whether a message stands at a name
 
@@ -88,13 +83,13 @@ name_apart : (n m : ℕ) → n < message_name 0 → (n == message_name m) ≡ fa
 name_apart n m small = ne_eqb n (message_name m) (λ e. absurd (omega (arith, small, e)))
 
 is_message_without : (cs : List Cell) (g : Place) (o : Object) → Tidy cs → held cs g ≡ Some o → is_object o.thing ≡ true → named cs o.name ≡ Some o → (n : ℕ) → is_a_message (named (without g cs) n) ≡ is_a_message (named cs n)
-is_message_without cs g o tidy holds object lives n = go (o.name == n) refl
-  where
-    go : (b : Bool) → (o.name == n) ≡ b → is_a_message (named (without g cs) n) ≡ is_a_message (named cs n)
-    go true e =
-        let same = eqb-true o.name n e in
-        ap (λ k. is_a_message (named (without g cs) k)) (sym same) ∙ ap is_a_message (unnamed cs g o tidy holds) ∙ sym (ap (λ b. not b) object) ∙ sym (ap is_a_message lives) ∙ ap (λ k. is_a_message (named cs k)) same
-    go false e = ap is_a_message (named_without cs g o n tidy holds e)
+is_message_without cs g o tidy holds object lives n = grind (
+  arith,
+  nat_tests,
+  eqb-true o.name n,
+  unnamed cs g o tidy holds,
+  named_without cs g o n tidy holds,
+)
 
 -- ---- the store
 
@@ -116,8 +111,15 @@ module _ (p : Image) (store : Store) where
 
   -- a cell's word is written
   pub messages_written : (cs : List Cell) (n w : ℕ) (v : ℤ) → n < message_name 0 → SameMessages p store cs → SameMessages p store (set_word_field n w v cs)
-  messages_written cs n w v small h =
-      messages_as cs (set_word_field n w v cs) (λ k. ap is_a_message (named_set_word cs n w v k)) (λ m x. words_other cs n w v (message_name m) x (name_apart n m small)) (many_written cs n w v) h
+  messages_written cs n w v small h = grind (
+    arith,
+    nat_tests,
+    messages_as cs,
+    named_set_word cs n w v,
+    words_other cs n w v,
+    name_apart n,
+    many_written cs n w v,
+  )
 
   pub messages_asked : (cs : List Cell) (n : ℕ) (r : Option Request) → SameMessages p store cs → SameMessages p store (set_request n r cs)
   messages_asked cs n r h =
@@ -132,28 +134,23 @@ module _ (p : Image) (store : Store) where
   messages_served cs n v h = messages_as cs (set_service n v cs) (λ k. ap is_a_message (named_served cs n v k)) (λ m w. words_served cs n v (message_name m) w) (many_served cs n v) h
 
   pub messages_unslotted : (clients : List ℕ) (cs : List Cell) → SameMessages p store cs → SameMessages p store (each_unslotted clients cs)
-  messages_unslotted clients cs h =
-      messages_as cs (each_unslotted clients cs) (λ k. ap is_a_message ((each_unslotted_alike clients cs).named_so k)) (λ m w. each_words clients cs (message_name m) w) (each_many clients cs) h
+  messages_unslotted clients cs h = grind (arith, nat_tests, messages_as cs, each_unslotted_alike clients cs, each_words clients cs, each_many clients cs)
 
   -- a new cell is no message
   pub messages_made : (cs : List Cell) (n : ℕ) (thing : Thing) (words : List ℤ) (owner : Place) → named cs n ≡ None → n < message_name 0 → is_object thing ≡ true → SameMessages p store cs → SameMessages p store (with_new n thing words owner cs)
-  messages_made cs n thing words owner fresh small object h =
-      messages_as cs (with_new n thing words owner cs) names
-      (λ m w. ap (λ b. cond b (at (pos 0) words w) (word_field cs (message_name m) w)) (name_apart n m small)) (ap (λ b. cond b (count_messages cs) (suc (count_messages cs))) object) h
-    where
-      names : (k : ℕ) → is_a_message (named (with_new n thing words owner cs) k) ≡ is_a_message (named cs k)
-      names k = go (n == k) refl
-        where
-          go : (b : Bool) → (n == k) ≡ b → is_a_message (cond b (Some (record { name = n; thing = thing })) (named cs k)) ≡ is_a_message (named cs k)
-          go true e = ap (λ b. not b) object ∙ sym (ap is_a_message fresh) ∙ ap (λ i. is_a_message (named cs i)) (eqb-true n k e)
-          go false e = refl
+  messages_made cs n thing words owner fresh small object h = grind (arith, nat_tests, messages_as cs, name_apart n, eqb-true n)
 
   -- an object goes
   pub messages_without : (cs : List Cell) (g : Place) (o : Object) → Tidy cs → held cs g ≡ Some o → named cs o.name ≡ Some o → is_object o.thing ≡ true → o.name < message_name 0 → SameMessages p store cs → SameMessages p store (without g cs)
-  messages_without cs g o tidy holds lives object small h =
-      messages_as cs (without g cs) (is_message_without cs g o tidy holds object lives)
-      (λ m w. words_without cs g o (message_name m) w tidy holds (name_apart o.name m small))
-      (let all = many_without cs g tidy ∙ ap (λ x. messages_in x + count_messages (without g cs)) holds in let none = ap {B = ℕ} (λ b. cond b 0 1) object in omega (arith, all, none)) h
+  messages_without cs g o tidy holds lives object small h = grind (
+    arith,
+    nat_tests,
+    messages_as cs,
+    is_message_without cs g o tidy holds object lives,
+    words_without cs g o,
+    name_apart o.name,
+    many_without cs g tidy,
+  )
 
 -- ---- a message comes and goes
 
@@ -165,7 +162,7 @@ message_gone p old new cs g o m h tidy holds message name ch less = record {
   within = λ k high. none_past k high (m == k) refl;
   past = λ n small. ap is_a_message (still n (ap (λ i. i == n) name ∙ ne_eqb (message_name m) n (λ e. absurd (omega (arith, small, e))))) ∙ h.past n small;
   words = λ k w. words k w (m == k) refl;
-  count = (let all = many_without cs g tidy ∙ ap (λ x. messages_in x + count_messages (without g cs)) holds in let one = ap {B = ℕ} (λ b. cond b 0 1) message in let c = h.count in omega (arith, all, one, less, c));
+  count = grind (arith, nat_tests, many_without cs g tidy);
   limit = ch.limit ∙ h.limit;
 }
   where
@@ -179,7 +176,7 @@ message_gone p old new cs g o m h tidy holds message name ch less = record {
     still n e = named_without cs g o n tidy holds e
 
     apart : (k : ℕ) → (m == k) ≡ false → (o.name == message_name k) ≡ false
-    apart k e = ap (λ i. i == message_name k) name ∙ ne_eqb (message_name m) (message_name k) (λ same. false≢true (sym e ∙ eq-eqb m k (omega (arith, same))))
+    apart k e = grind (arith, nat_tests, ne_eqb, eq-eqb m k)
 
     other : (k : ℕ) → (m == k) ≡ false → message_at new k ≡ message_at old k
     other k e = ch.others k (λ same. false≢true (sym e ∙ eq-eqb m k (sym same)))
@@ -194,7 +191,7 @@ message_gone p old new cs g o m h tidy holds message name ch less = record {
 
     words : (k w : ℕ) (b : Bool) → (m == k) ≡ b → word_at new k w ≡ word_field (without g cs) (message_name k) w
     words k w true e = ap (λ x. word_of x w) (gone k e) ∙ sym (words_unnamed (without g cs) (message_name k) w (none k e))
-    words k w false e = ap (λ x. word_of x w) (other k e) ∙ h.words k w ∙ sym (words_without cs g o (message_name k) w tidy holds (apart k e))
+    words k w false e = grind (arith, nat_tests, other k e, words_without cs g o, apart k e)
 
 -- a message of these words comes
 pub message_made :
@@ -203,7 +200,7 @@ pub message_made :
 message_made p old new cs c m ws h is told low ch more = record {
   there = λ k. by k (m == k) refl;
   within = λ k high. other k (ne_eqb m k (λ same. absurd (omega (arith, same, high, low)))) ∙ h.within k high;
-  past = λ n small. ap (λ b. is_a_message (cond b (Some c.object) (named cs n))) (ap (λ i. i == n) its_name ∙ ne_eqb (message_name m) n (λ e. absurd (omega (arith, small, e)))) ∙ h.past n small;
+  past = grind (arith, nat_tests, ne_eqb);
   words = λ k w. words k w (m == k) refl;
   count = more ∙ (let c = h.count in omega (arith, c)) ∙ sym (ap (λ x. cond (is_object x.thing) (count_messages cs) (suc (count_messages cs))) is);
   limit = ch.limit ∙ h.limit;
@@ -216,7 +213,7 @@ message_made p old new cs c m ws h is told low ch more = record {
     here k e = ap (λ i. i == message_name k) its_name ∙ eq-eqb (message_name m) (message_name k) (ap message_name (eqb-true m k e))
 
     there : (k : ℕ) → (m == k) ≡ false → (c.object.name == message_name k) ≡ false
-    there k e = ap (λ i. i == message_name k) its_name ∙ ne_eqb (message_name m) (message_name k) (λ same. false≢true (sym e ∙ eq-eqb m k (omega (arith, same))))
+    there k e = grind (arith, nat_tests, its_name, ne_eqb, eq-eqb m k)
 
     kept_here : (k : ℕ) → (m == k) ≡ true → message_at new k ≡ Some ws
     kept_here k e = ap (message_at new) (sym (eqb-true m k e)) ∙ ch.here
@@ -225,9 +222,9 @@ message_made p old new cs c m ws h is told low ch more = record {
     other k e = ch.others k (λ same. false≢true (sym e ∙ eq-eqb m k (sym same)))
 
     by : (k : ℕ) (b : Bool) → (m == k) ≡ b → is_some (message_at new k) ≡ is_a_message (named (c ∷ cs) (message_name k))
-    by k true e = ap is_some (kept_here k e) ∙ sym (ap (λ b. is_a_message (cond b (Some c.object) (named cs (message_name k)))) (here k e) ∙ ap (λ x. not (is_object x.thing)) is)
-    by k false e = ap is_some (other k e) ∙ h.there k ∙ sym (ap (λ b. is_a_message (cond b (Some c.object) (named cs (message_name k)))) (there k e))
+    by k true e = grind (arith, nat_tests, kept_here k e, here k e)
+    by k false e = grind (arith, nat_tests, other k e, there k e)
 
     words : (k w : ℕ) (b : Bool) → (m == k) ≡ b → word_at new k w ≡ word_field (c ∷ cs) (message_name k) w
-    words k w true e = ap (λ x. word_of x w) (kept_here k e) ∙ told w ∙ sym (ap (λ b. cond b (at (pos 0) c.words w) (word_field cs (message_name k) w)) (here k e))
-    words k w false e = ap (λ x. word_of x w) (other k e) ∙ h.words k w ∙ sym (ap (λ b. cond b (at (pos 0) c.words w) (word_field cs (message_name k) w)) (there k e))
+    words k w true e = grind (arith, nat_tests, kept_here k e, here k e)
+    words k w false e = grind (arith, nat_tests, other k e, there k e)

@@ -1,5 +1,6 @@
 -- What a well-typed state whose clients are kept says of queues, of messages and of the clients of stages: by what each place may own, and by what fits.
-use Rattle.std.proofs.Common.{Bool, List, None, Option, Some, [], ap, arith, false, inl, inr, refl, slice_index_or, subst, sym, true, ℕ, ◌&&◌, ◌<◌, ◌==◌, ◌≤◌, ◌∙◌, ◌∷◌, ◌≡◌, ◌⊎◌}
+use Rattle.std.proofs.lemmas.Bool.Decides.{nat_tests}
+use Rattle.std.proofs.Common.{Bool, List, None, Option, Some, [], ap, arith, false, refl, slice_index_or, sym, true, ℕ, ◌&&◌, ◌<◌, ◌==◌, ◌∙◌, ◌∷◌, ◌≡◌}
 use Rattle.std.specs.List.{list_any}
 use Rattle.std.specs.Prelude.{IsSome, ◌||◌}
 use Rattle.std.proofs.lemmas.Bool.{cases_lt, eq-eqb, eqb-true, false≢true}
@@ -35,21 +36,26 @@ use Rattle.aom_parts.proofs.Departing.{is_at}
 use Rattle.aom_parts.proofs.Serving.{taken_sent}
 use Rattle.aom_parts.proofs.Vanishing.{asks_message}
 use Rattle.aom_parts.proofs.Withdrawing.{AllWait, owner_cell, owner_in, queue_owner}
-use Rattle.aom_parts.specs.Serving.{SameClients, holds, is_taken, message_name, owner_of, sent_by, sessionless, waits_in}
+use Rattle.aom_parts.specs.Serving.{SameClients, holds, message_name, owner_of, sent_by, waits_in}
 
 -- ---- cells by their owners
 
 pub owner_held : (cs : List Cell) → Tidy cs → (q : Owner) (o : Object) → held cs q ≡ Some o → owner_of cs o.name ≡ Some q
-owner_held cs tidy q o e =
-    let z = a_cell_of (cell_in cs q) o (sym (held_cell cs q) ∙ e) in
-    let lives = cell_lives cs q z.0 tidy z.1 in
-    owner_cell cs o.name ∙ ap owner_in (ap (λ (y : Object). cell_of cs y.name) (sym z.2) ∙ lives) ∙ ap (λ i. Some i) (cell_owner cs q z.0 z.1)
+owner_held cs tidy q o e = grind (
+  arith,
+  nat_tests,
+  a_cell_of (cell_in cs q) o,
+  cell_in cs q,
+  held_cell cs q,
+  cell_lives cs q,
+  owner_cell cs o.name,
+  owner_in,
+  cell_of cs,
+  cell_owner cs q,
+)
 
 pub held_owner : (cs : List Cell) → Tidy cs → (n : ℕ) (q : Owner) → owner_of cs n ≡ Some q → (x : Object) × (held cs q ≡ Some x) × (x.name ≡ n)
-held_owner cs tidy n q e = go (cell_of cs n) refl (sym (owner_cell cs n) ∙ e)
-  where
-    go : (x : Option Cell) → cell_of cs n ≡ x → owner_in x ≡ Some q → (x : Object) × (held cs q ≡ Some x) × (x.name ≡ n)
-    go x at e = grind (arith, held_cell, object_in, cell_placed, cell_name)
+held_owner cs tidy n q e = grind (arith, nat_tests, cell_of cs n, owner_cell cs n, owner_in, held_cell, object_in, cell_placed, cell_name)
 
 -- ---- what is asked for, and by whom
 
@@ -73,12 +79,7 @@ opens : (clients : List Client) (n c m : ℕ) (q : List Asked) → QueueFits cli
 opens clients n c m [] fits h = cc
 opens clients n c m (Connect_of d ∷ q) fits h = opens clients n c m q fits.1 h
 opens clients n c m (Close_of d ∷ q) fits h = opens clients n c m q fits.1 h
-opens clients n c m (Message_of d k ∷ q) fits h = go (d == c) (k == m) refl h (opens clients n c m q fits.1)
-  where
-    go : (a b : Bool) → (d == c) ≡ a → ((a && b) || list_any (is_message_of c m) q) ≡ true → (list_any (is_message_of c m) q ≡ true → is_open_at n (client_at clients c) ≡ true) → is_open_at n (client_at clients c) ≡ true
-    go true true e h rest = ap (λ i. is_open_at n (client_at clients i)) (sym (eqb-true d c e)) ∙ fits.0.0
-    go true false e h rest = rest h
-    go false b e h rest = rest h
+opens clients n c m (Message_of d k ∷ q) fits h = grind (arith, nat_tests, opens clients n c m q fits.1, eqb-true d c)
 
 -- all messages of a queue wait where each does
 waits_each : (places : List Place) (es : List Entry) → ((j : ℕ) → list_any (is_at j) es ≡ true → is_queued (slice_index_or places j Free) ≡ true) → AllWait places es
@@ -88,40 +89,25 @@ waits_each places (Close c ∷ es) h = waits_each places es h
 waits_each places (Message k ∷ es) h = (h k (ap (λ b. b || list_any (is_at k) es) (eq-eqb k k refl)), waits_each places es (λ j e. h j (later (k == j) (list_any (is_at j) es) e)))
   where
     later : (a b : Bool) → b ≡ true → (a || b) ≡ true
-    later true b h = refl
-    later false b h = h
+    later x b y = grind arith
 
 -- ---- clients of stages
 
 module _ (p : Image) (clients : List Client) (cs : List Cell) (fit : ClientsFit p clients cs) (k c : ℕ) where
   -- what is asked at one server alone, and there no more, is asked nowhere
   asks_nowhere : (asks : Asked → Bool) → ((n : ℕ) → (k == n) ≡ false → (e : Asked) → asks e ≡ true → EntryFits clients n e → ⊥) → list_any asks (service_of cs k).queue ≡ false → (n : ℕ) → list_any asks (service_of cs n).queue ≡ false
-  asks_nowhere asks never none n = go (k == n) refl
-    where
-      go : (b : Bool) → (k == n) ≡ b → list_any asks (service_of cs n).queue ≡ false
-      go true e = ap (λ i. list_any asks (service_of cs i).queue) (sym (eqb-true k n e)) ∙ none
-      go false e = none_passes asks clients n (never n e) (service_of cs n).queue (fit.queues n)
+  asks_nowhere asks never none n = grind (arith, nat_tests, eqb-true k n, none_passes asks clients n)
 
   -- so with a client that connects to it, and with one that closes
   pub connects_nowhere : is_connecting_at k (client_at clients c) ≡ true → list_any (is_connect_of c) (service_of cs k).queue ≡ false → (n : ℕ) → list_any (is_connect_of c) (service_of cs n).queue ≡ false
-  connects_nowhere at = asks_nowhere (is_connect_of c) never
-    where
-      never : (n : ℕ) → (k == n) ≡ false → (e : Asked) → is_connect_of c e ≡ true → EntryFits clients n e → ⊥
-      never n other x same fits = grind arith
+  connects_nowhere at = grind (arith, nat_tests, asks_nowhere)
 
   pub closes_nowhere : is_leaving k (client_at clients c) ≡ true → list_any (is_close_of c) (service_of cs k).queue ≡ false → (n : ℕ) → list_any (is_close_of c) (service_of cs n).queue ≡ false
-  closes_nowhere at = asks_nowhere (is_close_of c) never
-    where
-      never : (n : ℕ) → (k == n) ≡ false → (e : Asked) → is_close_of c e ≡ true → EntryFits clients n e → ⊥
-      never n other x same fits = grind arith
+  closes_nowhere at = grind (arith, nat_tests, asks_nowhere)
 
   -- whose session is with that server alone
   pub session_alone : is_leaving k (client_at clients c) ≡ true → (n : ℕ) → (k == n) ≡ false → is_among c (service_of cs n).sessions ≡ false
-  session_alone at n other = go (is_among c (service_of cs n).sessions) refl
-    where
-      go : (b : Bool) → is_among c (service_of cs n).sessions ≡ b → b ≡ false
-      go false e = refl
-      go true e = let same : Some k ≡ Some n = sym (leaving_only k n (client_at clients c) at).2 ∙ fit.sessions n c e in absurd (false≢true (sym other ∙ eq-eqb k n cc))
+  session_alone at n other = grind (arith, nat_tests, leaving_only k n, eq-eqb k n)
 
 -- ---- messages
 
@@ -189,15 +175,7 @@ module _ (p : Image) (t : Typing) (wired : IsWired p) (s : State) (w : WellTyped
 
     -- and no other message is there
     pub waits_apart : (n m j : ℕ) → (m == j) ≡ false → (q : Owner) → owner_of s.cells (message_name j) ≡ Some q → same_place q (Elsewhere (Waits_at n (message_name m))) ≡ false
-    waits_apart n m j other q e = go (same_place q (Elsewhere (Waits_at n (message_name m)))) refl
-      where
-        go : (b : Bool) → same_place q (Elsewhere (Waits_at n (message_name m))) ≡ b → b ≡ false
-        go false f = refl
-        go true f =
-            let x = held_owner s.cells w.good.tidy (message_name j) q e in
-            let name = fit.names n (message_name m) x.0 (ap (held s.cells) (sym (same_place-true q (Elsewhere (Waits_at n (message_name m))) f)) ∙ x.1) in
-            let same : message_name m ≡ message_name j = sym name ∙ x.2 in
-            absurd (false≢true (sym other ∙ eq-eqb m j (omega (arith, same))))
+    waits_apart n m j other q e = grind (arith, nat_tests, held_owner s.cells w.good.tidy, same_place-true q, eq-eqb m j)
 
     -- what waits is asked of the server with which its client has a session
     pub goes_there : (n j d : ℕ) → kept.place_at k j ≡ Queued d → is_among d (service_of s.cells n).sessions ≡ true → has_message (service_of s.cells n) (message_name j) ≡ true
@@ -230,19 +208,18 @@ module _ (p : Image) (t : Typing) (wired : IsWired p) (s : State) (w : WellTyped
 
     -- a message that has a sender and is owned elsewhere was taken, and is completed once
     pub completes_at : (g : Owner) (o : Object) (m : ℕ) → held s.cells g ≡ Some o → is_queue g ≡ false → has_sender s.cells o.name ≡ true → o.name ≡ message_name m → IsSome (completion (kept.place_at k m))
-    completes_at g o m there apart sent name = go (kept.place_at k m) refl (taken_sent k s.cells clients same m ∙ ap (has_sender s.cells) (sym name) ∙ sent) (same.waits m ∙ ap waits_in (ap (owner_of s.cells) (sym name) ∙ owner_held s.cells w.good.tidy g o there) ∙ apart)
-      where
-        go : (x : Place) → kept.place_at k m ≡ x → is_taken x ≡ true → is_queued x ≡ false → IsSome (completion x)
-        go x at taken waits = grind arith
+    completes_at g o m there apart sent name = grind (
+      arith,
+      nat_tests,
+      taken_sent k s.cells clients same m,
+      has_sender s.cells,
+      owner_held s.cells w.good.tidy g o there,
+    )
 
 -- a client that is at something is one of those that there are
 module _ (cs : List Cell) (clients : List Client) (k : kept.State) (same : SameClients k cs clients) (c : ℕ) where
   busy_below : (client_at clients c ≡ Unconnected → ⊥) → c < 64
-  busy_below busy = go (cases_lt c 64)
-    where
-      go : (c < 64) ⊎ (64 ≤ c) → c < 64
-      go (inl small) = small
-      go (inr large) = absurd (busy (sym (same.at c) ∙ ap sessionless (get_or_past k.clients c Unconnected (subst (λ n. n ≤ c) (sym same.many) large))))
+  busy_below busy = grind (arith, nat_tests, cases_lt c 64, get_or_past k.clients c Unconnected)
 
   pub connecting_below : (n : ℕ) → is_connecting_at n (client_at clients c) ≡ true → c < 64
   connecting_below n at = busy_below (λ e. false≢true (ap (is_connecting_at n) (sym e) ∙ at))

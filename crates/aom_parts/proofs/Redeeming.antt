@@ -1,8 +1,9 @@
 -- A token is replied to: the request that waits for it is completed, or none where it is void, and all that the machine keeps goes on standing for the cells: by the one object that may wait for it.
-use Rattle.std.proofs.Common.{Bool, List, None, Option, Some, [], ap, arith, cond, false, length, not, pos, refl, subst, suc, sym, true, ℕ, ℤ, ◌+◌, ◌==◌, ◌≤◌, ◌∙◌, ◌∷◌, ◌≡◌}
+use Rattle.std.proofs.lemmas.Bool.Decides.{nat_tests}
+use Rattle.std.proofs.Common.{Bool, List, None, Option, Some, [], ap, arith, cond, false, length, pos, refl, subst, suc, sym, true, ℕ, ℤ, ◌+◌, ◌==◌, ◌≤◌, ◌∙◌, ◌∷◌, ◌≡◌}
 use Rattle.std.specs.Prelude.{is_some, option_map}
 use Rattle.std.proofs.lemmas.Bool.{eq-eqb, eqb-true, false≢true, ne_eqb}
-use Rattle.std.proofs.lemmas.Option.{none-some, same_Some}
+use Rattle.std.proofs.lemmas.Option.{same_Some}
 use Rattle.aom_active.proofs.Asking.{queued_same}
 use Rattle.aom_active.proofs.Telling.{standing_follows}
 use Rattle.aom_active.specs.Agrees.{Active, queued}
@@ -24,9 +25,9 @@ use Rattle.aom_sound.proofs.Redeeming.{redeemed_alike, requested_redeemed}
 use Rattle.aom_sound.proofs.Services.{service_unnamed, service_without}
 use Rattle.aom_sound.proofs.Things.{message_plain}
 use Rattle.aom_sound.specs.Clients.{count_messages}
-use Rattle.aom_sound.specs.Enlisted.{completed_with, on_request, recorded}
+use Rattle.aom_sound.specs.Enlisted.{on_request}
 use Rattle.aom_sound.specs.Kept.{IsKept}
-use Rattle.aom_sound.specs.Places.{Asked, Cell, Object, Place, Request, Sender, Service, Token, count_cells, held, in_session, named, requested, same_place, service_of, unserved, without, word_field}
+use Rattle.aom_sound.specs.Places.{Cell, Object, Place, Request, Service, Token, count_cells, held, in_session, named, requested, service_of, unserved, without, word_field}
 use Rattle.aom_sound.specs.Servers.{holds_slot, is_queue, slots_taken}
 use Rattle.aom_sound.specs.State.{State}
 use Rattle.aom_sound.specs.Tokens.{TokensApart, all_redeemed, awaited, order_in, redeemed, redeemed_request, redeemed_with}
@@ -41,7 +42,7 @@ use Rattle.aom_parts.proofs.Completing.{owner_unnamed, owner_without, slots_with
 use Rattle.aom_parts.proofs.Listing.{listed_alike}
 use Rattle.aom_parts.proofs.Messages.{message_gone, messages_as}
 use Rattle.aom_parts.proofs.Premises.{owner_held}
-use Rattle.aom_parts.proofs.Replying.{beside_completed, cells_completed, left, message_unasked, natives_completed, requests_completed, told_no_sender}
+use Rattle.aom_parts.proofs.Replying.{beside_completed, cells_completed, message_unasked, natives_completed, requests_completed, told_no_sender}
 use Rattle.aom_parts.proofs.Serving.{names_apart}
 use Rattle.aom_parts.proofs.Sessions.{natives_as}
 use Rattle.aom_parts.proofs.Still.{Still, same_still, same_untold, still_each, untold}
@@ -62,11 +63,7 @@ module _ (k : ℕ) (code : ℤ) where
   -- a cell goes before or after
   pub redeemed_without : (g : Place) (cs : List Cell) → without g (after cs) ≡ after (without g cs)
   redeemed_without g [] = refl
-  redeemed_without g (c ∷ cs) = go (same_place c.owner g) (redeemed_without g cs)
-    where
-      go : (b : Bool) → without g (after cs) ≡ after (without g cs) → cond b (without g (after cs)) (redeemed k code c ∷ without g (after cs)) ≡ after (cond b (without g cs) (c ∷ without g cs))
-      go true e = e
-      go false e = ap (λ l. redeemed k code c ∷ l) e
+  redeemed_without g (c ∷ cs) = grind (arith, nat_tests, redeemed_without g cs)
 
   words_redeemed : (cs : List Cell) (n w : ℕ) → word_field (after cs) n w ≡ word_field cs n w
   words_redeemed [] n w = refl
@@ -121,7 +118,7 @@ module _ (k : ℕ) (code : ℤ) where
       where
         turned : (x : ℕ) (b : Bool) → (n == x) ≡ b → cond b (Some (redeemed_with code r)) (requested cs x) ≡ cond (x == n) (Some (redeemed_with code r)) (requested cs x)
         turned x true e = sym (ap (λ c. cond c (Some (redeemed_with code r)) (requested cs x)) (eq-eqb x n (sym (eqb-true n x e))))
-        turned x false e = sym (ap (λ c. cond c (Some (redeemed_with code r)) (requested cs x)) (ne_eqb x n (λ is. false≢true (sym e ∙ eq-eqb n x (sym is)))))
+        turned x false e = grind (arith, nat_tests, ne_eqb x n, eq-eqb n x)
 
         asks : (x : ℕ) → asked_anew n (Some (redeemed_with code r)) (requested cs) x ≡ requested (after cs) x
         asks x = turned x (n == x) refl ∙ sym (requested_redeemed k code cs x ∙ one x)
@@ -153,22 +150,11 @@ module _ (p : Image) (w : Kept) (cs : List Cell) (same : SameTokens p w cs) (pla
 
   -- the object that it completes is the one whose token it is
   answers : (n : ℕ) → kept.redeemed w place ≡ Some n → (object_at w place ≡ Some n) × (live_at w n ≡ Some place)
-  answers n e = go its_object.0 its_object.1 (live_at w its_object.0) refl (sym (ap (kept.waiting w place) its_object.1) ∙ e)
-    where
-      found : (i : ℕ) (l : Option ℕ) → is_at place l ≡ true → l ≡ Some place
-      found i None e = absurd (false≢true e)
-      found i (Some m) e = ap (λ x. Some x) (eqb-true m place e)
-
-      by : (i : ℕ) → object_at w place ≡ Some i → (b : Bool) → is_at place (live_at w i) ≡ b → cond b (Some i) None ≡ Some n → (object_at w place ≡ Some n) × (live_at w n ≡ Some place)
-      by i object true at e = let one = same_Some i n e in (object ∙ e, ap (live_at w) (sym one) ∙ found i (live_at w i) at)
-      by i object false at e = absurd (none-some n e)
-
-      go : (i : ℕ) → object_at w place ≡ Some i → (l : Option ℕ) → live_at w i ≡ l → kept.waiting w place (Some i) ≡ Some n → (object_at w place ≡ Some n) × (live_at w n ≡ Some place)
-      go i object l lives e = by i object (is_at place (live_at w i)) refl e
+  answers n e = grind (arith, nat_tests, eqb-true, same_Some)
 
   -- and where it completes none, that object waits for no token here
   silent : kept.redeemed w place ≡ None → live_at w its_object.0 ≡ Some place → ⊥
-  silent e lives = none-some its_object.0 (sym e ∙ ap (kept.waiting w place) its_object.1 ∙ ap (λ b. cond b (Some its_object.0) None) (ap (is_at place) lives ∙ eq-eqb place place refl))
+  silent e lives = grind (arith, nat_tests, eq-eqb place place)
 
   module _ (apart : TokensApart cs) (k : ℕ) (told : told_at cs place ≡ Some k) where
     pub waits_here : (n : ℕ) → kept.redeemed w place ≡ Some n → awaited (requested cs n) ≡ Some k
@@ -219,8 +205,7 @@ module _
   asked_first n = (beside_completed p t s w g o there message place name).requests n
 
   request_there : (r : Option Request) → awaited r ≡ Some order → (q : Request) × (r ≡ Some q)
-  request_there None e = absurd (none-some order e)
-  request_there (Some q) e = (q, refl)
+  request_there x e = grind arith
 
   pub requests_answered : (a b : Active) → Redeems (kept.redeemed tokens place) code a b → SameRequests p a s.cells → SameRequests p b redeemed_left
   requests_answered a b answers requests =
@@ -241,18 +226,10 @@ module _
 
   -- clients have nothing of it
   unsent : (service_of s.cells o.name).sender ≡ None
-  unsent = told_no_sender p t s w g o there message kept_so.fit.sources (some_token (service_of s.cells o.name).token its_token)
-    where
-      some_token : (x : Option Token) → order_in x ≡ Some order → is_some x ≡ true
-      some_token None e = absurd (none-some order e)
-      some_token (Some x) e = refl
+  unsent = grind (arith, nat_tests, told_no_sender p t s w g o there message kept_so.fit.sources, its_token)
 
   nothing_else : untold (service_of s.cells o.name) ≡ unserved
-  nothing_else =
-      let plain = kept_so.fit.servers o (held_lives s.cells g o w.good.tidy there) (message_plain p o.thing message) in
-      ap (λ q. untold (record (service_of s.cells o.name) { queue = q })) plain.0
-      ∙ ap (λ ns. untold (record (service_of s.cells o.name) { queue = []; sessions = ns })) plain.1
-      ∙ ap (λ (x : Option Sender). untold (record (service_of s.cells o.name) { queue = []; sessions = []; sender = x })) unsent
+  nothing_else = grind (arith, nat_tests, held_lives s.cells g o w.good.tidy there, message_plain p o.thing message, untold, unsent)
 
   clients_first : (k : Kept_state) (clients : List Client) → SameClients k s.cells clients → SameClients k first clients
   clients_first k clients h = same_untold k s.cells first clients (λ n. services n (o.name == n) refl) (λ m. owners m (place == m) refl) slots h

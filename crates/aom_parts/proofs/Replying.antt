@@ -1,5 +1,6 @@
 -- A message that was taken is completed: it is kept, it waits in no queue, and all that the machine keeps goes on standing for the cells without it.
-use Rattle.std.proofs.Common.{Bool, List, None, Option, Some, ap, arith, cond, false, inl, inr, not, refl, subst, sym, true, ℕ, ◌+◌, ◌<◌, ◌==◌, ◌≤◌, ◌∙◌, ◌≡◌, ◌⊎◌}
+use Rattle.std.proofs.lemmas.Bool.Decides.{nat_tests}
+use Rattle.std.proofs.Common.{Bool, List, None, Some, ap, arith, cond, false, inl, inr, not, refl, subst, sym, true, ℕ, ◌+◌, ◌<◌, ◌==◌, ◌≤◌, ◌∙◌, ◌≡◌, ◌⊎◌}
 use Rattle.std.specs.Prelude.{IsSome, is_some, ◌-◌}
 use Rattle.std.proofs.lemmas.Bool.{cases_lt, eqb-true, false≢true}
 use Rattle.aom_active.specs.Agrees.{Active}
@@ -100,11 +101,15 @@ module _ (p : Image) (t : Typing) (s : State) (w : WellTyped p t s) (g : Place) 
     natives_completed a few same = natives_beside p a s.killed s.cells left few beside_completed same
 
     pub requests_completed : (a : Active) → SameRequests p a s.cells → SameRequests p a left
-    requests_completed a same = requests_beside p a s.cells left beside_completed (λ n asked. queues n asked (o.name == n) refl) same
-      where
-        queues : (n : ℕ) → is_some (requested s.cells n) ≡ true → (b : Bool) → (o.name == n) ≡ b → (service_of left n).queue ≡ (service_of s.cells n).queue
-        queues n asked true e = absurd (false≢true (ap is_some (sym message_unasked ∙ ap (requested s.cells) (eqb-true o.name n e)) ∙ asked))
-        queues n asked false e = ap (λ (v : Service). v.queue) (service_without s.cells g o n w.good.tidy there e)
+    requests_completed a same = grind (
+      arith,
+      nat_tests,
+      requests_beside p a s.cells,
+      beside_completed,
+      message_unasked,
+      eqb-true o.name,
+      service_without s.cells g o,
+    )
 
     -- it is kept, at a place that there is
     module _ (store : Store) (same : SameMessages p store s.cells) where
@@ -112,11 +117,7 @@ module _ (p : Image) (t : Typing) (s : State) (w : WellTyped p t s) (g : Place) 
       message_kept = same.there place ∙ ap is_a_message (ap (named s.cells) (sym name) ∙ lives) ∙ ap not no_object
 
       pub place_below : place < 1024
-      place_below = go (cases_lt place 1024)
-        where
-          go : (place < 1024) ⊎ (1024 ≤ place) → place < 1024
-          go (inl small) = small
-          go (inr large) = absurd (false≢true (ap is_some (sym (same.within place large)) ∙ message_kept))
+      place_below = grind (arith, nat_tests, cases_lt place 1024, message_kept)
 
     -- where it waits in no queue and has a sender its completion is told
     module _ (wired : IsWired p) (kept_so : IsKept p s) (apart : is_queue g ≡ false) (k : kept.State) (same : SameClients k s.cells s.clients) where

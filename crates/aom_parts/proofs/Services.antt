@@ -1,28 +1,27 @@
 -- What the machine keeps of clients and servers stands for cells that change: by what each change leaves of clients, of messages and of who is enlisted.
-use Rattle.std.proofs.Common.{Bool, List, None, Option, Some, [], ap, cond, false, refl, suc, sym, true, ℕ, ℤ, ◌<◌, ◌==◌, ◌∙◌, ◌∷◌, ◌≡◌}
-use Rattle.std.specs.Prelude.{is_some, option_map}
+use Rattle.std.proofs.lemmas.Bool.Decides.{nat_tests}
+use Rattle.std.proofs.Common.{arith, Bool, List, None, Option, Some, [], ap, cond, false, refl, suc, sym, true, ℕ, ℤ, ◌<◌, ◌==◌, ◌∙◌, ◌∷◌, ◌≡◌}
+use Rattle.std.specs.Prelude.{option_map}
 use Rattle.std.proofs.lemmas.Bool.{eqb-true}
 use Rattle.aom_active.proofs.Asking.{asked_new, asked_set, asked_written}
 use Rattle.aom_clients.specs.Clients.{State as Kept_state}
 use Rattle.aom_clients.specs.declared.client.Client.{Client}
 use Rattle.aom_image.specs.Image.{Image}
-use Rattle.aom_image.specs.Views.{method_role}
 use Rattle.aom_image.specs.declared.method.Argument.{Argument}
 use Rattle.aom_image.specs.declared.method.Argument.TheVariants.{Own as Takes_own, Word as Takes_word}
 use Rattle.aom_image.specs.declared.method.Thing.TheVariants.{Object as An_object_of}
 use Rattle.aom_messages.specs.Store.{Store}
 use Rattle.aom_queues.specs.Lists.{Table}
-use Rattle.aom_rules.specs.Requests.{is_cancel}
 use Rattle.aom_sound.proofs.Maps.{named_moved, requested_moved}
 use Rattle.aom_sound.proofs.Storing.{named_set_word, rerequested_alike, resessioned_alike, resessioned_requests}
 use Rattle.aom_sound.specs.Calls.{passed_cells}
-use Rattle.aom_sound.specs.Enlisted.{cancelled, ended_cells, on_request, own_request, rerequested}
+use Rattle.aom_sound.specs.Enlisted.{ended_cells, own_request, rerequested}
 use Rattle.aom_sound.specs.Natives.{resessioned}
 use Rattle.aom_sound.specs.Places.{Cell, Object, Place, Register, Request, Service, moved, named, requested, set_request, set_word_field, with_new}
 use Rattle.aom_sound.specs.Servers.{is_queue}
 use Rattle.aom_sound.specs.State.{AtRoot, Frame, Home, Inside, State, Static, Task}
 use Rattle.aom_sound.specs.Tokens.{awaited}
-use Rattle.aom_sound.specs.Words.{here, stored}
+use Rattle.aom_sound.specs.Words.{stored}
 use Rattle.aom_tokens.specs.Tokens.{Kept}
 use Rattle.aom_parts.proofs.Listing.{listed_alike, listed_same}
 use Rattle.aom_parts.proofs.Messages.{messages_asked, messages_made, messages_moved, messages_opened, messages_written}
@@ -41,11 +40,7 @@ Serves p s store tokens table at cs = SameServices p s store tokens table cs at
 -- what is read of requests, where another has the same of it
 read_asked :
     {A : Type 0} (read : Option Request → A) (cs : List Cell) (o : Object) (r : Option Request) → named cs o.name ≡ Some o → read r ≡ read (requested cs o.name) → (n : ℕ) → read (requested (set_request o.name r cs) n) ≡ read (requested cs n)
-read_asked read cs o r lives same n = ap read (sym (asked_set cs o.name r (ap is_some lives) n)) ∙ go (o.name == n) refl
-  where
-    go : (b : Bool) → (o.name == n) ≡ b → read (cond b r (requested cs n)) ≡ read (requested cs n)
-    go true e = same ∙ ap (λ k. read (requested cs k)) (eqb-true o.name n e)
-    go false e = refl
+read_asked read cs o r lives same n = grind (arith, nat_tests, asked_set cs o.name r, eqb-true o.name n)
 
 module _ (p : Image) {s : Kept_state} {store : Store} {tokens : Kept} {table : Table} {at : List Client} where
   -- clients have the same, messages are the same, the same are listed, and tokens go on
@@ -64,8 +59,12 @@ module _ (p : Image) {s : Kept_state} {store : Store} {tokens : Kept} {table : T
   pub services_still :
       (cs ds : List Cell) → Still cs ds → (SameMessages p store cs → SameMessages p store ds) → (SameListed p table cs → SameListed p table ds) → ((n : ℕ) → awaited (requested ds n) ≡ awaited (requested cs n)) →
       Serves p s store tokens table at cs → Serves p s store tokens table at ds
-  services_still cs ds still messages listed asks same =
-      services_with cs ds still messages listed tokens (tokens_still p tokens cs ds asks (λ m. ap (λ (v : Service). v.token) (still.services (message_name m))) same.tokens) same
+  services_still cs ds still messages listed asks same = grind (
+    arith,
+    nat_tests,
+    services_with cs ds still messages listed tokens,
+    tokens_still p tokens cs ds asks,
+  )
 
   -- from no queue to no queue
   pub services_moved : (cs : List Cell) (q r : Place) → is_queue q ≡ false → is_queue r ≡ false → Serves p s store tokens table at cs → Serves p s store tokens table at (moved q r cs)
@@ -80,9 +79,7 @@ module _ (p : Image) {s : Kept_state} {store : Store} {tokens : Kept} {table : T
       (listed_alike p table cs (set_word_field n w v cs) (named_set_word cs n w v) (λ m. ap (option_map (λ x. x.order)) (asked_written cs n w v m))) (λ m. ap awaited (asked_written cs n w v m))
 
   pub services_stored : (cs : List Cell) (home : Home) (w : ℕ) (v : ℤ) → ((o : Object) (from : Place) → home ≡ Inside o from → o.name < 4096) → Serves p s store tokens table at cs → Serves p s store tokens table at (stored cs home w v)
-  services_stored cs Static w v small same = same
-  services_stored cs AtRoot w v small same = same
-  services_stored cs (Inside o from) w v small same = services_written cs o.name w v (small o from refl) same
+  services_stored cs x w v small same = grind (arith, nat_tests, services_written cs)
 
   -- a request, where it is there before and after, in the same order, and tokens go on
   pub services_asked_with :
@@ -152,23 +149,10 @@ module _ (p : Image) {s : Kept_state} {store : Store} {tokens : Kept} {table : T
   module _ (fr : Frame) where
     -- a cancel that may be over
     pub services_ended : (cs : List Cell) → ((o : Object) (from : Place) → fr.home ≡ Inside o from → named cs o.name ≡ Some o) → Serves p s store tokens table at cs → Serves p s store tokens table at (ended_cells p fr cs)
-    services_ended cs lives same = go (is_cancel (method_role p fr.method))
-      where
-        order : (r : Option Request) → option_map (λ x. x.order) (on_request cancelled r) ≡ option_map (λ x. x.order) r
-        order None = refl
-        order (Some r) = refl
-
-        token : (r : Option Request) → awaited (on_request cancelled r) ≡ awaited r
-        token None = refl
-        token (Some r) = refl
-
-        go : (b : Bool) → Serves p s store tokens table at (cond b (rerequested cs fr.home (on_request cancelled (own_request cs fr.home))) cs)
-        go true = services_rerequested cs fr.home (on_request cancelled (own_request cs fr.home)) lives (order (own_request cs fr.home)) (token (own_request cs fr.home)) same
-        go false = same
+    services_ended cs lives same = grind (arith, nat_tests, services_rerequested cs fr.home)
 
     -- arguments that are passed
     pub services_passed : (ts : List Task) (t : State) (depth : ℕ) (xs : List Argument) (first to : ℕ) (cs : List Cell) → Serves p s store tokens table at cs → Serves p s store tokens table at (passed_cells p fr ts t depth xs first to cs)
     services_passed ts t depth [] first to cs same = same
     services_passed ts t depth (Takes_word ∷ xs) first to cs same = services_passed ts t depth xs (suc first) (suc to) cs same
-    services_passed ts t depth (Takes_own x ∷ xs) first to cs same =
-        services_passed ts t depth xs (suc first) (suc to) (moved (here fr ts t first) (Register depth to) cs) (services_moved cs (here fr ts t first) (Register depth to) refl refl same)
+    services_passed ts t depth (Takes_own x ∷ xs) first to cs same = grind (arith, nat_tests, services_passed ts t depth xs, services_moved cs)

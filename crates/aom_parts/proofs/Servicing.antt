@@ -1,16 +1,17 @@
 -- What stands for clients goes on through each part of a service, and through the going of a cell: with the premises that a well-typed state whose clients are kept gives.
+use Rattle.std.proofs.lemmas.Bool.Decides.{nat_tests}
 use Rattle.std.proofs.Common.{Bool, List, None, Some, [], ap, arith, cond, false, length, refl, subst, sym, true, ℕ, ◌<◌, ◌==◌, ◌∙◌, ◌∷◌, ◌≡◌, slice_set}
 use Rattle.std.specs.List.{list_any}
 use Rattle.std.specs.Prelude.{◌||◌}
-use Rattle.std.proofs.lemmas.Bool.{eq-eqb, eqb-true, false≢true}
+use Rattle.std.proofs.lemmas.Bool.{eq-eqb, eqb-true}
 use Rattle.std.proofs.lemmas.List.{get_or_past, length-set}
 use Rattle.aom_clients.specs.Clients as kept
-use Rattle.aom_clients.specs.Nodes.{is_connecting_at, is_leaving}
+use Rattle.aom_clients.specs.Nodes.{is_connecting_at}
 use Rattle.aom_clients.specs.Table.{is_queued, released}
 use Rattle.aom_clients.specs.declared.client.Client.{Client}
-use Rattle.aom_clients.specs.declared.client.Client.TheVariants.{Closing, Connecting, Dead, Dying, Gone, Open, Unconnected}
+use Rattle.aom_clients.specs.declared.client.Client.TheVariants.{Connecting, Dead, Unconnected}
 use Rattle.aom_clients.specs.declared.entry.Entry.{Entry}
-use Rattle.aom_clients.specs.declared.entry.Entry.TheVariants.{Close, Connect, Message}
+use Rattle.aom_clients.specs.declared.entry.Entry.TheVariants.{Message}
 use Rattle.aom_clients.specs.declared.place.Place.{Place}
 use Rattle.aom_clients.specs.declared.place.Place.TheVariants.{Queued}
 use Rattle.aom_image.specs.Image.{Image}
@@ -37,10 +38,7 @@ use Rattle.aom_parts.specs.Serving.{AreSized, SameClients, message_name, session
 -- ---- clients on both sides
 
 pub connecting_here : (k : kept.State) (cs : List Cell) (clients : List Client) → SameClients k cs clients → (n c : ℕ) → is_connecting_at n (client_at clients c) ≡ true → (slots : ℕ) × (kept.client_at k c ≡ Connecting n slots)
-connecting_here k cs clients same n c at = go (kept.client_at k c) refl (ap (is_connecting_at n) (same.at c) ∙ at)
-  where
-    go : (x : Client) → kept.client_at k c ≡ x → is_connecting_at n (sessionless x) ≡ true → (slots : ℕ) × (kept.client_at k c ≡ Connecting n slots)
-    go x e h = grind arith
+connecting_here k cs clients same n c at = grind (arith, nat_tests)
 
 released_sessionless : (x : Client) → sessionless (released x) ≡ sessionless x
 released_sessionless x = grind arith
@@ -87,11 +85,15 @@ module _ (p : Image) (t : Typing) (wired : IsWired p) (s : State) (w : WellTyped
 
     -- or left
     pub same_unaccepted : SameClients (kept.after_connected c None k) s.cells (with_client c Unconnected s.clients)
-    same_unaccepted =
-        let at = connecting_here k s.cells s.clients same x.object.name c kept_so.0 in
-        let none = connects_nowhere p s.clients s.cells fit x.object.name c kept_so.0 kept_so.1 in
-        subst (λ y. SameClients (kept.opened y None c k) s.cells (with_client c Unconnected s.clients)) (sym at.1)
-        (same_unopened k s.cells s.clients same w.good.tidy x.object lives c (connecting_below s.cells s.clients k same c x.object.name kept_so.0) at.0 0 at.1 none session_room)
+    same_unaccepted = grind (
+      arith,
+      nat_tests,
+      connecting_here k s.cells s.clients same x.object.name c kept_so.0,
+      connects_nowhere p s.clients s.cells fit x.object.name c kept_so.0 kept_so.1,
+      same_unopened k s.cells s.clients same w.good.tidy x.object lives c (connecting_below s.cells s.clients k same c x.object.name kept_so.0),
+      connecting_below s.cells s.clients k same c x.object.name kept_so.0,
+      session_room,
+    )
 
   -- a close is served
   module _ (x : Seat) (c : ℕ) (lives : named s.cells x.object.name ≡ Some x.object) (kept_so : StageKept p s.clients s.cells x.object c Parts) where
@@ -101,21 +103,7 @@ module _ (p : Image) (t : Typing) (wired : IsWired p) (s : State) (w : WellTyped
         (closes_nowhere p s.clients s.cells fit x.object.name c kept_so.0 kept_so.1) (session_alone p s.clients s.cells fit x.object.name c kept_so.0)
 
     pub same_closed : SameClients (kept.after_closed c k) (reserved (parted c) x.object.name s.cells) (with_client c (at_parting (client_at s.clients c)) s.clients)
-    same_closed = go (kept.client_at k c) refl (same.at c) (ap (is_leaving x.object.name) (same.at c) ∙ kept_so.0)
-      where
-        go : (y : Client) → kept.client_at k c ≡ y → sessionless (kept.client_at k c) ≡ client_at s.clients c → is_leaving x.object.name (sessionless (kept.client_at k c)) ≡ true →
-            SameClients (kept.ended (kept.client_at k c) c k) (reserved (parted c) x.object.name s.cells) (with_client c (at_parting (client_at s.clients c)) s.clients)
-        go (Closing n session) e told leaves =
-            subst (λ y. SameClients (kept.ended (kept.client_at k c) c k) (reserved (parted c) x.object.name s.cells) (with_client c (at_parting y) s.clients)) told
-            (subst (λ y. SameClients (kept.ended y c k) (reserved (parted c) x.object.name s.cells) (with_client c (at_parting (sessionless y)) s.clients)) (sym e) (parting_as Unconnected refl))
-        go (Dying n session) e told leaves =
-            subst (λ y. SameClients (kept.ended (kept.client_at k c) c k) (reserved (parted c) x.object.name s.cells) (with_client c (at_parting y) s.clients)) told
-            (subst (λ y. SameClients (kept.ended y c k) (reserved (parted c) x.object.name s.cells) (with_client c (at_parting (sessionless y)) s.clients)) (sym e) (parting_as Dead refl))
-        go Unconnected e told leaves = absurd (false≢true (ap (λ y. is_leaving x.object.name (sessionless y)) (sym e) ∙ leaves))
-        go (Connecting n slots) e told leaves = absurd (false≢true (ap (λ y. is_leaving x.object.name (sessionless y)) (sym e) ∙ leaves))
-        go (Open n session slots) e told leaves = absurd (false≢true (ap (λ y. is_leaving x.object.name (sessionless y)) (sym e) ∙ leaves))
-        go Gone e told leaves = absurd (false≢true (ap (λ y. is_leaving x.object.name (sessionless y)) (sym e) ∙ leaves))
-        go Dead e told leaves = absurd (false≢true (ap (λ y. is_leaving x.object.name (sessionless y)) (sym e) ∙ leaves))
+    same_closed = grind (arith, nat_tests, parting_as Unconnected, parting_as Dead)
 
   -- a message is completed that was taken
   pub same_replied : (g : Owner) (o : Object) (m : ℕ) → held s.cells g ≡ Some o → is_queue g ≡ false → is_server p o.thing ≡ false → o.name ≡ message_name m → m < 1024 → SameClients (kept.after_complete m k) (without g s.cells) s.clients
@@ -142,12 +130,7 @@ module _ (p : Image) (t : Typing) (wired : IsWired p) (s : State) (w : WellTyped
 
     -- a connect or a close
     pub same_next : (e : Entry) (es : List Entry) → kept.queue_at k o.name ≡ e ∷ es → ((m : ℕ) → e ≡ Message m → ⊥) → SameClients (kept.after_next o.name k) (reserved taken_first o.name s.cells) s.clients
-    same_next e es at other = subst (λ n. SameClients n (reserved taken_first o.name s.cells) s.clients) (sym (first_so e es at ∙ plain e other)) (same_taken k s.cells s.clients same w.good.tidy o lives 0 (omega arith) e es at queue_room)
-      where
-        plain : (e : Entry) → ((m : ℕ) → e ≡ Message m → ⊥) → kept.taking e (kept.with_queue o.name es k) ≡ kept.with_queue o.name es k
-        plain (Connect c) other = refl
-        plain (Close c) other = refl
-        plain (Message m) other = absurd (other m refl)
+    same_next e es at other = grind (arith, nat_tests, first_so e es at, same_taken k s.cells s.clients same w.good.tidy o lives 0, queue_room)
 
     -- a message, which goes into service
     pub same_attended : (m : ℕ) (es : List Entry) → kept.queue_at k o.name ≡ Message m ∷ es → m < 1024 →

@@ -1,4 +1,5 @@
 -- What stands for clients, queues and message places goes on standing for them through each command and each part of a service.
+use Rattle.std.proofs.lemmas.Bool.Decides.{nat_tests}
 use Rattle.std.proofs.Common.{Bool, List, None, Option, Some, [], ap, cond, false, length, refl, slice_index_or, slice_set, subst, suc, sym, true, zero, ℕ, ℤ, ◌+◌, ◌&&◌, ◌<◌, ◌++◌, ◌==◌, ◌∙◌, ◌∷◌, ◌≡◌, arith}
 use Rattle.std.specs.List.{list_any}
 use Rattle.std.specs.Prelude.{filter, is_some, map, not, ◌||◌}
@@ -12,25 +13,21 @@ use Rattle.aom_clients.specs.declared.client.Client.TheVariants.{Connecting, Ope
 use Rattle.aom_clients.specs.declared.entry.Entry.{Entry}
 use Rattle.aom_clients.specs.declared.entry.Entry.TheVariants.{Connect, Message, Close}
 use Rattle.aom_clients.specs.declared.place.Place.{Place}
-use Rattle.aom_clients.specs.declared.place.Place.TheVariants.{Discarded, Free, Held, Queued}
+use Rattle.aom_clients.specs.declared.place.Place.TheVariants.{Free, Held, Queued}
 use Rattle.aom_clients.specs.Table.{held_place, is_queued, sender}
 use Rattle.aom_sound.proofs.ClientsFit.{by_server}
 use Rattle.aom_sound.proofs.Maps.{at-put_at, front_free, same_place_refl}
-use Rattle.aom_sound.proofs.Services.{named_served, service_here, service_moved, service_there, service_unnamed}
+use Rattle.aom_sound.proofs.Services.{named_served, service_moved, service_unnamed}
 use Rattle.aom_sound.specs.Clients.{at_opening, client_at, with_client}
 use Rattle.aom_sound.specs.Kept.{is_close_of, is_connect_of}
 use Rattle.aom_sound.specs.Places.{Cell, Close_of, Connect_of, Elsewhere, In_service, Message_of, Object, Place as Owner, Queued as Waits_at, Service, Tidy, moved, named, same_place, service_of, set_service, unserved}
-use Rattle.aom_sound.specs.Servers.{asked_last, holds_slot, is_among, is_message, is_queue, opened, parted, reserved, rest_of, slots_taken, taken_first}
+use Rattle.aom_sound.specs.Servers.{asked_last, holds_slot, is_among, is_message, opened, parted, reserved, rest_of, slots_taken, taken_first}
 use Rattle.aom_parts.specs.Serving.{Once, SameClients, asked_by, holds, is_taken, message_name, owner_of, sent_by, sessionless, waits_in}
 
 -- ---- lists with one place written
 
 pub at_set : {A : Type 0} (none : A) (xs : List A) (i j : ℕ) (x : A) → i < length xs → slice_index_or (slice_set xs i x) j none ≡ cond (i == j) x (slice_index_or xs j none)
-at_set none xs i j x small = go (i == j) refl
-  where
-    go : (b : Bool) → (i == j) ≡ b → slice_index_or (slice_set xs i x) j none ≡ cond b x (slice_index_or xs j none)
-    go true e = ap (λ k. slice_index_or (slice_set xs i x) k none) (sym (eqb-true i j e)) ∙ get_or-set_same xs i x none small
-    go false e = get_or-set_other xs i j x none (λ d. false≢true (sym e ∙ eq-eqb i j (sym d)))
+at_set none xs i j x small = grind (arith, nat_tests, eqb-true i j, get_or-set_same xs i x none small, get_or-set_other xs i j x none, eq-eqb i j)
 
 or_false : (a : Bool) → (a || (false || false)) ≡ a
 or_false a = grind arith
@@ -44,20 +41,12 @@ front_false x b e = grind arith
 -- a client is at something else on both sides
 pub client_set : (xs clients : List Client) (c : ℕ) (to to' : Client) → c < length xs → sessionless to ≡ to' → ((d : ℕ) → sessionless (slice_index_or xs d Unconnected) ≡ client_at clients d) →
     (d : ℕ) → sessionless (slice_index_or (slice_set xs c to) d Unconnected) ≡ client_at (with_client c to' clients) d
-client_set xs clients c to to' small here others d = ap sessionless (at_set Unconnected xs c d to small) ∙ go (c == d) ∙ sym (at-put_at Unconnected clients c d to')
-  where
-    go : (b : Bool) → sessionless (cond b to (slice_index_or xs d Unconnected)) ≡ cond b to' (client_at clients d)
-    go true = here
-    go false = others d
+client_set xs clients c to to' small here others d = grind (arith, nat_tests, at_set Unconnected xs c d to small, at-put_at Unconnected clients c d to')
 
 -- each is there once, and one more
 once_last : (ms : List ℕ) (m : ℕ) → Once ms → is_among m ms ≡ false → Once (ms ++ m ∷ [])
 once_last [] m once none = (refl, tt)
-once_last (k ∷ ms) m once none =
-    let f = front_false (k == m) (is_among m ms) none in (
-      list_any-append (λ d. d == k) ms (m ∷ []) ∙ ap (λ b. is_among k ms || (b || false)) (ne_eqb m k (λ same. false≢true (sym f.0 ∙ eq-eqb k m (sym same)))) ∙ or_false (is_among k ms) ∙ once.0,
-      once_last ms m once.1 f.1,
-    )
+once_last (k ∷ ms) m once none = grind (arith, nat_tests, front_false (k == m), list_any-append, ne_eqb m k, eq-eqb k m, or_false, once_last ms m once.1)
 
 -- a list of lists, each with a function
 pub map_at : {A : Type 0} (f : List A → List A) (lists : List (List A)) (n : ℕ) → f [] ≡ [] → slice_index_or (map f lists) n [] ≡ f (slice_index_or lists n [])
@@ -68,9 +57,7 @@ map_at f (l ∷ lists) (suc n) e = map_at f lists n e
 -- where no connect of the client waits, none leaves the queue, and so of its close
 no_connects : (places : List Place) (c : ℕ) (es : List Entry) → list_any (is_connect_of c) (map (asked_by places) es) ≡ false → filter (kept.is_no_connect_of c) es ≡ es
 no_connects places c [] none = refl
-no_connects places c (Connect d ∷ es) none =
-    let f = front_false (d == c) (list_any (is_connect_of c) (map (asked_by places) es)) none in
-    ap (λ b. cond (not b) (Connect d ∷ filter (kept.is_no_connect_of c) es) (filter (kept.is_no_connect_of c) es)) f.0 ∙ ap (λ l. Connect d ∷ l) (no_connects places c es f.1)
+no_connects places c (Connect d ∷ es) none = grind (arith, nat_tests, front_false (d == c), no_connects places c es)
 no_connects places c (Message m ∷ es) none = ap (λ l. Message m ∷ l) (no_connects places c es none)
 no_connects places c (Close d ∷ es) none = ap (λ l. Close d ∷ l) (no_connects places c es none)
 
@@ -78,35 +65,22 @@ no_closes : (places : List Place) (c : ℕ) (es : List Entry) → list_any (is_c
 no_closes places c [] none = refl
 no_closes places c (Connect d ∷ es) none = ap (λ l. Connect d ∷ l) (no_closes places c es none)
 no_closes places c (Message m ∷ es) none = ap (λ l. Message m ∷ l) (no_closes places c es none)
-no_closes places c (Close d ∷ es) none =
-    let f = front_false (d == c) (list_any (is_close_of c) (map (asked_by places) es)) none in
-    ap (λ b. cond (not b) (Close d ∷ filter (kept.is_no_close_of c) es) (filter (kept.is_no_close_of c) es)) f.0 ∙ ap (λ l. Close d ∷ l) (no_closes places c es f.1)
+no_closes places c (Close d ∷ es) none = grind (arith, nat_tests, front_false (d == c), no_closes places c es)
 
 none_parted : (c : ℕ) (ds : List ℕ) → is_among c ds ≡ false → filter (λ d. not (d == c)) ds ≡ ds
 none_parted c [] none = refl
-none_parted c (d ∷ ds) none =
-    let f = front_false (d == c) (is_among c ds) none in
-    ap (λ b. cond (not b) (d ∷ filter (λ d. not (d == c)) ds) (filter (λ d. not (d == c)) ds)) f.0 ∙ ap (λ l. d ∷ l) (none_parted c ds f.1)
+none_parted c (d ∷ ds) none = grind (arith, nat_tests, front_false (d == c), none_parted c ds)
 
 -- ---- the service of one cell changes
 
 pub absent_served : (cs : List Cell) (n : ℕ) (v : Service) → named cs n ≡ None → set_service n v cs ≡ cs
 absent_served [] n v e = refl
-absent_served (c ∷ cs) n v e =
-    let f = front_free (c.object.name == n) c.object (named cs n) e in
-    ap (λ b. record c { service = cond b v c.service } ∷ set_service n v cs) f.0 ∙ ap (λ l. c ∷ l) (absent_served cs n v f.1)
+absent_served (c ∷ cs) n v e = grind (arith, nat_tests, front_free (c.object.name == n) c.object, absent_served cs n v)
 
 -- of which the sender is as it was
 slots_served : (cs : List Cell) → Tidy cs → (n : ℕ) (v : Service) (c : ℕ) → v.sender ≡ (service_of cs n).sender → slots_taken c (set_service n v cs) ≡ slots_taken c cs
 slots_served [] tidy n v c same = refl
-slots_served (x ∷ xs) tidy n v c same = go (x.object.name == n) refl same (slots_served xs tidy.2 n v c)
-  where
-    go : (b : Bool) → (x.object.name == n) ≡ b → v.sender ≡ (cond b x.service (service_of xs n)).sender → (v.sender ≡ (service_of xs n).sender → slots_taken c (set_service n v xs) ≡ slots_taken c xs) →
-        cond (holds_slot c (cond b v x.service).sender) (suc (slots_taken c (set_service n v xs))) (slots_taken c (set_service n v xs)) ≡ cond (holds_slot c x.service.sender) (suc (slots_taken c xs)) (slots_taken c xs)
-    go true e here later =
-        ap (λ l. cond (holds_slot c v.sender) (suc (slots_taken c l)) (slots_taken c l)) (absent_served xs n v (ap (λ m. named xs m) (sym (eqb-true x.object.name n e)) ∙ tidy.1))
-        ∙ ap (λ s. cond (holds_slot c s) (suc (slots_taken c xs)) (slots_taken c xs)) here
-    go false e here later = ap (λ k. cond (holds_slot c x.service.sender) (suc k) k) (later here)
+slots_served (x ∷ xs) tidy n v c same = grind (arith, nat_tests, slots_served xs tidy.2 n v c, absent_served xs n v, eqb-true x.object.name n)
 
 owner_served : (cs : List Cell) (n : ℕ) (v : Service) (m : ℕ) → owner_of (set_service n v cs) m ≡ owner_of cs m
 owner_served [] n v m = refl
@@ -135,13 +109,7 @@ module _ (cs : List Cell) (o : Object) (lives : named cs o.name ≡ Some o) (tid
 -- ---- the place of a message changes, and its sender is as it was
 
 asked_placed : (places : List Place) (m : ℕ) (p : Place) → m < length places → sender p ≡ sender (slice_index_or places m Free) → (e : Entry) → asked_by (slice_set places m p) e ≡ asked_by places e
-asked_placed places m p small same (Connect c) = refl
-asked_placed places m p small same (Close c) = refl
-asked_placed places m p small same (Message j) = ap (λ x. Message_of (sender x) (message_name j)) (at_set Free places m j p small) ∙ ap (λ c. Message_of c (message_name j)) (go (m == j) refl)
-  where
-    go : (b : Bool) → (m == j) ≡ b → sender (cond b p (slice_index_or places j Free)) ≡ sender (slice_index_or places j Free)
-    go true e = same ∙ ap (λ k. sender (slice_index_or places k Free)) (eqb-true m j e)
-    go false e = refl
+asked_placed places m p small same x = grind (arith, nat_tests, at_set Free places m, eqb-true m)
 
 map_alike : {A B : Type 0} (f g : A → B) → ((x : A) → f x ≡ g x) → (xs : List A) → map f xs ≡ map g xs
 map_alike f g same [] = refl
@@ -156,14 +124,15 @@ pub asked_apart : (places : List Place) (m : ℕ) (p : Place) → m < length pla
 asked_apart places m p small [] none = refl
 asked_apart places m p small (Connect c ∷ es) none = ap (λ l. Connect_of c ∷ l) (asked_apart places m p small es none)
 asked_apart places m p small (Close c ∷ es) none = ap (λ l. Close_of c ∷ l) (asked_apart places m p small es none)
-asked_apart places m p small (Message j ∷ es) none =
-    let f = front_false (message_name j == message_name m) (list_any (is_message (message_name m)) (map (asked_by places) es)) none in
-    ap (λ x. Message_of (sender x) (message_name j) ∷ map (asked_by (slice_set places m p)) es) (at_set Free places m j p small ∙ other (m == j) refl f.0)
-    ∙ ap (λ l. asked_by places (Message j) ∷ l) (asked_apart places m p small es f.1)
-  where
-    other : (b : Bool) → (m == j) ≡ b → (message_name j == message_name m) ≡ false → cond b p (slice_index_or places j Free) ≡ slice_index_or places j Free
-    other true e apart = absurd (false≢true (sym apart ∙ eq-eqb (message_name j) (message_name m) (ap message_name (sym (eqb-true m j e)))))
-    other false e apart = refl
+asked_apart places m p small (Message j ∷ es) none = grind (
+  arith,
+  nat_tests,
+  front_false,
+  at_set Free places m j p small,
+  asked_apart places m p small es,
+  eq-eqb,
+  eqb-true m j,
+)
 
 -- ---- cells move
 
@@ -173,11 +142,7 @@ moved_from a b (Some p) = Some (cond (same_place p a) b p)
 
 pub owner_moved : (cs : List Cell) (a b : Owner) (n : ℕ) → owner_of (moved a b cs) n ≡ moved_from a b (owner_of cs n)
 owner_moved [] a b n = refl
-owner_moved (c ∷ cs) a b n = go (c.object.name == n) (owner_moved cs a b n)
-  where
-    go : (x : Bool) → owner_of (moved a b cs) n ≡ moved_from a b (owner_of cs n) → cond x (Some (cond (same_place c.owner a) b c.owner)) (owner_of (moved a b cs) n) ≡ moved_from a b (cond x (Some c.owner) (owner_of cs n))
-    go true e = refl
-    go false e = e
+owner_moved (c ∷ cs) a b n = grind (arith, nat_tests, owner_moved cs a b n)
 
 pub slots_moved : (cs : List Cell) (a b : Owner) (c : ℕ) → slots_taken c (moved a b cs) ≡ slots_taken c cs
 slots_moved [] a b c = refl
@@ -186,10 +151,7 @@ slots_moved (x ∷ xs) a b c = ap (λ k. cond (holds_slot c x.service.sender) (s
 -- ---- the places that are taken
 
 taken_by : (slot : Bool) (x : Place) → is_some (sent_by slot x) ≡ is_taken x
-taken_by slot Free = refl
-taken_by slot (Queued d) = refl
-taken_by slot (Held d) = refl
-taken_by slot (Discarded d) = refl
+taken_by slot x = grind arith
 
 -- are those whose message has a sender
 pub taken_sent : (s : kept.State) (cs : List Cell) (clients : List Client) → SameClients s cs clients → (m : ℕ) → is_taken (kept.place_at s m) ≡ is_some (service_of cs (message_name m)).sender
@@ -203,9 +165,7 @@ pub listed_as : (s : kept.State) (cs : List Cell) (clients after xs : List Clien
 listed_as s cs clients after xs queues same at waits long = let many = long ∙ same.many in assumption many
 
 pub same_client : (s : kept.State) (cs : List Cell) (clients : List Client) → SameClients s cs clients → (c : ℕ) → c < 64 → (to : Client) → SameClients (kept.with_client c to s) cs (with_client c (sessionless to) clients)
-same_client s cs clients same c client to =
-    listed_as s cs clients (with_client c (sessionless to) clients) (slice_set s.clients c to) s.queues same (client_set s.clients clients c to (sessionless to) (subst (λ n. c < n) (sym same.many) client) refl same.at) same.queues
-    (length-set s.clients c to)
+same_client s cs clients same c client to = grind (arith, nat_tests, listed_as s cs clients, client_set s.clients clients c to, length-set s.clients c to)
 
 -- ---- a connect
 
@@ -267,7 +227,7 @@ module _ (s : kept.State) (cs : List Cell) (clients : List Client) (same : SameC
   -- where no connect of the client waits any more
   module _ (slots session : ℕ) (at : kept.client_at s c ≡ Connecting o.name slots) (none : (n : ℕ) → list_any (is_connect_of c) (service_of cs n).queue ≡ false) (server : o.name < length s.sessions) where
     unqueued : (n : ℕ) → slice_index_or (map (λ es. filter (kept.is_no_connect_of c) es) s.queues) n [] ≡ kept.queue_at s n
-    unqueued n = map_at (λ es. filter (kept.is_no_connect_of c) es) s.queues n refl ∙ no_connects s.places c (kept.queue_at s n) (ap (λ l. list_any (is_connect_of c) l) (same.queues n) ∙ none n)
+    unqueued n = grind (arith, nat_tests, map_at, no_connects s.places c)
 
     own : client_at clients c ≡ Connecting o.name slots
     own = sym (same.at c) ∙ ap sessionless at
@@ -291,7 +251,7 @@ module _ (s : kept.State) (cs : List Cell) (clients : List Client) (same : SameC
   -- of a client that has it with this server alone, and whose close waits no more
   module _ (next : Client) (plain : sessionless next ≡ next) (none : (n : ℕ) → list_any (is_close_of c) (service_of cs n).queue ≡ false) (only : (n : ℕ) → (o.name == n) ≡ false → is_among c (service_of cs n).sessions ≡ false) where
     unclosed : (n : ℕ) → slice_index_or (map (λ es. filter (kept.is_no_close_of c) es) s.queues) n [] ≡ kept.queue_at s n
-    unclosed n = map_at (λ es. filter (kept.is_no_close_of c) es) s.queues n refl ∙ no_closes s.places c (kept.queue_at s n) (ap (λ l. list_any (is_close_of c) l) (same.queues n) ∙ none n)
+    unclosed n = grind (arith, nat_tests, map_at, no_closes s.places c)
 
     pub same_parted : SameClients (kept.parted c next s) (reserved (parted c) o.name cs) (with_client c next clients)
     same_parted =
@@ -322,46 +282,22 @@ module _ (s : kept.State) (cs : List Cell) (clients : List Client) (same : SameC
     -- its cell moves, and no other
     module _ (there : owner_of cs (message_name m) ≡ Some from) (apart : (j : ℕ) → (m == j) ≡ false → (p : Owner) → owner_of cs (message_name j) ≡ Some p → same_place p from ≡ false) where
       waits_now : (j : ℕ) → is_queued (kept.place_at taken j) ≡ waits_in (owner_of (moved from (Elsewhere In_service) cs') (message_name j))
-      waits_now j =
-          ap is_queued (at_set Free s.places m j (held_place (kept.place_at s m)) place) ∙ go (m == j) refl
-          ∙ sym (ap waits_in (owner_moved cs' from (Elsewhere In_service) (message_name j) ∙ ap (moved_from from (Elsewhere In_service)) (owner_served cs o.name (taken_first (service_of cs o.name)) (message_name j))))
-        where
-          stays : (x : Option Owner) → owner_of cs (message_name j) ≡ x → (m == j) ≡ false → waits_in x ≡ waits_in (moved_from from (Elsewhere In_service) x)
-          stays None e other = refl
-          stays (Some p) e other = ap is_queue (sym (ap (λ b. cond b (Elsewhere In_service) p) (apart j other p e)))
-
-          go : (b : Bool) → (m == j) ≡ b → is_queued (cond b (held_place (kept.place_at s m)) (kept.place_at s j)) ≡ waits_in (moved_from from (Elsewhere In_service) (owner_of cs (message_name j)))
-          go true e =
-              ap is_queued held_now
-              ∙ sym (ap (λ x. waits_in (moved_from from (Elsewhere In_service) x)) (ap (λ i. owner_of cs (message_name i)) (sym (eqb-true m j e)) ∙ there) ∙ ap (λ b. is_queue (cond b (Elsewhere In_service) from)) (same_place_refl from))
-          go false e = same.waits j ∙ stays (owner_of cs (message_name j)) refl e
+      waits_now j = grind (arith, nat_tests, at_set Free s.places m j, owner_moved, owner_served cs o.name, held_now, eqb-true m j, same_place_refl)
 
       senders_now : (j : ℕ) → sent_by (holds taken j) (kept.place_at taken j) ≡ sent_by (holds s j) (kept.place_at s j)
-      senders_now j = ap (λ x. sent_by (is_among j (kept.sent_at s (sender x))) x) (at_set Free s.places m j (held_place (kept.place_at s m)) place) ∙ go (m == j) refl
-        where
-          go : (b : Bool) → (m == j) ≡ b →
-              sent_by (is_among j (kept.sent_at s (sender (cond b (held_place (kept.place_at s m)) (kept.place_at s j))))) (cond b (held_place (kept.place_at s m)) (kept.place_at s j)) ≡ sent_by (holds s j) (kept.place_at s j)
-          go false e = refl
-          go true e =
-              ap (λ x. sent_by (is_among j (kept.sent_at s (sender x))) x) held_now
-              ∙ sym (ap (λ x. sent_by (is_among j (kept.sent_at s (sender x))) x) (ap (λ i. kept.place_at s i) (sym (eqb-true m j e)) ∙ waiting))
+      senders_now j = grind (arith, nat_tests, at_set Free s.places m j, held_now, eqb-true m j)
 
       slotted_now : (j d : ℕ) → kept.place_at taken j ≡ Queued d → is_among j (kept.sent_at taken d) ≡ true
-      slotted_now j d e = go (m == j) (sym (at_set Free s.places m j (held_place (kept.place_at s m)) place) ∙ e)
-        where
-          go : (b : Bool) → cond b (held_place (kept.place_at s m)) (kept.place_at s j) ≡ Queued d → is_among j (kept.sent_at s d) ≡ true
-          go true e = let clash : Held by ≡ Queued d = sym held_now ∙ e in cc
-          go false e = same.slotted j d e
+      slotted_now j d e = grind (arith, nat_tests, at_set Free s.places m j, held_now)
 
       pub same_served : SameClients taken (moved from (Elsewhere In_service) cs') clients
       same_served = record {
         at = same.at;
-        queues = λ n. map_alike (asked_by taken.places) (asked_by s.places) of_same (kept.queue_at taken n) ∙ (same_taken (Message m) es at queue).queues n
-            ∙ sym (ap (λ (v : Service). v.queue) (service_moved cs' from (Elsewhere In_service) n));
-        sessions = λ n. (same_taken (Message m) es at queue).sessions n ∙ sym (ap (λ (v : Service). v.sessions) (service_moved cs' from (Elsewhere In_service) n));
+        queues = grind (arith, nat_tests, map_alike, of_same, same_taken (Message m) es at queue, service_moved);
+        sessions = grind (arith, nat_tests, same_taken (Message m) es at queue, service_moved);
         senders = λ j. senders_now j ∙ (same_taken (Message m) es at queue).senders j ∙ sym (ap (λ (v : Service). v.sender) (service_moved cs' from (Elsewhere In_service) (message_name j)));
         waits = waits_now;
-        slots_of = λ d j. (same_taken (Message m) es at queue).slots_of d j ∙ ap (holds_slot d) (sym (ap (λ (v : Service). v.sender) (service_moved cs' from (Elsewhere In_service) (message_name j))));
+        slots_of = grind (arith, nat_tests, same_taken (Message m) es at queue, service_moved);
         slotted = slotted_now;
         once = same.once;
         slots = λ d. (same_taken (Message m) es at queue).slots d ∙ sym (slots_moved cs' from (Elsewhere In_service) d);
@@ -415,11 +351,7 @@ module _ (s : kept.State) (cs : List Cell) (clients : List Client) (same : SameC
 
     -- what is told of the place that is taken, and of all others
     told_new : {A B : Type 0} (f : Place → A) (g : B → A) (j : ℕ) (x y : B) → f (Queued c) ≡ g x → ((m == j) ≡ false → f (kept.place_at s j) ≡ g y) → f (kept.place_at sent j) ≡ g (cond (message_name m == message_name j) x y)
-    told_new f g j x y here others = ap f (places_at j) ∙ go (m == j) refl
-      where
-        go : (b : Bool) → (m == j) ≡ b → f (cond b (Queued c) (kept.place_at s j)) ≡ g (cond (message_name m == message_name j) x y)
-        go true e = here ∙ sym (ap (λ b. g (cond b x y)) (eq-eqb (message_name m) (message_name j) (ap message_name (eqb-true m j e))))
-        go false e = others e ∙ sym (ap (λ b. g (cond b x y)) (names_apart m j e))
+    told_new f g j x y here others = grind (arith, nat_tests, places_at j, eq-eqb, eqb-true m j, names_apart m j)
 
     waits_then : (j : ℕ) → is_queued (kept.place_at sent j) ≡ waits_in (owner_of (message ∷ behind) (message_name j))
     waits_then j =
@@ -452,24 +384,13 @@ module _ (s : kept.State) (cs : List Cell) (clients : List Client) (same : SameC
 
     -- what the new cell has is nothing, of those that have a queue
     other_service : (n : ℕ) → ((service_of (message ∷ behind) n).queue ≡ (service_of behind n).queue) × ((service_of (message ∷ behind) n).sessions ≡ (service_of behind n).sessions)
-    other_service n = go (message_name m == n) refl
-      where
-        none : (message_name m == n) ≡ true → service_of behind n ≡ unserved
-        none e = service_unnamed behind n (named_served cs o.name (asked_last (Message_of c (message_name m)) (service_of cs o.name)) n ∙ ap (λ i. named cs i) (sym (eqb-true (message_name m) n e)) ∙ unused)
-
-        go : (b : Bool) → (message_name m == n) ≡ b → ((cond b message.service (service_of behind n)).queue ≡ (service_of behind n).queue) × ((cond b message.service (service_of behind n)).sessions ≡ (service_of behind n).sessions)
-        go true e = (sym (ap (λ (v : Service). v.queue) (none e)), sym (ap (λ (v : Service). v.sessions) (none e)))
-        go false e = (refl, refl)
+    other_service n = grind (arith, nat_tests, service_unnamed, named_served cs o.name, eqb-true)
 
     absent : (d : ℕ) → is_among m (kept.sent_at s d) ≡ false
     absent d = same.slots_of d m ∙ ap (λ (v : Service). holds_slot d v.sender) (service_unnamed cs (message_name m) unused)
 
     once_after : (d : ℕ) → Once (kept.sent_at sent d)
-    once_after d = subst Once (sym (sent_of d)) (go (c == d))
-      where
-        go : (b : Bool) → Once (cond b (kept.sent_at s c ++ m ∷ []) (kept.sent_at s d))
-        go true = once_last (kept.sent_at s c) m (same.once c) (absent c)
-        go false = same.once d
+    once_after d = grind (arith, nat_tests, sent_of d, once_last, absent c)
 
     slotted_after : (j d : ℕ) → kept.place_at sent j ≡ Queued d → is_among j (kept.sent_at sent d) ≡ true
     slotted_after j d e = ap (is_among j) (sent_of d) ∙ go (m == j) refl (sym (places_at j) ∙ e)

@@ -1,6 +1,7 @@
 -- The sessions of cells, where cells move, change, come and go.
+use Rattle.std.proofs.lemmas.Bool.Decides.{nat_tests}
 use Rattle.std.proofs.Common.{ap, Bool, cond, false, List, None, Option, refl, Some, suc, sym, true, ℕ, ℤ, ◌==◌, ◌∙◌, ◌∷◌, ◌≡◌, [], pos, arith}
-use Rattle.std.proofs.lemmas.Bool.{eqb-true, eqb-false, false≢true}
+use Rattle.std.proofs.lemmas.Bool.{eqb-true, eqb-false}
 use Rattle.aom_image.specs.Image.{Image}
 use Rattle.aom_image.specs.declared.method.Argument.{Argument}
 use Rattle.aom_image.specs.declared.method.Argument.TheVariants.{Own as Takes_own, Word as Takes_word}
@@ -10,11 +11,11 @@ use Rattle.aom_sound.proofs.Counts.{count_opened}
 use Rattle.aom_sound.proofs.Sessions.{session_asked, session_moved, session_new, session_set_word, session_unnamed, session_without}
 use Rattle.aom_sound.specs.Calls.{passed_cells}
 use Rattle.aom_sound.specs.Enlisted.{rerequested}
-use Rattle.aom_sound.specs.Places.{Cell, Object, Place, Register, Request, Tidy, held, in_session, moved, named, same_place, set_request, set_session, set_word_field, with_new, without, word_field}
+use Rattle.aom_sound.specs.Places.{Cell, Object, Place, Register, Request, Tidy, held, in_session, moved, named, set_request, set_session, with_new, without, word_field}
 use Rattle.aom_sound.specs.State.{AtRoot, Frame, Home, Inside, State, Static, Task}
 use Rattle.aom_sound.specs.Words.{here, stored}
-use Rattle.aom_sound.proofs.Maps.{same_place-true, unnamed, without_none}
-use Rattle.aom_parts.specs.Agrees.{SameCells, SameNatives, thing_of}
+use Rattle.aom_sound.proofs.Maps.{unnamed}
+use Rattle.aom_parts.specs.Agrees.{SameCells, SameNatives}
 use Rattle.aom_cells.specs.Heap.{Heap}
 use Rattle.aom_shape.specs.Tables.{at}
 use Rattle.aom_sound.specs.Natives.{resessioned}
@@ -31,9 +32,7 @@ module _ (p : Image) (w : Standing) (killed : List ℕ) where
   natives_moved cs q r h = natives_as cs (moved q r cs) (session_moved cs q r) h
 
   pub natives_stored : (cs : List Cell) (home : Home) (k : ℕ) (v : ℤ) → SameNatives p w cs killed → SameNatives p w (stored cs home k v) killed
-  natives_stored cs Static k v h = h
-  natives_stored cs AtRoot k v h = h
-  natives_stored cs (Inside o from) k v h = natives_as cs (set_word_field o.name k v cs) (session_set_word cs o.name k v) h
+  natives_stored cs x k v h = grind (arith, nat_tests, natives_as cs, session_set_word cs)
 
   pub natives_made : (cs : List Cell) (n : ℕ) (thing : Thing) (words : List ℤ) (owner : Place) → named cs n ≡ None → SameNatives p w cs killed → SameNatives p w (with_new n thing words owner cs) killed
   natives_made cs n thing words owner fresh h = natives_as cs (with_new n thing words owner cs) (session_new cs n thing words owner fresh) h
@@ -57,20 +56,11 @@ module _ (p : Image) (fr : Frame) (ts : List Task) (s : State) (w : Standing) wh
 
 session_here : (cs : List Cell) (n : ℕ) (b : Bool) (o : Object) → named cs n ≡ Some o → in_session (set_session n b cs) n ≡ b
 session_here [] n b o e = cc
-session_here (c ∷ cs) n b o e = go (c.object.name == n) e (session_here cs n b o)
-  where
-    go : (x : Bool) → cond x (Some c.object) (named cs n) ≡ Some o → (named cs n ≡ Some o → in_session (set_session n b cs) n ≡ b) → cond x (cond x b c.session) (in_session (set_session n b cs) n) ≡ b
-    go true e rest = refl
-    go false e rest = rest e
+session_here (c ∷ cs) n b o e = grind (arith, nat_tests, session_here cs n b o)
 
 session_there : (cs : List Cell) (n : ℕ) (b : Bool) (k : ℕ) → (n == k) ≡ false → in_session (set_session n b cs) k ≡ in_session cs k
 session_there [] n b k apart = refl
-session_there (c ∷ cs) n b k apart = go (c.object.name == k) refl (c.object.name == n) refl (session_there cs n b k apart)
-  where
-    go : (x : Bool) → (c.object.name == k) ≡ x → (y : Bool) → (c.object.name == n) ≡ y → in_session (set_session n b cs) k ≡ in_session cs k → cond x (cond y b c.session) (in_session (set_session n b cs) k) ≡ cond x c.session (in_session cs k)
-    go true here true there rest = let same : (n == k) ≡ true = ap (λ i. i == k) (sym (eqb-true c.object.name n there)) ∙ here in absurd (false≢true (sym apart ∙ same))
-    go true here false there rest = refl
-    go false here y there rest = rest
+session_there (c ∷ cs) n b k apart = grind (arith, nat_tests, session_there cs n b k apart, eqb-true c.object.name n)
 
 pub natives_set : (p : Image) (old new : Standing) (killed : List ℕ) (cs : List Cell) (o : Object) (b : Bool) → named cs o.name ≡ Some o → Sets old new o.name b → SameNatives p old cs killed → SameNatives p new (set_session o.name b cs) killed
 natives_set p old new killed cs o b lives set h = record {
@@ -80,9 +70,7 @@ natives_set p old new killed cs o b lives set h = record {
 }
   where
     by : (n : ℕ) (x : Bool) → (o.name == n) ≡ x → is_open new n ≡ in_session (set_session o.name b cs) n
-    by n true same =
-        let is = eqb-true o.name n same in
-        ap (is_open new) (sym is) ∙ set.here ∙ sym (ap (in_session (set_session o.name b cs)) (sym is) ∙ session_here cs o.name b o lives)
+    by n true same = grind (arith, nat_tests, eqb-true o.name n same, session_here cs o.name b o lives)
     by n false other = set.others n (λ e. eqb-false o.name n other (sym e)) ∙ h.sessions n ∙ sym (session_there cs o.name b n other)
 
 -- it changes no word and no count
@@ -92,18 +80,7 @@ words_opened (c ∷ cs) n b k w = ap (λ x. cond (c.object.name == k) (at (pos 0
 
 -- so the same cells live
 pub cells_resessioned : (p : Image) (h : Heap) (cs : List Cell) (home : Home) (b : Bool) → SameCells p h cs → SameCells p h (resessioned cs home b)
-cells_resessioned p h cs Static b same = same
-cells_resessioned p h cs AtRoot b same = same
-cells_resessioned p h cs (Inside o from) b same = record {
-  things = λ k. same.things k ∙ ap thing_of (sym ((resessioned_alike cs (Inside o from) b).named_so k));
-  words = λ k w small. same.words k w small ∙ sym (words_opened cs o.name b k w);
-  count = same.count ∙ sym (count_opened cs o.name b);
-  limit = same.limit;
-  wide = same.wide;
-  classes = same.classes;
-  null_is_none = same.null_is_none;
-  below = same.below;
-}
+cells_resessioned p h cs x b same = grind (arith, nat_tests, resessioned_alike cs, words_opened cs, count_opened cs)
 
 -- a cell that goes has its session closed
 pub natives_gone : (p : Image) (old new : Standing) (killed : List ℕ) (cs : List Cell) (g : Place) (o : Object) → Tidy cs → held cs g ≡ Some o → Sets old new o.name false → SameNatives p old cs killed → SameNatives p new (without g cs) killed
@@ -114,7 +91,5 @@ natives_gone p old new killed cs g o tidy holds shut h = record {
 }
   where
     by : (n : ℕ) (b : Bool) → (o.name == n) ≡ b → is_open new n ≡ in_session (without g cs) n
-    by n true same =
-        let is = eqb-true o.name n same in
-        ap (is_open new) (sym is) ∙ shut.here ∙ sym (ap (in_session (without g cs)) (sym is) ∙ session_unnamed (without g cs) o.name (unnamed cs g o tidy holds))
+    by n true same = grind (arith, nat_tests, eqb-true o.name n same, session_unnamed, unnamed cs g o tidy holds)
     by n false other = shut.others n (λ e. eqb-false o.name n other (sym e)) ∙ h.sessions n ∙ sym (session_without cs g o n tidy holds other)

@@ -1,15 +1,14 @@
 -- Each change of clients leaves as many places, queues and lists of sessions as there were.
-use Rattle.std.proofs.Common.{List, None, Option, Some, [], ap, length, refl, ℕ, ◌≡◌, ◌∙◌, ◌∷◌, ◌++◌}
+use Rattle.std.proofs.lemmas.Bool.Decides.{nat_tests}
+use Rattle.std.proofs.Common.{arith, None, Option, Some, [], length, refl, ℕ, ◌≡◌, ◌∙◌, ◌∷◌, ◌++◌}
 use Rattle.std.specs.Prelude.{filter, not, ◌==◌}
 use Rattle.std.proofs.lemmas.List.{length-map, length-set}
 use Rattle.aom_clients.specs.Clients as kept
-use Rattle.aom_clients.specs.Table.{held_place, row}
+use Rattle.aom_clients.specs.Table.{row}
 use Rattle.aom_clients.specs.declared.client.Client.{Client}
 use Rattle.aom_clients.specs.declared.client.Client.TheVariants.{Closing, Connecting, Dead, Dying, Open, Unconnected}
-use Rattle.aom_clients.specs.declared.entry.Entry.{Entry}
-use Rattle.aom_clients.specs.declared.entry.Entry.TheVariants.{Close, Connect, Message}
-use Rattle.aom_clients.specs.declared.place.Place.TheVariants.{Free, Queued}
-use Rattle.aom_clients.specs.declared.refusal.Refusal.{Refusal}
+use Rattle.aom_clients.specs.declared.entry.Entry.TheVariants.{Close}
+use Rattle.aom_clients.specs.declared.place.Place.TheVariants.{Free}
 use Rattle.aom_clients.specs.declared.server.Server.{Server}
 use Rattle.aom_parts.proofs.Departing.{lengths_after_queue, lengths_after_sessions, sessions_after_queue, places_after_sessions, queues_after_sessions}
 use Rattle.aom_parts.specs.Serving.{AreSized}
@@ -47,36 +46,27 @@ module _ (cells : ℕ) (k : kept.State) (sized : AreSized cells k) where
   sized_released c = sized_so (kept.after_release c k) refl refl refl
 
   pub sized_next : (n : ℕ) → AreSized cells (kept.after_next n k)
-  sized_next n = go (kept.queue_at k n)
-    where
-      go : (es : List Entry) → AreSized cells (kept.taken n es k)
-      go [] = sized
-      go (Connect c ∷ es) = sized_so (kept.with_queue n es k) refl (length-set k.queues n es) refl
-      go (Close c ∷ es) = sized_so (kept.with_queue n es k) refl (length-set k.queues n es) refl
-      go (Message m ∷ es) = sized_so (kept.with_place m (held_place (kept.place_at k m)) (kept.with_queue n es k)) (length-set k.places m (held_place (kept.place_at k m))) (length-set k.queues n es) refl
+  sized_next n = grind (arith, nat_tests, sized_so, length-set k.queues n, length-set k.places)
 
   pub sized_gone : (n : ℕ) → AreSized cells (kept.server_gone n k)
-  sized_gone n =
-      let between = kept.queue_gone n (kept.queue_at k n) k in
-      let l = lengths_after_queue n (kept.queue_at k n) k in
-      sized_so (kept.server_gone n k) (ap length (places_after_sessions n (kept.sessions_at k n) between) ∙ l.1) (ap length (queues_after_sessions n (kept.sessions_at k n) between) ∙ l.2)
-      ((lengths_after_sessions n (kept.sessions_at k n) between).1 ∙ ap length (sessions_after_queue n (kept.queue_at k n) k))
+  sized_gone n = grind (
+    arith,
+    nat_tests,
+    lengths_after_queue n,
+    sized_so,
+    places_after_sessions n,
+    queues_after_sessions n,
+    lengths_after_sessions n,
+    sessions_after_queue n,
+  )
 
   -- ---- commands
 
   pub sized_connect : (c : ℕ) (server : Option Server) (slots : ℕ) → AreSized cells (kept.after_connect c server slots k)
-  sized_connect c server slots = go (kept.connect_refusal c server k) server
-    where
-      go : (refusal : Option Refusal) (server : Option Server) → AreSized cells (kept.connecting refusal c server slots k)
-      go None (Some x) = sized_so (kept.connecting None c (Some x) slots k) refl (length-set k.queues x.cell (kept.queue_at k x.cell ++ Connect c ∷ [])) refl
-      go _ server = sized
+  sized_connect c server slots = grind (arith, nat_tests, sized_so, length-set k.queues)
 
   pub sized_send : (c : ℕ) (place : Option ℕ) → AreSized cells (kept.after_send c place k)
-  sized_send c place = go (kept.send_refusal c place k) (kept.client_at k c) place
-    where
-      go : (refusal : Option Refusal) (x : Client) (place : Option ℕ) → AreSized cells (kept.sending refusal x c place k)
-      go None (Open n session slots) (Some m) = sized_so (kept.sending None (Open n session slots) c (Some m) k) (length-set k.places m (Queued c)) (length-set k.queues n (kept.queue_at k n ++ Message m ∷ [])) refl
-      go _ x place = sized
+  sized_send c place = grind (arith, nat_tests, sized_so, length-set k.places, length-set k.queues)
 
   leaving_sized : (c : ℕ) (to : Option Client) → AreSized cells (kept.leaving to c k)
   leaving_sized c None = sized

@@ -1,5 +1,6 @@
 -- Where cells change of which clients have nothing, what stands for clients goes on: by the cells one after another.
-use Rattle.std.proofs.Common.{Bool, List, None, Option, Some, [], ap, arith, cond, false, refl, suc, sym, true, ℕ, ℤ, ◌<◌, ◌==◌, ◌∙◌, ◌∷◌, ◌≡◌}
+use Rattle.std.proofs.lemmas.Bool.Decides.{nat_tests}
+use Rattle.std.proofs.Common.{Bool, List, None, Option, Some, [], ap, arith, cond, false, refl, sym, true, ℕ, ℤ, ◌<◌, ◌==◌, ◌∙◌, ◌∷◌, ◌≡◌}
 use Rattle.std.specs.Prelude.{pos}
 use Rattle.std.proofs.lemmas.Bool.{eqb-true, ne_eqb}
 use Rattle.aom_clients.specs.Clients as kept
@@ -10,9 +11,9 @@ use Rattle.aom_shape.specs.Tables.{put_at}
 use Rattle.aom_sound.proofs.Maps.{same_place-true}
 use Rattle.aom_sound.proofs.Services.{service_moved, service_unnamed}
 use Rattle.aom_sound.specs.Natives.{all_bereaved, bereaved, resessioned}
-use Rattle.aom_sound.specs.Places.{Cell, Object, Place as Owner, Request, Service, moved, named, same_place, service_of, set_request, set_session, set_word_field, unserved, with_new}
+use Rattle.aom_sound.specs.Places.{Cell, Place as Owner, Request, Service, moved, named, service_of, set_request, set_session, set_word_field, unserved, with_new}
 use Rattle.aom_sound.specs.Servers.{holds_slot, is_queue, slots_taken}
-use Rattle.aom_sound.specs.State.{AtRoot, Home, Inside, Static}
+use Rattle.aom_sound.specs.State.{Home}
 use Rattle.aom_parts.proofs.Serving.{moved_from, owner_moved, slots_moved}
 use Rattle.aom_parts.specs.Serving.{SameClients, message_name, owner_of, waits_in}
 
@@ -54,12 +55,7 @@ module _ (s : kept.State) (cs cs' : List Cell) (clients : List Client) where
 -- ---- a cell moves
 
 waits_moved : (a b : Owner) → is_queue a ≡ is_queue b → (x : Option Owner) → waits_in (moved_from a b x) ≡ waits_in x
-waits_moved a b alike None = refl
-waits_moved a b alike (Some q) = go (same_place q a) refl
-  where
-    go : (x : Bool) → same_place q a ≡ x → is_queue (cond x b q) ≡ is_queue q
-    go true e = sym alike ∙ ap is_queue (sym (same_place-true q a e))
-    go false e = refl
+waits_moved a b alike x = grind (arith, nat_tests, same_place-true)
 
 -- from no queue to no queue
 pub still_moved : (cs : List Cell) (a b : Owner) → is_queue a ≡ is_queue b → Still cs (moved a b cs)
@@ -93,20 +89,15 @@ module _
     (service : (c : Cell) → (f c).service ≡ c.service) where
   services_each : (cs : List Cell) (n : ℕ) → service_of (then cs) n ≡ service_of cs n
   services_each [] n = ap (λ l. service_of l n) none
-  services_each (c ∷ cs) n =
-      ap (λ l. service_of l n) (each c cs) ∙ ap (λ (o : Object). cond (o.name == n) (f c).service (service_of (then cs) n)) (object c) ∙ ap (λ v. cond (c.object.name == n) v (service_of (then cs) n)) (service c)
-      ∙ ap (λ v. cond (c.object.name == n) c.service v) (services_each cs n)
+  services_each (c ∷ cs) n = grind (arith, nat_tests, services_each cs n)
 
   owners_each : (cs : List Cell) (n : ℕ) → owner_of (then cs) n ≡ owner_of cs n
   owners_each [] n = ap (λ l. owner_of l n) none
-  owners_each (c ∷ cs) n =
-      ap (λ l. owner_of l n) (each c cs) ∙ ap (λ (o : Object). cond (o.name == n) (Some (f c).owner) (owner_of (then cs) n)) (object c) ∙ ap (λ q. cond (c.object.name == n) (Some q) (owner_of (then cs) n)) (owner c)
-      ∙ ap (λ q. cond (c.object.name == n) (Some c.owner) q) (owners_each cs n)
+  owners_each (c ∷ cs) n = grind (arith, nat_tests, owners_each cs n)
 
   slots_each : (cs : List Cell) (d : ℕ) → slots_taken d (then cs) ≡ slots_taken d cs
   slots_each [] d = ap (slots_taken d) none
-  slots_each (c ∷ cs) d =
-      ap (slots_taken d) (each c cs) ∙ ap (λ (v : Service). cond (holds_slot d v.sender) (suc (slots_taken d (then cs))) (slots_taken d (then cs))) (service c) ∙ ap (λ k. cond (holds_slot d c.service.sender) (suc k) k) (slots_each cs d)
+  slots_each (c ∷ cs) d = grind (arith, nat_tests, slots_each cs d)
 
   pub still_each : (cs : List Cell) → Still cs (then cs)
   still_each cs = record { services = services_each cs; owners = λ m. ap waits_in (owners_each cs (message_name m)); slots = slots_each cs }
@@ -126,6 +117,4 @@ still_bereaved p native cs = still_each (all_bereaved p native) (bereaved p nati
 
 -- the session of what a method works on is another
 pub still_opened : (cs : List Cell) (home : Home) (is_open : Bool) → Still cs (resessioned cs home is_open)
-still_opened cs Static is_open = still_itself cs
-still_opened cs AtRoot is_open = still_itself cs
-still_opened cs (Inside o from) is_open = still_sessioned cs o.name is_open
+still_opened cs x is_open = grind (arith, nat_tests, still_itself cs, still_sessioned cs)

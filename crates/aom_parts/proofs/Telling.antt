@@ -1,5 +1,6 @@
 -- What clients are told of messages is told on both sides alike: by the places of these messages.
-use Rattle.std.proofs.Common.{Bool, List, None, Option, Some, [], ap, cond, false, refl, slice_index_or, sym, true, ℕ, ℤ, ◌∙◌, ◌∷◌, ◌≡◌, ◌++◌, arith}
+use Rattle.std.proofs.lemmas.Bool.Decides.{nat_tests}
+use Rattle.std.proofs.Common.{Bool, List, None, Option, Some, [], ap, cond, false, refl, slice_index_or, sym, true, ℕ, ℤ, ◌∙◌, ◌∷◌, ◌≡◌, arith}
 use Rattle.std.specs.Prelude.{flat_map, map}
 use Rattle.aom_clients.specs.Clients as kept
 use Rattle.aom_clients.specs.Table.{code_of, completion, is_queued, sender}
@@ -15,7 +16,7 @@ use Rattle.aom_sound.specs.Places.{Cell, Object, service_of}
 use Rattle.aom_transcript.specs.declared.line.Line.{Line}
 use Rattle.aom_transcript.specs.declared.line.Line.TheVariants.{Discard, Reply}
 use Rattle.aom_parts.proofs.Withdrawing.{AllWait}
-use Rattle.aom_parts.specs.Serving.{SameClients, asked_by, holds, message_name, sent_by}
+use Rattle.aom_parts.specs.Serving.{SameClients, asked_by, message_name, sent_by}
 
 -- the line of a message that is completed
 abbrev pub completed_lines : ℤ → Option Completion → List Line
@@ -34,19 +35,15 @@ told_place code slot x e = grind arith
 module _ (k : kept.State) (cs : List Cell) (clients : List Client) (same : SameClients k cs clients) where
   -- a message that was taken
   pub message_told : (o : Object) (m : ℕ) (code : ℤ) → o.name ≡ message_name m → is_queued (kept.place_at k m) ≡ false → message_line cs (Some o) code ≡ completed_lines code (completion (kept.place_at k m))
-  message_told o m code name taken =
-      ap (λ n. told_line code (service_of cs n).sender) name ∙ ap (told_line code) (sym (same.senders m)) ∙ told_place code (holds k m) (kept.place_at k m) taken
+  message_told o m code name taken = grind (arith, nat_tests, told_place code)
 
   waiting_told : (m : ℕ) → is_queued (kept.place_at k m) ≡ true → told_line (code_of ServerTerminated) (service_of cs (message_name m)).sender ≡ Reply (sender (kept.place_at k m)) (code_of ServerTerminated) ∷ []
-  waiting_told m waits = ap (told_line (code_of ServerTerminated)) (sym (same.senders m)) ∙ go (kept.place_at k m) waits
-    where
-      go : (x : Place) → is_queued x ≡ true → told_line (code_of ServerTerminated) (sent_by (holds k m) x) ≡ Reply (sender x) (code_of ServerTerminated) ∷ []
-      go x e = grind arith
+  waiting_told m waits = grind (arith, nat_tests)
 
   entries_told : (es : List Entry) → AllWait k.places es → flat_map (ended_line cs) (map (asked_by k.places) es) ≡ flat_map (gone_lines k.places) es
   entries_told [] waits = refl
   entries_told (Connect c ∷ es) waits = ap (λ l. Reply c (code_of ServerTerminated) ∷ l) (entries_told es waits)
-  entries_told (Message m ∷ es) waits = ap (λ l. l ++ flat_map (ended_line cs) (map (asked_by k.places) es)) (waiting_told m waits.0) ∙ ap (λ l. gone_lines k.places (Message m) ++ l) (entries_told es waits.1)
+  entries_told (Message m ∷ es) waits = grind (arith, nat_tests, waiting_told m waits.0, entries_told es waits.1)
   entries_told (Close c ∷ es) waits = entries_told es waits
 
   -- all that waits as its server goes

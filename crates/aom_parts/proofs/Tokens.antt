@@ -1,5 +1,6 @@
 -- The machine's tokens stand for those of the checked machine: as one is handed out, as its request is aborted, and as one is replied to.
-use Rattle.std.proofs.Common.{arith, Bool, List, None, Option, Some, ap, cond, false, length, refl, subst, sym, true, ℕ, ℤ, ◌+◌, ◌==◌, ◌∙◌, ◌≡◌, ◌≢◌}
+use Rattle.std.proofs.lemmas.Bool.Decides.{nat_tests}
+use Rattle.std.proofs.Common.{arith, Bool, List, None, Option, Some, ap, cond, false, length, refl, sym, true, ℕ, ℤ, ◌==◌, ◌∙◌, ◌≡◌, ◌≢◌}
 use Rattle.std.specs.Prelude.{is_some}
 use Rattle.std.proofs.lemmas.Bool.{eq-eqb, eqb-true, false≢true, ne_eqb}
 use Rattle.std.proofs.lemmas.Option.{none-some, same_Some}
@@ -11,9 +12,8 @@ use Rattle.aom_sound.proofs.Apart.{awaited_redeemed, told_as_before, waits_for}
 use Rattle.aom_sound.proofs.Maps.{requested_unnamed, requested_without, unnamed}
 use Rattle.aom_sound.proofs.Redeeming.{redeemed_alike, requested_redeemed}
 use Rattle.aom_sound.proofs.Services.{service_unnamed, service_without}
-use Rattle.aom_sound.specs.Enlisted.{on_request}
-use Rattle.aom_sound.specs.Places.{Cell, Object, Place, Request, Service, Tidy, Token, held, named, requested, service_of, unserved, without}
-use Rattle.aom_sound.specs.Tokens.{TokensApart, all_redeemed, awaited, awaits, order_in, redeemed_request, with_token, redeemed_with}
+use Rattle.aom_sound.specs.Places.{Cell, Object, Place, Service, Tidy, Token, held, named, requested, service_of, unserved, without}
+use Rattle.aom_sound.specs.Tokens.{TokensApart, all_redeemed, awaited, order_in, redeemed_request, with_token}
 use Rattle.aom_tokens.specs.Tokens.{Kept, Sets, class_at, class_kept, live_at, object_at, object_kept}
 
 other_than : (m x : ℕ) → (m == x) ≡ false → x ≢ m
@@ -23,8 +23,7 @@ some_of : (o : Option ℕ) (k : ℕ) → o ≡ Some k → is_some o ≡ true
 some_of o k e = ap is_some e
 
 waited : (o : Option ℕ) → is_some o ≡ true → (k : ℕ) × (o ≡ Some k)
-waited None e = absurd (false≢true e)
-waited (Some k) e = (k, refl)
+waited x e = grind arith
 
 -- ---- what changes no token and no request that waits for one
 
@@ -90,25 +89,17 @@ module _ (p : Image) (w new : Kept) (cs us : List Cell) (same : SameTokens p w c
   own_token x is = ap (λ b. (cond b (record unserved { token = Some token }) (service_of us (message_name x))).token) (eq-eqb (message_name m) (message_name x) (ap message_name (eqb-true m x is)))
 
   old_token : (x : ℕ) → (m == x) ≡ false → (service_of vs (message_name x)).token ≡ (service_of cs (message_name x)).token
-  old_token x other = ap (λ b. (cond b (record unserved { token = Some token }) (service_of us (message_name x))).token) (names_apart m x other) ∙ tells x
+  old_token x other = grind (arith, nat_tests, names_apart m x other)
 
   no_token : told_at cs m ≡ None
   no_token = sym (ap order_in (tells m)) ∙ ap (λ (v : Service). order_in v.token) (service_unnamed us (message_name m) unused)
 
   waits_as_before : (n k : ℕ) → awaited (requested vs n) ≡ Some k → awaited (requested us n) ≡ Some k
-  waits_as_before n k e = go (message_name m == n) e
-    where
-      go : (b : Bool) → awaited (cond b None (requested us n)) ≡ Some k → awaited (requested us n) ≡ Some k
-      go true e = absurd (none-some k e)
-      go false e = e
+  waits_as_before n k e = grind (arith, nat_tests)
 
   -- what waits is not the new token's own cell
   asked_there : (n : ℕ) → is_some (awaited (requested us n)) ≡ true → awaited (requested vs n) ≡ awaited (requested us n)
-  asked_there n some = go (message_name m == n) refl
-    where
-      go : (b : Bool) → (message_name m == n) ≡ b → awaited (cond b None (requested us n)) ≡ awaited (requested us n)
-      go true is = absurd (false≢true (sym (ap (λ r. is_some (awaited r)) (requested_unnamed us n (ap (named us) (sym (eqb-true (message_name m) n is)) ∙ unused))) ∙ some))
-      go false other = refl
+  asked_there n some = grind (arith, nat_tests, requested_unnamed us n, eqb-true)
 
   waiting : (n k : ℕ) → awaited (requested us n) ≡ Some k → (b : Bool) → (asker == n) ≡ b → Living new vs n k
   waiting n k e true is =
@@ -198,11 +189,7 @@ module _ (p : Image) (w new : Kept) (cs : List Cell) (same : SameTokens p w cs) 
       }
     where
       lives_on : (x at : ℕ) → live_at w x ≡ Some at → (m == at) ≡ false → (b : Bool) → (n == x) ≡ b → live_at new x ≡ Some at
-      lives_on x at lives other true is =
-          let one = eqb-true n x is in
-          sym (ap (live_at new) one)
-          ∙ stays (λ here. false≢true (sym other ∙ eq-eqb m at (same_Some m at (sym here ∙ ap (live_at w) one ∙ lives))))
-          ∙ ap (live_at w) one ∙ lives
+      lives_on x at lives other true is = grind (arith, nat_tests, eqb-true n x is, eq-eqb m at, same_Some m at)
       lives_on x at lives other false differs = others x differs ∙ lives
 
   -- whose living token this was waits no more
@@ -237,21 +224,11 @@ module _ (p : Image) (w new : Kept) (cs : List Cell) (same : SameTokens p w cs) 
       go false differs = (sym (others x differs) ∙ e, no_wait)
 
   lives_left : (x at : ℕ) → live_at new x ≡ Some at → is_some (awaited (requested left x)) ≡ true
-  lives_left x at e =
-      let was = was_lives x at e in
-      let old = waited (awaited (requested cs x)) (same.lives x at was.0) in
-      ap is_some (asked_then x (message_name m == x) refl ∙ still old.0 old.1 (awaits k (requested cs x)) refl was.1) ∙ some_of _ old.0 old.1
-    where
-      still : (j : ℕ) → awaited (requested cs x) ≡ Some j → (b : Bool) → awaits k (requested cs x) ≡ b → (awaited (requested cs x) ≡ Some k → ⊥)
-          → awaited (redeemed_request k code (requested cs x)) ≡ awaited (requested cs x)
-      still j waits true is none = absurd (none (waits_for k (awaited (requested cs x)) is))
-      still j waits false other none = ap (λ b. awaited (cond b (on_request (redeemed_with code) (requested cs x)) (requested cs x))) other
+  lives_left x at e = grind (arith, nat_tests, was_lives x at e, waited, asked_then x, some_of, waits_for k)
 
   class_left : (x : ℕ) (b : Bool) → (m == x) ≡ b → class_at new x ≡ class_told left x
-  class_left x true is =
-      let one = eqb-true m x is in
-      sym (ap (class_at new) one) ∙ ap class_kept freed.here ∙ sym (ap class_in (ap (λ i. (service_of left (message_name i)).token) (sym one) ∙ gone_token))
-  class_left x false other = ap class_kept (freed.others x (other_than m x other)) ∙ same.classes x ∙ sym (ap class_in (other_token x other))
+  class_left x true is = grind (arith, nat_tests, eqb-true m x is, gone_token)
+  class_left x false other = grind (arith, nat_tests, other_than m x other, other_token x other)
 
   pub tokens_redeemed : SameTokens p new left
   tokens_redeemed = record { classes = λ x. class_left x (m == x) refl; waits = waits_left; lives = lives_left; places = freed.size ∙ same.places; cells = size ∙ same.cells }

@@ -1,15 +1,16 @@
 -- Tokens stay what they are where what clients have changes, where messages of clients come and go, and where an object goes whose request is at rest: by the cells that stay.
-use Rattle.std.proofs.Common.{Bool, List, None, Option, Some, ap, arith, cond, false, refl, sym, true, ℕ, ◌+◌, ◌<◌, ◌==◌, ◌∙◌, ◌≡◌}
+use Rattle.std.proofs.lemmas.Bool.Decides.{nat_tests}
+use Rattle.std.proofs.Common.{Bool, List, None, Option, Some, ap, arith, cond, false, refl, sym, true, ℕ, ◌<◌, ◌==◌, ◌∙◌, ◌≡◌}
 use Rattle.std.specs.Prelude.{is_some}
-use Rattle.std.proofs.lemmas.Bool.{eqb-true, false≢true, ne_eqb}
+use Rattle.std.proofs.lemmas.Bool.{eqb-true, ne_eqb}
 use Rattle.aom_image.specs.Image.{Image}
 use Rattle.aom_sound.proofs.Maps.{requested_unnamed, requested_without, unnamed}
-use Rattle.aom_sound.proofs.Services.{service_here, service_there, service_unnamed, service_without}
+use Rattle.aom_sound.proofs.Services.{service_here, service_there, service_without}
 use Rattle.aom_sound.proofs.Sifted.{cell_of, cell_of_sifted, kept as left_cell, service_cell, service_in, sifted}
 use Rattle.aom_sound.proofs.Unslotting.{each_unslotted_requests}
 use Rattle.aom_sound.specs.Clients.{each_unslotted}
-use Rattle.aom_sound.specs.Kept.{one_if_some, sources_of}
-use Rattle.aom_sound.specs.Places.{Cell, Object, Place, Sender, Service, Tidy, Token, held, named, requested, service_of, set_service, without}
+use Rattle.aom_sound.specs.Kept.{sources_of}
+use Rattle.aom_sound.specs.Places.{Cell, Object, Place, Service, Tidy, Token, held, named, requested, service_of, set_service, without}
 use Rattle.aom_sound.specs.Tokens.{awaited}
 use Rattle.aom_parts.proofs.Beside.{Beside}
 use Rattle.aom_parts.proofs.Serving.{absent_served}
@@ -23,27 +24,13 @@ use Rattle.aom_tokens.specs.Tokens.{Kept}
 
 -- what has one source has a sender just where it is no token
 pub sent_untold : (v : Service) → sources_of v ≡ 1 → v.token ≡ None → is_some v.sender ≡ true
-sent_untold v one none = go v.sender (ap (λ t. one_if_some v.sender + one_if_some t) (sym none) ∙ one)
-  where
-    go : (x : Option Sender) → one_if_some x + 0 ≡ 1 → is_some x ≡ true
-    go None e = absurd (omega (arith, e))
-    go (Some x) e = refl
+sent_untold v one none = grind (arith, nat_tests)
 
 pub untold_sent : (v : Service) → sources_of v ≡ 1 → is_some v.sender ≡ true → v.token ≡ None
-untold_sent v one sent = go v.sender v.token one sent
-  where
-    go : (x : Option Sender) (t : Option Token) → one_if_some x + one_if_some t ≡ 1 → is_some x ≡ true → t ≡ None
-    go x None e sent = refl
-    go None (Some t) e sent = absurd (false≢true sent)
-    go (Some x) (Some t) e sent = absurd (omega (arith, e))
+untold_sent v one sent = grind (arith, nat_tests)
 
 pub token_unsent : (v : Service) → sources_of v ≡ 1 → is_some v.token ≡ true → v.sender ≡ None
-token_unsent v one told = go v.sender v.token one told
-  where
-    go : (x : Option Sender) (t : Option Token) → one_if_some x + one_if_some t ≡ 1 → is_some t ≡ true → x ≡ None
-    go None t e told = refl
-    go (Some x) None e told = absurd (false≢true told)
-    go (Some x) (Some t) e told = absurd (omega (arith, e))
+token_unsent v one told = grind (arith, nat_tests)
 
 -- ---- tokens go on
 
@@ -61,14 +48,7 @@ tokens_beside p w cs ds beside tells same = tokens_still p w cs ds (λ n. ap awa
 
 -- what clients have at a cell changes
 pub told_served : (cs : List Cell) (n : ℕ) (v : Service) → v.token ≡ token_under cs n → Told_alike cs (set_service n v cs)
-told_served cs n v same k = go (n == k) refl (named cs n) refl
-  where
-    go : (b : Bool) → (n == k) ≡ b → (o : Option Object) → named cs n ≡ o → token_under (set_service n v cs) k ≡ token_under cs k
-    go false e o there = ap (λ (x : Service). x.token) (service_there cs n k v e)
-    go true e (Some o) there =
-        let is = eqb-true n k e in
-        ap (λ i. token_under (set_service n v cs) i) (sym is) ∙ ap (λ (x : Service). x.token) (service_here cs n v o there) ∙ same ∙ ap (λ i. token_under cs i) is
-    go true e None there = ap (λ l. token_under l k) (absent_served cs n v there)
+told_served cs n v same k = grind (arith, nat_tests, service_there cs n k v, eqb-true n k, service_here cs n v, absent_served cs n v)
 
 -- some cells go, none of which is a token
 pub told_sifted :

@@ -1,18 +1,18 @@
 -- What a write does to the places, on the machine's side and on the checked machine's.
-use Rattle.std.proofs.Common.{suc, ◌≡◌, ℕ, ℤ, ◌<◌, ◌≤◌, Bool, true, false, cond, ◌==◌, ◌&&◌, length, List, [], ◌∷◌, Option, None, slice_set, slice_index_or, refl, sym, ap, ◌∙◌, subst, arith}
-use Rattle.std.proofs.lemmas.Bool.{eqb-true, eq-eqb, ne_eqb, false≢true}
+use Rattle.std.proofs.lemmas.Bool.Decides.{nat_tests}
+use Rattle.std.proofs.Common.{suc, ◌≡◌, ℕ, ℤ, ◌<◌, ◌≤◌, Bool, true, false, cond, ◌==◌, length, List, [], ◌∷◌, Option, None, slice_set, slice_index_or, refl, sym, ap, ◌∙◌, subst, arith}
+use Rattle.std.proofs.lemmas.Bool.{eqb-true, eq-eqb, ne_eqb}
 use Rattle.std.proofs.lemmas.List.{get_or-set_same, get_or-set_other}
 use Rattle.aom_cells.specs.Heap.{Heap, null}
-use Rattle.aom_shape.specs.Tables.{at, put_at}
+use Rattle.aom_shape.specs.Tables.{put_at}
 use Rattle.aom_sound.specs.Places.{Place, Register, Going, same_place, Object, changed}
 use Rattle.aom_sound.specs.State.{Frame, Task, Run, Destroy}
 use Rattle.aom_sound.proofs.Maps.{at-put_at, same_place-true, transfer}
-use Rattle.aom_frames.specs.Tasks.{register_of}
 use Rattle.aom_frames.specs.declared.frame.Frame.{Frame as Held_frame}
 use Rattle.aom_frames.specs.declared.task.Task.{Task as Held_task}
 use Rattle.aom_frames.specs.declared.task.Task.TheVariants.{Run as Runs_frame, Destroy as Destroys}
-use Rattle.aom_parts.specs.Places.{Others, register_in, going_of, going_in, value_in}
-use Rattle.aom_parts.specs.Agrees.{word_of, word_in, word_at, Shows, SameTasks}
+use Rattle.aom_parts.specs.Places.{Others, register_in, going_in, value_in}
+use Rattle.aom_parts.specs.Agrees.{word_in, word_at, Shows, SameTasks}
 use Rattle.aom_cleanup.specs.declared.item.Item.{Item}
 use Rattle.std.proofs.lemmas.List.{nil_from_length}
 use Rattle.aom_parts.proofs.Alike.{by_tasks}
@@ -23,9 +23,7 @@ cases false y n = n refl
 
 -- an array written at one number
 pub slot_set : (none : ℕ) (xs : List ℕ) (i j x : ℕ) → i < length xs → slice_index_or (slice_set xs i x) j none ≡ cond (i == j) x (slice_index_or xs j none)
-slot_set none xs i j x small = cases (i == j)
-    (λ e. ap (λ k. slice_index_or (slice_set xs i x) k none) (sym (eqb-true i j e)) ∙ get_or-set_same xs i x none small ∙ ap (λ b. cond b x (slice_index_or xs j none)) (sym e))
-    (λ e. get_or-set_other xs i j x none (λ d. false≢true (sym e ∙ eq-eqb i j (sym d))) ∙ ap (λ b. cond b x (slice_index_or xs j none)) (sym e))
+slot_set none xs i j x small = grind (arith, nat_tests, eqb-true i j, get_or-set_same xs i x none small, get_or-set_other xs i j x none, eq-eqb i j)
 
 pub same_length : (ms : List Held_task) (ts : List Task) → SameTasks ms ts → length ms ≡ length ts
 same_length = by_tasks (λ ms ts. length ms ≡ length ts) refl (λ m t ms ts _ _ e. ap suc e)
@@ -36,23 +34,18 @@ none_alike ms ts same e = nil_from_length ms (same_length ms ts same ∙ ap leng
 -- past the tasks at hand there is nothing
 pub register_past : (us : List Held_task) (d i : ℕ) → length us ≤ d → register_in us d i ≡ null
 register_past [] d i e = refl
-register_past (u ∷ us) d i e =
-    ap (λ b. cond b (register_of u i) (register_in us d i)) (ne_eqb (length us) d (λ k. let n = k in omega (arith, e, n))) ∙ register_past us d i (omega arith)
+register_past (u ∷ us) d i e = grind (arith, nat_tests, ne_eqb, register_past us d i)
 
 pub going_past : (us : List Held_task) (d : ℕ) → length us ≤ d → going_in us d ≡ null
 going_past [] d e = refl
-going_past (u ∷ us) d e =
-    ap (λ b. cond b (going_of u) (going_in us d)) (ne_eqb (length us) d (λ k. let n = k in omega (arith, e, n))) ∙ going_past us d (omega arith)
+going_past (u ∷ us) d e = grind (arith, nat_tests, ne_eqb, going_past us d)
 
 pub word_past : (us : List Task) (d i : ℕ) → length us ≤ d → word_in us d i ≡ None
 word_past [] d i e = refl
-word_past (u ∷ us) d i e =
-    ap (λ b. cond b (word_of u i) (word_in us d i)) (ne_eqb (length us) d (λ k. let n = k in omega (arith, e, n))) ∙ word_past us d i (omega arith)
+word_past (u ∷ us) d i e = grind (arith, nat_tests, ne_eqb, word_past us d i)
 
 pub at_depth : {A : Type 0} (n d : ℕ) (x y : A) → ((d ≡ n) → y ≡ x) → cond (n == d) x y ≡ y
-at_depth n d x y h = cases (n == d)
-    (λ e. ap (λ b. cond b x y) e ∙ sym (h (sym (eqb-true n d e))))
-    (λ e. ap (λ b. cond b x y) e)
+at_depth n d x y h = grind (arith, nat_tests, eqb-true n d)
 
 -- a register of the frame that runs is read, and written
 pub value_here : (f : Held_frame) (ms : List Held_task) (h : Heap) (es : List Item) (others : Others) (d i : ℕ) → length ms ≡ d → value_in (Runs_frame f ∷ ms) h es others (Register d i) ≡ slice_index_or f.registers i null
@@ -60,13 +53,7 @@ value_here f ms h es others d i e = ap (λ b. cond b (slice_index_or f.registers
 
 pub value_written : (f : Held_frame) (ms : List Held_task) (h : Heap) (es : List Item) (others : Others) (d i x place : ℕ) → length ms ≡ d → i < length f.registers → (r : Place)
     → value_in (Runs_frame (record f { registers = slice_set f.registers i x; place = place }) ∷ ms) h es others r ≡ changed (value_in (Runs_frame f ∷ ms) h es others) (Register d i) x r
-value_written f ms h es others d i x place deep small (Register e j) =
-    ap (λ n. cond (length ms == e) n (register_in ms e j)) (slot_set null f.registers i j x small) ∙ go (length ms == e) ∙ ap (λ k. cond ((k == e) && (i == j)) x (cond (length ms == e) (slice_index_or f.registers j null) (register_in ms e j))) deep
-  where
-    go : (b : Bool) → cond b (cond (i == j) x (slice_index_or f.registers j null)) (register_in ms e j) ≡ cond (b && (i == j)) x (cond b (slice_index_or f.registers j null) (register_in ms e j))
-    go true = refl
-    go false = refl
-value_written f ms h es others d i x place deep small _ = refl
+value_written f ms h es others d i x place deep small y = grind (arith, nat_tests, slot_set)
 
 -- counters and the method's place are no places of values
 pub value_counted : (f : Held_frame) (ms : List Held_task) (h : Heap) (es : List Item) (others : Others) (counters : List ℕ) (place : ℕ) (r : Place) → value_in (Runs_frame (record f { counters = counters; place = place }) ∷ ms) h es others r ≡ value_in (Runs_frame f ∷ ms) h es others r
@@ -78,13 +65,7 @@ value_kept f ms h es others place r = value_counted f ms h es others f.counters 
 -- a word is written in the checked machine
 pub word_written : (fr : Frame) (ts : List Task) (i place : ℕ) (w : Option ℤ) (r : Place)
     → word_at (Run (record fr { words = put_at None fr.words i w; place = place }) ∷ ts) r ≡ changed (word_at (Run fr ∷ ts)) (Register (length ts) i) w r
-word_written fr ts i place w (Register d j) =
-    ap (λ n. cond (length ts == d) n (word_in ts d j)) (at-put_at None fr.words i j w) ∙ go (length ts == d)
-  where
-    go : (b : Bool) → cond b (cond (i == j) w (at None fr.words j)) (word_in ts d j) ≡ cond (b && (i == j)) w (cond b (at None fr.words j) (word_in ts d j))
-    go true = refl
-    go false = refl
-word_written fr ts i place w _ = refl
+word_written fr ts i place w x = grind (arith, nat_tests, at-put_at None fr.words i)
 
 pub word_counted : (fr : Frame) (ts : List Task) (counters : List ℕ) (place : ℕ) (r : Place) → word_at (Run (record fr { counters = counters; place = place }) ∷ ts) r ≡ word_at (Run fr ∷ ts) r
 word_counted fr ts counters place _ = refl
@@ -94,22 +75,10 @@ word_next fr ts place r = word_counted fr ts fr.counters place r
 
 -- a destruction is at hand
 pub destroys_value : (us : List Held_task) (h : Heap) (es : List Item) (others : Others) (n d : ℕ) → length us ≡ d → (r : Place) → value_in (Destroys n ∷ us) h es others r ≡ changed (value_in us h es others) (Going d) n r
-destroys_value us h es others n d deep (Register e i) = at_depth (length us) e null (register_in us e i) (λ k. register_past us e i (omega arith))
-destroys_value us h es others n d deep (Going k) = ap (λ z. cond (z == k) n (going_in us k)) deep ∙ same (d == k)
-  where
-    same : (b : Bool) → cond b n (going_in us k) ≡ cond (b && true) n (going_in us k)
-    same true = refl
-    same false = refl
-destroys_value us h es others n d deep _ = refl
+destroys_value us h es others n d deep x = grind (arith, nat_tests, at_depth, register_past us)
 
 pub destroys_word : (us : List Task) (d : ℕ) (r : Place) → word_at (Destroy ∷ us) r ≡ changed (word_at us) (Going d) None r
-destroys_word us d (Register e i) = at_depth (length us) e None (word_in us e i) (λ k. word_past us e i (omega arith))
-destroys_word us d (Going k) = same ((d == k) && true)
-  where
-    same : (b : Bool) → ◌≡◌ {A = Option ℤ} None (cond b None None)
-    same true = refl
-    same false = refl
-destroys_word us d _ = refl
+destroys_word us d x = grind (arith, nat_tests, at_depth, word_past us)
 
 -- whatever a place has goes to another place, and null takes its place
 pub moves : (v v' : Place → ℕ) (w w' : Place → Option ℤ) (h h' : Place → Option Object) (p q : Place)
@@ -135,16 +104,7 @@ pub writes : (v v' : Place → ℕ) (w w' : Place → Option ℤ) (h h' : Place 
     → ((r : Place) → w' r ≡ changed w q x r)
     → ((r : Place) → h' r ≡ changed h q o r)
     → (r : Place) → Shows (v' r) (w' r) (h' r)
-writes v v' w w' h h' q n x o old new ev ew eh r =
-    subst (λ k. Shows k (w' r) (h' r)) (sym (ev r)) (subst (λ y. Shows (changed v q n r) y (h' r)) (sym (ew r)) (subst (λ z. Shows (changed v q n r) (changed w q x r) z) (sym (eh r)) (go (same_place q r))))
-  where
-    go : (b : Bool) → Shows (cond b n (v r)) (cond b x (w r)) (cond b o (h r))
-    go true = new
-    go false = old r
+writes v v' w w' h h' q n x o old new ev ew eh r = grind (arith, nat_tests)
 
 pub kept : {A : Type 0} (f : Place → A) (q r : Place) → f r ≡ changed f q (f q) r
-kept f q r = go (same_place q r) refl
-  where
-    go : (b : Bool) → same_place q r ≡ b → f r ≡ cond b (f q) (f r)
-    go true e = ap f (sym (same_place-true q r e))
-    go false e = refl
+kept f q r = grind (arith, nat_tests, same_place-true q r)

@@ -1,7 +1,8 @@
 -- A cell goes, a server with its queue and its sessions, and what stands for clients goes on standing for them.
-use Rattle.std.proofs.Common.{Bool, List, None, Option, Some, [], ap, arith, cond, false, length, refl, slice_index_or, subst, suc, sym, true, ℕ, ◌&&◌, ◌<◌, ◌==◌, ◌∙◌, ◌∷◌, ◌≡◌, inl, inr, ◌⊎◌}
+use Rattle.std.proofs.lemmas.Bool.Decides.{nat_tests}
+use Rattle.std.proofs.Common.{Bool, List, None, Option, Some, [], ap, arith, cond, false, length, refl, slice_index_or, subst, sym, true, ℕ, ◌<◌, ◌==◌, ◌∙◌, ◌∷◌, ◌≡◌, inl, inr, ◌⊎◌}
 use Rattle.std.specs.List.{list_any}
-use Rattle.std.specs.Prelude.{filter, map, not, ◌||◌}
+use Rattle.std.specs.Prelude.{filter, map, ◌||◌}
 use Rattle.std.proofs.lemmas.Bool.{eq-eqb, eqb-true, false≢true}
 use Rattle.aom_clients.specs.Clients as kept
 use Rattle.aom_clients.specs.Table.{at_gone, is_queued, sender}
@@ -10,14 +11,14 @@ use Rattle.aom_clients.specs.declared.client.Client.TheVariants.{Unconnected}
 use Rattle.aom_clients.specs.declared.entry.Entry.{Entry}
 use Rattle.aom_clients.specs.declared.entry.Entry.TheVariants.{Close, Connect, Message}
 use Rattle.aom_clients.specs.declared.place.Place.{Place}
-use Rattle.aom_clients.specs.declared.place.Place.TheVariants.{Discarded, Free, Held, Queued}
+use Rattle.aom_clients.specs.declared.place.Place.TheVariants.{Free, Queued}
 use Rattle.aom_sound.proofs.ClientsGone.{gone_so, goes_with, queue_ended_at, sessions_ended_at}
 use Rattle.aom_sound.proofs.Maps.{one_place, same_place-true, same_place_refl}
 use Rattle.aom_sound.proofs.Parting.{among_others, among_parted}
 use Rattle.aom_sound.proofs.Sifted.{a_cell_of, cell_in, cell_lives, cell_name, cell_of, cell_of_sifted, cell_owner, cell_placed, held_cell, kept as left_cell, named_cell, object_in, service_cell, service_in, sifted}
 use Rattle.aom_sound.specs.Clients.{client_at, each_unslotted, queue_ended, sessions_ended}
 use Rattle.aom_sound.specs.Kept.{is_connect_of}
-use Rattle.aom_sound.specs.Places.{Cell, Close_of, Connect_of, Elsewhere, Message_of, Object, Place as Owner, Queued as Waits_at, Sender, Service, Tidy, held, named, place_outer, same_place, service_of, without}
+use Rattle.aom_sound.specs.Places.{Cell, Close_of, Connect_of, Elsewhere, Object, Place as Owner, Queued as Waits_at, Sender, Service, Tidy, held, named, place_outer, same_place, service_of, without}
 use Rattle.aom_sound.specs.Servers.{all_unslotted, has_message, holds_slot, is_among, is_message, is_other, is_queue, is_queue_of, slots_taken, unslotted, without_queue}
 use Rattle.aom_parts.proofs.Completing.{once_without, queued_still}
 use Rattle.aom_parts.proofs.Departing.{all_without, client_after_queue, client_after_sessions, connects, is_at, lengths_after_queue, lengths_after_sessions, place_after_queue, places_after_sessions, queue_after_queue, queues_after_sessions, sent_after_queue, sent_after_sessions, sessions_after_queue, sessions_after_sessions}
@@ -27,8 +28,7 @@ use Rattle.aom_parts.specs.Serving.{Once, SameClients, asked_by, holds, message_
 use Rattle.aom_sound.proofs.Destroying.{eqb_comm}
 
 either_true : (a b : Bool) → (a || b) ≡ true → (a ≡ true) ⊎ (b ≡ true)
-either_true true b h = inl refl
-either_true false b h = inr h
+either_true x b h = grind arith
 
 -- ---- messages without slots
 
@@ -47,46 +47,24 @@ lost_some [] d slot told = refl
 lost_some (c ∷ xs) d slot told = ap (λ m. lost xs (Some m)) (first (d == c)) ∙ lost_some xs d (cond (d == c) false slot) told ∙ ap (λ b. Some (record { client = d; holds_slot = b; is_told = told })) (both (is_among d xs) (d == c) (c == d) (eqb_comm d c))
   where
     first : (b : Bool) → ◌≡◌ {A = Sender} (cond b (record { client = d; holds_slot = false; is_told = told }) (record { client = d; holds_slot = slot; is_told = told })) (record { client = d; holds_slot = cond b false slot; is_told = told })
-    first true = refl
-    first false = refl
+    first x = grind arith
 
     both : (a b b' : Bool) → b ≡ b' → cond a false (cond b false slot) ≡ cond (b' || a) false slot
     both a x y e = grind arith
 
 lost_sent : (xs : List ℕ) (slot : Bool) (p : Place) → lost xs (sent_by slot p) ≡ sent_by (cond (is_among (sender p) xs) false slot) p
-lost_sent xs slot Free = lost_none xs
-lost_sent xs slot (Queued d) = lost_some xs d slot true
-lost_sent xs slot (Held d) = lost_some xs d slot true
-lost_sent xs slot (Discarded d) = lost_some xs d slot false
+lost_sent xs slot x = grind (arith, nat_tests, lost_none xs, lost_some xs)
 
 lost_slot : (xs : List ℕ) (d : ℕ) (m : Option Sender) → holds_slot d (lost xs m) ≡ cond (is_among d xs) false (holds_slot d m)
-lost_slot xs d None = ap (holds_slot d) (lost_none xs) ∙ never (is_among d xs)
-  where
-    never : (a : Bool) → false ≡ cond a false false
-    never true = refl
-    never false = refl
-lost_slot xs d (Some m) = ap (holds_slot d) (lost_some xs m.client m.holds_slot m.is_told) ∙ go (m.client == d) refl
-  where
-    none : (a : Bool) → false ≡ cond a false false
-    none true = refl
-    none false = refl
-
-    go : (b : Bool) → (m.client == d) ≡ b → ((m.client == d) && cond (is_among m.client xs) false m.holds_slot) ≡ cond (is_among d xs) false ((m.client == d) && m.holds_slot)
-    go true e = ap (λ b. b && cond (is_among m.client xs) false m.holds_slot) e ∙ ap (λ k. cond (is_among k xs) false m.holds_slot) (eqb-true m.client d e) ∙ sym (ap (λ b. cond (is_among d xs) false (b && m.holds_slot)) e)
-    go false e = ap (λ b. b && cond (is_among m.client xs) false m.holds_slot) e ∙ none (is_among d xs) ∙ sym (ap (λ b. cond (is_among d xs) false (b && m.holds_slot)) e)
+lost_slot xs d x = grind (arith, nat_tests, lost_none xs, lost_some xs, eqb-true)
 
 service_unslotted : (c : ℕ) (cs : List Cell) (n : ℕ) → service_of (all_unslotted c cs) n ≡ record (service_of cs n) { sender = unslotted c (service_of cs n).sender }
 service_unslotted c [] n = refl
-service_unslotted c (x ∷ cs) n = go (x.object.name == n) (service_unslotted c cs n)
-  where
-    go : (b : Bool) → service_of (all_unslotted c cs) n ≡ record (service_of cs n) { sender = unslotted c (service_of cs n).sender } →
-        cond b (record x.service { sender = unslotted c x.service.sender }) (service_of (all_unslotted c cs) n) ≡ record (cond b x.service (service_of cs n)) { sender = unslotted c (cond b x.service (service_of cs n)).sender }
-    go true e = refl
-    go false e = e
+service_unslotted c (x ∷ cs) n = grind (arith, nat_tests, service_unslotted c cs n)
 
 pub service_lost : (xs : List ℕ) (cs : List Cell) (n : ℕ) → service_of (each_unslotted xs cs) n ≡ record (service_of cs n) { sender = lost xs (service_of cs n).sender }
 service_lost [] cs n = refl
-service_lost (c ∷ xs) cs n = service_lost xs (all_unslotted c cs) n ∙ ap (λ (v : Service). record v { sender = lost xs v.sender }) (service_unslotted c cs n)
+service_lost (c ∷ xs) cs n = grind (arith, nat_tests, service_lost xs, service_unslotted c cs n)
 
 owner_unslotted : (c : ℕ) (cs : List Cell) (n : ℕ) → owner_of (all_unslotted c cs) n ≡ owner_of cs n
 owner_unslotted c [] n = refl
@@ -97,28 +75,12 @@ owner_lost [] cs n = refl
 owner_lost (c ∷ xs) cs n = owner_lost xs (all_unslotted c cs) n ∙ owner_unslotted c cs n
 
 slots_unslotted : (c : ℕ) (cs : List Cell) (d : ℕ) → slots_taken d (all_unslotted c cs) ≡ cond (c == d) 0 (slots_taken d cs)
-slots_unslotted c [] d = none (c == d)
-  where
-    none : (a : Bool) → ◌≡◌ {A = ℕ} 0 (cond a 0 0)
-    none true = refl
-    none false = refl
-slots_unslotted c (x ∷ cs) d = ap (λ b. cond b (suc (slots_taken d (all_unslotted c cs))) (slots_taken d (all_unslotted c cs))) (lost_slot (c ∷ []) d x.service.sender) ∙ go (c == d) (holds_slot d x.service.sender) (slots_unslotted c cs d)
-  where
-    go : (b y : Bool) → slots_taken d (all_unslotted c cs) ≡ cond b 0 (slots_taken d cs) →
-        cond (cond (b || false) false y) (suc (slots_taken d (all_unslotted c cs))) (slots_taken d (all_unslotted c cs)) ≡ cond b 0 (cond y (suc (slots_taken d cs)) (slots_taken d cs))
-    go true y e = e
-    go false true e = ap suc e
-    go false false e = e
+slots_unslotted c [] d = grind (arith, nat_tests)
+slots_unslotted c (x ∷ cs) d = grind (arith, nat_tests, lost_slot (c ∷ []) d x.service.sender, slots_unslotted c cs d)
 
 slots_lost : (xs : List ℕ) (cs : List Cell) (d : ℕ) → slots_taken d (each_unslotted xs cs) ≡ cond (is_among d xs) 0 (slots_taken d cs)
 slots_lost [] cs d = refl
-slots_lost (c ∷ xs) cs d = slots_lost xs (all_unslotted c cs) d ∙ ap (λ k. cond (is_among d xs) 0 k) (slots_unslotted c cs d) ∙ go (is_among d xs) (c == d)
-  where
-    go : (a b : Bool) → cond a 0 (cond b 0 (slots_taken d cs)) ≡ cond (b || a) 0 (slots_taken d cs)
-    go true true = refl
-    go true false = refl
-    go false true = refl
-    go false false = refl
+slots_lost (c ∷ xs) cs d = grind (arith, nat_tests, slots_lost xs, slots_unslotted c cs d)
 
 -- ---- of the cells that go none holds a slot
 
@@ -137,26 +99,17 @@ each_cell P (c ∷ cs) t h =
 
 slots_sifted : (drops : Cell → Bool) (d : ℕ) (cs : List Cell) → AllCells (λ x. drops x ≡ true → holds_slot d x.service.sender ≡ false) cs → slots_taken d (sifted drops (λ c. c.service) cs) ≡ slots_taken d cs
 slots_sifted drops d [] none = refl
-slots_sifted drops d (x ∷ cs) none = go (drops x) refl (slots_sifted drops d cs none.1)
-  where
-    go : (b : Bool) → drops x ≡ b → slots_taken d (sifted drops (λ c. c.service) cs) ≡ slots_taken d cs →
-        slots_taken d (cond b (sifted drops (λ c. c.service) cs) (x ∷ sifted drops (λ c. c.service) cs)) ≡ cond (holds_slot d x.service.sender) (suc (slots_taken d cs)) (slots_taken d cs)
-    go true e rest = rest ∙ sym (ap (λ b. cond b (suc (slots_taken d cs)) (slots_taken d cs)) (none.0 e))
-    go false e rest = ap (λ k. cond (holds_slot d x.service.sender) (suc k) k) rest
+slots_sifted drops d (x ∷ cs) none = grind (arith, nat_tests, slots_sifted drops d cs none.1, sifted drops)
 
 -- ---- entries on both sides
 
 pub names_same : (k j : ℕ) → (message_name k == message_name j) ≡ (k == j)
-names_same k j = go (k == j) refl
-  where
-    go : (b : Bool) → (k == j) ≡ b → (message_name k == message_name j) ≡ b
-    go true e = eq-eqb (message_name k) (message_name j) (ap message_name (eqb-true k j e))
-    go false e = names_apart k j e
+names_same k j = grind (arith, nat_tests, eq-eqb, eqb-true k j, names_apart k j)
 
 pub asks_message : (places : List Place) (es : List Entry) (j : ℕ) → list_any (is_message (message_name j)) (map (asked_by places) es) ≡ list_any (is_at j) es
 asks_message places [] j = refl
 asks_message places (Connect c ∷ es) j = asks_message places es j
-asks_message places (Message k ∷ es) j = ap (λ b. b || list_any (is_message (message_name j)) (map (asked_by places) es)) (names_same k j) ∙ ap (λ b. (k == j) || b) (asks_message places es j)
+asks_message places (Message k ∷ es) j = grind (arith, nat_tests, names_same k j, asks_message places es j)
 asks_message places (Close c ∷ es) j = asks_message places es j
 
 pub asks_connect : (places : List Place) (es : List Entry) (c : ℕ) → list_any (is_connect_of c) (map (asked_by places) es) ≡ list_any (connects c) es
@@ -170,13 +123,7 @@ asked_alike : (places places' : List Place) (es : List Entry) → ((m : ℕ) →
 asked_alike places places' [] same = refl
 asked_alike places places' (Connect c ∷ es) same = ap (λ l. Connect_of c ∷ l) (asked_alike places places' es same)
 asked_alike places places' (Close c ∷ es) same = ap (λ l. Close_of c ∷ l) (asked_alike places places' es same)
-asked_alike places places' (Message k ∷ es) same =
-    ap (λ d. Message_of d (message_name k) ∷ map (asked_by places') es) (same k (ap (λ b. b || list_any (is_at k) es) (eq-eqb k k refl)))
-    ∙ ap (λ l. asked_by places (Message k) ∷ l) (asked_alike places places' es (λ m h. same m (later (k == m) (list_any (is_at m) es) h)))
-  where
-    later : (a b : Bool) → b ≡ true → (a || b) ≡ true
-    later true b h = refl
-    later false b h = h
+asked_alike places places' (Message k ∷ es) same = grind (arith, nat_tests, is_at k, eq-eqb k k, asked_alike places places' es)
 
 -- ---- slots without messages
 
@@ -184,12 +131,7 @@ among_without : (es : List Entry) (ms : List ℕ) (j : ℕ) → is_among j (all_
 among_without [] ms j = refl
 among_without (Connect c ∷ es) ms j = among_without es ms j
 among_without (Close c ∷ es) ms j = among_without es ms j
-among_without (Message k ∷ es) ms j = among_without es (filter (is_other k) ms) j ∙ go (k == j) refl (list_any (is_at j) es)
-  where
-    go : (b : Bool) → (k == j) ≡ b → (x : Bool) → cond x false (is_among j (filter (is_other k) ms)) ≡ cond (b || x) false (is_among j ms)
-    go true e true = refl
-    go true e false = ap (λ i. is_among i (filter (is_other k) ms)) (sym (eqb-true k j e)) ∙ among_parted k ms
-    go false e x = ap (λ b. cond x false b) (among_others j k ms e)
+among_without (Message k ∷ es) ms j = grind (arith, nat_tests, among_without es, is_at j, eqb-true k j, among_parted k ms, among_others j k ms)
 
 once_after : (es : List Entry) (ms : List ℕ) → Once ms → Once (all_without es ms)
 once_after [] ms once = once
@@ -200,21 +142,13 @@ once_after (Message k ∷ es) ms once = once_after es (filter (is_other k) ms) (
 -- all stay of which none goes
 none_goes : (k : ℕ) (ms : List ℕ) → is_among k ms ≡ false → filter (is_other k) ms ≡ ms
 none_goes k [] none = refl
-none_goes k (m ∷ ms) none = go (m == k) refl none (none_goes k ms)
-  where
-    go : (b : Bool) → (m == k) ≡ b → (b || is_among k ms) ≡ false → (is_among k ms ≡ false → filter (is_other k) ms ≡ ms) → cond (not b) (m ∷ filter (is_other k) ms) (filter (is_other k) ms) ≡ m ∷ ms
-    go x e none rest = grind arith
+none_goes k (m ∷ ms) none = grind (arith, nat_tests, none_goes k ms)
 
 all_stay : (es : List Entry) (ms : List ℕ) → ((k : ℕ) → list_any (is_at k) es ≡ true → is_among k ms ≡ false) → all_without es ms ≡ ms
 all_stay [] ms none = refl
 all_stay (Connect c ∷ es) ms none = all_stay es ms none
 all_stay (Close c ∷ es) ms none = all_stay es ms none
-all_stay (Message k ∷ es) ms none =
-    ap (all_without es) (none_goes k ms (none k (ap (λ b. b || list_any (is_at k) es) (eq-eqb k k refl)))) ∙ all_stay es ms (λ j h. none j (later (k == j) (list_any (is_at j) es) h))
-  where
-    later : (a b : Bool) → b ≡ true → (a || b) ≡ true
-    later true b h = refl
-    later false b h = h
+all_stay (Message k ∷ es) ms none = grind (arith, nat_tests, all_without es, none_goes k ms, is_at k, eq-eqb k k, all_stay es ms)
 
 -- ---- the whole
 
@@ -284,16 +218,10 @@ module _
 
   -- a cell that is owned by its queue is asked for there
   drops_queue : (n : ℕ) (x : Cell) → cell_of cs n ≡ Some x → is_queue_of k x.owner ≡ true → has_message (service_of cs k) n ≡ true
-  drops_queue n x e h =
-      let q = queue_of_owner k x.owner h in
-      let f = asked q.0 x.object (ap (λ i. held cs i) (sym q.1) ∙ owner_there n x e) in
-      ap (λ i. has_message (service_of cs k) i) (sym (cell_name cs n x e) ∙ f.0) ∙ f.1
+  drops_queue n x e h = grind (arith, nat_tests, queue_of_owner, owner_there n x e, cell_name cs n x e)
 
   drops_own : (n : ℕ) (x : Cell) → cell_of cs n ≡ Some x → same_place x.owner g ≡ true → n ≡ k
-  drops_own n x e h =
-      let one : Some x.object ≡ Some o = sym (owner_there n x e) ∙ ap (λ q. held cs q) (same_place-true x.owner g h) ∙ there in
-      let object : x.object ≡ o = cc in
-      sym (cell_name cs n x e) ∙ ap (λ (y : Object). y.name) object
+  drops_own n x e h = grind (arith, nat_tests, owner_there n x e, same_place-true x.owner g h, cell_name cs n x e)
 
   drops_message : (j : ℕ) (x : Cell) → cell_of cs (message_name j) ≡ Some x → drops x ≡ goes j
   drops_message j x e = go (goes j) refl
@@ -391,63 +319,32 @@ module _
       go false = ap waits_in (sym (owner_cell cs (message_name j)))
 
   place_then : (j : ℕ) → kept.place_at then j ≡ cond (goes j) Free (kept.place_at s j)
-  place_then j = ap (λ l. slice_index_or l j Free) (places_after_sessions k (kept.sessions_at s k) between) ∙ place_after_queue k es s j ∙ ap (λ b. cond b Free (kept.place_at s j)) (goes_at j)
+  place_then j = grind (arith, nat_tests, places_after_sessions, place_after_queue, goes_at j)
 
   sent_then : (d : ℕ) → kept.sent_at then d ≡ cond (is_among d xs) [] (all_without es (kept.sent_at s d))
-  sent_then d =
-      sent_after_sessions k (kept.sessions_at s k) between d ∙ ap (λ l. cond (is_among d l) [] (kept.sent_at between d)) listed_so ∙ ap (λ l. cond (is_among d xs) [] l) (sent_after_queue k es s d)
+  sent_then d = grind (arith, nat_tests, sent_after_sessions, listed_so, sent_after_queue)
 
   among_then : (d j : ℕ) → is_among j (kept.sent_at then d) ≡ cond (is_among d xs) false (cond (goes j) false (is_among j (kept.sent_at s d)))
-  among_then d j = ap (is_among j) (sent_then d) ∙ go (is_among d xs)
-    where
-      go : (b : Bool) → is_among j (cond b [] (all_without es (kept.sent_at s d))) ≡ cond b false (cond (goes j) false (is_among j (kept.sent_at s d)))
-      go true = refl
-      go false = among_without es (kept.sent_at s d) j ∙ ap (λ b. cond b false (is_among j (kept.sent_at s d))) (goes_at j)
+  among_then d j = grind (arith, nat_tests, sent_then d, all_without, among_without, goes_at j)
 
   senders_then : (j : ℕ) → sent_by (holds then j) (kept.place_at then j) ≡ (service_of left (message_name j)).sender
-  senders_then j = ap (λ p. sent_by (is_among j (kept.sent_at then (sender p))) p) (place_then j) ∙ go (goes j) refl ∙ sym (sender_left j)
-    where
-      go : (b : Bool) → goes j ≡ b → sent_by (is_among j (kept.sent_at then (sender (cond b Free (kept.place_at s j))))) (cond b Free (kept.place_at s j)) ≡ lost xs (cond b None (service_of cs (message_name j)).sender)
-      go true e = sym (lost_none xs)
-      go false e =
-          ap (λ b. sent_by b (kept.place_at s j)) (among_then (sender (kept.place_at s j)) j ∙ ap (λ b. cond (is_among (sender (kept.place_at s j)) xs) false (cond b false (holds s j))) e)
-          ∙ sym (lost_sent xs (holds s j) (kept.place_at s j)) ∙ ap (lost xs) (same.senders j)
+  senders_then j = grind (arith, nat_tests, place_then j, sender_left j, lost_none, among_then, lost_sent)
 
   -- what is told of a place is told no more where its message goes
   place_told : (f : Place → Bool) → f Free ≡ false → (j : ℕ) → f (kept.place_at then j) ≡ cond (goes j) false (f (kept.place_at s j))
-  place_told f free j = ap f (place_then j) ∙ go (goes j)
-    where
-      go : (b : Bool) → f (cond b Free (kept.place_at s j)) ≡ cond b false (f (kept.place_at s j))
-      go true = free
-      go false = refl
+  place_told f free j = grind (arith, nat_tests, place_then j)
 
   waits_then : (j : ℕ) → is_queued (kept.place_at then j) ≡ waits_in (owner_of left (message_name j))
   waits_then j = place_told is_queued refl j ∙ ap (λ b. cond (goes j) false b) (same.waits j) ∙ sym (owner_left j)
 
   slots_of_then : (d j : ℕ) → is_among j (kept.sent_at then d) ≡ holds_slot d (service_of left (message_name j)).sender
-  slots_of_then d j = among_then d j ∙ ap (λ b. cond (is_among d xs) false b) (go (goes j)) ∙ sym (lost_slot xs d (cond (goes j) None (service_of cs (message_name j)).sender)) ∙ ap (holds_slot d) (sym (sender_left j))
-    where
-      go : (b : Bool) → cond b false (is_among j (kept.sent_at s d)) ≡ holds_slot d (cond b None (service_of cs (message_name j)).sender)
-      go true = refl
-      go false = same.slots_of d j
+  slots_of_then d j = grind (arith, nat_tests, among_then d j, lost_slot, sender_left j)
 
   slotted_then : (j d : ℕ) → kept.place_at then j ≡ Queued d → is_among j (kept.sent_at then d) ≡ true
-  slotted_then j d e = go (is_among d xs) refl
-    where
-      was : (goes j ≡ false) × (kept.place_at s j ≡ Queued d)
-      was = queued_still (goes j) (kept.place_at s j) d (sym (place_then j) ∙ e)
-
-      go : (x : Bool) → is_among d xs ≡ x → is_among j (kept.sent_at then d) ≡ true
-      go true g = absurd (false≢true (sym was.0 ∙ going j d was.1 g))
-      go false g =
-          among_then d j ∙ ap (λ b. cond b false (cond (goes j) false (is_among j (kept.sent_at s d)))) g ∙ ap (λ b. cond b false (is_among j (kept.sent_at s d))) was.0 ∙ same.slotted j d was.1
+  slotted_then j d e = grind (arith, nat_tests, queued_still, place_then j, among_then d j)
 
   once_then : (d : ℕ) → Once (kept.sent_at then d)
-  once_then d = subst Once (sym (sent_then d)) (go (is_among d xs))
-    where
-      go : (b : Bool) → Once (cond b [] (all_without es (kept.sent_at s d)))
-      go true = tt
-      go false = once_after es (kept.sent_at s d) (same.once d)
+  once_then d = grind (arith, nat_tests, sent_then d, all_without, once_after)
 
   -- of clients that have no session with it nothing goes
   slots_then : (d : ℕ) → length (kept.sent_at then d) ≡ slots_taken d left
@@ -499,19 +396,21 @@ module _
       go false e = asked_alike s.places then.places (kept.queue_at s n) (λ j h. ap sender (place_then j ∙ ap (λ b. cond b Free (kept.place_at s j)) (stays e j h))) ∙ same.queues n
 
   sessions_then : (n : ℕ) → kept.sessions_at then n ≡ (service_of left n).sessions
-  sessions_then n =
-      sessions_after_sessions k (kept.sessions_at s k) between n (subst (λ l. k < length l) (sym (sessions_after_queue k es s)) session_room) (ap (λ l. slice_index_or l k []) (sessions_after_queue k es s))
-      ∙ ap (λ l. cond (k == n) [] (slice_index_or l n [])) (sessions_after_queue k es s) ∙ ap (λ l. cond (k == n) [] l) (same.sessions n)
-      ∙ sym (ap (λ (v : Service). v.sessions) (service_lost xs stay n) ∙ (parts_stay n).1)
+  sessions_then n = grind (arith, nat_tests, sessions_after_sessions, sessions_after_queue, service_lost, parts_stay n)
 
   at_then : (c : ℕ) → sessionless (kept.client_at then c) ≡ client_at (sessions_ended xs (queue_ended (service_of cs k).queue clients)) c
-  at_then c =
-      ap sessionless (client_after_sessions k (kept.sessions_at s k) between c ∙ ap (λ l. cond (is_among c l) (at_gone (kept.client_at between c)) (kept.client_at between c)) listed_so
-      ∙ ap (λ y. cond (is_among c xs) (at_gone y) y) (client_after_queue k es s c))
-      ∙ client_alike (list_any (connects c) es) (is_among c xs) (kept.client_at s c)
-      ∙ ap (λ b. cond (is_among c xs) (at_gone (cond b Unconnected (sessionless (kept.client_at s c)))) (cond b Unconnected (sessionless (kept.client_at s c)))) (connects_at c)
-      ∙ ap (λ y. cond (is_among c xs) (at_gone (cond (list_any (is_connect_of c) (service_of cs k).queue) Unconnected y)) (cond (list_any (is_connect_of c) (service_of cs k).queue) Unconnected y)) (same.at c)
-      ∙ sym (sessions_ended_at xs (queue_ended (service_of cs k).queue clients) c ∙ ap (λ y. cond (is_among c xs) (at_gone y) y) (queue_ended_at (service_of cs k).queue clients c))
+  at_then c = grind (
+    arith,
+    nat_tests,
+    client_after_sessions,
+    listed_so,
+    client_after_queue,
+    client_alike,
+    connects c,
+    connects_at c,
+    sessions_ended_at,
+    queue_ended_at,
+  )
 
   same_left : SameClients then left (sessions_ended xs (queue_ended (service_of cs k).queue clients))
   same_left =
@@ -520,4 +419,4 @@ module _
       assumption (at_then, queues_then, sessions_then, senders_then, waits_then, slots_of_then, slotted_then, once_then, slots_then, many, lists)
 
   pub same_vanished : SameClients then (each_unslotted xs (without g (without_queue k cs))) (sessions_ended xs (queue_ended (service_of cs k).queue clients))
-  same_vanished = subst (λ l. SameClients then (each_unslotted xs l) (sessions_ended xs (queue_ended (service_of cs k).queue clients))) (sym (gone_so k g cs)) same_left
+  same_vanished = grind (arith, nat_tests, gone_so, same_left)

@@ -11,10 +11,10 @@ use Rattle.aom_image.specs.Image.{Image}
 use Rattle.aom_clients.specs.declared.entry.Entry.{Entry}
 use Rattle.aom_clients.specs.declared.entry.Entry.TheVariants.{Connect, Message, Close}
 use Rattle.aom_clients.specs.declared.place.Place.{Place}
-use Rattle.aom_clients.specs.declared.place.Place.TheVariants.{Discarded, Free, Held, Queued}
-use Rattle.aom_clients.specs.Table.{closed_place, is_queued, is_waiting_of, sender}
+use Rattle.aom_clients.specs.declared.place.Place.TheVariants.{Free, Queued}
+use Rattle.aom_clients.specs.Table.{is_queued, is_waiting_of, sender}
 use Rattle.aom_sound.proofs.Sifted.{cell_of, cell_of_sifted, kept as left_cell, service_cell, service_in, withdrawn_so}
-use Rattle.aom_sound.specs.Places.{Asked, Cell, Close_of, Connect_of, Elsewhere, Message_of, Object, Place as Owner, Queued as Waits_at, named, Sender, Service, Tidy, service_of}
+use Rattle.aom_sound.specs.Places.{Asked, Cell, Close_of, Connect_of, Elsewhere, Object, Place as Owner, Queued as Waits_at, named, Sender, Service, Tidy, service_of}
 use Rattle.aom_sound.specs.Servers.{asked_last, discarded, holds_slot, is_among, is_from, is_queue, is_queue_of, left_by, reserved, slots_taken, stays, withdrawn}
 use Rattle.aom_sound.specs.Clients.{client_at, told, with_client}
 use Rattle.aom_sound.specs.State.{State}
@@ -29,16 +29,13 @@ at_map f none (x ∷ xs) (suc n) e = at_map f none xs n e
 -- ---- owners that are queues
 
 pub queue_owner : (q : Owner) → is_queue q ≡ true → (n : ℕ) × (m : ℕ) × (q ≡ Elsewhere (Waits_at n m))
-queue_owner (Elsewhere (Waits_at n m)) h = (n, m, refl)
-queue_owner _ h = cc
+queue_owner x h = grind arith
 
 pub queue_of_queue : (n : ℕ) (q : Owner) → is_queue_of n q ≡ true → is_queue q ≡ true
 queue_of_queue n q h = grind arith
 
 pub queue_of_owner : (n : ℕ) (q : Owner) → is_queue_of n q ≡ true → (m : ℕ) × (q ≡ Elsewhere (Waits_at n m))
-queue_of_owner n q h =
-    let o = queue_owner q (queue_of_queue n q h) in
-    (o.1, o.2 ∙ ap (λ i. Elsewhere (Waits_at i o.1)) (eqb-true o.0 n (ap (is_queue_of n) (sym o.2) ∙ h)))
+queue_of_owner n q h = grind (arith, nat_tests, queue_owner q (queue_of_queue n q h), queue_of_queue n q h, eqb-true)
 
 -- ---- one cell
 
@@ -48,11 +45,7 @@ owner_in (Some x) = Some x.owner
 
 pub owner_cell : (cs : List Cell) (n : ℕ) → owner_of cs n ≡ owner_in (cell_of cs n)
 owner_cell [] n = refl
-owner_cell (c ∷ cs) n = go (c.object.name == n) (owner_cell cs n)
-  where
-    go : (b : Bool) → owner_of cs n ≡ owner_in (cell_of cs n) → cond b (Some c.owner) (owner_of cs n) ≡ owner_in (cond b (Some c) (cell_of cs n))
-    go true e = refl
-    go false e = e
+owner_cell (c ∷ cs) n = grind (arith, nat_tests, owner_cell cs n, cell_of cs n)
 
 module _ (c : ℕ) where
   abbrev drops : Cell → Bool
@@ -73,88 +66,18 @@ module _ (c : ℕ) where
   -- of a message at that place
   sender_left : (slot slot' : Bool) (p : Place) → ((d : ℕ) → sender p ≡ d → (d == c) ≡ false → slot' ≡ slot) → (is_queued p ≡ false → (d : ℕ) → sender p ≡ d → (d == c) ≡ true → slot' ≡ false) →
       sent_by slot' (kept.left_place c p) ≡ remains (is_queued p && is_from c (sent_by slot p)) (sent_by slot p)
-  sender_left slot slot' Free other own = refl
-  sender_left slot slot' (Queued d) other own = go (d == c) refl
-    where
-      go : (b : Bool) → (d == c) ≡ b →
-          sent_by slot' (cond b (closed_place (Queued d)) (Queued d)) ≡ cond b None (Some (cond b (record { client = d; holds_slot = false; is_told = false }) (record { client = d; holds_slot = slot; is_told = true })))
-      go true e = refl
-      go false e = ap (λ x. Some (record { client = d; holds_slot = x; is_told = true })) (other d refl e)
-  sender_left slot slot' (Held d) other own = go (d == c) refl
-    where
-      go : (b : Bool) → (d == c) ≡ b →
-          sent_by slot' (cond b (closed_place (Held d)) (Held d)) ≡ Some (cond b (record { client = d; holds_slot = false; is_told = false }) (record { client = d; holds_slot = slot; is_told = true }))
-      go true e = ap (λ x. Some (record { client = d; holds_slot = x; is_told = false })) (own refl d refl e)
-      go false e = ap (λ x. Some (record { client = d; holds_slot = x; is_told = true })) (other d refl e)
-  sender_left slot slot' (Discarded d) other own = go (d == c) refl
-    where
-      go : (b : Bool) → (d == c) ≡ b →
-          ◌≡◌ {A = Option Sender} (Some (record { client = d; holds_slot = slot'; is_told = false })) (Some (cond b (record { client = d; holds_slot = false; is_told = false }) (record { client = d; holds_slot = slot; is_told = false })))
-      go true e = ap (λ x. Some (record { client = d; holds_slot = x; is_told = false })) (own refl d refl e)
-      go false e = ap (λ x. Some (record { client = d; holds_slot = x; is_told = false })) (other d refl e)
+  sender_left slot slot' x other own = grind arith
 
   queued_left : (slot : Bool) (p : Place) → is_queued (kept.left_place c p) ≡ cond (is_queued p && is_from c (sent_by slot p)) false (is_queued p)
   queued_left slot p = grind (arith, nat_tests)
 
   -- what slots it held of a client: none of this one's any more
   slot_left : (goes : Bool) (x : Option Sender) (d : ℕ) → (goes ≡ true → is_from c x ≡ true) → holds_slot d (remains goes x) ≡ cond (c == d) false (holds_slot d x)
-  slot_left goes None d from = nothing goes ∙ sym (never (c == d))
-    where
-      nothing : (b : Bool) → holds_slot d (cond b None None) ≡ false
-      nothing true = refl
-      nothing false = refl
-
-      never : (b : Bool) → cond b false false ≡ false
-      never true = refl
-      never false = refl
-  slot_left goes (Some m) d from = go goes (m.client == c) (c == d) refl refl refl
-    where
-      off : (b : Bool) → (b && false) ≡ false
-      off true = refl
-      off false = refl
-
-      apart : (m.client == c) ≡ true → (c == d) ≡ false → (m.client == d) ≡ false
-      apart e f = ap (λ k. k == d) (eqb-true m.client c e) ∙ f
-
-      other : (m.client == c) ≡ false → (c == d) ≡ true → (m.client == d) ≡ false
-      other e f = ap (λ k. m.client == k) (sym (eqb-true c d f)) ∙ e
-
-      go : (b x y : Bool) → goes ≡ b → (m.client == c) ≡ x → (c == d) ≡ y →
-          holds_slot d (cond b None (Some (cond x (record m { holds_slot = false; is_told = false }) m))) ≡ cond y false ((m.client == d) && m.holds_slot)
-      go true true true g e f = refl
-      go true true false g e f = sym (ap (λ z. z && m.holds_slot) (apart e f))
-      go true false y g e f = absurd (false≢true (sym e ∙ from g))
-      go false true true g e f = off (m.client == d)
-      go false true false g e f = off (m.client == d) ∙ sym (ap (λ z. z && m.holds_slot) (apart e f))
-      go false false true g e f = ap (λ z. z && m.holds_slot) (other e f)
-      go false false false g e f = refl
+  slot_left goes x d from = grind (arith, nat_tests, eqb-true c d)
 
   slots_withdrawn : (cs : List Cell) (d : ℕ) → slots_taken d (withdrawn c cs) ≡ cond (c == d) 0 (slots_taken d cs)
-  slots_withdrawn [] d = sym (never (c == d))
-    where
-      never : (b : Bool) → ◌≡◌ {A = ℕ} (cond b 0 0) 0
-      never true = refl
-      never false = refl
-  slots_withdrawn (x ∷ xs) d = go (drops x) refl (slots_withdrawn xs d)
-    where
-      own : (drops x ≡ true → is_from c x.service.sender ≡ true)
-      own e = second (is_queue x.owner) (is_from c x.service.sender) e
-        where
-          second : (a b : Bool) → (a && b) ≡ true → b ≡ true
-          second x b e = grind arith
-
-      counts : (b y : Bool) (k : ℕ) → b ≡ cond (c == d) false y → (j : ℕ) → k ≡ cond (c == d) 0 j → cond b (suc k) k ≡ cond (c == d) 0 (cond y (suc j) j)
-      counts b y k e j f = by (c == d) y refl e f
-        where
-          by : (z y : Bool) → (c == d) ≡ z → b ≡ cond z false y → k ≡ cond z 0 j → cond b (suc k) k ≡ cond z 0 (cond y (suc j) j)
-          by true y g e f = ap (λ b. cond b (suc k) k) e ∙ f
-          by false true g e f = ap (λ b. cond b (suc k) k) e ∙ ap suc f
-          by false false g e f = ap (λ b. cond b (suc k) k) e ∙ f
-
-      go : (b : Bool) → drops x ≡ b → slots_taken d (withdrawn c xs) ≡ cond (c == d) 0 (slots_taken d xs) →
-          slots_taken d (cond b (withdrawn c xs) (record x { service = left_by c x.service } ∷ withdrawn c xs)) ≡ cond (c == d) 0 (cond (holds_slot d x.service.sender) (suc (slots_taken d xs)) (slots_taken d xs))
-      go true e rest = counts false (holds_slot d x.service.sender) (slots_taken d (withdrawn c xs)) (slot_left true x.service.sender d (λ g. own e)) (slots_taken d xs) rest
-      go false e rest = counts (holds_slot d (discarded c x.service.sender)) (holds_slot d x.service.sender) (slots_taken d (withdrawn c xs)) (slot_left false x.service.sender d (λ g. cc)) (slots_taken d xs) rest
+  slots_withdrawn [] d = grind (arith, nat_tests)
+  slots_withdrawn (x ∷ xs) d = grind (arith, nat_tests, slots_withdrawn xs d, slot_left)
 
   -- what is at a place that another client's message has, and whose it is
   left_other : (p : Place) → (sender p == c) ≡ false → kept.left_place c p ≡ p
@@ -183,22 +106,13 @@ module _ (c : ℕ) (places : List Place) where
   places' = map (λ p. kept.left_place c p) places
 
   step : (b : Bool) (e : Entry) (r : List Entry) (a : Asked) (q : List Asked) → map (asked_by places') r ≡ q → (b ≡ true → asked_by places' e ≡ a) → map (asked_by places') (cond b (e ∷ r) r) ≡ cond b (a ∷ q) q
-  step true e r a q ih h = ap (λ l. asked_by places' e ∷ l) ih ∙ ap (λ x. x ∷ q) (h refl)
-  step false e r a q ih h = ih
+  step x e r a q ih h = grind arith
 
   entries_left : (es : List Entry) → AllWait places es → map (asked_by places') (filter (λ e. kept.stays c places e) es) ≡ filter (stays c) (map (asked_by places) es)
   entries_left [] waits = refl
   entries_left (Connect d ∷ es) waits = step (not (d == c)) (Connect d) (filter (λ e. kept.stays c places e) es) (Connect_of d) _ (entries_left es waits) (λ h. refl)
   entries_left (Close d ∷ es) waits = ap (λ l. Close_of d ∷ l) (entries_left es waits)
-  entries_left (Message j ∷ es) waits =
-      let p = slice_index_or places j Free in
-      let r = filter (λ e. kept.stays c places e) es in
-      ap (λ b. map (asked_by places') (cond (not b) (Message j ∷ r) r)) (waits_of c p waits.0)
-      ∙ step (not (sender p == c)) (Message j) r (Message_of (sender p) (message_name j)) _ (entries_left es waits.1)
-      (λ h. ap (λ x. Message_of (sender x) (message_name j)) (at_map (λ p. kept.left_place c p) Free places j refl ∙ left_other c p (unturned (sender p == c) h)))
-    where
-      unturned : (b : Bool) → not b ≡ true → b ≡ false
-      unturned x e = grind arith
+  entries_left (Message j ∷ es) waits = grind (arith, nat_tests, waits_of c, step, entries_left es waits.1, at_map, left_other c)
 
 -- ---- all of it
 
@@ -221,20 +135,10 @@ module _ (s : kept.State) (cs : List Cell) (clients : List Client) (same : SameC
   first x b e = grind arith
 
   queue_left : (n : ℕ) (x : Option Cell) → cell_of cs n ≡ x → filter (stays c) (service_in x).queue ≡ (service_in (left_of c x)).queue
-  queue_left n None at = refl
-  queue_left n (Some x) at = go (drops c x) refl
-    where
-      go : (b : Bool) → drops c x ≡ b → filter (stays c) x.service.queue ≡ (service_in (cond b None (Some (record x { service = left_by c x.service })))).queue
-      go true e = ap (λ q. filter (stays c) q) (plain n x at (first (is_queue x.owner) (is_from c x.service.sender) e)).0
-      go false e = refl
+  queue_left y z at = grind (arith, nat_tests, service_in, first)
 
   sessions_left : (n : ℕ) (x : Option Cell) → cell_of cs n ≡ x → (service_in x).sessions ≡ (service_in (left_of c x)).sessions
-  sessions_left n None at = refl
-  sessions_left n (Some x) at = go (drops c x) refl
-    where
-      go : (b : Bool) → drops c x ≡ b → x.service.sessions ≡ (service_in (cond b None (Some (record x { service = left_by c x.service })))).sessions
-      go true e = (plain n x at (first (is_queue x.owner) (is_from c x.service.sender) e)).1
-      go false e = refl
+  sessions_left y z at = grind (arith, nat_tests, service_in, first)
 
   place_then : (j : ℕ) → kept.place_at then j ≡ kept.left_place c (kept.place_at s j)
   place_then j = at_map (λ p. kept.left_place c p) Free s.places j refl
@@ -243,11 +147,7 @@ module _ (s : kept.State) (cs : List Cell) (clients : List Client) (same : SameC
   sent_of d = at_set [] s.sent c d [] (subst (λ n. c < n) (sym same.lists) client)
 
   among_then : (d j : ℕ) → is_among j (kept.sent_at then d) ≡ cond (c == d) false (is_among j (kept.sent_at s d))
-  among_then d j = ap (λ l. is_among j l) (sent_of d) ∙ go (c == d)
-    where
-      go : (b : Bool) → is_among j (cond b [] (kept.sent_at s d)) ≡ cond b false (is_among j (kept.sent_at s d))
-      go true = refl
-      go false = refl
+  among_then d j = grind (arith, nat_tests, sent_of d)
 
   swapped : (a b : ℕ) (x : Bool) → (a == b) ≡ x → (b == a) ≡ x
   swapped a b true e = eq-eqb b a (sym (eqb-true a b e))
@@ -261,20 +161,15 @@ module _ (s : kept.State) (cs : List Cell) (clients : List Client) (same : SameC
   waits_told j x at = same.waits j ∙ ap waits_in (owner_cell cs (message_name j) ∙ ap owner_in at)
 
   goes_so : (j : ℕ) (x : Cell) → cell_of cs (message_name j) ≡ Some x → (is_queued (kept.place_at s j) && is_from c (sent_by (holds s j) (kept.place_at s j))) ≡ drops c x
-  goes_so j x at = ap (λ b. b && is_from c (sent_by (holds s j) (kept.place_at s j))) (waits_told j (Some x) at) ∙ ap (λ m. is_queue x.owner && is_from c m) (sender_told j (Some x) at)
+  goes_so j x at = grind (arith, nat_tests, waits_told j (Some x) at, sender_told j (Some x) at)
 
   none_goes : (p : Place) (slot : Bool) → sent_by slot p ≡ None → (is_queued p && is_from c (sent_by slot p)) ≡ false
   none_goes x slot e = grind arith
 
   left_sender : (j : ℕ) (x : Option Cell) → cell_of cs (message_name j) ≡ x →
       remains c (is_queued (kept.place_at s j) && is_from c (sent_by (holds s j) (kept.place_at s j))) (sent_by (holds s j) (kept.place_at s j)) ≡ (service_in (left_of c x)).sender
-  left_sender j None at =
-      ap (λ b. remains c b (sent_by (holds s j) (kept.place_at s j))) (none_goes (kept.place_at s j) (holds s j) (sender_told j None at)) ∙ ap (λ m. discarded c m) (sender_told j None at)
-  left_sender j (Some x) at = ap (λ b. remains c b (sent_by (holds s j) (kept.place_at s j))) (goes_so j x at) ∙ ap (λ m. remains c (drops c x) m) (sender_told j (Some x) at) ∙ go (drops c x)
-    where
-      go : (b : Bool) → remains c b x.service.sender ≡ (service_in (cond b None (Some (record x { service = left_by c x.service })))).sender
-      go true = refl
-      go false = refl
+  left_sender j None at = grind (arith, nat_tests, none_goes, sender_told j None at)
+  left_sender j (Some x) at = grind (arith, nat_tests, goes_so j x at, sender_told j (Some x) at, service_in)
 
   senders_then : (j : ℕ) → sent_by (holds then j) (kept.place_at then j) ≡ (service_of left (message_name j)).sender
   senders_then j =
@@ -332,9 +227,7 @@ module _ (s : kept.State) (cs : List Cell) (clients : List Client) (same : SameC
           by false = refl
 
   slotted_then : (j d : ℕ) → kept.place_at then j ≡ Queued d → is_among j (kept.sent_at then d) ≡ true
-  slotted_then j d e =
-      let was = left_queued c (kept.place_at s j) d (sym (place_then j) ∙ e) in
-      among_then d j ∙ ap (λ b. cond b false (is_among j (kept.sent_at s d))) (swapped d c false was.1) ∙ same.slotted j d was.0
+  slotted_then j d e = grind (arith, nat_tests, left_queued c, place_then j, among_then d j, swapped d c)
 
   pub same_withdrawn : SameClients then left clients
   same_withdrawn = record {
@@ -353,12 +246,10 @@ module _ (s : kept.State) (cs : List Cell) (clients : List Client) (same : SameC
   }
     where
       once_then : (b : Bool) (d : ℕ) → Once (cond b [] (kept.sent_at s d))
-      once_then true d = tt
-      once_then false d = same.once d
+      once_then y d = grind arith
 
       slots_so : (b : Bool) (d : ℕ) → length (cond b [] (kept.sent_at s d)) ≡ cond b 0 (slots_taken d cs)
-      slots_so true d = refl
-      slots_so false d = same.slots d
+      slots_so y d = grind arith
 
   -- its close is asked for where its session was open
   module _ (p : Image) (st : State) (to : Client) (tidy_left : Tidy left)

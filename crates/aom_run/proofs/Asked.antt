@@ -1,7 +1,8 @@
 -- What a step asks fits the natives, and what is kept of them after the call and the step fits the state.
-use Rattle.std.proofs.Common.{◌≡◌, ◌≢◌, ◌<◌, ◌≤◌, ℤ, ℕ, zero, suc, Bool, true, false, cond, List, [], ◌∷◌, Option, Some, None, refl, sym, ap, subst, ◌∙◌, length, arith, slice_index_or}
+use Rattle.std.proofs.lemmas.Bool.Decides.{nat_tests}
+use Rattle.std.proofs.Common.{◌≡◌, ◌≢◌, ◌<◌, ◌≤◌, ℤ, ℕ, zero, suc, Bool, true, false, cond, List, [], ◌∷◌, Option, Some, None, refl, sym, ap, ◌∙◌, length, arith, slice_index_or}
 use Rattle.std.specs.Prelude.{not, IsSome, ◌&&◌, ◌||◌, pred}
-use Rattle.std.proofs.lemmas.Bool.{and_parts, true≢false}
+use Rattle.std.proofs.lemmas.Bool.{true≢false}
 use Rattle.aom_image.specs.Image.{Image}
 use Rattle.aom_image.specs.WellFormed.{WellFormed}
 use Rattle.aom_image.specs.declared.method.Thing.{Thing}
@@ -12,7 +13,7 @@ use Rattle.aom_natives.specs.Slots.{ids_at, living_at}
 use Rattle.aom_endings.specs.Owed.{Finds, FindsWell, is_for, meets, owes, owes_after, serves, serves_object, takes_on}
 use Rattle.aom_endings.proofs.Calls.{for_one}
 use Rattle.aom_sound.specs.Natives.{is_dead, is_served_by}
-use Rattle.aom_sound.specs.Places.{Object, in_session, named}
+use Rattle.aom_sound.specs.Places.{Object, named}
 use Rattle.aom_sound.specs.State.{State}
 use Rattle.aom_sound.specs.Wanted.{Wanted, Opens, Starts, Asks, Cancels, Closes}
 use Rattle.aom_parts.specs.Stands.{Machine as Core, StandsFor as Core_stands}
@@ -28,13 +29,7 @@ in_range (b ∷ flags) zero open_there = omega arith
 in_range (b ∷ flags) (suc n) open_there = let rest = in_range flags n open_there in omega (arith, rest)
 
 pub session_small : (m : Core) (s : State) → Core_stands m s → (n x : ℕ) → meets m.image s.cells n x ≡ true → x < 4096
-session_small m s st n x e =
-    let flags = m.parts.sessions.flags in
-    let open_there = st.agrees.natives.sessions x ∙ (and_parts (serves m.image s.cells n x) (in_session s.cells x) e).1 in
-    let within = in_range flags x open_there in
-    let limit = st.agrees.natives.limit in
-    let cells = st.sound.formed.header.cells in
-    omega (arith, within, limit, cells)
+session_small m s st n x e = grind (arith, nat_tests, in_range)
 
 one_true : (b : Bool) → b ≡ true → one_where b ≡ 1
 one_true b e = ap one_where e
@@ -43,15 +38,11 @@ one_false : (b : Bool) → b ≡ false → one_where b ≡ 0
 one_false b e = ap one_where e
 
 pub one_there : (b : Bool) → 0 < one_where b → b ≡ true
-one_there true some = refl
-one_there false some = absurd (omega (arith, some))
+one_there x some = grind arith
 
 module _ {L : Type 0} (kept : L → List ℕ) (p : Image) (s : State) (slots : List (Option L)) (keeps : Serves kept p s slots) (formed : WellFormed p) (small : (n x : ℕ) → meets p s.cells n x ≡ true → x < 4096) where
   lives_there : (n x : ℕ) (session outstanding : Bool) → Finds p s n x session outstanding → IsSome (living_at slots n)
-  lives_there n x session outstanding finds =
-      let named = serving_named p formed s.cells n x finds.serves in
-      let enough = keeps.enough in
-      keeps.lives n (omega (arith, named, enough)) ∙ ap not finds.lives
+  lives_there n x session outstanding finds = grind (arith, nat_tests, serving_named p formed s.cells n x finds.serves)
 
   new_there : (n x : ℕ) (session : Bool) → Finds p s n x session false → IsNew (ids_at kept slots n) x
   new_there n x session finds = keeps.ids n x ∙ one_false _ finds.owes
@@ -79,22 +70,10 @@ module _ {L : Type 0} (kept : L → List ℕ) (p : Image) (s : State) (slots : L
   -- ---- after the call, and the step
 
   begun : (n x k m : ℕ) (taken : Bool) → Finds p s n x true false → cond (taken && is_for n x k m) (suc (one_where (owes p s.cells k m))) (one_where (owes p s.cells k m)) ≡ one_where ((taken && is_for n x k m) || owes p s.cells k m)
-  begun n x k m taken finds = go (taken && is_for n x k m) refl
-    where
-      go : (b : Bool) → (taken && is_for n x k m) ≡ b → cond b (suc (one_where (owes p s.cells k m))) (one_where (owes p s.cells k m)) ≡ one_where (b || owes p s.cells k m)
-      go false e = refl
-      go true e =
-          let own = for_one n x k m (and_parts taken (is_for n x k m) e).1 in
-          let none : owes p s.cells k m ≡ false = subst (λ y. owes p s.cells y m ≡ false) own.0 (subst (λ y. owes p s.cells n y ≡ false) own.1 finds.owes) in
-          ap (λ b. suc (one_where b)) none
+  begun n x k m taken finds = grind (arith, nat_tests, for_one n x k m)
 
   ended : (n x k m : ℕ) → cond (is_for n x k m) (pred (one_where (owes p s.cells k m))) (one_where (owes p s.cells k m)) ≡ one_where (not (is_for n x k m) && owes p s.cells k m)
-  ended n x k m = go (is_for n x k m) (owes p s.cells k m)
-    where
-      go : (b owed : Bool) → cond b (pred (one_where owed)) (one_where owed) ≡ one_where (not b && owed)
-      go false owed = refl
-      go true true = refl
-      go true false = refl
+  ended n x k m = grind (arith, nat_tests)
 
   counted_after : (asked : Option Wanted) (answer : ℤ) → FindsWell p s asked → (k m : ℕ) → times_after asked answer k m (one_where (owes p s.cells k m)) ≡ one_where (owes_after asked answer k m (owes p s.cells k m))
   counted_after None answer finds k m = refl
@@ -121,20 +100,14 @@ module _ {L : Type 0} (p : Image) (s : State) (old new : List (Option L)) where
   is_another n x k e none same = go (named s.cells x) e
     where
       go : (o : Option Object) → serves_object p n o ≡ true → ⊥
-      go None e = true≢false (sym e)
-      go (Some o) e = true≢false (sym e ∙ subst (λ j. is_served_by p j o.thing ≡ false) same (none o.thing))
+      go y z = grind arith
 
   -- one that serves none is asked nothing
   pub keeps_unnamed : (asked : Option Wanted) → FindsWell p s asked → KeepsUnasked old asked new → KeepsUnnamed p old new
   keeps_unnamed asked finds keeps = record { at = by_asked asked finds keeps }
     where
       by_asked : (asked : Option Wanted) → FindsWell p s asked → KeepsUnasked old asked new → (k : ℕ) → ((t : Thing) → is_served_by p k t ≡ false) → living_at new k ≡ living_at old k
-      by_asked None finds keeps k none = ap (λ slots. living_at slots k) keeps
-      by_asked (Some (Opens n x)) finds keeps k none = keeps.others k (is_another n x k finds.serves none)
-      by_asked (Some (Starts n x f w)) finds keeps k none = keeps.others k (is_another n x k finds.serves none)
-      by_asked (Some (Asks n x f w)) finds keeps k none = keeps.others k (is_another n x k finds.serves none)
-      by_asked (Some (Cancels n x)) finds keeps k none = keeps.others k (is_another n x k finds.serves none)
-      by_asked (Some (Closes n x)) finds keeps k none = keeps.others k (is_another n x k finds.serves none)
+      by_asked x y z k none = grind (arith, nat_tests, is_another)
 
 pub unnamed_all : {L : Type 0} (p : Image) (slots : List (Option L)) → KeepsUnnamed p slots slots
 unnamed_all p slots = record { at = λ k none. refl }

@@ -1,8 +1,8 @@
 -- Turns of the machine, one after another: what is due completes requests, events are heard, natives are polled, and time passes, until an object is dispatched, an event is told by a line, or the run ends.
-use Rattle.std.proofs.Common.{◌≡◌, ◌⊎◌, inl, inr, ◌<◌, ◌≤◌, ◌-◌, ℕ, ℤ, suc, Bool, true, false, List, [], Option, Some, None, length, ap, append-nil, arith, refl, subst, sym, ◌∙◌}
+use Rattle.std.proofs.lemmas.Bool.Decides.{nat_tests}
+use Rattle.std.proofs.Common.{◌≡◌, ◌⊎◌, ◌<◌, ◌≤◌, ℕ, ℤ, suc, Bool, true, false, List, [], Option, Some, None, length, ap, append-nil, arith, refl, subst, sym, ◌∙◌}
 use Rattle.std.proofs.lemmas.List.{append_cancel_left}
 use Rattle.aom_exec.proofs.Progressing.{is_as_far}
-use Rattle.aom_parts.specs.Progress.{progress_of}
 use Rattle.aom_parts.specs.declared.progress.Progress.TheVariants.{Turned}
 use Rattle.aom_exec.specs.Steps.{progress, timers}
 use Rattle.aom_parts.specs.declared.rest.Rest.{Rest}
@@ -23,7 +23,7 @@ use Rattle.aom_run.specs.Turns.{AllPolled, CompletesDue, HasCome, IsDue, IsLate,
 module _ {X : Type 0} {B : X → Type 0} where
   -- a state between dispatches
   pub turned_far : (m : Machine X B) (s : State) → StandsFor m s → IsBetween s → progress m.core ≡ Turned
-  turned_far m s stands between = is_as_far m.core s stands.stands ∙ ap (λ e. progress_of (record s { rest = record s.rest { ended = e } })) between.going ∙ ap (λ ts. progress_of (record s { tasks = ts; rest = record s.rest { ended = None } })) between.idle
+  turned_far m s stands between = grind (arith, nat_tests, is_as_far m.core s stands.stands)
 
   -- ---- what is due
 
@@ -53,13 +53,11 @@ module _ {X : Type 0} {B : X → Type 0} where
     completed_stands stands = let t = (one no_turn stands.0 stands.1).3 in (t.state, t.stands)
 
   pub fewer_then : (old m new : Machine X B) → (m ≡ old) ⊎ (timers m.core < timers old.core) → timers new.core < timers m.core → timers new.core < timers old.core
-  fewer_then old m new (inl same) fewer = let less = ap (λ (k : Machine X B). timers k.core) same in omega (arith, less, fewer)
-  fewer_then old m new (inr less) fewer = omega (arith, less, fewer)
+  fewer_then old m new x fewer = grind arith
 
   -- no more of them run
   pub no_more_then : (old m new : Machine X B) → (m ≡ old) ⊎ (timers m.core < timers old.core) → new ≡ m → timers new.core ≤ timers old.core
-  no_more_then old m new (inl same) is = let one = ap (λ (k : Machine X B). timers k.core) is in let two = ap (λ (k : Machine X B). timers k.core) same in omega (arith, one, two)
-  no_more_then old m new (inr less) is = let one = ap (λ (k : Machine X B). timers k.core) is in omega (arith, one, less)
+  no_more_then old m new x is = grind arith
 
   -- where none is due nothing changes
   pub none_still : (m new : Machine X B) → new ≡ m → NoneIsDue m → NoneIsDue new
@@ -67,15 +65,11 @@ module _ {X : Type 0} {B : X → Type 0} where
 
   -- what was due was completed
   pub was_due : (old m : Machine X B) → (m ≡ old) ⊎ (timers m.core < timers old.core) → NoneIsDue m → IsDue old → timers m.core < timers old.core
-  was_due old m (inl same) none due =
-      let late = none due.0 (subst (λ x. StandsFor x due.0) (sym same) due.1).stands due.2.0 due.2.1 in
-      let at = due.2.2 in
-      absurd (omega (arith, late, at))
-  was_due old m (inr fewer) none due = fewer
+  was_due old m x none due = grind arith
 
   -- what no place tells is as it was
   pub rest_after : (old new : Machine X B) → CompletesDue old new → Stands old → new.core.parts.rest ≡ old.core.parts.rest
-  rest_after old new completed stands = let x = completed stands.0 stands.1 in x.3.stands.agrees.rest ∙ x.2 ∙ sym stands.1.stands.agrees.rest
+  rest_after old new completed stands = grind (arith, nat_tests)
 
   -- ---- what is polled
 
@@ -84,9 +78,7 @@ module _ {X : Type 0} {B : X → Type 0} where
 
   -- there is none to poll any more
   pub all_polled : (m new : Machine X B) (may : ℕ → Option (ℕ × ℤ) → Type 0) (b : Bool) → b ≡ false → Polled may m b new → (new ≡ m) × AllPolled new
-  all_polled m new may b is polled =
-      let it = subst (λ x. Polled may m x new) is polled in
-      (it.0, subst (λ (x : Machine X B). AllPolled x) (sym it.0) it.1)
+  all_polled m new may b is polled = grind (arith, nat_tests)
 
   pub still_rest : (old m new : Machine X B) → m.core.parts.rest ≡ record old.core.parts.rest { polled = m.core.parts.rest.polled } → new.core.parts.rest ≡ record m.core.parts.rest { polled = new.core.parts.rest.polled } → new.core.parts.rest ≡ record old.core.parts.rest { polled = new.core.parts.rest.polled }
   still_rest old m new was is = is ∙ ap (λ (r : Rest). record r { polled = new.core.parts.rest.polled }) was
@@ -111,20 +103,17 @@ module _ {X : Type 0} {B : X → Type 0} where
 
     -- what the machine tells of events is so of each state that it stands for
     pub none_now : (refused : List ℕ) (limit : ℕ) (m : Machine X B) → NoneHasCome events m → (s : State) → StandsFor m s → NoneCome (hearing refused limit (natives_of m) events) s
-    none_now refused limit m none s stands e is = subst (λ r. r.clock < e.time) stands.stands.agrees.rest (none e (ap (λ r. event_at events r.delivered) stands.stands.agrees.rest ∙ is))
+    none_now refused limit m none s stands e is = grind (arith, nat_tests)
 
     pub none_settles : (m : Machine X B) → Settles events m m
     none_settles m s stands = (s, λ refused limit below. begins, refl, omega arith, stands)
 
     pub completed_settles : (old new : Machine X B) → CompletesDue old new → Settles events old new
-    completed_settles old new completed s stands =
-        let x = completed s stands in
-        let none_fewer = ap (λ r. r.delivered) x.2 in
-        (x.0, λ refused limit below. x.1 (hearing refused limit (natives_of old) events) below, ap (λ r. r.dispatches) x.2, omega (arith, none_fewer), x.3)
+    completed_settles old new completed s stands = grind (arith, nat_tests)
 
     -- a poll delivers nothing, and takes no time
     pub kept_come : (old m : Machine X B) → m.core.parts.rest ≡ record old.core.parts.rest { polled = m.core.parts.rest.polled } → NoneHasCome events old → NoneHasCome events m
-    kept_come old m rest none e is = subst (λ r. r.clock < e.time) (sym rest) (none e (sym (ap (λ r. event_at events r.delivered) rest) ∙ is))
+    kept_come old m rest none e is = grind (arith, nat_tests)
 
     -- one after the other
     module _ (old m : Machine X B) (image : m.core.image ≡ old.core.image) (natives : natives_of m ≡ natives_of old) (first : Settles events old m) where
@@ -212,21 +201,18 @@ module _ {X : Type 0} {B : X → Type 0} where
       -- it writes a line
       pub heard_tells : TellsEnd events m told now new
       unfolding part
-      heard_tells s stands =
-          let t = taken s stands in
-          let same = same_after s stands in
-          let one = ap (λ r. r.delivered) same.1 in
-          let was = ap (λ r. r.delivered) stands.stands.agrees.rest in
-          let some = within in (
-            written_by m.core.image s (part s stands),
-            t.state,
-            on s stands,
-            t.lines,
-            (delivers_well m.core.image (hearing [] 0 (natives_of m) events) (name s stands) s come.0.event).1,
-            ap (λ r. r.dispatches) same.1,
-            (far_after s stands, omega (arith, one, was, some)),
-            t.stands,
-          )
+      heard_tells s stands = grind (
+        arith,
+        nat_tests,
+        taken s stands,
+        same_after s stands,
+        within,
+        part s stands,
+        on s stands,
+        delivers_well m.core.image,
+        name s stands,
+        far_after s stands,
+      )
 
       pub heard_far : Stands m → progress new.core ≡ Turned
       heard_far stands = turned_far new (taken stands.0 stands.1).state (taken stands.0 stands.1).stands (far_after stands.0 stands.1)
@@ -235,10 +221,7 @@ module _ {X : Type 0} {B : X → Type 0} where
       heard_stands stands = ((taken stands.0 stands.1).state, (taken stands.0 stands.1).stands)
 
       pub heard_fewer : to_come events new < to_come events m
-      heard_fewer =
-          let some = within in
-          let one = ap (λ r. r.delivered) rest in
-          omega (arith, some, one)
+      heard_fewer = grind (arith, nat_tests, within)
 
     -- a native is polled
     module _ (m new : Machine X B) (may : ℕ → Option (ℕ × ℤ) → Type 0) (none : NoneIsDue m) (none_come : NoneHasCome events m) (polled : Polled may m true new) where
@@ -255,31 +238,17 @@ module _ {X : Type 0} {B : X → Type 0} where
           (t.state, still, ap (λ r. r.dispatches) same.1, omega (arith, late), t.stands)
 
     pub less_to_come : (old m new : Machine X B) → (m ≡ old) ⊎ (to_come events m < to_come events old) → to_come events new < to_come events m → to_come events new < to_come events old
-    less_to_come old m new (inl same) fewer = let less = ap (to_come events) same in omega (arith, less, fewer)
-    less_to_come old m new (inr less) fewer = omega (arith, less, fewer)
+    less_to_come old m new x fewer = grind arith
 
     pub at_most_to_come : (old m : Machine X B) → (m ≡ old) ⊎ (to_come events m < to_come events old) → to_come events m ≤ to_come events old
-    at_most_to_come old m (inl same) = let less = ap (to_come events) same in omega (arith, less)
-    at_most_to_come old m (inr less) = omega (arith, less)
+    at_most_to_come old m x = grind arith
 
     -- what had come was heard
     pub had_come : (old m : Machine X B) → (m ≡ old) ⊎ (to_come events m < to_come events old) → NoneHasCome events m → HasCome events old → to_come events m < to_come events old
-    had_come old m (inl same) none come =
-        let late = subst (λ x. NoneHasCome events x) same none come.0 come.1 in
-        let at = come.2 in
-        absurd (omega (arith, late, at))
-    had_come old m (inr fewer) none come = fewer
+    had_come old m x none come = grind arith
 
     -- after both less is waited for
     pub late_falls :
         (old m new : Machine X B) → m.core.parts.rest ≡ old.core.parts.rest → timers m.core ≤ timers old.core → (IsDue old → timers m.core < timers old.core) → timers new.core ≡ timers m.core
         → to_come events new ≤ to_come events m → (HasCome events m → to_come events new < to_come events m) → IsLate events old → waiting events new < waiting events old
-    late_falls old m new rest most due_falls same most_events come_falls (inl due) =
-        let less = due_falls due in
-        let kept = ap (λ r. length events - r.delivered) rest in
-        omega (arith, less, same, most_events, kept)
-    late_falls old m new rest most due_falls same most_events come_falls (inr come) =
-        let still : HasCome events m = (come.0, ap (λ r. event_at events r.delivered) rest ∙ come.1, subst (λ r. come.0.time ≤ r.clock) (sym rest) come.2) in
-        let less = come_falls still in
-        let kept = ap (λ r. length events - r.delivered) rest in
-        omega (arith, less, same, most, kept)
+    late_falls old m new rest most due_falls same most_events come_falls x = grind arith

@@ -1,4 +1,5 @@
 -- As a machine boots, its natives owe nothing.
+use Rattle.std.proofs.lemmas.Bool.Decides.{nat_tests}
 use Rattle.std.proofs.Common.{◌≡◌, ◌<◌, ◌≤◌, ◌↔◌, ℕ, zero, suc, List, [], ◌∷◌, Option, Some, None, refl, sym, ap, ◌∙◌, length, map, arith}
 use Rattle.std.specs.Prelude.{option_map, IsSome}
 use Rattle.aom_image.specs.Image.{Image}
@@ -20,11 +21,7 @@ all_there : {L B : Type 0} (box : L → B) (slots : List (Option L)) (boxes : Li
 all_there box [] boxes e n within = absurd (omega (arith, within))
 all_there box (None ∷ slots) (b ∷ boxes) e n within = cc
 all_there box (Some l ∷ slots) (b ∷ boxes) e zero within = refl
-all_there box (Some l ∷ slots) (b ∷ boxes) e (suc n) within = all_there box slots boxes (ap tail e) n (omega (arith, within))
-  where
-    tail : {Y : Type 0} → List Y → List Y
-    tail [] = []
-    tail (y ∷ ys) = ys
+all_there box (Some l ∷ slots) (b ∷ boxes) e (suc n) within = grind (arith, nat_tests, all_there box slots boxes)
 all_there box (l ∷ slots) [] e n within = cc
 
 same_length : {L B : Type 0} (box : L → B) (slots : List (Option L)) (boxes : List B) → map (option_map box) slots ≡ map (λ b. Some b) boxes → length slots ≡ length boxes

@@ -1,9 +1,10 @@
 -- Natives that are killed, and those that are polled: which they are in the checked machine.
-use Rattle.std.proofs.Common.{◌≡◌, ◌<◌, ◌≤◌, ◌+◌, ◌-◌, ℤ, ℕ, suc, Bool, true, false, cond, List, [], ◌∷◌, Option, Some, None, refl, sym, ap, subst, ◌∙◌, length, inl, inr, arith, nat_lt}
+use Rattle.std.proofs.lemmas.Bool.Decides.{nat_tests}
+use Rattle.std.proofs.Common.{◌≡◌, ◌<◌, ◌≤◌, ◌+◌, ◌-◌, ℤ, ℕ, suc, true, false, cond, List, [], ◌∷◌, Option, Some, None, refl, sym, ap, subst, ◌∙◌, length, arith}
 use Rattle.std.proofs.lemmas.List.{get_or_past, length-append}
 use Rattle.aom_transcript.specs.declared.line.Line.TheVariants.{Killed}
-use Rattle.std.specs.Prelude.{IfSome, IsSome, MatchOption, is_some, not, ◌&&◌, ◌==◌}
-use Rattle.std.proofs.lemmas.Bool.{cases_lt, le-ltb, lt-ltb, not-true, true≢false}
+use Rattle.std.specs.Prelude.{IfSome, IsSome, MatchOption, is_some, ◌==◌}
+use Rattle.std.proofs.lemmas.Bool.{cases_lt, le-ltb, lt-ltb, not-true}
 use Rattle.aom_natives.specs.Owed.{TakesOut}
 use Rattle.aom_natives.specs.Slots.{KeepsOthers, ids_at, living_at}
 use Rattle.aom_natives.proofs.Ids.{same-out}
@@ -27,31 +28,18 @@ beyond : {L : Type 0} (slots : List (Option L)) (n : ℕ) → length slots ≤ n
 beyond slots n past = ap is_some (get_or_past slots n None past)
 
 pub within : {L : Type 0} (slots : List (Option L)) (n : ℕ) → IsSome (living_at slots n) → n < length slots
-within slots n some = elim (cases_lt n (length slots)) [
-  | inl inside ↦ inside
-  | inr past ↦ absurd (true≢false (sym some ∙ beyond slots n past))
-]
+within slots n some = grind (arith, nat_tests, cases_lt n, beyond slots n)
 
 module _ {X : Type 0} {B : X → Type 0} (old : Machine X B) (s : State) (st : StandsFor old s) where
   -- a native lives in the checked machine just where its slot has it
   pub lives_is : (outside : Outside) → outside.natives ≡ natives_of old → (n : ℕ) → lives outside s n ≡ is_some (living_at old.natives.slots.items n)
-  lives_is outside same n = elim (cases_lt n (length old.natives.slots.items)) [
-    | inl inside ↦ ap (λ b. b && not (is_dead s.killed n)) (lt-ltb n outside.natives (subst (λ k. n < k) (sym same) inside)) ∙ sym (st.serves.lives n inside)
-    | inr past ↦ ap (λ b. b && not (is_dead s.killed n)) (not_below n outside.natives (subst (λ k. k ≤ n) (sym same) past)) ∙ sym (beyond old.natives.slots.items n past)
-  ]
-    where
-      not_below : (n k : ℕ) → k ≤ n → nat_lt n k ≡ false
-      not_below n k past = le-ltb n k past
+  lives_is outside same n = grind (arith, nat_tests, cases_lt n, lt-ltb n outside.natives, beyond old.natives.slots.items n, le-ltb n)
 
   pub is_alive_so : (n : ℕ) → n < natives_of old → is_some (living_at old.natives.slots.items n) ≡ true → is_dead s.killed n ≡ false
   is_alive_so n inside alive = not-true (is_dead s.killed n) (sym (st.serves.lives n inside) ∙ alive)
 
   pub is_dead_so : (n : ℕ) → n < natives_of old → is_some (living_at old.natives.slots.items n) ≡ false → is_dead s.killed n ≡ true
-  is_dead_so n inside dead = not-false (is_dead s.killed n) (sym (st.serves.lives n inside) ∙ dead)
-    where
-      not-false : (b : Bool) → not b ≡ false → b ≡ true
-      not-false true e = refl
-      not-false false e = absurd (true≢false e)
+  is_dead_so n inside dead = grind (arith, nat_tests)
 
   -- the first that lives, from the first that is not polled on
   pub from_polled : (n : ℕ) → n ≡ old.core.parts.rest.polled → first_living s.killed (natives_of old - s.rest.polled) s.rest.polled ≡ first_living s.killed (natives_of old - n) n
@@ -82,9 +70,7 @@ kills_one old new image n alive dead others before now all outside same s st =
 
 -- with one line
 pub line_more : (old new : Core) (s : State) (n : ℕ) (before now : Turn) → Core_takes old s (Kills n) before now new → length now.lines ≤ length before.lines + 1
-line_more old new s n before now core =
-    let same = ap (λ (x : Turn). length x.lines) core.lines ∙ length-append before.lines (Killed n ∷ []) in
-    omega (arith, same)
+line_more old new s n before now core = grind (arith, nat_tests, length-append before.lines (Killed n ∷ []))
 
 -- ---- the native that is polled
 
@@ -93,13 +79,13 @@ module _ (killed : List ℕ) (count n : ℕ) where
   one_more below = omega (arith, below)
 
   later : n < count → is_dead killed n ≡ true → first_living killed (count - n) n ≡ first_living killed (count - suc n) (suc n)
-  later below dead = ap (λ k. first_living killed k n) (one_more below) ∙ ap (λ b. cond b (first_living killed (count - suc n) (suc n)) (Some n)) dead
+  later below dead = grind (arith, nat_tests, one_more below)
 
   pub first_later : n < count → is_dead killed n ≡ true → first_living killed (count - n) n ≡ first_living killed (count - (n + 1)) (n + 1)
   first_later below dead = subst (λ k. first_living killed (count - n) n ≡ first_living killed (count - k) k) (omega arith) (later below dead)
 
   pub first_here : n < count → is_dead killed n ≡ false → first_living killed (count - n) n ≡ Some n
-  first_here below alive = ap (λ k. first_living killed k n) (one_more below) ∙ ap (λ b. cond b (first_living killed (count - suc n) (suc n)) (Some n)) alive
+  first_here below alive = grind (arith, nat_tests, one_more below)
 
   pub first_none : count ≤ n → first_living killed (count - n) n ≡ None
   first_none past = let none : count - n ≡ 0 = omega (arith, past) in ap (λ k. first_living killed k n) none

@@ -1,7 +1,6 @@
 -- What is outstanding after a step is told by what the step asks of a native, and by the answer.
-use Rattle.std.specs.Prelude.{IsSome}
-use Rattle.aom_transcript.specs.declared.line.Ending.{Ending}
-use Rattle.std.proofs.Common.{◌≡◌, ◌⊎◌, ℤ, ℕ, arith, false, pos, List, [], Option, Some, None, refl, sym, ap, subst, ◌∙◌, inl, inr}
+use Rattle.std.proofs.lemmas.Bool.Decides.{nat_tests}
+use Rattle.std.proofs.Common.{◌≡◌, ◌⊎◌, ℤ, ℕ, arith, false, pos, List, Option, None, refl, sym, ap, subst, ◌∙◌, inl, inr}
 use Rattle.aom_image.specs.Image.{Image}
 use Rattle.aom_rules.specs.Typing.{Typing}
 use Rattle.aom_endings.specs.Owed.{FindsWell, SessionsHold, owes, owes_after}
@@ -35,15 +34,7 @@ at_hand p s hand = ap (λ x. asked_by x (wanted p s)) (ap (λ e. progress_by e s
 
 -- where nothing is, nothing is asked
 at_rest : (p : Image) (s : State) → IsDone s → asked_of p s ≡ None
-at_rest p s (inl idle) = go s.rest.ended
-  where
-    go : (e : Option Ending) → asked_by (progress_by e s.tasks) (wanted p s) ≡ None
-    go (Some ending) = refl
-    go None = ap (λ ts. asked_by (progress_by {T = Task} None ts) (wanted p s)) idle
-at_rest p s (inr over) = go s.rest.ended over
-  where
-    go : (e : Option Ending) → IsSome e → asked_by (progress_by e s.tasks) (wanted p s) ≡ None
-    go x over = grind arith
+at_rest p s x = grind arith
 
 module _ (p : Image) (t : Typing) (sound : Sound p t) where
   -- a move is never stuck
@@ -103,9 +94,13 @@ module _ (p : Image) (t : Typing) (sound : Sound p t) where
 
   quietly : (refused : List ℕ) (heard : ℤ) (s v u : State) (lines : List Line) → WellTyped p t s → SessionsHold p s → SoFar s v heard → Steps p refused heard v lines u → Went p t s (asked_of p s) heard u
   quietly refused heard s v u lines w holds (inl same) next = stepped_so refused heard s u lines w holds (subst (λ x. Steps p refused heard x lines u) same next)
-  quietly refused heard s v u lines w holds (inr so) next =
-      let two = subst (λ a. Went p t v a heard u) (at_hand p v so.1 ∙ so.0) (stepped_so refused heard v u lines so.2.typed so.2.sessions next) in
-      along s v u (asked_of p s) heard heard so.2 two
+  quietly refused heard s v u lines w holds (inr so) next = grind (
+    arith,
+    nat_tests,
+    at_hand p v so.1,
+    stepped_so refused heard v u lines so.2.typed so.2.sessions next,
+    along s v u,
+  )
 
   so_far : (refused : List ℕ) (heard : ℤ) (s : State) (ls : List Line) (v : State) → WellTyped p t s → SessionsHold p s → Quiet p refused heard s ls v → SoFar s v heard
   so_far refused heard s _ v w holds steps.begins = inl refl

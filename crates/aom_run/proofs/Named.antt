@@ -1,6 +1,7 @@
 -- What serves a cell is a native that the image names, and few requests are outstanding at it.
-use Rattle.std.proofs.Common.{◌≡◌, ◌<◌, ◌≤◌, ℕ, Bool, true, false, List, ◌∷◌, [], Option, Some, None, refl, sym, ap, subst, ◌∙◌, length, slice_get, inl, inr, arith, suc}
-use Rattle.std.specs.Prelude.{◌==◌, ◌||◌}
+use Rattle.std.proofs.lemmas.Bool.Decides.{nat_tests}
+use Rattle.std.proofs.Common.{◌≡◌, ◌<◌, ◌≤◌, ℕ, Bool, true, false, List, ◌∷◌, [], Option, Some, None, refl, sym, subst, ◌∙◌, length, slice_get, inl, inr, arith, suc}
+use Rattle.std.specs.Prelude.{◌==◌}
 use Rattle.std.specs.List.{AllByRecursion, IsDistinct, list_any}
 use Rattle.std.proofs.lemmas.Bool.{cases_eq, eq-eqb, ne_eqb, true≢false}
 use Rattle.std.proofs.lemmas.Grind.{common_steps}
@@ -17,8 +18,8 @@ use Rattle.aom_roles.specs.Classes.{kind_in}
 use Rattle.aom_roles.specs.Shapes.{kind_of}
 use Rattle.aom_sound.specs.Enlisted.{thing_kind}
 use Rattle.aom_sound.specs.Natives.{native_of}
-use Rattle.aom_sound.specs.Places.{Cell, Object, named}
-use Rattle.aom_endings.specs.Owed.{serves, serves_object}
+use Rattle.aom_sound.specs.Places.{Cell}
+use Rattle.aom_endings.specs.Owed.{serves}
 use Rattle.aom_endings.proofs.Cells.{native_served}
 use Rattle.aom_endings.specs.Endings.{one_where}
 use Rattle.aom_natives.specs.Owed.{IsNew, times}
@@ -42,17 +43,12 @@ module _ (p : Image) (formed : WellFormed p) where
 
   -- a native that serves a cell is one of those that the image names
   pub serving_named : (cs : List Cell) (n m : ℕ) → serves p cs n m ≡ true → n < p.header.natives
-  serving_named cs n m e = go (named cs m) e
-    where
-      go : (o : Option Object) → serves_object p n o ≡ true → n < p.header.natives
-      go None e = absurd (true≢false (sym e))
-      go (Some o) e = thing_names o.thing n (native_served p n o.thing e)
+  serving_named cs n m e = grind (arith, nat_tests, thing_names, native_served p n)
 
 -- ---- ids, each once, below a limit
 
 pub at_most_one : (b : Bool) → one_where b ≤ 1
-at_most_one true = omega arith
-at_most_one false = omega arith
+at_most_one x = grind arith
 
 pub turned_false : (a b : ℕ) → (a == b) ≡ false → (b == a) ≡ false
 turned_false a b e = ne_eqb b a (λ same. true≢false (sym (eq-eqb a b (sym same)) ∙ e))
@@ -71,10 +67,7 @@ elsewhere ids x m other = grind (arith, common_steps, other)
 
 uncounted : (x : ℕ) (ids : List ℕ) → times x ids ≡ 0 → AllByRecursion (λ y. (x == y) ≡ false) ids
 uncounted x [] none = tt
-uncounted x (k ∷ ids) none = elim (cases_eq x k) [
-  | inl same ↦ absurd (let one : times x (k ∷ ids) ≡ suc (times x ids) = subst (λ y. times x (y ∷ ids) ≡ suc (times x ids)) same (there ids x) in omega (arith, one, none))
-  | inr other ↦ (ne_eqb x k other, uncounted x ids (sym (elsewhere ids k x (ne_eqb x k other)) ∙ none))
-]
+uncounted x (k ∷ ids) none = grind (arith, nat_tests, cases_eq x k, there ids x, ne_eqb x k, uncounted x ids, elsewhere ids k x)
 
 distinct : (ids : List ℕ) → ((m : ℕ) → times m ids ≤ 1) → IsDistinct (λ a b. a == b) ids
 unfolding IsDistinct
@@ -83,10 +76,7 @@ distinct (x ∷ ids) once = (uncounted x ids (seldom ids x (once x)), distinct i
 
 counted : (ids : List ℕ) (m : ℕ) → list_any (λ k. m == k) ids ≡ true → 0 < times m ids
 counted [] m found = absurd (true≢false (sym found))
-counted (k ∷ ids) m found = elim (cases_eq m k) [
-  | inl same ↦ (let one : times m (k ∷ ids) ≡ suc (times m ids) = subst (λ y. times m (y ∷ ids) ≡ suc (times m ids)) same (there ids m) in omega (arith, one))
-  | inr other ↦ (let later = counted ids m (sym (ap (λ b. b || list_any (λ k. m == k) ids) (ne_eqb m k other)) ∙ found) in let same = elsewhere ids k m (ne_eqb m k other) in omega (arith, later, same))
-]
+counted (k ∷ ids) m found = grind (arith, nat_tests, cases_eq m k, there ids m, counted ids m, ne_eqb m k, elsewhere ids k m)
 
 -- where each id stands once and is below a limit, as a new one is, there are fewer
 pub few : (ids : List ℕ) (x limit : ℕ) → ((m : ℕ) → times m ids ≤ 1) → ((m : ℕ) → 0 < times m ids → m < limit) → IsNew ids x → x < limit → length ids < limit

@@ -1,4 +1,5 @@
 -- The machine rests between dispatches, with all that is due by now settled: an object is dispatched, or time passes, or the run ends.
+use Rattle.std.proofs.lemmas.Bool.Decides.{nat_tests}
 use Rattle.std.proofs.Common.{◌≡◌, ◌⊎◌, inl, inr, ◌<◌, ◌≤◌, ◌-◌, ℕ, min, Bool, true, false, cond, List, [], ◌∷◌, ◌++◌, Option, Some, None, length, ap, arith, refl, subst, sym, ◌∙◌}
 use Rattle.std.proofs.lemmas.Bool.{cases_lt}
 use Rattle.aom_parts.specs.declared.progress.Progress.TheVariants.{Turned}
@@ -56,10 +57,7 @@ module _ {X : Type 0} {B : X → Type 0} where
 
   -- an event is told by a line
   pub ends_told : (old new : Machine X B) (events : List TimedEvent) (refused : List ℕ) (limit : ℕ) (told now : Turn) → Below old limit → TellsEnd events old told now new → TakesTurns old (hearing refused limit (natives_of old) events) None told now new
-  ends_told old new events refused limit told now below tells s stands =
-      let x = tells s stands in
-      let most = below_so old limit s stands below in
-      (x.0, x.1, x.2 refused limit most, x.3, (x.4, most, x.5, inr x.6), x.7)
+  ends_told old new events refused limit told now below tells s stands = grind (arith, nat_tests, below_so old limit s stands below)
 
   -- the machine is between dispatches, there may be more of them, nothing is due, nothing has come, and all natives are polled
   pub record Rests (old : Machine X B) (events : List TimedEvent) (limit : ℕ) (m : Machine X B) : Type 0 where
@@ -101,11 +99,7 @@ module _ {X : Type 0} {B : X → Type 0} where
         turns_by old.core.image outside s [] w.0 u x (w.1 refused limit (below_so old limit s stands rests.below)) between is owed (subst (λ q. turned q w.0 x ≡ Goes u) rests.image goes)
 
     one_run : (o : Object) (s : State) → length (run_line s o) ≤ 1
-    one_run o s = go o.thing refl
-      where
-        go : (t : Thing) → o.thing ≡ t → length (run_line s o) ≤ 1
-        go (An_object_of c) is = rw is (omega arith)
-        go Message is = rw is (omega arith)
+    one_run o s = grind (arith, nat_tests)
 
     one_serve : (time : ℕ) (t : Thing) (es : List Asked) → length (serve_line time t es) ≤ 1
     one_serve time (An_object_of class) [] = omega arith
@@ -167,19 +161,11 @@ module _ {X : Type 0} {B : X → Type 0} where
         passed_stands = let t = at_time rests.stands.0 rests.stands.1 in (t.state, t.stands)
 
         pub passed_far : progress passed.core ≡ Turned
-        passed_far =
-            let t = at_time rests.stands.0 rests.stands.1 in
-            let same = sym (goes_same _ t.state t.goes) in
-            turned_far passed t.state t.stands (still_between rests.stands.0 t.state (ap (λ (v : State). v.tasks) same) (ap (λ (v : State). v.rest.ended) same) t.between)
+        passed_far = grind (arith, nat_tests, at_time rests.stands.0 rests.stands.1, goes_same, turned_far passed, still_between rests.stands.0)
 
         -- no event is delivered by that
         pub passed_to_come : to_come events passed ≡ to_come events m
-        passed_to_come =
-            let t = at_time rests.stands.0 rests.stands.1 in
-            let same = ap (λ (v : State). v.rest.delivered) (sym (goes_same _ t.state t.goes)) in
-            let one = ap (λ r. r.delivered) t.stands.stands.agrees.rest in
-            let two = ap (λ r. r.delivered) rests.stands.1.stands.agrees.rest in
-            ap (λ n. length events - n) (one ∙ same ∙ sym two)
+        passed_to_come = grind (arith, nat_tests, at_time rests.stands.0 rests.stands.1, goes_same)
 
         -- what it passes to has come then
         pub passed_late : IsLate events passed

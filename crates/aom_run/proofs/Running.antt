@@ -1,4 +1,5 @@
 -- A run, some steps of the machine after others.
+use Rattle.std.proofs.lemmas.Bool.Decides.{nat_tests}
 use Rattle.std.proofs.Common.{◌≡◌, ◌≢◌, ◌≤◌, ◌-◌, ◌^◌, ℕ, min, ◌+◌, append-nil, Bool, true, List, [], ◌++◌, Option, Some, None, length, take, refl, sym, ap, subst, suc, ◌<◌, ◌∷◌, ◌∙◌, inl, inr, append_assoc, arith, IfNone}
 use Rattle.std.proofs.Math.Nat.{mul-le-mul_right, suc-mul}
 use Rattle.std.specs.Prelude.{◌⊎◌, ◌*◌, is_some}
@@ -9,7 +10,6 @@ use Rattle.aom_sound.specs.World.{boot_state, IsBetween, Reaches, begins, Outsid
 use Rattle.aom_transcript.specs.declared.event.TimedEvent.{TimedEvent}
 use Rattle.aom_transcript.specs.declared.line.Line.{Line}
 use Rattle.aom_transcript.specs.declared.line.Ending.{Ending}
-use Rattle.aom_transcript.specs.declared.line.Ending.TheVariants as endings
 use Rattle.aom_lines.specs.Turn.{Turn}
 use Rattle.aom_transcript.specs.Text.{ended, end_text, line_text}
 use Rattle.aom_run.specs.Naming.{text_by, transcript_by}
@@ -49,13 +49,10 @@ cut_of reads p outside before now lines all n out =
     }
 
 ended_by : (ended : Option Ending) (tasks : List Task) (ending : Ending) → progress_by ended tasks ≡ progresses.Ended ending → ended ≡ Some ending
-ended_by (Some e) tasks ending is = let same : e ≡ ending = cc in ap (λ x. Some x) same
-ended_by _ _ ending is = absurd (grind arith)
+ended_by x tasks ending is = grind arith
 
 pub turned_now : (progress : Progress) → progress ≢ progresses.Running → ((ending : Ending) → progress ≡ progresses.Ended ending → ⊥) → progress ≡ progresses.Turned
-turned_now progresses.Running not_running not_ended = absurd (not_running refl)
-turned_now progresses.Turned not_running not_ended = refl
-turned_now (progresses.Ended ending) not_running not_ended = absurd (not_ended ending refl)
+turned_now x not_running not_ended = grind arith
 
 -- ---- how often an object may be dispatched yet
 
@@ -72,15 +69,11 @@ nothing_left (t ∷ ts) rests = absurd (rests refl)
 
 -- one less of the first is less, whatever there is of the second
 lower : (a b c d k : ℕ) → a < b → c ≤ k → a * suc k + c < b * suc k + d
-lower a b c d k less most =
-    let all : suc a * suc k ≤ b * suc k = mul-le-mul_right (suc k) (omega (arith, less)) in
-    let one = suc-mul a (suc k) in
-    omega (arith, all, one, most)
+lower a b c d k less most = grind (arith, nat_tests, mul-le-mul_right, suc-mul a)
 
 -- what is said of a run that was given up
 pub given_up : {A : Type 0} {X : Type 0} (r : Option A) → X → IfNone r X
-given_up None x = x
-given_up (Some a) x = tt
+given_up x y = grind arith
 
 same_outcome : (d e : Ending) → outcome_of d ≡ outcome_of e → d ≡ e
 same_outcome d e is = grind arith
@@ -128,7 +121,7 @@ module _ {X : Type 0} {B : X → Type 0} where
             state = x.1;
             reaches = subst (λ ls. Reaches p outside (boot_state p) (lines ++ ls) x.1) (sym none) (subst (λ ls. Reaches p outside (boot_state p) ls x.1) (sym (append-nil lines)) (more x.0 x.1 x.2));
             stands = x.7;
-            out = x.4 ∙ ap (λ o. after o (text_by reads (told.lines ++ x.0))) far.out ∙ after_both before (text_by reads far.lines) (text_by reads (told.lines ++ x.0)) ∙ ap (after before) (text x.0);
+            out = grind (arith, nat_tests, after_both before, text x.0);
           }
 
       -- the sink failed
@@ -152,7 +145,7 @@ module _ {X : Type 0} {B : X → Type 0} where
       turned_on takes =
           let x = takes far.state far.stands in
           let is : turn.lines ≡ x.0 = ap (λ (t : Turn). t.lines) x.3 ∙ ap (λ ls. ls ++ x.0) none in
-          record { lines = far.lines; state = x.1; reaches = subst (λ ls. Reaches p outside (boot_state p) (far.lines ++ ls) x.1) (sym is) (bare x.0 x.1 x.2); stands = x.5; out = far.out }
+          record { lines = far.lines; state = x.1; reaches = grind (arith, nat_tests, bare x.0 x.1 x.2); stands = x.5; out = far.out }
 
       pub turned_end : (ending : Ending) → TakesTurns m outside (Some ending) told turn new → Ended reads p outside ending before mid new
       turned_end ending takes =
@@ -191,11 +184,7 @@ module _ {X : Type 0} {B : X → Type 0} where
     turned_stands = let x = takes stands.0 stands.1 in (x.1, x.5)
 
     pub turned_few : told.lines ≡ [] → length now.lines ≤ 1
-    turned_few none =
-        let x = takes stands.0 stands.1 in
-        let few = x.4.0 in
-        let is = ap length (ap (λ (t : Turn). t.lines) x.3 ∙ ap (λ ls. ls ++ x.0) none) in
-        omega (arith, few, is)
+    turned_few none = grind (arith, nat_tests)
 
     pub turned_same : now ≡ record told { lines = now.lines }
     turned_same = let is = (takes stands.0 stands.1).3 in is ∙ ap (λ ls. record told { lines = ls }) (sym (ap (λ (t : Turn). t.lines) is))
@@ -231,14 +220,11 @@ module _ {X : Type 0} {B : X → Type 0} where
   -- an event that is told by a line leaves as many dispatches, and fewer events
   fewer_to_come : (events : List TimedEvent) (limit : ℕ) (m new : Machine X B) (s u v : State) → StandsFor m s → StandsFor new v → v ≡ u → reached m.core ≡ progresses.Turned → u.rest.dispatches ≡ s.rest.dispatches
       → u.rest.ended ≡ None → length events - u.rest.delivered < length events - s.rest.delivered → left events limit new < left events limit m
-  fewer_to_come events limit m new s u v stands then_stands none between same going fewer =
-      let was = ap (λ e. rounds_by (limit - m.core.parts.rest.dispatches) e) (still_open m.core.parts.rest.ended m.core.parts.stack.tasks between) ∙ ap (λ r. suc (limit - r.dispatches)) stands.stands.agrees.rest in
-      let now = then_stands.stands.agrees.rest ∙ ap (λ (x : State). x.rest) none in
-      let is = ap (λ r. rounds_by (limit - r.dispatches) r.ended) now ∙ ap (λ e. rounds_by (limit - u.rest.dispatches) e) going ∙ ap (λ n. suc (limit - n)) same in
-      let rounds_same : rounds limit new * suc (length events) ≡ rounds limit m * suc (length events) = ap (λ n. n * suc (length events)) (is ∙ sym was) in
-      let came = ap (λ r. r.delivered) stands.stands.agrees.rest in
-      let comes = ap (λ r. r.delivered) now in
-      omega (arith, rounds_same, came, comes, fewer)
+  fewer_to_come events limit m new s u v stands then_stands none between same going fewer = grind (
+    arith,
+    nat_tests,
+    still_open m.core.parts.rest.ended m.core.parts.stack.tasks between,
+  )
 
   pub fewer_left_by : (reads : Line → List ℕ) (outside : Outside) → outside.limit ≤ 2 ^ 64 - 1 → (m mid new : Machine X B) (told turn now : Turn) (progress : Progress) (before out : Option (List ℕ))
       → Stands m → reached m.core ≡ progresses.Turned → TakesTurns m outside None told turn mid → Sent reads mid progress turn now before out new → left outside.events outside.limit new < left outside.events outside.limit m
@@ -305,11 +291,9 @@ module _ {X : Type 0} {B : X → Type 0} where
         → ((outcome ≡ WriteFault → ⊥) → (s : State) → StandsFor new s → now ≡ after mid (ended (end_text ending (count_cells s.cells))))
         → Ran reads m outside outcome failed before now new
     unfolding last
-    ran Stopped fault is part whole = subst (λ e. Told reads m.core.image outside e before now new) (sym (same_outcome endings.Stopped ending (is (λ f. cc)))) (told (whole (λ f. cc) run.state run.stands))
-    ran Waiting fault is part whole = subst (λ e. Told reads m.core.image outside e before now new) (sym (same_outcome endings.Waiting ending (is (λ f. cc)))) (told (whole (λ f. cc) run.state run.stands))
-    ran (MainLeft n) fault is part whole = subst (λ e. Told reads m.core.image outside e before now new) (sym (same_outcome (endings.MainLeft n) ending (is (λ f. cc)))) (told (whole (λ f. cc) run.state run.stands))
-    ran Limit fault is part whole = subst (λ e. Told reads m.core.image outside e before now new) (sym (same_outcome endings.Limit ending (is (λ f. cc)))) (told (whole (λ f. cc) run.state run.stands))
-    ran (Error n) fault is part whole = subst (λ e. Told reads m.core.image outside e before now new) (sym (same_outcome (endings.Error n) ending (is (λ f. cc)))) (told (whole (λ f. cc) run.state run.stands))
-    ran WriteFault fault is part whole =
-        let sent = part run.state run.stands in
-        (fault refl, cut_last sent.0 sent.1)
+    ran Stopped fault is part whole = grind (arith, nat_tests, same_outcome, told)
+    ran Waiting fault is part whole = grind (arith, nat_tests, same_outcome, told)
+    ran (MainLeft n) fault is part whole = grind (arith, nat_tests, same_outcome, told)
+    ran Limit fault is part whole = grind (arith, nat_tests, same_outcome, told)
+    ran (Error n) fault is part whole = grind (arith, nat_tests, same_outcome, told)
+    ran WriteFault fault is part whole = grind (arith, nat_tests, cut_last)

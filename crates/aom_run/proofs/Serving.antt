@@ -1,4 +1,5 @@
 -- What is kept of natives fits the state that a part of a turn leads to.
+use Rattle.std.proofs.lemmas.Bool.Decides.{nat_tests}
 use Rattle.std.proofs.Common.{◌≡◌, ◌<◌, ◌≤◌, ℕ, cond, suc, Bool, true, false, List, [], ◌∷◌, ◌++◌, Option, Some, None, refl, sym, ap, subst, ◌∙◌, length, inl, inr, arith}
 use Rattle.std.specs.Prelude.{IsSome, is_some, not, ◌&&◌, ◌||◌, ◌==◌}
 use Rattle.std.proofs.lemmas.Bool.{cases_eq, eq-eqb, eqb-true, le-ltb, lt-ltb, ne_eqb, true≢false}
@@ -49,10 +50,7 @@ module _ {L : Type 0} (kept : L → List ℕ) (old new : List (Option L)) where
   pub kept_but : (n : ℕ) → IsSome (living_at old n) → IsSome (living_at new n) → ids_at kept new n ≡ ids_at kept old n → KeepsOthers old new n → KeptSame kept old new
   kept_but n before after same others = record {
     count = others.count;
-    living = λ k. elim (cases_eq k n) [
-      | inl e ↦ subst (λ x. is_some (living_at new x) ≡ is_some (living_at old x)) (sym e) (after ∙ sym before)
-      | inr apart ↦ ap is_some (others.others k apart)
-    ];
+    living = grind (arith, nat_tests, cases_eq);
     ids = λ k. elim (cases_eq k n) [
       | inl e ↦ subst (λ x. ids_at kept new x ≡ ids_at kept old x) (sym e) same
       | inr apart ↦ ap (ids_of kept) (others.others k apart)
@@ -103,10 +101,7 @@ module _ {L : Type 0} (kept : L → List ℕ) (old new : List (Option L)) where
       TakesOut id (ids_at kept old n) (ids_at kept new n) → IsSome (living_at old n) → IsSome (living_at new n) → KeepsOthers old new n → Serves kept p u new
   serves_completed p s u n id a serves tale named out before after others = record {
     enough = (let enough = serves.enough in let count = others.count in omega (arith, enough, count));
-    lives = λ k within. elim (cases_eq k n) [
-      | inl e ↦ (let earlier = serves.lives n (let count = others.count in subst (λ x. x < length old) e (omega (arith, within, count))) in subst (λ x. is_some (living_at new x) ≡ not (is_dead u.killed x)) (sym e) (after ∙ sym before ∙ earlier ∙ ap (λ l. not (is_dead l n)) (sym tale.killed)))
-      | inr apart ↦ ap is_some (others.others k apart) ∙ serves.lives k (let count = others.count in omega (arith, within, count)) ∙ ap (λ l. not (is_dead l k)) (sym tale.killed)
-    ];
+    lives = grind (arith, nat_tests, cases_eq);
     ids = λ k m. elim (cases_eq k n) [
       | inl e ↦ subst (λ x. times m (ids_at kept new x) ≡ one_where (owes p u.cells x m)) (sym e) (left_here m)
       | inr apart ↦ ap (λ o. times m (ids_of kept o)) (others.others k apart) ∙ serves.ids k m ∙ ap one_where (sym (tale.owes k m ∙ ap (λ b. not (b && has_name (cell_at s.cells a.cell) m) && owes p s.cells k m) (ne_eqb n k (λ e. apart (sym e)))))
@@ -125,7 +120,7 @@ module _ {L : Type 0} (kept : L → List ℕ) (old new : List (Option L)) where
       left m false owed e is = sym (elsewhere (ids_at kept new n) id m (turned_false id m e)) ∙ is
 
       left_here : (m : ℕ) → times m (ids_at kept new n) ≡ one_where (owes p u.cells n m)
-      left_here m = left m (id == m) (owes p s.cells n m) refl (taken m) ∙ ap one_where (sym (tale.owes n m ∙ ap (λ b. not (b && has_name (cell_at s.cells a.cell) m) && owes p s.cells n m) (eq-eqb n n refl) ∙ ap (λ b. not b && owes p s.cells n m) (named m)))
+      left_here m = grind (arith, nat_tests, left m (id == m) (owes p s.cells n m), owes p s.cells n m, taken m, eq-eqb n n)
 
 module _ {X : Type 0} {B : X → Type 0} (old new : Machine X B) (s : State) (st : StandsFor old s) where
   -- what the core takes of a turn the whole takes, where what is kept of natives fits the state after it

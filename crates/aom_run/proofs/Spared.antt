@@ -1,5 +1,6 @@
 -- Moves one after another: they make no more dispatches of objects, and there are none where nothing is at hand.
-use Rattle.std.proofs.Common.{◌≡◌, ℕ, ◌≤◌, ◌^◌, ◌-◌, List, [], ◌∷◌, ◌∙◌, ap, arith, refl, sym}
+use Rattle.std.proofs.lemmas.Bool.Decides.{nat_tests}
+use Rattle.std.proofs.Common.{◌≡◌, ℕ, ◌≤◌, ◌^◌, ◌-◌, List, [], arith, refl}
 use Rattle.aom_image.specs.Image.{Image}
 use Rattle.aom_sound.specs.State.{State}
 use Rattle.aom_transcript.specs.declared.line.Line.{Line}
@@ -9,13 +10,17 @@ use Rattle.aom_run.specs.Runs.{Moving, begins, goes_on}
 
 pub moving_spares : (p : Image) (limit : ℕ) → limit ≤ 2 ^ 64 - 1 → (refused : List ℕ) (s : State) (lines : List Line) (u : State) → Moving p refused s lines u → spare limit u ≤ spare limit s
 moving_spares p limit most refused s _ _ begins = omega arith
-moving_spares p limit most refused s _ _ (goes_on {lines} {s = v} {u = u} c before busy free goes) =
-    let first = moving_spares p limit most refused s lines v before in
-    let last = moved_spares p limit most c v u goes in
-    omega (arith, first, last)
+moving_spares p limit most refused s _ _ (goes_on {lines} {s = v} {u = u} c before busy free goes) = grind (
+  arith,
+  nat_tests,
+  moving_spares p limit most refused s lines v before,
+  moved_spares p limit most c v u goes,
+)
 
 pub idle_stays : (p : Image) (refused : List ℕ) (s : State) (lines : List Line) (u : State) → s.tasks ≡ [] → Moving p refused s lines u → u ≡ s
 idle_stays p refused s _ _ idle begins = refl
-idle_stays p refused s _ _ idle (goes_on {lines} {s = v} {u = u} c before busy free goes) =
-    let none : [] ≡ busy.0 ∷ busy.1 = sym idle ∙ ap (λ (x : State). x.tasks) (sym (idle_stays p refused s lines v idle before)) ∙ busy.2 in
-    cc
+idle_stays p refused s _ _ idle (goes_on {lines} {s = v} {u = u} c before busy free goes) = grind (
+  arith,
+  nat_tests,
+  idle_stays p refused s lines v idle before,
+)

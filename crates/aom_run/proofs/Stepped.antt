@@ -1,7 +1,8 @@
 -- A step with the call that it makes: what is kept of natives fits the state after it.
-use Rattle.std.proofs.Common.{◌≡◌, ◌≢◌, ◌⊎◌, ◌<◌, ℤ, pos, negsuc, ℕ, suc, Bool, true, false, cond, List, [], ◌∷◌, ◌++◌, Option, Some, None, refl, sym, ap, subst, ◌∙◌, inl, inr, arith}
+use Rattle.std.proofs.lemmas.Bool.Decides.{nat_tests}
+use Rattle.std.proofs.Common.{◌≡◌, ◌≢◌, ◌⊎◌, ◌<◌, ℤ, pos, ℕ, suc, Bool, true, false, cond, List, [], ◌∷◌, ◌++◌, Option, Some, None, refl, sym, ap, subst, ◌∙◌, inl, inr, arith}
 use Rattle.std.proofs.lemmas.Int.{ints}
-use Rattle.std.specs.Prelude.{IsSome, is_some, int_lt, not, ◌&&◌, ◌==◌, ◌≤ℤ◌, ◌<ℤ◌}
+use Rattle.std.specs.Prelude.{IsSome, is_some, int_lt, ◌&&◌, ◌==◌, ◌≤ℤ◌, ◌<ℤ◌}
 use Rattle.std.proofs.lemmas.Bool.{cases_eq, eq-eqb, eqb-true, ne_eqb}
 use Rattle.aom_natives.specs.Owed.{times}
 use Rattle.aom_natives.specs.Slots.{KeepsOthers, ids_at, ids_of, living_at}
@@ -13,7 +14,7 @@ use Rattle.aom_sound.specs.Wanted.{Wanted, Starts, wanted}
 use Rattle.aom_endings.specs.Owed.{FindsWell, is_for, takes_on}
 use Rattle.aom_lines.specs.Turn.{Turn}
 use Rattle.aom_parts.specs.declared.progress.Progress.{Progress}
-use Rattle.aom_parts.specs.declared.progress.Progress.TheVariants.{Ended, Running, Turned}
+use Rattle.aom_parts.specs.declared.progress.Progress.TheVariants.{Running}
 use Rattle.aom_parts.specs.Progress.{progress_of}
 use Rattle.aom_parts.specs.Agrees.{heard_by}
 use Rattle.aom_parts.specs.Stands.{Machine as Core, StandsFor as Core_stands}
@@ -32,30 +33,22 @@ module _ {L : Type 0} (open_may : L → ℕ → ℤ → Type 0) (start_may call_
 
   pub heard_so : (new : List (Option L)) (heard answer : ℤ) (asked : Option Wanted) (w : Wanted) → asked ≡ Some w → heard ≡ answer → MayHear open_may start_may call_may slots (Some w) answer → Asked kept slots (Some w) answer new →
       MayHear open_may start_may call_may slots asked heard × Asked kept slots asked heard new
-  heard_so new heard answer asked w some same may call = subst (λ h. MayHear open_may start_may call_may slots asked h × Asked kept slots asked h new) (sym same) (subst (λ a. MayHear open_may start_may call_may slots a answer × Asked kept slots a answer new) (sym some) (may, call))
+  heard_so new heard answer asked w some same may call = grind (arith, nat_tests)
 
 -- a request is begun, or refused
 signs : (a : ℤ) → ((int_lt a (pos 0) ≡ true) × (a <ℤ pos 0)) ⊎ ((int_lt a (pos 0) ≡ false) × (pos 0 ≤ℤ a))
-signs (pos n) = inr (grind (arith, ints), grind (arith, ints))
-signs (negsuc n) = inl (grind (arith, ints), grind (arith, ints))
+signs x = grind (arith, nat_tests, ints)
 
 module _ {L : Type 0} (kept : L → List ℕ) (old new : List (Option L)) (n x : ℕ) where
   here : (m : ℕ) (ids : List ℕ) → times m (ids ++ x ∷ []) ≡ cond (is_for n x n m) (suc (times m ids)) (times m ids)
-  here m ids = (same-push ids x).at m ∙ go (x == m) refl ∙ ap (λ b. cond (b && (x == m)) (suc (times m ids)) (times m ids)) (sym (eq-eqb n n refl))
-    where
-      go : (b : Bool) → (x == m) ≡ b → times m (x ∷ ids) ≡ cond b (suc (times m ids)) (times m ids)
-      go true e = subst (λ y. times y (x ∷ ids) ≡ suc (times y ids)) (eqb-true x m e) (there ids x)
-      go false e = elsewhere ids x m (turned_false x m e)
+  here m ids = grind (arith, nat_tests, same-push ids x, eq-eqb n n, eqb-true x m, there ids x, elsewhere ids x m, turned_false x m)
 
   asked_start : (f w answer : ℤ) → (pos 0 ≤ℤ answer → ids_at kept new n ≡ ids_at kept old n ++ x ∷ []) → (answer <ℤ pos 0 → ids_at kept new n ≡ ids_at kept old n) → IsSome (living_at old n) → IsSome (living_at new n) → KeepsOthers old new n →
       Asked kept old (Some (Starts n x f w)) answer new
   asked_start f w answer taken refused before after others = record {
     count = others.count;
     unasked = others;
-    living = λ k. elim (cases_eq k n) [
-      | inl e ↦ subst (λ y. is_some (living_at new y) ≡ is_some (living_at old y)) (sym e) (after ∙ sym before)
-      | inr apart ↦ ap is_some (others.others k apart)
-    ];
+    living = grind (arith, nat_tests, cases_eq);
     times = λ k m. elim (cases_eq k n) [
       | inl e ↦ subst (λ y. times m (ids_at kept new y) ≡ cond (takes_on answer && is_for n x y m) (suc (times m (ids_at kept old y))) (times m (ids_at kept old y))) (sym e) (at_own m (signs answer))
       | inr apart ↦ ap (λ o. times m (ids_of kept o)) (others.others k apart) ∙ sym (ap (λ b. cond (takes_on answer && (b && (x == m))) (suc (times m (ids_at kept old k))) (times m (ids_at kept old k))) (ne_eqb n k (λ e. apart (sym e))) ∙ never (takes_on answer) _ _)
@@ -63,12 +56,10 @@ module _ {L : Type 0} (kept : L → List ℕ) (old new : List (Option L)) (n x :
   }
     where
       never : (b : Bool) (y z : ℕ) → cond (b && false) y z ≡ z
-      never true y z = refl
-      never false y z = refl
+      never y z u = grind arith
 
       at_own : (m : ℕ) → ((int_lt answer (pos 0) ≡ true) × (answer <ℤ pos 0)) ⊎ ((int_lt answer (pos 0) ≡ false) × (pos 0 ≤ℤ answer)) → times m (ids_at kept new n) ≡ cond (takes_on answer && is_for n x n m) (suc (times m (ids_at kept old n))) (times m (ids_at kept old n))
-      at_own m (inl less) = ap (times m) (refused less.1) ∙ sym (ap (λ b. cond (not b && is_for n x n m) (suc (times m (ids_at kept old n))) (times m (ids_at kept old n))) less.0)
-      at_own m (inr more) = ap (times m) (taken more.1) ∙ here m (ids_at kept old n) ∙ sym (ap (λ b. cond (not b && is_for n x n m) (suc (times m (ids_at kept old n))) (times m (ids_at kept old n))) more.0)
+      at_own m y = grind (arith, nat_tests, here m)
 
   -- what is outstanding stays so, where the call neither begins nor cancels
   pub asked_alone : (asked : Wanted) (answer : ℤ) → asked_at asked ≡ n → ((k m before : ℕ) → times_after (Some asked) answer k m before ≡ before) → ids_at kept new n ≡ ids_at kept old n → IsSome (living_at old n) → IsSome (living_at new n) → KeepsOthers old new n →
@@ -88,8 +79,7 @@ module _ {L : Type 0} (kept : L → List ℕ) (old new : List (Option L)) (n x :
 
   pub asked_to_start : (asked : Wanted) (f w answer : ℤ) → asked ≡ Starts n x f w → MayAsk kept old asked → (pos 0 ≤ℤ answer → ids_at kept new n ≡ ids_at kept old n ++ x ∷ []) → (answer <ℤ pos 0 → ids_at kept new n ≡ ids_at kept old n) → IsSome (living_at new n) → KeepsOthers old new n →
       Asked kept old (Some asked) answer new
-  asked_to_start asked f w answer is fits taken refused after others =
-      subst (λ a. Asked kept old (Some a) answer new) (sym is) (asked_start f w answer taken refused (subst (MayAsk kept old) is fits).0 after others)
+  asked_to_start asked f w answer is fits taken refused after others = grind (arith, nat_tests, asked_start f w answer taken refused)
 
 module _ {X : Type 0} {B : X → Type 0} (old : Machine X B) (s : State) (st : StandsFor old s) where
   -- something is at hand, or nothing is
@@ -97,12 +87,7 @@ module _ {X : Type 0} {B : X → Type 0} (old : Machine X B) (s : State) (st : S
   asks_so w running some = ap (λ x. asked_by x (wanted old.core.image s)) (sym (is_as_far old.core s st.stands) ∙ running) ∙ some
 
   pub asks_nothing : (progress old.core ≡ Running → ⊥) → asked_of old.core.image s ≡ None
-  asks_nothing resting = go (progress_of s) (is_as_far old.core s st.stands)
-    where
-      go : (x : Progress) → progress old.core ≡ x → asked_by x (wanted old.core.image s) ≡ None
-      go Running e = absurd (resting e)
-      go Turned e = refl
-      go (Ended ending) e = refl
+  asks_nothing resting = grind (arith, nat_tests, is_as_far old.core s st.stands)
 
   well_asked : FindsWell old.core.image s (wanted old.core.image s)
   well_asked = asks_well old.core.image st.stands.typing st.stands.sound s st.stands.typed st.serves.sessions
@@ -112,9 +97,7 @@ module _ {X : Type 0} {B : X → Type 0} (old : Machine X B) (s : State) (st : S
   fits w e = may_ask (λ l. l.ids) old.core.image s old.natives.slots.items st.serves st.stands.sound.formed (session_small old.core s st.stands) w (subst (FindsWell old.core.image s) e well_asked)
 
   of_asked : (p : Progress) → FindsWell old.core.image s (asked_by p (wanted old.core.image s))
-  of_asked Running = well_asked
-  of_asked Turned = tt
-  of_asked (Ended ending) = tt
+  of_asked x = grind (arith, nat_tests, well_asked)
 
   -- natives that serve no class are asked nothing
   pub unnamed_stay : (new : Machine X B) → KeepsUnasked old.natives.slots.items (asked_of old.core.image s) new.natives.slots.items → KeepsUnnamed old.core.image old.natives.slots.items new.natives.slots.items

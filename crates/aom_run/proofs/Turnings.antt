@@ -1,5 +1,6 @@
 -- Which turn is next: by the limit, by what is due, by what has come, by what is polled, and by what is ready.
-use Rattle.std.proofs.Common.{◌≡◌, ◌<◌, ◌≤◌, ℕ, true, false, Option, Some, None, ap, cond, refl, ◌∙◌}
+use Rattle.std.proofs.lemmas.Bool.Decides.{nat_tests}
+use Rattle.std.proofs.Common.{arith, ◌≡◌, ◌<◌, ◌≤◌, ℕ, true, false, Option, Some, None, ap, cond, refl, ◌∙◌}
 use Rattle.std.proofs.lemmas.Bool.{le-leb, lt-leb}
 use Rattle.aom_exec.specs.Turns.{NoneDue}
 use Rattle.aom_sound.specs.State.{State}
@@ -26,8 +27,7 @@ module _ (outside : Outside) (s : State) where
 
   module _ (below : s.rest.dispatches < outside.limit) where
     by_first : (heard : Heard) (next : Option Timed) → first_due s.cells ≡ next → turning outside heard s ≡ by_timer s next (then_events heard)
-    by_first heard next first =
-        ap (λ b. cond b Cuts (by_timer s (first_due s.cells) (then_events heard))) (lt-leb outside.limit s.rest.dispatches below) ∙ ap (λ x. by_timer s x (then_events heard)) first
+    by_first heard next first = grind (arith, nat_tests, lt-leb outside.limit s.rest.dispatches below)
 
     pub completes_so : (x : Timed) → first_due s.cells ≡ Some x → x.timer.due ≤ s.rest.clock → (heard : Heard) → turning outside heard s ≡ Completes x.object
     completes_so x first late heard = by_first heard (Some x) first ∙ ap (λ b. cond b (Completes x.object) (then_events heard)) (le-leb x.timer.due s.rest.clock late)
@@ -39,17 +39,15 @@ module _ (outside : Outside) (s : State) where
       early after (Some x) first = ap (λ b. cond b (Completes x.object) after) (lt-leb x.timer.due s.rest.clock (none x first))
 
       by_next : (heard : Heard) (next : Option TimedEvent) → next_event outside s ≡ next → turning outside heard s ≡ by_event outside heard.name s next (then_natives heard.completion)
-      by_next heard next is =
-          by_first heard (first_due s.cells) refl ∙ early (then_events heard) (first_due s.cells) refl ∙ ap (λ e. by_event outside heard.name s e (then_natives heard.completion)) is
+      by_next heard next is = grind (arith, nat_tests, by_first heard, early)
 
       pub delivers_so : (e : TimedEvent) → next_event outside s ≡ Some e → e.time ≤ s.rest.clock → (heard : Heard) → turning outside heard s ≡ delivers outside heard.name s e.event
-      delivers_so e is come heard = by_next heard (Some e) is ∙ ap (λ b. cond b (delivers outside heard.name s e.event) (then_natives heard.completion)) (le-leb e.time s.rest.clock come)
+      delivers_so e is come heard = grind (arith, nat_tests, by_next heard (Some e) is, le-leb e.time s.rest.clock come)
 
       -- and nothing has come
       module _ (none_come : NoneCome outside s) where
         later : (name : ℕ) (after : Turning) (next : Option TimedEvent) → next_event outside s ≡ next → by_event outside name s next after ≡ after
-        later name after None is = refl
-        later name after (Some e) is = ap (λ b. cond b (delivers outside name s e.event) after) (lt-leb e.time s.rest.clock (none_come e is))
+        later name after x is = grind (arith, nat_tests, lt-leb)
 
         settled : (heard : Heard) → turning outside heard s ≡ then_natives heard.completion
         settled heard = by_next heard (next_event outside s) refl ∙ later heard.name (then_natives heard.completion) (next_event outside s) refl
@@ -63,10 +61,10 @@ module _ (outside : Outside) (s : State) where
           last_is heard = settled heard ∙ ap (λ k. polls k heard.completion at_last) polled
 
           pub picks_so : (x : Candidate) → has_signal s.cells ≡ true → first_ready s.cells ≡ Some x → (heard : Heard) → turning outside heard s ≡ Picks x.seat
-          picks_so x signal ready heard = last_is heard ∙ ap (λ b. picks b (first_ready s.cells) (next_time outside s)) signal ∙ ap (λ r. picks true r (next_time outside s)) ready
+          picks_so x signal ready heard = grind (arith, nat_tests, last_is heard)
 
           quiet : has_signal s.cells ≡ false → (next : Option ℕ) → next_time outside s ≡ next → (heard : Heard) → turning outside heard s ≡ passes next
-          quiet no_signal next is heard = last_is heard ∙ ap (λ b. picks b (first_ready s.cells) (next_time outside s)) no_signal ∙ ap (λ n. picks false (first_ready s.cells) n) is
+          quiet no_signal next is heard = grind (arith, nat_tests, last_is heard)
 
           pub passes_so : has_signal s.cells ≡ false → (time : ℕ) → next_time outside s ≡ Some time → (heard : Heard) → turning outside heard s ≡ Passes time
           passes_so no_signal time is heard = quiet no_signal (Some time) is heard

@@ -1,5 +1,6 @@
 -- A dispatch under way: what was told before it goes out first, and then its lines.
-use Rattle.std.proofs.Common.{◌≡◌, ◌≢◌, ℕ, ◌+◌, List, [], ◌++◌, Option, length, take, sym, ap, subst, ◌∙◌, append-nil, append_assoc}
+use Rattle.std.proofs.lemmas.Bool.Decides.{nat_tests}
+use Rattle.std.proofs.Common.{arith, ◌≡◌, ◌≢◌, ℕ, List, [], ◌++◌, Option, take, sym, ap, subst, ◌∙◌, append-nil, append_assoc}
 use Rattle.aom_sound.specs.State.{State}
 use Rattle.aom_transcript.specs.declared.line.Line.{Line}
 use Rattle.aom_run.specs.Naming.{text_by}
@@ -31,10 +32,7 @@ module _ {X : Type 0} {B : X → Type 0} where
 
   -- nothing of a turn changes but its lines
   pub cleared_same : (m new : Machine X B) (told turn full clear : Turn) (progress : Progress) → turn ≡ record told { lines = turn.lines } → Stands m → Filled m progress turn full new → clear ≡ record full { lines = [] } → clear ≡ record told { lines = clear.lines }
-  cleared_same m new told turn full clear progress same stands f is =
-      let y = f stands.0 stands.1 in
-      let all : clear ≡ record told { lines = [] } = is ∙ ap (λ (t : Turn). record t { lines = [] }) y.3 ∙ ap (λ (t : Turn). record t { lines = [] }) same in
-      all ∙ ap (λ ls. record told { lines = ls }) (sym (ap (λ (t : Turn). t.lines) all))
+  cleared_same m new told turn full clear progress same stands f is = grind (arith, nat_tests)
 
   module _ (reads : Line → List ℕ) (old m new : Machine X B) (told turn full : Turn) (before out : Option (List ℕ)) (progress : Progress)
       (w : Underway reads old told before out turn m) (image : m.core.image ≡ old.core.image) (same : turn ≡ record told { lines = turn.lines }) (f : Filled m progress turn full new) where
@@ -48,7 +46,7 @@ module _ {X : Type 0} {B : X → Type 0} where
           let moving = subst (λ q. Moving q told.refused x.1 y.0 y.1) image (subst (λ r. Moving m.core.image r x.1 y.0 y.1) refused y.2) in
           let lines : full.lines ≡ turn.lines ++ y.0 = ap (λ (t : Turn). t.lines) y.3 in
           let all = ap (λ ls. x.3.0 ++ ls) lines ∙ sym (append_assoc x.3.0 turn.lines y.0) ∙ ap (λ ls. ls ++ y.0) x.3.1 ∙ append_assoc told.lines x.0 y.0 in
-          let frame : full ≡ record told { lines = full.lines } = y.3 ∙ ap (λ (t : Turn). record t { lines = turn.lines ++ y.0 }) same ∙ ap (λ ls. record told { lines = ls }) (sym lines) in
+          let frame : full ≡ record told { lines = full.lines } = grind (arith, nat_tests) in
           (x.0 ++ y.0, y.1, moving_both old.core.image told.refused s x.0 x.1 y.0 y.1 x.2 moving, (x.3.0, all, x.3.2), frame, y.4, y.5)
 
     -- the sink failed
@@ -58,13 +56,12 @@ module _ {X : Type 0} {B : X → Type 0} where
         let a = text_by reads x.3.0 in
         let b = text_by reads full.lines in
         let all = sym (text_by_both reads x.3.0 full.lines) ∙ ap (text_by reads) x.3.1 in
-        (x.0, x.1, x.2, (length a + n, e ∙ ap (λ o. after o (take n b)) x.3.2 ∙ cut_next before a b n ∙ ap (λ t. after before (take (length a + n) t)) all), x.6)
+        (x.0, x.1, x.2, grind (arith, nat_tests, cut_next before a b n), x.6)
 
     -- all that the turn has is out, and it is cleared
     module _ (now : Option (List ℕ)) (clear : Turn) (is : clear ≡ record full { lines = [] }) (e : now ≡ after out (text_by reads full.lines)) where
       all_out : (sent lines : List Line) → sent ++ full.lines ≡ told.lines ++ lines → out ≡ after before (text_by reads sent) → now ≡ after before (text_by reads (told.lines ++ lines))
-      all_out sent lines all so_far =
-          e ∙ ap (λ o. after o (text_by reads full.lines)) so_far ∙ after_both before (text_by reads sent) (text_by reads full.lines) ∙ ap (after before) (sym (text_by_both reads sent full.lines) ∙ ap (text_by reads) all)
+      all_out sent lines all so_far = grind (arith, nat_tests, after_both before, text_by_both reads sent full.lines)
 
       pub underway_still : Underway reads old told before now clear new
       underway_still s stands =
@@ -73,6 +70,4 @@ module _ {X : Type 0} {B : X → Type 0} where
           (x.0, x.1, x.2, (told.lines ++ x.0, none, all_out x.3.0 x.0 x.3.1 x.3.2), x.6)
 
       pub is_sent : progress ≢ Running → Sent reads old progress told clear before now new
-      is_sent rests s stands =
-          let x = further s stands in
-          (x.0, x.1, x.2, is ∙ ap (λ (t : Turn). record t { lines = [] }) x.4, all_out x.3.0 x.0 x.3.1 x.3.2, x.5, rests, x.6)
+      is_sent rests s stands = grind (arith, nat_tests, further s stands, all_out)

@@ -1,5 +1,5 @@
 -- How the lines of a transcript are written: with the numbers of classes, or with names in their places.
-use Rattle.std.specs.Prelude.{ℕ, ◌≡◌, List, [], ◌∷◌, ◌++◌, Option, Some, None, codes, decimal, flat_map, if◌then◌else◌, length, map, nat_lt, slice_get}
+use Rattle.std.specs.Prelude.{ℕ, ◌≡◌, List, ◌++◌, Option, Some, None, codes, decimal, flat_map, if◌then◌else◌, length, map, nat_lt, slice_get}
 use Rattle.std.specs.Borrow.{Bor}
 use Rattle.std.specs.Fmt.{signed_decimal}
 use Rattle.aom_transcript.specs.declared.line.Line.{Line}

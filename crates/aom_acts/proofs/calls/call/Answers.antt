@@ -1,4 +1,4 @@
-use Rattle.std.proofs.Common.{◌∙◌, sym}
+use Rattle.std.proofs.Common.{sym}
 use Rattle.aom_acts.proofs.EnterActs.{arguments_here, call_does, call_lives, calls_well, class_here}
 use Rattle.aom_acts.proofs.calls.call.Goals as goal
 

@@ -1,4 +1,4 @@
-use Rattle.std.proofs.Common.{◌∙◌, sym}
+use Rattle.std.proofs.Common.{sym}
 use Rattle.aom_acts.proofs.EnterActs.{arguments_here, class_here, trap_does, trap_lives, traps_well}
 use Rattle.aom_acts.proofs.Rooms.{mark_room}
 use Rattle.aom_acts.proofs.calls.trap.Goals as goal

@@ -1,7 +1,6 @@
 -- The method that the class has in the role is its own, or one of a class above it.
-use Rattle.std.proofs.Common.{◌≡◌, ◌∙◌, None, Some, ap, sym}
+use Rattle.std.proofs.Common.{◌≡◌, ◌∙◌, Some, ap, sym}
 use Rattle.std.proofs.lemmas.Option.{same_Some}
-use Rattle.aom_image.specs.Views.{method_class}
 use Rattle.aom_budget.proofs.Lined.{is_own, none_own, not_own}
 use Rattle.aom_budget.proofs.lines.own_destructor.Goals as goal
 

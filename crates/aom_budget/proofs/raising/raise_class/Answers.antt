@@ -1,6 +1,6 @@
 -- One class more is raised, or all are.
 use Rattle.std.proofs.Common.{◌∙◌, arith}
-use Rattle.aom_budget.proofs.Climbing.{class_goes, class_over}
+use Rattle.aom_budget.proofs.Climbing.{class_goes}
 use Rattle.aom_budget.proofs.raising.raise_class.Goals as goal
 
 pub loop-here-preserved : goal.loop-here-preserved

@@ -1,7 +1,5 @@
 -- Each table has one method more.
-use Rattle.std.proofs.Common.{arith}
 use Rattle.aom_bounds.proofs.Typings.{method_within}
-use Rattle.aom_budget.specs.Reaching.{AreReached}
 use Rattle.aom_budget.proofs.Filling.{filled_more}
 use Rattle.aom_budget.proofs.finder.Finder.find.Goals as goal
 
