@@ -8,9 +8,13 @@ mod program;
 
 ghost use Rattle.std.specs.Prelude.{◌≡◌, ◌≤◌};
 ghost use Rattle.aom_command_line.specs.CommandLine.{KeepsLimit};
-ghost use Rattle.aom_main.specs.Beside.{AreNew};
+ghost use Rattle.aom_commands.specs.Beside.{AreNew};
 
 use aom_command_line::{RunWords, TriesWords, Words, WordsFault, read_words};
+use aom_commands::{
+    ExitStatus, Fault, asm_bytes, check_bytes, dis_bytes, dot_bytes, explore_bytes, prices_bytes,
+    run_bytes, tell,
+};
 use aom_debug::debug_bytes;
 use aom_explaining::{
     asm_explained, check_by_text, check_explained, check_lined, debug_named, dot_named,
@@ -18,10 +22,6 @@ use aom_explaining::{
 };
 use aom_host::{Input, Output, read_file};
 use aom_injection::{Part, Tries};
-use aom_main::{
-    ExitStatus, Fault, asm_bytes, check_bytes, dis_bytes, dot_bytes, explore_bytes, prices_bytes,
-    run_bytes, tell,
-};
 use aom_natives::{Counter, Delay, Line, Native, NativeKind};
 use aom_run::{Sink, write_text};
 use program::{Program, Telling};

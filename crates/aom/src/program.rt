@@ -1,10 +1,10 @@
 //! What a command is about: an image, from its file or from an assembly text.
 ghost use Rattle.std.specs.Prelude.{◌≡◌, IfOk, IfErr, Some, false, true};
-ghost use Rattle.aom_main.specs.Assembly.{Makes, RefusesText};
+ghost use Rattle.aom_commands.specs.Assembly.{Makes, RefusesText};
 
+use aom_commands::{ExitStatus, Fault, assemble_bytes, tell};
 use aom_explaining::{tell_explained, tell_lined};
 use aom_host::read_file;
-use aom_main::{ExitStatus, Fault, assemble_bytes, tell};
 use aom_run::Sink;
 use std::alloc::Global;
 use std::mem;

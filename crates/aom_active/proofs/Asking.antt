@@ -4,16 +4,16 @@ use Rattle.std.specs.Prelude.{is_some, max}
 use Rattle.std.proofs.lemmas.Bool.{eqb-true}
 use Rattle.std.proofs.Math.Nat.{le-max_left, le-max_right}
 use Rattle.aom_image.specs.declared.method.Thing.{Thing}
-use Rattle.aom_sound.proofs.Maps.{requested_without, unnamed, named_name, named_without}
-use Rattle.aom_sound.proofs.Storing.{requested_here, requested_there}
-use Rattle.aom_sound.specs.Enlisted.{next_order, next_timer, order_after, request_after}
-use Rattle.aom_sound.specs.Places.{Cell, Object, Place, Request, Tidy, held, named, requested, set_request, set_word_field, with_new, without, Service, service_of, set_service}
+use Rattle.aom_semantics.proofs.Maps.{requested_without, unnamed, named_name, named_without}
+use Rattle.aom_safety.proofs.Storing.{requested_here, requested_there}
+use Rattle.aom_semantics.specs.Enlisted.{next_order, next_timer, order_after, request_after}
+use Rattle.aom_semantics.specs.Places.{Cell, Object, Place, Request, Tidy, held, named, requested, set_request, set_word_field, with_new, without, Service, service_of, set_service}
 use Rattle.aom_active.specs.Agrees.{timer_in, queue_in, queued}
 use Rattle.aom_active.specs.Meanings.{AreWanted, IsNewest, IsNewestTimer, asked_anew, is_wanted, queued_anew}
 use Rattle.aom_image.specs.Image.{Image}
-use Rattle.aom_sound.specs.Servers.{has_more, is_server}
-use Rattle.aom_sound.proofs.Services.{named_served, service_here, service_there, service_unnamed, service_without}
-use Rattle.aom_sound.proofs.Dropping.{requested_unnamed}
+use Rattle.aom_semantics.specs.Servers.{has_more, is_server}
+use Rattle.aom_safety.proofs.Services.{named_served, service_here, service_there, service_unnamed, service_without}
+use Rattle.aom_safety.proofs.Dropping.{requested_unnamed}
 
 -- another request of a cell that is there
 pub asked_set : (cs : List Cell) (n : ℕ) (r : Option Request) → is_some (named cs n) ≡ true → (m : ℕ) → asked_anew n r (requested cs) m ≡ requested (set_request n r cs) m

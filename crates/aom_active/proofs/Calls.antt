@@ -5,18 +5,18 @@ use Rattle.std.specs.Ordering.{int_eq}
 use Rattle.std.proofs.lemmas.Bool.{eqb-true, false≢true}
 use Rattle.aom_requests.specs.Requests.{Table, Changes, holds_signal, is_pending, is_ready, is_server, kept_code, pending, request_at, state_at, state_of, taken, with_state, with_status}
 use Rattle.aom_requests.specs.declared.request.State.{State}
-use Rattle.aom_requests.specs.declared.request.State.TheVariants.{Idle as Held_idle, Issued as Held_issued, Active as Held_active, Cancelling as Held_cancelling, Aborted as Held_aborted}
-use Rattle.aom_requests.specs.declared.request.Request.{Request as Held_request}
-use Rattle.aom_requests.specs.declared.request.Request.TheVariants.{Object as Held_object, Server as Held_server}
+use Rattle.aom_requests.specs.declared.request.State.TheVariants.{Idle as Machine_idle, Issued as Machine_issued, Active as Machine_active, Cancelling as Machine_cancelling, Aborted as Machine_aborted}
+use Rattle.aom_requests.specs.declared.request.Request.{Request as Machine_request}
+use Rattle.aom_requests.specs.declared.request.Request.TheVariants.{Object as Machine_object, Server as Machine_server}
 use Rattle.aom_scheduler.specs.Order.{placed, without}
 use Rattle.aom_scheduler.specs.Roster.{IsSound, Roster, before, first_ready, marked, place, waiting}
 use Rattle.aom_scheduler.specs.Pending.{AreInOrder, Pending, due_by, due_of, left_by, no_later, timer_of}
-use Rattle.aom_scheduler.specs.declared.timer.Timer.{Timer as Held_timer}
+use Rattle.aom_scheduler.specs.declared.timer.Timer.{Timer as Machine_timer}
 use Rattle.aom_scheduler.proofs.Items.{AreDistinct, IsAbsent, place-absent}
-use Rattle.aom_sound.specs.Enlisted.{aborted, cancelled, cancelling, completed_at_once, completed_with, recorded, taken_up, timed_out, waits}
-use Rattle.aom_sound.specs.Natives.{is_owed}
-use Rattle.aom_sound.specs.Places.{Issued, Request}
-use Rattle.aom_sound.specs.Tokens.{promised}
+use Rattle.aom_semantics.specs.Enlisted.{aborted, cancelled, cancelling, completed_at_once, completed_with, recorded, taken_up, timed_out, waits}
+use Rattle.aom_semantics.specs.Natives.{is_owed}
+use Rattle.aom_semantics.specs.Places.{Issued, Request}
+use Rattle.aom_semantics.specs.Tokens.{promised}
 use Rattle.aom_active.specs.Aborts.{aborted_request}
 use Rattle.aom_active.specs.Agrees.{Active, IsWhole, StandsFor, Tells, due_in, may_stand, phase_of, timer_in}
 use Rattle.aom_active.specs.Meanings.{Asks, Completes, Enlists, IsFirstDue, IsFirstReady, IsNewest, IsNewestTimer, Makes, Picks, Removes, TakesUp, Times, asked_anew, queued_anew, begun_with, enlisted_with, is_being_cancelled, timed_for}
@@ -28,52 +28,52 @@ use Rattle.aom_active.proofs.Turns.{Enters, Follows, Runs, enters_placed, enters
 -- ---- requests in the table
 
 -- an object's request in a state
-record IsIn (h : Option Held_request) (s : State) : Type 0 where
+record IsIn (h : Option Machine_request) (s : State) : Type 0 where
   status : ℤ
-  is : h ≡ Some (Held_object s status)
+  is : h ≡ Some (Machine_object s status)
 
-in_state : (h : Option Held_request) (s : State) → state_of h ≡ Some s → IsIn h s
+in_state : (h : Option Machine_request) (s : State) → state_of h ≡ Some s → IsIn h s
 in_state h s e = grind arith
 
 -- an object's request in any state
-record IsObject (h : Option Held_request) : Type 0 where
+record IsObject (h : Option Machine_request) : Type 0 where
   state : State
   in_it : IsIn h state
 
-an_object : (x : State) (status : ℤ) → IsObject (Some (Held_object x status))
+an_object : (x : State) (status : ℤ) → IsObject (Some (Machine_object x status))
 an_object x status = record { state = x; in_it = record { status = status; is = refl } }
 
 -- what is no server's is an object's, so is what is pending and what is being cancelled
-some_object : (h : Option Held_request) → is_server h ≡ false → is_some h ≡ true → IsObject h
+some_object : (h : Option Machine_request) → is_server h ≡ false → is_some h ≡ true → IsObject h
 some_object h plain some = grind arith
 
-pending_object : (h : Option Held_request) → is_pending h ≡ true → IsObject h
+pending_object : (h : Option Machine_request) → is_pending h ≡ true → IsObject h
 pending_object h e = grind arith
 
-cancelled_object : (h : Option Held_request) → is_being_cancelled h ≡ true → IsObject h
+cancelled_object : (h : Option Machine_request) → is_being_cancelled h ≡ true → IsObject h
 cancelled_object h e = grind arith
 
 -- a server has a signal as it is ready
-server_is : (h : Option Held_request) → is_server h ≡ true → h ≡ Some (Held_server (is_ready h))
+server_is : (h : Option Machine_request) → is_server h ≡ true → h ≡ Some (Machine_server (is_ready h))
 server_is h e = grind arith
 
 -- what an object's request becomes is told where its phase and its status are
 object_tells :
     (x y : State) (u v : ℤ) (r q : Request) (waits : Option Bool) → (phase_of x ≡ r.phase → u ≡ r.status → (phase_of y ≡ q.phase) × (v ≡ q.status)) →
-    Tells (Some (Held_object x u)) (Some r) waits → Tells (Some (Held_object y v)) (Some q) waits
+    Tells (Some (Machine_object x u)) (Some r) waits → Tells (Some (Machine_object y v)) (Some q) waits
 object_tells x y u v r q waits becomes tells = grind (arith, becomes)
 
 -- what is being cancelled is not ready
-cancelled_waits : (h : Option Held_request) → is_being_cancelled h ≡ true → is_ready h ≡ false
+cancelled_waits : (h : Option Machine_request) → is_being_cancelled h ≡ true → is_ready h ≡ false
 cancelled_waits h e = grind arith
 
 -- a request that is completed may stand in any state
-completed_stands : (x : State) (status : ℤ) → int_eq status pending ≡ false → may_stand (Some (Held_object x status)) ≡ true
-completed_stands Held_aborted status over = ap not over
-completed_stands Held_idle status over = refl
-completed_stands Held_issued status over = refl
-completed_stands Held_active status over = refl
-completed_stands Held_cancelling status over = refl
+completed_stands : (x : State) (status : ℤ) → int_eq status pending ≡ false → may_stand (Some (Machine_object x status)) ≡ true
+completed_stands Machine_aborted status over = ap not over
+completed_stands Machine_idle status over = refl
+completed_stands Machine_issued status over = refl
+completed_stands Machine_active status over = refl
+completed_stands Machine_cancelling status over = refl
 
 kept_is_over : (code : ℤ) → int_eq (kept_code code) pending ≡ false
 kept_is_over code = go (int_eq code pending) refl
@@ -86,7 +86,7 @@ none_of : {A : Type 0} (o : Option A) → is_some o ≡ false → o ≡ None
 none_of x e = grind arith
 
 -- a request that is pending is outstanding
-owed : (h : Option Held_request) (r : Option Request) (waits : Option Bool) → may_stand h ≡ true → Tells h r waits → is_pending h ≡ is_owed r
+owed : (h : Option Machine_request) (r : Option Request) (waits : Option Bool) → may_stand h ≡ true → Tells h r waits → is_pending h ≡ is_owed r
 owed h r waits stand tells = grind arith
 
 pub is_outstanding : {old : Active} (a : Active) → a ≡ old → IsWhole a → (id : ℕ) (asked : ℕ → Option Request) (queues : ℕ → Option Bool) → StandsFor old asked queues → is_pending (request_at a.table id) ≡ is_owed (asked id)
@@ -98,7 +98,7 @@ pub record Made (old new : Active) (id : ℕ) (f : Request → Request) : Type 0
   pub whole : IsWhole new
   pub makes : Makes old new id f
 
-whole_from : (a new : Active) (id : ℕ) (q : Option Held_request) → IsWhole a → Changes a.table new.table id q → may_stand q ≡ true → Enters new.table new.roster → Runs new.table new.pending → IsWhole new
+whole_from : (a new : Active) (id : ℕ) (q : Option Machine_request) → IsWhole a → Changes a.table new.table id q → may_stand q ≡ true → Enters new.table new.roster → Runs new.table new.pending → IsWhole new
 whole_from a new id q w ch stand enters runs = record {
   places = enters.places;
   dues = runs.dues;
@@ -109,11 +109,11 @@ whole_from a new id q w ch stand enters runs = record {
 }
 
 -- what the timers stand for once the request is another
-abbrev Retimes : List Held_timer → List Held_timer → ℕ → (Request → Request) → Type 0
+abbrev Retimes : List Machine_timer → List Machine_timer → ℕ → (Request → Request) → Type 0
 Retimes ts us id f = (asked : ℕ → Option Request) (r : Request) → asked id ≡ Some r → Timely asked ts → Timely (asked_anew id (Some (f r)) asked) us
 
 made :
-    (a new : Active) (id : ℕ) (q : Option Held_request) (f : Request → Request) → IsWhole a → Changes a.table new.table id q → may_stand q ≡ true →
+    (a new : Active) (id : ℕ) (q : Option Machine_request) (f : Request → Request) → IsWhole a → Changes a.table new.table id q → may_stand q ≡ true →
     Follows a.roster new.table new.roster → Runs new.table new.pending → Retimes a.pending.timers new.pending.timers id f →
     ((r : Request) (waits : Option Bool) → Tells (request_at a.table id) (Some r) waits → Tells q (Some (f r)) waits) → ((r : Request) → IsKept (Some r) (Some (f r))) → Made a new id f
 made a new id q f w ch stand follows runs retimes tells kept = record {
@@ -134,15 +134,15 @@ made a new id q f w ch stand follows runs retimes tells kept = record {
           sooner = t.sooner;
         }
 
-retimes_same : (ts : List Held_timer) (id : ℕ) (f : Request → Request) → ((r : Request) → r.timer ≡ (f r).timer) → Retimes ts ts id f
+retimes_same : (ts : List Machine_timer) (id : ℕ) (f : Request → Request) → ((r : Request) → r.timer ≡ (f r).timer) → Retimes ts ts id f
 retimes_same ts id f keeps asked r here t = timely_kept asked (asked_anew id (Some (f r)) asked) ts (timer_anew id r (f r) asked here (keeps r)) t
 
-retimes_none : (ts : List Held_timer) (id : ℕ) (f : Request → Request) → due_of id ts ≡ None → ((r : Request) → (f r).timer ≡ None) → Retimes ts ts id f
+retimes_none : (ts : List Machine_timer) (id : ℕ) (f : Request → Request) → due_of id ts ≡ None → ((r : Request) → (f r).timer ≡ None) → Retimes ts ts id f
 retimes_none ts id f unset loses asked r here t =
     let none : timer_in (Some r) ≡ None = no_due_no_timer (Some r) (sym unset ∙ t.dues id ∙ ap due_in here) in
     timely_kept asked (asked_anew id (Some (f r)) asked) ts (timer_anew id r (f r) asked here (none ∙ sym (loses r))) t
 
-retimes_without : (ts : List Held_timer) (id : ℕ) (f : Request → Request) → ((r : Request) → (f r).timer ≡ None) → Retimes ts (without id_of id ts) id f
+retimes_without : (ts : List Machine_timer) (id : ℕ) (f : Request → Request) → ((r : Request) → (f r).timer ≡ None) → Retimes ts (without id_of id ts) id f
 retimes_without ts id f loses asked r here t = timely_without asked id (Some (f r)) ts (loses r) t
 
 -- ---- the calls
@@ -155,48 +155,48 @@ module _ {old : Active} (a : Active) (same : a ≡ old) (w : IsWhole a) (id : �
   state_here : (s : State) → state_at old.table id ≡ Some s → IsIn (request_at a.table id) s
   state_here s state = in_state (request_at a.table id) s (ap (λ x. state_at x.table id) same ∙ state)
 
-  marked_as : (t : Table) (r : Roster) (q : Option Held_request) (ready : Bool) → Changes a.table t id q → ready ≡ is_ready (request_at t id) →
+  marked_as : (t : Table) (r : Roster) (q : Option Machine_request) (ready : Bool) → Changes a.table t id q → ready ≡ is_ready (request_at t id) →
       r ≡ record a.roster { entries = marked id ready a.roster.entries } → is_some (request_at a.table id) ≡ true → is_some q ≡ true → Follows a.roster t r
   marked_as t r q ready ch ready_is roster_is listed some =
       subst (λ x. Follows a.roster t x) (sym (roster_is ∙ ap (λ b. record a.roster { entries = marked id b a.roster.entries }) (ready_is ∙ ap is_ready ch.here)))
       (follows_marked a w t id q ch listed some)
 
   pub sets_active :
-      (t : Table) (r : Roster) (ready : Bool) → state_at old.table id ≡ Some Held_issued → Changes a.table t id (with_state Held_active (request_at a.table id)) →
+      (t : Table) (r : Roster) (ready : Bool) → state_at old.table id ≡ Some Machine_issued → Changes a.table t id (with_state Machine_active (request_at a.table id)) →
       ready ≡ is_ready (request_at t id) → r ≡ record a.roster { entries = marked id ready a.roster.entries } → Made old (parts t r a.pending) id waits
   sets_active t r ready state change ready_is roster_is =
-      let o = state_here Held_issued state in
-      let q = Some (Held_object Held_active o.status) in
-      let ch = subst (λ h. Changes a.table t id (with_state Held_active h)) o.is change in
+      let o = state_here Machine_issued state in
+      let q = Some (Machine_object Machine_active o.status) in
+      let ch = subst (λ h. Changes a.table t id (with_state Machine_active h)) o.is change in
       subst (λ x. Made x (parts t r a.pending) id waits) same
       (made a (parts t r a.pending) id q waits w ch refl (marked_as t r q ready ch ready_is roster_is (ap is_some o.is) refl)
       (runs_same a w t id q ch (λ e. sym (ap is_pending o.is) ∙ e)) (retimes_same a.pending.timers id waits (λ x. refl))
-      (λ x v e. object_tells Held_issued Held_active o.status o.status x (waits x) v (λ phase status. (refl, status)) (subst (λ h. Tells h (Some x) v) o.is e)) (λ x. (refl, refl)))
+      (λ x v e. object_tells Machine_issued Machine_active o.status o.status x (waits x) v (λ phase status. (refl, status)) (subst (λ h. Tells h (Some x) v) o.is e)) (λ x. (refl, refl)))
 
   pub begins_cancel :
-      (t : Table) (r : Roster) → state_at old.table id ≡ Some Held_active → Changes a.table t id (with_state Held_cancelling (request_at a.table id)) →
+      (t : Table) (r : Roster) → state_at old.table id ≡ Some Machine_active → Changes a.table t id (with_state Machine_cancelling (request_at a.table id)) →
       r ≡ record a.roster { entries = marked id false a.roster.entries } → Made old (parts t r a.pending) id cancelling
   begins_cancel t r state change roster_is =
-      let o = state_here Held_active state in
-      let q = Some (Held_object Held_cancelling o.status) in
-      let ch = subst (λ h. Changes a.table t id (with_state Held_cancelling h)) o.is change in
+      let o = state_here Machine_active state in
+      let q = Some (Machine_object Machine_cancelling o.status) in
+      let ch = subst (λ h. Changes a.table t id (with_state Machine_cancelling h)) o.is change in
       subst (λ x. Made x (parts t r a.pending) id cancelling) same
       (made a (parts t r a.pending) id q cancelling w ch refl (marked_as t r q false ch (sym (ap is_ready ch.here)) roster_is (ap is_some o.is) refl)
       (runs_same a w t id q ch (λ e. sym (ap is_pending o.is) ∙ e)) (retimes_same a.pending.timers id cancelling (λ x. refl))
-      (λ x v e. object_tells Held_active Held_cancelling o.status o.status x (cancelling x) v (λ phase status. (refl, status)) (subst (λ h. Tells h (Some x) v) o.is e)) (λ x. (refl, refl)))
+      (λ x v e. object_tells Machine_active Machine_cancelling o.status o.status x (cancelling x) v (λ phase status. (refl, status)) (subst (λ h. Tells h (Some x) v) o.is e)) (λ x. (refl, refl)))
 
   pub issues_own :
-      (s t : Table) (code given : ℤ) → given ≡ code → state_at old.table id ≡ Some Held_idle → Changes a.table s id (Some (Held_object Held_issued pending)) →
+      (s t : Table) (code given : ℤ) → given ≡ code → state_at old.table id ≡ Some Machine_idle → Changes a.table s id (Some (Machine_object Machine_issued pending)) →
       Changes s t id (with_status (kept_code given) (request_at s id)) → Made old (parts t a.roster a.pending) id (completed_at_once code)
   issues_own s t code given given_is state first second =
-      let o = state_here Held_idle state in
-      let q = Some (Held_object Held_issued (kept_code code)) in
+      let o = state_here Machine_idle state in
+      let q = Some (Machine_object Machine_issued (kept_code code)) in
       let over : is_pending (request_at a.table id) ≡ false = ap is_pending o.is in
-      let ch = changes_twice a.table s t id (Some (Held_object Held_issued pending)) q first (subst (λ k. Changes s t id (with_status (kept_code k) (Some (Held_object Held_issued pending)))) given_is (subst (λ h. Changes s t id (with_status (kept_code given) h)) first.here second)) in
+      let ch = changes_twice a.table s t id (Some (Machine_object Machine_issued pending)) q first (subst (λ k. Changes s t id (with_status (kept_code k) (Some (Machine_object Machine_issued pending)))) given_is (subst (λ h. Changes s t id (with_status (kept_code given) h)) first.here second)) in
       subst (λ x. Made x (parts t a.roster a.pending) id (completed_at_once code)) same
       (made a (parts t a.roster a.pending) id q (completed_at_once code) w ch refl (follows_same a w t id q ch (ap is_some o.is) refl (sym (ap is_ready o.is)))
       (runs_same a w t id q ch (λ e. absurd (false≢true (sym over ∙ e)))) (retimes_none a.pending.timers id (completed_at_once code) (no_timer a w t id q ch over) (λ x. refl))
-      (λ x v e. object_tells Held_idle Held_issued o.status (kept_code code) x (completed_at_once code x) v (λ phase status. (refl, refl)) (subst (λ h. Tells h (Some x) v) o.is e)) (λ x. (refl, refl)))
+      (λ x v e. object_tells Machine_idle Machine_issued o.status (kept_code code) x (completed_at_once code x) v (λ phase status. (refl, refl)) (subst (λ h. Tells h (Some x) v) o.is e)) (λ x. (refl, refl)))
 
   pub ends_cancel :
       (t : Table) → is_being_cancelled (request_at old.table id) ≡ true → is_pending (request_at old.table id) ≡ false →
@@ -205,12 +205,12 @@ module _ {old : Active} (a : Active) (same : a ≡ old) (w : IsWhole a) (id : �
       let being_here : is_being_cancelled (request_at a.table id) ≡ true = ap (λ x. is_being_cancelled (request_at x.table id)) same ∙ being in
       let over : is_pending (request_at a.table id) ≡ false = ap (λ x. is_pending (request_at x.table id)) same ∙ completed in
       let o = cancelled_object (request_at a.table id) being_here in
-      let q = Some (Held_object Held_idle o.in_it.status) in
+      let q = Some (Machine_object Machine_idle o.in_it.status) in
       let ch = subst (λ h. Changes a.table t id (taken h)) o.in_it.is change in
       subst (λ x. Made x (parts t a.roster a.pending) id cancelled) same
       (made a (parts t a.roster a.pending) id q cancelled w ch refl (follows_same a w t id q ch (ap is_some o.in_it.is) refl (sym (cancelled_waits (request_at a.table id) being_here)))
       (runs_same a w t id q ch (λ e. absurd (false≢true (sym over ∙ e)))) (retimes_same a.pending.timers id cancelled (λ x. refl))
-      (λ x v e. object_tells o.state Held_idle o.in_it.status o.in_it.status x (cancelled x) v (λ phase status. (refl, status)) (subst (λ h. Tells h (Some x) v) o.in_it.is e)) (λ x. (refl, refl)))
+      (λ x v e. object_tells o.state Machine_idle o.in_it.status o.in_it.status x (cancelled x) v (λ phase status. (refl, status)) (subst (λ h. Tells h (Some x) v) o.in_it.is e)) (λ x. (refl, refl)))
 
   pub aborts :
       (t : Table) (p : Pending) → is_being_cancelled (request_at old.table id) ≡ true → Changes a.table t id (aborted_request (request_at a.table id)) →
@@ -219,7 +219,7 @@ module _ {old : Active} (a : Active) (same : a ≡ old) (w : IsWhole a) (id : �
       let being_here : is_being_cancelled (request_at a.table id) ≡ true = ap (λ x. is_being_cancelled (request_at x.table id)) same ∙ being in
       let o = cancelled_object (request_at a.table id) being_here in
       let code = cond (int_eq o.in_it.status pending) (negsuc 2) o.in_it.status in
-      let q = Some (Held_object Held_aborted code) in
+      let q = Some (Machine_object Machine_aborted code) in
       let ch = subst (λ h. Changes a.table t id (aborted_request h)) o.in_it.is change in
       let timers = record a.pending { timers = without id_of id a.pending.timers } in
       subst (λ x. Made x (parts t a.roster p) id aborted) same
@@ -227,7 +227,7 @@ module _ {old : Active} (a : Active) (same : a ≡ old) (w : IsWhole a) (id : �
       (made a (parts t a.roster timers) id q aborted w ch (answered o.in_it.status (int_eq o.in_it.status pending) refl)
       (follows_same a w t id q ch (ap is_some o.in_it.is) refl (sym (cancelled_waits (request_at a.table id) being_here)))
       (runs_without a w t id q ch) (retimes_without a.pending.timers id aborted (λ x. refl))
-      (λ x v e. object_tells o.state Held_aborted o.in_it.status code x (aborted x) v (λ phase status. (refl, ap (λ y. cond (int_eq y pending) (negsuc 2) y) status)) (subst (λ h. Tells h (Some x) v) o.in_it.is e))
+      (λ x v e. object_tells o.state Machine_aborted o.in_it.status code x (aborted x) v (λ phase status. (refl, ap (λ y. cond (int_eq y pending) (negsuc 2) y) status)) (subst (λ h. Tells h (Some x) v) o.in_it.is e))
       (λ x. (refl, refl))))
     where
       answered : (status : ℤ) (b : Bool) → int_eq status pending ≡ b → not (int_eq (cond b (negsuc 2) status) pending) ≡ true
@@ -241,7 +241,7 @@ module _ {old : Active} (a : Active) (same : a ≡ old) (w : IsWhole a) (id : �
   times_out now t r p ready ordered due change ready_is roster_is pending_is =
       let o = pending_object (request_at a.table id) (w.waits id (set_by now id a.pending.timers due)) in
       let listed = ap is_some o.in_it.is in
-      let q = Some (Held_object o.state (pos 0)) in
+      let q = Some (Machine_object o.state (pos 0)) in
       let ch = subst (λ h. Changes a.table t id (with_status (pos 0) h)) o.in_it.is change in
       let timers = record a.pending { timers = without id_of id a.pending.timers } in
       let left = pending_is ∙ ap (λ ts. record a.pending { timers = ts }) (left_some now id a.pending.timers (subst (λ x. AreDistinct id_of x.pending.timers) (sym same) ordered.distinct) due) in
@@ -255,23 +255,23 @@ module _ {old : Active} (a : Active) (same : a ≡ old) (w : IsWhole a) (id : �
   issues_as :
       (f : Request → Request) → ((r : Request) → (f r).phase ≡ Issued) → ((r : Request) → (f r).status ≡ pending) → ((r : Request) → (f r).timer ≡ None) →
       ((r : Request) → IsKept (Some r) (Some (f r))) →
-      (t : Table) → state_at old.table id ≡ Some Held_idle → Changes a.table t id (Some (Held_object Held_issued pending)) → Made old (parts t a.roster a.pending) id f
+      (t : Table) → state_at old.table id ≡ Some Machine_idle → Changes a.table t id (Some (Machine_object Machine_issued pending)) → Made old (parts t a.roster a.pending) id f
   issues_as f phase_so status_so timer_so stays t state ch =
-      let o = state_here Held_idle state in
-      let q = Some (Held_object Held_issued pending) in
+      let o = state_here Machine_idle state in
+      let q = Some (Machine_object Machine_issued pending) in
       let over : is_pending (request_at a.table id) ≡ false = ap is_pending o.is in
       subst (λ x. Made x (parts t a.roster a.pending) id f) same
       (made a (parts t a.roster a.pending) id q f w ch refl (follows_same a w t id q ch (ap is_some o.is) refl (sym (ap is_ready o.is)))
       (runs_same a w t id q ch (λ e. absurd (false≢true (sym over ∙ e)))) (retimes_none a.pending.timers id f (no_timer a w t id q ch over) timer_so)
-      (λ x v e. object_tells Held_idle Held_issued o.status pending x (f x) v (λ phase status. (sym (phase_so x), sym (status_so x))) (subst (λ h. Tells h (Some x) v) o.is e)) stays)
+      (λ x v e. object_tells Machine_idle Machine_issued o.status pending x (f x) v (λ phase status. (sym (phase_so x), sym (status_so x))) (subst (λ h. Tells h (Some x) v) o.is e)) stays)
 
   pub issues_native :
-      (t : Table) → state_at old.table id ≡ Some Held_idle → Changes a.table t id (Some (Held_object Held_issued pending)) → Made old (parts t a.roster a.pending) id (begun_with pending)
+      (t : Table) → state_at old.table id ≡ Some Machine_idle → Changes a.table t id (Some (Machine_object Machine_issued pending)) → Made old (parts t a.roster a.pending) id (begun_with pending)
   issues_native = issues_as (begun_with pending) (λ r. refl) (λ r. refl) (λ r. refl) (λ r. (refl, refl))
 
   -- whichever token completes it
   pub issues_token :
-      (order : ℕ) (t : Table) → state_at old.table id ≡ Some Held_idle → Changes a.table t id (Some (Held_object Held_issued pending)) → Made old (parts t a.roster a.pending) id (promised order)
+      (order : ℕ) (t : Table) → state_at old.table id ≡ Some Machine_idle → Changes a.table t id (Some (Machine_object Machine_issued pending)) → Made old (parts t a.roster a.pending) id (promised order)
   issues_token order = issues_as (promised order) (λ r. refl) (λ r. refl) (λ r. refl) (λ r. (refl, refl))
 
   pub completes_it :
@@ -282,8 +282,8 @@ module _ {old : Active} (a : Active) (same : a ≡ old) (w : IsWhole a) (id : �
       let o = pending_object (request_at a.table id) (ap (λ x. is_pending (request_at x.table id)) same ∙ awaited) in
       let listed = ap is_some o.in_it.is in
       let f = completed_with (recorded code) in
-      let q = Some (Held_object o.state (kept_code code)) in
-      let ch = subst (λ k. Changes a.table t id (with_status (kept_code k) (Some (Held_object o.state o.in_it.status)))) given_is (subst (λ h. Changes a.table t id (with_status (kept_code given) h)) o.in_it.is change) in
+      let q = Some (Machine_object o.state (kept_code code)) in
+      let ch = subst (λ k. Changes a.table t id (with_status (kept_code k) (Some (Machine_object o.state o.in_it.status)))) given_is (subst (λ h. Changes a.table t id (with_status (kept_code given) h)) o.in_it.is change) in
       let timers = record a.pending { timers = without id_of id a.pending.timers } in
       subst (λ x. Made x (parts t r p) id f) same
       (subst (λ y. Made a (parts t r y) id f) (sym pending_is)
@@ -308,14 +308,14 @@ module _ {old : Active} (a : Active) (same : a ≡ old) (w : IsWhole a) (id : �
       let ready = pick_is_ready first in
       let listed = ready_is_some (request_at a.table id) ready in
       let o = some_object (request_at a.table id) plain listed in
-      let q = Some (Held_object Held_idle o.in_it.status) in
+      let q = Some (Machine_object Machine_idle o.in_it.status) in
       let ch = subst (λ h. Changes a.table t id (taken h)) o.in_it.is change in
       subst (λ x. Made x (parts t r a.pending) id taken_up) same
       (made a (parts t r a.pending) id q taken_up w ch refl (marked_as t r q false ch (sym (ap is_ready ch.here)) roster_is listed refl)
       (runs_same a w t id q ch (λ e. absurd (false≢true (sym (ready_is_over (request_at a.table id) ready) ∙ e)))) (retimes_same a.pending.timers id taken_up (λ x. refl))
-      (λ x v e. object_tells o.state Held_idle o.in_it.status o.in_it.status x (taken_up x) v (λ phase status. (refl, status)) (subst (λ h. Tells h (Some x) v) o.in_it.is e)) (λ x. (refl, refl)))
+      (λ x v e. object_tells o.state Machine_idle o.in_it.status o.in_it.status x (taken_up x) v (λ phase status. (refl, status)) (subst (λ h. Tells h (Some x) v) o.in_it.is e)) (λ x. (refl, refl)))
     where
-      ready_is_over : (h : Option Held_request) → is_ready h ≡ true → is_pending h ≡ false
+      ready_is_over : (h : Option Machine_request) → is_ready h ≡ true → is_pending h ≡ false
       ready_is_over h e = grind arith
 
 module _ {old : Active} (a : Active) (same : a ≡ old) (w : IsWhole a) where
@@ -368,7 +368,7 @@ pub record Timed (old new : Active) (id due : ℕ) : Type 0 where
 
 module _ {old : Active} (a : Active) (same : a ≡ old) (w : IsWhole a) (id : ℕ) where
   pub enlists_it :
-      (h : Held_request) (waits : Option Bool) → may_stand (Some h) ≡ true → is_ready (Some h) ≡ false → ((order : ℕ) (priority : ℤ) → Tells (Some h) (Some (enlisted_with order priority)) waits) →
+      (h : Machine_request) (waits : Option Bool) → may_stand (Some h) ≡ true → is_ready (Some h) ≡ false → ((order : ℕ) (priority : ℤ) → Tells (Some h) (Some (enlisted_with order priority)) waits) →
       (t : Table) (r : Roster) (priority given : ℤ) → given ≡ priority → IsSound old.roster → request_at old.table id ≡ None → Changes a.table t id (Some h) →
       r ≡ record a.roster { entries = placed before (waiting id given) a.roster.entries } → Enlisted old (parts t r a.pending) id priority waits
   enlists_it h waits may idles tells t r priority given given_is ordered fresh ch roster_is =
@@ -379,7 +379,7 @@ module _ {old : Active} (a : Active) (same : a ≡ old) (w : IsWhole a) (id : �
         enlists = record { limit = ch.limit; stands = stands };
       }))
     where
-      q : Option Held_request
+      q : Option Machine_request
       q = Some h
 
       grown : Roster
@@ -413,16 +413,16 @@ module _ {old : Active} (a : Active) (same : a ≡ old) (w : IsWhole a) (id : �
 
   -- a server is told that something waits in its queue, or that nothing does
   pub asks_it :
-      (t : Table) (r : Roster) (b : Bool) → is_server (request_at old.table id) ≡ true → Changes a.table t id (Some (Held_server b)) →
+      (t : Table) (r : Roster) (b : Bool) → is_server (request_at old.table id) ≡ true → Changes a.table t id (Some (Machine_server b)) →
       r ≡ record a.roster { entries = marked id b a.roster.entries } → Asked old (parts t r a.pending) id b
   asks_it t r b serves ch roster_is =
       subst (λ x. Asked x (parts t r a.pending) id b) same
       (record { whole = whole_from a (parts t r a.pending) id q w ch refl follows.enters runs; asks = record { limit = ch.limit; stands = stands } })
     where
-      q : Option Held_request
-      q = Some (Held_server b)
+      q : Option Machine_request
+      q = Some (Machine_server b)
 
-      was : request_at a.table id ≡ Some (Held_server (is_ready (request_at a.table id)))
+      was : request_at a.table id ≡ Some (Machine_server (is_ready (request_at a.table id)))
       was = server_is (request_at a.table id) (ap (λ x. is_server (request_at x.table id)) same ∙ serves)
 
       follows : Follows a.roster t r
@@ -431,7 +431,7 @@ module _ {old : Active} (a : Active) (same : a ≡ old) (w : IsWhole a) (id : �
       runs : Runs t a.pending
       runs = runs_same a w t id q ch (λ e. absurd (false≢true (sym (ap is_pending was) ∙ e)))
 
-      signals : (o : Option Request) (v : Option Bool) (x : Bool) → Tells (Some (Held_server x)) o v → Tells (Some (Held_server b)) o (Some b)
+      signals : (o : Option Request) (v : Option Bool) (x : Bool) → Tells (Some (Machine_server x)) o v → Tells (Some (Machine_server b)) o (Some b)
       signals o v x tells = grind arith
 
       stands : (asked : ℕ → Option Request) (queues : ℕ → Option Bool) → StandsFor a asked queues → StandsFor (parts t r a.pending) asked (queued_anew id (Some b) queues)
@@ -468,7 +468,7 @@ module _ {old : Active} (a : Active) (same : a ≡ old) (w : IsWhole a) (id : �
           record { tells = tells_anew a.table t id None None asked queues ch tt s.tells; priorities = l.priorities; order = l.order; dues = u.dues; sooner = u.sooner }
 
   pub sets_timer :
-      (t : Table) (p : Pending) (due : ℕ) → AreInOrder old.pending → state_at old.table id ≡ Some Held_idle → Changes a.table t id (Some (Held_object Held_issued pending)) →
+      (t : Table) (p : Pending) (due : ℕ) → AreInOrder old.pending → state_at old.table id ≡ Some Machine_idle → Changes a.table t id (Some (Machine_object Machine_issued pending)) →
       p ≡ record a.pending { timers = placed no_later (timer_of id due) a.pending.timers } → Timed old (parts t a.roster p) id due
   sets_timer t p due ordered state ch pending_is =
       subst (λ x. Timed x (parts t a.roster p) id due) same
@@ -480,11 +480,11 @@ module _ {old : Active} (a : Active) (same : a ≡ old) (w : IsWhole a) (id : �
         times = record { limit = ch.limit; stands = stands };
       }))
     where
-      q : Option Held_request
-      q = Some (Held_object Held_issued pending)
+      q : Option Machine_request
+      q = Some (Machine_object Machine_issued pending)
 
-      o : IsIn (request_at a.table id) Held_idle
-      o = state_here a same w id Held_idle state
+      o : IsIn (request_at a.table id) Machine_idle
+      o = state_here a same w id Machine_idle state
 
       unset : due_of id a.pending.timers ≡ None
       unset = no_timer a w t id q ch (ap is_pending o.is)
@@ -497,7 +497,7 @@ module _ {old : Active} (a : Active) (same : a ≡ old) (w : IsWhole a) (id : �
           let now = asked_anew id (Some (timed_for due order r)) asked in
           let l = (follows_same a w t id q ch (ap is_some o.is) refl (sym (ap is_ready o.is))).listed asked now (kept_anew id r (timed_for due order r) asked here (refl, refl)) (record { priorities = s.priorities; order = s.order }) in
           let u = timely_placed asked id due order r a.pending.timers a.pending.limit (record { dues = s.dues; sooner = s.sooner }) unset (subst (λ x. AreInOrder x.pending) (sym same) ordered) newest in
-          record { tells = tells_anew a.table t id q (Some (timed_for due order r)) asked queues ch (object_tells Held_idle Held_issued o.status pending r (timed_for due order r) (queues id) (λ phase status. (refl, refl)) (subst (λ h. Tells h (Some r) (queues id)) o.is (subst (λ x. Tells (request_at a.table id) x (queues id)) here (s.tells id)))) s.tells; priorities = l.priorities; order = l.order; dues = u.dues; sooner = u.sooner }
+          record { tells = tells_anew a.table t id q (Some (timed_for due order r)) asked queues ch (object_tells Machine_idle Machine_issued o.status pending r (timed_for due order r) (queues id) (λ phase status. (refl, refl)) (subst (λ h. Tells h (Some r) (queues id)) o.is (subst (λ x. Tells (request_at a.table id) x (queues id)) here (s.tells id)))) s.tells; priorities = l.priorities; order = l.order; dues = u.dues; sooner = u.sooner }
 
   -- an object that is enlisted has a place among the timers
   pub has_place : (s : State) → IsSound old.roster → state_at old.table id ≡ Some s → id < a.pending.limit

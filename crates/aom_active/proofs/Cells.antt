@@ -2,8 +2,8 @@
 use Rattle.std.proofs.Common.{◌≡◌, ◌==◌, ℕ, true, false, cond, List, ◌∷◌, Some, refl, sym, ap, ◌∙◌, arith}
 use Rattle.std.specs.Prelude.{is_some}
 use Rattle.std.proofs.lemmas.Bool.{eq-eqb, ne_eqb, false≢true}
-use Rattle.aom_sound.proofs.Dropping.{requested_unnamed}
-use Rattle.aom_sound.specs.Places.{Cell, Object, Request, Tidy, named, requested}
+use Rattle.aom_safety.proofs.Dropping.{requested_unnamed}
+use Rattle.aom_semantics.specs.Places.{Cell, Object, Request, Tidy, named, requested}
 
 -- what has a request is there
 pub asked_lives : (cs : List Cell) (n : ℕ) (r : Request) → requested cs n ≡ Some r → is_some (named cs n) ≡ true

@@ -4,10 +4,10 @@ use Rattle.std.specs.Prelude.{◌&&◌, ◌||◌, int_lt, is_some, nat_lt}
 use Rattle.std.specs.Ordering.{int_eq}
 use Rattle.std.proofs.lemmas.Bool.{eq-eqb, eqb-true, eqb-false, false≢true}
 use Rattle.std.proofs.lemmas.Int.{ints}
-use Rattle.aom_sound.proofs.Maps.{same_place-true, same_place_refl}
-use Rattle.aom_sound.specs.Places.{Cell, Object, Place, Request, Tidy, held, named, requested, same_place, service_of}
-use Rattle.aom_sound.specs.Servers.{has_more}
-use Rattle.aom_sound.specs.World.{Candidate, among_ready, before_others, first_ready, goes_before, goes_now, is_ready}
+use Rattle.aom_semantics.proofs.Maps.{same_place-true, same_place_refl}
+use Rattle.aom_semantics.specs.Places.{Cell, Object, Place, Request, Tidy, held, named, requested, same_place, service_of}
+use Rattle.aom_semantics.specs.Servers.{has_more}
+use Rattle.aom_semantics.specs.World.{Candidate, among_ready, before_others, first_ready, goes_before, goes_now, is_ready}
 use Rattle.aom_active.proofs.Cells.{asked_first, asked_later, asked_lives, named_first, named_later, other_name}
 use Rattle.aom_active.specs.Meanings.{AreWanted, IsFirstReady, NoneReady}
 

@@ -4,9 +4,9 @@ use Rattle.std.specs.Prelude.{◌&&◌, ◌||◌, is_some, nat_lt, option_map}
 use Rattle.std.proofs.lemmas.Bool.{eqb-true, eqb-false}
 use Rattle.std.proofs.lemmas.Option.{none-some}
 use Rattle.aom_scheduler.specs.Pending as Held
-use Rattle.aom_scheduler.specs.declared.timer.Timer.{Timer as Held_timer}
-use Rattle.aom_sound.specs.Places.{Cell, Object, Request, Tidy, Timer, named, requested}
-use Rattle.aom_sound.specs.World.{Timed, among_timers, first_due, is_sooner, sooner}
+use Rattle.aom_scheduler.specs.declared.timer.Timer.{Timer as Machine_timer}
+use Rattle.aom_semantics.specs.Places.{Cell, Object, Request, Tidy, Timer, named, requested}
+use Rattle.aom_semantics.specs.World.{Timed, among_timers, first_due, is_sooner, sooner}
 use Rattle.aom_active.proofs.Cells.{asked_first, asked_lives, named_first, named_later, other_name}
 use Rattle.aom_active.proofs.Firsts.{first_timer}
 use Rattle.aom_active.proofs.Halves.{Timely}
@@ -134,7 +134,7 @@ next_due_is a cs queues tidy s = by_timers a.pending.timers (record { dues = s.d
     no_timer None e none = refl
     no_timer (Some x) e none = let r = running cs tidy x e in absurd (none-some _ (none x.object.name ∙ ap (option_map (λ t. t.due)) r.runs))
 
-    by_timers : (ts : List Held_timer) → Timely (requested cs) ts → Held.first_due ts ≡ option_map (λ x. x.timer.due) (first_due cs)
+    by_timers : (ts : List Machine_timer) → Timely (requested cs) ts → Held.first_due ts ≡ option_map (λ x. x.timer.due) (first_due cs)
     by_timers [] t = no_timer (first_due cs) refl t.dues
     by_timers (u ∷ us) t =
         let f = first_timer (requested cs) u us t in

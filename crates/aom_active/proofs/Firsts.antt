@@ -8,16 +8,16 @@ use Rattle.std.proofs.lemmas.Option.{none-some, same_Some}
 use Rattle.std.proofs.lemmas.List.Elements.{All-cons, All-head, All-tail, All-weaker}
 use Rattle.aom_requests.specs.Requests as Held
 use Rattle.aom_requests.specs.Requests.{holds_signal, request_at}
-use Rattle.aom_requests.specs.declared.request.Request.{Request as Held_request}
+use Rattle.aom_requests.specs.declared.request.Request.{Request as Machine_request}
 use Rattle.aom_scheduler.specs.Order.{without}
 use Rattle.aom_scheduler.specs.Roster.{first_ready}
 use Rattle.aom_scheduler.specs.Pending.{due_by, due_of, left_by}
 use Rattle.aom_scheduler.specs.declared.entry.Entry.{Entry}
-use Rattle.aom_scheduler.specs.declared.timer.Timer.{Timer as Held_timer}
+use Rattle.aom_scheduler.specs.declared.timer.Timer.{Timer as Machine_timer}
 use Rattle.aom_scheduler.proofs.Items.{AreDistinct, at_head, pairs-head, pairs-tail, without-at}
 use Rattle.aom_scheduler.proofs.Timing.{stands-if_set}
-use Rattle.aom_sound.specs.Places.{Request, Timer}
-use Rattle.aom_sound.specs.World.{goes_before, is_sooner}
+use Rattle.aom_semantics.specs.Places.{Request, Timer}
+use Rattle.aom_semantics.specs.World.{goes_before, is_sooner}
 use Rattle.aom_active.specs.Agrees.{Active, ComesSooner, GoesBefore, IsSooner, IsWhole, StandsFor, Tells, timer_in}
 use Rattle.aom_active.specs.Meanings.{IsFirstDue, IsFirstReady, NoneDue, NoneReady, goes}
 use Rattle.aom_active.proofs.Halves.{Timely}
@@ -36,13 +36,13 @@ timer_there None due e = absurd (none-some _ (sym e))
 timer_there (Some t) due e = record { timer = t; is = refl; due_is = sym (same_Some due t.due e) }
 
 -- the first timer is a request's, and sooner than those of all others
-pub record IsFirstTimer (asked : ℕ → Option Request) (t : Held_timer) : Type 0 where
+pub record IsFirstTimer (asked : ℕ → Option Request) (t : Machine_timer) : Type 0 where
   pub timer : Timer
   pub runs : timer_in (asked t.id) ≡ Some timer
   pub due_is : timer.due ≡ t.due
   pub first : (n : ℕ) (u : Timer) → n ≢ t.id → timer_in (asked n) ≡ Some u → is_sooner timer u ≡ true
 
-pub first_timer : (asked : ℕ → Option Request) (t : Held_timer) (ts : List Held_timer) → Timely asked (t ∷ ts) → IsFirstTimer asked t
+pub first_timer : (asked : ℕ → Option Request) (t : Machine_timer) (ts : List Machine_timer) → Timely asked (t ∷ ts) → IsFirstTimer asked t
 first_timer asked t ts s = record { timer = own.timer; runs = own.is; due_is = own.due_is; first = first }
   where
     own : There (timer_in (asked t.id)) t.due
@@ -62,21 +62,21 @@ first_timer asked t ts s = record { timer = own.timer; runs = own.is; due_is = o
         by_place w = subst (λ o. ComesSooner (Some own.timer) o) (ap (λ k. timer_in (asked k)) w.number_is ∙ e) (subst (λ o. ComesSooner o (timer_in (asked w.item.id))) own.is w.holds)
 
 -- what is due is the first
-record IsDueFirst (now id : ℕ) (ts : List Held_timer) : Type 0 where
-  timer : Held_timer
-  rest : List Held_timer
+record IsDueFirst (now id : ℕ) (ts : List Machine_timer) : Type 0 where
+  timer : Machine_timer
+  rest : List Machine_timer
   is : ts ≡ timer ∷ rest
   name : timer.id ≡ id
   le : nat_le timer.due now ≡ true
 
-due_first : (now id : ℕ) (ts : List Held_timer) → due_by now ts ≡ Some id → IsDueFirst now id ts
+due_first : (now id : ℕ) (ts : List Machine_timer) → due_by now ts ≡ Some id → IsDueFirst now id ts
 due_first now id [] e = cc
 due_first now id (t ∷ ts) e =
     true_given (λ b. cond b (Some t.id) None ≡ Some id) (nat_le t.due now) e (λ none. cc)
     (λ le is. record { timer = t; rest = ts; is = refl; name = same_Some t.id id is; le = le })
 
 -- it is the first that is due, or none is
-pub first_by : (asked : ℕ → Option Request) (now id : ℕ) (ts : List Held_timer) → Timely asked ts → due_by now ts ≡ Some id → IsFirstDue now id asked
+pub first_by : (asked : ℕ → Option Request) (now id : ℕ) (ts : List Machine_timer) → Timely asked ts → due_by now ts ≡ Some id → IsFirstDue now id asked
 first_by asked now id ts s e =
     let d = due_first now id ts e in
     let f = first_timer asked d.timer d.rest (subst (Timely asked) d.is s) in
@@ -88,7 +88,7 @@ no_earlier t u e = at t.due u.due t.order u.order e
     at : (a b m n : ℕ) → (nat_lt a b || ((a == b) && nat_lt m n)) ≡ true → a ≤ b
     at a b m n e = grind (arith)
 
-pub none_by : (asked : ℕ → Option Request) (now : ℕ) (ts : List Held_timer) → Timely asked ts → due_by now ts ≡ None → NoneDue now asked
+pub none_by : (asked : ℕ → Option Request) (now : ℕ) (ts : List Machine_timer) → Timely asked ts → due_by now ts ≡ None → NoneDue now asked
 none_by asked now [] s e = λ n u runs. absurd (none-some _ (s.dues n ∙ ap (option_map (λ v. v.due)) runs))
 none_by asked now (t ∷ ts) s e = λ n u runs. by_name n u runs (n == t.id) refl
   where
@@ -105,21 +105,21 @@ none_by asked now (t ∷ ts) s e = λ n u runs. by_name n u runs (n == t.id) ref
         omega (arith, late, f.due_is, no_earlier f.timer u (f.first n u (eqb-false n t.id other) runs))
 
 -- what is left of the timers
-pub left_none : (now : ℕ) (ts : List Held_timer) → due_by now ts ≡ None → left_by now ts ≡ ts
+pub left_none : (now : ℕ) (ts : List Machine_timer) → due_by now ts ≡ None → left_by now ts ≡ ts
 left_none now ts e = grind arith
 
-pub left_some : (now id : ℕ) (ts : List Held_timer) → AreDistinct id_of ts → due_by now ts ≡ Some id → left_by now ts ≡ without id_of id ts
+pub left_some : (now id : ℕ) (ts : List Machine_timer) → AreDistinct id_of ts → due_by now ts ≡ Some id → left_by now ts ≡ without id_of id ts
 left_some now id ts distinct e =
     let d = due_first now id ts e in
     subst (λ l. left_by now l ≡ without id_of id l) (sym d.is)
     (ap (λ b. cond b d.rest (d.timer ∷ d.rest)) d.le ∙ without-at id_of id (d.timer ∷ d.rest) 0 (subst (AreDistinct id_of) d.is distinct) (at_head d.timer d.rest d.name))
 
 -- the first is set no more then
-pub fewer_left : (now id : ℕ) (ts : List Held_timer) → due_by now ts ≡ Some id → length (left_by now ts) < length ts
+pub fewer_left : (now id : ℕ) (ts : List Machine_timer) → due_by now ts ≡ Some id → length (left_by now ts) < length ts
 fewer_left now id ts e = grind arith
 
 -- the object of the first that is due has a timer
-pub set_by : (now id : ℕ) (ts : List Held_timer) → due_by now ts ≡ Some id → is_some (due_of id ts) ≡ true
+pub set_by : (now id : ℕ) (ts : List Machine_timer) → due_by now ts ≡ Some id → is_some (due_of id ts) ≡ true
 set_by now id ts e = grind arith
 
 -- ---- entries
@@ -157,14 +157,14 @@ first_entry R P id (x ∷ xs) e pairs all = go x.is_ready refl e (λ later. firs
         }
 
 -- a request is ready as the table tells
-same_ready : (h : Option Held_request) (r : Request) (waits : Option Bool) → Tells h (Some r) waits → Held.is_ready h ≡ goes r waits
+same_ready : (h : Option Machine_request) (r : Request) (waits : Option Bool) → Tells h (Some r) waits → Held.is_ready h ≡ goes r waits
 same_ready h r waits tells = grind arith
 
 -- what is ready is enlisted, and holds a signal
-pub ready_is_some : (h : Option Held_request) → Held.is_ready h ≡ true → is_some h ≡ true
+pub ready_is_some : (h : Option Machine_request) → Held.is_ready h ≡ true → is_some h ≡ true
 ready_is_some h e = grind arith
 
-pub ready_signals : (h : Option Held_request) → Held.is_ready h ≡ true → holds_signal h ≡ true
+pub ready_signals : (h : Option Machine_request) → Held.is_ready h ≡ true → holds_signal h ≡ true
 ready_signals h e = grind arith
 
 -- a request that the table tells
@@ -173,7 +173,7 @@ record Told (o : Option Request) (waits : Option Bool) (b : Bool) : Type 0 where
   is : o ≡ Some request
   ready : goes request waits ≡ b
 
-told : (h : Option Held_request) (o : Option Request) (waits : Option Bool) → Tells h o waits → is_some h ≡ true → Told o waits (Held.is_ready h)
+told : (h : Option Machine_request) (o : Option Request) (waits : Option Bool) → Tells h o waits → is_some h ≡ true → Told o waits (Held.is_ready h)
 told h o waits tells some = grind arith
 
 -- the first entry that is ready is that of a request that is

@@ -8,17 +8,17 @@ use Rattle.std.proofs.lemmas.Option.{none-some, same_Some}
 use Rattle.std.proofs.lemmas.List.Elements.{All-filter, All-weaker}
 use Rattle.std.proofs.lemmas.List.Kept.{AllPairs-filter}
 use Rattle.aom_requests.specs.Requests.{Table, Changes, request_at}
-use Rattle.aom_requests.specs.declared.request.Request.{Request as Held_request}
+use Rattle.aom_requests.specs.declared.request.Request.{Request as Machine_request}
 use Rattle.aom_scheduler.specs.Order.{IsOrdered, placed, without}
 use Rattle.aom_scheduler.specs.Roster.{before, marked, waiting}
 use Rattle.aom_scheduler.specs.Pending.{due_of, no_later, timer_of}
 use Rattle.aom_scheduler.specs.declared.entry.Entry.{Entry}
-use Rattle.aom_scheduler.specs.declared.timer.Timer.{Timer as Held_timer}
+use Rattle.aom_scheduler.specs.declared.timer.Timer.{Timer as Machine_timer}
 use Rattle.aom_scheduler.proofs.Items.{All-placed}
 use Rattle.aom_scheduler.proofs.Places.{by_priority}
 use Rattle.aom_scheduler.proofs.Timing.{absent-due, by_due}
-use Rattle.aom_sound.specs.Places.{Request, Timer}
-use Rattle.aom_sound.specs.World.{goes_before, is_sooner}
+use Rattle.aom_semantics.specs.Places.{Request, Timer}
+use Rattle.aom_semantics.specs.World.{goes_before, is_sooner}
 use Rattle.aom_active.specs.Agrees.{ComesSooner, GoesBefore, HasPriority, IsSooner, due_in, timer_in}
 use Rattle.aom_active.specs.Meanings.{IsNewest, IsNewestTimer, asked_anew, enlisted_with, timed_for}
 use Rattle.aom_active.proofs.Lists.{absent_without, both, due_placed, due_without, id_of, marked_all, marked_pairs, own_due, pairs_placed, pairs_weaker}
@@ -32,7 +32,7 @@ pub asked_other : (id n : ℕ) (r : Option Request) (asked : ℕ → Option Requ
 asked_other id n r asked other = ap (λ b. cond b r (asked n)) (ne_eqb id n (λ same. other (sym same)))
 
 -- so in the table
-pub request_anew : (old new : Table) (id : ℕ) (q : Option Held_request) → Changes old new id q → (n : ℕ) → request_at new n ≡ cond (id == n) q (request_at old n)
+pub request_anew : (old new : Table) (id : ℕ) (q : Option Machine_request) → Changes old new id q → (n : ℕ) → request_at new n ≡ cond (id == n) q (request_at old n)
 request_anew old new id q ch n = go (id == n) refl
   where
     go : (b : Bool) → (id == n) ≡ b → request_at new n ≡ cond b q (request_at old n)
@@ -40,7 +40,7 @@ request_anew old new id q ch n = go (id == n) refl
     go false other = ch.others n (λ same. eqb-false id n other (sym same))
 
 -- two changes in turn at one number
-pub changes_twice : (old middle new : Table) (id : ℕ) (q r : Option Held_request) → Changes old middle id q → Changes middle new id r → Changes old new id r
+pub changes_twice : (old middle new : Table) (id : ℕ) (q r : Option Machine_request) → Changes old middle id q → Changes middle new id r → Changes old new id r
 changes_twice old middle new id q r first second = record {
   here = second.here;
   others = λ n other. second.others n other ∙ first.others n other;
@@ -167,11 +167,11 @@ listed_placed asked id order priority es l absent sorted newest = record {
 -- ---- the timers
 
 -- they are due when the requests' timers are, and in their order
-pub record Timely (asked : ℕ → Option Request) (ts : List Held_timer) : Type 0 where
+pub record Timely (asked : ℕ → Option Request) (ts : List Machine_timer) : Type 0 where
   pub dues : (n : ℕ) → due_of n ts ≡ due_in (asked n)
   pub sooner : AllPairs (λ t u. IsSooner (asked t.id) (asked u.id)) ts
 
-pub timely_kept : (asked other : ℕ → Option Request) (ts : List Held_timer) → ((n : ℕ) → timer_in (asked n) ≡ timer_in (other n)) → Timely asked ts → Timely other ts
+pub timely_kept : (asked other : ℕ → Option Request) (ts : List Machine_timer) → ((n : ℕ) → timer_in (asked n) ≡ timer_in (other n)) → Timely asked ts → Timely other ts
 timely_kept asked other ts same t = record {
   dues = λ n. t.dues n ∙ ap (option_map (λ u. u.due)) (same n);
   sooner =
@@ -189,7 +189,7 @@ timer_anew id r q asked here same n = go (id == n) refl
     go false other = refl
 
 pub timely_without :
-    (asked : ℕ → Option Request) (id : ℕ) (r : Option Request) (ts : List Held_timer) → timer_in r ≡ None → Timely asked ts → Timely (asked_anew id r asked) (without id_of id ts)
+    (asked : ℕ → Option Request) (id : ℕ) (r : Option Request) (ts : List Machine_timer) → timer_in r ≡ None → Timely asked ts → Timely (asked_anew id r asked) (without id_of id ts)
 timely_without asked id r ts none t = record {
   dues = λ n. due_without id n ts ∙ go n (id == n);
   sooner =
@@ -215,7 +215,7 @@ before_timers : (t u : Timer) (due : ℕ) → t.due ≡ due → nat_le due u.due
 before_timers t u due same later = or_left (nat_lt u.due t.due) ((u.due == t.due) && nat_lt u.order t.order) (lt-ltb u.due t.due (omega (arith, leb-false due u.due later, same)))
 
 pub timely_placed :
-    (asked : ℕ → Option Request) (id due order : ℕ) (r : Request) (ts : List Held_timer) (limit : ℕ) → Timely asked ts → due_of id ts ≡ None → IsOrdered id_of no_later limit ts →
+    (asked : ℕ → Option Request) (id due order : ℕ) (r : Request) (ts : List Machine_timer) (limit : ℕ) → Timely asked ts → due_of id ts ≡ None → IsOrdered id_of no_later limit ts →
     IsNewestTimer order asked → Timely (asked_anew id (Some (timed_for due order r)) asked) (placed no_later (timer_of id due) ts)
 timely_placed asked id due order r ts limit t unset ordered newest = record {
   dues = λ n. due_placed (timer_of id due) n ts unset ∙ go n (id == n);
@@ -238,7 +238,7 @@ timely_placed asked id due order r ts limit t unset ordered newest = record {
     now : ℕ → Option Request
     now = asked_anew id (Some mine) asked
 
-    P : Held_timer → Type 0
+    P : Machine_timer → Type 0
     P u = (u.id ≢ id) × (due_of u.id ts ≡ Some u.due)
 
     absent : All (λ u. u.id ≢ id) ts
@@ -251,10 +251,10 @@ timely_placed asked id due order r ts limit t unset ordered newest = record {
     go n true = refl
     go n false = t.dues n
 
-    is_after : (u : Held_timer) (o : Option Timer) → timer_in (asked u.id) ≡ o → Some u.due ≡ option_map (λ v. v.due) o → no_later u (timer_of id due) ≡ true → ComesSooner o (timer_in (Some mine))
+    is_after : (u : Machine_timer) (o : Option Timer) → timer_in (asked u.id) ≡ o → Some u.due ≡ option_map (λ v. v.due) o → no_later u (timer_of id due) ≡ true → ComesSooner o (timer_in (Some mine))
     is_after u None is has first = absurd (none-some _ (sym has))
     is_after u (Some v) is has first = after_timers v (record { due = due; order = order }) u.due (sym (same_Some u.due v.due has)) first (newest u.id v is)
 
-    is_ahead : (u : Held_timer) (o : Option Timer) → Some u.due ≡ option_map (λ v. v.due) o → no_later u (timer_of id due) ≡ false → ComesSooner (timer_in (Some mine)) o
+    is_ahead : (u : Machine_timer) (o : Option Timer) → Some u.due ≡ option_map (λ v. v.due) o → no_later u (timer_of id due) ≡ false → ComesSooner (timer_in (Some mine)) o
     is_ahead u None has later = absurd (none-some _ (sym has))
     is_ahead u (Some v) has later = before_timers v (record { due = due; order = order }) u.due (sym (same_Some u.due v.due has)) later

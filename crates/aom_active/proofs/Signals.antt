@@ -7,11 +7,11 @@ use Rattle.std.proofs.lemmas.List.Sums.{count_by_more_no, count_by_more_yes}
 use Rattle.std.proofs.lemmas.Bool.Decides.{leb_tells}
 use Rattle.aom_requests.specs.Requests.{Table, holds_signal, request_at}
 use Rattle.aom_requests.specs.Requests as tables
-use Rattle.aom_requests.specs.declared.request.Request.{Request as Held_request}
-use Rattle.aom_sound.proofs.Dropping.{requested_unnamed}
-use Rattle.aom_sound.specs.Places.{Cell, Request, Tidy, named, requested, service_of}
-use Rattle.aom_sound.specs.Servers.{has_more}
-use Rattle.aom_sound.specs.World.{is_signalled, signal_count, signals}
+use Rattle.aom_requests.specs.declared.request.Request.{Request as Machine_request}
+use Rattle.aom_safety.proofs.Dropping.{requested_unnamed}
+use Rattle.aom_semantics.specs.Places.{Cell, Request, Tidy, named, requested, service_of}
+use Rattle.aom_semantics.specs.Servers.{has_more}
+use Rattle.aom_semantics.specs.World.{is_signalled, signal_count, signals}
 use Rattle.aom_active.specs.Agrees.{Active, IsWhole, StandsFor, Tells, may_stand}
 use Rattle.aom_active.specs.Meanings.{AreWanted, IsSignalCount, is_wanted}
 
@@ -120,7 +120,7 @@ counts_cells (c ∷ cs) m tidy low =
 -- ---- the table
 
 -- a request of the table signals as the request that it tells
-same_signal : (h : Option Held_request) (r : Option Request) (waits : Option Bool) → may_stand h ≡ true → Tells h r waits → holds_signal h ≡ tells_signal r (is_wanted waits)
+same_signal : (h : Option Machine_request) (r : Option Request) (waits : Option Bool) → may_stand h ≡ true → Tells h r waits → holds_signal h ≡ tells_signal r (is_wanted waits)
 same_signal h r waits may tells = grind arith
 
 module _ (a : Active) (w : IsWhole a) (cs : List Cell) (queues : ℕ → Option Bool) (tidy : Tidy cs) (wanted : AreWanted queues cs) (s : StandsFor a (requested cs) queues) where

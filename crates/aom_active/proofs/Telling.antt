@@ -5,11 +5,11 @@ use mathlib.Core.Path.{fun_ext}
 use Rattle.std.specs.Ordering.{int_eq}
 use Rattle.aom_requests.specs.Requests.{is_pending, is_server, pending, request_at, state_at, state_of, status_at, status_of}
 use Rattle.aom_requests.specs.declared.request.State.{State}
-use Rattle.aom_requests.specs.declared.request.State.TheVariants.{Idle as Held_idle, Issued as Held_issued, Active as Held_active, Cancelling as Held_cancelling, Aborted as Held_aborted}
-use Rattle.aom_requests.specs.declared.request.Request.{Request as Held_request}
-use Rattle.aom_sound.specs.Enlisted as Enlisted
-use Rattle.aom_sound.specs.Enlisted.{in_phase, is_active, is_cancelling}
-use Rattle.aom_sound.specs.Places.{Aborted, Active as Waiting, Cancelling, Idle, Issued, Phase, Request}
+use Rattle.aom_requests.specs.declared.request.State.TheVariants.{Idle as Machine_idle, Issued as Machine_issued, Active as Machine_active, Cancelling as Machine_cancelling, Aborted as Machine_aborted}
+use Rattle.aom_requests.specs.declared.request.Request.{Request as Machine_request}
+use Rattle.aom_semantics.specs.Enlisted as Enlisted
+use Rattle.aom_semantics.specs.Enlisted.{in_phase, is_active, is_cancelling}
+use Rattle.aom_semantics.specs.Places.{Aborted, Active as Waiting, Cancelling, Idle, Issued, Phase, Request}
 use Rattle.aom_active.specs.Agrees.{Active, StandsFor, Tells}
 use Rattle.aom_active.specs.Meanings.{is_being_cancelled, is_busy, is_waited_for}
 use Rattle.aom_active.specs.Turns.{StandingFollows}
@@ -18,36 +18,36 @@ use Rattle.aom_active.specs.Turns.{StandingFollows}
 
 -- the state of a phase
 abbrev pub held_state : Phase → State
-held_state phase = elim phase [ Idle ↦ Held_idle | Issued ↦ Held_issued | Waiting ↦ Held_active | Cancelling ↦ Held_cancelling | Aborted ↦ Held_aborted ]
+held_state phase = elim phase [ Idle ↦ Machine_idle | Issued ↦ Machine_issued | Waiting ↦ Machine_active | Cancelling ↦ Machine_cancelling | Aborted ↦ Machine_aborted ]
 
-tells_some : (h : Option Held_request) (o : Option Request) (waits : Option Bool) → Tells h o waits → is_some h ≡ is_some o
+tells_some : (h : Option Machine_request) (o : Option Request) (waits : Option Bool) → Tells h o waits → is_some h ≡ is_some o
 tells_some h o waits tells = grind arith
 
-tells_none : (h : Option Held_request) (waits : Option Bool) → Tells h None waits → h ≡ None
+tells_none : (h : Option Machine_request) (waits : Option Bool) → Tells h None waits → h ≡ None
 tells_none h waits tells = grind arith
 
 -- whether it is a server's
-tells_server : (h : Option Held_request) (r : Request) (waits : Option Bool) → Tells h (Some r) waits → is_server h ≡ is_some waits
+tells_server : (h : Option Machine_request) (r : Request) (waits : Option Bool) → Tells h (Some r) waits → is_server h ≡ is_some waits
 tells_server h r waits tells = grind arith
 
 -- an object's, which no server is
-tells_state : (h : Option Held_request) (r : Request) → Tells h (Some r) None → state_of h ≡ Some (held_state r.phase)
+tells_state : (h : Option Machine_request) (r : Request) → Tells h (Some r) None → state_of h ≡ Some (held_state r.phase)
 tells_state h r tells = grind arith
 
-tells_status : (h : Option Held_request) (r : Request) → Tells h (Some r) None → status_of h ≡ Some r.status
+tells_status : (h : Option Machine_request) (r : Request) → Tells h (Some r) None → status_of h ≡ Some r.status
 tells_status h r tells = grind arith
 
-tells_over : (h : Option Held_request) (r : Request) (waits : Option Bool) → Tells h (Some r) waits → int_eq r.status pending ≡ false → is_pending h ≡ false
+tells_over : (h : Option Machine_request) (r : Request) (waits : Option Bool) → Tells h (Some r) waits → int_eq r.status pending ≡ false → is_pending h ≡ false
 tells_over h r waits tells over = grind arith
 
 -- the tests on a phase
-tells_active : (h : Option Held_request) (o : Option Request) (waits : Option Bool) → Tells h o waits → is_waited_for h ≡ in_phase is_active o
+tells_active : (h : Option Machine_request) (o : Option Request) (waits : Option Bool) → Tells h o waits → is_waited_for h ≡ in_phase is_active o
 tells_active h o waits tells = grind arith
 
-tells_cancelling : (h : Option Held_request) (o : Option Request) (waits : Option Bool) → Tells h o waits → is_being_cancelled h ≡ in_phase is_cancelling o
+tells_cancelling : (h : Option Machine_request) (o : Option Request) (waits : Option Bool) → Tells h o waits → is_being_cancelled h ≡ in_phase is_cancelling o
 tells_cancelling h o waits tells = grind arith
 
-tells_busy : (h : Option Held_request) (o : Option Request) (waits : Option Bool) → Tells h o waits → is_busy h ≡ in_phase Enlisted.is_busy o
+tells_busy : (h : Option Machine_request) (o : Option Request) (waits : Option Bool) → Tells h o waits → is_busy h ≡ in_phase Enlisted.is_busy o
 tells_busy h o waits tells = grind arith
 
 -- ---- all of them
@@ -84,7 +84,7 @@ module _ (a : Active) (asked : ℕ → Option Request) (queues : ℕ → Option 
   told_busy = tells_busy (request_at a.table id) (asked id) (queues id) (s.tells id)
 
 -- the functions by which they are told do not matter, nor the queue of what is not enlisted
-queue_follows : (h : Option Held_request) (o : Option Request) (v waits : Option Bool) → (is_some o ≡ true → v ≡ waits) → Tells h o v → Tells h o waits
+queue_follows : (h : Option Machine_request) (o : Option Request) (v waits : Option Bool) → (is_some o ≡ true → v ≡ waits) → Tells h o v → Tells h o waits
 queue_follows h o v waits same tells = grind arith
 
 pub standing_follows : StandingFollows

@@ -5,15 +5,15 @@ use Rattle.std.proofs.lemmas.Bool.{eqb-true, eqb-false, false≢true}
 use Rattle.std.proofs.lemmas.Option.{none-some}
 use Rattle.std.proofs.lemmas.List.Elements.{All-filter, All-map, All-weaker}
 use Rattle.aom_requests.specs.Requests.{Table, Changes, request_at, is_pending, is_ready}
-use Rattle.aom_requests.specs.declared.request.Request.{Request as Held_request}
+use Rattle.aom_requests.specs.declared.request.Request.{Request as Machine_request}
 use Rattle.aom_scheduler.specs.Order.{placed, without}
 use Rattle.aom_scheduler.specs.Roster.{Roster, before, marked, marked_entry, place, waiting}
 use Rattle.aom_scheduler.specs.Pending.{Pending, due_of, no_later, timer_of}
 use Rattle.aom_scheduler.specs.declared.entry.Entry.{Entry}
 use Rattle.aom_scheduler.proofs.Items.{All-placed, IsAbsent}
 use Rattle.aom_scheduler.proofs.Places.{marked-place}
-use Rattle.aom_sound.specs.Enlisted.{waits}
-use Rattle.aom_sound.specs.Places.{Request, Timer}
+use Rattle.aom_semantics.specs.Enlisted.{waits}
+use Rattle.aom_semantics.specs.Places.{Request, Timer}
 use Rattle.aom_active.specs.Agrees.{Active, IsWhole, Tells, due_in, may_stand, timer_in}
 use Rattle.aom_active.specs.Meanings.{asked_anew}
 use Rattle.aom_active.proofs.Halves.{IsKept, Listed, listed_kept, listed_marked, request_anew}
@@ -22,7 +22,7 @@ use Rattle.aom_active.proofs.Lists.{absent_without, both, due_placed, due_withou
 -- ---- the table
 
 -- requests may stand as before, and with the new one
-pub stand_anew : (old new : Table) (id : ℕ) (q : Option Held_request) → Changes old new id q → may_stand q ≡ true → ((n : ℕ) → may_stand (request_at old n) ≡ true) → (n : ℕ) → may_stand (request_at new n) ≡ true
+pub stand_anew : (old new : Table) (id : ℕ) (q : Option Machine_request) → Changes old new id q → may_stand q ≡ true → ((n : ℕ) → may_stand (request_at old n) ≡ true) → (n : ℕ) → may_stand (request_at new n) ≡ true
 stand_anew old new id q ch here others n = ap may_stand (request_anew old new id q ch n) ∙ go (id == n)
   where
     go : (b : Bool) → may_stand (cond b q (request_at old n)) ≡ true
@@ -30,7 +30,7 @@ stand_anew old new id q ch here others n = ap may_stand (request_anew old new id
     go false = others n
 
 pub tells_anew :
-    (old new : Table) (id : ℕ) (q : Option Held_request) (r : Option Request) (asked : ℕ → Option Request) (queues : ℕ → Option Bool) → Changes old new id q → Tells q r (queues id) →
+    (old new : Table) (id : ℕ) (q : Option Machine_request) (r : Option Request) (asked : ℕ → Option Request) (queues : ℕ → Option Bool) → Changes old new id q → Tells q r (queues id) →
     ((n : ℕ) → Tells (request_at old n) (asked n) (queues n)) → (n : ℕ) → Tells (request_at new n) (asked_anew id r asked n) (queues n)
 tells_anew old new id q r asked queues ch here others n = subst (λ h. Tells h (asked_anew id r asked n) (queues n)) (sym (request_anew old new id q ch n)) (go (id == n) refl)
   where
@@ -52,7 +52,7 @@ pub record Follows (old : Roster) (t : Table) (r : Roster) : Type 0 where
   pub listed : (asked other : ℕ → Option Request) → ((n : ℕ) → IsKept (asked n) (other n)) → Listed asked old.entries → Listed other r.entries
 
 some_anew :
-    (old new : Table) (id : ℕ) (q : Option Held_request) (r s : Roster) → Changes old new id q → ((n : ℕ) → is_some (place n s) ≡ cond (id == n) (is_some q) (is_some (place n r))) →
+    (old new : Table) (id : ℕ) (q : Option Machine_request) (r s : Roster) → Changes old new id q → ((n : ℕ) → is_some (place n s) ≡ cond (id == n) (is_some q) (is_some (place n r))) →
     ((n : ℕ) → is_some (place n r) ≡ is_some (request_at old n)) → (n : ℕ) → is_some (place n s) ≡ is_some (request_at new n)
 some_anew old new id q r s ch now enlisted n = now n ∙ go (id == n) ∙ ap is_some (sym (request_anew old new id q ch n))
   where
@@ -60,7 +60,7 @@ some_anew old new id q r s ch now enlisted n = now n ∙ go (id == n) ∙ ap is_
     go true = refl
     go false = enlisted n
 
-module _ (a : Active) (w : IsWhole a) (t : Table) (id : ℕ) (q : Option Held_request) (ch : Changes a.table t id q) where
+module _ (a : Active) (w : IsWhole a) (t : Table) (id : ℕ) (q : Option Machine_request) (ch : Changes a.table t id q) where
   -- an object that is enlisted stays so
   still : is_some (request_at a.table id) ≡ true → is_some q ≡ true → (n : ℕ) → is_some (place n a.roster) ≡ cond (id == n) (is_some q) (is_some (place n a.roster))
   still listed some n = go (id == n) refl
@@ -146,7 +146,7 @@ pub record Runs (t : Table) (p : Pending) : Type 0 where
   pub dues : p.limit ≡ t.limit
   pub waits : (n : ℕ) → is_some (due_of n p.timers) ≡ true → is_pending (request_at t n) ≡ true
 
-module _ (a : Active) (w : IsWhole a) (t : Table) (id : ℕ) (q : Option Held_request) (ch : Changes a.table t id q) where
+module _ (a : Active) (w : IsWhole a) (t : Table) (id : ℕ) (q : Option Machine_request) (ch : Changes a.table t id q) where
   pub runs_same : (is_pending (request_at a.table id) ≡ true → is_pending q ≡ true) → Runs t a.pending
   runs_same keeps = record {
     dues = w.dues ∙ sym ch.limit;

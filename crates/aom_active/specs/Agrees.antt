@@ -3,15 +3,15 @@ use Rattle.std.specs.Prelude.{◌≡◌, ℕ, ℤ, Bool, true, not, cond, is_som
 use Rattle.std.specs.Ordering.{int_eq}
 use Rattle.aom_requests.specs.Requests.{Table, request_at, is_pending, is_ready, pending}
 use Rattle.aom_requests.specs.declared.request.State.{State}
-use Rattle.aom_requests.specs.declared.request.State.TheVariants.{Idle as Held_idle, Issued as Held_issued, Active as Held_active, Cancelling as Held_cancelling, Aborted as Held_aborted}
-use Rattle.aom_requests.specs.declared.request.Request.{Request as Held_request}
-use Rattle.aom_requests.specs.declared.request.Request.TheVariants.{Object as Held_object, Server as Held_server}
+use Rattle.aom_requests.specs.declared.request.State.TheVariants.{Idle as Machine_idle, Issued as Machine_issued, Active as Machine_active, Cancelling as Machine_cancelling, Aborted as Machine_aborted}
+use Rattle.aom_requests.specs.declared.request.Request.{Request as Machine_request}
+use Rattle.aom_requests.specs.declared.request.Request.TheVariants.{Object as Machine_object, Server as Machine_server}
 use Rattle.aom_scheduler.specs.Roster.{Roster, place}
 use Rattle.aom_scheduler.specs.Pending.{Pending, due_of}
 use Rattle.aom_image.specs.Image.{Image}
-use Rattle.aom_sound.specs.Places.{Cell, Object, Phase, Idle, Issued, Active as Waiting, Cancelling, Aborted, Request, Service, Timer, named, service_of}
-use Rattle.aom_sound.specs.Servers.{has_more, is_server}
-use Rattle.aom_sound.specs.World.{goes_before, is_sooner}
+use Rattle.aom_semantics.specs.Places.{Cell, Object, Phase, Idle, Issued, Active as Waiting, Cancelling, Aborted, Request, Service, Timer, named, service_of}
+use Rattle.aom_semantics.specs.Servers.{has_more, is_server}
+use Rattle.aom_semantics.specs.World.{goes_before, is_sooner}
 
 -- what each object waits for, the order of the picks, and the timers
 pub record Active : Type 0 where
@@ -26,11 +26,11 @@ nobody limit = record { table = record { slots = replicate limit None; limit = l
 -- ---- the three hang together
 
 -- an active object's request, completed if it is aborted, or a server's
-abbrev pub may_stand : Option Held_request → Bool
+abbrev pub may_stand : Option Machine_request → Bool
 may_stand None = true
-may_stand (Some (Held_object Held_aborted status)) = not (int_eq status pending)
-may_stand (Some (Held_object _ status)) = true
-may_stand (Some (Held_server has_signal)) = true
+may_stand (Some (Machine_object Machine_aborted status)) = not (int_eq status pending)
+may_stand (Some (Machine_object _ status)) = true
+may_stand (Some (Machine_server has_signal)) = true
 
 -- who has a request has an entry, which is ready as the request is, and timers run for requests that are pending
 pub record IsWhole (a : Active) : Type 0 where
@@ -44,7 +44,7 @@ pub record IsWhole (a : Active) : Type 0 where
 -- ---- and stand for the requests of the checked machine, by name
 
 abbrev pub phase_of : State → Phase
-phase_of state = elim state [ Held_idle ↦ Idle | Held_issued ↦ Issued | Held_active ↦ Waiting | Held_cancelling ↦ Cancelling | Held_aborted ↦ Aborted ]
+phase_of state = elim state [ Machine_idle ↦ Idle | Machine_issued ↦ Issued | Machine_active ↦ Waiting | Machine_cancelling ↦ Cancelling | Machine_aborted ↦ Aborted ]
 
 -- whether something waits in the queue of what stands there, if it is a server
 abbrev pub queue_in : Image → Option Object → Service → Option Bool
@@ -55,14 +55,14 @@ abbrev pub queued : Image → List Cell → ℕ → Option Bool
 queued p cs n = queue_in p (named cs n) (service_of cs n)
 
 -- the same request, as far as the table tells; a server makes none, and has a signal while something waits in its queue
-abbrev pub Tells : Option Held_request → Option Request → Option Bool → Type 0
+abbrev pub Tells : Option Machine_request → Option Request → Option Bool → Type 0
 Tells None None waits = Unit {0}
 Tells None (Some r) waits = ⊥
 Tells (Some h) None waits = ⊥
-Tells (Some (Held_object state status)) (Some r) None = (phase_of state ≡ r.phase) × (status ≡ r.status)
-Tells (Some (Held_object state status)) (Some r) (Some waits) = ⊥
-Tells (Some (Held_server has_signal)) (Some r) None = ⊥
-Tells (Some (Held_server has_signal)) (Some r) (Some waits) = (r.phase ≡ Idle) × (has_signal ≡ waits)
+Tells (Some (Machine_object state status)) (Some r) None = (phase_of state ≡ r.phase) × (status ≡ r.status)
+Tells (Some (Machine_object state status)) (Some r) (Some waits) = ⊥
+Tells (Some (Machine_server has_signal)) (Some r) None = ⊥
+Tells (Some (Machine_server has_signal)) (Some r) (Some waits) = (r.phase ≡ Idle) × (has_signal ≡ waits)
 
 -- a request of that priority
 abbrev pub HasPriority : ℤ → Option Request → Type 0

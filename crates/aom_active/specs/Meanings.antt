@@ -1,33 +1,33 @@
 -- What each call makes of the requests of the checked machine.
 use Rattle.std.specs.Prelude.{◌≡◌, ◌≢◌, ◌<◌, ◌≤◌, ◌==◌, ℕ, ℤ, pos, Bool, true, false, cond, ◌||◌, List, Option, Some, None, option_map}
 use Rattle.aom_requests.specs.Requests.{is_server, request_at}
-use Rattle.aom_requests.specs.declared.request.State.TheVariants.{Active as Held_active, Cancelling as Held_cancelling, Aborted as Held_aborted}
-use Rattle.aom_requests.specs.declared.request.Request.{Request as Held_request}
-use Rattle.aom_requests.specs.declared.request.Request.TheVariants.{Object as Held_object}
-use Rattle.aom_sound.specs.Enlisted.{pending, taken_up, timed_out}
-use Rattle.aom_sound.specs.Places.{Cell, Idle, Issued, Request, Tidy, Timer, requested, service_of}
-use Rattle.aom_sound.specs.Servers.{has_more}
-use Rattle.aom_sound.specs.World.{first_due, goes_before, is_ready, is_sooner, signal_count}
+use Rattle.aom_requests.specs.declared.request.State.TheVariants.{Active as Machine_active, Cancelling as Machine_cancelling, Aborted as Machine_aborted}
+use Rattle.aom_requests.specs.declared.request.Request.{Request as Machine_request}
+use Rattle.aom_requests.specs.declared.request.Request.TheVariants.{Object as Machine_object}
+use Rattle.aom_semantics.specs.Enlisted.{pending, taken_up, timed_out}
+use Rattle.aom_semantics.specs.Places.{Cell, Idle, Issued, Request, Tidy, Timer, requested, service_of}
+use Rattle.aom_semantics.specs.Servers.{has_more}
+use Rattle.aom_semantics.specs.World.{first_due, goes_before, is_ready, is_sooner, signal_count}
 use Rattle.aom_active.specs.Agrees.{Active, StandsFor, timer_in}
 
 -- ---- tests on a request of the table
 
 -- its object waits for it
-abbrev pub is_waited_for : Option Held_request → Bool
-is_waited_for (Some (Held_object Held_active status)) = true
+abbrev pub is_waited_for : Option Machine_request → Bool
+is_waited_for (Some (Machine_object Machine_active status)) = true
 is_waited_for _ = false
 
 -- it is being cancelled
-abbrev pub is_being_cancelled : Option Held_request → Bool
-is_being_cancelled (Some (Held_object Held_cancelling status)) = true
-is_being_cancelled (Some (Held_object Held_aborted status)) = true
+abbrev pub is_being_cancelled : Option Machine_request → Bool
+is_being_cancelled (Some (Machine_object Machine_cancelling status)) = true
+is_being_cancelled (Some (Machine_object Machine_aborted status)) = true
 is_being_cancelled _ = false
 
 -- either of the two
-abbrev pub is_busy : Option Held_request → Bool
-is_busy (Some (Held_object Held_active status)) = true
-is_busy (Some (Held_object Held_cancelling status)) = true
-is_busy (Some (Held_object Held_aborted status)) = true
+abbrev pub is_busy : Option Machine_request → Bool
+is_busy (Some (Machine_object Machine_active status)) = true
+is_busy (Some (Machine_object Machine_cancelling status)) = true
+is_busy (Some (Machine_object Machine_aborted status)) = true
 is_busy _ = false
 
 -- ---- changes

@@ -1,6 +1,6 @@
 -- What these make of a turn is what the checked machine makes of its cells.
 use Rattle.std.specs.Prelude.{◌≡◌, ℕ, Bool, true, is_some, Option}
-use Rattle.aom_sound.specs.Places.{Request}
+use Rattle.aom_semantics.specs.Places.{Request}
 use Rattle.aom_active.specs.Agrees.{Active, StandsFor}
 
 -- what stands for requests and queues stands for the same ones by other functions; the queue of what is not enlisted does not matter

@@ -4,10 +4,10 @@ ghost use Rattle.aom_requests.specs.Requests.{request_at, IsEnlisted, state_at, 
 ghost use Rattle.aom_scheduler.specs.Pending.{first_due, due_of, AreInOrder};
 ghost use Rattle.aom_scheduler.specs.Roster.{IsSound, place};
 ghost use Rattle.aom_image.specs.declared.class.Provider.TheVariants.{Own};
-ghost use Rattle.aom_sound.specs.Enlisted.{completed_at_once, completed_with, pending, recorded, waits, cancelling, aborted, cancelled};
-ghost use Rattle.aom_sound.specs.Natives.{is_owed};
-ghost use Rattle.aom_sound.specs.Places.{Request as RequestRecord};
-ghost use Rattle.aom_sound.specs.Tokens.{promised};
+ghost use Rattle.aom_semantics.specs.Enlisted.{completed_at_once, completed_with, pending, recorded, waits, cancelling, aborted, cancelled};
+ghost use Rattle.aom_semantics.specs.Natives.{is_owed};
+ghost use Rattle.aom_semantics.specs.Places.{Request as RequestRecord};
+ghost use Rattle.aom_semantics.specs.Tokens.{promised};
 ghost use Rattle.aom_active.specs.Agrees.{StandsFor};
 ghost use Rattle.aom_active.specs.Meanings.{is_waited_for, is_being_cancelled, is_busy, begun_with, Makes, Removes, Enlists, Asks, Times, Completes, IsNextDue, IsSignalCount, Picks};
 

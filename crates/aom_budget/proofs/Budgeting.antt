@@ -20,20 +20,20 @@ use Rattle.aom_classes.specs.Linked.{IsLinked}
 use Rattle.aom_classes.specs.Roles.{main_of, role_of}
 use Rattle.aom_classes.proofs.Facts.{all_there}
 use Rattle.aom_classes.proofs.Playing.{main_found as main_method, role_inherits}
-use Rattle.aom_shape.specs.Tables.{at}
+use Rattle.aom_roles.specs.Tables.{at}
 use Rattle.aom_shape.proofs.Lists.{there}
 use Rattle.aom_rules.specs.Typing.{Typing}
-use Rattle.aom_bounds.specs.Strongest.{IsStrongest}
-use Rattle.aom_bounds.specs.Depths.{DepthsWithin}
-use Rattle.aom_bounds.specs.Heights.{HeightsWithin}
-use Rattle.aom_bounds.specs.Costs.{ArePrices, destructor_price}
-use Rattle.aom_bounds.specs.Dispatches.{IsAffordable, main_price, method_price, root_price}
-use Rattle.aom_bounds.specs.Layers.{SayTheSame}
-use Rattle.aom_bounds.specs.Prices.{Prices, price}
-use Rattle.aom_bounds.proofs.Alike.{IsCovered, prices_alike}
-use Rattle.aom_bounds.proofs.Methods.{destructs_within, method_is_some}
-use Rattle.aom_bounds.proofs.Going.{going_alike, found_of}
-use Rattle.aom_bounds.proofs.Unique.{law_one}
+use Rattle.aom_typings.specs.Strongest.{IsStrongest}
+use Rattle.aom_typings.specs.Depths.{DepthsWithin}
+use Rattle.aom_typings.specs.Heights.{HeightsWithin}
+use Rattle.aom_typings.specs.Costs.{ArePrices, destructor_price}
+use Rattle.aom_typings.specs.Dispatches.{IsAffordable, main_price, method_price, root_price}
+use Rattle.aom_typings.specs.Layers.{SayTheSame}
+use Rattle.aom_typings.specs.Prices.{Prices, price}
+use Rattle.aom_typings.proofs.Alike.{IsCovered, prices_alike}
+use Rattle.aom_typings.proofs.Methods.{destructs_within, method_is_some}
+use Rattle.aom_typings.proofs.Going.{going_alike, found_of}
+use Rattle.aom_typings.proofs.Unique.{law_one}
 use Rattle.aom_budget.specs.Budgets.{BudgetsWithin, CostsWithin, IsBefore, IsOver, class_declares, class_price, budget_of, declared_by, kind_price, payer_price, role_price}
 use Rattle.aom_budget.specs.Faults.{Refuses, RefusesOrWants}
 use Rattle.aom_budget.specs.Figures.{ClassesWithin, IsWithin, TellsFirst, TellsOver, class_by, kind_by, main_by, payer_by, role_by, root_by}

@@ -23,9 +23,9 @@ use Rattle.aom_shape.specs.declared.kind.Delivery.TheVariants.{Here}
 use Rattle.aom_shape.specs.declared.kind.Age.TheVariants.{Ready}
 use Rattle.aom_shape.specs.declared.kind.Kind.{Kind}
 use Rattle.aom_shape.specs.declared.kind.Kind.TheVariants.{Null, Own, Maybe}
-use Rattle.aom_bounds.specs.Calls.{callees, MayCall}
-use Rattle.aom_bounds.specs.Depths.{Frames, IsTooDeep}
-use Rattle.aom_bounds.specs.Depths.Frames.{alone, calling}
+use Rattle.aom_typings.specs.Calls.{callees, MayCall}
+use Rattle.aom_typings.specs.Depths.{Frames, IsTooDeep}
+use Rattle.aom_typings.specs.Depths.Frames.{alone, calling}
 use Rattle.aom_budget.specs.Budgets.{declared_by}
 use Rattle.aom_budget.specs.Figures.{IsWithin, TellsFirst, payer_by}
 use Rattle.aom_budget.specs.Pricing.{destruction_by}

@@ -8,9 +8,9 @@ use Rattle.aom_image.specs.Views.{instr_at}
 use Rattle.aom_instructions.specs.declared.instr.Instr.{Instr}
 use Rattle.aom_classes.specs.Bodies.{IsIn}
 use Rattle.aom_shape.specs.Shape.{Shape}
-use Rattle.aom_shape.specs.Tables.{at}
-use Rattle.aom_bounds.specs.Shapes.{Shapes}
-use Rattle.aom_bounds.specs.Calls.{Among}
+use Rattle.aom_roles.specs.Tables.{at}
+use Rattle.aom_typings.specs.Shapes.{Shapes}
+use Rattle.aom_typings.specs.Calls.{Among}
 use Rattle.aom_budget.specs.Extents.{IsMost, Before}
 use Rattle.aom_budget.specs.Pricing.{targets_of, most_past, ExitsAt}
 use Rattle.aom_budget.proofs.Most.{of_none, alike, of_either}

@@ -14,19 +14,19 @@ use Rattle.aom_shape.specs.Kinds.{register}
 use Rattle.aom_shape.specs.Order.{Weaker, SaysNoMore}
 use Rattle.aom_shape.specs.Order.Weaker.{maybe_null}
 use Rattle.aom_shape.specs.Shape.{Shape}
-use Rattle.aom_shape.specs.Tables.{at}
+use Rattle.aom_roles.specs.Tables.{at}
 use Rattle.aom_shape.specs.declared.kind.Kind.{Kind}
 use Rattle.aom_shape.proofs.Lists.{at_past, at_within, at_set_here, at_set_other}
-use Rattle.aom_bounds.specs.Shapes.{Shapes}
-use Rattle.aom_bounds.specs.Strongest.{IsMethodStrongest}
-use Rattle.aom_bounds.specs.Calls.{Among, destructors, object_class, callees, CallsAt, MayCall}
-use Rattle.aom_bounds.specs.Depths.{Frames}
-use Rattle.aom_bounds.specs.Depths.Frames.{alone, calling}
-use Rattle.aom_bounds.specs.Heights.{StandsAt, Enters, CallsOver, Heights}
-use Rattle.aom_bounds.specs.Heights.Heights.{own, under}
+use Rattle.aom_typings.specs.Shapes.{Shapes}
+use Rattle.aom_typings.specs.Strongest.{IsMethodStrongest}
+use Rattle.aom_typings.specs.Calls.{Among, destructors, object_class, callees, CallsAt, MayCall}
+use Rattle.aom_typings.specs.Depths.{Frames}
+use Rattle.aom_typings.specs.Depths.Frames.{alone, calling}
+use Rattle.aom_typings.specs.Heights.{StandsAt, Enters, CallsOver, Heights}
+use Rattle.aom_typings.specs.Heights.Heights.{own, under}
 use Rattle.aom_budget.specs.Extents.{IsMost, entered, OfSome, Joined, ComesTo, FramesAt, EntriesAt, Before, IsFilled}
 use Rattle.aom_budget.specs.Greatest.{most_at}
-use Rattle.aom_bounds.proofs.Listed.{run_among}
+use Rattle.aom_typings.proofs.Listed.{run_among}
 use Rattle.aom_budget.proofs.Mentioned.{called_lower}
 use Rattle.aom_budget.proofs.Greatest.{run_from}
 use Rattle.aom_budget.proofs.Keeping.{at_noughts}

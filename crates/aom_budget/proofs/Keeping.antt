@@ -4,7 +4,7 @@ use Rattle.std.proofs.Common.{◌≡◌, ◌==◌, ℕ, zero, suc, ◌<◌, ◌�
 use Rattle.std.specs.Prelude.{max}
 use Rattle.std.proofs.lemmas.Bool.{eq-eqb, eqb-true}
 use Rattle.std.proofs.lemmas.Bool.Decides.{eqb_tells}
-use Rattle.aom_shape.specs.Tables.{at}
+use Rattle.aom_roles.specs.Tables.{at}
 use Rattle.aom_shape.proofs.Lists.{at_set_here, at_set_other, at_within}
 use Rattle.aom_budget.specs.Pricing.{AreKept}
 

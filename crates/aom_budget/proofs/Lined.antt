@@ -20,11 +20,11 @@ use Rattle.aom_classes.proofs.Keeping.{child_there, keeper_own, none_there}
 use Rattle.aom_classes.proofs.Playing.{own_found, role_inherits}
 use Rattle.aom_linked.proofs.Rows.{no_player}
 use Rattle.aom_classes.specs.Roles.{own_role, role_by, role_of}
-use Rattle.aom_bounds.specs.Calls.{Among, cancels, destructors, lines, lines_of, listed}
-use Rattle.aom_bounds.specs.Layers.{Destructs, InLine, Runs}
-use Rattle.aom_bounds.proofs.Lines.{line_step}
-use Rattle.aom_bounds.specs.Most.{line, line_from}
-use Rattle.aom_bounds.proofs.Listed.{among_either, below_from, gone_with}
+use Rattle.aom_typings.specs.Calls.{Among, cancels, destructors, lines, lines_of, listed}
+use Rattle.aom_typings.specs.Layers.{Destructs, InLine, Runs}
+use Rattle.aom_typings.proofs.Lines.{line_step}
+use Rattle.aom_typings.specs.Most.{line, line_from}
+use Rattle.aom_typings.proofs.Listed.{among_either, below_from, gone_with}
 use Rattle.aom_budget.specs.Greatest.{most_at}
 use Rattle.aom_budget.specs.Pricing.{kept, price_by}
 use Rattle.aom_budget.proofs.Greatest.{most_append}

@@ -45,8 +45,8 @@ use Rattle.aom_shape.specs.Order.Weaker.{alike, unset_word, unset_null, maybe_nu
 use Rattle.aom_rules.specs.Rules.{flows, ways_of}
 use Rattle.aom_shape.specs.Shape.{Shape}
 use Rattle.aom_rules.specs.Ways.{As_before, Branches, Branches_in, Branches_on_empty, Branches_on_null, Called, Cancelled, Caught, Dropped, Ends, Filled, Goes_back, Handed, Goes_on, Goes_to, Holding, Left_in, Moved, News, Popped, Pushed, Pushed_operation, Taken, Taken_message, Ways, after, flowing}
-use Rattle.aom_shape.specs.Tables.{at}
-use Rattle.aom_shape.specs.Things.{Holder, Member, root_thing, field_thing, holder_by, holder_of}
+use Rattle.aom_roles.specs.Tables.{at}
+use Rattle.aom_roles.specs.Things.{Holder, Member, root_thing, field_thing, holder_by, holder_of}
 use Rattle.aom_shape.specs.declared.kind.Entry.{Entry}
 use Rattle.aom_shape.specs.declared.kind.Age.TheVariants.{Ready}
 use Rattle.aom_shape.specs.declared.kind.Entry.TheVariants.{Operation}
@@ -57,10 +57,10 @@ use Rattle.aom_shape.specs.declared.kind.Kind.TheVariants.{Unset, Word, Null, Ow
 use Rattle.aom_shape.proofs.Lists.{at_put}
 use Rattle.aom_rules.proofs.Branching.{by_states}
 use Rattle.aom_rules.proofs.Monotone.{needs_more, flows_more}
-use Rattle.aom_bounds.specs.Shapes.{Shapes, Meets, AllMet, Applies, IsMethodTyped}
-use Rattle.aom_bounds.specs.Strongest.{IsMethodStrongest}
-use Rattle.aom_bounds.specs.Calls.{Among, MayCall, bodies, callees, cancels, destructors, object_class, thing_class}
-use Rattle.aom_bounds.specs.Layers.{Runs}
+use Rattle.aom_typings.specs.Shapes.{Shapes, Meets, AllMet, Applies, IsMethodTyped}
+use Rattle.aom_typings.specs.Strongest.{IsMethodStrongest}
+use Rattle.aom_typings.specs.Calls.{Among, MayCall, bodies, callees, cancels, destructors, object_class, thing_class}
+use Rattle.aom_typings.specs.Layers.{Runs}
 use Rattle.aom_budget.proofs.Greatest.{run_from}
 use Rattle.aom_budget.proofs.Lined.{cancels_from, destructors_from}
 use Rattle.aom_budget.proofs.Overridden.{overrider_is}

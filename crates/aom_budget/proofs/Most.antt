@@ -3,8 +3,8 @@ use Rattle.std.proofs.lemmas.Bool.Decides.{nat_tests}
 use Rattle.std.proofs.Common.{◌≡◌, ℕ, ◌<◌, ◌≤◌, ◌+◌, ◌⊎◌, List, [], ◌∷◌, inl, inr, refl, subst, arith}
 use Rattle.std.specs.Prelude.{min, max}
 use Rattle.std.proofs.lemmas.Bool.Decides.{eqb_tells, leb_tells}
-use Rattle.aom_shape.specs.Tables.{at}
-use Rattle.aom_bounds.specs.Calls.{Among}
+use Rattle.aom_roles.specs.Tables.{at}
+use Rattle.aom_typings.specs.Calls.{Among}
 use Rattle.aom_budget.specs.Extents.{IsMost, OfSome, Joined, Before}
 use Rattle.aom_budget.specs.Greatest.{most_at}
 

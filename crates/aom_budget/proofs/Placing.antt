@@ -8,22 +8,22 @@ use Rattle.aom_image.specs.Image.{Image}
 use Rattle.aom_image.specs.Views.{instr_at}
 use Rattle.aom_instructions.specs.declared.instr.Instr.{Instr}
 use Rattle.aom_instructions.specs.declared.instr.Instr.TheVariants.{Loop, Next}
+use Rattle.aom_roles.specs.Tests.{AllTrue}
 use Rattle.aom_classes.specs.Bodies.{Body, IsLooped}
 use Rattle.aom_classes.specs.Linked.{IsLinked}
 use Rattle.aom_classes.specs.Loops.{loop_in, next_in}
-use Rattle.aom_shape.specs.Needs.{AllTrue}
 use Rattle.aom_rules.specs.Rules.{rule_needs, flows}
 use Rattle.aom_shape.specs.Shape.{Shape}
-use Rattle.aom_shape.specs.Tables.{at}
+use Rattle.aom_roles.specs.Tables.{at}
 use Rattle.aom_rules.specs.Typing.{Typing, shape_at}
-use Rattle.aom_bounds.specs.Shapes.{Shapes, AllMet}
-use Rattle.aom_bounds.specs.Strongest.{IsMethodStrongest}
-use Rattle.aom_bounds.specs.Calls.{Among, callees}
-use Rattle.aom_bounds.specs.Prices.{Prices, own}
-use Rattle.aom_bounds.specs.Costs.{AmongFlows, GoesOut, Region, Whole, Round}
-use Rattle.aom_bounds.specs.Sweeping.{Afters, IsAfter, IsInnermost, after, most_within}
-use Rattle.aom_bounds.proofs.Regions.{innermost_of_body, one_innermost, no_loop_here, no_next_here}
-use Rattle.aom_bounds.proofs.Adding.{goes_forward, jumps_forward}
+use Rattle.aom_typings.specs.Shapes.{Shapes, AllMet}
+use Rattle.aom_typings.specs.Strongest.{IsMethodStrongest}
+use Rattle.aom_typings.specs.Calls.{Among, callees}
+use Rattle.aom_typings.specs.Prices.{Prices, own}
+use Rattle.aom_typings.specs.Costs.{AmongFlows, GoesOut, Region, Whole, Round}
+use Rattle.aom_typings.specs.Sweeping.{Afters, IsAfter, IsInnermost, after, most_within}
+use Rattle.aom_typings.proofs.Regions.{innermost_of_body, one_innermost, no_loop_here, no_next_here}
+use Rattle.aom_typings.proofs.Adding.{goes_forward, jumps_forward}
 use Rattle.aom_budget.specs.Extents.{IsMost, Before}
 use Rattle.aom_budget.specs.Pricing.{AreKept, kept, targets_of, most_to, after_in, ExitsAt, Found, Agrees, IsPassed, plain_cost}
 use Rattle.aom_budget.proofs.Mentioned.{called_lower}

@@ -12,6 +12,7 @@ use Rattle.aom_instructions.specs.declared.instr.Target.{Target}
 use Rattle.aom_image.specs.declared.method.Gives.{Gives}
 use Rattle.aom_image.specs.declared.method.Gives.TheVariants.{Nothing, Word as A_word, Own as An_own, Maybe as A_maybe, Left}
 use Rattle.aom_image.specs.declared.method.Method.{Method}
+use Rattle.aom_roles.specs.Tests.{AllTrue}
 use Rattle.aom_roles.specs.Shapes.{IsShaped, gives_left}
 use Rattle.aom_classes.specs.Linked.{IsLinked}
 use Rattle.aom_classes.proofs.Facts.{all_there}
@@ -19,22 +20,22 @@ use Rattle.aom_classes.specs.Overriding.{StandsIn, StandsInNamed, over_in, over_
 use Rattle.aom_rules.specs.Calls.{brought}
 use Rattle.aom_shape.specs.Entries.{without_top}
 use Rattle.aom_rules.specs.Laws.{HaveAtMost}
-use Rattle.aom_shape.specs.Needs.{AllTrue, Need, Flow}
+use Rattle.aom_shape.specs.Needs.{Need, Flow}
 use Rattle.aom_rules.specs.Objects.{flow_jump_null, flow_jump_empty}
 use Rattle.aom_rules.specs.Rules.{rule_needs, flows, ways_of}
 use Rattle.aom_shape.specs.Shape.{Shape}
 use Rattle.aom_rules.specs.Ways.{Called, Caught, Goes_on, News, Pushed, Pushed_operation, Ways, after, flowing}
-use Rattle.aom_shape.specs.Tables.{at}
+use Rattle.aom_roles.specs.Tables.{at}
 use Rattle.aom_shape.specs.Arguments.{entry_shape}
 use Rattle.aom_shape.specs.declared.kind.Entry.{Entry}
 use Rattle.aom_shape.specs.declared.kind.Filling.{Filling}
 use Rattle.aom_shape.specs.declared.kind.Kind.{Kind}
 use Rattle.aom_rules.proofs.Branching.{by_states}
 use Rattle.aom_rules.proofs.Growing.{lasting_has}
-use Rattle.aom_bounds.specs.Shapes.{Shapes, Meets, AllMet, IsMethodTyped}
-use Rattle.aom_bounds.specs.Heights.{StandsAt, Enters, CallsOver, Heights}
-use Rattle.aom_bounds.specs.Heights.Heights.{own, under}
-use Rattle.aom_bounds.specs.Layers.{MayRun}
+use Rattle.aom_typings.specs.Shapes.{Shapes, Meets, AllMet, IsMethodTyped}
+use Rattle.aom_typings.specs.Heights.{StandsAt, Enters, CallsOver, Heights}
+use Rattle.aom_typings.specs.Heights.Heights.{own, under}
+use Rattle.aom_typings.specs.Layers.{MayRun}
 use Rattle.aom_budget.proofs.Overridden.{over_along}
 
 -- ---- flags

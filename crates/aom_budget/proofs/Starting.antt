@@ -6,8 +6,8 @@ use Rattle.aom_image.specs.Image.{Image}
 use Rattle.aom_image.specs.Views.{instr_at}
 use Rattle.aom_instructions.specs.declared.instr.Instr.{Instr}
 use Rattle.aom_classes.proofs.Facts.{of_method}
-use Rattle.aom_bounds.specs.Shapes.{Shapes}
-use Rattle.aom_bounds.specs.Strongest.{IsMethodStrongest}
+use Rattle.aom_typings.specs.Shapes.{Shapes}
+use Rattle.aom_typings.specs.Strongest.{IsMethodStrongest}
 use Rattle.aom_verify.specs.Sweep.{HasPlaces}
 use Rattle.aom_budget.specs.Pricing.{IsPassing}
 use Rattle.aom_budget.specs.declared.pass.Round as rounds

@@ -11,10 +11,10 @@ use Rattle.aom_image.specs.declared.method.Role.TheVariants.{Run, Error, Accept,
 use Rattle.aom_image.specs.declared.method.Thing.TheVariants.{Object}
 use Rattle.aom_classes.specs.Roles.{role_of}
 use Rattle.aom_rules.specs.Typing.{Typing}
-use Rattle.aom_bounds.specs.Strongest.{IsStrongest}
-use Rattle.aom_bounds.specs.Costs.{ArePrices, destructor_price}
-use Rattle.aom_bounds.specs.Dispatches.{main_price}
-use Rattle.aom_bounds.specs.Prices.{Prices}
+use Rattle.aom_typings.specs.Strongest.{IsStrongest}
+use Rattle.aom_typings.specs.Costs.{ArePrices, destructor_price}
+use Rattle.aom_typings.specs.Dispatches.{main_price}
+use Rattle.aom_typings.specs.Prices.{Prices}
 use Rattle.aom_budget.specs.declared.fault.Payer.{Payer}
 use Rattle.aom_budget.specs.declared.fault.Payer.TheVariants.{Main, Class}
 

@@ -2,7 +2,7 @@
 use Rattle.std.specs.Prelude.{ℕ, ◌≡◌, List, length}
 use Rattle.aom_image.specs.Image.{Image}
 use Rattle.aom_image.specs.declared.method.Thing.TheVariants.{Object}
-use Rattle.aom_shape.specs.Tables.{at}
+use Rattle.aom_roles.specs.Tables.{at}
 use Rattle.aom_budget.specs.Greatest.{IsCalled, IsCancelled}
 use Rattle.aom_budget.specs.Pricing.{destruction_by}
 use Rattle.aom_budget.specs.declared.costs.Costs as found

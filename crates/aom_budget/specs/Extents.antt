@@ -5,11 +5,11 @@ use Rattle.aom_image.specs.Views.{instr_at}
 use Rattle.aom_instructions.specs.declared.instr.Instr.{Instr}
 use Rattle.aom_instructions.specs.declared.instr.Instr.TheVariants.{Call, Trap}
 use Rattle.aom_shape.specs.Shape.{Shape}
-use Rattle.aom_shape.specs.Tables.{at}
-use Rattle.aom_bounds.specs.Shapes.{Shapes}
-use Rattle.aom_bounds.specs.Calls.{Among, bodies, callees}
-use Rattle.aom_bounds.specs.Depths.{Frames}
-use Rattle.aom_bounds.specs.Heights.{Heights}
+use Rattle.aom_roles.specs.Tables.{at}
+use Rattle.aom_typings.specs.Shapes.{Shapes}
+use Rattle.aom_typings.specs.Calls.{Among, bodies, callees}
+use Rattle.aom_typings.specs.Depths.{Frames}
+use Rattle.aom_typings.specs.Heights.{Heights}
 
 -- the greatest of some numbers, none of which counts for more than a cap; 0 where there are none
 pub record IsMost (cap : ℕ) (some : ℕ → Type 0) (n : ℕ) : Type 0 where

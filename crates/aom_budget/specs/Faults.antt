@@ -2,8 +2,8 @@
 use Rattle.std.specs.Prelude.{ℕ, List, ◌++◌, codes}
 use Rattle.std.specs.Fmt.{decimal}
 use Rattle.aom_image.specs.Image.{Image}
-use Rattle.aom_bounds.specs.Depths.{DepthsWithin, IsTooDeep}
-use Rattle.aom_bounds.specs.Heights.{IsTooHigh}
+use Rattle.aom_typings.specs.Depths.{DepthsWithin, IsTooDeep}
+use Rattle.aom_typings.specs.Heights.{IsTooHigh}
 use Rattle.aom_budget.specs.Budgets.{BudgetsWithin, IsOver}
 use Rattle.aom_budget.specs.declared.fault.BudgetFault.{BudgetFault}
 use Rattle.aom_budget.specs.declared.fault.BudgetFault.TheVariants.{OverBudget, TooDeep, CleanupTooDeep, OutOfMemory}

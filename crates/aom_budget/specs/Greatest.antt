@@ -2,8 +2,8 @@
 use Rattle.std.specs.Prelude.{ℕ, ◌≡◌, Bool, ◌==◌, ◌||◌, max, List, [], ◌∷◌, length, Some}
 use Rattle.aom_image.specs.Image.{Image}
 use Rattle.aom_classes.specs.Overriding.{overrides}
-use Rattle.aom_bounds.specs.Calls.{bodies, cancels, destructors}
-use Rattle.aom_shape.specs.Tables.{at}
+use Rattle.aom_typings.specs.Calls.{bodies, cancels, destructors}
+use Rattle.aom_roles.specs.Tables.{at}
 
 -- a call of a method may run it
 abbrev pub is_body : Image → (k m : ℕ) → Bool

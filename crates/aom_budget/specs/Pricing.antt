@@ -12,21 +12,21 @@ use Rattle.aom_roles.specs.States.{unlisted}
 use Rattle.aom_rules.specs.Requests.{enlisted, inactive, outstanding}
 use Rattle.aom_shape.specs.Kinds.{register, field}
 use Rattle.aom_shape.specs.Shape.{Shape}
-use Rattle.aom_shape.specs.Tables.{at}
+use Rattle.aom_roles.specs.Tables.{at}
 use Rattle.aom_rules.specs.Typing.{Typing}
 use Rattle.aom_shape.specs.declared.kind.Filling.{Filling}
 use Rattle.aom_shape.specs.declared.kind.Filling.TheVariants.{Empty, Full, Perhaps}
 use Rattle.aom_shape.specs.declared.kind.Kind.{Kind}
 use Rattle.aom_shape.specs.declared.kind.Kind.TheVariants.{Unset, Word, Null, Own, Maybe}
-use Rattle.aom_bounds.specs.Shapes.{Shapes}
-use Rattle.aom_bounds.specs.Strongest.{IsMethodStrongest, IsStrongest}
-use Rattle.aom_bounds.specs.Calls.{Among}
-use Rattle.aom_bounds.specs.Most.{most_below, most_run}
+use Rattle.aom_typings.specs.Shapes.{Shapes}
+use Rattle.aom_typings.specs.Strongest.{IsMethodStrongest, IsStrongest}
+use Rattle.aom_typings.specs.Calls.{Among}
+use Rattle.aom_typings.specs.Most.{most_below, most_run}
 use Rattle.aom_verify.specs.Sweep.{HasPlaces}
-use Rattle.aom_bounds.specs.Prices.{Prices, price}
-use Rattle.aom_bounds.specs.Costs.{Region, Whole, Round, ArePrices, destructor_price}
-use Rattle.aom_bounds.specs.Layers.{ArePricesUpTo}
-use Rattle.aom_bounds.specs.Sweeping.{Afters, IsInnermost, IsSweptFrom, all_going, is_past}
+use Rattle.aom_typings.specs.Prices.{Prices, price}
+use Rattle.aom_typings.specs.Costs.{Region, Whole, Round, ArePrices, destructor_price}
+use Rattle.aom_typings.specs.Layers.{ArePricesUpTo}
+use Rattle.aom_typings.specs.Sweeping.{Afters, IsInnermost, IsSweptFrom, all_going, is_past}
 use Rattle.aom_budget.specs.Extents.{IsMost, Before}
 use Rattle.aom_budget.specs.declared.pass.Round as rounds
 

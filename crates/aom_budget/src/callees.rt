@@ -1,6 +1,6 @@
 //! The class by which an instruction may call something.
 ghost use Rattle.std.specs.Prelude.{◌≡◌};
-ghost use Rattle.aom_bounds.specs.Calls.{thing_class, object_class};
+ghost use Rattle.aom_typings.specs.Calls.{thing_class, object_class};
 ghost use Rattle.aom_image.specs.Views.{method_class};
 
 use aom_image::{ClassNumber, MethodNumber, Thing};

@@ -1,7 +1,7 @@
 //! What the cancel methods of what may stand for a class come to.
 ghost use Rattle.std.specs.Prelude.{◌≡◌, ◌≤◌, ℕ, Some, length};
-ghost use Rattle.aom_bounds.specs.Calls.{cancels};
-ghost use Rattle.aom_shape.specs.Tables.{at};
+ghost use Rattle.aom_typings.specs.Calls.{cancels};
+ghost use Rattle.aom_roles.specs.Tables.{at};
 ghost use Rattle.aom_budget.specs.Greatest.{most_at, IsCancelled};
 
 use crate::lines::perhaps_cost;

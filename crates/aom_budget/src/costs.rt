@@ -2,8 +2,8 @@
 ghost use Rattle.std.specs.Prelude.{◌≡◌, ◌≤◌, ℕ, length, replicate, slice_set, IfOk, IsSome};
 ghost use Rattle.aom_image.specs.Image.{Image as ImageRecord};
 ghost use Rattle.aom_image.specs.Views.{method_at};
-ghost use Rattle.aom_bounds.specs.Most.{most_run};
-ghost use Rattle.aom_shape.specs.Tables.{at};
+ghost use Rattle.aom_typings.specs.Most.{most_run};
+ghost use Rattle.aom_roles.specs.Tables.{at};
 ghost use Rattle.aom_budget.specs.Costing.{AreCosts};
 ghost use Rattle.aom_budget.specs.Pricing.{cancel_by, destruction_by, kind_by, own_by};
 

@@ -3,9 +3,9 @@ ghost use Rattle.std.specs.Prelude.{◌≡◌, ◌≤◌, ◌*◌, ℕ, cond, le
 ghost use Rattle.aom_image.specs.declared.method.Thing.TheVariants.{Object};
 ghost use Rattle.aom_roles.specs.Classes.{kind_at};
 ghost use Rattle.aom_roles.specs.Families.{descends};
-ghost use Rattle.aom_bounds.specs.Prices.{kind_sessions, perhaps_sessions};
-ghost use Rattle.aom_bounds.specs.Sweeping.{going, whole_going};
-ghost use Rattle.aom_shape.specs.Tables.{at};
+ghost use Rattle.aom_typings.specs.Prices.{kind_sessions, perhaps_sessions};
+ghost use Rattle.aom_typings.specs.Sweeping.{going, whole_going};
+ghost use Rattle.aom_roles.specs.Tables.{at};
 ghost use Rattle.aom_budget.specs.Costing.{IsDestroyed};
 ghost use Rattle.aom_budget.specs.Pricing.{destruction_by, kept, price_by};
 

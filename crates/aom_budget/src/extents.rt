@@ -1,8 +1,8 @@
 //! How many frames the methods may come to, and how many cleanup entries.
 ghost use Rattle.std.specs.Prelude.{◌≡◌, length, IfOk, IfErr};
-ghost use Rattle.aom_shape.specs.Tables.{at};
-ghost use Rattle.aom_bounds.specs.Depths.{HasDepths};
-ghost use Rattle.aom_bounds.specs.Heights.{HasHeights};
+ghost use Rattle.aom_roles.specs.Tables.{at};
+ghost use Rattle.aom_typings.specs.Depths.{HasDepths};
+ghost use Rattle.aom_typings.specs.Heights.{HasHeights};
 ghost use Rattle.aom_budget.specs.Budgets.{BudgetsWithin};
 ghost use Rattle.aom_budget.specs.Extents.{AreFilled};
 ghost use Rattle.aom_budget.specs.Faults.{Refuses};

@@ -1,9 +1,9 @@
 //! The figures of a checked image, and whether it keeps within what it declares and within the limits.
 ghost use Rattle.std.specs.Prelude.{◌≡◌, ◌≤◌, ◌<◌, length, IfOk, IfErr, IsSome};
 ghost use Rattle.aom_image.specs.Views.{class_at};
-ghost use Rattle.aom_shape.specs.Tables.{at};
-ghost use Rattle.aom_bounds.specs.Depths.{HasDepths};
-ghost use Rattle.aom_bounds.specs.Heights.{HasHeights};
+ghost use Rattle.aom_roles.specs.Tables.{at};
+ghost use Rattle.aom_typings.specs.Depths.{HasDepths};
+ghost use Rattle.aom_typings.specs.Heights.{HasHeights};
 ghost use Rattle.aom_budget.specs.Budgets.{BudgetsWithin, budget_of};
 ghost use Rattle.aom_budget.specs.Faults.{Refuses};
 ghost use Rattle.aom_budget.specs.Figures.{AreFigures, class_by, ClassesWithin, kind_by, main_by, TellsFirst};

@@ -1,11 +1,11 @@
 //! What the methods may come to, found from the lowest number up: what a method may call has a lower one.
 ghost use Rattle.std.specs.Prelude.{◌≡◌, ◌+◌, ◌<◌, ◌≤◌, suc, min, max, length, replicate, slice_set, IfOk, IsSome};
 ghost use Rattle.aom_image.specs.Views.{method_at};
-ghost use Rattle.aom_shape.specs.Tables.{at};
-ghost use Rattle.aom_bounds.specs.Strongest.{IsMethodStrongest};
-ghost use Rattle.aom_bounds.specs.Calls.{callees};
-ghost use Rattle.aom_bounds.specs.Depths.{Frames};
-ghost use Rattle.aom_bounds.specs.Heights.{Heights};
+ghost use Rattle.aom_roles.specs.Tables.{at};
+ghost use Rattle.aom_typings.specs.Strongest.{IsMethodStrongest};
+ghost use Rattle.aom_typings.specs.Calls.{callees};
+ghost use Rattle.aom_typings.specs.Depths.{Frames};
+ghost use Rattle.aom_typings.specs.Heights.{Heights};
 ghost use Rattle.aom_budget.specs.Extents.{IsMost, entered, FramesAt, EntriesAt, AreFilled};
 ghost use Rattle.aom_budget.specs.Greatest.{most_at};
 ghost use Rattle.aom_budget.specs.Pricing.{price_by};

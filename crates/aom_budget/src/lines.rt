@@ -4,9 +4,9 @@ ghost use Rattle.aom_image.specs.declared.method.Role.TheVariants.{Destruct};
 ghost use Rattle.aom_image.specs.declared.method.Thing.TheVariants.{Object};
 ghost use Rattle.aom_roles.specs.Classes.{sessions_at};
 ghost use Rattle.aom_classes.specs.Roles.{own_role};
-ghost use Rattle.aom_bounds.specs.Calls.{destructors, lines_of};
-ghost use Rattle.aom_bounds.specs.Most.{line};
-ghost use Rattle.aom_shape.specs.Tables.{at};
+ghost use Rattle.aom_typings.specs.Calls.{destructors, lines_of};
+ghost use Rattle.aom_typings.specs.Most.{line};
+ghost use Rattle.aom_roles.specs.Tables.{at};
 ghost use Rattle.aom_budget.specs.Greatest.{most_at, IsGone};
 ghost use Rattle.aom_budget.specs.Pricing.{kept, price_by};
 

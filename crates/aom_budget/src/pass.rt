@@ -3,9 +3,9 @@ ghost use Rattle.std.specs.Prelude.{◌≡◌, ◌≢◌, ◌≤◌, ◌<◌, �
 ghost use Rattle.aom_image.specs.Views.{method_at};
 ghost use Rattle.aom_classes.specs.Bodies.{IsIn};
 ghost use Rattle.aom_shape.specs.Shape.{Shape};
-ghost use Rattle.aom_shape.specs.Tables.{at};
-ghost use Rattle.aom_bounds.specs.Strongest.{IsMethodStrongest};
-ghost use Rattle.aom_bounds.specs.Calls.{listed};
+ghost use Rattle.aom_roles.specs.Tables.{at};
+ghost use Rattle.aom_typings.specs.Strongest.{IsMethodStrongest};
+ghost use Rattle.aom_typings.specs.Calls.{listed};
 ghost use Rattle.aom_verify.specs.Sweep.{HasPlaces};
 ghost use Rattle.aom_budget.specs.Extents.{IsMost, Before};
 ghost use Rattle.aom_budget.specs.Costing.{AreCosts};

@@ -2,7 +2,7 @@
 //! A number that is found raises what they say of all that it counts for, so reading them is one look.
 ghost use Rattle.std.specs.Prelude.{◌≡◌, ◌≤◌, ◌<◌, ℕ, cond, length, max};
 ghost use Rattle.aom_roles.specs.Families.{descends};
-ghost use Rattle.aom_shape.specs.Tables.{at};
+ghost use Rattle.aom_roles.specs.Tables.{at};
 ghost use Rattle.aom_budget.specs.Greatest.{is_body};
 
 use crate::sums::Sums;

@@ -1,6 +1,6 @@
 //! Sums by place or by method. What is more than 2^32 counts for 2^32.
 ghost use Rattle.std.specs.Prelude.{◌≡◌, ◌≤◌, ◌<◌, ◌==◌, ℕ, cond, length, max, replicate, slice_set, IfOk};
-ghost use Rattle.aom_shape.specs.Tables.{at};
+ghost use Rattle.aom_roles.specs.Tables.{at};
 ghost use Rattle.aom_budget.specs.Pricing.{AreKept, kept};
 
 use std::alloc::{AllocError, Global};

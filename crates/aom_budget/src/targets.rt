@@ -1,6 +1,6 @@
 //! Where an instruction goes on.
 ghost use Rattle.std.specs.Prelude.{◌≡◌, ◌++◌, [], ◌∷◌, ◌<◌, ◌^◌, suc, bit_and};
-ghost use Rattle.aom_bounds.specs.Calls.{listed};
+ghost use Rattle.aom_typings.specs.Calls.{listed};
 ghost use Rattle.aom_budget.specs.Pricing.{null_targets, empty_targets, states_targets, targets_of};
 
 use aom_image::{Instr, Place, States};

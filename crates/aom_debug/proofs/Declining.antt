@@ -11,8 +11,8 @@ use Rattle.aom_debug_words.specs.declared.fault.DebugFault.TheVariants.{BadComma
 use Rattle.aom_debug_words.specs.declared.fault.DebugFault.TheVariants as faults
 use Rattle.aom_debug_words.specs.declared.spot.Spot.{Spot}
 use Rattle.aom_debug_words.specs.Marks.{has_spot, is_set, with_spot}
-use Rattle.aom_parts.specs.Progress.{progress_by}
-use Rattle.aom_parts.specs.declared.progress.Progress.TheVariants as progress
+use Rattle.aom_machine_state.specs.Progress.{progress_by}
+use Rattle.aom_machine_state.specs.declared.progress.Progress.TheVariants as progress
 use Rattle.aom_text.specs.Words.{words}
 use Rattle.aom_text.specs.Numbers.{number_of, number_within}
 use Rattle.aom_text.specs.declared.number.Number.{Number}

@@ -1,8 +1,8 @@
 -- Moves and then where they lead: what is out is the text of both, or a beginning of it.
 use Rattle.std.proofs.Common.{◌≡◌, ◌∙◌, ◌+◌, ℕ, min, Bool, List, [], ◌++◌, Option, length, take, refl, sym, ap}
 use Rattle.aom_image.specs.Image.{Image}
-use Rattle.aom_sound.specs.State.{State}
-use Rattle.aom_sound.specs.World.{Outside, Reaches}
+use Rattle.aom_semantics.specs.State.{State}
+use Rattle.aom_semantics.specs.World.{Environment, Reaches}
 use Rattle.aom_transcript.specs.declared.line.Line.{Line}
 use Rattle.aom_transcript.specs.Text.{text_of}
 use Rattle.aom_debug_moves.specs.Calls.{StandsFor}
@@ -11,7 +11,7 @@ use Rattle.aom_debug_moves.specs.Runs.{after}
 use Rattle.aom_debug_moves.proofs.Sending.{after_both, cut_next, cut_short}
 use Rattle.aom_debug_words.specs.declared.fault.DebugFault.{DebugFault}
 use Rattle.aom_debug_names.specs.Names.{Names}
-use Rattle.aom_debug_sights.specs.Telling.{Tells, TellsPart}
+use Rattle.aom_debug_views.specs.Telling.{Tells, TellsPart}
 use Rattle.aom_debug.specs.Commands.{moved_text, place_text}
 
 module _ {X : Type 0} {B : X → Type 0} (ns : Names) (p : Image) (a c : Machine X B) (image : c.core.image ≡ p) (before mid now : Option (List ℕ)) where

@@ -2,7 +2,7 @@
 use Rattle.std.proofs.Common.{arith, ◌≡◌, ◌≢◌, ◌∙◌, ◌⊎◌, ℕ, Bool, true, false, cond, List, Option, None, Some, Ok, Err, take, refl, sym, ap, subst, inl, inr}
 use Rattle.std.specs.Prelude.{is_some}
 use Rattle.aom_text.specs.declared.number.Number.{Number}
-use Rattle.aom_sound.specs.State.{Rest, State}
+use Rattle.aom_semantics.specs.State.{Counters, State}
 use Rattle.aom_run.specs.Calls.{StandsFor}
 use Rattle.aom_run.specs.declared.machine.Machine.{Machine}
 use Rattle.aom_debug.specs.Runs.{after}
@@ -30,7 +30,7 @@ not_both b yes_is no_is = absurd cc
 
 module _ {X : Type 0} {B : X → Type 0} (old new : Debugger X B) (out : Outgoing) (well : old.has_failed ≡ false) where
   ended_at : (s : State) → StandsFor old.mover.machine s → is_some s.rest.ended ≡ has_ended old
-  ended_at s stands = sym (ap (λ (r : Rest). is_some r.ended) stands.stands.agrees.rest)
+  ended_at s stands = sym (ap (λ (r : Counters). is_some r.ended) stands.stands.agrees.rest)
 
   stands_same : new ≡ old → (s : State) → StandsFor old.mover.machine s → StandsFor new.mover.machine s
   stands_same same s stands = subst (λ (m : Machine X B). StandsFor m s) (sym (ap (λ (d : Debugger X B). d.mover.machine) same)) stands

@@ -1,10 +1,10 @@
 -- Where a run stands is what each state says that the machine stands for.
 use Rattle.std.proofs.Common.{◌≡◌, ◌∙◌, ◌+◌, ℕ, min, Bool, List, ◌++◌, Option, length, take, refl, sym, ap}
 use Rattle.aom_cells.specs.Heap.{count}
-use Rattle.aom_sound.specs.Places.{count_cells}
-use Rattle.aom_sound.specs.State.{Rest, State}
+use Rattle.aom_semantics.specs.Places.{count_cells}
+use Rattle.aom_semantics.specs.State.{Counters, State}
 use Rattle.aom_transcript.specs.Text.{ended}
-use Rattle.aom_parts.specs.Stands.{Machine, StandsFor}
+use Rattle.aom_machine_state.specs.Stands.{Machine, StandsFor}
 use Rattle.aom_debug_moves.specs.Runs.{after}
 use Rattle.aom_debug_moves.proofs.Sending.{after_both, cut_next, cut_short}
 use Rattle.aom_debug_words.specs.declared.answer.Answer.{Answer}
@@ -12,12 +12,12 @@ use Rattle.aom_debug_names.specs.Names.{Names}
 use Rattle.aom_debug_names.specs.Answers.{answer_by}
 use Rattle.aom_debug_moves.specs.Next.{next_of}
 use Rattle.aom_debug_words.specs.declared.fault.DebugFault.{DebugFault}
-use Rattle.aom_debug_sights.specs.Telling.{IsCut, Tells, TellsPart}
+use Rattle.aom_debug_views.specs.Telling.{IsCut, Tells, TellsPart}
 use Rattle.aom_debug.specs.Commands.{end_by, place_text}
 
 module _ (ns : Names) (m : Machine) (page : List ℕ) (is : page ≡ end_by m.parts.rest.ended (count m.parts.cells)) where
   page_of : (s : State) → StandsFor m s → page ≡ end_by s.rest.ended (count_cells s.cells)
-  page_of s st = is ∙ ap (λ n. end_by m.parts.rest.ended n) st.agrees.cells.count ∙ ap (λ (r : Rest). end_by r.ended (count_cells s.cells)) st.agrees.rest
+  page_of s st = is ∙ ap (λ n. end_by m.parts.rest.ended n) st.agrees.cells.count ∙ ap (λ (r : Counters). end_by r.ended (count_cells s.cells)) st.agrees.rest
 
   module _ (before mid now : Option (List ℕ)) where
     pub place_cut : (fault : DebugFault) (failed : Bool) → IsCut page fault failed before now → TellsPart m (λ s. place_text ns m.image s) fault failed before now

@@ -1,14 +1,14 @@
 -- A look at the object that is owned at a path is what each state shows of it, or there is none.
 use Rattle.std.proofs.Common.{◌≡◌, ℕ, Bool, List, Option, Some, None, Result, Ok, Err, refl}
 use Rattle.std.specs.Prelude.{IfErr, IfOk}
-use Rattle.aom_shape.specs.Things.{words_of}
-use Rattle.aom_sound.specs.Places.{service_of}
-use Rattle.aom_sound.specs.State.{State}
-use Rattle.aom_parts.specs.Stands.{StandsFor as CoreStandsFor}
+use Rattle.aom_roles.specs.Things.{words_of}
+use Rattle.aom_semantics.specs.Places.{service_of}
+use Rattle.aom_semantics.specs.State.{State}
+use Rattle.aom_machine_state.specs.Stands.{StandsFor as CoreStandsFor}
 use Rattle.aom_debug_words.specs.Ways.{Way}
 use Rattle.aom_debug_words.specs.declared.fault.DebugFault.{DebugFault}
 use Rattle.aom_debug_words.specs.declared.fault.DebugFault.TheVariants.{NoSuch}
-use Rattle.aom_debug_sights.specs.Telling.{Tells, TellsPart, answers_text}
+use Rattle.aom_debug_views.specs.Telling.{Tells, TellsPart, answers_text}
 use Rattle.aom_debug_paths.specs.declared.following.Found.{Found}
 use Rattle.aom_debug_paths.specs.Paths.{IsFound, owned_at, waiting_lines, word_lines}
 use Rattle.aom_debug_paths.proofs.Queues.{queue_found}

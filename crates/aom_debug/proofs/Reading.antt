@@ -1,7 +1,7 @@
 -- A session over reads one after another: each gives some bytes, until one tells the end, fails, or is one too many.
 use Rattle.std.proofs.Common.{◌≡◌, ◌∙◌, ◌<◌, ◌≤◌, ◌+◌, ℕ, Bool, true, false, List, [], ◌++◌, Option, length, sym, ap, subst, inl, inr, arith}
 use Rattle.std.proofs.lemmas.List.{length-append}
-use Rattle.aom_sound.specs.State.{State}
+use Rattle.aom_semantics.specs.State.{State}
 use Rattle.aom_run.specs.Calls.{StandsFor}
 use Rattle.aom_debug.specs.Runs.{after}
 use Rattle.aom_debug.proofs.Sending.{after_both, after_none}

@@ -1,18 +1,18 @@
 -- A debugger of a machine that has booted has not gone on yet.
 use Rattle.std.proofs.Common.{◌≡◌, ◌∙◌, ℕ, false, [], ap, refl, subst, sym}
 use Rattle.aom_image.specs.Image.{Image}
-use Rattle.aom_sound.specs.World.{boot_state}
-use Rattle.aom_lines.specs.Turn.{Turn}
+use Rattle.aom_semantics.specs.World.{boot_state}
+use Rattle.aom_lines.specs.LineBuffer.{LineBuffer}
 use Rattle.aom_run.specs.Calls.{StandsFor, natives_of}
 use Rattle.aom_run.specs.declared.machine.Machine.{Machine}
 use Rattle.aom_script.specs.Script.{Script}
 use Rattle.aom_debug_names.specs.Names.{Names}
 use Rattle.aom_debug.specs.declared.debugger.Debugger.{Debugger}
-use Rattle.aom_main.proofs.Tries.{has_enough}
+use Rattle.aom_commands.proofs.Tries.{has_enough}
 use Rattle.aom_debug.specs.Beginning.{IsBegun}
 
 module _ {X : Type 0} {B : X → Type 0} (ns : Names) (p : Image) (script : Script) (limit natives : ℕ) (m : Machine X B) (image : m.core.image ≡ p) (stands : StandsFor m (boot_state p)) (count : natives_of m ≡ natives) where
-  pub begun_of : (d : Debugger X B) (turn : Turn) → d.mover.machine ≡ m → (d.mover.script ≡ script) × (d.mover.turn ≡ turn) × (d.mover.limit ≡ limit) → turn.refused ≡ script.refused
+  pub begun_of : (d : Debugger X B) (turn : LineBuffer) → d.mover.machine ≡ m → (d.mover.script ≡ script) × (d.mover.turn ≡ turn) × (d.mover.limit ≡ limit) → turn.refused ≡ script.refused
       → (d.breakpoints ≡ []) × (d.mover.recent ≡ []) × (d.has_failed ≡ false) → d.names ≡ ns → IsBegun ns p script limit natives d
   begun_of d turn same given refused marks names =
       record {

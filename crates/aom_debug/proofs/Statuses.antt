@@ -2,7 +2,7 @@
 use Rattle.std.proofs.Common.{arith, ◌≡◌, ◌∙◌, ℕ, List, [], Result, Ok, Err, IfErr, IfOk, sym, ap, subst, inl, inr}
 use Rattle.std.specs.Prelude.{◌⊎◌}
 use Rattle.aom_image.specs.Image.{Image}
-use Rattle.aom_sound.specs.World.{Outside, boot_state}
+use Rattle.aom_semantics.specs.World.{Environment, boot_state}
 use Rattle.aom_run.specs.declared.fault.BootFault.TheVariants as boots
 use Rattle.aom_script.proofs.Faulting.{IsOfText, is_of_text}
 use Rattle.aom_script.specs.Script.{RefusesOrWants, Script, denoted}
@@ -11,14 +11,14 @@ use Rattle.aom_script.specs.declared.fault.ScriptFaultKind.{ScriptFaultKind}
 use Rattle.aom_debug_names.specs.Names.{Names}
 use Rattle.aom_debug.specs.Movers.{outside_of}
 use Rattle.aom_debug.specs.declared.debugger.Debugger.{Debugger}
-use Rattle.aom_main.specs.Acceptable.{IsAcceptable, IsSpelled, RefusesOrWants as RefusesImage}
-use Rattle.aom_main.specs.Headline.{Accepts, HasNatives, IsSilent, RefusesBoot, Sent, Told, outside_of as outside_by}
-use Rattle.aom_main.specs.Status.{of_script, of_script_kind, status_of}
-use Rattle.aom_main.specs.declared.faults.Fault.{Fault}
-use Rattle.aom_main.specs.declared.faults.Fault.TheVariants as faults
-use Rattle.aom_main.specs.declared.status.ExitStatus.{ExitStatus}
-use Rattle.aom_main.specs.declared.status.ExitStatus.TheVariants as statuses
-use Rattle.aom_main.proofs.Telling.{unaccepted as not_run, unscripted as not_scripted}
+use Rattle.aom_commands.specs.Acceptable.{IsAcceptable, IsSpelled, RefusesOrWants as RefusesImage}
+use Rattle.aom_commands.specs.Headline.{Accepts, HasNatives, IsSilent, RefusesBoot, Sent, Told, outside_of as outside_by}
+use Rattle.aom_commands.specs.Status.{of_script, of_script_kind, status_of}
+use Rattle.aom_commands.specs.declared.faults.Fault.{Fault}
+use Rattle.aom_commands.specs.declared.faults.Fault.TheVariants as faults
+use Rattle.aom_commands.specs.declared.status.ExitStatus.{ExitStatus}
+use Rattle.aom_commands.specs.declared.status.ExitStatus.TheVariants as statuses
+use Rattle.aom_commands.proofs.Telling.{unaccepted as not_run, unscripted as not_scripted}
 use Rattle.aom_transcript.specs.Text.{line_text}
 use Rattle.aom_debug.specs.Answers.{DebugAnswersBy, Debugs, start_of}
 use Rattle.aom_debug.specs.Answers.DebugBreaks.{input_fails, machine_wants_memory, output_fails, script_wants_memory}
@@ -47,7 +47,7 @@ module _ (ns : Names) (bytes text : List ℕ) (limit natives reads : ℕ) (p : I
     debugs = record { image = p; spelled = spelled; acceptable = acceptable; script = script; denotes = denotes; enough = begun.enough }
 
     -- what a session comes to from where the debugger begins
-    begun_so : (Q : Image → Outside → SessionState → Type 0) → Q d.mover.machine.core.image (outside_of d.mover) (standing d (boot_state p)) → Q p (outside_by script limit natives) (start_of ns p)
+    begun_so : (Q : Image → Environment → SessionState → Type 0) → Q d.mover.machine.core.image (outside_of d.mover) (standing d (boot_state p)) → Q p (outside_by script limit natives) (start_of ns p)
     begun_so Q x =
         subst (λ q. Q q (outside_by script limit natives) (start_of ns p)) begun.image
         (subst (λ o. Q d.mover.machine.core.image o (start_of ns p)) begun.outside (subst (λ ss. Q d.mover.machine.core.image (outside_of d.mover) (record { state = boot_state p; spots = ss; recent = []; names = ns })) begun.spots

@@ -4,8 +4,8 @@ use Rattle.std.proofs.lemmas.Bool.{ne_eqb}
 use Rattle.aom_text.specs.Words.{has_bytes}
 use Rattle.aom_text.specs.Text.{lines_of, true_lines}
 use Rattle.aom_image.specs.Image.{Image}
-use Rattle.aom_sound.specs.State.{State}
-use Rattle.aom_sound.specs.World.{Outside}
+use Rattle.aom_semantics.specs.State.{State}
+use Rattle.aom_semantics.specs.World.{Environment}
 use Rattle.aom_run.specs.Calls.{StandsFor}
 use Rattle.aom_debug.specs.Runs.{after}
 use Rattle.aom_debug.proofs.Keeping.{hears_as}
@@ -22,7 +22,7 @@ use Rattle.aom_debug.specs.Sessions.{Begins, Heeds, Session, SessionState}
 use Rattle.aom_debug.specs.Sessions.Session.{begins, heeds}
 use Rattle.aom_debug.proofs.Lines.{last_line, lines_before, some_parts, split_end, split_on}
 
-module _ {X : Type 0} {B : X → Type 0} (p : Image) (outside : Outside) (start : SessionState) (text : List ℕ) (before : Option (List ℕ)) where
+module _ {X : Type 0} {B : X → Type 0} (p : Image) (outside : Environment) (start : SessionState) (text : List ℕ) (before : Option (List ℕ)) where
   -- nothing has come
   pub talks_first : (d : Debugger X B) (s : State) → StandsFor d.mover.machine s → d.has_failed ≡ false → Talks d.mover.machine.core.image (outside_of d.mover) (standing d s) [] d (pending_of []) before before
   talks_first d s stands well =

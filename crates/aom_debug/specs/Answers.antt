@@ -1,14 +1,14 @@
 -- What a call of the debugger promises of its reader, its sinks and its status, from bytes to bytes.
 use Rattle.std.specs.Prelude.{◌≡◌, ◌⊎◌, ℕ, List, [], Ok}
 use Rattle.aom_image.specs.Image.{Image}
-use Rattle.aom_sound.specs.World.{Outside, boot_state}
+use Rattle.aom_semantics.specs.World.{Environment, boot_state}
 use Rattle.aom_script.specs.Script.{Script, WantsMemory, denoted}
 use Rattle.aom_script.specs.declared.fault.ScriptFault.{ScriptFault}
-use Rattle.aom_main.specs.declared.status.ExitStatus.{ExitStatus}
-use Rattle.aom_main.specs.declared.status.ExitStatus.TheVariants.{Done, ImageRefused, CallRefused, Fault as Faulty}
-use Rattle.aom_main.specs.declared.faults.Fault.TheVariants as faults
-use Rattle.aom_main.specs.Acceptable.{IsAcceptable, IsSpelled}
-use Rattle.aom_main.specs.Headline.{Accepts, HasNatives, ImageWantsMemory, IsNoScript, IsRefused, IsSilent, Sent, Tells, WantsNatives, outside_of}
+use Rattle.aom_commands.specs.declared.status.ExitStatus.{ExitStatus}
+use Rattle.aom_commands.specs.declared.status.ExitStatus.TheVariants.{Done, ImageRefused, CallRefused, Fault as Faulty}
+use Rattle.aom_commands.specs.declared.faults.Fault.TheVariants as faults
+use Rattle.aom_commands.specs.Acceptable.{IsAcceptable, IsSpelled}
+use Rattle.aom_commands.specs.Headline.{Accepts, HasNatives, ImageWantsMemory, IsNoScript, IsRefused, IsSilent, Sent, Tells, WantsNatives, outside_of}
 use Rattle.aom_debug_names.specs.Names.{Names, unnamed}
 use Rattle.aom_debug.specs.Conversing.{Broken, Given, Gives, GivesAll, GivesNoEnd, Held, IsUnread, Stopped}
 use Rattle.aom_debug.specs.Sessions.{SessionState}
@@ -27,7 +27,7 @@ abbrev pub start_of : Names → Image → SessionState
 start_of ns p = record { state = boot_state p; spots = []; recent = []; names = ns }
 
 module _ (ns : Names) {bytes text : List ℕ} {limit natives : ℕ} (d : Debugs bytes text limit natives) where
-  abbrev around : Outside
+  abbrev around : Environment
   around = outside_of d.script limit natives
 
   -- a session over all that was read, up to the reader's end, went out

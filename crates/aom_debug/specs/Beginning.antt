@@ -1,13 +1,13 @@
 -- A debugger that has not gone on yet.
 use Rattle.std.specs.Prelude.{◌≡◌, ℕ, false, []}
 use Rattle.aom_image.specs.Image.{Image}
-use Rattle.aom_sound.specs.World.{boot_state}
+use Rattle.aom_semantics.specs.World.{boot_state}
 use Rattle.aom_run.specs.Calls.{StandsFor}
 use Rattle.aom_script.specs.Script.{Script}
 use Rattle.aom_debug.specs.Movers.{outside_of}
 use Rattle.aom_debug_names.specs.Names.{Names}
 use Rattle.aom_debug.specs.declared.debugger.Debugger.{Debugger}
-use Rattle.aom_main.specs.Headline.{HasNatives, outside_of as outside_by}
+use Rattle.aom_commands.specs.Headline.{HasNatives, outside_of as outside_by}
 
 module _ {X : Type 0} {B : X → Type 0} where
   -- its machine has booted beside so many natives, which are enough, it hears what the script lets come, it has no breakpoint and no latest instruction, and it tells by these names

@@ -4,8 +4,8 @@ use Rattle.aom_text.specs.Numbers.{number_within}
 use Rattle.aom_text.specs.declared.number.Number.{Number}
 use Rattle.aom_image.specs.Image.{Image}
 use Rattle.aom_image.specs.declared.method.Method.{Method}
-use Rattle.aom_sound.specs.Places.{count_cells}
-use Rattle.aom_sound.specs.State.{State}
+use Rattle.aom_semantics.specs.Places.{count_cells}
+use Rattle.aom_semantics.specs.State.{State}
 use Rattle.aom_transcript.specs.declared.line.Line.{Line}
 use Rattle.aom_transcript.specs.declared.line.Ending.{Ending}
 use Rattle.aom_transcript.specs.Text.{end_text, ended, text_of}
@@ -17,13 +17,13 @@ use Rattle.aom_debug_names.specs.Answers.{answer_by}
 use Rattle.aom_debug_words.specs.declared.answer.Answer.{Answer}
 use Rattle.aom_debug_moves.specs.Next.{next_of}
 use Rattle.aom_rules.specs.Typing.{Typing}
-use Rattle.aom_bounds.specs.Strongest.{IsStrongest}
-use Rattle.aom_debug_sights.specs.Frames.{frames_answers}
-use Rattle.aom_debug_sights.specs.Actives.{InOrderOfChoice, active_answers}
-use Rattle.aom_debug_sights.specs.Timers.{InOrderOfTime, timer_answers}
-use Rattle.aom_debug_sights.specs.Owners.{owners, owners_text}
-use Rattle.aom_debug_sights.specs.Sights.{breaks_answers, cells_answers, cleanup_answers, clock_text, recent_answers}
-use Rattle.aom_debug_sights.specs.Telling.{answers_by, answers_text}
+use Rattle.aom_typings.specs.Strongest.{IsStrongest}
+use Rattle.aom_debug_views.specs.Frames.{frames_answers}
+use Rattle.aom_debug_views.specs.Actives.{InOrderOfChoice, active_answers}
+use Rattle.aom_debug_views.specs.Timers.{InOrderOfTime, timer_answers}
+use Rattle.aom_debug_views.specs.Owners.{owners, owners_text}
+use Rattle.aom_debug_views.specs.Sights.{breaks_answers, cells_answers, cleanup_answers, clock_text, recent_answers}
+use Rattle.aom_debug_views.specs.Telling.{answers_by, answers_text}
 use Rattle.aom_debug_paths.specs.Paths.{queue_answers, words_answers}
 use Rattle.aom_debug_words.specs.Ways.{Way}
 

@@ -2,8 +2,8 @@
 use Rattle.std.specs.Prelude.{◌≡◌, ◌≤◌, ◌⊎◌, ℕ, Bool, true, false, List, ◌∷◌, ◌++◌, Option, length, take}
 use Rattle.aom_text.specs.Text.{lines_of}
 use Rattle.aom_image.specs.Image.{Image}
-use Rattle.aom_sound.specs.State.{State}
-use Rattle.aom_sound.specs.World.{Outside}
+use Rattle.aom_semantics.specs.State.{State}
+use Rattle.aom_semantics.specs.World.{Environment}
 use Rattle.aom_run.specs.Calls.{StandsFor}
 use Rattle.aom_debug.specs.Runs.{after}
 use Rattle.aom_debug_names.specs.Commands.{command_by}
@@ -43,7 +43,7 @@ GivesNoEnd reads text given = Gives text given × ((given.failed ≡ true) ⊎ (
 
 module _ {X : Type 0} {B : X → Type 0} where
   -- a session from a state on over the whole lines of what has come, of which the last is not yet whole: the machine stands where it stands, and all that it tells is out
-  pub record Talks (p : Image) (outside : Outside) (start : SessionState) (text : List ℕ) (d : Debugger X B) (kept : Kept) (before now : Option (List ℕ)) : Type 0 where
+  pub record Talks (p : Image) (outside : Environment) (start : SessionState) (text : List ℕ) (d : Debugger X B) (kept : Kept) (before now : Option (List ℕ)) : Type 0 where
     pub lines : List (List ℕ)
     pub rest : List ℕ
     pub comes : Comes text lines rest
@@ -58,14 +58,14 @@ module _ {X : Type 0} {B : X → Type 0} where
     pub well : d.has_failed ≡ false
 
 -- a session over all lines of a text is out
-pub record Held (p : Image) (outside : Outside) (start : SessionState) (text : List ℕ) (before now : Option (List ℕ)) : Type 0 where
+pub record Held (p : Image) (outside : Environment) (start : SessionState) (text : List ℕ) (before now : Option (List ℕ)) : Type 0 where
   pub told : List ℕ
   pub last : SessionState
   pub session : Session p outside start (lines_of text) told last
   pub out : now ≡ after before told
 
 -- one over its whole lines, of which no more came
-pub record Stopped (p : Image) (outside : Outside) (start : SessionState) (text : List ℕ) (before now : Option (List ℕ)) : Type 0 where
+pub record Stopped (p : Image) (outside : Environment) (start : SessionState) (text : List ℕ) (before now : Option (List ℕ)) : Type 0 where
   pub lines : List (List ℕ)
   pub rest : List ℕ
   pub comes : Comes text lines rest
@@ -75,7 +75,7 @@ pub record Stopped (p : Image) (outside : Outside) (start : SessionState) (text 
   pub out : now ≡ after before told
 
 -- one over some lines, and of what the next line tells a beginning, since the output failed
-pub record Broken (p : Image) (outside : Outside) (start : SessionState) (text : List ℕ) (before now : Option (List ℕ)) (failed : Bool) : Type 0 where
+pub record Broken (p : Image) (outside : Environment) (start : SessionState) (text : List ℕ) (before now : Option (List ℕ)) (failed : Bool) : Type 0 where
   pub lines : List (List ℕ)
   pub line : List ℕ
   pub rest : List (List ℕ)
@@ -93,20 +93,20 @@ module _ {X : Type 0} {B : X → Type 0} where
   -- from each session that was so far, what has come since goes on with it
   abbrev pub GoesOn : Debugger X B → Kept → Option (List ℕ) → List ℕ → Debugger X B → Kept → Option (List ℕ) → Type 0
   GoesOn old kept here bytes new now out =
-      (p : Image) (outside : Outside) (start : SessionState) (text : List ℕ) (before : Option (List ℕ)) → Talks p outside start text old kept before here → Talks p outside start (text ++ bytes) new now before out
+      (p : Image) (outside : Environment) (start : SessionState) (text : List ℕ) (before : Option (List ℕ)) → Talks p outside start text old kept before here → Talks p outside start (text ++ bytes) new now before out
 
   -- or it ends
   abbrev pub Ends : Debugger X B → Kept → Option (List ℕ) → Option (List ℕ) → Type 0
   Ends old kept here out =
-      (p : Image) (outside : Outside) (start : SessionState) (text : List ℕ) (before : Option (List ℕ)) → Talks p outside start text old kept before here → Held p outside start text before out
+      (p : Image) (outside : Environment) (start : SessionState) (text : List ℕ) (before : Option (List ℕ)) → Talks p outside start text old kept before here → Held p outside start text before out
 
   -- or it breaks off
   abbrev pub BreaksOff : Debugger X B → Kept → Option (List ℕ) → List ℕ → Option (List ℕ) → Bool → Type 0
   BreaksOff old kept here bytes out failed =
-      (p : Image) (outside : Outside) (start : SessionState) (text : List ℕ) (before : Option (List ℕ)) → Talks p outside start text old kept before here → Broken p outside start (text ++ bytes) before out failed
+      (p : Image) (outside : Environment) (start : SessionState) (text : List ℕ) (before : Option (List ℕ)) → Talks p outside start text old kept before here → Broken p outside start (text ++ bytes) before out failed
 
   -- what a conversation comes to, from each state that the machine stands for
-  abbrev pub Conversed : (List ℕ → Image → Outside → SessionState → Type 0) → Debugger X B → Type 0
+  abbrev pub Conversed : (List ℕ → Image → Environment → SessionState → Type 0) → Debugger X B → Type 0
   Conversed comes d = (s : State) → StandsFor d.mover.machine s → (text : List ℕ) × comes text d.mover.machine.core.image (outside_of d.mover) (standing d s)
 
   -- a text was read to its end, and a session over all of it went out

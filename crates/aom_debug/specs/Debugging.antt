@@ -1,8 +1,8 @@
 -- What each call of a debugger does, from each state that its machine stands for.
 use Rattle.std.specs.Prelude.{◌≡◌, ◌⊎◌, ℕ, Bool, true, false, cond, List, [], Option, Some, None, is_some, take, codes, Result, Ok, Err}
 use Rattle.aom_text.specs.declared.number.Number.{Number}
-use Rattle.aom_sound.specs.State.{State}
-use Rattle.aom_sound.specs.World.{Reaches}
+use Rattle.aom_semantics.specs.State.{State}
+use Rattle.aom_semantics.specs.World.{Reaches}
 use Rattle.aom_transcript.specs.declared.line.Line.{Line}
 use Rattle.aom_transcript.specs.Text.{ended}
 use Rattle.aom_debug_moves.specs.Calls.{StandsFor}
@@ -18,7 +18,7 @@ use Rattle.aom_debug_moves.specs.Courses.{Courses, course_of}
 use Rattle.aom_debug_moves.specs.declared.courses.Course.{Course}
 use Rattle.aom_debug_moves.specs.declared.over.Scope.{Scope}
 use Rattle.aom_debug_moves.specs.declared.courses.Course.TheVariants as course
-use Rattle.aom_debug_sights.specs.Telling.{Tells, TellsPart}
+use Rattle.aom_debug_views.specs.Telling.{Tells, TellsPart}
 use Rattle.aom_debug_paths.specs.Paths.{queue_answers, words_answers}
 use Rattle.aom_debug_words.specs.Ways.{Way}
 use Rattle.aom_debug.specs.Commands.{NamesNone, ShowsActives, ShowsBreaks, ShowsCells, ShowsCleanup, ShowsClock, ShowsFrames, ShowsHelp, ShowsOwners, ShowsQueue, ShowsRecent, ShowsTimers, ShowsWords, is_count, moved_text, place_text, spot_named}
@@ -78,9 +78,9 @@ module _ {X : Type 0} {B : X → Type 0} where
   GivesUp old new out answer = ⊥
 
   -- or where they lead is told
-  abbrev pub Shows : Debugger X B → Debugger X B → Outgoing → Answer → Type 0
-  Shows old new out (Ok done) = (new ≡ old) × Tells old.mover.machine.core (λ s. place_text old.names old.mover.machine.core.image s) out.before out.now
-  Shows old new out (Err fault) = (new ≡ record old { has_failed = true }) × TellsPart old.mover.machine.core (λ s. place_text old.names old.mover.machine.core.image s) fault out.failed out.before out.now
+  abbrev pub Represents : Debugger X B → Debugger X B → Outgoing → Answer → Type 0
+  Represents old new out (Ok done) = (new ≡ old) × Tells old.mover.machine.core (λ s. place_text old.names old.mover.machine.core.image s) out.before out.now
+  Represents old new out (Err fault) = (new ≡ record old { has_failed = true }) × TellsPart old.mover.machine.core (λ s. place_text old.names old.mover.machine.core.image s) fault out.failed out.before out.now
 
   -- so far
   abbrev pub goes_of : Course → Debugger X B → Courses

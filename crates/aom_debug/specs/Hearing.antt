@@ -1,6 +1,6 @@
 -- What a line does to a debugger, from each state that its machine stands for.
 use Rattle.std.specs.Prelude.{◌≡◌, ℕ, true, false, List, Option, Result, take}
-use Rattle.aom_sound.specs.State.{State}
+use Rattle.aom_semantics.specs.State.{State}
 use Rattle.aom_run.specs.Calls.{StandsFor}
 use Rattle.aom_debug.specs.Runs.{after}
 use Rattle.aom_debug_words.specs.declared.command.Command.{Command}

@@ -3,8 +3,8 @@ use Rattle.std.specs.Prelude.{◌≡◌, ◌⊎◌, ◌==◌, ℕ, Bool, true, f
 use Rattle.aom_text.specs.declared.number.Number.{Number}
 use Rattle.std.specs.List.{slice_split}
 use Rattle.aom_image.specs.Image.{Image}
-use Rattle.aom_sound.specs.State.{State}
-use Rattle.aom_sound.specs.World.{Outside, Reaches}
+use Rattle.aom_semantics.specs.State.{State}
+use Rattle.aom_semantics.specs.World.{Environment, Reaches}
 use Rattle.aom_transcript.specs.declared.line.Line.{Line}
 use Rattle.aom_transcript.specs.Text.{ended}
 use Rattle.aom_debug_names.specs.Names.{Names}
@@ -39,11 +39,11 @@ abbrev pub Shown : (List ℕ → Type 0) → SessionState → List ℕ → Sessi
 Shown shows a text b = (b ≡ a) × shows text
 
 -- it goes on by such moves, with which the run may end by its limit, and tells their lines and where they lead
-abbrev pub Goes : Image → Outside → Courses → SessionState → List ℕ → SessionState → Type 0
+abbrev pub Goes : Image → Environment → Courses → SessionState → List ℕ → SessionState → Type 0
 Goes p outside leads a text b = (has_ended a ≡ false) × (lines : List Line) × ToLimit p outside leads a.recent b.recent a.state lines b.state × (b.spots ≡ a.spots) × (b.names ≡ a.names) × (text ≡ moved_text a.names p lines b.state)
 
 -- it goes on to the place that two numbers name
-abbrev pub GoesUntil : Image → Outside → Number → Number → SessionState → List ℕ → SessionState → Type 0
+abbrev pub GoesUntil : Image → Environment → Number → Number → SessionState → List ℕ → SessionState → Type 0
 GoesUntil p outside method place a text b = (spot : Spot) × (spot_named p method place ≡ Some spot) × Goes p outside (GoesToPlace p outside spot a.spots) a text b
 
 -- the breakpoints are others, where the place may be marked so
@@ -59,7 +59,7 @@ abbrev pub Unsets : Image → Number → Number → SessionState → List ℕ �
 Unsets = Marks has_spot without_spot
 
 -- a command that is done
-abbrev pub Does : Image → Outside → Command → SessionState → List ℕ → SessionState → Type 0
+abbrev pub Does : Image → Environment → Command → SessionState → List ℕ → SessionState → Type 0
 Does p outside (Step n) a text b = (is_count n ≡ true) × Goes p outside (GoesBy p outside n) a text b
 Does p outside Next a text b = Goes p outside (GoesOver p outside scopes.Step a.spots) a text b
 Does p outside Finish a text b = Goes p outside (GoesOver p outside scopes.Method a.spots) a text b
@@ -107,13 +107,13 @@ abbrev pub Told : DebugFault → SessionState → List ℕ → SessionState → 
 Told fault a text b = (b ≡ a) × (text ≡ fault_text fault)
 
 -- what a line says is done, or refused
-abbrev pub Heeds : Image → Outside → Result (Option Command) DebugFault → SessionState → List ℕ → SessionState → Type 0
+abbrev pub Heeds : Image → Environment → Result (Option Command) DebugFault → SessionState → List ℕ → SessionState → Type 0
 Heeds p outside (Err fault) a text b = Told fault a text b
 Heeds p outside (Ok None) a text b = (b ≡ a) × (text ≡ [])
 Heeds p outside (Ok (Some command)) a text b = Does p outside command a text b ⊎ ((fault : DebugFault) × Refuses p command a fault × Told fault a text b)
 
 -- lines one after another, and all that they tell
-pub data Session (p : Image) (outside : Outside) (a : SessionState) : List (List ℕ) → List ℕ → SessionState → Type 0 where
+pub data Session (p : Image) (outside : Environment) (a : SessionState) : List (List ℕ) → List ℕ → SessionState → Type 0 where
   begins : Session p outside a [] [] a
   heeds : {lines : List (List ℕ)} {told : List ℕ} {b c : SessionState} (line text : List ℕ) → Session p outside a lines told b → Heeds p outside (command_by b.names line) b text c → Session p outside a (lines ++ line ∷ []) (told ++ text) c
 
@@ -128,7 +128,7 @@ MovesOn p (Ok (Some (Until method place))) a = (is_some (spot_named p method pla
 MovesOn p said a = ⊥
 
 -- what the next line tells is cut: of moves it is a beginning of what would be told of a run
-abbrev pub Begins : Image → Outside → Result (Option Command) DebugFault → SessionState → List ℕ → Type 0
+abbrev pub Begins : Image → Environment → Result (Option Command) DebugFault → SessionState → List ℕ → Type 0
 Begins p outside said a text = ((b : SessionState) × Heeds p outside said a text b) ⊎ (MovesOn p said a × (lines : List Line) × (u : State) × Reaches p outside a.state lines u × (text ≡ moved_text a.names p lines u))
 
 -- ---- the lines of what has come

@@ -2,7 +2,7 @@
 ghost use Rattle.std.specs.Prelude.{◌≡◌, ◌⊎◌, [], Some, false, Ok, IfErr, IfOk};
 ghost use Rattle.aom_natives.specs.Slots.{AllAgree};
 ghost use Rattle.aom_debug.specs.Runs.{after};
-ghost use Rattle.aom_main.specs.declared.faults.Fault.TheVariants.{File, Write};
+ghost use Rattle.aom_commands.specs.declared.faults.Fault.TheVariants.{File, Write};
 ghost use Rattle.aom_debug.specs.Movers.{IsReady, Keeps};
 ghost use Rattle.aom_debug.specs.Conversing.{BreaksDown, BreaksOff, Ends, GoesOn, HoldsAll, StopsShort};
 ghost use Rattle.aom_debug.specs.Hearing.{Heard, HeardPart};
@@ -11,9 +11,9 @@ ghost use Rattle.aom_debug_words.specs.declared.fault.DebugFault.TheVariants.{Wr
 ghost use Rattle.aom_debug.specs.Sessions.{fault_text};
 
 use crate::{Debugger, Reader, Sink, tell};
+use aom_commands::Fault;
 use aom_debug_names::take_named;
 use aom_debug_words::{Answer, Command, DebugFault, Pending};
-use aom_main::Fault;
 use aom_natives::Native;
 
 /// How many bytes are read at once, at most.

@@ -2,19 +2,19 @@
 ghost use Rattle.std.specs.Prelude.{◌≡◌, ◌+◌, ◌≤◌, ◌||◌, [], false, true, IfErr, IfNone, IfOk, IfSome};
 ghost use Rattle.aom_debug_moves.specs.Calls.{Stands};
 ghost use Rattle.aom_debug_words.specs.declared.fault.DebugFault.TheVariants.{OutOfMemory};
-ghost use Rattle.aom_lines.specs.Turn.{step_lines};
+ghost use Rattle.aom_lines.specs.LineBuffer.{step_lines};
 ghost use Rattle.aom_script.specs.Script.{IsTimely};
 ghost use Rattle.aom_natives.specs.Slots.{AllAgree};
 ghost use Rattle.aom_debug_moves.specs.Movers.{IsReady, Keeps};
-ghost use Rattle.aom_debug.specs.Debugging.{GivesUp, Goes, Runs, Sets, SetsAt, Shows, Steps, Turns, goes_of, has_ended};
+ghost use Rattle.aom_debug.specs.Debugging.{GivesUp, Goes, Runs, Sets, SetsAt, Represents, Steps, Turns, goes_of, has_ended};
 
 use crate::marking::spot_named;
 use crate::showing::tell_place;
 use aom_debug_moves::{Course, Mover, Progress, Sink, go};
 use aom_debug_names::Names;
-use aom_debug_sights::tell;
+use aom_debug_views::tell;
 use aom_debug_words::{Answer, Breakpoints, DebugFault, Recent, Spot};
-use aom_lines::Turn;
+use aom_lines::LineBuffer;
 use aom_natives::Native;
 use aom_run::Machine;
 use aom_script::Script;
@@ -44,7 +44,7 @@ impl<'a> Debugger<'a> {
         alloc: Global,
         machine: Machine<'a>,
         script: Script,
-        turn: Turn,
+        turn: LineBuffer,
         limit: u32,
         names: Names<'a>,
     ) -> Result<Debugger<'a>, DebugFault>
@@ -121,7 +121,7 @@ impl<'a> Debugger<'a> {
         ensures mover { self.new.mover ≡ self.old.mover }
         ensures none { IfNone went (GivesUp self.old self.new (record { before = W.out out.old; now = W.out out.new; failed = W.failed out.new }) result) }
         ensures failed { IfNone went (W.failed out.new ≡ W.failed out.old) }
-        ensures some { IfSome went (λ _. Shows self.old self.new (record { before = W.out out.old; now = W.out out.new; failed = W.failed out.new }) result) }
+        ensures some { IfSome went (λ _. Represents self.old self.new (record { before = W.out out.old; now = W.out out.new; failed = W.failed out.new }) result) }
     {
         match went {
             Some(_) => {

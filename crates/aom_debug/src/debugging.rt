@@ -2,25 +2,25 @@
 ghost use Rattle.std.specs.Prelude.{ℕ, ◌≡◌, ◌+◌, [], Err, IfErr, IfOk, List, Ok, Some, length, map, option_map};
 ghost use Rattle.aom_natives.specs.Owed.{OweNothing};
 ghost use Rattle.aom_natives.specs.Slots.{AllAgree};
-ghost use Rattle.aom_sound.specs.World.{boot_state};
-ghost use Rattle.aom_lines.specs.Turn.{step_lines};
+ghost use Rattle.aom_semantics.specs.World.{boot_state};
+ghost use Rattle.aom_lines.specs.LineBuffer.{step_lines};
 ghost use Rattle.aom_run.specs.Calls.{StandsFor, natives_of};
 ghost use Rattle.aom_script.specs.Script.{IsTimely, denoted};
 ghost use Rattle.aom_debug.specs.Movers.{IsReady};
-ghost use Rattle.aom_main.specs.Acceptable.{IsSpelled};
-ghost use Rattle.aom_main.specs.Headline.{RefusesBoot};
-ghost use Rattle.aom_main.specs.declared.faults.Fault.TheVariants.{Memory};
-ghost use Rattle.aom_main.specs.declared.status.ExitStatus.TheVariants.{Done};
-ghost use Rattle.aom_main.specs.Untold.{Untold};
+ghost use Rattle.aom_commands.specs.Acceptable.{IsSpelled};
+ghost use Rattle.aom_commands.specs.Headline.{RefusesBoot};
+ghost use Rattle.aom_commands.specs.declared.faults.Fault.TheVariants.{Memory};
+ghost use Rattle.aom_commands.specs.declared.status.ExitStatus.TheVariants.{Done};
+ghost use Rattle.aom_commands.specs.Untold.{Untold};
 ghost use Rattle.aom_debug.specs.Answers.{DebugAnswers, DebugAnswersBy};
 ghost use Rattle.aom_debug.specs.Beginning.{IsBegun};
 
 use crate::conversing::converse;
 use crate::{Debugger, Reader, Sink};
 use aom_budget::Accepted;
+use aom_commands::{ExitStatus, Fault, accept_bytes, tell};
 use aom_debug_names::Names;
-use aom_lines::Turn;
-use aom_main::{ExitStatus, Fault, accept_bytes, tell};
+use aom_lines::LineBuffer;
 use aom_natives::Native;
 use aom_run::Machine;
 use aom_script::{Script, read_script};
@@ -200,11 +200,11 @@ fn begun<'a>(
 }
 
 /// The turn of a run under a script.
-fn turn_of(alloc: Global, accepted: &Accepted, script: &Script) -> Result<Turn, AllocError>
+fn turn_of(alloc: Global, accepted: &Accepted, script: &Script) -> Result<LineBuffer, AllocError>
     ensures lines { IfOk result (λ t. t.lines ≡ []) }
     ensures refused { IfOk result (λ t. t.refused ≡ script.now.refused) }
     ensures room { IfOk result (λ t. t.room ≡ 64 + step_lines accepted.now.header.messages) }
 {
     let refused = Vec::from_slice(alloc, script.refused())?;
-    Turn::new(alloc, accepted.linked(), refused)
+    LineBuffer::new(alloc, accepted.linked(), refused)
 }

@@ -1,10 +1,10 @@
 //! What a place owns, as a value.
-ghost use Rattle.aom_parts.specs.Stands.{StandsFor};
-ghost use Rattle.aom_sound.specs.State.{State};
-ghost use Rattle.aom_debug_sights.specs.Holdings.{HoldsSo, IsOwner, place_of};
+ghost use Rattle.aom_machine_state.specs.Stands.{StandsFor};
+ghost use Rattle.aom_semantics.specs.State.{State};
+ghost use Rattle.aom_debug_views.specs.Holdings.{HoldsSo, IsOwner, place_of};
 
 use crate::Debugger;
-use aom_debug_sights::{Holding, Owner, held_at};
+use aom_debug_views::{Holding, Owner, held_at};
 
 impl<'a> Debugger<'a> {
     /// What a place owns. Nothing is told, and nothing changes.

@@ -7,7 +7,7 @@ ghost use Rattle.aom_debug.specs.Debugging.{Looks, Seen, SeenPart, Sees};
 use crate::Debugger;
 use crate::showing::{show_cells, show_frames, show_owners};
 use aom_debug_moves::Sink;
-use aom_debug_sights::{
+use aom_debug_views::{
     send, tell_actives, tell_breaks, tell_cleanup, tell_clock, tell_recent, tell_timers,
 };
 use aom_debug_words::{DebugFault, help_text};

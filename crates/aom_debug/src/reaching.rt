@@ -2,13 +2,13 @@
 ghost use Rattle.std.specs.Prelude.{◌≡◌, IfErr, IfOk, IfSome};
 ghost use Rattle.aom_cells.specs.Heap.{Lives};
 ghost use Rattle.aom_natives.specs.Slots.{AllAgree};
-ghost use Rattle.aom_parts.specs.Stands.{StandsFor as CoreStandsFor};
-ghost use Rattle.aom_shape.specs.Things.{words_of};
-ghost use Rattle.aom_sound.specs.Places.{service_of};
-ghost use Rattle.aom_sound.specs.State.{State};
+ghost use Rattle.aom_machine_state.specs.Stands.{StandsFor as CoreStandsFor};
+ghost use Rattle.aom_roles.specs.Things.{words_of};
+ghost use Rattle.aom_semantics.specs.Places.{service_of};
+ghost use Rattle.aom_semantics.specs.State.{State};
 ghost use Rattle.aom_debug_moves.specs.Movers.{IsReady, Keeps};
 ghost use Rattle.aom_debug_paths.specs.Paths.{IsFound, owned_at, waiting_lines, word_lines};
-ghost use Rattle.aom_debug_sights.specs.Telling.{Tells, TellsPart, answers_text};
+ghost use Rattle.aom_debug_views.specs.Telling.{Tells, TellsPart, answers_text};
 ghost use Rattle.aom_debug.specs.Debugging.{LacksQueue, LacksWords, LooksAt, SeesQueue, SeesWords};
 
 use crate::Debugger;

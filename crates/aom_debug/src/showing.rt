@@ -2,18 +2,18 @@
 ghost use Rattle.std.specs.Prelude.{◌≡◌, IfErr, IfOk};
 ghost use Rattle.aom_cells.specs.Heap.{count};
 ghost use Rattle.aom_debug_moves.specs.Calls.{Stands};
-ghost use Rattle.aom_parts.specs.Stands.{Stands as CoreStands};
-ghost use Rattle.aom_bounds.specs.Strongest.{IsStrongest};
+ghost use Rattle.aom_machine_state.specs.Stands.{Stands as CoreStands};
+ghost use Rattle.aom_typings.specs.Strongest.{IsStrongest};
 ghost use Rattle.aom_rules.specs.Typing.{Typing};
-ghost use Rattle.aom_debug_sights.specs.Frames.{frames_answers};
-ghost use Rattle.aom_debug_sights.specs.Owners.{owners, owners_text};
-ghost use Rattle.aom_debug_sights.specs.Sights.{cells_answers};
-ghost use Rattle.aom_debug_sights.specs.Telling.{Tells, TellsPart, answers_by};
+ghost use Rattle.aom_debug_views.specs.Frames.{frames_answers};
+ghost use Rattle.aom_debug_views.specs.Owners.{owners, owners_text};
+ghost use Rattle.aom_debug_views.specs.Sights.{cells_answers};
+ghost use Rattle.aom_debug_views.specs.Telling.{Tells, TellsPart, answers_by};
 ghost use Rattle.aom_debug.specs.Commands.{end_by, place_text};
 
 use aom_debug_moves::{Machine, Progress, Sink, next_of};
 use aom_debug_names::Names;
-use aom_debug_sights::{send, tell_by, tell_cells, tell_frames, tell_owners};
+use aom_debug_views::{send, tell_by, tell_cells, tell_frames, tell_owners};
 use aom_debug_words::DebugFault;
 use aom_transcript::Page;
 

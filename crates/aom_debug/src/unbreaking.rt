@@ -7,7 +7,7 @@ ghost use Rattle.aom_debug.specs.Debugging.{Unsets, UnsetsAt};
 use crate::Debugger;
 use crate::marking::spot_named;
 use aom_debug_moves::Sink;
-use aom_debug_sights::tell;
+use aom_debug_views::tell;
 use aom_debug_words::{Answer, DebugFault, Spot};
 use aom_natives::Native;
 use aom_text::Number;

@@ -2,16 +2,16 @@
 use Rattle.std.proofs.Common.{◌≡◌, ◌≢◌, ◌⊎◌, ◌∙◌, ◌<◌, ◌+◌, ℕ, suc, Bool, true, false, List, [], ◌∷◌, ◌++◌, Option, Some, None, length, take, refl, sym, ap, subst, inl, inr}
 use Rattle.std.specs.Prelude.{is_some}
 use Rattle.aom_image.specs.Image.{Image}
-use Rattle.aom_sound.specs.State.{State}
-use Rattle.aom_sound.specs.World.{Outside, Reaches, begins as from_here}
+use Rattle.aom_semantics.specs.State.{State}
+use Rattle.aom_semantics.specs.World.{Environment, Reaches, begins as from_here}
 use Rattle.aom_transcript.specs.declared.line.Line.{Line}
 use Rattle.aom_transcript.specs.Text.{text_of}
-use Rattle.aom_parts.specs.declared.progress.Progress.{Progress}
-use Rattle.aom_parts.specs.declared.progress.Progress.TheVariants.{Ended, Running, Turned}
-use Rattle.aom_parts.specs.Progress.{progress_by, progress_of}
+use Rattle.aom_machine_state.specs.declared.progress.Progress.{Progress}
+use Rattle.aom_machine_state.specs.declared.progress.Progress.TheVariants.{Ended, Running, Turned}
+use Rattle.aom_machine_state.specs.Progress.{progress_by, progress_of}
 use Rattle.aom_transcript.specs.declared.line.Ending.{Ending}
-use Rattle.aom_exec.specs.Steps.{progress}
-use Rattle.aom_exec.proofs.Progressing.{at_hand, is_as_far}
+use Rattle.aom_machine.specs.Steps.{progress}
+use Rattle.aom_machine.proofs.Progressing.{at_hand, is_as_far}
 use Rattle.aom_run.specs.Calls.{Stands, StandsFor}
 use Rattle.aom_debug_moves.specs.Sends.{Breaks, Leads, Machine, Sends, Then}
 use Rattle.aom_debug_moves.specs.Movers.{Keeps, outside_of}
@@ -35,21 +35,21 @@ pub is_over : (s : State) → progress_of s ≢ Running → progress_of s ≢ Tu
 is_over s rests goes = over_by s.rest.ended s.tasks rests goes
 
 -- moves are a run
-pub run_of : (p : Image) (outside : Outside) (s : State) (lines : List Line) (u : State) → Moving p outside.refused s lines u → Reaches p outside s lines u
+pub run_of : (p : Image) (outside : Environment) (s : State) (lines : List Line) (u : State) → Moving p outside.refused s lines u → Reaches p outside s lines u
 run_of p outside s lines u moving = reaches_then p outside s [] s lines u from_here moving
 
 -- so are steps with the turns before them
-pub reaches_goes : (p : Image) (outside : Outside) (old : List Spot) (s : State) (n : ℕ) (new : List Spot) (lines : List Line) (u : State) → Goes p outside old s n new lines u → Reaches p outside s lines u
+pub reaches_goes : (p : Image) (outside : Environment) (old : List Spot) (s : State) (n : ℕ) (new : List Spot) (lines : List Line) (u : State) → Goes p outside old s n new lines u → Reaches p outside s lines u
 reaches_goes p outside old s _ _ _ _ begins = from_here
 reaches_goes p outside old s _ _ _ _ (strides {n} {mid} {new} {lines} {first} {later} {v} {w} {u} before comes hand once) =
     reaches_both p outside s lines v (first ++ later) u (reaches_goes p outside old s n mid lines v before)
     (reaches_both p outside v first w later u (reaches_arrived p outside v first w comes) (run_of p outside w later u (moving_stride p outside.refused mid new w later u once)))
 
 -- so many steps so far
-abbrev pub GoesSo : Image → Outside → ℕ → Courses
+abbrev pub GoesSo : Image → Environment → ℕ → Courses
 GoesSo p outside n old new s lines u = Goes p outside old s n new lines u
 
-module _ {X : Type 0} {B : X → Type 0} (p : Image) (outside : Outside) where
+module _ {X : Type 0} {B : X → Type 0} (p : Image) (outside : Environment) where
   -- moves that were cut are a run that was
   pub cut_run : (m c : Machine X B) (mid out : Option (List ℕ)) → Breaks (Moving p outside.refused) m mid out c → Breaks (Reaches p outside) m mid out c
   cut_run m c mid out y s stands = let g = y s stands in (g.0, g.1, run_of p outside s g.0 g.1 g.2, g.3, g.4)

@@ -2,14 +2,14 @@
 use Rattle.std.proofs.Common.{◌≡◌, ◌∙◌, ℕ, Bool, true, false, List, Option, Some, None, refl, ap, subst, sym}
 use Rattle.std.specs.Bool.{then_some}
 use Rattle.aom_image.specs.Image.{Image}
-use Rattle.aom_lines.specs.Turn.{Turn}
+use Rattle.aom_lines.specs.LineBuffer.{LineBuffer}
 use Rattle.aom_script.specs.Script.{Script}
-use Rattle.aom_exec.specs.Steps.{progress}
+use Rattle.aom_machine.specs.Steps.{progress}
 use Rattle.aom_run.specs.Calls.{Stands, natives_of}
 use Rattle.aom_debug_words.specs.declared.spot.Spot.{Spot}
 use Rattle.aom_run.specs.Turns.{hearing}
-use Rattle.aom_sound.specs.World.{Outside}
-use Rattle.aom_parts.specs.declared.progress.Progress.{Progress}
+use Rattle.aom_semantics.specs.World.{Environment}
+use Rattle.aom_machine_state.specs.declared.progress.Progress.{Progress}
 use Rattle.aom_debug_moves.specs.Movers.{IsReady, Keeps, Mover, Went, outside_of}
 use Rattle.aom_debug_moves.specs.Sends.{Breaks, Leads, Machine, Sends}
 
@@ -28,21 +28,21 @@ module _ {X : Type 0} {B : X → Type 0} where
       record { image = keeps.image; natives = keeps.natives; script = keeps.script; turn = keeps.turn; limit = keeps.limit; ready = again }
 
   -- a machine that has moved, and stands for a state, and whose turn is cleared again
-  pub keeps_with : (m : Mover X B) → IsReady m → (machine : Machine X B) (turn : Turn) (page : List ℕ) → machine.core.image ≡ m.machine.core.image → natives_of machine ≡ natives_of m.machine → turn ≡ m.turn → Stands machine
+  pub keeps_with : (m : Mover X B) → IsReady m → (machine : Machine X B) (turn : LineBuffer) (page : List ℕ) → machine.core.image ≡ m.machine.core.image → natives_of machine ≡ natives_of m.machine → turn ≡ m.turn → Stands machine
       → Keeps m (record m { machine = machine; turn = turn; page = page })
   keeps_with m ready machine turn page image natives same stands =
       let again : IsReady (record m { machine = machine; turn = turn; page = page }) =
-      record { stands = stands; none = ap (λ (t : Turn). t.lines) same ∙ ready.none; room = rw (image, ap (λ (t : Turn). t.room) same) ready.room; timely = ready.timely; few = ready.few } in
+      record { stands = stands; none = ap (λ (t : LineBuffer). t.lines) same ∙ ready.none; room = rw (image, ap (λ (t : LineBuffer). t.room) same) ready.room; timely = ready.timely; few = ready.few } in
       record { image = image; natives = natives; script = refl; turn = same; limit = refl; ready = again }
 
   module _ {old new : Mover X B} (keeps : Keeps old new) where
     -- what is heard outside is the same
     pub hears_as : outside_of new ≡ outside_of old
     hears_as =
-        ap (λ (t : Turn). hearing t.refused new.limit (natives_of new.machine) new.script.timed) keeps.turn ∙ ap (λ l. hearing old.turn.refused l (natives_of new.machine) new.script.timed) keeps.limit
+        ap (λ (t : LineBuffer). hearing t.refused new.limit (natives_of new.machine) new.script.timed) keeps.turn ∙ ap (λ l. hearing old.turn.refused l (natives_of new.machine) new.script.timed) keeps.limit
         ∙ ap (λ n. hearing old.turn.refused old.limit n new.script.timed) keeps.natives ∙ ap (λ (s : Script). hearing old.turn.refused old.limit (natives_of old.machine) s.timed) keeps.script
 
-    pub heard_as : (F : Image → Outside → Type 0) → F new.machine.core.image (outside_of new) → F old.machine.core.image (outside_of old)
+    pub heard_as : (F : Image → Environment → Type 0) → F new.machine.core.image (outside_of new) → F old.machine.core.image (outside_of old)
     heard_as F x = subst (λ p. F p (outside_of old)) keeps.image (subst (λ o. F new.machine.core.image o) hears_as x)
 
     pub begun_as : (F : Image → List ℕ → Type 0) → F new.machine.core.image new.turn.refused → F old.machine.core.image old.turn.refused

@@ -3,17 +3,17 @@ use Rattle.std.proofs.Common.{◌≡◌, ◌≢◌, ◌≤◌, ◌<◌, ◌+◌,
 use Rattle.std.specs.Prelude.{◌*◌, is_some}
 use Rattle.std.proofs.Math.Nat.{mul-le-mul_right, suc-mul}
 use Rattle.aom_image.specs.Image.{Image}
-use Rattle.aom_sound.specs.State.{Rest, State}
-use Rattle.aom_sound.specs.World.{IsBetween, Outside}
-use Rattle.aom_steps.specs.Payers.{payer}
-use Rattle.aom_endings.specs.Endings.{one_where, spare}
+use Rattle.aom_semantics.specs.State.{Counters, State}
+use Rattle.aom_semantics.specs.World.{IsBetween, Environment}
+use Rattle.aom_progress.specs.Payers.{payer}
+use Rattle.aom_determinism.specs.Endings.{one_where, spare}
 use Rattle.aom_transcript.specs.declared.event.TimedEvent.{TimedEvent}
 use Rattle.aom_transcript.specs.declared.line.Line.{Line}
 use Rattle.aom_transcript.specs.declared.line.Ending.{Ending}
-use Rattle.aom_parts.specs.declared.progress.Progress.TheVariants.{Ended, Running, Turned}
-use Rattle.aom_parts.specs.Progress.{progress_by, progress_of}
-use Rattle.aom_exec.specs.Steps.{IsAtHand, progress}
-use Rattle.aom_exec.proofs.Progressing.{between, is_as_far}
+use Rattle.aom_machine_state.specs.declared.progress.Progress.TheVariants.{Ended, Running, Turned}
+use Rattle.aom_machine_state.specs.Progress.{progress_by, progress_of}
+use Rattle.aom_machine.specs.Steps.{IsAtHand, progress}
+use Rattle.aom_machine.proofs.Progressing.{between, is_as_far}
 use Rattle.aom_run.specs.Calls.{Stands, StandsFor}
 use Rattle.aom_debug_moves.specs.Sends.{Machine, Sends, Then}
 use Rattle.aom_run.specs.Runs.{Moving}
@@ -30,7 +30,7 @@ abbrev rounds_by : ℕ → Option Ending → ℕ
 rounds_by n None = suc n
 rounds_by n (Some ending) = 0
 
-abbrev pub left_in : List TimedEvent → ℕ → Rest → ℕ
+abbrev pub left_in : List TimedEvent → ℕ → Counters → ℕ
 left_in events limit r = rounds_by (limit - r.dispatches) r.ended * suc (length events) + (length events - r.delivered)
 
 -- one less of the first is less, whatever there is of the second
@@ -51,7 +51,7 @@ between_runs_not s idle running =
 unpaid : (s : State) → IsBetween s → is_some (payer s.tasks) ≡ true → ⊥
 unpaid s idle paid = let none = ap (λ ts. is_some (payer ts)) idle.idle in absurd cc
 
-module _ (p : Image) (outside : Outside) (few : outside.limit ≤ 2 ^ 64 - 1) where
+module _ (p : Image) (outside : Environment) (few : outside.limit ≤ 2 ^ 64 - 1) where
   abbrev left_of : State → ℕ
   left_of s = left_in outside.events outside.limit s.rest
 

@@ -9,7 +9,7 @@ pub mod Passing
 pub mod Limits
 pub mod Leaving
 pub mod Runs
-pub use Rattle.aom_exec.proofs.Progressing
+pub use Rattle.aom_machine.proofs.Progressing
 pub use Rattle.aom_run.proofs.Gets
 pub use Rattle.aom_run.proofs.Reaching
 pub use Rattle.aom_run.proofs.Running

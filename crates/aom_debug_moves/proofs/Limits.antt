@@ -2,18 +2,18 @@
 use Rattle.std.proofs.Common.{◌≡◌, ◌∙◌, ◌≤◌, ℕ, Bool, true, false, List, [], ◌++◌, Option, Some, nat_le, refl, sym, ap, subst}
 use Rattle.std.proofs.lemmas.Bool.{leb-true}
 use Rattle.aom_image.specs.Image.{Image}
-use Rattle.aom_sound.specs.State.{Rest, State}
-use Rattle.aom_sound.specs.World.{Cuts, Outside, Reaches, begins as from_here}
+use Rattle.aom_semantics.specs.State.{Counters, State}
+use Rattle.aom_semantics.specs.World.{Cuts, Environment, Reaches, begins as from_here}
 use Rattle.aom_transcript.specs.Text.{text_of}
 use Rattle.aom_transcript.specs.declared.line.Line.{Line}
 use Rattle.aom_transcript.specs.declared.line.Ending.TheVariants.{Limit}
-use Rattle.aom_parts.specs.Progress.{progress_of}
-use Rattle.aom_parts.specs.Stands.{Machine as Core}
-use Rattle.aom_parts.specs.declared.progress.Progress.{Progress}
-use Rattle.aom_parts.specs.declared.progress.Progress.TheVariants.{Ended, Running, Turned}
-use Rattle.aom_exec.specs.Steps.{progress}
-use Rattle.aom_exec.specs.Turns.{TakesAll}
-use Rattle.aom_exec.proofs.Progressing.{is_as_far}
+use Rattle.aom_machine_state.specs.Progress.{progress_of}
+use Rattle.aom_machine_state.specs.Stands.{Machine as Core}
+use Rattle.aom_machine_state.specs.declared.progress.Progress.{Progress}
+use Rattle.aom_machine_state.specs.declared.progress.Progress.TheVariants.{Ended, Running, Turned}
+use Rattle.aom_machine.specs.Steps.{progress}
+use Rattle.aom_machine.specs.Turns.{TakesAll}
+use Rattle.aom_machine.proofs.Progressing.{is_as_far}
 use Rattle.aom_run.specs.Calls.{Stands, StandsFor, natives_of}
 use Rattle.aom_run.specs.Runs.{after}
 use Rattle.aom_run.specs.Turns.{TakesTurns}
@@ -31,12 +31,12 @@ use Rattle.aom_debug_moves.proofs.Sending.{after_none, sends_if_not, sends_if_so
 
 -- ---- it is a run
 
-reaches_cut : (b : Bool) (p : Image) (outside : Outside) (s : State) (lines : List Line) (u : State) → IfSo b (EndsByLimit p outside) s lines u → Reaches p outside s lines u
+reaches_cut : (b : Bool) (p : Image) (outside : Environment) (s : State) (lines : List Line) (u : State) → IfSo b (EndsByLimit p outside) s lines u → Reaches p outside s lines u
 reaches_cut true p outside s lines u x = x.0
 reaches_cut false p outside s lines u x = subst (λ ls. Reaches p outside s ls u) (sym x.0) (subst (λ v. Reaches p outside s [] v) (sym x.1) from_here)
 
 -- so is a way to whose end it comes
-pub reaches_to_limit : (p : Image) (outside : Outside) (leads : Courses) → AreRuns p outside leads → AreRuns p outside (ToLimit p outside leads)
+pub reaches_to_limit : (p : Image) (outside : Environment) (leads : Courses) → AreRuns p outside leads → AreRuns p outside (ToLimit p outside leads)
 reaches_to_limit p outside leads runs old new s lines u x =
     subst (λ ls. Reaches p outside s ls u) (sym x.5)
     (reaches_both p outside s x.1 x.0 x.2 u (runs old new s x.1 x.0 x.3) (reaches_cut (is_at_limit outside x.0) p outside x.0 x.2 u x.4))
@@ -57,7 +57,7 @@ module _ {X : Type 0} {B : X → Type 0} (a : Mover X B) where
   pub told_at : (b : Bool) → Told b → (s : State) → StandsFor a.machine s → b ≡ is_at_limit (outside_of a) s
   told_at b told s stands =
       told ∙ ap (λ far. is_cut far (nat_le a.limit a.machine.core.parts.rest.dispatches)) (is_as_far a.machine.core s stands.stands)
-      ∙ ap (λ (r : Rest). is_cut (progress_of s) (nat_le a.limit r.dispatches)) stands.stands.agrees.rest
+      ∙ ap (λ (r : Counters). is_cut (progress_of s) (nat_le a.limit r.dispatches)) stands.stands.agrees.rest
 
   abbrev pub Ends : Mover X B → Type 0
   Ends n = (out : Option (List ℕ)) → Sends (Where (is_at_limit (outside_of a)) (EndsByLimit a.machine.core.image (outside_of a))) a.machine out out n.machine

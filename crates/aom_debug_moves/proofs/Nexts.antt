@@ -3,7 +3,7 @@ use Rattle.std.proofs.Common.{◌≡◌, ◌≢◌, ◌∙◌, ◌<◌, ℕ, Boo
 use Rattle.std.specs.Prelude.{is_some}
 use Rattle.std.proofs.lemmas.Option.{none-some, same_Some}
 use Rattle.std.proofs.lemmas.Bool.{eq-eqb, eqb-true, false≢true, ne_eqb}
-use Rattle.aom_acts.specs.Serving.{session_there}
+use Rattle.aom_machine_instructions.specs.Serving.{session_there}
 use Rattle.aom_clients.specs.Clients.{client_at, first_there, sessions_at}
 use Rattle.aom_clients.specs.Table.{session_of}
 use Rattle.aom_image.proofs.Given.{some_given}
@@ -13,31 +13,31 @@ use Rattle.aom_image.specs.declared.method.Thing.{Thing}
 use Rattle.aom_image.specs.declared.method.Thing.TheVariants.{Object as An_object_of}
 use Rattle.aom_classes.specs.Roles.{role_of}
 use Rattle.aom_cells.specs.Heap.{Lives, cell_at, class_at, class_of, null}
-use Rattle.aom_cells.specs.declared.cell.Cell.{Cell as Held_cell}
+use Rattle.aom_cells.specs.declared.cell.Cell.{Cell as Machine_cell}
 use Rattle.aom_frames.specs.Tasks.{Runs, method_here, place_here}
-use Rattle.aom_frames.specs.declared.task.Task.{Task as Held_task}
+use Rattle.aom_frames.specs.declared.task.Task.{Task as Machine_task}
 use Rattle.aom_frames.specs.declared.task.Task.TheVariants.{Closing as Closes, Destroy as Destroy_held}
-use Rattle.aom_frames.specs.declared.dispatch.Dispatch.{Dispatch as Held_dispatch}
-use Rattle.aom_sound.specs.Destruction.{first_session}
-use Rattle.aom_sound.specs.Places.{Elsewhere, Going, Object, Place, Root, Session, held, named, service_of}
-use Rattle.aom_sound.specs.State.{Closing, Destroy, Dispatch, Dispatched as Ends_state, Run, Seat, State, Task, Trapped, Unwind}
-use Rattle.aom_sound.proofs.Maps.{held_lives}
-use Rattle.aom_parts.specs.declared.parts.Parts.{Parts}
-use Rattle.aom_parts.specs.Agrees.{SameTasks, dispatch_of, number, number as number_of_object, thing_in}
-use Rattle.aom_parts.specs.Places.{IsClosing, IsDestroying, going_here, going_in, value}
-use Rattle.aom_parts.specs.Stands.{StandsFor}
-use Rattle.aom_parts.proofs.Cells.{class_told, is_an_object}
-use Rattle.aom_parts.proofs.Values.{same_length}
-use Rattle.aom_parts.proofs.Alike.{Alike, alike, both_close, both_end, both_go, both_run, both_trapped, both_unwind, no_tasks}
-use Rattle.aom_acts.specs.Going.{ending_here}
-use Rattle.aom_acts.proofs.Firsts.{ClosesOver, closing_found, found_session, its_session, no_session, session_lives}
-use Rattle.aom_acts.proofs.Running.{nothing_held, object_lives_at, object_there}
+use Rattle.aom_frames.specs.declared.dispatch.Dispatch.{Dispatch as Machine_dispatch}
+use Rattle.aom_semantics.specs.Destruction.{first_session}
+use Rattle.aom_semantics.specs.Places.{Elsewhere, Going, Object, Place, Root, Session, held, named, service_of}
+use Rattle.aom_semantics.specs.State.{Closing, Destroy, Dispatch, Dispatched as Ends_state, Run, Seat, State, Task, Trapped, Unwind}
+use Rattle.aom_semantics.proofs.Maps.{held_lives}
+use Rattle.aom_machine_state.specs.declared.parts.Parts.{Parts}
+use Rattle.aom_machine_state.specs.Agrees.{SameTasks, dispatch_of, number, number as number_of_object, thing_in}
+use Rattle.aom_machine_state.specs.Places.{IsClosing, IsDestroying, going_here, going_in, value}
+use Rattle.aom_machine_state.specs.Stands.{StandsFor}
+use Rattle.aom_machine_state.proofs.Cells.{class_told, is_an_object}
+use Rattle.aom_machine_state.proofs.Values.{same_length}
+use Rattle.aom_machine_state.proofs.Alike.{Alike, alike, both_close, both_end, both_go, both_run, both_trapped, both_unwind, no_tasks}
+use Rattle.aom_machine_instructions.specs.Going.{ending_here}
+use Rattle.aom_machine_instructions.proofs.Firsts.{ClosesOver, closing_found, found_session, its_session, no_session, session_lives}
+use Rattle.aom_machine_instructions.proofs.Running.{nothing_held, object_lives_at, object_there}
 use Rattle.aom_debug_words.specs.declared.answer.Answer.{Answer}
 use Rattle.aom_debug_words.specs.declared.answer.Answer.TheVariants.{At, Gone}
 use Rattle.aom_debug_moves.specs.Next.{GoesFirst, begins_by, destroyed_under, destruction_by, destruction_of, ends_all_in, first_number, goes_first, gone_by, going_of, is_last_in, next_in}
 
 -- what goes is on top
-at_top : (x : ℕ) (ms : List Held_task) (d : ℕ) → length ms ≡ d → going_in (Destroy_held x ∷ ms) d ≡ x
+at_top : (x : ℕ) (ms : List Machine_task) (d : ℕ) → length ms ≡ d → going_in (Destroy_held x ∷ ms) d ≡ x
 at_top x ms d is = subst (λ k. cond k x (going_in ms d) ≡ x) (sym (eq-eqb (length ms) d is)) refl
 
 -- no dispatch is at its end
@@ -143,13 +143,13 @@ module _ (p : Image) (m : Parts) (s : State) (st : StandsFor (record { image = p
   pub runs_told : Runs m.stack.tasks → At (record { method = method_here m.stack.tasks; place = place_here m.stack.tasks }) ≡ next_in p s s.tasks
   runs_told runs = go (alike m.stack.tasks s.tasks st.agrees.tasks) runs
     where
-      go : {ms : List Held_task} {us : List Task} → Alike ms us → Runs ms → At (record { method = method_here ms; place = place_here ms }) ≡ next_in p s us
+      go : {ms : List Machine_task} {us : List Task} → Alike ms us → Runs ms → At (record { method = method_here ms; place = place_here ms }) ≡ next_in p s us
       go x runs = grind arith
 
   pub goes_told : (number class : ℕ) → IsDestroying m.stack.tasks → number ≡ going_here m.stack.tasks → Lives m.cells (going_here m.stack.tasks) → class_at m.cells number ≡ Some class → Gone class ≡ next_in p s s.tasks
   goes_told number class going is lives told = go refl refl (alike m.stack.tasks s.tasks st.agrees.tasks) going is
     where
-      shows : (x : ℕ) (ms : List Held_task) (ts : List Task) → m.stack.tasks ≡ Destroy_held x ∷ ms → SameTasks ms ts → x ≡ number_of_object (held s.cells (Going (length ts)))
+      shows : (x : ℕ) (ms : List Machine_task) (ts : List Task) → m.stack.tasks ≡ Destroy_held x ∷ ms → SameTasks ms ts → x ≡ number_of_object (held s.cells (Going (length ts)))
       shows x ms ts e same =
           let here : value m (Going (length ts)) ≡ x = ap (λ us. going_in us (length ts)) e ∙ at_top x ms (length ts) (same_length ms ts same) in
           sym here ∙ st.agrees.values (Going (length ts))
@@ -158,7 +158,7 @@ module _ (p : Image) (m : Parts) (s : State) (st : StandsFor (record { image = p
       owned x ts None e shown same some = absurd (false≢true (sym (ap is_some (ap (cell_at m.cells) (same ∙ shown) ∙ st.agrees.cells.null_is_none)) ∙ some))
       owned x ts (Some o) e shown same some = sym (ap gone_by (thing_at o number class (held_lives s.cells (Going (length ts)) o st.typed.good.tidy e) (same ∙ shown) told))
 
-      go : {ms : List Held_task} {us : List Task} → m.stack.tasks ≡ ms → s.tasks ≡ us → Alike ms us → IsDestroying ms → number ≡ going_here ms → Gone class ≡ next_in p s us
+      go : {ms : List Machine_task} {us : List Task} → m.stack.tasks ≡ ms → s.tasks ≡ us → Alike ms us → IsDestroying ms → number ≡ going_here ms → Gone class ≡ next_in p s us
       go e f (both_go x ms ts small same more) going is =
           owned x ts (held s.cells (Going (length ts))) refl (shows x ms ts e same) is (subst (λ k. IsSome (cell_at m.cells k)) (sym (is ∙ sym (ap going_here e))) lives)
       go e f _ going is = absurd going
@@ -176,7 +176,7 @@ module _ (p : Image) (m : Parts) (s : State) (st : StandsFor (record { image = p
   pub closes_at : IsClosing m.stack.tasks → (x : ℕ) × ClosesAt x
   closes_at closing = go refl refl (alike m.stack.tasks s.tasks st.agrees.tasks) closing
     where
-      second : (x : ℕ) (ms : List Held_task) (ts : List Task) → m.stack.tasks ≡ Closes ∷ Destroy_held x ∷ ms → s.tasks ≡ Closing ∷ Destroy ∷ ts → x < 4096 → SameTasks ms ts → (o : Object) → held s.cells (Going (length ts)) ≡ Some o → ClosesAt x
+      second : (x : ℕ) (ms : List Machine_task) (ts : List Task) → m.stack.tasks ≡ Closes ∷ Destroy_held x ∷ ms → s.tasks ≡ Closing ∷ Destroy ∷ ts → x < 4096 → SameTasks ms ts → (o : Object) → held s.cells (Going (length ts)) ≡ Some o → ClosesAt x
       second x ms ts e f small same o holds =
           let deep = same_length ms ts same in
           let over : (length (Destroy_held x ∷ ms) == length ts) ≡ false = ne_eqb (length (Destroy_held x ∷ ms)) (length ts) (λ even. omega (arith, even, deep)) in
@@ -192,16 +192,16 @@ module _ (p : Image) (m : Parts) (s : State) (st : StandsFor (record { image = p
             lives = subst (Lives m.cells) (sym own) (object_lives_at p m s st.agrees o named_so (object_there p m s st.agrees o named_so (omega (arith, small, own))));
           }
 
-      first : (ms : List Held_task) (ts : List Task) → m.stack.tasks ≡ Closes ∷ ms → s.tasks ≡ Closing ∷ ts → Alike ms ts → ClosesOver s ts → (x : ℕ) × ClosesAt x
+      first : (ms : List Machine_task) (ts : List Task) → m.stack.tasks ≡ Closes ∷ ms → s.tasks ≡ Closing ∷ ts → Alike ms ts → ClosesOver s ts → (x : ℕ) × ClosesAt x
       first ms ts e f like over = with_both like e f over.tasks
         where
-          with_both : {ms : List Held_task} {ts : List Task} → Alike ms ts → m.stack.tasks ≡ Closes ∷ ms → s.tasks ≡ Closing ∷ ts → ts ≡ Destroy ∷ over.below → (x : ℕ) × ClosesAt x
+          with_both : {ms : List Machine_task} {ts : List Task} → Alike ms ts → m.stack.tasks ≡ Closes ∷ ms → s.tasks ≡ Closing ∷ ts → ts ≡ Destroy ∷ over.below → (x : ℕ) × ClosesAt x
           with_both (both_go x ns us small same more) e f g =
               let rest : us ≡ over.below = cc in
               (x, second x ns us e f small same over.object (ap (λ vs. held s.cells (Going (length vs))) rest ∙ over.held))
           with_both _ e f g = cc
 
-      go : {ms : List Held_task} {us : List Task} → m.stack.tasks ≡ ms → s.tasks ≡ us → Alike ms us → IsClosing ms → (x : ℕ) × ClosesAt x
+      go : {ms : List Machine_task} {us : List Task} → m.stack.tasks ≡ ms → s.tasks ≡ us → Alike ms us → IsClosing ms → (x : ℕ) × ClosesAt x
       go e f (both_close ms ts same more) closing = first ms ts e f more (closing_found p st.typing s st.typed ts f)
       go e f _ closing = absurd closing
 
@@ -211,10 +211,10 @@ module _ (p : Image) (m : Parts) (s : State) (st : StandsFor (record { image = p
 
   -- ---- the end of a dispatch
 
-  pub ends_told : (d : Held_dispatch) (all : Dispatch → Bool) (in_tasks : List Task → Bool) (b : Bool) → ((e : Dispatch) (ts : List Task) → in_tasks (Ends_state e ∷ ts) ≡ all e) → ending_here m.stack.tasks ≡ Some d → ((q : Place) → b ≡ all (dispatch_of q d)) → b ≡ in_tasks s.tasks
+  pub ends_told : (d : Machine_dispatch) (all : Dispatch → Bool) (in_tasks : List Task → Bool) (b : Bool) → ((e : Dispatch) (ts : List Task) → in_tasks (Ends_state e ∷ ts) ≡ all e) → ending_here m.stack.tasks ≡ Some d → ((q : Place) → b ≡ all (dispatch_of q d)) → b ≡ in_tasks s.tasks
   ends_told d all in_tasks b is ending by = go (alike m.stack.tasks s.tasks st.agrees.tasks) ending
     where
-      go : {ms : List Held_task} {us : List Task} → Alike ms us → ending_here ms ≡ Some d → b ≡ in_tasks us
+      go : {ms : List Machine_task} {us : List Task} → Alike ms us → ending_here ms ≡ Some d → b ≡ in_tasks us
       go (both_end x e ms ts same rest more) ending =
           let which : x ≡ d = same_Some x d ending in
           by same.0 ∙ ap all (ap (dispatch_of same.0) (sym which) ∙ same.1) ∙ sym (is e ts)
@@ -223,6 +223,6 @@ module _ (p : Image) (m : Parts) (s : State) (st : StandsFor (record { image = p
   pub none_ends_told : (in_tasks : List Task → Bool) → ((us : List Task) → NoEnd us → in_tasks us ≡ false) → ending_here m.stack.tasks ≡ None → false ≡ in_tasks s.tasks
   none_ends_told in_tasks is none = go (alike m.stack.tasks s.tasks st.agrees.tasks) none
     where
-      go : {ms : List Held_task} {us : List Task} → Alike ms us → ending_here ms ≡ None → false ≡ in_tasks us
+      go : {ms : List Machine_task} {us : List Task} → Alike ms us → ending_here ms ≡ None → false ≡ in_tasks us
       go (both_end x e ms ts same rest more) none = absurd (none-some x (sym none))
       go {us} _ none = sym (is us tt)

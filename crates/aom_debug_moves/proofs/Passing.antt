@@ -1,17 +1,17 @@
 -- To a place to stay: steps in one dispatch after another, what goes out, and what is noted.
 use Rattle.std.proofs.Common.{arith, ◌≡◌, ◌≢◌, ◌⊎◌, ◌∙◌, ◌+◌, ℕ, suc, Bool, true, false, List, [], ◌++◌, Option, Some, None, refl, sym, ap, subst, inl, inr, append-nil, append_assoc}
 use Rattle.aom_image.specs.Image.{Image}
-use Rattle.aom_sound.specs.State.{State}
-use Rattle.aom_sound.specs.World.{IsBetween, Outside, Reaches, begins as from_here}
+use Rattle.aom_semantics.specs.State.{State}
+use Rattle.aom_semantics.specs.World.{IsBetween, Environment, Reaches, begins as from_here}
 use Rattle.aom_transcript.specs.declared.line.Line.{Line}
 use Rattle.aom_transcript.specs.Text.{text_of}
 use Rattle.aom_transcript.specs.declared.line.Ending.{Ending}
 use Rattle.std.specs.Prelude.{is_some}
-use Rattle.aom_parts.specs.declared.progress.Progress.{Progress}
-use Rattle.aom_parts.specs.declared.progress.Progress.TheVariants.{Running, Turned}
-use Rattle.aom_parts.specs.Progress.{progress_by, progress_of}
-use Rattle.aom_exec.specs.Steps.{IsAtHand, progress}
-use Rattle.aom_exec.proofs.Progressing.{is_as_far}
+use Rattle.aom_machine_state.specs.declared.progress.Progress.{Progress}
+use Rattle.aom_machine_state.specs.declared.progress.Progress.TheVariants.{Running, Turned}
+use Rattle.aom_machine_state.specs.Progress.{progress_by, progress_of}
+use Rattle.aom_machine.specs.Steps.{IsAtHand, progress}
+use Rattle.aom_machine.proofs.Progressing.{is_as_far}
 use Rattle.aom_run.specs.Calls.{Stands, StandsFor}
 use Rattle.aom_debug_moves.specs.Sends.{Breaks, Leads, Machine, Sends, Then}
 use Rattle.aom_debug_moves.specs.Movers.{Keeps, outside_of}
@@ -29,13 +29,13 @@ use Rattle.aom_debug_moves.specs.Courses.Walks.{begins as walks_none, strides as
 use Rattle.aom_debug_moves.proofs.Going.{cut_run, is_over, run_of}
 
 -- turns after turns
-pub arrives_both : (p : Image) (outside : Outside) (s : State) (lines : List Line) (v : State) (more : List Line) (u : State) → Arrives p outside s lines v → Arrives p outside v more u → Arrives p outside s (lines ++ more) u
+pub arrives_both : (p : Image) (outside : Environment) (s : State) (lines : List Line) (v : State) (more : List Line) (u : State) → Arrives p outside s lines v → Arrives p outside v more u → Arrives p outside s (lines ++ more) u
 arrives_both p outside s lines v _ _ x no_turns = subst (λ ls. Arrives p outside s ls v) (sym (append-nil lines)) x
 arrives_both p outside s lines v _ _ x (turns {lines = more} {more = last} {v = w} {u} before idle once) =
     subst (λ ls. Arrives p outside s ls u) (append_assoc lines more last) (turns (arrives_both p outside s lines v more w x before) idle once)
 
 -- steps with the turns before them are a run
-pub reaches_passed : (p : Image) (outside : Outside) (stays : State → Bool) (old : List Spot) (s : State) (n : ℕ) (new : List Spot) (lines : List Line) (u : State) → Passes p outside stays old s n new lines u → Reaches p outside s lines u
+pub reaches_passed : (p : Image) (outside : Environment) (stays : State → Bool) (old : List Spot) (s : State) (n : ℕ) (new : List Spot) (lines : List Line) (u : State) → Passes p outside stays old s n new lines u → Reaches p outside s lines u
 reaches_passed p outside stays old s _ _ _ _ passes_none = from_here
 reaches_passed p outside stays old s _ _ _ _ (passes_more {n} {mid} {new} {lines} {first} {later} {v} {w} {u} before comes hand on once) =
     reaches_both p outside s lines v (first ++ later) u (reaches_passed p outside stays old s n mid lines v before)
@@ -54,7 +54,7 @@ over_rests s over = over_by s.rest.ended s.tasks over
 
 -- ---- steps in one dispatch are such steps
 
-module _ (p : Image) (outside : Outside) (stays : State → Bool) (old : List Spot) (s v w : State) (n : ℕ) (mid : List Spot) (lines first : List Line) where
+module _ (p : Image) (outside : Environment) (stays : State → Bool) (old : List Spot) (s v w : State) (n : ℕ) (mid : List Spot) (lines first : List Line) where
   -- none, or one at least
   abbrev PassesBy : ℕ → List Spot → List Line → State → Type 0
   PassesBy k new ls u = ((k ≡ 0) × Rests mid new w ls u) ⊎ ((k ≢ 0) × (m : ℕ) × Passes p outside stays old s (suc m) new (lines ++ (first ++ ls)) u)
@@ -87,10 +87,10 @@ module _ (p : Image) (outside : Outside) (stays : State → Bool) (old : List Sp
 -- ---- one dispatch after another
 
 -- so far, with something at hand only at a place to stay
-abbrev pub GoesFar : Image → Outside → (State → Bool) → Courses
+abbrev pub GoesFar : Image → Environment → (State → Bool) → Courses
 GoesFar p outside stays old new s lines u = (n : ℕ) × Then (λ a ls b. Passes p outside stays old a n new ls b) (Arrives p outside) s lines u × HasBegun n s × IsThere stays u
 
-module _ (p : Image) (outside : Outside) (stays : State → Bool) where
+module _ (p : Image) (outside : Environment) (stays : State → Bool) where
   far_first : (old new : List Spot) (s : State) (ls : List Line) (u : State) → WalksIfAny p outside.refused stays old new s ls u → GoesFar p outside stays old new s ls u
   far_first old new s ls u (inl y) = (
     0,
@@ -151,7 +151,7 @@ module _ (p : Image) (outside : Outside) (stays : State → Bool) where
       subst (λ l. Reaches p outside s l u) (sym x.1.5)
       (reaches_both p outside s x.1.1 x.1.0 x.1.2 u (reaches_passed p outside stays old s x.0 new x.1.1 x.1.0 x.1.3) (reaches_arrived p outside x.1.0 x.1.2 u x.1.4))
 
-module _ {X : Type 0} {B : X → Type 0} (p : Image) (outside : Outside) (stays : State → Bool) where
+module _ {X : Type 0} {B : X → Type 0} (p : Image) (outside : Environment) (stays : State → Bool) where
   pub begins_far : (old new : List Spot) (a c : Machine X B) (before out : Option (List ℕ)) → Sends (WalksIfAny p outside.refused stays old new) a before out c → Sends (GoesFar p outside stays old new) a before out c
   begins_far old new a c before out x s stands = let f = x s stands in (f.0, f.1, far_first p outside stays old new s f.0 f.1 f.2, f.3, f.4)
 
@@ -176,7 +176,7 @@ module _ {X : Type 0} {B : X → Type 0} (p : Image) (outside : Outside) (stays 
 
 module _ {X : Type 0} {B : X → Type 0} (a m n : Mover X B) (keeps : Keeps a m) (until : Until) (marks : List Spot) (here out : Option (List ℕ)) where
   -- a dispatch from one state to another, up to a place to stay
-  abbrev Passed : Image → Outside → Type 0
+  abbrev Passed : Image → Environment → Type 0
   Passed q outside = Sends (InDispatch q outside (WalksOn q outside.refused (λ (s : State). stays_at q until marks s)) m.recent n.recent) m.machine here out n.machine
 
   pub passed : Passed m.machine.core.image (outside_of m) → Passed a.machine.core.image (outside_of a)

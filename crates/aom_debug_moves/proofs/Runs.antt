@@ -1,10 +1,10 @@
 -- Each course is a run: its turns are, and its steps.
 use Rattle.std.proofs.Common.{◌≡◌, ◌⊎◌, ◌++◌, ℕ, suc, Bool, List, [], inl, inr, sym, subst, append-nil, ap, ◌∙◌}
 use Rattle.aom_image.specs.Image.{Image}
-use Rattle.aom_sound.specs.State.{State}
-use Rattle.aom_sound.specs.World.{Outside, Reaches}
+use Rattle.aom_semantics.specs.State.{State}
+use Rattle.aom_semantics.specs.World.{Environment, Reaches}
 use Rattle.aom_transcript.specs.declared.line.Line.{Line}
-use Rattle.aom_exec.specs.Steps.{IsAtHand}
+use Rattle.aom_machine.specs.Steps.{IsAtHand}
 use Rattle.aom_run.specs.Runs.{Moving}
 use Rattle.aom_run.proofs.Reaching.{reaches_both}
 use Rattle.aom_debug_moves.specs.Next.{root_is_due}
@@ -22,14 +22,14 @@ use Rattle.aom_debug_moves.proofs.Passing.{reaches_passed}
 use Rattle.aom_debug_moves.proofs.Limits.{reaches_to_limit}
 use Rattle.aom_debug_moves.proofs.Strides.{moving_walk}
 
-pub reaches_by : (p : Image) (outside : Outside) (steps : ℕ) (old new : List Spot) (s : State) (lines : List Line) (u : State) → GoesBy p outside steps old new s lines u → Reaches p outside s lines u
+pub reaches_by : (p : Image) (outside : Environment) (steps : ℕ) (old new : List Spot) (s : State) (lines : List Line) (u : State) → GoesBy p outside steps old new s lines u → Reaches p outside s lines u
 reaches_by p outside steps old new s lines u (inl x) = reaches_goes p outside old s steps new lines u x
 reaches_by p outside steps old new s lines u (inr y) =
     let z = y.2 in
     subst (λ ls. Reaches p outside s ls u) (sym z.5) (reaches_both p outside s z.1 z.0 z.2 u (reaches_goes p outside old s y.0 new z.1 z.0 z.3) (reaches_arrived p outside z.0 z.2 u z.4))
 
 -- turns, and then moves in a dispatch
-reaches_in : (p : Image) (outside : Outside) (leads : Courses) → ((old new : List Spot) (s : State) (lines : List Line) (u : State) → leads old new s lines u → Moving p outside.refused s lines u)
+reaches_in : (p : Image) (outside : Environment) (leads : Courses) → ((old new : List Spot) (s : State) (lines : List Line) (u : State) → leads old new s lines u → Moving p outside.refused s lines u)
     → (old new : List Spot) (s : State) (lines : List Line) (u : State) → InDispatch p outside leads old new s lines u → Reaches p outside s lines u
 reaches_in p outside leads moves old new s lines u x = subst (λ ls. Reaches p outside s ls u) (sym x.5) (go x.4)
   where
@@ -43,25 +43,25 @@ reaches_in p outside leads moves old new s lines u x = subst (λ ls. Reaches p o
 moving_there : (p : Image) (refused : List ℕ) (stays : State → Bool) (old new : List Spot) (s : State) (lines : List Line) (u : State) → WalksThere p refused stays old new s lines u → Moving p refused s lines u
 moving_there p refused stays old new s lines u x = moving_walk p refused stays old s (suc x.0) new lines u x.1
 
-pub reaches_over : (p : Image) (outside : Outside) (old new : List Spot) (s : State) (lines : List Line) (u : State) → TurnsOver p outside old new s lines u → Reaches p outside s lines u
+pub reaches_over : (p : Image) (outside : Environment) (old new : List Spot) (s : State) (lines : List Line) (u : State) → TurnsOver p outside old new s lines u → Reaches p outside s lines u
 reaches_over p outside = reaches_in p outside (WalksThere p outside.refused (λ s. root_is_due p s)) (moving_there p outside.refused (λ s. root_is_due p s))
 
-pub reaches_step_over : (p : Image) (outside : Outside) (scope : Scope) (spots : List Spot) (old new : List Spot) (s : State) (lines : List Line) (u : State) → GoesOver p outside scope spots old new s lines u → Reaches p outside s lines u
+pub reaches_step_over : (p : Image) (outside : Environment) (scope : Scope) (spots : List Spot) (old new : List Spot) (s : State) (lines : List Line) (u : State) → GoesOver p outside scope spots old new s lines u → Reaches p outside s lines u
 reaches_step_over p outside scope spots =
     reaches_in p outside (WalksOver p outside.refused scope spots) (λ old new s. moving_there p outside.refused (λ v. stays_at p (Depth (depth_of scope s.tasks)) spots v) old new s)
 
-pub reaches_on : (p : Image) (outside : Outside) (stays : State → Bool) (old new : List Spot) (s : State) (lines : List Line) (u : State) → GoesOn p outside stays old new s lines u → Reaches p outside s lines u
+pub reaches_on : (p : Image) (outside : Environment) (stays : State → Bool) (old new : List Spot) (s : State) (lines : List Line) (u : State) → GoesOn p outside stays old new s lines u → Reaches p outside s lines u
 reaches_on p outside stays old new s lines u x =
     let z = x.1 in
     subst (λ ls. Reaches p outside s ls u) (sym z.5) (reaches_both p outside s z.1 z.0 z.2 u (reaches_passed p outside stays old s x.0 new z.1 z.0 z.3) (reaches_arrived p outside z.0 z.2 u z.4))
 
 -- with the run's end by its limit it is a run too
-reaches_way : (p : Image) (outside : Outside) (spots : List Spot) (way : Course) (old new : List Spot) (s : State) (lines : List Line) (u : State) → way_of p outside spots way old new s lines u → Reaches p outside s lines u
+reaches_way : (p : Image) (outside : Environment) (spots : List Spot) (way : Course) (old new : List Spot) (s : State) (lines : List Line) (u : State) → way_of p outside spots way old new s lines u → Reaches p outside s lines u
 reaches_way p outside spots (course.Steps n) = reaches_by p outside n
 reaches_way p outside spots course.EndOfDispatch = reaches_over p outside
 reaches_way p outside spots course.Breakpoint = reaches_on p outside (λ s. stays_at p Breakpoint spots s)
 reaches_way p outside spots (course.Over scope) = reaches_step_over p outside scope spots
 reaches_way p outside spots (course.Place spot) = reaches_on p outside (λ s. stays_at p (Place spot) spots s)
 
-pub reaches_course : (p : Image) (outside : Outside) (spots : List Spot) (way : Course) (old new : List Spot) (s : State) (lines : List Line) (u : State) → course_of p outside spots way old new s lines u → Reaches p outside s lines u
+pub reaches_course : (p : Image) (outside : Environment) (spots : List Spot) (way : Course) (old new : List Spot) (s : State) (lines : List Line) (u : State) → course_of p outside spots way old new s lines u → Reaches p outside s lines u
 reaches_course p outside spots way = reaches_to_limit p outside (way_of p outside spots way) (reaches_way p outside spots way)

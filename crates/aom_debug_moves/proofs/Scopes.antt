@@ -3,12 +3,12 @@ use Rattle.std.proofs.Common.{arith, ◌≡◌, ◌≤◌, ◌<◌, ◌∙◌, �
 use Rattle.std.specs.Prelude.{reverse}
 use Rattle.std.proofs.lemmas.List.{length-reverse, reverse-append}
 use Rattle.aom_image.specs.Image.{Image}
-use Rattle.aom_frames.specs.declared.task.Task.{Task as Held_task}
+use Rattle.aom_frames.specs.declared.task.Task.{Task as Machine_task}
 use Rattle.aom_frames.specs.declared.task.Task.TheVariants.{Run as Runs_frame}
-use Rattle.aom_sound.specs.State.{State, Task}
-use Rattle.aom_parts.specs.Agrees.{SameTask, SameTasks}
-use Rattle.aom_parts.proofs.Alike.{by_tasks}
-use Rattle.aom_parts.proofs.Values.{same_length}
+use Rattle.aom_semantics.specs.State.{State, Task}
+use Rattle.aom_machine_state.specs.Agrees.{SameTask, SameTasks}
+use Rattle.aom_machine_state.proofs.Alike.{by_tasks}
+use Rattle.aom_machine_state.proofs.Values.{same_length}
 use Rattle.aom_run.specs.Calls.{StandsFor}
 use Rattle.aom_debug_words.specs.declared.spot.Spot.{Spot}
 use Rattle.aom_debug_moves.specs.Sends.{Machine, Sends}
@@ -29,42 +29,42 @@ module _ {A : Type 0} where
   at_last [] x = refl
   at_last (y ∷ ys) x = at_last ys x
 
-abbrev runs : Held_task → Bool
+abbrev runs : Machine_task → Bool
 runs t = runs_there (Some t)
 
-abbrev under_run : List Held_task → ℕ
+abbrev under_run : List Machine_task → ℕ
 under_run [] = 0
 under_run (t ∷ ts) = cond (runs t) (length ts) (under_run ts)
 
-last_before : (ys : List Held_task) (x : Held_task) (n : ℕ) → n ≤ length ys → last_run (ys ++ x ∷ []) n ≡ last_run ys n
+last_before : (ys : List Machine_task) (x : Machine_task) (n : ℕ) → n ≤ length ys → last_run (ys ++ x ∷ []) n ≡ last_run ys n
 last_before ys x zero few = refl
 last_before ys x (suc n) few =
     ap (λ o. cond (runs_there o) n (last_run (ys ++ x ∷ []) n)) (before_last ys x n (omega (arith, few))) ∙ ap (λ k. cond (runs_there (slice_get ys n)) n k) (last_before ys x n (omega (arith, few)))
 
-last_more : (ys : List Held_task) (x : Held_task) → last_run (ys ++ x ∷ []) (suc (length ys)) ≡ cond (runs x) (length ys) (last_run ys (length ys))
+last_more : (ys : List Machine_task) (x : Machine_task) → last_run (ys ++ x ∷ []) (suc (length ys)) ≡ cond (runs x) (length ys) (last_run ys (length ys))
 last_more ys x =
     ap (λ o. cond (runs_there o) (length ys) (last_run (ys ++ x ∷ []) (length ys))) (at_last ys x) ∙ ap (λ k. cond (runs x) (length ys) k) (last_before ys x (length ys) (omega arith))
 
-last_under : (ts : List Held_task) → last_run (reverse ts) (length ts) ≡ under_run ts
+last_under : (ts : List Machine_task) → last_run (reverse ts) (length ts) ≡ under_run ts
 last_under [] = refl
 last_under (t ∷ ts) =
     let long = length-reverse ts in
-    ap (λ (ys : List Held_task). last_run ys (suc (length ts))) (reverse-append (t ∷ []) ts) ∙ ap (λ n. last_run (reverse ts ++ t ∷ []) (suc n)) (sym long)
+    ap (λ (ys : List Machine_task). last_run ys (suc (length ts))) (reverse-append (t ∷ []) ts) ∙ ap (λ n. last_run (reverse ts ++ t ∷ []) (suc n)) (sym long)
     ∙ last_more (reverse ts) t ∙ ap (λ n. cond (runs t) n (last_run (reverse ts) n)) long ∙ ap (λ k. cond (runs t) (length ts) k) (last_under ts)
 
 -- ---- and it is that of the state
 
-alike : (m : Held_task) (u : Task) → SameTask m u → runs m ≡ is_method u
+alike : (m : Machine_task) (u : Task) → SameTask m u → runs m ≡ is_method u
 alike m u same = grind arith
 
-one_more : (m : Held_task) (u : Task) (ms : List Held_task) (us : List Task) → SameTask m u → length ms ≡ length us → under_run ms ≡ under_method us → under_run (m ∷ ms) ≡ under_method (u ∷ us)
+one_more : (m : Machine_task) (u : Task) (ms : List Machine_task) (us : List Task) → SameTask m u → length ms ≡ length us → under_run ms ≡ under_method us → under_run (m ∷ ms) ≡ under_method (u ∷ us)
 one_more m u ms us same long below =
     ap (λ b. cond b (length ms) (under_run ms)) (alike m u same) ∙ ap (λ n. cond (is_method u) n (under_run ms)) long ∙ ap (λ k. cond (is_method u) (length us) k) below
 
-same_under : (ms : List Held_task) (us : List Task) → SameTasks ms us → under_run ms ≡ under_method us
+same_under : (ms : List Machine_task) (us : List Task) → SameTasks ms us → under_run ms ≡ under_method us
 same_under = by_tasks (λ ms us. under_run ms ≡ under_method us) refl (λ m u ms us same rest below. one_more m u ms us same (same_length ms us rest) below)
 
-pub under_told : (ms : List Held_task) (us : List Task) → SameTasks ms us → last_run (reverse ms) (length ms) ≡ under_method us
+pub under_told : (ms : List Machine_task) (us : List Task) → SameTasks ms us → last_run (reverse ms) (length ms) ≡ under_method us
 under_told ms us same = last_under ms ∙ same_under ms us same
 
 -- ---- a walk by that depth

@@ -2,17 +2,17 @@
 use Rattle.std.proofs.Common.{◌≡◌, ◌∙◌, ◌+◌, ◌-◌, ◌^◌, ◌<◌, ◌≤◌, ℕ, suc, ℤ, Bool, true, false, List, [], ◌++◌, Option, Some, None, length, take, refl, sym, ap, subst, arith, IfSome}
 use Rattle.aom_debug_words.specs.declared.spot.Spot.{Spot}
 use Rattle.aom_image.specs.Image.{Image}
-use Rattle.aom_sound.specs.State.{State}
-use Rattle.aom_sound.specs.World.{IsBetween, Outside, Reaches, begins as reaches_begins}
+use Rattle.aom_semantics.specs.State.{State}
+use Rattle.aom_semantics.specs.World.{IsBetween, Environment, Reaches, begins as reaches_begins}
 use Rattle.aom_transcript.specs.declared.line.Line.{Line}
 use Rattle.aom_transcript.specs.declared.line.Ending.{Ending}
 use Rattle.aom_transcript.specs.Text.{text_of}
-use Rattle.aom_lines.specs.Turn.{Turn}
-use Rattle.aom_parts.specs.declared.progress.Progress.{Progress}
-use Rattle.aom_parts.specs.declared.progress.Progress.TheVariants.{Ended, Running, Turned}
-use Rattle.aom_parts.specs.Progress.{progress_by, progress_of}
-use Rattle.aom_exec.specs.Steps.{IsAtHand, Steps, moves, rests, progress}
-use Rattle.aom_exec.proofs.Progressing.{between, is_as_far}
+use Rattle.aom_lines.specs.LineBuffer.{LineBuffer}
+use Rattle.aom_machine_state.specs.declared.progress.Progress.{Progress}
+use Rattle.aom_machine_state.specs.declared.progress.Progress.TheVariants.{Ended, Running, Turned}
+use Rattle.aom_machine_state.specs.Progress.{progress_by, progress_of}
+use Rattle.aom_machine.specs.Steps.{IsAtHand, Steps, moves, rests, progress}
+use Rattle.aom_machine.proofs.Progressing.{between, is_as_far}
 use Rattle.aom_run.specs.Calls.{Stands, StandsFor, SteppedOnce}
 use Rattle.aom_run.specs.declared.machine.Machine.{Machine}
 use Rattle.aom_run.specs.Runs.{Moving, after, begins}
@@ -52,7 +52,7 @@ moving_stride p refused old new s lines u x =
     subst (λ ls. Moving p refused s ls u) (sym x.5) (moving_both p refused s x.1 x.0 x.2 u first later)
 
 -- turns one after another are a run
-pub reaches_arrived : (p : Image) (outside : Outside) (s : State) (lines : List Line) (u : State) → Arrives p outside s lines u → Reaches p outside s lines u
+pub reaches_arrived : (p : Image) (outside : Environment) (s : State) (lines : List Line) (u : State) → Arrives p outside s lines u → Reaches p outside s lines u
 reaches_arrived p outside s _ _ stays = reaches_begins
 reaches_arrived p outside s _ _ (turns {lines} {more} {v} {u} before idle once) = reaches_both p outside s lines v more u (reaches_arrived p outside s lines v before) once.1
 
@@ -118,26 +118,26 @@ module _ {X : Type 0} {B : X → Type 0} where
   sends_where b test leads a c before out is x = sends_as a c before out (IfSo b leads) (Where test leads) (λ s stands ls u y. subst (λ z. IfSo z leads s ls u) (is s stands) y) x
 
   -- what one step does, whatever it hears
-  abbrev pub Stepped : Machine X B → Progress → Turn → Turn → Machine X B → Type 0
+  abbrev pub Stepped : Machine X B → Progress → LineBuffer → LineBuffer → Machine X B → Type 0
   Stepped old far told now new = (s : State) → StandsFor old s → (heard : ℤ) × SteppedOnce old heard far told now new s
 
-  pub stepped_of : (old new : Machine X B) (far : Progress) (told now : Turn) {May : State → ℤ → Type 0} → ((s : State) → StandsFor old s → (heard : ℤ) × May s heard × SteppedOnce old heard far told now new s) → Stepped old far told now new
+  pub stepped_of : (old new : Machine X B) (far : Progress) (told now : LineBuffer) {May : State → ℤ → Type 0} → ((s : State) → StandsFor old s → (heard : ℤ) × May s heard × SteppedOnce old heard far told now new s) → Stepped old far told now new
   stepped_of old new far told now steps s stands = let x = steps s stands in (x.0, x.2)
 
   -- ---- one step
 
-  module _ (old new : Machine X B) (far : Progress) (told now : Turn) (none : told.lines ≡ []) (steps : Stepped old far told now new) where
+  module _ (old new : Machine X B) (far : Progress) (told now : LineBuffer) (none : told.lines ≡ []) (steps : Stepped old far told now new) where
     pub stands_after : Stands old → Stands new
     stands_after st = let x = (steps st.0 st.1).1 in (x.1, x.5)
 
     pub far_after : Stands old → far ≡ progress new.core
     far_after st = let x = (steps st.0 st.1).1 in x.4 ∙ sym (is_as_far new.core x.1 x.5.stands)
 
-    pub cleared : Stands old → (clear : Turn) → clear ≡ record now { lines = [] } → clear ≡ told
-    cleared st clear is = let x = (steps st.0 st.1).1 in is ∙ ap (λ (t : Turn). record t { lines = [] }) x.3 ∙ ap (λ ls. record told { lines = ls }) (sym none)
+    pub cleared : Stands old → (clear : LineBuffer) → clear ≡ record now { lines = [] } → clear ≡ told
+    cleared st clear is = let x = (steps st.0 st.1).1 in is ∙ ap (λ (t : LineBuffer). record t { lines = [] }) x.3 ∙ ap (λ ls. record told { lines = ls }) (sym none)
 
     lines_of : (s : State) (stands : StandsFor old s) → now.lines ≡ (steps s stands).1.0
-    lines_of s stands = ap (λ (t : Turn). t.lines) (steps s stands).1.3 ∙ ap (λ ls. ls ++ (steps s stands).1.0) none
+    lines_of s stands = ap (λ (t : LineBuffer). t.lines) (steps s stands).1.3 ∙ ap (λ ls. ls ++ (steps s stands).1.0) none
 
     pub sends_step : (before out : Option (List ℕ)) → out ≡ after before (text_of now.lines) → Sends (StepsOnce old.core.image told.refused) old before out new
     sends_step before out e s stands =
@@ -161,15 +161,15 @@ module _ {X : Type 0} {B : X → Type 0} where
 
   -- ---- turns
 
-  module _ (old new : Machine X B) (outside : Outside) (ending : Option Ending) (told now : Turn) (none : told.lines ≡ []) (takes : TakesTurns old outside ending told now new) where
+  module _ (old new : Machine X B) (outside : Environment) (ending : Option Ending) (told now : LineBuffer) (none : told.lines ≡ []) (takes : TakesTurns old outside ending told now new) where
     pub stands_turned : Stands old → Stands new
     stands_turned st = let x = takes st.0 st.1 in (x.1, x.5)
 
-    pub turn_cleared : Stands old → (clear : Turn) → clear ≡ record now { lines = [] } → clear ≡ told
-    turn_cleared st clear is = let x = takes st.0 st.1 in is ∙ ap (λ (t : Turn). record t { lines = [] }) x.3 ∙ ap (λ ls. record told { lines = ls }) (sym none)
+    pub turn_cleared : Stands old → (clear : LineBuffer) → clear ≡ record now { lines = [] } → clear ≡ told
+    turn_cleared st clear is = let x = takes st.0 st.1 in is ∙ ap (λ (t : LineBuffer). record t { lines = [] }) x.3 ∙ ap (λ ls. record told { lines = ls }) (sym none)
 
     turned_lines : (s : State) (stands : StandsFor old s) → now.lines ≡ (takes s stands).0
-    turned_lines s stands = ap (λ (t : Turn). t.lines) (takes s stands).3 ∙ ap (λ ls. ls ++ (takes s stands).0) none
+    turned_lines s stands = ap (λ (t : LineBuffer). t.lines) (takes s stands).3 ∙ ap (λ ls. ls ++ (takes s stands).0) none
 
     pub sends_turn : (before out : Option (List ℕ)) → out ≡ after before (text_of now.lines) → Sends (TurnsOnce old.core.image outside) old before out new
     sends_turn before out e s stands =
@@ -183,7 +183,7 @@ module _ {X : Type 0} {B : X → Type 0} where
 
   -- ---- turns one after another
 
-  module _ (p : Image) (outside : Outside) where
+  module _ (p : Image) (outside : Environment) where
     pub arrives_nowhere : (m : Machine X B) (out : Option (List ℕ)) → Sends (Arrives p outside) m out out m
     arrives_nowhere m out s stands = ([], s, stays, after_none out, stands)
 
@@ -201,7 +201,7 @@ module _ {X : Type 0} {B : X → Type 0} where
           breaks_then a m c before mid out (Arrives p outside) (Reaches p outside) x (Reaches p outside) (λ s ls v ks u f g. reaches_both p outside s ls v ks u (reaches_arrived p outside s ls v f) g)
 
   -- fewer dispatches or events are to come
-  pub fewer : (outside : Outside) → outside.limit ≤ 2 ^ 64 - 1 → (m mid : Machine X B) (told turn : Turn) (ending : Option Ending) → Stands m → progress m.core ≡ Turned → TakesTurns m outside ending told turn mid → progress mid.core ≡ Turned → left outside.events outside.limit mid < left outside.events outside.limit m
+  pub fewer : (outside : Environment) → outside.limit ≤ 2 ^ 64 - 1 → (m mid : Machine X B) (told turn : LineBuffer) (ending : Option Ending) → Stands m → progress m.core ≡ Turned → TakesTurns m outside ending told turn mid → progress mid.core ≡ Turned → left outside.events outside.limit mid < left outside.events outside.limit m
   fewer outside few m mid told turn None stands between takes again =
       fewer_left outside few m mid mid told turn (record turn { lines = [] }) Turned None None stands between takes
       (λ s st. ([], s, begins, refl, refl, sym again ∙ is_as_far mid.core s st.stands, (λ no. absurd (turned_not_running no)), st))

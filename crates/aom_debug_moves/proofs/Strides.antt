@@ -1,14 +1,14 @@
 -- Steps one after another, with their lines and what is noted of them: what goes out, and where they end.
 use Rattle.std.proofs.Common.{◌≡◌, ◌≢◌, ◌⊎◌, ◌∙◌, ℕ, suc, Bool, true, false, List, [], ◌++◌, Option, length, take, refl, sym, ap, subst, inl, inr}
 use Rattle.aom_image.specs.Image.{Image}
-use Rattle.aom_sound.specs.State.{State}
+use Rattle.aom_semantics.specs.State.{State}
 use Rattle.aom_transcript.specs.declared.line.Line.{Line}
 use Rattle.aom_transcript.specs.Text.{text_of}
-use Rattle.aom_parts.specs.declared.progress.Progress.{Progress}
-use Rattle.aom_parts.specs.declared.progress.Progress.TheVariants.{Running}
-use Rattle.aom_parts.specs.Progress.{progress_of}
-use Rattle.aom_exec.specs.Steps.{progress}
-use Rattle.aom_exec.proofs.Progressing.{at_hand, is_as_far}
+use Rattle.aom_machine_state.specs.declared.progress.Progress.{Progress}
+use Rattle.aom_machine_state.specs.declared.progress.Progress.TheVariants.{Running}
+use Rattle.aom_machine_state.specs.Progress.{progress_of}
+use Rattle.aom_machine.specs.Steps.{progress}
+use Rattle.aom_machine.proofs.Progressing.{at_hand, is_as_far}
 use Rattle.aom_run.specs.Calls.{Stands, StandsFor}
 use Rattle.aom_debug_moves.specs.Sends.{Breaks, Leads, Machine, Sends}
 use Rattle.aom_debug_moves.specs.Movers.{Keeps}

@@ -1,15 +1,15 @@
 -- The end of a dispatch, and the dispatch that comes next: what goes out, by what comes before.
 use Rattle.std.proofs.Common.{◌≡◌, ◌≢◌, ◌∙◌, ℕ, List, [], ◌++◌, Option, refl, sym, ap, subst, inl, inr}
 use Rattle.aom_image.specs.Image.{Image}
-use Rattle.aom_sound.specs.State.{State}
-use Rattle.aom_sound.specs.World.{Outside, Reaches}
+use Rattle.aom_semantics.specs.State.{State}
+use Rattle.aom_semantics.specs.World.{Environment, Reaches}
 use Rattle.aom_transcript.specs.declared.line.Line.{Line}
 use Rattle.aom_transcript.specs.Text.{text_of}
-use Rattle.aom_parts.specs.declared.progress.Progress.{Progress}
-use Rattle.aom_parts.specs.declared.progress.Progress.TheVariants.{Running, Turned}
-use Rattle.aom_parts.specs.Progress.{progress_of}
-use Rattle.aom_exec.specs.Steps.{progress}
-use Rattle.aom_exec.proofs.Progressing.{at_hand, is_as_far}
+use Rattle.aom_machine_state.specs.declared.progress.Progress.{Progress}
+use Rattle.aom_machine_state.specs.declared.progress.Progress.TheVariants.{Running, Turned}
+use Rattle.aom_machine_state.specs.Progress.{progress_of}
+use Rattle.aom_machine.specs.Steps.{progress}
+use Rattle.aom_machine.proofs.Progressing.{at_hand, is_as_far}
 use Rattle.aom_run.specs.Calls.{Stands, StandsFor}
 use Rattle.aom_debug_moves.specs.Sends.{Breaks, Leads, Machine, Sends, Then}
 use Rattle.aom_debug_moves.specs.Movers.{Keeps, outside_of}
@@ -23,7 +23,7 @@ use Rattle.aom_debug_moves.specs.Moves.{Arrives}
 use Rattle.aom_debug_moves.specs.Courses.{Courses, InDispatch}
 use Rattle.aom_debug_moves.proofs.Going.{cut_run, is_over}
 
-module _ {X : Type 0} {B : X → Type 0} (p : Image) (outside : Outside) (leads : Courses) where
+module _ {X : Type 0} {B : X → Type 0} (p : Image) (outside : Environment) (leads : Courses) where
   -- the run is over before
   pub over_there : (old new : List Spot) → new ≡ old → (a m : Machine X B) (before mid : Option (List ℕ)) → progress m.core ≢ Running → progress m.core ≢ Turned → Sends (Arrives p outside) a before mid m → Sends (InDispatch p outside leads old new) a before mid m
   over_there old new same a m before mid rests goes x s stands =
@@ -41,7 +41,7 @@ module _ {X : Type 0} {B : X → Type 0} (p : Image) (outside : Outside) (leads 
       (f.0 ++ g.0, g.1, (f.1, f.0, g.0, f.2, inr (hand, g.2), refl), sent_both before mid out f.0 g.0 f.3 g.3, g.4)
 
 -- moves that were cut come after turns
-pub turn_cut : {X : Type 0} {B : X → Type 0} (p : Image) (outside : Outside) (a m c : Machine X B) (before mid out : Option (List ℕ)) → Sends (Arrives p outside) a before mid m → Breaks (Moving p outside.refused) m mid out c → Breaks (Reaches p outside) a before out c
+pub turn_cut : {X : Type 0} {B : X → Type 0} (p : Image) (outside : Environment) (a m c : Machine X B) (before mid out : Option (List ℕ)) → Sends (Arrives p outside) a before mid m → Breaks (Moving p outside.refused) m mid out c → Breaks (Reaches p outside) a before out c
 turn_cut p outside a m c before mid out x y =
     breaks_then a m c before mid out (Arrives p outside) (Reaches p outside) x (Reaches p outside) (λ s ls v ks u f g. reaches_both p outside s ls v ks u (reaches_arrived p outside s ls v f) g)
     (cut_run p outside m c mid out y)

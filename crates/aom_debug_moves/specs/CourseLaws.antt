@@ -1,8 +1,8 @@
 -- What a debugger's courses are to a run.
 use Rattle.std.specs.Prelude.{ℕ, List, Bool}
 use Rattle.aom_image.specs.Image.{Image}
-use Rattle.aom_sound.specs.State.{State}
-use Rattle.aom_sound.specs.World.{Outside, Reaches}
+use Rattle.aom_semantics.specs.State.{State}
+use Rattle.aom_semantics.specs.World.{Environment, Reaches}
 use Rattle.aom_transcript.specs.declared.line.Line.{Line}
 use Rattle.aom_debug_words.specs.declared.spot.Spot.{Spot}
 use Rattle.aom_debug_moves.specs.Courses.{Courses, GoesBy, GoesOn, GoesOver, TurnsOver, course_of}
@@ -10,21 +10,21 @@ use Rattle.aom_debug_moves.specs.declared.courses.Course.{Course}
 use Rattle.aom_debug_moves.specs.declared.over.Scope.{Scope}
 
 -- what leads so is a run, with the same lines
-abbrev pub AreRuns : Image → Outside → Courses → Type 0
+abbrev pub AreRuns : Image → Environment → Courses → Type 0
 AreRuns p outside leads = (old new : List Spot) (s : State) (lines : List Line) (u : State) → leads old new s lines u → Reaches p outside s lines u
 
 abbrev pub StepsRun : Type 0
-StepsRun = (p : Image) (outside : Outside) (steps : ℕ) → AreRuns p outside (GoesBy p outside steps)
+StepsRun = (p : Image) (outside : Environment) (steps : ℕ) → AreRuns p outside (GoesBy p outside steps)
 
 abbrev pub TurnsRun : Type 0
-TurnsRun = (p : Image) (outside : Outside) → AreRuns p outside (TurnsOver p outside)
+TurnsRun = (p : Image) (outside : Environment) → AreRuns p outside (TurnsOver p outside)
 
 abbrev pub GoingRuns : Type 0
-GoingRuns = (p : Image) (outside : Outside) (stays : State → Bool) → AreRuns p outside (GoesOn p outside stays)
+GoingRuns = (p : Image) (outside : Environment) (stays : State → Bool) → AreRuns p outside (GoesOn p outside stays)
 
 abbrev pub OverRuns : Type 0
-OverRuns = (p : Image) (outside : Outside) (scope : Scope) (spots : List Spot) → AreRuns p outside (GoesOver p outside scope spots)
+OverRuns = (p : Image) (outside : Environment) (scope : Scope) (spots : List Spot) → AreRuns p outside (GoesOver p outside scope spots)
 
 -- and so is each course, with which the run may end by its limit
 abbrev pub CoursesRun : Type 0
-CoursesRun = (p : Image) (outside : Outside) (spots : List Spot) (way : Course) → AreRuns p outside (course_of p outside spots way)
+CoursesRun = (p : Image) (outside : Environment) (spots : List Spot) (way : Course) → AreRuns p outside (course_of p outside spots way)

@@ -1,12 +1,12 @@
 -- How far a debugger goes on, and what the latest instructions are before and after.
 use Rattle.std.specs.Prelude.{◌≡◌, ◌≢◌, ◌⊎◌, ◌<◌, ℕ, suc, Bool, true, false, ◌||◌, nat_le, List, [], ◌++◌, length, Option, Some, None, is_some}
 use Rattle.aom_image.specs.Image.{Image}
-use Rattle.aom_sound.specs.State.{State}
-use Rattle.aom_sound.specs.World.{Outside}
+use Rattle.aom_semantics.specs.State.{State}
+use Rattle.aom_semantics.specs.World.{Environment}
 use Rattle.aom_transcript.specs.declared.line.Line.{Line}
-use Rattle.aom_parts.specs.declared.progress.Progress.TheVariants.{Running}
-use Rattle.aom_parts.specs.Progress.{progress_of}
-use Rattle.aom_exec.specs.Steps.{IsAtHand}
+use Rattle.aom_machine_state.specs.declared.progress.Progress.TheVariants.{Running}
+use Rattle.aom_machine_state.specs.Progress.{progress_of}
+use Rattle.aom_machine.specs.Steps.{IsAtHand}
 use Rattle.aom_debug_words.specs.Marks.{has_spot, same_spot}
 use Rattle.aom_debug_words.specs.declared.spot.Spot.{Spot}
 use Rattle.aom_debug_moves.specs.Next.{next_of, root_is_due, spot_of}
@@ -79,11 +79,11 @@ abbrev pub WalksOn : Image → List ℕ → (State → Bool) → Courses
 WalksOn p refused stays old new s lines u = ((stays s ≡ true) × Rests old new s lines u) ⊎ ((stays s ≡ false) × WalksThere p refused stays old new s lines u)
 
 -- in the dispatch at hand, or in the next; nothing where there is none, and the run is over
-abbrev pub InDispatch : Image → Outside → Courses → Courses
+abbrev pub InDispatch : Image → Environment → Courses → Courses
 InDispatch p outside leads old new = Then (Arrives p outside) (λ s lines u. (IsOver s × Rests old new s lines u) ⊎ (IsAtHand s × leads old new s lines u))
 
 -- to its end; with the root's destruction due it is at its end
-abbrev pub TurnsOver : Image → Outside → Courses
+abbrev pub TurnsOver : Image → Environment → Courses
 TurnsOver p outside = InDispatch p outside (WalksThere p outside.refused (λ s. root_is_due p s))
 
 -- ---- until something is over
@@ -92,18 +92,18 @@ TurnsOver p outside = InDispatch p outside (WalksThere p outside.refused (λ s. 
 abbrev pub WalksOver : Image → List ℕ → Scope → List Spot → Courses
 WalksOver p refused scope spots old new s = WalksThere p refused (λ v. stays_at p (Depth (depth_of scope s.tasks)) spots v) old new s
 
-abbrev pub GoesOver : Image → Outside → Scope → List Spot → Courses
+abbrev pub GoesOver : Image → Environment → Scope → List Spot → Courses
 GoesOver p outside scope spots = InDispatch p outside (WalksOver p outside.refused scope spots)
 
 -- ---- so many steps
 
 -- each after the turns that come before it
-pub data Goes (p : Image) (outside : Outside) (old : List Spot) (s : State) : ℕ → List Spot → List Line → State → Type 0 where
+pub data Goes (p : Image) (outside : Environment) (old : List Spot) (s : State) : ℕ → List Spot → List Line → State → Type 0 where
   begins : Goes p outside old s 0 old [] s
   strides : {n : ℕ} {mid new : List Spot} {lines first later : List Line} {v w u : State} → Goes p outside old s n mid lines v → Arrives p outside v first w → IsAtHand w → Strides p outside.refused mid new w later u → Goes p outside old s (suc n) new (lines ++ (first ++ later)) u
 
 -- so many, or fewer where the run ends before
-abbrev pub GoesBy : Image → Outside → ℕ → Courses
+abbrev pub GoesBy : Image → Environment → ℕ → Courses
 GoesBy p outside steps old new s lines u = Goes p outside old s steps new lines u ⊎ ((n : ℕ) × (n < steps) × Then (λ a ls b. Goes p outside old a n new ls b) (Arrives p outside) s lines u × IsOver u)
 
 -- ---- to a place to stay, or to the end of the run
@@ -113,25 +113,25 @@ abbrev pub HasBegun : ℕ → State → Type 0
 HasBegun n s = progress_of s ≡ Running → n ≢ 0
 
 -- so many steps, each after the turns that come before it, and, once it has begun, none from a place to stay
-pub data Passes (p : Image) (outside : Outside) (stays : State → Bool) (old : List Spot) (s : State) : ℕ → List Spot → List Line → State → Type 0 where
+pub data Passes (p : Image) (outside : Environment) (stays : State → Bool) (old : List Spot) (s : State) : ℕ → List Spot → List Line → State → Type 0 where
   begins : Passes p outside stays old s 0 old [] s
   strides : {n : ℕ} {mid new : List Spot} {lines first later : List Line} {v w u : State} → Passes p outside stays old s n mid lines v → Arrives p outside v first w → IsAtHand w → (HasBegun n s → stays w ≡ false) → Strides p outside.refused mid new w later u → Passes p outside stays old s (suc n) new (lines ++ (first ++ later)) u
 
 -- some steps and the turns behind them, up to the first place to stay once it has begun, or to the end of the run
-abbrev pub GoesOn : Image → Outside → (State → Bool) → Courses
+abbrev pub GoesOn : Image → Environment → (State → Bool) → Courses
 GoesOn p outside stays old new s lines u = (n : ℕ) × Then (λ a ls b. Passes p outside stays old a n new ls b) (Arrives p outside) s lines u × HasBegun n s × (IsOver u ⊎ (stays u ≡ true))
 
 -- until an instruction with a breakpoint is next, but for where it begins, or to the end of the run
-abbrev pub GoesToBreakpoint : Image → Outside → List Spot → Courses
+abbrev pub GoesToBreakpoint : Image → Environment → List Spot → Courses
 GoesToBreakpoint p outside spots = GoesOn p outside (λ s. stays_at p Breakpoint spots s)
 
 -- and until that place is next
-abbrev pub GoesToPlace : Image → Outside → Spot → List Spot → Courses
+abbrev pub GoesToPlace : Image → Environment → Spot → List Spot → Courses
 GoesToPlace p outside spot spots = GoesOn p outside (λ s. stays_at p (Place spot) spots s)
 
 -- ---- each course that a debugger is asked for
 
-abbrev pub way_of : Image → Outside → List Spot → Course → Courses
+abbrev pub way_of : Image → Environment → List Spot → Course → Courses
 way_of p outside spots (course.Steps n) = GoesBy p outside n
 way_of p outside spots course.EndOfDispatch = TurnsOver p outside
 way_of p outside spots course.Breakpoint = GoesToBreakpoint p outside spots
@@ -139,8 +139,8 @@ way_of p outside spots (course.Over scope) = GoesOver p outside scope spots
 way_of p outside spots (course.Place spot) = GoesToPlace p outside spot spots
 
 -- where it ends with the dispatch that reaches the limit, the run ends with that too
-abbrev pub ToLimit : Image → Outside → Courses → Courses
+abbrev pub ToLimit : Image → Environment → Courses → Courses
 ToLimit p outside leads old new = Then (leads old new) (Where (is_at_limit outside) (EndsByLimit p outside))
 
-abbrev pub course_of : Image → Outside → List Spot → Course → Courses
+abbrev pub course_of : Image → Environment → List Spot → Course → Courses
 course_of p outside spots way = ToLimit p outside (way_of p outside spots way)

@@ -2,8 +2,8 @@
 use Rattle.std.specs.Prelude.{ℕ, List}
 use Rattle.aom_debug_words.specs.declared.spot.Spot.{Spot}
 use Rattle.aom_image.specs.Image.{Image}
-use Rattle.aom_sound.specs.State.{State}
-use Rattle.aom_sound.specs.World.{Outside, Reaches}
+use Rattle.aom_semantics.specs.State.{State}
+use Rattle.aom_semantics.specs.World.{Environment, Reaches}
 use Rattle.aom_transcript.specs.declared.line.Line.{Line}
 use Rattle.aom_run.specs.Runs.{Moving}
 use Rattle.aom_debug_moves.specs.Moves.{Arrives, Strides}
@@ -14,4 +14,4 @@ StridesMove = (p : Image) (refused : List ℕ) (old new : List Spot) (s : State)
 
 -- turns until something is at hand are a run, with the same lines
 abbrev pub ArrivesRun : Type 0
-ArrivesRun = (p : Image) (outside : Outside) (s : State) (lines : List Line) (u : State) → Arrives p outside s lines u → Reaches p outside s lines u
+ArrivesRun = (p : Image) (outside : Environment) (s : State) (lines : List Line) (u : State) → Arrives p outside s lines u → Reaches p outside s lines u

@@ -7,7 +7,7 @@ pub mod Over
 pub mod Courses
 pub mod CourseLaws
 -- what is said of the machine and of its runs, for those who say it of a debugger
-pub use Rattle.aom_exec.specs.Steps
+pub use Rattle.aom_machine.specs.Steps
 pub use Rattle.aom_run.specs.Calls
 pub use Rattle.aom_run.specs.Runs
 pub use Rattle.aom_run.specs.Turns

@@ -1,10 +1,10 @@
 -- A machine that moves under a script.
 use Rattle.std.specs.Prelude.{◌≡◌, ◌≤◌, ◌+◌, ◌-◌, ◌^◌, ℕ, Bool, true, List, [], Option, Some, None}
-use Rattle.aom_lines.specs.Turn.{step_lines}
-use Rattle.aom_parts.specs.declared.progress.Progress.{Progress}
+use Rattle.aom_lines.specs.LineBuffer.{step_lines}
+use Rattle.aom_machine_state.specs.declared.progress.Progress.{Progress}
 use Rattle.aom_script.specs.Script.{IsTimely}
-use Rattle.aom_sound.specs.World.{Outside}
-use Rattle.aom_exec.specs.Steps.{progress}
+use Rattle.aom_semantics.specs.World.{Environment}
+use Rattle.aom_machine.specs.Steps.{progress}
 use Rattle.aom_run.specs.Calls.{Stands, natives_of}
 use Rattle.aom_run.specs.Turns.{hearing}
 use Rattle.aom_debug_moves.specs.Sends.{Breaks, Leads, Sends}
@@ -12,7 +12,7 @@ pub use Rattle.aom_debug_moves.specs.declared.mover.Mover.{Mover}
 
 module _ {X : Type 0} {B : X → Type 0} where
   -- what comes from outside of the image
-  abbrev pub outside_of : Mover X B → Outside
+  abbrev pub outside_of : Mover X B → Environment
   outside_of m = hearing m.turn.refused m.limit (natives_of m.machine) m.script.timed
 
   -- the machine stands for a state, the turn has no lines and room for those of a step, the events of the script are as a machine needs them, and the limit is a number of 64 bits

@@ -3,15 +3,15 @@ use Rattle.std.specs.Prelude.{◌≡◌, ℕ, ℤ, Bool, false, nat_le, List, []
 use Rattle.circular_buffer.specs.Buffer.{keep_last}
 use Rattle.aom_debug_words.specs.declared.spot.Spot.{Spot}
 use Rattle.aom_image.specs.Image.{Image}
-use Rattle.aom_sound.specs.State.{State}
-use Rattle.aom_sound.specs.World.{IsBetween, Outside, Reaches}
+use Rattle.aom_semantics.specs.State.{State}
+use Rattle.aom_semantics.specs.World.{IsBetween, Environment, Reaches}
 use Rattle.aom_transcript.specs.declared.line.Line.{Line}
 use Rattle.aom_transcript.specs.declared.line.Ending.{Ending}
 use Rattle.aom_transcript.specs.declared.line.Ending.TheVariants.{Limit}
-use Rattle.aom_parts.specs.declared.progress.Progress.{Progress}
-use Rattle.aom_parts.specs.declared.progress.Progress.TheVariants.{Turned}
-use Rattle.aom_parts.specs.Progress.{progress_of}
-use Rattle.aom_exec.specs.Steps.{Steps}
+use Rattle.aom_machine_state.specs.declared.progress.Progress.{Progress}
+use Rattle.aom_machine_state.specs.declared.progress.Progress.TheVariants.{Turned}
+use Rattle.aom_machine_state.specs.Progress.{progress_of}
+use Rattle.aom_machine.specs.Steps.{Steps}
 use Rattle.aom_run.specs.Turns.{LeadTo}
 use Rattle.aom_debug_moves.specs.Next.{next_of, pauses, root_is_due, spot_of}
 use Rattle.aom_debug_moves.specs.Sends.{Leads, Then, Where}
@@ -34,11 +34,11 @@ abbrev pub Strides : Image → List ℕ → List Spot → List Spot → Leads
 Strides p refused old new = Then (Where (root_is_due p) (StepsOnce p refused)) (Notes p old new (Then (StepsOnce p refused) (Where (pauses p) (StepsOnce p refused))))
 
 -- turns up to a dispatch, a native's end, or the end of the run
-abbrev pub TurnsOnce : Image → Outside → Leads
+abbrev pub TurnsOnce : Image → Environment → Leads
 TurnsOnce p outside s lines u = (ending : Option Ending) × Reaches p outside s lines u × LeadTo outside ending s lines u
 
 -- such turns one after another, as long as nothing is at hand
-pub data Arrives (p : Image) (outside : Outside) (s : State) : List Line → State → Type 0 where
+pub data Arrives (p : Image) (outside : Environment) (s : State) : List Line → State → Type 0 where
   stays : Arrives p outside s [] s
   turns : {lines more : List Line} {v u : State} → Arrives p outside s lines v → IsBetween v → TurnsOnce p outside v more u → Arrives p outside s (lines ++ more) u
 
@@ -47,9 +47,9 @@ abbrev pub is_cut : Progress → Bool → Bool
 is_cut Turned reached = reached
 is_cut far reached = false
 
-abbrev pub is_at_limit : Outside → State → Bool
+abbrev pub is_at_limit : Environment → State → Bool
 is_at_limit outside s = is_cut (progress_of s) (nat_le outside.limit s.rest.dispatches)
 
 -- the run ends by its limit, and no line is written
-abbrev pub EndsByLimit : Image → Outside → Leads
+abbrev pub EndsByLimit : Image → Environment → Leads
 EndsByLimit p outside s lines u = Reaches p outside s lines u × LeadTo outside (Some Limit) s lines u

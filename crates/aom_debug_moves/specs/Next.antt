@@ -6,16 +6,16 @@ use Rattle.aom_image.specs.declared.method.Role.TheVariants.{Destruct, Error as 
 use Rattle.aom_image.specs.declared.method.Thing.{Thing}
 use Rattle.aom_image.specs.declared.method.Thing.TheVariants.{Object as An_object_of, Message}
 use Rattle.aom_classes.specs.Roles.{role_of}
-use Rattle.aom_sound.specs.Destruction.{first_session}
-use Rattle.aom_sound.specs.Places.{Cell, Elsewhere, Going, Object, Root, held, service_of}
-use Rattle.aom_sound.specs.State.{Answered, Asks, Closing, Destroy, Dispatch, Dispatched, Main_left, Object_left, Of_main, Of_object, Of_root, Of_server, Run, Seat, State, Task, Trapped, Unwind}
+use Rattle.aom_semantics.specs.Destruction.{first_session}
+use Rattle.aom_semantics.specs.Places.{Cell, Elsewhere, Going, Object, Root, held, service_of}
+use Rattle.aom_semantics.specs.State.{Answered, Asks, Closing, Destroy, Dispatch, Dispatched, Main_left, Object_left, Of_main, Of_object, Of_root, Of_server, Run, Seat, State, Task, Trapped, Unwind}
 use Rattle.aom_transcript.specs.declared.line.Ending.{Ending}
-use Rattle.aom_acts.specs.Serving.{session_there}
+use Rattle.aom_machine_instructions.specs.Serving.{session_there}
 use Rattle.aom_cells.specs.Heap.{null}
 use Rattle.aom_clients.specs.Clients.{first_there, sessions_at}
-use Rattle.aom_frames.specs.declared.task.Task.{Task as Held_task}
+use Rattle.aom_frames.specs.declared.task.Task.{Task as Machine_task}
 use Rattle.aom_frames.specs.declared.task.Task.TheVariants.{Destroy as Destroys}
-use Rattle.aom_parts.specs.declared.parts.Parts.{Parts}
+use Rattle.aom_machine_state.specs.declared.parts.Parts.{Parts}
 use Rattle.aom_debug_words.specs.declared.spot.Spot.{Spot}
 use Rattle.aom_debug_words.specs.declared.answer.Answer.{Answer}
 use Rattle.aom_debug_words.specs.declared.answer.Answer.TheVariants.{At, Gone, Between, Ended}
@@ -62,11 +62,11 @@ pub record GoesFirst (m : Parts) (n first : ℕ) : Type 0 where
   pub below : first < null
 
 -- the cell that the task right under the one on top lets go
-abbrev pub destroyed : Held_task → Option ℕ
+abbrev pub destroyed : Machine_task → Option ℕ
 destroyed (Destroys x) = Some x
 destroyed _ = None
 
-abbrev pub destroyed_under : List Held_task → Option ℕ
+abbrev pub destroyed_under : List Machine_task → Option ℕ
 destroyed_under (t ∷ u ∷ ts) = destroyed u
 destroyed_under _ = None
 

@@ -1,8 +1,8 @@
 -- What is to be over: a step with all that it calls, traps or destroys, or the innermost method at hand.
 use Rattle.std.specs.Prelude.{ℕ, zero, suc, Bool, true, false, cond, List, [], ◌∷◌, length, Option, Some, None, slice_get}
-use Rattle.aom_frames.specs.declared.task.Task.{Task as Held_task}
+use Rattle.aom_frames.specs.declared.task.Task.{Task as Machine_task}
 use Rattle.aom_frames.specs.declared.task.Task.TheVariants.{Run as Runs_frame}
-use Rattle.aom_sound.specs.State.{Run, Task}
+use Rattle.aom_semantics.specs.State.{Run, Task}
 use Rattle.aom_debug_moves.specs.declared.over.Scope.{Scope}
 use Rattle.aom_debug_moves.specs.declared.over.Scope.TheVariants as scopes
 
@@ -22,11 +22,11 @@ depth_of scopes.Method tasks = under_method tasks
 
 -- ---- what a machine shows of it
 
-abbrev pub runs_there : Option Held_task → Bool
+abbrev pub runs_there : Option Machine_task → Bool
 runs_there (Some (Runs_frame f)) = true
 runs_there _ = false
 
 -- of the first so many from the bottom the last that is a method
-abbrev pub last_run : List Held_task → ℕ → ℕ
+abbrev pub last_run : List Machine_task → ℕ → ℕ
 last_run tasks zero = 0
 last_run tasks (suc n) = cond (runs_there (slice_get tasks n)) n (last_run tasks n)

@@ -1,10 +1,10 @@
 //! What comes between dispatches, whose lines go out.
 ghost use Rattle.std.specs.Prelude.{◌≡◌, ◌≢◌, IfSome, Option};
-ghost use Rattle.aom_exec.specs.Steps.{progress};
-ghost use Rattle.aom_lines.specs.Turn.{Turn as TurnRecord};
-ghost use Rattle.aom_parts.specs.declared.progress.Progress.TheVariants.{Turned};
+ghost use Rattle.aom_machine.specs.Steps.{progress};
+ghost use Rattle.aom_lines.specs.LineBuffer.{LineBuffer as TurnRecord};
+ghost use Rattle.aom_machine_state.specs.declared.progress.Progress.TheVariants.{Turned};
 ghost use Rattle.aom_natives.specs.Slots.{AllAgree};
-ghost use Rattle.aom_sound.specs.World.{Reaches};
+ghost use Rattle.aom_semantics.specs.World.{Reaches};
 ghost use Rattle.aom_transcript.specs.declared.line.Ending.{Ending as EndingRecord};
 ghost use Rattle.aom_run.specs.Turns.{TakesTurns};
 ghost use Rattle.aom_debug_moves.specs.Movers.{IsReady, Keeps, Went, outside_of};
@@ -12,7 +12,7 @@ ghost use Rattle.aom_debug_moves.specs.Moves.{Arrives, TurnsOnce};
 
 use crate::Mover;
 use crate::stepping::send;
-use aom_exec::Progress;
+use aom_machine::Progress;
 use aom_natives::Native;
 use aom_run::{Sink, take_turns};
 

@@ -1,6 +1,6 @@
 //! So many steps, the end of a dispatch, the end of a step or a method, and the next breakpoint or place.
 ghost use Rattle.aom_natives.specs.Slots.{AllAgree};
-ghost use Rattle.aom_sound.specs.World.{Reaches};
+ghost use Rattle.aom_semantics.specs.World.{Reaches};
 ghost use Rattle.aom_debug_moves.specs.Movers.{IsReady, Keeps, Went, outside_of};
 ghost use Rattle.aom_debug_moves.specs.Courses.{GoesBy, GoesOn, InDispatch, TurnsOver, WalksOn, course_of, stays_at, way_of};
 
@@ -9,7 +9,7 @@ use crate::over::go_over;
 use crate::walking::{Until, is_idle, is_there, walk, walk_unless};
 use crate::{Mover, Scope, arrive, stride};
 use aom_debug_words::{Breakpoints, Spot};
-use aom_exec::Progress;
+use aom_machine::Progress;
 use aom_natives::Native;
 use aom_run::Sink;
 

@@ -1,18 +1,18 @@
 //! The end of a dispatch in which `stop` was run.
 ghost use Rattle.std.specs.Prelude.{◌≡◌, ◌&&◌, is_some, not};
 ghost use Rattle.aom_image.specs.Image.{Image};
-ghost use Rattle.aom_acts.specs.Going.{ending_here};
-ghost use Rattle.aom_sound.specs.Places.{Elsewhere, Place, Root, held};
-ghost use Rattle.aom_sound.specs.State.{State};
-ghost use Rattle.aom_parts.specs.Agrees.{dispatch_of};
-ghost use Rattle.aom_parts.specs.Stands.{StandsFor};
+ghost use Rattle.aom_machine_instructions.specs.Going.{ending_here};
+ghost use Rattle.aom_semantics.specs.Places.{Elsewhere, Place, Root, held};
+ghost use Rattle.aom_semantics.specs.State.{State};
+ghost use Rattle.aom_machine_state.specs.Agrees.{dispatch_of};
+ghost use Rattle.aom_machine_state.specs.Stands.{StandsFor};
 ghost use Rattle.aom_debug_moves.specs.Next.{ends_all, ends_all_in, is_last, is_last_in, pauses, root_is_due};
 
 use aom_cells::NULL;
 use aom_frames::{Dispatch, TaskKind};
 use aom_image::Role;
 use aom_linked::Linked;
-use aom_parts::Parts;
+use aom_machine_state::Parts;
 
 /// The dispatch that is at its end, if one is.
 fn ending(parts: &Parts) -> Option<Dispatch>

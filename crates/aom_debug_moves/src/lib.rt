@@ -29,7 +29,7 @@ mod over;
 mod stepping;
 mod walking;
 
-pub use aom_exec::Progress;
+pub use aom_machine::Progress;
 pub use aom_run::{Machine, Sink};
 pub use arriving::{arrive, turn_out};
 pub use courses::{Course, go};

@@ -1,13 +1,13 @@
 //! The end of a run by its limit, which comes with the end of the dispatch that reaches it.
 ghost use Rattle.std.specs.Prelude.{◌≡◌, List, Option, nat_le, ℕ};
-ghost use Rattle.aom_exec.specs.Steps.{progress};
+ghost use Rattle.aom_machine.specs.Steps.{progress};
 ghost use Rattle.aom_natives.specs.Slots.{AllAgree};
 ghost use Rattle.aom_debug_moves.specs.Movers.{IsReady, Keeps, outside_of};
 ghost use Rattle.aom_debug_moves.specs.Moves.{EndsByLimit, is_at_limit, is_cut};
 ghost use Rattle.aom_debug_moves.specs.Sends.{Sends, Where};
 
 use crate::Mover;
-use aom_exec::Progress;
+use aom_machine::Progress;
 use aom_natives::Native;
 
 /// Whether nothing is at hand, and as many dispatches are over as there may be.

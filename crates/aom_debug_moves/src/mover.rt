@@ -1,6 +1,6 @@
 //! A machine that moves under a script.
 use aom_debug_words::Recent;
-use aom_lines::Turn;
+use aom_lines::LineBuffer;
 use aom_run::Machine;
 use aom_script::Script;
 use aom_transcript::Page;
@@ -12,7 +12,7 @@ pub struct Mover<'a> {
     pub script: Script,
     /// The most dispatches after main's.
     pub limit: u32,
-    pub turn: Turn,
+    pub turn: LineBuffer,
     pub page: Page,
     /// The latest instructions.
     pub recent: Recent,

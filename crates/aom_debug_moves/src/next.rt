@@ -1,16 +1,16 @@
 //! What is next in a machine.
 ghost use Rattle.std.specs.Prelude.{◌≡◌, ◌≢◌, ◌<◌, IfSome, length};
-ghost use Rattle.aom_acts.specs.Serving.{session_there};
+ghost use Rattle.aom_machine_instructions.specs.Serving.{session_there};
 ghost use Rattle.aom_cells.specs.Heap.{Lives, class_at};
 ghost use Rattle.aom_classes.specs.Roles.{role_of};
 ghost use Rattle.aom_clients.specs.Clients.{first_there, sessions_at};
 ghost use Rattle.aom_image.specs.declared.method.Role.TheVariants.{Destruct};
 ghost use Rattle.aom_frames.specs.Tasks.{Runs, method_here, place_here};
-ghost use Rattle.aom_parts.specs.Agrees.{number as number_of};
-ghost use Rattle.aom_parts.specs.Places.{IsClosing, IsDestroying, going_here};
-ghost use Rattle.aom_parts.specs.Stands.{Stands, StandsFor};
-ghost use Rattle.aom_sound.specs.Places.{Elsewhere, Place, Root, held};
-ghost use Rattle.aom_sound.specs.State.{State};
+ghost use Rattle.aom_machine_state.specs.Agrees.{number as number_of};
+ghost use Rattle.aom_machine_state.specs.Places.{IsClosing, IsDestroying, going_here};
+ghost use Rattle.aom_machine_state.specs.Stands.{Stands, StandsFor};
+ghost use Rattle.aom_semantics.specs.Places.{Elsewhere, Place, Root, held};
+ghost use Rattle.aom_semantics.specs.State.{State};
 ghost use Rattle.aom_debug_words.specs.declared.answer.Answer.TheVariants.{At};
 ghost use Rattle.aom_debug_moves.specs.Next.{GoesFirst, begins_by, destroyed_under, destruction_of, next_in, next_of, spot_of};
 
@@ -19,7 +19,7 @@ use aom_debug_words::{Answer, Spot};
 use aom_frames::{Task, TaskKind};
 use aom_image::{ClassNumber, Role};
 use aom_linked::Linked;
-use aom_parts::Parts;
+use aom_machine_state::Parts;
 
 /// The first step of a destruction of a cell of that class.
 fn begins_by(linked: &Linked, class: ClassNumber) -> Answer

@@ -2,9 +2,9 @@
 ghost use Rattle.std.specs.Prelude.{◌≡◌, length, nat_le, reverse, slice_get};
 ghost use Rattle.aom_image.specs.Image.{Image};
 ghost use Rattle.aom_natives.specs.Slots.{AllAgree};
-ghost use Rattle.aom_parts.specs.Stands.{StandsFor as PartsStandFor};
-ghost use Rattle.aom_sound.specs.State.{State};
-ghost use Rattle.aom_sound.specs.World.{Reaches};
+ghost use Rattle.aom_machine_state.specs.Stands.{StandsFor as PartsStandFor};
+ghost use Rattle.aom_semantics.specs.State.{State};
+ghost use Rattle.aom_semantics.specs.World.{Reaches};
 ghost use Rattle.aom_run.specs.Calls.{Stands, StandsFor};
 ghost use Rattle.aom_debug_moves.specs.Movers.{IsReady, Keeps, Went, outside_of};
 ghost use Rattle.aom_debug_moves.specs.Courses.{GoesOver, is_next};
@@ -14,10 +14,10 @@ ghost use Rattle.aom_debug_moves.specs.Over.{depth_of, runs_there, under_method}
 use crate::walking::{Until, walk};
 use crate::{Mover, arrive, spot_at};
 use aom_debug_words::{Breakpoints, Spot};
-use aom_exec::Progress;
 use aom_frames::Task;
+use aom_machine::Progress;
+use aom_machine_state::Parts;
 use aom_natives::Native;
-use aom_parts::Parts;
 use aom_run::{Machine, Sink};
 
 /// What is to be over.

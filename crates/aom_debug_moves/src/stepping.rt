@@ -1,9 +1,9 @@
 //! A step at hand, whose lines go out.
 ghost use Rattle.std.specs.Prelude.{◌≡◌, ◌<◌, ◌≤◌, ◌++◌, ◌∷◌, ◌+◌, ℕ, [], Bool, true, false, IfSome, Some, length, take};
 ghost use Rattle.aom_transcript.specs.Text.{text_of};
-ghost use Rattle.aom_exec.specs.Steps.{progress, rank};
-ghost use Rattle.aom_parts.specs.declared.progress.Progress.TheVariants.{Running};
-ghost use Rattle.aom_sound.specs.State.{State};
+ghost use Rattle.aom_machine.specs.Steps.{progress, rank};
+ghost use Rattle.aom_machine_state.specs.declared.progress.Progress.TheVariants.{Running};
+ghost use Rattle.aom_semantics.specs.State.{State};
 ghost use Rattle.aom_run.specs.Calls.{Stands, StandsFor};
 ghost use Rattle.aom_debug_moves.specs.Next.{next_of, pauses, root_is_due, spot_of};
 ghost use Rattle.aom_natives.specs.Slots.{AllAgree};
@@ -14,14 +14,14 @@ ghost use Rattle.aom_debug_moves.specs.Sends.{IfSo};
 
 use crate::{Mover, is_due, pauses, spot_at};
 use aom_debug_words::Recent;
-use aom_exec::Progress;
-use aom_lines::Turn;
+use aom_lines::LineBuffer;
+use aom_machine::Progress;
 use aom_natives::Native;
 use aom_run::{Machine, Sink, write_lines};
 use aom_transcript::Page;
 
 /// Sends out what the turn has, and clears it. Answers whether all is out.
-pub fn send<W: Sink>(turn: &mut Turn, page: &mut Page, out: &mut W) -> bool
+pub fn send<W: Sink>(turn: &mut LineBuffer, page: &mut Page, out: &mut W) -> bool
     ensures clear { turn.new ≡ record turn.old { lines = [] } }
     ensures prefix { (n : ℕ) × (W.out out.new ≡ after (W.out out.old) (take n (text_of turn.old.lines))) }
     ensures whole { result ≡ true → W.out out.new ≡ after (W.out out.old) (text_of turn.old.lines) }

@@ -1,11 +1,11 @@
 //! Steps one after another, as long as something is at hand.
 ghost use Rattle.std.specs.Prelude.{◌≡◌, ◌≢◌, true, false};
-ghost use Rattle.aom_exec.specs.Steps.{progress};
-ghost use Rattle.aom_parts.specs.declared.progress.Progress.TheVariants.{Running};
+ghost use Rattle.aom_machine.specs.Steps.{progress};
+ghost use Rattle.aom_machine_state.specs.declared.progress.Progress.TheVariants.{Running};
 ghost use Rattle.aom_run.specs.Calls.{Stands, StandsFor};
 ghost use Rattle.aom_natives.specs.Slots.{AllAgree};
 ghost use Rattle.aom_run.specs.Runs.{Moving};
-ghost use Rattle.aom_sound.specs.State.{State};
+ghost use Rattle.aom_semantics.specs.State.{State};
 ghost use Rattle.aom_debug_moves.specs.Next.{next_of, root_is_due, spot_of};
 ghost use Rattle.aom_debug_moves.specs.Movers.{IsReady, Keeps, Went};
 ghost use Rattle.aom_debug_moves.specs.Courses.{WalksThere, WalksUnless, is_broken, stays_at};
@@ -13,7 +13,7 @@ ghost use Rattle.aom_debug_moves.specs.Courses.{WalksThere, WalksUnless, is_brok
 use crate::over::{is_next, is_up};
 use crate::{Mover, is_due, spot_at, stride};
 use aom_debug_words::{Breakpoints, Spot};
-use aom_exec::Progress;
+use aom_machine::Progress;
 use aom_natives::Native;
 use aom_run::{Machine, Sink};
 

@@ -6,13 +6,13 @@
 //! Nothing here takes memory, by signature. It knows nothing of machines, and not where a line goes.
 #![tactic(auto)]
 
+mod answer;
 mod command;
 mod laws;
-mod line;
 mod lines;
 mod names;
 
+pub use answer::{NamedLine, add_class_name, named_line, shown_statement};
 pub use command::{read_named, take_named};
 pub use laws::{found_in_its_line, no_text_is_as_ever};
-pub use line::{NamedLine, add_class_name, named_line, shown_statement};
 pub use names::Names;

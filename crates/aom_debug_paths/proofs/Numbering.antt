@@ -4,12 +4,12 @@ use Rattle.std.proofs.lemmas.Bool.{eqb-false, eqb-true}
 use Rattle.std.proofs.lemmas.Option.{none-some}
 use Rattle.aom_image.specs.Image.{Image}
 use Rattle.aom_classes.specs.Roles.{or_else}
-use Rattle.aom_sound.specs.State.{State}
-use Rattle.aom_parts.specs.Stands.{StandsFor}
-use Rattle.aom_parts.specs.declared.parts.Parts.{Parts}
-use Rattle.aom_debug_sights.specs.Sights.{counted}
-use Rattle.aom_debug_sights.proofs.Showing.{as_many_items}
-use Rattle.aom_debug_sights.proofs.Tasks.{as_many_tasks}
+use Rattle.aom_semantics.specs.State.{State}
+use Rattle.aom_machine_state.specs.Stands.{StandsFor}
+use Rattle.aom_machine_state.specs.declared.parts.Parts.{Parts}
+use Rattle.aom_debug_views.specs.Sights.{counted}
+use Rattle.aom_debug_views.proofs.Showing.{as_many_items}
+use Rattle.aom_debug_views.proofs.Tasks.{as_many_tasks}
 use Rattle.aom_debug_paths.specs.declared.finding.Series.{Series}
 use Rattle.aom_debug_paths.specs.declared.finding.Series.TheVariants.{Entries, Frames, Goings}
 use Rattle.aom_debug_paths.specs.Paths.{at_count, length_of, numbered, places_in}

@@ -5,16 +5,16 @@ use Rattle.std.proofs.lemmas.List.{take_all}
 use Rattle.std.proofs.lemmas.List.Sums.{fold_more}
 use Rattle.aom_image.specs.Image.{Image}
 use Rattle.aom_image.specs.declared.method.Thing.TheVariants.{Message as A_message}
-use Rattle.aom_shape.specs.Kinds.{is_object}
-use Rattle.aom_sound.specs.Places.{Object, Place, held}
-use Rattle.aom_sound.specs.State.{State}
-use Rattle.aom_parts.specs.Stands.{Stands}
-use Rattle.aom_parts.specs.declared.parts.Parts.{Parts}
-use Rattle.aom_acts.proofs.Finding.{object_lives}
-use Rattle.aom_debug_sights.specs.Holdings.{HoldsSo}
-use Rattle.aom_debug_sights.specs.Sights.{class_in, class_of}
-use Rattle.aom_debug_sights.specs.declared.holding.Holding.{Holding}
-use Rattle.aom_debug_sights.specs.declared.holding.Holding.TheVariants as holds
+use Rattle.aom_roles.specs.Things.{is_object}
+use Rattle.aom_semantics.specs.Places.{Object, Place, held}
+use Rattle.aom_semantics.specs.State.{State}
+use Rattle.aom_machine_state.specs.Stands.{Stands}
+use Rattle.aom_machine_state.specs.declared.parts.Parts.{Parts}
+use Rattle.aom_machine_instructions.proofs.Finding.{object_lives}
+use Rattle.aom_debug_views.specs.Holdings.{HoldsSo}
+use Rattle.aom_debug_views.specs.Sights.{class_in, class_of}
+use Rattle.aom_debug_views.specs.declared.holding.Holding.{Holding}
+use Rattle.aom_debug_views.specs.declared.holding.Holding.TheVariants as holds
 use Rattle.aom_debug_words.specs.declared.way.Branch.{Branch}
 use Rattle.aom_debug_paths.specs.Paths.{IsAlive, IsHeld, branch_place, onward, owned_by}
 

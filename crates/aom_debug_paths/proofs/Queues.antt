@@ -9,15 +9,15 @@ use Rattle.aom_clients.specs.declared.entry.Entry.TheVariants.{Connect, Message,
 use Rattle.aom_image.specs.Image.{Image}
 use Rattle.aom_image.specs.declared.method.Thing.{Thing}
 use Rattle.aom_image.specs.declared.method.Thing.TheVariants.{Object as An_object_of, Message as A_message}
-use Rattle.aom_sound.specs.Places.{Cell, Object, service_of}
-use Rattle.aom_sound.specs.State.{State}
-use Rattle.aom_parts.specs.Serving.{asked_by}
-use Rattle.aom_parts.specs.Stands.{StandsFor}
-use Rattle.aom_parts.specs.declared.parts.Parts.{Parts}
+use Rattle.aom_semantics.specs.Places.{Cell, Object, service_of}
+use Rattle.aom_semantics.specs.State.{State}
+use Rattle.aom_machine_state.specs.Serving.{asked_by}
+use Rattle.aom_machine_state.specs.Stands.{StandsFor}
+use Rattle.aom_machine_state.specs.declared.parts.Parts.{Parts}
 use Rattle.aom_debug_words.specs.declared.answer.Answer.{Answer}
-use Rattle.aom_debug_sights.specs.Sights.{class_in}
-use Rattle.aom_debug_sights.specs.Telling.{gathered, listed}
-use Rattle.aom_debug_sights.proofs.Telling.{items_answered}
+use Rattle.aom_debug_views.specs.Sights.{class_in}
+use Rattle.aom_debug_views.specs.Telling.{gathered, listed}
+use Rattle.aom_debug_views.proofs.Telling.{items_answered}
 use Rattle.aom_debug_paths.specs.declared.following.Found.{Found}
 use Rattle.aom_debug_paths.specs.Paths.{IsFound, asked_answer, object_queue, queue_in, taken_answer, waiting_lines}
 

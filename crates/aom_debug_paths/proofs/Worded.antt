@@ -2,18 +2,18 @@
 use Rattle.std.proofs.Common.{◌≡◌, ◌∙◌, ◌<◌, ℕ, List, Option, Some, None, ap, arith, refl, sym}
 use Rattle.std.specs.Prelude.{IsSome}
 use Rattle.aom_cells.specs.Heap.{Lives, cell_at, word_at}
-use Rattle.aom_cells.specs.declared.cell.Cell.{Cell as Held_cell}
+use Rattle.aom_cells.specs.declared.cell.Cell.{Cell as Machine_cell}
 use Rattle.aom_image.specs.Image.{Image}
 use Rattle.aom_image.specs.declared.method.Thing.{Thing}
 use Rattle.aom_image.specs.declared.method.Thing.TheVariants.{Object as An_object_of, Message as A_message}
 use Rattle.std.proofs.lemmas.Option.{none-some}
-use Rattle.aom_shape.specs.Things.{words_of}
-use Rattle.aom_parts.specs.Stands.{StandsFor}
-use Rattle.aom_parts.specs.declared.parts.Parts.{Parts}
-use Rattle.aom_sound.specs.Places.{Cell, Object, word_field}
-use Rattle.aom_sound.specs.State.{State}
+use Rattle.aom_roles.specs.Things.{words_of}
+use Rattle.aom_machine_state.specs.Stands.{StandsFor}
+use Rattle.aom_machine_state.specs.declared.parts.Parts.{Parts}
+use Rattle.aom_semantics.specs.Places.{Cell, Object, word_field}
+use Rattle.aom_semantics.specs.State.{State}
 use Rattle.aom_debug_words.specs.declared.answer.Answer.{Answer}
-use Rattle.aom_debug_sights.specs.Sights.{class_in, class_of}
+use Rattle.aom_debug_views.specs.Sights.{class_in, class_of}
 use Rattle.aom_debug_paths.specs.declared.following.Found.{Found}
 use Rattle.aom_debug_paths.specs.Paths.{IsFound, object_words, word_lines, words_in}
 
@@ -34,7 +34,7 @@ words_none p cs (Some o) none = go o.thing none
 pub word_told : (p : Image) (m : Parts) (s : State) → StandsFor (record { image = p; parts = m }) s → (n : ℕ) → Lives m.cells n → (w : ℕ) → word_at m.cells n w ≡ word_field s.cells n w
 word_told p m s st n lives w = st.agrees.cells.words n w (below (cell_at m.cells n) refl lives)
   where
-    below : (o : Option Held_cell) → cell_at m.cells n ≡ o → IsSome o → n < 4096
+    below : (o : Option Machine_cell) → cell_at m.cells n ≡ o → IsSome o → n < 4096
     below None is some = cc
     below (Some c) is some =
         let less = st.agrees.cells.below n c is in

@@ -5,15 +5,15 @@ use Rattle.aom_image.specs.Image.{Image}
 use Rattle.aom_image.specs.declared.method.Thing.{Thing}
 use Rattle.aom_image.specs.declared.method.Thing.TheVariants.{Object as An_object_of, Message as A_message}
 use Rattle.aom_classes.specs.Roles.{or_else}
-use Rattle.aom_shape.specs.Things.{words_of}
+use Rattle.aom_roles.specs.Things.{words_of}
 use Rattle.aom_clients.specs.declared.entry.Entry.{Entry as Queue_entry}
 use Rattle.aom_clients.specs.declared.entry.Entry.TheVariants as entries
 use Rattle.aom_clients.specs.declared.entry.Taken.{Taken}
-use Rattle.aom_sound.specs.Owned.{over}
-use Rattle.aom_sound.specs.Places.{Asked, Cell, Close_of, Connect_of, Elsewhere, Entry, Field, Going, In_service, Message_of, Object, Place, Register, Root, Session, held, service_of, word_field}
-use Rattle.aom_sound.specs.State.{State}
+use Rattle.aom_semantics.specs.Owned.{over}
+use Rattle.aom_semantics.specs.Places.{Asked, Cell, Close_of, Connect_of, Elsewhere, Entry, Field, Going, In_service, Message_of, Object, Place, Register, Root, Session, held, service_of, word_field}
+use Rattle.aom_semantics.specs.State.{State}
 use Rattle.aom_cells.specs.Heap.{Lives}
-use Rattle.aom_parts.specs.declared.parts.Parts.{Parts}
+use Rattle.aom_machine_state.specs.declared.parts.Parts.{Parts}
 use Rattle.aom_debug_words.specs.declared.answer.Answer.{Answer}
 use Rattle.aom_debug_words.specs.declared.answer.Answer.TheVariants.{Close, Connect, Message, Word}
 use Rattle.aom_debug_words.specs.declared.way.Branch.{Branch}
@@ -21,14 +21,14 @@ use Rattle.aom_debug_words.specs.declared.way.Branch.TheVariants.{Field as By_fi
 use Rattle.aom_debug_words.specs.declared.way.Outer.{Outer}
 use Rattle.aom_debug_words.specs.declared.way.Outer.TheVariants.{Entry as In_entry, Going as In_going, Register as In_register, Root as At_root, Service as At_service}
 use Rattle.aom_debug_words.specs.Ways.{Way}
-use Rattle.aom_debug_sights.specs.Owners.{is_entry, is_frame, is_going, source_in}
-use Rattle.aom_debug_sights.specs.Sights.{class_of, counted}
-use Rattle.aom_debug_sights.specs.Telling.{gathered}
+use Rattle.aom_debug_views.specs.Owners.{is_entry, is_frame, is_going, source_in}
+use Rattle.aom_debug_views.specs.Sights.{class_of, counted}
+use Rattle.aom_debug_views.specs.Telling.{gathered}
 use Rattle.aom_debug_paths.specs.declared.finding.Series.{Series}
 use Rattle.aom_debug_paths.specs.declared.finding.Series.TheVariants as series
 use Rattle.aom_debug_paths.specs.declared.following.Found.{Found}
-use Rattle.aom_debug_sights.specs.declared.holding.Holding.{Holding}
-use Rattle.aom_debug_sights.specs.declared.holding.Holding.TheVariants as holds
+use Rattle.aom_debug_views.specs.declared.holding.Holding.{Holding}
+use Rattle.aom_debug_views.specs.declared.holding.Holding.TheVariants as holds
 
 -- ---- places that are in no object
 

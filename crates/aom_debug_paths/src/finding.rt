@@ -1,16 +1,16 @@
 //! The places that are in no object, by their numbers from the bottom.
 ghost use Rattle.std.specs.Prelude.{◌≡◌, ◌==◌, ◌&&◌, ◌<◌, ◌≤◌, IfSome, cond, option_map};
 ghost use Rattle.aom_image.specs.Image.{Image};
-ghost use Rattle.aom_parts.specs.Stands.{StandsFor};
-ghost use Rattle.aom_sound.specs.Places.{Entry as At_entry, Going as Goes, Register as In_register_of};
-ghost use Rattle.aom_sound.specs.State.{State};
-ghost use Rattle.aom_debug_sights.specs.Holdings.{IsOwner, place_of};
+ghost use Rattle.aom_machine_state.specs.Stands.{StandsFor};
+ghost use Rattle.aom_semantics.specs.Places.{Entry as At_entry, Going as Goes, Register as In_register_of};
+ghost use Rattle.aom_semantics.specs.State.{State};
+ghost use Rattle.aom_debug_views.specs.Holdings.{IsOwner, place_of};
 ghost use Rattle.aom_debug_paths.specs.Paths.{is_such, outer_place, place_in, places_in};
 
-use aom_debug_sights::{Owner, entries_at, frames_at, goings_at};
+use aom_debug_views::{Owner, entries_at, frames_at, goings_at};
 use aom_debug_words::Outer;
 use aom_instructions::Register;
-use aom_parts::Parts;
+use aom_machine_state::Parts;
 
 /// Whether one is here that is over so many others as the number says.
 fn is_meant(here: usize, others: usize, number: u16) -> bool

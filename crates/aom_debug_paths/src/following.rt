@@ -1,19 +1,19 @@
 //! The object that is owned at a path.
 ghost use Rattle.std.specs.Prelude.{◌≡◌, IfSome, Option};
 ghost use Rattle.aom_cells.specs.Heap.{Lives};
-ghost use Rattle.aom_exec.specs.Agreement.{AgreesInAll};
-ghost use Rattle.aom_parts.specs.Stands.{Stands, StandsFor};
-ghost use Rattle.aom_sound.specs.Places.{Object as ObjectRecord};
-ghost use Rattle.aom_sound.specs.State.{State};
-ghost use Rattle.aom_debug_sights.specs.Holdings.{IsOwner, place_of};
+ghost use Rattle.aom_machine.specs.Agreement.{AgreesInAll};
+ghost use Rattle.aom_machine_state.specs.Stands.{Stands, StandsFor};
+ghost use Rattle.aom_semantics.specs.Places.{Object as ObjectRecord};
+ghost use Rattle.aom_semantics.specs.State.{State};
+ghost use Rattle.aom_debug_views.specs.Holdings.{IsOwner, place_of};
 ghost use Rattle.aom_debug_paths.specs.Paths.{IsAlive, IsFound, IsHeld, branch_place, held_in, onward, outer_place, owned_at};
 
 use crate::finding::outer_owner;
 use aom_budget::Accepted;
 use aom_cells::CellId;
-use aom_debug_sights::{Holding, Owner, held_at};
+use aom_debug_views::{Holding, Owner, held_at};
 use aom_debug_words::{Branch, Outer, Path};
-use aom_parts::Parts;
+use aom_machine_state::Parts;
 
 /// What is owned at a place that is in no object.
 fn outer_holding(parts: &Parts, accepted: &Accepted, outer: Outer) -> Holding

@@ -3,16 +3,16 @@ ghost use Rattle.std.specs.Prelude.{◌≡◌, ◌<◌, IfErr, IfOk, length, opt
 ghost use Rattle.aom_cells.specs.Heap.{Lives};
 ghost use Rattle.aom_clients.specs.Clients.{queue_at, taken_entry};
 ghost use Rattle.aom_image.specs.Image.{Image};
-ghost use Rattle.aom_parts.specs.Stands.{Stands};
-ghost use Rattle.aom_sound.specs.Places.{service_of};
-ghost use Rattle.aom_debug_sights.specs.Telling.{Tells, TellsPart, answers_text};
+ghost use Rattle.aom_machine_state.specs.Stands.{Stands};
+ghost use Rattle.aom_semantics.specs.Places.{service_of};
+ghost use Rattle.aom_debug_views.specs.Telling.{Tells, TellsPart, answers_text};
 ghost use Rattle.aom_debug_paths.specs.Paths.{taken_answer, waiting_lines};
 
 use crate::Found;
 use aom_clients::{Entry, Taken};
-use aom_debug_sights::tell_any;
+use aom_debug_views::tell_any;
 use aom_debug_words::{Answer, DebugFault};
-use aom_parts::Parts;
+use aom_machine_state::Parts;
 use aom_run::Sink;
 
 /// What waits, as it is told.

@@ -2,20 +2,20 @@
 ghost use Rattle.std.specs.Prelude.{◌≡◌, ◌<◌, ◌≤◌, IfErr, IfOk, Some};
 ghost use Rattle.aom_cells.specs.Heap.{Lives};
 ghost use Rattle.aom_image.specs.Image.{Image};
-ghost use Rattle.aom_parts.specs.Stands.{StandsFor};
-ghost use Rattle.aom_shape.specs.Things.{words_of};
-ghost use Rattle.aom_sound.specs.Places.{word_field};
-ghost use Rattle.aom_sound.specs.State.{State};
+ghost use Rattle.aom_machine_state.specs.Stands.{StandsFor};
+ghost use Rattle.aom_roles.specs.Things.{words_of};
+ghost use Rattle.aom_semantics.specs.Places.{word_field};
+ghost use Rattle.aom_semantics.specs.State.{State};
 ghost use Rattle.aom_debug_words.specs.declared.answer.Answer.TheVariants.{Word};
-ghost use Rattle.aom_debug_sights.specs.Telling.{Tells, TellsPart, answers_text};
+ghost use Rattle.aom_debug_views.specs.Telling.{Tells, TellsPart, answers_text};
 ghost use Rattle.aom_debug_paths.specs.Paths.{word_lines};
 
 use crate::Found;
 use aom_cells::CellId;
-use aom_debug_sights::tell_any;
+use aom_debug_views::tell_any;
 use aom_debug_words::{Answer, DebugFault};
 use aom_linked::Linked;
-use aom_parts::Parts;
+use aom_machine_state::Parts;
 use aom_run::Sink;
 
 /// How many words an object of a class has.

@@ -8,7 +8,7 @@ use Rattle.aom_image.specs.declared.method.Thing.TheVariants.{Object, Message}
 use Rattle.aom_shape.specs.Kinds.{field, filled, register}
 use Rattle.aom_shape.specs.Shape.{Shape}
 use Rattle.aom_shape.specs.Tests.{is_unset}
-use Rattle.aom_shape.specs.Things.{field_thing, holder_of}
+use Rattle.aom_roles.specs.Things.{field_thing, holder_of}
 use Rattle.aom_shape.specs.declared.kind.Age.{Age}
 use Rattle.aom_shape.specs.declared.kind.Age.TheVariants.{Fresh, Ready}
 use Rattle.aom_shape.specs.declared.kind.Delivery.{Delivery}

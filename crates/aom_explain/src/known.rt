@@ -3,7 +3,7 @@ ghost use Rattle.std.specs.Prelude.{◌≡◌, ◌++◌, ◌||◌, ◌<◌, IsSo
 ghost use Rattle.aom_image.specs.Views.{has, method_at};
 ghost use Rattle.aom_shape.specs.Kinds.{field, register};
 ghost use Rattle.aom_shape.specs.Tests.{is_unset};
-ghost use Rattle.aom_shape.specs.Things.{field_thing, holder_of};
+ghost use Rattle.aom_roles.specs.Things.{field_thing, holder_of};
 ghost use Rattle.aom_explain.specs.Known.{age_words, any_known, class_words, delivery_line, entries_line, entry_line, entry_part, entry_parts, entry_words, field_line, field_part, field_parts, fields_line, held_words, kind_words, known_text, lead_of, more_words, owned_words, pushed_words, register_part, register_parts, registers_line, rest_words, set_part, state_line, state_parts, states_line, thing_words, words_where};
 
 use aom_figures::Writer;

@@ -1,11 +1,11 @@
 -- A command's fault that is told, and explained behind its line: it answers as it does without.
 use Rattle.std.proofs.Common.{ℕ, ◌≡◌, Bool, List, Option, Result, Ok, Err, refl, subst, sym}
 use Rattle.std.specs.Prelude.{IfErr, IfOk}
-use Rattle.aom_main.specs.declared.status.ExitStatus.{ExitStatus}
-use Rattle.aom_main.specs.declared.faults.Fault.{Fault}
-use Rattle.aom_main.specs.declared.faults.Fault.TheVariants.{Memory}
-use Rattle.aom_main.specs.Headline.{Says, Sent, Tells, Told}
-use Rattle.aom_main.specs.Untold.{Untold}
+use Rattle.aom_commands.specs.declared.status.ExitStatus.{ExitStatus}
+use Rattle.aom_commands.specs.declared.faults.Fault.{Fault}
+use Rattle.aom_commands.specs.declared.faults.Fault.TheVariants.{Memory}
+use Rattle.aom_commands.specs.Headline.{Says, Sent, Tells, Told}
+use Rattle.aom_commands.specs.Untold.{Untold}
 use Rattle.aom_explaining.specs.Explaining.{AnsweredOrExplained, Explaining, ToldAndExplained}
 use Rattle.aom_explaining.specs.Explaining.Explaining.{behind, without}
 use Rattle.aom_explaining.specs.Lined.{AnsweredOrLined, Lining}

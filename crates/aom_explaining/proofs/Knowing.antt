@@ -15,12 +15,12 @@ use Rattle.aom_rules.specs.Rules.{rule}
 use Rattle.aom_shape.proofs.Lists.{there}
 use Rattle.aom_shape.specs.Changes.{told}
 use Rattle.aom_shape.specs.Shape.{Shape}
-use Rattle.aom_shape.specs.Tables.{at}
+use Rattle.aom_roles.specs.Tables.{at}
 use Rattle.aom_shape.specs.declared.flow.Flow.{Flow as Changed}
 use Rattle.aom_shape.specs.Whys.{why_number}
 use Rattle.aom_shape.specs.declared.why.Why.{Why}
 use Rattle.aom_shape.specs.declared.why.Why.TheVariants.{RegisterKind, OwnedAtLeave, OwnedAtReturn, CleanupAtReturn, PopEmpty, LeaveNotAllowed, FieldNotNull, FieldsLeft, NotFresh, StillFresh, NotIdle, NotIssued, IssuedAtLeave, IssuedAtReturn, StillActive, NotCancelled, MessageAtLeave, MessageAtReturn, NotAdded, EntryState, QuietBroken}
-use Rattle.aom_bounds.specs.Shapes.{HasTyping, Shapes}
+use Rattle.aom_typings.specs.Shapes.{HasTyping, Shapes}
 use Rattle.aom_verify.specs.Arrivals.{StopsAt}
 use Rattle.aom_explaining.specs.Explained.{KnownThere, is_need, state_text, tells_why, ways_differ}
 use Rattle.aom_explaining.specs.Explained.KnownThere.{elsewhere, known, unrefused}

@@ -1,8 +1,8 @@
 -- An explanation that was made, or was not, and what went out of it.
 use Rattle.std.proofs.Common.{ℕ, ◌≡◌, List, Result, Ok, Err, subst, sym}
 use Rattle.std.specs.Prelude.{IfErr, IfOk}
-use Rattle.aom_main.specs.Headline.{Says, Sent, Tells}
-use Rattle.aom_main.specs.declared.faults.Fault.TheVariants.{Memory}
+use Rattle.aom_commands.specs.Headline.{Says, Sent, Tells}
+use Rattle.aom_commands.specs.declared.faults.Fault.TheVariants.{Memory}
 use Rattle.aom_explaining.specs.Explaining.{IsExplained}
 use Rattle.aom_explaining.specs.Explaining.IsExplained.{explained, wants_memory}
 

@@ -1,7 +1,7 @@
 -- What is told where a debugger is given a text that is not its image's.
 use Rattle.aom_debug.specs.Conversing.{Given, IsUnread}
-use Rattle.aom_main.specs.Headline.{Sent}
-use Rattle.aom_main.specs.declared.status.ExitStatus.{ExitStatus}
+use Rattle.aom_commands.specs.Headline.{Sent}
+use Rattle.aom_commands.specs.declared.status.ExitStatus.{ExitStatus}
 use Rattle.aom_explaining.specs.Naming.{SaysText}
 use Rattle.aom_explaining.specs.declared.beside.TextFault.{TextFault}
 

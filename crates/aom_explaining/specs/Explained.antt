@@ -9,7 +9,7 @@ use Rattle.aom_shape.specs.Needs.{Flow}
 use Rattle.aom_shape.specs.Shape.{Shape}
 use Rattle.aom_shape.specs.Whys.{why_number}
 use Rattle.aom_shape.specs.declared.why.Why.{Why}
-use Rattle.aom_bounds.specs.Shapes.{HasTyping, Shapes}
+use Rattle.aom_typings.specs.Shapes.{HasTyping, Shapes}
 use Rattle.aom_verify.specs.Arrivals.{StopsAt}
 use Rattle.aom_verify.specs.declared.refusal.Refusal.{Refusal}
 use Rattle.aom_verify.specs.declared.refusal.Refusal.TheVariants as refusals
@@ -20,9 +20,9 @@ use Rattle.aom_explain.specs.Places.{line_text, method_text}
 use Rattle.aom_explain.specs.Sources.{declared_text, source_text}
 use Rattle.aom_explain.specs.Table.{asm_texts, boot_texts, budget_texts, link_texts, load_texts, memory_texts, script_texts, verify_texts, word_texts}
 use Rattle.aom_explain.specs.declared.word.Unnumbered.TheVariants as words
-use Rattle.aom_main.specs.Acceptable.{IsSpelled}
-use Rattle.aom_main.specs.declared.faults.Fault.{Fault}
-use Rattle.aom_main.specs.declared.faults.Fault.TheVariants.{Load, Asm, Link, Verify, Budget, Script, Boot, Native, File, Write, Memory}
+use Rattle.aom_commands.specs.Acceptable.{IsSpelled}
+use Rattle.aom_commands.specs.declared.faults.Fault.{Fault}
+use Rattle.aom_commands.specs.declared.faults.Fault.TheVariants.{Load, Asm, Link, Verify, Budget, Script, Boot, Native, File, Write, Memory}
 
 -- what is told of a refusal by its number
 abbrev pub refusal_texts : Refusal → Texts

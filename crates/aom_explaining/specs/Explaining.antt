@@ -3,12 +3,12 @@ use Rattle.std.specs.Prelude.{ℕ, ◌≡◌, ◌≢◌, List, [], Result, Ok, E
 use Rattle.aom_explain.specs.Entries.{entry_text}
 use Rattle.aom_explain.specs.Table.{word_texts}
 use Rattle.aom_explain.specs.declared.word.Unnumbered.TheVariants.{Text}
-use Rattle.aom_main.specs.Assembly.{IsFaulty, Makes}
-use Rattle.aom_main.specs.declared.status.ExitStatus.{ExitStatus}
-use Rattle.aom_main.specs.declared.status.ExitStatus.TheVariants.{CallRefused, Fault as Faulty}
-use Rattle.aom_main.specs.declared.faults.Fault.{Fault}
-use Rattle.aom_main.specs.declared.faults.Fault.TheVariants as faults
-use Rattle.aom_main.specs.Headline.{IsSilent, Says, Sent, Tells, Told}
+use Rattle.aom_commands.specs.Assembly.{IsFaulty, Makes}
+use Rattle.aom_commands.specs.declared.status.ExitStatus.{ExitStatus}
+use Rattle.aom_commands.specs.declared.status.ExitStatus.TheVariants.{CallRefused, Fault as Faulty}
+use Rattle.aom_commands.specs.declared.faults.Fault.{Fault}
+use Rattle.aom_commands.specs.declared.faults.Fault.TheVariants as faults
+use Rattle.aom_commands.specs.Headline.{IsSilent, Says, Sent, Tells, Told}
 use Rattle.aom_transcript.specs.Text.{ended}
 use Rattle.aom_explaining.specs.Explained.{Explains}
 use Rattle.aom_explaining.specs.declared.beside.TextFault.{TextFault}

@@ -3,12 +3,12 @@ use Rattle.std.specs.Prelude.{ℕ, ◌≡◌, List, Option, Some, None, Result, 
 use Rattle.aom_explain.specs.Lines.{budget_line, lined_text, refusal_line}
 use Rattle.aom_explain.specs.Table.{word_texts}
 use Rattle.aom_explain.specs.declared.word.Unnumbered.TheVariants.{Text}
-use Rattle.aom_main.specs.Headline.{IsSilent, Says, Sent, Tells, Told}
-use Rattle.aom_main.specs.Status.{fault_line, status_of}
-use Rattle.aom_main.specs.declared.status.ExitStatus.{ExitStatus}
-use Rattle.aom_main.specs.declared.status.ExitStatus.TheVariants.{CallRefused, Fault as Faulty}
-use Rattle.aom_main.specs.declared.faults.Fault.{Fault}
-use Rattle.aom_main.specs.declared.faults.Fault.TheVariants.{Asm, Verify, Budget, Memory}
+use Rattle.aom_commands.specs.Headline.{IsSilent, Says, Sent, Tells, Told}
+use Rattle.aom_commands.specs.Status.{fault_line, status_of}
+use Rattle.aom_commands.specs.declared.status.ExitStatus.{ExitStatus}
+use Rattle.aom_commands.specs.declared.status.ExitStatus.TheVariants.{CallRefused, Fault as Faulty}
+use Rattle.aom_commands.specs.declared.faults.Fault.{Fault}
+use Rattle.aom_commands.specs.declared.faults.Fault.TheVariants.{Asm, Verify, Budget, Memory}
 use Rattle.aom_transcript.specs.Text.{ended}
 use Rattle.aom_verify.specs.declared.refusal.Refusal.{Refusal}
 use Rattle.aom_verify.specs.declared.refusal.Refusal.TheVariants as refusals

@@ -4,10 +4,10 @@ use Rattle.aom_explain.specs.Declarations.{class_names, method_names}
 use Rattle.aom_explain.specs.Lines.{class_lines, image_line, method_lines}
 use Rattle.aom_figures.specs.Names.{Names}
 use Rattle.aom_figures.specs.Places.{Places}
-use Rattle.aom_main.specs.Headline.{Says, Sent, Tells}
-use Rattle.aom_main.specs.declared.status.ExitStatus.{ExitStatus}
-use Rattle.aom_main.specs.declared.status.ExitStatus.TheVariants.{CallRefused, Fault as Faulty}
-use Rattle.aom_main.specs.declared.faults.Fault.TheVariants as faults
+use Rattle.aom_commands.specs.Headline.{Says, Sent, Tells}
+use Rattle.aom_commands.specs.declared.status.ExitStatus.{ExitStatus}
+use Rattle.aom_commands.specs.declared.status.ExitStatus.TheVariants.{CallRefused, Fault as Faulty}
+use Rattle.aom_commands.specs.declared.faults.Fault.TheVariants as faults
 use Rattle.aom_run.specs.Naming.{class_word, named_text}
 use Rattle.aom_transcript.specs.Text.{ended, line_text}
 use Rattle.aom_transcript.specs.declared.line.Line.{Line}

@@ -1,6 +1,6 @@
 //! Texts beside images.
 ghost use Rattle.std.specs.Prelude.{ℕ, ◌≡◌, ◌≤◌, ◌^◌, List, IfErr, IfOk, length};
-ghost use Rattle.aom_main.specs.Assembly.{Makes};
+ghost use Rattle.aom_commands.specs.Assembly.{Makes};
 ghost use Rattle.aom_explaining.specs.Explaining.{RefusesText};
 
 use aom_asm::assemble;

@@ -1,11 +1,11 @@
 //! The commands that explain, alone or by the text that the image is of.
 ghost use Rattle.std.specs.Prelude.{◌≤◌, [], length};
 ghost use Rattle.aom_natives.specs.Owed.{OweNothing};
-ghost use Rattle.aom_main.specs.Headline.{RunAnswers, RunAnswersBy};
+ghost use Rattle.aom_commands.specs.Headline.{RunAnswers, RunAnswersBy};
 ghost use Rattle.aom_explaining.specs.Naming.{line_by, placed_names, text_names};
-ghost use Rattle.aom_main.specs.Prices.{Checks, ChecksBy};
-ghost use Rattle.aom_main.specs.Translations.{Translates};
-ghost use Rattle.aom_main.specs.declared.commands.Translation.TheVariants.{Asm};
+ghost use Rattle.aom_commands.specs.Prices.{Checks, ChecksBy};
+ghost use Rattle.aom_commands.specs.Translations.{Translates};
+ghost use Rattle.aom_commands.specs.declared.commands.Translation.TheVariants.{Asm};
 ghost use Rattle.aom_explaining.specs.Explained.{Explains, ExplainsByText};
 ghost use Rattle.aom_explaining.specs.Lined.{Lining, LinesText, fault_lined};
 ghost use Rattle.aom_explaining.specs.Explaining.{Beside, Explaining, TellsText};
@@ -15,7 +15,7 @@ use crate::lining::{answer_lined, line_text};
 use crate::naming::{try_check_by_lines, try_check_by_names, try_run_told};
 use crate::telling::answer_explained;
 use crate::telling_by_text::{answer_by_text, refuse_text};
-use aom_main::{ExitStatus, Translation, try_check, try_run, try_translate};
+use aom_commands::{ExitStatus, Translation, try_check, try_run, try_translate};
 use aom_natives::Native;
 use aom_run::Sink;
 use std::alloc::Global;

@@ -1,7 +1,7 @@
 //! A debugger that tells by the names and the lines of its image's text.
 ghost use Rattle.std.specs.Prelude.{length};
 ghost use Rattle.aom_natives.specs.Owed.{OweNothing};
-ghost use Rattle.aom_main.specs.Untold.{Untold};
+ghost use Rattle.aom_commands.specs.Untold.{Untold};
 ghost use Rattle.aom_debug.specs.Answers.{DebugAnswersBy};
 ghost use Rattle.aom_debug_names.specs.Names.{names_of};
 ghost use Rattle.aom_explaining.specs.Debugged.{SaysUnread};
@@ -9,9 +9,9 @@ ghost use Rattle.aom_explaining.specs.Explaining.{Beside};
 
 use crate::beside::ImageText;
 use crate::naming::say_text;
+use aom_commands::{ExitStatus, Fault, answer};
 use aom_debug::{Names, Reader, try_debug};
 use aom_explain::{class_names, method_names};
-use aom_main::{ExitStatus, Fault, answer};
 use aom_natives::Native;
 use aom_run::Sink;
 use std::alloc::Global;

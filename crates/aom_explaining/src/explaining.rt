@@ -5,20 +5,20 @@ ghost use Rattle.aom_explain.specs.Entries.{entry_text};
 ghost use Rattle.aom_explain.specs.Sources.{declared_text};
 ghost use Rattle.aom_explain.specs.Table.{word_texts};
 ghost use Rattle.aom_explain.specs.declared.word.Unnumbered.TheVariants.{Text};
-ghost use Rattle.aom_main.specs.Acceptable.{IsSpelled};
+ghost use Rattle.aom_commands.specs.Acceptable.{IsSpelled};
 ghost use Rattle.aom_explaining.specs.Explained.{Adds, AddsBeside, AddsKnown, AddsRefusal, Explains, ExplainsByText, refusal_source, refusal_texts, texts_of};
 
 use crate::beside::ImageText;
 use crate::stopping::put_known_at;
 use aom_budget::BudgetFault;
 use aom_codec::decode;
+use aom_commands::Fault;
 use aom_explain::{
     Entry, Unnumbered, asm_entry, boot_entry, budget_entry, link_entry, load_entry, put_compared,
     put_declared, put_entry, put_line, put_method, put_source, script_entry, verify_entry,
     word_entry,
 };
 use aom_figures::Writer;
-use aom_main::Fault;
 use aom_verify::Refusal;
 use std::alloc::{AllocError, Global};
 

@@ -1,13 +1,13 @@
 //! Exploring an image whose text is beside it.
 ghost use Rattle.std.specs.Prelude.{◌≤◌, length};
-ghost use Rattle.aom_main.specs.Explored.{ExploreAnswers};
+ghost use Rattle.aom_commands.specs.Explored.{ExploreAnswers};
 ghost use Rattle.aom_explaining.specs.Explaining.{Beside};
 ghost use Rattle.aom_explaining.specs.Naming.{SaysText};
 
 use crate::beside::ImageText;
 use crate::naming::say_text;
+use aom_commands::{ExitStatus, explore_bytes};
 use aom_injection::Tries;
-use aom_main::{ExitStatus, explore_bytes};
 use aom_natives::NativeKind;
 use aom_run::Sink;
 use std::alloc::Global;

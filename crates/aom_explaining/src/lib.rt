@@ -1,7 +1,7 @@
 //! The commands that explain: each answers as it does without, and behind a fault's line says what the fault means.
 //!
 //! `check_explained`, `run_explained` and `asm_explained` promise `Explaining` of `specs/Explaining.antt`: the
-//! same status, the same output and the same fault line as the command of `aom_main`, and then the text of `specs/Explained.antt`,
+//! same status, the same output and the same fault line as the command of `aom_commands`, and then the text of `specs/Explained.antt`,
 //! which `aom_explain` writes. Without a fault nothing is explained. `check_by_text` and `run_by_text` take the
 //! text too that the image is of, and explain by its lines; they promise `Beside`, and refuse a text that denotes no image or
 //! another one. `run_named`, `prices_named`, `dot_named` and `debug_named` (`specs/Debugged.antt`) take it to tell by its names

@@ -1,19 +1,19 @@
 //! Runs, figures and graphs that are told by the names of their text, and figures by its lines too.
 ghost use Rattle.std.specs.Prelude.{◌≤◌, length};
 ghost use Rattle.aom_natives.specs.Owed.{OweNothing};
-ghost use Rattle.aom_main.specs.Headline.{RunAnswersBy};
-ghost use Rattle.aom_main.specs.Untold.{Untold};
+ghost use Rattle.aom_commands.specs.Headline.{RunAnswersBy};
+ghost use Rattle.aom_commands.specs.Untold.{Untold};
 ghost use Rattle.aom_explaining.specs.Explaining.{Beside};
-ghost use Rattle.aom_main.specs.Prices.{ChecksBy, PricesAnswersBy};
-ghost use Rattle.aom_main.specs.Translations.{DrawsBy};
+ghost use Rattle.aom_commands.specs.Prices.{ChecksBy, PricesAnswersBy};
+ghost use Rattle.aom_commands.specs.Translations.{DrawsBy};
 ghost use Rattle.aom_explaining.specs.Naming.{SaysText, by_names, line_by, placed_names, text_names};
 
 use crate::beside::{ImageText, TextFault};
-use aom_explain::{class_lines, class_names, image_line, method_lines, method_names};
-use aom_figures::{Names, Places};
-use aom_main::{
+use aom_commands::{
     ExitStatus, Fault, answer, tell, try_check_named, try_draw, try_run, try_run_named,
 };
+use aom_explain::{class_lines, class_names, image_line, method_lines, method_names};
+use aom_figures::{Names, Places};
 use aom_natives::Native;
 use aom_run::{Sink, write_text};
 use std::alloc::Global;

@@ -1,12 +1,12 @@
 //! A fault's line, and its explanation behind it.
 ghost use Rattle.std.specs.Prelude.{IfErr, IfOk};
-ghost use Rattle.aom_main.specs.Headline.{Says, Sent, Tells, Told};
-ghost use Rattle.aom_main.specs.declared.faults.Fault.TheVariants.{Memory};
+ghost use Rattle.aom_commands.specs.Headline.{Says, Sent, Tells, Told};
+ghost use Rattle.aom_commands.specs.declared.faults.Fault.TheVariants.{Memory};
 ghost use Rattle.aom_explaining.specs.Explained.{Explains};
 ghost use Rattle.aom_explaining.specs.Explaining.{AnsweredOrExplained, ToldAndExplained};
 
 use crate::explaining::explanation;
-use aom_main::{ExitStatus, Fault, tell};
+use aom_commands::{ExitStatus, Fault, tell};
 use aom_run::{Sink, write_text};
 use std::alloc::{AllocError, Global};
 

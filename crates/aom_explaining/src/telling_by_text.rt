@@ -1,6 +1,6 @@
 //! A fault's line, and its explanation by the text that the image is of.
 ghost use Rattle.std.specs.Prelude.{◌≡◌, codes};
-ghost use Rattle.aom_main.specs.Headline.{Says, Sent, Told};
+ghost use Rattle.aom_commands.specs.Headline.{Says, Sent, Told};
 ghost use Rattle.aom_transcript.specs.Text.{ended};
 ghost use Rattle.aom_explain.specs.Entries.{entry_text};
 ghost use Rattle.aom_explain.specs.Table.{word_texts};
@@ -11,7 +11,7 @@ ghost use Rattle.aom_explaining.specs.Explaining.{AnsweredOrExplained, TellsText
 use crate::beside::{ImageText, TextFault};
 use crate::explaining::{explanation_by_text, other_explanation};
 use crate::telling::{explain, tell_explained};
-use aom_main::{ExitStatus, Fault, tell};
+use aom_commands::{ExitStatus, Fault, tell};
 use aom_run::{Sink, write_text};
 use std::alloc::Global;
 

@@ -1,5 +1,5 @@
 //! Files.
-use aom_main::Fault;
+use aom_commands::Fault;
 use std::fs::File;
 use std::io::{ErrorKind, Read};
 use std::rt::Files;

@@ -1,7 +1,7 @@
 -- A class and those that it descends from.
-use Rattle.std.specs.Prelude.{◌≡◌, ℕ, zero, suc, Bool, true, false, ◌==◌, ◌||◌, nat_lt, cond, All, Option, Some, None}
+use Rattle.std.specs.Prelude.{◌≡◌, ℕ, zero, suc, Bool, true, false, ◌==◌, ◌||◌, nat_lt, cond, All, Option, Some, None, length}
 use Rattle.aom_image.specs.Image.{Image}
-use Rattle.aom_image.specs.Views.{class_at}
+use Rattle.aom_image.specs.Views.{class_at, method_class, fields_of}
 use Rattle.aom_image.specs.declared.class.ClassDecl.{ClassDecl}
 
 unfoldable pub parent_in : Option ClassDecl → Option ℕ
@@ -30,3 +30,17 @@ descends p c d = descends_in p c (Some c) d
 -- no class has a parent
 abbrev pub HasNoParents : Image → Type 0
 HasNoParents p = All (λ d. d.parent ≡ None) p.classes
+
+-- the parent of a class, if there is one
+abbrev pub parent_by : Image → Option ℕ → Option ℕ
+parent_by p None = None
+parent_by p (Some c) = parent_of p c
+
+-- the parent of a method's class
+abbrev pub parent_above : Image → ℕ → Option ℕ
+parent_above p m = parent_by p (method_class p m)
+
+-- how many fields a class has of its parent
+abbrev pub fields_above : Image → Option ℕ → ℕ
+fields_above p None = 0
+fields_above p (Some e) = length (fields_of p e)

@@ -3,3 +3,7 @@ pub mod Classes
 pub mod Roles
 pub mod Shapes
 pub mod States
+pub mod Tables
+pub mod Tests
+pub mod Things
+pub mod Kinds

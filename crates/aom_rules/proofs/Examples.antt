@@ -19,7 +19,7 @@ use Rattle.aom_roles.specs.Families.{descends_in, parent_in}
 use Rattle.aom_rules.specs.Rules.{rule}
 use Rattle.aom_shape.specs.Arguments.{after_in}
 use Rattle.aom_shape.specs.Shape.{Shape}
-use Rattle.aom_shape.specs.Things.{words_in}
+use Rattle.aom_roles.specs.Things.{words_in}
 use Rattle.aom_shape.specs.declared.kind.Age.TheVariants.{Fresh, Ready}
 use Rattle.aom_shape.specs.declared.kind.Delivery.TheVariants.{Here}
 use Rattle.aom_shape.specs.declared.kind.Entry.{Entry}

@@ -13,27 +13,29 @@ use Rattle.aom_image.specs.declared.method.Argument.TheVariants.{Word as A_word_
 use Rattle.aom_image.specs.declared.method.Gives.{Gives}
 use Rattle.aom_image.specs.declared.method.Gives.TheVariants.{Nothing, Word as A_word, Own as An_own, Maybe as A_maybe, Left}
 use Rattle.aom_image.specs.declared.method.Thing.TheVariants.{Message, Object}
+use Rattle.aom_roles.specs.Tests.{AllTrue, only_if}
+use Rattle.aom_roles.specs.Roles.{is_cancel, is_construct, is_service}
 use Rattle.aom_roles.specs.States.{active, active_states, cancel_done, cancel_open, idle, issued, server_states, unlisted}
-use Rattle.aom_rules.specs.Requests.{begins_here, flow_in, flow_narrowed, is_cancel, is_construct, is_service, may_begin, once_cancelled, resting, unissued}
+use Rattle.aom_rules.specs.Requests.{begins_here, flow_in, flow_narrowed, may_begin, once_cancelled, resting, unissued}
 use Rattle.aom_site.specs.Site.{leave_point}
-use Rattle.aom_roles.specs.Families.{parent_of}
-use Rattle.aom_site.specs.Calls.{constructs_owned, empty_by, parent_above, is_destructor, is_target, age_need, awaits, brought, caught, worked_on, while_called, argument_needs, each_argument, rule_target, rule_arguments, rule_moved, rule_trapped, fields_above, fields_done, rule_ended, rule_left, rule_result, result_moved, lasting}
+use Rattle.aom_roles.specs.Families.{parent_of, parent_above, fields_above}
+use Rattle.aom_site.specs.Calls.{constructs_owned, empty_by, is_destructor, is_target, age_need, awaits, brought, caught, worked_on, while_called, argument_needs, each_argument, rule_target, rule_arguments, rule_moved, rule_trapped, fields_done, rule_ended, rule_left, rule_result, result_moved, lasting}
 use Rattle.aom_shape.specs.Entries.{readied_at, without_top, with_entry, without_entry}
 use Rattle.aom_shape.specs.Arguments.{after_of, argument_moved, arguments_moved, before_of}
 use Rattle.aom_rules.specs.Cleanup.{owns_object, entry_of, top_kind}
 use Rattle.aom_shape.specs.Kinds.{register, field, set_register, set_field, filled, filling_of, is_fresh_kind, is_here, is_object_or_null, none_owns, readied}
 use Rattle.aom_rules.specs.Laws.{AllFollow, Follows}
-use Rattle.aom_shape.specs.Needs.{Flow, Need, AllTrue, only_if}
+use Rattle.aom_shape.specs.Needs.{Flow, Need}
 use Rattle.aom_rules.specs.Objects.{flow_jump_null, flow_jump_empty}
 use Rattle.aom_rules.specs.Words.{rule_copy, rule_combine, rule_compare}
-use Rattle.aom_shape.specs.Tables.{at, put_at}
+use Rattle.aom_roles.specs.Tables.{at, put_at}
 use Rattle.aom_shape.specs.Order.{Weaker, WeakerFilling, SaysNoMore}
 use Rattle.aom_shape.specs.Order.Weaker.{alike, unset_word, unset_null, maybe_null, maybe_own}
 use Rattle.aom_shape.specs.Order.WeakerFilling.{alike_filling, perhaps_empty, perhaps_full}
 use Rattle.aom_rules.specs.Rules.{rule_needs, flows, ways_of}
 use Rattle.aom_shape.specs.Shape.{Shape}
 use Rattle.aom_rules.specs.Ways.{As_before, Branches, Branches_in, Branches_on_empty, Branches_on_null, Called, Cancelled, Caught, Dropped, Ends, Filled, Goes_back, Handed, Goes_on, Goes_to, Holding, Left_in, Moved, News, Popped, Pushed, Pushed_operation, Taken, Taken_message, Ways, after, flowing}
-use Rattle.aom_shape.specs.Things.{Holder, Nobody, Program, Member, field_thing, holder_of}
+use Rattle.aom_roles.specs.Things.{Holder, Nobody, Program, Member, field_thing, holder_of}
 use Rattle.aom_shape.specs.declared.kind.Age.TheVariants.{Ready}
 use Rattle.aom_shape.specs.declared.kind.Entry.{Entry}
 use Rattle.aom_shape.specs.declared.kind.Entry.TheVariants.{Object as An_object, Operation}

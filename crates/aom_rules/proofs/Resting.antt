@@ -2,8 +2,8 @@
 use Rattle.std.proofs.Common.{◌≡◌, Option, arith}
 use Rattle.aom_image.specs.Views.{has}
 use Rattle.aom_image.specs.declared.class.ClassKind.{ClassKind}
+use Rattle.aom_roles.specs.Kinds.{is_active_kind, is_listed_kind}
 use Rattle.aom_roles.specs.States.{active, idle, states_of}
-use Rattle.aom_rules.specs.Requests.{is_active_kind, is_listed_kind}
 
 -- an object that may rest while its request is active is an active object
 pub active_kind_rests : (k : Option ClassKind) → has (states_of k) active ≡ is_active_kind k

@@ -3,10 +3,10 @@ use Rattle.std.proofs.Common.{◌≡◌, ℕ, Bool, true, Option, Some, refl}
 use Rattle.aom_image.specs.Image.{Image}
 use Rattle.aom_instructions.specs.declared.instr.Instr.{Instr}
 use Rattle.aom_instructions.specs.declared.instr.Instr.TheVariants.{JumpNull, Push}
+use Rattle.aom_roles.specs.Tests.{AllTrue}
 use Rattle.aom_classes.specs.Jumps.{back_of, goes_on, jump_of}
 use Rattle.aom_rules.specs.Cleanup.{owns_object}
 use Rattle.aom_shape.specs.Kinds.{is_object_or_null, register}
-use Rattle.aom_shape.specs.Needs.{AllTrue}
 use Rattle.aom_rules.specs.Rules.{rule_needs, ways_of}
 use Rattle.aom_shape.specs.Shape.{Shape}
 use Rattle.aom_rules.specs.Ways.{Branches, Branches_in, Branches_on_empty, Branches_on_null, Ends, Goes_back, Goes_on, Goes_to, Pushed, Ways}

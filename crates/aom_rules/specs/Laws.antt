@@ -2,7 +2,8 @@
 use Rattle.std.specs.Prelude.{ℕ, ◌≡◌, ◌≤◌, ◌⊎◌, List, [], ◌∷◌, length}
 use Rattle.aom_image.specs.Image.{Image}
 use Rattle.aom_instructions.specs.declared.instr.Instr.{Instr}
-use Rattle.aom_shape.specs.Needs.{Flow, AllTrue}
+use Rattle.aom_roles.specs.Tests.{AllTrue}
+use Rattle.aom_shape.specs.Needs.{Flow}
 use Rattle.aom_shape.specs.Order.{SaysNoMore}
 use Rattle.aom_rules.specs.Rules.{rule_needs, flows}
 use Rattle.aom_shape.specs.Shape.{Shape}

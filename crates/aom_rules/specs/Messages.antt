@@ -3,8 +3,10 @@ use Rattle.std.specs.Prelude.{ℕ, not, List, [], ◌∷◌}
 use Rattle.aom_image.specs.Image.{Image}
 use Rattle.aom_image.specs.Views.{has, method_role}
 use Rattle.aom_image.specs.declared.method.Thing.TheVariants.{Message}
+use Rattle.aom_roles.specs.Kinds.{is_token_kind}
+use Rattle.aom_roles.specs.Roles.{is_service}
 use Rattle.aom_roles.specs.States.{idle, issued, unlisted}
-use Rattle.aom_rules.specs.Requests.{is_service, is_token_kind, own_kind}
+use Rattle.aom_rules.specs.Requests.{own_kind}
 use Rattle.aom_shape.specs.Kinds.{is_here, is_own_for, is_unowning, is_word, register, set_register}
 use Rattle.aom_shape.specs.Needs.{Need}
 use Rattle.aom_shape.specs.Shape.{Shape}

@@ -5,17 +5,13 @@ use Rattle.aom_image.specs.Views.{has}
 use Rattle.aom_image.specs.declared.class.ClassKind.{ClassKind}
 use Rattle.aom_image.specs.declared.class.ClassKind.TheVariants.{Active}
 use Rattle.aom_image.specs.declared.class.Provider.TheVariants.{Native}
+use Rattle.aom_roles.specs.Kinds.{is_native_kind}
 use Rattle.aom_roles.specs.States.{server_states}
 use Rattle.aom_rules.specs.Requests.{own_kind}
 use Rattle.aom_shape.specs.Kinds.{is_unowning, is_word, register}
 use Rattle.aom_shape.specs.Needs.{Need}
 use Rattle.aom_shape.specs.Shape.{Shape}
 use Rattle.aom_shape.specs.declared.why.Why.TheVariants.{NotIdle, RegisterKind}
-
--- objects of a class of active objects that a native serves
-abbrev pub is_native_kind : Option ClassKind → Bool
-is_native_kind (Some (Active (Native n))) = true
-is_native_kind _ = false
 
 module _ (p : Image) (m : ℕ) (sh : Shape) where
   -- the answer may take the place of what owns nothing

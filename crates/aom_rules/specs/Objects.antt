@@ -4,7 +4,7 @@ use Rattle.aom_image.specs.Image.{Image}
 use Rattle.aom_image.specs.Views.{is_quiet}
 use Rattle.aom_image.specs.declared.method.Role.TheVariants.{Construct}
 use Rattle.aom_classes.specs.Roles.{role_of}
-use Rattle.aom_shape.specs.Things.{field_thing, holder_of}
+use Rattle.aom_roles.specs.Things.{field_thing, holder_of}
 use Rattle.aom_shape.specs.Shape.{Shape}
 use Rattle.aom_shape.specs.Kinds.{register, field, set_register, set_field, filled, filling_of, is_empty, is_unowning, is_object_or_null, may_be_destroyed, may_be_declared, is_ready_kind}
 use Rattle.aom_shape.specs.Needs.{Need, Flow}

@@ -5,34 +5,15 @@ use Rattle.aom_image.specs.Views.{has, method_class}
 use Rattle.aom_image.specs.declared.class.ClassKind.{ClassKind}
 use Rattle.aom_image.specs.declared.class.ClassKind.TheVariants.{Active, Server}
 use Rattle.aom_image.specs.declared.class.Provider.TheVariants.{Token}
+use Rattle.aom_roles.specs.Kinds.{is_active_kind, is_token_kind, is_issuing_kind, is_listed_kind}
 use Rattle.aom_roles.specs.Shapes.{kind_of}
 use Rattle.aom_roles.specs.States.{unlisted, idle, issued, active, cancel_open, cancel_done, server_states, active_states}
 use Rattle.aom_shape.specs.Kinds.{register, is_unowning, is_word}
 use Rattle.aom_shape.specs.Needs.{Flow, Need}
 use Rattle.aom_shape.specs.Shape.{Shape}
-pub use Rattle.aom_site.specs.Requests.{begins_here, begins_there, is_cancel, is_construct, is_service, may_begin, resting, unissued}
+pub use Rattle.aom_site.specs.Requests.{begins_here, begins_there, may_begin, resting, unissued}
 use Rattle.aom_shape.specs.declared.kind.Filling.TheVariants.{Perhaps}
 use Rattle.aom_shape.specs.declared.why.Why.TheVariants.{EntryState, NotAdded, NotIdle, NotIssued, RegisterKind}
-
--- objects of a class of active objects
-abbrev pub is_active_kind : Option ClassKind → Bool
-is_active_kind (Some (Active provider)) = true
-is_active_kind _ = false
-
--- objects of a class of active objects whose requests are completed by the tokens that they hand out
-abbrev pub is_token_kind : Option ClassKind → Bool
-is_token_kind (Some (Active Token)) = true
-is_token_kind _ = false
-
--- and those that issue their requests
-abbrev pub is_issuing_kind : Option ClassKind → Bool
-is_issuing_kind k = is_active_kind k && not (is_token_kind k)
-
--- objects of a class whose objects are enlisted
-abbrev pub is_listed_kind : Option ClassKind → Bool
-is_listed_kind (Some (Active provider)) = true
-is_listed_kind (Some (Server most session)) = true
-is_listed_kind _ = false
 
 -- the kind of class that a method is of
 abbrev pub own_kind : Image → ℕ → Option ClassKind

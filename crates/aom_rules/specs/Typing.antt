@@ -3,11 +3,12 @@ use Rattle.std.specs.Prelude.{ℕ, ◌≡◌, IsSome, List, [], ◌∷◌, Optio
 use Rattle.aom_image.specs.Image.{Image}
 use Rattle.aom_image.specs.Views.{method_at, instr_at}
 use Rattle.aom_instructions.specs.declared.instr.Instr.{Instr}
-use Rattle.aom_shape.specs.Tables.{at}
+use Rattle.aom_roles.specs.Tests.{AllTrue}
+use Rattle.aom_roles.specs.Tables.{at}
 use Rattle.aom_shape.specs.Shape.{Shape}
 use Rattle.aom_shape.specs.Arguments.{entry_shape}
 use Rattle.aom_shape.specs.Order.{SaysNoMore}
-use Rattle.aom_shape.specs.Needs.{Flow, AllTrue}
+use Rattle.aom_shape.specs.Needs.{Flow}
 use Rattle.aom_rules.specs.Rules.{rule_needs, flows}
 
 -- by method and place; none where the place is not reached

@@ -4,7 +4,7 @@ use Rattle.aom_image.specs.Image.{Image}
 use Rattle.aom_shape.specs.Shape.{Shape}
 use Rattle.aom_shape.specs.Kinds.{register, set_register, is_word, is_unowning}
 use Rattle.aom_shape.specs.Needs.{Need, Flow, to_next}
-use Rattle.aom_shape.specs.Things.{holder_of, word_count}
+use Rattle.aom_roles.specs.Things.{holder_of, word_count}
 use Rattle.aom_shape.specs.declared.kind.Kind.TheVariants.{Word}
 use Rattle.aom_shape.specs.declared.why.Why.TheVariants.{RegisterKind}
 

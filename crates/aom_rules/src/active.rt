@@ -2,8 +2,9 @@
 ghost use Rattle.std.specs.Prelude.{◌≡◌, ◌++◌, ◌∷◌, [], ℤ, not, suc};
 ghost use Rattle.aom_image.specs.Views.{has};
 ghost use Rattle.aom_instructions.specs.declared.instr.Instr.TheVariants.{Abort, Cancel, Enlist, Issue, JumpActive, JumpAdded, SetActive, Status};
+ghost use Rattle.aom_roles.specs.Kinds.{is_active_kind, is_issuing_kind, is_listed_kind};
 ghost use Rattle.aom_roles.specs.States.{active_states, server_states, unlisted};
-ghost use Rattle.aom_rules.specs.Requests.{enlisted, flow_narrowed, inactive, is_active_kind, is_issuing_kind, is_listed_kind, once_cancelled, outstanding, own_kind, resting};
+ghost use Rattle.aom_rules.specs.Requests.{enlisted, flow_narrowed, inactive, once_cancelled, outstanding, own_kind, resting};
 ghost use Rattle.aom_rules.specs.Rules.{Tells};
 ghost use Rattle.aom_shape.specs.Changes.{ways_from};
 ghost use Rattle.aom_shape.specs.Needs.{to_next};

@@ -2,10 +2,11 @@
 ghost use Rattle.std.specs.Prelude.{◌≡◌, Some};
 ghost use Rattle.aom_image.specs.declared.method.Thing.TheVariants.{Message};
 ghost use Rattle.aom_instructions.specs.declared.instr.Instr.TheVariants.{Hand, Reply, TakeMessage};
+ghost use Rattle.aom_roles.specs.Kinds.{is_token_kind};
 ghost use Rattle.aom_roles.specs.Classes.{kind_at};
 ghost use Rattle.aom_roles.specs.Shapes.{kind_of};
 ghost use Rattle.aom_rules.specs.Messages.{after_hand, after_take_message};
-ghost use Rattle.aom_rules.specs.Requests.{is_token_kind, own_kind};
+ghost use Rattle.aom_rules.specs.Requests.{own_kind};
 ghost use Rattle.aom_rules.specs.Rules.{Tells};
 ghost use Rattle.aom_shape.specs.declared.why.Why.TheVariants.{RegisterKind};
 

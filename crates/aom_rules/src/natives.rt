@@ -1,9 +1,9 @@
 //! The rules of instructions on the native that serves the method's own object.
 ghost use Rattle.std.specs.Prelude.{◌≡◌, Some};
 ghost use Rattle.aom_instructions.specs.declared.instr.Instr.TheVariants.{Ask, Close, Connect};
+ghost use Rattle.aom_roles.specs.Kinds.{is_native_kind};
 ghost use Rattle.aom_roles.specs.Classes.{kind_at};
 ghost use Rattle.aom_roles.specs.Shapes.{kind_of};
-ghost use Rattle.aom_rules.specs.Natives.{is_native_kind};
 ghost use Rattle.aom_rules.specs.Requests.{own_kind};
 ghost use Rattle.aom_rules.specs.Rules.{Tells};
 ghost use Rattle.aom_shape.specs.declared.why.Why.TheVariants.{RegisterKind};

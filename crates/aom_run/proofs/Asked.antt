@@ -7,16 +7,16 @@ use Rattle.aom_image.specs.Image.{Image}
 use Rattle.aom_image.specs.WellFormed.{WellFormed}
 use Rattle.aom_image.specs.declared.method.Thing.{Thing}
 use Rattle.aom_rules.specs.Typing.{Typing}
-use Rattle.aom_endings.specs.Endings.{one_where}
+use Rattle.aom_determinism.specs.Endings.{one_where}
 use Rattle.aom_natives.specs.Owed.{IsNew, IsOwed, times}
 use Rattle.aom_natives.specs.Slots.{ids_at, living_at}
-use Rattle.aom_endings.specs.Owed.{Finds, FindsWell, is_for, meets, owes, owes_after, serves, serves_object, takes_on}
-use Rattle.aom_endings.proofs.Calls.{for_one}
-use Rattle.aom_sound.specs.Natives.{is_dead, is_served_by}
-use Rattle.aom_sound.specs.Places.{Object, named}
-use Rattle.aom_sound.specs.State.{State}
-use Rattle.aom_sound.specs.Wanted.{Wanted, Opens, Starts, Asks, Cancels, Closes}
-use Rattle.aom_parts.specs.Stands.{Machine as Core, StandsFor as Core_stands}
+use Rattle.aom_determinism.specs.Owed.{Finds, FindsWell, is_for, meets, owes, owes_after, serves, serves_object, takes_on}
+use Rattle.aom_determinism.proofs.Calls.{for_one}
+use Rattle.aom_semantics.specs.Natives.{is_dead, is_served_by}
+use Rattle.aom_semantics.specs.Places.{Object, named}
+use Rattle.aom_semantics.specs.State.{State}
+use Rattle.aom_semantics.specs.Wanted.{Wanted, Opens, Starts, Asks, Cancels, Closes}
+use Rattle.aom_machine_state.specs.Stands.{Machine as Core, StandsFor as Core_stands}
 use Rattle.aom_run.specs.Answers.{Asked, KeepsUnasked, MayAsk, times_after}
 use Rattle.aom_run.specs.Beside.{KeepsUnnamed, Serves}
 use Rattle.aom_run.proofs.Moving.{Went}

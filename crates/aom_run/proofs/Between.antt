@@ -2,19 +2,19 @@
 use Rattle.std.proofs.lemmas.Bool.Decides.{nat_tests}
 use Rattle.std.proofs.Common.{◌≡◌, ◌⊎◌, ◌<◌, ◌≤◌, ℕ, ℤ, suc, Bool, true, false, List, [], Option, Some, None, length, ap, append-nil, arith, refl, subst, sym, ◌∙◌}
 use Rattle.std.proofs.lemmas.List.{append_cancel_left}
-use Rattle.aom_exec.proofs.Progressing.{is_as_far}
-use Rattle.aom_parts.specs.declared.progress.Progress.TheVariants.{Turned}
-use Rattle.aom_exec.specs.Steps.{progress, timers}
-use Rattle.aom_parts.specs.declared.rest.Rest.{Rest}
-use Rattle.aom_lines.specs.Turn.{Turn}
+use Rattle.aom_machine.proofs.Progressing.{is_as_far}
+use Rattle.aom_machine_state.specs.declared.progress.Progress.TheVariants.{Turned}
+use Rattle.aom_machine.specs.Steps.{progress, timers}
+use Rattle.aom_machine_state.specs.declared.counters.Counters.{Counters}
+use Rattle.aom_lines.specs.LineBuffer.{LineBuffer}
 use Rattle.aom_run.specs.Calls.{Completed as Completes_one, Delivered, NoneIsDue, Polled, Stands, StandsFor, Takes, natives_of}
 use Rattle.aom_run.specs.declared.machine.Machine.{Machine}
-use Rattle.aom_sound.specs.Places.{named}
-use Rattle.aom_sound.specs.State.{Goes, State}
-use Rattle.aom_sound.specs.World.{Completes, IsBetween, Outside, Reaches, Turning, begins, delivers, event_at, turned, written_by}
+use Rattle.aom_semantics.specs.Places.{named}
+use Rattle.aom_semantics.specs.State.{Goes, State}
+use Rattle.aom_semantics.specs.World.{Completes, IsBetween, Environment, Reaches, Turning, begins, delivers, event_at, turned, written_by}
 use Rattle.aom_transcript.specs.declared.line.Line.{Line}
 use Rattle.aom_transcript.specs.declared.event.TimedEvent.{TimedEvent}
-use Rattle.aom_endings.proofs.Lefts.{event_there}
+use Rattle.aom_determinism.proofs.Lefts.{event_there}
 use Rattle.aom_run.proofs.Parts.{completed_same, delivered_same, delivers_alike, delivers_by, delivers_well, no_turn, polled_same, polls_by, still_between, turns_by}
 use Rattle.aom_run.proofs.Reaching.{reaches_both}
 use Rattle.aom_run.proofs.Turnings.{NoneCome, completes_so, delivers_so, polls_so}
@@ -36,7 +36,7 @@ module _ {X : Type 0} {B : X → Type 0} where
         let w = so_far s stands in
         let x = one no_turn w.0 w.3 in
         let t = x.3 in
-        let on : (outside : Outside) → s.rest.dispatches < outside.limit → Reaches old.core.image outside s [] t.state =
+        let on : (outside : Environment) → s.rest.dispatches < outside.limit → Reaches old.core.image outside s [] t.state =
         λ outside below.
         let still : w.0.rest.dispatches < outside.limit = subst (λ r. r < outside.limit) (sym (ap (λ r. r.dispatches) w.2)) below in
         turns_by old.core.image outside s [] w.0 t.state (Completes x.0.object) (w.1 outside below) t.between (completes_so outside w.0 still x.0 x.1 x.2) tt (subst (λ q. turned q w.0 (Completes x.0.object) ≡ Goes t.state) image t.goes) in
@@ -81,7 +81,7 @@ module _ {X : Type 0} {B : X → Type 0} where
   all_polled m new may b is polled = grind (arith, nat_tests)
 
   pub still_rest : (old m new : Machine X B) → m.core.parts.rest ≡ record old.core.parts.rest { polled = m.core.parts.rest.polled } → new.core.parts.rest ≡ record m.core.parts.rest { polled = new.core.parts.rest.polled } → new.core.parts.rest ≡ record old.core.parts.rest { polled = new.core.parts.rest.polled }
-  still_rest old m new was is = is ∙ ap (λ (r : Rest). record r { polled = new.core.parts.rest.polled }) was
+  still_rest old m new was is = is ∙ ap (λ (r : Counters). record r { polled = new.core.parts.rest.polled }) was
 
   module _ (m new : Machine X B) (may : ℕ → Option (ℕ × ℤ) → Type 0) (polled : Polled may m true new) where
     pub polled_far : Stands m → progress new.core ≡ Turned
@@ -134,7 +134,7 @@ module _ {X : Type 0} {B : X → Type 0} where
           let later = x.3 in
           (x.0, further s w.0 x.0 [] w.2 w.1 x.1, x.2 ∙ w.2, omega (arith, before, later), x.4)
 
-      pub tells_after : (told now : Turn) (new : Machine X B) → TellsEnd events m told now new → TellsEnd events old told now new
+      pub tells_after : (told now : LineBuffer) (new : Machine X B) → TellsEnd events m told now new → TellsEnd events old told now new
       tells_after told now new then s stands =
           let w = first s stands in
           let x = then w.0 w.4 in
@@ -146,7 +146,7 @@ module _ {X : Type 0} {B : X → Type 0} where
     stands_settled old new settled stands = let x = settled stands.0 stands.1 in (x.0, x.4)
 
     -- an event is delivered
-    module _ (m new : Machine X B) (told now : Turn) (none : NoneIsDue m) (come : HasCome events m) (takes : Delivered m come.0.event told now new) (rest : new.core.parts.rest ≡ record m.core.parts.rest { delivered = suc m.core.parts.rest.delivered }) where
+    module _ (m new : Machine X B) (told now : LineBuffer) (none : NoneIsDue m) (come : HasCome events m) (takes : Delivered m come.0.event told now new) (rest : new.core.parts.rest ≡ record m.core.parts.rest { delivered = suc m.core.parts.rest.delivered }) where
       -- with the name for what is sent
       name : (s : State) → StandsFor m s → ℕ
       name s stands = (takes (hearing [] 0 (natives_of m) events) refl s stands).0
@@ -189,7 +189,7 @@ module _ {X : Type 0} {B : X → Type 0} where
       heard_settles quiet s stands =
           let t = taken s stands in
           let same = same_after s stands in
-          let none : written_by m.core.image s (part s stands) ≡ [] = append_cancel_left told.lines (written_by m.core.image s (part s stands)) [] (sym (ap (λ (x : Turn). x.lines) t.lines) ∙ ap (λ (x : Turn). x.lines) quiet ∙ sym (append-nil told.lines)) in
+          let none : written_by m.core.image s (part s stands) ≡ [] = append_cancel_left told.lines (written_by m.core.image s (part s stands)) [] (sym (ap (λ (x : LineBuffer). x.lines) t.lines) ∙ ap (λ (x : LineBuffer). x.lines) quiet ∙ sym (append-nil told.lines)) in
           let one = ap (λ r. r.delivered) same.1 in (
             t.state,
             λ refused limit below. subst (λ ls. Reaches m.core.image (hearing refused limit (natives_of m) events) s ls t.state) none (on s stands refused limit below),

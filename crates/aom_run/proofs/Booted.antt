@@ -3,11 +3,11 @@ use Rattle.std.proofs.lemmas.Bool.Decides.{nat_tests}
 use Rattle.std.proofs.Common.{◌≡◌, ◌<◌, ◌≤◌, ◌↔◌, ℕ, zero, suc, List, [], ◌∷◌, Option, Some, None, refl, sym, ap, ◌∙◌, length, map, arith}
 use Rattle.std.specs.Prelude.{option_map, IsSome}
 use Rattle.aom_image.specs.Image.{Image}
-use Rattle.aom_endings.specs.Endings.{one_where}
+use Rattle.aom_determinism.specs.Endings.{one_where}
 use Rattle.aom_natives.specs.Owed.{times}
 use Rattle.aom_natives.specs.Slots.{ids_at, living_at}
-use Rattle.aom_endings.proofs.Cells.{boot_owes_nothing}
-use Rattle.aom_sound.specs.World.{boot_state}
+use Rattle.aom_determinism.proofs.Cells.{boot_owes_nothing}
+use Rattle.aom_semantics.specs.World.{boot_state}
 use Rattle.aom_run.specs.Beside.{Serves}
 use Rattle.aom_run.specs.declared.fault.BootFault.{BootFault}
 use Rattle.aom_run.specs.declared.fault.BootFault.TheVariants.{OutOfMemory, TooFewNatives}

@@ -8,14 +8,14 @@ use Rattle.std.proofs.lemmas.Bool.{cases_lt, le-ltb, lt-ltb, not-true}
 use Rattle.aom_natives.specs.Owed.{TakesOut}
 use Rattle.aom_natives.specs.Slots.{KeepsOthers, ids_at, living_at}
 use Rattle.aom_natives.proofs.Ids.{same-out}
-use Rattle.aom_endings.specs.Owed.{has_name, owes}
-use Rattle.aom_sound.specs.Natives.{is_dead}
-use Rattle.aom_sound.specs.State.{Rest, State}
-use Rattle.aom_sound.specs.World.{AnswersWell, Completion, Hears, Kills, Outside, Polls, cell_at, delivers, first_living, lives}
+use Rattle.aom_determinism.specs.Owed.{has_name, owes}
+use Rattle.aom_semantics.specs.Natives.{is_dead}
+use Rattle.aom_semantics.specs.State.{Counters, State}
+use Rattle.aom_semantics.specs.World.{AnswersWell, Completion, Hears, Kills, Environment, Polls, cell_at, delivers, first_living, lives}
 use Rattle.aom_transcript.specs.declared.event.Event.TheVariants.{Kill}
-use Rattle.aom_lines.specs.Turn.{Turn}
-use Rattle.aom_parts.specs.Stands.{Machine as Core, StandsFor as Core_stands}
-use Rattle.aom_exec.specs.Turns.{Answers, Takes as Core_takes}
+use Rattle.aom_lines.specs.LineBuffer.{LineBuffer}
+use Rattle.aom_machine_state.specs.Stands.{Machine as Core, StandsFor as Core_stands}
+use Rattle.aom_machine.specs.Turns.{Answers, Takes as Core_takes}
 use Rattle.aom_run.specs.declared.machine.Machine.{Machine}
 use Rattle.aom_run.specs.Calls.{Delivered, StandsFor, Takes, natives_of}
 use Rattle.aom_run.specs.Beside.{KeptSame}
@@ -32,7 +32,7 @@ within slots n some = grind (arith, nat_tests, cases_lt n, beyond slots n)
 
 module _ {X : Type 0} {B : X → Type 0} (old : Machine X B) (s : State) (st : StandsFor old s) where
   -- a native lives in the checked machine just where its slot has it
-  pub lives_is : (outside : Outside) → outside.natives ≡ natives_of old → (n : ℕ) → lives outside s n ≡ is_some (living_at old.natives.slots.items n)
+  pub lives_is : (outside : Environment) → outside.natives ≡ natives_of old → (n : ℕ) → lives outside s n ≡ is_some (living_at old.natives.slots.items n)
   lives_is outside same n = grind (arith, nat_tests, cases_lt n, lt-ltb n outside.natives, beyond old.natives.slots.items n, le-ltb n)
 
   pub is_alive_so : (n : ℕ) → n < natives_of old → is_some (living_at old.natives.slots.items n) ≡ true → is_dead s.killed n ≡ false
@@ -43,17 +43,17 @@ module _ {X : Type 0} {B : X → Type 0} (old : Machine X B) (s : State) (st : S
 
   -- the first that lives, from the first that is not polled on
   pub from_polled : (n : ℕ) → n ≡ old.core.parts.rest.polled → first_living s.killed (natives_of old - s.rest.polled) s.rest.polled ≡ first_living s.killed (natives_of old - n) n
-  from_polled n e = ap (λ k. first_living s.killed (natives_of old - k) k) (sym (e ∙ ap (λ (r : Rest). r.polled) st.stands.agrees.rest))
+  from_polled n e = ap (λ k. first_living s.killed (natives_of old - k) k) (sym (e ∙ ap (λ (r : Counters). r.polled) st.stands.agrees.rest))
 
-  pub kills_it : (outside : Outside) → outside.natives ≡ natives_of old → (name n : ℕ) → IsSome (living_at old.natives.slots.items n) → delivers outside name s (Kill n) ≡ Kills n
+  pub kills_it : (outside : Environment) → outside.natives ≡ natives_of old → (name n : ℕ) → IsSome (living_at old.natives.slots.items n) → delivers outside name s (Kill n) ≡ Kills n
   kills_it outside same name n alive = ap (λ b. cond b (Kills n) Hears) (lives_is outside same n ∙ alive)
 
-  pub kills_none : (outside : Outside) → outside.natives ≡ natives_of old → (name n : ℕ) → is_some (living_at old.natives.slots.items n) ≡ false → delivers outside name s (Kill n) ≡ Hears
+  pub kills_none : (outside : Environment) → outside.natives ≡ natives_of old → (name n : ℕ) → is_some (living_at old.natives.slots.items n) ≡ false → delivers outside name s (Kill n) ≡ Hears
   kills_none outside same name n dead = ap (λ b. cond b (Kills n) Hears) (lives_is outside same n ∙ dead)
 
 -- a native that does not live is killed no more
 pub kills_nothing : {X : Type 0} {B : X → Type 0} (old : Machine X B) (core : Core) (image : core.image ≡ old.core.image) (n : ℕ) → is_some (living_at old.natives.slots.items n) ≡ false →
-    ((now : Turn) (s : State) → (st : StandsFor old s) → Core_takes old.core s Hears now now core) → (now : Turn) → Delivered old (Kill n) now now (record { core = core; natives = old.natives })
+    ((now : LineBuffer) (s : State) → (st : StandsFor old s) → Core_takes old.core s Hears now now core) → (now : LineBuffer) → Delivered old (Kill n) now now (record { core = core; natives = old.natives })
 kills_nothing old core image n dead all now outside same s st =
     with_any_name s (λ name. Takes old s (delivers outside name s (Kill n)) now now (record { core = core; natives = old.natives })) (λ name.
     subst (λ part. Takes old s part now now (record { core = core; natives = old.natives })) (sym (kills_none old s st outside same name n dead))
@@ -61,7 +61,7 @@ kills_nothing old core image n dead all now outside same s st =
 
 -- one that lives is
 pub kills_one : {X : Type 0} {B : X → Type 0} (old new : Machine X B) (image : new.core.image ≡ old.core.image) (n : ℕ) → IsSome (living_at old.natives.slots.items n) → living_at new.natives.slots.items n ≡ None → KeepsOthers old.natives.slots.items new.natives.slots.items n →
-    (before now : Turn) → ((s : State) (st : StandsFor old s) → Core_takes old.core s (Kills n) before now new.core) → Delivered old (Kill n) before now new
+    (before now : LineBuffer) → ((s : State) (st : StandsFor old s) → Core_takes old.core s (Kills n) before now new.core) → Delivered old (Kill n) before now new
 kills_one old new image n alive dead others before now all outside same s st =
     let core = all s st in
     with_any_name s (λ name. Takes old s (delivers outside name s (Kill n)) before now new) (λ name.
@@ -69,7 +69,7 @@ kills_one old new image n alive dead others before now all outside same s st =
     (takes_so old new s st (Kills n) others.count image before now core (serves_killed (λ l. l.ids) old.natives.slots.items new.natives.slots.items old.core.image s core.state n st.serves (tale_of old new s st (Kills n) tt tt before now core) dead others)))
 
 -- with one line
-pub line_more : (old new : Core) (s : State) (n : ℕ) (before now : Turn) → Core_takes old s (Kills n) before now new → length now.lines ≤ length before.lines + 1
+pub line_more : (old new : Core) (s : State) (n : ℕ) (before now : LineBuffer) → Core_takes old s (Kills n) before now new → length now.lines ≤ length before.lines + 1
 line_more old new s n before now core = grind (arith, nat_tests, length-append before.lines (Killed n ∷ []))
 
 -- ---- the native that is polled
@@ -99,12 +99,12 @@ module _ {X : Type 0} {B : X → Type 0} (old : Machine X B) (s : State) (st : S
       let here = there ids id in
       one_there (owes old.core.image s.cells n id) (omega (arith, is, has, here))
 
-  pub polled_none : (new : Machine X B) (image : new.core.image ≡ old.core.image) (n : ℕ) → KeptSame (λ l. l.ids) old.natives.slots.items new.natives.slots.items → (now : Turn) → Core_takes old.core s (Polls n None) now now new.core → Takes old s (Polls n None) now now new
+  pub polled_none : (new : Machine X B) (image : new.core.image ≡ old.core.image) (n : ℕ) → KeptSame (λ l. l.ids) old.natives.slots.items new.natives.slots.items → (now : LineBuffer) → Core_takes old.core s (Polls n None) now now new.core → Takes old s (Polls n None) now now new
   polled_none new image n same now core = takes_plainly old new s st (Polls n None) (record { owes = λ n m b. refl; killed = refl }) tt tt same image now now core
 
   pub polled_some : (new : Machine X B) (image : new.core.image ≡ old.core.image) (n id : ℕ) (code : ℤ) (a : Completion) → TakesOut id (ids_at (λ l. l.ids) old.natives.slots.items n) (ids_at (λ l. l.ids) new.natives.slots.items n) →
       IsSome (living_at old.natives.slots.items n) → IsSome (living_at new.natives.slots.items n) → KeepsOthers old.natives.slots.items new.natives.slots.items n → Answers s.cells (Some (id, code)) (Some a) → AnswersWell old.core.image s (Polls n (Some a)) →
-      (now : Turn) → Core_takes old.core s (Polls n (Some a)) now now new.core → Takes old s (Polls n (Some a)) now now new
+      (now : LineBuffer) → Core_takes old.core s (Polls n (Some a)) now now new.core → Takes old s (Polls n (Some a)) now now new
   polled_some new image n id code a out before after others is well now core =
       takes_so old new s st (Polls n (Some a)) others.count image now now core
       (serves_completed (λ l. l.ids) old.natives.slots.items new.natives.slots.items old.core.image s core.state n id a st.serves (tale_of old new s st (Polls n (Some a)) tt well now now core) named out before after others)
@@ -123,7 +123,7 @@ owed_in old s st n (Some x) ids out = (s, st.stands, handed_over old s st n x.0 
 pub polled_so : {X : Type 0} {B : X → Type 0} (old new : Machine X B) (image : new.core.image ≡ old.core.image) (n : ℕ) (completion : Option (ℕ × ℤ)) →
     MatchOption completion (ids_at (λ l. l.ids) new.natives.slots.items n ≡ ids_at (λ l. l.ids) old.natives.slots.items n) (λ x. TakesOut x.0 (ids_at (λ l. l.ids) old.natives.slots.items n) (ids_at (λ l. l.ids) new.natives.slots.items n)) →
     IsSome (living_at old.natives.slots.items n) → IsSome (living_at new.natives.slots.items n) → KeepsOthers old.natives.slots.items new.natives.slots.items n →
-    (s : State) → StandsFor old s → (answer : Option Completion) → Answers s.cells completion answer → AnswersWell old.core.image s (Polls n answer) → (now : Turn) → Core_takes old.core s (Polls n answer) now now new.core → Takes old s (Polls n answer) now now new
+    (s : State) → StandsFor old s → (answer : Option Completion) → Answers s.cells completion answer → AnswersWell old.core.image s (Polls n answer) → (now : LineBuffer) → Core_takes old.core s (Polls n answer) now now new.core → Takes old s (Polls n answer) now now new
 polled_so old new image n None same before after others s st None is well now core = polled_none old s st new image n (kept_but (λ l. l.ids) old.natives.slots.items new.natives.slots.items n before after same others) now core
 polled_so old new image n (Some x) out before after others s st (Some a) is well now core = polled_some old s st new image n x.0 x.1 a out before after others is well now core
 polled_so old new image n _ out before after others s st _ is well now core = absurd is

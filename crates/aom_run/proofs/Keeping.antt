@@ -1,7 +1,7 @@
 -- What a machine between dispatches keeps while parts of a turn go on, one after another.
 use Rattle.std.proofs.Common.{ap, length, refl, ◌∙◌, ◌≡◌}
-use Rattle.aom_parts.specs.declared.progress.Progress.TheVariants.{Turned}
-use Rattle.aom_exec.specs.Steps.{progress, timers}
+use Rattle.aom_machine_state.specs.declared.progress.Progress.TheVariants.{Turned}
+use Rattle.aom_machine.specs.Steps.{progress, timers}
 use Rattle.aom_run.specs.Calls.{NoneIsDue, Stands, natives_of}
 use Rattle.aom_run.specs.declared.machine.Machine.{Machine}
 use Rattle.aom_run.specs.Runs.{KeepsImage}

@@ -3,19 +3,19 @@ use Rattle.std.proofs.lemmas.Bool.Decides.{nat_tests}
 use Rattle.std.proofs.Common.{◌≡◌, ◌⊎◌, ℤ, ℕ, arith, false, pos, List, Option, None, refl, sym, ap, subst, ◌∙◌, inl, inr}
 use Rattle.aom_image.specs.Image.{Image}
 use Rattle.aom_rules.specs.Typing.{Typing}
-use Rattle.aom_endings.specs.Owed.{FindsWell, SessionsHold, owes, owes_after}
-use Rattle.aom_endings.proofs.Moves.{moves_follow_calls}
-use Rattle.aom_sound.specs.Places.{named}
-use Rattle.aom_sound.specs.Moves.{IsOpen, step}
-use Rattle.aom_sound.specs.State.{Choice, Goes, IsStuck, Outcome, State, Task}
-use Rattle.aom_sound.specs.Wanted.{Wanted, wanted, wanted_task}
-use Rattle.aom_sound.specs.WellTyped.{Keeps, WellTyped}
-use Rattle.aom_endings.proofs.Ending.{above, top}
+use Rattle.aom_determinism.specs.Owed.{FindsWell, SessionsHold, owes, owes_after}
+use Rattle.aom_determinism.proofs.Moves.{moves_follow_calls}
+use Rattle.aom_semantics.specs.Places.{named}
+use Rattle.aom_semantics.specs.Moves.{IsOpen, step}
+use Rattle.aom_semantics.specs.State.{Choice, Goes, IsStuck, Outcome, State, Task}
+use Rattle.aom_semantics.specs.Wanted.{Wanted, wanted, wanted_task}
+use Rattle.aom_safety.specs.WellTyped.{Keeps, WellTyped}
+use Rattle.aom_determinism.proofs.Ending.{above, top}
 use Rattle.aom_transcript.specs.declared.line.Line.{Line}
-use Rattle.aom_parts.specs.Progress.{progress_by}
-use Rattle.aom_exec.specs.Steps.{Hears, IsAtHand, IsDone, IsUncounted, Quiet, Quietly, Settles, Steps}
-use Rattle.aom_parts.specs.Stands.{Sound}
-use Rattle.aom_exec.specs.Steps as steps
+use Rattle.aom_machine_state.specs.Progress.{progress_by}
+use Rattle.aom_machine.specs.Steps.{Hears, IsAtHand, IsDone, IsUncounted, Quiet, Quietly, Settles, Steps}
+use Rattle.aom_machine_state.specs.Stands.{Sound}
+use Rattle.aom_machine.specs.Steps as steps
 use Rattle.aom_run.specs.Answers.{asked_by, asked_of}
 
 -- what is outstanding in a state that is come to by way of such a call

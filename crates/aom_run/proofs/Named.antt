@@ -16,12 +16,12 @@ use Rattle.aom_image.specs.declared.method.Thing.TheVariants.{Object as An_objec
 use Rattle.aom_classes.proofs.Facts.{all_there}
 use Rattle.aom_roles.specs.Classes.{kind_in}
 use Rattle.aom_roles.specs.Shapes.{kind_of}
-use Rattle.aom_sound.specs.Enlisted.{thing_kind}
-use Rattle.aom_sound.specs.Natives.{native_of}
-use Rattle.aom_sound.specs.Places.{Cell}
-use Rattle.aom_endings.specs.Owed.{serves}
-use Rattle.aom_endings.proofs.Cells.{native_served}
-use Rattle.aom_endings.specs.Endings.{one_where}
+use Rattle.aom_semantics.specs.Enlisted.{thing_kind}
+use Rattle.aom_semantics.specs.Natives.{native_of}
+use Rattle.aom_semantics.specs.Places.{Cell}
+use Rattle.aom_determinism.specs.Owed.{serves}
+use Rattle.aom_determinism.proofs.Cells.{native_served}
+use Rattle.aom_determinism.specs.Endings.{one_where}
 use Rattle.aom_natives.specs.Owed.{IsNew, times}
 
 module _ (p : Image) (formed : WellFormed p) where

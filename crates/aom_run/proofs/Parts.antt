@@ -1,19 +1,19 @@
 -- What a part of a turn leaves as it was, and how a run goes on by it.
 use Rattle.std.proofs.lemmas.Bool.Decides.{nat_tests}
 use Rattle.std.proofs.Common.{◌≡◌, ◌≤◌, ℕ, suc, List, [], ◌++◌, Option, None, length, ap, arith, subst, sym, refl, ◌∙◌}
-use Rattle.aom_endings.proofs.Ending.{above, top}
+use Rattle.aom_determinism.proofs.Ending.{above, top}
 use Rattle.aom_image.specs.Image.{Image}
-use Rattle.aom_lines.specs.Turn.{Turn}
-use Rattle.aom_sound.proofs.Guarded.{goes_same}
-use Rattle.aom_sound.proofs.Turned.{commanded_kept}
-use Rattle.aom_sound.specs.Places.{Object, named}
-use Rattle.aom_sound.specs.State.{Goes, State}
-use Rattle.aom_sound.specs.World.{AnswersWell, Completes, Completion, Heard, IsBetween, Outside, Polls, Reaches, Turning, delivers, nothing_heard, turned, turning, turns, written_by}
+use Rattle.aom_lines.specs.LineBuffer.{LineBuffer}
+use Rattle.aom_safety.proofs.Guarded.{goes_same}
+use Rattle.aom_safety.proofs.Turned.{commanded_kept}
+use Rattle.aom_semantics.specs.Places.{Object, named}
+use Rattle.aom_semantics.specs.State.{Goes, State}
+use Rattle.aom_semantics.specs.World.{AnswersWell, Completes, Completion, Heard, IsBetween, Environment, Polls, Reaches, Turning, delivers, nothing_heard, turned, turning, turns, written_by}
 use Rattle.aom_transcript.specs.declared.event.Event.{Event}
 use Rattle.aom_transcript.specs.declared.event.Event.TheVariants.{Client, Kill, Tell}
 use Rattle.aom_transcript.specs.declared.line.Line.{Line}
 
-pub no_turn : Turn
+pub no_turn : LineBuffer
 no_turn = record { lines = []; refused = []; room = 0 }
 
 pub still_between : (s u : State) → u.tasks ≡ s.tasks → u.rest.ended ≡ s.rest.ended → IsBetween s → IsBetween u
@@ -24,19 +24,19 @@ pub completed_same : (p : Image) (s u : State) (o : Object) → turned p s (Comp
 completed_same p s u o goes = let same = sym (goes_same _ u goes) in (ap (λ (v : State). v.tasks) same, ap (λ (v : State). v.rest) same)
 
 -- an event is delivered
-pub delivered_same : (p : Image) (outside : Outside) (name : ℕ) (s u : State) (event : Event) → turned p s (delivers outside name s event) ≡ Goes u → (u.tasks ≡ s.tasks) × (u.rest ≡ record s.rest { delivered = suc s.rest.delivered })
+pub delivered_same : (p : Image) (outside : Environment) (name : ℕ) (s u : State) (event : Event) → turned p s (delivers outside name s event) ≡ Goes u → (u.tasks ≡ s.tasks) × (u.rest ≡ record s.rest { delivered = suc s.rest.delivered })
 delivered_same p outside name s u x goes = grind (arith, nat_tests, goes_same, commanded_kept p)
 
 -- by the number of natives alone
-pub delivers_alike : (one other : Outside) → one.natives ≡ other.natives → (name : ℕ) (s : State) (event : Event) → delivers one name s event ≡ delivers other name s event
+pub delivers_alike : (one other : Environment) → one.natives ≡ other.natives → (name : ℕ) (s : State) (event : Event) → delivers one name s event ≡ delivers other name s event
 delivers_alike one other same name s x = grind arith
 
 -- no answer is heard by that, and one line is written at most
-pub delivers_well : (p : Image) (outside : Outside) (name : ℕ) (s : State) (event : Event) → AnswersWell p s (delivers outside name s event) × (length (written_by p s (delivers outside name s event)) ≤ 1)
+pub delivers_well : (p : Image) (outside : Environment) (name : ℕ) (s : State) (event : Event) → AnswersWell p s (delivers outside name s event) × (length (written_by p s (delivers outside name s event)) ≤ 1)
 delivers_well p outside name s x = grind arith
 
 -- the line is not by the name
-lines_alike : (p : Image) (outside : Outside) (one other : ℕ) (s : State) (event : Event) → written_by p s (delivers outside one s event) ≡ written_by p s (delivers outside other s event)
+lines_alike : (p : Image) (outside : Environment) (one other : ℕ) (s : State) (event : Event) → written_by p s (delivers outside one s event) ≡ written_by p s (delivers outside other s event)
 lines_alike p outside one other s (Tell n word) = refl
 lines_alike p outside one other s (Kill n) = refl
 lines_alike p outside one other s (Client c command) = grind (arith, nat_tests)
@@ -52,7 +52,7 @@ abbrev heard_of : Option Completion → State → Heard
 heard_of answer s = record { completion = answer; name = top s.cells }
 
 -- by a part that is the same whatever is heard
-pub turns_by : (p : Image) (outside : Outside) (from : State) (lines : List Line) (s u : State) (x : Turning)
+pub turns_by : (p : Image) (outside : Environment) (from : State) (lines : List Line) (s u : State) (x : Turning)
     → Reaches p outside from lines s → IsBetween s → ((heard : Heard) → turning outside heard s ≡ x) → AnswersWell p s x → turned p s x ≡ Goes u → Reaches p outside from (lines ++ written_by p s x) u
 turns_by p outside from lines s u x r between is owed goes =
     let heard = heard_of None s in
@@ -60,7 +60,7 @@ turns_by p outside from lines s u x r between is owed goes =
     (turns heard r between (record { completion = subst (λ k. AnswersWell p s k) (sym (is heard)) owed; name = above s.cells (top s.cells) (omega arith) }) (ap (turned p s) (is heard) ∙ goes))
 
 -- by an event, with that name for what is sent
-pub delivers_by : (p : Image) (outside : Outside) (from : State) (lines : List Line) (s u : State) (event : Event) (name : ℕ)
+pub delivers_by : (p : Image) (outside : Environment) (from : State) (lines : List Line) (s u : State) (event : Event) (name : ℕ)
     → Reaches p outside from lines s → IsBetween s → ((heard : Heard) → turning outside heard s ≡ delivers outside heard.name s event) → named s.cells name ≡ None → turned p s (delivers outside name s event) ≡ Goes u
     → Reaches p outside from (lines ++ written_by p s (delivers outside name s event)) u
 delivers_by p outside from lines s u event name r between is free goes =
@@ -69,7 +69,7 @@ delivers_by p outside from lines s u event name r between is free goes =
     (turns heard r between (record { completion = subst (λ k. AnswersWell p s k) (sym (is heard)) (delivers_well p outside name s event).0; name = free }) (ap (turned p s) (is heard) ∙ goes))
 
 -- by a poll, which writes nothing
-pub polls_by : (p : Image) (outside : Outside) (from s u : State) (n : ℕ) (answer : Option Completion)
+pub polls_by : (p : Image) (outside : Environment) (from s u : State) (n : ℕ) (answer : Option Completion)
     → Reaches p outside from [] s → IsBetween s → ((heard : Heard) → turning outside heard s ≡ Polls n heard.completion) → AnswersWell p s (Polls n answer) → turned p s (Polls n answer) ≡ Goes u → Reaches p outside from [] u
 polls_by p outside from s u n answer r between is owed goes =
     let heard = heard_of answer s in

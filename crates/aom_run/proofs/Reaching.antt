@@ -2,13 +2,13 @@
 use Rattle.std.proofs.Common.{◌≡◌, ℕ, ℤ, List, [], ◌++◌, sym, ap, subst, ◌∙◌, append-nil, append_assoc}
 use Rattle.aom_image.proofs.Given.{cons_given}
 use Rattle.aom_image.specs.Image.{Image}
-use Rattle.aom_sound.specs.Moves.{written}
-use Rattle.aom_sound.specs.State.{State}
-use Rattle.aom_sound.specs.World.{Reaches, begins, moves as moved, turns, written_turn, IsBusy, Outside}
+use Rattle.aom_semantics.specs.Moves.{written}
+use Rattle.aom_semantics.specs.State.{State}
+use Rattle.aom_semantics.specs.World.{Reaches, begins, moves as moved, turns, written_turn, IsBusy, Environment}
 use Rattle.aom_transcript.specs.declared.line.Line.{Line}
-use Rattle.aom_lines.specs.Turn.{Turn}
-use Rattle.aom_parts.specs.declared.progress.Progress.{Progress}
-use Rattle.aom_exec.specs.Steps.{Steps, rests, moves, Settles, settled, settles, IsUncounted, Quiet, begins as none, goes_on as then_on}
+use Rattle.aom_lines.specs.LineBuffer.{LineBuffer}
+use Rattle.aom_machine_state.specs.declared.progress.Progress.{Progress}
+use Rattle.aom_machine.specs.Steps.{Steps, rests, moves, Settles, settled, settles, IsUncounted, Quiet, begins as none, goes_on as then_on}
 use Rattle.aom_run.specs.Calls.{Stands, StandsFor, SteppedOn}
 use Rattle.aom_run.specs.declared.machine.Machine.{Machine}
 use Rattle.aom_run.specs.Runs.{Filled, Moving, begins as stays, goes_on}
@@ -44,14 +44,14 @@ moving_both p refused b lines s _ _ r (goes_on {lines = more} {s = v} {u = u} c 
     subst (λ ls. Moving p refused b ls u) (append_assoc lines more (written p v)) (goes_on c (moving_both p refused b lines s more v r before) busy free goes)
 
 -- and a run goes on with them
-pub reaches_then : (p : Image) (outside : Outside) (b : State) (lines : List Line) (s : State) (more : List Line) (u : State)
+pub reaches_then : (p : Image) (outside : Environment) (b : State) (lines : List Line) (s : State) (more : List Line) (u : State)
     → Reaches p outside b lines s → Moving p outside.refused s more u → Reaches p outside b (lines ++ more) u
 reaches_then p outside b lines s _ _ r stays = subst (λ ls. Reaches p outside b ls s) (sym (append-nil lines)) r
 reaches_then p outside b lines s _ _ r (goes_on {lines = more} {s = v} {u = u} c before busy free goes) =
     subst (λ ls. Reaches p outside b ls u) (append_assoc lines more (written p v)) (moved c (reaches_then p outside b lines s more v r before) busy free goes)
 
 -- a run that goes on from where another came to
-pub reaches_both : (p : Image) (outside : Outside) (b : State) (lines : List Line) (s : State) (more : List Line) (u : State)
+pub reaches_both : (p : Image) (outside : Environment) (b : State) (lines : List Line) (s : State) (more : List Line) (u : State)
     → Reaches p outside b lines s → Reaches p outside s more u → Reaches p outside b (lines ++ more) u
 reaches_both p outside b lines s _ _ r begins = subst (λ ls. Reaches p outside b ls s) (sym (append-nil lines)) r
 reaches_both p outside b lines s _ _ r (moved {lines = more} {s = v} {u = u} c before busy free goes) =
@@ -61,33 +61,33 @@ reaches_both p outside b lines s _ _ r (turns {lines = more} {s = v} {u = u} hea
 
 module _ {X : Type 0} {B : X → Type 0} where
   -- what steps do, whatever they hear
-  abbrev pub StepsOn : Machine X B → Progress → Turn → Turn → Machine X B → Type 0
+  abbrev pub StepsOn : Machine X B → Progress → LineBuffer → LineBuffer → Machine X B → Type 0
   StepsOn old progress told now new = (s : State) → StandsFor old s → (heard : ℤ) × SteppedOn old heard progress told now new s
 
   -- so do steps of which more is said of what they hear
-  pub steps_of : (old new : Machine X B) (progress : Progress) (told now : Turn) {May : State → ℤ → Type 0} → ((s : State) → StandsFor old s → (heard : ℤ) × May s heard × SteppedOn old heard progress told now new s) → StepsOn old progress told now new
+  pub steps_of : (old new : Machine X B) (progress : Progress) (told now : LineBuffer) {May : State → ℤ → Type 0} → ((s : State) → StandsFor old s → (heard : ℤ) × May s heard × SteppedOn old heard progress told now new s) → StepsOn old progress told now new
   steps_of old new progress told now steps s stands = let x = steps s stands in (x.0, x.2)
 
   -- the turn is filled, however far the machine has come
-  abbrev pub Went : Machine X B → Turn → Turn → Machine X B → Type 0
+  abbrev pub Went : Machine X B → LineBuffer → LineBuffer → Machine X B → Type 0
   Went old told now new =
       (s : State) → StandsFor old s
       → (lines : List Line) × (u : State) × Moving old.core.image told.refused s lines u
       × (now ≡ record told { lines = told.lines ++ lines })
       × StandsFor new u
 
-  pub went_nowhere : (m : Machine X B) (told : Turn) → Went m told told m
+  pub went_nowhere : (m : Machine X B) (told : LineBuffer) → Went m told told m
   went_nowhere m told s stands = ([], s, stays, ap (λ ls. record told { lines = ls }) (sym (append-nil told.lines)), stands)
 
-  pub went : (old new : Machine X B) (told now : Turn) (progress : Progress) → Filled old progress told now new → Went old told now new
+  pub went : (old new : Machine X B) (told now : LineBuffer) (progress : Progress) → Filled old progress told now new → Went old told now new
   went old new told now progress filled s stands = let f = filled s stands in (f.0, f.1, f.2, f.3, f.5)
 
-  pub filled : (old m new : Machine X B) (told mid now : Turn) (progress : Progress) → Went old told mid m → m.core.image ≡ old.core.image → StepsOn m progress mid now new → Filled old progress told now new
+  pub filled : (old m new : Machine X B) (told mid now : LineBuffer) (progress : Progress) → Went old told mid m → m.core.image ≡ old.core.image → StepsOn m progress mid now new → Filled old progress told now new
   filled old m new told mid now progress went image stepped s stands =
       let w = went s stands in
       let h = stepped w.1 w.4 in
       let x = h.1 in
-      let same : mid.refused ≡ told.refused = ap (λ (t : Turn). t.refused) w.3 in
+      let same : mid.refused ≡ told.refused = ap (λ (t : LineBuffer). t.refused) w.3 in
       let heard = h.0 in
       let quiet = subst (λ q. Quiet q told.refused heard w.1 x.3.0 x.1) image (subst (λ r. Quiet m.core.image r heard w.1 x.3.0 x.1) same x.3.1) in
       let steps = subst (λ q. Steps q told.refused heard x.1 x.0 x.2) image (subst (λ r. Steps m.core.image r heard x.1 x.0 x.2) same x.4) in
@@ -95,11 +95,11 @@ module _ {X : Type 0} {B : X → Type 0} where
       let moving =
       subst (λ l. Moving old.core.image told.refused s l x.2) (append_assoc w.0 x.3.0 x.0)
       (steps_on old.core.image told.refused heard s (w.0 ++ x.3.0) x.1 x.0 x.2 (quietly_on old.core.image told.refused heard s w.0 w.1 x.3.0 x.1 w.2 quiet) steps) in
-      let turn = x.5 ∙ ap (λ (t : Turn). record t { lines = t.lines ++ ls }) w.3 ∙ ap (λ l. record told { lines = l }) (append_assoc told.lines w.0 ls) in
+      let turn = x.5 ∙ ap (λ (t : LineBuffer). record t { lines = t.lines ++ ls }) w.3 ∙ ap (λ l. record told { lines = l }) (append_assoc told.lines w.0 ls) in
       (w.0 ++ ls, x.2, moving, turn, x.6, x.7)
 
-  pub stands_on : (m new : Machine X B) (told now : Turn) (progress : Progress) → Stands m → StepsOn m progress told now new → Stands new
+  pub stands_on : (m new : Machine X B) (told now : LineBuffer) (progress : Progress) → Stands m → StepsOn m progress told now new → Stands new
   stands_on m new told now progress stands stepped = let x = (stepped stands.0 stands.1).1 in (x.2, x.7)
 
-  pub room_stays : (m new : Machine X B) (told now : Turn) (progress : Progress) → Stands m → StepsOn m progress told now new → now.room ≡ told.room
-  room_stays m new told now progress stands stepped = let x = (stepped stands.0 stands.1).1 in ap (λ (t : Turn). t.room) x.5
+  pub room_stays : (m new : Machine X B) (told now : LineBuffer) (progress : Progress) → Stands m → StepsOn m progress told now new → now.room ≡ told.room
+  room_stays m new told now progress stands stepped = let x = (stepped stands.0 stands.1).1 in ap (λ (t : LineBuffer). t.room) x.5

@@ -2,23 +2,23 @@
 use Rattle.std.proofs.lemmas.Bool.Decides.{nat_tests}
 use Rattle.std.proofs.Common.{◌≡◌, ◌⊎◌, inl, inr, ◌<◌, ◌≤◌, ◌-◌, ℕ, min, Bool, true, false, cond, List, [], ◌∷◌, ◌++◌, Option, Some, None, length, ap, arith, refl, subst, sym, ◌∙◌}
 use Rattle.std.proofs.lemmas.Bool.{cases_lt}
-use Rattle.aom_parts.specs.declared.progress.Progress.TheVariants.{Turned}
-use Rattle.aom_exec.specs.Steps.{progress}
+use Rattle.aom_machine_state.specs.declared.progress.Progress.TheVariants.{Turned}
+use Rattle.aom_machine.specs.Steps.{progress}
 use Rattle.aom_image.specs.declared.method.Thing.{Thing}
 use Rattle.aom_image.specs.declared.method.Thing.TheVariants.{Message, Object as An_object_of}
-use Rattle.aom_lines.specs.Turn.{Turn}
+use Rattle.aom_lines.specs.LineBuffer.{LineBuffer}
 use Rattle.aom_run.specs.Calls.{NoneIsDue, Picked, Stands, StandsFor, Takes, TakesAll, natives_of}
 use Rattle.aom_run.specs.declared.machine.Machine.{Machine}
-use Rattle.aom_sound.proofs.Counting.{dispatches_are_counted}
-use Rattle.aom_sound.proofs.Guarded.{goes_same}
-use Rattle.aom_sound.specs.Lines.{serve_line}
-use Rattle.aom_sound.specs.Places.{Asked, Object, service_of}
-use Rattle.aom_sound.specs.Servers.{is_server}
-use Rattle.aom_sound.specs.State.{Goes, State}
-use Rattle.aom_sound.specs.World.{AnswersWell, Cuts, IsBetween, Outside, Passes, Picks, Reaches, Timed, Turning, Waits, begins, due_of, event_at, first_due, first_living, has_signal, Heard, nearer, next_event, next_native, next_time, nothing_heard, pick_line, run_line, time_of, turned, turning, written_by}
+use Rattle.aom_safety.proofs.Counting.{dispatches_are_counted}
+use Rattle.aom_safety.proofs.Guarded.{goes_same}
+use Rattle.aom_semantics.specs.Lines.{serve_line}
+use Rattle.aom_semantics.specs.Places.{Asked, Object, service_of}
+use Rattle.aom_semantics.specs.Servers.{is_server}
+use Rattle.aom_semantics.specs.State.{Goes, State}
+use Rattle.aom_semantics.specs.World.{AnswersWell, Cuts, IsBetween, Environment, Passes, Picks, Reaches, Timed, Turning, Waits, begins, due_of, event_at, first_due, first_living, has_signal, Heard, nearer, next_event, next_native, next_time, nothing_heard, pick_line, run_line, time_of, turned, turning, written_by}
 use Rattle.aom_transcript.specs.declared.line.Ending.TheVariants.{Limit, Waiting}
 use Rattle.aom_transcript.specs.declared.event.TimedEvent.{TimedEvent}
-use Rattle.aom_endings.proofs.Spending.{picked_pays}
+use Rattle.aom_determinism.proofs.Spending.{picked_pays}
 use Rattle.aom_run.proofs.Between.{none_now, settles_both, stands_settled, tells_after, turned_far}
 use Rattle.aom_run.proofs.Parts.{no_turn, still_between, turns_by}
 use Rattle.aom_run.proofs.Turnings.{NoneCome, cuts_so, passes_so, picks_so, waits_so}
@@ -56,7 +56,7 @@ module _ {X : Type 0} {B : X → Type 0} where
   below_so m limit s stands below = subst (λ r. r.dispatches < limit) stands.stands.agrees.rest below
 
   -- an event is told by a line
-  pub ends_told : (old new : Machine X B) (events : List TimedEvent) (refused : List ℕ) (limit : ℕ) (told now : Turn) → Below old limit → TellsEnd events old told now new → TakesTurns old (hearing refused limit (natives_of old) events) None told now new
+  pub ends_told : (old new : Machine X B) (events : List TimedEvent) (refused : List ℕ) (limit : ℕ) (told now : LineBuffer) → Below old limit → TellsEnd events old told now new → TakesTurns old (hearing refused limit (natives_of old) events) None told now new
   ends_told old new events refused limit told now below tells s stands = grind (arith, nat_tests, below_so old limit s stands below)
 
   -- the machine is between dispatches, there may be more of them, nothing is due, nothing has come, and all natives are polled
@@ -72,14 +72,14 @@ module _ {X : Type 0} {B : X → Type 0} where
     pub natives : natives_of m ≡ natives_of old
 
   -- where nothing signals nothing changes
-  pub none_picked : {events : List TimedEvent} {limit : ℕ} (old m new : Machine X B) (told now : Turn) (result : Bool) → Rests old events limit m → result ≡ false → Picked m result told now new
+  pub none_picked : {events : List TimedEvent} {limit : ℕ} (old m new : Machine X B) (told now : LineBuffer) (result : Bool) → Rests old events limit m → result ≡ false → Picked m result told now new
       → Rests old events limit new × (now ≡ told) × ((s : State) → StandsFor new s → has_signal s.cells ≡ false) × (new ≡ m)
   none_picked {events} {limit} old m new told now result rests none picked =
       let it = subst (λ b. Picked m b told now new) none picked in
       (subst (λ x. Rests old events limit x) (sym it.0) rests, it.1, λ s stands. it.2 s (subst (λ x. StandsFor x s) it.0 stands), it.0)
 
   module _ (old m : Machine X B) (events : List TimedEvent) (refused : List ℕ) (limit : ℕ) (rests : Rests old events limit m) where
-    abbrev outside : Outside
+    abbrev outside : Environment
     outside = hearing refused limit (natives_of old) events
 
     still_below : (s : State) (stands : StandsFor old s) → (rests.far s stands).0.rest.dispatches < limit
@@ -114,7 +114,7 @@ module _ {X : Type 0} {B : X → Type 0} where
         go false = one_run o s
 
     -- an object is dispatched, or a server
-    pub dispatches_one : (told now : Turn) (new : Machine X B) → Picked m true told now new → TakesTurns old outside None told now new
+    pub dispatches_one : (told now : LineBuffer) (new : Machine X B) → Picked m true told now new → TakesTurns old outside None told now new
     dispatches_one told now new picked s stands =
         let w = rests.far s stands in
         let x = picked w.0 w.4 in
@@ -131,7 +131,7 @@ module _ {X : Type 0} {B : X → Type 0} where
 
     module _ (quiet : (s : State) → StandsFor m s → has_signal s.cells ≡ false) (next : Option ℕ) (told_so : (s : State) → StandsFor m s → next ≡ next_time outside s) where
       -- nothing comes any more, and the run is over
-      pub waits_on : next ≡ None → (told : Turn) (new : Machine X B) → TakesAll m Waits new → TakesTurns old outside (Some Waiting) told told new
+      pub waits_on : next ≡ None → (told : LineBuffer) (new : Machine X B) → TakesAll m Waits new → TakesTurns old outside (Some Waiting) told told new
       waits_on e told new takes s stands =
           let w = rests.far s stands in
           let t = takes told w.0 w.4 in
@@ -199,7 +199,7 @@ module _ {X : Type 0} {B : X → Type 0} where
 
         module _ (all : natives_of passed ≡ natives_of m) (new : Machine X B) where
           -- an event is told by a line then
-          pub tells_on : (told now : Turn) → TellsEnd events passed told now new → TakesTurns old outside None told now new
+          pub tells_on : (told now : LineBuffer) → TellsEnd events passed told now new → TakesTurns old outside None told now new
           tells_on told now tells = ends_told old new events refused limit told now rests.below (tells_after events old passed (again ∙ rests.image) (all ∙ rests.natives) passes_on told now new tells)
 
           -- or all that is due then is settled
@@ -249,7 +249,7 @@ module _ {X : Type 0} {B : X → Type 0} where
 
   -- ---- the limit
 
-  pub limit_cuts : (old : Machine X B) (outside : Outside) → outside.limit ≤ old.core.parts.rest.dispatches → (told : Turn) (new : Machine X B) → TakesAll old Cuts new → TakesTurns old outside (Some Limit) told told new
+  pub limit_cuts : (old : Machine X B) (outside : Environment) → outside.limit ≤ old.core.parts.rest.dispatches → (told : LineBuffer) (new : Machine X B) → TakesAll old Cuts new → TakesTurns old outside (Some Limit) told told new
   limit_cuts old outside at told new takes s stands =
       let t = takes told s stands in
       let is = cuts_so outside s (subst (λ r. outside.limit ≤ r.dispatches) stands.stands.agrees.rest at) in

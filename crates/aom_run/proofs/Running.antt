@@ -4,37 +4,37 @@ use Rattle.std.proofs.Common.{◌≡◌, ◌≢◌, ◌≤◌, ◌-◌, ◌^◌,
 use Rattle.std.proofs.Math.Nat.{mul-le-mul_right, suc-mul}
 use Rattle.std.specs.Prelude.{◌⊎◌, ◌*◌, is_some}
 use Rattle.aom_image.specs.Image.{Image}
-use Rattle.aom_sound.specs.Places.{count_cells}
-use Rattle.aom_sound.specs.State.{State, Task}
-use Rattle.aom_sound.specs.World.{boot_state, IsBetween, Reaches, begins, Outside}
+use Rattle.aom_semantics.specs.Places.{count_cells}
+use Rattle.aom_semantics.specs.State.{State, Task}
+use Rattle.aom_semantics.specs.World.{boot_state, IsBetween, Reaches, begins, Environment}
 use Rattle.aom_transcript.specs.declared.event.TimedEvent.{TimedEvent}
 use Rattle.aom_transcript.specs.declared.line.Line.{Line}
 use Rattle.aom_transcript.specs.declared.line.Ending.{Ending}
-use Rattle.aom_lines.specs.Turn.{Turn}
+use Rattle.aom_lines.specs.LineBuffer.{LineBuffer}
 use Rattle.aom_transcript.specs.Text.{ended, end_text, line_text}
 use Rattle.aom_run.specs.Naming.{text_by, transcript_by}
 use Rattle.aom_run.specs.declared.outcome.Outcome.{Outcome}
 use Rattle.aom_run.specs.declared.outcome.Outcome.TheVariants.{Stopped, Waiting, MainLeft, Limit, Error, WriteFault}
-use Rattle.aom_parts.specs.declared.progress.Progress.{Progress}
-use Rattle.aom_parts.specs.declared.progress.Progress.TheVariants as progresses
-use Rattle.aom_exec.specs.Steps.{progress as reached}
+use Rattle.aom_machine_state.specs.declared.progress.Progress.{Progress}
+use Rattle.aom_machine_state.specs.declared.progress.Progress.TheVariants as progresses
+use Rattle.aom_machine.specs.Steps.{progress as reached}
 use Rattle.aom_run.specs.Calls.{Stands, StandsFor, natives_of}
 use Rattle.aom_run.specs.declared.machine.Machine.{Machine}
-use Rattle.aom_frames.specs.declared.task.Task.{Task as Held_task}
-use Rattle.aom_steps.specs.Payers.{payer}
-use Rattle.aom_parts.specs.Progress.{progress_by, progress_of}
+use Rattle.aom_frames.specs.declared.task.Task.{Task as Machine_task}
+use Rattle.aom_progress.specs.Payers.{payer}
+use Rattle.aom_machine_state.specs.Progress.{progress_by, progress_of}
 use Rattle.aom_run.specs.Outcomes.{outcome_of}
-use Rattle.aom_exec.proofs.Progressing.{is_as_far}
+use Rattle.aom_machine.proofs.Progressing.{is_as_far}
 use Rattle.aom_run.specs.Runs.{after, CutOff, Ended, Moving, Sent, Told, CutShort, Ran}
-use Rattle.aom_endings.proofs.Ending.{runs_can_end}
-use Rattle.aom_endings.specs.Endings.{CanEnd, one_where}
+use Rattle.aom_determinism.proofs.Ending.{runs_can_end}
+use Rattle.aom_determinism.specs.Endings.{CanEnd, one_where}
 use Rattle.aom_run.specs.Turns.{TakesTurns, hearing, to_come}
 use Rattle.aom_run.proofs.Spared.{idle_stays, moving_spares}
 use Rattle.aom_run.proofs.Reaching.{reaches_both, reaches_then}
 use Rattle.aom_run.proofs.Sending.{cut_short, after_both, after_none, text_by_both, cut_next}
 
 -- the beginning of the lines of a run is one of its transcript
-cut_of : (reads : Line → List ℕ) (p : Image) (outside : Outside) (before now : Option (List ℕ)) (lines : List Line) → CanEnd p outside lines → (n : ℕ) → now ≡ after before (take n (text_by reads lines)) → CutShort reads p outside before now
+cut_of : (reads : Line → List ℕ) (p : Image) (outside : Environment) (before now : Option (List ℕ)) (lines : List Line) → CanEnd p outside lines → (n : ℕ) → now ≡ after before (take n (text_by reads lines)) → CutShort reads p outside before now
 cut_of reads p outside before now lines all n out =
     let rest = text_by reads all.more ++ ended (end_text all.ending (count_cells all.last.cells)) in
     let whole : transcript_by reads (lines ++ all.more) all.ending (count_cells all.last.cells) ≡ text_by reads lines ++ rest = ap (λ t. t ++ ended (end_text all.ending (count_cells all.last.cells))) (text_by_both reads lines all.more) ∙ append_assoc (text_by reads lines) (text_by reads all.more) (ended (end_text all.ending (count_cells all.last.cells))) in
@@ -60,7 +60,7 @@ abbrev rounds_by : ℕ → Option Ending → ℕ
 rounds_by spare None = suc spare
 rounds_by spare (Some ending) = 0
 
-still_open : (ended : Option Ending) (tasks : List Held_task) → progress_by ended tasks ≡ progresses.Turned → ended ≡ None
+still_open : (ended : Option Ending) (tasks : List Machine_task) → progress_by ended tasks ≡ progresses.Turned → ended ≡ None
 still_open ended tasks is = grind arith
 
 nothing_left : (tasks : List Task) → progress_by None tasks ≢ progresses.Running → tasks ≡ []
@@ -80,19 +80,19 @@ same_outcome d e is = grind arith
 
 module _ {X : Type 0} {B : X → Type 0} where
   -- the machine stands for a state that a run comes to; all its lines are out but the last, which are told and not out yet
-  pub record SoFar (reads : Line → List ℕ) (p : Image) (outside : Outside) (before now : Option (List ℕ)) (told : List Line) (m : Machine X B) : Type 0 where
+  pub record SoFar (reads : Line → List ℕ) (p : Image) (outside : Environment) (before now : Option (List ℕ)) (told : List Line) (m : Machine X B) : Type 0 where
     pub lines : List Line
     pub state : State
     pub reaches : Reaches p outside (boot_state p) (lines ++ told) state
     pub stands : StandsFor m state
     pub out : now ≡ after before (text_by reads lines)
 
-  pub starts : {reads : Line → List ℕ} (outside : Outside) (out : Option (List ℕ)) (m : Machine X B) (told : List Line) → told ≡ [] → StandsFor m (boot_state m.core.image) → SoFar reads m.core.image outside out out told m
+  pub starts : {reads : Line → List ℕ} (outside : Environment) (out : Option (List ℕ)) (m : Machine X B) (told : List Line) → told ≡ [] → StandsFor m (boot_state m.core.image) → SoFar reads m.core.image outside out out told m
   starts {reads} outside out m told none fresh =
       record { lines = []; state = boot_state m.core.image; reaches = subst (λ ls. Reaches m.core.image outside (boot_state m.core.image) ls (boot_state m.core.image)) (sym none) begins; stands = fresh; out = after_none out }
 
   -- a run that has come to a state that the machine stands for can be brought to an end
-  completed : (p : Image) (outside : Outside) → outside.limit ≤ 2 ^ 64 - 1 → (lines : List Line) (s : State) (m : Machine X B) → m.core.image ≡ p → Reaches p outside (boot_state p) lines s → StandsFor m s → CanEnd p outside lines
+  completed : (p : Image) (outside : Environment) → outside.limit ≤ 2 ^ 64 - 1 → (lines : List Line) (s : State) (m : Machine X B) → m.core.image ≡ p → Reaches p outside (boot_state p) lines s → StandsFor m s → CanEnd p outside lines
   completed p outside few lines s m image r stands =
       let Whole : Image → Type 0 = λ q. Reaches q outside (boot_state q) lines s → CanEnd q outside lines in
       let sound = stands.stands.sound in
@@ -100,7 +100,7 @@ module _ {X : Type 0} {B : X → Type 0} where
 
   -- ---- a run goes on
 
-  module _ {reads : Line → List ℕ} (p : Image) (outside : Outside) (before mid now : Option (List ℕ)) (m new : Machine X B) (told turn : Turn) (far : SoFar reads p outside before mid told.lines m) (image : m.core.image ≡ p) where
+  module _ {reads : Line → List ℕ} (p : Image) (outside : Environment) (before mid now : Option (List ℕ)) (m new : Machine X B) (told turn : LineBuffer) (far : SoFar reads p outside before mid told.lines m) (image : m.core.image ≡ p) where
     module _ (same : told.refused ≡ outside.refused) where
       more : (lines : List Line) (u : State) → Moving m.core.image told.refused far.state lines u → Reaches p outside (boot_state p) ((far.lines ++ told.lines) ++ lines) u
       more lines u moving =
@@ -114,7 +114,7 @@ module _ {X : Type 0} {B : X → Type 0} where
       pub sent_on : (progress : Progress) → Sent reads m progress told turn mid now new → SoFar reads p outside before now turn.lines new
       sent_on progress sent =
           let x = sent far.state far.stands in
-          let none : turn.lines ≡ [] = ap (λ (t : Turn). t.lines) x.3 in
+          let none : turn.lines ≡ [] = ap (λ (t : LineBuffer). t.lines) x.3 in
           let lines = (far.lines ++ told.lines) ++ x.0 in
           record {
             lines = lines;
@@ -144,7 +144,7 @@ module _ {X : Type 0} {B : X → Type 0} where
       pub turned_on : TakesTurns m outside None told turn new → SoFar reads p outside before mid turn.lines new
       turned_on takes =
           let x = takes far.state far.stands in
-          let is : turn.lines ≡ x.0 = ap (λ (t : Turn). t.lines) x.3 ∙ ap (λ ls. ls ++ x.0) none in
+          let is : turn.lines ≡ x.0 = ap (λ (t : LineBuffer). t.lines) x.3 ∙ ap (λ ls. ls ++ x.0) none in
           record { lines = far.lines; state = x.1; reaches = grind (arith, nat_tests, bare x.0 x.1 x.2); stands = x.5; out = far.out }
 
       pub turned_end : (ending : Ending) → TakesTurns m outside (Some ending) told turn new → Ended reads p outside ending before mid new
@@ -168,7 +168,7 @@ module _ {X : Type 0} {B : X → Type 0} where
           }
 
   -- what a dispatch leaves
-  module _ (reads : Line → List ℕ) (m new : Machine X B) (told now : Turn) (progress : Progress) (before out : Option (List ℕ)) (stands : Stands m) (sent : Sent reads m progress told now before out new) where
+  module _ (reads : Line → List ℕ) (m new : Machine X B) (told now : LineBuffer) (progress : Progress) (before out : Option (List ℕ)) (stands : Stands m) (sent : Sent reads m progress told now before out new) where
     pub sent_turn : now ≡ record told { lines = [] }
     sent_turn = (sent stands.0 stands.1).3
 
@@ -179,7 +179,7 @@ module _ {X : Type 0} {B : X → Type 0} where
     sent_rests = (sent stands.0 stands.1).6
 
   -- and turns
-  module _ (m new : Machine X B) (outside : Outside) (told now : Turn) (stands : Stands m) (takes : TakesTurns m outside None told now new) where
+  module _ (m new : Machine X B) (outside : Environment) (told now : LineBuffer) (stands : Stands m) (takes : TakesTurns m outside None told now new) where
     pub turned_stands : Stands new
     turned_stands = let x = takes stands.0 stands.1 in (x.1, x.5)
 
@@ -187,7 +187,7 @@ module _ {X : Type 0} {B : X → Type 0} where
     turned_few none = grind (arith, nat_tests)
 
     pub turned_same : now ≡ record told { lines = now.lines }
-    turned_same = let is = (takes stands.0 stands.1).3 in is ∙ ap (λ ls. record told { lines = ls }) (sym (ap (λ (t : Turn). t.lines) is))
+    turned_same = let is = (takes stands.0 stands.1).3 in is ∙ ap (λ ls. record told { lines = ls }) (sym (ap (λ (t : LineBuffer). t.lines) is))
 
   abbrev pub rounds : ℕ → Machine X B → ℕ
   rounds limit m = rounds_by (limit - m.core.parts.rest.dispatches) m.core.parts.rest.ended
@@ -226,7 +226,7 @@ module _ {X : Type 0} {B : X → Type 0} where
     still_open m.core.parts.rest.ended m.core.parts.stack.tasks between,
   )
 
-  pub fewer_left_by : (reads : Line → List ℕ) (outside : Outside) → outside.limit ≤ 2 ^ 64 - 1 → (m mid new : Machine X B) (told turn now : Turn) (progress : Progress) (before out : Option (List ℕ))
+  pub fewer_left_by : (reads : Line → List ℕ) (outside : Environment) → outside.limit ≤ 2 ^ 64 - 1 → (m mid new : Machine X B) (told turn now : LineBuffer) (progress : Progress) (before out : Option (List ℕ))
       → Stands m → reached m.core ≡ progresses.Turned → TakesTurns m outside None told turn mid → Sent reads mid progress turn now before out new → left outside.events outside.limit new < left outside.events outside.limit m
   fewer_left_by reads outside few m mid new told turn now progress before out stands between takes sent =
       let x = takes stands.0 stands.1 in
@@ -241,32 +241,32 @@ module _ {X : Type 0} {B : X → Type 0} where
       go u same below (inr told) lines v moving far rests then_stands =
           fewer_to_come outside.events outside.limit m new stands.0 u v stands.1 then_stands (idle_stays mid.core.image turn.refused u lines v told.0.idle moving) between same told.0.going told.1
 
-  pub fewer_left : (outside : Outside) → outside.limit ≤ 2 ^ 64 - 1 → (m mid new : Machine X B) (told turn now : Turn) (progress : Progress) (before out : Option (List ℕ))
+  pub fewer_left : (outside : Environment) → outside.limit ≤ 2 ^ 64 - 1 → (m mid new : Machine X B) (told turn now : LineBuffer) (progress : Progress) (before out : Option (List ℕ))
       → Stands m → reached m.core ≡ progresses.Turned → TakesTurns m outside None told turn mid → Sent line_text mid progress turn now before out new
       → left outside.events outside.limit new < left outside.events outside.limit m
   fewer_left outside = fewer_left_by line_text outside
 
   -- what the machine in the run has of natives and refused requests is what it had at first
-  pub turns_as : (m new : Machine X B) (limit : ℕ) (events : List TimedEvent) (result : Option Ending) (told now : Turn) {refused : List ℕ} {natives : ℕ} → told.refused ≡ refused → natives_of m ≡ natives
+  pub turns_as : (m new : Machine X B) (limit : ℕ) (events : List TimedEvent) (result : Option Ending) (told now : LineBuffer) {refused : List ℕ} {natives : ℕ} → told.refused ≡ refused → natives_of m ≡ natives
       → TakesTurns m (hearing told.refused limit (natives_of m) events) result told now new → TakesTurns m (hearing refused limit natives events) result told now new
   turns_as m new limit events result told now {refused} {natives} same count takes =
       subst (λ n. TakesTurns m (hearing refused limit n events) result told now new) count (subst (λ r. TakesTurns m (hearing r limit (natives_of m) events) result told now new) same takes)
 
   -- once turns have dispatched: how far the run has come, with what turn, and that the machine stands for a state
-  pub after_turns : {reads : Line → List ℕ} (p : Image) (events : List TimedEvent) (limit : ℕ) (before mid : Option (List ℕ)) (old m : Machine X B) (told turn first : Turn) {natives : ℕ} → (far : SoFar reads p (hearing first.refused limit natives events) before mid told.lines old) → old.core.image ≡ p →
+  pub after_turns : {reads : Line → List ℕ} (p : Image) (events : List TimedEvent) (limit : ℕ) (before mid : Option (List ℕ)) (old m : Machine X B) (told turn first : LineBuffer) {natives : ℕ} → (far : SoFar reads p (hearing first.refused limit natives events) before mid told.lines old) → old.core.image ≡ p →
       told ≡ record first { lines = [] } → natives_of old ≡ natives → TakesTurns old (hearing told.refused limit (natives_of old) events) None told turn m →
       SoFar reads p (hearing first.refused limit natives events) before mid turn.lines m × (turn ≡ record first { lines = turn.lines }) × Stands m
   after_turns {reads} p events limit before mid old m told turn first {natives} far image is count takes =
       let outside = hearing first.refused limit natives events in
       let stands : Stands old = (far.state, far.stands) in
-      let turns = turns_as old m limit events None told turn (ap (λ (t : Turn). t.refused) is) count takes in (
-        turned_on p outside before mid mid old m told turn far image (ap (λ (t : Turn). t.lines) is) turns,
-        turned_same old m outside told turn stands turns ∙ ap (λ (t : Turn). record t { lines = turn.lines }) is,
+      let turns = turns_as old m limit events None told turn (ap (λ (t : LineBuffer). t.refused) is) count takes in (
+        turned_on p outside before mid mid old m told turn far image (ap (λ (t : LineBuffer). t.lines) is) turns,
+        turned_same old m outside told turn stands turns ∙ ap (λ (t : LineBuffer). record t { lines = turn.lines }) is,
         turned_stands old m outside told turn stands turns,
       )
 
   -- the last line after the others
-  module _ {reads : Line → List ℕ} (m new : Machine X B) (outside : Outside) (ending : Ending) (before mid now : Option (List ℕ)) (failed : Bool) (run : Ended reads m.core.image outside ending before mid new) where
+  module _ {reads : Line → List ℕ} (m new : Machine X B) (outside : Environment) (ending : Ending) (before mid now : Option (List ℕ)) (failed : Bool) (run : Ended reads m.core.image outside ending before mid new) where
     last : List ℕ
     last = ended (end_text ending (count_cells run.state.cells))
 

@@ -7,26 +7,26 @@ use Rattle.std.proofs.lemmas.List.Folds.{list_any-append}
 use Rattle.aom_natives.proofs.Ids.{same-out}
 use Rattle.aom_run.proofs.Named.{at_most_one, elsewhere, there, turned_false}
 use Rattle.aom_image.specs.Image.{Image}
-use Rattle.aom_endings.proofs.Ending.{above, top}
-use Rattle.aom_endings.specs.Endings.{one_where}
+use Rattle.aom_determinism.proofs.Ending.{above, top}
+use Rattle.aom_determinism.specs.Endings.{one_where}
 use Rattle.aom_natives.specs.Owed.{TakesOut, times}
 use Rattle.aom_natives.specs.Slots.{KeepsOthers, ids_at, ids_of, living_at}
-use Rattle.aom_endings.specs.Owed.{has_name, killed_turned, owes, owes_turned}
-use Rattle.aom_endings.proofs.Found.{IsAbout}
-use Rattle.aom_endings.proofs.Turns.{Tale, sessions_turned, told}
-use Rattle.aom_sound.specs.Clients.{client_count}
-use Rattle.aom_sound.specs.Natives.{is_dead}
-use Rattle.aom_sound.specs.Places.{named}
-use Rattle.aom_sound.specs.State.{Rest, State}
-use Rattle.aom_sound.specs.World.{AnswersWell, Completes, Completion, Cuts, Hears, Kills, Obeys, Passes, Picks, Polls, Turning, Waits, cell_at, delivers}
+use Rattle.aom_determinism.specs.Owed.{has_name, killed_turned, owes, owes_turned}
+use Rattle.aom_determinism.proofs.Found.{IsAbout}
+use Rattle.aom_determinism.proofs.Turns.{Tale, sessions_turned, told}
+use Rattle.aom_semantics.specs.Clients.{client_count}
+use Rattle.aom_semantics.specs.Natives.{is_dead}
+use Rattle.aom_semantics.specs.Places.{named}
+use Rattle.aom_semantics.specs.State.{Counters, State}
+use Rattle.aom_semantics.specs.World.{AnswersWell, Completes, Completion, Cuts, Hears, Kills, Obeys, Passes, Picks, Polls, Turning, Waits, cell_at, delivers}
 use Rattle.aom_transcript.specs.declared.event.Command.{Command}
 use Rattle.aom_transcript.specs.declared.event.Event.{Event}
 use Rattle.aom_transcript.specs.declared.event.Event.TheVariants.{Client}
-use Rattle.aom_lines.specs.Turn.{Turn}
-use Rattle.aom_parts.specs.Stands.{Machine as Core, StandsFor as Core_stands}
-use Rattle.aom_exec.specs.Clients.{Obeyed}
-use Rattle.aom_exec.specs.Steps.{timers}
-use Rattle.aom_exec.specs.Turns.{NoneDue, Completed as Core_completed, Picked as Core_picked, Takes as Core_takes, TakesAll as Core_takes_all}
+use Rattle.aom_lines.specs.LineBuffer.{LineBuffer}
+use Rattle.aom_machine_state.specs.Stands.{Machine as Core, StandsFor as Core_stands}
+use Rattle.aom_machine.specs.Clients.{Obeyed}
+use Rattle.aom_machine.specs.Steps.{timers}
+use Rattle.aom_machine.specs.Turns.{NoneDue, Completed as Core_completed, Picked as Core_picked, Takes as Core_takes, TakesAll as Core_takes_all}
 use Rattle.aom_run.specs.declared.machine.Machine.{Machine}
 use Rattle.aom_run.specs.Calls.{Completed, Delivered, IsDelivered, Picked, StandsFor, Takes, TakesAll}
 use Rattle.aom_run.specs.Beside.{KeptSame, Serves}
@@ -124,7 +124,7 @@ module _ {L : Type 0} (kept : L → List ℕ) (old new : List (Option L)) where
 
 module _ {X : Type 0} {B : X → Type 0} (old new : Machine X B) (s : State) (st : StandsFor old s) where
   -- what the core takes of a turn the whole takes, where what is kept of natives fits the state after it
-  pub takes_so : (part : Turning) → length new.natives.slots.items ≡ length old.natives.slots.items → new.core.image ≡ old.core.image → (before now : Turn) → (core : Core_takes old.core s part before now new.core) →
+  pub takes_so : (part : Turning) → length new.natives.slots.items ≡ length old.natives.slots.items → new.core.image ≡ old.core.image → (before now : LineBuffer) → (core : Core_takes old.core s part before now new.core) →
       Serves (λ l. l.ids) old.core.image core.state new.natives.slots.items → Takes old s part before now new
   takes_so part count image before now core serves = record {
     between = core.between;
@@ -138,12 +138,12 @@ module _ {X : Type 0} {B : X → Type 0} (old new : Machine X B) (s : State) (st
     };
   }
 
-  pub tale_of : (part : Turning) → IsAbout s part → AnswersWell old.core.image s part → (before now : Turn) → (core : Core_takes old.core s part before now new.core) → Tale old.core.image s core.state part
+  pub tale_of : (part : Turning) → IsAbout s part → AnswersWell old.core.image s part → (before now : LineBuffer) → (core : Core_takes old.core s part before now new.core) → Tale old.core.image s core.state part
   tale_of part about well before now core = told old.core.image st.stands.typing s core.state st.stands.typed part st.stands.kept.fit about well core.goes
 
   -- so where natives are as they were, but for calls that change nothing outstanding
   pub takes_plainly : (part : Turning) → IsPlain s part → IsAbout s part → AnswersWell old.core.image s part → KeptSame (λ l. l.ids) old.natives.slots.items new.natives.slots.items → new.core.image ≡ old.core.image →
-      (before now : Turn) → Core_takes old.core s part before now new.core → Takes old s part before now new
+      (before now : LineBuffer) → Core_takes old.core s part before now new.core → Takes old s part before now new
   takes_plainly part plain about well same image before now core =
       takes_so part same.count image before now core
       (serves_plainly (λ l. l.ids) old.core.image s core.state new.natives.slots.items (serves_same (λ l. l.ids) old.natives.slots.items new.natives.slots.items old.core.image s st.serves same) part plain (tale_of part about well before now core))
@@ -152,7 +152,7 @@ module _ {X : Type 0} {B : X → Type 0} (old new : Machine X B) (s : State) (st
 pub none_due_still : (old new : Core) (k : ℕ) → new.parts.rest ≡ record old.parts.rest { delivered = k } → ((s : State) → Core_stands new s → Core_stands old (record s { rest = old.parts.rest })) →
     ((s : State) → Core_stands old s → NoneDue s) → (s : State) → Core_stands new s → NoneDue s
 none_due_still old new k rest back none s st x e =
-    let same : s.rest.clock ≡ old.parts.rest.clock = sym (ap (λ (r : Rest). r.clock) st.agrees.rest) ∙ ap (λ (r : Rest). r.clock) rest in
+    let same : s.rest.clock ≡ old.parts.rest.clock = sym (ap (λ (r : Counters). r.clock) st.agrees.rest) ∙ ap (λ (r : Counters). r.clock) rest in
     subst (λ c. c < x.timer.due) (sym same) (none (record s { rest = old.parts.rest }) (back s st) x e)
 
 pub heard_plain : (s : State) → IsPlain s Hears
@@ -171,7 +171,7 @@ pub untouched : {L : Type 0} (kept : L → List ℕ) (slots : List (Option L)) �
 untouched kept slots = record { count = refl; living = λ k. refl; ids = λ k. refl }
 
 module _ {X : Type 0} {B : X → Type 0} (old : Machine X B) (core : Core) (image : core.image ≡ old.core.image) where
-  plainly : (part : Turning) (s : State) → StandsFor old s → IsPlain s part → IsAbout s part → AnswersWell old.core.image s part → (before now : Turn) → Core_takes old.core s part before now core → Takes old s part before now (record { core = core; natives = old.natives })
+  plainly : (part : Turning) (s : State) → StandsFor old s → IsPlain s part → IsAbout s part → AnswersWell old.core.image s part → (before now : LineBuffer) → Core_takes old.core s part before now core → Takes old s part before now (record { core = core; natives = old.natives })
   plainly part s st plain about well before now taken = takes_plainly old (record { core = core; natives = old.natives }) s st part plain about well (untouched (λ l. l.ids) old.natives.slots.items) image before now taken
 
   pub cut_so : Core_takes_all old.core Cuts core → TakesAll old Cuts (record { core = core; natives = old.natives })
@@ -190,7 +190,7 @@ module _ {X : Type 0} {B : X → Type 0} (old : Machine X B) (core : Core) (imag
   completed_so false done = (ap (λ (c : Core). record { core = c; natives = old.natives }) done.0, done.1)
 
   -- what a client is told it does, if it is one
-  pub obeyed_so : (client : ℕ) (command : Command) (before now : Turn) → client < 64 → ((s : State) → Core_stands old.core s → Obeyed old.core s client command before now core) → Delivered old (Client client command) before now (record { core = core; natives = old.natives })
+  pub obeyed_so : (client : ℕ) (command : Command) (before now : LineBuffer) → client < 64 → ((s : State) → Core_stands old.core s → Obeyed old.core s client command before now core) → Delivered old (Client client command) before now (record { core = core; natives = old.natives })
   obeyed_so client command before now less done = λ outside same s st.
       let d = done s st.stands in (
         d.0,
@@ -199,20 +199,20 @@ module _ {X : Type 0} {B : X → Type 0} (old : Machine X B) (core : Core) (imag
             (plainly (Obeys client command d.0) s st (record { owes = λ n m b. refl; killed = refl }) d.1 tt before now d.2),
       )
 
-  pub obeyed_none : (client : ℕ) (command : Command) → 64 ≤ client → Core_takes_all old.core Hears core → (now : Turn) → Delivered old (Client client command) now now (record { core = core; natives = old.natives })
+  pub obeyed_none : (client : ℕ) (command : Command) → 64 ≤ client → Core_takes_all old.core Hears core → (now : LineBuffer) → Delivered old (Client client command) now now (record { core = core; natives = old.natives })
   obeyed_none client command past all now = λ outside same s st.
       with_any_name s (λ name. Takes old s (delivers outside name s (Client client command)) now now (record { core = core; natives = old.natives })) (λ name.
       subst (λ part. Takes old s part now now (record { core = core; natives = old.natives })) (sym (ap (λ b. cond b (Obeys client command name) Hears) (le-ltb client client_count past)))
       (plainly Hears s st (heard_plain s) tt tt now now (all now s st.stands)))
 
-  pub picked_so : (b : Bool) (before now : Turn) → Core_picked old.core b before now core → Picked old b before now (record { core = core; natives = old.natives })
+  pub picked_so : (b : Bool) (before now : LineBuffer) → Core_picked old.core b before now core → Picked old b before now (record { core = core; natives = old.natives })
   picked_so true before now done = λ s st.
       let d = done s st.stands in
       (d.0, d.1, d.2, plainly (Picks d.0.seat) s st (record { owes = λ n m b. refl; killed = refl }) (d.0, d.1, refl) tt before now d.3)
   picked_so false before now done = (ap (λ (c : Core). record { core = c; natives = old.natives }) done.0, done.1, λ s st. done.2 s st.stands)
 
   -- an event that changes nothing writes no line
-  pub heard_only : (event : Event) (now : Turn) → Delivered old event now now (record { core = core; natives = old.natives }) → core.parts.rest ≡ record old.core.parts.rest { delivered = suc old.core.parts.rest.delivered } →
+  pub heard_only : (event : Event) (now : LineBuffer) → Delivered old event now now (record { core = core; natives = old.natives }) → core.parts.rest ≡ record old.core.parts.rest { delivered = suc old.core.parts.rest.delivered } →
       ((s : State) → Core_stands core s → Core_stands old.core (record s { rest = old.core.parts.rest })) → timers core ≡ timers old.core → IsDelivered old event false now now (record { core = core; natives = old.natives })
   heard_only event now delivered rest back same = record {
     image = image;

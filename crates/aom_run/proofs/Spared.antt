@@ -2,10 +2,10 @@
 use Rattle.std.proofs.lemmas.Bool.Decides.{nat_tests}
 use Rattle.std.proofs.Common.{◌≡◌, ℕ, ◌≤◌, ◌^◌, ◌-◌, List, [], arith, refl}
 use Rattle.aom_image.specs.Image.{Image}
-use Rattle.aom_sound.specs.State.{State}
+use Rattle.aom_semantics.specs.State.{State}
 use Rattle.aom_transcript.specs.declared.line.Line.{Line}
-use Rattle.aom_endings.proofs.Spending.{moved_spares}
-use Rattle.aom_endings.specs.Endings.{spare}
+use Rattle.aom_determinism.proofs.Spending.{moved_spares}
+use Rattle.aom_determinism.specs.Endings.{spare}
 use Rattle.aom_run.specs.Runs.{Moving, begins, goes_on}
 
 pub moving_spares : (p : Image) (limit : ℕ) → limit ≤ 2 ^ 64 - 1 → (refused : List ℕ) (s : State) (lines : List Line) (u : State) → Moving p refused s lines u → spare limit u ≤ spare limit s

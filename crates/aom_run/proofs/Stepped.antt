@@ -7,18 +7,18 @@ use Rattle.std.proofs.lemmas.Bool.{cases_eq, eq-eqb, eqb-true, ne_eqb}
 use Rattle.aom_natives.specs.Owed.{times}
 use Rattle.aom_natives.specs.Slots.{KeepsOthers, ids_at, ids_of, living_at}
 use Rattle.aom_natives.proofs.Ids.{same-push}
-use Rattle.aom_exec.proofs.Progressing.{is_as_far}
+use Rattle.aom_machine.proofs.Progressing.{is_as_far}
 use Rattle.aom_run.proofs.Named.{elsewhere, there, turned_false}
-use Rattle.aom_sound.specs.State.{State}
-use Rattle.aom_sound.specs.Wanted.{Wanted, Starts, wanted}
-use Rattle.aom_endings.specs.Owed.{FindsWell, is_for, takes_on}
-use Rattle.aom_lines.specs.Turn.{Turn}
-use Rattle.aom_parts.specs.declared.progress.Progress.{Progress}
-use Rattle.aom_parts.specs.declared.progress.Progress.TheVariants.{Running}
-use Rattle.aom_parts.specs.Progress.{progress_of}
-use Rattle.aom_parts.specs.Agrees.{heard_by}
-use Rattle.aom_parts.specs.Stands.{Machine as Core, StandsFor as Core_stands}
-use Rattle.aom_exec.specs.Steps.{Quiet, StaysIdle as Core_stays_idle, Stepped as Core_stepped, SteppedOn as Core_stepped_on, Steps, begins, progress}
+use Rattle.aom_semantics.specs.State.{State}
+use Rattle.aom_semantics.specs.Wanted.{Wanted, Starts, wanted}
+use Rattle.aom_determinism.specs.Owed.{FindsWell, is_for, takes_on}
+use Rattle.aom_lines.specs.LineBuffer.{LineBuffer}
+use Rattle.aom_machine_state.specs.declared.progress.Progress.{Progress}
+use Rattle.aom_machine_state.specs.declared.progress.Progress.TheVariants.{Running}
+use Rattle.aom_machine_state.specs.Progress.{progress_of}
+use Rattle.aom_machine_state.specs.Agrees.{heard_by}
+use Rattle.aom_machine_state.specs.Stands.{Machine as Core, StandsFor as Core_stands}
+use Rattle.aom_machine.specs.Steps.{Quiet, StaysIdle as Core_stays_idle, Stepped as Core_stepped, SteppedOn as Core_stepped_on, Steps, begins, progress}
 use Rattle.aom_run.specs.declared.machine.Machine.{Machine}
 use Rattle.aom_run.specs.Answers.{Asked, KeepsUnasked, MayAsk, MayHear, asked_at, asked_by, asked_of, times_after}
 use Rattle.aom_run.specs.Calls.{Stands, StandsFor, StaysIdle, SteppedOn, SteppedOnce}
@@ -104,7 +104,7 @@ module _ {X : Type 0} {B : X → Type 0} (old : Machine X B) (s : State) (st : S
   unnamed_stay new unasked = keeps_unnamed old.core.image s old.natives.slots.items new.natives.slots.items (asked_of old.core.image s) (of_asked (progress_of s)) unasked
 
   -- the core has gone on with the answer
-  pub stepped_on : (new : Machine X B) (mid : Core) (heard : ℤ) (progress : Progress) (told now : Turn) → mid.image ≡ old.core.image → heard_by mid.parts ≡ heard → Core_stands mid s → new.core.image ≡ mid.image →
+  pub stepped_on : (new : Machine X B) (mid : Core) (heard : ℤ) (progress : Progress) (told now : LineBuffer) → mid.image ≡ old.core.image → heard_by mid.parts ≡ heard → Core_stands mid s → new.core.image ≡ mid.image →
       Asked (λ l. l.ids) old.natives.slots.items (asked_of old.core.image s) heard new.natives.slots.items → Core_stepped_on mid progress told now new.core → SteppedOn old heard progress told now new s
   stepped_on new mid heard progress told now image same_heard stands kept asked steps =
       let d = steps s stands in
@@ -127,7 +127,7 @@ module _ {X : Type 0} {B : X → Type 0} (old : Machine X B) (s : State) (st : S
       )
 
   -- so it has by one step
-  pub stepped_once : (new : Machine X B) (mid : Core) (heard : ℤ) (progress : Progress) (told now : Turn) → mid.image ≡ old.core.image → heard_by mid.parts ≡ heard → Core_stands mid s → new.core.image ≡ mid.image →
+  pub stepped_once : (new : Machine X B) (mid : Core) (heard : ℤ) (progress : Progress) (told now : LineBuffer) → mid.image ≡ old.core.image → heard_by mid.parts ≡ heard → Core_stands mid s → new.core.image ≡ mid.image →
       Asked (λ l. l.ids) old.natives.slots.items (asked_of old.core.image s) heard new.natives.slots.items → Core_stepped mid progress told now new.core → SteppedOnce old heard progress told now new s
   unfolding stepped_on
   stepped_once new mid heard progress told now image same_heard stands kept asked steps =
@@ -136,7 +136,7 @@ module _ {X : Type 0} {B : X → Type 0} (old : Machine X B) (s : State) (st : S
 
 -- where nothing is at hand nothing is asked, and the core stays as it was
 module _ {X : Type 0} {B : X → Type 0} (old mid : Machine X B) (core : Core) where
-  pub stays_idle : (told now : Turn) → (progress old.core ≢ Running → mid ≡ old) → Core_stays_idle mid.core told now core → StaysIdle old told now (record { core = core; natives = mid.natives })
+  pub stays_idle : (told now : LineBuffer) → (progress old.core ≢ Running → mid ≡ old) → Core_stays_idle mid.core told now core → StaysIdle old told now (record { core = core; natives = mid.natives })
   stays_idle told now first then resting =
       let same = first resting in
       let still = then (λ running. resting (ap (λ (m : Machine X B). progress m.core) (sym same) ∙ running)) in

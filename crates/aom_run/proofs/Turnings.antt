@@ -2,16 +2,16 @@
 use Rattle.std.proofs.lemmas.Bool.Decides.{nat_tests}
 use Rattle.std.proofs.Common.{arith, ◌≡◌, ◌<◌, ◌≤◌, ℕ, true, false, Option, Some, None, ap, cond, refl, ◌∙◌}
 use Rattle.std.proofs.lemmas.Bool.{le-leb, lt-leb}
-use Rattle.aom_exec.specs.Turns.{NoneDue}
-use Rattle.aom_sound.specs.State.{State}
-use Rattle.aom_sound.specs.World.{Candidate, Completes, Completion, Cuts, Heard, Outside, Passes, Picks, Polls, Timed, Turning, Waits, by_event, by_timer, delivers, first_due, first_ready, has_signal, next_event, next_native, next_time, passes, picks, polls, turning}
+use Rattle.aom_machine.specs.Turns.{NoneDue}
+use Rattle.aom_semantics.specs.State.{State}
+use Rattle.aom_semantics.specs.World.{Candidate, Completes, Completion, Cuts, Heard, Environment, Passes, Picks, Polls, Timed, Turning, Waits, by_event, by_timer, delivers, first_due, first_ready, has_signal, next_event, next_native, next_time, passes, picks, polls, turning}
 use Rattle.aom_transcript.specs.declared.event.TimedEvent.{TimedEvent}
 
 -- the next event comes later, if there is one
-abbrev pub NoneCome : Outside → State → Type 0
+abbrev pub NoneCome : Environment → State → Type 0
 NoneCome outside s = (e : TimedEvent) → next_event outside s ≡ Some e → s.rest.clock < e.time
 
-module _ (outside : Outside) (s : State) where
+module _ (outside : Environment) (s : State) where
   -- all that comes after the timers, the events and the natives
   abbrev at_last : Turning
   at_last = picks (has_signal s.cells) (first_ready s.cells) (next_time outside s)

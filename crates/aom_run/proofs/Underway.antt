@@ -1,13 +1,13 @@
 -- A dispatch under way: what was told before it goes out first, and then its lines.
 use Rattle.std.proofs.lemmas.Bool.Decides.{nat_tests}
 use Rattle.std.proofs.Common.{arith, ◌≡◌, ◌≢◌, ℕ, List, [], ◌++◌, Option, take, sym, ap, subst, ◌∙◌, append-nil, append_assoc}
-use Rattle.aom_sound.specs.State.{State}
+use Rattle.aom_semantics.specs.State.{State}
 use Rattle.aom_transcript.specs.declared.line.Line.{Line}
 use Rattle.aom_run.specs.Naming.{text_by}
-use Rattle.aom_lines.specs.Turn.{Turn}
-use Rattle.aom_parts.specs.declared.progress.Progress.{Progress}
-use Rattle.aom_parts.specs.declared.progress.Progress.TheVariants.{Running}
-use Rattle.aom_parts.specs.Progress.{progress_of}
+use Rattle.aom_lines.specs.LineBuffer.{LineBuffer}
+use Rattle.aom_machine_state.specs.declared.progress.Progress.{Progress}
+use Rattle.aom_machine_state.specs.declared.progress.Progress.TheVariants.{Running}
+use Rattle.aom_machine_state.specs.Progress.{progress_of}
 use Rattle.aom_run.specs.Calls.{Stands, StandsFor}
 use Rattle.aom_run.specs.declared.machine.Machine.{Machine}
 use Rattle.aom_run.specs.Runs.{after, begins, CutOff, Filled, Moving, Sent}
@@ -15,26 +15,26 @@ use Rattle.aom_run.proofs.Reaching.{moving_both}
 use Rattle.aom_run.proofs.Sending.{after_both, after_none, cut_next, text_by_both}
 
 -- of the lines so far, those that were told before among them, some are out, and the others are in the turn
-abbrev pub Part : (Line → List ℕ) → Turn → Turn → Option (List ℕ) → Option (List ℕ) → List Line → Type 0
+abbrev pub Part : (Line → List ℕ) → LineBuffer → LineBuffer → Option (List ℕ) → Option (List ℕ) → List Line → Type 0
 Part reads told turn before out lines = (sent : List Line) × (sent ++ turn.lines ≡ told.lines ++ lines) × (out ≡ after before (text_by reads sent))
 
 module _ {X : Type 0} {B : X → Type 0} where
-  abbrev pub Underway : (Line → List ℕ) → Machine X B → Turn → Option (List ℕ) → Option (List ℕ) → Turn → Machine X B → Type 0
+  abbrev pub Underway : (Line → List ℕ) → Machine X B → LineBuffer → Option (List ℕ) → Option (List ℕ) → LineBuffer → Machine X B → Type 0
   Underway reads old told before out turn m =
       (s : State) → StandsFor old s
       → (lines : List Line) × (u : State) × Moving old.core.image told.refused s lines u × Part reads told turn before out lines × StandsFor m u
 
-  pub underway : (reads : Line → List ℕ) (m : Machine X B) (told : Turn) (out : Option (List ℕ)) → Underway reads m told out out told m
+  pub underway : (reads : Line → List ℕ) (m : Machine X B) (told : LineBuffer) (out : Option (List ℕ)) → Underway reads m told out out told m
   underway reads m told out s stands = ([], s, begins, ([], sym (append-nil told.lines), after_none out), stands)
 
-  pub still_stands : (m new : Machine X B) (turn full : Turn) (progress : Progress) → Stands m → Filled m progress turn full new → Stands new
+  pub still_stands : (m new : Machine X B) (turn full : LineBuffer) (progress : Progress) → Stands m → Filled m progress turn full new → Stands new
   still_stands m new turn full progress stands f = let y = f stands.0 stands.1 in (y.1, y.5)
 
   -- nothing of a turn changes but its lines
-  pub cleared_same : (m new : Machine X B) (told turn full clear : Turn) (progress : Progress) → turn ≡ record told { lines = turn.lines } → Stands m → Filled m progress turn full new → clear ≡ record full { lines = [] } → clear ≡ record told { lines = clear.lines }
+  pub cleared_same : (m new : Machine X B) (told turn full clear : LineBuffer) (progress : Progress) → turn ≡ record told { lines = turn.lines } → Stands m → Filled m progress turn full new → clear ≡ record full { lines = [] } → clear ≡ record told { lines = clear.lines }
   cleared_same m new told turn full clear progress same stands f is = grind (arith, nat_tests)
 
-  module _ (reads : Line → List ℕ) (old m new : Machine X B) (told turn full : Turn) (before out : Option (List ℕ)) (progress : Progress)
+  module _ (reads : Line → List ℕ) (old m new : Machine X B) (told turn full : LineBuffer) (before out : Option (List ℕ)) (progress : Progress)
       (w : Underway reads old told before out turn m) (image : m.core.image ≡ old.core.image) (same : turn ≡ record told { lines = turn.lines }) (f : Filled m progress turn full new) where
     module _ (s : State) (stands : StandsFor old s) where
       -- steps that fill the turn
@@ -42,9 +42,9 @@ module _ {X : Type 0} {B : X → Type 0} where
       further =
           let x = w s stands in
           let y = f x.1 x.4 in
-          let refused : turn.refused ≡ told.refused = ap (λ (t : Turn). t.refused) same in
+          let refused : turn.refused ≡ told.refused = ap (λ (t : LineBuffer). t.refused) same in
           let moving = subst (λ q. Moving q told.refused x.1 y.0 y.1) image (subst (λ r. Moving m.core.image r x.1 y.0 y.1) refused y.2) in
-          let lines : full.lines ≡ turn.lines ++ y.0 = ap (λ (t : Turn). t.lines) y.3 in
+          let lines : full.lines ≡ turn.lines ++ y.0 = ap (λ (t : LineBuffer). t.lines) y.3 in
           let all = ap (λ ls. x.3.0 ++ ls) lines ∙ sym (append_assoc x.3.0 turn.lines y.0) ∙ ap (λ ls. ls ++ y.0) x.3.1 ∙ append_assoc told.lines x.0 y.0 in
           let frame : full ≡ record told { lines = full.lines } = grind (arith, nat_tests) in
           (x.0 ++ y.0, y.1, moving_both old.core.image told.refused s x.0 x.1 y.0 y.1 x.2 moving, (x.3.0, all, x.3.2), frame, y.4, y.5)
@@ -59,14 +59,14 @@ module _ {X : Type 0} {B : X → Type 0} where
         (x.0, x.1, x.2, grind (arith, nat_tests, cut_next before a b n), x.6)
 
     -- all that the turn has is out, and it is cleared
-    module _ (now : Option (List ℕ)) (clear : Turn) (is : clear ≡ record full { lines = [] }) (e : now ≡ after out (text_by reads full.lines)) where
+    module _ (now : Option (List ℕ)) (clear : LineBuffer) (is : clear ≡ record full { lines = [] }) (e : now ≡ after out (text_by reads full.lines)) where
       all_out : (sent lines : List Line) → sent ++ full.lines ≡ told.lines ++ lines → out ≡ after before (text_by reads sent) → now ≡ after before (text_by reads (told.lines ++ lines))
       all_out sent lines all so_far = grind (arith, nat_tests, after_both before, text_by_both reads sent full.lines)
 
       pub underway_still : Underway reads old told before now clear new
       underway_still s stands =
           let x = further s stands in
-          let none : (told.lines ++ x.0) ++ clear.lines ≡ told.lines ++ x.0 = ap (λ (t : Turn). (told.lines ++ x.0) ++ t.lines) is ∙ append-nil (told.lines ++ x.0) in
+          let none : (told.lines ++ x.0) ++ clear.lines ≡ told.lines ++ x.0 = ap (λ (t : LineBuffer). (told.lines ++ x.0) ++ t.lines) is ∙ append-nil (told.lines ++ x.0) in
           (x.0, x.1, x.2, (told.lines ++ x.0, none, all_out x.3.0 x.0 x.3.1 x.3.2), x.6)
 
       pub is_sent : progress ≢ Running → Sent reads old progress told clear before now new

@@ -1,14 +1,14 @@
 -- What a native may answer to what a step asks, and to a poll.
 use Rattle.std.specs.Prelude.{ℕ, ℤ, suc, pred, ◌≡◌, ◌<◌, ◌&&◌, cond, List, length, Option, None, Some, IfSome, IsSome, is_some}
 use Rattle.aom_natives.specs.Owed.{IsNew, IsOwed, times}
-use Rattle.aom_endings.specs.Owed.{is_for, takes_on}
+use Rattle.aom_determinism.specs.Owed.{is_for, takes_on}
 use Rattle.aom_natives.specs.Slots.{KeepsOthers, ids_at, living_at}
 use Rattle.aom_image.specs.Image.{Image}
-use Rattle.aom_sound.specs.State.{State}
-use Rattle.aom_parts.specs.Progress.{progress_of}
-use Rattle.aom_parts.specs.declared.progress.Progress.{Progress}
-use Rattle.aom_parts.specs.declared.progress.Progress.TheVariants.{Running}
-use Rattle.aom_sound.specs.Wanted.{wanted, Wanted, Opens, Starts, Asks, Cancels, Closes}
+use Rattle.aom_semantics.specs.State.{State}
+use Rattle.aom_machine_state.specs.Progress.{progress_of}
+use Rattle.aom_machine_state.specs.declared.progress.Progress.{Progress}
+use Rattle.aom_machine_state.specs.declared.progress.Progress.TheVariants.{Running}
+use Rattle.aom_semantics.specs.Wanted.{wanted, Wanted, Opens, Starts, Asks, Cancels, Closes}
 
 -- the answer is one that the native may give to what it is asked, as it stands, by its relations; nothing is said where there is no answer
 abbrev pub MayHear : {L : Type 0} → (open_may : L → ℕ → ℤ → Type 0) → (start_may call_may : L → ℕ → ℤ → ℤ → ℤ → Type 0) → List (Option L) → Option Wanted → ℤ → Type 0

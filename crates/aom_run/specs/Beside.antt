@@ -2,15 +2,15 @@
 use Rattle.std.specs.Prelude.{ℕ, ◌≡◌, ◌<◌, ◌≤◌, ◌==◌, Bool, false, not, List, Option, length, is_some}
 use Rattle.aom_image.specs.Image.{Image}
 use Rattle.aom_image.specs.declared.method.Thing.{Thing}
-use Rattle.aom_endings.specs.Endings.{one_where}
+use Rattle.aom_determinism.specs.Endings.{one_where}
 use Rattle.aom_natives.specs.Owed.{times}
 use Rattle.aom_natives.specs.Slots.{ids_at, living_at}
-use Rattle.aom_endings.specs.Owed.{SessionsHold, owes}
-use Rattle.aom_sound.specs.Natives.{is_dead, is_served_by}
-use Rattle.aom_sound.specs.State.{State}
+use Rattle.aom_determinism.specs.Owed.{SessionsHold, owes}
+use Rattle.aom_semantics.specs.Natives.{is_dead, is_served_by}
+use Rattle.aom_semantics.specs.State.{State}
 use Rattle.aom_transcript.specs.declared.event.Event.{Event}
 use Rattle.aom_transcript.specs.declared.event.Event.TheVariants.{Client, Kill, Tell}
-use Rattle.aom_parts.specs.Stands.{Machine, StandsFor}
+use Rattle.aom_machine_state.specs.Stands.{Machine, StandsFor}
 use Rattle.aom_run.specs.declared.fault.BootFault.{BootFault}
 use Rattle.aom_run.specs.declared.fault.BootFault.TheVariants.{OutOfMemory, TooFewNatives}
 

@@ -1,20 +1,20 @@
 -- What a run of the machine tells of the checked machine. `reads` says how a line is written.
 use Rattle.std.specs.Prelude.{◌≡◌, ◌≢◌, ◌<◌, ◌≤◌, ◌+◌, ℕ, length, Bool, true, List, [], ◌++◌, Option, take, option_map}
 use Rattle.aom_image.specs.Image.{Image}
-use Rattle.aom_sound.specs.Places.{count_cells}
-use Rattle.aom_sound.specs.Moves.{IsOpen, step, written}
-use Rattle.aom_sound.specs.State.{Choice, Goes, State}
-use Rattle.aom_sound.specs.World.{boot_state, IsBusy, Run_of, Outside}
+use Rattle.aom_semantics.specs.Places.{count_cells}
+use Rattle.aom_semantics.specs.Moves.{IsOpen, step, written}
+use Rattle.aom_semantics.specs.State.{Choice, Goes, State}
+use Rattle.aom_semantics.specs.World.{boot_state, IsBusy, Run_of, Environment}
 use Rattle.aom_transcript.specs.declared.line.Line.{Line}
 use Rattle.aom_transcript.specs.declared.line.Ending.{Ending}
 use Rattle.aom_transcript.specs.declared.line.Ending.TheVariants as endings
-use Rattle.aom_lines.specs.Turn.{Turn, step_lines}
+use Rattle.aom_lines.specs.LineBuffer.{LineBuffer, step_lines}
 use Rattle.aom_run.specs.Naming.{text_by, transcript_by}
 use Rattle.aom_run.specs.declared.outcome.Outcome.{Outcome}
 use Rattle.aom_run.specs.declared.outcome.Outcome.TheVariants.{Stopped, Waiting, MainLeft, Limit, Error, WriteFault}
-use Rattle.aom_parts.specs.declared.progress.Progress.{Progress}
-use Rattle.aom_parts.specs.declared.progress.Progress.TheVariants.{Running}
-use Rattle.aom_parts.specs.Progress.{progress_of}
+use Rattle.aom_machine_state.specs.declared.progress.Progress.{Progress}
+use Rattle.aom_machine_state.specs.declared.progress.Progress.TheVariants.{Running}
+use Rattle.aom_machine_state.specs.Progress.{progress_of}
 use Rattle.aom_run.specs.Calls.{StandsFor, natives_of}
 use Rattle.aom_run.specs.declared.machine.Machine.{Machine}
 
@@ -28,7 +28,7 @@ pub data Moving (p : Image) (refused : List ℕ) (from : State) : List Line → 
   goes_on : {lines : List Line} {s u : State} (c : Choice) → Moving p refused from lines s → IsBusy s → IsOpen p refused c s → step p c s ≡ Goes u → Moving p refused from (lines ++ written p s) u
 
 -- a run whose sink failed: a beginning of the transcript of a run is out
-pub record CutShort (reads : Line → List ℕ) (p : Image) (outside : Outside) (before now : Option (List ℕ)) : Type 0 where
+pub record CutShort (reads : Line → List ℕ) (p : Image) (outside : Environment) (before now : Option (List ℕ)) : Type 0 where
   pub lines : List Line
   pub state : State
   pub ending : Ending
@@ -47,11 +47,11 @@ module _ {X : Type 0} {B : X → Type 0} where
     pub natives : natives_of new ≡ natives_of old
 
   -- a turn has few lines, and room for many and for those of one step more
-  abbrev pub HasRoom : Machine X B → Turn → Type 0
+  abbrev pub HasRoom : Machine X B → LineBuffer → Type 0
   HasRoom m turn = (length turn.lines < 64) × (64 + step_lines m.core.image.header.messages ≤ turn.room)
 
   -- from each state that the machine stands for moves lead to one that it then stands for, and their lines are added to the turn
-  abbrev pub Filled : Machine X B → Progress → Turn → Turn → Machine X B → Type 0
+  abbrev pub Filled : Machine X B → Progress → LineBuffer → LineBuffer → Machine X B → Type 0
   Filled old progress told now new =
       (s : State) → StandsFor old s
       → (lines : List Line) × (u : State) × Moving old.core.image told.refused s lines u
@@ -60,7 +60,7 @@ module _ {X : Type 0} {B : X → Type 0} where
       × StandsFor new u
 
   -- so until nothing is at hand: what was in the turn is out, and their lines are out after it
-  abbrev pub Sent : (Line → List ℕ) → Machine X B → Progress → Turn → Turn → Option (List ℕ) → Option (List ℕ) → Machine X B → Type 0
+  abbrev pub Sent : (Line → List ℕ) → Machine X B → Progress → LineBuffer → LineBuffer → Option (List ℕ) → Option (List ℕ) → Machine X B → Type 0
   Sent reads old progress told now before out new =
       (s : State) → StandsFor old s
       → (lines : List Line) × (u : State) × Moving old.core.image told.refused s lines u
@@ -71,7 +71,7 @@ module _ {X : Type 0} {B : X → Type 0} where
       × StandsFor new u
 
   -- or a beginning of all that, where the sink failed
-  abbrev pub CutOff : (Line → List ℕ) → Machine X B → Turn → Option (List ℕ) → Option (List ℕ) → Machine X B → Type 0
+  abbrev pub CutOff : (Line → List ℕ) → Machine X B → LineBuffer → Option (List ℕ) → Option (List ℕ) → Machine X B → Type 0
   CutOff reads old told before out new =
       (s : State) → StandsFor old s
       → (lines : List Line) × (u : State) × Moving old.core.image told.refused s lines u
@@ -79,7 +79,7 @@ module _ {X : Type 0} {B : X → Type 0} where
       × StandsFor new u
 
   -- a run to its end: the machine stands for its last state, and its lines are out
-  pub record Ended (reads : Line → List ℕ) (p : Image) (outside : Outside) (ending : Ending) (before now : Option (List ℕ)) (new : Machine X B) : Type 0 where
+  pub record Ended (reads : Line → List ℕ) (p : Image) (outside : Environment) (ending : Ending) (before now : Option (List ℕ)) (new : Machine X B) : Type 0 where
     pub lines : List Line
     pub state : State
     pub run : Run_of p outside lines state ending
@@ -87,7 +87,7 @@ module _ {X : Type 0} {B : X → Type 0} where
     pub out : now ≡ after before (text_by reads lines)
 
   -- and its last line too
-  pub record Told (reads : Line → List ℕ) (p : Image) (outside : Outside) (ending : Ending) (before now : Option (List ℕ)) (new : Machine X B) : Type 0 where
+  pub record Told (reads : Line → List ℕ) (p : Image) (outside : Environment) (ending : Ending) (before now : Option (List ℕ)) (new : Machine X B) : Type 0 where
     pub lines : List Line
     pub state : State
     pub run : Run_of p outside lines state ending
@@ -95,7 +95,7 @@ module _ {X : Type 0} {B : X → Type 0} where
     pub out : now ≡ after before (transcript_by reads lines ending (count_cells state.cells))
 
   -- what an outcome says of the run
-  abbrev pub Ran : (Line → List ℕ) → Machine X B → Outside → Outcome → Bool → Option (List ℕ) → Option (List ℕ) → Machine X B → Type 0
+  abbrev pub Ran : (Line → List ℕ) → Machine X B → Environment → Outcome → Bool → Option (List ℕ) → Option (List ℕ) → Machine X B → Type 0
   Ran reads old outside Stopped failed before now new = Told reads old.core.image outside endings.Stopped before now new
   Ran reads old outside Waiting failed before now new = Told reads old.core.image outside endings.Waiting before now new
   Ran reads old outside (MainLeft code) failed before now new = Told reads old.core.image outside (endings.MainLeft code) before now new

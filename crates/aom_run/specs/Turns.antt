@@ -1,32 +1,32 @@
 -- What comes between dispatches, until an object or a server is dispatched, an event is told by a line, or the run ends.
 use Rattle.std.specs.Prelude.{◌≡◌, ◌⊎◌, ◌<◌, ◌≤◌, ◌+◌, ◌-◌, ◌++◌, is_some, ℕ, Bool, true, false, All, List, [], Option, Some, None, length}
-use Rattle.aom_sound.specs.State.{State}
-use Rattle.aom_sound.specs.World.{IsBetween, Outside, Reaches, Timed, event_at, first_due, first_living}
-use Rattle.aom_steps.specs.Payers.{payer}
+use Rattle.aom_semantics.specs.State.{State}
+use Rattle.aom_semantics.specs.World.{IsBetween, Environment, Reaches, Timed, event_at, first_due, first_living}
+use Rattle.aom_progress.specs.Payers.{payer}
 use Rattle.aom_transcript.specs.declared.event.TimedEvent.{TimedEvent}
 use Rattle.aom_transcript.specs.declared.line.Line.{Line}
 use Rattle.aom_transcript.specs.declared.line.Ending.{Ending}
-use Rattle.aom_lines.specs.Turn.{Turn}
-use Rattle.aom_exec.specs.Steps.{progress, timers}
-use Rattle.aom_parts.specs.declared.progress.Progress.TheVariants.{Turned}
+use Rattle.aom_lines.specs.LineBuffer.{LineBuffer}
+use Rattle.aom_machine.specs.Steps.{progress, timers}
+use Rattle.aom_machine_state.specs.declared.progress.Progress.TheVariants.{Turned}
 use Rattle.aom_run.specs.Calls.{EventInRange, NoneIsDue, Stands, StandsFor, natives_of}
 use Rattle.aom_run.specs.declared.machine.Machine.{Machine}
 
 -- what comes from outside of the image, where there are so many natives
-abbrev pub hearing : List ℕ → ℕ → (natives : ℕ) → List TimedEvent → Outside
+abbrev pub hearing : List ℕ → ℕ → (natives : ℕ) → List TimedEvent → Environment
 hearing refused limit natives events = record { refused = refused; limit = limit; natives = natives; events = events }
 
 -- ---- what turns lead to
 
 -- an object or a server is dispatched, or an event was told by a line, so that fewer events are to come; or the run is over
-abbrev pub LeadTo : Outside → Option Ending → State → List Line → State → Type 0
+abbrev pub LeadTo : Environment → Option Ending → State → List Line → State → Type 0
 LeadTo outside None s lines u =
     (length lines ≤ 1) × (s.rest.dispatches < outside.limit) × (u.rest.dispatches ≡ s.rest.dispatches)
     × ((is_some (payer u.tasks) ≡ true) ⊎ (IsBetween u × (length outside.events - u.rest.delivered < length outside.events - s.rest.delivered)))
 LeadTo outside (Some ending) s lines u = (lines ≡ []) × (u.rest.ended ≡ Some ending)
 
 -- events are as a script has them, and a turn has room for a line
-abbrev pub CanHear : List TimedEvent → Turn → Type 0
+abbrev pub CanHear : List TimedEvent → LineBuffer → Type 0
 CanHear events turn = All (λ e. EventInRange e.event) events × (length turn.lines < turn.room)
 
 module _ {X : Type 0} {B : X → Type 0} where
@@ -40,7 +40,7 @@ module _ {X : Type 0} {B : X → Type 0} where
   abbrev pub CompletesDue : Machine X B → Machine X B → Type 0
   CompletesDue old new =
       (s : State) → StandsFor old s
-      → (u : State) × ((outside : Outside) → s.rest.dispatches < outside.limit → Reaches old.core.image outside s [] u)
+      → (u : State) × ((outside : Environment) → s.rest.dispatches < outside.limit → Reaches old.core.image outside s [] u)
       × (u.rest ≡ s.rest)
       × StandsFor new u
 
@@ -79,7 +79,7 @@ module _ {X : Type 0} {B : X → Type 0} where
       × StandsFor new u
 
   -- turns that dispatch nothing, of which the last hears an event and writes its line
-  abbrev pub TellsEnd : List TimedEvent → Machine X B → Turn → Turn → Machine X B → Type 0
+  abbrev pub TellsEnd : List TimedEvent → Machine X B → LineBuffer → LineBuffer → Machine X B → Type 0
   TellsEnd events old told now new =
       (s : State) → StandsFor old s
       → (lines : List Line) × (u : State) × ((refused : List ℕ) (limit : ℕ) → s.rest.dispatches < limit → Reaches old.core.image (hearing refused limit (natives_of old) events) s lines u)
@@ -96,7 +96,7 @@ module _ {X : Type 0} {B : X → Type 0} where
   -- ---- natives
 
   -- an event is told by a line, or all that have come are heard and no timer is due
-  abbrev pub HearsAll : (told : Bool) → List TimedEvent → Machine X B → Turn → Turn → Machine X B → Type 0
+  abbrev pub HearsAll : (told : Bool) → List TimedEvent → Machine X B → LineBuffer → LineBuffer → Machine X B → Type 0
   HearsAll true events old before now new = TellsEnd events old before now new
   HearsAll false events old before now new = (now ≡ before) × Settles events old new × NoneIsDue new × NoneHasCome events new
 
@@ -107,7 +107,7 @@ module _ {X : Type 0} {B : X → Type 0} where
   -- ---- turns
 
   -- from each state that the machine stands for a run comes to one that it then stands for, and the lines are added to the turn
-  abbrev pub TakesTurns : Machine X B → Outside → Option Ending → Turn → Turn → Machine X B → Type 0
+  abbrev pub TakesTurns : Machine X B → Environment → Option Ending → LineBuffer → LineBuffer → Machine X B → Type 0
   TakesTurns old outside result told now new =
       (s : State) → StandsFor old s
       → (lines : List Line) × (u : State) × Reaches old.core.image outside s lines u

@@ -1,18 +1,18 @@
 //! What a step asks of a native.
 ghost use Rattle.std.specs.Prelude.{◌≡◌, ◌≢◌, ◌<◌, Some};
-ghost use Rattle.aom_parts.specs.Agrees.{heard_by};
-ghost use Rattle.aom_parts.specs.Stands.{StandsFor as CoreStandsFor};
-ghost use Rattle.aom_parts.specs.declared.progress.Progress.TheVariants.{Running};
+ghost use Rattle.aom_machine_state.specs.Agrees.{heard_by};
+ghost use Rattle.aom_machine_state.specs.Stands.{StandsFor as CoreStandsFor};
+ghost use Rattle.aom_machine_state.specs.declared.progress.Progress.TheVariants.{Running};
 ghost use Rattle.aom_run.specs.Answers.{Asked, MayAsk, MayHear, asked_of};
 ghost use Rattle.aom_run.specs.Calls.{Stands, StandsFor};
-ghost use Rattle.aom_exec.specs.Steps.{progress};
+ghost use Rattle.aom_machine.specs.Steps.{progress};
 ghost use Rattle.aom_natives.specs.Slots.{AllAgree};
-ghost use Rattle.aom_sound.specs.State.{State};
-ghost use Rattle.aom_sound.specs.Wanted.{wanted};
-ghost use Rattle.aom_exec.specs.Wanted.{as_wanted};
+ghost use Rattle.aom_semantics.specs.State.{State};
+ghost use Rattle.aom_semantics.specs.Wanted.{wanted};
+ghost use Rattle.aom_machine.specs.Wanted.{as_wanted};
 
 use crate::Machine;
-use aom_exec::{Progress, Wanted};
+use aom_machine::{Progress, Wanted};
 use aom_natives::{Native, Natives};
 
 /// Makes the call that a step asks for at a living native, and answers what that does; 0 where there is no answer.

@@ -3,15 +3,15 @@ ghost use Rattle.std.specs.Prelude.{ℕ, true, false, ◌≡◌, ◌<◌, take, 
 ghost use Rattle.aom_transcript.specs.Text.{text_of};
 ghost use Rattle.aom_run.specs.Naming.{named_by};
 ghost use Rattle.aom_run.specs.Runs.{CutOff, Filled, HasRoom, KeepsImage, Sent, after};
-ghost use Rattle.aom_exec.specs.Steps.{rank};
+ghost use Rattle.aom_machine.specs.Steps.{rank};
 ghost use Rattle.aom_run.specs.Beside.{KeepsUnnamed};
 ghost use Rattle.aom_run.specs.Calls.{Stands};
 ghost use Rattle.aom_natives.specs.Slots.{AllAgree};
 
 use crate::naming::put_lines;
 use crate::{Machine, Sink, write_text};
-use aom_exec::Progress;
-use aom_lines::Turn;
+use aom_lines::LineBuffer;
+use aom_machine::Progress;
 use aom_natives::Native;
 use aom_transcript::{Line, Page};
 
@@ -22,7 +22,7 @@ const MANY_LINES: usize = 64;
 /// gives up where the sink fails.
 pub fn run_dispatch<W: Sink>(
     machine: &mut Machine,
-    turn: &mut Turn,
+    turn: &mut LineBuffer,
     page: &mut Page,
     names: Option<&[&[u8]]>,
     out: &mut W,
@@ -51,7 +51,7 @@ pub fn run_dispatch<W: Sink>(
 }
 
 /// Steps on until the turn has many lines or nothing is at hand.
-fn fill(machine: &mut Machine, turn: &mut Turn) -> Progress
+fn fill(machine: &mut Machine, turn: &mut LineBuffer) -> Progress
     requires agree { AllAgree (λ l. l.ids) (λ l. (⟦<dyn Native as Native>⟧ l.native.vtable).owed l.native.value) machine.old.natives.slots.items }
     requires stands { Stands machine.old }
     requires room { HasRoom machine.old turn.old }

@@ -1,20 +1,20 @@
 //! A machine and the natives beside it.
 ghost use Rattle.std.specs.Prelude.{ℤ, ◌≡◌, ◌<◌, ◌≤◌, ◌+◌, ◌↔◌, IfErr, IfOk, map, option_map, length, Some};
-ghost use Rattle.aom_exec.specs.Steps.{rank};
-ghost use Rattle.aom_lines.specs.Turn.{step_lines};
-ghost use Rattle.aom_parts.specs.Stands.{StandsFor as CoreStands};
-ghost use Rattle.aom_parts.specs.declared.progress.Progress.TheVariants.{Running};
+ghost use Rattle.aom_machine.specs.Steps.{rank};
+ghost use Rattle.aom_lines.specs.LineBuffer.{step_lines};
+ghost use Rattle.aom_machine_state.specs.Stands.{StandsFor as CoreStands};
+ghost use Rattle.aom_machine_state.specs.declared.progress.Progress.TheVariants.{Running};
 ghost use Rattle.aom_run.specs.Answers.{KeepsUnasked, MayHear, asked_of};
 ghost use Rattle.aom_run.specs.Calls.{StaysIdle, Stands, StandsFor, SteppedOn, SteppedOnce, natives_of};
 ghost use Rattle.aom_natives.specs.Owed.{OweNothing};
 ghost use Rattle.aom_natives.specs.Slots.{AllAgree};
-ghost use Rattle.aom_sound.specs.State.{State};
-ghost use Rattle.aom_sound.specs.World.{boot_state};
+ghost use Rattle.aom_semantics.specs.State.{State};
+ghost use Rattle.aom_semantics.specs.World.{boot_state};
 
 use crate::BootFault;
 use aom_budget::Accepted;
-use aom_exec::{Progress, Wanted};
-use aom_lines::Turn;
+use aom_lines::LineBuffer;
+use aom_machine::{Progress, Wanted};
 use aom_natives::{Native, Natives};
 use aom_transcript::Event;
 use std::alloc::Global;
@@ -22,7 +22,7 @@ use std::alloc::Global;
 /// What an accepted image does, and the natives that it talks to.
 #[derive(Drop)]
 pub struct Machine<'a> {
-    pub core: aom_exec::Machine<'a>,
+    pub core: aom_machine::Machine<'a>,
     pub natives: Natives,
 }
 
@@ -45,7 +45,7 @@ impl<'a> Machine<'a> {
         if boxes.len() < accepted.linked().image().header().natives as usize {
             return Err((BootFault::TooFewNatives, boxes));
         }
-        match aom_exec::Machine::boot(alloc, accepted) {
+        match aom_machine::Machine::boot(alloc, accepted) {
             Ok(core) => Machine::beside(alloc, core, boxes),
             Err(_) => Err((BootFault::OutOfMemory, boxes)),
         }
@@ -54,7 +54,7 @@ impl<'a> Machine<'a> {
     /// A machine that has booted, beside those natives. It has as many as its image names.
     fn beside(
         alloc: Global,
-        core: aom_exec::Machine<'a>,
+        core: aom_machine::Machine<'a>,
         boxes: Vec<Box<dyn Native>>,
     ) -> Result<Machine<'a>, (BootFault, Vec<Box<dyn Native>>)>
         requires owed { OweNothing (λ b. (⟦<dyn Native as Native>⟧ b.vtable).owed b.value) boxes.items }
@@ -78,7 +78,7 @@ impl<'a> Machine<'a> {
 
     /// Steps until the turn has many lines, nothing is at hand, or the next step asks something of a native. What the first step asks is
     /// asked of its native before.
-    pub fn step_on(&mut self, turn: &mut Turn) -> Progress
+    pub fn step_on(&mut self, turn: &mut LineBuffer) -> Progress
         requires agree { AllAgree (λ l. l.ids) (λ l. (⟦<dyn Native as Native>⟧ l.native.vtable).owed l.native.value) self.old.natives.slots.items }
         requires stands { Stands self.old }
         requires room { length turn.old.lines + step_lines self.old.core.image.header.messages < turn.old.room }
@@ -96,7 +96,7 @@ impl<'a> Machine<'a> {
     }
 
     /// One step: an instruction, or the going of one cell, with what counts as no step after it. What it asks of a native is asked before.
-    pub fn step(&mut self, turn: &mut Turn) -> Progress
+    pub fn step(&mut self, turn: &mut LineBuffer) -> Progress
         requires agree { AllAgree (λ l. l.ids) (λ l. (⟦<dyn Native as Native>⟧ l.native.vtable).owed l.native.value) self.old.natives.slots.items }
         requires stands { Stands self.old }
         requires room { length turn.old.lines + step_lines self.old.core.image.header.messages < turn.old.room }

@@ -1,10 +1,10 @@
 //! A run, from a fresh machine to its end, with its transcript.
 ghost use Rattle.std.specs.Prelude.{ℕ, true, ◌≡◌, ◌+◌, ◌<◌, ◌≤◌, All, take, IfNone, IfSome};
-ghost use Rattle.aom_sound.specs.Places.{count_cells};
-ghost use Rattle.aom_sound.specs.State.{State};
-ghost use Rattle.aom_endings.specs.Determined.{IsDetermined};
+ghost use Rattle.aom_semantics.specs.Places.{count_cells};
+ghost use Rattle.aom_semantics.specs.State.{State};
+ghost use Rattle.aom_determinism.specs.Determined.{IsDetermined};
 ghost use Rattle.aom_transcript.specs.Text.{ended, end_text, line_text};
-ghost use Rattle.aom_lines.specs.Turn.{step_lines};
+ghost use Rattle.aom_lines.specs.LineBuffer.{step_lines};
 ghost use Rattle.aom_run.specs.Outcomes.{outcome_of};
 ghost use Rattle.aom_run.specs.Turns.{hearing};
 ghost use Rattle.aom_run.specs.Naming.{named_by};
@@ -16,8 +16,8 @@ ghost use Rattle.aom_natives.specs.Slots.{AllAgree};
 use crate::dispatches::run_dispatch;
 use crate::turns::take_turns;
 use crate::{Machine, Outcome, Sink, write_text};
-use aom_exec::Progress;
-use aom_lines::Turn;
+use aom_lines::LineBuffer;
+use aom_machine::Progress;
 use aom_natives::Native;
 use aom_script::Script;
 use aom_transcript::{Ending, Page, TimedEvent};
@@ -30,7 +30,7 @@ use aom_transcript::{Ending, Page, TimedEvent};
 pub fn run<W: Sink>(
     machine: &mut Machine,
     script: &Script,
-    turn: &mut Turn,
+    turn: &mut LineBuffer,
     limit: u32,
     out: &mut W,
 ) -> Outcome
@@ -52,7 +52,7 @@ pub fn run<W: Sink>(
 pub fn run_named<W: Sink>(
     machine: &mut Machine,
     script: &Script,
-    turn: &mut Turn,
+    turn: &mut LineBuffer,
     limit: u32,
     names: Option<&[&[u8]]>,
     out: &mut W,
@@ -67,7 +67,7 @@ pub fn run_named<W: Sink>(
     ensures ran { Ran (named_by names.entry) machine.old (hearing turn.old.refused limit (natives_of machine.old) script.now.timed) result (W.failed out.new) (W.out out.old) (W.out out.new) machine.new }
     ensures determined { IsDetermined machine.old.core.image (hearing turn.old.refused limit (natives_of machine.old) script.now.timed) }
 {
-    aom_endings::text_is_determined();
+    aom_determinism::text_is_determined();
     match run_lines(machine, script.events(), turn, limit, names, out) {
         None => Outcome::WriteFault,
         Some(ending) => finish(machine, ending, out),
@@ -78,7 +78,7 @@ pub fn run_named<W: Sink>(
 fn run_lines<W: Sink>(
     machine: &mut Machine,
     events: &[TimedEvent],
-    turn: &mut Turn,
+    turn: &mut LineBuffer,
     limit: u32,
     names: Option<&[&[u8]]>,
     out: &mut W,

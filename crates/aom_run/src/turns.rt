@@ -1,9 +1,9 @@
 //! What comes between dispatches: timers, events, polls, picks and the passing of time.
 ghost use Rattle.std.specs.Prelude.{ℕ, ◌≡◌, ◌<◌, ◌≤◌, true, false, All, List, IfNone, IfSome, length};
-ghost use Rattle.aom_sound.specs.State.{State};
-ghost use Rattle.aom_sound.specs.World.{due_of, event_at, first_due, nearer, time_of};
-ghost use Rattle.aom_exec.specs.Steps.{progress, timers};
-ghost use Rattle.aom_parts.specs.declared.progress.Progress.TheVariants.{Turned};
+ghost use Rattle.aom_semantics.specs.State.{State};
+ghost use Rattle.aom_semantics.specs.World.{due_of, event_at, first_due, nearer, time_of};
+ghost use Rattle.aom_machine.specs.Steps.{progress, timers};
+ghost use Rattle.aom_machine_state.specs.declared.progress.Progress.TheVariants.{Turned};
 ghost use Rattle.aom_run.specs.Calls.{EventInRange, NoneIsDue, Stands, StandsBetween, StandsFor, natives_of};
 ghost use Rattle.aom_run.specs.Beside.{is_for_native};
 ghost use Rattle.aom_natives.specs.Slots.{AllAgree, living_at};
@@ -11,7 +11,7 @@ ghost use Rattle.aom_transcript.specs.declared.event.TimedEvent.{TimedEvent};
 ghost use Rattle.aom_run.specs.Turns.{AllPolled, CanHear, CompletesDue, HasCome, HearsAll, IsDue, IsLate, Keeps, NoneHasCome, Settles, TakesTurns, hearing, to_come, waiting};
 
 use crate::Machine;
-use aom_lines::Turn;
+use aom_lines::LineBuffer;
 use aom_natives::Native;
 use aom_transcript::{Ending, Event, TimedEvent};
 
@@ -20,7 +20,7 @@ use aom_transcript::{Ending, Event, TimedEvent};
 pub fn take_turns(
     machine: &mut Machine,
     events: &[TimedEvent],
-    turn: &mut Turn,
+    turn: &mut LineBuffer,
     limit: u32,
 ) -> Option<Ending>
     requires agree { AllAgree (λ l. l.ids) (λ l. (⟦<dyn Native as Native>⟧ l.native.vtable).owed l.native.value) machine.old.natives.slots.items }
@@ -69,7 +69,7 @@ fn next_time(machine: &Machine, events: &[TimedEvent]) -> Option<u64>
 
 /// All that is due by now: each timer completes the request of its object, each event is heard, and then each native is polled. Answers
 /// whether an event was told by a line; then the rest waits until that is out.
-fn settle(machine: &mut Machine, events: &[TimedEvent], turn: &mut Turn) -> bool
+fn settle(machine: &mut Machine, events: &[TimedEvent], turn: &mut LineBuffer) -> bool
     requires agree { AllAgree (λ l. l.ids) (λ l. (⟦<dyn Native as Native>⟧ l.native.vtable).owed l.native.value) machine.old.natives.slots.items }
     requires rests { StandsBetween machine.old }
     requires can { CanHear events.now turn.old }
@@ -124,7 +124,7 @@ fn come_event(machine: &Machine, events: &[TimedEvent]) -> Option<Event>
 }
 
 /// Each event that has come is heard, where no timer is due, up to one that is told by a line. Answers whether one was.
-fn hear_due(machine: &mut Machine, events: &[TimedEvent], turn: &mut Turn) -> bool
+fn hear_due(machine: &mut Machine, events: &[TimedEvent], turn: &mut LineBuffer) -> bool
     requires agree { AllAgree (λ l. l.ids) (λ l. (⟦<dyn Native as Native>⟧ l.native.vtable).owed l.native.value) machine.old.natives.slots.items }
     requires rests { StandsBetween machine.old }
     requires none_due { NoneIsDue machine.old }

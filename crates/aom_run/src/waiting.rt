@@ -1,17 +1,17 @@
 //! What is done between dispatches: timers, events, polls and the pick.
 ghost use Rattle.std.specs.Prelude.{◌≡◌, ◌<◌, ◌≤◌, ◌+◌, ◌-◌, ◌^◌, IfSome, IsSome, length, suc, true, false, None, Some};
-ghost use Rattle.aom_exec.specs.Clients.{IsInRange};
-ghost use Rattle.aom_exec.specs.Steps.{progress, timers};
-ghost use Rattle.aom_parts.specs.declared.progress.Progress.TheVariants.{Turned};
+ghost use Rattle.aom_machine.specs.Clients.{IsInRange};
+ghost use Rattle.aom_machine.specs.Steps.{progress, timers};
+ghost use Rattle.aom_machine_state.specs.declared.progress.Progress.TheVariants.{Turned};
 ghost use Rattle.aom_run.specs.Calls.{Completed, EventInRange, IsDelivered, NoneIsDue, Picked, Polled, Stands, StandsBetween, StandsFor, TakesAll, natives_of, to_poll};
 ghost use Rattle.aom_run.specs.Beside.{KeptSame};
 ghost use Rattle.aom_natives.specs.Slots.{AllAgree, KeepsOthers, living_at};
-ghost use Rattle.aom_sound.specs.State.{State};
+ghost use Rattle.aom_semantics.specs.State.{State};
 ghost use Rattle.aom_transcript.specs.declared.event.Event.TheVariants.{Client, Kill};
-ghost use Rattle.aom_sound.specs.World.{Hears, first_living, Passes};
+ghost use Rattle.aom_semantics.specs.World.{Hears, first_living, Passes};
 
 use crate::Machine;
-use aom_lines::Turn;
+use aom_lines::LineBuffer;
 use aom_natives::{Native, Natives};
 use aom_transcript::{Command, Event};
 
@@ -47,7 +47,7 @@ impl<'a> Machine<'a> {
     /// Between dispatches an event comes from outside: a word for a native, or its end, whose line is written, or a command of a client, with
     /// a line where that is refused. One for a native that is killed, or that is none, or of a number that is no client's, changes nothing.
     /// Answers whether a line was written.
-    pub fn deliver(&mut self, event: Event, turn: &mut Turn) -> bool
+    pub fn deliver(&mut self, event: Event, turn: &mut LineBuffer) -> bool
         requires agree { AllAgree (λ l. l.ids) (λ l. (⟦<dyn Native as Native>⟧ l.native.vtable).owed l.native.value) self.old.natives.slots.items }
         requires stands { Stands self.old }
         requires between { progress self.old.core ≡ Turned }
@@ -92,7 +92,7 @@ impl<'a> Machine<'a> {
 
     /// Between dispatches: the ready object that goes before all others is dispatched, with its line (CActiveScheduler::Start's
     /// RunL). Answers false where nothing signals.
-    pub fn pick(&mut self, turn: &mut Turn) -> bool
+    pub fn pick(&mut self, turn: &mut LineBuffer) -> bool
         requires agree { AllAgree (λ l. l.ids) (λ l. (⟦<dyn Native as Native>⟧ l.native.vtable).owed l.native.value) self.old.natives.slots.items }
         requires between { progress self.old.core ≡ Turned }
         requires room { length turn.old.lines < turn.old.room }
@@ -136,7 +136,7 @@ impl<'a> Machine<'a> {
     }
 
     /// A native is to end. Answers whether it lived.
-    fn kill(&mut self, native: u8, turn: &mut Turn) -> bool
+    fn kill(&mut self, native: u8, turn: &mut LineBuffer) -> bool
         requires agree { AllAgree (λ l. l.ids) (λ l. (⟦<dyn Native as Native>⟧ l.native.vtable).owed l.native.value) self.old.natives.slots.items }
         requires rests { StandsBetween self.old }
         requires few { self.old.core.parts.rest.delivered + 1 < 2 ^ 64 }
@@ -154,7 +154,7 @@ impl<'a> Machine<'a> {
     }
 
     /// The client of that number does what it is told, if there is one. Answers whether that is refused.
-    fn obey(&mut self, client: u8, command: Command, turn: &mut Turn) -> bool
+    fn obey(&mut self, client: u8, command: Command, turn: &mut LineBuffer) -> bool
         requires agree { AllAgree (λ l. l.ids) (λ l. (⟦<dyn Native as Native>⟧ l.native.vtable).owed l.native.value) self.old.natives.slots.items }
         requires rests { StandsBetween self.old }
         requires few { self.old.core.parts.rest.delivered + 1 < 2 ^ 64 }

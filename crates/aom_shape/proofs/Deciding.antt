@@ -1,7 +1,7 @@
 -- The tests on kinds and fillings decide the order, and the meet of two kinds is the strongest below both.
 use Rattle.std.proofs.Common.{◌≡◌, true, ◌&&◌, refl, arith}
 use Rattle.aom_image.specs.declared.method.Thing.{Thing}
-use Rattle.aom_shape.specs.Things.{same_thing}
+use Rattle.aom_roles.specs.Things.{same_thing}
 use Rattle.aom_shape.specs.Order.{Weaker, WeakerFilling}
 use Rattle.aom_shape.specs.Order.Weaker.{alike, unset_word, unset_null, maybe_null, maybe_own}
 use Rattle.aom_shape.specs.Order.WeakerFilling.{alike_filling, perhaps_empty, perhaps_full}

@@ -2,7 +2,7 @@
 use Rattle.std.proofs.Common.{◌≡◌, ◌≢◌, ℕ, zero, suc, ◌<◌, ◌≤◌, cond, ◌==◌, List, [], ◌∷◌, length, IsSome, slice_get, refl, sym, ap, ◌∙◌, arith}
 use Rattle.std.proofs.Math.Dec.{eqb-zero-suc, eqb-suc-zero, eqb-suc-suc}
 use Rattle.std.specs.Prelude.{slice_index_or, slice_set}
-use Rattle.aom_shape.specs.Tables.{at, put_at}
+use Rattle.aom_roles.specs.Tables.{at, put_at}
 
 -- a read within the list is the same whatever stands past its end
 pub at_within : {A : Type 0} (d e : A) (xs : List A) (i : ℕ) → i < length xs → slice_index_or xs i e ≡ at d xs i

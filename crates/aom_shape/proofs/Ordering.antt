@@ -8,7 +8,7 @@ use Rattle.aom_shape.specs.Order.{Weaker, WeakerFilling, SaysNoMore}
 use Rattle.aom_shape.specs.Order.Weaker.{alike}
 use Rattle.aom_shape.specs.Order.WeakerFilling.{alike_filling}
 use Rattle.aom_shape.specs.Shape.{Shape}
-use Rattle.aom_shape.specs.Tables.{at}
+use Rattle.aom_roles.specs.Tables.{at}
 use Rattle.aom_shape.specs.Tests.{no_more, all_no_more, no_more_filling, all_no_more_fillings, same_delivery, same_entry, same_entries}
 use Rattle.aom_shape.specs.declared.kind.Entry.{Entry}
 use Rattle.aom_shape.specs.declared.kind.Kind.{Kind}

@@ -14,7 +14,7 @@ use Rattle.aom_shape.specs.Order.Weaker.{alike}
 use Rattle.aom_shape.specs.Order.WeakerFilling.{alike_filling}
 use Rattle.aom_shape.specs.Changes.{known_with}
 use Rattle.aom_shape.specs.Shape.{Known, Shape}
-use Rattle.aom_shape.specs.Tables.{at}
+use Rattle.aom_roles.specs.Tables.{at}
 use Rattle.aom_shape.specs.Arguments.{argument_kind, before_of, entry_fields, entry_shape}
 use Rattle.aom_shape.specs.declared.kind.Delivery.TheVariants.{Here}
 use Rattle.aom_shape.specs.declared.kind.Filling.{Filling}

@@ -6,7 +6,7 @@ use Rattle.aom_image.specs.Views.{method_at, gives_of, gives_in, is_quiet, quiet
 use Rattle.aom_image.specs.declared.class.ClassDecl.{ClassDecl}
 use Rattle.aom_image.specs.declared.method.Method.{Method}
 use Rattle.aom_shape.specs.Arguments.{after_in, after_of, before_in, before_of}
-use Rattle.aom_shape.specs.Things.{holder_of, holder_by, words_of, words_in}
+use Rattle.aom_roles.specs.Things.{holder_of, holder_by, words_of, words_in}
 
 pub gives_there : (p : Image) (m : ℕ) (d : Method) → method_at p m ≡ Some d → gives_of p m ≡ d.gives
 unfolding gives_in

@@ -3,8 +3,9 @@ use Rattle.std.specs.Prelude.{ℕ, Bool, true, false, not, ◌&&◌, List, [], �
 use Rattle.aom_image.specs.declared.method.Thing.{Thing}
 use Rattle.aom_image.specs.declared.method.Thing.TheVariants.{Object, Message}
 use Rattle.aom_image.specs.Image.{Image}
-use Rattle.aom_shape.specs.Things.{stands_for}
-use Rattle.aom_shape.specs.Tables.{at, put_at}
+use Rattle.aom_roles.specs.Things.{is_object}
+use Rattle.aom_roles.specs.Things.{stands_for}
+use Rattle.aom_roles.specs.Tables.{at, put_at}
 use Rattle.aom_shape.specs.Shape.{Shape}
 use Rattle.aom_shape.specs.declared.kind.Age.{Age}
 use Rattle.aom_shape.specs.declared.kind.Age.TheVariants.{Fresh, Ready}
@@ -50,10 +51,6 @@ abbrev pub is_object_or_null : Kind → Bool
 is_object_or_null Unset = false
 is_object_or_null Word = false
 is_object_or_null _ = true
-
-abbrev pub is_object : Thing → Bool
-is_object (Object c) = true
-is_object Message = false
 
 -- an object or null, and no message
 abbrev pub may_be_destroyed : Kind → Bool

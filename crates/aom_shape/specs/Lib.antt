@@ -1,5 +1,3 @@
-pub mod Tables
-pub mod Things
 pub mod Shape
 pub mod Piles
 pub mod Kinds

@@ -1,6 +1,6 @@
 -- The strongest state that says no more than either of two.
 use Rattle.std.specs.Prelude.{ℕ, ◌<◌, ◌≡◌, ◌≢◌, List, length, Some, None}
-use Rattle.aom_shape.specs.Tables.{at}
+use Rattle.aom_roles.specs.Tables.{at}
 use Rattle.aom_shape.specs.Shape.{Shape}
 use Rattle.aom_shape.specs.Order.{SaysNoMore}
 use Rattle.aom_shape.specs.Tests.{meet_kind, meet_filling}

@@ -6,11 +6,6 @@ use Rattle.aom_shape.specs.declared.why.Why.{Why}
 abbrev pub Need : Type 0
 Need = Bool × Why
 
--- a need that is asked only where the first holds
-abbrev pub only_if : Bool → Bool → Bool
-only_if true b = b
-only_if false b = true
-
 -- where a run may go on, and what is known there
 abbrev pub Flow : Type 0
 Flow = ℕ × Shape
@@ -23,10 +18,6 @@ judged (need ∷ needs) value = cond need.0 (judged needs value) (Err need.1)
 -- the first need that is not met
 abbrev pub tested : List Need → Result (Unit {0}) Why
 tested needs = judged needs tt
-
-abbrev pub AllTrue : {W : Type 0} → List (Bool × W) → Type 0
-AllTrue [] = Unit {0}
-AllTrue (need ∷ needs) = (need.0 ≡ true) × AllTrue needs
 
 -- to the next place
 abbrev pub to_next : ℕ → Shape → List Flow

@@ -1,6 +1,6 @@
 -- How cleanup entries are kept, so that the states of a method share what they have in common.
 use Rattle.std.specs.Prelude.{ℕ, zero, suc, ◌≡◌, ◌<◌, List, [], ◌∷◌, length}
-use Rattle.aom_shape.specs.Tables.{at}
+use Rattle.aom_roles.specs.Tables.{at}
 use Rattle.aom_shape.specs.declared.kind.Entry.{Entry}
 use Rattle.aom_shape.specs.declared.kind.Entry.TheVariants.{Operation}
 use Rattle.aom_shape.specs.declared.piles.Node.{Node}

@@ -1,7 +1,7 @@
 -- Tests for the order between kinds and between fillings, what two of them have in common, and whether entries are the same.
 use Rattle.std.specs.Prelude.{Bool, true, false, not, cond, ◌&&◌, ◌||◌, ◌==◌, List, [], ◌∷◌, Option, Some, None}
 use Rattle.aom_image.specs.declared.method.Thing.{Thing}
-use Rattle.aom_shape.specs.Things.{same_thing}
+use Rattle.aom_roles.specs.Things.{same_thing}
 use Rattle.aom_shape.specs.Kinds.{is_empty, is_here, is_word}
 use Rattle.aom_shape.specs.declared.kind.Age.{Age}
 use Rattle.aom_shape.specs.declared.kind.Age.TheVariants.{Fresh, Ready}

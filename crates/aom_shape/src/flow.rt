@@ -1,9 +1,10 @@
 //! Where a run may go on.
 ghost use Rattle.std.specs.Prelude.{◌≡◌, List, None, [], ◌∷◌, suc, ◌<◌, ◌^◌};
+ghost use Rattle.aom_roles.specs.Tests.{only_if};
 ghost use Rattle.aom_shape.specs.Entries.{readied_at, with_entry, without_entry};
 ghost use Rattle.aom_shape.specs.Changes.{known_with, next_shape, told, ways_from};
 ghost use Rattle.aom_shape.specs.Kinds.{set_register};
-ghost use Rattle.aom_shape.specs.Needs.{judged, only_if, tested, to_next};
+ghost use Rattle.aom_shape.specs.Needs.{judged, tested, to_next};
 ghost use Rattle.aom_shape.specs.declared.flow.Last.TheVariants.{Same};
 ghost use Rattle.aom_shape.specs.declared.kind.Entry.{Entry as EntryData};
 

@@ -4,7 +4,7 @@ ghost use Rattle.aom_image.specs.Views.{method_at};
 ghost use Rattle.aom_shape.specs.Kinds.{all_empty, none_owns};
 ghost use Rattle.aom_shape.specs.Changes.{known_with};
 ghost use Rattle.aom_shape.specs.Order.{SaysNoMore};
-ghost use Rattle.aom_shape.specs.Tables.{at, put_at};
+ghost use Rattle.aom_roles.specs.Tables.{at, put_at};
 ghost use Rattle.aom_shape.specs.Arguments.{argument_kind, entry_fields, entry_shape};
 ghost use Rattle.aom_shape.specs.declared.kind.Delivery.TheVariants.{Here};
 ghost use Rattle.aom_shape.specs.declared.kind.Filling.TheVariants.{Perhaps};

@@ -1,7 +1,6 @@
 //! Objects and messages.
 ghost use Rattle.std.specs.Prelude.{◌≡◌};
-ghost use Rattle.aom_shape.specs.Kinds.{is_object};
-ghost use Rattle.aom_shape.specs.Things.{same_thing};
+ghost use Rattle.aom_roles.specs.Things.{same_thing, is_object};
 
 use aom_image::Thing;
 

@@ -15,7 +15,7 @@ use Rattle.aom_shape.specs.declared.why.Why.{Why}
 use Rattle.aom_shape.specs.declared.why.Why.TheVariants.{RegisterKind}
 use Rattle.aom_shape.specs.declared.kind.Entry.{Entry}
 use Rattle.aom_shape.specs.declared.kind.Entry.TheVariants.{Operation}
-use Rattle.aom_shape.specs.Tables.{at}
+use Rattle.aom_roles.specs.Tables.{at}
 use Rattle.aom_shape.proofs.Judging.{failed_first, passed_first}
 use Rattle.aom_shape.proofs.Moving.{after, one_on, split}
 

@@ -8,8 +8,9 @@ use Rattle.aom_image.specs.declared.method.Argument.{Argument}
 use Rattle.aom_image.specs.declared.method.Argument.TheVariants.{Word as A_word_argument, Own as An_own_argument}
 use Rattle.aom_image.specs.declared.method.Method.{Method}
 use Rattle.aom_image.specs.declared.method.Role.{Role}
+use Rattle.aom_roles.specs.Roles.{is_construct}
 use Rattle.aom_site.specs.Calls.{brought, caught, while_called, rule_given, rule_target, rule_arguments, rule_moved, flow_call, rule_trapped, rule_trap, flow_trap}
-use Rattle.aom_site.specs.Requests.{is_construct, resting}
+use Rattle.aom_site.specs.Requests.{resting}
 use Rattle.aom_site.specs.Site.{Site, call_answer, trap_answer}
 use Rattle.aom_site.specs.declared.calls.Call.{Call}
 use Rattle.aom_shape.specs.Arguments.{argument_moved, arguments_moved}

@@ -15,17 +15,20 @@ use Rattle.aom_image.specs.declared.method.Role.{Role}
 use Rattle.aom_image.specs.declared.method.Role.TheVariants.{Construct, Destruct}
 use Rattle.aom_image.specs.declared.method.Thing.{Thing}
 use Rattle.aom_image.specs.declared.method.Thing.TheVariants.{Object, Message}
+use Rattle.aom_roles.specs.Tests.{only_if}
+use Rattle.aom_roles.specs.Roles.{is_cancel, is_construct, is_service}
+use Rattle.aom_roles.specs.Tables.{is_among}
 use Rattle.aom_classes.specs.Roles.{role_of}
-use Rattle.aom_roles.specs.Families.{parent_of}
+use Rattle.aom_roles.specs.Families.{parent_of, parent_by, parent_above, fields_above}
 use Rattle.aom_roles.specs.States.{active, cancel_done}
-use Rattle.aom_site.specs.Requests.{is_cancel, is_construct, is_service, may_begin, resting, unissued}
-use Rattle.aom_shape.specs.Things.{Holder, Nobody, Program, Member, field_thing, stands_for, holder_of}
+use Rattle.aom_site.specs.Requests.{may_begin, resting, unissued}
+use Rattle.aom_roles.specs.Things.{Holder, Nobody, Program, Member, field_thing, stands_for, holder_of}
 use Rattle.aom_shape.specs.Shape.{Shape}
 use Rattle.aom_shape.specs.Kinds.{all_empty, is_own_for, entry_kind, register, field, set_register, filled, is_word, is_unowning, is_fresh_kind, is_here, is_ready_kind, readied, may_be, none_owns, no_entry}
 use Rattle.aom_shape.specs.Entries.{readied_at, with_entry}
 use Rattle.aom_shape.specs.Arguments.{after_of, arguments_moved}
-use Rattle.aom_shape.specs.Tables.{at}
-use Rattle.aom_shape.specs.Needs.{Need, Flow, only_if, to_next}
+use Rattle.aom_roles.specs.Tables.{at}
+use Rattle.aom_shape.specs.Needs.{Need, Flow, to_next}
 use Rattle.aom_shape.specs.declared.kind.Age.TheVariants.{Ready}
 use Rattle.aom_shape.specs.declared.kind.Entry.{Entry}
 use Rattle.aom_shape.specs.declared.kind.Entry.TheVariants.{Object as An_object, Operation}
@@ -72,11 +75,6 @@ age_need p m false k = (is_ready_kind k, StillFresh)
 abbrev pub object_needs : Image → ℕ → Option ℕ → Bool → Kind → List Need
 object_needs p m class constructs k = (is_target p class k, RegisterKind) ∷ age_need p m constructs k ∷ []
 
--- the parent of a class, if there is one
-abbrev pub parent_by : Image → Option ℕ → Option ℕ
-parent_by p None = None
-parent_by p (Some c) = parent_of p c
-
 abbrev pub constructs_class : Image → ℕ → Option ℕ → Bool
 constructs_class p m None = false
 constructs_class p m (Some c) = is_that m (role_of p c Construct)
@@ -86,20 +84,12 @@ abbrev pub empty_by : Image → Option ℕ → List Filling → Bool
 empty_by p None xs = true
 empty_by p (Some c) xs = all_empty (fields_of p c) xs
 
--- the parent of a method's class
-abbrev pub parent_above : Image → ℕ → Option ℕ
-parent_above p m = parent_by p (method_class p m)
-
 -- a construct is called on self by a construct alone, and is that of its class's parent, whose fields are null
 abbrev pub above_needs : Image → ℕ → ℕ → Bool → List Filling → List Need
 above_needs p m m' constructs xs =
     (only_if constructs (is_construct (method_role p m) && constructs_class p m' (parent_above p m)), NotFresh)
     ∷ (only_if constructs (empty_by p (parent_above p m) xs), FieldNotNull)
     ∷ []
-
--- the register is one of so many from the first on
-abbrev pub is_among : ℕ → ℕ → ℕ → Bool
-is_among first count r = nat_le first r && nat_lt r (first + count)
 
 -- the result has a register to come to
 abbrev pub awaits : Gives → Kind → Bool
@@ -270,11 +260,6 @@ empty_past zero ts xs = all_empty ts xs
 empty_past (suc k) [] xs = true
 empty_past (suc k) (t ∷ ts) [] = empty_past k ts []
 empty_past (suc k) (t ∷ ts) (x ∷ xs) = empty_past k ts xs
-
--- how many fields a class has of its parent
-abbrev pub fields_above : Image → Option ℕ → ℕ
-fields_above p None = 0
-fields_above p (Some e) = length (fields_of p e)
 
 -- a destructor leaves those null that its class has past its parent's: the others are left to the parent's destructor
 abbrev pub fields_done : Image → Bool → Holder → List Filling → Bool

@@ -6,22 +6,11 @@ use Rattle.aom_image.specs.declared.method.Role.{Role}
 use Rattle.aom_image.specs.declared.method.Role.TheVariants.{Cancel, Construct, Service}
 use Rattle.aom_instructions.specs.declared.instr.Target.{Target}
 use Rattle.aom_instructions.specs.declared.instr.Target.TheVariants.{This, Register, Field, Entry as On_entry}
+use Rattle.aom_roles.specs.Tests.{only_if}
+use Rattle.aom_roles.specs.Roles.{is_construct}
 use Rattle.aom_roles.specs.Shapes.{kind_of}
 use Rattle.aom_roles.specs.States.{issued, states_of}
 use Rattle.aom_shape.specs.Arguments.{before_of}
-use Rattle.aom_shape.specs.Needs.{only_if}
-
-abbrev pub is_construct : Option Role → Bool
-is_construct (Some Construct) = true
-is_construct _ = false
-
-abbrev pub is_cancel : Option Role → Bool
-is_cancel (Some Cancel) = true
-is_cancel _ = false
-
-abbrev pub is_service : Option Role → Bool
-is_service (Some Service) = true
-is_service _ = false
 
 -- the object has no request that is not set active
 abbrev pub unissued : ℕ → Bool

@@ -1,14 +1,16 @@
 //! What rules say of request states and of the message in service.
 ghost use Rattle.std.specs.Prelude.{◌≡◌, IsSome, not};
 ghost use Rattle.aom_image.specs.Views.{has, method_at, method_class, method_role};
+ghost use Rattle.aom_roles.specs.Tests.{only_if};
+ghost use Rattle.aom_roles.specs.Roles.{is_cancel, is_construct, is_service};
+ghost use Rattle.aom_roles.specs.Families.{fields_above};
 ghost use Rattle.aom_roles.specs.States.{active, cancel_done};
-ghost use Rattle.aom_site.specs.Calls.{empty_past, fields_above, fields_done, is_destruct, is_destructor, rule_ended};
-ghost use Rattle.aom_site.specs.Requests.{begins_here, begins_there, is_cancel, is_construct, is_service, may_begin, resting, unissued};
+ghost use Rattle.aom_site.specs.Calls.{empty_past, fields_done, is_destruct, is_destructor, rule_ended};
+ghost use Rattle.aom_site.specs.Requests.{begins_here, begins_there, may_begin, resting, unissued};
 ghost use Rattle.aom_shape.specs.Arguments.{after_of};
 ghost use Rattle.aom_shape.specs.Kinds.{is_empty, is_here};
-ghost use Rattle.aom_shape.specs.Needs.{only_if};
-ghost use Rattle.aom_shape.specs.Tables.{at};
-ghost use Rattle.aom_shape.specs.Things.{holder_by, holder_of};
+ghost use Rattle.aom_roles.specs.Tables.{at};
+ghost use Rattle.aom_roles.specs.Things.{holder_by, holder_of};
 ghost use Rattle.aom_shape.specs.declared.kind.Filling.TheVariants.{Perhaps};
 ghost use Rattle.aom_shape.specs.declared.why.Why.TheVariants.{EntryState, FieldsLeft, IssuedAtReturn, MessageAtReturn, NotCancelled, StillActive};
 

@@ -2,11 +2,11 @@
 ghost use Rattle.std.specs.Prelude.{◌≡◌, ◌<◌, ◌^◌, List, [], ◌∷◌, IsSome, is_some, nat_lt, not, suc};
 ghost use Rattle.aom_image.specs.Views.{gives_of, is_quiet, leaves, method_at, method_role};
 ghost use Rattle.aom_image.specs.declared.method.Thing.TheVariants.{Message};
+ghost use Rattle.aom_roles.specs.Roles.{is_service};
 ghost use Rattle.aom_shape.specs.Changes.{next_shape, ways_from};
 ghost use Rattle.aom_shape.specs.Kinds.{is_object_or_null, is_own_for, is_ready_kind, is_unowning, is_word, may_be_declared, no_entry, register};
 ghost use Rattle.aom_shape.specs.Needs.{to_next};
-ghost use Rattle.aom_shape.specs.Things.{field_thing, holder_of, word_count};
-ghost use Rattle.aom_site.specs.Requests.{is_service};
+ghost use Rattle.aom_roles.specs.Things.{field_thing, holder_of, word_count};
 ghost use Rattle.aom_site.specs.Site.{leave_point};
 ghost use Rattle.aom_shape.specs.declared.kind.Entry.{Entry as EntryData};
 ghost use Rattle.aom_shape.specs.declared.why.Why.TheVariants.{PopEmpty, QuietBroken, RegisterKind, StillFresh};

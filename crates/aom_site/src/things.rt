@@ -2,7 +2,7 @@
 ghost use Rattle.std.specs.Prelude.{◌≡◌, IsSome, Some};
 ghost use Rattle.aom_image.specs.Views.{fields_of, method_at};
 ghost use Rattle.aom_shape.specs.Kinds.{is_own_for, may_be, may_be_declared};
-ghost use Rattle.aom_shape.specs.Things.{stands_for, root_thing, field_thing, holder_by, holder_of, words_of, word_count};
+ghost use Rattle.aom_roles.specs.Things.{stands_for, root_thing, field_thing, holder_by, holder_of, words_of, word_count};
 
 use aom_image::{ClassNumber, FieldIndex, MethodNumber, Role, Thing};
 use aom_linked::Linked;

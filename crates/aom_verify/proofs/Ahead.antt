@@ -3,11 +3,11 @@ use Rattle.std.proofs.Common.{◌≡◌, ◌∙◌, ℕ, ◌<◌, Bool, false, L
 use Rattle.std.specs.Prelude.{◌⊎◌, ◌||◌}
 use Rattle.aom_image.specs.Image.{Image}
 use Rattle.aom_shape.specs.Changes.{kept_shape}
-use Rattle.aom_shape.specs.Tables.{at}
+use Rattle.aom_roles.specs.Tables.{at}
 use Rattle.aom_shape.specs.declared.piles.Node.{Node}
 use Rattle.aom_shape.specs.declared.shape.Kept.{Kept}
 use Rattle.aom_shape.proofs.Lists.{at_set_other}
-use Rattle.aom_bounds.specs.Shapes.{Shapes, IsBelow}
+use Rattle.aom_typings.specs.Shapes.{Shapes, IsBelow}
 use Rattle.aom_verify.specs.Change.{IsChange, step_then, then}
 use Rattle.aom_verify.specs.States.{shapes_of}
 use Rattle.aom_shape.specs.Needs.{Flow}

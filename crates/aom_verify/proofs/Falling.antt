@@ -6,14 +6,14 @@ use Rattle.aom_shape.specs.Order.{Weaker, WeakerFilling, SaysNoMore}
 use Rattle.aom_shape.specs.Order.Weaker.{alike, unset_word, unset_null, maybe_null, maybe_own}
 use Rattle.aom_shape.specs.Order.WeakerFilling.{alike_filling, perhaps_empty, perhaps_full}
 use Rattle.aom_shape.specs.Shape.{Shape}
-use Rattle.aom_shape.specs.Tables.{at}
+use Rattle.aom_roles.specs.Tables.{at}
 use Rattle.aom_image.specs.Views.{has}
 use Rattle.aom_shape.proofs.Sets.{has_itself, larger}
 use Rattle.aom_shape.specs.declared.kind.Filling.{Filling}
 use Rattle.aom_shape.specs.declared.kind.Filling.TheVariants.{Perhaps}
 use Rattle.aom_shape.specs.declared.kind.Kind.{Kind}
 use Rattle.aom_shape.specs.declared.kind.Kind.TheVariants.{Unset}
-use Rattle.aom_bounds.specs.Shapes.{Shapes}
+use Rattle.aom_typings.specs.Shapes.{Shapes}
 use Rattle.aom_verify.specs.Change.{kind_rank, filling_rank, states_rank, shape_rank, IsChange, then}
 use Rattle.aom_verify.specs.declared.change.Change.{Change}
 use Rattle.aom_verify.specs.declared.change.Change.TheVariants.{Nothing, Fell, Reached}

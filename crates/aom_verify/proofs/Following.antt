@@ -2,7 +2,7 @@
 use Rattle.std.proofs.Common.{List, [], ◌∷◌, inl, inr}
 use Rattle.aom_rules.specs.Laws.{Follows, AllFollow}
 use Rattle.aom_shape.specs.Needs.{Flow}
-use Rattle.aom_bounds.specs.Shapes.{Shapes, Meets, AllMet}
+use Rattle.aom_typings.specs.Shapes.{Shapes, Meets, AllMet}
 use Rattle.aom_verify.proofs.Ordering.{meets_more}
 
 follows_met : (t : Shapes) (xs : List Flow) (way : Flow) → Follows xs way → AllMet t xs → Meets t way.0 way.1

@@ -8,11 +8,11 @@ use Rattle.aom_shape.specs.Meet.{IsMeet, NoMeet, WhyNoMeet}
 use Rattle.aom_shape.specs.Needs.{Flow}
 use Rattle.aom_shape.specs.Order.{SaysNoMore}
 use Rattle.aom_shape.specs.Shape.{Shape}
-use Rattle.aom_shape.specs.Tables.{at}
+use Rattle.aom_roles.specs.Tables.{at}
 use Rattle.aom_shape.specs.declared.why.Why.{Why}
 use Rattle.aom_shape.proofs.Ordering.{reflexive, transitive}
 use Rattle.aom_shape.proofs.Lists.{at_within, at_set_here, at_set_other}
-use Rattle.aom_bounds.specs.Shapes.{Shapes, Meets, AllMet, IsBelow}
+use Rattle.aom_typings.specs.Shapes.{Shapes, Meets, AllMet, IsBelow}
 use Rattle.aom_verify.specs.Arrivals.{Arrives, AllArrive, EachArrives, JoinFails}
 use Rattle.aom_verify.specs.Arrivals.Arrives.{met as met_there}
 use Rattle.aom_verify.specs.Arrivals.IsRefused.{without_meet}

@@ -3,7 +3,7 @@ use Rattle.std.proofs.Common.{ℕ}
 use Rattle.aom_shape.specs.Order.{SaysNoMore}
 use Rattle.aom_shape.specs.Shape.{Shape}
 use Rattle.aom_shape.proofs.Ordering.{reflexive, transitive}
-use Rattle.aom_bounds.specs.Shapes.{Shapes, Meets, IsBelow}
+use Rattle.aom_typings.specs.Shapes.{Shapes, Meets, IsBelow}
 
 pub meets_more : (s : Shapes) (to : ℕ) (a b : Shape) → Meets s to a → SaysNoMore a b → Meets s to b
 meets_more s to a b h k = record { next = h.next; there = h.there; no_more = transitive h.next a b h.no_more k }

@@ -4,10 +4,10 @@ use Rattle.aom_image.specs.Image.{Image}
 use Rattle.aom_shape.specs.Needs.{Flow}
 use Rattle.aom_shape.specs.Order.{SaysNoMore}
 use Rattle.aom_shape.specs.Shape.{Shape}
-use Rattle.aom_shape.specs.Tables.{at}
+use Rattle.aom_roles.specs.Tables.{at}
 use Rattle.aom_shape.specs.Arguments.{entry_shape}
 use Rattle.aom_shape.specs.declared.why.Why.{Why}
-use Rattle.aom_bounds.specs.Shapes.{Shapes}
+use Rattle.aom_typings.specs.Shapes.{Shapes}
 use Rattle.aom_verify.specs.Arrivals.{FailsFor, IsRefused, StopsAt}
 use Rattle.aom_verify.specs.Arrivals.FailsFor.{by_meet, by_rule}
 use Rattle.aom_verify.specs.Arrivals.IsRefused.{by_need, without_meet}

@@ -5,12 +5,12 @@ use Rattle.std.proofs.lemmas.List.{length-set, length-replicate}
 use Rattle.aom_image.specs.Image.{Image}
 use Rattle.aom_shape.specs.Order.{SaysNoMore}
 use Rattle.aom_shape.specs.Shape.{Shape}
-use Rattle.aom_shape.specs.Tables.{at}
+use Rattle.aom_roles.specs.Tables.{at}
 use Rattle.aom_shape.specs.Arguments.{entry_shape}
 use Rattle.aom_shape.specs.declared.why.Why.{Why}
 use Rattle.aom_shape.proofs.Lists.{at_set_here, at_set_other, at_past}
-use Rattle.aom_bounds.specs.Shapes.{Shapes, IsBelow, IsMethodTyped, HasTyping}
-use Rattle.aom_bounds.specs.Strongest.{IsMethodStrongest}
+use Rattle.aom_typings.specs.Shapes.{Shapes, IsBelow, IsMethodTyped, HasTyping}
+use Rattle.aom_typings.specs.Strongest.{IsMethodStrongest}
 use Rattle.aom_verify.specs.Arrivals.{AllArrive, StatesFail}
 use Rattle.aom_verify.specs.Arrivals.Arrives.{begins}
 use Rattle.aom_verify.specs.Change.{step_then}

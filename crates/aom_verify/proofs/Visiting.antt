@@ -6,10 +6,10 @@ use Rattle.aom_shape.specs.Needs.{Flow}
 use Rattle.aom_shape.specs.Order.{SaysNoMore}
 use Rattle.aom_rules.specs.Rules.{flows}
 use Rattle.aom_shape.specs.Shape.{Shape}
-use Rattle.aom_shape.specs.Tables.{at}
+use Rattle.aom_roles.specs.Tables.{at}
 use Rattle.aom_shape.specs.declared.why.Why.{Why}
 use Rattle.aom_rules.proofs.Monotone.{needs_more, flows_more}
-use Rattle.aom_bounds.specs.Shapes.{Shapes, AllMet, IsBelow, Applies, IsMethodTyped}
+use Rattle.aom_typings.specs.Shapes.{Shapes, AllMet, IsBelow, Applies, IsMethodTyped}
 use Rattle.aom_verify.specs.Arrivals.{Arrives, IsOneOf, AllArrive, EachArrives, JoinFails, StatesFail}
 use Rattle.aom_verify.specs.Arrivals.Arrives.{led}
 use Rattle.aom_verify.specs.Arrivals.IsRefused.{by_need}

@@ -9,8 +9,9 @@ use Rattle.aom_classes.specs.Loops.{LoopsNest}
 use Rattle.aom_classes.proofs.Facts.{at_place, of_method, linked_place}
 use Rattle.aom_classes.proofs.Nested.{back_within}
 use Rattle.aom_image.specs.declared.method.Method.{Method}
+use Rattle.aom_roles.specs.Tests.{AllTrue}
 use Rattle.aom_shape.specs.Kinds.{register, field}
-use Rattle.aom_shape.specs.Needs.{Need, Flow, AllTrue, judged}
+use Rattle.aom_shape.specs.Needs.{Need, Flow, judged}
 use Rattle.aom_rules.specs.Objects.{flow_jump_null, flow_jump_empty}
 use Rattle.aom_rules.specs.Rules.{rule_needs, flows, rule, ways_of}
 use Rattle.aom_shape.specs.Shape.{Shape}

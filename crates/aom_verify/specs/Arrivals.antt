@@ -3,15 +3,16 @@ use Rattle.std.specs.Prelude.{ℕ, ◌≡◌, ◌⊎◌, List, [], ◌∷◌, So
 use Rattle.aom_image.specs.Image.{Image}
 use Rattle.aom_image.specs.Views.{instr_at}
 use Rattle.aom_instructions.specs.declared.instr.Instr.{Instr}
+use Rattle.aom_roles.specs.Tests.{AllTrue}
 use Rattle.aom_shape.specs.Meet.{IsMeet, NoMeet, WhyNoMeet}
-use Rattle.aom_shape.specs.Needs.{Flow, AllTrue}
+use Rattle.aom_shape.specs.Needs.{Flow}
 use Rattle.aom_shape.specs.Order.{SaysNoMore}
 use Rattle.aom_rules.specs.Rules.{rule_needs, flows, rule}
 use Rattle.aom_shape.specs.Shape.{Shape}
-use Rattle.aom_shape.specs.Tables.{at}
+use Rattle.aom_roles.specs.Tables.{at}
 use Rattle.aom_shape.specs.Arguments.{entry_shape}
 use Rattle.aom_shape.specs.declared.why.Why.{Why}
-use Rattle.aom_bounds.specs.Shapes.{Shapes}
+use Rattle.aom_typings.specs.Shapes.{Shapes}
 
 -- it is one of those flows
 abbrev pub IsOneOf : List Flow → Flow → Type 0

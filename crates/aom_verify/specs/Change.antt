@@ -6,7 +6,7 @@ use Rattle.aom_shape.specs.declared.kind.Filling.{Filling}
 use Rattle.aom_shape.specs.declared.kind.Filling.TheVariants.{Empty, Full, Perhaps}
 use Rattle.aom_shape.specs.declared.kind.Kind.{Kind}
 use Rattle.aom_shape.specs.declared.kind.Kind.TheVariants.{Unset, Word, Null, Own, Maybe}
-use Rattle.aom_bounds.specs.Shapes.{Shapes}
+use Rattle.aom_typings.specs.Shapes.{Shapes}
 use Rattle.aom_verify.specs.declared.change.Change.{Change}
 use Rattle.aom_verify.specs.declared.change.Change.TheVariants.{Nothing, Fell, Reached}
 use Rattle.aom_verify.specs.declared.change.Step.{Step}

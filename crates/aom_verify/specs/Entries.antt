@@ -5,8 +5,8 @@ use Rattle.aom_image.specs.Views.{method_at}
 use Rattle.aom_image.specs.declared.method.Method.{Method}
 use Rattle.aom_shape.specs.Needs.{Flow}
 use Rattle.aom_shape.specs.Shape.{Shape}
-use Rattle.aom_shape.specs.Tables.{at}
-use Rattle.aom_bounds.specs.Shapes.{Shapes}
+use Rattle.aom_roles.specs.Tables.{at}
+use Rattle.aom_typings.specs.Shapes.{Shapes}
 use Rattle.aom_verify.specs.Change.{unreached_count}
 
 pub record HasFewEntries (s : Shapes) : Type 0 where

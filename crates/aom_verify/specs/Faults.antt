@@ -2,7 +2,7 @@
 use Rattle.std.specs.Prelude.{ℕ, ◌<◌, List, length}
 use Rattle.aom_image.specs.Image.{Image}
 use Rattle.aom_shape.specs.Needs.{Flow}
-use Rattle.aom_bounds.specs.Shapes.{Shapes}
+use Rattle.aom_typings.specs.Shapes.{Shapes}
 use Rattle.aom_verify.specs.Arrivals.{JoinFails, StatesFail}
 use Rattle.aom_verify.specs.Sweep.{CannotJoin, NoTypingBelow}
 use Rattle.aom_verify.specs.declared.refusal.Refusal.{Refusal}

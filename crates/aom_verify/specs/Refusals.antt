@@ -4,7 +4,7 @@ use Rattle.std.specs.Fmt.{decimal}
 use Rattle.aom_image.specs.Image.{Image}
 use Rattle.aom_image.specs.Views.{method_at, instr_at}
 use Rattle.aom_shape.specs.Whys.{why_number}
-use Rattle.aom_bounds.specs.Shapes.{HasTyping}
+use Rattle.aom_typings.specs.Shapes.{HasTyping}
 use Rattle.aom_verify.specs.Arrivals.{FailsFor}
 use Rattle.aom_verify.specs.declared.refusal.Refusal.{Refusal}
 use Rattle.aom_verify.specs.declared.refusal.Refusal.TheVariants.{OutOfMemory, Refused}

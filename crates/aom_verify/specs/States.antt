@@ -5,10 +5,10 @@ use Rattle.aom_shape.specs.Meet.{IsMeet}
 use Rattle.aom_shape.specs.Order.{SaysNoMore}
 use Rattle.aom_shape.specs.Piles.{Stands, entries_of}
 use Rattle.aom_shape.specs.Shape.{Known, Shape}
-use Rattle.aom_shape.specs.Tables.{at}
+use Rattle.aom_roles.specs.Tables.{at}
 use Rattle.aom_shape.specs.declared.piles.Node.{Node}
 use Rattle.aom_shape.specs.declared.shape.Kept.{Kept}
-use Rattle.aom_bounds.specs.Shapes.{Shapes}
+use Rattle.aom_typings.specs.Shapes.{Shapes}
 use Rattle.aom_verify.specs.Entries.{HasFewEntries}
 
 pub record States : Type 0 where

@@ -4,12 +4,13 @@ use Rattle.aom_image.specs.Image.{Image}
 use Rattle.aom_image.specs.Views.{method_at, instr_at}
 use Rattle.aom_instructions.specs.declared.instr.Instr.{Instr}
 use Rattle.aom_image.specs.declared.method.Method.{Method}
-use Rattle.aom_shape.specs.Tables.{at}
+use Rattle.aom_roles.specs.Tests.{AllTrue}
+use Rattle.aom_roles.specs.Tables.{at}
 use Rattle.aom_shape.specs.Shape.{Shape}
-use Rattle.aom_shape.specs.Needs.{Flow, AllTrue}
+use Rattle.aom_shape.specs.Needs.{Flow}
 use Rattle.aom_rules.specs.Rules.{rule_needs, flows, rule}
 use Rattle.aom_shape.specs.declared.why.Why.{Why}
-use Rattle.aom_bounds.specs.Shapes.{Shapes, AllMet, IsBelow, Applies, IsMethodTyped}
+use Rattle.aom_typings.specs.Shapes.{Shapes, AllMet, IsBelow, Applies, IsMethodTyped}
 use Rattle.aom_verify.specs.Arrivals.{AllArrive, EachArrives}
 use Rattle.aom_verify.specs.Change.{IsChange, unreached_count}
 use Rattle.aom_verify.specs.declared.change.Change.{Change}

@@ -2,7 +2,7 @@
 ghost use Rattle.std.specs.Prelude.{◌≡◌, ◌<◌, IfOk, IfErr, IsSome};
 ghost use Rattle.aom_image.specs.Views.{method_at};
 ghost use Rattle.aom_rules.specs.Typing.{Typing, IsTyped};
-ghost use Rattle.aom_bounds.specs.Strongest.{IsMethodStrongest, IsStrongest, IsShapeAt};
+ghost use Rattle.aom_typings.specs.Strongest.{IsMethodStrongest, IsStrongest, IsShapeAt};
 ghost use Rattle.aom_verify.specs.Refusals.{RefusesMethod, RefusesOrWants};
 ghost use Rattle.aom_verify.specs.Sweep.{HasPlaces};
 
@@ -24,7 +24,7 @@ pub struct Checked {
 
 impl Model for Checked {
     ghost use Rattle.aom_image.specs.Image.{Image};
-    ghost use Rattle.aom_bounds.specs.Strongest.{IsStrongest};
+    ghost use Rattle.aom_typings.specs.Strongest.{IsStrongest};
 
     ghost Value = { Image };
 

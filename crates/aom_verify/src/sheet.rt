@@ -1,7 +1,7 @@
 //! The abstract states of one method, by place.
 ghost use Rattle.std.specs.Prelude.{◌≡◌, ◌<◌, [], length, replicate, slice_set, IfOk, IfErr, Some, None};
 ghost use Rattle.aom_shape.specs.Changes.{known_with};
-ghost use Rattle.aom_shape.specs.Tables.{at};
+ghost use Rattle.aom_roles.specs.Tables.{at};
 ghost use Rattle.aom_verify.specs.Faults.{Stops};
 ghost use Rattle.aom_verify.specs.Sweep.{Spans, Settles};
 
@@ -19,7 +19,7 @@ pub struct Sheet {
 }
 
 impl Model for Sheet {
-    ghost use Rattle.aom_bounds.specs.Shapes.{Shapes};
+    ghost use Rattle.aom_typings.specs.Shapes.{Shapes};
     ghost use Rattle.aom_verify.specs.States.{shapes};
 
     ghost Value = { Shapes };

@@ -6,7 +6,7 @@ ghost use Rattle.aom_rules.specs.Laws.{HaveAtMost};
 ghost use Rattle.aom_shape.specs.Meet.{NoMeet, WhyNoMeet};
 ghost use Rattle.aom_shape.specs.Piles.{Stands, entries_of};
 ghost use Rattle.aom_rules.specs.Rules.{rule};
-ghost use Rattle.aom_shape.specs.Tables.{at};
+ghost use Rattle.aom_roles.specs.Tables.{at};
 ghost use Rattle.aom_verify.specs.Entries.{IsFew, AllFew, HasRoom};
 ghost use Rattle.aom_verify.specs.Faults.{JoinStops, Stops, refusal_of};
 ghost use Rattle.aom_verify.specs.States.{Lowers, shape_of, shapes};

@@ -1,7 +1,7 @@
 //! What is known where a method without a typing fails.
 ghost use Rattle.std.specs.Prelude.{IfNone, IfOk, IfSome, IsSome};
 ghost use Rattle.aom_image.specs.Views.{method_at};
-ghost use Rattle.aom_bounds.specs.Shapes.{HasTyping};
+ghost use Rattle.aom_typings.specs.Shapes.{HasTyping};
 ghost use Rattle.aom_verify.specs.Arrivals.{StopsAt};
 
 use crate::checked::place_count;

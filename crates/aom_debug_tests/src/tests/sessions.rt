@@ -1,10 +1,10 @@
 //! Debugging sessions whose reader or output fails.
 use super::programs::{CANCELS, CANCELS_ASKED};
 use super::readers::{Stuck, Typed};
+use aom_commands::{ExitStatus, asm_bytes};
 use aom_debug::{Reader, debug_bytes};
-use aom_main::{ExitStatus, asm_bytes};
 use aom_natives::Native;
-use aom_pages::{Answer, Page};
+use aom_test_sinks::{Answer, Page};
 use std::alloc::Global;
 
 /// The bytes of the image of a program.

@@ -1,10 +1,10 @@
 //! Any request for memory may be refused: then nothing is told of the session but that. None is made once it has begun.
 use super::programs::{CANCELS, CANCELS_ASKED, CANCELS_TOLD};
 use super::readers::Typed;
+use aom_commands::{ExitStatus, asm_bytes};
 use aom_debug::debug_bytes;
-use aom_main::{ExitStatus, asm_bytes};
 use aom_natives::Native;
-use aom_pages::{Page, Slip};
+use aom_test_sinks::{Page, Slip};
 use std::alloc::Global;
 
 /// How the cancel is assembled.

@@ -2,7 +2,7 @@
 ghost use Rattle.std.specs.Prelude.{pos, negsuc, ◌≡◌, ◌⊎◌, [], option_to_list};
 
 use super::served::{TWO_SENSORS, serves_beside};
-use aom_main::ExitStatus;
+use aom_commands::ExitStatus;
 use aom_natives::Native;
 use std::test::Fail;
 

@@ -1,7 +1,7 @@
 //! Outputs that fail: what is out then is a beginning of what would have been written, and the fault is told.
 use super::pages::{Call, Case, FIRST, SHORT, all_tell, assembled, is_told, tells};
-use aom_main::{ExitStatus, run_bytes};
-use aom_pages::Page;
+use aom_commands::{ExitStatus, run_bytes};
+use aom_test_sinks::Page;
 use std::alloc::Global;
 use std::process::Abort;
 use std::test::Fail;

@@ -1,8 +1,8 @@
 //! Explanations where memory is wanting, and where the output fails.
 use super::pages::FIRST;
+use aom_commands::{ExitStatus, Fault};
 use aom_explaining::{check_explained, explanation};
-use aom_main::{ExitStatus, Fault};
-use aom_pages::{Page, Slip};
+use aom_test_sinks::{Page, Slip};
 use std::test::Fail;
 
 /// Any request for memory may be refused: then the command says so behind the fault's line. Nothing here but the command asks

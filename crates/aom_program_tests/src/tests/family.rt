@@ -1,6 +1,6 @@
 //! A child in its parent's place, from the bytes of an image to the transcript.
 use super::pages::{Call, Case, all_tell};
-use aom_main::ExitStatus;
+use aom_commands::ExitStatus;
 
 /// The image of `examples/shapes.aom`: a square, which is a shape, answers its area in its own way.
 const SHAPES: [u8; 548] = [

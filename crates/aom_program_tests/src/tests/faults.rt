@@ -1,9 +1,9 @@
 //! What each fault writes of itself. The text is derived, and stands in no clause.
 use super::pages::FIRST;
 use aom_budget::BudgetFault;
-use aom_main::{ExitStatus, Fault, Translation, try_run, try_translate};
-use aom_pages::Slip;
+use aom_commands::{ExitStatus, Fault, Translation, try_run, try_translate};
 use aom_run::BootFault;
+use aom_test_sinks::Slip;
 use std::alloc::Global;
 use std::fmt::Display;
 use std::process::Abort;

@@ -1,8 +1,8 @@
 //! Any request for memory may be refused: then a command says so, and writes nothing else. Nothing here but the
 //! command asks for memory.
 use super::pages::{Call, FIRST, FULL_HEAP, LISTING, SHORT, answer, sides};
-use aom_main::{ExitStatus, Fault, tell};
-use aom_pages::Slip;
+use aom_commands::{ExitStatus, Fault, tell};
+use aom_test_sinks::Slip;
 use std::alloc::Global;
 use std::process::Abort;
 

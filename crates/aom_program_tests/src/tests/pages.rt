@@ -1,10 +1,12 @@
 //! What the tests share: two images and their texts, the calls of commands, and what each has to answer and to write.
 ghost use Rattle.aom_natives.specs.Owed.{OweNothing};
 
-use aom_main::{ExitStatus, asm_bytes, check_bytes, dis_bytes, dot_bytes, prices_bytes, run_bytes};
+use aom_commands::{
+    ExitStatus, asm_bytes, check_bytes, dis_bytes, dot_bytes, prices_bytes, run_bytes,
+};
 use aom_natives::Native;
-use aom_pages::Page;
 use aom_run::Sink;
+use aom_test_sinks::Page;
 use std::alloc::Global;
 use std::process::Abort;
 use std::test::Fail;

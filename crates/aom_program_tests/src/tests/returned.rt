@@ -3,7 +3,7 @@ ghost use Rattle.std.specs.Prelude.{◌≡◌, []};
 
 use super::pages::FIRST;
 use aom_budget::Accepted;
-use aom_main::accept_bytes;
+use aom_commands::accept_bytes;
 use aom_natives::{Counter, Native};
 use aom_run::{BootFault, Machine};
 use std::alloc::{AllocError, Global};

@@ -3,9 +3,9 @@ ghost use Rattle.std.specs.Prelude.{◌≡◌, []};
 ghost use Rattle.aom_natives.specs.Owed.{OweNothing};
 
 use super::pages::{assembled, is_told, run_beside};
-use aom_main::ExitStatus;
+use aom_commands::ExitStatus;
 use aom_natives::Native;
-use aom_pages::Page;
+use aom_test_sinks::Page;
 use std::alloc::Global;
 use std::process::Abort;
 use std::test::Fail;

@@ -2,7 +2,7 @@
 ghost use Rattle.std.specs.Prelude.{◌≡◌, [], IfOk};
 
 use super::served::{ASKS, COUNTS, TWO_NATIVES, serves_beside, serves_beside_both};
-use aom_main::ExitStatus;
+use aom_commands::ExitStatus;
 use aom_natives::{Counter, Line, Native};
 use std::alloc::{AllocError, Global};
 use std::cell::Cell;

@@ -1,7 +1,7 @@
 -- So many classes have raised the table.
 use Rattle.std.proofs.Common.{Some, ◌++◌}
 use Rattle.aom_roles.specs.Classes.{sessions_at}
-use Rattle.aom_bounds.specs.Calls.{lines_of}
+use Rattle.aom_typings.specs.Calls.{lines_of}
 use Rattle.aom_budget.specs.Greatest.{most_at}
 use Rattle.aom_budget.proofs.Raised.{IsRaised}
 use Rattle.aom_budget.proofs.lines.raise_gone.Given as goal

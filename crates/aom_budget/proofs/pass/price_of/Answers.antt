@@ -1,7 +1,7 @@
 -- The pass begins past the last place, and ends at the first.
 use Rattle.std.proofs.Common.{ℕ, sym, subst}
 use Rattle.std.proofs.lemmas.List.{length-replicate}
-use Rattle.aom_bounds.specs.Strongest.{IsMethodStrongest}
+use Rattle.aom_typings.specs.Strongest.{IsMethodStrongest}
 use Rattle.aom_budget.specs.Pricing.{Found, IsPassed}
 use Rattle.aom_budget.proofs.Starting.{passing_first}
 use Rattle.aom_budget.proofs.pass.price_of.Goals as goal

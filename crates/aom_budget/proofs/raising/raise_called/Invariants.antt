@@ -2,7 +2,7 @@
 use Rattle.std.proofs.Common.{cond, length, ℕ, ◌<◌, ◌≡◌}
 use Rattle.std.specs.Prelude.{max}
 use Rattle.aom_classes.specs.Overriding.{leads_in}
-use Rattle.aom_shape.specs.Tables.{at}
+use Rattle.aom_roles.specs.Tables.{at}
 use Rattle.aom_budget.specs.Greatest.{is_body}
 use Rattle.aom_budget.proofs.raising.raise_called.Given as goal
 

@@ -2,7 +2,7 @@
 use Rattle.std.proofs.Common.{cond, length, ℕ, ◌<◌, ◌≡◌}
 use Rattle.std.specs.Prelude.{max}
 use Rattle.aom_roles.specs.Families.{descends}
-use Rattle.aom_shape.specs.Tables.{at}
+use Rattle.aom_roles.specs.Tables.{at}
 use Rattle.aom_budget.proofs.Climbing.{generations, some_descends}
 use Rattle.aom_budget.proofs.raising.raise_class.Given as goal
 

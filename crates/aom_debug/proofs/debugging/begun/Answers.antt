@@ -2,9 +2,9 @@
 use Rattle.std.proofs.Common.{arith, ap, refl, ◌+◌}
 use Rattle.std.proofs.lemmas.Result.{IfOk-weaker}
 use Rattle.aom_image.specs.Image.{Image}
-use Rattle.aom_lines.specs.Turn.{step_lines}
+use Rattle.aom_lines.specs.LineBuffer.{step_lines}
 use Rattle.aom_run.specs.Calls.{natives_of}
-use Rattle.aom_sound.specs.World.{boot_state}
+use Rattle.aom_semantics.specs.World.{boot_state}
 use Rattle.aom_debug.proofs.Starting.{begun_of}
 use Rattle.aom_debug.proofs.debugging.begun.Goals as goal
 

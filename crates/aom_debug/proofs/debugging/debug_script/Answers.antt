@@ -1,8 +1,8 @@
 -- The session is one from the boot state of an accepted image. That its machine did not boot is a fault.
 use Rattle.std.proofs.Common.{length, refl}
-use Rattle.aom_main.specs.Headline.{Sent}
-use Rattle.aom_main.specs.Untold.{Untold}
-use Rattle.aom_main.proofs.Acceptance.{acceptable_of}
+use Rattle.aom_commands.specs.Headline.{Sent}
+use Rattle.aom_commands.specs.Untold.{Untold}
+use Rattle.aom_commands.proofs.Acceptance.{acceptable_of}
 use Rattle.aom_debug.specs.Conversing.{Given}
 use Rattle.aom_debug.specs.Answers.{DebugAnswersBy}
 use Rattle.aom_debug.proofs.Statuses.{broken_of, by_done, held_of, unbegun}

@@ -1,7 +1,7 @@
 -- Turns, as long as nothing is at hand: fewer dispatches or events are to come after each.
 use Rattle.std.proofs.Common.{refl, subst, sym, ◌∙◌, ◌<◌}
-use Rattle.aom_exec.specs.Steps.{progress}
-use Rattle.aom_sound.specs.World.{Reaches}
+use Rattle.aom_machine.specs.Steps.{progress}
+use Rattle.aom_semantics.specs.World.{Reaches}
 use Rattle.aom_run.specs.Turns.{TakesTurns}
 use Rattle.aom_run.proofs.Running.{left}
 use Rattle.aom_debug_moves.specs.Movers.{outside_of}

@@ -1,7 +1,7 @@
 -- Steps in the dispatch at hand, and then in one dispatch after another.
 use Rattle.std.proofs.Common.{subst, ◌∙◌, ◌<◌, sym}
-use Rattle.aom_sound.specs.State.{State}
-use Rattle.aom_sound.specs.World.{Reaches}
+use Rattle.aom_semantics.specs.State.{State}
+use Rattle.aom_semantics.specs.World.{Reaches}
 use Rattle.aom_debug_moves.specs.Movers.{outside_of}
 use Rattle.aom_debug_moves.specs.Sends.{Breaks}
 use Rattle.aom_debug_moves.proofs.Keeping.{heard_as, keeps_on}

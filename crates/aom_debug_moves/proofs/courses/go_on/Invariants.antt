@@ -1,5 +1,5 @@
 use Rattle.std.proofs.Common.{◌≡◌}
-use Rattle.aom_exec.specs.Steps.{progress}
+use Rattle.aom_machine.specs.Steps.{progress}
 use Rattle.aom_natives.specs.Slots.{AllAgree}
 use Rattle.aom_debug_moves.specs.Movers.{Keeps, outside_of}
 use Rattle.aom_debug_moves.specs.Sends.{Sends}

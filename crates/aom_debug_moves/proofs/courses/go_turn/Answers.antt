@@ -1,6 +1,6 @@
 -- Turns up to a dispatch, and that to its end.
 use Rattle.std.proofs.Common.{◌∙◌, sym}
-use Rattle.aom_sound.specs.State.{State}
+use Rattle.aom_semantics.specs.State.{State}
 use Rattle.aom_debug_moves.specs.Next.{root_is_due}
 use Rattle.aom_debug_moves.specs.Sends.{Sends}
 use Rattle.aom_debug_moves.proofs.Keeping.{begun_as, keeps_on, went_as}

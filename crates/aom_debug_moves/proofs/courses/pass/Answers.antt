@@ -1,6 +1,6 @@
 -- Turns up to a dispatch, and that further, up to a place to stay.
 use Rattle.std.proofs.Common.{ap, ◌∙◌, sym}
-use Rattle.aom_sound.specs.State.{State}
+use Rattle.aom_semantics.specs.State.{State}
 use Rattle.aom_debug_moves.specs.Sends.{Sends}
 use Rattle.aom_debug_moves.proofs.Keeping.{begun_as, keeps_on, went_as}
 use Rattle.aom_debug_moves.specs.Courses.{WalksOn, WalksUnless, stays_at}

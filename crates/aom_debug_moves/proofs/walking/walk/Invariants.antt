@@ -1,6 +1,6 @@
 use Rattle.std.proofs.Common.{◌≡◌}
-use Rattle.aom_exec.specs.Steps.{progress, rank}
-use Rattle.aom_parts.specs.declared.progress.Progress.TheVariants.{Running}
+use Rattle.aom_machine.specs.Steps.{progress, rank}
+use Rattle.aom_machine_state.specs.declared.progress.Progress.TheVariants.{Running}
 use Rattle.aom_natives.specs.Slots.{AllAgree}
 use Rattle.aom_debug_moves.specs.Movers.{Keeps}
 use Rattle.aom_debug_moves.specs.Sends.{Sends}

@@ -1,9 +1,9 @@
 -- One place after another from the bottom, until the one over so many others.
 use Rattle.std.proofs.Common.{◌∙◌, ◌≡◌, ℕ, Bool, add-one, ap, arith, cond, false, suc, sym, true, Some, None}
 use Rattle.aom_image.specs.Image.{Image}
-use Rattle.aom_parts.specs.Stands.{StandsFor}
-use Rattle.aom_sound.specs.State.{State}
-use Rattle.aom_debug_sights.proofs.Counting.{counted_next}
+use Rattle.aom_machine_state.specs.Stands.{StandsFor}
+use Rattle.aom_semantics.specs.State.{State}
+use Rattle.aom_debug_views.proofs.Counting.{counted_next}
 use Rattle.aom_debug_paths.specs.Paths.{is_such, length_of, numbered}
 use Rattle.aom_debug_paths.proofs.Numbering.{as_many, numbered_more, numbered_told}
 use Rattle.aom_debug_paths.proofs.finding.numbered_place.Goals as goal

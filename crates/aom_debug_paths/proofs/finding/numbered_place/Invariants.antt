@@ -1,9 +1,9 @@
 -- Those so far are counted, and none of them is meant.
 use Rattle.std.proofs.Common.{◌≡◌, ◌≤◌, None}
 use Rattle.aom_image.specs.Image.{Image}
-use Rattle.aom_parts.specs.Stands.{StandsFor}
-use Rattle.aom_sound.specs.State.{State}
-use Rattle.aom_debug_sights.specs.Sights.{counted}
+use Rattle.aom_machine_state.specs.Stands.{StandsFor}
+use Rattle.aom_semantics.specs.State.{State}
+use Rattle.aom_debug_views.specs.Sights.{counted}
 use Rattle.aom_debug_paths.specs.Paths.{is_such, numbered}
 use Rattle.aom_debug_paths.proofs.finding.numbered_place.Given as goal
 

@@ -1,7 +1,7 @@
 -- Each place by its number.
 use Rattle.std.proofs.Common.{◌∙◌, ap}
 use Rattle.std.specs.Prelude.{option_map}
-use Rattle.aom_sound.specs.Places.{Entry, Going, Register}
+use Rattle.aom_semantics.specs.Places.{Entry, Going, Register}
 use Rattle.aom_debug_paths.proofs.finding.outer_owner.Goals as goal
 
 pub returns-in-Register-clause-place : goal.returns-in-Register-clause-place

@@ -1,6 +1,6 @@
 -- What the place holds that a branch leads to.
 use Rattle.std.proofs.Common.{subst}
-use Rattle.aom_debug_sights.specs.Holdings.{HoldsSo, place_of}
+use Rattle.aom_debug_views.specs.Holdings.{HoldsSo, place_of}
 use Rattle.aom_debug_paths.specs.Paths.{IsHeld, branch_place}
 use Rattle.aom_debug_paths.proofs.Onward.{held_so, is_alive, onward_object}
 use Rattle.aom_debug_paths.proofs.following.onward.Goals as goal

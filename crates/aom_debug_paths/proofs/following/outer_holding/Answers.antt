@@ -1,7 +1,7 @@
 -- What the place holds that is meant, or nothing where none is.
 use Rattle.std.proofs.Common.{◌∙◌, ap, subst, sym}
 use Rattle.std.specs.Prelude.{IfSome, option_map}
-use Rattle.aom_debug_sights.specs.Holdings.{IsOwner, place_of}
+use Rattle.aom_debug_views.specs.Holdings.{IsOwner, place_of}
 use Rattle.aom_debug_paths.specs.Paths.{held_in}
 use Rattle.aom_debug_paths.proofs.Onward.{held_same, held_so, is_alive}
 use Rattle.aom_debug_paths.proofs.following.outer_holding.Goals as goal

@@ -1,8 +1,8 @@
 -- What is owned at the branches so far is held.
 use Rattle.std.specs.List.{fold}
 use Rattle.std.specs.Prelude.{take}
-use Rattle.aom_parts.specs.Stands.{StandsFor}
-use Rattle.aom_sound.specs.State.{State}
+use Rattle.aom_machine_state.specs.Stands.{StandsFor}
+use Rattle.aom_semantics.specs.State.{State}
 use Rattle.aom_debug_paths.specs.Paths.{IsAlive, IsHeld, held_in, onward, outer_place}
 use Rattle.aom_debug_paths.proofs.following.owned_at.Given as goal
 

@@ -1,6 +1,6 @@
 -- The lines of what waits so far are out.
 use Rattle.aom_image.specs.Image.{Image}
-use Rattle.aom_debug_sights.specs.Telling.{Tells, answers_text, gathered}
+use Rattle.aom_debug_views.specs.Telling.{Tells, answers_text, gathered}
 use Rattle.aom_debug_paths.proofs.Queues.{entry_lines}
 use Rattle.aom_debug_paths.proofs.queue.tell_waiting.Given as goal
 

@@ -2,13 +2,13 @@
 use Rattle.std.proofs.Common.{ℕ, List, Some, ap, arith}
 use Rattle.std.proofs.lemmas.Result.{err_from_is_err_and}
 use Rattle.aom_transcript.specs.Text.{ended}
-use Rattle.aom_sound.specs.Places.{word_field}
-use Rattle.aom_sound.specs.State.{State}
+use Rattle.aom_semantics.specs.Places.{word_field}
+use Rattle.aom_semantics.specs.State.{State}
 use Rattle.aom_debug_words.specs.Answers.{answer_text}
 use Rattle.aom_debug_words.specs.declared.answer.Answer.{Answer}
 use Rattle.aom_debug_words.specs.declared.answer.Answer.TheVariants.{Word}
-use Rattle.aom_debug_sights.specs.Telling.{listed}
-use Rattle.aom_debug_sights.proofs.Telling.{tells_all, tells_next, tells_part}
+use Rattle.aom_debug_views.specs.Telling.{listed}
+use Rattle.aom_debug_views.proofs.Telling.{tells_all, tells_next, tells_part}
 use Rattle.aom_debug_paths.proofs.words.tell_count.Goals as goal
 
 abbrev of_answer : Answer → List ℕ

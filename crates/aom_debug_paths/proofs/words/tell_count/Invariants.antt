@@ -1,6 +1,6 @@
 -- The lines of the words so far are out.
 use Rattle.aom_image.specs.Image.{Image}
-use Rattle.aom_debug_sights.specs.Telling.{Tells, answers_text}
+use Rattle.aom_debug_views.specs.Telling.{Tells, answers_text}
 use Rattle.aom_debug_paths.specs.Paths.{word_lines}
 use Rattle.aom_debug_paths.proofs.words.tell_count.Given as goal
 

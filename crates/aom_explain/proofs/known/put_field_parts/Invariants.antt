@@ -2,7 +2,7 @@
 use Rattle.std.proofs.Common.{◌≡◌, ◌++◌}
 use Rattle.aom_figures.specs.Text.{by_number}
 use Rattle.aom_shape.specs.Kinds.{field}
-use Rattle.aom_shape.specs.Things.{field_thing, holder_of}
+use Rattle.aom_roles.specs.Things.{field_thing, holder_of}
 use Rattle.aom_explain.specs.Known.{field_part}
 use Rattle.aom_explain.proofs.known.put_field_parts.Given as goal
 

@@ -2,8 +2,8 @@
 use Rattle.std.proofs.Common.{◌≡◌, ◌∙◌, ap, subst}
 use Rattle.aom_explain.specs.Declarations.{class_names, method_names}
 use Rattle.aom_explain.specs.Lines.{class_lines, image_line, method_lines}
-use Rattle.aom_main.specs.Prices.{ChecksBy}
-use Rattle.aom_main.specs.Untold.{Untold}
+use Rattle.aom_commands.specs.Prices.{ChecksBy}
+use Rattle.aom_commands.specs.Untold.{Untold}
 use Rattle.aom_run.specs.Naming.{lent}
 use Rattle.aom_explaining.specs.Naming.{placed_names, text_places}
 use Rattle.aom_explaining.proofs.Placing.{same_names, same_places}

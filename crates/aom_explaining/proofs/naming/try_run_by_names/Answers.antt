@@ -3,8 +3,8 @@ use Rattle.std.proofs.Common.{◌≡◌, ◌∙◌, ℕ, List, ap, length, map, 
 use Rattle.std.specs.Borrow.{Bor}
 use Rattle.aom_explain.specs.Declarations.{class_names}
 use Rattle.aom_run.specs.Naming.{class_word, lent, named_text}
-use Rattle.aom_main.specs.Headline.{RunAnswersBy}
-use Rattle.aom_main.specs.Untold.{Untold}
+use Rattle.aom_commands.specs.Headline.{RunAnswersBy}
+use Rattle.aom_commands.specs.Untold.{Untold}
 use Rattle.aom_explaining.proofs.naming.try_run_by_names.Goals as goal
 
 pub returns : goal.returns

@@ -1,5 +1,5 @@
 use Rattle.std.proofs.Common.{◌≡◌, ◌<◌, ◌≤◌, length}
-use Rattle.aom_exec.specs.Steps.{rank}
+use Rattle.aom_machine.specs.Steps.{rank}
 use Rattle.aom_run.specs.Beside.{KeepsUnnamed}
 use Rattle.aom_run.specs.Calls.{Stands}
 use Rattle.aom_natives.specs.Slots.{AllAgree}

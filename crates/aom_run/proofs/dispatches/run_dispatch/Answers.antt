@@ -1,6 +1,6 @@
 use Rattle.std.proofs.Common.{ap, arith, length, refl, subst, sym, take, ◌+◌, ◌∙◌, ◌≤◌}
 use Rattle.aom_image.specs.Image.{Image}
-use Rattle.aom_lines.specs.Turn.{Turn, step_lines}
+use Rattle.aom_lines.specs.LineBuffer.{LineBuffer, step_lines}
 use Rattle.aom_run.specs.Naming.{named_by, text_by}
 use Rattle.aom_run.specs.Runs.{after}
 use Rattle.aom_run.specs.Beside.{KeepsUnnamed}
@@ -16,7 +16,7 @@ loop-progress-init g c =
 pub fill-progress-requires : goal.fill-progress-requires
 fill-progress-requires g c =
     let i = c.loop-progress.invariant in
-    record { agree = i.agree; stands = i.stands; room = (i.few, subst (λ (t : Turn). 64 + step_lines c.loop-progress.machine.core.image.header.messages ≤ t.room) (sym i.same) (subst (λ (p : Image). 64 + step_lines p.header.messages ≤ c.args.turn.now.room) (sym i.kept.image) c.requires.room.1)) }
+    record { agree = i.agree; stands = i.stands; room = (i.few, subst (λ (t : LineBuffer). 64 + step_lines c.loop-progress.machine.core.image.header.messages ≤ t.room) (sym i.same) (subst (λ (p : Image). 64 + step_lines p.header.messages ≤ c.args.turn.now.room) (sym i.kept.image) c.requires.room.1)) }
 
 pub returns-then-has_failed-clause-kept : goal.returns-then-has_failed-clause-kept
 returns-then-has_failed-clause-kept g c = let e = c.fill-progress.ensures.kept in image_on c.loop-progress.invariant.kept e.image e.natives
@@ -39,7 +39,7 @@ pub loop-progress-preserved : goal.loop-progress-preserved
 loop-progress-preserved g c =
     let i = c.loop-progress.invariant in
     let out = c.put_lines.ensures.whole (sym c.has_failed.ensures ∙ c.if-has_failed.false) ∙ ap (λ ls. after (g.W.Sink.out c.loop-progress.out) (text_by (named_by c.args.names) ls)) c.lines.ensures in
-    let none = ap (λ (t : Turn). length t.lines) c.clear.ensures in
+    let none = ap (λ (t : LineBuffer). length t.lines) c.clear.ensures in
     record {
       underway = underway_still (named_by c.args.names) c.args.machine.now c.loop-progress.machine c.fill-progress.new.machine c.args.turn.now c.loop-progress.turn c.fill-progress.new.turn (g.W.Sink.out c.args.out.now) (g.W.Sink.out c.loop-progress.out) c.fill-progress.result i.underway i.kept.image i.same c.fill-progress.ensures.steps _ _ c.clear.ensures out;
       stands = still_stands c.loop-progress.machine c.fill-progress.new.machine c.loop-progress.turn c.fill-progress.new.turn c.fill-progress.result i.stands c.fill-progress.ensures.steps;

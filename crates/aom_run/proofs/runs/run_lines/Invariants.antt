@@ -3,8 +3,8 @@ use Rattle.aom_run.specs.Calls.{natives_of}
 use Rattle.aom_natives.specs.Slots.{AllAgree}
 use Rattle.aom_run.specs.Naming.{named_by}
 use Rattle.aom_run.specs.Turns.{hearing}
-use Rattle.aom_exec.specs.Steps.{progress}
-use Rattle.aom_parts.specs.declared.progress.Progress.TheVariants.{Running}
+use Rattle.aom_machine.specs.Steps.{progress}
+use Rattle.aom_machine_state.specs.declared.progress.Progress.TheVariants.{Running}
 use Rattle.aom_run.proofs.Running.{SoFar, left}
 use Rattle.aom_run.proofs.runs.run_lines.Given as goal
 

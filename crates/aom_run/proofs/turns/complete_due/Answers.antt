@@ -1,5 +1,5 @@
 use Rattle.std.proofs.Common.{inl, inr, refl, subst, sym, ◌<◌, ◌∙◌}
-use Rattle.aom_exec.specs.Steps.{timers}
+use Rattle.aom_machine.specs.Steps.{timers}
 use Rattle.aom_run.specs.Calls.{Completed as Completes_one}
 use Rattle.aom_run.specs.Turns.{CompletesDue, IsDue, Keeps}
 use Rattle.aom_run.proofs.Between.{completed_far, completed_stands, fewer_then, no_more_then, none_completed, none_still, one_completed, was_due}

@@ -1,5 +1,5 @@
 use Rattle.std.proofs.Common.{◌≡◌, ◌⊎◌, ◌<◌}
-use Rattle.aom_exec.specs.Steps.{timers}
+use Rattle.aom_machine.specs.Steps.{timers}
 use Rattle.aom_natives.specs.Slots.{AllAgree}
 use Rattle.aom_run.specs.Turns.{CompletesDue, Keeps}
 use Rattle.aom_run.proofs.turns.complete_due.Given as goal

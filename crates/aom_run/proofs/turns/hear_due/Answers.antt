@@ -1,6 +1,6 @@
 -- Each event that has come is heard, up to one that is told by a line.
 use Rattle.std.proofs.Common.{arith, false, inl, inr, length, refl, subst, sym, ◌<◌, ◌≡◌, ◌∙◌}
-use Rattle.aom_lines.specs.Turn.{Turn}
+use Rattle.aom_lines.specs.LineBuffer.{LineBuffer}
 use Rattle.aom_run.specs.Beside.{is_for_native}
 use Rattle.aom_run.specs.Calls.{Delivered, EventInRange}
 use Rattle.aom_run.specs.Turns.{TellsEnd}
@@ -26,7 +26,7 @@ deliver-requires-clause-few g c =
     omega (arith, within)
 
 pub deliver-requires-clause-room : goal.deliver-requires-clause-room
-deliver-requires-clause-room g c = subst (λ (t : Turn). length t.lines < t.room) (sym c.loop-event.invariant.turn) c.requires.can.1
+deliver-requires-clause-room g c = subst (λ (t : LineBuffer). length t.lines < t.room) (sym c.loop-event.invariant.turn) c.requires.can.1
 
 pub deliver-requires-clause-ranged : goal.deliver-requires-clause-ranged
 deliver-requires-clause-ranged g c =

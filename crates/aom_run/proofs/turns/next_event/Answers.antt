@@ -2,7 +2,7 @@
 use Rattle.std.proofs.Common.{ap, length, refl, sym, ◌∙◌}
 use Rattle.std.proofs.lemmas.Bool.{ltb-false, ltb-true}
 use Rattle.std.proofs.lemmas.Option.{slice_get_past, slice_get_read}
-use Rattle.aom_sound.specs.World.{event_at}
+use Rattle.aom_semantics.specs.World.{event_at}
 use Rattle.aom_run.proofs.Gets.{event_got}
 use Rattle.aom_run.proofs.turns.next_event.Goals as goal
 

@@ -1,6 +1,6 @@
 use Rattle.std.proofs.Common.{ap, arith, length, subst, sym, true, Some, ◌∙◌, ◌<◌}
 use Rattle.aom_transcript.specs.declared.line.Ending.TheVariants.{Waiting}
-use Rattle.aom_lines.specs.Turn.{Turn}
+use Rattle.aom_lines.specs.LineBuffer.{LineBuffer}
 use Rattle.aom_run.specs.Calls.{Picked, natives_of}
 use Rattle.aom_run.proofs.Keeping.{as_many}
 use Rattle.aom_run.proofs.Serving.{cut_so, waited_so}
@@ -50,7 +50,7 @@ loop-limit-init g c =
 pub pick-requires : goal.pick-requires
 pick-requires g c =
     let i = c.loop-limit.invariant in
-    record { agree = i.agree; between = i.rests.between; room = subst (λ (t : Turn). length t.lines < t.room) (sym i.turn) c.requires.room }
+    record { agree = i.agree; between = i.rests.between; room = subst (λ (t : LineBuffer). length t.lines < t.room) (sym i.turn) c.requires.room }
 
 pub returns-then-pick : goal.returns-then-pick
 returns-then-pick g c =
@@ -99,7 +99,7 @@ settle-requires-in-loop-limit g c =
         passed_stands c.args.machine.now c.pick.new.self c.args.events.now c.args.turn.now.refused c.args.limit k.0 k.2 c.next_time.result c.next_time.ensures c.in-Some.time c.in-Some.is c.set_clock.new.self e.image e.passed,
         passed_far c.args.machine.now c.pick.new.self c.args.events.now c.args.turn.now.refused c.args.limit k.0 k.2 c.next_time.result c.next_time.ensures c.in-Some.time c.in-Some.is c.set_clock.new.self e.image e.passed,
       );
-      can = (c.requires.ranged, subst (λ (t : Turn). length t.lines < t.room) (sym (k.1 ∙ c.loop-limit.invariant.turn)) c.requires.room);
+      can = (c.requires.ranged, subst (λ (t : LineBuffer). length t.lines < t.room) (sym (k.1 ∙ c.loop-limit.invariant.turn)) c.requires.room);
     }
 
 pub returns-then-settle-2 : goal.returns-then-settle-2

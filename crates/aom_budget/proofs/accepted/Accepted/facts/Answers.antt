@@ -2,12 +2,12 @@
 use Rattle.std.proofs.Common.{◌∙◌, sym, subst}
 use Rattle.aom_image.specs.Image.{Image}
 use Rattle.aom_rules.specs.Typing.{Typing}
-use Rattle.aom_bounds.specs.Strongest.{IsStrongest}
-use Rattle.aom_bounds.specs.Depths.{DepthsWithin}
-use Rattle.aom_bounds.specs.Heights.{HeightsWithin}
-use Rattle.aom_bounds.proofs.Within.{all_within, all_high}
-use Rattle.aom_bounds.specs.Dispatches.{IsAffordable}
-use Rattle.aom_bounds.specs.Prices.{Prices}
+use Rattle.aom_typings.specs.Strongest.{IsStrongest}
+use Rattle.aom_typings.specs.Depths.{DepthsWithin}
+use Rattle.aom_typings.specs.Heights.{HeightsWithin}
+use Rattle.aom_typings.proofs.Within.{all_within, all_high}
+use Rattle.aom_typings.specs.Dispatches.{IsAffordable}
+use Rattle.aom_typings.specs.Prices.{Prices}
 use Rattle.aom_image.specs.WellFormed.{WellFormed}
 use Rattle.aom_classes.specs.Linked.{IsLinked}
 use Rattle.aom_budget.specs.Budgets.{CostsWithin}

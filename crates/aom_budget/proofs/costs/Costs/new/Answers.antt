@@ -1,7 +1,7 @@
 -- Nothing is found of any method, and a destruction costs its steps.
 use Rattle.std.proofs.Common.{◌∙◌, ◌≡◌, ap, arith, length, rules, ℕ}
 use Rattle.std.proofs.lemmas.List.{length-replicate}
-use Rattle.aom_shape.specs.Tables.{at}
+use Rattle.aom_roles.specs.Tables.{at}
 use Rattle.aom_budget.proofs.Keeping.{at_noughts}
 use Rattle.aom_budget.proofs.Raised.{noughts_greatest}
 use Rattle.aom_budget.proofs.costs.Costs.new.Goals as goal

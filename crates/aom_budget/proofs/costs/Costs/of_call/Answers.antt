@@ -1,6 +1,6 @@
 -- The table says the most of what is listed.
 use Rattle.std.proofs.Common.{◌∙◌, ap}
-use Rattle.aom_shape.specs.Tables.{at}
+use Rattle.aom_roles.specs.Tables.{at}
 use Rattle.aom_budget.proofs.Greatest.{bodies_most}
 use Rattle.aom_budget.proofs.costs.Costs.of_call.Goals as goal
 

@@ -1,6 +1,6 @@
 -- The table says the most of what is listed.
 use Rattle.std.proofs.Common.{◌∙◌, ap, sym}
-use Rattle.aom_shape.specs.Tables.{at}
+use Rattle.aom_roles.specs.Tables.{at}
 use Rattle.aom_budget.specs.Pricing.{cancel_by}
 use Rattle.aom_budget.proofs.Destroyed.{cancels_most}
 use Rattle.aom_budget.proofs.costs.Costs.of_cancel.Goals as goal

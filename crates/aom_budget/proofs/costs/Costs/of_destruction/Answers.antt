@@ -1,6 +1,6 @@
 -- The table says it of each class.
 use Rattle.std.proofs.Common.{◌∙◌, ap, sym}
-use Rattle.aom_shape.specs.Tables.{at}
+use Rattle.aom_roles.specs.Tables.{at}
 use Rattle.aom_budget.specs.Pricing.{destruction_by}
 use Rattle.aom_budget.proofs.costs.Costs.of_destruction.Goals as goal
 

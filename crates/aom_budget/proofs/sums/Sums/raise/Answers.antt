@@ -1,7 +1,7 @@
 -- What is set is the greater.
 use Rattle.std.proofs.Common.{◌≡◌, ◌<◌, ◌∙◌, ap, length, rules}
 use Rattle.std.specs.Prelude.{max}
-use Rattle.aom_shape.specs.Tables.{at}
+use Rattle.aom_roles.specs.Tables.{at}
 use Rattle.aom_budget.proofs.Keeping.{raised_set}
 use Rattle.aom_budget.proofs.sums.Sums.raise.Goals as goal
 

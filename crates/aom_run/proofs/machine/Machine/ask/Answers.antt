@@ -2,7 +2,7 @@ use Rattle.std.proofs.Common.{rules, ◌∙◌, sym, ap, refl, w32}
 use Rattle.std.specs.Prelude.{FitsSigned}
 use Rattle.std.specs.Int.{int_wrap}
 use Rattle.std.proofs.lemmas.Int.{int_wrap_fits, to_z-of_z}
-use Rattle.aom_parts.specs.Agrees.{heard_by}
+use Rattle.aom_machine_state.specs.Agrees.{heard_by}
 use Rattle.aom_run.proofs.Stepped.{asks_nothing, asks_so, fits, heard_nothing, heard_so}
 use Rattle.aom_run.proofs.machine.Machine.ask.Goals as goal
 

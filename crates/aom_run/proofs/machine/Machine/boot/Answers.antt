@@ -1,8 +1,8 @@
 -- The core is of the accepted image, and there are as many natives as it names.
 use Rattle.std.proofs.Common.{rules, length, refl, ◌<◌, ◌≤◌, ◌∙◌, subst, sym}
 use Rattle.std.proofs.lemmas.Result.{IfErr-weaker, IfOk-weaker}
-use Rattle.aom_sound.specs.World.{boot_state}
-use Rattle.aom_parts.specs.Stands.{StandsFor as CoreStands}
+use Rattle.aom_semantics.specs.World.{boot_state}
+use Rattle.aom_machine_state.specs.Stands.{StandsFor as CoreStands}
 use Rattle.aom_run.proofs.Booted.{memory_is_not_few}
 use Rattle.aom_run.proofs.machine.Machine.boot.Goals as goal
 

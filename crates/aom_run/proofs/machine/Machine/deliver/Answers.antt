@@ -1,5 +1,5 @@
 use Rattle.std.proofs.Common.{arith, refl, subst, sym}
-use Rattle.aom_sound.specs.World.{delivers}
+use Rattle.aom_semantics.specs.World.{delivers}
 use Rattle.aom_run.specs.Beside.{KeepsUntold}
 use Rattle.aom_run.specs.Calls.{EventInRange, IsDelivered, Takes}
 use Rattle.aom_run.proofs.Serving.{untold_but, with_any_name}

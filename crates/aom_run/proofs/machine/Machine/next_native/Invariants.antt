@@ -1,7 +1,7 @@
 use Rattle.std.proofs.Common.{◌≡◌, ◌≤◌, ◌-◌}
 use Rattle.aom_run.specs.Calls.{StandsFor, natives_of}
-use Rattle.aom_sound.specs.State.{State}
-use Rattle.aom_sound.specs.World.{first_living}
+use Rattle.aom_semantics.specs.State.{State}
+use Rattle.aom_semantics.specs.World.{first_living}
 use Rattle.aom_run.proofs.machine.Machine.next_native.Given as goal
 
 -- none that lives was passed by

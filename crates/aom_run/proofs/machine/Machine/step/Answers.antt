@@ -1,7 +1,7 @@
 use Rattle.std.proofs.Common.{◌<◌, ap, subst, refl}
-use Rattle.aom_parts.specs.Agrees.{heard_by}
-use Rattle.aom_parts.specs.Stands.{Machine as Core}
-use Rattle.aom_exec.specs.Steps.{rank}
+use Rattle.aom_machine_state.specs.Agrees.{heard_by}
+use Rattle.aom_machine_state.specs.Stands.{Machine as Core}
+use Rattle.aom_machine.specs.Steps.{rank}
 use Rattle.aom_run.proofs.Stepped.{stays_idle, stepped_once}
 use Rattle.aom_run.proofs.machine.Machine.step.Goals as goal
 

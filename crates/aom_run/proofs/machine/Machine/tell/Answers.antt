@@ -1,4 +1,4 @@
-use Rattle.aom_sound.specs.World.{Hears}
+use Rattle.aom_semantics.specs.World.{Hears}
 use Rattle.aom_run.proofs.Serving.{heard_plain, none_due_still, takes_plainly}
 use Rattle.aom_run.proofs.machine.Machine.tell.Goals as goal
 

@@ -1,5 +1,0 @@
-use Rattle.aom_acts.proofs.CallActs.{stop_does}
-use Rattle.aom_acts.proofs.calls.stop.Goals as goal
-
-pub returns : goal.returns
-returns c = λ refused. rw (c.next.ensures, c.stop.ensures) (stop_does c.args.parts.now refused)

@@ -1,5 +1,0 @@
-use Rattle.std.proofs.Common.{rules}
-use Rattle.aom_acts.proofs.messages.completion_line.Goals as goal
-
-pub returns-else-completion : goal.returns-else-completion
-returns-else-completion c = search rules

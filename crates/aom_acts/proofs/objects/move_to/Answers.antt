@@ -1,5 +1,0 @@
-use Rattle.aom_acts.proofs.MoveActs.{move_does}
-use Rattle.aom_acts.proofs.objects.move_to.Goals as goal
-
-pub returns : goal.returns
-returns c = λ refused. rw (c.bring.ensures.brought, c.take_register-object.ensures.emptied, c.take_register-object.ensures.value) (move_does c.args.parts.now refused c.args.to c.args.from c.bring.ensures.in_range c.take_register-object.ensures.in_range)

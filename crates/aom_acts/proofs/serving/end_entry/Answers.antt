@@ -1,5 +1,0 @@
-use Rattle.std.proofs.Common.{rules}
-use Rattle.aom_acts.proofs.serving.end_entry.Goals as goal
-
-pub returns-in-Message-clause-messages : goal.returns-in-Message-clause-messages
-returns-in-Message-clause-messages c = search rules

@@ -1,5 +1,0 @@
-use Rattle.std.proofs.Common.{rules}
-use Rattle.aom_acts.proofs.serving.end_stage.Goals as goal
-
-pub returns-in-ServiceLeft : goal.returns-in-ServiceLeft
-returns-in-ServiceLeft c = search rules

@@ -1,5 +1,0 @@
-use Rattle.std.proofs.Common.{rules}
-use Rattle.aom_acts.proofs.serving.serve.Goals as goal
-
-pub returns-in-Some-Dispatched-Server-default-default-Accepts : goal.returns-in-Some-Dispatched-Server-default-default-Accepts
-returns-in-Some-Dispatched-Server-default-default-Accepts c = search rules

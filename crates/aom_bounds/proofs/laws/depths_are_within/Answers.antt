@@ -1,5 +1,0 @@
-use Rattle.aom_bounds.proofs.Within.{all_within as law}
-use Rattle.aom_bounds.proofs.laws.depths_are_within.Goals as goal
-
-pub returns : goal.returns
-returns c = law

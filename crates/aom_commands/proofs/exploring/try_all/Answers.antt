@@ -1,0 +1,37 @@
+-- Each is tried in turn. Where memory is wanting what went out stays.
+use Rattle.std.proofs.Common.{◌∙◌, arith, length, refl, rules, sym}
+use Rattle.aom_commands.specs.Headline.{Sent}
+use Rattle.aom_commands.proofs.Tries.{all_tried, one_more, start}
+use Rattle.aom_commands.proofs.exploring.try_all.Goals.{then-loop-place-test+else-not-has_failed, else-loop-place-test}
+use Rattle.aom_commands.proofs.exploring.try_all.Goals as goal
+
+pub loop-place-init : goal.loop-place-init
+loop-place-init g c = record { far = start _ _ _ _ _ c.new-tally.result _ c.new-tally.ensures refl; within = omega arith }
+
+pub count-requires : goal.count-requires
+count-requires g c =
+    let many = c.loop-place.invariant.far.many in
+    let fits = c.loop-place.auto.place-fits in
+    omega (arith, many, fits, c.loop-place-test.true)
+
+pub loop-place-preserved : goal.loop-place-preserved
+loop-place-preserved g c =
+    let i = c.loop-place.invariant in
+    let tried = c.in_ok-ending.ensures.ok in
+    let trial = c.args.trial.now in
+    let out = g.W.Sink.out c.args.out.now in
+    let mid : Sent = record { before = out; now = g.W.Sink.out c.loop-place.out; failed = g.W.Sink.failed c.loop-place.out } in
+    let sent : Sent = record { before = out; now = g.W.Sink.out c.try_one.new.out; failed = g.W.Sink.failed c.try_one.new.out } in
+    record {
+      far = one_more trial.accepted.now trial.script.now trial.limit (length trial.kinds.now) c.args.injections.now c.loop-place.place c.loop-place.tally c.count.new.self mid sent _ _ c.in_ok-ending.ending tried.0
+          (omega (arith, c.loop-place-test.true)) refl i.far (sym c.has_failed.ensures ∙ search rules) refl tried.1 tried.2 c.count.ensures;
+      within = omega (arith, c.loop-place-test.true);
+    }
+
+pub returns-clause-ok : goal.returns-clause-ok
+returns-clause-ok g c =
+    let i = c.loop-place.invariant in
+    elim c.loop-place-test.branch [
+      | then-loop-place-test+else-not-has_failed w ↦ all_tried _ _ _ _ _ c.loop-place.place c.loop-place.tally _ i.far (λ lives. let failed = sym w.has_failed.ensures in absurd cc)
+      | else-loop-place-test w ↦ all_tried _ _ _ _ _ c.loop-place.place c.loop-place.tally _ i.far (λ lives. omega (arith, w.loop-place-test.false))
+    ]

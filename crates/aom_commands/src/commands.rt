@@ -1,0 +1,307 @@
+//! The commands, over the bytes of files.
+ghost use Rattle.std.specs.Prelude.{ℕ, ◌≤◌, IfErr, IfOk, List, length};
+ghost use Rattle.aom_natives.specs.Owed.{OweNothing};
+ghost use Rattle.aom_commands.specs.Acceptable.{IsSpelled};
+ghost use Rattle.aom_run.specs.Naming.{named_by};
+ghost use Rattle.aom_commands.specs.Headline.{AcceptedAnswers, EndsOrFails, RunAnswers, RunAnswersBy, CheckAnswers, Sends};
+ghost use Rattle.aom_commands.specs.Prices.{Checks, ChecksBy, PricesAnswers};
+ghost use Rattle.aom_commands.specs.Translations.{DrawsBy, IsTranslation, RefusesFile, Translates};
+ghost use Rattle.aom_commands.specs.Untold.{Untold};
+ghost use Rattle.aom_commands.specs.declared.commands.Translation.TheVariants.{Asm, Dis, Dot};
+
+use crate::accepting::accept_bytes;
+use crate::assembling::{assemble_bytes, disassemble_bytes};
+use crate::drawing::draw_bytes;
+use crate::faults::answer;
+use crate::pricing::try_prices;
+use crate::running::{run_accepted, runs_well};
+use crate::{ExitStatus, Fault};
+use aom_budget::Accepted;
+use aom_figures::Names;
+use aom_natives::Native;
+use aom_run::{Outcome, Sink, write_text};
+use aom_script::read_script;
+use std::alloc::Global;
+
+/// Runs an image under a script beside those natives, and writes the transcript. The image is looked at before the script, and
+/// the script before the natives.
+pub fn run_bytes<W: Sink, E: Sink>(
+    alloc: Global,
+    image: &[u8],
+    script: &[u8],
+    limit: u32,
+    boxes: Vec<Box<dyn Native>>,
+    out: &mut W,
+    errors: &mut E,
+) -> ExitStatus
+    requires limit { (1 ≤ limit) × (limit ≤ 1000000000) }
+    requires owed { OweNothing (λ b. (⟦<dyn Native as Native>⟧ b.vtable).owed b.value) boxes.items }
+    ensures { RunAnswers image.now script.now limit (length boxes.items) (record { before = W.out out.old; now = W.out out.new; failed = W.failed out.new }) (record { before = E.out errors.old; now = E.out errors.new; failed = E.failed errors.new }) result }
+{
+    answer(try_run(alloc, image, script, limit, boxes, out), errors)
+}
+
+/// Runs an image as `run_bytes` does, and leaves its fault to be told.
+pub fn try_run<W: Sink>(
+    alloc: Global,
+    image: &[u8],
+    script: &[u8],
+    limit: u32,
+    boxes: Vec<Box<dyn Native>>,
+    out: &mut W,
+) -> Result<ExitStatus, Fault>
+    requires limit { (1 ≤ limit) × (limit ≤ 1000000000) }
+    requires owed { OweNothing (λ b. (⟦<dyn Native as Native>⟧ b.vtable).owed b.value) boxes.items }
+    ensures { Untold (RunAnswers image.now script.now limit (length boxes.items) (record { before = W.out out.old; now = W.out out.new; failed = W.failed out.new })) result }
+{
+    try_run_named(alloc, image, script, limit, boxes, None, out)
+}
+
+/// Runs an image as `run_bytes` does, writes classes by these names, if there are some, and leaves its fault to be told. The first name
+/// is that of class 0; a class that has none is written by its number.
+pub fn try_run_named<W: Sink>(
+    alloc: Global,
+    image: &[u8],
+    script: &[u8],
+    limit: u32,
+    boxes: Vec<Box<dyn Native>>,
+    names: Option<&[&[u8]]>,
+    out: &mut W,
+) -> Result<ExitStatus, Fault>
+    requires limit { (1 ≤ limit) × (limit ≤ 1000000000) }
+    requires owed { OweNothing (λ b. (⟦<dyn Native as Native>⟧ b.vtable).owed b.value) boxes.items }
+    ensures { Untold (RunAnswersBy (named_by names.entry) image.now script.now limit (length boxes.items) (record { before = W.out out.old; now = W.out out.new; failed = W.failed out.new })) result }
+{
+    match accept_bytes(alloc, image) {
+        Ok(accepted) => {
+            let ended = run_text(alloc, &accepted, script, limit, boxes, names, out);
+            drop(accepted);
+            ended
+        }
+        Err(refusal) => Err(refusal),
+    }
+}
+
+/// Runs an accepted image under the script that a text is.
+fn run_text<W: Sink>(
+    alloc: Global,
+    accepted: &Accepted,
+    text: &[u8],
+    limit: u32,
+    boxes: Vec<Box<dyn Native>>,
+    names: Option<&[&[u8]]>,
+    out: &mut W,
+) -> Result<ExitStatus, Fault>
+    requires limit { (1 ≤ limit) × (limit ≤ 1000000000) }
+    requires owed { OweNothing (λ b. (⟦<dyn Native as Native>⟧ b.vtable).owed b.value) boxes.items }
+    ensures { (bytes : List ℕ) → IsSpelled bytes accepted.now → Untold (AcceptedAnswers (named_by names.entry) bytes text.now limit (length boxes.items) (record { before = W.out out.old; now = W.out out.new; failed = W.failed out.new })) result }
+{
+    accepted.facts();
+    runs_well(accepted);
+    match read_script(alloc, text) {
+        Ok(script) => end(run_accepted(alloc, accepted, &script, limit, boxes, names, out)),
+        Err(fault) => Err(Fault::from(fault)),
+    }
+}
+
+/// The status of a run that ended so, or that its output has failed, or why it was not made.
+fn end(outcome: Result<Outcome, Fault>) -> Result<ExitStatus, Fault>
+    ensures { Untold (λ errors status. EndsOrFails outcome status errors) result }
+{
+    match outcome? {
+        Outcome::Stopped => Ok(ExitStatus::Done),
+        Outcome::Waiting => Ok(ExitStatus::Unfinished),
+        Outcome::MainLeft(_) => Ok(ExitStatus::Broken),
+        Outcome::Limit => Ok(ExitStatus::Unfinished),
+        Outcome::Error(_) => Ok(ExitStatus::Broken),
+        Outcome::WriteFault => Err(Fault::Write),
+    }
+}
+
+/// Tells whether an image is accepted.
+pub fn check_bytes<W: Sink, E: Sink>(
+    alloc: Global,
+    image: &[u8],
+    out: &mut W,
+    errors: &mut E,
+) -> ExitStatus
+    ensures { CheckAnswers image.now (record { before = W.out out.old; now = W.out out.new; failed = W.failed out.new }) (record { before = E.out errors.old; now = E.out errors.new; failed = E.failed errors.new }) result }
+{
+    told(alloc, image, false, out, errors)
+}
+
+/// Tells whether an image is accepted, with its figures. Those of one that its budgets or its limits alone refuse are told too.
+pub fn prices_bytes<W: Sink, E: Sink>(
+    alloc: Global,
+    image: &[u8],
+    out: &mut W,
+    errors: &mut E,
+) -> ExitStatus
+    ensures { PricesAnswers image.now (record { before = W.out out.old; now = W.out out.new; failed = W.failed out.new }) (record { before = E.out errors.old; now = E.out errors.new; failed = E.failed errors.new }) result }
+{
+    told(alloc, image, true, out, errors)
+}
+
+/// Tells whether an image is accepted, with its figures where they are asked.
+fn told<W: Sink, E: Sink>(
+    alloc: Global,
+    image: &[u8],
+    prices: bool,
+    out: &mut W,
+    errors: &mut E,
+) -> ExitStatus
+    ensures { Checks prices image.now (record { before = W.out out.old; now = W.out out.new; failed = W.failed out.new }) (record { before = E.out errors.old; now = E.out errors.new; failed = E.failed errors.new }) result }
+{
+    answer(try_check(alloc, image, prices, out), errors)
+}
+
+/// Checks an image as `check_bytes` or `prices_bytes` does, and leaves its fault to be told.
+pub fn try_check<W: Sink>(
+    alloc: Global,
+    image: &[u8],
+    prices: bool,
+    out: &mut W,
+) -> Result<ExitStatus, Fault>
+    ensures { Untold (Checks prices image.now (record { before = W.out out.old; now = W.out out.new; failed = W.failed out.new })) result }
+{
+    try_check_named(alloc, image, &Names::none(), prices, out)
+}
+
+/// Checks an image so, and tells its figures by those names.
+pub fn try_check_named<W: Sink>(
+    alloc: Global,
+    image: &[u8],
+    names: &Names,
+    prices: bool,
+    out: &mut W,
+) -> Result<ExitStatus, Fault>
+    ensures { Untold (ChecksBy names.now prices image.now (record { before = W.out out.old; now = W.out out.new; failed = W.failed out.new })) result }
+{
+    if prices {
+        return try_prices(alloc, image, names, out);
+    }
+    try_verdict(alloc, image, out)
+}
+
+/// Tells whether an image is accepted, and no more.
+fn try_verdict<W: Sink>(alloc: Global, image: &[u8], out: &mut W) -> Result<ExitStatus, Fault>
+    ensures { Untold (CheckAnswers image.now (record { before = W.out out.old; now = W.out out.new; failed = W.failed out.new })) result }
+{
+    match accept_bytes(alloc, image) {
+        Ok(_accepted) => try_send(b"accepted\n", out),
+        Err(refused) => Err(refused),
+    }
+}
+
+/// What a file is translated to.
+#[derive(Clone, Copy)]
+pub enum Translation {
+    /// The bytes of the image that an assembly text denotes.
+    Asm,
+    /// The listing of an image, which need not be accepted.
+    Dis,
+    /// The graph of an image in Graphviz's language. One that its budgets or its limits alone refuse is drawn too.
+    Dot,
+}
+
+/// Writes the bytes of the image that an assembly text denotes.
+pub fn asm_bytes<W: Sink, E: Sink>(
+    alloc: Global,
+    text: &[u8],
+    out: &mut W,
+    errors: &mut E,
+) -> ExitStatus
+    ensures { Translates Asm text.now (record { before = W.out out.old; now = W.out out.new; failed = W.failed out.new }) (record { before = E.out errors.old; now = E.out errors.new; failed = E.failed errors.new }) result }
+{
+    translate(alloc, Translation::Asm, text, out, errors)
+}
+
+/// Writes the listing of an image, which need not be accepted.
+pub fn dis_bytes<W: Sink, E: Sink>(
+    alloc: Global,
+    image: &[u8],
+    out: &mut W,
+    errors: &mut E,
+) -> ExitStatus
+    ensures { Translates Dis image.now (record { before = W.out out.old; now = W.out out.new; failed = W.failed out.new }) (record { before = E.out errors.old; now = E.out errors.new; failed = E.failed errors.new }) result }
+{
+    translate(alloc, Translation::Dis, image, out, errors)
+}
+
+/// Writes the graph of an image in Graphviz's language. One that its budgets or its limits alone refuse is drawn too.
+pub fn dot_bytes<W: Sink, E: Sink>(
+    alloc: Global,
+    image: &[u8],
+    out: &mut W,
+    errors: &mut E,
+) -> ExitStatus
+    ensures { Translates Dot image.now (record { before = W.out out.old; now = W.out out.new; failed = W.failed out.new }) (record { before = E.out errors.old; now = E.out errors.new; failed = E.failed errors.new }) result }
+{
+    translate(alloc, Translation::Dot, image, out, errors)
+}
+
+/// Writes what a file is translated to.
+fn translate<W: Sink, E: Sink>(
+    alloc: Global,
+    to: Translation,
+    file: &[u8],
+    out: &mut W,
+    errors: &mut E,
+) -> ExitStatus
+    ensures { Translates to file.now (record { before = W.out out.old; now = W.out out.new; failed = W.failed out.new }) (record { before = E.out errors.old; now = E.out errors.new; failed = E.failed errors.new }) result }
+{
+    answer(try_translate(alloc, to, file, out), errors)
+}
+
+/// Translates a file as `asm_bytes`, `dis_bytes` or `dot_bytes` does, and leaves its fault to be told.
+pub fn try_translate<W: Sink>(
+    alloc: Global,
+    to: Translation,
+    file: &[u8],
+    out: &mut W,
+) -> Result<ExitStatus, Fault>
+    ensures { Untold (Translates to file.now (record { before = W.out out.old; now = W.out out.new; failed = W.failed out.new })) result }
+{
+    match translated(alloc, to, file) {
+        Ok(text) => try_send(&text, out),
+        Err(fault) => Err(fault),
+    }
+}
+
+/// Writes the graph of an image with those names, and leaves its fault to be told.
+pub fn try_draw<W: Sink>(
+    alloc: Global,
+    image: &[u8],
+    names: &Names,
+    out: &mut W,
+) -> Result<ExitStatus, Fault>
+    ensures { Untold (DrawsBy names.now image.now (record { before = W.out out.old; now = W.out out.new; failed = W.failed out.new })) result }
+{
+    match draw_bytes(alloc, names, image) {
+        Ok(graph) => try_send(&graph, out),
+        Err(fault) => Err(fault),
+    }
+}
+
+/// What a file is translated to, or its first fault.
+fn translated(alloc: Global, to: Translation, file: &[u8]) -> Result<Vec<u8>, Fault>
+    ensures ok { IfOk result (λ text. IsTranslation to file.now text.items) }
+    ensures err { IfErr result (λ fault. RefusesFile to file.now fault) }
+{
+    match to {
+        Translation::Asm => assemble_bytes(alloc, file),
+        Translation::Dis => disassemble_bytes(alloc, file),
+        Translation::Dot => draw_bytes(alloc, &Names::none(), file),
+    }
+}
+
+/// Writes a text to the output. That this fails is left to be told.
+fn try_send<W: Sink>(text: &[u8], out: &mut W) -> Result<ExitStatus, Fault>
+    ensures { Untold (λ errors status. Sends text.now status (record { before = W.out out.old; now = W.out out.new; failed = W.failed out.new }) errors) result }
+{
+    write_text(out, text);
+    if out.has_failed() {
+        return Err(Fault::Write);
+    }
+    Ok(ExitStatus::Done)
+}

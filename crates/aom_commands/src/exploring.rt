@@ -1,0 +1,358 @@
+//! Runs of an image which something befalls, each by its last line.
+ghost use Rattle.std.specs.Prelude.{ℕ, ◌≡◌, ◌≤◌, All, List, IfOk, IfErr, IfSome, Ok, false, length, true};
+ghost use Rattle.aom_natives.specs.Slots.{AllAgree};
+ghost use Rattle.aom_run.specs.Calls.{natives_of};
+ghost use Rattle.aom_run.specs.Outcomes.{outcome_of};
+ghost use Rattle.aom_run.specs.Runs.{after};
+ghost use Rattle.aom_script.specs.Script.{IsTimely, denoted};
+ghost use Rattle.aom_injection.specs.Injections.{CanInject, injected};
+ghost use Rattle.aom_injection.specs.Planned.{AreTimes};
+ghost use Rattle.aom_commands.specs.Acceptable.{IsSpelled};
+ghost use Rattle.aom_commands.specs.Beside.{AllNew, AreNew};
+ghost use Rattle.aom_commands.specs.Explored.{AcceptedExplores, Begun, BreaksOff, ExploreAnswers, Explored, HasPlain, IsLast, Plans, RefusesTry, Tried, TriesAll, closing, kept_text, tried_line};
+ghost use Rattle.aom_commands.specs.Headline.{HasNatives, IsFreshOf, RefusesBoot, Says, outside_of};
+ghost use Rattle.aom_commands.specs.Untold.{Untold};
+
+use crate::accepting::accept_bytes;
+use crate::faults::answer;
+use crate::keeper::Keeper;
+use crate::running::{booted, runs_well, turn_of};
+use crate::{ExitStatus, Fault, tell};
+use aom_budget::Accepted;
+use aom_injection::{Injection, Plan, Tally, Tries, times_of};
+use aom_natives::{Counter, Delay, Line, Native, NativeKind};
+use aom_run::{Machine, Outcome, Sink, run, write_text};
+use aom_script::{Script, read_script};
+use aom_transcript::{Ending, Page};
+use std::alloc::{AllocError, Global};
+
+/// How a run ended, how many cells were left, and how many allocation requests it made.
+#[derive(Clone, Copy)]
+struct Last {
+    ending: Ending,
+    cells: usize,
+    requests: u64,
+}
+
+/// How many requests a run makes, and when it does something, where that is asked.
+#[derive(Drop)]
+struct Plain {
+    requests: u64,
+    times: Vec<u64>,
+}
+
+/// How a run ended, unless memory was wanting for what is kept of it.
+fn ending_of(outcome: Outcome) -> Option<Ending>
+    ensures { IfSome result (λ ending. outcome ≡ outcome_of ending) }
+{
+    match outcome {
+        Outcome::Stopped => Some(Ending::Stopped),
+        Outcome::Waiting => Some(Ending::Waiting),
+        Outcome::MainLeft(code) => Some(Ending::MainLeft(code)),
+        Outcome::Limit => Some(Ending::Limit),
+        Outcome::Error(answer) => Some(Ending::Error(answer)),
+        Outcome::WriteFault => None,
+    }
+}
+
+/// What is run again and again: an accepted image under a script, beside natives of those kinds.
+#[derive(Clone, Copy)]
+struct Trial<'a> {
+    accepted: &'a Accepted,
+    script: &'a Script,
+    limit: u32,
+    kinds: &'a [NativeKind],
+}
+
+/// Runs a machine that has booted, whose natives are new ones of the trial's kinds, to its end.
+fn last_booted(
+    alloc: Global,
+    trial: &Trial<'_>,
+    machine: &mut Machine,
+    kept: &mut Keeper,
+) -> Result<Last, Fault>
+    requires limit { (1 ≤ trial.now.limit) × (trial.now.limit ≤ 1000000000) }
+    requires timely { IsTimely trial.now.script.now.timed }
+    requires agree { AllAgree (λ l. l.ids) (λ l. (⟦<dyn Native as Native>⟧ l.native.vtable).owed l.native.value) machine.old.natives.slots.items }
+    requires new { AllNew (λ l. record { owed = (⟦<dyn Native as Native>⟧ l.native.vtable).owed l.native.value; open_may = (⟦<dyn Native as Native>⟧ l.native.vtable).open_may l.native.value; start_may = (⟦<dyn Native as Native>⟧ l.native.vtable).start_may l.native.value; call_may = (⟦<dyn Native as Native>⟧ l.native.vtable).call_may l.native.value; poll_may = (⟦<dyn Native as Native>⟧ l.native.vtable).poll_may l.native.value }) trial.now.kinds.now machine.old.natives.slots.items }
+    requires fresh { IsFreshOf trial.now.accepted.now machine.old }
+    ensures ok { IfOk result (λ last. (text : List ℕ) × IsLast trial.now.accepted.now (outside_of trial.now.script.now trial.now.limit (natives_of machine.old)) last text × (kept_text kept.new.keeps kept.new.text.items ≡ after (kept_text kept.old.keeps kept.old.text.items) text)) }
+    ensures err { IfErr result (λ fault. fault ≡ Fault.Memory) }
+{
+    let mut turn = turn_of(alloc, trial.accepted, trial.script)?;
+    let outcome = run(machine, trial.script, &mut turn, trial.limit, kept);
+    let Some(ending) = ending_of(outcome) else {
+        return Err(Fault::Memory);
+    };
+    Ok(Last {
+        ending,
+        cells: machine.core.count(),
+        requests: machine.core.requests(),
+    })
+}
+
+/// Runs the image beside those natives, which are new ones of its kinds, to its end.
+fn last_beside(
+    alloc: Global,
+    trial: &Trial<'_>,
+    boxes: Vec<Box<dyn Native>>,
+    kept: &mut Keeper,
+) -> Result<Last, Fault>
+    requires limit { (1 ≤ trial.now.limit) × (trial.now.limit ≤ 1000000000) }
+    requires timely { IsTimely trial.now.script.now.timed }
+    requires new { AreNew (λ b. record { owed = (⟦<dyn Native as Native>⟧ b.vtable).owed b.value; open_may = (⟦<dyn Native as Native>⟧ b.vtable).open_may b.value; start_may = (⟦<dyn Native as Native>⟧ b.vtable).start_may b.value; call_may = (⟦<dyn Native as Native>⟧ b.vtable).call_may b.value; poll_may = (⟦<dyn Native as Native>⟧ b.vtable).poll_may b.value }) trial.now.kinds.now boxes.items }
+    ensures ok { IfOk result (λ last. (text : List ℕ) × IsLast trial.now.accepted.now (outside_of trial.now.script.now trial.now.limit (length trial.now.kinds.now)) last text × (kept_text kept.new.keeps kept.new.text.items ≡ after (kept_text kept.old.keeps kept.old.text.items) text)) }
+    ensures enough { IfOk result (λ _. HasNatives trial.now.accepted.now (length trial.now.kinds.now)) }
+    ensures err { IfErr result (λ fault. RefusesBoot trial.now.accepted.now (length trial.now.kinds.now) fault) }
+{
+    let mut machine = booted(alloc, trial.accepted, boxes)?;
+    let last = last_booted(alloc, trial, &mut machine, kept);
+    drop(machine);
+    last
+}
+
+/// Makes the natives of one run, and runs the image beside them to its end.
+fn last_of(alloc: Global, trial: &Trial<'_>, kept: &mut Keeper) -> Result<Last, Fault>
+    requires limit { (1 ≤ trial.now.limit) × (trial.now.limit ≤ 1000000000) }
+    requires timely { IsTimely trial.now.script.now.timed }
+    ensures ok { IfOk result (λ last. (text : List ℕ) × IsLast trial.now.accepted.now (outside_of trial.now.script.now trial.now.limit (length trial.now.kinds.now)) last text × (kept_text kept.new.keeps kept.new.text.items ≡ after (kept_text kept.old.keeps kept.old.text.items) text)) }
+    ensures enough { IfOk result (λ _. HasNatives trial.now.accepted.now (length trial.now.kinds.now)) }
+    ensures err { IfErr result (λ fault. RefusesTry trial.now.accepted.now (length trial.now.kinds.now) fault) }
+{
+    let mut boxes: Vec<Box<dyn Native>> = Vec::new(alloc);
+    for kind in trial.kinds {
+        match *kind {
+            NativeKind::Counter => boxes.push(Box::new(alloc, Counter::new())?)?,
+            NativeKind::Line => boxes.push(Box::new(alloc, Line::new())?)?,
+            NativeKind::Delay => boxes.push(Box::new(alloc, Delay::new())?)?,
+        }
+    }
+    last_beside(alloc, trial, boxes, kept)
+}
+
+/// Runs the image once, with nothing but what its script says, and answers what there is to try.
+fn plain_of(alloc: Global, trial: &Trial<'_>, marks: bool) -> Result<Plain, Fault>
+    requires limit { (1 ≤ trial.now.limit) × (trial.now.limit ≤ 1000000000) }
+    requires timely { IsTimely trial.now.script.now.timed }
+    ensures ok { IfOk result (λ plain. HasPlain trial.now.accepted.now (outside_of trial.now.script.now trial.now.limit (length trial.now.kinds.now)) marks plain.requests plain.times.items) }
+    ensures times { IfOk result (λ plain. AreTimes plain.times.items) }
+    ensures enough { IfOk result (λ _. HasNatives trial.now.accepted.now (length trial.now.kinds.now)) }
+    ensures err { IfErr result (λ fault. RefusesTry trial.now.accepted.now (length trial.now.kinds.now) fault) }
+{
+    let mut kept = Keeper::new(alloc, marks);
+    let last = last_of(alloc, trial, &mut kept)?;
+    let times = times_of(alloc, kept.text.as_slice())?;
+    Ok(Plain {
+        requests: last.requests,
+        times,
+    })
+}
+
+/// What is tried, by what the run does as it is.
+fn plan_of(alloc: Global, trial: &Trial<'_>, tries: Tries) -> Result<Plan, Fault>
+    requires limit { (1 ≤ trial.now.limit) × (trial.now.limit ≤ 1000000000) }
+    requires timely { IsTimely trial.now.script.now.timed }
+    ensures ok { IfOk result (λ plan. Plans trial.now.accepted.now trial.now.script.now trial.now.limit (length trial.now.kinds.now) tries plan.injections.items plan.left) }
+    ensures can { IfOk result (λ plan. All CanInject plan.injections.items) }
+    ensures enough { IfOk result (λ _. HasNatives trial.now.accepted.now (length trial.now.kinds.now)) }
+    ensures err { IfErr result (λ fault. RefusesTry trial.now.accepted.now (length trial.now.kinds.now) fault) }
+{
+    let plain = plain_of(alloc, trial, tries.marks_times())?;
+    let natives = trial.kinds.len();
+    let plan = Plan::new(
+        alloc,
+        tries,
+        natives,
+        trial.script,
+        plain.requests,
+        plain.times.as_slice(),
+    )?;
+    Ok(plan)
+}
+
+/// Runs the image under the script that says what befalls it too.
+fn last_injected(alloc: Global, trial: &Trial<'_>, injection: Injection) -> Result<Last, Fault>
+    requires limit { (1 ≤ trial.now.limit) × (trial.now.limit ≤ 1000000000) }
+    requires timely { IsTimely trial.now.script.now.timed }
+    requires can { CanInject injection }
+    requires enough { HasNatives trial.now.accepted.now (length trial.now.kinds.now) }
+    ensures ok { IfOk result (λ last. (text : List ℕ) × IsLast trial.now.accepted.now (outside_of (injected injection trial.now.script.now) trial.now.limit (length trial.now.kinds.now)) last text) }
+    ensures err { IfErr result (λ fault. fault ≡ Fault.Memory) }
+{
+    let script = injection.inject(alloc, trial.script)?;
+    let given = Trial {
+        accepted: trial.accepted,
+        script: &script,
+        limit: trial.limit,
+        kinds: trial.kinds,
+    };
+    last_of(alloc, &given, &mut Keeper::new(alloc, false))
+}
+
+/// The line of a try.
+fn line_of(
+    alloc: Global,
+    injection: Injection,
+    ending: Ending,
+    cells: usize,
+) -> Result<Vec<u8>, AllocError>
+    ensures { IfOk result (λ line. line.items ≡ tried_line injection ending cells) }
+{
+    let mut words = injection.text();
+    words.add(b" ");
+    let mut page = Page::new();
+    page.add_end(ending, cells);
+    let mut line = Vec::from_slice(alloc, words.as_bytes())?;
+    line.extend_from_slice(page.as_bytes())?;
+    Ok(line)
+}
+
+/// Runs the image with what befalls it, writes how that ended, and answers it.
+fn try_one<W: Sink>(
+    alloc: Global,
+    trial: &Trial<'_>,
+    injection: Injection,
+    out: &mut W,
+) -> Result<Ending, Fault>
+    requires limit { (1 ≤ trial.now.limit) × (trial.now.limit ≤ 1000000000) }
+    requires timely { IsTimely trial.now.script.now.timed }
+    requires can { CanInject injection }
+    requires enough { HasNatives trial.now.accepted.now (length trial.now.kinds.now) }
+    ensures ok { IfOk result (λ ending. (line : List ℕ) × Tried trial.now.accepted.now trial.now.script.now trial.now.limit (length trial.now.kinds.now) injection ending line × Says line (record { before = W.out out.old; now = W.out out.new; failed = W.failed out.new })) }
+    ensures err { IfErr result (λ fault. (fault ≡ Fault.Memory) × (W.out out.new ≡ W.out out.old) × (W.failed out.new ≡ W.failed out.old)) }
+{
+    let last = last_injected(alloc, trial, injection)?;
+    let line = line_of(alloc, injection, last.ending, last.cells)?;
+    write_text(out, line.as_slice());
+    Ok(last.ending)
+}
+
+/// Tries each of these in turn, and counts how they end. It stops where the sink fails.
+fn try_all<W: Sink>(
+    alloc: Global,
+    trial: &Trial<'_>,
+    injections: &[Injection],
+    out: &mut W,
+) -> Result<Tally, Fault>
+    requires limit { (1 ≤ trial.now.limit) × (trial.now.limit ≤ 1000000000) }
+    requires timely { IsTimely trial.now.script.now.timed }
+    requires can { All CanInject injections.now }
+    requires enough { HasNatives trial.now.accepted.now (length trial.now.kinds.now) }
+    ensures ok { IfOk result (λ tally. TriesAll trial.now.accepted.now trial.now.script.now trial.now.limit (length trial.now.kinds.now) injections.now tally (record { before = W.out out.old; now = W.out out.new; failed = W.failed out.new })) }
+    ensures err { IfErr result (λ fault. (fault ≡ Fault.Memory) × Begun trial.now.accepted.now trial.now.script.now trial.now.limit (length trial.now.kinds.now) injections.now (record { before = W.out out.old; now = W.out out.new; failed = W.failed out.new })) }
+{
+    let mut tally = Tally::new();
+    let mut place = 0;
+    while place < injections.len() && !out.has_failed() {
+        let ending = try_one(alloc, trial, injections[place], out)?;
+        tally.count(ending);
+        place += 1;
+    }
+    Ok(tally)
+}
+
+/// Writes the closing lines, where they are asked for, unless the sink has failed.
+fn close<W: Sink>(tries: Tries, tally: &Tally, left: Option<Injection>, out: &mut W)
+    ensures says { W.failed out.old ≡ false → Says (closing tries left tally.now) (record { before = W.out out.old; now = W.out out.new; failed = W.failed out.new }) }
+    ensures stays { W.failed out.old ≡ true → (W.out out.new ≡ W.out out.old) × (W.failed out.new ≡ true) }
+{
+    if !tries.asks_more() || out.has_failed() {
+        return;
+    }
+    let closing = tally.closing(left);
+    write_text(out, closing.as_bytes());
+}
+
+/// Runs the image once as it is, and then once for each of the tries. It writes a line for each, and at the end what was counted, where more than
+/// single refusals are asked for. It stops where the sink fails.
+fn explore<W: Sink>(
+    alloc: Global,
+    trial: &Trial<'_>,
+    tries: Tries,
+    out: &mut W,
+) -> Result<(), Fault>
+    requires limit { (1 ≤ trial.now.limit) × (trial.now.limit ≤ 1000000000) }
+    requires timely { IsTimely trial.now.script.now.timed }
+    ensures ok { IfOk result (λ _. Explored trial.now.accepted.now trial.now.script.now trial.now.limit (length trial.now.kinds.now) tries (record { before = W.out out.old; now = W.out out.new; failed = W.failed out.new })) }
+    ensures enough { IfOk result (λ _. HasNatives trial.now.accepted.now (length trial.now.kinds.now)) }
+    ensures err { IfErr result (λ fault. BreaksOff trial.now.accepted.now trial.now.script.now trial.now.limit (length trial.now.kinds.now) tries (record { before = W.out out.old; now = W.out out.new; failed = W.failed out.new }) fault) }
+{
+    let plan = plan_of(alloc, trial, tries)?;
+    let tally = try_all(alloc, trial, plan.injections.as_slice(), out)?;
+    close(tries, &tally, plan.left, out);
+    Ok(())
+}
+
+/// Runs an image under a script, once for each of the tries, with what befalls it then, and writes how each of these runs ended. Each has
+/// natives of its own, of those kinds. The image is looked at before the script, and the script before the natives.
+pub fn explore_bytes<W: Sink, E: Sink>(
+    alloc: Global,
+    image: &[u8],
+    script: &[u8],
+    limit: u32,
+    kinds: &[NativeKind],
+    tries: Tries,
+    out: &mut W,
+    errors: &mut E,
+) -> ExitStatus
+    requires limit { (1 ≤ limit) × (limit ≤ 1000000000) }
+    ensures { ExploreAnswers image.now script.now limit (length kinds.now) tries (record { before = W.out out.old; now = W.out out.new; failed = W.failed out.new }) (record { before = E.out errors.old; now = E.out errors.new; failed = E.failed errors.new }) result }
+{
+    match accept_bytes(alloc, image) {
+        Ok(accepted) => {
+            let found = explore_text(alloc, &accepted, script, limit, kinds, tries, out);
+            drop(accepted);
+            answer(found, errors)
+        }
+        Err(refusal) => tell(&refusal, errors),
+    }
+}
+
+/// Explores an accepted image under the script that a text is.
+fn explore_text<W: Sink>(
+    alloc: Global,
+    accepted: &Accepted,
+    text: &[u8],
+    limit: u32,
+    kinds: &[NativeKind],
+    tries: Tries,
+    out: &mut W,
+) -> Result<ExitStatus, Fault>
+    requires limit { (1 ≤ limit) × (limit ≤ 1000000000) }
+    ensures { (bytes : List ℕ) → IsSpelled bytes accepted.now → Untold (AcceptedExplores bytes text.now limit (length kinds.now) tries (record { before = W.out out.old; now = W.out out.new; failed = W.failed out.new })) result }
+{
+    accepted.facts();
+    let script = match read_script(alloc, text) {
+        Ok(script) => script,
+        Err(fault) => return Err(Fault::from(fault)),
+    };
+    let trial = Trial {
+        accepted,
+        script: &script,
+        limit,
+        kinds,
+    };
+    explore_script(alloc, &trial, tries, out)
+}
+
+/// Explores an accepted image under a script.
+fn explore_script<W: Sink>(
+    alloc: Global,
+    trial: &Trial<'_>,
+    tries: Tries,
+    out: &mut W,
+) -> Result<ExitStatus, Fault>
+    requires limit { (1 ≤ trial.now.limit) × (trial.now.limit ≤ 1000000000) }
+    requires timely { IsTimely trial.now.script.now.timed }
+    ensures { (bytes text : List ℕ) → IsSpelled bytes trial.now.accepted.now → denoted text ≡ Ok trial.now.script.now → Untold (AcceptedExplores bytes text trial.now.limit (length trial.now.kinds.now) tries (record { before = W.out out.old; now = W.out out.new; failed = W.failed out.new })) result }
+{
+    trial.accepted.facts();
+    runs_well(trial.accepted);
+    if let Err(fault) = explore(alloc, trial, tries, out) {
+        return Err(fault);
+    }
+    if out.has_failed() {
+        return Err(Fault::Write);
+    }
+    Ok(ExitStatus::Done)
+}

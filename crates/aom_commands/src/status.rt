@@ -1,0 +1,27 @@
+//! How the program ends.
+ghost use Rattle.std.specs.Prelude.{◌≡◌};
+ghost use Rattle.aom_commands.specs.Status.{status_number};
+
+/// What the system is told as the program ends.
+#[derive(Clone, Copy, PartialEq, Eq)]
+pub enum ExitStatus {
+    /// An image is accepted, or a run has stopped.
+    Done,
+    ImageRefused,
+    /// The command line, a native's word or the script is refused.
+    CallRefused,
+    /// A run has ended before it stopped: for nothing, or at its limit.
+    Unfinished,
+    /// Main has left, or a dispatch was left and answered with an error.
+    Broken,
+    /// A file, the output or the memory has failed.
+    Fault,
+}
+
+impl ExitStatus {
+    pub fn number(self) -> u8
+        ensures { result ≡ status_number self }
+    {
+        self as u8
+    }
+}

@@ -1,5 +1,0 @@
-use Rattle.std.proofs.Common.{rules}
-use Rattle.aom_debug_sights.proofs.cells.is_of_class.Goals as goal
-
-pub returns-in-None : goal.returns-in-None
-returns-in-None c = search rules

@@ -1,7 +1,0 @@
--- What has the number of a place is what the place holds.
-use Rattle.aom_debug_sights.specs.Holdings.{place_of}
-use Rattle.aom_debug_sights.proofs.Numbers.{holds_so}
-use Rattle.aom_debug_sights.proofs.holding.held_at.Goals as goal
-
-pub returns : goal.returns
-returns c = holds_so c.args.accepted.now c.args.parts.now c.number_at.result (place_of c.args.owner) c.holding_of.result c.number_at.ensures c.holding_of.ensures

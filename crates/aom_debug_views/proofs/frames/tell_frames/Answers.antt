@@ -1,0 +1,39 @@
+-- One depth after another, from the outermost.
+use Rattle.std.proofs.Common.{ℕ, List, arith, length}
+use Rattle.std.proofs.lemmas.Result.{err_from_is_err_and}
+use Rattle.aom_transcript.specs.Text.{ended}
+use Rattle.aom_machine_state.specs.Stands.{Machine}
+use Rattle.aom_debug_names.specs.Names.{Names}
+use Rattle.aom_debug_names.specs.Answers.{answer_by}
+use Rattle.aom_debug_words.specs.declared.answer.Answer.{Answer}
+use Rattle.aom_debug_views.specs.Frames.{frame_answers}
+use Rattle.aom_debug_views.proofs.Tasks.{as_many_tasks}
+use Rattle.aom_debug_views.proofs.Telling.{part_further, tells_all, tells_further}
+use Rattle.aom_debug_views.proofs.frames.tell_frames.Goals as goal
+
+abbrev of_answer : Names → Answer → List ℕ
+of_answer ns answer = ended (answer_by ns answer)
+
+pub returns-in_err-tell_method-clause-err : goal.returns-in_err-tell_method-clause-err
+returns-in_err-tell_method-clause-err g c =
+    let error = err_from_is_err_and c.from_residual.result c.from_residual.ensures.1 in
+    let m : Machine = record { image = c.args.accepted.now; parts = c.args.parts.now } in
+    let within = c.loop-depth-test.true in
+    let count = c.len-depth-end.ensures in
+    let told = rw c.checked.ensures at c.in_err-tell_method.ensures.err in
+    rw (error.1, error.2) (λ t strongest. part_further (of_answer c.args.names.now) m (frame_answers t) (λ s. length s.tasks) c.loop-depth.depth _ _ _ _ _ (c.loop-depth.invariant t strongest) (λ s st. let many = as_many_tasks m.image m.parts s st in omega (arith, within, count, many))
+    (told t strongest))
+
+pub loop-depth-preserved : goal.loop-depth-preserved
+loop-depth-preserved g c =
+    let m : Machine = record { image = c.args.accepted.now; parts = c.args.parts.now } in
+    let told = rw c.checked.ensures at c.in_ok-tell_method.ensures.ok in
+    λ t strongest. tells_further (of_answer c.args.names.now) m (frame_answers t) c.loop-depth.depth _ _ _ (c.loop-depth.invariant t strongest) (told t strongest)
+
+pub returns-clause-ok : goal.returns-clause-ok
+returns-clause-ok g c =
+    let m : Machine = record { image = c.args.accepted.now; parts = c.args.parts.now } in
+    let count = c.len-depth-end.ensures in
+    let most = c.loop-depth.auto.depth-end in
+    let least = c.loop-depth-test.false in
+    λ t strongest. tells_all (of_answer c.args.names.now) m (frame_answers t) (λ s. length s.tasks) c.loop-depth.depth _ _ (c.loop-depth.invariant t strongest) (λ s st. let many = as_many_tasks m.image m.parts s st in omega (arith, count, most, least, many))

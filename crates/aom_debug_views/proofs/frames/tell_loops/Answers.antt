@@ -1,0 +1,38 @@
+-- One loop after another.
+use Rattle.std.proofs.Common.{◌∙◌, ℕ, List, ap, arith}
+use Rattle.std.proofs.lemmas.Result.{err_from_is_err_and}
+use Rattle.aom_transcript.specs.Text.{ended}
+use Rattle.aom_semantics.specs.Owned.{over}
+use Rattle.aom_semantics.specs.State.{State}
+use Rattle.aom_debug_names.specs.Names.{Names}
+use Rattle.aom_debug_names.specs.Answers.{answer_by}
+use Rattle.aom_debug_words.specs.declared.answer.Answer.{Answer}
+use Rattle.aom_debug_views.specs.Frames.{loop_answer, loop_in}
+use Rattle.aom_debug_views.specs.Telling.{listed}
+use Rattle.aom_debug_views.proofs.Contents.{loop_told}
+use Rattle.aom_debug_views.proofs.Telling.{tells_all, tells_next, tells_part}
+use Rattle.aom_debug_views.proofs.frames.tell_loops.Goals as goal
+
+abbrev of_answer : Names → Answer → List ℕ
+of_answer ns answer = ended (answer_by ns answer)
+
+abbrev told : ℕ → State → ℕ → List Answer
+told depth s i = listed (loop_in (over s.tasks depth) i)
+
+pub returns-in_err-tell_any_by-clause-err : goal.returns-in_err-tell_any_by-clause-err
+returns-in_err-tell_any_by-clause-err g c =
+    let error = err_from_is_err_and c.from_residual.result c.from_residual.ensures.1 in
+    let answer = c.loop_answer.ensures ∙ ap (loop_answer c.loop-number.number) c.counter.ensures in
+    rw (error.1, error.2) (λ m sh depth shown. tells_part (of_answer c.args.names.now) m (told depth) (λ s. 4) c.loop-number.number _ _ _ (listed c.loop_answer.result) _ _ (c.loop-number.invariant m sh depth shown)
+    (λ s st. loop_told m sh c.args.frame.now depth c.loop-number.number shown s st c.loop_answer.result answer) (λ s st. c.loop-number-test.true) c.in_err-tell_any_by.ensures.err)
+
+pub loop-number-preserved : goal.loop-number-preserved
+loop-number-preserved g c =
+    let answer = c.loop_answer.ensures ∙ ap (loop_answer c.loop-number.number) c.counter.ensures in
+    λ m sh depth shown. tells_next (of_answer c.args.names.now) m (told depth) c.loop-number.number _ _ _ (listed c.loop_answer.result) (c.loop-number.invariant m sh depth shown) (λ s st. loop_told m sh c.args.frame.now depth c.loop-number.number shown s st c.loop_answer.result answer) c.in_ok-tell_any_by.ensures.ok
+
+pub returns-clause-ok : goal.returns-clause-ok
+returns-clause-ok g c =
+    let most = c.loop-number.auto.number-end in
+    let least = c.loop-number-test.false in
+    λ m sh depth shown. tells_all (of_answer c.args.names.now) m (told depth) (λ s. 4) c.loop-number.number _ _ (c.loop-number.invariant m sh depth shown) (λ s st. omega (arith, most, least))

@@ -1,0 +1,134 @@
+-- What a debugger tells of the methods at hand: where each stands, its registers and its loops, and whether a trap called it.
+use Rattle.std.specs.Prelude.{◌≡◌, ℕ, zero, suc, ℤ, List, [], ◌∷◌, ◌++◌, length, Option, Some, None, option_map, slice_index_or}
+use Rattle.std.specs.Int.{w32, cast_signed}
+use Rattle.aom_image.specs.Image.{Image}
+use Rattle.aom_image.specs.declared.method.Thing.{Thing}
+use Rattle.aom_image.specs.declared.method.Thing.TheVariants.{Object as An_object_of, Message}
+use Rattle.aom_cells.specs.Heap.{null}
+use Rattle.aom_frames.specs.declared.frame.Frame.{Frame as Machine_frame}
+use Rattle.aom_frames.specs.declared.task.Task.{Task as Machine_task}
+use Rattle.aom_frames.specs.declared.task.Task.TheVariants.{Trapped as Is_trap}
+use Rattle.aom_shape.specs.Kinds.{register}
+use Rattle.aom_shape.specs.Shape.{Shape}
+use Rattle.aom_shape.specs.declared.kind.Kind.{Kind}
+use Rattle.aom_shape.specs.declared.kind.Kind.TheVariants.{Maybe, Null, Own, Unset, Word}
+use Rattle.aom_rules.specs.Typing.{Typing, shape_at}
+use Rattle.aom_typings.specs.Strongest.{IsStrongest}
+use Rattle.aom_semantics.specs.Owned.{over}
+use Rattle.aom_semantics.specs.Places.{Cell, Object, Register, held, service_of}
+use Rattle.aom_semantics.specs.State.{Frame, Run, State, Task, Trapped, counter, word}
+use Rattle.aom_machine_state.specs.Agrees.{SameFrame}
+use Rattle.aom_machine_state.specs.Stands.{Machine, StandsFor}
+use Rattle.aom_debug_words.specs.declared.answer.Answer.{Answer}
+use Rattle.aom_debug_words.specs.declared.answer.Answer.TheVariants.{Frame as A_frame, Loop, Register as A_register, Trap}
+use Rattle.aom_debug_words.specs.declared.answer.Source.{Source}
+use Rattle.aom_debug_words.specs.declared.answer.Content.{Content}
+use Rattle.aom_debug_words.specs.declared.answer.Content.TheVariants as contents
+use Rattle.aom_debug_views.specs.Owners.{Represents, ShowsNone, source_in}
+use Rattle.aom_debug_views.specs.Telling.{gathered, listed}
+
+-- ---- registers
+
+-- an object by its class, and a message by who hears when it is completed
+abbrev pub thing_content : Thing → Option Source → Option Content
+thing_content (An_object_of class) source = Some (contents.Own class)
+thing_content Message (Some source) = Some (contents.Message source)
+thing_content Message None = None
+
+-- what a register owns, or null
+abbrev pub owned_content : List Cell → Option Object → Option Content
+owned_content cs None = Some contents.Null
+owned_content cs (Some o) = thing_content o.thing (source_in (service_of cs o.name))
+
+-- by what the typing says that it is, of its word and of what it owns; one that is not set has nothing
+abbrev pub content_by : List Cell → Kind → Option ℤ → Option Object → Option Content
+content_by cs Unset w o = None
+content_by cs Word w o = option_map (λ v. contents.Word v) w
+content_by cs kind w o = owned_content cs o
+
+abbrev pub register_in : (ℕ → Kind) → List Cell → ℕ → Option Task → ℕ → Option Answer
+register_in kinds cs depth (Some (Run fr)) i = option_map (λ content. A_register i content) (content_by cs (kinds i) (word fr i) (held cs (Register depth i)))
+register_in kinds cs depth _ i = None
+
+-- the first so many
+abbrev pub registers_in : (ℕ → Kind) → List Cell → ℕ → Option Task → ℕ → List Answer
+registers_in kinds cs depth o n = gathered (λ i. listed (register_in kinds cs depth o i)) n
+
+-- ---- loops
+
+-- one that has no rounds left has no line
+abbrev pub loop_answer : ℕ → ℕ → Option Answer
+loop_answer i zero = None
+loop_answer i (suc rounds) = Some (Loop i (suc rounds))
+
+abbrev pub loop_in : Option Task → ℕ → Option Answer
+loop_in (Some (Run fr)) i = loop_answer i (counter fr i)
+loop_in _ i = None
+
+-- the first so many, the outermost first
+abbrev pub loops_in : Option Task → ℕ → List Answer
+loops_in o n = gathered (λ i. listed (loop_in o i)) n
+
+-- ---- where it stands
+
+abbrev pub place_in : Option Task → Option Answer
+place_in (Some (Run fr)) = Some (A_frame (record { method = fr.method; place = fr.place }))
+place_in _ = None
+
+-- a trap called it
+abbrev pub trap_by : Option Task → Option Answer
+trap_by (Some Trapped) = Some Trap
+trap_by _ = None
+
+abbrev pub trap_under : List Task → ℕ → Option Answer
+trap_under tasks zero = None
+trap_under tasks (suc below) = trap_by (over tasks below)
+
+abbrev pub trap_in : List Task → ℕ → Option Task → Option Answer
+trap_in tasks depth (Some (Run fr)) = trap_under tasks depth
+trap_in tasks depth _ = None
+
+-- ---- the methods at hand
+
+-- the task at a depth, if it is a method
+abbrev pub frame_lines : (ℕ → Kind) → State → ℕ → Option Task → List Answer
+frame_lines kinds s depth o = listed (place_in o) ++ (registers_in kinds s.cells depth o 16 ++ (loops_in o 4 ++ listed (trap_in s.tasks depth o)))
+
+-- what a typing says of a register at a place
+abbrev pub kind_in : Option Shape → ℕ → Kind
+kind_in None i = Unset
+kind_in (Some sh) i = register sh i
+
+abbrev pub kinds_of : Typing → Option Task → ℕ → Kind
+kinds_of t (Some (Run fr)) i = kind_in (shape_at t fr.method fr.place) i
+kinds_of t _ i = Unset
+
+abbrev pub frame_answers : Typing → State → ℕ → List Answer
+frame_answers t s depth = frame_lines (λ i. kinds_of t (over s.tasks depth) i) s depth (over s.tasks depth)
+
+-- the outermost first, by a typing
+abbrev pub frames_answers : Typing → State → List Answer
+frames_answers t s = gathered (frame_answers t s) (length s.tasks)
+
+-- ---- what a machine shows of it
+
+abbrev pub trap_held : Option Machine_task → Option Answer
+trap_held (Some Is_trap) = Some Trap
+trap_held _ = None
+
+-- a number in a register is its word
+pub record ShowsWord (m : Machine) (n depth i : ℕ) : Type 0 where
+  pub each : (s : State) → StandsFor m s → (fr : Frame) → over s.tasks depth ≡ Some (Run fr) → word fr i ≡ Some (cast_signed w32 n)
+
+-- what a kind says of it
+abbrev pub RegisterShows : Machine → Kind → ℕ → ℕ → ℕ → Type 0
+RegisterShows m Unset n depth i = Unit {0}
+RegisterShows m Word n depth i = ShowsWord m n depth i
+RegisterShows m Null n depth i = ShowsNone m (Register depth i)
+RegisterShows m (Own t a) n depth i = Represents m n (Register depth i)
+RegisterShows m (Maybe t a) n depth i = Represents m n (Register depth i)
+
+-- the frame stands at that depth, and its registers are so by its abstract state
+pub record ShowsFrame (m : Machine) (sh : Shape) (f : Machine_frame) (depth : ℕ) : Type 0 where
+  pub there : (s : State) → StandsFor m s → (fr : Frame) × (over s.tasks depth ≡ Some (Run fr)) × SameFrame f fr
+  pub registers : (i : ℕ) → RegisterShows m (register sh i) (slice_index_or f.registers i null) depth i

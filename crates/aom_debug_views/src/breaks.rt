@@ -1,0 +1,36 @@
+//! The breakpoints.
+ghost use Rattle.std.specs.Prelude.{◌≡◌, IfErr, IfOk, option_map, slice_get};
+ghost use Rattle.aom_run.specs.Runs.{after};
+ghost use Rattle.aom_debug_words.specs.declared.answer.Answer.TheVariants.{Break};
+ghost use Rattle.aom_debug_views.specs.Sights.{breaks_answers};
+ghost use Rattle.aom_debug_views.specs.Telling.{IsCut, answers_by};
+
+use crate::sending::tell_any_by;
+use aom_debug_names::Names;
+use aom_debug_words::{Answer, Breakpoints, DebugFault};
+use aom_run::Sink;
+
+/// The breakpoint at an index, in the order in which they were set, as it is told.
+fn break_answer(breakpoints: &Breakpoints, index: usize) -> Option<Answer>
+    ensures { result ≡ option_map (λ spot. Break spot) (slice_get breakpoints.now index) }
+{
+    match breakpoints.at(index) {
+        Some(spot) => Some(Answer::Break(spot)),
+        None => None,
+    }
+}
+
+/// Tells the breakpoints, in the order in which they were set, each as the command that sets it.
+pub fn tell_breaks<W: Sink>(
+    breakpoints: &Breakpoints,
+    names: &Names,
+    out: &mut W,
+) -> Result<(), DebugFault>
+    ensures ok { IfOk result (λ _. W.out out.new ≡ after (W.out out.old) (answers_by names.now (breaks_answers breakpoints.now))) }
+    ensures err { IfErr result (λ fault. IsCut (answers_by names.now (breaks_answers breakpoints.now)) fault (W.failed out.new) (W.out out.old) (W.out out.new)) }
+{
+    for index in 0..breakpoints.count() {
+        tell_any_by(names, break_answer(breakpoints, index), out)?;
+    }
+    Ok(())
+}

@@ -1,0 +1,234 @@
+//! The methods at hand.
+ghost use Rattle.std.specs.Prelude.{◌≡◌, ℕ, ◌<◌, IfErr, IfOk, Some, option_map};
+ghost use Rattle.std.specs.Int.{w32, cast_signed};
+ghost use Rattle.aom_typings.specs.Strongest.{IsStrongest};
+ghost use Rattle.aom_machine.specs.Agreement.{AgreesInAll};
+ghost use Rattle.aom_frames.specs.declared.frame.Frame.{Frame as FrameOf};
+ghost use Rattle.aom_image.specs.Image.{Image};
+ghost use Rattle.aom_machine_state.specs.Stands.{Machine, Stands, StandsFor};
+ghost use Rattle.aom_rules.specs.Typing.{Typing};
+ghost use Rattle.aom_shape.specs.Kinds.{register as kind_at};
+ghost use Rattle.aom_shape.specs.Shape.{Shape as ShapeRecord};
+ghost use Rattle.aom_semantics.specs.Owned.{over};
+ghost use Rattle.aom_semantics.specs.Places.{Place, Register, held};
+ghost use Rattle.aom_semantics.specs.State.{Frame as FrameRecord, Run, State, word};
+ghost use Rattle.aom_debug_words.specs.declared.answer.Content.TheVariants.{Message, Word};
+ghost use Rattle.aom_debug_views.specs.Frames.{RegisterShows, ShowsFrame, content_by, frame_answers, frame_lines, frames_answers, loop_answer, loops_in, owned_content, register_in, registers_in, place_in, trap_held, trap_in, trap_under};
+ghost use Rattle.aom_debug_views.specs.Owners.{Represents, source_at};
+ghost use Rattle.aom_debug_views.specs.Telling.{Tells, TellsPart, answers_by, listed};
+
+use crate::cleanup::class_of;
+use crate::owners::frame_at;
+use crate::sending::tell_any_by;
+use crate::tree::source_at;
+use aom_budget::Accepted;
+use aom_cells::NULL;
+use aom_debug_names::Names;
+use aom_debug_words::{Answer, Content, DebugFault, Spot};
+use aom_frames::{Frame, Task};
+use aom_machine_state::Parts;
+use aom_run::Sink;
+use aom_shape::{Kind, Shape};
+use aom_verify::Checked;
+
+/// The message of that number, if there is one.
+fn message_content(parts: &Parts, number: u32) -> Option<Content>
+    requires { (p : Image) × Stands (record { image = p; parts = parts.now }) }
+    ensures { result ≡ option_map (λ source. Message source) (source_at parts.now number) }
+{
+    match source_at(parts, number) {
+        Some(source) => Some(Content::Message(source)),
+        None => None,
+    }
+}
+
+/// What has that number, or null.
+fn owned_content(parts: &Parts, number: u32) -> Option<Content>
+    requires { (p : Image) × Stands (record { image = p; parts = parts.now }) }
+    ensures { (p : Image) (r : Place) → Represents (record { image = p; parts = parts.now }) number r → (s : State) → StandsFor (record { image = p; parts = parts.now }) s → result ≡ owned_content s.cells (held s.cells r) }
+{
+    if number == NULL {
+        return Some(Content::Null);
+    }
+    match class_of(parts, number) {
+        Some(class) => Some(Content::Own(class)),
+        None => message_content(parts, number),
+    }
+}
+
+/// The word of a number.
+fn word_content(number: u32) -> Content
+    ensures { result ≡ Word (cast_signed w32 number) }
+{
+    Content::Word(number.cast_signed())
+}
+
+/// What a register has that has that number, by what the typing says that it is.
+fn content_by(parts: &Parts, kind: Kind, number: u32) -> Option<Content>
+    requires { (p : Image) × Stands (record { image = p; parts = parts.now }) }
+    ensures { (p : Image) (depth i : ℕ) → RegisterShows (record { image = p; parts = parts.now }) kind number depth i → (s : State) → StandsFor (record { image = p; parts = parts.now }) s → (fr : FrameRecord) → over s.tasks depth ≡ Some (Run fr) → result ≡ content_by s.cells kind (word fr i) (held s.cells (Register depth i)) }
+{
+    match kind {
+        Kind::Unset => None,
+        Kind::Word => Some(word_content(number)),
+        Kind::Null => Some(Content::Null),
+        Kind::Own(_, _) | Kind::Maybe(_, _) => owned_content(parts, number),
+    }
+}
+
+/// A register of a frame, as it is told.
+fn register_answer(parts: &Parts, shape: &Shape<'_>, frame: &Frame, register: u8) -> Option<Answer>
+    requires register { register < 16 }
+    requires stands { (p : Image) × Stands (record { image = p; parts = parts.now }) }
+    ensures { (p : Image) (depth : ℕ) → ShowsFrame (record { image = p; parts = parts.now }) shape.now frame.now depth → (s : State) → StandsFor (record { image = p; parts = parts.now }) s → result ≡ register_in (λ i. kind_at shape.now i) s.cells depth (over s.tasks depth) register }
+{
+    let kind = shape.kind_at(register as usize);
+    match content_by(parts, kind, frame.register(register)) {
+        Some(content) => Some(Answer::Register(register, content)),
+        None => None,
+    }
+}
+
+/// Tells the registers of a frame that are set.
+fn tell_contents<W: Sink>(
+    parts: &Parts,
+    shape: &Shape<'_>,
+    frame: &Frame,
+    names: &Names,
+    out: &mut W,
+) -> Result<(), DebugFault>
+    requires { (p : Image) × Stands (record { image = p; parts = parts.now }) }
+    ensures ok { IfOk result (λ _. (p : Image) (depth : ℕ) → ShowsFrame (record { image = p; parts = parts.now }) shape.now frame.now depth → Tells (record { image = p; parts = parts.now }) (λ s. answers_by names.now (registers_in (λ i. kind_at shape.now i) s.cells depth (over s.tasks depth) 16)) (W.out out.old) (W.out out.new)) }
+    ensures err { IfErr result (λ fault. (p : Image) (depth : ℕ) → ShowsFrame (record { image = p; parts = parts.now }) shape.now frame.now depth → TellsPart (record { image = p; parts = parts.now }) (λ s. answers_by names.now (registers_in (λ i. kind_at shape.now i) s.cells depth (over s.tasks depth) 16)) fault (W.failed out.new) (W.out out.old) (W.out out.new)) }
+{
+    for register in 0..16u8 {
+        tell_any_by(names, register_answer(parts, shape, frame, register), out)?;
+    }
+    Ok(())
+}
+
+/// The rounds that are left of a loop, as they are told.
+fn loop_answer(number: u8, rounds: u16) -> Option<Answer>
+    ensures { result ≡ loop_answer number rounds }
+{
+    if rounds == 0 {
+        return None;
+    }
+    Some(Answer::Loop(number, rounds))
+}
+
+/// Tells the loops of a frame that have rounds left, the outermost first.
+fn tell_loops<W: Sink>(frame: &Frame, names: &Names, out: &mut W) -> Result<(), DebugFault>
+    ensures ok { IfOk result (λ _. (m : Machine) (sh : ShapeRecord) (depth : ℕ) → ShowsFrame m sh frame.now depth → Tells m (λ s. answers_by names.now (loops_in (over s.tasks depth) 4)) (W.out out.old) (W.out out.new)) }
+    ensures err { IfErr result (λ fault. (m : Machine) (sh : ShapeRecord) (depth : ℕ) → ShowsFrame m sh frame.now depth → TellsPart m (λ s. answers_by names.now (loops_in (over s.tasks depth) 4)) fault (W.failed out.new) (W.out out.old) (W.out out.new)) }
+{
+    for number in 0..4u8 {
+        tell_any_by(names, loop_answer(number, frame.counter(number)), out)?;
+    }
+    Ok(())
+}
+
+/// A trap, as it is told.
+fn trap_of(task: Option<Task>) -> Option<Answer>
+    ensures { result ≡ trap_held task }
+{
+    match task {
+        Some(Task::Trapped) => Some(Answer::Trap),
+        _ => None,
+    }
+}
+
+/// A trap right beneath a depth, as it is told.
+fn trap_under(parts: &Parts, depth: usize) -> Option<Answer>
+    ensures { (p : Image) (s : State) → StandsFor (record { image = p; parts = parts.now }) s → result ≡ trap_under s.tasks depth }
+{
+    if depth == 0 {
+        return None;
+    }
+    trap_of(parts.stack.task(depth - 1))
+}
+
+/// Tells whether a trap called the frame that stands at a depth.
+fn tell_trap<W: Sink>(
+    parts: &Parts,
+    depth: usize,
+    names: &Names,
+    out: &mut W,
+) -> Result<(), DebugFault>
+    ensures ok { IfOk result (λ _. (p : Image) (sh : ShapeRecord) (f : FrameOf) → ShowsFrame (record { image = p; parts = parts.now }) sh f depth → Tells (record { image = p; parts = parts.now }) (λ s. answers_by names.now (listed (trap_in s.tasks depth (over s.tasks depth)))) (W.out out.old) (W.out out.new)) }
+    ensures err { IfErr result (λ fault. (p : Image) (sh : ShapeRecord) (f : FrameOf) → ShowsFrame (record { image = p; parts = parts.now }) sh f depth → TellsPart (record { image = p; parts = parts.now }) (λ s. answers_by names.now (listed (trap_in s.tasks depth (over s.tasks depth)))) fault (W.failed out.new) (W.out out.old) (W.out out.new)) }
+{
+    tell_any_by(names, trap_under(parts, depth), out)
+}
+
+/// Tells where a frame stands.
+fn tell_head<W: Sink>(frame: &Frame, names: &Names, out: &mut W) -> Result<(), DebugFault>
+    ensures ok { IfOk result (λ _. (m : Machine) (sh : ShapeRecord) (depth : ℕ) → ShowsFrame m sh frame.now depth → Tells m (λ s. answers_by names.now (listed (place_in (over s.tasks depth)))) (W.out out.old) (W.out out.new)) }
+    ensures err { IfErr result (λ fault. (m : Machine) (sh : ShapeRecord) (depth : ℕ) → ShowsFrame m sh frame.now depth → TellsPart m (λ s. answers_by names.now (listed (place_in (over s.tasks depth)))) fault (W.failed out.new) (W.out out.old) (W.out out.new)) }
+{
+    let spot = Spot {
+        method: frame.method.number(),
+        place: frame.place,
+    };
+    tell_any_by(names, Some(Answer::Frame(spot)), out)
+}
+
+/// Tells a frame that stands at a depth.
+fn tell_lines<W: Sink>(
+    parts: &Parts,
+    shape: &Shape<'_>,
+    frame: &Frame,
+    depth: usize,
+    names: &Names,
+    out: &mut W,
+) -> Result<(), DebugFault>
+    requires { (p : Image) × Stands (record { image = p; parts = parts.now }) }
+    ensures ok { IfOk result (λ _. (p : Image) → ShowsFrame (record { image = p; parts = parts.now }) shape.now frame.now depth → Tells (record { image = p; parts = parts.now }) (λ s. answers_by names.now (frame_lines (λ i. kind_at shape.now i) s depth (over s.tasks depth))) (W.out out.old) (W.out out.new)) }
+    ensures err { IfErr result (λ fault. (p : Image) → ShowsFrame (record { image = p; parts = parts.now }) shape.now frame.now depth → TellsPart (record { image = p; parts = parts.now }) (λ s. answers_by names.now (frame_lines (λ i. kind_at shape.now i) s depth (over s.tasks depth))) fault (W.failed out.new) (W.out out.old) (W.out out.new)) }
+{
+    tell_head(frame, names, out)?;
+    tell_contents(parts, shape, frame, names, out)?;
+    tell_loops(frame, names, out)?;
+    tell_trap(parts, depth, names, out)
+}
+
+/// Tells what stands at a depth, if it is a frame.
+fn tell_method<W: Sink>(
+    parts: &Parts,
+    checked: &Checked,
+    depth: usize,
+    names: &Names,
+    out: &mut W,
+) -> Result<(), DebugFault>
+    requires stands { Stands (record { image = checked.now; parts = parts.now }) }
+    requires agrees { AgreesInAll (record { image = checked.now; parts = parts.now }) }
+    ensures ok { IfOk result (λ _. (t : Typing) → IsStrongest checked.now t → Tells (record { image = checked.now; parts = parts.now }) (λ s. answers_by names.now (frame_answers t s depth)) (W.out out.old) (W.out out.new)) }
+    ensures err { IfErr result (λ fault. (t : Typing) → IsStrongest checked.now t → TellsPart (record { image = checked.now; parts = parts.now }) (λ s. answers_by names.now (frame_answers t s depth)) fault (W.failed out.new) (W.out out.old) (W.out out.new)) }
+{
+    let Some(frame) = frame_at(parts, depth) else {
+        return Ok(());
+    };
+    match checked.shape(frame.method, frame.place) {
+        Some(shape) => tell_lines(parts, &shape, &frame, depth, names, out),
+        None => Ok(()),
+    }
+}
+
+/// Tells the methods at hand, the outermost first: where each stands, its registers that are set, by what the strongest typing says
+/// that they are, its loops that have rounds left, and whether a trap called it.
+pub fn tell_frames<W: Sink>(
+    parts: &Parts,
+    accepted: &Accepted,
+    names: &Names,
+    out: &mut W,
+) -> Result<(), DebugFault>
+    requires stands { Stands (record { image = accepted.now; parts = parts.now }) }
+    requires agrees { AgreesInAll (record { image = accepted.now; parts = parts.now }) }
+    ensures ok { IfOk result (λ _. (t : Typing) → IsStrongest accepted.now t → Tells (record { image = accepted.now; parts = parts.now }) (λ s. answers_by names.now (frames_answers t s)) (W.out out.old) (W.out out.new)) }
+    ensures err { IfErr result (λ fault. (t : Typing) → IsStrongest accepted.now t → TellsPart (record { image = accepted.now; parts = parts.now }) (λ s. answers_by names.now (frames_answers t s)) fault (W.failed out.new) (W.out out.old) (W.out out.new)) }
+{
+    for depth in 0..parts.stack.len() {
+        tell_method(parts, accepted.checked(), depth, names, out)?;
+    }
+    Ok(())
+}

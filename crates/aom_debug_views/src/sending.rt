@@ -1,0 +1,130 @@
+//! What an inspection writes.
+ghost use Rattle.std.specs.Prelude.{◌≡◌, IfErr, IfOk};
+ghost use Rattle.aom_transcript.specs.Text.{ended};
+ghost use Rattle.aom_run.specs.Runs.{after};
+ghost use Rattle.aom_debug_words.specs.Answers.{answer_text};
+ghost use Rattle.aom_explain.specs.Sources.{spaced};
+ghost use Rattle.aom_debug_names.specs.Answers.{answer_by, behind, lead_text, statement_text};
+ghost use Rattle.aom_debug_views.specs.Telling.{IsCut, answers_by, answers_text, listed, tail_text};
+
+use aom_buffers::Text;
+use aom_debug_names::{Names, named_line, shown_statement};
+use aom_debug_words::{Answer, DebugFault, line_of};
+use aom_run::{Sink, write_text};
+use aom_text::{Statement, Words};
+
+/// What stands before the words of a statement.
+type Lead = Text<32>;
+
+/// Writes a text. It is a write fault where the sink fails.
+pub fn send<W: Sink>(text: &[u8], out: &mut W) -> Result<(), DebugFault>
+    ensures ok { IfOk result (λ _. W.out out.new ≡ after (W.out out.old) text.now) }
+    ensures err { IfErr result (λ fault. IsCut text.now fault (W.failed out.new) (W.out out.old) (W.out out.new)) }
+{
+    write_text(out, text);
+    if out.has_failed() {
+        return Err(DebugFault::WriteFault);
+    }
+    Ok(())
+}
+
+/// Writes an answer on a line, by numbers alone. It is a write fault where the sink fails.
+pub fn tell<W: Sink>(answer: Answer, out: &mut W) -> Result<(), DebugFault>
+    ensures ok { IfOk result (λ _. W.out out.new ≡ after (W.out out.old) (ended (answer_text answer))) }
+    ensures err { IfErr result (λ fault. IsCut (ended (answer_text answer)) fault (W.failed out.new) (W.out out.old) (W.out out.new)) }
+{
+    let line = line_of(answer);
+    send(line.as_bytes(), out)
+}
+
+/// Writes it if there is one.
+pub fn tell_any<W: Sink>(answer: Option<Answer>, out: &mut W) -> Result<(), DebugFault>
+    ensures ok { IfOk result (λ _. W.out out.new ≡ after (W.out out.old) (answers_text (listed answer))) }
+    ensures err { IfErr result (λ fault. IsCut (answers_text (listed answer)) fault (W.failed out.new) (W.out out.old) (W.out out.new)) }
+{
+    match answer {
+        Some(answer) => tell(answer, out),
+        None => Ok(()),
+    }
+}
+
+/// Writes words, each behind a space.
+fn send_words<W: Sink>(mut words: Words, out: &mut W) -> Result<(), DebugFault>
+    ensures ok { IfOk result (λ _. W.out out.new ≡ after (W.out out.old) (spaced words.entry)) }
+    ensures err { IfErr result (λ fault. IsCut (spaced words.entry) fault (W.failed out.new) (W.out out.old) (W.out out.new)) }
+{
+    while let Some(word) = words.next() {
+        send(b" ", out)?;
+        send(word, out)?;
+    }
+    Ok(())
+}
+
+/// Writes what stands before the words of a statement.
+fn send_lead<W: Sink>(line: u32, out: &mut W) -> Result<(), DebugFault>
+    ensures ok { IfOk result (λ _. W.out out.new ≡ after (W.out out.old) (lead_text line)) }
+    ensures err { IfErr result (λ fault. IsCut (lead_text line) fault (W.failed out.new) (W.out out.old) (W.out out.new)) }
+{
+    let mut lead = Lead::new();
+    lead.add_count(b" line ", line);
+    lead.add(b":");
+    send(lead.as_bytes(), out)
+}
+
+/// Writes the line of a statement, and its words.
+fn send_statement<W: Sink>(statement: Statement, out: &mut W) -> Result<(), DebugFault>
+    ensures ok { IfOk result (λ _. W.out out.new ≡ after (W.out out.old) (statement_text statement.entry)) }
+    ensures err { IfErr result (λ fault. IsCut (statement_text statement.entry) fault (W.failed out.new) (W.out out.old) (W.out out.new)) }
+{
+    send_lead(statement.line, out)?;
+    send_words(statement.words, out)
+}
+
+/// Writes the statement, if there is one, and the end of the line.
+fn send_tail<W: Sink>(found: Option<Statement>, out: &mut W) -> Result<(), DebugFault>
+    ensures ok { IfOk result (λ _. W.out out.new ≡ after (W.out out.old) (tail_text found.entry)) }
+    ensures err { IfErr result (λ fault. IsCut (tail_text found.entry) fault (W.failed out.new) (W.out out.old) (W.out out.new)) }
+{
+    match found {
+        Some(statement) => {
+            send_statement(statement, out)?;
+            send(b"\n", out)
+        }
+        None => send(b"\n", out),
+    }
+}
+
+/// Writes what a line begins with, and the statement behind it, if there is one, and ends it.
+fn send_shown<W: Sink>(head: &[u8], found: Option<Statement>, out: &mut W) -> Result<(), DebugFault>
+    ensures ok { IfOk result (λ _. W.out out.new ≡ after (W.out out.old) (ended (behind head.now found.entry))) }
+    ensures err { IfErr result (λ fault. IsCut (ended (behind head.now found.entry)) fault (W.failed out.new) (W.out out.old) (W.out out.new)) }
+{
+    send(head, out)?;
+    send_tail(found, out)
+}
+
+/// Writes an answer on a line by the names and the lines of a text, where there is one.
+pub fn tell_by<W: Sink>(names: &Names, answer: Answer, out: &mut W) -> Result<(), DebugFault>
+    ensures ok { IfOk result (λ _. W.out out.new ≡ after (W.out out.old) (ended (answer_by names.now answer))) }
+    ensures err { IfErr result (λ fault. IsCut (ended (answer_by names.now answer)) fault (W.failed out.new) (W.out out.old) (W.out out.new)) }
+{
+    match named_line(names, answer) {
+        Some(head) => send_shown(head.as_bytes(), shown_statement(names, answer), out),
+        None => tell(answer, out),
+    }
+}
+
+/// Writes it if there is one.
+pub fn tell_any_by<W: Sink>(
+    names: &Names,
+    answer: Option<Answer>,
+    out: &mut W,
+) -> Result<(), DebugFault>
+    ensures ok { IfOk result (λ _. W.out out.new ≡ after (W.out out.old) (answers_by names.now (listed answer))) }
+    ensures err { IfErr result (λ fault. IsCut (answers_by names.now (listed answer)) fault (W.failed out.new) (W.out out.old) (W.out out.new)) }
+{
+    match answer {
+        Some(answer) => tell_by(names, answer, out),
+        None => Ok(()),
+    }
+}

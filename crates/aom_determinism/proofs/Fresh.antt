@@ -1,0 +1,350 @@
+-- Renamings that change no name in use change nothing: so any free name may be put for any other, by changing the two.
+use Rattle.std.proofs.Common.{Bool, List, None, Option, Some, [], ap, cond, false, refl, subst, suc, sym, true, zero, ℕ, ⊎_elim, ◌&&◌, ◌==◌, ◌∙◌, ◌∷◌, ◌≡◌, ◌≢◌, arith}
+use Rattle.std.proofs.lemmas.Bool.Decides.{nat_tests}
+use Rattle.std.proofs.lemmas.Option.{same_Some}
+use Rattle.std.proofs.lemmas.Bool.{cases_eq, eq-eqb, eqb-true, ne_eqb, true≢false}
+use Rattle.std.specs.List.{list_any}
+use Rattle.std.specs.Prelude.{◌||◌}
+use Rattle.aom_clients.specs.Nodes.{is_connecting_at}
+use Rattle.aom_clients.specs.Table.{server_of}
+use Rattle.aom_clients.specs.declared.client.Client.{Client}
+use Rattle.aom_clients.specs.declared.client.Client.TheVariants.{Closing as Closing_client, Connecting, Dead, Dying as Dying_client, Gone as Gone_client, Open, Unconnected}
+use Rattle.aom_image.specs.Image.{Image}
+use Rattle.aom_rules.specs.Typing.{Typing}
+use Rattle.aom_shape.specs.Kinds.{filled}
+use Rattle.aom_shape.specs.declared.kind.Filling.TheVariants.{Full}
+use Rattle.aom_shape.specs.declared.kind.Kind.TheVariants.{Null}
+use Rattle.aom_safety.proofs.Claimed.{claim_unnamed}
+use Rattle.aom_safety.proofs.ClientsFacts.{IsAt, server_lives}
+use Rattle.aom_safety.proofs.Dropping.{queued_claim}
+use Rattle.aom_semantics.proofs.Maps.{cond_same, held_named, same_place_refl}
+use Rattle.aom_safety.proofs.Services.{service_unnamed}
+use Rattle.aom_safety.proofs.Straight.{fits_unowning}
+use Rattle.aom_safety.specs.Claims.{Dispatching, Dying, Ending, Layer, Mark, Method, Unwinding, by_close, declared, tasks_of, claim}
+use Rattle.aom_semantics.specs.Clients.{client_at}
+use Rattle.aom_safety.specs.Kept.{ClientsFit, is_message_of}
+use Rattle.aom_semantics.specs.Places.{Asked, Cell, Close_of, Connect_of, Elsewhere, Entry, Field, Going, Message_of, Object, Place, Register, Tidy, held, named, seen, service_of, unserved, Other, Root, Session, In_service, Queued}
+use Rattle.aom_semantics.specs.Servers.{has_session, session_thing}
+use Rattle.aom_semantics.specs.State.{Answered, Asks, Closing, Destroy, Dispatch, Dispatched, Home, Object_left, Of_object, Of_server, Parts, Run, Seat, Stage, State, Task, Trapped, Unwind}
+use Rattle.aom_safety.specs.WellTyped.{AllSit, Back, Caught, Fits, Gone, Good, IsHoused, Leaves, Now, Returns, SitsFirst, Stack, WellTyped, seat_of}
+use Rattle.aom_safety.proofs.ClientsFacts.{queued_well}
+use Rattle.aom_determinism.specs.Names.{IsOneToOne, renamed, renamed_asked, renamed_cells, renamed_client, renamed_clients, renamed_dispatch, renamed_home, renamed_place, renamed_queue, renamed_seat, renamed_stage, renamed_task, renamed_tasks, renamed_other}
+use Rattle.aom_determinism.specs.There.{AllThere, IsAtPlace, accepts, dispatch_of}
+
+-- ---- two names change places
+
+pub swapped : ℕ → ℕ → ℕ → ℕ
+swapped a b n = cond (n == a) b (cond (n == b) a n)
+
+pub swap_first : (a b : ℕ) → swapped a b a ≡ b
+unfolding swapped
+swap_first a b = rw (eq-eqb a a refl)
+
+swap_second : (a b : ℕ) → swapped a b b ≡ a
+unfolding swapped
+swap_second a b = ⊎_elim (λ e. rw (eq-eqb b a e, e)) (λ ne. rw (ne_eqb b a ne, eq-eqb b b refl)) (cases_eq b a)
+
+swap_other : (a b n : ℕ) → n ≢ a → n ≢ b → swapped a b n ≡ n
+unfolding swapped
+swap_other a b n e f = rw (ne_eqb n a e, ne_eqb n b f)
+
+swap_twice : (a b n : ℕ) → swapped a b (swapped a b n) ≡ n
+swap_twice a b n = grind (
+  arith,
+  nat_tests,
+  swapped a b,
+  swap_other a b n,
+  cases_eq n b,
+  cases_eq n a,
+  swapped a b (swapped a b n),
+  swapped a b n,
+  swap_first a b,
+  swap_second a b,
+)
+
+pub swap_one_to_one : (a b : ℕ) → IsOneToOne (swapped a b)
+swap_one_to_one a b n m e = sym (swap_twice a b n) ∙ ap (swapped a b) e ∙ swap_twice a b m
+
+-- ---- of two tests
+
+or_right : (b x : Bool) → x ≡ true → (b || x) ≡ true
+or_right x y h = grind arith
+
+and_first : (b x : Bool) → (b && x) ≡ true → b ≡ true
+and_first x y h = grind arith
+
+-- ---- one renaming after another
+
+module _ (then first : ℕ → ℕ) where
+  abbrev both : ℕ → ℕ
+  both n = then (first n)
+
+  other_twice : (o : Other) → renamed_other both o ≡ renamed_other then (renamed_other first o)
+  other_twice x = grind arith
+
+  place_twice : (q : Place) → renamed_place both q ≡ renamed_place then (renamed_place first q)
+  place_twice x = grind (arith, nat_tests, other_twice)
+
+  asked_twice : (e : Asked) → renamed_asked both e ≡ renamed_asked then (renamed_asked first e)
+  asked_twice x = grind arith
+
+  queue_twice : (es : List Asked) → renamed_queue both es ≡ renamed_queue then (renamed_queue first es)
+  queue_twice [] = refl
+  queue_twice (e ∷ es) = rw (asked_twice e, queue_twice es)
+
+  cells_twice : (cs : List Cell) → renamed_cells both cs ≡ renamed_cells then (renamed_cells first cs)
+  cells_twice [] = refl
+  cells_twice (c ∷ cs) = rw (place_twice c.owner, queue_twice c.service.queue, cells_twice cs)
+
+  home_twice : (h : Home) → renamed_home both h ≡ renamed_home then (renamed_home first h)
+  home_twice x = grind (arith, nat_tests, place_twice)
+
+  seat_twice : (x : Seat) → renamed_seat both x ≡ renamed_seat then (renamed_seat first x)
+  seat_twice x = rw (place_twice x.place)
+
+  stage_twice : (stage : Stage) → renamed_stage both stage ≡ renamed_stage then (renamed_stage first stage)
+  stage_twice x = grind arith
+
+  dispatch_twice : (d : Dispatch) → renamed_dispatch both d ≡ renamed_dispatch then (renamed_dispatch first d)
+  dispatch_twice (Of_object x) = ap Of_object (seat_twice x)
+  dispatch_twice (Object_left x code) = ap (λ y. Object_left y code) (seat_twice x)
+  dispatch_twice (Asks x) = ap Asks (seat_twice x)
+  dispatch_twice (Answered x answer) = ap (λ y. Answered y answer) (seat_twice x)
+  dispatch_twice (Of_server x client stage) = rw (seat_twice x, stage_twice stage)
+  dispatch_twice _ = refl
+
+  task_twice : (k : Task) → renamed_task both k ≡ renamed_task then (renamed_task first k)
+  task_twice x = grind (arith, nat_tests, home_twice, dispatch_twice)
+
+  tasks_twice : (ts : List Task) → renamed_tasks both ts ≡ renamed_tasks then (renamed_tasks first ts)
+  tasks_twice [] = refl
+  tasks_twice (k ∷ ts) = rw (task_twice k, tasks_twice ts)
+
+  client_twice : (x : Client) → renamed_client both x ≡ renamed_client then (renamed_client first x)
+  client_twice x = grind arith
+
+  clients_twice : (clients : List Client) → renamed_clients both clients ≡ renamed_clients then (renamed_clients first clients)
+  clients_twice [] = refl
+  clients_twice (x ∷ xs) = rw (client_twice x, clients_twice xs)
+
+  pub renamed_twice : (s : State) → renamed both s ≡ renamed then (renamed first s)
+  renamed_twice s = rw (cells_twice s.cells, tasks_twice s.tasks, clients_twice s.clients)
+
+-- ---- names that nothing in a state says
+
+module _ (names : ℕ → ℕ) where
+  -- the names in use stay as they are
+  abbrev Spares : List Cell → Type 0
+  Spares cs = (n : ℕ) → named cs n ≢ None → names n ≡ n
+
+  -- and so do the places that own
+  abbrev SparesPlaces : List Cell → Type 0
+  SparesPlaces cs = (q : Place) → held cs q ≢ None → renamed_place names q ≡ q
+
+  named_on : (c : Cell) (cs : List Cell) (n : ℕ) → named cs n ≢ None → named (c ∷ cs) n ≢ None
+  named_on c cs n some = grind (arith, nat_tests)
+
+  held_on : (c : Cell) (cs : List Cell) (q : Place) → held cs q ≢ None → held (c ∷ cs) q ≢ None
+  held_on c cs q some = grind (arith, nat_tests)
+
+  named_first : (c : Cell) (cs : List Cell) → named (c ∷ cs) c.object.name ≢ None
+  named_first c cs e = let clash : Some c.object ≡ None = rw (eq-eqb c.object.name c.object.name refl) at e in cc
+
+  held_first : (c : Cell) (cs : List Cell) → held (c ∷ cs) c.owner ≢ None
+  held_first c cs e = let clash : Some c.object ≡ None = rw (same_place_refl c.owner) at e in cc
+
+  -- the messages that wait in a queue stay too
+  queue_spared : (es : List Asked) → ((c m : ℕ) → list_any (is_message_of c m) es ≡ true → names m ≡ m) → renamed_queue names es ≡ es
+  queue_spared [] sent_so = refl
+  queue_spared (Connect_of d ∷ es) sent_so = ap (λ l. Connect_of d ∷ l) (queue_spared es sent_so)
+  queue_spared (Close_of d ∷ es) sent_so = ap (λ l. Close_of d ∷ l) (queue_spared es sent_so)
+  queue_spared (Message_of d k ∷ es) sent_so = rw (sent_so d k (rw (eq-eqb d d refl, eq-eqb k k refl)), queue_spared es later)
+    where
+      later : (c m : ℕ) → list_any (is_message_of c m) es ≡ true → names m ≡ m
+      later c m h = sent_so c m (or_right ((d == c) && (k == m)) (list_any (is_message_of c m) es) h)
+
+  -- and those that wait anywhere
+  abbrev SparesSent : List Cell → Type 0
+  SparesSent cs = (n c m : ℕ) → list_any (is_message_of c m) (service_of cs n).queue ≡ true → names m ≡ m
+
+  sent_first : (c : Cell) (cs : List Cell) → SparesSent (c ∷ cs) → (d m : ℕ) → list_any (is_message_of d m) c.service.queue ≡ true → names m ≡ m
+  sent_first c cs sent_so d m h =
+      sent_so c.object.name d m (ap (λ b. list_any (is_message_of d m) (cond b c.service (service_of cs c.object.name)).queue) (eq-eqb c.object.name c.object.name refl) ∙ h)
+
+  sent_on : (c : Cell) (cs : List Cell) → named cs c.object.name ≡ None → SparesSent (c ∷ cs) → SparesSent cs
+  sent_on c cs alone sent_so n d m h = go (c.object.name == n) refl
+    where
+      go : (b : Bool) → (c.object.name == n) ≡ b → names m ≡ m
+      go true e =
+          let none = ap (λ k. service_of cs k) (sym (eqb-true c.object.name n e)) ∙ service_unnamed cs c.object.name alone in
+          absurd (true≢false (sym h ∙ ap (λ v. list_any (is_message_of d m) v.queue) none))
+      go false e = sent_so n d m (ap (λ b. list_any (is_message_of d m) (cond b c.service (service_of cs n)).queue) e ∙ h)
+
+  cells_spared : (cs : List Cell) → Tidy cs → Spares cs → SparesPlaces cs → SparesSent cs → renamed_cells names cs ≡ cs
+  cells_spared [] tidy named_so held_so sent_so = refl
+  cells_spared (c ∷ cs) tidy named_so held_so sent_so = rw (
+    named_so c.object.name (named_first c cs),
+    held_so c.owner (held_first c cs),
+    queue_spared c.service.queue (sent_first c cs sent_so),
+    cells_spared cs tidy.2 (λ n some. named_so n (named_on c cs n some)) (λ q some. held_so q (held_on c cs q some)) (sent_on c cs tidy.1 sent_so),
+  )
+
+  -- clients by what each is at
+  clients_spared : (clients : List Client) → ((c : ℕ) → renamed_client names (client_at clients c) ≡ client_at clients c) → renamed_clients names clients ≡ clients
+  clients_spared [] so = refl
+  clients_spared (x ∷ xs) so = rw (so zero, clients_spared xs (λ c. so (suc c)))
+
+  module _ (p : Image) (t : Typing) (cs : List Cell) (named_so : Spares cs) (held_so : SparesPlaces cs) where
+    home_spared : (ls : List Layer) (h : Home) → IsHoused p cs ls h → renamed_home names h ≡ h
+    home_spared ls x housed = grind arith
+
+    -- an object that sits, and its place
+    seat_spared : (x : Seat) → held cs x.place ≡ Some x.object → named cs x.object.name ≡ Some x.object → renamed_seat names x ≡ x
+    seat_spared x there lives = grind (arith, nat_tests)
+
+    first_spared : (x : Seat) (seats : List Seat) → AllSit cs seats → SitsFirst cs (Some x) seats → renamed_seat names x ≡ x
+    first_spared x seats sit h = let all : AllSit cs (x ∷ h.1) = subst (AllSit cs) h.2 sit in seat_spared x all.0.0 all.0.1
+
+    -- the session that serves
+    stage_spared : (x : Seat) (client : ℕ) (stage : Stage) → IsAtPlace cs (Some (Of_server x client stage)) → renamed_stage names stage ≡ stage
+    stage_spared x client y at = grind (arith, nat_tests, held_named cs (Elsewhere (Session x.object.name client)))
+
+    dispatch_spared : (d : Dispatch) (seats : List Seat) → AllSit cs seats → SitsFirst cs (seat_of d) seats → IsAtPlace cs (Some d) → renamed_dispatch names d ≡ d
+    dispatch_spared (Of_object x) seats sit h at = ap Of_object (first_spared x seats sit h)
+    dispatch_spared (Object_left x code) seats sit h at = ap (λ y. Object_left y code) (first_spared x seats sit h)
+    dispatch_spared (Asks x) seats sit h at = ap Asks (first_spared x seats sit h)
+    dispatch_spared (Answered x answer) seats sit h at = ap (λ y. Answered y answer) (first_spared x seats sit h)
+    dispatch_spared (Of_server x client stage) seats sit h at = rw (first_spared x seats sit h, stage_spared x client stage at)
+    dispatch_spared _ seats sit h at = refl
+
+    tasks_spared : (ls : List Layer) (back : Back) → Stack p t cs back ls → IsAtPlace cs (dispatch_of (tasks_of ls)) → renamed_tasks names (tasks_of ls) ≡ tasks_of ls
+    tasks_spared [] back k at = refl
+    tasks_spared (Method fr sh ∷ ls) back k at = rw (home_spared ls fr.home k.2, tasks_spared ls (Returns fr.method fr.home) k.4 at)
+    tasks_spared (Mark gv ∷ ls) back k at = rw (tasks_spared ls (Caught gv) k.1 at)
+    tasks_spared (Dying o ∷ ls) back k at = rw (tasks_spared ls Gone k.2 at)
+    tasks_spared (Ending o left ∷ ls) back k at = rw (tasks_spared ls Now k.3 at)
+    tasks_spared (Unwinding code es ∷ ls) back k at = rw (tasks_spared ls Leaves k.1 at)
+    tasks_spared (Dispatching d seats ∷ ls) back k at = rw (dispatch_spared d seats k.2 k.3 at, k.1)
+
+-- the dispatch that stands below all is at hand
+pub dispatch_at : (ts : List Task) (d : Dispatch) → dispatch_of ts ≡ Some d → IsAt d ts
+dispatch_at [] d e = cc
+dispatch_at (Run fr ∷ ts) d e = dispatch_at ts d e
+dispatch_at (Trapped ∷ ts) d e = dispatch_at ts d e
+dispatch_at (Destroy ∷ ts) d e = dispatch_at ts d e
+dispatch_at (Closing ∷ ts) d e = dispatch_at ts d e
+dispatch_at (Unwind code ∷ ts) d e = dispatch_at ts d e
+dispatch_at (Dispatched x ∷ ts) d e = same_Some x d e
+
+-- what accepts a client is the server of that name, with that client
+pub record IsAccepting (n c : ℕ) (d : Option Dispatch) : Type 0 where
+  pub seat : Seat
+  pub client : ℕ
+  pub stage : Stage
+  pub is : d ≡ Some (Of_server seat client stage)
+  pub name : seat.object.name ≡ n
+
+pub accepting : (n c : ℕ) (d : Option Dispatch) → accepts n c d ≡ true → IsAccepting n c d
+accepting n c d h = grind (arith, nat_tests)
+
+-- of a cell that is not there no field owns
+unnamed_owns_nothing : (p : Image) (t : Typing) (cs : List Cell) (ls : List Layer) → Good p t cs ls → (n f : ℕ) → named cs n ≡ None → held cs (Field n f) ≡ None
+unnamed_owns_nothing p t cs ls good n f e = grind (arith, nat_tests, claim_unnamed p t cs, fits_unowning p)
+
+-- nor do its sessions and its queue
+session_declared : (p : Image) (cs : List Cell) (n c : ℕ) → named cs n ≡ None → declared p cs (Elsewhere (Session n c)) ≡ Null
+session_declared p cs n c e = ap (λ v. cond (has_session v c) (filled (session_thing p (named cs n)) Full) Null) (service_unnamed cs n e)
+
+session_null :
+    (p : Image) (t : Typing) (cs : List Cell) (ls : List Layer) (back : Back) (n c : ℕ) → Stack p t cs back ls → named cs n ≡ None →
+    claim p (declared p cs) ls (Elsewhere (Session n c)) ≡ Null
+session_null p t cs [] back n c k e = session_declared p cs n c e
+session_null p t cs (Method fr sh ∷ ls) back n c k e = session_null p t cs ls (Returns fr.method fr.home) n c k.4 e
+session_null p t cs (Mark gv ∷ ls) back n c k e = session_null p t cs ls (Caught gv) n c k.1 e
+session_null p t cs (Dying o ∷ ls) back n c k e = ap (cond (o.name == n) Null) (session_null p t cs ls Gone n c k.2 e) ∙ cond_same (o.name == n) Null
+session_null p t cs (Ending o left ∷ ls) back n c k e = grind (arith, nat_tests, ne_eqb o.name n, session_null p t cs ls Now n c k.3 e)
+session_null p t cs (Unwinding code es ∷ ls) back n c k e = session_null p t cs ls Leaves n c k.1 e
+session_null p t cs (Dispatching d seats ∷ ls) back n c k e = by_dispatch d (ap (λ l. claim p (declared p cs) l (Elsewhere (Session n c))) k.1 ∙ session_declared p cs n c e)
+  where
+    by_dispatch : (d : Dispatch) → claim p (declared p cs) ls (Elsewhere (Session n c)) ≡ Null → by_close d n c (claim p (declared p cs) ls (Elsewhere (Session n c))) ≡ Null
+    by_dispatch (Of_server x client Parts) null = ap (cond ((x.object.name == n) && (client == c)) Null) null ∙ cond_same ((x.object.name == n) && (client == c)) Null
+    by_dispatch (Of_server x client _) null = null
+    by_dispatch _ null = null
+
+unclaimed_owns_nothing : (p : Image) (t : Typing) (cs : List Cell) (ls : List Layer) (o : Other) → Good p t cs ls → claim p (declared p cs) ls (Elsewhere o) ≡ Null → held cs (Elsewhere o) ≡ None
+unclaimed_owns_nothing p t cs ls o good null = fits_unowning p (seen cs) (held cs (Elsewhere o)) Null refl (subst (λ k. Fits p (seen cs) (held cs (Elsewhere o)) k) null (good.fits (Elsewhere o)))
+
+-- ---- a renaming of names that are not in use
+
+module _ (p : Image) (t : Typing) (s : State) (names : ℕ → ℕ) (well : WellTyped p t s) (fit : ClientsFit p s.clients s.cells) (there : AllThere s)
+    (named_so : (n : ℕ) → named s.cells n ≢ None → names n ≡ n) where
+  -- what a place holds has a name
+  owned_so : (q : Place) (o : Object) → held s.cells q ≡ Some o → names o.name ≡ o.name
+  owned_so q o at = named_so o.name (λ e. held_named s.cells q o at e)
+
+  waiting_so : (n m : ℕ) → held s.cells (Elsewhere (Queued n m)) ≢ None → names m ≡ m
+  waiting_so n m some = grind (arith, nat_tests, owned_so (Elsewhere (Queued n m)))
+
+  other_so : (o : Other) → held s.cells (Elsewhere o) ≢ None → renamed_other names o ≡ o
+  other_so Root some = refl
+  other_so (Session n c) some =
+      ap (λ k. Session k c) (named_so n (λ e. some (unclaimed_owns_nothing p t s.cells well.layers (Session n c) well.good (session_null p t s.cells well.layers Now n c well.good.stack e))))
+  other_so In_service some = refl
+  other_so (Queued n m) some = grind (
+    arith,
+    nat_tests,
+    unclaimed_owns_nothing p t s.cells well.layers (Queued n m) well.good,
+    waiting_so n m some,
+    queued_claim p,
+    service_unnamed s.cells n,
+  )
+
+  held_so : (q : Place) → held s.cells q ≢ None → renamed_place names q ≡ q
+  held_so (Register f r) some = refl
+  held_so (Entry k) some = refl
+  held_so (Field n f) some = ap (λ m. Field m f) (named_so n (λ e. some (unnamed_owns_nothing p t s.cells well.layers well.good n f e)))
+  held_so (Going k) some = refl
+  held_so (Elsewhere o) some = ap Elsewhere (other_so o some)
+
+  -- what a client sent waits under its name
+  sent_so : (n c m : ℕ) → list_any (is_message_of c m) (service_of s.cells n).queue ≡ true → names m ≡ m
+  sent_so n c m h = grind (arith, nat_tests, waiting_so n m, queued_well p t s well s.clients fit n c m h)
+
+  -- of what clients have anything a cell has the name
+  served_so : (n : ℕ) → (service_of s.cells n ≡ unserved → ⊥) → names n ≡ n
+  served_so n some = named_so n (λ e. some (service_unnamed s.cells n e))
+
+  session_so : (n c : ℕ) → server_of (client_at s.clients c) ≡ Some n → names n ≡ n
+  session_so n c e = served_so n (λ none. true≢false (sym (fit.listed n c e) ∙ ap (λ v. has_session v c) none))
+
+  accepted_so : (n c : ℕ) (ts : List Task) → s.tasks ≡ ts → accepts n c (dispatch_of ts) ≡ true → names n ≡ n
+  accepted_so n c ts tasks h =
+      let a = accepting n c (dispatch_of ts) h in
+      let l =
+      server_lives p t s.cells well.layers Now a.seat a.client a.stage well.good.stack
+      (subst (λ l. IsAt (Of_server a.seat a.client a.stage) l) (sym tasks ∙ well.tasks) (dispatch_at ts (Of_server a.seat a.client a.stage) a.is)) in
+      subst (λ k. names k ≡ k) a.name (named_so a.seat.object.name (λ none. let clash : Some a.seat.object ≡ None = sym l.0 ∙ none in cc))
+
+  connect_so : (n c : ℕ) → is_connecting_at n (client_at s.clients c) ≡ true → names n ≡ n
+  connect_so n c e = grind (arith, nat_tests, served_so n, accepted_so n c s.tasks)
+
+  client_so : (c : ℕ) (x : Client) → client_at s.clients c ≡ x → renamed_client names x ≡ x
+  client_so c (Connecting server slots) e = rw (connect_so server c (ap (is_connecting_at server) e ∙ eq-eqb server server refl))
+  client_so c (Open server session slots) e = rw (session_so server c (ap server_of e))
+  client_so c (Closing_client server session) e = rw (session_so server c (ap server_of e))
+  client_so c (Dying_client server session) e = rw (session_so server c (ap server_of e))
+  client_so c Unconnected e = refl
+  client_so c Gone_client e = refl
+  client_so c Dead e = refl
+
+  spared_tasks : renamed_tasks names s.tasks ≡ s.tasks
+  spared_tasks = ap (renamed_tasks names) well.tasks ∙ tasks_spared names p t s.cells named_so held_so well.layers Now well.good.stack (subst (λ ts. IsAtPlace s.cells (dispatch_of ts)) well.tasks there.serves) ∙ sym well.tasks
+
+  pub spared : renamed names s ≡ s
+  spared = rw (cells_spared names s.cells well.good.tidy named_so held_so sent_so, spared_tasks, clients_spared names s.clients (λ c. client_so c (client_at s.clients c) refl))
+
+-- two names that are free change places, and nothing changes
+pub swapped_free :
+    (p : Image) (t : Typing) (s : State) (a b : ℕ) → WellTyped p t s → ClientsFit p s.clients s.cells → AllThere s → named s.cells a ≡ None → named s.cells b ≡ None →
+    renamed (swapped a b) s ≡ s
+swapped_free p t s a b well fit there free_a free_b = grind (arith, nat_tests, spared p t s (swapped a b) well fit there, swapped a b, swap_other a b)

@@ -1,0 +1,116 @@
+-- What a native completes counts only where one is polled, and where no native serves a class of the image it completes nothing.
+use Rattle.std.proofs.lemmas.Bool.Decides.{nat_tests}
+use Rattle.std.proofs.Common.{arith, Bool, List, None, Option, cond, false, sym, true, ℕ, ◌∙◌, ◌≡◌}
+use Rattle.std.proofs.lemmas.Bool.{true≢false}
+use Rattle.aom_image.specs.Image.{Image}
+use Rattle.aom_image.specs.declared.class.ClassKind.{ClassKind}
+use Rattle.aom_roles.specs.Kinds.{is_native_kind}
+use Rattle.aom_semantics.specs.Enlisted.{thing_kind}
+use Rattle.aom_semantics.specs.Natives.{is_outstanding_at, native_of}
+use Rattle.aom_semantics.specs.Places.{Cell}
+use Rattle.aom_semantics.specs.State.{Choice, State}
+use Rattle.aom_semantics.specs.World.{AnswersWell, Candidate, Completion, Heard, Environment, Polls, Reaches, Timed, Turning, begins, by_event, by_timer, delivers, moves, next_native, nothing_heard, passes, picks, polls, turn, turning, turns}
+use Rattle.aom_transcript.specs.declared.event.Event.{Event}
+use Rattle.aom_transcript.specs.declared.event.TimedEvent.{TimedEvent}
+use Rattle.aom_transcript.specs.declared.line.Line.{Line}
+use Rattle.aom_determinism.proofs.NamedCells.{cond_applied}
+use Rattle.aom_determinism.proofs.Naming.{polling_named}
+use Rattle.aom_determinism.proofs.Hearing.{none_heard, thing_unserved, unnamed_unserved}
+use Rattle.aom_determinism.specs.Hearing.{Follows, HasNoNative, Oracle, is_heard, is_polling, stages}
+use Rattle.aom_determinism.specs.Determined.{NothingIsHeard}
+
+-- the same turn, where the native that is polled completes that
+abbrev told : Option Completion → Turning → Turning
+told answer (Polls n other) = Polls n answer
+told answer t = t
+
+module _ (heard : Heard) where
+  told_passes : (next : Option ℕ) → passes next ≡ told heard.completion (passes next)
+  told_passes x = grind arith
+
+  told_picks : (signal : Bool) (ready : Option Candidate) (next : Option ℕ) → picks signal ready next ≡ told heard.completion (picks signal ready next)
+  told_picks x ready next = grind (arith, nat_tests, told_passes next)
+
+  told_polls : (n : Option ℕ) (after : Turning) → after ≡ told heard.completion after → polls n heard.completion after ≡ told heard.completion (polls n None after)
+  told_polls x after same = grind arith
+
+  told_delivers : (outside : Environment) (s : State) (e : Event) → delivers outside heard.name s e ≡ told heard.completion (delivers outside heard.name s e)
+  told_delivers outside s x = grind (arith, nat_tests, cond_applied)
+
+  told_by_event :
+      (outside : Environment) (s : State) (e : Option TimedEvent) (after : Turning) →
+      by_event outside heard.name s e (told heard.completion after) ≡ told heard.completion (by_event outside heard.name s e after)
+  told_by_event outside s x after = grind (arith, nat_tests, told_delivers outside s, cond_applied)
+
+  told_by_timer : (s : State) (x : Option Timed) (after : Turning) → by_timer s x (told heard.completion after) ≡ told heard.completion (by_timer s x after)
+  told_by_timer s x after = grind (arith, nat_tests, cond_applied)
+
+  told_turning : (outside : Environment) (s : State) → turning outside heard s ≡ told heard.completion (turning outside (record nothing_heard { name = heard.name }) s)
+  told_turning outside s = grind (arith, nat_tests, told_polls, told_picks, told_by_event outside s, told_by_timer s, cond_applied)
+
+  untold : (t : Turning) → is_polling t ≡ false → told heard.completion t ≡ t
+  untold t e = grind arith
+
+  pub turn_unpolled :
+      (p : Image) (outside : Environment) (s : State) → is_polling (turning outside nothing_heard s) ≡ false →
+      turn p outside heard s ≡ turn p outside (record nothing_heard { name = heard.name }) s
+  turn_unpolled p outside s e = grind (arith, nat_tests, told_turning outside s, untold, polling_named outside)
+
+-- ---- where there is no native none is polled
+
+unpolled_passes : (next : Option ℕ) → is_polling (passes next) ≡ false
+unpolled_passes x = grind arith
+
+unpolled_picks : (signal : Bool) (ready : Option Candidate) (next : Option ℕ) → is_polling (picks signal ready next) ≡ false
+unpolled_picks x ready next = grind (arith, nat_tests, unpolled_passes next)
+
+-- one turn or the other
+unpolled_cond : (b : Bool) (x y : Turning) → is_polling x ≡ false → is_polling y ≡ false → is_polling (cond b x y) ≡ false
+unpolled_cond x y z e f = grind arith
+
+unpolled_event : (outside : Environment) (name : ℕ) (s : State) (e : Option TimedEvent) (after : Turning) → is_polling after ≡ false → is_polling (by_event outside name s e after) ≡ false
+unpolled_event outside name s x after h = grind (arith, nat_tests, unpolled_cond)
+
+unpolled_timer : (s : State) (x : Option Timed) (after : Turning) → is_polling after ≡ false → is_polling (by_timer s x after) ≡ false
+unpolled_timer s x after h = grind (arith, nat_tests, unpolled_cond)
+
+none_living : (outside : Environment) (s : State) → outside.natives ≡ 0 → next_native outside s ≡ None
+none_living outside s none = grind (arith, nat_tests)
+
+none_polled : (outside : Environment) (s : State) → outside.natives ≡ 0 → is_polling (turning outside nothing_heard s) ≡ false
+none_polled outside s none = grind (arith, nat_tests, none_living outside s none, unpolled_picks, unpolled_event outside 0 s, unpolled_cond, unpolled_timer s)
+
+-- ---- and where there is one that serves no class it completes nothing
+
+-- objects that no native serves
+unserved_kind : (k : Option ClassKind) → is_native_kind k ≡ false → native_of k ≡ None
+unserved_kind k e = grind arith
+
+module _ (p : Image) (natives : HasNoNative p) where
+  none_outstanding : (n : ℕ) (c : Cell) → is_outstanding_at p n c ≡ false
+  none_outstanding n c = rw (unserved_kind (thing_kind p c.object.thing) (thing_unserved p natives c.object.thing))
+
+  nothing_completed : (s : State) (answer : Option Completion) (t : Turning) → is_polling t ≡ true → AnswersWell p s (told answer t) → answer ≡ None
+  nothing_completed s answer t polled well = grind arith
+
+  module _ (outside : Environment) (oracle : Oracle) where
+    unheard_moves : (c : Choice) (s : State) (n : ℕ) → is_heard p s.tasks ≡ true → c.answer ≡ oracle.answers n
+    unheard_moves c s n heard = absurd (true≢false (sym heard ∙ none_heard p natives s.tasks))
+
+    pub without : outside.natives ≡ 0 → {from : State} {lines : List Line} {s : State} (reached : Reaches p outside from lines s) → Follows oracle reached
+    without none begins = tt
+    without none (moves {s = s} c reached busy opened goes) = (without none reached, unheard_moves c s (stages reached))
+    without none (turns {s = s} heard reached between well goes) = (without none reached, λ polled. absurd (true≢false (sym polled ∙ none_polled outside s none)))
+
+    pub idle : ((n : ℕ) → oracle.completes n ≡ None) → {from : State} {lines : List Line} {s : State} (reached : Reaches p outside from lines s) → Follows oracle reached
+    idle nothing begins = tt
+    idle nothing (moves {s = s} c reached busy opened goes) = (idle nothing reached, unheard_moves c s (stages reached))
+    idle nothing (turns {s = s} heard reached between well goes) =
+        (idle nothing reached, grind (arith, nat_tests, nothing_completed s heard.completion, polling_named outside, told_turning heard outside s))
+
+pub nothing_is_heard : NothingIsHeard
+nothing_is_heard = record {
+  unnamed = unnamed_unserved;
+  without = λ p outside natives none oracle from lines s reached. without p natives outside oracle none reached;
+  idle = λ p outside natives oracle nothing from lines s reached. idle p natives outside oracle nothing reached;
+}

@@ -1,0 +1,80 @@
+-- What a turn is, by what is due, what has come, what is left to poll and what is ready.
+use Rattle.std.proofs.lemmas.Bool.Decides.{nat_tests}
+use Rattle.std.proofs.Common.{arith, ◌≡◌, ◌<◌, ◌≤◌, ◌-◌, ◌+◌, ℕ, Bool, true, false, Option, Some, None, ap, cond, refl, ◌∙◌}
+use Rattle.std.specs.Prelude.{nat_le, nat_lt}
+use Rattle.std.proofs.lemmas.Bool.{leb-false}
+use Rattle.aom_semantics.specs.Clients.{client_count}
+use Rattle.aom_semantics.specs.State.{State}
+use Rattle.aom_semantics.specs.World.{Candidate, Completes, Completion, Cuts, Heard, Hears, Kills, Obeys, Environment, Passes, Picks, Polls, Strays, Timed, Turning, Waits, by_event, by_timer, delivers, due_of, first_due, first_ready, has_signal, lives, next_event, next_native, next_time, picks, polls, time_of, turning}
+use Rattle.aom_transcript.specs.declared.event.Command.{Command}
+use Rattle.aom_transcript.specs.declared.event.Event.{Event}
+use Rattle.aom_transcript.specs.declared.event.Event.TheVariants.{Client, Kill, Tell}
+use Rattle.aom_transcript.specs.declared.event.TimedEvent.{TimedEvent}
+use Rattle.aom_determinism.proofs.Lefts.{early_both, is_late, living_within, reached}
+
+pub data Kind (outside : Environment) (s : State) : Turning → Type 0 where
+  cuts : Kind outside s Cuts
+  completes_one : (x : Timed) → first_due s.cells ≡ Some x → Kind outside s (Completes x.object)
+  hears_one : (e : TimedEvent) → next_event outside s ≡ Some e → Kind outside s Hears
+  kills_one : (e : TimedEvent) (n : ℕ) → next_event outside s ≡ Some e → Kind outside s (Kills n)
+  obeys_one : (e : TimedEvent) (c : ℕ) (command : Command) (name : ℕ) → next_event outside s ≡ Some e → Kind outside s (Obeys c command name)
+  polls_one : (n : ℕ) (answer : Option Completion) → s.rest.polled ≤ n → n < s.rest.polled + (outside.natives - s.rest.polled) → is_late outside s ≡ false → Kind outside s (Polls n answer)
+  picks_one : (x : Candidate) → s.rest.dispatches < outside.limit → Kind outside s (Picks x.seat)
+  strays : Kind outside s Strays
+  passes_on : (time : ℕ) → next_time outside s ≡ Some time → is_late outside s ≡ false → Kind outside s (Passes time)
+  waits : Kind outside s Waits
+
+module _ (outside : Environment) (s : State) where
+  -- of what waits, whether it has come
+  abbrev timer_early : Type 0
+  timer_early = reached (due_of (first_due s.cells)) s.rest.clock ≡ false
+
+  abbrev event_early : Type 0
+  event_early = reached (time_of (next_event outside s)) s.rest.clock ≡ false
+
+  picks_kind :
+      (b : Bool) (ready : Option Candidate) (next : Option ℕ) → s.rest.dispatches < outside.limit → next_time outside s ≡ next → is_late outside s ≡ false →
+      Kind outside s (picks b ready next)
+  picks_kind true None next below is early = strays
+  picks_kind true (Some x) next below is early = picks_one x below
+  picks_kind false ready None below is early = waits
+  picks_kind false ready (Some time) below is early = passes_on time is early
+
+  polls_kind : (n : Option ℕ) → next_native outside s ≡ n → (answer : Option Completion) (after : Turning) → is_late outside s ≡ false → Kind outside s after → Kind outside s (polls n answer after)
+  polls_kind x is answer after early then = grind (arith, nat_tests, living_within s.killed (outside.natives - s.rest.polled) s.rest.polled, polls_one)
+
+  delivers_kind : (name : ℕ) (e : TimedEvent) → next_event outside s ≡ Some e → (event : Event) → Kind outside s (delivers outside name s event)
+  delivers_kind name e is (Tell n word) = hears_one e is
+  delivers_kind name e is (Kill n) = go (lives outside s n)
+    where
+      go : (b : Bool) → Kind outside s (cond b (Kills n) Hears)
+      go true = kills_one e n is
+      go false = hears_one e is
+  delivers_kind name e is (Client c command) = go (nat_lt c client_count)
+    where
+      go : (b : Bool) → Kind outside s (cond b (Obeys c command name) Hears)
+      go true = obeys_one e c command name is
+      go false = hears_one e is
+
+  event_kind : (name : ℕ) (next : Option TimedEvent) → next_event outside s ≡ next → (after : Turning) → (event_early → Kind outside s after) → Kind outside s (by_event outside name s next after)
+  event_kind name x is after then = grind (arith, nat_tests, reached, delivers_kind name)
+
+  timer_kind : (next : Option Timed) → first_due s.cells ≡ next → (after : Turning) → (timer_early → Kind outside s after) → Kind outside s (by_timer s next after)
+  timer_kind None is after then = then (ap (λ x. reached (due_of x) s.rest.clock) is)
+  timer_kind (Some x) is after then = go (nat_le x.timer.due s.rest.clock) refl
+    where
+      go : (b : Bool) → nat_le x.timer.due s.rest.clock ≡ b → Kind outside s (cond b (Completes x.object) after)
+      go true due = completes_one x is
+      go false early = then (ap (λ x. reached (due_of x) s.rest.clock) is ∙ early)
+
+  pub kind_of : (heard : Heard) → Kind outside s (turning outside heard s)
+  kind_of heard = go (nat_le outside.limit s.rest.dispatches) refl
+    where
+      go : (b : Bool) → nat_le outside.limit s.rest.dispatches ≡ b
+          → Kind outside s (cond b Cuts (by_timer s (first_due s.cells) (by_event outside heard.name s (next_event outside s) (polls (next_native outside s) heard.completion (picks (has_signal s.cells) (first_ready s.cells) (next_time outside s))))))
+      go true at = cuts
+      go false at =
+          timer_kind (first_due s.cells) refl _ (λ timer.
+          event_kind heard.name (next_event outside s) refl _ (λ event.
+          polls_kind (next_native outside s) refl heard.completion _ (early_both outside s timer event)
+          (picks_kind (has_signal s.cells) (first_ready s.cells) (next_time outside s) (leb-false outside.limit s.rest.dispatches at) refl (early_both outside s timer event))))

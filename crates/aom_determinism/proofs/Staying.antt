@@ -1,0 +1,156 @@
+-- What clients and the dispatch at hand say stays of cells that are there: as a run begins, in each move by the task at hand, and in each turn.
+use Rattle.std.proofs.lemmas.Bool.Decides.{nat_tests}
+use Rattle.aom_safety.proofs.ClientsFit.{IsFit}
+use Rattle.aom_safety.proofs.ClientsMoves.{Steady, fit_steady, steady_redeemed}
+use Rattle.aom_safety.proofs.Redeeming.{redeemed_by_alike}
+use Rattle.aom_safety.proofs.Storing.{Alike}
+use Rattle.aom_semantics.specs.Places.{Elsewhere, Session}
+use Rattle.aom_semantics.specs.Tokens.{redeemed_by, token_of}
+use Rattle.std.proofs.Common.{arith, List, None, Option, Some, [], ap, false, length, refl, subst, sym, ℕ, ◌∙◌, ◌∷◌, ◌≡◌}
+use Rattle.aom_image.specs.Image.{Image}
+use Rattle.aom_image.specs.Views.{instr_at}
+use Rattle.aom_image.specs.declared.method.Gives.{Gives}
+use Rattle.aom_image.specs.declared.method.Thing.TheVariants.{Message}
+use Rattle.aom_classes.specs.Roles.{main_of}
+use Rattle.aom_clients.specs.declared.client.Client.{Client}
+use Rattle.aom_instructions.specs.declared.instr.Instr.{Instr}
+use Rattle.aom_instructions.specs.declared.instr.Instr.TheVariants as instrs
+use Rattle.aom_roles.specs.Tests.{AllTrue}
+use Rattle.aom_rules.specs.Typing.{Typing}
+use Rattle.aom_safety.proofs.ClientsEffects.{IsUsual, fine_effect}
+use Rattle.aom_safety.proofs.ClientsFacts.{serving_plain, waiting_well}
+use Rattle.aom_safety.proofs.ClientsTurn.{IsFound, on_none, same_bereaved, same_requested, turning_found}
+use Rattle.aom_safety.proofs.Guarded.{goes_same, guarded_goes, guarded_met}
+use Rattle.aom_safety.proofs.Things.{message_plain, stands_message}
+use Rattle.aom_safety.proofs.Turned.{Polled, answers, commanded_kept, nothing, polled_so}
+use Rattle.aom_semantics.specs.Destruction.{gone, needs_gone, vanished}
+use Rattle.aom_semantics.specs.Effects.{Returns, applied, effect, needs}
+use Rattle.aom_semantics.specs.Enlisted.{completed_with, recorded, timed_out}
+use Rattle.aom_safety.specs.Kept.{IsKept}
+use Rattle.aom_safety.specs.Laws.{IsWired}
+use Rattle.aom_semantics.specs.Moves.{counted, needs_end, step_instr, step_task}
+use Rattle.aom_semantics.specs.Natives.{all_bereaved}
+use Rattle.aom_semantics.specs.Objects.{is_thing}
+use Rattle.aom_semantics.specs.Places.{Cell, Going, Object, Request, held, named, without}
+use Rattle.aom_semantics.specs.Servers.{is_server, without_queue}
+use Rattle.aom_semantics.specs.State.{Choice, Closing, Destroy, Dispatched, Frame, Goes, Run, State, Task, Trapped, Unwind}
+use Rattle.aom_safety.specs.WellTyped.{WellTyped}
+use Rattle.aom_semantics.specs.Words.{here, read}
+use Rattle.aom_semantics.specs.World.{Completes, Kills, Obeys, Picks, Polls, Strays, Turning, boot_state, heard_one, main_tasks, turned, turning, with_request}
+use Rattle.aom_determinism.proofs.Remaining.{AllWait, all_wait, closing_there, dispatch_there, gone_apart, plain_there}
+use Rattle.aom_determinism.proofs.Keeping.{calm_ended, there_by, Calm, calm_along, calm_steady}
+use Rattle.aom_determinism.proofs.Moving.{dispatch_resumed, effect_there, returned_there, unwound_there}
+use Rattle.aom_determinism.proofs.Asking.{commanded_waits, picked_there, same_waits}
+use Rattle.aom_determinism.proofs.Vanishing.{calm_without, there_vanished}
+use Rattle.aom_determinism.specs.Determined.{AllStaysThere}
+use Rattle.aom_determinism.specs.There.{AllThere, AreThere, IsAtPlace, dispatch_of}
+
+-- ---- as it boots
+
+boot_there : (p : Image) → AllThere (boot_state p)
+boot_there p = record { asked = λ n c e. cc; serves = go (main_of p) }
+  where
+    go : (m : Option ℕ) → IsAtPlace [] (dispatch_of (main_tasks m))
+    go x = grind arith
+
+-- ---- each move
+
+module _ (p : Image) (t : Typing) (wired : IsWired p) (c : Choice) (s : State) (w : WellTyped p t s) (free : named s.cells c.name ≡ None) (kept : IsKept p s) (there : AllThere s) where
+  module _ (fr : Frame) (ts : List Task) (tasks : s.tasks ≡ Run fr ∷ ts) where
+    below : AreThere s.clients s.cells (dispatch_of ts)
+    below = subst (λ l. AreThere s.clients s.cells (dispatch_of l)) tasks there
+
+    -- a message is completed
+    reply_there : (a b : ℕ) → AllTrue (needs p c fr ts (counted p s) (instrs.Reply a b)) → AllThere (applied p fr ts (counted p s) (effect p c fr ts (counted p s) (instrs.Reply a b)))
+    reply_there a b met = there_by s.clients s.cells (dispatch_of ts) s.clients _ _ refl calm refl below
+      where
+        plain : (o : Object) → held s.cells (here fr ts s a) ≡ Some o → is_server p o.thing ≡ false
+        plain o e = message_plain p o.thing (stands_message p o.thing (sym (ap (is_thing p Message) e) ∙ met.1.1.0))
+
+        order : Option ℕ
+        order = token_of s.cells (held s.cells (here fr ts s a))
+
+        cs : List Cell
+        cs = redeemed_by order (read fr ts (counted p s) b) s.cells
+
+        like : Alike s.cells cs
+        like = redeemed_by_alike order (read fr ts (counted p s) b) s.cells
+
+        still : Steady s.cells cs
+        still = steady_redeemed order (read fr ts (counted p s) b) s.cells
+
+        calm : Calm s.cells (without (here fr ts s a) cs)
+        calm = calm_along s.cells cs (without (here fr ts s a) cs) (calm_steady s.cells cs still (λ n c. like.held_so (Elsewhere (Session n c))))
+            (calm_without p s.clients cs (like.tidy w.good.tidy) (fit_steady p s.clients s.cells cs still kept.fit) (here fr ts s a) (λ n c. refl) (λ o e. plain o (sym (like.held_so (here fr ts s a)) ∙ e)))
+
+    -- a method returns
+    returns_there : (g : Gives) (a : ℕ) → AllThere (applied p fr ts (counted p s) (Returns g a))
+    returns_there g a = grind (arith, nat_tests, there_by s.clients s.cells, calm_ended p fr s.cells, below, returned_there p fr ts)
+
+    act_there : (i : Instr) → AllTrue (needs p c fr ts (counted p s) i) → AllThere (applied p fr ts (counted p s) (effect p c fr ts (counted p s) i))
+    act_there i met = grind (arith, nat_tests, reply_there, returns_there, IsUsual i, effect_there p fr ts, below, fine_effect p c fr ts)
+
+    run_there : (i : Option Instr) (u : State) → step_instr p c fr ts (counted p s) i ≡ Goes u → AllThere u
+    run_there None u e = cc
+    run_there (Some i) u e = subst AllThere (guarded_goes (needs p c fr ts (counted p s) i) _ u e) (act_there i (guarded_met (needs p c fr ts (counted p s) i) _ u e))
+
+  gone_there : (ts : List Task) (u : State) → s.tasks ≡ Destroy ∷ ts → (o : Option Object) → held s.cells (Going (length ts)) ≡ o → gone o ts (counted p s) ≡ Goes u → AllThere u
+  gone_there ts u tasks None at e = cc
+  gone_there ts u tasks (Some o) at e =
+      let before = subst (λ l. AreThere s.clients s.cells (dispatch_of l)) tasks there in
+      let after = there_vanished p s.clients s.cells w.good.tidy kept.fit (waiting_well p t wired s w) (length ts) o at (dispatch_of ts) (gone_apart p t s w ts tasks o at) before in
+      let then = vanished o ts (counted p s) in
+      subst AllThere (guarded_goes (needs_gone (without_queue o.name s.cells) o) (vanished o ts (counted p s)) u e) (subst (λ d. AreThere then.clients then.cells d) (sym (dispatch_resumed ts)) after)
+
+  -- what is counted is no matter of types
+  counted_well : WellTyped p t (counted p s)
+  counted_well = record { layers = w.layers; tasks = w.tasks; items = w.items; undos = w.undos; good = w.good }
+
+  moved_there : (ts : List Task) → s.tasks ≡ ts → (u : State) → step_task p c (counted p s) ts ≡ Goes u → AllThere u
+  moved_there [] tasks u e = subst AllThere (goes_same _ u e) there
+  moved_there (Run fr ∷ ts) tasks u e = run_there fr ts tasks (instr_at p fr.method fr.place) u e
+  moved_there (Trapped ∷ ts) tasks u e = cc
+  moved_there (Destroy ∷ ts) tasks u e = gone_there ts u tasks (held s.cells (Going (length ts))) refl e
+  moved_there (Closing ∷ ts) tasks u e = closing_there p t (counted p s) counted_well there ts u tasks e
+  moved_there (Unwind code ∷ ts) tasks u e = unwound_there p (counted p s) code ts s.items u (subst (λ l. AreThere s.clients s.cells (dispatch_of l)) tasks there) e
+  moved_there (Dispatched d ∷ ts) tasks u e =
+      subst AllThere (guarded_goes (needs_end d s.cells) _ u e) (dispatch_there p t s w kept.fit (serving_plain p t s w) d ts tasks there (counted p s) refl refl)
+
+-- ---- each turn
+
+module _ (p : Image) (t : Typing) (wired : IsWired p) (s : State) (w : WellTyped p t s) (idle : s.tasks ≡ []) (kept : IsFit p s) (there : AllThere s) where
+  waiting : AllWait s.clients s.cells
+  waiting = all_wait s.clients s.cells None (λ n c. refl) (subst (λ l. AreThere s.clients s.cells (dispatch_of l)) idle there)
+
+  -- nothing is at hand then, and each client that connects waits
+  by_idle : (clients : List Client) (cs : List Cell) (ts : List Task) → ts ≡ [] → AllWait clients cs → AreThere clients cs (dispatch_of ts)
+  by_idle clients cs ts none all = subst (λ l. AreThere clients cs (dispatch_of l)) (sym none) (plain_there clients cs None tt all)
+
+  requested_there : (f : Request → Request) (o : Object) → AllWait s.clients (with_request f o s.cells)
+  requested_there f o = grind (arith, nat_tests, same_waits s.clients s.cells, same_requested s.cells o, on_none f, waiting)
+
+  turned_there : (k : Turning) → IsFound p t wired s w idle kept k → (u : State) → turned p s k ≡ Goes u → AllThere u
+  turned_there (Completes o) f u e = subst AllThere (goes_same _ u e) (by_idle s.clients _ s.tasks idle (requested_there timed_out o))
+  turned_there (Kills n) f u e = subst AllThere (goes_same _ u e) (by_idle s.clients _ s.tasks idle (same_waits s.clients s.cells (all_bereaved p n s.cells) (same_bereaved p n s.cells) waiting))
+  turned_there (Polls n answer) f u e = go u (polled_so p s u n answer e)
+    where
+      go : (u : State) → Polled n s u → AllThere u
+      go u d = elim d as (λ v d. AllThere v) [
+        | nothing ↦ by_idle s.clients s.cells s.tasks idle waiting
+        | answers o code ↦ by_idle s.clients (with_request (completed_with (recorded code)) o s.cells) s.tasks idle (requested_there (completed_with (recorded code)) o)
+      ]
+  turned_there (Obeys client command name) f u e =
+      subst AllThere (goes_same _ u e)
+      (by_idle _ _ _ ((commanded_kept p client (heard_one s) command name).1 ∙ idle) (commanded_waits p client (heard_one s) w.good.tidy kept.fit (waiting_well p t wired s w) waiting command name f))
+  turned_there (Picks x) f u e = picked_there p s u waiting x f.0 e
+  turned_there Strays f u e = cc
+  turned_there _ f u e = subst AllThere (goes_same _ u e) (by_idle s.clients s.cells s.tasks idle waiting)
+
+pub all_stays_there : AllStaysThere
+all_stays_there = record {
+  boot = boot_there;
+  moves = λ p t wired typed c s u w free kept there e. moved_there p t wired c s w free kept there s.tasks refl u e;
+  turns = λ p t outside wired typed heard s u w between hears kept there e.
+      let fit : IsFit p s = record { fit = kept.fit; stage = kept.stage } in
+      turned_there p t wired s w between.idle fit there (turning outside heard s) (turning_found p t wired s w between.idle fit outside heard hears.name) u e;
+}

@@ -1,0 +1,230 @@
+-- A move under other names, by the task at hand: the same move, and the same lines.
+use Rattle.std.proofs.lemmas.Bool.Decides.{nat_tests}
+use Rattle.std.proofs.Common.{arith, Bool, List, None, Option, Some, [], ap, false, length, refl, sym, true, ℕ, ℤ, ◌∙◌, ◌∷◌, ◌≡◌}
+use Rattle.std.specs.Prelude.{option_map}
+use Rattle.aom_image.specs.Image.{Image}
+use Rattle.aom_image.specs.declared.method.Role.TheVariants.{Error as Answers}
+use Rattle.aom_image.specs.Views.{instr_at}
+use Rattle.aom_instructions.specs.declared.instr.Instr.{Instr}
+use Rattle.aom_semantics.specs.World.{Heard, HearsWell, Environment}
+use Rattle.aom_semantics.specs.Cleanup.{arrived, ended_by, unwound}
+use Rattle.aom_clients.specs.declared.client.Client.TheVariants.{Unconnected}
+use Rattle.aom_semantics.specs.Destruction.{closing, gone, needs_gone, parting, parting_from, vanished}
+use Rattle.aom_semantics.specs.Servers.{without_queue}
+use Rattle.aom_semantics.specs.Enlisted.{part_of}
+use Rattle.aom_semantics.specs.Moves.{IsOpen, answered, asked, asking, counted, dispatch_ends, goes_line, is_counted, is_refused, main_ends, makes_cell, needs_end, object_ends, stage_ends, step, step_instr, step_task, written, written_instr, written_task}
+use Rattle.aom_semantics.specs.Places.{Cell, Elsewhere, Going, In_service, Object, Root, named}
+use Rattle.aom_semantics.specs.State.{A_mark, An_object, An_operation, Answered, Asks, Choice, Closing, Destroy, Dispatch, Dispatched, Frame, Item, Main_left, Object_left, Of_main, Of_object, Of_root, Of_server, Run, Seat, Stage, State, Task, Trapped, Unwind, resumed}
+use Rattle.aom_determinism.proofs.NamedCells.{cells_counted, cond_applied, emptied_kept, held_renamed, moved_renamed, named_renamed, requested_kept, tasks_counted, without_renamed}
+use Rattle.aom_determinism.proofs.Doing.{begun_renamed, dealt_renamed, destructed_renamed, does_renamed, needs_kept, told_renamed}
+use Rattle.aom_determinism.proofs.Needs.{guarded_renamed, place_owns, register_renamed, whole_kept}
+use Rattle.aom_determinism.proofs.Lines.{dispatch_lines_kept, message_line_kept, queue_lines_kept}
+use Rattle.aom_determinism.proofs.Serving.{each_unslotted_renamed, first_session_renamed, parted_client_renamed, parts_renamed, queue_ended_renamed, service_renamed, sessions_ended_renamed, with_client_renamed, without_queue_renamed}
+use Rattle.aom_determinism.proofs.Turning.{turns_so, writes_turn_so, answers_so}
+use Rattle.aom_determinism.specs.Determined.{NamesMeanNothing}
+use Rattle.aom_determinism.specs.Names.{IsOneToOne, renamed, renamed_cells, renamed_choice, renamed_stage, renamed_dispatch, renamed_frame, renamed_object, renamed_outcome, renamed_seat, renamed_tasks, renamed_heard}
+
+module _ (names : ℕ → ℕ) (one_to_one : IsOneToOne names) where
+  resumed_renamed : (ts : List Task) → resumed (renamed_tasks names ts) ≡ renamed_tasks names (resumed ts)
+  resumed_renamed x = grind arith
+
+  instr_renamed :
+      (p : Image) (c : Choice) (fr : Frame) (ts : List Task) (s : State) (i : Option Instr) →
+      step_instr p (renamed_choice names c) (renamed_frame names fr) (renamed_tasks names ts) (renamed names s) i ≡ renamed_outcome names (step_instr p c fr ts s i)
+  instr_renamed p c fr ts s x = grind (
+    arith,
+    nat_tests,
+    needs_kept names one_to_one p c fr ts s,
+    does_renamed names one_to_one p c fr ts s,
+    guarded_renamed names,
+  )
+
+  -- ---- a cell goes
+
+  needs_gone_kept : (o : Object) (cs : List Cell) → needs_gone (without_queue (names o.name) (renamed_cells names cs)) (renamed_object names o) ≡ needs_gone (without_queue o.name cs) o
+  needs_gone_kept o cs = grind (
+    arith,
+    nat_tests,
+    without_queue_renamed names one_to_one o.name cs,
+    emptied_kept names one_to_one,
+    requested_kept names one_to_one,
+  )
+
+  vanished_renamed : (o : Object) (ts : List Task) (s : State) → vanished (renamed_object names o) (renamed_tasks names ts) (renamed names s) ≡ renamed names (vanished o ts s)
+  vanished_renamed o ts s = grind (
+    arith,
+    nat_tests,
+    tasks_counted names ts,
+    without_queue_renamed names one_to_one o.name s.cells,
+    without_renamed names one_to_one,
+    each_unslotted_renamed names,
+    queue_ended_renamed names,
+    sessions_ended_renamed names,
+    service_renamed names one_to_one s.cells o.name,
+    resumed_renamed ts,
+  )
+
+  gone_renamed : (o : Option Object) (ts : List Task) (s : State) → gone (option_map (renamed_object names) o) (renamed_tasks names ts) (renamed names s) ≡ renamed_outcome names (gone o ts s)
+  gone_renamed x ts s = grind (arith, nat_tests, needs_gone_kept, vanished_renamed, guarded_renamed names)
+
+  -- ---- the sessions of a server
+
+  parting_renamed :
+      (p : Image) (o : Object) (x : Option Seat) (below : List Task) (s : State) →
+      parting p (renamed_object names o) (option_map (renamed_seat names) x) (renamed_tasks names below) (renamed names s) ≡ renamed names (parting p o x below s)
+  parting_renamed p o None below s = ap (λ ts. record (renamed names s) { tasks = ts }) (destructed_renamed names p o (length s.items) below)
+  parting_renamed p o (Some x) below s = grind (
+    arith,
+    nat_tests,
+    tasks_counted names below,
+    moved_renamed names one_to_one x.place,
+    begun_renamed names p x.object,
+  )
+
+  parting_from_renamed :
+      (p : Image) (o : Option Object) (below : List Task) (s : State) →
+      parting_from p (option_map (renamed_object names) o) (renamed_tasks names below) (renamed names s) ≡ renamed_outcome names (parting_from p o below s)
+  parting_from_renamed p x below s = grind (
+    arith,
+    nat_tests,
+    service_renamed names one_to_one s.cells,
+    first_session_renamed names one_to_one s.cells,
+    parting_renamed p,
+  )
+
+  closing_renamed : (p : Image) (ts : List Task) (s : State) → closing p (renamed_tasks names ts) (renamed names s) ≡ renamed_outcome names (closing p ts s)
+  closing_renamed p x s = grind (arith, nat_tests, tasks_counted names, held_renamed names one_to_one s.cells, parting_from_renamed p)
+
+  ended_by_renamed : (code : ℤ) (d : Dispatch) → ended_by code (renamed_dispatch names d) ≡ renamed_dispatch names (ended_by code d)
+  ended_by_renamed code x = grind arith
+
+  arrived_renamed :
+      (p : Image) (code : ℤ) (ts : List Task) (items : List Item) (s : State) →
+      arrived p code (renamed_tasks names ts) items (renamed names s) ≡ renamed_outcome names (arrived p code ts items s)
+  arrived_renamed p code x items s = grind (arith, nat_tests, told_renamed names, ended_by_renamed code)
+
+  unwound_renamed :
+      (p : Image) (code : ℤ) (ts : List Task) (s : State) (items : List Item) →
+      unwound p code (renamed_tasks names ts) (renamed names s) items ≡ renamed_outcome names (unwound p code ts s items)
+  unwound_renamed p code ts s [] = refl
+  unwound_renamed p code ts s (An_object ∷ items) = grind (
+    arith,
+    nat_tests,
+    whole_kept names one_to_one s.cells (An_object ∷ items),
+    dealt_renamed names one_to_one p (An_object ∷ items) (Unwind code ∷ ts) s,
+  )
+  unwound_renamed p code ts s (An_operation m w ∷ items) = refl
+  unwound_renamed p code ts s (A_mark ∷ items) = arrived_renamed p code ts items s
+
+  main_ends_renamed : (p : Image) (b : Bool) (o : Option Object) (s : State) → main_ends p b (option_map (renamed_object names) o) (renamed names s) ≡ renamed names (main_ends p b o s)
+  main_ends_renamed p true (Some o) s = rw (moved_renamed names one_to_one (Elsewhere Root) (Going 1) s.cells, begun_renamed names p o (length s.items) (Dispatched Of_root ∷ []))
+  main_ends_renamed p true None s = refl
+  main_ends_renamed p false o s = refl
+
+  object_ends_renamed : (p : Image) (s : State) → object_ends p (renamed names s) ≡ renamed names (object_ends p s)
+  object_ends_renamed p s = grind (arith, nat_tests, held_renamed names one_to_one s.cells (Elsewhere Root), main_ends_renamed p s.rest.stopped)
+
+  answered_renamed : (p : Image) (answer : ℤ) (s : State) → answered p answer (renamed names s) ≡ renamed names (answered p answer s)
+  answered_renamed p answer s = grind (arith, nat_tests, object_ends_renamed p s, cond_applied)
+
+  asking_renamed : (p : Image) (m : Option ℕ) (x : Seat) (code : ℤ) (s : State) → asking p m (renamed_seat names x) code (renamed names s) ≡ renamed names (asking p m x code s)
+  asking_renamed p x y code s = grind (arith, nat_tests, answered_renamed p code s)
+
+  -- the end of a stage
+  stage_ends_renamed : (x : Seat) (c : ℕ) (stage : Stage) (s : State) → stage_ends (renamed_seat names x) c (renamed_stage names stage) (renamed names s) ≡ renamed names (stage_ends x c stage s)
+  stage_ends_renamed x c y s = grind (
+    arith,
+    nat_tests,
+    with_client_renamed names c Unconnected s.clients,
+    without_renamed names one_to_one (Elsewhere In_service) s.cells,
+    parts_renamed names one_to_one c x.object.name s.cells,
+    parted_client_renamed names c s.clients,
+  )
+
+  end_needs_kept : (d : Dispatch) (cs : List Cell) → needs_end (renamed_dispatch names d) (renamed_cells names cs) ≡ needs_end d cs
+  end_needs_kept x cs = grind (arith, nat_tests, place_owns names one_to_one cs (Elsewhere In_service))
+
+  ends_renamed : (p : Image) (d : Dispatch) (s : State) → dispatch_ends p (renamed_dispatch names d) (renamed names s) ≡ renamed names (dispatch_ends p d s)
+  ends_renamed p Of_main s = grind (arith, nat_tests, held_renamed names one_to_one s.cells (Elsewhere Root), main_ends_renamed p s.rest.stopped)
+  ends_renamed p (Main_left code) s = refl
+  ends_renamed p Of_root s = refl
+  ends_renamed p (Of_object x) s = object_ends_renamed p s
+  ends_renamed p (Object_left x code) s = asking_renamed p (part_of p Answers x.object.thing) x code s
+  ends_renamed p (Asks x) s = object_ends_renamed p s
+  ends_renamed p (Answered x answer) s = answered_renamed p answer s
+  ends_renamed p (Of_server x c stage) s = stage_ends_renamed x c stage s
+
+  task_renamed : (p : Image) (c : Choice) (s : State) (ts : List Task) → step_task p (renamed_choice names c) (renamed names s) (renamed_tasks names ts) ≡ renamed_outcome names (step_task p c s ts)
+  task_renamed p c s [] = refl
+  task_renamed p c s (Run fr ∷ ts) = instr_renamed p c fr ts s (instr_at p fr.method fr.place)
+  task_renamed p c s (Trapped ∷ ts) = refl
+  task_renamed p c s (Destroy ∷ ts) = grind (arith, nat_tests, tasks_counted names ts, held_renamed names one_to_one s.cells, gone_renamed)
+  task_renamed p c s (Unwind code ∷ ts) = unwound_renamed p code ts s s.items
+  task_renamed p c s (Closing ∷ ts) = closing_renamed p ts s
+  task_renamed p c s (Dispatched d ∷ ts) = grind (arith, nat_tests, end_needs_kept d s.cells, ends_renamed p d s, guarded_renamed names)
+
+  -- ---- what is counted and written
+
+  asked_kept : (p : Image) (ts : List Task) → asked p (renamed_tasks names ts) ≡ asked p ts
+  asked_kept p (Run fr ∷ ts) = refl
+  asked_kept p [] = refl
+  asked_kept p (Trapped ∷ ts) = refl
+  asked_kept p _ = refl
+
+  is_counted_kept : (ts : List Task) → is_counted (renamed_tasks names ts) ≡ is_counted ts
+  is_counted_kept x = grind arith
+
+  makes_kept : (p : Image) (ts : List Task) → makes_cell p (renamed_tasks names ts) ≡ makes_cell p ts
+  makes_kept p x = grind arith
+
+  counted_renamed : (p : Image) (s : State) → counted p (renamed names s) ≡ renamed names (counted p s)
+  counted_renamed p s = rw (asked_kept p s.tasks, is_counted_kept s.tasks)
+
+  pub moves_so : (p : Image) (c : Choice) (s : State) → step p (renamed_choice names c) (renamed names s) ≡ renamed_outcome names (step p c s)
+  moves_so p c s = grind (arith, nat_tests, counted_renamed p s, task_renamed p c)
+
+  gone_line_kept : (o : Option Object) → goes_line (option_map (renamed_object names) o) ≡ goes_line o
+  gone_line_kept x = grind arith
+
+  instr_writes : (fr : Frame) (ts : List Task) (s : State) (i : Option Instr) → written_instr (renamed_frame names fr) (renamed_tasks names ts) (renamed names s) i ≡ written_instr fr ts s i
+  instr_writes fr ts s x = grind (arith, nat_tests, register_renamed names one_to_one s.cells ts, message_line_kept names one_to_one s.cells)
+
+  task_writes : (p : Image) (s : State) (ts : List Task) → written_task p (renamed names s) (renamed_tasks names ts) ≡ written_task p s ts
+  task_writes p s x = grind (
+    arith,
+    nat_tests,
+    instr_writes,
+    tasks_counted names,
+    held_renamed names one_to_one s.cells,
+    queue_lines_kept names one_to_one s.cells,
+    gone_line_kept,
+    dispatch_lines_kept names one_to_one s.cells,
+  )
+
+  pub writes_so : (p : Image) (s : State) → written p (renamed names s) ≡ written p s
+  writes_so p s = rw (task_writes p s s.tasks)
+
+  pub refused_so : (p : Image) (refused : List ℕ) (s : State) → is_refused p refused (renamed names s) ≡ is_refused p refused s
+  refused_so p refused s = rw (makes_kept p s.tasks, cells_counted names s.cells)
+
+  none_named : (o : Option Object) → o ≡ None → option_map (renamed_object names) o ≡ None
+  none_named o e = ap (option_map (renamed_object names)) e
+
+  pub free_so : (s : State) (n : ℕ) → named s.cells n ≡ None → named (renamed_cells names s.cells) (names n) ≡ None
+  free_so s n e = named_renamed names one_to_one s.cells n ∙ none_named (named s.cells n) e
+
+  pub opens_so : (p : Image) (refused : List ℕ) (c : Choice) (s : State) → IsOpen p refused c s → IsOpen p refused (renamed_choice names c) (renamed names s)
+  opens_so p refused c s h = record { name = free_so s c.name h.name; refusal = h.refusal ∙ sym (refused_so p refused s); answer = h.answer }
+
+  hears_so : (p : Image) (outside : Environment) (heard : Heard) (s : State) → HearsWell p outside heard s → HearsWell p outside (renamed_heard names heard) (renamed names s)
+  hears_so p outside heard s well = record { completion = answers_so names one_to_one p outside heard s well.completion; name = free_so s heard.name well.name }
+
+pub names_mean_nothing : NamesMeanNothing
+names_mean_nothing = record {
+  opens = λ p refused names one_to_one c s h. opens_so names one_to_one p refused c s h;
+  moves = λ p names one_to_one c s. moves_so names one_to_one p c s;
+  writes = λ p names one_to_one s. writes_so names one_to_one p s;
+  turns = λ p outside heard names one_to_one s. turns_so names one_to_one p outside heard s;
+  hears = λ p outside heard names one_to_one s well. hears_so names one_to_one p outside heard s well;
+  writes_turn = λ p outside names one_to_one s. writes_turn_so names one_to_one p outside s;
+}

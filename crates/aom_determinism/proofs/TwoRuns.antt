@@ -1,0 +1,209 @@
+-- Two runs, stage by stage, where each stage is a move or a turn: after as many stages they have written the same, and are the same but for names.
+use Rattle.std.proofs.lemmas.Bool.Decides.{nat_tests}
+use Rattle.std.proofs.Common.{List, None, Option, Some, [], ap, append-nil, append_assoc, arith, inl, inr, refl, subst, suc, sym, true, zero, ℕ, ⊎_elim, ◌∙◌, ◌∷◌, ◌≡◌, ◌<◌, ◌≤◌}
+use Rattle.std.proofs.lemmas.Bool.{cases_eq, cases_lt}
+use Rattle.std.specs.Prelude.{◌++◌, ◌⊎◌}
+use Rattle.aom_image.specs.Image.{Image}
+use Rattle.aom_classes.specs.Roles.{main_of}
+use Rattle.aom_rules.specs.Typing.{IsTyped, Typing}
+use Rattle.aom_safety.proofs.Booting.{boot_keeps}
+use Rattle.aom_safety.proofs.ClientsKeep.{clients_keep}
+use Rattle.aom_safety.proofs.Course.{WellKept, well_on}
+use Rattle.aom_safety.proofs.Soundness.{over_idle}
+use Rattle.aom_safety.specs.Laws.{IsWired}
+use Rattle.aom_semantics.specs.Moves.{IsOpen, step, written}
+use Rattle.aom_semantics.specs.State.{Choice, Goes, Outcome, State}
+use Rattle.aom_semantics.specs.Places.{named}
+use Rattle.aom_semantics.specs.World.{Heard, IsBetween, IsBusy, Reaches, Run_of, begins, boot_state, main_tasks, moves, nothing_heard, turn, turning, turns, written_turn, Environment}
+use Rattle.aom_transcript.specs.declared.line.Ending.{Ending}
+use Rattle.aom_transcript.specs.declared.line.Line.{Line}
+use Rattle.aom_determinism.proofs.Staying.{all_stays_there}
+use Rattle.aom_determinism.specs.There.{AllThere}
+use Rattle.aom_determinism.proofs.Alike.{move_alike, turn_alike, turn_writes_alike, writes_alike}
+use Rattle.aom_determinism.specs.Determined.{Begins, TextIsDetermined}
+use Rattle.aom_determinism.specs.Names.{AlikeOutcomes, AreAlike, renamed_tasks}
+use Rattle.aom_determinism.specs.Hearing.{Follows, Oracle, is_heard, is_polling, stages}
+use Rattle.aom_determinism.proofs.Hearing.{heard_kept}
+use Rattle.aom_determinism.proofs.Turning.{polling_kept}
+
+module _ (p : Image) (t : Typing) (outside : Environment) (wired : IsWired p) (typed : IsTyped p t) (oracle : Oracle) where
+  -- one stage of a run, after so many: a move, or a turn between dispatches
+  record Moved (n : ℕ) (v s : State) (new : List Line) : Type 0 where
+    choice : Choice
+    busy : IsBusy v
+    open_so : IsOpen p outside.refused choice v
+    goes : step p choice v ≡ Goes s
+    lines : new ≡ written p v
+    hears : is_heard p v.tasks ≡ true → choice.answer ≡ oracle.answers n
+
+  record Turned (n : ℕ) (v s : State) (new : List Line) : Type 0 where
+    heard : Heard
+    between : IsBetween v
+    free : named v.cells heard.name ≡ None
+    goes : turn p outside heard v ≡ Goes s
+    lines : new ≡ written_turn p outside v
+    hears : is_polling (turning outside nothing_heard v) ≡ true → heard.completion ≡ oracle.completes n
+
+  abbrev Stage : ℕ → State → State → List Line → Type 0
+  Stage n v s new = Moved n v s new ⊎ Turned n v s new
+
+  -- so many stages of a run
+  abbrev After : ℕ → List Line → State → Type 0
+  After zero lines s = (lines ≡ []) × (s ≡ boot_state p)
+  After (suc n) lines s = (before : List Line) × (v : State) × (new : List Line) × After n before v × Reaches p outside (boot_state p) before v × Stage n v s new × (lines ≡ before ++ new)
+
+  staged : {lines : List Line} {s : State} (reached : Reaches p outside (boot_state p) lines s) → Follows oracle reached → After (stages reached) lines s
+  staged begins follows = (refl, refl)
+  staged (moves {lines = lines} {s = s} c before busy choice e) follows =
+      (lines, s, written p s, staged before follows.0, before, inl (record { choice = c; busy = busy; open_so = choice; goes = e; lines = refl; hears = follows.1 }), refl)
+  staged (turns {lines = lines} {s = s} heard before between owed e) follows =
+      (lines, s, written_turn p outside s, staged before follows.0, before, inr (record { heard = heard; between = between; free = owed.name; goes = e; lines = refl; hears = follows.1 }), refl)
+
+  well : (lines : List Line) (s : State) → Reaches p outside (boot_state p) lines s → WellKept p t s
+  well lines s r = well_on p t outside wired typed (boot_state p) (boot_keeps p t wired typed, clients_keep.boot p) lines s r
+
+  there : (lines : List Line) (s : State) → Reaches p outside (boot_state p) lines s → AllThere s
+  there _ _ begins = all_stays_there.boot p
+  there _ _ (moves {lines = lines} {s = s} {u = u} c before busy choice e) = let w = well lines s before in all_stays_there.moves p t wired typed c s u w.0 choice.name w.1 (there lines s before) e
+  there _ _ (turns {lines = lines} {s = s} {u = u} heard before between hears e) =
+      let w = well lines s before in
+      all_stays_there.turns p t outside wired typed heard s u w.0 between hears w.1 (there lines s before) e
+
+  -- ---- as many stages
+
+  -- what is at hand in one is at hand in the other
+  busy_idle : (v w : State) → AreAlike v w → IsBusy v → w.tasks ≡ [] → ⊥
+  busy_idle v w alike busy idle = grind (arith, nat_tests)
+
+  idle_busy : (v w : State) → AreAlike v w → v.tasks ≡ [] → IsBusy w → ⊥
+  idle_busy v w alike idle busy = grind (arith, nat_tests)
+
+  goes_alike : (o o' : Outcome) (s u : State) → o ≡ Goes s → o' ≡ Goes u → AlikeOutcomes o o' → AreAlike s u
+  goes_alike o o' s u e e' h = subst (λ x. AlikeOutcomes (Goes s) x) e' (subst (λ x. AlikeOutcomes x o') e h)
+
+  -- and what is heard in one is heard in the other
+  hears_alike :
+      (n : ℕ) (v w s u : State) (new new' : List Line) → AreAlike v w → (one : Moved n v s new) (other : Moved n w u new') → is_heard p v.tasks ≡ true →
+      one.choice.answer ≡ other.choice.answer
+  hears_alike n v w s u new new' alike one other heard = grind (arith, nat_tests, heard, heard_kept p alike.names v.tasks)
+
+  polls_alike :
+      (n : ℕ) (v w s u : State) (new new' : List Line) → AreAlike v w → (one : Turned n v s new) (other : Turned n w u new') → is_polling (turning outside nothing_heard v) ≡ true →
+      one.heard.completion ≡ other.heard.completion
+  polls_alike n v w s u new new' alike one other polled = grind (arith, nat_tests, polling_kept alike.names outside v)
+
+  stage_alike : (n : ℕ) (v w s u : State) (new new' : List Line) → WellKept p t w → AllThere w → AreAlike v w → Stage n v s new → Stage n w u new' → (new ≡ new') × AreAlike s u
+  stage_alike n v w s u new new' k there alike (inl one) (inl other) = (
+    one.lines ∙ writes_alike p v w alike ∙ sym other.lines,
+    goes_alike _ _ s u one.goes other.goes (move_alike p t outside.refused one.choice other.choice v w k.0 k.1 there alike one.open_so other.open_so (hears_alike n v w s u new new' alike one other)),
+  )
+  stage_alike n v w s u new new' k there alike (inl one) (inr other) = absurd (busy_idle v w alike one.busy other.between.idle)
+  stage_alike n v w s u new new' k there alike (inr one) (inl other) = absurd (idle_busy v w alike one.between.idle other.busy)
+  stage_alike n v w s u new new' k there alike (inr one) (inr other) = (
+    one.lines ∙ turn_writes_alike p outside v w alike ∙ sym other.lines,
+    goes_alike _ _ s u one.goes other.goes (turn_alike p t outside one.heard other.heard v w k.0 k.1 there alike one.free other.free (polls_alike n v w s u new new' alike one other)),
+  )
+
+  -- nothing in the boot state has a name
+  booted : AreAlike (boot_state p) (boot_state p)
+  booted = record { names = λ n. n; one_to_one = λ n m e. e; same = ap (λ ts. record (boot_state p) { tasks = ts }) (go (main_of p)) }
+    where
+      go : (m : Option ℕ) → main_tasks m ≡ renamed_tasks (λ n. n) (main_tasks m)
+      go x = grind arith
+
+  together : (n : ℕ) (lines others : List Line) (s u : State) → After n lines s → After n others u → (lines ≡ others) × AreAlike s u
+  together zero lines others s u a b = (a.0 ∙ sym b.0, subst (λ x. AreAlike x u) (sym a.1) (subst (λ x. AreAlike (boot_state p) x) (sym b.1) booted))
+  together (suc n) lines others s u a b =
+      let before = together n a.0 b.0 a.1 b.1 a.3 b.3 in
+      let now = stage_alike n a.1 b.1 s u a.2 b.2 (well b.0 b.1 b.4) (there b.0 b.1 b.4) before.1 a.5 b.5 in
+      (a.6 ∙ ap (λ x. x ++ a.2) before.0 ∙ ap (λ x. b.0 ++ x) now.0 ∙ sym b.6, now.1)
+
+  -- ---- fewer stages
+
+  record Earlier (n : ℕ) (lines : List Line) : Type 0 where
+    first : List Line
+    at : State
+    after : After n first at
+    begins_it : Begins first lines
+
+  earlier : (n m : ℕ) (lines : List Line) (s : State) → n ≤ m → After m lines s → Earlier n lines
+  earlier n zero lines s le a =
+      let none : zero ≡ n = omega arith in
+      record { first = lines; at = s; after = subst (λ k. After k lines s) none a; begins_it = ([], sym (append-nil lines)) }
+  earlier n (suc m) lines s le a = ⊎_elim
+      (λ e. record { first = lines; at = s; after = subst (λ k. After k lines s) (sym e) a; begins_it = ([], sym (append-nil lines)) })
+      (λ ne.
+      let h = earlier n m a.0 a.1 (omega arith) a.3 in
+      record { first = h.first; at = h.at; after = h.after; begins_it = (h.begins_it.0 ++ a.2, a.6 ∙ ap (λ x. x ++ a.2) h.begins_it.1 ∙ append_assoc h.first h.begins_it.0 a.2) })
+      (cases_eq n (suc m))
+
+  -- a run that has come as far or further begins as this one
+  begins_so : (n m : ℕ) (lines others : List Line) (s u : State) → n ≤ m → After n lines s → After m others u → Begins lines others
+  begins_so n m lines others s u le a b =
+      let h = earlier n m others u le b in
+      let same = together n lines h.first s h.at a h.after in
+      (h.begins_it.0, h.begins_it.1 ∙ ap (λ x. x ++ h.begins_it.0) (sym same.0))
+
+  -- ---- ends
+
+  same_ended : (s u : State) → AreAlike s u → u.rest.ended ≡ s.rest.ended
+  same_ended s u alike = ap (λ x. x.rest.ended) alike.same
+
+  -- no run goes on from where another has ended
+  never_past : (n m : ℕ) (lines others : List Line) (s u : State) (ending : Ending) → Run_of p outside lines s ending → n < m → After n lines s → After m others u → ⊥
+  never_past n m lines others s u ending run lt a b =
+      let h = earlier (suc n) m others u (omega arith) b in
+      let before = together n lines h.after.0 s h.after.1 a h.after.3 in
+      go h.after.1 (same_ended s h.after.1 before.1 ∙ run.ended) h.after.4 h.after.5
+    where
+      go : {first new : List Line} {x : State} (v : State) → v.rest.ended ≡ Some ending → Reaches p outside (boot_state p) first v → Stage n v x new → ⊥
+      go {first = first} v over r (inl m) = let clash : m.busy.0 ∷ m.busy.1 ≡ [] = sym m.busy.2 ∙ over_idle p t outside wired typed first v ending r over in cc
+      go v over r (inr m) = let clash : Some ending ≡ None = sym over ∙ m.between.going in cc
+
+  abbrev Reached : List Line → State → Type 0
+  Reached lines s = Reaches p outside (boot_state p) lines s
+
+  agree : (lines others : List Line) (s u : State) (one : Reached lines s) (other : Reached others u) → Follows oracle one → Follows oracle other → Begins lines others ⊎ Begins others lines
+  agree lines others s u one other hears follows =
+      let a = staged one hears in
+      let b = staged other follows in
+      ⊎_elim
+      (λ lt. inl (begins_so (stages one) (stages other) lines others s u (omega arith) a b))
+      (λ le. inr (begins_so (stages other) (stages one) others lines u s le b a))
+      (cases_lt (stages one) (stages other))
+
+  whole :
+      (lines others : List Line) (s u : State) (ending : Ending) (one : Run_of p outside lines s ending) (other : Reached others u) → Follows oracle one.reaches → Follows oracle other →
+      Begins others lines
+  whole lines others s u ending one other hears follows =
+      let a = staged one.reaches hears in
+      let b = staged other follows in
+      ⊎_elim
+      (λ lt. absurd (never_past (stages one.reaches) (stages other) lines others s u ending one lt a b))
+      (λ le. begins_so (stages other) (stages one.reaches) others lines u s le b a)
+      (cases_lt (stages one.reaches) (stages other))
+
+  same_length :
+      (n m : ℕ) (lines others : List Line) (s u : State) (ending last : Ending) → Run_of p outside lines s ending → Run_of p outside others u last → After n lines s → After m others u →
+      n ≡ m
+  same_length n m lines others s u ending last one other a b = ⊎_elim
+      (λ lt. absurd (never_past n m lines others s u ending one lt a b))
+      (λ le. ⊎_elim (λ e. e) (λ ne. absurd (never_past m n others lines u s last other (omega arith) b a)) (cases_eq n m))
+      (cases_lt n m)
+
+  ended :
+      (lines others : List Line) (s u : State) (ending last : Ending) (one : Run_of p outside lines s ending) (other : Run_of p outside others u last) →
+      Follows oracle one.reaches → Follows oracle other.reaches → (lines ≡ others) × (ending ≡ last) × AreAlike s u
+  ended lines others s u ending last one other hears follows =
+      let a = staged one.reaches hears in
+      let b = staged other.reaches follows in
+      let e = same_length (stages one.reaches) (stages other.reaches) lines others s u ending last one other a b in
+      let same = together (stages one.reaches) lines others s u a (subst (λ n. After n others u) (sym e) b) in
+      (same.0, let x : Some ending ≡ Some last = sym one.ended ∙ sym (same_ended s u same.1) ∙ other.ended in cc, same.1)
+
+pub text_is_determined : TextIsDetermined
+text_is_determined p t outside wired typed = record {
+  agree = λ oracle. agree p t outside wired typed oracle;
+  whole = λ oracle. whole p t outside wired typed oracle;
+  ended = λ oracle. ended p t outside wired typed oracle;
+}

@@ -1,5 +1,0 @@
-use Rattle.aom_endings.proofs.Staying.{all_stays_there as law}
-use Rattle.aom_endings.proofs.laws.all_stays_there.Goals as goal
-
-pub returns : goal.returns
-returns c = law

@@ -1,5 +1,0 @@
-use Rattle.aom_endings.proofs.Cells.{boot_owes_nothing as law}
-use Rattle.aom_endings.proofs.laws.boot_owes_nothing.Goals as goal
-
-pub returns : goal.returns
-returns c = law

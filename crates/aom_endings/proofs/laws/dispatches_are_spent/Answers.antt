@@ -1,5 +1,0 @@
-use Rattle.aom_endings.proofs.Spending.{dispatches_are_spent as law}
-use Rattle.aom_endings.proofs.laws.dispatches_are_spent.Goals as goal
-
-pub returns : goal.returns
-returns c = law

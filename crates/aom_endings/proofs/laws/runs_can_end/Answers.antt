@@ -1,5 +1,0 @@
-use Rattle.aom_endings.proofs.Ending.{runs_can_end as law}
-use Rattle.aom_endings.proofs.laws.runs_can_end.Goals as goal
-
-pub returns : goal.returns
-returns c = law

@@ -1,5 +1,0 @@
-use Rattle.std.proofs.Common.{rules}
-use Rattle.aom_exec.proofs.servers.note_queue.Goals as goal
-
-pub returns-then-is_server-clause-noted : goal.returns-then-is_server-clause-noted
-returns-then-is_server-clause-noted c = search rules

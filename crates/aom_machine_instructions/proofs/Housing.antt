@@ -1,0 +1,58 @@
+-- The cell of the method that runs lives, and where an instruction reads or writes its words there is one.
+use Rattle.std.proofs.lemmas.Bool.Decides.{nat_tests}
+use Rattle.std.proofs.Common.{arith, List, ◌≡◌, ℕ, [], Some, subst}
+use Rattle.aom_image.specs.Image.{Image}
+use Rattle.aom_image.specs.Views.{instr_at}
+use Rattle.aom_instructions.specs.declared.instr.Instr.{Instr}
+use Rattle.aom_instructions.specs.declared.instr.Instr.TheVariants.{Load, Store}
+use Rattle.aom_roles.specs.Tests.{AllTrue}
+use Rattle.aom_cells.specs.Heap.{Lives}
+use Rattle.aom_semantics.specs.State.{Choice, Frame, State, Task}
+use Rattle.aom_semantics.specs.Moves.{needs}
+use Rattle.aom_safety.specs.WellTyped.{Keeps}
+use Rattle.aom_frames.specs.Tasks.{Runs}
+use Rattle.aom_machine_state.specs.declared.parts.Parts.{Parts}
+use Rattle.aom_machine_instructions.specs.Acts.{At_hand, requested}
+use Rattle.aom_machine_state.specs.Fields.{this, ThisLives}
+use Rattle.aom_machine_instructions.specs.Next.{IsNext, counting}
+use Rattle.aom_machine_state.specs.Stands.{Stands}
+use Rattle.aom_machine_instructions.proofs.Running.{an_open}
+use Rattle.aom_machine_instructions.proofs.Stepping.{met, frame_of, at_step, step_of_instr}
+use Rattle.aom_machine_instructions.proofs.FieldActs.{is_housed, has_cell}
+
+module _ (p : Image) (m : Parts) (st : Stands (record { image = p; parts = m })) (runs : Runs m.stack.tasks) where
+  unfoldable pub at_hand : At_hand p m
+  at_hand =
+      let f = frame_of m.stack.tasks st.0.tasks runs st.1.agrees.tasks in
+      record { typing = st.1.typing; state = st.0; frame = f.0; below = f.1; top = f.2; formed = st.1.sound.formed; linked = st.1.sound.linked; wired = st.1.sound.wired; typed = st.1.typed; kept = st.1.kept; agrees = st.1.agrees }
+
+  pub finds_home : ThisLives m
+  finds_home = is_housed p m at_hand
+
+module _ (p : Image) (m : Parts) where
+  -- the needs of the instruction that is next are met
+  pub needs_met : (i : Instr) (next : IsNext p i m)
+      → (c : Choice) × (let h = at_hand p (counting next.counts m) next.stands next.runs in AllTrue (needs p c h.frame h.below (requested i (at_step h.state)) i))
+  unfolding at_hand
+  needs_met i next =
+      let st = next.stands in
+      let f = frame_of m.stack.tasks st.0.tasks next.runs st.1.agrees.tasks in
+      let e : instr_at p f.0.method f.0.place ≡ Some i = grind (arith, nat_tests) in
+      let c = an_open p [] (counting next.counts m) st.0 st.1.agrees in
+      let k = met p st.1.typing _ _ (subst (Keeps p st.1.typing) (step_of_instr p c.0 st.0 f.0 f.1 i f.2 e) (st.1.sound.keeps c.0 st.0 st.1.typed c.1.name)) in (
+        c.0,
+        k.0,
+      )
+
+  -- so is what they say
+  pub needs_say : (i : Instr) (Q : Type 0) → ((c : Choice) (fr : Frame) (ts : List Task) (s : State) → AllTrue (needs p c fr ts s i) → Q) → IsNext p i m → Q
+  needs_say i Q says next =
+      let h = at_hand p (counting next.counts m) next.stands next.runs in
+      let n = needs_met i next in
+      says n.0 h.frame h.below (requested i (at_step h.state)) n.1
+
+  pub finds_loaded : (a w : ℕ) → IsNext p (Load a w) m → Lives m.cells (this m)
+  finds_loaded a w next = let n = needs_met (Load a w) next in next.housed (has_cell p (counting next.counts m) (at_hand p (counting next.counts m) next.stands next.runs) w n.1.0)
+
+  pub finds_stored : (w b : ℕ) → IsNext p (Store w b) m → Lives m.cells (this m)
+  finds_stored w b next = let n = needs_met (Store w b) next in next.housed (has_cell p (counting next.counts m) (at_hand p (counting next.counts m) next.stands next.runs) w n.1.0)

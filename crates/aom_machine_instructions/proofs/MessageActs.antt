@@ -1,0 +1,174 @@
+-- Instructions on messages: the one that is served comes to a register, and a client's message is completed.
+use Rattle.std.proofs.lemmas.Bool.Decides.{nat_tests}
+use Rattle.std.proofs.Common.{List, None, Option, Some, ap, arith, length, refl, subst, sym, true, ℕ, ℤ, ◌+◌, ◌++◌, ◌<◌, ◌∙◌, ◌∷◌, ◌≡◌}
+use Rattle.std.specs.Prelude.{is_some}
+use Rattle.std.proofs.lemmas.Bool.{false≢true}
+use Rattle.std.specs.Int.{w32, cast_signed}
+use Rattle.aom_cells.specs.Heap.{null}
+use Rattle.aom_clients.specs.Clients.{after_complete, place_at}
+use Rattle.aom_clients.specs.Table.{completion}
+use Rattle.aom_clients.specs.declared.place.Completion.{Completion}
+use Rattle.aom_cleanup.specs.declared.item.Item.{Item}
+use Rattle.aom_frames.specs.Tasks.{on_top, register_here, with_register}
+use Rattle.aom_frames.specs.declared.task.Task.{Task as Machine_task}
+use Rattle.aom_frames.specs.declared.task.Task.TheVariants.{Run as Runs_frame}
+use Rattle.aom_cells.specs.Heap.{Heap}
+use Rattle.aom_image.specs.Image.{Image}
+use Rattle.aom_image.specs.declared.method.Thing.TheVariants.{Message}
+use Rattle.aom_instructions.specs.declared.instr.Instr.TheVariants.{Reply, TakeMessage}
+use Rattle.aom_roles.specs.Tests.{AllTrue}
+use Rattle.aom_lines.specs.LineBuffer.{LineBuffer}
+use Rattle.aom_messages.specs.Store.{Changes, Store, count, first_number}
+use Rattle.aom_roles.specs.Tables.{put_at}
+use Rattle.aom_semantics.proofs.Maps.{held_moved, held_without}
+use Rattle.aom_safety.proofs.Things.{stands_message}
+use Rattle.aom_semantics.specs.Lines.{message_line}
+use Rattle.aom_semantics.specs.Moves.{needs}
+use Rattle.aom_semantics.specs.Objects.{is_thing}
+use Rattle.aom_semantics.specs.Places.{Elsewhere, In_service, Object, Place, Register, changed, held, moved, service_of, without}
+use Rattle.aom_semantics.specs.State.{Choice, Run, State, next, set_word}
+use Rattle.aom_semantics.specs.Tokens.{order_in, redeemed_by, token_of}
+use Rattle.aom_semantics.specs.Words.{read}
+use Rattle.aom_safety.proofs.Sources.{has_sender}
+use Rattle.aom_tokens.specs.Tokens.{class_at}
+use Rattle.aom_machine_state.specs.declared.parts.Parts.{Parts}
+use Rattle.aom_machine_state.specs.Places as places
+use Rattle.aom_machine_state.specs.Places.{Others, others, set_register, value_in}
+use Rattle.aom_machine_state.specs.Agrees.{Agrees, number}
+use Rattle.aom_machine_state.specs.Serving.{message_name}
+use Rattle.aom_machine_state.proofs.Asking.{requests_moved}
+use Rattle.aom_machine_state.proofs.CellFields.{served_written}
+use Rattle.aom_machine_state.proofs.Cells.{cells_moved}
+use Rattle.aom_machine_state.proofs.Replying.{cells_completed, message_sent, natives_completed, requests_completed, services_completed, was_taken}
+use Rattle.aom_machine_state.proofs.Services.{services_moved}
+use Rattle.aom_machine_state.proofs.Sessions.{natives_moved}
+use Rattle.aom_machine_state.proofs.Telling.{completed_lines, message_told}
+use Rattle.aom_machine_state.proofs.Values.{moves, value_written, word_written}
+use Rattle.aom_machine_instructions.specs.Acts.{At_hand, Does, Tells}
+use Rattle.aom_machine_instructions.specs.Serving.{Completes, completion_lines}
+use Rattle.aom_machine_instructions.proofs.GoingOn.{framed, goes_on_with, written}
+use Rattle.aom_machine_instructions.proofs.ObjectActs.{shown_here}
+use Rattle.aom_machine_instructions.proofs.Running.{free, no_word}
+use Rattle.aom_machine_instructions.proofs.WordActs.{plain_does, word_read}
+
+-- what a completion changes of clients shows in no place
+completed_values : (us : List Machine_task) (h : Heap) (es : List Item) (o : Others) (place : ℕ) (r : Place) → value_in us h es (record o { clients = after_complete place o.clients }) r ≡ value_in us h es o r
+completed_values us h es o place r = grind arith
+
+module _ (m : Parts) (refused : List ℕ) where
+  -- the message that is served comes to a register
+  pub take_message_does : (a : ℕ) → a < 16 → Does refused (TakeMessage a) m (places.next (set_register a m.served (record m { served = null })))
+  take_message_does a small = plain_does m (places.next (set_register a m.served (record m { served = null }))) refused (TakeMessage a) refl (λ p h c met.
+      let s = h.state in
+      let ts = h.below in
+      let mid = record m { served = null } in
+      let from = Elsewhere In_service in
+      let to = Register (length ts) a in
+      goes_on_with p m h mid (moved from to s.cells) s.items s.rest (put_at None h.frame.words a None) (on_top (with_register a m.served)) (with_register a m.served) (λ f ms. refl)
+      (record { stack = refl; cells = cells_moved p m.cells s.cells from to h.agrees.cells; entries = h.agrees.entries; requests = requests_moved p m.active s.cells from to h.agrees.requests; natives = natives_moved p m.sessions s.killed s.cells from to h.agrees.natives; services = services_moved p s.cells from to refl refl h.agrees.services; rest = h.agrees.rest; room = h.agrees.entry_room })
+      (λ f ms e top.
+      let wide = top.frame.wide in
+      record {
+        frame = framed p m h f ms _ a m.served top;
+        values = moves _ _ _ _ (held s.cells) _ from to top.values refl
+            (λ r.
+            value_written f ms m.cells m.entries.items (others mid) (length ts) a m.served f.place top.deep (omega arith) r
+            ∙ ap (λ y. changed (λ q. y) to m.served r) (served_written (Runs_frame f ∷ ms) m.cells m.entries.items (others m) null r))
+            (word_written h.frame ts a h.frame.place None)
+            (λ r. held_moved s.cells from to r (free _ met.1.1.0));
+      }))
+
+-- ---- a message is completed
+
+-- what is in the register is a message, with the number that the register shows
+pub record InRegister (p : Image) (m : Parts) (h : At_hand p m) (a : ℕ) : Type 0 where
+  pub object : Object
+  pub there : held h.state.cells (Register (length h.below) a) ≡ Some object
+  pub message : object.thing ≡ Message
+  pub number : object.name ≡ register_here m.stack.tasks a
+
+pub in_register : (p : Image) (m : Parts) (h : At_hand p m) (a b : ℕ) (c : Choice) → AllTrue (needs p c h.frame h.below h.state (Reply a b)) → InRegister p m h a
+in_register p m h a b c met = go (held h.state.cells (Register (length h.below) a)) refl met.1.0 met.1.1.0
+  where
+    go : (x : Option Object) → held h.state.cells (Register (length h.below) a) ≡ x → is_some (held h.state.cells (Register (length h.below) a)) ≡ true → is_thing p Message (held h.state.cells (Register (length h.below) a)) ≡ true → InRegister p m h a
+    go None e some thing = absurd (false≢true (ap is_some (sym e) ∙ some))
+    go (Some o) e some thing = record {
+      object = o;
+      there = e;
+      message = stands_message p o.thing (ap (is_thing p Message) (sym e) ∙ thing);
+      number = sym (shown_here p m h a (no_word _ met.0) ∙ ap number e);
+    }
+
+-- the state once it is replied to, where it is a token of that order
+abbrev pub replied : (p : Image) {m : Parts} (h : At_hand p m) → ℕ → ℕ → Option ℕ → State
+replied p h a b order =
+    let code = read h.frame h.below h.state b in
+    record h.state { cells = without (Register (length h.below) a) (redeemed_by order code h.state.cells); tasks = Run (next (set_word h.frame a None)) ∷ h.below }
+
+-- where no token is at its place it is none
+module _ (p : Image) (m : Parts) (h : At_hand p m) (a : ℕ) (x : InRegister p m h a) (place : ℕ) (name : x.object.name ≡ message_name place) (sent : class_at m.tokens place ≡ None) where
+  no_token_there : (service_of h.state.cells x.object.name).token ≡ None
+  no_token_there = grind (arith, nat_tests)
+
+  -- so no request waits for it, and it has a sender
+  nothing_told : token_of h.state.cells (held h.state.cells (Register (length h.below) a)) ≡ None
+  nothing_told = ap (token_of h.state.cells) x.there ∙ ap order_in no_token_there
+
+  pub it_was_sent : has_sender h.state.cells x.object.name ≡ true
+  it_was_sent = message_sent p h.typing h.state h.typed (Register (length h.below) a) x.object x.there x.message h.kept.fit.sources no_token_there
+
+module _ (m : Parts) where
+  pub reply_does : (refused : List ℕ) (a b place : ℕ) (store : Store) → a < 16 → first_number + place ≡ register_here m.stack.tasks a → class_at m.tokens place ≡ None → Changes m.messages store place None → count store + 1 ≡ count m.messages →
+      Does refused (Reply a b) m (places.next (record (set_register a null m) { clients = after_complete place m.clients; messages = store }))
+  reply_does refused a b place store small named sent gone fewer =
+      plain_does m (places.next (record (set_register a null m) { clients = after_complete place m.clients; messages = store })) refused (Reply a b) refl (λ p h c met.
+      let s = h.state in
+      let x = in_register p m h a b c met in
+      let g = Register (length h.below) a in
+      let name : x.object.name ≡ message_name place = x.number ∙ sym named in
+      let mid = record m { clients = after_complete place m.clients; messages = store } in
+      subst (λ order. Agrees p (places.next (record (set_register a null m) { clients = after_complete place m.clients; messages = store })) (replied p h a b order)) (sym (nothing_told p m h a x place name sent))
+      (goes_on_with p m h mid (without g s.cells) s.items s.rest (put_at None h.frame.words a None) (on_top (with_register a null)) (with_register a null) (λ f ms. refl)
+      (record {
+        stack = refl;
+        cells = cells_completed p h.typing s h.typed g x.object x.there x.message place name m.cells h.agrees.cells;
+        entries = h.agrees.entries;
+        requests = requests_completed p h.typing s h.typed g x.object x.there x.message place name m.active h.agrees.requests;
+        natives = natives_completed p h.typing s h.typed g x.object x.there x.message place name m.sessions h.formed.header.cells h.agrees.natives;
+        services = services_completed p h.typing s h.typed g x.object x.there x.message place name h.wired h.kept refl (it_was_sent p m h a x place name sent) m.clients m.messages m.tokens m.listed h.agrees.services store gone fewer;
+        rest = h.agrees.rest;
+        room = h.agrees.entry_room;
+      })
+      (λ f ms e top. written p m h mid (without g s.cells) a null None None small refl f ms top (completed_values (Runs_frame f ∷ ms) m.cells m.entries.items (others m) place) (held_without s.cells g))))
+
+  -- its line
+  pub reply_tells : (told : LineBuffer) (a b place : ℕ) (code : ℤ) → first_number + place ≡ register_here m.stack.tasks a → code ≡ cast_signed w32 (register_here m.stack.tasks b) →
+      Tells (Reply a b) m told (record told { lines = told.lines ++ completion_lines (completion (place_at m.clients place)) code })
+  reply_tells told a b place code named read p h c met =
+      let s = h.state in
+      let x = in_register p m h a b c met in
+      let g = Register (length h.below) a in
+      let name : x.object.name ≡ message_name place = x.number ∙ sym named in
+      let taken = was_taken p h.typing s h.typed g x.object x.there x.message place name h.wired h.kept refl m.clients h.agrees.services.clients in
+      ap (λ l. record told { lines = told.lines ++ l })
+      (lines_so (completion (place_at m.clients place)) code ∙ sym (message_told m.clients s.cells s.clients h.agrees.services.clients x.object place code name taken) ∙ ap (λ o. message_line s.cells o code) (sym x.there) ∙ ap (message_line s.cells (held s.cells g)) (read ∙ word_read p m h b met.1.1.1.0))
+    where
+      lines_so : (x : Option Completion) (code : ℤ) → completion_lines x code ≡ completed_lines code x
+      lines_so None code = refl
+      lines_so (Some x) code = refl
+
+-- ---- as the code does it
+
+-- the register is null, the message is completed, and the method goes on
+module _ (m mid new : Parts) (told now : LineBuffer) (n : ℕ) (code : ℤ) (a b : ℕ) (emptied : mid ≡ set_register a null m) (number_so : n ≡ register_here m.stack.tasks a) (completes : Completes n code mid new told now) where
+  pub reply_done : (refused : List ℕ) (last : Parts) → class_at mid.tokens completes.place ≡ None → a < 16 → last ≡ places.next new → Does refused (Reply a b) m last
+  reply_done refused last sent small goes_on = grind (
+    arith,
+    nat_tests,
+    reply_does m refused a b completes.place new.messages small (completes.number ∙ number_so),
+  )
+
+  pub reply_told : code ≡ cast_signed w32 (register_here m.stack.tasks b) → Tells (Reply a b) m told now
+  reply_told read =
+      subst (λ x. Tells (Reply a b) m told x) (sym (completes.line ∙ ap (λ (x : Parts). record told { lines = told.lines ++ completion_lines (completion (place_at x.clients completes.place)) code }) emptied))
+      (reply_tells m told a b completes.place code (completes.number ∙ number_so) read)

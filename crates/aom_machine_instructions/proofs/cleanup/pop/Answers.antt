@@ -1,0 +1,13 @@
+use Rattle.std.proofs.Common.{rules, ap, ◌∙◌, ◌∷◌}
+use Rattle.aom_machine_instructions.proofs.EntryActs.{pop_does}
+use Rattle.aom_machine_instructions.proofs.Topping.{pops_object}
+use Rattle.aom_machine_instructions.proofs.cleanup.pop.Goals as goal
+
+pub unreachable-requires : goal.unreachable-requires
+unreachable-requires c = let h = pops_object c.requires.0 c.args.parts.now c.args.to c.requires.1 in search rules
+
+pub returns : goal.returns
+returns c = λ refused.
+    let es = c.pop.new.self in
+    let popped = c.in-Some-Object.ensures.some.1 ∙ ap (λ i. record es { items = i ∷ es.items }) c.in-Some-Object.field-0-is in
+    rw (c.next.ensures, c.set_register.ensures.written) (pop_does c.args.parts.now refused es c.args.to c.in-Some-Object.object c.set_register.ensures.in_range popped)

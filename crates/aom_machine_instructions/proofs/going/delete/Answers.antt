@@ -1,0 +1,20 @@
+use Rattle.std.proofs.Common.{sym, ◌∙◌}
+use Rattle.aom_machine_instructions.proofs.Finding.{deletes_living}
+use Rattle.aom_machine_instructions.proofs.GoingActs.{delete_does}
+use Rattle.aom_machine_instructions.proofs.ObjectActs.{delete_null_does}
+use Rattle.aom_machine_instructions.proofs.Resulting.{on_top_runs}
+use Rattle.aom_machine_instructions.proofs.going.delete.Goals as goal
+
+pub begin-requires-clause-lives : goal.begin-requires-clause-lives
+begin-requires-clause-lives c =
+    rw (c.take_register-number.ensures.emptied, c.take_register-number.ensures.value)
+    (deletes_living c.args.linked.now c.args.parts.now c.args.from c.requires (λ e. c.if-number.false (c.take_register-number.ensures.value ∙ e)))
+
+pub returns-then-number-clause-does : goal.returns-then-number-clause-does
+returns-then-number-clause-does c = λ refused. rw (c.next.ensures, c.take_register-number.ensures.emptied) (delete_null_does c.args.parts.now refused c.args.linked.now c.args.from c.take_register-number.ensures.in_range (sym c.take_register-number.ensures.value ∙ c.if-number.true))
+
+pub returns-clause-does : goal.returns-clause-does
+returns-clause-does c = λ refused. rw (c.begin.ensures, c.take_register-number.ensures.emptied, c.take_register-number.ensures.value) (delete_does c.args.linked.now c.args.parts.now refused c.args.from c.take_register-number.ensures.in_range (λ e. c.if-number.false (c.take_register-number.ensures.value ∙ e)))
+
+pub returns-then-number-clause-runs : goal.returns-then-number-clause-runs
+returns-then-number-clause-runs c = λ still. rw (c.next.ensures, c.take_register-number.ensures.emptied) (on_top_runs _ _ (on_top_runs _ _ c.requires.runs))

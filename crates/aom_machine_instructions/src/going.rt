@@ -1,0 +1,204 @@
+//! Destruction: a cell is at hand, of a server the sessions with it go first, its destructor runs, and then it goes.
+ghost use Rattle.std.specs.Prelude.{◌≡◌, ◌<◌, ◌+◌, ◌^◌, ℕ, List, IfSome, IsSome, Some, length, true};
+ghost use Rattle.aom_image.specs.Views.{method_at};
+ghost use Rattle.aom_cells.specs.Heap.{Lives, class_at};
+ghost use Rattle.aom_instructions.specs.declared.instr.Instr.TheVariants.{Delete};
+ghost use Rattle.aom_clients.specs.Clients.{queue_at};
+ghost use Rattle.aom_frames.specs.Tasks.{Runs, place_here, below_first};
+ghost use Rattle.aom_frames.specs.Views.{view_in};
+ghost use Rattle.aom_semantics.specs.Destruction.{next_destructor};
+ghost use Rattle.aom_machine_instructions.specs.Acts.{DoesIn, GoesAway};
+ghost use Rattle.aom_machine_state.specs.Places.{next, with_tasks, IsClosing, IsDestroying, going_here};
+ghost use Rattle.aom_machine_instructions.specs.Going.{destructed, destructor_frame, destructor_in, dying, is_server_class, uprooted};
+ghost use Rattle.aom_machine_instructions.specs.Moves.{Moves};
+ghost use Rattle.aom_machine_instructions.specs.Next.{IsNext};
+ghost use Rattle.aom_machine_instructions.specs.Serving.{CanVanish, answers};
+ghost use Rattle.aom_lines.specs.LineBuffer.{LineBuffer as TurnRecord};
+ghost use Rattle.aom_machine_state.specs.Stands.{Stands};
+
+use crate::servers;
+use aom_cells::NULL;
+use aom_frames::{Dispatch, Frame, Task, TaskKind, View};
+use aom_image::{ClassNumber, MethodNumber, Register, Role};
+use aom_lines::LineBuffer;
+use aom_linked::Linked;
+use aom_machine_state::Parts;
+use aom_roles::{parent_of, sessions_at};
+use aom_transcript::Line;
+
+/// As the class that a method is of.
+fn view_in(class: Option<ClassNumber>) -> View
+    ensures { result ≡ view_in class }
+{
+    match class {
+        Some(class) => View::above(class),
+        None => View::own(),
+    }
+}
+
+/// The frame of a destructor: while it runs the object counts as the class that the destructor is of.
+fn destructor_frame(destructor: MethodNumber, number: u32, linked: &Linked) -> Frame
+    requires there { IsSome (method_at linked.now destructor) }
+    ensures { result ≡ destructor_frame linked.now destructor number }
+{
+    let view = view_in(linked.method(destructor).class);
+    Frame::begin(destructor, number).counting_as(view)
+}
+
+/// The destructor of a cell of that class runs over the tasks at hand, if it has one.
+fn destruct(parts: &mut Parts, number: u32, class: ClassNumber, linked: &Linked)
+    requires room { length parts.old.stack.tasks < parts.old.stack.depth }
+    ensures { parts.new ≡ with_tasks (destructed linked.now (destructor_in linked.now (Some class)) number parts.old.stack.tasks) parts.old }
+{
+    if let Some(destructor) = linked.role(class, Role::Destruct) {
+        parts
+            .stack
+            .push(Task::Run(destructor_frame(destructor, number, linked)));
+    }
+}
+
+/// The destructor that follows one in its line: that of the nearest class above its own which has one.
+fn next_destructor(destructor: MethodNumber, linked: &Linked) -> Option<MethodNumber>
+    requires { IsSome (method_at linked.now destructor) }
+    ensures { result ≡ next_destructor linked.now destructor }
+{
+    match linked.method(destructor).class {
+        Some(class) => match parent_of(linked.image(), class) {
+            Some(parent) => linked.role(parent, Role::Destruct),
+            None => None,
+        },
+        None => None,
+    }
+}
+
+/// A destructor of a cell is over: the next of its line runs, if there is one.
+pub fn go_up(parts: &mut Parts, destructor: MethodNumber, number: u32, linked: &Linked)
+    requires there { IsSome (method_at linked.now destructor) }
+    requires room { length parts.old.stack.tasks < parts.old.stack.depth }
+    ensures { parts.new ≡ with_tasks (destructed linked.now (next_destructor linked.now destructor) number parts.old.stack.tasks) parts.old }
+{
+    if let Some(next) = next_destructor(destructor, linked) {
+        parts
+            .stack
+            .push(Task::Run(destructor_frame(next, number, linked)));
+    }
+}
+
+/// Whether the objects of a class are servers.
+pub fn is_server(class: ClassNumber, linked: &Linked) -> bool
+    ensures { result ≡ is_server_class linked.now (Some class) }
+{
+    sessions_at(linked.image(), class).is_some()
+}
+
+/// The destruction of that cell is at hand. Over it its destructor runs, if it has one; of a server the sessions with it are at hand to go.
+#[inline(always)]
+pub fn begin(parts: &mut Parts, number: u32, linked: &Linked)
+    requires lives { Lives parts.old.cells number }
+    requires small { IfSome (class_at parts.old.cells number) (λ class. class < 256) }
+    requires room { length parts.old.stack.tasks + 1 < parts.old.stack.depth }
+    ensures { parts.new ≡ with_tasks (dying linked.now parts.old.cells number parts.old.stack.tasks) parts.old }
+{
+    let class = parts.class(number);
+    parts.stack.push(Task::Destroy(number));
+    if is_server(class, linked) {
+        parts.stack.push(Task::Closing);
+    } else {
+        destruct(parts, number, class, linked);
+    }
+}
+
+#[inline(always)]
+pub fn delete(parts: &mut Parts, from: Register, linked: &Linked) -> bool
+    requires { IsNext linked.now (Delete from) parts.old }
+    ensures does { (refused : List ℕ) → DoesIn linked.now refused (Delete from) parts.old parts.new }
+    ensures runs { result ≡ true → Runs parts.new.stack.tasks }
+{
+    let number = parts.take_register(from);
+    if number == NULL {
+        parts.next();
+        return true;
+    }
+    begin(parts, number, linked);
+    false
+}
+
+/// The root is at hand to go, and nothing else is.
+pub fn uproot(parts: &mut Parts, linked: &Linked)
+    requires lives { Lives parts.old.cells parts.old.root }
+    requires small { IfSome (class_at parts.old.cells parts.old.root) (λ class. class < 256) }
+    requires room { length (below_first parts.old.stack.tasks) + 2 < parts.old.stack.depth }
+    ensures { parts.new ≡ uprooted linked.now parts.old }
+{
+    let root = parts.root;
+    parts.root = NULL;
+    parts.rest.tick();
+    parts.drop_task();
+    parts.stack.push(Task::Dispatched(Dispatch::Root));
+    begin(parts, root, linked);
+}
+
+/// The method that is at hand goes on, if there is one.
+fn resume(parts: &mut Parts)
+    requires { place_here parts.old.stack.tasks + 1 < 2 ^ 64 }
+    ensures { parts.new ≡ next parts.old }
+{
+    if parts.is_running() {
+        parts.next();
+    }
+}
+
+/// The number of the cell whose destruction is at hand.
+fn going_number(parts: &Parts) -> u32
+    requires { IsDestroying parts.now.stack.tasks }
+    ensures { result ≡ going_here parts.now.stack.tasks }
+{
+    let Some(kind) = parts.stack.top() else {
+        unreachable!();
+    };
+    match kind {
+        TaskKind::Destroy(number) => number,
+        _ => unreachable!(),
+    }
+}
+
+/// The first session with the server whose going is at hand goes before it, and once none is left the server's destructor runs.
+pub fn let_go(parts: &mut Parts, linked: &Linked)
+    requires closing { IsClosing parts.old.stack.tasks }
+    requires announced { parts.old.rest.announced ≡ true }
+    requires stands { Stands (record { image = linked.now; parts = parts.old }) }
+    ensures { (told : TurnRecord) → Moves linked.now parts.old told told parts.new }
+{
+    parts.drop_task();
+    let number = going_number(parts);
+    match servers::take_session(parts, number as u16) {
+        Some(session) => {
+            parts.stack.push(Task::Closing);
+            begin(parts, session, linked);
+        }
+        None => {
+            let class = parts.class(number);
+            destruct(parts, number, class, linked);
+        }
+    }
+}
+
+/// The cell of that number goes, whose destruction is at hand, and with a server all that waits in its queue. The method below goes on, if
+/// there is one.
+#[inline(always)]
+pub fn go(parts: &mut Parts, number: u32, turn: &mut LineBuffer)
+    requires destroying { IsDestroying parts.old.stack.tasks }
+    requires going { number ≡ going_here parts.old.stack.tasks }
+    requires lives { Lives parts.old.cells (going_here parts.old.stack.tasks) }
+    requires small { IfSome (class_at parts.old.cells (going_here parts.old.stack.tasks)) (λ class. class < 256) }
+    requires vanishes { CanVanish (going_here parts.old.stack.tasks) parts.old }
+    requires within { place_here (below_first parts.old.stack.tasks) + 1 < 2 ^ 64 }
+    requires room { length turn.old.lines + answers (queue_at parts.old.clients (going_here parts.old.stack.tasks)) < turn.old.room }
+    ensures { GoesAway parts.old parts.new turn.old turn.new }
+{
+    parts.end_other();
+    servers::end_server(parts, number as u16, turn);
+    let class = parts.release(number);
+    turn.push(Line::Gone(class));
+    resume(parts);
+}

@@ -1,0 +1,118 @@
+-- The requests of the enlisted objects, where cells move, change, come and go.
+use Rattle.std.proofs.lemmas.Bool.Decides.{nat_tests}
+use Rattle.std.specs.Prelude.{is_some}
+use Rattle.std.proofs.Common.{ap, Bool, false, inl, inr, List, None, Option, refl, Some, subst, suc, sym, true, ℕ, ℤ, ◌==◌, ◌∙◌, ◌∷◌, ◌≡◌, [], cond, pos, arith}
+use Rattle.std.proofs.lemmas.Bool.{eqb-true, false≢true}
+use Rattle.aom_image.specs.Image.{Image}
+use Rattle.aom_image.specs.declared.method.Argument.{Argument}
+use Rattle.aom_image.specs.declared.method.Argument.TheVariants.{Own as Takes_own, Word as Takes_word}
+use Rattle.aom_image.specs.declared.method.Thing.{Thing}
+use Rattle.aom_safety.proofs.Counts.{count_asked}
+use Rattle.aom_semantics.specs.Calls.{passed_cells}
+use Rattle.aom_semantics.specs.Places.{Cell, Object, Place, Register, Request, Service, Tidy, held, moved, named, requested, service_of, set_service, set_word_field, with_new, without, Elsewhere, Root, set_request, word_field}
+use Rattle.aom_semantics.specs.Clients.{each_unslotted}
+use Rattle.aom_semantics.specs.State.{AtRoot, Frame, Home, Inside, State, Static, Task}
+use Rattle.aom_semantics.specs.Words.{here, stored}
+use Rattle.aom_requests.specs.Requests.{request_at}
+use Rattle.aom_semantics.proofs.Maps.{named_moved, requested_moved, requested_without, unrequested}
+use Rattle.aom_safety.proofs.Services.{named_served, requested_served, service_here, service_moved, service_stored, service_there}
+use Rattle.aom_safety.proofs.Unslotting.{each_unslotted_alike, each_unslotted_requests}
+use Rattle.aom_active.specs.Agrees.{Active, Tells, queued}
+use Rattle.aom_active.specs.Meanings.{Removes, asked_anew}
+use Rattle.aom_active.proofs.Asking.{asked_gone, asked_new, asked_written, queued_gone, queued_same}
+use Rattle.aom_active.proofs.Telling.{standing_follows}
+use Rattle.aom_machine_state.specs.Agrees.{SameRequests, SameCells, thing_of}
+use Rattle.aom_machine_state.specs.Cells.{Delists}
+use Rattle.aom_machine_state.proofs.Cells.{cells_as}
+use Rattle.aom_machine_state.proofs.Serving.{absent_served}
+use Rattle.aom_roles.specs.Tables.{at}
+use Rattle.aom_cells.specs.Heap.{Heap}
+use Rattle.aom_safety.proofs.Storing.{named_set_word, rerequested_alike}
+use Rattle.aom_image.specs.declared.method.Thing.TheVariants.{Message}
+
+module _ (p : Image) (a : Active) where
+  -- it does not matter by which cells the requests and the queues are told
+  pub requests_as : (cs ds : List Cell) → ((n : ℕ) → requested cs n ≡ requested ds n) → ((n : ℕ) → is_some (requested ds n) ≡ true → queued p cs n ≡ queued p ds n) → SameRequests p a cs → SameRequests p a ds
+  requests_as cs ds same queues h = record { stands = standing_follows a (requested cs) (requested ds) (queued p cs) (queued p ds) same queues h.stands; limit = h.limit }
+
+  -- where the cells and what waits at them are as they were
+  pub requests_alike : (cs ds : List Cell) → ((n : ℕ) → requested ds n ≡ requested cs n) → ((n : ℕ) → named ds n ≡ named cs n) → ((n : ℕ) → (service_of ds n).queue ≡ (service_of cs n).queue) → SameRequests p a cs → SameRequests p a ds
+  requests_alike cs ds same names queues h = requests_as cs ds (λ n. sym (same n)) (λ n there. sym (queued_same p cs ds names queues n)) h
+
+  pub requests_moved : (cs : List Cell) (q r : Place) → SameRequests p a cs → SameRequests p a (moved q r cs)
+  requests_moved cs q r h = requests_alike cs (moved q r cs) (requested_moved cs q r) (named_moved cs q r) (λ n. ap (λ (v : Service). v.queue) (service_moved cs q r n)) h
+
+  requests_written : (cs : List Cell) (n w : ℕ) (v : ℤ) → SameRequests p a cs → SameRequests p a (set_word_field n w v cs)
+  requests_written cs n w v h = requests_alike cs (set_word_field n w v cs) (asked_written cs n w v) (named_set_word cs n w v) (λ k. ap (λ (x : Service). x.queue) (service_stored cs n w v k)) h
+
+  pub requests_stored : (cs : List Cell) (home : Home) (w : ℕ) (v : ℤ) → SameRequests p a cs → SameRequests p a (stored cs home w v)
+  requests_stored cs Static w v h = h
+  requests_stored cs AtRoot w v h = h
+  requests_stored cs (Inside o from) w v h = requests_written cs o.name w v h
+
+  pub requests_made : (cs : List Cell) (n : ℕ) (thing : Thing) (words : List ℤ) (owner : Place) → named cs n ≡ None → SameRequests p a cs → SameRequests p a (with_new n thing words owner cs)
+  requests_made cs n thing words owner fresh h = grind (arith, nat_tests, requests_as cs, asked_new cs n thing words owner fresh)
+
+  -- what clients have at a cell changes, but for its queue
+  pub requests_kept : (cs : List Cell) (n : ℕ) (v : Service) → v.queue ≡ (service_of cs n).queue → SameRequests p a cs → SameRequests p a (set_service n v cs)
+  requests_kept cs n v same h = grind (
+    arith,
+    nat_tests,
+    requests_alike cs,
+    requested_served cs n v,
+    named_served cs n v,
+    service_there cs n,
+    eqb-true n,
+    service_here cs n v,
+    absent_served cs n v,
+  )
+
+  pub requests_unslotted : (clients : List ℕ) (cs : List Cell) → SameRequests p a cs → SameRequests p a (each_unslotted clients cs)
+  requests_unslotted clients cs h = grind (arith, nat_tests, each_unslotted_alike clients cs, requests_alike cs, each_unslotted_requests clients cs)
+
+module _ (p : Image) (fr : Frame) (ts : List Task) (s : State) (a : Active) where
+  pub requests_passed : (depth : ℕ) (xs : List Argument) (first to : ℕ) (cs : List Cell) → SameRequests p a cs → SameRequests p a (passed_cells p fr ts s depth xs first to cs)
+  requests_passed depth [] first to cs h = h
+  requests_passed depth (Takes_word ∷ xs) first to cs h = requests_passed depth xs (suc first) (suc to) cs h
+  requests_passed depth (Takes_own t ∷ xs) first to cs h =
+      requests_passed depth xs (suc first) (suc to) (moved (here fr ts s first) (Register depth to) cs) (requests_moved p a cs (here fr ts s first) (Register depth to) h)
+
+-- a cell that goes is enlisted no more
+no_request : (r : Option Request) (waits : Option Bool) → Tells None r waits → r ≡ None
+no_request x waits tells = grind arith
+
+pub requests_gone : (p : Image) (old new : Active) (cs : List Cell) (g : Place) (o : Object) → Tidy cs → held cs g ≡ Some o → Delists old new o.name → SameRequests p old cs → SameRequests p new (without g cs)
+requests_gone p old new cs g o tidy holds off h = elim off [ inl none ↦ unlisted none.0 none.1 | inr removes ↦ delisted removes ]
+  where
+    waits : (n : ℕ) → is_some (requested (without g cs) n) ≡ true → queued p cs n ≡ queued p (without g cs) n
+    waits n asked = go (o.name == n) refl
+      where
+        go : (b : Bool) → (o.name == n) ≡ b → queued p cs n ≡ queued p (without g cs) n
+        go true is = absurd (false≢true (sym (ap is_some (asked_gone cs g o tidy holds n ∙ ap (λ b. cond b None (requested cs n)) is)) ∙ asked))
+        go false other = sym (queued_gone p cs g o tidy holds n other)
+
+    unlisted : request_at old.table o.name ≡ None → new ≡ old → SameRequests p new (without g cs)
+    unlisted none same = subst (λ b. SameRequests p b (without g cs)) (sym same) (requests_as p old cs (without g cs) (λ n. by n (o.name == n) refl) waits h)
+      where
+        by : (n : ℕ) (b : Bool) → (o.name == n) ≡ b → requested cs n ≡ requested (without g cs) n
+        by n true is =
+            let never : requested cs n ≡ None = ap (requested cs) (sym (eqb-true o.name n is)) ∙ no_request (requested cs o.name) (queued p cs o.name) (subst (λ x. Tells x (requested cs o.name) (queued p cs o.name)) none (h.stands.tells o.name)) in
+            never ∙ sym (unrequested cs g n tidy never)
+        by n false other = sym (requested_without cs g o n tidy holds other)
+
+    delisted : Removes old new o.name → SameRequests p new (without g cs)
+    delisted removes = record {
+      stands = standing_follows new (asked_anew o.name None (requested cs)) (requested (without g cs)) (queued p cs) (queued p (without g cs)) (λ n. sym (asked_gone cs g o tidy holds n)) waits (removes.stands (requested cs) (queued p cs) h.stands);
+      limit = removes.limit ∙ h.limit;
+    }
+
+-- ---- another request of a cell changes no word and no count
+
+pub words_asked : (cs : List Cell) (n : ℕ) (r : Option Request) (k w : ℕ) → word_field (set_request n r cs) k w ≡ word_field cs k w
+words_asked [] n r k w = refl
+words_asked (c ∷ cs) n r k w = ap (λ x. cond (c.object.name == k) (at (pos 0) c.words w) x) (words_asked cs n r k w)
+
+-- so the same cells live
+pub cells_asked : (p : Image) (h : Heap) (cs : List Cell) (n : ℕ) (r : Option Request) → SameCells p h cs → SameCells p h (set_request n r cs)
+cells_asked p h cs n r =
+    cells_as p h cs (set_request n r cs) (λ k. ap thing_of ((rerequested_alike cs (Inside (record { name = n; thing = Message }) (Elsewhere Root)) r).named_so k)) (λ k w small. words_asked cs n r k w) (count_asked cs n r)

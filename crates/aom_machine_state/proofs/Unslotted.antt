@@ -1,0 +1,51 @@
+-- Where messages hold no slot any more the machine's cells and sessions are as they were: by the cells one after another.
+use Rattle.std.proofs.Common.{List, [], ap, cond, refl, suc, sym, ℕ, pos, ◌==◌, ◌∙◌, ◌∷◌, ◌≡◌}
+use Rattle.aom_cells.specs.Heap.{Heap}
+use Rattle.aom_image.specs.Image.{Image}
+use Rattle.aom_roles.specs.Things.{is_object}
+use Rattle.aom_machine_state.specs.Agrees.{SameCells, SameNatives, thing_of}
+use Rattle.aom_native_sessions.specs.Sessions.{Standing}
+use Rattle.aom_roles.specs.Tables.{at}
+use Rattle.aom_safety.proofs.Unslotting.{each_unslotted_alike}
+use Rattle.aom_semantics.specs.Clients.{each_unslotted}
+use Rattle.aom_semantics.specs.Places.{Cell, count_cells, in_session, word_field}
+use Rattle.aom_semantics.specs.Servers.{all_unslotted}
+
+words_unslotted : (c : ℕ) (cs : List Cell) (n w : ℕ) → word_field (all_unslotted c cs) n w ≡ word_field cs n w
+words_unslotted c [] n w = refl
+words_unslotted c (x ∷ xs) n w = ap (λ v. cond (x.object.name == n) (at (pos 0) x.words w) v) (words_unslotted c xs n w)
+
+count_unslotted : (c : ℕ) (cs : List Cell) → count_cells (all_unslotted c cs) ≡ count_cells cs
+count_unslotted c [] = refl
+count_unslotted c (x ∷ xs) = ap (λ n. cond (is_object x.object.thing) (suc n) n) (count_unslotted c xs)
+
+session_unslotted : (c : ℕ) (cs : List Cell) (n : ℕ) → in_session (all_unslotted c cs) n ≡ in_session cs n
+session_unslotted c [] n = refl
+session_unslotted c (x ∷ xs) n = ap (λ b. cond (x.object.name == n) x.session b) (session_unslotted c xs n)
+
+pub each_words : (clients : List ℕ) (cs : List Cell) (n w : ℕ) → word_field (each_unslotted clients cs) n w ≡ word_field cs n w
+each_words [] cs n w = refl
+each_words (c ∷ clients) cs n w = each_words clients (all_unslotted c cs) n w ∙ words_unslotted c cs n w
+
+each_count : (clients : List ℕ) (cs : List Cell) → count_cells (each_unslotted clients cs) ≡ count_cells cs
+each_count [] cs = refl
+each_count (c ∷ clients) cs = each_count clients (all_unslotted c cs) ∙ count_unslotted c cs
+
+each_session : (clients : List ℕ) (cs : List Cell) (n : ℕ) → in_session (each_unslotted clients cs) n ≡ in_session cs n
+each_session [] cs n = refl
+each_session (c ∷ clients) cs n = each_session clients (all_unslotted c cs) n ∙ session_unslotted c cs n
+
+pub cells_unslotted : (p : Image) (h : Heap) (clients : List ℕ) (cs : List Cell) → SameCells p h cs → SameCells p h (each_unslotted clients cs)
+cells_unslotted p h clients cs same = record {
+  things = λ n. same.things n ∙ ap thing_of (sym ((each_unslotted_alike clients cs).named_so n));
+  words = λ n w small. same.words n w small ∙ sym (each_words clients cs n w);
+  count = same.count ∙ sym (each_count clients cs);
+  limit = same.limit;
+  wide = same.wide;
+  classes = same.classes;
+  null_is_none = same.null_is_none;
+  below = same.below;
+}
+
+pub natives_unslotted : (p : Image) (w : Standing) (killed : List ℕ) (clients : List ℕ) (cs : List Cell) → SameNatives p w cs killed → SameNatives p w (each_unslotted clients cs) killed
+natives_unslotted p w killed clients cs same = record { sessions = λ n. same.sessions n ∙ sym (each_session clients cs n); dead = same.dead; limit = same.limit }

@@ -1,0 +1,271 @@
+-- A client closes or dies: its messages that wait go, its others hold no slot and are told to nobody, and all else goes on standing for what it stood for.
+use Rattle.std.proofs.Common.{Bool, List, None, Option, Some, [], ap, cond, false, length, refl, slice_index_or, subst, suc, sym, true, zero, ℕ, ◌&&◌, ◌<◌, ◌==◌, ◌∙◌, ◌∷◌, ◌≡◌, arith}
+use Rattle.std.specs.Prelude.{filter, map, not}
+use Rattle.std.proofs.lemmas.Bool.{eq-eqb, eqb-true, false≢true, ne_eqb}
+use Rattle.std.proofs.lemmas.Bool.Decides.{nat_tests}
+use Rattle.std.proofs.lemmas.List.{length-set}
+use Rattle.aom_clients.specs.Clients as kept
+use Rattle.aom_clients.specs.declared.client.Client.{Client}
+use Rattle.aom_clients.specs.declared.client.Client.TheVariants.{Open}
+use Rattle.aom_image.specs.Image.{Image}
+use Rattle.aom_clients.specs.declared.entry.Entry.{Entry}
+use Rattle.aom_clients.specs.declared.entry.Entry.TheVariants.{Connect, Message, Close}
+use Rattle.aom_clients.specs.declared.place.Place.{Place}
+use Rattle.aom_clients.specs.declared.place.Place.TheVariants.{Free, Queued}
+use Rattle.aom_clients.specs.Table.{is_queued, is_waiting_of, sender}
+use Rattle.aom_safety.proofs.Sifted.{cell_of, cell_of_sifted, kept as left_cell, service_cell, service_in, withdrawn_so}
+use Rattle.aom_semantics.specs.Places.{Asked, Cell, Close_of, Connect_of, Elsewhere, Object, Place as Owner, Queued as Waits_at, named, Sender, Service, Tidy, service_of}
+use Rattle.aom_semantics.specs.Servers.{asked_last, discarded, holds_slot, is_among, is_from, is_queue, is_queue_of, left_by, reserved, slots_taken, stays, withdrawn}
+use Rattle.aom_semantics.specs.Clients.{client_at, told, with_client}
+use Rattle.aom_semantics.specs.State.{State}
+use Rattle.aom_machine_state.proofs.Serving.{at_set, same_client, same_closing}
+use Rattle.aom_machine_state.specs.Serving.{Once, SameClients, asked_by, holds, message_name, owner_of, sent_by, sessionless, waits_in}
+
+at_map : {A : Type 0} (f : A → A) (none : A) (xs : List A) (n : ℕ) → f none ≡ none → slice_index_or (map f xs) n none ≡ f (slice_index_or xs n none)
+at_map f none [] n e = sym e
+at_map f none (x ∷ xs) zero e = refl
+at_map f none (x ∷ xs) (suc n) e = at_map f none xs n e
+
+-- ---- owners that are queues
+
+pub queue_owner : (q : Owner) → is_queue q ≡ true → (n : ℕ) × (m : ℕ) × (q ≡ Elsewhere (Waits_at n m))
+queue_owner x h = grind arith
+
+pub queue_of_queue : (n : ℕ) (q : Owner) → is_queue_of n q ≡ true → is_queue q ≡ true
+queue_of_queue n q h = grind arith
+
+pub queue_of_owner : (n : ℕ) (q : Owner) → is_queue_of n q ≡ true → (m : ℕ) × (q ≡ Elsewhere (Waits_at n m))
+queue_of_owner n q h = grind (arith, nat_tests, queue_owner q (queue_of_queue n q h), queue_of_queue n q h, eqb-true)
+
+-- ---- one cell
+
+abbrev pub owner_in : Option Cell → Option Owner
+owner_in None = None
+owner_in (Some x) = Some x.owner
+
+pub owner_cell : (cs : List Cell) (n : ℕ) → owner_of cs n ≡ owner_in (cell_of cs n)
+owner_cell [] n = refl
+owner_cell (c ∷ cs) n = grind (arith, nat_tests, owner_cell cs n, cell_of cs n)
+
+module _ (c : ℕ) where
+  abbrev drops : Cell → Bool
+  drops x = is_queue x.owner && is_from c x.service.sender
+
+  abbrev serves : Cell → Service
+  serves x = left_by c x.service
+
+  abbrev left_of : Option Cell → Option Cell
+  left_of x = left_cell drops serves x
+
+  -- ---- the sender of a message, and its place
+
+  -- the sender that is left
+  abbrev remains : Bool → Option Sender → Option Sender
+  remains goes x = cond goes None (discarded c x)
+
+  -- of a message at that place
+  sender_left : (slot slot' : Bool) (p : Place) → ((d : ℕ) → sender p ≡ d → (d == c) ≡ false → slot' ≡ slot) → (is_queued p ≡ false → (d : ℕ) → sender p ≡ d → (d == c) ≡ true → slot' ≡ false) →
+      sent_by slot' (kept.left_place c p) ≡ remains (is_queued p && is_from c (sent_by slot p)) (sent_by slot p)
+  sender_left slot slot' x other own = grind arith
+
+  queued_left : (slot : Bool) (p : Place) → is_queued (kept.left_place c p) ≡ cond (is_queued p && is_from c (sent_by slot p)) false (is_queued p)
+  queued_left slot p = grind (arith, nat_tests)
+
+  -- what slots it held of a client: none of this one's any more
+  slot_left : (goes : Bool) (x : Option Sender) (d : ℕ) → (goes ≡ true → is_from c x ≡ true) → holds_slot d (remains goes x) ≡ cond (c == d) false (holds_slot d x)
+  slot_left goes x d from = grind (arith, nat_tests, eqb-true c d)
+
+  slots_withdrawn : (cs : List Cell) (d : ℕ) → slots_taken d (withdrawn c cs) ≡ cond (c == d) 0 (slots_taken d cs)
+  slots_withdrawn [] d = grind (arith, nat_tests)
+  slots_withdrawn (x ∷ xs) d = grind (arith, nat_tests, slots_withdrawn xs d, slot_left)
+
+  -- what is at a place that another client's message has, and whose it is
+  left_other : (p : Place) → (sender p == c) ≡ false → kept.left_place c p ≡ p
+  left_other p e = grind (arith, nat_tests)
+
+  left_queued : (p : Place) (d : ℕ) → kept.left_place c p ≡ Queued d → (p ≡ Queued d) × ((d == c) ≡ false)
+  left_queued p d e = grind (arith, nat_tests)
+
+  left_own : (p : Place) → is_queued p ≡ false → sender (kept.left_place c p) ≡ sender p
+  left_own x e = grind arith
+
+  waits_of : (p : Place) → is_queued p ≡ true → is_waiting_of c p ≡ (sender p == c)
+  waits_of x e = grind arith
+
+-- ---- what waits in a queue
+
+-- the messages in it wait
+abbrev pub AllWait : List Place → List Entry → Type 0
+AllWait places [] = Unit {0}
+AllWait places (Connect c ∷ es) = AllWait places es
+AllWait places (Message j ∷ es) = (is_queued (slice_index_or places j Free) ≡ true) × AllWait places es
+AllWait places (Close c ∷ es) = AllWait places es
+
+module _ (c : ℕ) (places : List Place) where
+  abbrev places' : List Place
+  places' = map (λ p. kept.left_place c p) places
+
+  step : (b : Bool) (e : Entry) (r : List Entry) (a : Asked) (q : List Asked) → map (asked_by places') r ≡ q → (b ≡ true → asked_by places' e ≡ a) → map (asked_by places') (cond b (e ∷ r) r) ≡ cond b (a ∷ q) q
+  step x e r a q ih h = grind arith
+
+  entries_left : (es : List Entry) → AllWait places es → map (asked_by places') (filter (λ e. kept.stays c places e) es) ≡ filter (stays c) (map (asked_by places) es)
+  entries_left [] waits = refl
+  entries_left (Connect d ∷ es) waits = step (not (d == c)) (Connect d) (filter (λ e. kept.stays c places e) es) (Connect_of d) _ (entries_left es waits) (λ h. refl)
+  entries_left (Close d ∷ es) waits = ap (λ l. Close_of d ∷ l) (entries_left es waits)
+  entries_left (Message j ∷ es) waits = grind (arith, nat_tests, waits_of c, step, entries_left es waits.1, at_map, left_other c)
+
+-- ---- all of it
+
+-- what waits in a queue has no queue and no sessions of its own
+module _ (s : kept.State) (cs : List Cell) (clients : List Client) (same : SameClients s cs clients) (tidy : Tidy cs) (c : ℕ) (client : c < 64)
+    (plain : (n : ℕ) (x : Cell) → cell_of cs n ≡ Some x → is_queue x.owner ≡ true → (x.service.queue ≡ []) × (x.service.sessions ≡ [])) (waiting : (n : ℕ) → AllWait s.places (kept.queue_at s n)) where
+  abbrev then : kept.State
+  then = kept.withdrawn c s
+
+  abbrev left : List Cell
+  left = withdrawn c cs
+
+  cell_then : (n : ℕ) → cell_of left n ≡ left_of c (cell_of cs n)
+  cell_then n = ap (λ l. cell_of l n) (withdrawn_so c cs) ∙ cell_of_sifted (drops c) (serves c) cs n tidy
+
+  service_then : (n : ℕ) → service_of left n ≡ service_in (left_of c (cell_of cs n))
+  service_then n = service_cell left n ∙ ap service_in (cell_then n)
+
+  first : (a b : Bool) → (a && b) ≡ true → a ≡ true
+  first x b e = grind arith
+
+  queue_left : (n : ℕ) (x : Option Cell) → cell_of cs n ≡ x → filter (stays c) (service_in x).queue ≡ (service_in (left_of c x)).queue
+  queue_left y z at = grind (arith, nat_tests, service_in, first)
+
+  sessions_left : (n : ℕ) (x : Option Cell) → cell_of cs n ≡ x → (service_in x).sessions ≡ (service_in (left_of c x)).sessions
+  sessions_left y z at = grind (arith, nat_tests, service_in, first)
+
+  place_then : (j : ℕ) → kept.place_at then j ≡ kept.left_place c (kept.place_at s j)
+  place_then j = at_map (λ p. kept.left_place c p) Free s.places j refl
+
+  sent_of : (d : ℕ) → kept.sent_at then d ≡ cond (c == d) [] (kept.sent_at s d)
+  sent_of d = at_set [] s.sent c d [] (subst (λ n. c < n) (sym same.lists) client)
+
+  among_then : (d j : ℕ) → is_among j (kept.sent_at then d) ≡ cond (c == d) false (is_among j (kept.sent_at s d))
+  among_then d j = grind (arith, nat_tests, sent_of d)
+
+  swapped : (a b : ℕ) (x : Bool) → (a == b) ≡ x → (b == a) ≡ x
+  swapped a b true e = eq-eqb b a (sym (eqb-true a b e))
+  swapped a b false e = ne_eqb b a (λ same. false≢true (sym e ∙ eq-eqb a b (sym same)))
+
+  -- a cell with its sender and its place
+  sender_told : (j : ℕ) (x : Option Cell) → cell_of cs (message_name j) ≡ x → sent_by (holds s j) (kept.place_at s j) ≡ (service_in x).sender
+  sender_told j x at = same.senders j ∙ ap (λ (v : Service). v.sender) (service_cell cs (message_name j) ∙ ap service_in at)
+
+  waits_told : (j : ℕ) (x : Option Cell) → cell_of cs (message_name j) ≡ x → is_queued (kept.place_at s j) ≡ waits_in (owner_in x)
+  waits_told j x at = same.waits j ∙ ap waits_in (owner_cell cs (message_name j) ∙ ap owner_in at)
+
+  goes_so : (j : ℕ) (x : Cell) → cell_of cs (message_name j) ≡ Some x → (is_queued (kept.place_at s j) && is_from c (sent_by (holds s j) (kept.place_at s j))) ≡ drops c x
+  goes_so j x at = grind (arith, nat_tests, waits_told j (Some x) at, sender_told j (Some x) at)
+
+  none_goes : (p : Place) (slot : Bool) → sent_by slot p ≡ None → (is_queued p && is_from c (sent_by slot p)) ≡ false
+  none_goes x slot e = grind arith
+
+  left_sender : (j : ℕ) (x : Option Cell) → cell_of cs (message_name j) ≡ x →
+      remains c (is_queued (kept.place_at s j) && is_from c (sent_by (holds s j) (kept.place_at s j))) (sent_by (holds s j) (kept.place_at s j)) ≡ (service_in (left_of c x)).sender
+  left_sender j None at = grind (arith, nat_tests, none_goes, sender_told j None at)
+  left_sender j (Some x) at = grind (arith, nat_tests, goes_so j x at, sender_told j (Some x) at, service_in)
+
+  senders_then : (j : ℕ) → sent_by (holds then j) (kept.place_at then j) ≡ (service_of left (message_name j)).sender
+  senders_then j =
+      ap (λ p. sent_by (is_among j (kept.sent_at then (sender p))) p) (place_then j)
+      ∙ sender_left c (holds s j) (is_among j (kept.sent_at then (sender (kept.left_place c (kept.place_at s j))))) (kept.place_at s j) other own
+      ∙ left_sender j (cell_of cs (message_name j)) refl ∙ sym (ap (λ (v : Service). v.sender) (service_then (message_name j)))
+    where
+      p : Place
+      p = kept.place_at s j
+
+      other : (d : ℕ) → sender p ≡ d → (d == c) ≡ false → is_among j (kept.sent_at then (sender (kept.left_place c p))) ≡ holds s j
+      other d is e =
+          let apart : (sender p == c) ≡ false = ap (λ k. k == c) is ∙ e in
+          ap (λ q. is_among j (kept.sent_at then (sender q))) (left_other c p apart) ∙ among_then (sender p) j ∙ ap (λ b. cond b false (is_among j (kept.sent_at s (sender p)))) (swapped (sender p) c false apart)
+
+      own : is_queued p ≡ false → (d : ℕ) → sender p ≡ d → (d == c) ≡ true → is_among j (kept.sent_at then (sender (kept.left_place c p))) ≡ false
+      own unqueued d is e =
+          ap (λ k. is_among j (kept.sent_at then k)) (left_own c p unqueued) ∙ among_then (sender p) j ∙ ap (λ b. cond b false (is_among j (kept.sent_at s (sender p)))) (swapped (sender p) c true (ap (λ k. k == c) is ∙ e))
+
+  -- what is told of places alone, and of cells but for what clients have there
+  told_then : (f : Place → Bool) (g : Option Cell → Bool) → ((j : ℕ) → f (kept.left_place c (kept.place_at s j)) ≡ cond (is_queued (kept.place_at s j) && is_from c (sent_by (holds s j) (kept.place_at s j))) false (f (kept.place_at s j))) →
+      ((x : Cell) (v : Service) → g (Some (record x { service = v })) ≡ g (Some x)) → g None ≡ false → ((j : ℕ) (x : Option Cell) → cell_of cs (message_name j) ≡ x → f (kept.place_at s j) ≡ g x) → (j : ℕ) →
+      f (kept.place_at then j) ≡ g (cell_of left (message_name j))
+  told_then f g leaves plain none told j = ap f (place_then j) ∙ leaves j ∙ go (cell_of cs (message_name j)) refl ∙ sym (ap g (cell_then (message_name j)))
+    where
+      go : (x : Option Cell) → cell_of cs (message_name j) ≡ x → cond (is_queued (kept.place_at s j) && is_from c (sent_by (holds s j) (kept.place_at s j))) false (f (kept.place_at s j)) ≡ g (left_of c x)
+      go None at = ap (λ b. cond b false (f (kept.place_at s j))) (none_goes (kept.place_at s j) (holds s j) (sender_told j None at)) ∙ told j None at
+      go (Some x) at = ap (λ b. cond b false (f (kept.place_at s j))) (goes_so j x at) ∙ by (drops c x)
+        where
+          by : (b : Bool) → cond b false (f (kept.place_at s j)) ≡ g (cond b None (Some (record x { service = left_by c x.service })))
+          by true = sym none
+          by false = told j (Some x) at ∙ sym (plain x (left_by c x.service))
+
+  waits_then : (j : ℕ) → is_queued (kept.place_at then j) ≡ waits_in (owner_of left (message_name j))
+  waits_then j = told_then is_queued (λ x. waits_in (owner_in x)) (λ j. queued_left c (holds s j) (kept.place_at s j)) (λ x v. refl) refl waits_told j ∙ sym (ap waits_in (owner_cell left (message_name j)))
+
+  slots_of_then : (d j : ℕ) → is_among j (kept.sent_at then d) ≡ holds_slot d (service_of left (message_name j)).sender
+  slots_of_then d j =
+      among_then d j ∙ ap (λ b. cond (c == d) false b) (same.slots_of d j ∙ ap (λ (v : Service). holds_slot d v.sender) (service_cell cs (message_name j))) ∙ go (cell_of cs (message_name j))
+      ∙ sym (ap (λ (v : Service). holds_slot d v.sender) (service_then (message_name j)))
+    where
+      go : (x : Option Cell) → cond (c == d) false (holds_slot d (service_in x).sender) ≡ holds_slot d (service_in (left_of c x)).sender
+      go None = never (c == d)
+        where
+          never : (b : Bool) → cond b false false ≡ false
+          never true = refl
+          never false = refl
+      go (Some x) = sym (slot_left c (drops c x) x.service.sender d (λ e. second (is_queue x.owner) (is_from c x.service.sender) e)) ∙ by (drops c x)
+        where
+          second : (a b : Bool) → (a && b) ≡ true → b ≡ true
+          second x b e = grind arith
+
+          by : (b : Bool) → holds_slot d (remains c b x.service.sender) ≡ holds_slot d (service_in (cond b None (Some (record x { service = left_by c x.service })))).sender
+          by true = refl
+          by false = refl
+
+  slotted_then : (j d : ℕ) → kept.place_at then j ≡ Queued d → is_among j (kept.sent_at then d) ≡ true
+  slotted_then j d e = grind (arith, nat_tests, left_queued c, place_then j, among_then d j, swapped d c)
+
+  pub same_withdrawn : SameClients then left clients
+  same_withdrawn = record {
+    at = same.at;
+    queues = λ n. ap (λ es. map (asked_by then.places) es) (at_map (λ es. filter (λ e. kept.stays c s.places e) es) [] s.queues n refl) ∙ entries_left c s.places (kept.queue_at s n) (waiting n)
+        ∙ ap (λ q. filter (stays c) q) (same.queues n ∙ ap (λ (v : Service). v.queue) (service_cell cs n)) ∙ queue_left n (cell_of cs n) refl ∙ sym (ap (λ (v : Service). v.queue) (service_then n));
+    sessions = λ n. same.sessions n ∙ ap (λ (v : Service). v.sessions) (service_cell cs n) ∙ sessions_left n (cell_of cs n) refl ∙ sym (ap (λ (v : Service). v.sessions) (service_then n));
+    senders = senders_then;
+    waits = waits_then;
+    slots_of = slots_of_then;
+    slotted = slotted_then;
+    once = λ d. subst Once (sym (sent_of d)) (once_then (c == d) d);
+    slots = λ d. ap length (sent_of d) ∙ slots_so (c == d) d ∙ sym (slots_withdrawn c cs d);
+    many = same.many;
+    lists = length-set s.sent c [] ∙ same.lists;
+  }
+    where
+      once_then : (b : Bool) (d : ℕ) → Once (cond b [] (kept.sent_at s d))
+      once_then y d = grind arith
+
+      slots_so : (b : Bool) (d : ℕ) → length (cond b [] (kept.sent_at s d)) ≡ cond b 0 (slots_taken d cs)
+      slots_so y d = grind arith
+
+  -- its close is asked for where its session was open
+  module _ (p : Image) (st : State) (to : Client) (tidy_left : Tidy left)
+      (server : (n session slots : ℕ) → kept.client_at s c ≡ Open n session slots → (o : Object) × (o.name ≡ n) × (named left o.name ≡ Some o) × (o.name < length then.queues)) where
+    abbrev moved : kept.State
+    moved = kept.with_client c to then
+
+    now : SameClients moved left (with_client c (sessionless to) clients)
+    now = same_client then left clients same_withdrawn c client to
+
+    told_so : (x : Client) → kept.client_at s c ≡ x → SameClients (kept.told x c moved) (told p c st (sessionless x) left) (with_client c (sessionless to) clients)
+    told_so (Open n session slots) at =
+        let o = server n session slots at in
+        subst (λ k. SameClients (kept.queued k (Close c) moved) (reserved (asked_last (Close_of c)) k left) (with_client c (sessionless to) clients)) o.1
+        (same_closing moved left (with_client c (sessionless to) clients) now tidy_left o.0 o.2 c client o.3)
+    told_so _ at = now
+
+    pub same_left : SameClients (kept.leaving (Some to) c s) (told p c st (client_at clients c) left) (with_client c (sessionless to) clients)
+    same_left = subst (λ x. SameClients (kept.leaving (Some to) c s) (told p c st x left) (with_client c (sessionless to) clients)) (same.at c) (told_so (kept.client_at s c) refl)

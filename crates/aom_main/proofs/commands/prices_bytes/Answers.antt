@@ -1,5 +1,0 @@
--- A check with the figures.
-use Rattle.aom_main.proofs.commands.prices_bytes.Goals as goal
-
-pub returns : goal.returns
-returns g c = c.told.ensures

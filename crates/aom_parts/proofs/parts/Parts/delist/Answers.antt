@@ -1,5 +1,0 @@
-use Rattle.std.proofs.Common.{rules}
-use Rattle.aom_parts.proofs.parts.Parts.delist.Goals as goal
-
-pub returns-clause-unlisted : goal.returns-clause-unlisted
-returns-clause-unlisted c = search rules

@@ -1,5 +1,0 @@
-use Rattle.std.proofs.Common.{rules}
-use Rattle.aom_parts.proofs.parts.Parts.take_field.Goals as goal
-
-pub returns-clause-emptied : goal.returns-clause-emptied
-returns-clause-emptied c = search rules

@@ -1,0 +1,208 @@
+-- A method that accepts returns to its dispatch: what it gives is the session of the client.
+use Rattle.std.proofs.lemmas.Bool.Decides.{nat_tests}
+use Rattle.std.proofs.Math.Bool.{or-true}
+use Rattle.std.proofs.Common.{arith, [], Bool, List, None, Some, ap, cond, false, length, refl, subst, sym, true, ℕ, ◌==◌, ◌∙◌, ◌∷◌, ◌≡◌}
+use Rattle.std.proofs.lemmas.Bool.{eq-eqb, eqb-true}
+use Rattle.std.specs.Prelude.{is_none, ◌&&◌, ◌++◌, ◌||◌}
+use Rattle.aom_image.specs.Image.{Image}
+use Rattle.aom_image.specs.Views.{gives_of}
+use Rattle.aom_image.specs.declared.method.Gives.{Gives}
+use Rattle.aom_image.specs.declared.method.Gives.TheVariants.{Own as An_own}
+use Rattle.aom_image.specs.declared.method.Thing.{Thing}
+use Rattle.aom_instructions.specs.declared.instr.Instr.TheVariants.{Return}
+use Rattle.aom_roles.specs.Tests.{AllTrue}
+use Rattle.aom_rules.specs.Calls.{entries_done, result_moved, rule_result}
+use Rattle.aom_rules.specs.Typing.{Typing}
+use Rattle.aom_shape.specs.Kinds.{no_entry, none_owns, register, set_register}
+use Rattle.aom_shape.specs.Shape.{Shape}
+use Rattle.aom_shape.specs.declared.kind.Age.TheVariants.{Ready}
+use Rattle.aom_shape.specs.declared.kind.Kind.{Kind}
+use Rattle.aom_shape.specs.declared.kind.Kind.TheVariants.{Null, Own}
+use Rattle.aom_safety.proofs.Claimed.{claim-set_register, claim_rel, fits_age, keep_fits, mark_claims}
+use Rattle.aom_safety.proofs.Finishing.{Returnable, ended, ended_plainly, return_needs, returnable, same_items}
+use Rattle.aom_safety.proofs.Items.{forms_below, mark_on_top, undos_below}
+use Rattle.aom_semantics.proofs.Maps.{held_moved, named_moved, requested_moved, same_place-true, tidy_moved}
+use Rattle.aom_safety.proofs.Returning.{held_thing}
+use Rattle.aom_safety.proofs.Widening.{Widens, own_widens}
+use Rattle.aom_safety.proofs.Seats.{first_kept, sits_kept}
+use Rattle.aom_safety.proofs.Services.{held_served, named_served, requested_served, service_here, service_moved, service_there, sits_lives, tidy_served}
+use Rattle.aom_safety.proofs.Straight.{At, Law, claim_register, fits_unowning, register_fits, word_of_object}
+use Rattle.aom_safety.proofs.Suiting.{all_returned, known_resting, rests_there, suits_rests}
+use Rattle.aom_semantics.specs.Calls.{result_needs}
+use Rattle.aom_safety.specs.Claims.{Dispatching, Layer, Mark, Mark_form, Method, claim, declared, declared_field, tasks_of}
+use Rattle.aom_semantics.specs.Places.{Cell, Elsewhere, Field, Place, Queued, Register, Service, Session, changed, held, moved, named, requested, same_place, seen, service_of, set_service}
+use Rattle.aom_safety.specs.Requests.{AllSuit}
+use Rattle.aom_semantics.specs.Servers.{has_message, has_session, is_among, opened}
+use Rattle.aom_semantics.specs.State.{word, Accepted, Accepts, Choice, Frame, Of_server, Seat, State}
+use Rattle.aom_safety.specs.WellTyped.{AllSit, Fits, Good, NoSeatAt}
+
+-- the client is among those with one more if it is the one, or was among them
+among_new : (c : ℕ) (ss : List ℕ) → is_among c (ss ++ c ∷ []) ≡ true
+among_new c [] = ap (λ b. b || false) (eq-eqb c c refl)
+among_new c (d ∷ ss) = ap (λ b. (d == c) || b) (among_new c ss) ∙ or-true (d == c)
+
+among_old : (k c : ℕ) (ss : List ℕ) → (c == k) ≡ false → is_among k (ss ++ c ∷ []) ≡ is_among k ss
+among_old k c [] e = ap (λ b. b || false) e
+among_old k c (d ∷ ss) e = ap (λ b. (d == k) || b) (among_old k c ss e)
+
+module _ (p : Image) (t : Typing) (c : Choice) (s : State) (fr : Frame) (sh : Shape) (gv : Gives) (x : Seat) (client : ℕ) (seats : List Seat) (ls : List Layer)
+    (at_hand : At p t s fr sh (Mark gv ∷ Dispatching (Of_server x client Accepts) seats ∷ ls)) (a : ℕ) where
+  abbrev below : List Layer
+  below = Mark gv ∷ Dispatching (Of_server x client Accepts) seats ∷ ls
+
+  abbrev n : ℕ
+  n = x.object.name
+
+  abbrev cs : List Cell
+  cs = s.cells
+
+  abbrev q : Place
+  q = Register (length (tasks_of below)) a
+
+  abbrev to : Place
+  to = Elsewhere (Session n client)
+
+  abbrev cs1 : List Cell
+  cs1 = moved q to cs
+
+  abbrev v : Service
+  v = opened client (service_of cs1 n)
+
+  abbrev cs2 : List Cell
+  cs2 = set_service n v cs1
+
+  lives : named cs n ≡ Some x.object
+  lives = sits_lives cs seats x at_hand.good.stack.4.1.2 at_hand.good.stack.4.1.3
+
+  none_yet : has_session (service_of cs n) client ≡ false
+  none_yet = at_hand.good.stack.4.1.4.1
+
+  abbrev thing : Thing
+  thing = at_hand.good.stack.4.1.0.0
+
+  gives : gives_of p fr.method ≡ An_own thing
+  gives = at_hand.good.stack.4.0.0 ∙ at_hand.good.stack.4.1.0.1
+
+  -- the session has a free place
+  free : held cs to ≡ None
+  free = grind (arith, nat_tests, fits_unowning p, none_yet)
+
+  named_then : (m : ℕ) → named cs2 m ≡ named cs m
+  named_then m = named_served cs1 n v m ∙ named_moved cs q to m
+
+  requested_then : (m : ℕ) → requested cs2 m ≡ requested cs m
+  requested_then m = requested_served cs1 n v m ∙ requested_moved cs q to m
+
+  service_now : service_of cs2 n ≡ opened client (service_of cs n)
+  service_now = service_here cs1 n v x.object (named_moved cs q to n ∙ lives) ∙ ap (opened client) (service_moved cs q to n)
+
+  service_then : (m : ℕ) → (n == m) ≡ false → service_of cs2 m ≡ service_of cs m
+  service_then m other = service_there cs1 n m v other ∙ service_moved cs q to m
+
+  sessions_then : (m k : ℕ) → ((n == m) && (client == k)) ≡ false → has_session (service_of cs2 m) k ≡ has_session (service_of cs m) k
+  sessions_then m k other = grind (arith, nat_tests, eqb-true, service_now, among_old k client, service_then m)
+
+  messages_then : (m k : ℕ) → has_message (service_of cs2 m) k ≡ has_message (service_of cs m) k
+  messages_then m k = grind (arith, nat_tests, eqb-true, service_now, service_then m)
+
+  -- nothing but the session is declared anew
+  declared_then : (r : Place) → same_place to r ≡ false → declared p cs2 r ≡ declared p cs r
+  declared_then (Field m f) e = ap (λ o. declared_field p o f) (named_then m)
+  declared_then (Elsewhere (Session m k)) e = grind (arith, nat_tests, sessions_then m k e, named_then m)
+  declared_then (Elsewhere (Queued m k)) e = grind (arith, nat_tests, messages_then m k, named_then m)
+  declared_then _ e = refl
+
+  declared_now : declared p cs2 to ≡ Own thing Ready
+  declared_now = grind (arith, nat_tests, service_now, among_new client, named_then, lives)
+
+  -- a dispatch at either stage claims nothing
+  claims_alike : (d : Place → Kind) (r : Place) → claim p d (Dispatching (Of_server x client Accepted) seats ∷ ls) r ≡ claim p d (Dispatching (Of_server x client Accepts) seats ∷ ls) r
+  claims_alike d y = grind arith
+
+  module _ (r : Returnable p fr sh a) where
+    rule : AllTrue (rule_result p fr.method fr.place sh (An_own thing) a)
+    rule = subst (λ g. AllTrue (rule_result p fr.method fr.place sh g a)) gives r.result
+
+    given : Widens p (register sh a) (Own thing Ready)
+    given = own_widens p thing (register sh a) rule.0 rule.1.0
+
+    entries : no_entry sh.entries ≡ true
+    entries = ap (λ g. entries_done p g sh.entries) (sym gives) ∙ r.entries
+
+    rest_free : none_owns (set_register sh a Null).registers ≡ true
+    rest_free = ap (λ g. none_owns (result_moved p fr.method fr.place sh g a).registers) (sym gives) ∙ r.free
+
+    fits_then : (r : Place) → Fits p (seen cs2) (held cs2 r) (claim p (declared p cs2) (Dispatching (Of_server x client Accepted) seats ∷ ls) r)
+    fits_then r =
+        subst (λ o. Fits p (seen cs2) o (claim p (declared p cs2) (Dispatching (Of_server x client Accepted) seats ∷ ls) r)) (sym (held_served cs1 n v r))
+        (fits_age p (seen cs1) (seen cs2) (held cs1 r) _ (λ y e fresh age. (λ f. held_served cs1 n v (Field y.name f) ∙ age.0 f, requested_served cs1 n v y.name ∙ age.1)) (go (same_place to r) refl carried))
+      where
+        k : Place → Kind
+        k = claim p (declared p cs) (Method fr sh ∷ below)
+
+        carried : Fits p (seen cs1) (held cs1 r) (changed (changed k q Null) to (k q) r)
+        carried = keep_fits p (seen cs) (seen cs1) k (changed (changed k q Null) to (k q)) q to (λ r. held_moved cs q to r free) (requested_moved cs q to) (λ r. refl) (λ r y e fresh f. refl) at_hand.good.fits r
+
+        go :
+            (b : Bool) → same_place to r ≡ b → Fits p (seen cs1) (held cs1 r) (cond b (k q) (cond (same_place q r) Null (k r))) →
+            Fits p (seen cs1) (held cs1 r) (claim p (declared p cs2) (Dispatching (Of_server x client Accepted) seats ∷ ls) r)
+        go true e f =
+            let its_claim : claim p (declared p cs2) (Dispatching (Of_server x client Accepted) seats ∷ ls) to ≡ Own thing Ready =
+            ap (λ l. claim p (declared p cs2) l to) at_hand.good.stack.4.1.1 ∙ declared_now in
+            subst (λ y. Fits p (seen cs1) (held cs1 r) (claim p (declared p cs2) (Dispatching (Of_server x client Accepted) seats ∷ ls) y)) (same_place-true to r e)
+            (subst (λ y. Fits p (seen cs1) (held cs1 r) y) (sym its_claim) (given.fits (seen cs1) (held cs1 r) (subst (λ y. Fits p (seen cs1) (held cs1 r) y) (claim_register p (declared p cs) fr sh below a) f)))
+        go false e f =
+            let bare = subst (λ y. Fits p (seen cs1) (held cs1 r) y) (sym (claim-set_register p (declared p cs) fr sh below a Null r)) f in
+            let over =
+            ended p cs fr (set_register sh a Null) below at_hand.good.stack.1.holder at_hand.good.stack.1.view at_hand.good.stack.2 at_hand.good.stack.3 refl entries rest_free (λ serving. absurd (at_hand.good.stack.1.message.0 serving)) r
+            (seen cs1) (held cs1 r) bare in
+            subst (λ y. Fits p (seen cs1) (held cs1 r) y)
+            (mark_claims p (declared p cs) gv (Dispatching (Of_server x client Accepts) seats ∷ ls) r ∙ sym (claims_alike (declared p cs) r)
+            ∙ claim_rel (λ y z. y ≡ z) (λ y. refl) p (declared p cs) (declared p cs2) (Dispatching (Of_server x client Accepted) seats ∷ ls) r (sym (declared_then r e)))
+            over
+
+    no_seat_there : (xs : List Seat) → AllSit cs xs → NoSeatAt to xs
+    no_seat_there [] h = tt
+    no_seat_there (y ∷ ys) h = (go (same_place to y.place) refl, no_seat_there ys h.1)
+      where
+        go : (b : Bool) → same_place to y.place ≡ b → b ≡ false
+        go z e = grind (arith, nat_tests, same_place-true, free)
+
+    sits_then : AllSit cs2 seats
+    sits_then = sits_kept cs cs2 q to seats
+        (λ r o other other' there lives. (grind (arith, nat_tests, held_served, held_moved, free), named_then o.name ∙ lives))
+        tt (no_seat_there seats at_hand.good.stack.4.1.2) at_hand.good.stack.4.1.2
+
+    suits_then : AllSuit p cs2 (Dispatching (Of_server x client Accepted) seats ∷ ls)
+    suits_then o lives = grind (
+      arith,
+      nat_tests,
+      requested_then o.name,
+      named_then o.name,
+      lives,
+      all_returned p,
+      rests_there p o,
+      suits_rests,
+      known_resting p o fr sh.states,
+    )
+
+    good_then : Good p t cs2 (Dispatching (Of_server x client Accepted) seats ∷ ls)
+    good_then = record {
+      stack = grind (arith, nat_tests, sits_then, first_kept, lives, requested_then, service_now, among_new client);
+      fits = fits_then;
+      suits = suits_then;
+      tidy = tidy_served cs1 n v (tidy_moved cs q to free at_hand.good.tidy);
+    }
+
+    needs_met : AllTrue (result_needs p fr (tasks_of below) s (An_own thing) a)
+    needs_met =
+        let h = held_thing p s thing (held cs q) (given.fits (seen cs) (held cs q) (register_fits p cs fr sh below at_hand.good.fits a)) in
+        (ap is_none (word_of_object (word fr a) (register sh a) given.object (at_hand.good.stack.1.words a)), (h.0, (h.1, tt)))
+
+  pub law_return_accepted : Law p t c s fr sh below at_hand (Return a)
+  law_return_accepted needed leads =
+      let r = returnable p fr sh a needed in
+      let items = same_items p t c s fr sh below at_hand (entries r) in (
+        return_needs p t c s fr sh below at_hand a r (subst (λ g. AllTrue (result_needs p fr (tasks_of below) s g a)) (sym gives) (needs_met r)) (mark_on_top s.items _ items, (ap is_none free, tt)),
+        grind (arith, nat_tests, ended_plainly p t c s fr sh, forms_below s.items Mark_form, undos_below p s.items at_hand.undos, good_then r),
+      )

@@ -1,0 +1,73 @@
+-- The boot state is well typed.
+use Rattle.std.proofs.lemmas.Bool.Decides.{nat_tests}
+use Rattle.std.proofs.Common.{List, None, Option, Some, [], ap, refl, subst, sym, true, ℕ, ◌∙◌, ◌∷◌, ◌≡◌, arith}
+use Rattle.std.specs.Prelude.{IsSome}
+use Rattle.aom_classes.specs.Roles.{main_of}
+use Rattle.aom_image.specs.Image.{Image}
+use Rattle.aom_image.specs.Views.{arguments_of, gives_of, method_role}
+use Rattle.aom_image.specs.declared.method.Gives.TheVariants.{Nothing}
+use Rattle.aom_image.specs.declared.method.Role.TheVariants.{Main}
+use Rattle.aom_image.specs.declared.method.Thing.{Thing}
+use Rattle.aom_shape.specs.Kinds.{filled, is_empty, register}
+use Rattle.aom_shape.specs.Order.{SaysNoMore, Weaker, WeakerFilling, alike_filling}
+use Rattle.aom_shape.specs.Shape.{Shape}
+use Rattle.aom_rules.specs.Typing.{IsTyped, Typing, shape_at}
+use Rattle.aom_shape.specs.Arguments.{entry_shape}
+use Rattle.aom_shape.specs.declared.kind.Filling.{Filling}
+use Rattle.aom_shape.specs.declared.kind.Filling.TheVariants.{Full}
+use Rattle.aom_shape.specs.declared.kind.Kind.TheVariants.{Unset}
+use Rattle.aom_safety.proofs.Destroying.{entry_registers, unset_only}
+use Rattle.aom_safety.proofs.Housing.{counts_same, houses_same}
+use Rattle.aom_safety.specs.Claims.{Dispatching, Layer, Mark, Mark_form, Method, claim, declared, forms, objects}
+use Rattle.aom_safety.specs.Laws.{IsWired}
+use Rattle.aom_semantics.specs.Places.{Place, Sight, seen}
+use Rattle.aom_semantics.specs.State.{A_mark, AtRoot, Frame, Of_main, State, frame_of}
+use Rattle.aom_safety.specs.WellTyped.{AllUndo, Fits, Good, WellTyped}
+use Rattle.aom_semantics.specs.World.{boot_state, main_tasks}
+use Rattle.aom_safety.proofs.Attending.{plain_claim}
+
+abbrev begins : ℕ → Frame
+begins m = frame_of m AtRoot 1
+
+-- main's root is null as it begins
+root_null : (p : Image) (h : Sight) (x : Option Thing) (y z : Filling) → WeakerFilling y z → is_empty z ≡ true → Fits p h None (filled x y)
+root_null p h (Some x) Full z alike_filling e = cc
+root_null p h _ _ z w e = tt
+
+module _ (p : Image) (m : ℕ) (after : Shape) (w : SaysNoMore after (entry_shape p m)) (role : method_role p m ≡ Some Main) (arguments : arguments_of p m ≡ []) where
+  unset : (i : ℕ) → register after i ≡ Unset
+  unset i = unset_only (subst (λ k. Weaker (register after i) k) (entry_registers p m arguments i) (w.registers i))
+
+  abbrev layers : List Layer
+  layers = Method (begins m) after ∷ Mark Nothing ∷ Dispatching Of_main [] ∷ []
+
+  fits : (r : Place) → Fits p (seen []) None (claim p (declared p []) layers r)
+  fits x = grind (arith, nat_tests, unset, root_null p, plain_claim)
+
+  pub good : (t : Typing) → shape_at t m 0 ≡ Some after → gives_of p m ≡ Nothing → Good p t [] layers
+  good t stands gives = record {
+    stack = grind (arith, nat_tests, unset, houses_same p, counts_same p AtRoot);
+    fits = fits;
+    suits = λ o lives. cc;
+    tidy = tt;
+  }
+
+-- main is typed, and stands where the typing begins
+booted : (p : Image) (t : Typing) → IsWired p → IsTyped p t → (m : ℕ) → main_of p ≡ Some m → (s : State) → s.cells ≡ [] → s.tasks ≡ main_tasks (Some m) → s.items ≡ A_mark ∷ [] → WellTyped p t s
+booted p t wired typed m e s cells tasks items =
+    let w = wired.main m e in
+    let leads = typed.entry m w.0 in
+    let below = Mark Nothing ∷ Dispatching Of_main [] ∷ [] in
+    record {
+      layers = Method (begins m) leads.0 ∷ below;
+      tasks = tasks;
+      items = ap forms items ∙ sym (ap (λ es. objects es (Mark_form ∷ [])) leads.2.entries);
+      undos = subst (λ is. AllUndo p is) (sym items) tt;
+      good = subst (λ cs. Good p t cs (Method (begins m) leads.0 ∷ below)) (sym cells) (good p m leads.0 leads.2 w.1 w.3 t leads.1 w.2);
+    }
+
+some_of : {A : Type 0} (x : Option A) → IsSome x → (y : A) × (x ≡ Some y)
+some_of x s = grind arith
+
+pub boot_keeps : (p : Image) (t : Typing) → IsWired p → IsTyped p t → WellTyped p t (boot_state p)
+boot_keeps p t wired typed = let m = some_of (main_of p) wired.has_main in booted p t wired typed m.0 m.1 (boot_state p) refl (ap main_tasks m.1) refl

@@ -1,0 +1,90 @@
+-- A method that cancels returns: the request of its object is idle, and its signal is taken.
+use Rattle.std.proofs.lemmas.Bool.Decides.{nat_tests}
+use Rattle.std.proofs.Common.{Bool, IsTrue, List, Option, Some, ap, cond, false, refl, subst, sym, true, ℕ, ◌∙◌, ◌∷◌, ◌≡◌, arith}
+use Rattle.std.proofs.lemmas.Bool.{ne_eqb, true≢false}
+use Rattle.aom_image.specs.Image.{Image}
+use Rattle.aom_image.specs.Views.{has, method_role}
+use Rattle.aom_image.specs.declared.method.Role.{Role}
+use Rattle.aom_image.specs.declared.method.Role.TheVariants.{Cancel}
+use Rattle.aom_roles.specs.Tests.{only_if}
+use Rattle.aom_roles.specs.Roles.{is_cancel}
+use Rattle.aom_roles.specs.States.{cancel_done, idle}
+use Rattle.aom_rules.specs.Typing.{Typing}
+use Rattle.aom_shape.proofs.Sets.{has_itself}
+use Rattle.aom_shape.specs.Arguments.{after_of}
+use Rattle.aom_shape.specs.Kinds.{is_ready_kind, no_entry, none_owns}
+use Rattle.aom_shape.specs.Shape.{Shape}
+use Rattle.aom_safety.proofs.Claimed.{claim_ready}
+use Rattle.aom_safety.proofs.Finishing.{Returnable, ended}
+use Rattle.aom_semantics.proofs.Maps.{one_place}
+use Rattle.aom_safety.proofs.Storing.{Alike, fits_alike, housed_alike, listed_still, on_some, requested_here, requested_there, rerequested_alike, stack_alike}
+use Rattle.aom_safety.proofs.Straight.{At, Fitted}
+use Rattle.aom_safety.proofs.Suiting.{all_returned, cancel_ends, rejoins_caller}
+use Rattle.aom_safety.specs.Claims.{Layer, Method, claim, declared}
+use Rattle.aom_semantics.specs.Enlisted.{cancelled, on_request, own_request, rerequested}
+use Rattle.aom_semantics.specs.Places.{Cell, Object, Place, Request, held, named, requested, seen}
+use Rattle.aom_safety.specs.Requests.{AllSuit, Suits, known_at, states_claim, thing_kind, works_at}
+use Rattle.aom_semantics.specs.State.{AtRoot, Choice, Frame, Home, Inside, State, Static}
+use Rattle.aom_safety.specs.WellTyped.{EndsWell, Holds, IsAlone, IsApart, IsHoused, Returns, Stack}
+
+pub role_cancels : (r : Option Role) → is_cancel r ≡ true → r ≡ Some Cancel
+role_cancels x e = grind arith
+
+module _ (p : Image) (t : Typing) (c : Choice) (s : State) (fr fr2 : Frame) (sh sh2 : Shape) (ls : List Layer) (at_hand : At p t s fr sh (Method fr2 sh2 ∷ ls)) (a : ℕ)
+    (r : Returnable p fr sh a) (cancels : is_cancel (method_role p fr.method) ≡ true) where
+  abbrev below : List Layer
+  below = Method fr2 sh2 ∷ ls
+
+  -- the cells then
+  abbrev pub cells_then : List Cell
+  cells_then = rerequested s.cells fr.home (on_request cancelled (own_request s.cells fr.home))
+
+  alike : Alike s.cells cells_then
+  alike = rerequested_alike s.cells fr.home (on_request cancelled (own_request s.cells fr.home))
+
+  others : (n : ℕ) → works_at n fr.home ≡ false → requested cells_then n ≡ requested s.cells n
+  others n off = grind (arith, nat_tests, requested_there s.cells)
+
+  here : (o : Object) (from : Place) → fr.home ≡ Inside o from → named s.cells o.name ≡ Some o → requested cells_then o.name ≡ on_request cancelled (requested s.cells o.name)
+  here o from e lives =
+      subst (λ h. requested (rerequested s.cells h (on_request cancelled (own_request s.cells h))) o.name ≡ on_request cancelled (requested s.cells o.name)) (sym e)
+      (requested_here s.cells o.name (on_request cancelled (requested s.cells o.name)) o lives)
+
+  suits : AllSuit p cells_then below
+  suits = all_returned p s.cells cells_then fr sh below at_hand.good.suits at_hand.good.stack.2 alike.named_so others (λ o from e h.
+      let holds : IsHoused p s.cells below (Inside o from) = subst (λ h. IsHoused p s.cells below h) e at_hand.good.stack.2 in
+      let apart : IsApart p fr.view fr.method (Inside o from) below = subst (λ h. IsApart p fr.view fr.method h below) e at_hand.good.stack.3 in
+      let alone : IsAlone p (Inside o from) below = subst (λ h. IsAlone p h below) e (at_hand.good.stack.1.alone cancels) in
+      let well : EndsWell p fr.method (Inside o from) fr2 sh2 = subst (λ h. EndsWell p fr.method h fr2 sh2) e at_hand.good.stack.4.0.3 in
+      let done : IsTrue (has cancel_done sh.states) = ap (λ b. only_if b (has cancel_done sh.states)) (sym cancels) ∙ r.cancels in
+      let then : Option Request = on_request cancelled (requested s.cells o.name) in
+      let is_idle = cancel_ends (thing_kind p o.thing) (known_at p fr sh.states (states_claim p o below)) (requested s.cells o.name) done h in
+      subst (λ r. Suits (thing_kind p o.thing) (states_claim p o below) r) (sym (here o from e holds.lives))
+      (rejoins_caller p o fr2 sh2 idle ls idle then apart.3 (λ w. subst (λ n. IsTrue (has sh2.states n)) (ap (λ b. cond b idle (after_of p fr.method)) cancels) (well w)) (has_itself idle) refl
+      (subst (λ (b : Bool). Suits (thing_kind p o.thing) (record { states = idle; cancelled = b }) then) (sym alone) is_idle)))
+
+  -- what the layers below claim to be fresh is another object
+  unworked : (q : Place) (x : Object) → held s.cells q ≡ Some x → is_ready_kind (claim p (declared p s.cells) below q) ≡ false → requested cells_then x.name ≡ requested s.cells x.name
+  unworked q x at fresh = others x.name (go fr.home refl)
+    where
+      go : (h : Home) → fr.home ≡ h → works_at x.name h ≡ false
+      go Static e = refl
+      go AtRoot e = refl
+      go (Inside o from) e = ne_eqb o.name x.name (λ n.
+          let holds : Holds p s.cells below o from = subst (λ h. IsHoused p s.cells below h) e at_hand.good.stack.2 in
+          let same : from ≡ q = one_place s.cells from q o x at_hand.good.tidy holds.there at n in
+          true≢false (sym (claim_ready p s.cells below from holds.ready) ∙ ap (λ q. is_ready_kind (claim p (declared p s.cells) below q)) same ∙ fresh))
+
+  pub cancel_fitted : no_entry sh.entries ≡ true → none_owns sh.registers ≡ true → Fitted p t cells_then fr2 sh2 ls
+  cancel_fitted e n =
+      let caller : Stack p t s.cells (Returns fr.method fr.home) below = at_hand.good.stack.4 in
+      record {
+        fits = λ q. fits_alike p t s.cells cells_then alike below q (λ x at fresh. unworked q x at fresh)
+            (ended p s.cells fr sh below at_hand.good.stack.1.holder at_hand.good.stack.1.view at_hand.good.stack.2 at_hand.good.stack.3 refl e n (λ serving. absurd (at_hand.good.stack.1.message.0 serving)) q (seen s.cells) (held s.cells q) (at_hand.good.fits q));
+        suits = suits;
+        tidy = alike.tidy at_hand.good.tidy;
+        frames = caller.1;
+        housed = housed_alike p t s.cells cells_then alike ls fr2.home caller.2;
+        apart = caller.3;
+        stack = stack_alike p t s.cells cells_then alike (listed_still s.cells fr.home (on_request cancelled (own_request s.cells fr.home)) (on_some cancelled (own_request s.cells fr.home))) ls _ caller.4;
+      }

@@ -1,0 +1,409 @@
+-- How the claims change with the abstract state of the top method, and how they go on to hold.
+use Rattle.std.proofs.lemmas.Bool.Decides.{nat_tests}
+use Rattle.std.proofs.Common.{[], Bool, List, None, Option, Some, ap, arith, cond, false, length, refl, subst, sym, true, zero, ℕ, ℤ, ◌&&◌, ◌<◌, ◌==◌, ◌∙◌, ◌∷◌, ◌≡◌, ◌≤◌}
+use Rattle.std.proofs.lemmas.Bool.{cases_Bool, eq-eqb, eqb-true, ne_eqb}
+use Rattle.std.specs.Prelude.{is_some}
+use Rattle.aom_image.specs.Image.{Image}
+use Rattle.aom_image.specs.declared.method.Gives.{Gives}
+use Rattle.aom_image.specs.declared.method.Thing.{Thing}
+use Rattle.aom_shape.specs.Kinds.{entry_kind, field, filled, is_ready_kind, register, set_field, set_register}
+use Rattle.aom_shape.specs.Order.{SaysNoMore, Weaker, WeakerFilling, alike, maybe_null, maybe_own, perhaps_empty, perhaps_full, unset_null, unset_word}
+use Rattle.aom_shape.specs.Shape.{Shape}
+use Rattle.aom_roles.specs.Tables.{at, put_at}
+use Rattle.aom_roles.specs.Things.{Holder, Program, field_thing, holder_of}
+use Rattle.aom_rules.specs.Typing.{Typing}
+use Rattle.aom_shape.specs.declared.kind.Age.TheVariants.{Fresh, Ready}
+use Rattle.aom_shape.specs.declared.kind.Entry.{Entry as Pushed}
+use Rattle.aom_shape.specs.declared.kind.Filling.{Filling}
+use Rattle.aom_shape.specs.declared.kind.Filling.TheVariants.{Perhaps, Full}
+use Rattle.aom_shape.specs.declared.kind.Kind.{Kind}
+use Rattle.aom_shape.specs.declared.kind.Kind.TheVariants.{Null, Own, Unset}
+use Rattle.aom_safety.proofs.Services.{service_moved, attended_kept, sessions_kept}
+use Rattle.aom_safety.proofs.Seats.{NoFieldHere, NoSeatHere, first_kept, sits_kept}
+use Rattle.aom_semantics.proofs.Maps.{at-put_at, held_moved, named_moved, requested_moved, same_place-true, same_place_refl, transfer}
+use Rattle.aom_safety.specs.Claims.{is_of_root, Dispatching, Dying, Form, Layer, Mark, Method, Unwinding, claim, declared, entries_of, entry_claim, home_claim, items_of, layer_claim, objects, own_field, root_claim, tasks_of, Ending, by_close, by_stage, delivered, serves}
+use Rattle.aom_semantics.specs.Places.{Service, Cell, Elsewhere, Entry, Field, Going, Object, Place, Register, Root, Sight, changed, held, moved, named, same_place, Session, In_service}
+use Rattle.aom_semantics.specs.State.{AtRoot, Dispatch, Frame, Home, Inside, Seat, Static, field_place, home_holder, Of_server, Parts, Serves, Service_left}
+use Rattle.aom_safety.specs.WellTyped.{view_holder, InView, Back, Caught, Fits, Gone, HasAge, Holds, IsBelow, IsHoused, IsNoFieldOf, Leaves, NoneFrom, NoneIn, Returns, Stack, Unclaimed, WordFits, by_field, seat_of, Now}
+
+-- a frame counts for the claims by its home and its method alone
+pub claim_frame :
+    (p : Image) (d : Place → Kind) (fr fr' : Frame) (sh : Shape) (ls : List Layer) (r : Place) → fr'.home ≡ fr.home → fr'.method ≡ fr.method →
+    claim p d (Method fr' sh ∷ ls) r ≡ claim p d (Method fr sh ∷ ls) r
+claim_frame p d fr fr' sh ls x e em = grind arith
+
+pub claim-set_register :
+    (p : Image) (d : Place → Kind) (fr : Frame) (sh : Shape) (ls : List Layer) (a : ℕ) (v : Kind) (r : Place) →
+    claim p d (Method fr (set_register sh a v) ∷ ls) r ≡ changed (claim p d (Method fr sh ∷ ls)) (Register (length (tasks_of ls)) a) v r
+claim-set_register p d fr sh ls a v x = grind (arith, nat_tests, at-put_at Unset sh.registers a)
+
+-- what a field is claimed to be, with another filling
+filled_at :
+    (thing : ℕ → Option Thing) (xs : List Filling) (a : ℕ) (x : Filling) (v : Kind) (f : ℕ) → filled (thing a) x ≡ v →
+    filled (thing f) (at Perhaps (put_at Perhaps xs a x) f) ≡ cond (a == f) v (filled (thing f) (at Perhaps xs f))
+filled_at thing xs a x v f same = grind (arith, nat_tests, at-put_at Perhaps xs a f x, eqb-true a f)
+
+-- a field that the method's class declares is claimed as it is known
+pub own_there : (x : Option Thing) (y : Filling) (below : Kind) → is_some x ≡ true → own_field x y below ≡ filled x y
+own_there x y below some = grind arith
+
+own_at :
+    (thing : ℕ → Option Thing) (xs : List Filling) (a : ℕ) (x : Filling) (v below : Kind) (f : ℕ) → is_some (thing a) ≡ true → filled (thing a) x ≡ v →
+    own_field (thing f) (at Perhaps (put_at Perhaps xs a x) f) below ≡ cond (a == f) v (own_field (thing f) (at Perhaps xs f) below)
+own_at thing xs a x v below f some same = grind (arith, nat_tests, at-put_at Perhaps xs a f x, eqb-true a f, own_there (thing a) x below some)
+
+claim-set_member :
+    (p : Image) (d : Place → Kind) (fr : Frame) (o : Object) (from : Place) (sh : Shape) (ls : List Layer) (a : ℕ) (x : Filling) (v : Kind) (r : Place) → fr.home ≡ Inside o from →
+    is_some (field_thing p (holder_of p fr.method) a) ≡ true → filled (field_thing p (holder_of p fr.method) a) x ≡ v →
+    claim p d (Method fr (set_field sh a x) ∷ ls) r ≡ changed (claim p d (Method fr sh ∷ ls)) (Field o.name a) v r
+claim-set_member p d fr o from sh ls a x v y e some same = grind (arith, nat_tests, own_at)
+
+claim-set_root :
+    (p : Image) (d : Place → Kind) (fr : Frame) (sh : Shape) (ls : List Layer) (x : Filling) (v : Kind) (r : Place) → fr.home ≡ AtRoot → filled (field_thing p Program 0) x ≡ v →
+    claim p d (Method fr (set_field sh 0 x) ∷ ls) r ≡ changed (claim p d (Method fr sh ∷ ls)) (Elsewhere Root) v r
+claim-set_root p d fr sh ls x v (Field n f) e same = grind (arith, nat_tests)
+claim-set_root p d fr sh ls x v (Elsewhere Root) e same =
+    ap (λ h. root_claim p h (set_field sh 0 x) (claim p d ls (Elsewhere Root))) e ∙ filled_at (λ f. field_thing p Program f) sh.fields 0 x v 0 same
+claim-set_root p d fr sh ls x v _ e same = refl
+
+-- a field of the top method is claimed anew
+pub claim-set_field :
+    (p : Image) (d : Place → Kind) (fr : Frame) (home : Home) (sh : Shape) (ls : List Layer) (a : ℕ) (x : Filling) (v : Kind) (r : Place) → fr.home ≡ home →
+    field_thing p (home_holder home) a ≡ field_thing p (holder_of p fr.method) a → is_some (field_thing p (home_holder home) a) ≡ true → filled (field_thing p (home_holder home) a) x ≡ v →
+    claim p d (Method fr (set_field sh a x) ∷ ls) r ≡ changed (claim p d (Method fr sh ∷ ls)) (field_place home a) v r
+claim-set_field p d fr AtRoot sh ls zero x v r e own some same = claim-set_root p d fr sh ls x v r e same
+claim-set_field p d fr (Inside o from) sh ls a x v r e own some same = claim-set_member p d fr o from sh ls a x v r e (ap is_some (sym own) ∙ some) (ap (λ y. filled y x) (sym own) ∙ same)
+claim-set_field p d fr _ sh ls _ x v r e own some same = cc
+
+-- one more entry, and one less
+pub claim_push :
+    (p : Image) (d : Place → Kind) (fr : Frame) (sh : Shape) (ls : List Layer) (v : Pushed) (r : Place) →
+    claim p d (Method fr (record sh { entries = v ∷ sh.entries }) ∷ ls) r ≡ changed (claim p d (Method fr sh ∷ ls)) (Entry (length (items_of (Method fr sh ∷ ls)))) (entry_kind v) r
+claim_push p d fr sh ls v x = grind arith
+
+pub filled_weaker : (c : Option Thing) {x y : Filling} → WeakerFilling x y → Weaker (filled c x) (filled c y)
+filled_weaker (Some c) perhaps_empty = maybe_null
+filled_weaker (Some c) perhaps_full = maybe_own
+filled_weaker _ _ = alike
+
+pub own_weaker : (c : Option Thing) (below : Kind) {x y : Filling} → WeakerFilling x y → Weaker (own_field c x below) (own_field c y below)
+own_weaker (Some c) below w = filled_weaker (Some c) w
+own_weaker None below w = alike
+
+-- of what places own the first state says no more than the second
+pub record OwnsNoMore (a b : Shape) : Type 0 where
+  pub registers : (i : ℕ) → Weaker (register a i) (register b i)
+  pub fields : (i : ℕ) → WeakerFilling (field a i) (field b i)
+  pub entries : a.entries ≡ b.entries
+  pub delivery : a.delivery ≡ b.delivery
+
+pub owns_no_more : (a b : Shape) → SaysNoMore a b → OwnsNoMore a b
+owns_no_more a b w = record { registers = w.registers; fields = w.fields; entries = w.entries; delivery = w.delivery }
+
+-- then it claims no more
+pub claim_weaker : (p : Image) (d : Place → Kind) (fr : Frame) (a b : Shape) (ls : List Layer) (r : Place) → OwnsNoMore a b → Weaker (claim p d (Method fr a ∷ ls) r) (claim p d (Method fr b ∷ ls) r)
+claim_weaker p d fr a b ls (Register f i) w = go (length (tasks_of ls) == f)
+  where
+    go : (x : Bool) → Weaker (cond x (register a i) (claim p d ls (Register f i))) (cond x (register b i) (claim p d ls (Register f i)))
+    go true = w.registers i
+    go false = alike
+claim_weaker p d fr a b ls (Entry k) w = subst (λ es. Weaker (entry_claim a.entries (items_of ls) k (claim p d ls (Entry k))) (entry_claim es (items_of ls) k (claim p d ls (Entry k)))) w.entries alike
+claim_weaker p d fr a b ls (Field n f) w = go fr.home
+  where
+    go : (h : Home) → Weaker (home_claim p (holder_of p fr.method) h a n f (claim p d ls (Field n f))) (home_claim p (holder_of p fr.method) h b n f (claim p d ls (Field n f)))
+    go Static = alike
+    go AtRoot = alike
+    go (Inside o from) = inside (o.name == n)
+      where
+        inside :
+            (x : Bool) →
+            Weaker (cond x (own_field (field_thing p (holder_of p fr.method) f) (field a f) (claim p d ls (Field n f))) (claim p d ls (Field n f)))
+            (cond x (own_field (field_thing p (holder_of p fr.method) f) (field b f) (claim p d ls (Field n f))) (claim p d ls (Field n f)))
+        inside true = own_weaker (field_thing p (holder_of p fr.method) f) (claim p d ls (Field n f)) (w.fields f)
+        inside false = alike
+claim_weaker p d fr a b ls (Elsewhere Root) w = go fr.home
+  where
+    go : (h : Home) → Weaker (root_claim p h a (claim p d ls (Elsewhere Root))) (root_claim p h b (claim p d ls (Elsewhere Root)))
+    go Static = alike
+    go AtRoot = filled_weaker (field_thing p Program 0) (w.fields 0)
+    go (Inside o from) = alike
+claim_weaker p d fr a b ls (Elsewhere In_service) w = subst (λ x. Weaker (cond (serves p fr.method) (delivered a.delivery) (claim p d ls (Elsewhere In_service))) (cond (serves p fr.method) (delivered x) (claim p d ls (Elsewhere In_service)))) w.delivery alike
+claim_weaker p d fr a b ls _ w = alike
+
+pub fits_weaker : (p : Image) (h : Sight) (o : Option Object) {a b : Kind} → Weaker a b → Fits p h o b → Fits p h o a
+fits_weaker p h o alike f = f
+fits_weaker p h (Some o) maybe_own f = f
+fits_weaker p h (Some o) _ f = absurd f
+fits_weaker p h _ _ f = tt
+
+pub word_fits_weaker : (w : Option ℤ) {a b : Kind} → Weaker a b → WordFits w b → WordFits w a
+word_fits_weaker w unset_word f = tt
+word_fits_weaker w unset_null f = tt
+word_fits_weaker w _ f = f
+
+-- fresh cells stay fresh where no field of theirs is filled, and none is enlisted
+pub fits_age : (p : Image) (h h' : Sight) (o : Option Object) (k : Kind) → ((x : Object) → o ≡ Some x → is_ready_kind k ≡ false → HasAge h x Fresh → HasAge h' x Fresh) → Fits p h o k → Fits p h' o k
+fits_age p h h' x y g f = grind arith
+
+-- a thing and its claim move together
+pub keep_fits :
+    (image : Image) (h h' : Sight) (k k' : Place → Kind) (p q : Place) →
+    ((r : Place) → h'.holds r ≡ transfer p q h.holds r) →
+    ((n : ℕ) → h'.requests n ≡ h.requests n) →
+    ((r : Place) → k' r ≡ changed (changed k p Null) q (k p) r) →
+    ((r : Place) (x : Object) → h.holds r ≡ Some x → is_ready_kind (k r) ≡ false → (f : ℕ) → same_place q (Field x.name f) ≡ false) →
+    ((r : Place) → Fits image h (h.holds r) (k r)) →
+    (r : Place) → Fits image h' (h'.holds r) (k' r)
+keep_fits image h h' k k' p q eh requests ek apart fits r =
+    subst (λ x. Fits image h' x (k' r)) (sym (eh r)) (subst (λ x. Fits image h' (transfer p q h.holds r) x) (sym (ek r)) (go (same_place q r) (same_place p r)))
+  where
+    null : (s : Place) (x : Object) → h.holds s ≡ Some x → is_ready_kind (k s) ≡ false → (f : ℕ) → h.holds (Field x.name f) ≡ None → h'.holds (Field x.name f) ≡ None
+    null s x e fresh f n =
+        eh (Field x.name f) ∙ ap (λ b. cond b (h.holds p) (cond (same_place p (Field x.name f)) None (h.holds (Field x.name f)))) (apart s x e fresh f)
+        ∙ ap (λ v. cond (same_place p (Field x.name f)) None v) n ∙ both (same_place p (Field x.name f))
+      where
+        both : (b : Bool) → ◌≡◌ {A = Option Object} (cond b None None) None
+        both true = refl
+        both false = refl
+
+    stays : (s : Place) (x : Object) → h.holds s ≡ Some x → is_ready_kind (k s) ≡ false → HasAge h x Fresh → HasAge h' x Fresh
+    stays s x e fresh age = (λ f. null s x e fresh f (age.0 f), requests x.name ∙ age.1)
+
+    go : (b c : Bool) → Fits image h' (cond b (h.holds p) (cond c None (h.holds r))) (cond b (k p) (cond c Null (k r)))
+    go true c = fits_age image h h' (h.holds p) (k p) (stays p) (fits p)
+    go false true = tt
+    go false false = fits_age image h h' (h.holds r) (k r) (stays r) (fits r)
+
+-- above the layers nothing is claimed
+entries_above : (es : List Pushed) (items : List Form) (k : ℕ) (below : Kind) → length (objects es items) ≤ k → entry_claim es items k below ≡ below
+entries_above [] items k below le = refl
+entries_above (x ∷ es) items k below le = grind (arith, nat_tests, ne_eqb, entries_above es items k below)
+
+pub length_objects : (es : List Pushed) (items : List Form) → length items ≤ length (objects es items)
+length_objects [] items = omega arith
+length_objects (x ∷ es) items = omega (arith, length_objects es items)
+
+pub claim_entry_above : (p : Image) (cs : List Cell) (ls : List Layer) (k : ℕ) → length (items_of ls) ≤ k → claim p (declared p cs) ls (Entry k) ≡ Null
+claim_entry_above p cs [] k le = refl
+claim_entry_above p cs (Method fr sh ∷ ls) k le = entries_above sh.entries (items_of ls) k _ le ∙ claim_entry_above p cs ls k (omega (arith, length_objects sh.entries (items_of ls)))
+claim_entry_above p cs (Mark gv ∷ ls) k le = claim_entry_above p cs ls k (omega arith)
+claim_entry_above p cs (Dispatching w seats ∷ ls) k le = claim_entry_above p cs ls k (omega arith)
+claim_entry_above p cs (Dying o ∷ ls) k le = claim_entry_above p cs ls k le
+claim_entry_above p cs (Ending o left ∷ ls) k le = claim_entry_above p cs ls k le
+claim_entry_above p cs (Unwinding code es ∷ ls) k le = entries_above es (items_of ls) k _ le ∙ claim_entry_above p cs ls k (omega (arith, length_objects es (items_of ls)))
+
+pub declared_moved : (p : Image) (cs : List Cell) (a b : Place) → declared p (moved a b cs) ≡ declared p cs
+declared_moved p cs a b = grind (arith, nat_tests, named_moved cs a b, service_moved cs a b)
+
+-- a place of the top method, or above it
+abbrev pub Outside : Place → List Layer → Type 0
+Outside (Register f i) ls = length (tasks_of ls) ≤ f
+Outside (Entry k) ls = length (items_of ls) ≤ k
+Outside (Field n f) ls = NoneIn n ls
+Outside (Elsewhere w) ls = NoneFrom (Elsewhere w) ls
+Outside (Going k) ls = length (tasks_of ls) ≤ k
+
+length_items : (l : Layer) (ls : List Layer) → length (items_of ls) ≤ length (items_of (l ∷ ls))
+length_items x ls = grind (arith, nat_tests, length_objects)
+
+none_in_less : (n : ℕ) (l : Layer) (ls : List Layer) → NoneIn n (l ∷ ls) → NoneIn n ls
+none_in_less n x ls h = grind arith
+
+none_from_less : (q : Place) (l : Layer) (ls : List Layer) → NoneFrom q (l ∷ ls) → NoneFrom q ls
+none_from_less q x ls h = grind arith
+
+pub outside_less : (q : Place) (l : Layer) (ls : List Layer) → Outside q (l ∷ ls) → Outside q ls
+outside_less x l ls h = grind (arith, nat_tests, length_items l ls, none_in_less, none_from_less)
+
+-- then no seat is there
+pub no_seat_outside : (q : Place) (d : Dispatch) (seats : List Seat) (ls : List Layer) → Outside q (Dispatching d seats ∷ ls) → NoSeatHere q seats
+no_seat_outside x d seats ls h = grind arith
+
+-- no place is both
+outside_below : (q : Place) (ls : List Layer) → Outside q ls → NoFieldHere q q → IsBelow q ls → ⊥
+outside_below x ls h n b = grind (arith, nat_tests, eq-eqb, same_place_refl)
+
+pub outside_differs : (q from : Place) (ls : List Layer) → Outside q ls → NoFieldHere q from → IsBelow from ls → same_place q from ≡ false
+outside_differs q from ls h n b = grind (arith, nat_tests, cases_Bool, same_place-true q from, outside_below q ls h, NoFieldHere q)
+
+pub no_field_here : (q : Place) (fr : Frame) (o : Object) (from : Place) (sh : Shape) (ls : List Layer) → fr.home ≡ Inside o from → Outside q (Method fr sh ∷ ls) → NoFieldHere q from
+no_field_here x fr o from sh ls e h = grind arith
+
+pub holds_moved :
+    (p : Image) (cs : List Cell) (a b : Place) (ls : List Layer) (o : Object) (from : Place) → held cs b ≡ None → same_place a from ≡ false → same_place b from ≡ false →
+    Holds p cs ls o from → Holds p (moved a b cs) ls o from
+holds_moved p cs a b ls o from free na nb h = record {
+  there = grind (arith, nat_tests, held_moved cs a b from free);
+  lives = named_moved cs a b o.name ∙ h.lives;
+  below = h.below;
+  ready = h.ready;
+}
+
+housed_moved :
+    (p : Image) (cs : List Cell) (a b : Place) (fr : Frame) (sh : Shape) (ls : List Layer) (home : Home) → fr.home ≡ home → held cs b ≡ None → Outside a (Method fr sh ∷ ls) →
+    Outside b (Method fr sh ∷ ls) → IsHoused p cs ls home → IsHoused p (moved a b cs) ls home
+housed_moved p cs a b fr sh ls Static e free oa ob h = h
+housed_moved p cs a b fr sh ls AtRoot e free oa ob h = h
+housed_moved p cs a b fr sh ls (Inside o from) e free oa ob h =
+    holds_moved p cs a b ls o from free (outside_differs a from ls (outside_less a _ ls oa) (no_field_here a fr o from sh ls e oa) h.below) (outside_differs b from ls (outside_less b _ ls ob) (no_field_here b fr o from sh ls e ob) h.below) h
+
+pub going_differs : (r : Place) (o : Object) (ls : List Layer) → Outside r (Dying o ∷ ls) → same_place r (Going (length (tasks_of ls))) ≡ false
+going_differs x o ls h = grind (arith, nat_tests, ne_eqb)
+
+going_moved :
+    (cs : List Cell) (a b : Place) (o : Object) (ls : List Layer) → held cs b ≡ None → Outside a (Dying o ∷ ls) → Outside b (Dying o ∷ ls) → held cs (Going (length (tasks_of ls))) ≡ Some o →
+    held (moved a b cs) (Going (length (tasks_of ls))) ≡ Some o
+going_moved cs a b o ls free oa ob e = grind (arith, nat_tests, held_moved cs a b, going_differs b o ls ob, going_differs a o ls oa)
+
+pub stack_moved :
+    (p : Image) (t : Typing) (cs : List Cell) (a b : Place) (ls : List Layer) (back : Back) → held cs b ≡ None → Outside a ls → Outside b ls → Stack p t cs back ls →
+    Stack p t (moved a b cs) back ls
+stack_moved p t cs a b [] back free oa ob s = s
+stack_moved p t cs a b (Method fr sh ∷ ls) back free oa ob s =
+    (s.0, s.1, housed_moved p cs a b fr sh ls fr.home refl free oa ob s.2, s.3, stack_moved p t cs a b ls _ free (outside_less a _ ls oa) (outside_less b _ ls ob) s.4)
+stack_moved p t cs a b (Mark gv ∷ ls) back free oa ob s = (s.0, stack_moved p t cs a b ls _ free (outside_less a (Mark gv) ls oa) (outside_less b (Mark gv) ls ob) s.1)
+stack_moved p t cs a b (Dispatching d seats ∷ ls) back free oa ob s = (
+  s.0,
+  s.1,
+  sits_kept cs (moved a b cs) a b seats (λ r o na nb there lives. (held_moved cs a b r free ∙ ap (λ x. cond x (held cs a) (cond (same_place a r) None (held cs r))) nb ∙ ap (λ x. cond x None (held cs r)) na ∙ there, named_moved cs a b o.name ∙ lives)) (no_seat_outside a d seats ls oa) (no_seat_outside b d seats ls ob) s.2,
+  first_kept cs (moved a b cs) a (seat_of d) seats (λ r o na there lives some. ap is_some (requested_moved cs a b o.name) ∙ some) (no_seat_outside a d seats ls oa) s.2 s.3,
+  attended_kept p cs (moved a b cs) (λ n. ap (λ (v : Service). v.sessions) (service_moved cs a b n)) d s.4,
+)
+stack_moved p t cs a b (Ending o left ∷ ls) back free oa ob s = (
+  sessions_kept p cs (moved a b cs) (named_moved cs a b) (λ n. ap (λ (v : Service). v.sessions) (service_moved cs a b n)) o left s.0,
+  s.1,
+  s.2,
+  stack_moved p t cs a b ls _ free (outside_less a (Ending o left) ls oa) (outside_less b (Ending o left) ls ob) s.3,
+)
+stack_moved p t cs a b (Unwinding code es ∷ ls) back free oa ob s = (s.0, stack_moved p t cs a b ls _ free (outside_less a (Unwinding code es) ls oa) (outside_less b (Unwinding code es) ls ob) s.1)
+stack_moved p t cs a b (Dying o ∷ ls) back free oa ob s =
+    ((named_moved cs a b o.name ∙ s.0.0, going_moved cs a b o ls free oa ob s.0.1), s.1, stack_moved p t cs a b ls _ free (outside_less a (Dying o) ls oa) (outside_less b (Dying o) ls ob) s.2)
+
+-- what holds a method's cell is claimed as it was before the method was called
+entries_below : (es : List Pushed) (items : List Form) (k : ℕ) (below : Kind) → k < length items → entry_claim es items k below ≡ below
+entries_below [] items k below lt = refl
+entries_below (x ∷ es) items k below lt = grind (arith, nat_tests, ne_eqb, length_objects es items, entries_below es items k below lt)
+
+pub claim_from :
+    (p : Image) (d : Place → Kind) (fr : Frame) (o : Object) (from : Place) (sh : Shape) (ls : List Layer) → fr.home ≡ Inside o from → IsNoFieldOf o.name from → IsBelow from ls →
+    claim p d (Method fr sh ∷ ls) from ≡ claim p d ls from
+claim_from p d fr o x sh ls e n b = grind (arith, nat_tests, ne_eqb, entries_below sh.entries)
+
+-- a layer's claims follow those below it
+cond_rel : (R : Kind → Kind → Type 0) → ((k : Kind) → R k k) → (b : Bool) (z x y : Kind) → R x y → R (cond b z x) (cond b z y)
+cond_rel R same true z x y h = same z
+cond_rel R same false z x y h = h
+
+entry_rel : (R : Kind → Kind → Type 0) → ((k : Kind) → R k k) → (es : List Pushed) (items : List Form) (k : ℕ) (x y : Kind) → R x y → R (entry_claim es items k x) (entry_claim es items k y)
+entry_rel R same [] items k x y h = h
+entry_rel R same (z ∷ es) items k x y h = cond_rel R same (length (objects es items) == k) (entry_kind z) _ _ (entry_rel R same es items k x y h)
+
+own_rel : (R : Kind → Kind → Type 0) → ((k : Kind) → R k k) → (o : Option Thing) (z : Filling) (x y : Kind) → R x y → R (own_field o z x) (own_field o z y)
+own_rel R same None z x y h = h
+own_rel R same (Some t) z x y h = same _
+
+home_rel : (R : Kind → Kind → Type 0) → ((k : Kind) → R k k) → (p : Image) (k : Holder) (home : Home) (sh : Shape) (n f : ℕ) (x y : Kind) → R x y → R (home_claim p k home sh n f x) (home_claim p k home sh n f y)
+home_rel R same p k Static sh n f x y h = h
+home_rel R same p k AtRoot sh n f x y h = h
+home_rel R same p k (Inside o from) sh n f x y h = go (o.name == n)
+  where
+    go : (b : Bool) → R (cond b (own_field (field_thing p k f) (field sh f) x) x) (cond b (own_field (field_thing p k f) (field sh f) y) y)
+    go true = own_rel R same (field_thing p k f) (field sh f) x y h
+    go false = h
+
+root_rel : (R : Kind → Kind → Type 0) → ((k : Kind) → R k k) → (p : Image) (home : Home) (sh : Shape) (x y : Kind) → R x y → R (root_claim p home sh x) (root_claim p home sh y)
+root_rel R same p Static sh x y h = h
+root_rel R same p AtRoot sh x y h = same _
+root_rel R same p (Inside o from) sh x y h = h
+
+close_rel : (R : Kind → Kind → Type 0) → ((k : Kind) → R k k) → (d : Dispatch) (s c : ℕ) (x y : Kind) → R x y → R (by_close d s c x) (by_close d s c y)
+close_rel R same (Of_server z client Parts) s c x y h = cond_rel R same ((z.object.name == s) && (client == c)) Null x y h
+close_rel R same _ s c x y h = h
+
+stage_rel : (R : Kind → Kind → Type 0) → ((k : Kind) → R k k) → (d : Dispatch) (x y : Kind) → R x y → R (by_stage d x) (by_stage d y)
+stage_rel R same (Of_server z client (Serves o)) x y h = same _
+stage_rel R same (Of_server z client (Service_left code)) x y h = same _
+stage_rel R same _ x y h = h
+
+pub layer_rel :
+    (R : Kind → Kind → Type 0) → ((k : Kind) → R k k) → (p : Image) (l : Layer) (depth : ℕ) (items : List Form) (r : Place) (x y : Kind) → R x y →
+    R (layer_claim p l depth items r x) (layer_claim p l depth items r y)
+layer_rel R same p (Method fr sh) depth items (Register f i) x y h = cond_rel R same (depth == f) (register sh i) x y h
+layer_rel R same p l depth items (Entry k) x y h = entry_rel R same (entries_of l) items k x y h
+layer_rel R same p (Method fr sh) depth items (Field n f) x y h = home_rel R same p (holder_of p fr.method) fr.home sh n f x y h
+layer_rel R same p (Dying o) depth items (Field n f) x y h = cond_rel R same (o.name == n) Null x y h
+layer_rel R same p (Ending o left) depth items (Field n f) x y h = cond_rel R same (o.name == n) _ x y h
+layer_rel R same p (Method fr sh) depth items (Elsewhere Root) x y h = root_rel R same p fr.home sh x y h
+layer_rel R same p (Dispatching d seats) depth items (Elsewhere Root) x y h = cond_rel R same (is_of_root d) Null x y h
+layer_rel R same p (Method fr sh) depth items (Elsewhere (Session s c)) x y h = h
+layer_rel R same p (Dying o) depth items (Elsewhere (Session s c)) x y h = cond_rel R same (o.name == s) Null x y h
+layer_rel R same p (Ending o left) depth items (Elsewhere (Session s c)) x y h = cond_rel R same (o.name == s) _ x y h
+layer_rel R same p (Dispatching d seats) depth items (Elsewhere (Session s c)) x y h = close_rel R same d s c x y h
+layer_rel R same p (Method fr sh) depth items (Elsewhere In_service) x y h = cond_rel R same (serves p fr.method) (delivered sh.delivery) x y h
+layer_rel R same p (Dispatching d seats) depth items (Elsewhere In_service) x y h = stage_rel R same d x y h
+layer_rel R same p (Dying o) depth items (Going k) x y h = cond_rel R same (depth == k) (Own o.thing Ready) x y h
+layer_rel R same p (Mark gv) depth items (Elsewhere Root) x y h = h
+layer_rel R same p (Unwinding code es) depth items (Elsewhere Root) x y h = h
+layer_rel R same p _ depth items _ x y h = h
+
+pub claim_rel : (R : Kind → Kind → Type 0) → ((k : Kind) → R k k) → (p : Image) (d d' : Place → Kind) (ls : List Layer) (r : Place) → R (d r) (d' r) → R (claim p d ls r) (claim p d' ls r)
+claim_rel R same p d d' [] r h = h
+claim_rel R same p d d' (l ∷ ls) r h = layer_rel R same p l _ _ r _ _ (claim_rel R same p d d' ls r h)
+
+perhaps_ready : (t : Option Thing) → is_ready_kind (filled t Perhaps) ≡ true
+perhaps_ready x = grind arith
+
+full_ready : (b : Bool) (t : Option Thing) → is_ready_kind (cond b (filled t Full) Null) ≡ true
+full_ready x t = grind arith
+
+pub declared_ready : (p : Image) (cs : List Cell) (r : Place) → is_ready_kind (declared p cs r) ≡ true
+declared_ready p cs x = grind (arith, nat_tests, perhaps_ready, full_ready)
+
+-- declared fields are ready, so that a claim which is ready with nothing declared is ready
+pub claim_ready : (p : Image) (cs : List Cell) (ls : List Layer) (r : Place) → is_ready_kind (claim p (λ x. Null) ls r) ≡ true → is_ready_kind (claim p (declared p cs) ls r) ≡ true
+claim_ready p cs ls r e = claim_rel (λ x y. is_ready_kind x ≡ true → is_ready_kind y ≡ true) (λ k h. h) p (λ x. Null) (declared p cs) ls r (λ h. declared_ready p cs r) e
+
+-- of a cell that is not there nothing is claimed but what is declared
+pub claim_unnamed :
+    (p : Image) (t : Typing) (cs : List Cell) (d : Place → Kind) (ls : List Layer) (back : Back) (n f : ℕ) → Stack p t cs back ls → named cs n ≡ None →
+    claim p d ls (Field n f) ≡ d (Field n f)
+claim_unnamed p t cs d [] back n f s e = refl
+claim_unnamed p t cs d (Method fr sh ∷ ls) back n f s e = grind (arith, nat_tests, claim_unnamed p t cs d ls (Returns fr.method fr.home) n f s.4 e, ne_eqb)
+claim_unnamed p t cs d (Mark gv ∷ ls) back n f s e = claim_unnamed p t cs d ls (Caught gv) n f s.1 e
+claim_unnamed p t cs d (Dispatching w seats ∷ ls) back n f s e = ap (λ l. claim p d l (Field n f)) s.1
+claim_unnamed p t cs d (Ending o left ∷ ls) back n f s e = grind (arith, nat_tests, ne_eqb o.name n, claim_unnamed p t cs d ls Now n f s.3 e)
+claim_unnamed p t cs d (Unwinding code es ∷ ls) back n f s e = claim_unnamed p t cs d ls Leaves n f s.1 e
+claim_unnamed p t cs d (Dying o ∷ ls) back n f s e = grind (arith, nat_tests, ne_eqb o.name n, claim_unnamed p t cs d ls Gone n f s.2 e)
+
+-- registers above the layers
+pub claim_register_above : (p : Image) (cs : List Cell) (ls : List Layer) (f i : ℕ) → length (tasks_of ls) ≤ f → claim p (declared p cs) ls (Register f i) ≡ Null
+claim_register_above p cs [] f i le = refl
+claim_register_above p cs (Method fr sh ∷ ls) f i le = grind (arith, nat_tests, ne_eqb, claim_register_above p cs ls f i)
+claim_register_above p cs (Mark gv ∷ ls) f i le = claim_register_above p cs ls f i (omega arith)
+claim_register_above p cs (Dispatching w seats ∷ ls) f i le = claim_register_above p cs ls f i (omega arith)
+claim_register_above p cs (Dying o ∷ ls) f i le = claim_register_above p cs ls f i (omega arith)
+claim_register_above p cs (Ending o left ∷ ls) f i le = claim_register_above p cs ls f i (omega arith)
+claim_register_above p cs (Unwinding code es ∷ ls) f i le = claim_register_above p cs ls f i (omega arith)
+
+-- of a cell of which the layers claim nothing more
+pub claim_unclaimed : (p : Image) (d : Place → Kind) (ls : List Layer) (n f : ℕ) (k : ℕ → Kind) → Unclaimed p k n ls → d (Field n f) ≡ k f → claim p d ls (Field n f) ≡ k f
+claim_unclaimed p d ls n f k u e = claim_rel (λ x y. x ≡ y) (λ k. refl) p d (by_field k) ls (Field n f) e ∙ u f
+
+-- of a field that the cell has as what it counts as
+pub claim_in_view :
+    (p : Image) (d : Place → Kind) (ls : List Layer) (n f : ℕ) (k : ℕ → Kind) (view : Option ℕ) → InView p view k n ls → is_some (field_thing p (view_holder view) f) ≡ true → d (Field n f) ≡ k f →
+    claim p d ls (Field n f) ≡ k f
+claim_in_view p d ls n f k view u some e = claim_rel (λ x y. x ≡ y) (λ k. refl) p d (by_field k) ls (Field n f) e ∙ u f some
+
+pub claim_going_above : (p : Image) (cs : List Cell) (ls : List Layer) (k : ℕ) → length (tasks_of ls) ≤ k → claim p (declared p cs) ls (Going k) ≡ Null
+claim_going_above p cs [] k le = refl
+claim_going_above p cs (Method fr sh ∷ ls) k le = claim_going_above p cs ls k (omega arith)
+claim_going_above p cs (Mark gv ∷ ls) k le = claim_going_above p cs ls k (omega arith)
+claim_going_above p cs (Dispatching w seats ∷ ls) k le = claim_going_above p cs ls k (omega arith)
+claim_going_above p cs (Ending o left ∷ ls) k le = claim_going_above p cs ls k (omega arith)
+claim_going_above p cs (Unwinding code es ∷ ls) k le = claim_going_above p cs ls k (omega arith)
+claim_going_above p cs (Dying o ∷ ls) k le = grind (arith, nat_tests, ne_eqb, claim_going_above p cs ls k)
+
+-- a mark claims nothing
+pub mark_claims : (p : Image) (d : Place → Kind) (gv : Gives) (ls : List Layer) (r : Place) → claim p d (Mark gv ∷ ls) r ≡ claim p d ls r
+mark_claims p d gv ls x = grind arith

@@ -1,0 +1,168 @@
+-- While a leave is at hand, the methods and the going cells over it leave the cleanup stack as it is: by the heights at which the methods began.
+use Rattle.std.proofs.lemmas.Bool.Decides.{nat_tests}
+use Rattle.aom_image.specs.declared.method.Role.TheVariants.{Destruct}
+use Rattle.aom_roles.proofs.Descending.{itself}
+use Rattle.std.proofs.lemmas.Option.{same_Some}
+use Rattle.std.proofs.Common.{[], List, None, Option, Some, ap, arith, length, refl, subst, sym, true, ℕ, ℤ, ◌∙◌, ◌∷◌, ◌≡◌, ◌≢◌}
+use Rattle.std.proofs.lemmas.Bool.{true≢false}
+use Rattle.std.specs.Prelude.{not}
+use Rattle.aom_image.specs.Image.{Image}
+use Rattle.aom_image.specs.Views.{is_quiet, method_class}
+use Rattle.aom_instructions.specs.declared.instr.Instr.{Instr}
+use Rattle.aom_instructions.specs.declared.instr.Instr.TheVariants.{Call}
+use Rattle.aom_instructions.specs.declared.instr.Target.{Target}
+use Rattle.aom_image.specs.declared.method.Gives.{Gives}
+use Rattle.aom_roles.specs.Tests.{AllTrue}
+use Rattle.aom_roles.specs.Families.{parent_by}
+use Rattle.aom_shape.specs.Kinds.{no_entry}
+use Rattle.aom_rules.specs.Rules.{rule_needs}
+use Rattle.aom_shape.specs.Shape.{Shape}
+use Rattle.aom_rules.specs.Typing.{IsTyped, Typing, shape_at}
+use Rattle.aom_shape.specs.declared.kind.Entry.{Entry as Pushed_entry}
+use Rattle.aom_safety.proofs.Callees.{cancel_quiet, only_then}
+use Rattle.aom_safety.proofs.Overriders.{body_quiet}
+use Rattle.aom_safety.proofs.Claimed.{length_objects}
+use Rattle.aom_safety.proofs.Destroying.{destroys_by, destroys}
+use Rattle.aom_safety.proofs.Finishing.{all_parts}
+use Rattle.aom_safety.proofs.Items.{length_forms}
+use Rattle.aom_safety.proofs.Moving.{steps_are_moves}
+use Rattle.aom_safety.proofs.Preserving.{receives}
+use Rattle.aom_semantics.specs.Calls.{returned, target_view}
+use Rattle.aom_safety.specs.Claims.{Form, Layer, Method, forms, items_of, objects, tasks_of}
+use Rattle.aom_semantics.specs.Cleanup.{has_trap}
+use Rattle.aom_classes.specs.Roles.{role_of}
+use Rattle.aom_semantics.specs.Destruction.{class_destructor, line_on, destructed, parting, first_session, begun, begun_by}
+use Rattle.aom_semantics.specs.Effects.{Calls, Cancels, Counts, Destroys, Destroys_last, Effect, Goes_on, Jumps, Leaves, Operates, Repeats, Returns, Sets_trap, Update, applied, items_after, with_words}
+use Rattle.aom_safety.specs.Laws.{IsWired}
+use Rattle.aom_safety.specs.Leaves.{IsLeaving, IsOver}
+use Rattle.aom_semantics.specs.Moves.{counted, step}
+use Rattle.aom_semantics.specs.Places.{service_of, Cell, Object}
+use Rattle.aom_semantics.specs.State.{Static, Inside, AtRoot, Home, Closing, Seat, Choice, Destroy, Frame, Goes, Item, Run, State, Task, Unwind, resumed}
+use Rattle.aom_safety.specs.Steps.{Empties, Acts, Arrives, Clears, Comes_out, Ends, Fits, FitsUpdate, Move, Rests, Undoes, Vanishes}
+use Rattle.aom_safety.specs.WellTyped.{Good, WellTyped}
+use Rattle.aom_semantics.specs.Enlisted.{ended_cells}
+
+-- a leave that is begun over it finds no trap
+no_trap : (p : Image) (height : ℕ) (code : ℤ) (below ts : List Task) → IsOver p height code below ts → has_trap ts ≡ true → ⊥
+no_trap p height code below (Run fr ∷ ts) o e = no_trap p height code below ts o.2 e
+no_trap p height code below (Destroy ∷ ts) o e = true≢false (sym e)
+no_trap p height code below (Closing ∷ ts) o e = true≢false (sym e)
+no_trap p height code below (Unwind x ∷ ts) o e = true≢false (sym e)
+no_trap p height code below _ o e = o
+
+-- what waited goes on
+resumes_over : (p : Image) (height : ℕ) (code : ℤ) (below ts : List Task) → IsOver p height code below ts → IsOver p height code below (resumed ts)
+resumes_over p height code below x o = grind arith
+
+-- a destruction begins over it
+destructs_over : (p : Image) → IsWired p → (o : Object) (height : ℕ) (code : ℤ) (below ts : List Task) → IsOver p height code below ts → IsOver p height code below (destructed p o height ts)
+destructs_over p wired o height code below ts h = grind (arith, nat_tests, destroys p wired o.thing)
+
+-- and the next of its line
+line_over :
+    (p : Image) → IsWired p → (m : ℕ) (home : Home) (height : ℕ) (code : ℤ) (below ts : List Task) → IsOver p height code below ts → IsOver p height code below (line_on p m home height ts)
+line_over p wired m Static height code below ts h = h
+line_over p wired m AtRoot height code below ts h = h
+line_over p wired m (Inside o from) height code below ts h = go (parent_by p (method_class p m))
+  where
+    of_role : (x : ℕ) (d : Option ℕ) → role_of p x Destruct ≡ d → IsOver p height code below (begun_by p d o height ts)
+    of_role x None e = h
+    of_role x (Some k) e = ((destroys_by p wired x x k (itself p x) e).quiet, refl, h)
+
+    go : (x : Option ℕ) → IsOver p height code below (begun_by p (class_destructor p x) o height ts)
+    go None = h
+    go (Some x) = of_role x (role_of p x Destruct) refl
+
+pub begins_over : (p : Image) → IsWired p → (o : Object) (height : ℕ) (code : ℤ) (below ts : List Task) → IsOver p height code below ts → IsOver p height code below (begun p o height ts)
+begins_over p wired o height code below ts h = grind (arith, nat_tests, destructs_over p wired o height code below ts h)
+
+-- a method that stands at the height at which it began has no entry
+no_entries : (es : List Pushed_entry) (below : List Form) → length (objects es below) ≡ length below → es ≡ []
+no_entries [] below e = refl
+no_entries (x ∷ es) below e = absurd (omega (arith, e, length_objects es below))
+
+bare_shape :
+    (p : Image) (t : Typing) (cs : List Cell) (fr : Frame) (ts : List Task) (items : List Item) (ls : List Layer) →
+    Run fr ∷ ts ≡ tasks_of ls → forms items ≡ items_of ls → fr.height ≡ length items → Good p t cs ls → (sh : Shape) × (shape_at t fr.method fr.place ≡ Some sh) × (sh.entries ≡ [])
+bare_shape p t cs fr ts items (Method fr' sh ∷ ls) at f h good = grind (arith, nat_tests, length_forms items, no_entries sh.entries)
+bare_shape p t cs fr ts items _ at f h good = cc
+
+-- a method's move
+module _ (p : Image) (wired : IsWired p) (c : Choice) (fr : Frame) (sh : Shape) (ts : List Task) (s : State) (at_hand : s.tasks ≡ Run fr ∷ ts) (code : ℤ) (below : List Task)
+    (h : IsOver p (length s.items) code below (Run fr ∷ ts)) (bare : sh.entries ≡ []) where
+  abbrev Kept : State → Type 0
+  Kept u = IsOver p (length s.items) code below u.tasks × (u.items ≡ s.items)
+
+  abbrev Ruled : Instr → Type 0
+  Ruled i = AllTrue (rule_needs p fr.method fr.place sh i)
+
+  no_entry_there : not (no_entry sh.entries) ≡ true → ⊥
+  no_entry_there e = true≢false (sym e ∙ ap (λ es. not (no_entry es)) bare)
+
+  return_kept : (g : Gives) (a : ℕ) (under : List Task) → IsOver p (length s.items) code below under → Kept (returned p fr ts (record s { cells = ended_cells p fr s.cells }) g a under)
+  return_kept g a x w = grind (arith, nat_tests, receives p fr ts, line_over p wired fr.method fr.home)
+
+  -- neither pushed nor taken
+  same_items : (i : Instr) (u : Update) → Ruled i → FitsUpdate ts s.items i u → items_after u s.items ≡ s.items
+  same_items i x r f = grind (arith, nat_tests, no_trap p, no_entry_there)
+
+  -- a quiet method calls quiet ones
+  call_quiet : (target : Target) (m first x : ℕ) → Ruled (Call target m first x) → is_quiet p m ≡ true
+  call_quiet target m first x r = grind (arith, nat_tests, all_parts, only_then)
+
+  acts_kept : (i : Instr) (e : Effect) → Ruled i → Fits p c fr ts s i e → Kept (applied p fr ts s e)
+  acts_kept i (Goes_on ch) r f = (h, same_items i ch.update r f.1)
+  acts_kept i (Jumps to) r f = (h, refl)
+  acts_kept i (Counts d n) r f = (h, refl)
+  acts_kept i (Repeats d n to) r f = (h, refl)
+  acts_kept i (Calls target m first) r f = ((body_quiet p wired.overriders m (target_view p fr ts s target (method_class p m)) (call_quiet target m first f.0 (subst Ruled f.1 r)), refl, h), refl)
+  acts_kept i (Cancels m) r f = ((cancel_quiet p wired fr m f.1, refl, h), refl)
+  -- no quiet method sets a trap
+  acts_kept i (Sets_trap target m first) r f = absurd (true≢false (sym (subst Ruled f.1 r).0 ∙ ap not h.0))
+  acts_kept i (Returns g a) r f = return_kept g a ts h.2
+  acts_kept i (Leaves x u) r f = absurd (no_trap p (length s.items) code below ts h.2 f.0)
+  acts_kept i (Destroys o a words) r f = (begins_over p wired o (length s.items) code below (Run (with_words fr words) ∷ ts) h, refl)
+  acts_kept i (Destroys_last o) r f = absurd (no_entry_there (subst Ruled f.0 r).0)
+  acts_kept i (Operates m w) r f = absurd (no_entry_there (subst Ruled f.0 r).0)
+
+module _ (p : Image) (t : Typing) (wired : IsWired p) (typed : IsTyped p t) (c : Choice) (s u : State) (w : WellTyped p t s) (code : ℤ) (below : List Task)
+    (over : IsOver p (length s.items) code below s.tasks) (other : s.tasks ≡ Unwind code ∷ below → ⊥) where
+  abbrev Stays : State → Type 0
+  Stays v = IsOver p (length s.items) code below v.tasks × (v.items ≡ s.items)
+
+  abbrev O : List Task → Type 0
+  O ts = IsOver p (length s.items) code below ts
+
+  at_leave : (x : ℤ) (ts : List Task) → s.tasks ≡ Unwind x ∷ ts → ⊥
+  at_leave x ts at = let o = subst O at over in other (at ∙ ap (λ y. Unwind y ∷ ts) o.0 ∙ ap (λ l. Unwind code ∷ l) o.1)
+
+  -- a server that goes over it has its sessions go first
+  empties : (o : Object) (x : Option Seat) (ts : List Task) → IsOver p (length s.items) code below ts → Stays (parting p o x ts (counted p s))
+  empties o None ts h = (destructs_over p wired o (length s.items) code below ts h, refl)
+  empties o (Some x) ts h = (begins_over p wired x.object (length s.items) code below (Closing ∷ Destroy ∷ ts) h, refl)
+
+  kept : Move p c s u → Stays u
+  kept (Rests still e) = subst Stays (sym e) (over, refl)
+  kept (Acts fr ts i e at there met fits same) =
+      let h = subst O at over in
+      let stands = bare_shape p t s.cells fr ts s.items w.layers (sym at ∙ w.tasks) w.items h.1 w.good in
+      let x = typed.each fr.method fr.place stands.0 stands.1 in
+      let is : x.instr ≡ i = same_Some x.instr i (sym x.stands ∙ there) in
+      subst Stays (sym same) (acts_kept p wired c fr stands.0 ts (counted p s) at code below h stands.2 i e (subst (λ j. AllTrue (rule_needs p fr.method fr.place stands.0 j)) is x.needs) fits)
+  kept (Vanishes ts o at there owns same) = subst Stays (sym same) (resumes_over p (length s.items) code below ts (subst O at over), refl)
+  kept (Empties ts o at there same) = subst Stays (sym same) (empties o (first_session s.cells o.name (service_of s.cells o.name).sessions) ts (subst O at over))
+  kept (Clears x ts items o at top there same) = absurd (at_leave x ts at)
+  kept (Undoes x ts items m y at top same) = absurd (at_leave x ts at)
+  kept (Arrives x fr ts items at top same) = absurd (at_leave x _ at)
+  kept (Comes_out x d ts items at top same) = absurd (at_leave x _ at)
+  kept (Ends d ts at same) = absurd (subst O at over)
+
+-- with the same entries left
+pub works_kept :
+    (p : Image) (t : Typing) → IsWired p → IsTyped p t → (c : Choice) (s u : State) → WellTyped p t s → (code : ℤ) (below : List Task) (entries items : List Item) →
+    IsLeaving p code below entries items s → s.tasks ≢ Unwind code ∷ below → step p c s ≡ Goes u → IsLeaving p code below entries items u × (u.items ≡ s.items)
+works_kept p t wired typed c s u w code below entries items l other e =
+    let r = kept p t wired typed c s u w code below l.over other (steps_are_moves p c s u e) in (
+      record { over = subst (λ is. IsOver p (length is) code below u.tasks) (sym r.1) r.0; stack = r.1 ∙ l.stack; plain = l.plain },
+      r.1,
+    )

@@ -1,0 +1,182 @@
+-- A client that closes or dies leaves what is kept: its messages that wait go, and where its session was open a close is asked last.
+use Rattle.std.proofs.lemmas.Bool.Decides.{nat_tests}
+use Rattle.std.proofs.Math.Bool.{and-false}
+use Rattle.std.proofs.Common.{[], Bool, List, None, Option, Some, ap, arith, false, refl, subst, sym, true, ℕ, ◌&&◌, ◌==◌, ◌∙◌, ◌∷◌, ◌≡◌, ◌≤◌}
+use Rattle.std.proofs.lemmas.Bool.{eq-eqb, eqb-true, ne_eqb}
+use Rattle.std.specs.List.{list_any}
+use Rattle.std.specs.Prelude.{filter, is_some}
+use Rattle.aom_image.specs.Image.{Image}
+use Rattle.aom_clients.specs.Nodes.{is_leaving}
+use Rattle.aom_clients.specs.Table.{server_of}
+use Rattle.aom_clients.specs.declared.client.Client.{Client}
+use Rattle.aom_safety.proofs.ClientsGone.{held_before}
+use Rattle.aom_safety.proofs.ClientsAsk.{fit_asked}
+use Rattle.aom_safety.proofs.ClientsFit.{fit_changed}
+use Rattle.aom_safety.proofs.Queues.{client_here, client_of, entry_other, is_of, none_stays, queue_other, queue_stays}
+use Rattle.aom_safety.proofs.Seated.{seats_asked, seats_left}
+use Rattle.aom_safety.proofs.Sifted.{cell_of_sifted, kept, cell_lives, cell_of, cell_placed, held_cell, named_before, named_cell, object_in, service_cell, service_gone, service_in, service_sifted, sifted, withdrawn_so, requested_before}
+use Rattle.aom_safety.proofs.Sources.{discarded_one, discarded_some, served_sifted, sources_sifted}
+use Rattle.aom_semantics.specs.Clients.{client_at, most_of, with_client}
+use Rattle.aom_semantics.specs.Enlisted.{thing_kind}
+use Rattle.aom_safety.specs.Kept.{ClientsFit, QueueFits, ServesSent, is_close_of, is_message_of}
+use Rattle.aom_semantics.specs.Places.{Asked, Cell, Close_of, Elsewhere, Object, Place, Queued, Sender, Service, Tidy, held, named, service_of, unserved, requested}
+use Rattle.aom_semantics.specs.Servers.{asked_last, discarded, reserved, is_from, is_queue, is_server, left_by, seats_taken, stays, withdrawn}
+
+-- ---- lists
+
+-- the messages of another stay, and are no more than there were
+message_stays : (c d m : ℕ) (es : List Asked) → list_any (is_message_of d m) (filter (stays c) es) ≡ true → ((c == d) ≡ false) × (list_any (is_message_of d m) es ≡ true)
+message_stays c d m [] h = cc
+message_stays c d m (e ∷ es) h = grind (arith, nat_tests, message_stays c d m es)
+
+-- a client that is leaving or at no server has nothing but its closes there
+none_but_close : (c : ℕ) (es : List Asked) → list_any (is_close_of c) es ≡ false → list_any (is_of c) (filter (stays c) es) ≡ false
+none_but_close c [] none = refl
+none_but_close c (e ∷ es) none = grind (arith, nat_tests, none_but_close c es, is_of c e, ne_eqb c, eq-eqb, is_of c)
+
+-- so that what is left of a queue fits whatever it is at then
+pub queue_left :
+    (clients : List Client) (c n : ℕ) (to : Client) (es : List Asked) → list_any (is_close_of c) es ≡ false → QueueFits clients n es →
+    QueueFits (with_client c to clients) n (filter (stays c) es)
+queue_left clients c n to es none fits = queue_other c n to clients (filter (stays c) es) (none_but_close c es none) (queue_stays clients n (stays c) es fits)
+
+-- or where it is leaving still
+pub queue_leaving :
+    (clients : List Client) (c n : ℕ) (to : Client) → (is_leaving n (client_at clients c) ≡ true → is_leaving n to ≡ true) → (es : List Asked) → QueueFits clients n es →
+    QueueFits (with_client c to clients) n (filter (stays c) es)
+queue_leaving clients c n to still [] fits = tt
+queue_leaving clients c n to still (e ∷ es) fits = grind (
+  arith,
+  nat_tests,
+  queue_leaving clients c n to still es fits.1,
+  client_of e,
+  eq-eqb,
+  client_here c to clients,
+  is_of c e,
+  eqb-true c (client_of e),
+  entry_other c n to clients e,
+  none_stays,
+)
+
+-- ---- the cells
+
+from_kept : (c d : ℕ) (x : Option Sender) → is_from d x ≡ true → is_from d (discarded c x) ≡ true
+from_kept c d x h = grind arith
+
+from_other : (c d : ℕ) (x : Option Sender) → (c == d) ≡ false → is_from d x ≡ true → is_from c x ≡ false
+from_other c d x other h = grind arith
+
+module _ (p : Image) (clients : List Client) (cs : List Cell) (tidy : Tidy cs) (fit : ClientsFit p clients cs) (c : ℕ)
+    (waiting : (n m : ℕ) (o : Object) → held cs (Elsewhere (Queued n m)) ≡ Some o → is_server p o.thing ≡ false) where
+  abbrev drops : Cell → Bool
+  drops x = is_queue x.owner && is_from c x.service.sender
+
+  abbrev left : Cell → Service
+  left x = left_by c x.service
+
+  -- what goes is a message that waits, of which clients have nothing
+  pub empty : (n : ℕ) (x : Cell) → cell_of cs n ≡ Some x → drops x ≡ true → (x.service.queue ≡ []) × (x.service.sessions ≡ [])
+  empty n x e goes = go x.owner refl goes
+    where
+      lives : cell_of cs x.object.name ≡ Some x
+      lives = cell_lives cs x.owner x tidy (cell_placed cs n x tidy e)
+
+      go : (q : Place) → x.owner ≡ q → (is_queue q && is_from c x.service.sender) ≡ true → (x.service.queue ≡ []) × (x.service.sessions ≡ [])
+      go (Elsewhere (Queued k m)) at g =
+          let there : held cs (Elsewhere (Queued k m)) ≡ Some x.object = ap (λ q. held cs q) (sym at) ∙ held_cell cs x.owner ∙ ap object_in (cell_placed cs n x tidy e) in
+          let plain = waiting k m x.object there in
+          let none = fit.servers x.object (named_cell cs x.object.name ∙ ap object_in lives) plain in
+          let same : service_of cs x.object.name ≡ x.service = service_cell cs x.object.name ∙ ap service_in lives in
+          (ap (λ v. v.queue) (sym same) ∙ none.0, ap (λ v. v.sessions) (sym same) ∙ none.1)
+      go _ at g = cc
+
+  -- so that each queue loses its entries alone, and sessions stay
+  pub service_left : (n : ℕ) → ((service_of (withdrawn c cs) n).queue ≡ filter (stays c) (service_of cs n).queue) × ((service_of (withdrawn c cs) n).sessions ≡ (service_of cs n).sessions)
+  service_left n = go (cell_of cs n) refl
+    where
+      then : service_of (withdrawn c cs) n ≡ service_of (sifted drops left cs) n
+      then = ap (λ l. service_of l n) (withdrawn_so c cs)
+
+      at :
+          (x : Cell) → cell_of cs n ≡ Some x → (b : Bool) → drops x ≡ b →
+          ((service_of (withdrawn c cs) n).queue ≡ filter (stays c) (service_of cs n).queue) × ((service_of (withdrawn c cs) n).sessions ≡ (service_of cs n).sessions)
+      at x e true d =
+          let none = empty n x e d in
+          let was : service_of cs n ≡ x.service = service_cell cs n ∙ ap service_in e in
+          let now : service_of (withdrawn c cs) n ≡ unserved = then ∙ service_gone drops left cs n tidy x e d in (
+            ap (λ v. v.queue) now ∙ sym (ap (λ q. filter (stays c) q) (ap (λ v. v.queue) was ∙ none.0)),
+            ap (λ v. v.sessions) now ∙ sym (ap (λ v. v.sessions) was ∙ none.1),
+          )
+      at x e false d =
+          let was : service_of cs n ≡ x.service = service_cell cs n ∙ ap service_in e in
+          let now : service_of (withdrawn c cs) n ≡ left_by c x.service = then ∙ service_sifted drops left cs tidy n x e d in (
+            ap (λ v. v.queue) now ∙ ap (λ v. filter (stays c) v.queue) (sym was),
+            ap (λ v. v.sessions) now ∙ ap (λ v. v.sessions) (sym was),
+          )
+
+      go :
+          (x : Option Cell) → cell_of cs n ≡ x →
+          ((service_of (withdrawn c cs) n).queue ≡ filter (stays c) (service_of cs n).queue) × ((service_of (withdrawn c cs) n).sessions ≡ (service_of cs n).sessions)
+      go None e =
+          let was : service_of cs n ≡ unserved = service_cell cs n ∙ ap service_in e in
+          let now : service_of (withdrawn c cs) n ≡ unserved = then ∙ service_cell (sifted drops left cs) n ∙ ap service_in (cell_of_sifted drops left cs n tidy ∙ ap (λ y. kept drops left y) e) in
+          (ap (λ v. v.queue) now ∙ sym (ap (λ v. filter (stays c) v.queue) was), ap (λ v. v.sessions) now ∙ sym (ap (λ v. v.sessions) was))
+      go (Some x) e = at x e (drops x) refl
+
+  -- a message of another client has its sender still
+  sender_left : (d m : ℕ) → (c == d) ≡ false → is_from d (service_of cs m).sender ≡ true → is_from d (service_of (withdrawn c cs) m).sender ≡ true
+  sender_left d m other h = grind (
+    arith,
+    nat_tests,
+    cell_of cs m,
+    service_cell cs m,
+    service_in,
+    from_other,
+    and-false,
+    withdrawn_so,
+    service_sifted,
+    from_kept,
+  )
+
+  -- the client is at something else then, and asks for nothing more
+  module _ (to : Client) (session : server_of to ≡ server_of (client_at clients c)) (queues : (n : ℕ) → QueueFits (with_client c to clients) n (filter (stays c) (service_of cs n).queue)) where
+    pub fit_withdrawn : ClientsFit p (with_client c to clients) (withdrawn c cs)
+    fit_withdrawn = fit_changed p c to clients cs (withdrawn c cs) fit record {
+      queues = λ n. subst (λ q. QueueFits (with_client c to clients) n q) (sym (service_left n).0) (queues n);
+      others = λ n d other. ap (λ xs. list_any (λ k. k == d) xs) (service_left n).1;
+      has = λ n h. session ∙ fit.sessions n c (sym (ap (λ xs. list_any (λ k. k == c) xs) (service_left n).1) ∙ h);
+      listed = λ n h. ap (λ xs. list_any (λ k. k == c) xs) (service_left n).1 ∙ fit.listed n c (sym session ∙ h);
+      servers = servers;
+      names = names;
+      senders = λ n d m h. let parts = message_stays c d m (service_of cs n).queue (ap (λ q. list_any (is_message_of d m) q) (sym (service_left n).0) ∙ h) in sender_left d m parts.0 (fit.senders n d m parts.1);
+      sources = grind (arith, nat_tests, withdrawn_so c cs, sources_sifted, discarded_one c);
+      served = subst (λ l. ServesSent l) (sym (withdrawn_so c cs)) (served_sifted drops left (λ x. discarded_some c x.service.sender) cs tidy fit.served);
+      enlisted = λ o there none. enlisted o there none;
+      seats = seats;
+    }
+      where
+        before : (o : Object) → named (withdrawn c cs) o.name ≡ Some o → named cs o.name ≡ Some o
+        before o there = grind (arith, nat_tests, named_before, withdrawn_so c cs, named_cell cs o.name, object_in)
+
+        enlisted :
+            (o : Object) → named (withdrawn c cs) o.name ≡ Some o → requested (withdrawn c cs) o.name ≡ None →
+            ((service_of (withdrawn c cs) o.name).queue ≡ []) × ((service_of (withdrawn c cs) o.name).sessions ≡ [])
+        enlisted o there none = grind (arith, nat_tests, requested_before, withdrawn_so c cs, before o there, service_left o.name)
+
+        seats : (o : Object) → named (withdrawn c cs) o.name ≡ Some o → seats_taken (service_of (withdrawn c cs) o.name) ≤ most_of (thing_kind p o.thing)
+        seats o there = grind (arith, nat_tests, before o there, seats_left c, service_left o.name)
+
+        servers :
+            (o : Object) → named (withdrawn c cs) o.name ≡ Some o → is_server p o.thing ≡ false →
+            ((service_of (withdrawn c cs) o.name).queue ≡ []) × ((service_of (withdrawn c cs) o.name).sessions ≡ [])
+        servers o there plain = grind (arith, nat_tests, before o there, service_left o.name)
+
+        names : (n m : ℕ) (o : Object) → held (withdrawn c cs) (Elsewhere (Queued n m)) ≡ Some o → o.name ≡ m
+        names n m o h = grind (arith, nat_tests, held_before, withdrawn_so c cs)
+
+-- ---- a close is asked last
+
+module _ (p : Image) (clients : List Client) (cs : List Cell) (fit : ClientsFit p clients cs) (o : Object) (lives : named cs o.name ≡ Some o) (serves : is_server p o.thing ≡ true)
+    (listed : is_some (requested cs o.name) ≡ true) (c : ℕ) where
+  pub fit_told : is_leaving o.name (client_at clients c) ≡ true → list_any (is_close_of c) (service_of cs o.name).queue ≡ false → ClientsFit p clients (reserved (asked_last (Close_of c)) o.name cs)
+  fit_told leaves new = grind (arith, nat_tests, fit_asked p clients cs fit o lives serves listed (Close_of c) leaves new, seats_asked (Close_of c))

@@ -1,0 +1,78 @@
+-- How many cells there are as moves and turns change them: by the cells one after another.
+use Rattle.std.proofs.lemmas.Bool.Decides.{nat_tests}
+use Rattle.std.proofs.Common.{[], Bool, List, None, Option, Some, ap, arith, cond, false, length, refl, suc, sym, true, ℕ, ℤ, ◌+◌, ◌==◌, ◌∙◌, ◌∷◌, ◌≡◌, ◌≤◌}
+use Rattle.std.proofs.lemmas.Bool.{eq-eqb, eqb-true}
+use Rattle.std.proofs.lemmas.Option.{none-some}
+use Rattle.aom_image.specs.Image.{Image}
+use Rattle.aom_image.specs.declared.method.Thing.{Thing}
+use Rattle.aom_roles.specs.Things.{is_object}
+use Rattle.aom_semantics.proofs.Altering.{asking, bereaving, count_kept, moving, opening, storing}
+use Rattle.aom_semantics.proofs.Maps.{same_place-true, without_none}
+use Rattle.aom_semantics.specs.Natives.{all_bereaved}
+use Rattle.aom_semantics.specs.Places.{Cell, Object, Place, Request, Tidy, count_cells, held, moved, named, set_request, set_session, set_word_field, without}
+
+-- ---- what changes no thing changes no count
+
+pub count_moved : (cs : List Cell) (p q : Place) → count_cells (moved p q cs) ≡ count_cells cs
+count_moved cs p q = count_kept (moving p q) cs
+
+pub count_asked : (cs : List Cell) (n : ℕ) (r : Option Request) → count_cells (set_request n r cs) ≡ count_cells cs
+count_asked cs n r = count_kept (asking n r) cs
+
+pub count_opened : (cs : List Cell) (n : ℕ) (session : Bool) → count_cells (set_session n session cs) ≡ count_cells cs
+count_opened cs n session = count_kept (opening n session) cs
+
+pub count_stored : (cs : List Cell) (n w : ℕ) (v : ℤ) → count_cells (set_word_field n w v cs) ≡ count_cells cs
+count_stored cs n w v = count_kept (storing n w v) cs
+
+pub count_bereaved : (p : Image) (n : ℕ) (cs : List Cell) → count_cells (all_bereaved p n cs) ≡ count_cells cs
+count_bereaved p n = count_kept (bereaving p n)
+
+-- ---- what comes and what goes
+
+-- cells of things that pass a test are counted
+pub record CountsBy (count : List Cell → ℕ) : Type 0 where
+  pub passes : Thing → Bool
+  pub some : (c : Cell) (cs : List Cell) → count (c ∷ cs) ≡ cond (passes c.object.thing) (suc (count cs)) (count cs)
+
+abbrev pub counted_by : (Thing → Bool) → Option Object → ℕ
+counted_by passes None = 0
+counted_by passes (Some o) = cond (passes o.thing) 1 0
+
+-- one less where one of them goes
+pub counted_without : {count : List Cell → ℕ} (k : CountsBy count) (cs : List Cell) (g : Place) → Tidy cs → count cs ≡ counted_by k.passes (held cs g) + count (without g cs)
+counted_without k [] g tidy = omega arith
+counted_without {count = count} k (c ∷ cs) g tidy = grind (arith, nat_tests, counted_without k cs g tidy.2, without_none cs g, same_place-true c.owner g)
+
+abbrev pub counted_in : Option Object → ℕ
+counted_in o = counted_by is_object o
+
+pub count_without : (cs : List Cell) (g : Place) → Tidy cs → count_cells cs ≡ counted_in (held cs g) + count_cells (without g cs)
+count_without = counted_without (record { passes = is_object; some = λ c cs. refl })
+
+-- ---- against all that is in the list
+
+pub count_most : (cs : List Cell) → count_cells cs ≤ length cs
+count_most [] = omega arith
+count_most (c ∷ cs) = grind (arith, nat_tests, count_most cs)
+
+-- each is an object
+abbrev pub AllObjects : List Cell → Type 0
+AllObjects [] = Unit {0}
+AllObjects (c ∷ cs) = (is_object c.object.thing ≡ true) × AllObjects cs
+
+pub count_objects : (cs : List Cell) → AllObjects cs → count_cells cs ≡ length cs
+count_objects [] all = refl
+count_objects (c ∷ cs) all = ap (λ b. cond b (suc (count_cells cs)) (count_cells cs)) all.0 ∙ ap suc (count_objects cs all.1)
+
+-- they are where each name is an object's
+pub all_objects : (cs : List Cell) → Tidy cs → ((n : ℕ) (o : Object) → named cs n ≡ Some o → is_object o.thing ≡ true) → AllObjects cs
+all_objects [] tidy objects = tt
+all_objects (c ∷ cs) tidy objects = (objects c.object.name c.object (ap (λ b. cond b (Some c.object) (named cs c.object.name)) (eq-eqb c.object.name c.object.name refl)), all_objects cs tidy.2 others)
+  where
+    others : (n : ℕ) (o : Object) → named cs n ≡ Some o → is_object o.thing ≡ true
+    others n o e = go (c.object.name == n) refl
+      where
+        go : (b : Bool) → (c.object.name == n) ≡ b → is_object o.thing ≡ true
+        go true same = absurd (none-some o (sym tidy.1 ∙ ap (λ k. named cs k) (eqb-true c.object.name n same) ∙ e))
+        go false other = objects n o (ap (λ b. cond b (Some c.object) (named cs n)) other ∙ e)

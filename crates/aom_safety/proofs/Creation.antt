@@ -1,0 +1,240 @@
+-- The law of a new cell.
+use Rattle.std.proofs.lemmas.Bool.Decides.{nat_tests}
+use Rattle.std.proofs.Common.{[], Bool, List, None, Option, Some, ap, arith, cond, eq-eqb, false, length, refl, subst, sym, true, ℕ, ℤ, ◌==◌, ◌∙◌, ◌∷◌, ◌≡◌, ◌≤◌, suc}
+use Rattle.std.proofs.lemmas.Bool.{eqb-true, ne_eqb}
+use Rattle.std.specs.Prelude.{is_none}
+use Rattle.aom_image.specs.Image.{Image}
+use Rattle.aom_instructions.specs.declared.instr.Instr.TheVariants.{New}
+use Rattle.aom_image.specs.declared.method.Thing.{Thing}
+use Rattle.aom_image.specs.declared.method.Thing.TheVariants.{Object as An_object_of}
+use Rattle.aom_shape.specs.Kinds.{field, filled, set_register}
+use Rattle.aom_rules.specs.Objects.{new_age}
+use Rattle.aom_shape.specs.Order.{Weaker, alike, maybe_null}
+use Rattle.aom_shape.specs.Shape.{Shape}
+use Rattle.aom_roles.specs.Things.{field_thing, holder_of}
+use Rattle.aom_rules.specs.Typing.{Typing, Leads}
+use Rattle.aom_shape.specs.declared.kind.Age.{Age}
+use Rattle.aom_shape.specs.declared.kind.Filling.TheVariants.{Full, Perhaps}
+use Rattle.aom_shape.specs.declared.kind.Kind.{Kind}
+use Rattle.aom_shape.specs.declared.kind.Kind.TheVariants.{Maybe, Null}
+use Rattle.std.specs.Prelude.{is_some}
+use Rattle.aom_safety.proofs.Claimed.{Outside, claim-set_register, claim_frame, claim_rel, claim_unnamed, fits_age, fits_weaker, outside_differs}
+use Rattle.aom_safety.proofs.Straight.{At, Fitted, Law, fits_unowning, fitted, free_register, relabel, settle, top, well, words_set}
+use Rattle.aom_safety.proofs.Things.{stands_itself}
+use Rattle.aom_safety.specs.Claims.{Ending, Dispatching, Dying, Layer, Mark, Method, Unwinding, claim, declared, declared_field, home_claim, own_field, tasks_of}
+use Rattle.aom_semantics.specs.Effects.{applied, makes_unless, sets, Made}
+use Rattle.aom_semantics.specs.Objects.{no_words}
+use Rattle.aom_semantics.specs.Places.{Elsewhere, Session, Queued, service_of, unserved, Service, Cell, Field, Object, Place, Register, Request, Sight, held, named, requested, same_place, seen, with_new}
+use Rattle.aom_semantics.specs.State.{Dispatch, Seat, AtRoot, Choice, Frame, Home, Inside, State, Static, next, set_word, thing_holder, word}
+use Rattle.aom_safety.specs.WellTyped.{AllSit, SitsFirst, IsAttended, Back, Fits, HasAge, IsHoused, Returns, Stack, WellTyped, WordFits, seat_of}
+use Rattle.aom_safety.proofs.Seats.{NoFieldHere, first_kept, sits_kept}
+use Rattle.aom_safety.specs.Requests.{AllSuit, Suits, Unworked, states_claim, thing_kind, works_at}
+use Rattle.aom_safety.proofs.Suiting.{suits_new, unworked_rests}
+use Rattle.aom_semantics.specs.Servers.{has_session, has_message, session_thing, message_thing}
+use Rattle.aom_safety.proofs.Services.{service_unnamed, attended_at, sits_lives}
+
+-- what a service says with its server's class: of a new cell nothing is said, and of the others what was
+serves_new :
+    (cs : List Cell) (n : ℕ) (x : Thing) → named cs n ≡ None → (m : ℕ) (has : Service → Bool) (thing : Option Object → Option Thing) → has unserved ≡ false →
+    Weaker (cond (has (cond (n == m) unserved (service_of cs m))) (filled (thing (cond (n == m) (Some (record { name = n; thing = x })) (named cs m))) Full) Null)
+    (cond (has (service_of cs m)) (filled (thing (named cs m)) Full) Null)
+serves_new cs n x e m has thing none = go (n == m) refl
+  where
+    go : (b : Bool) → (n == m) ≡ b →
+        Weaker (cond (has (cond b unserved (service_of cs m))) (filled (thing (cond b (Some (record { name = n; thing = x })) (named cs m))) Full) Null) (cond (has (service_of cs m)) (filled (thing (named cs m)) Full) Null)
+    go true h = subst (λ v. Weaker (cond (has unserved) (filled (thing (Some (record { name = n; thing = x }))) Full) Null) (cond (has v) (filled (thing (named cs m)) Full) Null))
+        (sym (service_unnamed cs m (ap (λ k. named cs k) (sym (eqb-true n m h)) ∙ e)))
+        (subst (λ b. Weaker (cond b (filled (thing (Some (record { name = n; thing = x }))) Full) Null) (cond b (filled (thing (named cs m)) Full) Null)) (sym none) alike)
+    go false h = alike
+
+-- nothing but a new cell's fields is declared anew
+declared_new : (p : Image) (cs : List Cell) (n : ℕ) (x : Thing) (ws : List ℤ) (owner : Place) → named cs n ≡ None → (r : Place) → Weaker (declared p (with_new n x ws owner cs) r) (declared p cs r)
+declared_new p cs n x ws owner e (Field m f) = go (n == m) refl
+  where
+    null : (c : Option Thing) → Weaker (filled c Perhaps) Null
+    null None = alike
+    null (Some c) = maybe_null
+
+    go : (b : Bool) → (n == m) ≡ b → Weaker (declared_field p (cond b (Some (record { name = n; thing = x })) (named cs m)) f) (declared_field p (named cs m) f)
+    go true h = subst (λ o. Weaker (filled (field_thing p (thing_holder x) f) Perhaps) (declared_field p o f)) (sym e ∙ ap (λ k. named cs k) (eqb-true n m h)) (null (field_thing p (thing_holder x) f))
+    go false h = alike
+declared_new p cs n x ws owner e (Elsewhere (Session m c)) = serves_new cs n x e m (λ v. has_session v c) (λ o. session_thing p o) refl
+declared_new p cs n x ws owner e (Elsewhere (Queued m k)) = serves_new cs n x e m (λ v. has_message v k) (λ o. message_thing p o) refl
+declared_new p cs n x ws owner e _ = alike
+
+-- what clients have at what there was is as it was
+service_new :
+    (cs : List Cell) (n : ℕ) (x : Thing) (ws : List ℤ) (owner : Place) (o : Object) → named cs n ≡ None → named cs o.name ≡ Some o →
+    service_of (with_new n x ws owner cs) o.name ≡ service_of cs o.name
+service_new cs n x ws owner o e h = grind (arith, nat_tests, ne_eqb n o.name)
+
+attended_new :
+    (p : Image) (cs : List Cell) (n : ℕ) (x : Thing) (ws : List ℤ) (owner : Place) (d : Dispatch) (seats : List Seat) → named cs n ≡ None → AllSit cs seats → SitsFirst cs (seat_of d) seats →
+    IsAttended p cs d → IsAttended p (with_new n x ws owner cs) d
+attended_new p cs n x ws owner d seats e sits first h = grind (arith, nat_tests, attended_at p cs, service_new cs n x ws owner, sits_lives cs seats)
+
+lives_new : (cs : List Cell) (n : ℕ) (x : Thing) (ws : List ℤ) (owner : Place) (o : Object) → named cs n ≡ None → named cs o.name ≡ Some o → named (with_new n x ws owner cs) o.name ≡ Some o
+lives_new cs n x ws owner o e h =
+    ap (λ b. cond b (Some (record { name = n; thing = x })) (named cs o.name)) (ne_eqb n o.name (λ same. let e' : Some o ≡ None = sym h ∙ ap (λ k. named cs k) (sym same) ∙ e in cc)) ∙ h
+
+holds_new :
+    (p : Image) (cs : List Cell) (n : ℕ) (x : Thing) (ws : List ℤ) (owner : Place) (ls : List Layer) (home : Home) → named cs n ≡ None → Outside owner ls →
+    ((o : Object) (from : Place) → home ≡ Inside o from → NoFieldHere owner from) → IsHoused p cs ls home → IsHoused p (with_new n x ws owner cs) ls home
+holds_new p cs n x ws owner ls y e out nf h = grind (arith, nat_tests, outside_differs owner, lives_new cs n x ws owner)
+
+stack_new :
+    (p : Image) (t : Typing) (cs : List Cell) (n : ℕ) (x : Thing) (ws : List ℤ) (f i : ℕ) (ls : List Layer) (back : Back) → named cs n ≡ None → length (tasks_of ls) ≤ f →
+    Stack p t cs back ls → Stack p t (with_new n x ws (Register f i) cs) back ls
+stack_new p t cs n x ws f i [] back e out s = s
+stack_new p t cs n x ws f i (Method fr sh ∷ ls) back e out s =
+    (s.0, s.1, holds_new p cs n x ws (Register f i) ls fr.home e (omega arith) (λ o from e. tt) s.2, s.3, stack_new p t cs n x ws f i ls _ e (omega arith) s.4)
+stack_new p t cs n x ws f i (Mark gv ∷ ls) back e out s = (s.0, stack_new p t cs n x ws f i ls _ e (omega arith) s.1)
+stack_new p t cs n x ws f i (Dispatching d seats ∷ ls) back e out s = (
+  s.0,
+  s.1,
+  sits_kept cs cs' q q seats (λ r o other other' there lives. (ap (λ b. cond b (Some (record { name = n; thing = x })) (held cs r)) other ∙ there, lives_new cs n x ws q o e lives)) tt tt s.2,
+  first_kept cs cs' q (seat_of d) seats (λ r o other there lives some. ap (λ b. is_some (cond b None (requested cs o.name))) (ne_eqb n o.name (λ same. let e' : Some o ≡ None = sym lives ∙ ap (λ k. named cs k) (sym same) ∙ e in cc)) ∙ some) tt s.2 s.3,
+  attended_new p cs n x ws q d seats e s.2 s.3 s.4,
+)
+  where
+    q : Place
+    q = Register f i
+
+    cs' : List Cell
+    cs' = with_new n x ws (Register f i) cs
+stack_new p t cs n x ws f i (Ending o left ∷ ls) back e out s = (
+  record { server = s.0.server; lives = lives_new cs n x ws (Register f i) o e s.0.lives; listed = λ c h. ap (λ v. has_session v c) (service_new cs n x ws (Register f i) o e s.0.lives) ∙ s.0.listed c h },
+  s.1,
+  s.2,
+  stack_new p t cs n x ws f i ls _ e (omega arith) s.3,
+)
+stack_new p t cs n x ws f i (Unwinding code es ∷ ls) back e out s = (s.0, stack_new p t cs n x ws f i ls _ e (omega arith) s.1)
+stack_new p t cs n x ws f i (Dying o ∷ ls) back e out s = ((lives_new cs n x ws (Register f i) o e s.0.0, s.0.1), s.1, stack_new p t cs n x ws f i ls _ e (omega arith) s.2)
+
+-- no layer works on a cell that is not there
+module _ (p : Image) (cs : List Cell) (o : Object) where
+  unworked_home : (ls : List Layer) (home : Home) → IsHoused p cs ls home → named cs o.name ≡ None → works_at o.name home ≡ false
+  unworked_home ls Static h e = refl
+  unworked_home ls AtRoot h e = refl
+  unworked_home ls (Inside x from) h e = grind (arith, nat_tests, ne_eqb x.name o.name)
+
+  unworked_unnamed : (t : Typing) (ls : List Layer) (back : Back) → Stack p t cs back ls → named cs o.name ≡ None → Unworked o.name ls
+  unworked_unnamed t [] back s e = tt
+  unworked_unnamed t (Method fr sh ∷ ls) back s e = (unworked_home ls fr.home s.2 e, unworked_unnamed t ls _ s.4 e)
+  unworked_unnamed t (Mark gv ∷ ls) back s e = unworked_unnamed t ls _ s.1 e
+  unworked_unnamed t (Dying x ∷ ls) back s e = (grind (arith, nat_tests, ne_eqb x.name o.name), unworked_unnamed t ls _ s.2 e)
+  unworked_unnamed t (Ending x left ∷ ls) back s e = unworked_unnamed t ls _ s.3 e
+  unworked_unnamed t (Unwinding code es ∷ ls) back s e = unworked_unnamed t ls _ s.1 e
+  unworked_unnamed t (Dispatching d seats ∷ ls) back s e = subst (λ l. Unworked o.name l) (sym s.1) tt
+
+-- what had no request has none beside a new cell
+unasked : (b : Bool) (r : Option Request) → r ≡ None → cond b None r ≡ None
+unasked x r e = grind arith
+
+-- a new cell in a register of the top method
+pub create :
+    (p : Image) (t : Typing) (cs : List Cell) (fr : Frame) (sh : Shape) (ls : List Layer) (n : ℕ) (x : Thing) (ws : List ℤ) (a : ℕ) (k : Kind) →
+    Fitted p t cs fr sh ls →
+    named cs n ≡ None →
+    held cs (top ls a) ≡ None →
+    ((h : Sight) → ((f : ℕ) → h.holds (Field n f) ≡ None) → h.requests n ≡ None → Fits p h (Some (record { name = n; thing = x })) k) →
+    WordFits None k →
+    Fitted p t (with_new n x ws (top ls a) cs) (next (set_word fr a None)) (set_register sh a k) ls
+create p t cs fr sh ls n x ws a k g e free new word = record {
+  fits = fits;
+  suits = suits;
+  tidy = (free, e, g.tidy);
+  frames = record { words = words_set fr.words sh a None k g.frames.words word; holder = g.frames.holder; view = g.frames.view; height = g.frames.height; alone = g.frames.alone; message = g.frames.message };
+  housed = holds_new p cs n x ws (top ls a) ls fr.home e (omega arith) (λ o from e. tt) g.housed;
+  apart = g.apart;
+  stack = stack_new p t cs n x ws (length (tasks_of ls)) a ls _ e (omega arith) g.stack;
+}
+  where
+    cs' : List Cell
+    cs' = with_new n x ws (top ls a) cs
+
+    back : Back
+    back = Returns fr.method fr.home
+
+    no_field : (f : ℕ) → held cs (Field n f) ≡ None
+    no_field f = fits_unowning p (seen cs) _ Null refl (subst (λ k. Fits p (seen cs) (held cs (Field n f)) k) (unclaimed ∙ ap (λ o. declared_field p o f) e) (g.fits (Field n f)))
+      where
+        own : (h : Home) → IsHoused p cs ls h → home_claim p (holder_of p fr.method) h sh n f (claim p (declared p cs) ls (Field n f)) ≡ claim p (declared p cs) ls (Field n f)
+        own Static h = refl
+        own AtRoot h = refl
+        own (Inside o from) h =
+            ap (λ b. cond b (own_field (field_thing p (holder_of p fr.method) f) (field sh f) (claim p (declared p cs) ls (Field n f))) (claim p (declared p cs) ls (Field n f)))
+            (ne_eqb o.name n (λ same. let l = h.lives in let e' : Some o ≡ None = sym l ∙ ap (λ x. named cs x) same ∙ e in cc))
+
+        unclaimed : claim p (declared p cs) (Method fr sh ∷ ls) (Field n f) ≡ declared p cs (Field n f)
+        unclaimed = own fr.home g.housed ∙ claim_unnamed p t cs (declared p cs) ls back n f g.stack e
+
+    no_request : requested cs' n ≡ None
+    no_request = ap (λ b. cond b None (requested cs n)) (eq-eqb n n refl)
+
+    fits : (r : Place) → Fits p (seen cs') (held cs' r) (claim p (declared p cs') (Method (next (set_word fr a None)) (set_register sh a k) ∷ ls) r)
+    fits r =
+        subst (λ k. Fits p (seen cs') (held cs' r) k)
+        (sym (claim_frame p (declared p cs') fr (next (set_word fr a None)) (set_register sh a k) ls r refl refl ∙ claim-set_register p (declared p cs') fr sh ls a k r))
+        (go (same_place (top ls a) r))
+      where
+        go : (b : Bool) → Fits p (seen cs') (cond b (Some (record { name = n; thing = x })) (held cs r)) (cond b k (claim p (declared p cs') (Method fr sh ∷ ls) r))
+        go true = new (seen cs') no_field no_request
+        go false = fits_weaker p (seen cs') (held cs r)
+            (claim_rel Weaker (λ k. alike) p (declared p cs') (declared p cs) (Method fr sh ∷ ls) r (declared_new p cs n x ws (top ls a) e r))
+            (fits_age p (seen cs) (seen cs') (held cs r) _ (λ y e' fresh age. (age.0, unasked (n == y.name) (requested cs y.name) age.1)) (g.fits r))
+
+    -- no layer works on what was not there
+    suits : AllSuit p cs' (Method (next (set_word fr a None)) (set_register sh a k) ∷ ls)
+    suits o lives = go (n == o.name) refl lives
+      where
+        go : (b : Bool) → (n == o.name) ≡ b → cond b (Some (record { name = n; thing = x })) (named cs o.name) ≡ Some o → Suits (thing_kind p o.thing) (states_claim p o (Method fr sh ∷ ls)) (cond b None (requested cs o.name))
+        go true same here =
+            let unnamed : named cs o.name ≡ None = ap (λ m. named cs m) (sym (eqb-true n o.name same)) ∙ e in
+            subst (λ k. Suits (thing_kind p o.thing) k None) (sym (unworked_rests p o (Method fr sh ∷ ls) (unworked_home p cs o ls fr.home g.housed unnamed, unworked_unnamed p cs o t ls back g.stack unnamed))) (suits_new (thing_kind p o.thing))
+        go false other here = g.suits o here
+
+module _ (p : Image) (t : Typing) (c : Choice) (s : State) (fr : Frame) (sh : Shape) (ls : List Layer) (at_hand : At p t s fr sh ls) where
+  d : Place → Kind
+  d = declared p s.cells
+
+  -- the name that the choice gives a new cell is free
+  abbrev pub IsUnused : Type 0
+  IsUnused = named s.cells c.name ≡ None
+
+  pub age_fits : (h : Sight) (a : Age) (o : Object) → ((f : ℕ) → h.holds (Field o.name f) ≡ None) → h.requests o.name ≡ None → HasAge h o a
+  age_fits h x o n u = grind arith
+
+  -- a new cell comes to a register that owned nothing
+  pub made_well :
+      (a x : ℕ) (k : Kind) → held s.cells (top ls a) ≡ None → IsUnused →
+      ((h : Sight) → HasAge h (record { name = c.name; thing = An_object_of x }) (new_age p x) → Fits p h (Some (record { name = c.name; thing = An_object_of x })) k) → WordFits None k →
+      Leads t fr.method (suc fr.place) (set_register sh a k) → WellTyped p t (applied p fr (tasks_of ls) s (sets fr a None (Made c.name x a)))
+  made_well a x k free unused owns word leads = well p t c s fr sh ls at_hand _ fr' (set_register sh a k) refl at_hand.items at_hand.undos (settle p t _ fr' (set_register sh a k) ls makes leads)
+    where
+      fr' : Frame
+      fr' = next (set_word fr a None)
+
+      makes : Fitted p t (with_new c.name (An_object_of x) (no_words p x) (top ls a) s.cells) fr' (set_register sh a k) ls
+      makes = create p t s.cells fr sh ls c.name (An_object_of x) (no_words p x) a k (fitted p t s.cells fr sh ls at_hand.good) unused free
+          (λ h nf u. owns h (age_fits h (new_age p x) (record { name = c.name; thing = An_object_of x }) nf u)) word
+
+  pub law_new : (a x : ℕ) → IsUnused → Law p t c s fr sh ls at_hand (New a x)
+  law_new a x unused n leads = ((ap is_none free, tt), go c.refused)
+    where
+      k : Kind
+      k = Maybe (An_object_of x) (new_age p x)
+
+      fr' : Frame
+      fr' = next (set_word fr a None)
+
+      free : held s.cells (top ls a) ≡ None
+      free = free_register p t c s fr sh ls at_hand a n.0
+
+      refuses : Fitted p t s.cells fr' (set_register sh a k) ls
+      refuses = relabel p t s.cells fr fr' sh (set_register sh a k) ls (top ls a) k (fitted p t s.cells fr sh ls at_hand.good) refl refl refl refl
+          (subst (λ o. Fits p (seen s.cells) o k) (sym free) tt) (λ r. claim-set_register p (declared p s.cells) fr sh ls a k r) (words_set fr.words sh a None k at_hand.good.stack.1.words refl)
+
+      go : (b : Bool) → WellTyped p t (applied p fr (tasks_of ls) s (sets fr a None (makes_unless b c.name x a)))
+      go true = well p t c s fr sh ls at_hand _ fr' (set_register sh a k) refl at_hand.items at_hand.undos (settle p t _ fr' (set_register sh a k) ls refuses leads.0)
+      go false = made_well a x k free unused (λ h age. (stands_itself p (An_object_of x), age)) refl leads.0

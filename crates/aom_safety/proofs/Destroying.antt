@@ -1,0 +1,474 @@
+-- Destruction begins: from a delete, and as an entry is unwound.
+use Rattle.std.proofs.lemmas.Bool.Decides.{nat_tests}
+use Rattle.std.proofs.Common.{[], Bool, List, None, Option, Some, ap, arith, cond, false, length, refl, subst, suc, sym, true, zero, ℕ, ⊎_elim, ◌==◌, ◌∙◌, ◌∷◌, ◌≡◌, ◌≤◌}
+use Rattle.std.proofs.lemmas.Bool.{cases_Bool, eq-eqb, eqb-true, ne_eqb, true≢false}
+use Rattle.std.specs.Prelude.{is_some, IsSome, is_none, map, replicate}
+use Rattle.aom_image.specs.Image.{Image}
+use Rattle.aom_image.specs.Views.{arguments_of, gives_of, is_quiet, leaves, method_at, method_role}
+use Rattle.aom_instructions.specs.declared.instr.Instr.TheVariants.{Delete}
+use Rattle.aom_image.specs.declared.method.Gives.TheVariants.{Nothing}
+use Rattle.aom_image.specs.declared.method.Role.TheVariants.{Destruct}
+use Rattle.aom_image.specs.declared.method.Thing.{Thing}
+use Rattle.aom_image.specs.declared.method.Thing.TheVariants.{Message, Object as An_object_of}
+use Rattle.aom_rules.specs.Calls.{is_destruct}
+use Rattle.aom_shape.specs.Kinds.{field, filled, is_object_or_null, is_ready_kind, may_be_destroyed, register, set_register}
+use Rattle.aom_shape.specs.Order.{SaysNoMore, Weaker, WeakerFilling, alike, alike_filling}
+use Rattle.aom_shape.specs.Shape.{Shape}
+use Rattle.aom_roles.specs.Tables.{at}
+use Rattle.aom_roles.specs.Things.{Member, field_thing, holder_by, holder_of}
+use Rattle.aom_rules.specs.Typing.{IsTyped, Typing}
+use Rattle.aom_shape.specs.Arguments.{after_of, argument_kind, before_of, entry_fields, entry_shape}
+use Rattle.aom_shape.specs.declared.kind.Age.TheVariants.{Ready}
+use Rattle.aom_shape.specs.declared.kind.Filling.{Filling}
+use Rattle.aom_shape.specs.declared.kind.Filling.TheVariants.{Full, Perhaps}
+use Rattle.aom_shape.specs.declared.kind.Kind.{Kind}
+use Rattle.aom_shape.specs.declared.kind.Kind.TheVariants.{Null, Own, Unset}
+use Rattle.aom_safety.proofs.Claimed.{no_seat_outside, Outside, claim-set_register, claim_frame, claim_going_above, claim_register_above, claim_unclaimed, declared_moved, going_differs, keep_fits, no_field_here, outside_differs, outside_less, stack_moved}
+use Rattle.aom_safety.proofs.Items.{begins_well, length_forms}
+use Rattle.aom_safety.proofs.Seats.{NoFieldHere, NoSeatHere, no_seat}
+use Rattle.aom_semantics.proofs.Maps.{held_lives, held_moved, named_moved, one_place, requested_moved, same_place-true, same_place_refl, tidy_moved}
+use Rattle.aom_safety.proofs.Straight.{At, Law, fits_unowning, fitted, housed_relocated, kind_fits, no_word, relabel, settle, top, well, words_set}
+use Rattle.aom_safety.proofs.Things.{stands_itself, stands_object}
+use Rattle.aom_safety.proofs.Housing.{counts_line, houses_role}
+use Rattle.aom_roles.proofs.Descending.{itself, through}
+use Rattle.aom_roles.specs.Families.{descends}
+use Rattle.aom_safety.specs.Claims.{Ending, by_close, Dispatching, Dying, Layer, Mark, Method, Unwinding, claim, declared, declared_field, forms, home_claim, items_of, own_field, tasks_of}
+use Rattle.aom_classes.specs.Roles.{destructor_of, role_of}
+use Rattle.aom_semantics.specs.Destruction.{destructor_frame, destructed, begun, begun_by}
+use Rattle.aom_safety.specs.Laws.{IsWired}
+use Rattle.aom_semantics.specs.Effects.{applied, deletes}
+use Rattle.aom_semantics.specs.Objects.{is_no_message}
+use Rattle.aom_semantics.specs.Places.{In_service, Queued, service_of, Cell, Elsewhere, Entry, Field, Going, Object, Place, Register, Root, Sight, Tidy, changed, held, moved, named, requested, same_place, seen, Session}
+use Rattle.aom_semantics.specs.State.{Dispatch, Of_server, Parts, Closing, Destroy, AtRoot, Choice, Frame, Home, Inside, Run, Seat, State, Static, next, set_word, thing_holder, word}
+use Rattle.aom_safety.specs.WellTyped.{view_holder, SitsFirst, seat_of, IsOverDying, Now, AllSit, NoSeatAt, NoSeatIn, SitsIn, SomeSits, AllUndo, Back, Caught, Fits, Gone, Good, Houses, IsBelow, IsHoused, IsNoFieldOf, IsOfFamily, Leaves, NoneIn, NotIn, Returns, SomeIn, Stack, Unclaimed, WellTyped, WordFits, WorksOn}
+use Rattle.aom_roles.specs.Shapes.{kind_of}
+use Rattle.aom_safety.proofs.Suiting.{all_moved, known_plain, same_object, suits_less, unworked_rests}
+use Rattle.aom_safety.specs.Requests.{AllSuit, Suits, Unworked, resting_in, states_claim, thing_kind, works_at}
+use Rattle.aom_roles.specs.States.{last_of, states_of}
+use Rattle.aom_semantics.specs.Servers.{session_thing, is_server, has_session}
+use Rattle.aom_roles.specs.Classes.{sessions_in, sessions_of}
+use Rattle.aom_image.specs.declared.class.ClassKind.{ClassKind}
+use Rattle.aom_roles.specs.Roles.{is_service, is_cancel}
+use Rattle.aom_safety.proofs.Attending.{plain_claim}
+
+-- no layer works on that cell, or claims anything of its fields but what is declared
+pub record Untouched (p : Image) (k : ℕ → Kind) (n : ℕ) (ls : List Layer) : Type 0 where
+  pub some : SomeIn n ls → ⊥
+  pub unclaimed : Unclaimed p k n ls
+  pub none_in : NoneIn n ls
+  pub unworked : Unworked n ls
+  pub sessions : (d : Place → Kind) (c : ℕ) → claim p d ls (Elsewhere (Session n c)) ≡ d (Elsewhere (Session n c))
+
+-- a server whose sessions go first is the cell that goes below
+ending_apart : (x : Object) (n : ℕ) (ls : List Layer) → IsOverDying x ls → Unworked n ls → (x.name == n) ≡ false
+ending_apart x n y same u = grind arith
+
+pub eqb_comm : (a b : ℕ) → (a == b) ≡ (b == a)
+eqb_comm a b = grind (arith, nat_tests, cases_Bool (a == b), eq-eqb b a, eqb-true a b, ne_eqb b a, eq-eqb a b)
+
+module _ (p : Image) (t : Typing) (cs : List Cell) (q : Place) (o : Object) (tidy : Tidy cs) (there : held cs q ≡ Some o) where
+  pub other_name : (from : Place) (x : Object) → held cs from ≡ Some x → same_place q from ≡ false → (x.name == o.name) ≡ false
+  other_name from x h e = ne_eqb x.name o.name (λ same. true≢false (sym (ap (λ r. same_place q r) (one_place cs from q x o tidy h there same) ∙ same_place_refl q) ∙ e))
+
+  pub untouched_method :
+      (k : ℕ → Kind) (fr : Frame) (sh : Shape) (ls : List Layer) → ((x : Object) (from : Place) → fr.home ≡ Inside x from → NoFieldHere q from) → Outside q ls → IsHoused p cs ls fr.home →
+      Untouched p k o.name ls → Untouched p k o.name (Method fr sh ∷ ls)
+  untouched_method k fr sh ls aside out housed u = go housed
+    where
+      Result : Home → Type 0
+      Result home = (WorksOn o.name home → ⊥) × ((f : ℕ) → home_claim p (holder_of p fr.method) home sh o.name f (k f) ≡ k f) × NotIn o.name home × (works_at o.name home ≡ false)
+
+      not_in : (from : Place) → IsBelow from ls → IsNoFieldOf o.name from
+      not_in x b = grind arith
+
+      of : (home : Home) → fr.home ≡ home → IsHoused p cs ls home → Result home
+      of Static same h = (λ x. x, λ f. refl, tt, refl)
+      of AtRoot same h = (λ x. x, λ f. refl, tt, refl)
+      of (Inside x from) same h =
+          let e = other_name from x h.there (outside_differs q from ls out (aside x from same) h.below) in
+          (λ same. true≢false (sym (eq-eqb x.name o.name same) ∙ e), λ f. ap (λ b. cond b (own_field (field_thing p (holder_of p fr.method) f) (field sh f) (k f)) (k f)) e, not_in from h.below, e)
+
+      go : IsHoused p cs ls fr.home → Untouched p k o.name (Method fr sh ∷ ls)
+      go h = let r = of fr.home refl h in record {
+        some = λ s. ⊎_elim r.0 u.some s;
+        unclaimed = λ f. ap (λ x. home_claim p (holder_of p fr.method) fr.home sh o.name f x) (u.unclaimed f) ∙ r.1 f;
+        none_in = (r.2, u.none_in);
+        unworked = (r.3, u.unworked);
+        sessions = u.sessions;
+      }
+
+  -- it does not sit, nor does any in its fields
+  unseated : (xs : List Seat) → NoSeatHere q xs → AllSit cs xs → (SomeSits o.name xs → ⊥) × NoSeatIn o.name xs
+  unseated xs h s = go xs (no_seat cs q xs h s) s
+    where
+      not_in : (xs : List Seat) (r : Place) → SitsIn r xs → (SomeSits o.name xs → ⊥) → IsNoFieldOf o.name r
+      not_in xs x h none = grind arith
+
+      go : (xs : List Seat) → NoSeatAt q xs → AllSit cs xs → (SomeSits o.name xs → ⊥) × NoSeatIn o.name xs
+      go [] h s = (λ x. x, tt)
+      go (x ∷ xs) h s =
+          let above = go xs h.1 s.1 in
+          (λ some. ⊎_elim (λ same. true≢false (sym (eq-eqb x.object.name o.name same) ∙ other_name x.place x.object s.0.0 h.0)) above.0 some, (not_in xs x.place s.0.2 above.0, above.1))
+
+  -- the close of a session with what sits is none with it
+  close_apart : (w : Dispatch) (seats : List Seat) → SitsFirst cs (seat_of w) seats → (SomeSits o.name seats → ⊥) → (c : ℕ) (k : Kind) → by_close w o.name c k ≡ k
+  close_apart (Of_server x client Parts) seats first none c k = grind (arith, nat_tests, ne_eqb x.object.name o.name)
+  close_apart _ seats first none c k = refl
+
+  pub untouched : (k : ℕ → Kind) (ls : List Layer) (back : Back) → Outside q ls → Stack p t cs back ls → Untouched p k o.name ls
+  untouched k [] back out s = record { some = λ x. x; unclaimed = λ f. refl; none_in = tt; unworked = tt; sessions = λ d c. refl }
+  untouched k (Method fr sh ∷ ls) back out s = grind (
+    arith,
+    nat_tests,
+    untouched_method k fr sh ls,
+    no_field_here q fr,
+    outside_less q (Method fr sh) ls out,
+    untouched k ls (Returns fr.method fr.home) (outside_less q (Method fr sh) ls out) s.4,
+  )
+  untouched k (Mark gv ∷ ls) back out s =
+      let u = untouched k ls (Caught gv) (outside_less q (Mark gv) ls out) s.1 in
+      record { some = u.some; unclaimed = u.unclaimed; none_in = u.none_in; unworked = u.unworked; sessions = u.sessions }
+  untouched k (Dying x ∷ ls) back out s =
+      let u = untouched k ls Gone (outside_less q (Dying x) ls out) s.2 in
+      record { some = u.some; unclaimed = λ f. ap (λ y. cond (x.name == o.name) Null y) (u.unclaimed f) ∙ ap (λ b. cond b Null (k f)) (other_name (Going (length (tasks_of ls))) x s.0.1 (going_differs q x ls out)); none_in = u.none_in; unworked = (other_name (Going (length (tasks_of ls))) x s.0.1 (going_differs q x ls out), u.unworked); sessions = λ d c. ap (λ b. cond b Null (claim p d ls (Elsewhere (Session o.name c)))) (other_name (Going (length (tasks_of ls))) x s.0.1 (going_differs q x ls out)) ∙ u.sessions d c }
+  untouched k (Dispatching w seats ∷ ls) back out s =
+      let h = unseated seats (no_seat_outside q w seats ls out) s.2 in
+      subst (λ l. Untouched p k o.name (Dispatching w seats ∷ l)) (sym s.1) (record { some = λ x. ⊎_elim h.0 (λ y. y) x; unclaimed = λ f. refl; none_in = (h.1, tt); unworked = tt; sessions = λ d c. close_apart w seats s.3 h.0 c (d (Elsewhere (Session o.name c))) })
+  untouched k (Ending x left ∷ ls) back out s =
+      let u = untouched k ls Now (outside_less q (Ending x left) ls out) s.3 in
+      let apart = ending_apart x o.name ls s.2 u.unworked in
+      record {
+        some = u.some;
+        unclaimed = grind (arith, nat_tests);
+        none_in = u.none_in;
+        unworked = u.unworked;
+        sessions = grind (arith, nat_tests);
+      }
+  untouched k (Unwinding code es ∷ ls) back out s =
+      let u = untouched k ls Leaves (outside_less q (Unwinding code es) ls out) s.1 in
+      record { some = u.some; unclaimed = u.unclaimed; none_in = u.none_in; unworked = u.unworked; sessions = u.sessions }
+
+-- what the link has found of a destructor in the line of a thing: it is of the thing's class, or of one above it
+pub record Destroys (p : Image) (x : Thing) (m : ℕ) : Type 0 where
+  pub there : IsSome (method_at p m)
+  pub role : method_role p m ≡ Some Destruct
+  pub holder : Houses p (thing_holder x) (holder_of p m)
+  pub family : (c : ℕ) × (x ≡ An_object_of c) × IsOfFamily p c m
+  pub stays : leaves p m ≡ false
+  pub quiet : is_quiet p m ≡ true
+  pub gives : gives_of p m ≡ Nothing
+  pub arguments : arguments_of p m ≡ []
+  pub begins : before_of p m ≡ states_of (thing_kind p x)
+  pub ends : after_of p m ≡ last_of (thing_kind p x)
+
+-- the destructor of a class, of what descends from the class
+pub destroys_by : (p : Image) → IsWired p → (c d m : ℕ) → descends p c d ≡ true → role_of p d Destruct ≡ Some m → Destroys p (An_object_of c) m
+destroys_by p wired c d m above e =
+    let w = wired.destructor d m e in
+    let of : IsOfFamily p c m = record { class = w.2.class; of = w.2.of; above = through p c d w.2.class above w.2.above } in
+    let kind = sym (wired.family.kinds c d above) in
+    record {
+      there = w.0;
+      role = w.1;
+      holder = houses_role p wired.family (An_object_of c) c m refl of (ap (λ r. holder_by r (Some of.class)) w.1);
+      family = (c, refl, of);
+      stays = w.3;
+      quiet = w.4;
+      gives = w.5;
+      arguments = w.6;
+      begins = (wired.destructs d m e).0 ∙ ap states_of kind;
+      ends = (wired.destructs d m e).1 ∙ ap last_of kind;
+    }
+
+pub destroys : (p : Image) → IsWired p → (x : Thing) (m : ℕ) → destructor_of p x ≡ Some m → Destroys p x m
+destroys p wired (An_object_of c) m e = destroys_by p wired c c m (itself p c) e
+destroys p wired Message m e = cc
+
+-- the first of a line is of a class that has all the thing's fields
+first_fields : (p : Image) → IsWired p → (x : Thing) (m : ℕ) → destructor_of p x ≡ Some m → (f : ℕ) → field_thing p (thing_holder x) f ≡ field_thing p (holder_of p m) f
+first_fields p wired x m e f = grind arith
+
+-- what has no destructor may rest as it goes
+undestructed : (p : Image) → IsWired p → (x : Thing) → destructor_of p x ≡ None → last_of (thing_kind p x) ≡ states_of (thing_kind p x)
+unfolding kind_of last_of states_of
+undestructed p wired x e = grind arith
+
+no_fields_declared : (p : Image) → IsWired p → (x : Thing) → destructor_of p x ≡ None → (f : ℕ) → field_thing p (thing_holder x) f ≡ None
+no_fields_declared p wired x e f = grind arith
+
+-- with no arguments nothing is known of the registers as a method begins, and of the fields only where it constructs or is main
+pub entry_registers : (p : Image) (m : ℕ) → arguments_of p m ≡ [] → (i : ℕ) → register (entry_shape p m) i ≡ Unset
+entry_registers p m e i = ap (λ xs. at Unset (map argument_kind xs) i) e
+
+pub at_alike : (n : ℕ) (x : Filling) (i : ℕ) → at x (replicate n x) i ≡ x
+at_alike zero x i = refl
+at_alike (suc n) x zero = refl
+at_alike (suc n) x (suc i) = at_alike n x i
+
+destruct_fields : (p : Image) (m : ℕ) → method_role p m ≡ Some Destruct → (f : ℕ) → field (entry_shape p m) f ≡ Perhaps
+destruct_fields p m e f = ap (λ r. at Perhaps (entry_fields r) f) e ∙ at_alike 8 Perhaps f
+
+-- claimed once more at the place of a destruction
+abbrev Dies : Image → List Cell → Object → List Layer → Place → Kind
+Dies p cs o ls = changed (claim p (declared p cs) ls) (Going (length (tasks_of ls))) (Own o.thing Ready)
+
+null_of : (p : Image) (h : Sight) (x : Option Object) (k : Kind) → k ≡ Null → Fits p h x k → Fits p h x Null
+null_of p h x k e f = subst (λ k. Fits p h x k) e f
+
+pub unset_only : {k : Kind} → Weaker k Unset → k ≡ Unset
+unset_only alike = refl
+
+pub perhaps_only : {x : Filling} → WeakerFilling x Perhaps → x ≡ Perhaps
+perhaps_only alike_filling = refl
+
+-- and with no session of its own any more
+abbrev pub Bare : Image → List Cell → Object → List Layer → Place → Kind
+Bare p cs o ls (Register f i) = Dies p cs o ls (Register f i)
+Bare p cs o ls (Entry k) = Dies p cs o ls (Entry k)
+Bare p cs o ls (Field n f) = Dies p cs o ls (Field n f)
+Bare p cs o ls (Going k) = Dies p cs o ls (Going k)
+Bare p cs o ls (Elsewhere Root) = Dies p cs o ls (Elsewhere Root)
+Bare p cs o ls (Elsewhere (Session m c)) = cond (o.name == m) Null (claim p (declared p cs) ls (Elsewhere (Session m c)))
+Bare p cs o ls (Elsewhere In_service) = Dies p cs o ls (Elsewhere In_service)
+Bare p cs o ls (Elsewhere (Queued m k)) = Dies p cs o ls (Elsewhere (Queued m k))
+
+-- the objects of a server's class may rest as they go
+pub server_last : (k : Option ClassKind) → is_some (sessions_in k) ≡ true → last_of k ≡ states_of k
+unfolding last_of states_of sessions_in sessions_of
+server_last x e = grind arith
+
+module _ (p : Image) (t : Typing) (linked : IsWired p) (typed : IsTyped p t) (cs : List Cell) (o : Object) (ls : List Layer)
+    (tidy : Tidy cs)
+    (stack : Stack p t cs Gone ls)
+    (there : held cs (Going (length (tasks_of ls))) ≡ Some o)
+    (lives : named cs o.name ≡ Some o)
+    (apart : Untouched p (λ f. filled (field_thing p (thing_holder o.thing) f) Perhaps) o.name ls)
+    (suits : AllSuit p cs ls) where
+  fields_claim : (f : ℕ) → claim p (declared p cs) ls (Field o.name f) ≡ filled (field_thing p (thing_holder o.thing) f) Perhaps
+  fields_claim f = claim_unclaimed p (declared p cs) ls o.name f (λ f. filled (field_thing p (thing_holder o.thing) f) Perhaps) apart.unclaimed (ap (λ x. declared_field p x f) lives)
+
+  -- the object rests as it begins to go
+  rested : Suits (thing_kind p o.thing) (resting_in (states_of (thing_kind p o.thing))) (requested cs o.name)
+  rested = subst (λ k. Suits (thing_kind p o.thing) k (requested cs o.name)) (unworked_rests p o ls apart.unworked) (suits o lives)
+
+  -- with no session of its own any more
+  module _ (fits : (r : Place) → Fits p (seen cs) (held cs r) (Bare p cs o ls r)) where
+    fields_fit : (n f : ℕ) → (o.name == n) ≡ true → Fits p (seen cs) (held cs (Field n f)) (filled (field_thing p (thing_holder o.thing) f) Perhaps)
+    fields_fit n f e = grind (arith, nat_tests, eqb-true o.name n e, fields_claim f)
+
+    -- with no destructor
+    bare : destructor_of p o.thing ≡ None → (r : Place) → Fits p (seen cs) (held cs r) (claim p (declared p cs) (Dying o ∷ ls) r)
+    bare none (Field n f) = grind (arith, nat_tests, no_fields_declared p linked o.thing none f, fields_fit n f)
+    bare none (Going k) = grind (arith, nat_tests)
+    bare none (Elsewhere Root) = fits (Elsewhere Root)
+    bare none r = fits r
+
+    -- with one
+    clothed :
+        (m height : ℕ) (after : Shape) → Destroys p o.thing m → ((f : ℕ) → field_thing p (holder_of p m) f ≡ None → held cs (Field o.name f) ≡ None) → SaysNoMore after (entry_shape p m) → (r : Place) →
+        Fits p (seen cs) (held cs r) (claim p (declared p cs) (Method (destructor_frame p m o (length (tasks_of ls)) height) after ∷ Dying o ∷ ls) r)
+    clothed m height after is others w (Register f i) = grind (
+      arith,
+      nat_tests,
+      unset_only,
+      entry_registers p m is.arguments i,
+      fits_unowning p,
+      null_of p,
+      claim_register_above p cs ls f i,
+      eqb-true,
+    )
+    clothed m height after is others w (Entry k) = grind (arith, nat_tests)
+    clothed m height after is others w (Field n f) = grind (arith, nat_tests, perhaps_only, destruct_fields p m is.role f, fields_fit n f, eqb-true o.name n)
+    clothed m height after is others w (Elsewhere Root) = fits (Elsewhere Root)
+    clothed m height after is others w (Elsewhere In_service) = grind (arith, nat_tests, plain_claim)
+    clothed m height after is others w (Elsewhere w') = fits (Elsewhere w')
+    clothed m height after is others w (Going k) = grind (arith, nat_tests)
+
+    -- and all others are as they were
+    bare_suits : last_of (thing_kind p o.thing) ≡ states_of (thing_kind p o.thing) → AllSuit p cs (Dying o ∷ ls)
+    bare_suits last x there = grind (arith, nat_tests, same_object cs o x lives there, there, rested)
+
+    clothed_suits :
+        (m height : ℕ) (after : Shape) → Destroys p o.thing m → SaysNoMore after (entry_shape p m) →
+        AllSuit p cs (Method (destructor_frame p m o (length (tasks_of ls)) height) after ∷ Dying o ∷ ls)
+    clothed_suits m height after is w x there = grind (arith, nat_tests, same_object cs o x lives there, there, known_plain p, suits_less, rested)
+
+    -- so one of the line begins, where the fields that its class does not declare are null
+    pub begins_line :
+        (m : ℕ) → Destroys p o.thing m → ((f : ℕ) → field_thing p (holder_of p m) f ≡ None → held cs (Field o.name f) ≡ None) → (s : State) (height : ℕ) → height ≡ length (items_of ls) → s.cells ≡ cs →
+        s.tasks ≡ Run (destructor_frame p m o (length (tasks_of ls)) height) ∷ Destroy ∷ tasks_of ls → forms s.items ≡ items_of ls → AllUndo p s.items → WellTyped p t s
+    begins_line m d others s height high cells tasks items undos =
+        let leads = typed.entry m d.there in
+        let w = leads.2 in
+        let fr = destructor_frame p m o (length (tasks_of ls)) height in
+        let works : holder_of p m ≡ Member d.family.2.class = grind (arith, nat_tests) in
+        let good : Good p t cs (Method fr leads.0 ∷ Dying o ∷ ls) = record {
+          stack = (
+            leads.1,
+            record { words = λ i. subst (λ k. WordFits None k) (sym (unset_only (subst (λ k. Weaker (register leads.0 i) k) (entry_registers p m d.arguments i) (w.registers i)))) tt; holder = d.holder; view = counts_line p o.thing d.family.0 m d.family.1 d.family.2 works; height = high; alone = λ e. absurd (true≢false (sym e ∙ ap is_cancel d.role)); message = (λ e. absurd (true≢false (sym e ∙ ap is_service d.role)), λ served. absurd served) },
+            record { there = there; lives = lives; below = omega arith; ready = ap (λ b. is_ready_kind (cond b (Own o.thing Ready) (claim p (λ x. Null) ls (Going (length (tasks_of ls)))))) (eq-eqb (length (tasks_of ls)) _ refl) },
+            (tt, apart.none_in, (λ f some. apart.unclaimed f, ap view_holder d.family.2.of ∙ sym works), apart.unworked),
+            ((lives, there), (d.stays, refl, ap is_destruct d.role, d.gives, d.ends, d.quiet, d.family.0, d.family.1, d.family.2), stack),
+          );
+          fits = clothed m height leads.0 d others w;
+          suits = clothed_suits m height leads.0 d w;
+          tidy = tidy;
+        } in
+        begins_well p t cs fr leads.0 (Dying o ∷ ls) s w.entries good cells tasks items undos
+
+    -- so the first one begins
+    pub destruct :
+        (s : State) (height : ℕ) → height ≡ length (items_of ls) → s.cells ≡ cs → s.tasks ≡ destructed p o height (tasks_of ls) → forms s.items ≡ items_of ls → AllUndo p s.items →
+        WellTyped p t s
+    destruct s height high cells tasks items undos = go (destructor_of p o.thing) refl tasks
+      where
+        go : (d : Option ℕ) → destructor_of p o.thing ≡ d → s.tasks ≡ begun_by p d o height (tasks_of ls) → WellTyped p t s
+        go None e tasks = record {
+          layers = Dying o ∷ ls;
+          tasks = tasks;
+          items = items;
+          undos = undos;
+          good = subst (λ cs. Good p t cs (Dying o ∷ ls)) (sym cells) (record { stack = ((lives, there), tt, stack); fits = bare e; suits = bare_suits (undestructed p linked o.thing e); tidy = tidy });
+        }
+        go (Some m) e tasks = begins_line m (destroys p linked o.thing m e) (others m e) s height high cells tasks items undos
+          where
+            others : (m : ℕ) → destructor_of p o.thing ≡ Some m → (f : ℕ) → field_thing p (holder_of p m) f ≡ None → held cs (Field o.name f) ≡ None
+            others m e f none =
+                fits_unowning p (seen cs) _ Null refl
+                (subst (λ y. Fits p (seen cs) (held cs (Field o.name f)) (filled y Perhaps)) (first_fields p linked o.thing m e f ∙ none) (fields_fit o.name f (eq-eqb o.name o.name refl)))
+
+  -- with its sessions
+  module _ (fits : (r : Place) → Fits p (seen cs) (held cs r) (Dies p cs o ls r)) where
+    -- what its clients have is a session each
+    sessions_fit : (c : ℕ) → Fits p (seen cs) (held cs (Elsewhere (Session o.name c))) (cond (has_session (service_of cs o.name) c) (filled (session_thing p (Some o)) Full) Null)
+    sessions_fit c = grind (arith, nat_tests)
+
+    -- what is no server has none
+    none_at : is_server p o.thing ≡ false → (c : ℕ) → Fits p (seen cs) (held cs (Elsewhere (Session o.name c))) Null
+    none_at plain c = grind arith
+
+    bare_fits : is_server p o.thing ≡ false → (r : Place) → Fits p (seen cs) (held cs r) (Bare p cs o ls r)
+    bare_fits plain x = grind (arith, nat_tests, eqb-true o.name, none_at plain)
+
+    -- all of them are left
+    ending_fits : (r : Place) → Fits p (seen cs) (held cs r) (claim p (declared p cs) (Ending o (service_of cs o.name).sessions ∷ Dying o ∷ ls) r)
+    ending_fits x = grind (arith, nat_tests, eqb-true o.name, fields_claim, sessions_fit)
+
+    -- so a destruction begins
+    pub begin : (s : State) (height : ℕ) → height ≡ length (items_of ls) → s.cells ≡ cs → s.tasks ≡ begun p o height (tasks_of ls) → forms s.items ≡ items_of ls → AllUndo p s.items → WellTyped p t s
+    begin s height high cells tasks items undos = go (is_server p o.thing) refl tasks
+      where
+        left : List ℕ
+        left = (service_of cs o.name).sessions
+
+        rests : is_server p o.thing ≡ true → AllSuit p cs (Dying o ∷ ls)
+        rests server x lives' = at_name (o.name == x.name) refl
+          where
+            at_name : (b : Bool) → (o.name == x.name) ≡ b → Suits (thing_kind p x.thing) (cond b (resting_in (last_of (thing_kind p x.thing))) (states_claim p x ls)) (requested cs x.name)
+            at_name true e =
+                subst (λ y. Suits (thing_kind p y.thing) (resting_in (last_of (thing_kind p y.thing))) (requested cs y.name)) (same_object cs o x lives lives' e)
+                (subst (λ n. Suits (thing_kind p o.thing) (resting_in n) (requested cs o.name)) (sym (server_last (thing_kind p o.thing) server))
+                rested)
+            at_name false e = suits x lives'
+
+        go : (b : Bool) → is_server p o.thing ≡ b → s.tasks ≡ cond b (Closing ∷ Destroy ∷ tasks_of ls) (destructed p o height (tasks_of ls)) → WellTyped p t s
+        go false plain tasks = destruct (bare_fits plain) s height high cells tasks items undos
+        go true server tasks = record {
+          layers = Ending o left ∷ Dying o ∷ ls;
+          tasks = tasks;
+          items = items;
+          undos = undos;
+          good = subst (λ cs'. Good p t cs' (Ending o left ∷ Dying o ∷ ls)) (sym cells) (record {
+            stack = (record { server = server; lives = lives; listed = λ c h. h }, tt, refl, ((lives, there), tt, stack));
+            fits = ending_fits;
+            suits = rests server;
+            tidy = tidy;
+          });
+        }
+
+-- a thing goes from q to the place of its destruction
+module _ (p : Image) (t : Typing) (cs : List Cell) (o : Object) (q : Place) (ls ls' : List Layer)
+    (fits : (r : Place) → Fits p (seen cs) (held cs r) (claim p (declared p cs) ls r))
+    (there : held cs q ≡ Some o)
+    (same : length (tasks_of ls) ≤ length (tasks_of ls'))
+    (claims : (r : Place) → claim p (declared p cs) ls' r ≡ changed (claim p (declared p cs) ls) q Null r) where
+  pub no_going : held cs (Going (length (tasks_of ls'))) ≡ None
+  no_going = fits_unowning p (seen cs) _ Null refl (subst (λ k. Fits p (seen cs) (held cs (Going (length (tasks_of ls')))) k) (claim_going_above p cs ls (length (tasks_of ls')) same) (fits (Going (length (tasks_of ls')))))
+
+  pub goes_there : held (moved q (Going (length (tasks_of ls'))) cs) (Going (length (tasks_of ls'))) ≡ Some o
+  goes_there = grind (arith, nat_tests, held_moved cs q, no_going, same_place_refl, there)
+
+  pub goes_fitting :
+      (r : Place) →
+      Fits p (seen (moved q (Going (length (tasks_of ls'))) cs)) (held (moved q (Going (length (tasks_of ls'))) cs) r) (Dies p (moved q (Going (length (tasks_of ls'))) cs) o ls' r)
+  goes_fitting r =
+      subst (λ d. Fits p (seen cs') (held cs' r) (cond (same_place g r) (Own o.thing Ready) (claim p d ls' r))) (sym (declared_moved p cs q g))
+      (go (same_place g r) refl (keep_fits p (seen cs) (seen cs') (claim p (declared p cs) ls) (changed (changed (claim p (declared p cs) ls) q Null) g (claim p (declared p cs) ls q)) q g (λ r. held_moved cs q g r no_going) (requested_moved cs q g) (λ r. refl) (λ r x e k f. refl) fits r))
+    where
+      g : Place
+      g = Going (length (tasks_of ls'))
+
+      cs' : List Cell
+      cs' = moved q g cs
+
+      go :
+          (b : Bool) → same_place g r ≡ b → Fits p (seen cs') (held cs' r) (cond b (claim p (declared p cs) ls q) (changed (claim p (declared p cs) ls) q Null r)) →
+          Fits p (seen cs') (held cs' r) (cond b (Own o.thing Ready) (claim p (declared p cs) ls' r))
+      go true e f =
+          subst (λ x. Fits p (seen cs') (held cs' x) (Own o.thing Ready)) (same_place-true g r e) (subst (λ x. Fits p (seen cs') x (Own o.thing Ready)) (sym goes_there) (stands_itself p o.thing, tt))
+      go false e f = subst (λ k. Fits p (seen cs') (held cs' r) k) (sym (claims r)) f
+
+  -- so its destruction begins
+  pub goes_well :
+      IsWired p → IsTyped p t → Tidy cs → Stack p t (moved q (Going (length (tasks_of ls'))) cs) Gone ls' →
+      Untouched p (λ f. filled (field_thing p (thing_holder o.thing) f) Perhaps) o.name ls' → AllSuit p cs ls' → (s : State) (height : ℕ) → height ≡ length (items_of ls') →
+      s.cells ≡ moved q (Going (length (tasks_of ls'))) cs → s.tasks ≡ begun p o height (tasks_of ls') → forms s.items ≡ items_of ls' → AllUndo p s.items → WellTyped p t s
+  goes_well wired typed tidy stack apart suits s height high cells tasks items undos =
+      let g = Going (length (tasks_of ls')) in
+      begin p t wired typed (moved q g cs) o ls' (tidy_moved cs q g no_going tidy) stack goes_there (named_moved cs q g o.name ∙ held_lives cs q o tidy there) apart (all_moved p cs q g ls' suits) goes_fitting
+      s height high cells tasks items undos
+
+module _ (p : Image) (t : Typing) (c : Choice) (s : State) (fr : Frame) (sh : Shape) (ls : List Layer) (at_hand : At p t s fr sh ls) where
+  pub law_delete : IsWired p → IsTyped p t → (a : ℕ) → Law p t c s fr sh ls at_hand (Delete a)
+  law_delete linked typed a n leads = ((ap is_none none, (no_message (held s.cells (top ls a)) (register sh a) n.0 (kind_fits p t c s fr sh ls at_hand a), tt)), go (held s.cells (top ls a)) refl)
+    where
+      destroyed_object : (k : Kind) → may_be_destroyed k ≡ true → is_object_or_null k ≡ true
+      destroyed_object x e = grind arith
+
+      no_message : (o : Option Object) (k : Kind) → may_be_destroyed k ≡ true → Fits p (seen s.cells) o k → is_no_message o ≡ true
+      no_message x k e f = grind (arith, nat_tests, stands_object p)
+
+      cs : List Cell
+      cs = s.cells
+
+      none : word fr a ≡ None
+      none = no_word p t c s fr sh ls at_hand a (destroyed_object (register sh a) n.0)
+
+      fr' : Frame
+      fr' = set_word fr a None
+
+      sh' : Shape
+      sh' = set_register sh a Null
+
+      words : (i : ℕ) → WordFits (word (set_word fr a None) i) (register (set_register sh a Null) i)
+      words = words_set fr.words sh a None Null at_hand.good.stack.1.words refl
+
+      claims : (r : Place) → claim p (declared p cs) (Method fr' sh' ∷ ls) r ≡ changed (claim p (declared p cs) (Method fr sh ∷ ls)) (top ls a) Null r
+      claims r = claim_frame p (declared p cs) fr fr' sh' ls r refl refl ∙ claim-set_register p (declared p cs) fr sh ls a Null r
+
+      go : (x : Option Object) → held s.cells (top ls a) ≡ x → WellTyped p t (applied p fr (tasks_of ls) s (deletes fr x a))
+      go None e = well p t c s fr sh ls at_hand (applied p fr (tasks_of ls) s (deletes fr None a)) (next fr') sh' refl at_hand.items at_hand.undos
+          (settle p t cs (next fr') sh' ls (relabel p t cs fr (next fr') sh sh' ls (top ls a) Null (fitted p t cs fr sh ls at_hand.good) refl refl refl refl (subst (λ o. Fits p (seen cs) o Null) (sym e) tt) (λ r. claim-set_register p (declared p cs) fr sh ls a Null r) words) leads.0)
+      go (Some o) e =
+          let q = top ls a in
+          let g = Going (length (Run fr ∷ tasks_of ls)) in
+          let before = Method fr sh ∷ ls in
+          let below = Method fr' sh' ∷ ls in
+          let free = no_going p t cs o q before below at_hand.good.fits e (omega arith) claims in
+          let housed = housed_relocated p cs q g ls fr.home free (omega arith) (omega arith) (λ o from e. (tt, tt)) at_hand.good.stack.2 in
+          let k : ℕ → Kind = λ f. filled (field_thing p (thing_holder o.thing) f) Perhaps in
+          goes_well p t cs o q before below at_hand.good.fits e (omega arith) claims linked typed at_hand.good.tidy
+          (leads.0, record { words = words; holder = at_hand.good.stack.1.holder; view = at_hand.good.stack.1.view; height = at_hand.good.stack.1.height; alone = at_hand.good.stack.1.alone; message = at_hand.good.stack.1.message }, housed, at_hand.good.stack.3, stack_moved p t cs q g ls _ free (omega arith) (omega arith) at_hand.good.stack.4)
+          (untouched_method p t cs q o at_hand.good.tidy e k fr' sh' ls (λ x from e. tt) (omega arith) at_hand.good.stack.2 (untouched p t cs q o at_hand.good.tidy e k ls _ (omega arith) at_hand.good.stack.4))
+          at_hand.good.suits
+          (applied p fr (tasks_of ls) s (deletes fr (Some o) a)) (length s.items) (sym (length_forms s.items) ∙ ap length at_hand.items) refl refl at_hand.items at_hand.undos

@@ -1,0 +1,311 @@
+-- A destructor returns: the next of its line begins, or its cell goes. It leaves nothing in the fields past those of its class's parent, and the next is of a class that has all the parent's.
+use Rattle.std.proofs.lemmas.Bool.Decides.{nat_tests}
+use Rattle.aom_image.specs.declared.method.Role.TheVariants.{Destruct}
+use Rattle.aom_image.specs.declared.class.ClassKind.{ClassKind}
+use Rattle.aom_safety.specs.Laws.{IsWired}
+use Rattle.aom_classes.specs.Roles.{role_of}
+use Rattle.aom_roles.specs.Families.{parent_of, parent_by, fields_above}
+use Rattle.aom_roles.proofs.Descending.{through, itself, child}
+use Rattle.aom_semantics.specs.Destruction.{begun_by, class_destructor, next_destructor, needs_past, is_past}
+use Rattle.aom_safety.proofs.Dropping.{held_dropped, queue_dropped}
+use Rattle.aom_safety.proofs.Housing.{destructs_member}
+use Rattle.aom_safety.proofs.Destroying.{eqb_comm, begins_line, destroys_by, Destroys, Bare, untouched, Untouched}
+use Rattle.std.proofs.Common.{leb-true, eq-eqb, [], Bool, IsTrue, List, None, Option, Some, ap, arith, cond, false, length, refl, subst, suc, sym, true, zero, ℕ, ◌==◌, ◌∙◌, ◌∷◌, ◌≡◌, ◌≤◌, ◌&&◌}
+use Rattle.std.proofs.lemmas.Bool.{and_parts, eqb-true}
+use Rattle.std.specs.Prelude.{slice_get, nat_le}
+use Rattle.aom_image.specs.Image.{Image}
+use Rattle.aom_image.specs.Views.{fields_of, has, method_role}
+use Rattle.aom_instructions.specs.declared.instr.Instr.TheVariants.{Return}
+use Rattle.aom_image.specs.declared.method.Thing.{Thing}
+use Rattle.aom_image.specs.declared.method.Thing.TheVariants.{Object as An_object_of}
+use Rattle.aom_shape.specs.Kinds.{all_empty, field, filled, is_empty, no_entry, none_owns, register}
+use Rattle.aom_rules.specs.Calls.{empty_past, fields_done, is_destruct, result_moved}
+use Rattle.aom_image.specs.declared.method.Role.{Role}
+use Rattle.aom_roles.specs.Tests.{AllTrue}
+use Rattle.aom_roles.specs.Roles.{is_service, is_cancel}
+use Rattle.aom_shape.specs.Shape.{Shape}
+use Rattle.aom_roles.specs.Tables.{at}
+use Rattle.aom_roles.specs.Things.{holder_by, Member, field_thing, holder_of}
+use Rattle.aom_rules.specs.Typing.{IsTyped, Typing}
+use Rattle.aom_shape.specs.declared.kind.Filling.{Filling}
+use Rattle.aom_shape.specs.declared.kind.Filling.TheVariants.{Perhaps}
+use Rattle.aom_shape.specs.declared.kind.Kind.TheVariants.{Null}
+use Rattle.aom_safety.proofs.Claimed.{claim_unclaimed, claim_register_above}
+use Rattle.aom_safety.proofs.Finishing.{perhaps_fits, ended_plainly, no_entries, none_left, none_owns_at, return_needs, returnable, same_items}
+use Rattle.aom_safety.proofs.Going.{past_by}
+use Rattle.aom_safety.proofs.Straight.{At, Law, fits_unowning}
+use Rattle.aom_semantics.specs.Calls.{needs_destroyed, result_needs}
+use Rattle.aom_safety.specs.Claims.{forms, declared_field, Dying, Layer, claim, declared, home_claim, items_of, own_field, root_claim, tasks_of}
+use Rattle.aom_semantics.specs.Places.{Queued, Session, Request, Cell, Sight, In_service, Elsewhere, Entry, Field, Going, Object, Place, Register, Root, held, requested, seen}
+use Rattle.aom_semantics.specs.Servers.{is_queue_of, without_queue}
+use Rattle.aom_semantics.specs.State.{home_holder, Choice, Frame, Inside, State, thing_holder}
+use Rattle.aom_safety.specs.WellTyped.{Gone, WellTyped, Houses, IsOfFamily, Fits, Good}
+use Rattle.aom_shape.specs.Arguments.{after_of}
+use Rattle.aom_roles.specs.States.{states_of, last_of}
+use Rattle.aom_safety.specs.Requests.{AllSuit, Known, Suits, known_at, resting_in, states_claim, thing_kind, works_at}
+use Rattle.aom_safety.proofs.Suiting.{unworked_rests, known_plain, same_object, suits_less}
+use Rattle.aom_safety.proofs.Attending.{plain_claim}
+
+pub empty_at : (ts : List Thing) (xs : List Filling) (f : ℕ) (y : Thing) → all_empty ts xs ≡ true → slice_get ts f ≡ Some y → is_empty (at Perhaps xs f) ≡ true
+empty_at [] xs f y e h = let clash : slice_get {X = Thing} [] f ≡ Some y = h in cc
+empty_at (t ∷ ts) [] f y e h = cc
+empty_at (t ∷ ts) (x ∷ xs) zero y e h = (and_parts _ _ e).0
+empty_at (t ∷ ts) (x ∷ xs) (suc f) y e h = empty_at ts xs f y (and_parts _ _ e).1 h
+
+-- a field past so many is empty where these are
+past_at : (k : ℕ) (ts : List Thing) (xs : List Filling) (f : ℕ) (y : Thing) → empty_past k ts xs ≡ true → k ≤ f → slice_get ts f ≡ Some y → is_empty (at Perhaps xs f) ≡ true
+past_at zero ts xs f y e le h = empty_at ts xs f y e h
+past_at (suc k) [] xs f y e le h = let clash : slice_get {X = Thing} [] f ≡ Some y = h in cc
+past_at (suc k) (t ∷ ts) xs zero y e le h = absurd (omega arith)
+past_at (suc k) (t ∷ ts) [] (suc f) y e le h = past_at k ts [] f y e (omega arith) h
+past_at (suc k) (t ∷ ts) (x ∷ xs) (suc f) y e le h = past_at k ts xs f y e (omega arith) h
+
+-- what is not among the first of them
+none_from : (ts : List Thing) (f : ℕ) → slice_get ts f ≡ None → length ts ≤ f
+none_from [] f e = omega arith
+none_from (t ∷ ts) zero e = cc
+none_from (t ∷ ts) (suc f) e = let le = none_from ts f e in omega (arith, le)
+
+-- what destructs does not cancel
+destructs_only : (r : Option Role) → is_destruct r ≡ true → is_cancel r ≡ false
+destructs_only x e = grind arith
+
+destructs_plainly : (r : Option Role) → is_destruct r ≡ true → is_service r ≡ false
+destructs_plainly x e = grind arith
+
+-- what may rest as its destructor ends rests
+last_rests : (k : Option ClassKind) (r : Option Request) → Suits k (resting_in (last_of k)) r → Suits k (resting_in (states_of k)) r
+unfolding last_of states_of
+last_rests k r s = grind arith
+
+-- an empty field owns nothing, and what owns nothing fits
+empty_none : (p : Image) (h : Sight) (x : Option Object) (y : Thing) (z : Filling) → is_empty z ≡ true → Fits p h x (filled (Some y) z) → x ≡ None
+empty_none p h x y z e f = grind (arith, nat_tests, fits_unowning p h x Null)
+
+none_fits : (p : Image) (h : Sight) (y : Option Thing) → Fits p h None (filled y Perhaps)
+none_fits p h x = grind arith
+
+module _ (p : Image) (t : Typing) (c : Choice) (s : State) (fr : Frame) (sh : Shape) (o : Object) (ls : List Layer) (at_hand : At p t s fr sh (Dying o ∷ ls)) where
+  abbrev cs : List Cell
+  cs = s.cells
+
+  abbrev g : Place
+  g = Going (length (tasks_of ls))
+
+  abbrev h : Sight
+  h = seen s.cells
+
+  -- which class its object is of, and which the destructor
+  abbrev class : ℕ
+  class = at_hand.good.stack.4.1.6
+
+  thing : o.thing ≡ An_object_of at_hand.good.stack.4.1.6
+  thing = at_hand.good.stack.4.1.7
+
+  line : IsOfFamily p at_hand.good.stack.4.1.6 fr.method
+  line = at_hand.good.stack.4.1.8
+
+  home : fr.home ≡ Inside o (Going (length (tasks_of ls)))
+  home = at_hand.good.stack.4.1.1
+
+  destructs : is_destruct (method_role p fr.method) ≡ true
+  destructs = at_hand.good.stack.4.1.2
+
+  holder : holder_of p fr.method ≡ Member line.class
+  holder = ap (λ k. holder_by (method_role p fr.method) k) line.of ∙ destructs_member (method_role p fr.method) line.class destructs
+
+  houses : Houses p (thing_holder o.thing) (holder_of p fr.method)
+  houses = subst (λ k. Houses p (home_holder k) (holder_of p fr.method)) home at_hand.good.stack.1.holder
+
+  -- how many of its class's fields are the parent's
+  abbrev above : ℕ
+  above = fields_above p (parent_of p line.class)
+
+  -- with what the rule says of the registers, of the entries and of the fields
+  module _ (entries : no_entry sh.entries ≡ true) (free : none_owns sh.registers ≡ true) (done : empty_past above (fields_of p line.class) sh.fields ≡ true)
+      (ends : IsTrue (has (after_of p fr.method) sh.states)) where
+    -- what is claimed of a field of the cell
+    own_fits : (f : ℕ) → Fits p h (held cs (Field o.name f)) (own_field (field_thing p (holder_of p fr.method) f) (field sh f) Null)
+    own_fits f =
+        let below = claim p (declared p cs) ls (Field o.name f) in
+        subst (λ b. Fits p h (held cs (Field o.name f)) (cond b (own_field (field_thing p (holder_of p fr.method) f) (field sh f) (cond b Null below)) (cond b Null below))) (eq-eqb o.name o.name refl)
+        (subst (λ k. Fits p h (held cs (Field o.name f)) (home_claim p (holder_of p fr.method) k sh o.name f (cond (o.name == o.name) Null below))) home (at_hand.good.fits (Field o.name f)))
+
+    -- nothing is left past the parent's
+    past : (f : ℕ) → above ≤ f → held cs (Field o.name f) ≡ None
+    past f le = go (field_thing p (holder_of p fr.method) f) refl (own_fits f)
+      where
+        go : (x : Option Thing) → field_thing p (holder_of p fr.method) f ≡ x → Fits p h (held cs (Field o.name f)) (own_field x (field sh f) Null) → held cs (Field o.name f) ≡ None
+        go None e fits = fits_unowning p h (held cs (Field o.name f)) Null refl fits
+        go (Some y) e fits =
+            empty_none p h (held cs (Field o.name f)) y (field sh f) (past_at above (fields_of p line.class) sh.fields f y done le (ap (λ k. field_thing p k f) (sym holder) ∙ e)) fits
+
+    -- and all are as they are declared
+    all_fit : (f : ℕ) → Fits p h (held cs (Field o.name f)) (filled (field_thing p (thing_holder o.thing) f) Perhaps)
+    all_fit f = grind (arith, nat_tests, own_fits f, fits_unowning p, none_fits p, perhaps_fits p)
+
+    -- of all other places what stands below claims what is so
+    abbrev IsBeside : Place → Type 0
+    IsBeside (Field m f) = (o.name == m) ≡ false
+    IsBeside r = Unit {0}
+
+    beside : (r : Place) → IsBeside r → Fits p h (held cs r) (claim p (declared p cs) (Dying o ∷ ls) r)
+    beside (Register f i) u = go (length (tasks_of (Dying o ∷ ls)) == f) refl (at_hand.good.fits (Register f i))
+      where
+        go :
+            (b : Bool) → (length (tasks_of (Dying o ∷ ls)) == f) ≡ b →
+            Fits p h (held cs (Register f i)) (cond b (register sh i) (claim p (declared p cs) ls (Register f i))) →
+            Fits p h (held cs (Register f i)) (claim p (declared p cs) ls (Register f i))
+        go true e fits =
+            subst (λ k. Fits p h (held cs (Register f i)) k) (sym (claim_register_above p cs ls f i (omega (arith, eqb-true _ _ e))))
+            (subst (λ x. Fits p h x Null) (sym (fits_unowning p h _ (register sh i) (none_owns_at sh.registers i free) fits)) tt)
+        go false e fits = fits
+    beside (Entry k) u = grind (arith, nat_tests, no_entries sh.entries entries)
+    beside (Field m f) other = go (o.name == m) other
+        (subst (λ k. Fits p h (held cs (Field m f)) (home_claim p (holder_of p fr.method) k sh m f (cond (o.name == m) Null (claim p (declared p cs) ls (Field m f))))) home (at_hand.good.fits (Field m f)))
+      where
+        go :
+            (b : Bool) → b ≡ false →
+            Fits p h (held cs (Field m f)) (cond b (own_field (field_thing p (holder_of p fr.method) f) (field sh f) (cond b Null (claim p (declared p cs) ls (Field m f)))) (cond b Null (claim p (declared p cs) ls (Field m f)))) →
+            Fits p h (held cs (Field m f)) (cond b Null (claim p (declared p cs) ls (Field m f)))
+        go false e fits = fits
+        go true e fits = cc
+    beside (Elsewhere Root) u =
+        subst (λ k. Fits p h (held cs (Elsewhere Root)) (root_claim p k sh (claim p (declared p cs) ls (Elsewhere Root)))) home (at_hand.good.fits (Elsewhere Root))
+    beside (Elsewhere In_service) u = grind (arith, nat_tests, plain_claim, destructs_plainly, destructs)
+    beside (Elsewhere w) u = at_hand.good.fits (Elsewhere w)
+    beside (Going k) u = at_hand.good.fits (Going k)
+
+    -- the object is in a state in which it may go
+    suits_dying : AllSuit p cs (Dying o ∷ ls)
+    suits_dying x lives =
+        go (o.name == x.name) refl (subst (λ k. Suits (thing_kind p x.thing) (cond (works_at x.name k) (known_at p fr sh.states (below (o.name == x.name))) (below (o.name == x.name))) (requested cs x.name)) home (at_hand.good.suits x lives))
+      where
+        below : Bool → Known
+        below b = cond b (resting_in (last_of (thing_kind p x.thing))) (states_claim p x ls)
+
+        go :
+            (b : Bool) → (o.name == x.name) ≡ b → Suits (thing_kind p x.thing) (cond b (known_at p fr sh.states (below b)) (below b)) (requested cs x.name) →
+            Suits (thing_kind p x.thing) (below b) (requested cs x.name)
+        go true same fits =
+            let one = same_object cs o x at_hand.good.stack.4.0.0 lives same in
+            let last = at_hand.good.stack.4.1.4 in
+            suits_less (thing_kind p x.thing) (last_of (thing_kind p x.thing)) sh.states false (requested cs x.name) (subst (λ k. IsTrue (has k sh.states)) (last ∙ ap (λ (y : Object). last_of (thing_kind p y.thing)) one) ends)
+            (subst (λ k. Suits (thing_kind p x.thing) k (requested cs x.name)) (known_plain p fr sh.states (resting_in (last_of (thing_kind p x.thing))) (destructs_only (method_role p fr.method) destructs)) fits)
+        go false other fits = fits
+
+    -- with no fields of the parent's class the cell goes
+    goes : ((f : ℕ) → held cs (Field o.name f) ≡ None) → Good p t cs (Dying o ∷ ls)
+    goes null = record {
+      stack = (at_hand.good.stack.4.0, tt, at_hand.good.stack.4.2);
+      fits = fits;
+      suits = suits_dying;
+      tidy = at_hand.good.tidy;
+    }
+      where
+        fits : (r : Place) → Fits p h (held cs r) (claim p (declared p cs) (Dying o ∷ ls) r)
+        fits x = grind (arith, nat_tests, eqb-true o.name, beside)
+
+    -- no other layer works on it
+    apart : Untouched p (λ f. filled (field_thing p (thing_holder o.thing) f) Perhaps) o.name ls
+    apart = untouched p t cs g o at_hand.good.tidy at_hand.good.stack.4.0.1 (λ f. filled (field_thing p (thing_holder o.thing) f) Perhaps) ls Gone (omega arith) at_hand.good.stack.4.2
+
+    bare : (r : Place) → Fits p h (held cs r) (Bare p cs o ls r)
+    bare (Field n f) = go (o.name == n) refl
+      where
+        declares : claim p (declared p cs) ls (Field o.name f) ≡ filled (field_thing p (thing_holder o.thing) f) Perhaps
+        declares =
+            claim_unclaimed p (declared p cs) ls o.name f (λ f. filled (field_thing p (thing_holder o.thing) f) Perhaps) apart.unclaimed (ap (λ x. declared_field p x f) at_hand.good.stack.4.0.0)
+
+        go : (b : Bool) → (o.name == n) ≡ b → Fits p h (held cs (Field n f)) (claim p (declared p cs) ls (Field n f))
+        go true e = subst (λ n. Fits p h (held cs (Field n f)) (claim p (declared p cs) ls (Field n f))) (eqb-true o.name n e) (subst (λ k. Fits p h (held cs (Field o.name f)) k) (sym declares) (all_fit f))
+        go false e = subst (λ b. Fits p h (held cs (Field n f)) (cond b Null (claim p (declared p cs) ls (Field n f)))) e (beside (Field n f) e)
+    bare (Going k) = grind (arith, nat_tests, beside (Going k))
+    bare (Register f i) = beside (Register f i) tt
+    bare (Entry k) = beside (Entry k) tt
+    bare (Elsewhere Root) = beside (Elsewhere Root) tt
+    bare (Elsewhere (Session m client)) = beside (Elsewhere (Session m client)) tt
+    bare (Elsewhere In_service) = beside (Elsewhere In_service) tt
+    bare (Elsewhere (Queued m k)) = beside (Elsewhere (Queued m k)) tt
+
+    suits_below : AllSuit p cs ls
+    suits_below x lives = grind (arith, nat_tests, suits_dying x lives, unworked_rests p x ls, eqb-true o.name x.name, last_rests)
+
+    -- what is left is another cell's, or the parent's
+    left : AllTrue (needs_past above (without_queue o.name cs) o.name)
+    left = past_by above (without_queue o.name cs) o.name (λ r e. ap (λ l. held l r) (queue_dropped o.name cs) ∙ held_dropped (is_queue_of o.name) cs r ∙ none r e)
+      where
+        of_name : (m f : ℕ) (b : Bool) → (o.name == m) ≡ b → (b && nat_le above f) ≡ true → held cs (Field m f) ≡ None
+        of_name m f true same e = ap (λ n. held cs (Field n f)) (sym (eqb-true o.name m same)) ∙ past f (leb-true above f e)
+        of_name m f false other e = cc
+
+        session : (m client : ℕ) → (o.name == m) ≡ true → held cs (Elsewhere (Session m client)) ≡ None
+        session m client same =
+            fits_unowning p h _ Null refl
+            (subst (λ b. Fits p h (held cs (Elsewhere (Session m client))) (cond b Null (claim p (declared p cs) ls (Elsewhere (Session m client))))) same (beside (Elsewhere (Session m client)) tt))
+
+        queued : (m k : ℕ) (b : Bool) → (m == o.name) ≡ b → b ≡ true → cond b None (held cs (Elsewhere (Queued m k))) ≡ None
+        queued m k true e is = refl
+        queued m k false e is = cc
+
+        none : (r : Place) → is_past above o.name r ≡ true → cond (is_queue_of o.name r) None (held cs r) ≡ None
+        none (Field m f) e = of_name m f (o.name == m) refl e
+        none (Elsewhere (Session m client)) e = session m client e
+        none (Elsewhere (Queued m k)) e = queued m k (m == o.name) refl (eqb_comm m o.name ∙ e)
+        none (Elsewhere Root) e = cc
+        none (Elsewhere In_service) e = cc
+        none (Register f i) e = cc
+        none (Entry k) e = cc
+        none (Going k) e = cc
+
+    -- the next of the line begins, or there is none and the parent has no fields
+    module _ (wired : IsWired p) (typed : IsTyped p t) (items : forms s.items ≡ items_of ls) where
+      abbrev Then : Option ℕ → State
+      Then d = record s { tasks = begun_by p d o fr.height (tasks_of ls) }
+
+      dies : ((f : ℕ) → held cs (Field o.name f) ≡ None) → WellTyped p t (Then None)
+      dies null = record { layers = Dying o ∷ ls; tasks = refl; items = items; undos = at_hand.undos; good = goes null }
+
+      begins : (e k : ℕ) → parent_of p line.class ≡ Some e → role_of p e Destruct ≡ Some k → WellTyped p t (Then (Some k))
+      begins e k parent role =
+          let family = through p at_hand.good.stack.4.1.6 line.class e line.above (child p line.class e e parent (itself p e)) in
+          let d = subst (λ x. Destroys p x k) (sym thing) (destroys_by p wired at_hand.good.stack.4.1.6 e k family role) in
+          begins_line p t wired typed cs o ls at_hand.good.tidy at_hand.good.stack.4.2 at_hand.good.stack.4.0.1 at_hand.good.stack.4.0.0 apart suits_below bare k d others (Then (Some k)) fr.height
+          at_hand.good.stack.1.height refl refl items at_hand.undos
+        where
+          others : (f : ℕ) → field_thing p (holder_of p k) f ≡ None → held cs (Field o.name f) ≡ None
+          others f none = past f (subst (λ x. fields_above p x ≤ f) (sym parent) (none_from (fields_of p e) f (wired.empties e k role f ∙ none)))
+
+      of_role : (e : ℕ) (d : Option ℕ) → parent_of p line.class ≡ Some e → role_of p e Destruct ≡ d → WellTyped p t (Then d)
+      of_role e (Some k) parent role = begins e k parent role
+      of_role e None parent role = dies (λ f. past f (subst (λ x. fields_above p x ≤ f) (sym parent) (let none = none_from (fields_of p e) 0 (wired.no_destructor e role 0) in omega (arith, none))))
+
+      of_parent : (x : Option ℕ) → parent_of p line.class ≡ x → WellTyped p t (Then (class_destructor p x))
+      of_parent x parent = grind (arith, nat_tests, dies, past, of_role)
+
+      next_well : WellTyped p t (Then (next_destructor p fr.method))
+      next_well = grind (arith, nat_tests, of_parent)
+
+  pub law_destructor : IsWired p → IsTyped p t → (a : ℕ) → Law p t c s fr sh (Dying o ∷ ls) at_hand (Return a)
+  law_destructor wired typed a n leads =
+      let r = returnable p fr sh a n in
+      let its = at_hand.good.stack.4.1 in
+      let done : fields_done p true (Member line.class) sh.fields ≡ true =
+      ap (λ k. fields_done p true k sh.fields) (sym holder) ∙ ap (λ b. fields_done p b (holder_of p fr.method) sh.fields) (sym destructs) ∙ r.fields in
+      let free : none_owns sh.registers ≡ true = ap (λ g. none_owns (result_moved p fr.method fr.place sh g a).registers) (sym its.3) ∙ r.free in
+      let entries : no_entry sh.entries ≡ true = none_left p fr sh a its.3 r in
+      let items = same_items p t c s fr sh (Dying o ∷ ls) at_hand entries in (
+        return_needs p t c s fr sh (Dying o ∷ ls) at_hand a r
+            (subst (λ g. AllTrue (result_needs p fr (tasks_of (Dying o ∷ ls)) s g a)) (sym its.3) tt)
+            (subst (λ k. AllTrue (needs_destroyed p fr.method s.cells k)) (sym home)
+            (subst (λ x. AllTrue (needs_past (fields_above p (parent_by p x)) (without_queue o.name s.cells) o.name)) (sym line.of) (left entries free done r.ends))),
+        grind (
+          arith,
+          nat_tests,
+          ended_plainly p t c s fr sh (Dying o ∷ ls) at_hand a r,
+          destructs_only,
+          destructs,
+          home,
+          next_well entries free done r.ends wired typed items,
+        ),
+      )

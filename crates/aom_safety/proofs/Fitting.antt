@@ -1,0 +1,179 @@
+-- Each instruction may have its effect, and the registers that the effect names are among those of a method.
+use Rattle.std.proofs.lemmas.Bool.Decides.{nat_tests}
+use Rattle.std.proofs.Common.{Bool, List, None, Option, Some, [], ap, cond, inl, length, refl, sym, true, ℕ, ℤ, negsuc, arith, ◌-◌, ◌∙◌, ◌∷◌, ◌≡◌, ◌≤◌}
+use Rattle.std.proofs.lemmas.Bool.{leb-true}
+use Rattle.std.specs.Ordering.{int_eq}
+use Rattle.std.specs.Prelude.{int_lt, is_some}
+use Rattle.aom_image.specs.Image.{Image}
+use Rattle.aom_instructions.specs.Operands.{IsRegister}
+use Rattle.aom_image.specs.Views.{arguments_of}
+use Rattle.aom_instructions.specs.Fits.{InstrFits}
+use Rattle.aom_instructions.specs.declared.instr.Instr.{Instr}
+use Rattle.aom_instructions.specs.declared.instr.Instr.TheVariants.{Hand, TakeMessage, Call, Cancel, Delete, Jump, JumpActive, JumpAdded, JumpEmpty, JumpEqual, JumpLess, JumpNull, Leave, LeaveIf, Loop, Move, New, NewOrLeave, Next, Pop, PopDelete, PopOperation, Push, PushOperation, Return, Take, Trap}
+use Rattle.aom_instructions.specs.declared.instr.Target.{Target}
+use Rattle.aom_instructions.specs.declared.limits.Limits.{Limits}
+use Rattle.aom_roles.specs.Tests.{AllTrue}
+use Rattle.aom_classes.specs.Jumps.{jump_of}
+use Rattle.aom_classes.specs.Loops.{loop_in}
+use Rattle.aom_safety.proofs.Finishing.{all_parts}
+use Rattle.aom_semantics.specs.Calls.{below_top, needs_entering}
+use Rattle.aom_semantics.specs.Cleanup.{has_trap, is_negative, leave_needs, no_memory, top_is_whole, top_place, tops_entry, tops_object, tops_operation}
+use Rattle.aom_semantics.specs.Effects.{The_message, Calls, Cancels, Carried, Destroys, Destroys_last, Effect, Goes_on, In_field, In_register, Leaves, Handed, Made, Operates, Popped, Pushed, Pushed_operation, Same, Sets_trap, Spot, Update, cancels_if, deals, deletes, effect, hands_unless, jumps_if, jumps_unless, makes_unless, round, sets}
+use Rattle.aom_semantics.specs.Enlisted.{cancel_method, in_phase, is_active, is_busy, own_request}
+use Rattle.aom_safety.specs.Leaves.{LeavesWith}
+use Rattle.aom_semantics.specs.Moves.{needs}
+use Rattle.aom_semantics.specs.Places.{Cell, Object, Request, held}
+use Rattle.aom_semantics.specs.State.{An_object, An_operation, Choice, Frame, Item, Need, Run, State, Task, counter, field_place, word}
+use Rattle.aom_safety.specs.Steps.{Fits, IsStraight}
+use Rattle.aom_semantics.specs.Tokens.{is_crowded}
+use Rattle.aom_semantics.specs.Words.{here, read, word_or_zero}
+
+-- the word that a register has
+read_word : (o : Option ℤ) → is_some o ≡ true → o ≡ Some (word_or_zero o)
+read_word x e = grind arith
+
+-- the last item, by what is asked of it
+object_on_top : (items : List Item) → tops_object items ≡ true → items ≡ An_object ∷ below_top items
+object_on_top x e = grind arith
+
+operation_on_top : (items : List Item) → tops_operation items ≡ true → (m : ℕ) × (w : ℤ) × (items ≡ An_operation m w ∷ below_top items)
+operation_on_top (An_operation m w ∷ items) e = (m, w, refl)
+operation_on_top _ e = cc
+
+module _ (p : Image) where
+  -- what is carried to a register, or made in one, comes to one that a method has
+  abbrev pub SpotFits : Spot → Type 0
+  SpotFits (In_register a) = IsRegister a
+  SpotFits (In_field f) = Unit {0}
+  SpotFits The_message = Unit {0}
+
+  abbrev pub UpdateFits : Update → Type 0
+  UpdateFits (Carried from to) = SpotFits to
+  UpdateFits (Made name class a) = IsRegister a
+  UpdateFits (Popped a) = IsRegister a
+  UpdateFits (Handed name a) = IsRegister a
+  UpdateFits _ = Unit {0}
+
+  -- and so do the arguments of a method that is called
+  abbrev pub EffectFits : Effect → Type 0
+  EffectFits (Goes_on ch) = UpdateFits ch.update
+  EffectFits (Leaves code u) = UpdateFits u
+  EffectFits (Calls target m first) = length (arguments_of p m) ≤ 16
+  EffectFits (Sets_trap target m first) = length (arguments_of p m) ≤ 16
+  EffectFits _ = Unit {0}
+
+module _ (p : Image) (c : Choice) (fr : Frame) (ts : List Task) (s : State) where
+  abbrev May : Instr → Effect → Type 0
+  May i e = Fits p c fr ts s i e × ((l : Limits) → InstrFits l i → EffectFits p e)
+
+  branches : (i : Instr) (b : Bool) (to : ℕ) → jump_of i ≡ Some to → IsStraight i → May i (jumps_if fr b to)
+  branches i x to jump straight = grind arith
+
+  jumps : (i : Instr) (o : Option Object) (to : ℕ) → jump_of i ≡ Some to → IsStraight i → May i (jumps_unless fr o to)
+  jumps i x to jump straight = grind arith
+
+  loops : (n depth to : ℕ) → counter fr depth - 1 ≡ n → May (Next depth to) (round n depth to)
+  loops x depth to e = grind arith
+
+  making : (refused : Bool) (a x : ℕ) → May (New a x) (sets fr a None (makes_unless refused c.name x a))
+  unfolding loop_in
+  making x a y = grind arith
+
+  handing : (crowded : Bool) (a : ℕ) (own : Option Request) → May (Hand a) (sets fr a None (hands_unless crowded c.name a own))
+  unfolding loop_in
+  handing x a own = grind arith
+
+  deleting : (o : Option Object) (a : ℕ) → held s.cells (here fr ts s a) ≡ o → May (Delete a) (deletes fr o a)
+  unfolding loop_in
+  deleting x a e = grind arith
+
+  either : (i : Instr) (b : Bool) (code : ℤ) (off : Update) (on : Effect) → (b ≡ true → May i (Leaves code off)) → May i on → May i (cond b (Leaves code off) on)
+  either i x code off on y z = grind arith
+
+  -- where it leaves, it may
+  may_leave : (b : Bool) (cs : List Cell) → AllTrue (cond b (leave_needs cs (Run fr ∷ ts)) []) → b ≡ true → has_trap ts ≡ true
+  may_leave x cs n e = grind arith
+
+  dealing :
+      (items : List Item) (o : Option Object) → s.items ≡ items → held s.cells (top_place items) ≡ o → tops_entry items ≡ true → top_is_whole s.cells items ≡ true →
+      May PopDelete (deals fr items o)
+  dealing x o at e there whole = grind arith
+
+  -- the arguments lie within the registers of the caller, and so of the method called
+  few_arguments : (target : Target) (m first : ℕ) (more : List Need) → AllTrue (needs_entering p fr ts s target m first more) → length (arguments_of p m) ≤ 16
+  few_arguments target m first more n = grind (arith, nat_tests, all_parts, leb-true)
+
+  cancels_by : (b : Bool) (m : Option ℕ) → cancel_method p fr ≡ m → May Cancel (cancels_if fr b m)
+  unfolding loop_in
+  cancels_by x m e = grind arith
+
+  pub fits : (i : Instr) → AllTrue (needs p c fr ts s i) → May i (effect p c fr ts s i)
+  unfolding jump_of loop_in
+  fits (Jump to) n = (refl, λ l f. tt)
+  fits (JumpEqual a b to) n = branches (JumpEqual a b to) (int_eq (read fr ts s a) (read fr ts s b)) to refl refl
+  fits (JumpLess a b to) n = branches (JumpLess a b to) (int_lt (read fr ts s a) (read fr ts s b)) to refl refl
+  fits (JumpNull a to) n = jumps (JumpNull a to) (held s.cells (here fr ts s a)) to refl refl
+  fits (JumpEmpty f to) n = jumps (JumpEmpty f to) (held s.cells (field_place fr.home f)) to refl refl
+  fits (Loop depth rounds) n = (inl refl, λ l f. tt)
+  fits (Next depth to) n = loops (counter fr depth - 1) depth to refl
+  fits (Move a b) n = ((refl, tt), λ l f. f.operands.a)
+  fits (Take a field) n = ((refl, tt), λ l f. f.operands.a)
+  fits (TakeMessage a) n = ((refl, tt), λ l f. f.operands.a)
+  fits (New a x) n = making c.refused a x
+  fits (Hand a) n = handing (is_crowded p s.cells) a (own_request s.cells fr.home)
+  fits (Delete a) n = deleting (held s.cells (here fr ts s a)) a refl
+  fits (Call target m first x) n = ((x, refl), λ l f. few_arguments target m first _ n)
+  fits (Trap target m first x) n = ((x, refl), λ l f. few_arguments target m first _ n)
+  fits (NewOrLeave a x) n = either (NewOrLeave a x) c.refused no_memory Same _ (λ e. ((may_leave c.refused s.cells n.1 e, (e, refl), tt), λ l f. tt)) ((refl, refl), λ l f. f.operands.a)
+  fits (Push a) n = either (Push a) c.refused no_memory (Pushed a) _ (λ e. ((n.1.1.1.0, (e, refl), (refl, n.1.1.1.0)), λ l f. tt)) ((refl, (refl, n.1.1.1.0)), λ l f. tt)
+  fits (PushOperation a m) n =
+      either (PushOperation a m) c.refused no_memory (Pushed_operation m (read fr ts s a)) _ (λ e. ((n.1.0, (e, refl), (a, refl, n.1.0)), λ l f. tt)) ((refl, (a, refl, n.1.0)), λ l f. tt)
+  fits (Pop a) n = ((refl, (refl, object_on_top s.items n.1.1.0)), λ l f. f.operands.a)
+  fits PopOperation n = let o = operation_on_top s.items n.1.0 in ((refl, (refl, o.0, o.1, o.2)), λ l f. tt)
+  fits PopDelete n = dealing s.items (held s.cells (top_place s.items)) refl refl n.0 n.1.0
+  fits (Leave a) n = ((n.1.0, read_word (word fr a) n.0, tt), λ l f. tt)
+  fits (LeaveIf a) n =
+      let code = read fr ts s a in
+      let b = is_negative p c fr ts s code in
+      either (LeaveIf a) b code Same _ (λ e. ((may_leave b s.cells n.1 e, (read_word (word fr a) n.0, e), tt), λ l f. tt)) ((refl, tt), λ l f. tt)
+  fits (JumpActive to) n = branches (JumpActive to) (in_phase is_busy (own_request s.cells fr.home)) to refl refl
+  fits (JumpAdded to) n = branches (JumpAdded to) (is_some (own_request s.cells fr.home)) to refl refl
+  fits Cancel n = cancels_by (in_phase is_active (own_request s.cells fr.home)) (cancel_method p fr) refl
+  fits (Return a) n = ((refl, refl), λ l f. tt)
+  -- the others go on
+  fits _ n = ((refl, tt), λ l f. tt)
+
+  -- what a leave of an instruction pushes before it
+  abbrev pub off_of : Instr → Update
+  off_of (Push a) = Pushed a
+  off_of (PushOperation a m) = Pushed_operation m (read fr ts s a)
+  off_of _ = Same
+
+  taken : (b : Bool) (off on : Effect) → b ≡ true → cond b off on ≡ off
+  taken x off on e = grind arith
+
+  refused : (code : ℤ) (off : Update) (on : Effect) → (c.refused ≡ true) × (code ≡ negsuc 3) → cond c.refused (Leaves no_memory off) on ≡ Leaves code off
+  refused code off on h = taken c.refused (Leaves no_memory off) on h.0 ∙ ap (λ k. Leaves k off) (sym h.1)
+
+  -- an instruction that leaves with a code has that effect
+  pub leaves_so : (i : Instr) (code : ℤ) → LeavesWith c fr i code → effect p c fr ts s i ≡ Leaves code (off_of i)
+  leaves_so x code h = grind arith
+
+  -- no loop begins at an instruction that calls or leaves, or lets an object or an operation go
+  abbrev pub StraightBy : Instr → Effect → Type 0
+  StraightBy i (Calls target m first) = IsStraight i
+  StraightBy i (Cancels m) = IsStraight i
+  StraightBy i (Sets_trap target m first) = IsStraight i
+  StraightBy i (Leaves code u) = IsStraight i
+  StraightBy i (Destroys o a words) = IsStraight i
+  StraightBy i (Destroys_last o) = IsStraight i
+  StraightBy i (Operates m w) = IsStraight i
+  StraightBy i _ = Unit {0}
+
+  leaver_straight : (i : Instr) (code : ℤ) → LeavesWith c fr i code → IsStraight i
+  unfolding loop_in
+  leaver_straight x code h = grind arith
+
+  pub straight_by : (i : Instr) (e : Effect) → Fits p c fr ts s i e → StraightBy i e
+  unfolding loop_in
+  straight_by i x f = grind (arith, nat_tests, leaver_straight i)

@@ -1,0 +1,70 @@
+-- What a method works on has all that the method's class declares: by what is said of the family of its class.
+use Rattle.std.proofs.lemmas.Bool.Decides.{nat_tests}
+use Rattle.std.proofs.Common.{Option, Some, ap, arith, refl, subst, sym, true, ℕ, ◌∙◌, ◌≡◌}
+use Rattle.std.specs.Prelude.{is_some}
+use Rattle.aom_image.specs.Image.{Image}
+use Rattle.aom_image.specs.Views.{method_class, method_role}
+use Rattle.aom_image.specs.declared.method.Role.{Role}
+use Rattle.aom_image.specs.declared.method.Thing.{Thing}
+use Rattle.aom_image.specs.declared.method.Thing.TheVariants.{Object as An_object_of}
+use Rattle.aom_roles.specs.Classes.{sessions_at, sessions_in}
+use Rattle.aom_roles.specs.Families.{descends}
+use Rattle.aom_roles.proofs.Descending.{itself}
+use Rattle.aom_rules.specs.Calls.{is_destruct}
+use Rattle.aom_roles.specs.Things.{Holder, Member, field_thing, holder_by, holder_of, stands_for}
+use Rattle.aom_roles.specs.Shapes.{kind_of}
+use Rattle.aom_safety.specs.Laws.{IsFamily}
+use Rattle.aom_semantics.specs.Servers.{session_class}
+use Rattle.aom_semantics.specs.State.{Home, home_holder, home_view, thing_holder}
+use Rattle.aom_safety.specs.WellTyped.{view_holder, CountsAs, Houses, IsOfFamily}
+
+pub houses_itself : (p : Image) (h : Holder) → Houses p h h
+houses_itself p h = record { fields = λ f t e. e; words = omega arith; member = λ d e. (d, e, itself p d, refl); works = λ c e. (c, e) }
+
+pub houses_same : (p : Image) (h k : Holder) → h ≡ k → Houses p h k
+houses_same p h k e = subst (λ x. Houses p h x) e (houses_itself p h)
+
+pub houses_family : (p : Image) → IsFamily p → (c d : ℕ) → descends p c d ≡ true → Houses p (Member c) (Member d)
+houses_family p family c d h = record {
+  fields = λ f t e. family.inherits c d f t h e;
+  words = family.words c d h;
+  member = λ x e. let same : d ≡ x = cc in (c, refl, subst (λ y. descends p c y ≡ true) same h, family.kinds c x (subst (λ y. descends p c y ≡ true) same h));
+  works = λ x e. (d, refl);
+}
+
+-- an object of a class has what a method declares that is of the class or of one above it
+pub houses_role :
+    (p : Image) → IsFamily p → (x : Thing) (c m : ℕ) → x ≡ An_object_of c → (of : IsOfFamily p c m) → holder_by (method_role p m) (Some of.class) ≡ Member of.class → Houses p (thing_holder x) (holder_of p m)
+houses_role p family x c m thing of member = grind (arith, nat_tests, houses_family p family c of.class of.above)
+
+-- what a place owns counts as its own class
+pub houses_counts : (p : Image) (h : Home) (k : Holder) → Houses p (home_holder h) k → CountsAs p (home_holder h) (home_view h) k
+houses_counts p x k houses = grind (arith, nat_tests, itself p)
+
+pub counts_same : (p : Image) (h : Home) (k : Holder) → home_holder h ≡ k → CountsAs p (home_holder h) (home_view h) k
+counts_same p h k e = houses_counts p h k (houses_same p (home_holder h) k e)
+
+-- under a destructor of the line an object counts as the destructor's class
+pub counts_line :
+    (p : Image) (x : Thing) (c m : ℕ) → x ≡ An_object_of c → (of : IsOfFamily p c m) → holder_of p m ≡ Member of.class → CountsAs p (thing_holder x) (method_class p m) (holder_of p m)
+counts_line p x c m thing of works = record {
+  some = λ b e. (of.class, of.of);
+  between = grind (arith, nat_tests, itself p of.class);
+  fields = λ f t is. ap (λ v. field_thing p (view_holder v) f) of.of ∙ ap (λ h. field_thing p h f) (sym works) ∙ is;
+}
+
+-- what destructs works on an object
+pub destructs_member : (r : Option Role) (d : ℕ) → is_destruct r ≡ true → holder_by r (Some d) ≡ Member d
+destructs_member r d e = grind arith
+
+-- a field that the method's class declares is the same field
+pub houses_field : (p : Image) (h k : Holder) (f : ℕ) → Houses p h k → is_some (field_thing p k f) ≡ true → field_thing p h f ≡ field_thing p k f
+houses_field p h k f houses some = grind (arith, nat_tests)
+
+-- nothing else stands for a session
+pub stands_session : (p : Image) → IsFamily p → (c session : ℕ) → sessions_at p c ≡ Some session → (x : Thing) → stands_for p x (An_object_of session) ≡ true → x ≡ An_object_of session
+stands_session p family c session at x stands = grind arith
+
+pub stands_session_of : (p : Image) → IsFamily p → (t : Thing) (session : ℕ) → session_class p t ≡ Some session → (x : Thing) → stands_for p x (An_object_of session) ≡ true → x ≡ An_object_of session
+unfolding kind_of sessions_in
+stands_session_of p family x session e y stands = grind (arith, nat_tests, stands_session p family)

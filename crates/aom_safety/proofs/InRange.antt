@@ -1,0 +1,245 @@
+-- Only registers that a method has come to own: an instruction names no other, and arguments come to the first ones.
+use Rattle.std.proofs.lemmas.Bool.Decides.{nat_tests}
+use Rattle.aom_semantics.specs.World.{heard_one, taken_from, Heard, Environment, turn}
+use Rattle.aom_safety.proofs.Turned.{obeys, handles, accepts, attends, parts, completes, keeps_all, kills, picks, turns_so}
+use Rattle.std.proofs.Common.{Bool, List, None, Option, Some, [], arith, cond, false, length, subst, suc, true, ℕ, ℤ, ◌+◌, ◌∷◌, ◌≡◌, ◌≤◌, sym}
+use Rattle.aom_image.specs.Image.{Image}
+use Rattle.aom_instructions.specs.Operands.{IsRegister}
+use Rattle.aom_image.specs.Views.{instr_at}
+use Rattle.aom_image.specs.declared.method.Argument.{Argument}
+use Rattle.aom_image.specs.declared.method.Argument.TheVariants.{Own as Takes_own, Word as Takes_word}
+use Rattle.aom_image.specs.declared.method.Gives.{Gives}
+use Rattle.aom_image.specs.declared.method.Gives.TheVariants.{Left, Maybe as A_maybe, Nothing, Own as An_own, Word as A_word}
+use Rattle.aom_safety.proofs.Fitting.{EffectFits, SpotFits, UpdateFits, fits}
+use Rattle.aom_safety.proofs.Moving.{steps_are_moves}
+use Rattle.aom_safety.specs.Steps.{Acts, Arrives, Clears, Comes_out, Empties, Ends, Move, Rests, Undoes, Vanishes}
+use Rattle.aom_safety.proofs.Guarded.{acts_at}
+use Rattle.aom_semantics.specs.Calls.{passed_cells, result_cells, result_register, returned}
+use Rattle.aom_semantics.specs.Cleanup.{top_place}
+use Rattle.aom_semantics.specs.Destruction.{parting, first_session}
+use Rattle.aom_semantics.specs.Tokens.{all_redeemed, next_token, promised, redeemed_by, token_of}
+use Rattle.aom_semantics.specs.Effects.{Handed, Replied, Carried, Effect, Made, Popped, Pushed, Requested, Spot, Update, Written, applied, cells_after, effect, spot_place, Sessioned}
+use Rattle.aom_semantics.specs.Enlisted.{ended_cells, on_request, own_request, rerequested}
+use Rattle.aom_safety.specs.Laws.{IsWired, RegistersKeep}
+use Rattle.aom_semantics.specs.Moves.{counted, dispatch_ends, main_ends, step, answered, handled, object_ends}
+use Rattle.aom_semantics.specs.Places.{Service, set_service, Session, In_service, Queued, Cell, Elsewhere, Entry, Going, Object, Place, Register, Request, Root, held, moved, same_place, set_request, set_word_field, without, set_session, service_of}
+use Rattle.aom_safety.specs.Registers.{AllInRange, IsInRange}
+use Rattle.aom_semantics.specs.State.{Seat, Of_server, Service_left, Parts, Choice, Dispatch, Dispatched, Frame, Goes, Home, Of_main, Run, State, Task, Trapped, field_place, Answered, Asks, Object_left, Of_object}
+use Rattle.aom_semantics.specs.Words.{here, stored}
+use Rattle.aom_semantics.specs.Natives.{all_bereaved, resessioned}
+use Rattle.aom_semantics.specs.Servers.{withdrawn, without_queue, is_queue_of, all_unslotted}
+use Rattle.aom_semantics.specs.Clients.{each_unslotted, commanded, Listed, connecting, sending, leaving, told}
+use Rattle.aom_clients.specs.declared.client.Client.{Client}
+use Rattle.aom_clients.specs.declared.refusal.Refusal.{Refusal}
+use Rattle.aom_transcript.specs.declared.event.Command.{Command}
+
+move_in_range : (p q : Place) (cs : List Cell) → IsInRange q → AllInRange cs → AllInRange (moved p q cs)
+move_in_range p q [] fits all = tt
+move_in_range p q (c ∷ cs) fits all = (go (same_place c.owner p), move_in_range p q cs fits all.1)
+  where
+    go : (b : Bool) → IsInRange (cond b q c.owner)
+    go true = fits
+    go false = all.0
+
+end_in_range : (p : Place) (cs : List Cell) → AllInRange cs → AllInRange (without p cs)
+end_in_range p [] all = tt
+end_in_range p (c ∷ cs) all = grind (arith, nat_tests, end_in_range p cs all.1)
+
+write_in_range : (n w : ℕ) (v : ℤ) (cs : List Cell) → AllInRange cs → AllInRange (set_word_field n w v cs)
+write_in_range n w v [] all = tt
+write_in_range n w v (c ∷ cs) all = (all.0, write_in_range n w v cs all.1)
+
+asks_in_range : (n : ℕ) (r : Option Request) (cs : List Cell) → AllInRange cs → AllInRange (set_request n r cs)
+asks_in_range n r [] all = tt
+asks_in_range n r (c ∷ cs) all = (all.0, asks_in_range n r cs all.1)
+
+opens_in_range : (n : ℕ) (session : Bool) (cs : List Cell) → AllInRange cs → AllInRange (set_session n session cs)
+opens_in_range n session [] all = tt
+opens_in_range n session (c ∷ cs) all = (all.0, opens_in_range n session cs all.1)
+
+bereaved_in_range : (p : Image) (n : ℕ) (cs : List Cell) → AllInRange cs → AllInRange (all_bereaved p n cs)
+bereaved_in_range p n [] all = tt
+bereaved_in_range p n (c ∷ cs) all = (all.0, bereaved_in_range p n cs all.1)
+
+redeemed_in_range : (order : ℕ) (code : ℤ) (cs : List Cell) → AllInRange cs → AllInRange (all_redeemed order code cs)
+redeemed_in_range order code [] all = tt
+redeemed_in_range order code (c ∷ cs) all = (all.0, redeemed_in_range order code cs all.1)
+
+redeems_in_range : (order : Option ℕ) (code : ℤ) (cs : List Cell) → AllInRange cs → AllInRange (redeemed_by order code cs)
+redeems_in_range x code cs all = grind (arith, nat_tests, redeemed_in_range)
+
+-- what clients have at cells changes no owner but where a message goes
+serve_in_range : (n : ℕ) (v : Service) (cs : List Cell) → AllInRange cs → AllInRange (set_service n v cs)
+serve_in_range n v [] all = tt
+serve_in_range n v (c ∷ cs) all = (all.0, serve_in_range n v cs all.1)
+
+fewer_in_range : (b : Bool) (c : Cell) (cs : List Cell) → IsInRange c.owner → AllInRange cs → AllInRange (cond b cs (c ∷ cs))
+fewer_in_range x c cs fits all = grind (arith, nat_tests, fits)
+
+withdrawn_in_range : (client : ℕ) (cs : List Cell) → AllInRange cs → AllInRange (withdrawn client cs)
+withdrawn_in_range client [] all = tt
+withdrawn_in_range client (c ∷ cs) all = grind (arith, nat_tests, fewer_in_range, withdrawn_in_range client cs all.1)
+
+dequeued_in_range : (n : ℕ) (cs : List Cell) → AllInRange cs → AllInRange (without_queue n cs)
+dequeued_in_range n [] all = tt
+dequeued_in_range n (c ∷ cs) all = fewer_in_range (is_queue_of n c.owner) c (without_queue n cs) all.0 (dequeued_in_range n cs all.1)
+
+unslotted_in_range : (client : ℕ) (cs : List Cell) → AllInRange cs → AllInRange (all_unslotted client cs)
+unslotted_in_range client [] all = tt
+unslotted_in_range client (c ∷ cs) all = (all.0, unslotted_in_range client cs all.1)
+
+each_unslotted_in_range : (clients : List ℕ) (cs : List Cell) → AllInRange cs → AllInRange (each_unslotted clients cs)
+each_unslotted_in_range [] cs all = all
+each_unslotted_in_range (c ∷ clients) cs all = each_unslotted_in_range clients (all_unslotted c cs) (unslotted_in_range c cs all)
+
+field_in_range : (home : Home) (f : ℕ) → IsInRange (field_place home f)
+field_in_range x f = grind arith
+
+-- the result of a call comes to a register that the call names
+result_in_range : (p : Image) → IsWired p → (m place : ℕ) → IsRegister (result_register (instr_at p m place))
+result_in_range p wired m place = grind (arith, nat_tests, fits)
+
+module _ (p : Image) (wired : IsWired p) (fr : Frame) (ts : List Task) (s : State) (all : AllInRange s.cells) where
+  spot_in_range : (spot : Spot) → SpotFits p spot → IsInRange (spot_place p fr ts s spot)
+  spot_in_range x fits = grind (arith, nat_tests, fits, field_in_range fr.home)
+
+  store_in_range : (home : Home) (w : ℕ) (v : ℤ) → AllInRange (stored s.cells home w v)
+  store_in_range x w v = grind (arith, nat_tests, write_in_range)
+
+  request_in_range : (home : Home) (r : Option Request) → AllInRange (rerequested s.cells home r)
+  request_in_range x r = grind (arith, nat_tests, asks_in_range)
+
+  session_in_range : (home : Home) (session : Bool) → AllInRange (resessioned s.cells home session)
+  session_in_range x session = grind (arith, nat_tests, opens_in_range)
+
+  update_in_range : (u : Update) → UpdateFits p u → AllInRange (cells_after p fr ts s u)
+  update_in_range (Carried from to) fits = move_in_range (spot_place p fr ts s from) (spot_place p fr ts s to) s.cells (spot_in_range to fits) all
+  update_in_range (Made name class a) fits = (fits, all)
+  update_in_range (Written w v) fits = store_in_range fr.home w v
+  update_in_range (Requested r) fits = request_in_range fr.home r
+  update_in_range (Sessioned session) fits = session_in_range fr.home session
+  update_in_range (Pushed a) fits = move_in_range (here fr ts s a) (Entry (length s.items)) s.cells tt all
+  update_in_range (Replied a code) fits = end_in_range (here fr ts s a) _ (redeems_in_range (token_of s.cells (held s.cells (here fr ts s a))) code s.cells all)
+  update_in_range (Handed name a) fits = (fits, request_in_range fr.home (on_request (promised (next_token s.cells)) (own_request s.cells fr.home)))
+  update_in_range (Popped a) fits = move_in_range (top_place s.items) (here fr ts s a) s.cells fits all
+  update_in_range _ fits = all
+
+  pass_in_range : (depth : ℕ) (xs : List Argument) (first to : ℕ) (cs : List Cell) → to + length xs ≤ 16 → AllInRange cs → AllInRange (passed_cells p fr ts s depth xs first to cs)
+  pass_in_range depth [] first to cs few all = all
+  pass_in_range depth (Takes_word ∷ xs) first to cs few all = pass_in_range depth xs (suc first) (suc to) cs (omega arith) all
+  pass_in_range depth (Takes_own t ∷ xs) first to cs few all = grind (arith, nat_tests, pass_in_range depth xs, move_in_range)
+
+  bring_in_range : (g : Gives) (a x : ℕ) (below : List Task) → IsRegister x → AllInRange (result_cells p fr ts s g a x below)
+  bring_in_range Nothing a x below fits = all
+  bring_in_range A_word a x below fits = all
+  bring_in_range (An_own t) a x below fits = move_in_range (here fr ts s a) (Register (length below) x) s.cells fits all
+  bring_in_range (A_maybe t) a x below fits = move_in_range (here fr ts s a) (Register (length below) x) s.cells fits all
+  bring_in_range (Left t) a x below fits = all
+
+  return_in_range : (g : Gives) (a : ℕ) (below : List Task) → AllInRange (returned p fr ts s g a below).cells
+  return_in_range g a (Run caller ∷ below) = bring_in_range g a _ below (result_in_range p wired caller.method caller.place)
+  return_in_range g a (Trapped ∷ Run caller ∷ below) = bring_in_range g a _ below (result_in_range p wired caller.method caller.place)
+  return_in_range g a (Trapped ∷ Dispatched d ∷ below) = grind (arith, nat_tests, serve_in_range, move_in_range)
+  return_in_range g a (Trapped ∷ _) = all
+  return_in_range g a _ = all
+
+  -- the request of what a method worked on counts for none
+  ended_in_range : AllInRange (ended_cells p fr s.cells)
+  ended_in_range = grind (arith, nat_tests, request_in_range fr.home)
+
+module _ (p : Image) (wired : IsWired p) (fr : Frame) (ts : List Task) (s : State) (all : AllInRange s.cells) where
+  apply_in_range : (e : Effect) → EffectFits p e → AllInRange (applied p fr ts s e).cells
+  apply_in_range x fits = grind (
+    arith,
+    nat_tests,
+    update_in_range p wired fr ts s all,
+    fits,
+    pass_in_range p wired fr ts s all,
+    request_in_range p wired fr ts s all fr.home,
+    return_in_range p wired fr ts,
+    ended_in_range p wired fr ts s all,
+    move_in_range,
+  )
+
+-- a session goes before its server
+parting_in_range : (p : Image) (o : Object) (x : Option Seat) (below : List Task) (s : State) → AllInRange s.cells → AllInRange (parting p o x below s).cells
+parting_in_range p o None below s all = all
+parting_in_range p o (Some x) below s all = move_in_range x.place (Going (suc (suc (length below)))) s.cells tt all
+
+close_in_range : (p : Image) (s : State) (b : Bool) (root : Option Object) → AllInRange s.cells → AllInRange (main_ends p b root s).cells
+close_in_range p s x root all = grind (arith, nat_tests, move_in_range (Elsewhere Root) (Going 1) s.cells)
+
+object_in_range : (p : Image) (s : State) → AllInRange s.cells → AllInRange (object_ends p s).cells
+object_in_range p s all = close_in_range p (handled s) s.rest.stopped (held s.cells (Elsewhere Root)) all
+
+answer_in_range : (p : Image) (answer : ℤ) (s : State) → AllInRange s.cells → AllInRange (answered p answer s).cells
+answer_in_range p answer s all = grind (arith, nat_tests, object_in_range p s all)
+
+dispatch_in_range : (p : Image) (d : Dispatch) (s : State) → AllInRange s.cells → AllInRange (dispatch_ends p d s).cells
+dispatch_in_range p Of_main s all = close_in_range p s s.rest.stopped (held s.cells (Elsewhere Root)) all
+dispatch_in_range p (Of_object x) s all = object_in_range p s all
+dispatch_in_range p (Object_left x code) s all = grind (arith, nat_tests, answer_in_range p code s all)
+dispatch_in_range p (Asks x) s all = object_in_range p s all
+dispatch_in_range p (Answered x answer) s all = answer_in_range p answer s all
+dispatch_in_range p (Of_server x client (Service_left code)) s all = end_in_range (Elsewhere In_service) s.cells all
+dispatch_in_range p (Of_server x client Parts) s all = serve_in_range x.object.name _ s.cells all
+dispatch_in_range p _ s all = all
+
+-- what clients do
+module _ (p : Image) (client : ℕ) (s : State) (all : AllInRange s.cells) where
+  connects_in_range : (refused : Option Refusal) (server : Option Listed) (slots : ℕ) → AllInRange (connecting p client s refused server slots).cells
+  connects_in_range None (Some x) slots = serve_in_range x.name _ s.cells all
+  connects_in_range None None slots = all
+  connects_in_range (Some r) server slots = all
+
+  sends_in_range : (refused : Option Refusal) (c : Client) (name : ℕ) (words : List ℤ) → AllInRange (sending p client s refused c name words).cells
+  sends_in_range x y name words = grind (arith, nat_tests, serve_in_range)
+
+  tells_in_range : (c : Client) (cs : List Cell) → AllInRange cs → AllInRange (told p client s c cs)
+  tells_in_range x cs y = grind (arith, nat_tests, serve_in_range)
+
+  leaves_in_range : (to : Option Client) → AllInRange (leaving p client s to).cells
+  leaves_in_range x = grind (arith, nat_tests, tells_in_range, withdrawn_in_range client s.cells all)
+
+  commands_in_range : (command : Command) (name : ℕ) → AllInRange (commanded p client s command name).cells
+  commands_in_range x name = grind (arith, nat_tests, connects_in_range, sends_in_range, leaves_in_range)
+
+moves : (p : Image) → IsWired p → (c : Choice) (s u : State) → AllInRange s.cells → step p c s ≡ Goes u → AllInRange u.cells
+moves p wired c s u all e = of (steps_are_moves p c s u e)
+  where
+    along : (v : State) → u ≡ v → AllInRange v.cells → AllInRange u.cells
+    along v same h = subst (λ v. AllInRange v.cells) (sym same) h
+
+    of : Move p c s u → AllInRange u.cells
+    of (Acts fr ts i x at there met may same) =
+        let a = acts_at p c s u fr ts i at there e in
+        let named = wired.operands fr.method fr.place i there in
+        along _ (sym a.1) (apply_in_range p wired fr ts (counted p s) all (effect p c fr ts (counted p s) i) ((fits p c fr ts (counted p s) i a.0).1 named.0 named.1))
+    of (Vanishes ts o at there none same) =
+        along _ same (each_unslotted_in_range (service_of s.cells o.name).sessions (without (Going (length ts)) (without_queue o.name s.cells))
+        (end_in_range (Going (length ts)) (without_queue o.name s.cells) (dequeued_in_range o.name s.cells all)))
+    of (Empties ts o at there same) = along _ same (parting_in_range p o (first_session s.cells o.name (service_of s.cells o.name).sessions) ts (counted p s) all)
+    of (Clears code ts items o at top there same) = along _ same (move_in_range (Entry (length items)) (Going (suc (length ts))) s.cells tt all)
+    of (Ends d ts at same) = along _ same (dispatch_in_range p d (counted p s) all)
+    -- the others change no cell
+    of (Rests still same) = along _ same all
+    of (Undoes code ts items m w at top same) = along _ same all
+    of (Arrives code fr ts items at top same) = along _ same all
+    of (Comes_out code d ts items at top same) = along _ same all
+
+turns : (p : Image) (outside : Environment) (heard : Heard) (s u : State) → AllInRange s.cells → turn p outside heard s ≡ Goes u → AllInRange u.cells
+turns p outside heard s u all e = elim (turns_so p outside heard s u e) as (λ v d. AllInRange v.cells) [
+  | keeps_all r ↦ all
+  | completes code o r other ↦ asks_in_range o.name _ s.cells all
+  | kills n r k ↦ bereaved_in_range p n s.cells all
+  | obeys client command name ↦ commands_in_range p client (heard_one s) all command name
+  | picks x v d ↦ elim d as (λ v d. AllInRange v.cells) [
+    | handles m at ↦ asks_in_range x.object.name _ s.cells all
+    | accepts client m at ↦ serve_in_range x.object.name _ s.cells all
+    | attends client message m o there at ↦ move_in_range (Elsewhere (Queued x.object.name message)) (Elsewhere In_service) (taken_from x.object.name s).cells tt (serve_in_range x.object.name _ s.cells all)
+    | parts client o there ↦ move_in_range (Elsewhere (Session x.object.name client)) (Going 1) (taken_from x.object.name s).cells tt (serve_in_range x.object.name _ s.cells all)
+  ]
+]
+
+pub registers_keep : RegistersKeep
+registers_keep = record { boot = λ p. tt; moves = moves; turns = turns }

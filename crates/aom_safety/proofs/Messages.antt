@@ -1,0 +1,200 @@
+-- The laws of the instructions on messages: the message in service comes to a register, and a message that is replied to goes.
+use Rattle.std.proofs.lemmas.Bool.Decides.{nat_tests}
+use Rattle.std.proofs.Common.{Bool, List, None, Option, Some, ap, arith, cond, false, refl, subst, suc, sym, true, ℕ, ℤ, [], ◌∙◌, ◌∷◌, ◌≡◌}
+use Rattle.std.specs.Prelude.{is_none, is_some}
+use Rattle.aom_image.specs.Image.{Image}
+use Rattle.aom_image.specs.Views.{method_role}
+use Rattle.aom_image.specs.declared.method.Role.{Role}
+use Rattle.aom_image.specs.declared.method.Role.TheVariants.{Service}
+use Rattle.aom_image.specs.declared.method.Thing.{Thing}
+use Rattle.aom_image.specs.declared.method.Thing.TheVariants.{Message}
+use Rattle.aom_instructions.specs.declared.instr.Instr.TheVariants.{Reply, TakeMessage}
+use Rattle.aom_classes.specs.Roles.{role_number}
+use Rattle.aom_roles.specs.Shapes.{is_role}
+use Rattle.aom_rules.specs.Typing.{Leads, Typing}
+use Rattle.aom_shape.specs.Kinds.{is_here, is_object_or_null, is_own_for, is_word, register, set_register}
+use Rattle.aom_shape.specs.Shape.{Shape}
+use Rattle.aom_roles.specs.Things.{stands_for}
+use Rattle.aom_shape.specs.declared.kind.Age.TheVariants.{Ready}
+use Rattle.aom_shape.specs.declared.kind.Delivery.{Delivery}
+use Rattle.aom_shape.specs.declared.kind.Delivery.TheVariants.{Gone}
+use Rattle.aom_shape.specs.declared.kind.Kind.{Kind}
+use Rattle.aom_shape.specs.declared.kind.Kind.TheVariants.{Null, Own}
+use Rattle.aom_safety.proofs.Claimed.{claim-set_register, claim_frame, claim_rel}
+use Rattle.aom_safety.proofs.Dropping.{declared_dropped, dropped, fits_dropped, held_dropped, place_dropped, suits_dropped, tidy_dropped}
+use Rattle.aom_safety.proofs.Going.{housed_without, stack_without}
+use Rattle.aom_semantics.proofs.Maps.{same_place-true, same_place_comm}
+use Rattle.aom_safety.proofs.Picking.{own_held}
+use Rattle.aom_safety.proofs.Redeeming.{redeemable, redeemed_by_alike, redeemed_good}
+use Rattle.aom_safety.proofs.Straight.{At, Fitted, Law, fitted, free_register, kind_fits, no_word, relocate, same_suits, settle, top, well, words_set}
+use Rattle.aom_safety.specs.Claims.{Layer, Method, claim, declared, delivered, serves, tasks_of}
+use Rattle.aom_semantics.specs.Moves.{does}
+use Rattle.aom_semantics.specs.Objects.{is_thing}
+use Rattle.aom_semantics.specs.Places.{Cell, Elsewhere, In_service, Object, Place, Sight, changed, held, moved, same_place, seen, without}
+use Rattle.aom_semantics.specs.State.{Choice, Frame, Home, Inside, Run, Seat, State, next, set_word, word}
+use Rattle.aom_semantics.specs.Tokens.{redeemed_by, token_of}
+use Rattle.aom_safety.specs.WellTyped.{AllSit, Back, Fits, IsBelow, IsHoused, IsServed, NoSeatAt, NoneFrom, Returns, SitsIn, Stack, WellTyped, WordFits}
+use Rattle.aom_semantics.specs.Words.{read}
+use Rattle.aom_instructions.specs.declared.instr.Instr.{Instr}
+use Rattle.aom_roles.specs.Roles.{is_service}
+
+-- ---- the message in service
+
+-- it holds no object of a seat, or of a method
+served_apart : (q : Place) (ls : List Layer) → IsBelow q ls → same_place (Elsewhere In_service) q ≡ false
+served_apart q ls b = grind arith
+
+served_unseated : (cs : List Cell) (xs : List Seat) → AllSit cs xs → NoSeatAt (Elsewhere In_service) xs
+served_unseated cs [] s = tt
+served_unseated cs (x ∷ xs) s = (apart x.place s.0.2, served_unseated cs xs s.1)
+  where
+    apart : (q : Place) → SitsIn q xs → same_place (Elsewhere In_service) q ≡ false
+    apart q sits = grind arith
+
+served_outside : (p : Image) (t : Typing) (cs : List Cell) (ls : List Layer) (back : Back) → IsServed ls → Stack p t cs back ls → NoneFrom (Elsewhere In_service) ls
+served_outside p t cs ls back served s = grind (arith, served_unseated)
+
+served_elsewhere :
+    (p : Image) (cs : List Cell) (ls : List Layer) (home : Home) → IsHoused p cs ls home → (o : Object) (from : Place) → home ≡ Inside o from → same_place (Elsewhere In_service) from ≡ false
+served_elsewhere p cs ls home h o from e = let housed : IsHoused p cs ls (Inside o from) = subst (λ k. IsHoused p cs ls k) e h in served_apart from ls housed.below
+
+-- once it is taken no claim of it is left
+claim_taken :
+    (p : Image) (d : Place → Kind) (fr : Frame) (sh : Shape) (ls : List Layer) (r : Place) → serves p fr.method ≡ true →
+    claim p d (Method fr (record sh { delivery = Gone }) ∷ ls) r ≡ changed (claim p d (Method fr sh ∷ ls)) (Elsewhere In_service) Null r
+claim_taken p d fr sh ls x serving = grind arith
+
+delivered_here : (x : Delivery) → is_here x ≡ true → delivered x ≡ Own Message Ready
+delivered_here x e = grind arith
+
+serves_role : (r : Option Role) → is_service r ≡ true → is_role Service r ≡ true
+unfolding is_role role_number
+serves_role r e = grind arith
+
+-- a register that owns a message holds one
+module _ (p : Image) (h : Sight) where
+  message_held : (o : Option Object) (k : Kind) → is_own_for p Message k ≡ true → Fits p h o k → (x : Object) × (o ≡ Some x) × (x.thing ≡ Message)
+  message_held o k e f = grind arith
+
+message_stands : (p : Image) (x : Thing) → x ≡ Message → stands_for p x Message ≡ true
+message_stands p x e = ap (λ y. stands_for p y Message) e
+
+own_object : (p : Image) (k : Kind) → is_own_for p Message k ≡ true → is_object_or_null k ≡ true
+own_object p k e = grind arith
+
+word_there : (w : Option ℤ) (k : Kind) → is_word k ≡ true → WordFits w k → is_some w ≡ true
+word_there w k e f = grind arith
+
+module _ (p : Image) (t : Typing) (c : Choice) (s : State) (fr : Frame) (sh : Shape) (ls : List Layer) (at_hand : At p t s fr sh ls) where
+  -- ---- a message is taken
+
+  pub law_take_message : (a : ℕ) → Law p t c s fr sh ls at_hand (TakeMessage a)
+  law_take_message a n leads = (
+    (serves_role (method_role p fr.method) n.1.0, (ap is_some there.1, (ap is_none free, tt))),
+    well p t c s fr sh ls at_hand (does p c fr (tasks_of ls) s (TakeMessage a)) (next (set_word fr a None)) after refl at_hand.items at_hand.undos
+        (settle p t (moved (Elsewhere In_service) (top ls a) s.cells) (next (set_word fr a None)) after ls taken leads.0),
+  )
+    where
+      after : Shape
+      after = record (set_register sh a (Own Message Ready)) { delivery = Gone }
+
+      d : Place → Kind
+      d = declared p s.cells
+
+      served : IsServed ls
+      served = at_hand.good.stack.1.message.0 n.1.0
+
+      claimed : claim p d (Method fr sh ∷ ls) (Elsewhere In_service) ≡ Own Message Ready
+      claimed = ap (λ b. cond b (delivered sh.delivery) (claim p d ls (Elsewhere In_service))) n.1.0 ∙ delivered_here sh.delivery n.1.1.0
+
+      there : (x : Object) × (held s.cells (Elsewhere In_service) ≡ Some x)
+      there = let x = own_held p (seen s.cells) (held s.cells (Elsewhere In_service)) Message (subst (λ k. Fits p (seen s.cells) (held s.cells (Elsewhere In_service)) k) claimed (at_hand.good.fits (Elsewhere In_service))) in (x.0, x.1)
+
+      free : held s.cells (top ls a) ≡ None
+      free = free_register p t c s fr sh ls at_hand a n.0
+
+      claims :
+          (r : Place) →
+          claim p d (Method fr after ∷ ls) r ≡ changed (changed (claim p d (Method fr sh ∷ ls)) (Elsewhere In_service) Null) (top ls a) (claim p d (Method fr sh ∷ ls) (Elsewhere In_service)) r
+      claims r =
+          claim-set_register p d fr (record sh { delivery = Gone }) ls a (Own Message Ready) r
+          ∙ ap (λ x. cond (same_place (top ls a) r) (Own Message Ready) x) (claim_taken p d fr sh ls r n.1.0)
+          ∙ ap (λ x. changed (changed (claim p d (Method fr sh ∷ ls)) (Elsewhere In_service) Null) (top ls a) x r) (sym claimed)
+
+      taken : Fitted p t (moved (Elsewhere In_service) (top ls a) s.cells) (next (set_word fr a None)) after ls
+      taken = relocate p t s.cells fr (next (set_word fr a None)) sh after ls (Elsewhere In_service) (top ls a)
+          (fitted p t s.cells fr sh ls at_hand.good) refl refl refl refl free (served_outside p t s.cells ls _ served at_hand.good.stack.4) (omega arith)
+          (λ o from e. (served_elsewhere p s.cells ls fr.home at_hand.good.stack.2 o from e, tt))
+          (λ r x e k f. refl) claims
+          (words_set fr.words sh a None (Own Message Ready) at_hand.good.stack.1.words refl)
+
+-- ---- a message goes from a register
+
+module _ (p : Image) (t : Typing) (s : State) (fr : Frame) (sh : Shape) (ls : List Layer) (at_hand : At p t s fr sh ls) (a : ℕ) (it : Object) (there : held s.cells (top ls a) ≡ Some it) (message : it.thing ≡ Message) where
+  abbrev after : Shape
+  after = set_register sh a Null
+
+  abbrev left : List Cell
+  left = dropped (λ r. same_place r (top ls a)) s.cells
+
+  messages : (r : Place) (x : Object) → same_place r (top ls a) ≡ true → held s.cells r ≡ Some x → x.thing ≡ Message
+  messages r x e h = grind (arith, nat_tests, same_place-true r (top ls a) e, top ls a)
+
+  fits : (r : Place) → Fits p (seen left) (held left r) (claim p (declared p left) (Method (next (set_word fr a None)) after ∷ ls) r)
+  fits r = subst (λ k. Fits p (seen left) (held left r) k) (sym claims) (go (same_place r (top ls a)) refl)
+    where
+      claims : claim p (declared p left) (Method (next (set_word fr a None)) after ∷ ls) r ≡ changed (claim p (declared p left) (Method fr sh ∷ ls)) (top ls a) Null r
+      claims = claim_frame p (declared p left) fr (next (set_word fr a None)) after ls r refl refl ∙ claim-set_register p (declared p left) fr sh ls a Null r
+
+      go : (b : Bool) → same_place r (top ls a) ≡ b → Fits p (seen left) (held left r) (cond (same_place (top ls a) r) Null (claim p (declared p left) (Method fr sh ∷ ls) r))
+      go true e =
+          subst (λ x. Fits p (seen left) x (cond (same_place (top ls a) r) Null (claim p (declared p left) (Method fr sh ∷ ls) r))) (sym (held_dropped (λ r. same_place r (top ls a)) s.cells r ∙ ap (λ b. cond b None (held s.cells r)) e))
+          (subst (λ b. Fits p (seen left) None (cond b Null (claim p (declared p left) (Method fr sh ∷ ls) r))) (sym (same_place_comm (top ls a) r ∙ e)) tt)
+      go false e =
+          subst (λ b. Fits p (seen left) (held left r) (cond b Null (claim p (declared p left) (Method fr sh ∷ ls) r))) (sym (same_place_comm (top ls a) r ∙ e))
+          (subst (λ k. Fits p (seen left) (held left r) k) (claim_rel (λ x y. x ≡ y) (λ k. refl) p (declared p s.cells) (declared p left) (Method fr sh ∷ ls) r (sym (declared_dropped (λ r. same_place r (top ls a)) p s.cells at_hand.good.tidy messages r)))
+          (fits_dropped (λ r. same_place r (top ls a)) p s.cells at_hand.good.tidy messages r _ e (at_hand.good.fits r)))
+
+  replied : Fitted p t left (next (set_word fr a None)) after ls
+  replied = record {
+    fits = fits;
+    suits = same_suits p left fr (next (set_word fr a None)) sh after ls refl refl refl (suits_dropped (λ r. same_place r (top ls a)) p s.cells at_hand.good.tidy messages (Method fr sh ∷ ls) at_hand.good.suits);
+    tidy = tidy_dropped (λ r. same_place r (top ls a)) s.cells at_hand.good.tidy;
+    frames = record { words = words_set fr.words sh a None Null at_hand.good.stack.1.words refl; holder = at_hand.good.stack.1.holder; view = at_hand.good.stack.1.view; height = at_hand.good.stack.1.height; alone = at_hand.good.stack.1.alone; message = at_hand.good.stack.1.message };
+    housed = subst (λ l. IsHoused p l ls fr.home) (place_dropped (top ls a) s.cells) (housed_without p t s.cells (top ls a) it at_hand.good.tidy there ls fr.home (omega arith) (λ from. tt) at_hand.good.stack.2);
+    apart = at_hand.good.stack.3;
+    stack = subst (λ l. Stack p t l (Returns fr.method fr.home) ls) (place_dropped (top ls a) s.cells) (stack_without p t s.cells (top ls a) it at_hand.good.tidy there ls (Returns fr.method fr.home) (omega arith) (λ from. tt) at_hand.good.stack.4);
+  }
+
+  goes_from : Fitted p t (without (top ls a) s.cells) (next (set_word fr a None)) after ls
+  goes_from = subst (λ l. Fitted p t l (next (set_word fr a None)) after ls) (sym (place_dropped (top ls a) s.cells)) replied
+
+module _ (p : Image) (t : Typing) (c : Choice) (s : State) (fr : Frame) (sh : Shape) (ls : List Layer) (at_hand : At p t s fr sh ls) where
+  -- ---- a message is replied to, once what waits for it is completed
+
+  replies : (a : ℕ) (code : ℤ) → word fr a ≡ None → (it : Object) → held s.cells (top ls a) ≡ Some it → it.thing ≡ Message → Leads t fr.method (suc fr.place) (set_register sh a Null) →
+      WellTyped p t (record s { cells = without (top ls a) (redeemed_by (token_of s.cells (held s.cells (top ls a))) code s.cells); tasks = Run (next (set_word fr a None)) ∷ tasks_of ls })
+  replies a code none it there message leads =
+      let order = token_of s.cells (held s.cells (top ls a)) in
+      let cs = redeemed_by order code s.cells in
+      let at_then : At p t (record s { cells = cs }) fr sh ls = record { tasks = at_hand.tasks; items = at_hand.items; undos = at_hand.undos; good = redeemed_good p t order code s.cells (Method fr sh ∷ ls) at_hand.good } in
+      well p t c s fr sh ls at_hand _ (next (set_word fr a None)) (set_register sh a Null) refl at_hand.items at_hand.undos
+      (settle p t (without (top ls a) cs) (next (set_word fr a None)) (set_register sh a Null) ls (goes_from p t (record s { cells = cs }) fr sh ls at_then a it ((redeemed_by_alike order code s.cells).held_so (top ls a) ∙ there) message) leads)
+
+  pub law_reply : (a b : ℕ) → Law p t c s fr sh ls at_hand (Reply a b)
+  law_reply a b n leads = (
+    (ap is_none none, (ap is_some it.1, (ap (is_thing p Message) it.1 ∙ message_stands p it.0.thing it.2, (word_there (word fr b) (register sh b) n.1.0 (at_hand.good.stack.1.words b), (redeemable p t (token_of s.cells (held s.cells (top ls a))) s.cells (Method fr sh ∷ ls) at_hand.good, tt))))),
+    replies a (read fr (tasks_of ls) s b) none it.0 it.1 it.2 leads.0,
+  )
+    where
+      it : (x : Object) × (held s.cells (top ls a) ≡ Some x) × (x.thing ≡ Message)
+      it = message_held p (seen s.cells) (held s.cells (top ls a)) (register sh a) n.0 (kind_fits p t c s fr sh ls at_hand a)
+
+      none : word fr a ≡ None
+      none = no_word p t c s fr sh ls at_hand a (own_object p (register sh a) n.0)
+
+  -- each instruction of this file by its law
+  abbrev pub of_messages : (i : Instr) → Option (Law p t c s fr sh ls at_hand i)
+  of_messages (TakeMessage a) = Some (law_take_message p t c s fr sh ls at_hand a)
+  of_messages (Reply a b) = Some (law_reply a b)
+  of_messages _ = None

@@ -1,0 +1,169 @@
+-- Orders of tokens that come nowhere: what waits for one after a change of the cells did so before, and so it is with what is a token.
+use Rattle.std.proofs.lemmas.Bool.Decides.{nat_tests}
+use Rattle.std.proofs.Common.{Bool, List, None, Option, Some, [], ap, arith, cond, false, refl, subst, sym, true, ℕ, ℤ, ◌==◌, ◌∙◌, ◌∷◌, ◌≡◌}
+use Rattle.std.proofs.lemmas.Bool.{eqb-true}
+use Rattle.aom_image.specs.Image.{Image}
+use Rattle.aom_semantics.proofs.Altering.{Alters, asking, named_kept, opening, read_kept, requests, services, serving, storing, unslotting}
+use Rattle.aom_safety.proofs.Apart.{apart_fewer}
+use Rattle.aom_safety.proofs.ClientsGone.{goes_with, gone_so}
+use Rattle.aom_safety.proofs.ClientsReturn.{without_so}
+use Rattle.aom_semantics.proofs.Maps.{requested_moved, requested_unnamed}
+use Rattle.aom_safety.proofs.Services.{requested_served, service_asked, service_bereaved, service_here, service_moved, service_there, service_unnamed}
+use Rattle.aom_safety.proofs.Sifted.{cell_of, cell_of_sifted, kept, request_in, requested_cell, service_cell, service_in, sifted, withdrawn_so}
+use Rattle.aom_safety.proofs.Storing.{requested_here, requested_there}
+use Rattle.aom_safety.proofs.Unslotting.{service_unslotted}
+use Rattle.aom_semantics.specs.Clients.{each_unslotted}
+use Rattle.aom_semantics.specs.Enlisted.{own_request, rerequested}
+use Rattle.aom_semantics.specs.Natives.{all_bereaved, is_served_by, resessioned, terminated_request}
+use Rattle.aom_semantics.specs.Places.{Cell, Object, Place, Request, Service, Tidy, moved, named, requested, service_of, set_request, set_service, without}
+use Rattle.aom_semantics.specs.Servers.{all_unslotted, withdrawn, without_queue}
+use Rattle.aom_semantics.specs.State.{AtRoot, Home, Inside, Static}
+use Rattle.aom_semantics.specs.Tokens.{TokensApart, awaited, order_in}
+use Rattle.aom_semantics.specs.Words.{stored}
+
+-- no order comes
+pub record NoneComes (cs us : List Cell) : Type 0 where
+  pub waits : (n k : ℕ) → awaited (requested us n) ≡ Some k → awaited (requested cs n) ≡ Some k
+  pub told : (n k : ℕ) → order_in (service_of us n).token ≡ Some k → order_in (service_of cs n).token ≡ Some k
+
+pub apart_still : (cs us : List Cell) → NoneComes cs us → TokensApart cs → TokensApart us
+apart_still cs us none apart = apart_fewer cs us none.waits none.told apart
+
+pub comes_itself : (cs : List Cell) → NoneComes cs cs
+comes_itself cs = record { waits = λ n k e. e; told = λ n k e. e }
+
+pub comes_then : (cs us vs : List Cell) → NoneComes cs us → NoneComes us vs → NoneComes cs vs
+comes_then cs us vs a b = record { waits = λ n k e. a.waits n k (b.waits n k e); told = λ n k e. a.told n k (b.told n k e) }
+
+-- ---- requests and services are as they were
+
+pub comes_same : (cs us : List Cell) → ((n : ℕ) → requested us n ≡ requested cs n) → ((n : ℕ) → service_of us n ≡ service_of cs n) → NoneComes cs us
+comes_same cs us asks serves = record {
+  waits = λ n k e. ap awaited (sym (asks n)) ∙ e;
+  told = λ n k e. ap (λ (v : Service). order_in v.token) (sym (serves n)) ∙ e;
+}
+
+pub comes_moved : (cs : List Cell) (p q : Place) → NoneComes cs (moved p q cs)
+comes_moved cs p q = comes_same cs (moved p q cs) (requested_moved cs p q) (service_moved cs p q)
+
+comes_altered :
+    {change : List Cell → List Cell} (a : Alters change) → ((c : Cell) → (a.each c).request ≡ c.request) → ((c : Cell) → (a.each c).service ≡ c.service) → (cs : List Cell) →
+    NoneComes cs (change cs)
+comes_altered {change = change} a asks serves cs = comes_same cs (change cs) (read_kept a requests asks cs) (read_kept a services serves cs)
+
+pub comes_opened : (cs : List Cell) (home : Home) (b : Bool) → NoneComes cs (resessioned cs home b)
+comes_opened cs Static b = comes_itself cs
+comes_opened cs AtRoot b = comes_itself cs
+comes_opened cs (Inside o from) b = comes_altered (opening o.name b) (λ c. refl) (λ c. refl) cs
+
+pub comes_stored : (cs : List Cell) (home : Home) (w : ℕ) (v : ℤ) → NoneComes cs (stored cs home w v)
+comes_stored cs Static w v = comes_itself cs
+comes_stored cs AtRoot w v = comes_itself cs
+comes_stored cs (Inside o from) w v = comes_altered (storing o.name w v) (λ c. refl) (λ c. refl) cs
+
+-- ---- one request changes, or one service
+
+-- it waits for nothing new
+pub comes_asked : (cs : List Cell) (n : ℕ) (r : Option Request) → ((k : ℕ) → awaited r ≡ Some k → awaited (requested cs n) ≡ Some k) → NoneComes cs (set_request n r cs)
+comes_asked cs n r fewer = record {
+  waits = λ m k e. go m k (n == m) refl e;
+  told = λ m k e. ap (λ (v : Service). order_in v.token) (sym (service_asked cs n r m)) ∙ e;
+}
+  where
+    here : (o : Option Object) → named cs n ≡ o → (k : ℕ) → awaited (requested (set_request n r cs) n) ≡ Some k → awaited (requested cs n) ≡ Some k
+    here x free k e = grind (arith, nat_tests, requested_unnamed, named_kept (asking n r) cs n, asking n r, requested_here cs n r)
+
+    go : (m k : ℕ) (b : Bool) → (n == m) ≡ b → awaited (requested (set_request n r cs) m) ≡ Some k → awaited (requested cs m) ≡ Some k
+    go m k true same e =
+        let equal : n ≡ m = eqb-true n m same in
+        ap (λ i. awaited (requested cs i)) (sym equal) ∙ here (named cs n) refl k (ap (λ i. awaited (requested (set_request n r cs) i)) equal ∙ e)
+    go m k false other e = sym (ap awaited (requested_there cs n m r other)) ∙ e
+
+pub comes_requested : (cs : List Cell) (home : Home) (r : Option Request) → ((k : ℕ) → awaited r ≡ Some k → awaited (own_request cs home) ≡ Some k) → NoneComes cs (rerequested cs home r)
+comes_requested cs x r fewer = grind (arith, nat_tests, comes_itself cs, comes_asked cs)
+
+-- it is no other token
+pub comes_served : (cs : List Cell) (n : ℕ) (v : Service) → v.token ≡ (service_of cs n).token → NoneComes cs (set_service n v cs)
+comes_served cs n v same = record {
+  waits = λ m k e. sym (ap awaited (requested_served cs n v m)) ∙ e;
+  told = λ m k e. go m k (n == m) refl e;
+}
+  where
+    here : (o : Option Object) → named cs n ≡ o → (k : ℕ) → order_in (service_of (set_service n v cs) n).token ≡ Some k → order_in (service_of cs n).token ≡ Some k
+    here x free k e = grind (arith, nat_tests, service_unnamed, named_kept (serving n v) cs n, serving n v, service_here cs n v)
+
+    go : (m k : ℕ) (b : Bool) → (n == m) ≡ b → order_in (service_of (set_service n v cs) m).token ≡ Some k → order_in (service_of cs m).token ≡ Some k
+    go m k true at e =
+        let equal : n ≡ m = eqb-true n m at in
+        ap (λ i. order_in (service_of cs i).token) (sym equal) ∙ here (named cs n) refl k (ap (λ i. order_in (service_of (set_service n v cs) i).token) equal ∙ e)
+    go m k false other e = sym (ap (λ (w : Service). order_in w.token) (service_there cs n m v other)) ∙ e
+
+-- ---- a cell is made that is no token and waits for none
+
+pub comes_more : (c : Cell) (cs : List Cell) → c.request ≡ None → c.service.token ≡ None → NoneComes cs (c ∷ cs)
+comes_more c cs asks serves = record {
+  waits = λ n k e. wait n k (c.object.name == n) e;
+  told = λ n k e. tell n k (c.object.name == n) e;
+}
+  where
+    wait : (n k : ℕ) (b : Bool) → awaited (cond b c.request (requested cs n)) ≡ Some k → awaited (requested cs n) ≡ Some k
+    wait n k x e = grind arith
+
+    tell : (n k : ℕ) (b : Bool) → order_in (cond b c.service (service_of cs n)).token ≡ Some k → order_in (service_of cs n).token ≡ Some k
+    tell n k x e = grind arith
+
+-- ---- cells go
+
+module _ (drops : Cell → Bool) (f : Cell → Service) (keeps : (c : Cell) → (f c).token ≡ c.service.token) where
+  waits_kept : (x : Option Cell) (k : ℕ) → awaited (request_in (kept drops f x)) ≡ Some k → awaited (request_in x) ≡ Some k
+  waits_kept x k e = grind (arith, nat_tests, request_in)
+
+  told_kept : (x : Option Cell) (k : ℕ) → order_in (service_in (kept drops f x)).token ≡ Some k → order_in (service_in x).token ≡ Some k
+  told_kept x k e = grind (arith, nat_tests, service_in)
+
+  pub comes_sifted : (cs : List Cell) → Tidy cs → NoneComes cs (sifted drops f cs)
+  comes_sifted cs tidy = record {
+    waits = λ n k e. ap awaited (requested_cell cs n) ∙ waits_kept (cell_of cs n) k (sym (ap awaited (requested_cell (sifted drops f cs) n ∙ ap request_in (cell_of_sifted drops f cs n tidy))) ∙ e);
+    told = λ n k e. ap (λ (v : Service). order_in v.token) (service_cell cs n)
+        ∙ told_kept (cell_of cs n) k (sym (ap (λ (v : Service). order_in v.token) (service_cell (sifted drops f cs) n ∙ ap service_in (cell_of_sifted drops f cs n tidy))) ∙ e);
+  }
+
+pub comes_without : (cs : List Cell) → Tidy cs → (g : Place) → NoneComes cs (without g cs)
+comes_without cs tidy g = grind (arith, nat_tests, without_so g cs, comes_sifted)
+
+pub comes_withdrawn : (cs : List Cell) → Tidy cs → (client : ℕ) → NoneComes cs (withdrawn client cs)
+comes_withdrawn cs tidy client = grind (arith, nat_tests, withdrawn_so client cs, comes_sifted)
+
+comes_unslotted : (cs : List Cell) (client : ℕ) → NoneComes cs (all_unslotted client cs)
+comes_unslotted cs client = record {
+  waits = λ n k e. sym (ap awaited (read_kept (unslotting client) requests (λ c. refl) cs n)) ∙ e;
+  told = λ n k e. sym (ap (λ (v : Service). order_in v.token) (service_unslotted client cs n)) ∙ e;
+}
+
+comes_each_unslotted : (cs : List Cell) (clients : List ℕ) → NoneComes cs (each_unslotted clients cs)
+comes_each_unslotted cs [] = comes_itself cs
+comes_each_unslotted cs (c ∷ clients) = comes_then cs (all_unslotted c cs) (each_unslotted clients (all_unslotted c cs)) (comes_unslotted cs c) (comes_each_unslotted (all_unslotted c cs) clients)
+
+-- a server goes with what waits in its queue
+pub comes_gone : (cs : List Cell) → Tidy cs → (n : ℕ) (g : Place) (clients : List ℕ) → NoneComes cs (each_unslotted clients (without g (without_queue n cs)))
+comes_gone cs tidy n g clients =
+    comes_then cs (without g (without_queue n cs)) (each_unslotted clients (without g (without_queue n cs)))
+    (subst (λ l. NoneComes cs l) (sym (gone_so n g cs)) (comes_sifted (goes_with n g) (λ c. c.service) (λ c. refl) cs tidy)) (comes_each_unslotted (without g (without_queue n cs)) clients)
+
+-- ---- a native is killed
+
+waits_terminated : (b : Bool) (r : Option Request) (k : ℕ) → awaited (cond b (terminated_request r) r) ≡ Some k → awaited r ≡ Some k
+waits_terminated b r k e = grind arith
+
+waits_bereaved : (p : Image) (native : ℕ) (cs : List Cell) (n k : ℕ) → awaited (requested (all_bereaved p native cs) n) ≡ Some k → awaited (requested cs n) ≡ Some k
+waits_bereaved p native [] n k e = e
+waits_bereaved p native (c ∷ cs) n k e = go (c.object.name == n) e (waits_bereaved p native cs n k)
+  where
+    go :
+        (b : Bool) → awaited (cond b (cond (is_served_by p native c.object.thing) (terminated_request c.request) c.request) (requested (all_bereaved p native cs) n)) ≡ Some k →
+        (awaited (requested (all_bereaved p native cs) n) ≡ Some k → awaited (requested cs n) ≡ Some k) → awaited (cond b c.request (requested cs n)) ≡ Some k
+    go true e rest = waits_terminated (is_served_by p native c.object.thing) c.request k e
+    go false e rest = rest e
+
+pub comes_bereaved : (p : Image) (native : ℕ) (cs : List Cell) → NoneComes cs (all_bereaved p native cs)
+comes_bereaved p native cs = record { waits = waits_bereaved p native cs; told = λ n k e. sym (ap (λ (v : Service). order_in v.token) (service_bereaved p native cs n)) ∙ e }

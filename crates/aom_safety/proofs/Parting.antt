@@ -1,0 +1,146 @@
+-- What a server's dispatch ends with: the entry is served, and it goes on as the dispatch of an object.
+use Rattle.std.proofs.lemmas.Bool.Decides.{nat_tests}
+use Rattle.std.proofs.Common.{arith, Bool, List, Some, [], ap, false, refl, subst, sym, true, ℕ, ℤ, ◌==◌, ◌∙◌, ◌∷◌, ◌≡◌}
+use Rattle.std.proofs.lemmas.Bool.{eqb-true}
+use Rattle.std.specs.Prelude.{filter, is_some}
+use Rattle.aom_image.specs.Image.{Image}
+use Rattle.aom_image.specs.declared.method.Thing.TheVariants.{Message}
+use Rattle.aom_rules.specs.Typing.{Typing}
+use Rattle.aom_shape.specs.declared.kind.Kind.{Kind}
+use Rattle.aom_shape.specs.declared.kind.Kind.TheVariants.{Null}
+use Rattle.aom_safety.proofs.Claimed.{fits_age}
+use Rattle.aom_safety.proofs.Dropping.{declared_dropped, dropped, fits_dropped, held_dropped, is_sent, place_dropped, stack_dropped, suits_dropped, tidy_dropped}
+use Rattle.aom_semantics.proofs.Maps.{same_place-true}
+use Rattle.aom_safety.proofs.Services.{held_served, named_served, requested_served, service_here, service_there, sits_lives, tidy_served}
+use Rattle.aom_safety.proofs.Things.{stands_message}
+use Rattle.aom_safety.specs.Claims.{Dispatching, by_close, by_stage, claim, declared, declared_field, forms}
+use Rattle.aom_semantics.specs.Moves.{dispatch_ends, needs_end, stage_ends}
+use Rattle.aom_semantics.specs.Places.{Cell, Elsewhere, Field, In_service, Object, Place, Queued, Service, Session, held, same_place, seen, service_of, set_service, without}
+use Rattle.aom_semantics.specs.Servers.{is_among, is_other, parted}
+use Rattle.aom_semantics.specs.State.{Accept_left, Accepted, Dispatched, Of_object, Of_server, Parts, Seat, Service_left, Stage, State, guarded}
+use Rattle.aom_safety.specs.WellTyped.{Now, AllSit, AllUndo, Fits, Good, Keeps, WellTyped}
+
+-- a client that has parted is not among them, and all others are
+pub among_parted : (c : ℕ) (ss : List ℕ) → is_among c (filter (is_other c) ss) ≡ false
+among_parted c [] = refl
+among_parted c (d ∷ ss) = grind (arith, nat_tests, among_parted c ss)
+
+pub among_others : (k c : ℕ) (ss : List ℕ) → (c == k) ≡ false → is_among k (filter (is_other c) ss) ≡ is_among k ss
+among_others k c [] other = refl
+among_others k c (d ∷ ss) other = grind (arith, nat_tests, among_others k c ss other, eqb-true d c)
+
+-- stages at which nothing is claimed
+abbrev claims_none : Stage → Bool
+claims_none Accepted = true
+claims_none (Accept_left code) = true
+claims_none _ = false
+
+module _ (p : Image) (t : Typing) (s : State) (x : Seat) (client : ℕ) (seats : List Seat) where
+  none_parts : (stage : Stage) → claims_none stage ≡ true → (n c : ℕ) (k : Kind) → by_close (Of_server x client stage) n c k ≡ k
+  none_parts stage e n c k = grind arith
+
+  none_served : (stage : Stage) → claims_none stage ≡ true → (k : Kind) → by_stage (Of_server x client stage) k ≡ k
+  none_served stage e k = grind arith
+
+  -- with such cells the dispatch goes on
+  served_well : (u : State) → u.tasks ≡ Dispatched (Of_object x) ∷ [] → u.items ≡ [] → Good p t u.cells (Dispatching (Of_object x) seats ∷ []) → WellTyped p t u
+  served_well u tasks items good = record { layers = Dispatching (Of_object x) seats ∷ []; tasks = tasks; items = ap forms items; undos = subst (λ is. AllUndo p is) (sym items) tt; good = good }
+
+  -- the cells are as they were
+  plain_good : (stage : Stage) → claims_none stage ≡ true → Good p t s.cells (Dispatching (Of_server x client stage) seats ∷ []) → Good p t s.cells (Dispatching (Of_object x) seats ∷ [])
+  plain_good stage plain good = record { stack = (tt, refl, good.stack.2, good.stack.3, tt); fits = fits; suits = good.suits; tidy = good.tidy }
+    where
+      fits : (r : Place) → Fits p (seen s.cells) (held s.cells r) (claim p (declared p s.cells) (Dispatching (Of_object x) seats ∷ []) r)
+      fits r = grind (arith, nat_tests, none_parts stage plain, none_served stage plain Null)
+
+  -- the message of a service that was left is completed
+  module _ (code : ℤ) (good : Good p t s.cells (Dispatching (Of_server x client (Service_left code)) seats ∷ [])) where
+    abbrev goes : Place → Bool
+    goes r = same_place r (Elsewhere In_service)
+
+    goes_sent : (r : Place) → same_place r (Elsewhere In_service) ≡ true → is_sent r ≡ true
+    goes_sent r e = ap is_sent (same_place-true r (Elsewhere In_service) e)
+
+    goes_message : (r : Place) (y : Object) → same_place r (Elsewhere In_service) ≡ true → held s.cells r ≡ Some y → y.thing ≡ Message
+    goes_message r y e there = grind (arith, nat_tests, same_place-true r (Elsewhere In_service) e, stands_message p y.thing)
+
+    abbrev left : List Cell
+    left = dropped goes s.cells
+
+    left_good : Good p t left (Dispatching (Of_object x) seats ∷ [])
+    left_good =
+        let stack = stack_dropped goes p s.cells good.tidy goes_message goes_sent t (Dispatching (Of_server x client (Service_left code)) seats ∷ []) Now good.stack in
+        record {
+          stack = (tt, refl, stack.2, stack.3, tt);
+          fits = fits;
+          suits = suits_dropped goes p s.cells good.tidy goes_message (Dispatching (Of_object x) seats ∷ []) good.suits;
+          tidy = tidy_dropped goes s.cells good.tidy;
+        }
+      where
+        same : (r : Place) → same_place r (Elsewhere In_service) ≡ false → Fits p (seen s.cells) (held s.cells r) (declared p s.cells r) → Fits p (seen left) (held left r) (declared p left r)
+        same r e f =
+            subst (λ k. Fits p (seen left) (held left r) k) (sym (declared_dropped goes p s.cells good.tidy goes_message r))
+            (fits_dropped goes p s.cells good.tidy goes_message r (declared p s.cells r) e f)
+
+        fits : (r : Place) → Fits p (seen left) (held left r) (claim p (declared p left) (Dispatching (Of_object x) seats ∷ []) r)
+        fits r = grind (arith, nat_tests, held_dropped, same r)
+
+    completed_good : Good p t (without (Elsewhere In_service) s.cells) (Dispatching (Of_object x) seats ∷ [])
+    completed_good = grind (arith, nat_tests, place_dropped (Elsewhere In_service) s.cells, left_good)
+
+    is_there : is_some (held s.cells (Elsewhere In_service)) ≡ true
+    is_there = grind (arith, nat_tests)
+
+  -- after a close the client has no session with it
+  module _ (good : Good p t s.cells (Dispatching (Of_server x client Parts) seats ∷ [])) where
+    abbrev n : ℕ
+    n = x.object.name
+
+    abbrev v : Service
+    v = parted client (service_of s.cells n)
+
+    abbrev cs : List Cell
+    cs = set_service n v s.cells
+
+    service_now : service_of cs n ≡ v
+    service_now = service_here s.cells n v x.object (sits_lives s.cells seats x good.stack.2 good.stack.3)
+
+    declared_then : (r : Place) → declared p cs r ≡ claim p (declared p s.cells) (Dispatching (Of_server x client Parts) seats ∷ []) r
+    declared_then (Field m f) = ap (λ o. declared_field p o f) (named_served s.cells n v m)
+    declared_then (Elsewhere (Session m k)) = grind (
+      arith,
+      nat_tests,
+      named_served s.cells,
+      service_now,
+      eqb-true client k,
+      among_parted client,
+      among_others k client,
+      service_there s.cells,
+    )
+    declared_then (Elsewhere (Queued m k)) = grind (arith, nat_tests, named_served s.cells, eqb-true, service_now, service_there s.cells)
+    declared_then _ = refl
+
+    sits_then : (xs : List Seat) → AllSit s.cells xs → AllSit cs xs
+    sits_then [] h = tt
+    sits_then (y ∷ ys) h = ((held_served s.cells n v y.place ∙ h.0.0, named_served s.cells n v y.object.name ∙ h.0.1, h.0.2, h.0.3), sits_then ys h.1)
+
+    object_claims : (r : Place) → claim p (declared p cs) (Dispatching (Of_object x) seats ∷ []) r ≡ declared p cs r
+    object_claims y = grind arith
+
+    parted_good : Good p t cs (Dispatching (Of_object x) seats ∷ [])
+    parted_good = record {
+      stack = (tt, refl, sits_then seats good.stack.2, (ap is_some (requested_served s.cells n v x.object.name) ∙ good.stack.3.0, good.stack.3.1, good.stack.3.2), tt);
+      fits = grind (arith, nat_tests, object_claims, declared_then, held_served s.cells, fits_age p, requested_served s.cells);
+      suits = grind (arith, nat_tests, requested_served s.cells, named_served s.cells);
+      tidy = tidy_served s.cells n v good.tidy;
+    }
+
+  -- each stage
+  pub stage_keeps :
+      (stage : Stage) → s.items ≡ [] → Good p t s.cells (Dispatching (Of_server x client stage) seats ∷ []) →
+      Keeps p t (guarded (needs_end (Of_server x client stage) s.cells) (dispatch_ends p (Of_server x client stage) s))
+  stage_keeps Accepted items good = served_well (stage_ends x client Accepted s) refl items (plain_good Accepted refl good)
+  stage_keeps (Accept_left code) items good = served_well (stage_ends x client (Accept_left code) s) refl items (plain_good (Accept_left code) refl good)
+  stage_keeps (Service_left code) items good = grind (arith, nat_tests, is_there code good, served_well, completed_good code good)
+  stage_keeps Parts items good = served_well (stage_ends x client Parts s) refl items (parted_good good)
+  stage_keeps _ items good = absurd (assumption tt)

@@ -1,0 +1,205 @@
+-- What it takes that each step keeps a law of tasks, and that it then does: once for all such laws, by the moves.
+use Rattle.std.proofs.lemmas.Bool.Decides.{nat_tests}
+use Rattle.aom_classes.proofs.Playing.{destroyed}
+use Rattle.std.proofs.Common.{arith, Bool, List, None, Option, Some, [], length, refl, subst, suc, sym, true, ℕ, ℤ, ◌-◌, ◌∷◌, ◌≡◌}
+use Rattle.aom_image.specs.Image.{Image}
+use Rattle.aom_image.specs.Views.{method_class, instr_at}
+use Rattle.aom_instructions.specs.declared.instr.Instr.{Instr}
+use Rattle.aom_instructions.specs.declared.instr.Instr.TheVariants.{Call, Cancel, Next, Trap}
+use Rattle.aom_instructions.specs.declared.instr.Target.{Target}
+use Rattle.aom_image.specs.declared.method.Role.TheVariants.{Destruct, Error}
+use Rattle.aom_image.specs.declared.method.Gives.{Gives}
+use Rattle.aom_roles.specs.Tests.{AllTrue}
+use Rattle.aom_roles.specs.Families.{parent_by}
+use Rattle.aom_classes.specs.Jumps.{jump_of}
+use Rattle.aom_classes.specs.Loops.{loop_in}
+use Rattle.aom_safety.proofs.Moving.{steps_are_moves}
+use Rattle.aom_semantics.specs.Calls.{below_top, entered, received, returned}
+use Rattle.aom_semantics.specs.Cleanup.{code_told, has_trap, operation_frame, to_trap}
+use Rattle.aom_classes.specs.Roles.{role_of, destructor_of}
+use Rattle.aom_semantics.specs.Destruction.{destructor_frame, class_destructor, line_on, destructed, parting, begun, begun_by}
+use Rattle.aom_semantics.specs.Effects.{Calls, Cancels, Counts, Destroys, Destroys_last, Effect, Goes_on, Jumps, Leaves, Operates, Repeats, Returns, Sets_trap, applied, with_words}
+use Rattle.aom_semantics.specs.Moves.{answered, asking, counted, dispatch_ends, error_frame, handled, main_ends, needs, object_ends, step}
+use Rattle.aom_semantics.specs.Places.{Elsewhere, Object, Root, held}
+use Rattle.aom_semantics.specs.State.{Static, AtRoot, Closing, Home, Of_server, Accepts, Accept_left, Serves, Parts, A_mark, An_operation, Choice, Destroy, Dispatch, Dispatched, Frame, Goes, Inside, Item, Answered, Asks, Object_left, Of_main, Of_object, Run, Seat, State, Task, Trapped, Unwind, counter, frame_as, frame_of, next, resumed, set_counter, to_place}
+use Rattle.aom_safety.specs.Steps.{Empties, Acts, Arrives, Clears, Comes_out, Ends, Fits, IsStraight, Move, Rests, Sets, Undoes, Vanishes}
+use Rattle.aom_safety.specs.Tasks.{Below, Holds, TaskLaw}
+use Rattle.aom_semantics.specs.World.{heard_one, Heard, Environment, turn}
+use Rattle.aom_safety.proofs.Turned.{obeys, handles, accepts, attends, parts, commanded_kept, completes, keeps_all, kills, picks, turns_so}
+use Rattle.aom_semantics.specs.Enlisted.{cancel_method, part_of}
+
+-- an instruction is at hand, with its needs met
+pub record Acting (p : Image) (c : Choice) (l : TaskLaw) (s : State) (fr : Frame) (ts : List Task) (i : Instr) : Type 0 where
+  pub tasks : s.tasks ≡ Run fr ∷ ts
+  pub there : instr_at p fr.method fr.place ≡ Some i
+  pub met : AllTrue (needs p c fr ts (counted p s) i)
+  pub runs : l.Runs fr ts
+
+-- each kind of move keeps the law
+pub record Kept (p : Image) (c : Choice) (l : TaskLaw) (s : State) : Type 0 where
+  pub goes_on : (fr : Frame) (ts : List Task) (i : Instr) → Acting p c l s fr ts i → IsStraight i → (words : List (Option ℤ)) → l.Runs (next (with_words fr words)) ts
+  pub jumps : (fr : Frame) (ts : List Task) (i : Instr) → Acting p c l s fr ts i → (to : ℕ) → jump_of i ≡ Some to → l.Runs (to_place fr to) ts
+  pub counts : (fr : Frame) (ts : List Task) (i : Instr) → Acting p c l s fr ts i → (d n : ℕ) → Sets i d n → l.Runs (next (set_counter fr d n)) ts
+  pub repeats : (fr : Frame) (ts : List Task) (d to k : ℕ) → Acting p c l s fr ts (Next d to) → counter fr d - 1 ≡ suc k → l.Runs (to_place (set_counter fr d (suc k)) to) ts
+  -- it waits below what it begins, and goes on once that is over
+  pub waits : (fr : Frame) (ts : List Task) (i : Instr) → Acting p c l s fr ts i → IsStraight i → (words : List (Option ℤ)) → l.Waits (with_words fr words) ts
+  pub resumes : (fr : Frame) (ts : List Task) → l.Waits fr ts → (words : List (Option ℤ)) → l.Runs (next (with_words fr words)) ts
+  pub calls :
+      (fr : Frame) (ts : List Task) (target : Target) (m first x : ℕ) → Acting p c l s fr ts (Call target m first x) →
+      l.Runs (entered p fr ts (counted p s) target m first (length s.items)) (Run fr ∷ ts)
+  pub cancels : (fr : Frame) (ts : List Task) (m : ℕ) → Acting p c l s fr ts Cancel → cancel_method p fr ≡ Some m → l.Runs (frame_as m fr.home fr.view (length s.items)) (Run fr ∷ ts)
+  pub traps :
+      (fr : Frame) (ts : List Task) (target : Target) (m first x : ℕ) → Acting p c l s fr ts (Trap target m first x) →
+      l.Runs (entered p fr ts (counted p s) target m first (length (A_mark ∷ s.items))) (Trapped ∷ Run fr ∷ ts) × l.Stands (Run fr ∷ ts)
+  pub destructs : (o : Object) (x m height : ℕ) (ts : List Task) → role_of p x Destruct ≡ Some m → l.Runs (destructor_frame p m o (length ts) height) (Destroy ∷ ts)
+  -- an `error` method is asked
+  pub asks : (x : Seat) (m : ℕ) (code : ℤ) (height : ℕ) → part_of p Error x.object.thing ≡ Some m → l.Runs (error_frame m x code height) (Dispatched (Asks x) ∷ [])
+  pub undoes : (m : ℕ) (w : ℤ) (items : List Item) (ts : List Task) → s.items ≡ An_operation m w ∷ items → l.Runs (operation_frame m w (length items)) ts
+  pub unwinds : (code : ℤ) (ts : List Task) → l.Stands ts → l.Unwinds code (Trapped ∷ ts)
+
+-- a result, and a code, change words alone
+pub receives :
+    (p : Image) (fr : Frame) (ts : List Task) (v : State) (g : Gives) (a x : ℕ) (caller : Frame) → received p fr ts v g a x caller ≡ with_words caller (received p fr ts v g a x caller).words
+receives p fr ts v x a y caller = grind arith
+
+pub told : (g : Gives) (x : ℕ) (code : ℤ) (fr : Frame) → code_told g x code fr ≡ with_words fr (code_told g x code fr).words
+told x y code fr = grind arith
+
+-- a destruction begins
+module _ (p : Image) (l : TaskLaw)
+    (destructs : (o : Object) (x m height : ℕ) (ts : List Task) → role_of p x Destruct ≡ Some m → l.Runs (destructor_frame p m o (length ts) height) (Destroy ∷ ts)) where
+  destructed_holds : (o : Object) (height : ℕ) (ts : List Task) → Below l ts → Holds l (destructed p o height ts)
+  destructed_holds o height ts b = go (destructor_of p o.thing) refl
+    where
+      go : (d : Option ℕ) → destructor_of p o.thing ≡ d → Holds l (begun_by p d o height ts)
+      go None e = b
+      go (Some m) e = let w = destroyed p o.thing m e in (destructs o w.0 m height ts w.2, b)
+
+  -- and the next of its line
+  line_holds : (m : ℕ) (home : Home) (height : ℕ) (ts : List Task) → Below l ts → Holds l (line_on p m home height ts)
+  line_holds m Static height ts b = b
+  line_holds m AtRoot height ts b = b
+  line_holds m (Inside o from) height ts b = go (parent_by p (method_class p m))
+    where
+      of_role : (x : ℕ) (d : Option ℕ) → role_of p x Destruct ≡ d → Holds l (begun_by p d o height ts)
+      of_role x None e = b
+      of_role x (Some k) e = (destructs o x k height ts e, b)
+
+      go : (x : Option ℕ) → Holds l (begun_by p (class_destructor p x) o height ts)
+      go None = b
+      go (Some x) = of_role x (role_of p x Destruct) refl
+
+  begun_holds : (o : Object) (height : ℕ) (ts : List Task) → Below l ts → Holds l (begun p o height ts)
+  begun_holds o height ts b = grind (arith, nat_tests, destructed_holds o height ts b)
+
+module _ (p : Image) (c : Choice) (l : TaskLaw) (s : State) (k : Kept p c l s) where
+  begins_over : (o : Object) (height : ℕ) (ts : List Task) → Below l ts → Holds l (begun p o height ts)
+  begins_over o height ts b = begun_holds p l k.destructs o height ts b
+
+  -- a server that goes has a session go first, or its destructor begins
+  empties : (o : Object) (x : Option Seat) (ts : List Task) (v : State) → Below l ts → Holds l (parting p o x ts v).tasks
+  empties o None ts v b = destructed_holds p l k.destructs o (length v.items) ts b
+  empties o (Some x) ts v b = begins_over x.object (length v.items) (Closing ∷ Destroy ∷ ts) b
+
+  -- what waited goes on
+  resumes_all : (ts : List Task) → Below l ts → Holds l (resumed ts)
+  resumes_all (Run fr ∷ ts) b = (k.resumes fr ts b.0 fr.words, b.1)
+  resumes_all [] b = b
+  resumes_all (t ∷ ts) b = b
+
+  -- a leave comes to its trap
+  lands : (code : ℤ) (ts : List Task) → has_trap ts ≡ true → Below l ts → Holds l (Unwind code ∷ to_trap ts)
+  lands code (Run fr ∷ ts) e b = lands code ts e b.1
+  lands code (Trapped ∷ ts) e b = (k.unwinds code ts b.0, b)
+  lands code _ e b = cc
+
+  resumes_with : (fr fr' : Frame) (ts : List Task) → fr' ≡ with_words fr fr'.words → Below l (Run fr ∷ ts) → Holds l (Run (next fr') ∷ ts)
+  resumes_with fr fr' ts e b = (subst (λ x. l.Runs (next x) ts) (sym e) (k.resumes fr ts b.0 fr'.words), b.1)
+
+  returns : (fr : Frame) (ts : List Task) (v : State) (g : Gives) (a : ℕ) (below : List Task) → Holds l v.tasks → Below l below → Holds l (returned p fr ts v g a below).tasks
+  returns fr ts v g a (Run caller ∷ below) h b = grind (arith, nat_tests, resumes_with caller, receives p fr ts v g a)
+  returns fr ts v g a (Trapped ∷ Run caller ∷ below) h b = grind (arith, nat_tests, resumes_with caller, receives p fr ts v g a)
+  returns fr ts v g a (Trapped ∷ Dispatched d ∷ below) h b = b.1
+  returns fr ts v g a (Destroy ∷ below) h b = line_holds p l k.destructs fr.method fr.home fr.height below b
+  returns fr ts v g a (Unwind code ∷ below) h b = b
+  returns fr ts v g a (Dispatched d ∷ below) h b = b
+  returns fr ts v g a _ h b = h
+
+  closes : (v : State) (b : Bool) (root : Option Object) → Holds l (main_ends p b root v).tasks
+  closes v x root = grind (arith, nat_tests, begins_over)
+
+  object_closes : Holds l (object_ends p (counted p s)).tasks
+  object_closes = closes (handled (counted p s)) s.rest.stopped (held s.cells (Elsewhere Root))
+
+  answers : (answer : ℤ) → Holds l (answered p answer (counted p s)).tasks
+  answers answer = grind (arith, nat_tests, object_closes)
+
+  asks_it : (x : Seat) (code : ℤ) (m : Option ℕ) → part_of p Error x.object.thing ≡ m → Holds l (asking p m x code (counted p s)).tasks
+  asks_it x code y e = grind (arith, nat_tests, answers code)
+
+  ends : (d : Dispatch) → Holds l (dispatch_ends p d (counted p s)).tasks
+  ends Of_main = closes (counted p s) s.rest.stopped (held s.cells (Elsewhere Root))
+  ends (Of_object x) = object_closes
+  ends (Object_left x code) = asks_it x code (part_of p Error x.object.thing) refl
+  ends (Asks x) = object_closes
+  ends (Answered x answer) = answers answer
+  ends (Of_server x client (Accept_left code)) = tt
+  ends _ = tt
+
+  module _ (fr : Frame) (ts : List Task) (at_hand : s.tasks ≡ Run fr ∷ ts) (h : Holds l (Run fr ∷ ts)) where
+    acting : (i : Instr) → instr_at p fr.method fr.place ≡ Some i → AllTrue (needs p c fr ts (counted p s) i) → Acting p c l s fr ts i
+    acting i there met = record { tasks = at_hand; there = there; met = met; runs = h.0 }
+
+    another : (i j : Instr) → i ≡ j → Acting p c l s fr ts i → Acting p c l s fr ts j
+    another i j e a = subst (λ x. Acting p c l s fr ts x) e a
+
+    acts : (i : Instr) (e : Effect) → Acting p c l s fr ts i → Fits p c fr ts (counted p s) i e → Holds l (applied p fr ts (counted p s) e).tasks
+    unfolding loop_in
+    acts i (Goes_on ch) a f = (k.goes_on fr ts i a f.0 ch.words, h.1)
+    acts i (Jumps to) a f = (k.jumps fr ts i a to f, h.1)
+    acts i (Counts d n) a f = (k.counts fr ts i a d n f, h.1)
+    acts i (Repeats d n to) a f = (grind (arith, nat_tests, another i), h.1)
+    acts i (Calls target m first) a f = grind (arith, nat_tests, another i)
+    acts i (Cancels m) a f = (k.cancels fr ts m (another i _ f.0 a) f.1, (k.waits fr ts _ (another i _ f.0 a) refl fr.words, h.1))
+    acts i (Sets_trap target m first) a f = grind (arith, nat_tests, another i)
+    acts i (Returns g x) a f = grind (arith, nat_tests, returns fr ts)
+    acts i (Leaves code u) a f = lands code ts f.0 h.1
+    acts i (Destroys o x words) a f = begins_over o (length s.items) (Run (with_words fr words) ∷ ts) (k.waits fr ts _ (another i _ f.0 a) refl words, h.1)
+    acts i (Destroys_last o) a f = begins_over o (length (below_top s.items)) (Run fr ∷ ts) (k.waits fr ts _ (another i _ f.0 a) refl fr.words, h.1)
+    acts i (Operates m w) a f = (k.undoes m w (below_top s.items) (Run fr ∷ ts) f.1, (k.waits fr ts _ (another i _ f.0 a) refl fr.words, h.1))
+
+  kept : (u : State) → Holds l s.tasks → Move p c s u → Holds l u.tasks
+  kept u h (Rests still e) = subst (λ v. Holds l v.tasks) (sym e) h
+  kept u h (Acts fr ts i e at there met fits same) =
+      let h' = subst (λ ts. Holds l ts) at h in
+      subst (λ v. Holds l v.tasks) (sym same) (acts fr ts at h' i e (acting fr ts at h' i there met) fits)
+  kept u h (Vanishes ts o at there owns same) = subst (λ v. Holds l v.tasks) (sym same) (resumes_all ts (subst (λ ts. Holds l ts) at h))
+  kept u h (Empties ts o at there same) = grind (arith, nat_tests, empties o)
+  kept u h (Clears code ts items o at top there same) = grind (arith, nat_tests, begins_over o)
+  kept u h (Undoes code ts items m w at top same) = grind (arith, nat_tests)
+  kept u h (Arrives code fr ts items at top same) = grind (arith, nat_tests, resumes_with fr, told)
+  kept u h (Comes_out code d ts items at top same) = subst (λ v. Holds l v.tasks) (sym same) (subst (λ ts. Holds l ts) at h).1.1
+  kept u h (Ends d ts at same) = subst (λ v. Holds l v.tasks) (sym same) (ends d)
+
+-- what is kept holds after each step
+pub keeps : (p : Image) (c : Choice) (l : TaskLaw) (s u : State) → Kept p c l s → Holds l s.tasks → step p c s ≡ Goes u → Holds l u.tasks
+keeps p c l s u k h e = kept p c l s k u h (steps_are_moves p c s u e)
+
+-- a turn keeps it, where it holds of each method that is dispatched and of each destructor
+pub turn_keeps_it :
+    (p : Image) (outside : Environment) (heard : Heard) (l : TaskLaw) (s u : State) →
+    ((m height : ℕ) (home : Home) (words : List (Option ℤ)) (d : Dispatch) → l.Runs (record (frame_of m home height) { words = words }) (Trapped ∷ Dispatched d ∷ [])) → ((d : Dispatch) → l.Stands (Dispatched d ∷ [])) →
+    ((o : Object) (x m height : ℕ) (ts : List Task) → role_of p x Destruct ≡ Some m → l.Runs (destructor_frame p m o (length ts) height) (Destroy ∷ ts)) →
+    Holds l s.tasks → turn p outside heard s ≡ Goes u → Holds l u.tasks
+turn_keeps_it p outside heard l s u runs stands destructs h e = elim (turns_so p outside heard s u e) as (λ v d. Holds l v.tasks) [
+  | keeps_all r ↦ h
+  | completes code o r other ↦ h
+  | kills n r k ↦ h
+  | obeys client command name ↦ subst (λ ts. Holds l ts) (sym (commanded_kept p client (heard_one s) command name).1) h
+  | picks x v d ↦ elim d as (λ v d. Holds l v.tasks) [
+    | handles m at ↦ (runs m (length (A_mark ∷ s.items)) (Inside x.object x.place) [] (Of_object x), (stands (Of_object x), tt))
+    | accepts client m at ↦ (runs m (length (A_mark ∷ s.items)) (Inside x.object x.place) [] (Of_server x client Accepts), (stands (Of_server x client Accepts), tt))
+    | attends client message m o there at ↦ (runs m (length (A_mark ∷ s.items)) _ _ (Of_server x client (Serves o)), (stands (Of_server x client (Serves o)), tt))
+    | parts client o there ↦ begun_holds p l destructs o (length s.items) (Dispatched (Of_server x client Parts) ∷ []) tt
+  ]
+]

@@ -1,0 +1,95 @@
+-- While a cell goes or a leave unwinds, quiet methods alone run, so that no trap stands over it.
+use Rattle.std.proofs.lemmas.Bool.Decides.{nat_tests}
+use Rattle.aom_roles.proofs.Descending.{itself}
+use Rattle.std.proofs.lemmas.Option.{same_Some}
+use Rattle.std.proofs.Common.{arith, List, Some, [], ap, false, refl, subst, sym, true, ℕ, ℤ, ◌∙◌, ◌∷◌, ◌≡◌}
+use Rattle.std.proofs.lemmas.Bool.{true≢false, false_from_ne_true}
+use Rattle.std.specs.Prelude.{not}
+use Rattle.aom_image.specs.Image.{Image}
+use Rattle.aom_image.specs.Views.{is_quiet, method_class}
+use Rattle.aom_instructions.specs.declared.instr.Instr.{Instr}
+use Rattle.aom_instructions.specs.declared.instr.Instr.TheVariants.{Call, Trap}
+use Rattle.aom_instructions.specs.declared.instr.Target.{Target}
+use Rattle.aom_roles.specs.Tests.{AllTrue}
+use Rattle.aom_rules.specs.Rules.{rule_needs}
+use Rattle.aom_shape.specs.Shape.{Shape}
+use Rattle.aom_rules.specs.Typing.{IsTyped, Typing, shape_at}
+use Rattle.aom_safety.proofs.Callees.{cancel_quiet, only_then}
+use Rattle.aom_safety.proofs.Overriders.{body_quiet}
+use Rattle.aom_safety.proofs.Destroying.{destroys_by}
+use Rattle.aom_safety.proofs.Finishing.{all_parts}
+use Rattle.aom_safety.proofs.Owners.{owned}
+use Rattle.aom_safety.proofs.Preserving.{Acting, Kept, keeps, turn_keeps_it}
+use Rattle.aom_safety.specs.Claims.{Layer, tasks_of}
+use Rattle.aom_safety.specs.Laws.{IsWired}
+use Rattle.aom_semantics.specs.Calls.{target_view}
+use Rattle.aom_semantics.specs.Moves.{counted, step}
+use Rattle.aom_semantics.specs.Owned.{NoneGoes}
+use Rattle.aom_semantics.specs.Places.{Cell}
+use Rattle.aom_safety.specs.Quiet.{CalmKeeps, CaughtOwned, IsCalm, calm, is_clearing}
+use Rattle.aom_semantics.specs.State.{An_operation, Choice, Dispatched, Frame, Goes, Item, Run, State, Task, Trapped}
+use Rattle.aom_safety.specs.WellTyped.{AllUndo, Good, WellTyped}
+use Rattle.aom_semantics.specs.World.{boot_state}
+use Rattle.aom_safety.proofs.Layers.{method_layer}
+
+-- the abstract state of the method at hand
+its_shape :
+    (p : Image) (t : Typing) (cs : List Cell) (fr : Frame) (ts : List Task) (ls : List Layer) → Run fr ∷ ts ≡ tasks_of ls → Good p t cs ls →
+    (sh : Shape) × (shape_at t fr.method fr.place ≡ Some sh)
+its_shape p t cs fr ts ls at good = method_layer (Good p t cs) fr ts ls (sym at) good (λ sh ls _ good. (sh, good.stack.0))
+
+module _ (p : Image) (t : Typing) (wired : IsWired p) (typed : IsTyped p t) (c : Choice) (s : State) (w : WellTyped p t s) where
+  -- what the verifier asks of the instruction at hand
+  ruled : (fr : Frame) (ts : List Task) (i : Instr) → Acting p c (calm p) s fr ts i → (sh : Shape) × AllTrue (rule_needs p fr.method fr.place sh i)
+  ruled fr ts i a =
+      let stands = its_shape p t s.cells fr ts w.layers (sym a.tasks ∙ w.tasks) w.good in
+      let x = typed.each fr.method fr.place stands.0 stands.1 in
+      let same : x.instr ≡ i = same_Some x.instr i (sym x.stands ∙ a.there) in
+      (stands.0, subst (λ j. AllTrue (rule_needs p fr.method fr.place stands.0 j)) same x.needs)
+
+  -- a quiet method calls quiet ones
+  calls_quiet : (fr : Frame) (ts : List Task) (target : Target) (m first x : ℕ) → Acting p c (calm p) s fr ts (Call target m first x) → is_clearing ts ≡ true → is_quiet p m ≡ true
+  calls_quiet fr ts target m first x a clearing = grind (arith, nat_tests, ruled fr ts (Call target m first x) a, all_parts, only_then)
+
+  -- no quiet method sets a trap
+  not_clearing : (fr : Frame) (ts : List Task) (target : Target) (m first x : ℕ) → Acting p c (calm p) s fr ts (Trap target m first x) → is_clearing ts ≡ false
+  not_clearing fr ts target m first x a = false_from_ne_true (is_clearing ts) (λ e. true≢false (sym (ruled fr ts (Trap target m first x) a).1.0 ∙ ap not (a.runs e)))
+
+  undo_quiet : (m : ℕ) (x : ℤ) (items : List Item) → s.items ≡ An_operation m x ∷ items → is_quiet p m ≡ true
+  undo_quiet m x items e = (subst (λ is. AllUndo p is) e w.undos).0.quiet
+
+  kept : Kept p c (calm p) s
+  kept = record {
+    goes_on = λ fr ts i a f words. a.runs;
+    jumps = λ fr ts i a to f. a.runs;
+    counts = λ fr ts i a d n f. a.runs;
+    repeats = λ fr ts d to k a f. a.runs;
+    waits = λ fr ts i a f words. a.runs;
+    resumes = λ fr ts h words. h;
+    calls = λ fr ts target m first x a clearing. body_quiet p wired.overriders m (target_view p fr ts (counted p s) target (method_class p m)) (calls_quiet fr ts target m first x a clearing);
+    traps = λ fr ts target m first x a. let clear = not_clearing fr ts target m first x a in (λ clearing. absurd (true≢false (sym clearing ∙ clear)), clear);
+    cancels = λ fr ts m a e clearing. cancel_quiet p wired fr m e;
+    destructs = λ o x m height ts e clearing. (destroys_by p wired x x m (itself p x) e).quiet;
+    asks = λ x m code height e clearing. absurd (true≢false (sym clearing));
+    undoes = λ m x items ts e clearing. undo_quiet m x items e;
+    unwinds = λ code ts h. h;
+  }
+
+moves : (p : Image) (t : Typing) → IsWired p → IsTyped p t → (c : Choice) (s u : State) → WellTyped p t s → IsCalm p s.tasks → step p c s ≡ Goes u → IsCalm p u.tasks
+moves p t wired typed c s u w h e = keeps p c (calm p) s u (kept p t wired typed c s w) h e
+
+boot : (p : Image) → IsCalm p (boot_state p).tasks
+boot p = grind (arith, nat_tests)
+
+pub calm_keeps : CalmKeeps
+calm_keeps = record { boot = boot; moves = moves; turns = λ p wired outside heard s u h e. turn_keeps_it p outside heard (calm p) s u (λ m height home words d clearing. absurd (true≢false (sym clearing))) (λ d. refl) (λ o x m height ts e clearing. (destroys_by p wired x x m (itself p x) e).quiet) h e }
+
+none_goes : (ts : List Task) → is_clearing ts ≡ false → NoneGoes ts
+none_goes [] e = tt
+none_goes (Run fr ∷ ts) e = none_goes ts e
+none_goes (Trapped ∷ ts) e = none_goes ts e
+none_goes (Dispatched d ∷ ts) e = none_goes ts e
+none_goes _ e = absurd (true≢false e)
+
+pub caught_owned : CaughtOwned
+caught_owned p t wired s w calm fits code tasks items at top = grind (arith, nat_tests, owned p t wired s w, none_goes tasks)

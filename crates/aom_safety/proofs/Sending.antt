@@ -1,0 +1,141 @@
+-- A message that a client sends is well typed in the queue of its server.
+use Rattle.std.proofs.lemmas.Bool.Decides.{nat_tests}
+use Rattle.std.proofs.Common.{arith, Option, Bool, List, None, Some, [], ap, cond, false, refl, subst, sym, true, ℕ, ◌&&◌, ◌==◌, ◌∙◌, ◌∷◌, ◌≡◌}
+use Rattle.std.proofs.lemmas.Bool.{eq-eqb, eqb-true, ne_eqb}
+use Rattle.std.proofs.lemmas.List.Folds.{list_any-append}
+use Rattle.std.specs.List.{list_any}
+use Rattle.std.specs.Prelude.{◌||◌}
+use Rattle.aom_image.specs.declared.method.Thing.{Thing}
+use Rattle.aom_image.specs.Image.{Image}
+use Rattle.aom_image.specs.declared.method.Thing.TheVariants.{Message}
+use Rattle.aom_rules.specs.Typing.{Typing}
+use Rattle.aom_roles.specs.Shapes.{kind_of}
+use Rattle.aom_shape.specs.Kinds.{filled}
+use Rattle.aom_shape.specs.declared.kind.Age.TheVariants.{Ready}
+use Rattle.aom_shape.specs.declared.kind.Filling.TheVariants.{Full}
+use Rattle.aom_shape.specs.declared.kind.Kind.TheVariants.{Null, Own}
+use Rattle.aom_safety.proofs.Claimed.{declared_ready}
+use Rattle.aom_safety.proofs.ClientsFit.{by_server}
+use Rattle.aom_safety.proofs.Picking.{fits_ready}
+use Rattle.aom_safety.proofs.Services.{held_served, named_served, requested_served, service_here, service_unnamed, tidy_served}
+use Rattle.aom_safety.proofs.Straight.{fits_unowning}
+use Rattle.aom_safety.proofs.Things.{stands_itself}
+use Rattle.aom_safety.specs.Claims.{declared, declared_field}
+use Rattle.aom_semantics.specs.Places.{Service, unserved, Cell, Elsewhere, Field, Message_of, Object, Place, Queued, Session, Tidy, held, named, same_place, seen, service_of}
+use Rattle.aom_safety.specs.Requests.{AllSuit, Suits, resting_in, rests_in, thing_kind}
+use Rattle.aom_semantics.specs.Servers.{asked_last, has_message, has_session, is_message, is_server, message_thing, reserved, session_thing}
+use Rattle.aom_safety.specs.WellTyped.{Fits, Good}
+
+-- a message is not enlisted
+plain : (p : Image) (y : Object) → y.thing ≡ Message → Suits (thing_kind p y.thing) (resting_in (rests_in p y)) None
+unfolding kind_of
+plain p y e = subst (λ x. Suits (thing_kind p x) (resting_in (rests_in p y)) None) (sym e) refl
+
+-- the message, with nothing in its queue, no session and no request, in the queue of that server
+module _ (p : Image) (t : Typing) (cs : List Cell) (good : Good p t cs []) (o : Object) (lives : named cs o.name ≡ Some o) (server : is_server p o.thing ≡ true) (c name : ℕ) (free : named cs name ≡ None)
+    (message : Cell) (named_so : message.object ≡ record { name = name; thing = Message }) (no_request : message.request ≡ None) (no_queue : message.service.queue ≡ []) (no_session : message.service.sessions ≡ []) (owner : message.owner ≡ Elsewhere (Queued o.name name))
+    (none_waits : has_message (service_of cs o.name) name ≡ false) where
+  abbrev rest : List Cell
+  rest = reserved (asked_last (Message_of c name)) o.name cs
+
+  abbrev then : List Cell
+  then = message ∷ rest
+
+  name_is : message.object.name ≡ name
+  name_is = ap (λ y. y.name) named_so
+
+  held_rest : (q : Place) → held rest q ≡ held cs q
+  held_rest q = held_served cs o.name (asked_last (Message_of c name) (service_of cs o.name)) q
+
+  named_rest : (n : ℕ) → named rest n ≡ named cs n
+  named_rest n = named_served cs o.name (asked_last (Message_of c name) (service_of cs o.name)) n
+
+  held_then : (q : Place) → held then q ≡ cond (same_place (Elsewhere (Queued o.name name)) q) (Some message.object) (held cs q)
+  held_then q = grind (arith, nat_tests, held_rest q)
+
+  named_then : (n : ℕ) → named then n ≡ cond (name == n) (Some message.object) (named cs n)
+  named_then n = grind (arith, nat_tests, name_is, named_rest n)
+
+  service_then : (n : ℕ) → service_of then n ≡ cond (name == n) message.service (service_of rest n)
+  service_then n = ap (λ k. cond (k == n) message.service (service_of rest n)) name_is
+
+  -- of a name that is another all is as it was, but the message waits
+  sessions_then : (n d : ℕ) → has_session (service_of then n) d ≡ has_session (service_of cs n) d
+  sessions_then n d = ap (λ v. has_session v d) (service_then n) ∙ go (name == n) refl
+    where
+      go : (b : Bool) → (name == n) ≡ b → has_session (cond b message.service (service_of rest n)) d ≡ has_session (service_of cs n) d
+      go true e = ap (λ xs. list_any (λ k. k == d) xs) no_session ∙ sym (ap (λ v. has_session v d) (ap (λ k. service_of cs k) (sym (eqb-true name n e)) ∙ service_unnamed cs name free))
+      go false e = by_server cs o lives (asked_last (Message_of c name)) (λ n v. has_session v d ≡ has_session (service_of cs n) d) refl (λ n other. refl) n
+
+  or_false : (b : Bool) → (b || false) ≡ b
+  or_false x = grind arith
+
+  messages_then : (n m : ℕ) → ((o.name == n) && (name == m)) ≡ false → has_message (service_of then n) m ≡ has_message (service_of cs n) m
+  messages_then n m other = ap (λ v. has_message v m) (service_then n) ∙ go (name == n) refl
+    where
+      go : (b : Bool) → (name == n) ≡ b → has_message (cond b message.service (service_of rest n)) m ≡ has_message (service_of cs n) m
+      go true e = ap (λ q. list_any (λ x. is_message m x) q) no_queue ∙ sym (ap (λ v. has_message v m) (ap (λ k. service_of cs k) (sym (eqb-true name n e)) ∙ service_unnamed cs name free))
+      go false e = by_server cs o lives (asked_last (Message_of c name)) (λ n v. ((o.name == n) && (name == m)) ≡ false → has_message v m ≡ has_message (service_of cs n) m)
+          (λ other. list_any-append (λ x. is_message m x) (service_of cs o.name).queue (Message_of c name ∷ []) ∙ ap (λ b. list_any (λ x. is_message m x) (service_of cs o.name).queue || (b || false)) (sym (ap (λ b. b && (name == m)) (eq-eqb o.name o.name refl)) ∙ other) ∙ or_false (list_any (λ x. is_message m x) (service_of cs o.name).queue))
+          (λ n apart same. refl) n other
+
+  other_name : (name == o.name) ≡ false
+  other_name = ne_eqb name o.name (λ same. let clash : Some o ≡ None = sym lives ∙ ap (λ k. named cs k) (sym same) ∙ free in cc)
+
+  -- it waits now
+  waits : has_message (service_of then o.name) name ≡ true
+  waits = grind (arith, nat_tests, service_then o.name, other_name, service_here cs o.name, list_any-append, eq-eqb name name)
+
+  base : (q : Place) → Fits p (seen then) (held cs q) (declared p cs q)
+  base q = fits_ready p (seen cs) (seen then) (held cs q) (declared p cs q) (declared_ready p cs q) (good.fits q)
+
+  there_still : (q : Place) → held then q ≡ held cs q → declared p then q ≡ declared p cs q → Fits p (seen then) (held then q) (declared p then q)
+  there_still q places kinds = grind (arith, nat_tests, base q)
+
+  -- the message has no fields
+  fields_then : (n f : ℕ) → declared_field p (named then n) f ≡ declared_field p (named cs n) f
+  fields_then n f = grind (arith, nat_tests, named_then n, eqb-true name n)
+
+  -- what is told of what clients have at a server is as it was, since they have nothing at the message
+  kind_then :
+      (test : Service → Bool) (thing : Option Object → Option Thing) → test unserved ≡ false → (n : ℕ) → test (service_of then n) ≡ test (service_of cs n) →
+      cond (test (service_of then n)) (filled (thing (named then n)) Full) Null ≡ cond (test (service_of cs n)) (filled (thing (named cs n)) Full) Null
+  kind_then test thing nothing n same = grind (arith, nat_tests, named_then n, eqb-true name n, service_unnamed cs name free)
+
+  session_kind : (n d : ℕ) → declared p then (Elsewhere (Session n d)) ≡ declared p cs (Elsewhere (Session n d))
+  session_kind n d = kind_then (λ v. has_session v d) (λ y. session_thing p y) refl n (sessions_then n d)
+
+  queue_kind : (n m : ℕ) → ((o.name == n) && (name == m)) ≡ false → declared p then (Elsewhere (Queued n m)) ≡ declared p cs (Elsewhere (Queued n m))
+  queue_kind n m other = kind_then (λ v. has_message v m) (λ y. message_thing p y) refl n (messages_then n m other)
+
+  own_kind : declared p then (Elsewhere (Queued o.name name)) ≡ Own Message Ready
+  own_kind = grind (arith, nat_tests, waits, named_then o.name, other_name)
+
+  fits : (q : Place) → Fits p (seen then) (held then q) (declared p then q)
+  fits (Field n f) = there_still (Field n f) (held_then (Field n f)) (fields_then n f)
+  fits (Elsewhere (Session n d)) = there_still (Elsewhere (Session n d)) (held_then (Elsewhere (Session n d))) (session_kind n d)
+  fits (Elsewhere (Queued n m)) = grind (
+    arith,
+    nat_tests,
+    there_still (Elsewhere (Queued n m)),
+    held_then (Elsewhere (Queued n m)),
+    queue_kind n m,
+    eqb-true o.name n,
+    eqb-true name m,
+    own_kind,
+    stands_itself p Message,
+  )
+  fits r = there_still r (held_then r) refl
+
+  tidy : Tidy then
+  tidy = (
+    grind (arith, nat_tests, held_rest (Elsewhere (Queued o.name name)), fits_unowning p),
+    ap (λ n. named rest n) name_is ∙ named_rest name ∙ free,
+    tidy_served cs o.name (asked_last (Message_of c name) (service_of cs o.name)) good.tidy,
+  )
+
+  suits : AllSuit p then []
+  suits y lives' = grind (arith, nat_tests, named_then y.name, name_is, plain p y, requested_served cs o.name)
+
+  pub good_sent : Good p t then []
+  good_sent = record { stack = refl; fits = fits; suits = suits; tidy = tidy }

@@ -1,0 +1,99 @@
+-- What stands for a thing may be taken for that thing.
+use Rattle.std.proofs.Common.{arith, Bool, List, None, Option, Some, [], ap, cond, false, refl, subst, suc, sym, true, zero, ℕ, ◌==◌, ◌∙◌, ◌∷◌, ◌≡◌}
+use Rattle.std.proofs.lemmas.Bool.{eq-eqb, eqb-true}
+use Rattle.aom_image.specs.Image.{Image}
+use Rattle.aom_image.specs.declared.method.Thing.{Thing}
+use Rattle.aom_shape.specs.Kinds.{is_object_or_null, is_own_for, is_ready_kind, may_be, register, set_register}
+use Rattle.aom_shape.specs.Shape.{Shape}
+use Rattle.aom_roles.specs.Tables.{put_at}
+use Rattle.aom_rules.specs.Typing.{Typing}
+use Rattle.aom_shape.specs.declared.kind.Age.TheVariants.{Fresh, Ready}
+use Rattle.aom_shape.specs.declared.kind.Kind.{Kind}
+use Rattle.aom_shape.specs.declared.kind.Kind.TheVariants.{Maybe, Null, Own, Unset, Word}
+use Rattle.aom_safety.proofs.Claimed.{claim-set_register}
+use Rattle.aom_semantics.proofs.Maps.{at-put_at}
+use Rattle.aom_safety.proofs.Straight.{Fitted, register_fits, relabel, top, word_of_object}
+use Rattle.aom_safety.proofs.Things.{stands_along}
+use Rattle.aom_safety.specs.Claims.{Layer, declared}
+use Rattle.aom_semantics.specs.Places.{Cell, Object, Sight, held, seen}
+use Rattle.aom_semantics.specs.State.{Frame, word}
+use Rattle.aom_safety.specs.WellTyped.{Fits, WordFits}
+
+-- a place that is written twice
+pub put_twice : {A : Type 0} (d : A) (xs : List A) (i : ℕ) (v w : A) → put_at d (put_at d xs i v) i w ≡ put_at d xs i w
+put_twice d [] zero v w = refl
+put_twice d [] (suc i) v w = ap (λ ys. d ∷ ys) (put_twice d [] i v w)
+put_twice d (x ∷ xs) zero v w = refl
+put_twice d (x ∷ xs) (suc i) v w = ap (λ ys. x ∷ ys) (put_twice d xs i v w)
+
+-- what holds of the first kind holds of the second, and neither is of words
+pub record Widens (p : Image) (k v : Kind) : Type 0 where
+  pub object : is_object_or_null k ≡ true
+  pub fits : (h : Sight) (o : Option Object) → Fits p h o k → Fits p h o v
+  pub word : WordFits None v
+
+module _ (p : Image) where
+  pub own_widens : (x : Thing) (k : Kind) → is_own_for p x k ≡ true → is_ready_kind k ≡ true → Widens p k (Own x Ready)
+  own_widens x Unset e r = cc
+  own_widens x Word e r = cc
+  own_widens x Null e r = cc
+  own_widens x (Maybe y a) e r = cc
+  own_widens x (Own y Fresh) e r = cc
+  own_widens x (Own y Ready) e r = record { object = refl; fits = go; word = refl }
+    where
+      go : (h : Sight) (o : Option Object) → Fits p h o (Own y Ready) → Fits p h o (Own x Ready)
+      go h None f = f
+      go h (Some o) f = (stands_along p o.thing y x f.0 e, tt)
+
+  pub own_widens_more : (x : Thing) (k : Kind) → is_own_for p x k ≡ true → is_ready_kind k ≡ true → Widens p k (Maybe x Ready)
+  own_widens_more x Unset e r = cc
+  own_widens_more x Word e r = cc
+  own_widens_more x Null e r = cc
+  own_widens_more x (Maybe y a) e r = cc
+  own_widens_more x (Own y Fresh) e r = cc
+  own_widens_more x (Own y Ready) e r = record { object = refl; fits = go; word = refl }
+    where
+      go : (h : Sight) (o : Option Object) → Fits p h o (Own y Ready) → Fits p h o (Maybe x Ready)
+      go h None f = tt
+      go h (Some o) f = (stands_along p o.thing y x f.0 e, tt)
+
+  pub hold_widens : (x : Thing) (k : Kind) → may_be p x k ≡ true → is_ready_kind k ≡ true → Widens p k (Maybe x Ready)
+  hold_widens x Unset e r = cc
+  hold_widens x Word e r = cc
+  hold_widens x (Own y Fresh) e r = cc
+  hold_widens x (Maybe y Fresh) e r = cc
+  hold_widens x Null e r = record { object = refl; fits = go; word = refl }
+    where
+      go : (h : Sight) (o : Option Object) → Fits p h o Null → Fits p h o (Maybe x Ready)
+      go h y f = grind arith
+  hold_widens x (Own y Ready) e r = own_widens_more x (Own y Ready) e r
+  hold_widens x (Maybe y Ready) e r = record { object = refl; fits = go; word = refl }
+    where
+      go : (h : Sight) (o : Option Object) → Fits p h o (Maybe y Ready) → Fits p h o (Maybe x Ready)
+      go h None f = tt
+      go h (Some o) f = (stands_along p o.thing y x f.0 e, tt)
+
+  -- what the register of a frame is claimed to be widens
+  pub retaken :
+      (t : Typing) (cs : List Cell) (fr : Frame) (sh : Shape) (ls : List Layer) (c : ℕ) (k v : Kind) → Widens p k v → Fitted p t cs fr (set_register sh c k) ls → Fitted p t cs fr (set_register sh c v) ls
+  retaken t cs fr sh ls c k v wide g =
+      subst (λ ks. Fitted p t cs fr (record sh { registers = ks }) ls) (put_twice Unset sh.registers c k v)
+      (relabel p t cs fr fr narrow (set_register narrow c v) ls (top ls c) v g refl refl refl refl
+      (wide.fits (seen cs) (held cs (top ls c)) (subst (λ x. Fits p (seen cs) (held cs (top ls c)) x) here (register_fits p cs fr narrow ls g.fits c)))
+      (λ r. claim-set_register p (declared p cs) fr narrow ls c v r) words)
+    where
+      narrow : Shape
+      narrow = set_register sh c k
+
+      here : register narrow c ≡ k
+      here = at-put_at Unset sh.registers c c k ∙ ap (λ same. cond same k (register sh c)) (eq-eqb c c refl)
+
+      no_word : word fr c ≡ None
+      no_word = word_of_object (word fr c) k wide.object (subst (λ x. WordFits (word fr c) x) here (g.frames.words c))
+
+      words : (i : ℕ) → WordFits (word fr i) (register (set_register narrow c v) i)
+      words i = subst (λ x. WordFits (word fr i) x) (sym (at-put_at Unset narrow.registers c i v)) (go (c == i) refl)
+        where
+          go : (same : Bool) → (c == i) ≡ same → WordFits (word fr i) (cond same v (register narrow i))
+          go true e = subst (λ j. WordFits (word fr j) v) (eqb-true c i e) (subst (λ w. WordFits w v) (sym no_word) wide.word)
+          go false e = g.frames.words i

@@ -1,0 +1,14 @@
+pub mod Tasks
+pub mod Claims
+pub mod WellTyped
+pub mod Kept
+pub mod Registers
+pub mod Requests
+pub mod Loops
+pub mod Laws
+pub mod Quiet
+pub mod Leaves
+pub mod Steps
+pub mod Counting
+pub mod Traps
+pub mod Apart

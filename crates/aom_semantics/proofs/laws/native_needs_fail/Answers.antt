@@ -1,0 +1,5 @@
+use Rattle.aom_semantics.proofs.Biting.{native_needs_fail as law}
+use Rattle.aom_semantics.proofs.laws.native_needs_fail.Goals as goal
+
+pub returns : goal.returns
+returns c = law

@@ -1,5 +1,0 @@
-use Rattle.aom_sound.proofs.Running.{constructs_run as law}
-use Rattle.aom_sound.proofs.laws.constructs_run.Goals as goal
-
-pub returns : goal.returns
-returns c = law

@@ -1,5 +1,0 @@
-use Rattle.aom_sound.proofs.Owners.{ends_owned as law}
-use Rattle.aom_sound.proofs.laws.ends_owned.Goals as goal
-
-pub returns : goal.returns
-returns c = law

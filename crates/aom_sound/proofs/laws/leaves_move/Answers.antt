@@ -1,5 +1,0 @@
-use Rattle.aom_sound.proofs.Course.{leaves_move as law}
-use Rattle.aom_sound.proofs.laws.leaves_move.Goals as goal
-
-pub returns : goal.returns
-returns c = law

@@ -1,5 +1,0 @@
-use Rattle.aom_sound.proofs.Counting.{steps_are_counted as law}
-use Rattle.aom_sound.proofs.laws.steps_are_counted.Goals as goal
-
-pub returns : goal.returns
-returns c = law

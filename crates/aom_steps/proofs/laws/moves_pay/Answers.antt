@@ -1,5 +1,0 @@
-use Rattle.aom_steps.proofs.Within.{moves_pay as law}
-use Rattle.aom_steps.proofs.laws.moves_pay.Goals as goal
-
-pub returns : goal.returns
-returns c = law

@@ -1,0 +1,102 @@
+-- Typings that say the same of each place have the same prices.
+use Rattle.std.proofs.lemmas.Option.{same_Some}
+use Rattle.std.proofs.Common.{◌≡◌, ◌+◌, ◌∙◌, ℕ, suc, List, [], ◌∷◌, inl, inr, refl, sym, ap, subst}
+use Rattle.aom_image.specs.Image.{Image}
+use Rattle.aom_instructions.specs.declared.instr.Instr.{Instr}
+use Rattle.aom_instructions.specs.declared.instr.Instr.TheVariants.{Delete, Push}
+use Rattle.aom_roles.specs.Tests.{AllTrue}
+use Rattle.aom_shape.specs.Kinds.{register}
+use Rattle.aom_rules.specs.Laws.{AllFollow, Follows}
+use Rattle.aom_shape.specs.Needs.{Flow}
+use Rattle.aom_shape.specs.Order.{SaysNoMore, Weaker}
+use Rattle.aom_shape.specs.Order.Weaker.{alike, unset_word, unset_null, maybe_null, maybe_own}
+use Rattle.aom_rules.specs.Rules.{flows, rule_needs}
+use Rattle.aom_shape.specs.Shape.{Shape}
+use Rattle.aom_rules.specs.Typing.{IsTyped, Typing}
+use Rattle.aom_shape.specs.declared.kind.Kind.{Kind}
+use Rattle.aom_rules.proofs.Monotone.{flows_more}
+use Rattle.aom_typings.specs.Costs.{AmongFlows, ArePrices, Costs, GoesOut, Region, Whole}
+use Rattle.aom_typings.specs.Costs.Costs.{outside, ends, goes, loops, loops_in}
+use Rattle.aom_typings.specs.Prices.{Prices, Stands, kind_price, own, price}
+use Rattle.aom_typings.proofs.Among.{by_flow}
+
+-- what one typing reaches the other reaches too, with a state that says just as much
+pub record IsCovered (p : Image) (t d : Typing) : Type 0 where
+  pub each : (m place : ℕ) (sh : Shape) (i : Instr) → Stands p t m place sh i → (other : Shape) × Stands p d m place other i × SaysNoMore other sh × SaysNoMore sh other
+
+kind_is : (k l : Kind) → Weaker k l → Weaker l k → k ≡ l
+kind_is _ _ alike back = refl
+kind_is _ _ unset_word back = elim back [ ]
+kind_is _ _ unset_null back = elim back [ ]
+kind_is _ _ (maybe_null {t = t} {a = a}) back = elim back [ ]
+kind_is _ _ (maybe_own {t = t} {a = a}) back = elim back [ ]
+
+register_is : (a b : Shape) (r : ℕ) → SaysNoMore a b → SaysNoMore b a → register a r ≡ register b r
+register_is a b r more less = kind_is (register a r) (register b r) (more.registers r) (less.registers r)
+
+-- an instruction costs itself the same
+own_is : (p : Image) (m : ℕ) (c : Prices) (a b : Shape) (i : Instr) → SaysNoMore a b → SaysNoMore b a → own p m c a i ≡ own p m c b i
+own_is p m c a b (Push r) more less = ap (λ k. 1 + kind_price c k) (register_is a b r more less)
+own_is p m c a b (Delete r) more less = ap (λ k. 1 + kind_price c k) (register_is a b r more less)
+own_is p m c a b _ more less = refl
+
+-- where the second list leads the first does
+leads : (to : ℕ) (xs ys : List Flow) → AllFollow xs ys → AmongFlows to ys → AmongFlows to xs
+leads to xs ys all among = by_flow to (λ zs. AllFollow xs zs → AmongFlows to xs) (λ y zs here each. go y here xs each.0) (λ y zs rest each. rest each.1) ys among all
+  where
+    go : (y : Flow) → y.0 ≡ to → (xs : List Flow) → Follows xs y → AmongFlows to xs
+    go y here [] h = absurd h
+    go y here (x ∷ xs) (inl same) = inl (same.0 ∙ here)
+    go y here (x ∷ xs) (inr later) = inr (go y here xs later)
+
+module _ (p : Image) (t d : Typing) (c : Prices) (m : ℕ) (typed : IsTyped p d) (covered : IsCovered p t d) where
+  -- there the rule applies
+  applies : (place : ℕ) (sh : Shape) (i : Instr) → Stands p d m place sh i → AllTrue (rule_needs p m place sh i)
+  applies place sh i at =
+      let passes = typed.each m place sh at.shape in
+      subst (λ j. AllTrue (rule_needs p m place sh j)) (same_Some passes.instr i (sym passes.stands ∙ at.instr)) passes.needs
+
+  among_there : (place to : ℕ) (sh other : Shape) (i : Instr) → Stands p d m place other i → SaysNoMore other sh → AmongFlows to (flows p m place sh i) → AmongFlows to (flows p m place other i)
+  among_there place to sh other i at no_more among = leads to (flows p m place other i) (flows p m place sh i) (flows_more p m place other sh i no_more (applies place other i at)) among
+
+  out_there : (from to out : ℕ) → GoesOut p t m from to out → GoesOut p d m from to out
+  out_there from to out g =
+      let w = covered.each m g.place g.shape g.instr g.stands in
+      record {
+        place = g.place;
+        inside = g.inside;
+        shape = w.0;
+        instr = g.instr;
+        stands = w.1;
+        flow = among_there g.place out g.shape w.0 g.instr w.1 w.2 g.flow;
+        outside = g.outside;
+      }
+
+  -- a path costs the same
+  costs_there : (r : Region) (place k : ℕ) → Costs p t c m r place k → Costs p d c m r place k
+  costs_there r place k (outside far) = outside far
+  costs_there r place k (ends {sh = sh} {i = i} inside at l) =
+      let w = covered.each m place sh i at in
+      subst (λ x. Costs p d c m r place x) (own_is p m c w.0 sh i w.2 w.3) (ends inside w.1 l)
+  costs_there r place k (goes {to = to} {n = n} {sh = sh} {i = i} inside at l plain among rest) =
+      let w = covered.each m place sh i at in
+      let onward = goes inside w.1 l plain (among_there place to sh w.0 i w.1 w.2 among) (costs_there r to n rest) in
+      subst (λ x. Costs p d c m r place (x + n)) (own_is p m c w.0 sh i w.2 w.3) onward
+  costs_there r place k (loops {to = to} {b = b} {e = e} {out = out} inside at body round leaves rest) =
+      let w = covered.each m place _ _ at in
+      loops inside w.1 body (costs_there _ (suc place) b round) (out_there place to out leaves) (costs_there r out e rest)
+  costs_there r place k (loops_in {to = to} {b = b} inside at body round) =
+      let w = covered.each m place _ _ at in
+      loops_in inside w.1 body (costs_there _ (suc place) b round)
+
+-- a table says the prices by the one as by the other
+pub prices_alike : (p : Image) (t d : Typing) (c : Prices) → IsTyped p t → IsTyped p d → IsCovered p t d → IsCovered p d t → ArePrices p t c → ArePrices p d c
+prices_alike p t d c typed also covered back are = record {
+  methods = λ m some.
+      let one = are.methods m some in
+      record {
+        met = costs_there p t d c m also covered Whole 0 (price c m) one.met;
+        most = λ k path. one.most k (costs_there p d t c m typed back Whole 0 k path);
+      };
+  classes = are.classes;
+}

@@ -1,0 +1,38 @@
+-- Which methods are there, by their numbers.
+use Rattle.std.proofs.Common.{◌≡◌, ◌<◌, ℕ, length, Some, inl, inr}
+use Rattle.aom_image.proofs.Given.{some_given}
+use Rattle.std.specs.Prelude.{IsSome}
+use Rattle.std.proofs.lemmas.Option.{slice_get_within}
+use Rattle.aom_image.specs.Image.{Image}
+use Rattle.aom_image.specs.Views.{method_at}
+use Rattle.aom_image.specs.declared.method.Method.{Method}
+use Rattle.aom_image.specs.declared.method.Role.TheVariants.{Destruct}
+use Rattle.aom_image.specs.declared.method.Thing.{Thing}
+use Rattle.aom_image.specs.declared.method.Thing.TheVariants.{Message, Object}
+use Rattle.aom_classes.specs.Roles.{destructor_of}
+use Rattle.aom_classes.proofs.Playing.{destroyed, own_found, role_inherits}
+use Rattle.aom_shape.proofs.Lists.{there}
+use Rattle.aom_typings.specs.Layers.{Destructs, InLine}
+
+pub method_within : (p : Image) (m : ℕ) (d : Method) → method_at p m ≡ Some d → m < length p.methods
+unfolding method_at
+method_within p m d e = slice_get_within p.methods m d e
+
+pub method_there : (p : Image) (m : ℕ) → IsSome (method_at p m) → m < length p.methods
+method_there p m some = some_given (λ o. IsSome o) (method_at p m) some (λ s. cc) (λ d e s. method_within p m d e)
+
+pub destructor_within : (p : Image) (x : Thing) (k : ℕ) → destructor_of p x ≡ Some k → k < length p.methods
+destructor_within p x k e = let w = destroyed p x k e in let d = role_inherits p w.0 k Destruct w.2 in method_within p k d.method d.there
+
+in_line : (p : Image) (x : Thing) (k : ℕ) → InLine p x k → k < length p.methods
+in_line p (Object c) k w = let d = own_found p w.0 k Destruct w.2 in method_within p k d.0 d.1
+in_line p Message k w = absurd w
+
+-- each that runs as a thing is destroyed is there
+pub destructs_within : (p : Image) (x : Thing) (k : ℕ) → Destructs p x k → k < length p.methods
+destructs_within p x k (y, stands, inl w) = in_line p y k w
+destructs_within p x k (y, stands, inr w) = in_line p (Object w.0) k w.2
+
+pub method_is_some : (p : Image) (m : ℕ) → m < length p.methods → IsSome (method_at p m)
+unfolding method_at
+method_is_some p m lt = there p.methods m lt

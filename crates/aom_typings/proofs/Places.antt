@@ -1,0 +1,117 @@
+-- What the pass finds at a place, by the instruction that stands there.
+use Rattle.std.proofs.lemmas.Option.{same_Some}
+use Rattle.std.proofs.Common.{◌≡◌, ◌≤◌, ◌+◌, ◌-◌, ◌*◌, ◌∙◌, ℕ, suc, Option, Some, None, inl, refl, sym, ap, arith, subst}
+use Rattle.std.specs.Prelude.{IsSome, max}
+use Rattle.aom_image.specs.Image.{Image}
+use Rattle.aom_image.specs.Views.{instr_at}
+use Rattle.aom_instructions.specs.declared.instr.Instr.{Instr}
+use Rattle.aom_instructions.specs.declared.instr.Instr.TheVariants.{Loop, Next}
+use Rattle.aom_classes.specs.Bodies.{IsLooped}
+use Rattle.aom_classes.specs.Loops.{loop_in, next_in}
+use Rattle.aom_rules.specs.Rules.{flows}
+use Rattle.aom_shape.specs.Shape.{Shape}
+use Rattle.aom_rules.specs.Typing.{IsTyped, Passes, Typing, shape_at}
+use Rattle.aom_typings.specs.Prices.{Prices, Stands, own}
+use Rattle.aom_typings.specs.Costs.{Region}
+use Rattle.aom_typings.specs.Sweeping.{Afters, IsAfter, IsInnermost, after, most_within}
+use Rattle.aom_typings.proofs.At.{IsSweptAt}
+use Rattle.aom_typings.proofs.Adding.{leads_on, reached_is_some}
+use Rattle.aom_typings.proofs.Regions.{by_kind, innermost_of_next, no_loop_here, no_next_here, not_both}
+use Rattle.aom_typings.proofs.Ways.{IsReached}
+
+no_instr : (o : Option Instr) (i : Instr) → o ≡ None → o ≡ Some i → ⊥
+no_instr o i none some = let clash : None ≡ Some i = sym none ∙ some in cc
+
+instr_same : (o : Option Instr) (i j : Instr) → o ≡ Some i → o ≡ Some j → i ≡ j
+instr_same o i j a b = same_Some i j (sym a ∙ b)
+
+module _ (keep : ℕ → ℕ) (p : Image) (t : Typing) (c : Prices) (a : Afters) (m place : ℕ) where
+  pub nothing_there : instr_at p m place ≡ None → IsSweptAt keep p t c a m place
+  nothing_there none = record {
+    plain = λ sh i r at l n w. absurd (no_instr (instr_at p m place) i none at.instr);
+    loops = λ d n sh at. absurd (no_instr (instr_at p m place) (Loop d n) none at.instr);
+    nexts = λ d from sh at. absurd (no_instr (instr_at p m place) (Next d (suc from)) none at.instr);
+    rounds = λ to d n body reached. absurd (no_instr (instr_at p m place) (Loop d n) none body.begins);
+    afters = λ from d n r body w. absurd (no_instr (instr_at p m place) (Next d (suc from)) none body.ends);
+  }
+
+  -- an instruction that neither begins a loop nor ends a round
+  pub plain_there : (i : Instr) → instr_at p m place ≡ Some i → loop_in (Some i) ≡ None → next_in (Some i) ≡ None →
+      ((sh : Shape) (r : Region) → Stands p t m place sh i → IsInnermost p m place r → c.from m place ≡ keep (own p m c sh i + max (after a m r) (most_within c m r (flows p m place sh i)))) →
+      IsSweptAt keep p t c a m place
+  plain_there i there no_loop no_next found = record {
+    plain = λ sh j r at l n w.
+        let same = instr_same (instr_at p m place) i j there at.instr in
+        subst (λ x. c.from m place ≡ keep (own p m c sh x + max (after a m r) (most_within c m r (flows p m place sh x)))) same (found sh r (record { shape = at.shape; instr = there }) w);
+    loops = λ d n sh at. absurd (no_loop_here i d n no_loop (instr_same (instr_at p m place) i (Loop d n) there at.instr));
+    nexts = λ d from sh at. absurd (no_next_here i d (suc from) no_next (instr_same (instr_at p m place) i (Next d (suc from)) there at.instr));
+    rounds = λ to d n body reached. absurd (no_loop_here i d n no_loop (instr_same (instr_at p m place) i (Loop d n) there body.begins));
+    afters = λ from d n r body w. absurd (no_next_here i d (suc from) no_next (instr_same (instr_at p m place) i (Next d (suc from)) there body.ends));
+  }
+
+  pub loop_there : (d n : ℕ) → instr_at p m place ≡ Some (Loop d n) → c.from m place ≡ keep (1 + (n - 1) * c.round m place + c.from m (suc place)) →
+      (IsSome (shape_at t m (suc place)) → c.from m (suc place) ≡ c.round m place + a m place) → IsSweptAt keep p t c a m place
+  loop_there d n there found round = record {
+    plain = λ sh j r at l k w. absurd (no_loop_here j d n l (instr_same (instr_at p m place) j (Loop d n) at.instr there));
+    loops = λ e k sh at.
+        let alike : Loop d n ≡ Loop e k = instr_same (instr_at p m place) (Loop d n) (Loop e k) there at.instr in
+        let same : n ≡ k = cc in
+        subst (λ x. c.from m place ≡ keep (1 + (x - 1) * c.round m place + c.from m (suc place))) same found;
+    nexts = λ e from sh at. absurd (not_both (Loop d n) d n e (suc from) refl (instr_same (instr_at p m place) (Loop d n) (Next e (suc from)) there at.instr));
+    rounds = λ to e k body reached. round reached;
+    afters = λ from e k r body w. absurd (not_both (Loop d n) d n e (suc from) refl (instr_same (instr_at p m place) (Loop d n) (Next e (suc from)) there body.ends));
+  }
+
+  pub next_there : (d from : ℕ) → instr_at p m place ≡ Some (Next d (suc from)) → c.from m place ≡ keep (1 + a m from) →
+      ((r : Region) → IsInnermost p m from r → IsAfter p t c a m from place r) → IsSweptAt keep p t c a m place
+  next_there d from there found follows = record {
+    plain = λ sh j r at l n w. absurd (no_next_here j d (suc from) n (instr_same (instr_at p m place) j (Next d (suc from)) at.instr there));
+    loops = λ e k sh at. absurd (not_both (Loop e k) e k d (suc from) refl (instr_same (instr_at p m place) (Loop e k) (Next d (suc from)) at.instr there));
+    nexts = λ e f sh at. subst (λ x. c.from m place ≡ keep (1 + a m x)) (from_same e f (instr_same (instr_at p m place) (Next d (suc from)) (Next e (suc f)) there at.instr)) found;
+    rounds = λ to e k body reached. absurd (not_both (Loop e k) e k d (suc from) refl (instr_same (instr_at p m place) (Loop e k) (Next d (suc from)) body.begins there));
+    afters = λ f e k r body w.
+        let same = from_same e f (instr_same (instr_at p m place) (Next d (suc from)) (Next e (suc f)) there body.ends) in
+        subst (λ x. IsAfter p t c a m x place r) same (follows r (subst (λ x. IsInnermost p m x r) (sym same) w));
+  }
+    where
+      from_same : (e f : ℕ) → Next d (suc from) ≡ Next e (suc f) → from ≡ f
+      from_same e f same = let one : suc from ≡ suc f = cc in omega (arith, one)
+
+-- what is found at a place is no less than what follows the region that it stands in, where that is within what is kept
+module _
+    (keep : ℕ → ℕ) (p : Image) (t : Typing) (looped : IsLooped p) (typed : IsTyped p t) (c : Prices) (a : Afters) (m place : ℕ) (r : Region) (fits : (x : ℕ) → after a m r ≤ x → after a m r ≤ keep x)
+    (swept : (k : ℕ) → place ≤ k → IsSweptAt keep p t c a m k) where
+  pub pays_after : IsReached t m place → IsInnermost p m place r → after a m r ≤ c.from m place
+  pays_after reached w = by_kind (after a m r ≤ c.from m place) passes.instr plain loop next
+    where
+      passes : Passes p t m place reached.0
+      passes = typed.each m place reached.0 reached.1
+
+      at : Stands p t m place reached.0 passes.instr
+      at = record { shape = reached.1; instr = passes.stands }
+
+      kept : (x : ℕ) → c.from m place ≡ keep x → after a m r ≤ x → after a m r ≤ c.from m place
+      kept x e le = omega (arith, e, fits x le)
+
+      plain : loop_in (Some passes.instr) ≡ None → next_in (Some passes.instr) ≡ None → after a m r ≤ c.from m place
+      plain l n = kept _ ((swept place (omega arith)).plain reached.0 passes.instr r at l n w) (omega arith)
+
+      loop : (d n : ℕ) → passes.instr ≡ Loop d n → after a m r ≤ c.from m place
+      loop d n e =
+          let here = subst (λ j. Stands p t m place reached.0 j) e at in
+          let begins = looped.begins m place d n here.instr in
+          let later = begins.2.later in
+          let next = leads_on p t m typed place (suc place) reached.0 (Loop d n) here (inl refl) in
+          let found = (swept place (omega arith)).loops d n reached.0 here in
+          let round = (swept place (omega arith)).rounds begins.1 d n begins.2 (reached_is_some t m (suc place) next) in
+          let follows = (swept begins.1 (omega (arith, later))).afters place d n r begins.2 w in
+          kept _ found (omega (arith, round, follows.around))
+
+      next : (d to : ℕ) → passes.instr ≡ Next d to → after a m r ≤ c.from m place
+      next d to e =
+          let here = subst (λ j. Stands p t m place reached.0 j) e at in
+          let closes = looped.closes m place d to here.instr in
+          let there = subst (λ x. Stands p t m place reached.0 (Next d x)) closes.3 here in
+          let found = (swept place (omega arith)).nexts d closes.0 reached.0 there in
+          let region = innermost_of_next p looped m place d closes.0 closes.1 r there.instr closes.2 w in
+          kept _ found (omega (arith, ap (λ x. after a m x) region.1))

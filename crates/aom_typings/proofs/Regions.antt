@@ -1,0 +1,273 @@
+-- How paths stay in the body of the innermost loop, and how they leave it: from what linking promises of loops and jumps.
+use Rattle.std.proofs.lemmas.Option.{same_Some}
+use Rattle.std.proofs.Common.{◌≡◌, ◌<◌, ◌≤◌, ◌∙◌, ℕ, zero, suc, true, false, Option, Some, None, inl, inr, ⊎_elim, refl, sym, ap, arith, subst}
+use Rattle.std.specs.Prelude.{◌⊎◌}
+use Rattle.std.proofs.lemmas.Bool.{cases_lt, ltb-true, ltb-false}
+use Rattle.aom_image.specs.Image.{Image}
+use Rattle.aom_image.specs.Views.{instr_at}
+use Rattle.aom_instructions.specs.declared.instr.Instr.{Instr}
+use Rattle.aom_instructions.specs.declared.instr.Instr.TheVariants.{Loop, Next}
+use Rattle.aom_classes.specs.Bodies.{Body, IsIn, IsLooped}
+use Rattle.aom_classes.specs.Jumps.{back_of, jump_of}
+use Rattle.aom_classes.specs.Loops.{loop_in, next_in}
+use Rattle.aom_rules.specs.Typing.{Typing}
+use Rattle.aom_typings.specs.Costs.{GoesOut, Inside, Region, Round, Whole}
+use Rattle.aom_typings.specs.Sweeping.{BeginsBefore, IsInnermost, is_past}
+use Rattle.aom_typings.proofs.Ways.{Way, way_of}
+use Rattle.aom_typings.proofs.Ways.Way.{back, jump, on}
+
+-- ---- instructions
+
+-- an instruction begins a loop, ends a round, or does neither
+pub by_kind : (P : Type 0) (i : Instr) → (loop_in (Some i) ≡ None → next_in (Some i) ≡ None → P) → ((d n : ℕ) → i ≡ Loop d n → P) → ((d to : ℕ) → i ≡ Next d to → P) → P
+unfolding loop_in next_in
+by_kind P (Loop d n) plain loop next = loop d n refl
+by_kind P (Next d to) plain loop next = next d to refl
+by_kind P i plain loop next = plain refl refl
+
+goes_back : (i : Instr) (to : ℕ) → back_of i ≡ Some to → (d : ℕ) × (i ≡ Next d to)
+unfolding back_of
+goes_back i to e = grind arith
+
+-- a loop goes on at its body
+loop_way : (place d n to : ℕ) → Way place (Loop d n) to → to ≡ suc place
+unfolding jump_of back_of
+loop_way place d n to x = grind arith
+
+pub no_loop_here : (i : Instr) (d n : ℕ) → loop_in (Some i) ≡ None → i ≡ Loop d n → ⊥
+unfolding loop_in
+no_loop_here i d n none e = let clash : Some d ≡ None = sym (ap (λ x. loop_in (Some x)) e) ∙ none in cc
+
+pub no_next_here : (i : Instr) (d to : ℕ) → next_in (Some i) ≡ None → i ≡ Next d to → ⊥
+unfolding next_in
+no_next_here i d to none e = let clash : next_in (Some (Next d to)) ≡ None = sym (ap (λ x. next_in (Some x)) e) ∙ none in cc
+
+pub no_way_back : (i : Instr) (to : ℕ) → next_in (Some i) ≡ None → back_of i ≡ Some to → ⊥
+no_way_back i to none e = let next = goes_back i to e in no_next_here i next.0 to none next.1
+
+pub not_both : (i : Instr) (d n e to : ℕ) → i ≡ Loop d n → i ≡ Next e to → ⊥
+not_both i d n e to a b = let clash : Loop d n ≡ Next e to = sym a ∙ b in cc
+
+pub next_is_no_loop : (i : Instr) (d to : ℕ) → i ≡ Next d to → loop_in (Some i) ≡ None
+unfolding loop_in
+next_is_no_loop i d to e = ap (λ x. loop_in (Some x)) e
+
+-- ---- past a region
+
+-- a place past a region is past the end of a body
+pub data Past (to : ℕ) : Region → Type 0 where
+  past_end : (from end : ℕ) → end < to → Past to (Round from end)
+
+pub passed : (r : Region) (to : ℕ) → is_past r to ≡ true → Past to r
+passed Whole to is = cc
+passed (Round from end) to is = past_end from end (ltb-true end to is)
+
+pub past_is_outside : (r : Region) (to : ℕ) → is_past r to ≡ true → Inside r to → ⊥
+past_is_outside r to is = go r (passed r to is)
+  where
+    go : (r : Region) → Past to r → Inside r to → ⊥
+    go _ (past_end from end after) inside = omega (arith, after, inside.1)
+
+pub here_is_inside : (r : Region) (place to : ℕ) → Inside r place → place < to → is_past r to ≡ false → Inside r to
+here_is_inside Whole place to inside later past = tt
+here_is_inside (Round from end) place to inside later past = (omega (arith, inside.0, later), omega (arith, ltb-false end to past))
+
+-- ---- bodies
+
+module _ (p : Image) (looped : IsLooped p) (m : ℕ) where
+  -- a body that begins in another ends in it
+  pub nested : (from to d n f e k l : ℕ) → Body p m from to d n → Body p m f e k l → from ≤ f → f < to → e ≤ to
+  nested from to d n f e k l body other after before =
+      let inside = looped.nexts m e k (suc f) other.ends from to d n body (omega (arith, after), omega (arith, before)) in
+      omega (arith, inside.1)
+
+  -- a body that has a loop has the loop's body
+  pub ends_before : (from to d n f e k l : ℕ) → Body p m from to d n → Body p m f e k l → IsIn from to f → e ≤ to
+  ends_before from to d n f e k l body other inside = ⊎_elim
+      (λ (lt : f < to). nested from to d n f e k l body other (omega (arith, inside.0)) lt)
+      (λ (ge : to ≤ f).
+      let same : f ≡ to = omega (arith, ge, inside.1) in
+      let clash : Some (Loop k l) ≡ Some (Next d (suc from)) = sym other.begins ∙ (ap (λ x. instr_at p m x) same ∙ body.ends) in
+      absurd (not_both (Loop k l) k l d (suc from) refl (same_Some (Loop k l) (Next d (suc from)) clash)))
+      (cases_lt f to)
+
+  pub one_end : (from to to' d n d' n' : ℕ) → Body p m from to d n → Body p m from to' d' n' → to' ≡ to
+  one_end from to to' d n d' n' body other =
+      let here = nested from to d n from to' d' n' body other (omega arith) (omega (arith, body.later)) in
+      let there = nested from to' d' n' from to d n other body (omega arith) (omega (arith, other.later)) in
+      omega (arith, here, there)
+
+  -- where an instruction goes on in a body, unless it begins the loop, it stands there
+  pub came_from : (place to : ℕ) (i : Instr) → instr_at p m place ≡ Some i → loop_in (Some i) ≡ None → Way place i to → (f e k l : ℕ) → Body p m f e k l → IsIn f e to → IsIn f e place
+  unfolding loop_in
+  came_from place to i stands none on f e k l body inside = ⊎_elim
+      (λ (lt : f < place). (lt, omega (arith, inside.1)))
+      (λ (ge : place ≤ f).
+      let same : f ≡ place = omega (arith, ge, inside.0) in
+      let begins : Some i ≡ Some (Loop k l) = sym stands ∙ (ap (λ x. instr_at p m x) (sym same) ∙ body.begins) in
+      absurd (no_loop_here i k l none (same_Some i (Loop k l) begins)))
+      (cases_lt f place)
+  came_from place to i stands none (jump j) f e k l body inside = looped.jumps m place to i stands j f e k l body inside
+  came_from place to i stands none (back b) f e k l body inside =
+      let next = goes_back i to b in
+      looped.nexts m place next.0 to (stands ∙ ap (λ x. Some x) next.1) f e k l body inside
+
+  pub first_same : (place e d k from f : ℕ) → instr_at p m place ≡ Some (Next d (suc from)) → instr_at p m e ≡ Some (Next k (suc f)) → e ≡ place → f ≡ from
+  first_same place e d k from f at closes here =
+      let two : Some (Next k (suc f)) ≡ Some (Next d (suc from)) = sym closes ∙ (ap (λ x. instr_at p m x) here ∙ at) in
+      let one : suc f ≡ suc from = cc in
+      omega (arith, one)
+
+  -- the body round a loop ends after it
+  pub ends_after : (from to d n f e k l : ℕ) → Body p m from to d n → Body p m f e k l → IsIn f e from → to < e
+  ends_after from to d n f e k l body other inside = ⊎_elim (λ (lt : to < e). lt)
+      (λ (ge : e ≤ to).
+      let before = ends_before f e k l from to d n other body inside in
+      let same : e ≡ to = omega (arith, ge, before) in
+      let first = first_same to e d k from f body.ends other.ends same in
+      absurd (omega (arith, first, inside.0)))
+      (cases_lt to e)
+
+  -- ---- the innermost body
+
+  -- that of a loop, at its body's first place
+  pub innermost_of_body : (from to d n : ℕ) → Body p m from to d n → IsInnermost p m (suc from) (Round from to)
+  innermost_of_body from to d n body = record {
+    body = (d, n, body);
+    inside = (omega arith, omega (arith, body.later));
+    others = λ f e k l other inside. omega (arith, inside.0);
+  }
+
+  -- a region in which a loop begins, or which begins after one, is a body
+  data Begun (from : ℕ) : Region → Type 0 where
+    begun : (first to : ℕ) → from ≤ first → Begun from (Round first to)
+
+  begun_there : (from : ℕ) (r : Region) → BeginsBefore from r → Begun from r
+  begun_there from Whole before = absurd before
+  begun_there from (Round first to) before = begun first to before
+
+  -- that of a next's loop, at the next
+  pub innermost_of_next : (place d from n : ℕ) (r : Region) → instr_at p m place ≡ Some (Next d (suc from)) → Body p m from place d n → IsInnermost p m place r → (end : ℕ) × (r ≡ Round from end)
+  innermost_of_next place d from n r at body w = go r w (begun_there from r (w.others from place d n body (body.later, omega arith)))
+    where
+      go : (s : Region) → IsInnermost p m place s → Begun from s → (end : ℕ) × (s ≡ Round from end)
+      go _ v (begun f e before) =
+          let ends = nested from place d n f e v.body.0 v.body.1 body v.body.2 before v.inside.0 in
+          (e, ap (λ x. Round x e) (first_same place e d v.body.0 from f at v.body.2.ends (omega (arith, ends, v.inside.1))))
+
+  -- there is no other
+  same_round : (place f e : ℕ) (s : Region) → IsInnermost p m place (Round f e) → IsInnermost p m place s → Begun f s → s ≡ Round f e
+  same_round place f e _ v w (begun g k above) =
+      let below = v.others g k w.body.0 w.body.1 w.body.2 w.inside in
+      let same : g ≡ f = omega (arith, below, above) in
+      let end = one_end f e k v.body.0 v.body.1 w.body.0 w.body.1 v.body.2 (subst (λ x. Body p m x k w.body.0 w.body.1) same w.body.2) in
+      ap (λ x. Round x k) same ∙ ap (λ x. Round f x) end
+
+  pub one_innermost : (place : ℕ) (r s : Region) → IsInnermost p m place r → IsInnermost p m place s → r ≡ s
+  one_innermost place Whole Whole v w = refl
+  one_innermost place (Round f e) s v w = sym (same_round place f e s v w (begun_there f s (w.others f e v.body.0 v.body.1 v.body.2 v.inside)))
+  one_innermost place r (Round f e) v w = same_round place f e r w v (begun_there f r (v.others f e w.body.0 w.body.1 w.body.2 w.inside))
+
+  -- and it stays the same along a path that stays in it
+  pub innermost_on : (place to : ℕ) (i : Instr) (r : Region) → instr_at p m place ≡ Some i → loop_in (Some i) ≡ None → Way place i to → IsInnermost p m place r → Inside r to → IsInnermost p m to r
+  innermost_on place to i r stands none way w inside = record {
+    body = w.body;
+    inside = inside;
+    others = λ f e k l other there. w.others f e k l other (came_from place to i stands none way f e k l other there);
+  }
+
+  -- no loop round the first place
+  pub innermost_first : IsInnermost p m 0 Whole
+  innermost_first = record { body = tt; inside = tt; others = λ f e k l other inside. absurd (omega (arith, inside.0)) }
+
+  -- ---- going out
+
+  module _ (t : Typing) where
+    -- what goes out of a body begins no loop
+    out_from : (from to d n out : ℕ) → Body p m from to d n → (g : GoesOut p t m from to out) → loop_in (Some g.instr) ≡ None
+    out_from from to d n out body g = by_kind (loop_in (Some g.instr) ≡ None) g.instr (λ none next. none) loop (λ k back e. next_is_no_loop g.instr k back e)
+      where
+        loop : (k l : ℕ) → g.instr ≡ Loop k l → loop_in (Some g.instr) ≡ None
+        loop k l e =
+            let way = loop_way g.place k l out (subst (λ x. Way g.place x out) e (way_of p m g.place out g.shape g.instr g.flow)) in
+            let same : g.place ≡ to = omega (arith, way, g.inside.1, g.outside) in
+            let next : Some g.instr ≡ Some (Next d (suc from)) = sym g.stands.instr ∙ (ap (λ x. instr_at p m x) same ∙ body.ends) in
+            absurd (not_both g.instr k l d (suc from) e (same_Some g.instr (Next d (suc from)) next))
+
+    -- a body that has the place to which another body goes out has that body's loop
+    out_around : (from to d n out : ℕ) → Body p m from to d n → GoesOut p t m from to out → (f e k l : ℕ) → Body p m f e k l → IsIn f e out → IsIn f e from
+    out_around from to d n out body g f e k l other inside =
+        let there = came_from g.place out g.instr g.stands.instr (out_from from to d n out body g) (way_of p m g.place out g.shape g.instr g.flow) f e k l other inside in
+        ⊎_elim
+        (λ (lt : f < from). (lt, omega (arith, g.inside.0, there.1)))
+        (λ (ge : from ≤ f). let ends = nested from to d n f e k l body other ge (omega (arith, there.0, g.inside.1)) in absurd (omega (arith, ends, inside.1, g.outside)))
+        (cases_lt f from)
+
+    pub innermost_out : (from to d n out : ℕ) (r : Region) → Body p m from to d n → GoesOut p t m from to out → IsInnermost p m from r → Inside r out → IsInnermost p m out r
+    innermost_out from to d n out r body g w inside = record {
+      body = w.body;
+      inside = inside;
+      others = λ f e k l other there. w.others f e k l other (out_around from to d n out body g f e k l other there);
+    }
+
+    -- what a body goes out to past the end of the body round it, that one goes out to as well
+    pub out_of_both : (from to d n out f e : ℕ) → Body p m from to d n → GoesOut p t m from to out → IsInnermost p m from (Round f e) → e < out → GoesOut p t m f e out
+    out_of_both from to d n out f e body g w past =
+        let ends = ends_before f e w.body.0 w.body.1 from to d n w.body.2 body w.inside in
+        record {
+          place = g.place;
+          inside = (omega (arith, w.inside.0, g.inside.0), omega (arith, g.inside.1, ends));
+          shape = g.shape;
+          instr = g.instr;
+          stands = g.stands;
+          flow = g.flow;
+          outside = past;
+        }
+
+  -- ---- there is an innermost body
+
+  Around : ℕ → ℕ → Type 0
+  Around place k = (to : ℕ) × (d : ℕ) × (n : ℕ) × Body p m k to d n × IsIn k to place
+
+  Misses : ℕ → ℕ → Type 0
+  Misses place k = (to d n : ℕ) → Body p m k to d n → IsIn k to place → ⊥
+
+  around_or : (place k : ℕ) → Around place k ⊎ Misses place k
+  unfolding Around Misses
+  around_or place k = go (instr_at p m k) refl
+    where
+      loop : (d n : ℕ) → instr_at p m k ≡ Some (Loop d n) → Around place k ⊎ Misses place k
+      loop d n begins =
+          let found = looped.begins m k d n begins in
+          let body = found.2 in
+          ⊎_elim
+          (λ (lt : k < place). ⊎_elim
+          (λ (past : found.1 < place). inr (λ to' d' n' other inside. let same = one_end k found.1 to' d n d' n' body other in absurd (omega (arith, same, inside.1, past))))
+          (λ (within : place ≤ found.1). inl (found.1, d, n, body, (lt, within)))
+          (cases_lt found.1 place))
+          (λ (ge : place ≤ k). inr (λ to' d' n' other inside. absurd (omega (arith, ge, inside.0))))
+          (cases_lt k place)
+
+      go : (o : Option Instr) → instr_at p m k ≡ o → Around place k ⊎ Misses place k
+      go None e = inr (λ to d n body inside. let clash : None ≡ Some (Loop d n) = sym e ∙ body.begins in cc)
+      go (Some (Loop d n)) e = loop d n e
+      go (Some i) e = inr (λ to d n body inside. let clash : Some i ≡ Some (Loop d n) = sym e ∙ body.begins in cc)
+
+  Found : ℕ → Type 0
+  Found place = (r : Region) × IsInnermost p m place r
+
+  search_below : (place k : ℕ) → ((f e d n : ℕ) → Body p m f e d n → IsIn f e place → f < k) → Found place
+  unfolding Found Around Misses
+  search_below place zero below = (Whole, record { body = tt; inside = tt; others = λ f e d n other inside. absurd (omega (arith, below f e d n other inside)) })
+  search_below place (suc k) below = ⊎_elim
+      (λ (a : Around place k). (Round k a.0, record { body = (a.1, a.2, a.3); inside = a.4; others = λ f e d n other inside. omega (arith, below f e d n other inside) }))
+      (λ (none : Misses place k). search_below place k (λ f e d n other inside. ⊎_elim
+      (λ (lt : f < k). lt)
+      (λ (ge : k ≤ f). let same : f ≡ k = omega (arith, ge, below f e d n other inside) in
+      absurd (none e d n (subst (λ x. Body p m x e d n) same other) (subst (λ x. IsIn x e place) same inside)))
+      (cases_lt f k)))
+      (around_or place k)
+
+  pub innermost : (place : ℕ) → (r : Region) × IsInnermost p m place r
+  unfolding Found
+  innermost place = search_below place place (λ f e d n other inside. inside.0)

@@ -1,0 +1,5 @@
+use Rattle.aom_typings.proofs.Worked.{law_bites as law}
+use Rattle.aom_typings.proofs.laws.price_needs_fail.Goals as goal
+
+pub returns : goal.returns
+returns c = law
