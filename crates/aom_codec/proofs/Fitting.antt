@@ -1,34 +1,34 @@
 -- An image fits its format exactly where it is well formed, its length aside.
-use Rattle.std.proofs.Common.{◌≡◌, ℕ, zero, suc, ◌+◌, ◌<◌, ◌≤◌, Bool, true, false, cond, eqb, ltb, leb, List, [], ◌∷◌, length, All, count_by, Option, Some, None, IfSome, Result, Ok, Err, refl, ap, subst, arith, inl, inr, lit<, lit≤, slice_index_or, sym, ◌∙◌}
+use Rattle.std.proofs.Common.{◌≡◌, ℕ, zero, suc, ◌+◌, ◌<◌, ◌≤◌, Bool, true, false, cond, eqb, ltb, leb, List, [], ◌∷◌, length, All, count_by, Option, Some}
+use Rattle.std.proofs.Common.{None, IfSome, Ok, Err, refl, ap, subst, arith, lit<, slice_index_or, sym, ◌∙◌}
 use Rattle.std.proofs.lemmas.Bool.{ltb-true, lt-ltb, cases_Bool, cond-true, cond-false}
 use Rattle.std.proofs.lemmas.Bool.Decides.{nat_tests}
 use Rattle.std.proofs.lemmas.List.Elements.{All-nil, All-cons}
 use Rattle.std.proofs.lemmas.List.Sums.{sum_by-cons}
 use Rattle.aom_image.specs.Image.{Image}
 use Rattle.aom_codec.specs.Spelling.{provider_sort, class_number, thing_number, argument_number, role_number, gives_byte, result_number, kind_byte}
-use Rattle.aom_image.specs.WellFormed.{ThingFits, ProviderFits, KindFits, ClassFits, ParentFits, OverFits, FamiliesFit, may_descend, is_server_kind, is_server, ArgumentFits, GivesFits, MethodFits, HeaderFits, ClassesFit, MethodsFit}
+use Rattle.aom_image.specs.WellFormed.{ThingFits, ProviderFits, KindFits, ClassFits, ParentFits, OverFits, FamiliesFit, is_server_kind, is_server}
+use Rattle.aom_image.specs.WellFormed.{ArgumentFits, GivesFits, MethodFits, HeaderFits, ClassesFit, MethodsFit}
 use Rattle.aom_instructions.specs.Fits.{InstrFits, limits}
 use Rattle.aom_instructions.specs.Versions.{includes}
 use Rattle.aom_codec.specs.Codec.{Codec, ◌>>=◌, byte, is_between, pair, always, keep, FitMany, limited}
 use Rattle.aom_codec.specs.Instructions.{Bounded, instruction}
-use Rattle.aom_codec.specs.Format.{version as version_format, parent_from, parent, over, index_from, class_from, class_or_none, thing_from, thing, argument_from, argument, last_provider, sort_of_provider, provider, kind, kind_sort, class, count_server, role, flags, states, result, gives_from, method, image}
-use Rattle.aom_codec.specs.declared.fault.LoadFault.{LoadFault}
-use Rattle.aom_codec.specs.declared.fault.LoadFault.TheVariants.{BadIndex, BadOperand}
+use Rattle.aom_codec.specs.Format.{version as version_format, parent_from, parent, over, index_from, class_from, class_or_none, thing_from, thing}
+use Rattle.aom_codec.specs.Format.{argument_from, argument, last_provider, sort_of_provider, provider, kind, kind_sort, class, count_server, role, flags}
+use Rattle.aom_codec.specs.Format.{states, result, gives_from, method, image}
+use Rattle.aom_codec.specs.declared.fault.LoadFault.TheVariants.{BadOperand}
 use Rattle.aom_instructions.specs.declared.version.Version.{Version}
 use Rattle.aom_instructions.specs.declared.version.Version.TheVariants as versions
 use Rattle.aom_image.specs.declared.class.ClassDecl.{ClassDecl}
 use Rattle.aom_image.specs.declared.class.ClassKind.{ClassKind}
 use Rattle.aom_image.specs.declared.class.ClassKind.TheVariants as kinds
 use Rattle.aom_image.specs.declared.class.Provider.{Provider}
-use Rattle.aom_image.specs.declared.class.Provider.TheVariants as providers
 use Rattle.aom_image.specs.declared.method.Thing.{Thing}
 use Rattle.aom_image.specs.declared.method.Thing.TheVariants.{Object, Message}
 use Rattle.aom_image.specs.declared.method.Argument.{Argument}
-use Rattle.aom_image.specs.declared.method.Argument.TheVariants as arguments
 use Rattle.aom_image.specs.declared.method.Gives.{Gives}
 use Rattle.aom_image.specs.declared.method.Gives.TheVariants as gives
 use Rattle.aom_image.specs.declared.method.Role.{Role}
-use Rattle.aom_image.specs.declared.method.Role.TheVariants as roles
 use Rattle.aom_image.specs.declared.method.MethodFlags.{MethodFlags}
 use Rattle.aom_image.specs.declared.method.States.{States}
 use Rattle.aom_image.specs.declared.method.Method.{Method}
@@ -63,10 +63,7 @@ limited_pair_fits low high n small p q = (omega arith, between_is low high n p q
 -- ---- numbers that name things
 
 index_is : (classes n : ℕ) → n < classes → index_from classes n ≡ Ok n
-index_is classes n lt = ap (λ b. cond b (okay n) (Err BadIndex)) (lt-ltb n classes lt)
-  where
-    okay : ℕ → Result ℕ LoadFault
-    okay k = Ok k
+index_is classes n lt = grind (arith, nat_tests, lt-ltb n classes lt)
 
 eqb_below : (n m : ℕ) → n < m → eqb n m ≡ false
 eqb_below n m lt = grind (arith, nat_tests, lt)
@@ -83,40 +80,29 @@ class_in classes n y e =
     marked_or (λ (o : Option ℕ). IfSome o (λ c. c < classes)) (eqb n 0xffff) None (index_from classes n) (λ c. Some c) y (λ is. tt) (in_classes classes n) e
 
 class_number_fits : (classes : ℕ) (y : Option ℕ) → classes ≤ 256 → IfSome y (λ c. c < classes) → (class_or_none classes).Fits y
-class_number_fits classes None few h = (lit< tt, refl)
-class_number_fits classes (Some c) few h =
-    let lt : c < 0xffff = omega arith in
-    (omega arith, rw (eqb_below c 0xffff lt, index_is classes c h) refl)
+class_number_fits classes x few h = grind (arith, nat_tests, eqb_below, index_is classes)
 
 thing_in : (classes n : ℕ) (y : Thing) → thing_from classes n ≡ Ok y → ThingFits classes y
 thing_in classes n y e = marked_or (ThingFits classes) (eqb n 0xfffe) Message (index_from classes n) (λ c. Object c) y (λ is. tt) (in_classes classes n) e
 
 thing_is : (classes : ℕ) (t : Thing) → classes ≤ 256 → ThingFits classes t → thing_from classes (thing_number t) ≡ Ok t
-thing_is classes (Object c) few h = let lt : c < 0xfffe = omega arith in rw (eqb_below c 0xfffe lt, index_is classes c h) refl
-thing_is classes Message few h = refl
+thing_is classes x few h = grind (arith, nat_tests, eqb_below, index_is classes)
 
 thing_small : (classes : ℕ) (t : Thing) → classes ≤ 256 → ThingFits classes t → thing_number t ≤ 0xfffe
-thing_small classes (Object c) few h = omega arith
-thing_small classes Message few h = lit≤ tt
+thing_small classes x few h = grind arith
 
 thing_number_fits : (classes : ℕ) (t : Thing) → classes ≤ 256 → ThingFits classes t → (thing classes).Fits t
 thing_number_fits classes t few h = (omega (arith, thing_small classes t few h), thing_is classes t few h)
 
 argument_in : (classes n : ℕ) (y : Argument) → argument_from classes n ≡ Ok y → ArgumentFits classes y
-argument_in classes n y e =
-    marked_or (ArgumentFits classes) (eqb n 0xffff) arguments.Word (thing_from classes n) (λ t. arguments.Own t) y (λ is. tt) (thing_in classes n) e
+argument_in classes n y e = grind (arith, nat_tests, marked_or, thing_in)
 
 argument_number_fits : (classes : ℕ) (a : Argument) → classes ≤ 256 → ArgumentFits classes a → (argument classes).Fits a
-argument_number_fits classes arguments.Word few h = (lit< tt, refl)
-argument_number_fits classes (arguments.Own t) few h =
-    let small = thing_small classes t few h in
-    let lt : thing_number t < 0xffff = omega arith in
-    (omega arith, rw (eqb_below (thing_number t) 0xffff lt, thing_is classes t few h) refl)
+argument_number_fits classes x few h = grind (arith, thing_small classes, eqb_below, thing_is classes)
 
 own_in : (classes n : ℕ) (make : Thing → Gives) (y : Gives) → ((t : Thing) → ThingFits classes t → GivesFits classes (make t))
     → cond (eqb n 0xffff) (Err BadOperand) (thing_from classes n >>= λ t. Ok (make t)) ≡ Ok y → GivesFits classes y
-own_in classes n make y fit e =
-    made_of (GivesFits classes) (thing_from classes n) make y (λ t h. fit t (thing_in classes n t h)) (kept (eqb n 0xffff) _ BadOperand y e).1
+own_in classes n make y fit e = grind (arith, nat_tests, made_of, thing_in, kept)
 
 gives_in : (classes sort n : ℕ) (y : Gives) → sort ≤ 4 → gives_from classes sort n ≡ Ok y → GivesFits classes y
 gives_in classes zero n y low e = subst (GivesFits classes) (guard_ok (eqb n 0xffff) BadOperand gives.Nothing y e).1 tt
@@ -130,47 +116,25 @@ gives_in classes (suc (suc (suc (suc (suc k))))) n y low e = absurd (omega arith
 gives_number_fits : (classes : ℕ) (y : Gives) → classes ≤ 256 → GivesFits classes y → (result classes (gives_byte y)).Fits y
 gives_number_fits classes gives.Nothing few h = (lit< tt, refl)
 gives_number_fits classes gives.Word few h = (lit< tt, refl)
-gives_number_fits classes (gives.Own t) few h =
-    let small = thing_small classes t few h in
-    let lt : thing_number t < 0xffff = omega arith in
-    (omega arith, rw (eqb_below (thing_number t) 0xffff lt, thing_is classes t few h) refl)
-gives_number_fits classes (gives.Maybe t) few h =
-    let small = thing_small classes t few h in
-    let lt : thing_number t < 0xffff = omega arith in
-    (omega arith, rw (eqb_below (thing_number t) 0xffff lt, thing_is classes t few h) refl)
-gives_number_fits classes (gives.Left c) few h =
-    let lt : c < 0xfffe = omega arith in
-    (omega arith, rw (leb_below c 0xfffe lt, index_is classes c h) refl)
+gives_number_fits classes (gives.Own t) few h = grind (arith, thing_small classes t few h, eqb_below, thing_is classes t few h)
+gives_number_fits classes (gives.Maybe t) few h = grind (arith, thing_small classes t few h, eqb_below, thing_is classes t few h)
+gives_number_fits classes (gives.Left c) few h = grind (arith, leb_below c 0xfffe, index_is classes c h)
 
 -- ---- classes
 
 -- a version that reads the last sort has tokens
 has_tokens : (version : Version) → is_between 0 (last_provider version) 3 ≡ true → includes version versions.Two ≡ true
-has_tokens versions.One h = absurd cc
-has_tokens versions.Two h = refl
+has_tokens x h = grind arith
 
 provider_in : (version : Version) (natives : ℕ) (p : Provider) → (provider version natives).Fits p → ProviderFits version natives p
-provider_in version natives providers.Own f = tt
-provider_in version natives providers.Timer f = tt
-provider_in version natives (providers.Native n) f = ltb-true n natives f.0.1.1
-provider_in version natives providers.Token f = has_tokens version f.0.0.1
+provider_in version natives x f = grind (arith, nat_tests, ltb-true, has_tokens)
 
 -- each version reads the sorts of its providers
 sort_fits : (version : Version) (natives : ℕ) (p : Provider) → ProviderFits version natives p → (sort_of_provider version).Fits (provider_sort p)
-sort_fits versions.One natives providers.Own h = (lit< tt, refl)
-sort_fits versions.One natives providers.Timer h = (lit< tt, refl)
-sort_fits versions.One natives (providers.Native n) h = (lit< tt, refl)
-sort_fits versions.One natives providers.Token h = absurd cc
-sort_fits versions.Two natives providers.Own h = (lit< tt, refl)
-sort_fits versions.Two natives providers.Timer h = (lit< tt, refl)
-sort_fits versions.Two natives (providers.Native n) h = (lit< tt, refl)
-sort_fits versions.Two natives providers.Token h = (lit< tt, refl)
+sort_fits x natives y h = grind arith
 
 provider_fits : (version : Version) (natives : ℕ) (p : Provider) → natives ≤ 16 → ProviderFits version natives p → (provider version natives).Fits p
-provider_fits version natives providers.Own few h = ((sort_fits version natives providers.Own h, (lit< tt, refl)), refl)
-provider_fits version natives providers.Timer few h = ((sort_fits version natives providers.Timer h, (lit< tt, refl)), refl)
-provider_fits version natives (providers.Native n) few h = ((sort_fits version natives (providers.Native n) h, (omega arith, lt-ltb n natives h)), refl)
-provider_fits version natives providers.Token few h = ((sort_fits version natives providers.Token h, (lit< tt, refl)), refl)
+provider_fits version natives x few h = grind (arith, nat_tests, sort_fits version natives, lt-ltb)
 
 kind_in : (version : Version) (classes natives : ℕ) (k : ClassKind) → (kind version classes natives (kind_byte k)).Fits k → KindFits version classes natives k
 kind_in version classes natives kinds.Plain f = tt
@@ -182,12 +146,10 @@ kind_in version classes natives kinds.Session f = tt
 
 kind_fits : (version : Version) (classes natives : ℕ) (k : ClassKind) → classes ≤ 256 → natives ≤ 16 → KindFits version classes natives k
     → (kind version classes natives (kind_byte k)).Fits k
-kind_fits version classes natives kinds.Plain few some_natives h = (tt, refl)
-kind_fits version classes natives (kinds.Active p) few some_natives h = ((provider_fits version natives p some_natives h, tt), refl)
 kind_fits version classes natives (kinds.Server sessions session) few some_natives h =
     let lt : session < classes = h.2 in
     ((limited_byte_fits 1 64 sessions (lit< tt) h.0 h.1, (omega arith, index_is classes session lt)), refl)
-kind_fits version classes natives kinds.Session few some_natives h = (tt, refl)
+kind_fits version classes natives x few some_natives h = grind (arith, nat_tests, provider_fits version natives)
 
 class_in_range : (version : Version) (classes natives servers : ℕ) (c : ClassDecl) → (class version classes natives servers).Fits c → ClassFits version classes natives c
 class_in_range version classes natives servers c f = record {
@@ -202,26 +164,14 @@ class_in_range version classes natives servers c f = record {
 -- ---- families
 
 parent_from_in : (k : ClassKind) (classes n : ℕ) (o : Option ℕ) → parent_from k classes n ≡ Ok o → ParentFits versions.Two classes k o
-parent_from_in k classes n o e =
-    elim (took (eqb n 0xffff) _ _ o e) [
-      | inl none ↦ subst (ParentFits versions.Two classes k) (ok_is _ o none.1) tt
-      | inr some ↦
-          let p = passed (may_descend k) _ BadOperand o some.1 in
-          made_of (ParentFits versions.Two classes k) (index_from classes n) (λ c. Some c) o (λ c h. (refl, p.0, in_classes classes n c h)) p.1
-    ]
+parent_from_in k classes n o e = grind (arith, nat_tests, took, ok_is, passed, made_of, in_classes classes n)
 
 parent_in : (version : Version) (k : ClassKind) (classes : ℕ) (o : Option ℕ) → (parent version k classes).Fits o → ParentFits version classes k o
 parent_in versions.One k classes o f = subst (ParentFits versions.One classes k) (ok_is _ o f.1) tt
 parent_in versions.Two k classes o f = parent_from_in k classes (class_number o) o f.0.0.1
 
 parent_fits : (version : Version) (k : ClassKind) (classes : ℕ) (o : Option ℕ) → classes ≤ 256 → ParentFits version classes k o → (parent version k classes).Fits o
-parent_fits versions.One k classes None few h = (tt, refl)
-parent_fits versions.One k classes (Some c) few h = let two = h.0 in absurd cc
-parent_fits versions.Two k classes None few h = (((lit< tt, refl), tt), refl)
-parent_fits versions.Two k classes (Some c) few h =
-    let below : c < classes = h.2 in
-    let lt : c < 0xffff = omega arith in
-    (((omega arith, rw (eqb_below c 0xffff lt, h.1, index_is classes c below) refl), tt), refl)
+parent_fits x k classes y few h = grind (arith, nat_tests, eqb_below, index_is classes)
 
 over_in : (version : Version) (methods : ℕ) (o : Option ℕ) → (over version methods).Fits o → OverFits version methods o
 over_in versions.One methods o f = subst (OverFits versions.One methods) (ok_is _ o f.1) tt
@@ -230,13 +180,7 @@ over_in versions.Two methods o f =
     (λ m h. (refl, in_classes methods (class_number o) m h)) f.0.0.1
 
 over_fits : (version : Version) (methods : ℕ) (o : Option ℕ) → methods ≤ 1024 → OverFits version methods o → (over version methods).Fits o
-over_fits versions.One methods None few h = (tt, refl)
-over_fits versions.One methods (Some m) few h = let two = h.0 in absurd cc
-over_fits versions.Two methods None few h = (((lit< tt, refl), tt), refl)
-over_fits versions.Two methods (Some m) few h =
-    let below : m < methods = h.1 in
-    let lt : m < 0xffff = omega arith in
-    (((omega arith, rw (eqb_below m 0xffff lt, index_is methods m below) refl), tt), refl)
+over_fits x methods y few h = grind (arith, nat_tests, eqb_below, index_is methods)
 
 -- ---- classes and servers
 
@@ -245,53 +189,40 @@ abbrev first_ok : ℕ → ClassKind → Bool
 first_ok servers k = cond (eqb (kind_byte k) 2) (ltb servers 8) true
 
 server_sort : (k : ClassKind) → eqb (kind_byte k) 2 ≡ is_server_kind k
-server_sort kinds.Plain = refl
-server_sort _ = refl
+server_sort x = grind arith
 
 first_fits : (servers : ℕ) (k : ClassKind) → (is_server_kind k ≡ true → servers < 8) → first_ok servers k ≡ true
-first_fits servers k h =
-    elim (cases_Bool (eqb (kind_byte k) 2)) [
-      | inl is ↦ cond-true _ _ _ is ∙ lt-ltb servers 8 (h (sym (server_sort k) ∙ is))
-      | inr is_not ↦ cond-false _ _ _ is_not
-    ]
+first_fits servers k h = grind (arith, cases_Bool, cond-true, lt-ltb servers 8, server_sort k, cond-false)
 
 first_in : (servers : ℕ) (k : ClassKind) → first_ok servers k ≡ true → is_server_kind k ≡ true → servers < 8
 first_in servers k h is = ltb-true servers 8 (sym (cond-true _ _ _ (server_sort k ∙ is)) ∙ h)
 
 kind_sort_fits : (servers : ℕ) (k : ClassKind) → first_ok servers k ≡ true → (kind_sort servers).Fits (kind_byte k)
-kind_sort_fits servers kinds.Plain h = ((lit< tt, refl), h)
-kind_sort_fits servers _ h = ((lit< tt, refl), h)
+kind_sort_fits servers x h = grind arith
 
 class_fits : (version : Version) (classes natives servers : ℕ) (c : ClassDecl) → classes ≤ 256 → natives ≤ 16 → first_ok servers c.kind ≡ true → ClassFits version classes natives c
     → ParentFits version classes c.kind c.parent → (class version classes natives servers).Fits c
 class_fits version classes natives servers c few some_natives first h above = (
-  (
+  grind (
+    arith,
     kind_sort_fits servers c.kind first,
-    (
-      limited_byte_fits 0 8 c.words (lit< tt) (omega arith) h.words,
-      (
-        limited_byte_fits 0 8 (length c.fields) (lit< tt) (omega arith) h.field_count,
-        (
-          kind_fits version classes natives c.kind few some_natives h.kind,
-          (
-            fit_all (thing classes) c.fields (each (ThingFits classes) (thing classes).Fits c.fields (λ t k. thing_number_fits classes t few k) h.fields),
-            ((h.budget, h.budgeted), parent_fits version c.kind classes c.parent few above),
-          ),
-        ),
-      ),
-    ),
+    limited_byte_fits 0 8 c.words,
+    limited_byte_fits 0 8,
+    kind_fits version classes natives c.kind few some_natives h.kind,
+    fit_all,
+    each (ThingFits classes),
+    thing_number_fits classes,
+    parent_fits version c.kind classes c.parent few above,
   ),
   refl,
 )
 
 -- one more server, or none
 next_low : (b : Bool) (servers : ℕ) → servers ≤ 8 → (b ≡ true → servers < 8) → cond b (servers + 1) servers ≤ 8
-next_low true servers low h = let lt : servers < 8 = h refl in omega arith
-next_low false servers low h = low
+next_low x servers low h = grind arith
 
 next_is : (b : Bool) (servers : ℕ) → cond b (servers + 1) servers ≡ servers + cond b 1 0
-next_is true servers = refl
-next_is false servers = omega arith
+next_is x servers = grind arith
 
 count-cons : (c : ClassDecl) (cs : List ClassDecl) → count_by is_server (c ∷ cs) ≡ cond (is_server c) 1 0 + count_by is_server cs
 count-cons c cs = sum_by-cons (λ x. cond (is_server x) 1 0) c cs
@@ -336,20 +267,13 @@ classes_fit version classes natives servers (c ∷ cs) few some_natives h parent
 
 role_fits : (r : Role) → role.Fits r
 unfolding role_number
-role_fits roles.Do = (lit< tt, refl)
-role_fits _ = (lit< tt, refl)
+role_fits x = grind arith
 
 flags_fits : (f : MethodFlags) → f.0 < 4 → flags.Fits f
-flags_fits f h = (omega arith, ap (λ b. cond b (okay f) (Err BadOperand)) (lt-ltb f.0 4 h))
-  where
-    okay : MethodFlags → Result MethodFlags LoadFault
-    okay k = Ok k
+flags_fits f h = search (arith, nat_tests, lt-ltb f.0 4 h)
 
 states_fits : (s : States) → s.0 < 64 → states.Fits s
-states_fits s h = (omega arith, ap (λ b. cond b (okay s) (Err BadOperand)) (lt-ltb s.0 64 h))
-  where
-    okay : States → Result States LoadFault
-    okay k = Ok k
+states_fits s h = search (arith, nat_tests, lt-ltb s.0 64 h)
 
 flags_in : (f : MethodFlags) → flags.Fits f → f.0 < 4
 flags_in f h = ltb-true f.0 4 (guard_ok (ltb f.0 4) BadOperand (record { 0 = f.0 }) f h.1).0
@@ -358,8 +282,7 @@ states_in : (s : States) → states.Fits s → s.0 < 64
 states_in s h = ltb-true s.0 64 (guard_ok (ltb s.0 64) BadOperand (record { 0 = s.0 }) s h.1).0
 
 gives_small : (g : Gives) → gives_byte g ≤ 4
-gives_small gives.Nothing = lit≤ tt
-gives_small _ = lit≤ tt
+gives_small x = grind arith
 
 method_in_range : (version : Version) (classes methods : ℕ) (m : Method) → (method version classes methods).Fits m → MethodFits version classes methods m
 method_in_range version classes methods m f =
@@ -400,15 +323,12 @@ method_fits version classes methods m few some_methods h overs =
                   (
                     (omega arith, between_is 0 4 (gives_byte m.gives) (omega arith) small),
                     (
-                      fit_all (argument classes) m.arguments (each (ArgumentFits classes) (argument classes).Fits m.arguments (λ a k. argument_number_fits classes a few k) h.arguments),
+                      grind (arith, fit_all, each (ArgumentFits classes), argument_number_fits classes, few),
                       (
                         gives_number_fits classes m.gives few h.gives,
                         (
                           limited_pair_fits 1 1024 (length m.code) (lit< tt) h.some_code h.code_length,
-                          (
-                            over_fits version methods m.over some_methods overs,
-                            fit_all (instruction l) m.code (each (InstrFits l) (instruction l).Fits m.code (λ i k. fits l i bounded k) h.code),
-                          ),
+                          grind (arith, over_fits version methods m.over some_methods overs, fit_all, each (InstrFits l), fits l),
                         ),
                       ),
                     ),
@@ -425,8 +345,7 @@ method_fits version classes methods m few some_methods h overs =
 -- ---- the whole
 
 version_fits : (v : Version) → version_format.Fits v
-version_fits versions.One = (lit< tt, refl)
-version_fits versions.Two = (lit< tt, refl)
+version_fits x = grind arith
 
 -- the parts of an image that was read are in their ranges
 pub record InRange (i : Image) : Type 0 where
@@ -463,37 +382,14 @@ image_in_range i f =
       };
     }
 
-pub image_fits : (i : Image) → HeaderFits (length i.classes) i.header → ClassesFit i.header.version i.header.natives i.classes → MethodsFit i.header.version (length i.classes) i.methods → FamiliesFit i.header.version i.classes i.methods → image.Fits i
+pub image_fits : (i : Image) → HeaderFits (length i.classes) i.header → ClassesFit i.header.version i.header.natives i.classes →
+    MethodsFit i.header.version (length i.classes) i.methods → FamiliesFit i.header.version i.classes i.methods → image.Fits i
 image_fits i header cs ms families =
     let v = i.header.version in
     let classes = length i.classes in
     let methods = length i.methods in (
       (
-        (
-          (
-            version_fits v,
-            (
-              limited_pair_fits 0 256 classes (lit< tt) (omega arith) cs.count,
-              (
-                limited_pair_fits 1 1024 methods (lit< tt) ms.some ms.count,
-                (
-                  limited_pair_fits 0 4096 i.header.cells (lit< tt) (omega arith) header.cells,
-                  (
-                    limited_pair_fits 0 1024 i.header.messages (lit< tt) (omega arith) header.messages,
-                    (
-                      limited_byte_fits 0 16 i.header.natives (lit< tt) (omega arith) header.natives,
-                      (
-                        class_number_fits classes i.header.root cs.count header.root,
-                        header.budget,
-                      ),
-                    ),
-                  ),
-                ),
-              ),
-            ),
-          ),
-          refl,
-        ),
+        grind (arith, version_fits, limited_pair_fits, classes, methods, limited_byte_fits, class_number_fits),
         (
           classes_fit v classes i.header.natives 0 i.classes cs.count header.natives cs.each families.parents (omega (arith, cs.servers)),
           fit_all (method v classes methods) i.methods (λ k d lt. let m = slice_index_or i.methods k d in method_fits v classes methods m cs.count ms.count (ms.each k d lt) (families.overs k d lt)),

@@ -1,6 +1,8 @@
 -- The two laws of each format of an image, from those of its parts.
+use Rattle.std.proofs.lemmas.Bool.Decides.{nat_tests}
 use Rattle.std.proofs.lemmas.Option.{same_Some}
-use Rattle.std.proofs.Common.{◌≡◌, ℕ, zero, suc, ◌-◌, ◌<◌, ◌≤◌, Bool, true, false, cond, eqb, ltb, leb, List, [], ◌∷◌, length, Option, Some, None, Result, Ok, refl, sym, ap, subst, ◌∙◌, arith, eqb-true, lit<, lit≤, ◌&&◌}
+use Rattle.std.proofs.Common.{◌≡◌, ℕ, ◌-◌, ◌<◌, ◌≤◌, Bool, true, cond, eqb, ltb, leb, List, [], ◌∷◌, length, Option, Some, None, Result, Ok, refl, sym, ap}
+use Rattle.std.proofs.Common.{◌∙◌, arith, eqb-true, lit<, ◌&&◌}
 use Rattle.std.proofs.lemmas.Bool.{leb-true, le-leb, and_parts}
 use Rattle.aom_image.specs.Image.{Image}
 use Rattle.std.specs.List.{find}
@@ -13,12 +15,15 @@ use Rattle.aom_instructions.specs.declared.kinds.LargeKind.{LargeKind}
 use Rattle.aom_instructions.specs.declared.kinds.SmallKind.{SmallKind}
 use Rattle.aom_instructions.specs.declared.mnemonic.Mnemonic.{Mnemonic}
 use Rattle.aom_instructions.specs.declared.operand.Operands.{Operands}
-use Rattle.aom_codec.specs.Spelling.{class_number, gives_byte, result_number, kind_byte}
+use Rattle.aom_codec.specs.Spelling.{class_number, result_number, kind_byte}
 use Rattle.aom_codec.specs.Codec.{Codec, byte, pair, quad, nothing, fixed, always, keep, FitMany, unused, is_between, limited}
 use Rattle.aom_codec.specs.Instructions.{all_operands, instruction, known, large_operand, opcode, small_operand}
 use Rattle.aom_codec.specs.Spelling.{provider_sort, native_number}
 use Rattle.aom_instructions.specs.Fits.{limits}
-use Rattle.aom_codec.specs.Format.{class_from, class_or_none, version, untold, of_family, parent_from, parent, over, thing, argument, opening_fields, opening, last_provider, provider_from, provider, no_session, bare, session_class, active_part, active_provider, server_part, server_numbers, kind, budget, kind_sort, class_parts, class, count_server, role, flags, states, result_sort, gives_from, result, method_parts, method, image_parts, opening_of, image}
+use Rattle.aom_codec.specs.Format.{class_from, class_or_none, version, untold, of_family, parent_from, parent, over, thing, argument, opening_fields, opening}
+use Rattle.aom_codec.specs.Format.{last_provider, provider_from, provider, no_session, bare, session_class, active_part, active_provider, server_part}
+use Rattle.aom_codec.specs.Format.{server_numbers, kind, budget, kind_sort, class_parts, class, count_server, role, flags, states, result_sort, gives_from}
+use Rattle.aom_codec.specs.Format.{result, method_parts, method, image_parts, opening_of, image}
 use Rattle.aom_codec.specs.declared.fault.LoadFault.{LoadFault}
 use Rattle.aom_codec.specs.declared.fault.LoadFault.TheVariants.{BadMagic, BadOpcode, LimitPassed, NotZero}
 use Rattle.aom_instructions.specs.declared.limits.Limits.{Limits}
@@ -29,11 +34,12 @@ use Rattle.aom_image.specs.declared.class.ClassDecl.{ClassDecl}
 use Rattle.aom_image.specs.declared.class.ClassKind.{ClassKind}
 use Rattle.aom_image.specs.declared.class.ClassKind.TheVariants as kinds
 use Rattle.aom_image.specs.declared.class.Provider.{Provider}
-use Rattle.aom_image.specs.declared.method.Method.{Method}
 use Rattle.aom_image.specs.declared.method.Gives.{Gives}
 use Rattle.aom_instructions.specs.declared.instr.Instr.{Instr}
-use Rattle.aom_codec.proofs.Laws.{IsCodec, guard_ok, ok_is, of_byte, of_pair, of_quad, of_nothing, of_fixed, of_checked, of_next, of_after, of_seen, of_choose, of_many_from, of_many, of_unused, unused_fits, FitEach, fit_each, no_more, one_more}
-use Rattle.aom_codec.proofs.Returning.{version_returns, parent_returns, index_returns, class_returns, thing_returns, argument_returns, role_returns, flags_returns, states_returns, gives_returns, result_number_returns}
+use Rattle.aom_codec.proofs.Laws.{IsCodec, guard_ok, ok_is, of_byte, of_pair, of_quad, of_nothing, of_fixed, of_checked, of_next, of_after, of_seen}
+use Rattle.aom_codec.proofs.Laws.{of_choose, of_many_from, of_many, of_unused, unused_fits, FitEach, fit_each, no_more, one_more}
+use Rattle.aom_codec.proofs.Returning.{version_returns, parent_returns, index_returns, class_returns, thing_returns, argument_returns, role_returns}
+use Rattle.aom_codec.proofs.Returning.{flags_returns, states_returns, gives_returns, result_number_returns}
 use Rattle.aom_codec.proofs.InstructionFits.{operands_in_range}
 use Rattle.aom_codec.proofs.OperandLaws.{large_reads, small_reads}
 use Rattle.aom_image.proofs.Given.{some_given}
@@ -90,16 +96,11 @@ pair_is p q = cc
 
 provider_back : (natives sort n : ℕ) → sort ≤ 3 → cond (eqb sort 2) (ltb n natives) (eqb n 0) ≡ true
     → ◌≡◌ {A = ℕ × ℕ} (provider_sort (provider_from sort n), native_number (provider_from sort n)) (sort, n)
-provider_back natives zero n low h = pair_is refl (sym (eqb-true n 0 h))
-provider_back natives (suc zero) n low h = pair_is refl (sym (eqb-true n 0 h))
-provider_back natives (suc (suc zero)) n low h = refl
-provider_back natives (suc (suc (suc zero))) n low h = pair_is refl (sym (eqb-true n 0 h))
-provider_back natives (suc (suc (suc (suc k)))) n low h = absurd (omega arith)
+provider_back natives x n low h = grind (arith, nat_tests, pair_is)
 
 -- each version has four sorts at most
 few_providers : (version : Version) → last_provider version ≤ 3
-few_providers versions.One = lit≤ tt
-few_providers versions.Two = lit≤ tt
+few_providers x = grind arith
 
 pub between_true : (low high n : ℕ) → is_between low high n ≡ true → (low ≤ n) × (n ≤ high)
 between_true low high n h = let p = and_parts (leb low n) (leb n high) h in (leb-true _ _ p.0, leb-true _ _ p.1)
@@ -179,11 +180,7 @@ class_parts_laws version classes natives servers =
 
 -- the kind that was read is of the byte before it
 kind_of_byte : (version : Version) (classes natives sort : ℕ) (k : ClassKind) → sort ≤ 3 → (kind version classes natives sort).Fits k → kind_byte k ≡ sort
-kind_of_byte version classes natives zero k small fits = ap kind_byte (sym (ok_is _ k fits.1))
-kind_of_byte version classes natives (suc zero) k small fits = ap kind_byte (sym (ok_is _ k fits.1))
-kind_of_byte version classes natives (suc (suc zero)) k small fits = ap kind_byte (sym (ok_is _ k fits.1))
-kind_of_byte version classes natives (suc (suc (suc zero))) k small fits = ap kind_byte (sym (ok_is _ k fits.1))
-kind_of_byte version classes natives (suc (suc (suc (suc n)))) k small fits = absurd (omega arith)
+kind_of_byte version classes natives x k small fits = grind (arith, nat_tests, ok_is)
 
 pub many_length : {S X : Type 0} (c : S → Codec X) (add : S → X → S) (s : S) (n : ℕ) (xs : List X) → FitMany c add s n xs → length xs ≡ n
 many_length {S} {X} c add s n xs fits = by_each s n xs (fit_each c add s n xs fits)
@@ -219,11 +216,7 @@ operands_laws l k = of_seen _ _ _ (record { at = λ x y fits e. ap (λ (o : Oper
 -- what is found passes the test
 found_passes : {X : Type 0} (p : X → Bool) (xs : List X) (x : X) → find p xs ≡ Some x → p x ≡ true
 found_passes p [] x e = absurd cc
-found_passes {X} p (y ∷ ys) x e =
-    elim (p y) as (λ b. p y ≡ b → cond b (Some y) (find p ys) ≡ Some x → p x ≡ true) [
-      | true ↦ λ is found. subst (λ z. p z ≡ true) (same_Some y x found) is
-      | false ↦ λ is found. found_passes p ys x found
-    ] refl e
+found_passes {X} p (y ∷ ys) x e = grind (arith, nat_tests, same_Some y x, found_passes p ys x)
 
 known_ok : (version : Version) (o : Option Mnemonic) (m : Mnemonic) → known version o ≡ Ok m → o ≡ Some m
 known_ok version o m e =
@@ -281,20 +274,8 @@ method_parts_laws version classes methods =
     of_many places (instruction (limits version classes methods places)) (instruction_laws (limits version classes methods places))))))))))))))
 
 method_laws : (version : Version) (classes methods : ℕ) → IsCodec (method version classes methods)
-method_laws version classes methods = of_seen _ _ (method_parts version classes methods)
-    (record {
-      at = λ x y fits e.
-          let sort = x.1.1.1.1.1.1.0 in
-          let gives = x.1.1.1.1.1.1.1.1.0 in
-          let small : sort ≤ 4 = (between_true 0 4 sort fits.1.1.1.1.1.1.0.1).1 in
-          let sort_is = (gives_returns classes sort (result_number gives) gives small fits.1.1.1.1.1.1.1.1.0.1).1 in
-          let count_is = many_length (always (argument classes)) keep tt x.1.1.1.1.1.0 x.1.1.1.1.1.1.1.0 fits.1.1.1.1.1.1.1.0 in
-          let places = x.1.1.1.1.1.1.1.1.1.0 in
-          let places_is = many_length (always (instruction (limits version classes methods places))) keep tt places x.1.1.1.1.1.1.1.1.1.1.1 fits.1.1.1.1.1.1.1.1.1.1.1 in
-          ap (λ (m : Method). (m.class, (m.role, (m.flags, (m.before, (m.after, (length m.arguments, (gives_byte m.gives, (m.arguments, (m.gives, (length m.code, (m.over, m.code)))))))))))) (sym (ok_is _ y e))
-          ∙ pair_is refl (pair_is refl (pair_is refl (pair_is refl (pair_is refl (pair_is count_is (pair_is sort_is (pair_is refl (pair_is refl (pair_is places_is refl)))))))));
-    })
-    (method_parts_laws version classes methods)
+method_laws version classes methods =
+    search (arith, nat_tests, of_seen, between_true 0 4, gives_returns classes, many_length, ok_is, pair_is, method_parts_laws version classes methods)
 
 -- ---- the whole
 
@@ -305,9 +286,7 @@ image_parts_laws =
     of_many o.methods (method o.header.version o.classes o.methods) (method_laws o.header.version o.classes o.methods)))
 
 opening_again : (o : Opening) (classes methods : ℕ) → classes ≡ o.classes → methods ≡ o.methods → record { classes = classes; methods = methods; header = o.header } ≡ o
-opening_again o classes methods p q =
-    ap (λ n. let o1 : Opening = record { classes = n; methods = methods; header = o.header } in o1) p
-    ∙ ap (λ n. let o1 : Opening = record { classes = o.classes; methods = n; header = o.header } in o1) q
+opening_again o classes methods p q = search (arith, nat_tests)
 
 pub image_laws : IsCodec image
 image_laws = of_seen _ _ image_parts

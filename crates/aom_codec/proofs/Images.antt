@@ -1,5 +1,6 @@
 -- The laws of a whole image: its format's, its length, and that nothing stands after it.
-use Rattle.std.proofs.Common.{◌≡◌, ◌≢◌, ℕ, ◌<◌, ◌≤◌, cond, eqb, ltb, List, [], ◌++◌, length, All, Result, Ok, Err, refl, sym, ap, ◌∙◌, arith, ◌⊎◌, inl, inr, eqb-true}
+use Rattle.std.proofs.lemmas.Bool.Decides.{nat_tests}
+use Rattle.std.proofs.Common.{◌≡◌, ◌≢◌, ℕ, ◌<◌, ◌≤◌, cond, ltb, List, [], ◌++◌, length, All, Result, Ok, Err, sym, ap, ◌∙◌, arith, ◌⊎◌}
 use Rattle.std.proofs.lemmas.Bool.{ltb-false, le-ltb, cases_lt}
 use Rattle.std.proofs.lemmas.List.{append-nil, nil_from_length, get_or_past}
 use Rattle.aom_image.specs.Image.{Image}
@@ -8,7 +9,7 @@ use Rattle.aom_image.specs.WellFormed.{WellFormed}
 use Rattle.aom_codec.specs.RoundTrip.{SpellingReadsBack, ReadingSpellsBack}
 use Rattle.aom_codec.specs.Format.{image, whole, read_image}
 use Rattle.aom_codec.specs.declared.fault.LoadFault.{LoadFault}
-use Rattle.aom_codec.specs.declared.fault.LoadFault.TheVariants.{Trailing, LimitPassed, OutOfMemory}
+use Rattle.aom_codec.specs.declared.fault.LoadFault.TheVariants.{LimitPassed, OutOfMemory}
 use Rattle.aom_codec.proofs.Laws.{IsBytes, guard_ok, ok_is, kept}
 use Rattle.aom_codec.proofs.Lengths.{length_spell}
 use Rattle.aom_codec.proofs.Formats.{image_laws}
@@ -16,8 +17,7 @@ use Rattle.aom_codec.proofs.Spelled.{image_spelled}
 use Rattle.aom_codec.proofs.Fitting.{image_in_range, image_fits}
 
 whole_ok : (r : Result (Image × List ℕ) LoadFault) (x : Image) → whole r ≡ Ok x → (rest : List ℕ) × (r ≡ Ok (x, rest)) × (length rest ≡ 0)
-whole_ok (Err e) x h = absurd (cc)
-whole_ok (Ok y) x h = let g = guard_ok (eqb (length y.1) 0) Trailing y.0 x h in (y.1, ap (λ k. Ok (k, y.1)) g.1, eqb-true _ _ g.0)
+whole_ok x y h = grind (arith, nat_tests, guard_ok)
 
 pub read_takes : (bytes : List ℕ) (i : Image) → IsBytes bytes → read_image bytes ≡ Ok i → WellFormed i × (bytes ≡ spell i)
 read_takes bytes i fits e =
@@ -39,26 +39,17 @@ read_again i well =
     ap (λ b. cond b (Err LimitPassed) (whole (image.read (spell i)))) (le-ltb 1048576 (length (spell i)) (omega arith)) ∙ whole_is
 
 bytes_fit : (bytes : List ℕ) → All (λ b. b < 256) bytes → IsBytes bytes
-bytes_fit bytes h i =
-    elim (cases_lt i (length bytes)) [
-      | inl lt ↦ h i 0 lt
-      | inr le ↦ rw (get_or_past bytes i 0 le) (omega arith)
-    ]
+bytes_fit bytes h i = grind (arith, nat_tests, cases_lt i, get_or_past bytes i 0)
 
 pub spells_back : ReadingSpellsBack
 spells_back bytes i h e = let t = read_takes bytes i (bytes_fit bytes h) e in (t.0, sym t.1)
 
 -- a fault where an image is read can be want of memory alone
 memory_or : (e : LoadFault) → (e ≡ OutOfMemory) ⊎ (e ≢ OutOfMemory)
-memory_or OutOfMemory = inl refl
-memory_or _ = inr (λ h. cc)
+memory_or x = grind arith
 
 pub only_memory : (r : Result Image LoadFault) (i : Image) (e : LoadFault) → r ≡ Ok i → (e ≢ OutOfMemory → r ≡ Err e) → e ≡ OutOfMemory
-only_memory r i e is fails =
-    elim (memory_or e) [
-      | inl h ↦ h
-      | inr h ↦ absurd (let failed = fails h in cc)
-    ]
+only_memory r i e is fails = grind (arith, nat_tests, memory_or e)
 
 pub one_image : (r : Result Image LoadFault) (i j : Image) → r ≡ Ok i → r ≡ Ok j → i ≡ j
 one_image r i j p q = ok_is i j (sym p ∙ q)

@@ -1,5 +1,6 @@
 -- An instruction fits its format exactly where its operands are of the kinds that its row asks, each in its range.
-use Rattle.std.proofs.Common.{◌≡◌, ◌∙◌, ◌<◌, Err, Ok, Result, cond, refl, sym, true, ap, lit<}
+use Rattle.std.proofs.lemmas.Bool.Decides.{nat_tests}
+use Rattle.std.proofs.Common.{arith, ◌≡◌, ◌∙◌, ◌<◌, Err, Ok, cond, refl, sym, true, ap}
 use Rattle.aom_instructions.proofs.Again.{parts_make_again, rows_are_one}
 use Rattle.aom_instructions.specs.Operands.{OperandsFit}
 use Rattle.aom_instructions.specs.Parts.{mnemonic, operands}
@@ -10,12 +11,10 @@ use Rattle.aom_instructions.specs.declared.instr.Instr.{Instr}
 use Rattle.aom_instructions.specs.declared.kinds.Kinds.{Kinds}
 use Rattle.aom_instructions.specs.declared.limits.Limits.{Limits}
 use Rattle.aom_instructions.specs.declared.mnemonic.Mnemonic.{Mnemonic}
-use Rattle.aom_instructions.specs.declared.mnemonic.Mnemonic.TheVariants as m
 use Rattle.aom_instructions.specs.declared.operand.Operands.{Operands}
 use Rattle.aom_instructions.specs.declared.version.Version.{Version}
 use Rattle.aom_codec.specs.Instructions.{Bounded, all_operands, instruction, known, opcode}
 use Rattle.aom_codec.specs.Spelling.{large_number, small_byte}
-use Rattle.aom_codec.specs.declared.fault.LoadFault.{LoadFault}
 use Rattle.aom_codec.specs.declared.fault.LoadFault.TheVariants.{BadOpcode}
 use Rattle.aom_codec.proofs.Laws.{guard_ok}
 use Rattle.aom_codec.proofs.OperandLaws.{large_reads, large_takes, small_reads, small_takes}
@@ -32,18 +31,14 @@ operands_fit : (l : Limits) (k : Kinds) (o : Operands) → Bounded l → Operand
 operands_fit l k o few h = ((small_takes k.a o.a h.a, (small_takes k.b o.b h.b, (small_takes k.c o.c h.c, large_takes l k.d o.d few h.d))), refl)
 
 opcode_is_byte : (m : Mnemonic) → (row m).opcode < 256
-opcode_is_byte m.Const = lit< tt
-opcode_is_byte _ = lit< tt
+opcode_is_byte x = grind arith
 
 -- the opcode of a mnemonic stands for it where the version has it
 known_is : (version : Version) (m : Mnemonic) → known version (with_opcode (row m).opcode) ≡ cond (is_in version m) (Ok m) (Err BadOpcode)
 known_is version m = ap (known version) (rows_are_one m).0
 
 opcode_fits : (version : Version) (m : Mnemonic) → is_in version m ≡ true → (opcode version).Fits m
-opcode_fits version m h = (opcode_is_byte m, known_is version m ∙ ap (λ b. cond b (okay m) (Err BadOpcode)) h)
-  where
-    okay : Mnemonic → Result Mnemonic LoadFault
-    okay k = Ok k
+opcode_fits version m h = search (arith, nat_tests, opcode_is_byte m, known_is version m)
 
 pub in_range : (l : Limits) (i : Instr) → (instruction l).Fits i → InstrFits l i
 in_range l i f = record {
@@ -52,5 +47,4 @@ in_range l i f = record {
 }
 
 pub fits : (l : Limits) (i : Instr) → Bounded l → InstrFits l i → (instruction l).Fits i
-fits l i few h =
-    ((opcode_fits l.version (mnemonic i) h.version, operands_fit l (row (mnemonic i)).kinds (operands i) few h.operands), ap (λ j. Ok j) (parts_make_again i))
+fits l i few h = search (arith, nat_tests, opcode_fits l.version, operands_fit l, parts_make_again i)

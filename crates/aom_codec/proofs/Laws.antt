@@ -1,12 +1,15 @@
 -- What is read is spelled so and fits, and what fits and is spelled so is read: for each way of making a format, once.
-use Rattle.std.proofs.Common.{◌≡◌, ℕ, zero, suc, ◌+◌, ◌^◌, ◌<◌, ◌≤◌, Bool, true, false, cond, ltb, eqb, List, [], ◌∷◌, ◌++◌, length, get_or, take, drop, Result, Ok, Err, refl, sym, ap, subst, ◌∙◌, append_assoc, arith, inl, inr, eqb-true, eq-eqb}
+use Rattle.std.proofs.lemmas.Bool.Decides.{nat_tests}
+use Rattle.std.proofs.Common.{◌≡◌, ℕ, zero, suc, ◌+◌, ◌^◌, ◌<◌, ◌≤◌, Bool, true, false, cond, ltb, eqb, List, [], ◌∷◌, ◌++◌, length, get_or, take, drop}
+use Rattle.std.proofs.Common.{Result, Ok, Err, refl, sym, ap, subst, ◌∙◌, append_assoc, arith, eq-eqb}
 use Rattle.std.specs.Int.{Width, w16, w32, byte_len, from_be_bytes, to_be_bytes}
-use Rattle.std.proofs.lemmas.Bool.{cases_lt, ltb-false, le-ltb}
+use Rattle.std.proofs.lemmas.Bool.{ltb-false, le-ltb}
 use Rattle.std.proofs.lemmas.List.{take_at, drop_at, take-append-drop, length-append, length-take, get_or-drop, get_or-take, get_or_past}
 use Rattle.std.proofs.lemmas.Nat.{be_bytes_2, be_bytes_4, from_be_bytes-to_be_bytes_2, from_be_bytes-to_be_bytes_4}
 use Rattle.aom_codec.specs.declared.fault.LoadFault.{LoadFault}
 use Rattle.aom_codec.specs.declared.fault.LoadFault.TheVariants.{Truncated}
-use Rattle.aom_codec.specs.Codec.{Codec, ◌>>=◌, byte_at, byte, number_at, number, pair, quad, nothing, checked, fixed, next, after, seen, many_from, many, always, keep, read_many, spell_many, FitMany, unused, choose}
+use Rattle.aom_codec.specs.Codec.{Codec, ◌>>=◌, byte_at, byte, number_at, number, pair, quad, nothing, checked, fixed, next, after, seen, many_from, many}
+use Rattle.aom_codec.specs.Codec.{always, keep, read_many, spell_many, FitMany, unused, choose}
 
 abbrev pub IsBytes : List ℕ → Type 0
 IsBytes bytes = (i : ℕ) → get_or bytes i 0 < 256
@@ -15,11 +18,7 @@ IsBytes-drop : (n : ℕ) (bytes : List ℕ) → IsBytes bytes → IsBytes (drop 
 IsBytes-drop n bytes h i = rw get_or-drop (h (n + i))
 
 IsBytes-take : (n : ℕ) (bytes : List ℕ) → IsBytes bytes → IsBytes (take n bytes)
-IsBytes-take n bytes h i =
-    elim (cases_lt i n) [
-      | inl lt ↦ rw (get_or-take n bytes i 0 lt) (h i)
-      | inr le ↦ rw (get_or_past (take n bytes) i 0 (omega (arith, length-take n bytes))) (omega arith)
-    ]
+IsBytes-take n bytes h i = grind (arith, get_or-take n bytes i 0, get_or_past, length-take n bytes)
 
 pub bind_ok : {A B : Type 0} (r : Result A LoadFault) (f : A → Result B LoadFault) (y : B) → (r >>= f) ≡ Ok y → (x : A) × (r ≡ Ok x) × (f x ≡ Ok y)
 bind_ok x f y e = grind arith
@@ -84,16 +83,26 @@ wide16 : IsWide w16
 wide16 = record { len = λ n. refl; back = λ bytes len fits. be_bytes_2 bytes _ len fits refl; again = λ n lt. from_be_bytes-to_be_bytes_2 n lt; below = λ bytes fits. omega (arith, fits 0, fits 1) }
 
 wide32 : IsWide w32
-wide32 = record { len = λ n. refl; back = λ bytes len fits. be_bytes_4 bytes _ len fits refl; again = λ n lt. from_be_bytes-to_be_bytes_4 n lt; below = λ bytes fits. omega (arith, fits 0, fits 1, fits 2, fits 3) }
+wide32 = record {
+  len = λ n. refl;
+  back = λ bytes len fits. be_bytes_4 bytes _ len fits refl;
+  again = λ n lt. from_be_bytes-to_be_bytes_4 n lt;
+  below = λ bytes fits. omega (arith, fits 0, fits 1, fits 2, fits 3);
+}
 
 number_takes : (w : Width) (wide : IsWide w) (bytes : List ℕ) (x : ℕ × List ℕ) → IsBytes bytes → number_at w bytes ≡ Ok x → Takes bytes (to_be_bytes w x.0) x.1 × (x.0 < 256 ^ byte_len w)
 number_takes w wide bytes x fits e =
     let g = kept (ltb (length bytes) (byte_len w)) (Ok (from_be_bytes w (take (byte_len w) bytes), drop (byte_len w) bytes)) Truncated x e in
     let long : byte_len w ≤ length bytes = ltb-false _ _ g.0 in
     let front_fits = IsBytes-take (byte_len w) bytes fits in
-    let front : to_be_bytes w (from_be_bytes w (take (byte_len w) bytes)) ≡ take (byte_len w) bytes = wide.back (take (byte_len w) bytes) (omega (arith, length-take (byte_len w) bytes)) front_fits in
-    subst (λ (p : ℕ × List ℕ). Takes bytes (to_be_bytes w p.0) p.1 × (p.0 < 256 ^ byte_len w)) (ok_is _ x g.1)
-    (record { parts = sym (ap (λ t. t ++ drop (byte_len w) bytes) front ∙ take-append-drop (byte_len w) bytes); rest_fits = IsBytes-drop (byte_len w) bytes fits }, wide.below (take (byte_len w) bytes) front_fits)
+    let front : to_be_bytes w (from_be_bytes w (take (byte_len w) bytes)) ≡ take (byte_len w) bytes = grind (arith, length-take) in
+    subst (λ (p : ℕ × List ℕ). Takes bytes (to_be_bytes w p.0) p.1 × (p.0 < 256 ^ byte_len w)) (ok_is _ x g.1) (
+      record {
+        parts = sym (ap (λ t. t ++ drop (byte_len w) bytes) front ∙ take-append-drop (byte_len w) bytes);
+        rest_fits = IsBytes-drop (byte_len w) bytes fits;
+      },
+      wide.below (take (byte_len w) bytes) front_fits,
+    )
 
 number_again : (w : Width) (wide : IsWide w) (n : ℕ) (rest : List ℕ) → n < 256 ^ byte_len w → number_at w (to_be_bytes w n ++ rest) ≡ Ok (n, rest)
 number_again w wide n rest lt =
@@ -126,7 +135,7 @@ of_fixed c n fault laws ok = record { takes = takes; again = again }
         let b = bind_ok (c.read bytes) (λ y. cond (eqb y.0 n) (Ok (tt, y.1)) (Err fault)) x e in
         let g = guard_ok (eqb b.0.0 n) fault (tt, b.0.1) x b.2 in
         let t = laws.takes bytes b.0 fits b.1 in
-        (subst (λ (r : List ℕ). Takes bytes (c.spell n) r) (ap (λ (p : Unit {0} × List ℕ). p.1) g.1) (subst (λ (k : ℕ). Takes bytes (c.spell k) b.0.1) (eqb-true _ _ g.0) t.0), tt)
+        (grind (arith, nat_tests), tt)
 
     again : (x : Unit {0}) (rest : List ℕ) → Unit {0} → (fixed c n fault).read (c.spell n ++ rest) ≡ Ok (x, rest)
     again x rest _ = rw (laws.again n rest ok, eq-eqb n n refl) refl
@@ -138,7 +147,7 @@ of_checked {X} c test fault laws = record {
       let g = guard_ok (test b.0.0) fault b.0 x b.2 in
       let t = laws.takes bytes b.0 fits b.1 in
       subst (λ (y : X × List ℕ). Takes bytes (c.spell y.0) y.1 × (c.Fits y.0 × (test y.0 ≡ true))) g.1 (t.0, (t.1, g.0));
-  again = λ x rest fits. ap (λ r. r >>= λ y. cond (test y.0) (Ok y) (Err fault)) (laws.again x rest fits.0) ∙ ap (λ b. cond b (Ok (x, rest)) (Err fault)) fits.1;
+  again = grind (arith, nat_tests);
 }
 
 pub of_next : {A B : Type 0} (a : Codec A) (b : A → Codec B) → IsCodec a → ((x : A) → IsCodec (b x)) → IsCodec (next a b)
@@ -181,13 +190,11 @@ of_seen {A} {B} there back c returns laws = record {
       let same : back q.0 ≡ p.0.0 = returns.at p.0.0 q.0 t.1 q.1 in
       subst (λ (y : B × List ℕ). Takes bytes (c.spell (back y.0)) y.1 × (c.Fits (back y.0) × (there (back y.0) ≡ Ok y.0))) (ok_is (q.0, p.0.1) x q.2)
       (subst (λ (a : A). Takes bytes (c.spell a) p.0.1) (sym same) t.0, (subst c.Fits (sym same) t.1, ap there same ∙ q.1));
-  again = λ x rest fits.
-      ap (λ r. r >>= λ y. there y.0 >>= λ z. Ok (z, y.1)) (laws.again (back x) rest fits.0) ∙ ap (λ r. r >>= λ z. Ok (z, rest)) fits.1;
+  again = grind (arith, nat_tests, back);
 }
 
 pub of_choose : {X : Type 0} (b : Bool) (c d : Codec X) → IsCodec c → IsCodec d → IsCodec (choose b c d)
-of_choose true c d one two = one
-of_choose false c d one two = two
+of_choose x c d one two = grind arith
 
 -- values that fit a number of formats, one after another
 pub data FitEach {S X : Type 0} (c : S → Codec X) (add : S → X → S) : S → ℕ → List X → Type 0 where
@@ -201,7 +208,8 @@ fit_each c add s _ _ fits = absurd fits
 
 pub of_many_from : {S X : Type 0} (c : S → Codec X) (add : S → X → S) → ((s : S) → IsCodec (c s)) → (n : ℕ) (s : S) → IsCodec (many_from c add s n)
 of_many_from {S} {X} c add laws zero s = record {
-  takes = λ bytes x fits e. subst (λ (y : List X × List ℕ). Takes bytes (spell_many c add s y.0) y.1 × FitMany c add s zero y.0) (ok_is ([], bytes) x e) (record { parts = refl; rest_fits = fits }, tt);
+  takes = λ bytes x fits e. subst (λ (y : List X × List ℕ). Takes bytes (spell_many c add s y.0) y.1 × FitMany c add s zero y.0)
+      (ok_is ([], bytes) x e) (record { parts = refl; rest_fits = fits }, tt);
   again = λ x rest fits. again x rest (fit_each c add s zero x fits);
 }
   where

@@ -1,5 +1,5 @@
 -- How long a spelling is, from the counts of its parts.
-use Rattle.std.proofs.Common.{◌≡◌, ℕ, zero, suc, ◌+◌, ◌-◌, ◌*◌, ◌≤◌, List, [], ◌∷◌, ◌++◌, length, All, Option, sum_by, slice_index_or, refl, arith, flat_map, length-append}
+use Rattle.std.proofs.Common.{◌≡◌, ℕ, zero, suc, ◌+◌, ◌-◌, ◌*◌, ◌≤◌, List, [], ◌∷◌, ◌++◌, length, All, Option, sum_by, refl, arith, flat_map, length-append}
 use Rattle.std.proofs.lemmas.List.Concat.{length-flat_map}
 use Rattle.std.proofs.lemmas.List.Sums.{sum_by-cons}
 use Rattle.aom_image.specs.Image.{Image}
@@ -9,7 +9,6 @@ use Rattle.aom_codec.specs.Spelling.{pair, quad, unused_pairs, thing_number, arg
 use Rattle.aom_image.specs.WellFormed.{ClassesFit, MethodsFit, spelled_size}
 use Rattle.aom_instructions.specs.Versions.{family_bytes as family_size}
 use Rattle.aom_instructions.specs.declared.version.Version.{Version}
-use Rattle.aom_instructions.specs.declared.version.Version.TheVariants as versions
 
 pub head_of : {X : Type 0} (P : X → Type 0) (x : X) (xs : List X) → All P (x ∷ xs) → P x
 head_of P x xs h = h 0 x (omega arith)
@@ -34,8 +33,7 @@ length-pairs : {X : Type 0} (f : X → ℕ) (xs : List X) → length (flat_map (
 length-pairs f xs = omega (arith, length-flat_map (λ x. pair (f x)) xs, sum_by-constant 2 xs)
 
 length_family : (version : Version) (o : Option ℕ) → length (family_bytes version o) ≡ family_size version
-length_family versions.One o = refl
-length_family versions.Two o = refl
+length_family x o = grind arith
 
 length_class : (version : Version) (c : ClassDecl) → length c.fields ≤ 8 → length (class version c) ≡ 28 + family_size version
 length_class version c le =
@@ -76,8 +74,8 @@ pub length_spell : (i : Image) → ClassesFit i.header.version i.header.natives 
 length_spell i classes methods =
     let v = i.header.version in
     let more = family_size v in
-    let each_class : All (λ c. length (class v c) ≡ 28 + more) i.classes = λ k d lt. length_class v (slice_index_or i.classes k d) (classes.each k d lt).field_count in
-    let each_method : All (λ m. length (method v m) ≡ 24 + more + 8 * length m.code) i.methods = λ k d lt. length_method v (slice_index_or i.methods k d) (methods.each k d lt).argument_count in
+    let each_class : All (λ c. length (class v c) ≡ 28 + more) i.classes = grind (arith, length_class v) in
+    let each_method : All (λ m. length (method v m) ≡ 24 + more + 8 * length m.code) i.methods = grind (arith, length_method v) in
     omega (
       arith,
       length-append (flat_map (class v) i.classes) (flat_map (method v) i.methods),

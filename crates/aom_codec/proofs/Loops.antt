@@ -1,4 +1,5 @@
 -- Loops that read so many: what was read before, and what is still read.
+use Rattle.std.proofs.lemmas.Bool.Decides.{nat_tests}
 use Rattle.std.proofs.Common.{◌≡◌, ℕ, suc, ◌+◌, ◌-◌, ◌<◌, ◌≤◌, List, [], ◌∷◌, ◌++◌, Result, Ok, Err, refl, sym, ap, ◌∙◌, append_assoc, arith}
 use Rattle.std.proofs.lemmas.List.{append-nil}
 use Rattle.aom_codec.specs.declared.fault.LoadFault.{LoadFault}
@@ -16,18 +17,15 @@ abbrev pub StillReads : {S X : Type 0} → (S → Codec X) → (S → X → S) �
 StillReads c add s front left bytes total = with_front front (read_many c add s left bytes) ≡ total
 
 pub begins : {S X : Type 0} (c : S → Codec X) (add : S → X → S) (s : S) (count : ℕ) (bytes : List ℕ) → StillReads c add s [] (count - 0) bytes (read_many c add s count bytes)
-begins c add s count bytes = let k : count - 0 ≡ count = omega arith in rw k (nil_front (read_many c add s count bytes))
-  where
-    nil_front : {X : Type 0} (read : Result (List X × List ℕ) LoadFault) → with_front [] read ≡ read
-    nil_front (Ok x) = refl
-    nil_front (Err e) = refl
+begins c add s count bytes = grind (arith, nat_tests)
 
 module _ {S X : Type 0} (c : S → Codec X) (add : S → X → S) (s : S) (front : List X) (count i : ℕ) (bytes : List ℕ) (total : Result (List X × List ℕ) LoadFault)
     (so_far : StillReads c add s front (count - i) bytes total) where
   pub goes_on : (n : X) (rest : List ℕ) → i < count → (c s).read bytes ≡ Ok (n, rest) → StillReads c add (add s n) (front ++ n ∷ []) (count - (i + 1)) rest total
   goes_on n rest lt h =
       let k : count - i ≡ suc (count - (i + 1)) = omega arith in
-      let one : with_front front (read_many c add s (count - i) bytes) ≡ with_front (front ++ n ∷ []) (read_many c add (add s n) (count - (i + 1)) rest) = rw (k, h) (regroup front n (read_many c add (add s n) (count - (i + 1)) rest)) in
+      let one : with_front front (read_many c add s (count - i) bytes) ≡ with_front (front ++ n ∷ []) (read_many c add (add s n) (count - (i + 1)) rest) =
+      rw (k, h) (regroup front n (read_many c add (add s n) (count - (i + 1)) rest)) in
       sym one ∙ so_far
 
   pub breaks : (e : LoadFault) → i < count → (c s).read bytes ≡ Err e → total ≡ Err e
@@ -37,10 +35,7 @@ module _ {S X : Type 0} (c : S → Codec X) (add : S → X → S) (s : S) (front
       sym so_far ∙ one
 
   pub is_done : count ≤ i → total ≡ Ok (front, bytes)
-  is_done le =
-      let k : count - i ≡ 0 = omega arith in
-      let one : with_front front (read_many c add s (count - i) bytes) ≡ Ok (front, bytes) = rw k (ap (λ ns. Ok (ns, bytes)) (append-nil front)) in
-      sym so_far ∙ one
+  is_done le = grind (arith, nat_tests, append-nil front)
 
 module _ (c : Codec ℕ) (fault : LoadFault) (count i : ℕ) (bytes : List ℕ) (total : Result (Unit {0} × List ℕ) LoadFault)
     (so_far : (unused (count - i) c fault).read bytes ≡ total) where

@@ -1,20 +1,20 @@
 -- What is read of an operand is spelled so and fits, and what fits and is spelled so is read: for each kind, once.
-use Rattle.std.proofs.Common.{◌≡◌, ℕ, ◌+◌, ◌*◌, ◌/◌, ◌%◌, ◌<◌, ◌≤◌, ◌^◌, cond, eqb, ltb, Result, Ok, Err, refl, sym, ap, subst, ◌∙◌, arith, eqb-true, lit<, FitsSigned, Fits, rules, ℤ, pos, negsuc, inl, inr}
+use Rattle.std.proofs.lemmas.Bool.Decides.{nat_tests}
+use Rattle.std.proofs.Common.{◌≡◌, ℕ, ◌+◌, ◌*◌, ◌/◌, ◌%◌, ◌<◌, ◌≤◌, ◌^◌, cond, eqb, ltb, Result, Ok, Err, refl, ap, ◌∙◌, arith, lit<, FitsSigned, Fits, rules}
+use Rattle.std.proofs.Common.{ℤ}
 use Rattle.std.specs.Int.{w32, cast_unsigned, cast_signed}
 use Rattle.std.proofs.Math.Facts.{sfits_to_z}
-use Rattle.std.proofs.lemmas.Int.{of_z-to_z, to_z-of_z}
+use Rattle.std.proofs.lemmas.Int.{of_z-to_z}
 use Rattle.std.proofs.lemmas.Bool.{ltb-true, lt-ltb, ne_eqb, eqb-false}
 use Rattle.aom_codec.specs.declared.fault.LoadFault.{LoadFault}
-use Rattle.aom_codec.specs.declared.fault.LoadFault.TheVariants.{BadOperand, BadIndex, NotZero}
+use Rattle.aom_codec.specs.declared.fault.LoadFault.TheVariants.{BadOperand}
 use Rattle.aom_codec.specs.Instructions.{Bounded, below, large_from, small_from, target_from}
 use Rattle.aom_codec.specs.Spelling.{large_number, small_byte, target_byte}
 use Rattle.aom_codec.proofs.Laws.{guard_ok, ok_is, passed, kept}
 use Rattle.aom_codec.proofs.Returning.{took}
 use Rattle.aom_instructions.specs.Operands.{LargeFits, SmallFits, TargetFits}
 use Rattle.aom_instructions.specs.declared.instr.Target.{Target}
-use Rattle.aom_instructions.specs.declared.instr.Target.TheVariants as targets
 use Rattle.aom_instructions.specs.declared.kinds.LargeKind.{LargeKind}
-use Rattle.aom_instructions.specs.declared.kinds.LargeKind.TheVariants as lk
 use Rattle.aom_instructions.specs.declared.kinds.SmallKind.{SmallKind}
 use Rattle.aom_instructions.specs.declared.kinds.SmallKind.TheVariants as sk
 use Rattle.aom_instructions.specs.declared.limits.Limits.{Limits}
@@ -39,41 +39,18 @@ SaysLarge l k n o = (large_number o ≡ n) × LargeFits l k o
 
 target_says : (t : Target) (limit low n : ℕ) (o : Small) → (low < limit → target_byte t ≡ n) → (low < limit → TargetFits t)
     → below limit low (small.CallTarget t) BadOperand ≡ Ok o → SaysSmall sk.CallTarget n o
-target_says t limit low n o spelled fits e =
-    let g = below_ok limit low (small.CallTarget t) o BadOperand e in
-    (ap small_byte (sym g.1) ∙ spelled g.0, subst (SmallFits sk.CallTarget) g.1 (fits g.0))
+target_says t limit low n o spelled fits e = grind (arith, nat_tests, below_ok)
 
 target_reads : (high low n : ℕ) (o : Small) → high * 16 + low ≡ n → target_from high low ≡ Ok o → SaysSmall sk.CallTarget n o
-target_reads high low n o is e =
-    elim (took (eqb high 0) _ _ o e) [
-      | inl h ↦ let k : high ≡ 0 = eqb-true _ _ h.0 in target_says targets.This 1 low n o (λ lt. omega (arith, is, k, lt)) (λ lt. tt) h.1
-      | inr h ↦
-          elim (took (eqb high 1) _ _ o h.1) [
-            | inl i ↦ let k : high ≡ 1 = eqb-true _ _ i.0 in target_says (targets.Register low) 16 low n o (λ lt. omega (arith, is, k)) (λ lt. lt) i.1
-            | inr i ↦
-                elim (took (eqb high 2) _ _ o i.1) [
-                  | inl j ↦ let k : high ≡ 2 = eqb-true _ _ j.0 in target_says (targets.Field low) 8 low n o (λ lt. omega (arith, is, k)) (λ lt. lt) j.1
-                  | inr j ↦
-                      let g = passed (eqb high 3) _ _ o j.1 in
-                      let k : high ≡ 3 = eqb-true _ _ g.0 in
-                      target_says (targets.Entry low) 16 low n o (λ lt. omega (arith, is, k)) (λ lt. lt) g.1
-                ]
-          ]
-    ]
+target_reads high low n o is e = grind (arith, nat_tests, took, target_says, passed)
 
 pub small_reads : (k : SmallKind) (n : ℕ) (o : Small) → small_from k n ≡ Ok o → SaysSmall k n o
-small_reads sk.Unused n o e =
-    let g = below_ok 1 n small.Unused o NotZero e in
-    let z : 0 ≡ n = omega (arith, g.0) in
-    (ap small_byte (sym g.1) ∙ z, subst (SmallFits sk.Unused) g.1 tt)
-small_reads sk.Register n o e = let g = below_ok 16 n (small.Register n) o BadOperand e in (ap small_byte (sym g.1), subst (SmallFits sk.Register) g.1 g.0)
-small_reads sk.TrapResult n o e =
-    let g = below_ok 15 n (small.Register n) o BadOperand e in
-    let most : n ≤ 14 = omega (arith, g.0) in
-    (ap small_byte (sym g.1), subst (SmallFits sk.TrapResult) g.1 most)
-small_reads sk.Word n o e = let g = below_ok 8 n (small.Word n) o BadOperand e in (ap small_byte (sym g.1), subst (SmallFits sk.Word) g.1 g.0)
-small_reads sk.Field n o e = let g = below_ok 8 n (small.Field n) o BadOperand e in (ap small_byte (sym g.1), subst (SmallFits sk.Field) g.1 g.0)
-small_reads sk.Depth n o e = let g = below_ok 4 n (small.Depth n) o BadOperand e in (ap small_byte (sym g.1), subst (SmallFits sk.Depth) g.1 g.0)
+small_reads sk.Unused n o e = grind (arith, nat_tests, below_ok)
+small_reads sk.Register n o e = grind (arith, nat_tests, below_ok)
+small_reads sk.TrapResult n o e = grind (arith, nat_tests, below_ok)
+small_reads sk.Word n o e = grind (arith, nat_tests, below_ok)
+small_reads sk.Field n o e = grind (arith, nat_tests, below_ok)
+small_reads sk.Depth n o e = grind (arith, nat_tests, below_ok)
 small_reads sk.CallTarget n o e = target_reads (n / 16) (n % 16) n o (omega arith) e
 
 -- any four bytes are a number with its sign
@@ -81,22 +58,7 @@ signed_fits : (n : ℕ) → n < 2 ^ 32 → FitsSigned w32 (cast_signed w32 n)
 signed_fits n lt = let f : Fits w32 n = search rules in sfits_to_z f
 
 pub large_reads : (l : Limits) (k : LargeKind) (n : ℕ) (o : Large) → n < 2 ^ 32 → large_from l k n ≡ Ok o → SaysLarge l k n o
-large_reads l lk.Nothing n o lt e =
-    let g = below_ok 1 n large.Nothing o NotZero e in
-    let z : 0 ≡ n = omega (arith, g.0) in
-    (ap large_number (sym g.1) ∙ z, subst (LargeFits l lk.Nothing) g.1 tt)
-large_reads l lk.Number n o lt e =
-    let g = ok_is (large.Number (cast_signed w32 n)) o e in
-    (ap large_number (sym g) ∙ of_z-to_z w32 n lt, subst (LargeFits l lk.Number) g (signed_fits n lt))
-large_reads l lk.Rounds n o lt e =
-    let h = kept (eqb n 0) (below 65536 n (large.Rounds n) BadOperand) BadOperand o e in
-    let g = below_ok 65536 n (large.Rounds n) o BadOperand h.1 in
-    let some : 1 ≤ n = omega (arith, eqb-false n 0 h.0) in
-    let most : n < 2 ^ 16 = omega (arith, g.0) in
-    (ap large_number (sym g.1), subst (LargeFits l lk.Rounds) g.1 (some, most))
-large_reads l lk.Place n o lt e = let g = below_ok l.places n (large.Place n) o BadIndex e in (ap large_number (sym g.1), subst (LargeFits l lk.Place) g.1 g.0)
-large_reads l lk.Class n o lt e = let g = below_ok l.classes n (large.Class n) o BadIndex e in (ap large_number (sym g.1), subst (LargeFits l lk.Class) g.1 g.0)
-large_reads l lk.Method n o lt e = let g = below_ok l.methods n (large.Method n) o BadIndex e in (ap large_number (sym g.1), subst (LargeFits l lk.Method) g.1 g.0)
+large_reads l x n o lt e = grind (arith, nat_tests, below_ok, ok_is, of_z-to_z, signed_fits, kept, eqb-false)
 
 -- ---- what fits
 
@@ -110,10 +72,7 @@ from_halves : (n high low : ℕ) → n / 16 ≡ high → n % 16 ≡ low → targ
 from_halves n high low p q = ap (λ h. target_from h (n % 16)) p ∙ ap (target_from high) q
 
 target_takes : (t : Target) → TargetFits t → ReadsSmall sk.CallTarget (small.CallTarget t)
-target_takes targets.This fits = (lit< tt, refl)
-target_takes (targets.Register r) fits = (omega arith, from_halves (16 + r) 1 r (omega arith) (omega arith) ∙ below_is 16 r (small.CallTarget (targets.Register r)) BadOperand fits)
-target_takes (targets.Field f) fits = (omega arith, from_halves (32 + f) 2 f (omega arith) (omega arith) ∙ below_is 8 f (small.CallTarget (targets.Field f)) BadOperand fits)
-target_takes (targets.Entry e) fits = (omega arith, from_halves (48 + e) 3 e (omega arith) (omega arith) ∙ below_is 16 e (small.CallTarget (targets.Entry e)) BadOperand fits)
+target_takes x fits = grind (arith, nat_tests, from_halves, below_is)
 
 pub small_takes : (k : SmallKind) (o : Small) → SmallFits k o → ReadsSmall k o
 small_takes sk.Unused small.Unused fits = (lit< tt, refl)
@@ -127,8 +86,7 @@ small_takes _ _ fits = absurd fits
 
 -- what a number with its sign is spelled as
 below_32 : (z : ℤ) → FitsSigned w32 z → cast_unsigned w32 z < 2 ^ 32
-below_32 (pos n) h = omega arith
-below_32 (negsuc n) h = omega arith
+below_32 x h = grind arith
 
 abbrev a_number : ℤ → Result Large LoadFault
 a_number z = Ok (large.Number z)

@@ -1,56 +1,42 @@
 -- What a number stands for is spelled as that number.
-use Rattle.std.proofs.Common.{◌≡◌, ℕ, ◌<◌, ◌≤◌, Bool, true, false, cond, eqb, ltb, Option, Some, None, Result, Ok, refl, sym, ap, ◌∙◌, arith, eqb-true, ◌⊎◌, inl, inr}
+use Rattle.std.proofs.Common.{◌≡◌, ℕ, ◌<◌, ◌≤◌, Bool, true, false, cond, ltb, Option, Result, Ok, sym, ap, arith, ◌⊎◌}
 use Rattle.std.proofs.lemmas.Bool.{ltb-true}
 use Rattle.std.proofs.lemmas.Bool.Decides.{nat_tests}
 use Rattle.aom_codec.specs.declared.fault.LoadFault.{LoadFault}
 use Rattle.aom_codec.specs.declared.fault.LoadFault.TheVariants.{BadIndex, BadOperand}
-use Rattle.aom_image.specs.WellFormed.{may_descend}
 use Rattle.aom_image.specs.declared.class.ClassKind.{ClassKind}
 use Rattle.aom_instructions.specs.declared.version.Version.{Version}
 use Rattle.aom_image.specs.declared.method.Thing.{Thing}
-use Rattle.aom_image.specs.declared.method.Thing.TheVariants.{Object, Message}
 use Rattle.aom_image.specs.declared.method.Argument.{Argument}
-use Rattle.aom_image.specs.declared.method.Argument.TheVariants as arguments
 use Rattle.aom_image.specs.declared.method.Gives.{Gives}
 use Rattle.aom_image.specs.declared.method.Role.{Role}
 use Rattle.aom_image.specs.declared.method.MethodFlags.{MethodFlags}
 use Rattle.aom_image.specs.declared.method.States.{States}
 use Rattle.aom_codec.specs.Spelling.{version_number, class_number, thing_number, argument_number, role_number, gives_byte, result_number}
 use Rattle.aom_codec.specs.Format.{version_from, parent_from, index_from, class_from, thing_from, argument_from, role_from, flags_from, states_from, gives_from}
-use Rattle.aom_codec.proofs.Laws.{guard_ok, made_of, marked_or, ok_is, passed}
+use Rattle.aom_codec.proofs.Laws.{guard_ok, marked_or}
 
 -- a test that answers one of two things
 pub took : {A : Type 0} (b : Bool) (x y : Result A LoadFault) (z : A) → cond b x y ≡ Ok z → ((b ≡ true) × (x ≡ Ok z)) ⊎ ((b ≡ false) × (y ≡ Ok z))
-took true x y z e = inl (refl, e)
-took false x y z e = inr (refl, e)
+took x y z w e = grind arith
 
 pub index_returns : (classes n y : ℕ) → index_from classes n ≡ Ok y → (y ≡ n) × (n < classes)
 index_returns classes n y e = let g = guard_ok (ltb n classes) BadIndex n y e in (sym g.1, ltb-true _ _ g.0)
 
 pub class_returns : (classes n : ℕ) (y : Option ℕ) → class_from classes n ≡ Ok y → class_number y ≡ n
-class_returns classes n y e =
-    marked_or (λ o. class_number o ≡ n) (eqb n 0xffff) None (index_from classes n) (λ c. Some c) y (λ is. sym (eqb-true _ _ is))
-    (λ c h. (index_returns classes n c h).0) e
+class_returns classes n y e = grind (arith, nat_tests, marked_or, index_returns classes n)
 
 pub version_returns : (n : ℕ) (y : Version) → version_from n ≡ Ok y → version_number y ≡ n
 version_returns n y e = grind (arith, nat_tests, e)
 
 pub parent_returns : (k : ClassKind) (classes n : ℕ) (y : Option ℕ) → parent_from k classes n ≡ Ok y → class_number y ≡ n
-parent_returns k classes n y e =
-    elim (took (eqb n 0xffff) _ _ y e) [
-      | inl none ↦ ap class_number (sym (ok_is _ y none.1)) ∙ sym (eqb-true _ _ none.0)
-      | inr some ↦ made_of (λ o. class_number o ≡ n) (index_from classes n) (λ c. Some c) y (λ c h. (index_returns classes n c h).0) (passed (may_descend k) _ BadOperand y some.1).1
-    ]
+parent_returns k classes n y e = grind arith
 
 pub thing_returns : (classes n : ℕ) (y : Thing) → thing_from classes n ≡ Ok y → thing_number y ≡ n
-thing_returns classes n y e =
-    marked_or (λ t. thing_number t ≡ n) (eqb n 0xfffe) Message (index_from classes n) (λ c. Object c) y (λ is. sym (eqb-true _ _ is))
-    (λ c h. (index_returns classes n c h).0) e
+thing_returns classes n y e = grind (arith, nat_tests, marked_or, index_returns classes n)
 
 pub argument_returns : (classes n : ℕ) (y : Argument) → argument_from classes n ≡ Ok y → argument_number y ≡ n
-argument_returns classes n y e =
-    marked_or (λ a. argument_number a ≡ n) (eqb n 0xffff) arguments.Word (thing_from classes n) (λ t. arguments.Own t) y (λ is. sym (eqb-true _ _ is))
-    (λ t h. thing_returns classes n t h) e
+argument_returns classes n y e = grind (arith, nat_tests, marked_or, thing_returns classes n)
 
 pub role_returns : (n : ℕ) (y : Role) → role_from n ≡ Ok y → role_number y ≡ n
 unfolding role_number

@@ -1,5 +1,6 @@
 -- The formats spell what the spelling says.
-use Rattle.std.proofs.Common.{◌≡◌, ℕ, zero, suc, ◌+◌, ◌-◌, List, [], ◌∷◌, ◌++◌, length, Option, refl, ap, ◌∙◌, flat_map, add-one}
+use Rattle.std.proofs.lemmas.Bool.Decides.{nat_tests}
+use Rattle.std.proofs.Common.{arith, ◌≡◌, ℕ, zero, suc, ◌+◌, ◌-◌, List, [], ◌∷◌, ◌++◌, length, Option, refl, ap, ◌∙◌, flat_map, add-one}
 use Rattle.aom_image.specs.Image.{Image}
 use Rattle.aom_codec.specs.Spelling as text
 use Rattle.aom_codec.specs.Codec.{Codec, pair, always, keep, spell_many, unused}
@@ -9,11 +10,8 @@ use Rattle.aom_codec.specs.Format.{thing, argument, class, count_server, parent,
 use Rattle.aom_codec.specs.declared.fault.LoadFault.TheVariants.{NotZero}
 use Rattle.aom_instructions.specs.declared.limits.Limits.{Limits}
 use Rattle.aom_instructions.specs.declared.version.Version.{Version}
-use Rattle.aom_instructions.specs.declared.version.Version.TheVariants as versions
 use Rattle.aom_image.specs.declared.class.ClassDecl.{ClassDecl}
 use Rattle.aom_image.specs.declared.class.ClassKind.{ClassKind}
-use Rattle.aom_image.specs.declared.class.ClassKind.TheVariants as kinds
-use Rattle.aom_image.specs.declared.class.Provider.TheVariants as providers
 use Rattle.aom_image.specs.declared.method.Thing.{Thing}
 use Rattle.aom_image.specs.declared.method.Argument.{Argument}
 use Rattle.aom_image.specs.declared.method.Method.{Method}
@@ -21,7 +19,7 @@ use Rattle.aom_instructions.specs.declared.instr.Instr.{Instr}
 
 many_spelled : {S X : Type 0} (c : S → Codec X) (add : S → X → S) (f : X → List ℕ) → ((s : S) (x : X) → (c s).spell x ≡ f x) → (s : S) (xs : List X) → spell_many c add s xs ≡ flat_map f xs
 many_spelled c add f each s [] = refl
-many_spelled c add f each s (x ∷ xs) = ap (λ t. t ++ spell_many c add (add s x) xs) (each s x) ∙ ap (λ t. f x ++ t) (many_spelled c add f each (add s x) xs)
+many_spelled c add f each s (x ∷ xs) = grind (arith, nat_tests, many_spelled c add f each (add s x) xs)
 
 unused_spelled : (n : ℕ) → (unused n pair NotZero).spell tt ≡ text.unused_pairs n
 unused_spelled zero = refl
@@ -31,44 +29,18 @@ unused_spelled (suc n) = ap (λ t. text.pair 0 ++ t) (unused_spelled n)
 fields_spelled : (classes : ℕ) (fields : List Thing) (n : ℕ) (last : List ℕ)
     → spell_many (always (thing classes)) keep tt fields ++ ((unused n pair NotZero).spell tt ++ last)
     ≡ flat_map (λ t. text.pair (text.thing_number t)) fields ++ (text.unused_pairs n ++ last)
-fields_spelled classes fields n last =
-    ap (λ t. t ++ ((unused n pair NotZero).spell tt ++ last)) (many_spelled (always (thing classes)) keep (λ t. text.pair (text.thing_number t)) (λ s x. refl) tt fields)
-    ∙ ap (λ t. flat_map (λ t. text.pair (text.thing_number t)) fields ++ (t ++ last)) (unused_spelled n)
+fields_spelled classes fields n last = grind (arith, nat_tests, many_spelled, unused_spelled n)
 
 -- what tells of a parent or of what is overridden
 parent_spelled : (version : Version) (k : ClassKind) (classes : ℕ) (o : Option ℕ) → (parent version k classes).spell o ≡ text.family_bytes version o
-parent_spelled versions.One k classes o = refl
-parent_spelled versions.Two k classes o = refl
+parent_spelled x k classes o = grind arith
 
 over_spelled : (version : Version) (methods : ℕ) (o : Option ℕ) → (over version methods).spell o ≡ text.family_bytes version o
-over_spelled versions.One methods o = refl
-over_spelled versions.Two methods o = refl
+over_spelled x methods o = grind arith
 
 class_spelled : (version : Version) (classes natives servers : ℕ) (kind : ClassKind) (above : Option ℕ) (words : ℕ) (fields : List Thing) (budget : ℕ)
     → let c : ClassDecl = record { kind = kind; parent = above; words = words; fields = fields; budget = budget } in (class version classes natives servers).spell c ≡ text.class version c
-class_spelled version classes natives servers kind above words fields budget = ended kind ∙ by_kind kind
-  where
-    -- the fields, and all behind them
-    behind : List ℕ → List ℕ
-    behind t = spell_many (always (thing classes)) keep tt fields ++ ((unused (8 - length fields) pair NotZero).spell tt ++ (text.quad budget ++ t))
-
-    front : ClassKind → List ℕ → List ℕ
-    front k t = text.kind_byte k ∷ words ∷ length fields ∷ text.provider_byte k ∷ text.number_byte k ∷ 0 ∷ (text.pair (text.session_number k) ++ t)
-
-    whole : ClassKind → ClassDecl
-    whole k = record { kind = k; parent = above; words = words; fields = fields; budget = budget }
-
-    ended : (k : ClassKind) → (class version classes natives servers).spell (whole k) ≡ front k (behind (text.family_bytes version above))
-    ended kinds.Plain = ap (λ t. front kinds.Plain (behind t)) (parent_spelled version kinds.Plain classes above)
-    ended (kinds.Active providers.Own) = ap (λ t. front (kinds.Active providers.Own) (behind t)) (parent_spelled version (kinds.Active providers.Own) classes above)
-    ended (kinds.Active providers.Timer) = ap (λ t. front (kinds.Active providers.Timer) (behind t)) (parent_spelled version (kinds.Active providers.Timer) classes above)
-    ended (kinds.Active (providers.Native n)) = ap (λ t. front (kinds.Active (providers.Native n)) (behind t)) (parent_spelled version (kinds.Active (providers.Native n)) classes above)
-    ended (kinds.Active providers.Token) = ap (λ t. front (kinds.Active providers.Token) (behind t)) (parent_spelled version (kinds.Active providers.Token) classes above)
-    ended (kinds.Server sessions session) = ap (λ t. front (kinds.Server sessions session) (behind t)) (parent_spelled version (kinds.Server sessions session) classes above)
-    ended kinds.Session = ap (λ t. front kinds.Session (behind t)) (parent_spelled version kinds.Session classes above)
-
-    by_kind : (k : ClassKind) → front k (behind (text.family_bytes version above)) ≡ text.class version (whole k)
-    by_kind k = ap (front k) (fields_spelled classes fields (8 - length fields) (text.quad budget ++ text.family_bytes version above))
+class_spelled version classes natives servers kind above words fields budget = grind (arith, fields_spelled classes fields)
 
 code_spelled : (l : Limits) (code : List Instr) → spell_many (always (instruction l)) keep tt code ≡ flat_map text.instruction code
 code_spelled l code = many_spelled (always (instruction l)) keep text.instruction (λ s x. refl) tt code

@@ -5,7 +5,8 @@ use Rattle.aom_codec.proofs.Putting.{one_more, all_put}
 use Rattle.aom_codec.proofs.encoding.put_arguments.Goals as goal
 
 pub loop-argument-preserved : goal.loop-argument-preserved
-loop-argument-preserved c = one_more (λ a. pair (argument_number a)) _ _ _ c.argument-item.result c.loop-argument-test.true c.argument-item.is c.loop-argument.invariant (c.in_ok-put_pair.ensures ∙ ap (λ n. c.loop-argument.out.items ++ pair n) c.argument_number.ensures)
+loop-argument-preserved c = one_more (λ a. pair (argument_number a)) _ _ _ c.argument-item.result c.loop-argument-test.true
+    c.argument-item.is c.loop-argument.invariant (c.in_ok-put_pair.ensures ∙ ap (λ n. c.loop-argument.out.items ++ pair n) c.argument_number.ensures)
 
 pub returns : goal.returns
 returns c = all_put (λ a. pair (argument_number a)) _ _ _ c.loop-argument-test.false c.loop-argument.invariant

@@ -5,7 +5,8 @@ use Rattle.aom_codec.proofs.Putting.{one_more, all_put}
 use Rattle.aom_codec.proofs.encoding.put_things.Goals as goal
 
 pub loop-thing-preserved : goal.loop-thing-preserved
-loop-thing-preserved c = one_more (λ t. pair (thing_number t)) _ _ _ c.thing-item.result c.loop-thing-test.true c.thing-item.is c.loop-thing.invariant (c.in_ok-put_pair.ensures ∙ ap (λ n. c.loop-thing.out.items ++ pair n) c.thing_number.ensures)
+loop-thing-preserved c = one_more (λ t. pair (thing_number t)) _ _ _ c.thing-item.result c.loop-thing-test.true c.thing-item.is c.loop-thing.invariant
+    (c.in_ok-put_pair.ensures ∙ ap (λ n. c.loop-thing.out.items ++ pair n) c.thing_number.ensures)
 
 pub returns : goal.returns
 returns c = all_put (λ t. pair (thing_number t)) _ _ _ c.loop-thing-test.false c.loop-thing.invariant

@@ -6,6 +6,7 @@ use Rattle.aom_codec.proofs.reader.Reader.classes.Given as goal
 
 abbrev pub invariant-loop : goal.invariant-loop
 invariant-loop l = record {
-  reads : StillReads (class l.version l.count l.natives) count_server l.servers l.classes.items (l.count - l.counter) l.self (read_many (class l.version l.count l.natives) count_server 0 l.count l.fn.self);
+  reads : StillReads (class l.version l.count l.natives) count_server l.servers l.classes.items
+      (l.count - l.counter) l.self (read_many (class l.version l.count l.natives) count_server 0 l.count l.fn.self);
   few : l.servers ≤ l.counter;
 }

@@ -6,4 +6,12 @@ pub returns-in_err-fixed_byte-clause-read : goal.returns-in_err-fixed_byte-claus
 returns-in_err-fixed_byte-clause-read c = search rules
 
 pub returns-clause-read : goal.returns-clause-read
-returns-clause-read c = rw (c.in_ok-cells.ensures.read, c.in_ok-messages.ensures.read, c.in_ok-natives.ensures.read, c.in_ok-fixed_byte.ensures, c.in_ok-root.ensures, c.in_ok-fixed_pair.ensures, c.in_ok-budget.ensures) refl
+returns-clause-read c = rw (
+  c.in_ok-cells.ensures.read,
+  c.in_ok-messages.ensures.read,
+  c.in_ok-natives.ensures.read,
+  c.in_ok-fixed_byte.ensures,
+  c.in_ok-root.ensures,
+  c.in_ok-fixed_pair.ensures,
+  c.in_ok-budget.ensures,
+) refl

@@ -5,4 +5,5 @@ use Rattle.aom_codec.proofs.Loops.{StillReads}
 use Rattle.aom_codec.proofs.reader.Reader.methods.Given as goal
 
 abbrev pub invariant-loop : goal.invariant-loop
-invariant-loop l = StillReads (always (method l.version l.classes l.count)) keep tt l.methods.items (l.count - l.counter) l.self (read_many (always (method l.version l.classes l.count)) keep tt l.count l.fn.self)
+invariant-loop l = StillReads (always (method l.version l.classes l.count)) keep tt l.methods.items
+    (l.count - l.counter) l.self (read_many (always (method l.version l.classes l.count)) keep tt l.count l.fn.self)
