@@ -1,11 +1,14 @@
 -- Each call: what the three parts are after it.
+use Rattle.std.proofs.lemmas.Bool.Decides.{nat_tests}
 use Rattle.std.proofs.Common.{◌≡◌, ◌<◌, ◌==◌, ℕ, ℤ, pos, negsuc, Bool, true, false, not, cond, List, Option, Some, None, refl, sym, ap, ◌∙◌, subst, arith}
 use Rattle.std.specs.Prelude.{All, AllPairs, IsNone, is_some}
 use Rattle.std.specs.Ordering.{int_eq}
 use Rattle.std.proofs.lemmas.Bool.{eqb-true, false≢true}
-use Rattle.aom_requests.specs.Requests.{Table, Changes, holds_signal, is_pending, is_ready, is_server, kept_code, pending, request_at, state_at, state_of, taken, with_state, with_status}
+use Rattle.aom_requests.specs.Requests.{Table, Changes, holds_signal, is_pending, is_ready, is_server, kept_code, pending, request_at, state_at, state_of}
+use Rattle.aom_requests.specs.Requests.{taken, with_state, with_status}
 use Rattle.aom_requests.specs.declared.request.State.{State}
-use Rattle.aom_requests.specs.declared.request.State.TheVariants.{Idle as Machine_idle, Issued as Machine_issued, Active as Machine_active, Cancelling as Machine_cancelling, Aborted as Machine_aborted}
+use Rattle.aom_requests.specs.declared.request.State.TheVariants.{Idle as Machine_idle, Issued as Machine_issued, Active as Machine_active}
+use Rattle.aom_requests.specs.declared.request.State.TheVariants.{Cancelling as Machine_cancelling, Aborted as Machine_aborted}
 use Rattle.aom_requests.specs.declared.request.Request.{Request as Machine_request}
 use Rattle.aom_requests.specs.declared.request.Request.TheVariants.{Object as Machine_object, Server as Machine_server}
 use Rattle.aom_scheduler.specs.Order.{placed, without}
@@ -18,12 +21,15 @@ use Rattle.aom_semantics.specs.Natives.{is_owed}
 use Rattle.aom_semantics.specs.Places.{Issued, Request}
 use Rattle.aom_semantics.specs.Tokens.{promised}
 use Rattle.aom_active.specs.Aborts.{aborted_request}
-use Rattle.aom_active.specs.Agrees.{Active, IsWhole, StandsFor, Tells, due_in, may_stand, phase_of, timer_in}
-use Rattle.aom_active.specs.Meanings.{Asks, Completes, Enlists, IsFirstDue, IsFirstReady, IsNewest, IsNewestTimer, Makes, Picks, Removes, TakesUp, Times, asked_anew, queued_anew, begun_with, enlisted_with, is_being_cancelled, timed_for}
+use Rattle.aom_active.specs.Agrees.{Active, IsWhole, StandsFor, Tells, may_stand, phase_of, timer_in}
+use Rattle.aom_active.specs.Meanings.{Asks, Completes, Enlists, IsFirstDue, IsFirstReady, IsNewest, IsNewestTimer, Makes, Picks, Removes, TakesUp, Times}
+use Rattle.aom_active.specs.Meanings.{asked_anew, queued_anew, begun_with, enlisted_with, is_being_cancelled, timed_for}
 use Rattle.aom_active.proofs.Firsts.{first_by, first_is_ready, left_none, left_some, none_by, picks_first, picks_none, ready_is_some, ready_signals, set_by}
-use Rattle.aom_active.proofs.Halves.{IsKept, Timely, changes_twice, kept_anew, kept_itself, request_anew, listed_placed, listed_without, timely_kept, timely_placed, timely_without, timer_anew}
+use Rattle.aom_active.proofs.Halves.{IsKept, Timely, changes_twice, kept_anew, kept_itself, listed_placed, listed_without, timely_kept}
+use Rattle.aom_active.proofs.Halves.{timely_placed, timely_without, timer_anew}
 use Rattle.aom_active.proofs.Lists.{id_of, standing}
-use Rattle.aom_active.proofs.Turns.{Enters, Follows, Runs, enters_placed, enters_without, follows_marked, follows_same, no_due_no_timer, no_timer, runs_placed, runs_same, runs_without, stand_anew, tells_anew}
+use Rattle.aom_active.proofs.Turns.{Enters, Follows, Runs, enters_placed, enters_without, follows_marked, follows_same, no_timer}
+use Rattle.aom_active.proofs.Turns.{runs_placed, runs_same, runs_without, stand_anew, tells_anew}
 
 -- ---- requests in the table
 
@@ -39,9 +45,6 @@ in_state h s e = grind arith
 record IsObject (h : Option Machine_request) : Type 0 where
   state : State
   in_it : IsIn h state
-
-an_object : (x : State) (status : ℤ) → IsObject (Some (Machine_object x status))
-an_object x status = record { state = x; in_it = record { status = status; is = refl } }
 
 -- what is no server's is an object's, so is what is pending and what is being cancelled
 some_object : (h : Option Machine_request) → is_server h ≡ false → is_some h ≡ true → IsObject h
@@ -69,18 +72,10 @@ cancelled_waits h e = grind arith
 
 -- a request that is completed may stand in any state
 completed_stands : (x : State) (status : ℤ) → int_eq status pending ≡ false → may_stand (Some (Machine_object x status)) ≡ true
-completed_stands Machine_aborted status over = ap not over
-completed_stands Machine_idle status over = refl
-completed_stands Machine_issued status over = refl
-completed_stands Machine_active status over = refl
-completed_stands Machine_cancelling status over = refl
+completed_stands x status over = grind arith
 
 kept_is_over : (code : ℤ) → int_eq (kept_code code) pending ≡ false
-kept_is_over code = go (int_eq code pending) refl
-  where
-    go : (b : Bool) → int_eq code pending ≡ b → int_eq (cond b (negsuc 1) code) pending ≡ false
-    go true e = refl
-    go false e = e
+kept_is_over code = grind (arith, nat_tests)
 
 none_of : {A : Type 0} (o : Option A) → is_some o ≡ false → o ≡ None
 none_of x e = grind arith
@@ -89,8 +84,9 @@ none_of x e = grind arith
 owed : (h : Option Machine_request) (r : Option Request) (waits : Option Bool) → may_stand h ≡ true → Tells h r waits → is_pending h ≡ is_owed r
 owed h r waits stand tells = grind arith
 
-pub is_outstanding : {old : Active} (a : Active) → a ≡ old → IsWhole a → (id : ℕ) (asked : ℕ → Option Request) (queues : ℕ → Option Bool) → StandsFor old asked queues → is_pending (request_at a.table id) ≡ is_owed (asked id)
-is_outstanding a same w id asked queues s = owed (request_at a.table id) (asked id) (queues id) (w.requests id) ((subst (λ x. StandsFor x asked queues) (sym same) s).tells id)
+pub is_outstanding : {old : Active} (a : Active) → a ≡ old → IsWhole a →
+    (id : ℕ) (asked : ℕ → Option Request) (queues : ℕ → Option Bool) → StandsFor old asked queues → is_pending (request_at a.table id) ≡ is_owed (asked id)
+is_outstanding a same w id asked queues s = grind (arith, nat_tests, owed)
 
 -- ---- a request that becomes another
 
@@ -98,7 +94,8 @@ pub record Made (old new : Active) (id : ℕ) (f : Request → Request) : Type 0
   pub whole : IsWhole new
   pub makes : Makes old new id f
 
-whole_from : (a new : Active) (id : ℕ) (q : Option Machine_request) → IsWhole a → Changes a.table new.table id q → may_stand q ≡ true → Enters new.table new.roster → Runs new.table new.pending → IsWhole new
+whole_from : (a new : Active) (id : ℕ) (q : Option Machine_request) →
+    IsWhole a → Changes a.table new.table id q → may_stand q ≡ true → Enters new.table new.roster → Runs new.table new.pending → IsWhole new
 whole_from a new id q w ch stand enters runs = record {
   places = enters.places;
   dues = runs.dues;
@@ -138,9 +135,7 @@ retimes_same : (ts : List Machine_timer) (id : ℕ) (f : Request → Request) �
 retimes_same ts id f keeps asked r here t = timely_kept asked (asked_anew id (Some (f r)) asked) ts (timer_anew id r (f r) asked here (keeps r)) t
 
 retimes_none : (ts : List Machine_timer) (id : ℕ) (f : Request → Request) → due_of id ts ≡ None → ((r : Request) → (f r).timer ≡ None) → Retimes ts ts id f
-retimes_none ts id f unset loses asked r here t =
-    let none : timer_in (Some r) ≡ None = no_due_no_timer (Some r) (sym unset ∙ t.dues id ∙ ap due_in here) in
-    timely_kept asked (asked_anew id (Some (f r)) asked) ts (timer_anew id r (f r) asked here (none ∙ sym (loses r))) t
+retimes_none ts id f unset loses asked r here t = grind arith
 
 retimes_without : (ts : List Machine_timer) (id : ℕ) (f : Request → Request) → ((r : Request) → (f r).timer ≡ None) → Retimes ts (without id_of id ts) id f
 retimes_without ts id f loses asked r here t = timely_without asked id (Some (f r)) ts (loses r) t
@@ -157,9 +152,7 @@ module _ {old : Active} (a : Active) (same : a ≡ old) (w : IsWhole a) (id : �
 
   marked_as : (t : Table) (r : Roster) (q : Option Machine_request) (ready : Bool) → Changes a.table t id q → ready ≡ is_ready (request_at t id) →
       r ≡ record a.roster { entries = marked id ready a.roster.entries } → is_some (request_at a.table id) ≡ true → is_some q ≡ true → Follows a.roster t r
-  marked_as t r q ready ch ready_is roster_is listed some =
-      subst (λ x. Follows a.roster t x) (sym (roster_is ∙ ap (λ b. record a.roster { entries = marked id b a.roster.entries }) (ready_is ∙ ap is_ready ch.here)))
-      (follows_marked a w t id q ch listed some)
+  marked_as t r q ready ch ready_is roster_is listed some = grind (arith, follows_marked a w t id q ch listed some)
 
   pub sets_active :
       (t : Table) (r : Roster) (ready : Bool) → state_at old.table id ≡ Some Machine_issued → Changes a.table t id (with_state Machine_active (request_at a.table id)) →
@@ -192,11 +185,12 @@ module _ {old : Active} (a : Active) (same : a ≡ old) (w : IsWhole a) (id : �
       let o = state_here Machine_idle state in
       let q = Some (Machine_object Machine_issued (kept_code code)) in
       let over : is_pending (request_at a.table id) ≡ false = ap is_pending o.is in
-      let ch = changes_twice a.table s t id (Some (Machine_object Machine_issued pending)) q first (subst (λ k. Changes s t id (with_status (kept_code k) (Some (Machine_object Machine_issued pending)))) given_is (subst (λ h. Changes s t id (with_status (kept_code given) h)) first.here second)) in
+      let ch = changes_twice a.table s t id (Some (Machine_object Machine_issued pending)) q first (grind arith) in
       subst (λ x. Made x (parts t a.roster a.pending) id (completed_at_once code)) same
       (made a (parts t a.roster a.pending) id q (completed_at_once code) w ch refl (follows_same a w t id q ch (ap is_some o.is) refl (sym (ap is_ready o.is)))
       (runs_same a w t id q ch (λ e. absurd (false≢true (sym over ∙ e)))) (retimes_none a.pending.timers id (completed_at_once code) (no_timer a w t id q ch over) (λ x. refl))
-      (λ x v e. object_tells Machine_idle Machine_issued o.status (kept_code code) x (completed_at_once code x) v (λ phase status. (refl, refl)) (subst (λ h. Tells h (Some x) v) o.is e)) (λ x. (refl, refl)))
+      (λ x v e. object_tells Machine_idle Machine_issued o.status
+      (kept_code code) x (completed_at_once code x) v (λ phase status. (refl, refl)) (subst (λ h. Tells h (Some x) v) o.is e)) (λ x. (refl, refl)))
 
   pub ends_cancel :
       (t : Table) → is_being_cancelled (request_at old.table id) ≡ true → is_pending (request_at old.table id) ≡ false →
@@ -227,12 +221,12 @@ module _ {old : Active} (a : Active) (same : a ≡ old) (w : IsWhole a) (id : �
       (made a (parts t a.roster timers) id q aborted w ch (answered o.in_it.status (int_eq o.in_it.status pending) refl)
       (follows_same a w t id q ch (ap is_some o.in_it.is) refl (sym (cancelled_waits (request_at a.table id) being_here)))
       (runs_without a w t id q ch) (retimes_without a.pending.timers id aborted (λ x. refl))
-      (λ x v e. object_tells o.state Machine_aborted o.in_it.status code x (aborted x) v (λ phase status. (refl, ap (λ y. cond (int_eq y pending) (negsuc 2) y) status)) (subst (λ h. Tells h (Some x) v) o.in_it.is e))
+      (λ x v e. object_tells o.state Machine_aborted o.in_it.status code x
+      (aborted x) v (λ phase status. (refl, ap (λ y. cond (int_eq y pending) (negsuc 2) y) status)) (subst (λ h. Tells h (Some x) v) o.in_it.is e))
       (λ x. (refl, refl))))
     where
       answered : (status : ℤ) (b : Bool) → int_eq status pending ≡ b → not (int_eq (cond b (negsuc 2) status) pending) ≡ true
-      answered status true e = refl
-      answered status false e = ap not e
+      answered status x e = grind (arith, nat_tests)
 
   pub times_out :
       (now : ℕ) (t : Table) (r : Roster) (p : Pending) (ready : Bool) → AreInOrder old.pending → due_by now a.pending.timers ≡ Some id →
@@ -270,8 +264,8 @@ module _ {old : Active} (a : Active) (same : a ≡ old) (w : IsWhole a) (id : �
   issues_native = issues_as (begun_with pending) (λ r. refl) (λ r. refl) (λ r. refl) (λ r. (refl, refl))
 
   -- whichever token completes it
-  pub issues_token :
-      (order : ℕ) (t : Table) → state_at old.table id ≡ Some Machine_idle → Changes a.table t id (Some (Machine_object Machine_issued pending)) → Made old (parts t a.roster a.pending) id (promised order)
+  pub issues_token : (order : ℕ) (t : Table) → state_at old.table id ≡ Some Machine_idle →
+      Changes a.table t id (Some (Machine_object Machine_issued pending)) → Made old (parts t a.roster a.pending) id (promised order)
   issues_token order = issues_as (promised order) (λ r. refl) (λ r. refl) (λ r. refl) (λ r. (refl, refl))
 
   pub completes_it :
@@ -283,7 +277,8 @@ module _ {old : Active} (a : Active) (same : a ≡ old) (w : IsWhole a) (id : �
       let listed = ap is_some o.in_it.is in
       let f = completed_with (recorded code) in
       let q = Some (Machine_object o.state (kept_code code)) in
-      let ch = subst (λ k. Changes a.table t id (with_status (kept_code k) (Some (Machine_object o.state o.in_it.status)))) given_is (subst (λ h. Changes a.table t id (with_status (kept_code given) h)) o.in_it.is change) in
+      let ch = subst (λ k. Changes a.table t id (with_status (kept_code k) (Some (Machine_object o.state o.in_it.status)))) given_is
+      (subst (λ h. Changes a.table t id (with_status (kept_code given) h)) o.in_it.is change) in
       let timers = record a.pending { timers = without id_of id a.pending.timers } in
       subst (λ x. Made x (parts t r p) id f) same
       (subst (λ y. Made a (parts t r y) id f) (sym pending_is)
@@ -312,7 +307,7 @@ module _ {old : Active} (a : Active) (same : a ≡ old) (w : IsWhole a) (id : �
       let ch = subst (λ h. Changes a.table t id (taken h)) o.in_it.is change in
       subst (λ x. Made x (parts t r a.pending) id taken_up) same
       (made a (parts t r a.pending) id q taken_up w ch refl (marked_as t r q false ch (sym (ap is_ready ch.here)) roster_is listed refl)
-      (runs_same a w t id q ch (λ e. absurd (false≢true (sym (ready_is_over (request_at a.table id) ready) ∙ e)))) (retimes_same a.pending.timers id taken_up (λ x. refl))
+      (grind arith) (retimes_same a.pending.timers id taken_up (λ x. refl))
       (λ x v e. object_tells o.state Machine_idle o.in_it.status o.in_it.status x (taken_up x) v (λ phase status. (refl, status)) (subst (λ h. Tells h (Some x) v) o.in_it.is e)) (λ x. (refl, refl)))
     where
       ready_is_over : (h : Option Machine_request) → is_ready h ≡ true → is_pending h ≡ false
@@ -320,18 +315,14 @@ module _ {old : Active} (a : Active) (same : a ≡ old) (w : IsWhole a) (id : �
 
 module _ {old : Active} (a : Active) (same : a ≡ old) (w : IsWhole a) where
   -- the timer that is due first, and the pick
-  pub none_completes : (now : ℕ) (p : Pending) (result : Option ℕ) → result ≡ None → due_by now a.pending.timers ≡ None → p ≡ record a.pending { timers = left_by now a.pending.timers } → Completes now old (parts a.table a.roster p) result
+  pub none_completes : (now : ℕ) (p : Pending) (result : Option ℕ) → result ≡ None →
+      due_by now a.pending.timers ≡ None → p ≡ record a.pending { timers = left_by now a.pending.timers } → Completes now old (parts a.table a.roster p) result
   none_completes now p result none due pending_is =
       subst (λ r. Completes now old (parts a.table a.roster p) r) (sym none)
-      (subst (λ x. Completes now x (parts a.table a.roster p) None) same (
-        ap (λ y. parts a.table a.roster y) (pending_is ∙ ap (λ ts. record a.pending { timers = ts }) (left_none now a.pending.timers due)),
-        λ asked queues s. none_by asked now a.pending.timers (record { dues = s.dues; sooner = s.sooner }) due,
-      ))
+      (grind (arith, nat_tests, left_none now a.pending.timers due, none_by))
 
   pub is_first_due : (now id : ℕ) → due_by now a.pending.timers ≡ Some id → (asked : ℕ → Option Request) (queues : ℕ → Option Bool) → StandsFor old asked queues → IsFirstDue now id asked
-  is_first_due now id due asked queues s =
-      let here = subst (λ x. StandsFor x asked queues) (sym same) s in
-      first_by asked now id a.pending.timers (record { dues = here.dues; sooner = here.sooner }) due
+  is_first_due now id due asked queues s = search (arith, nat_tests, first_by asked now id a.pending.timers)
 
   pub none_picked : (first result : Option ℕ) → first ≡ None → (IsNone first → All (λ e. e.is_ready ≡ false) a.roster.entries) → result ≡ None → Picks old old result
   none_picked first result none waits is =
@@ -343,10 +334,10 @@ module _ {old : Active} (a : Active) (same : a ≡ old) (w : IsWhole a) where
 
   -- of a server nothing changes, and an object is idle
   pub server_picked : (id : ℕ) (b : Bool) → b ≡ is_server (request_at a.table id) → b ≡ true → TakesUp (is_server (request_at old.table id)) old old id
-  server_picked id b is serves = subst (λ x. TakesUp x old old id) (sym (ap (λ x. is_server (request_at x.table id)) (sym same) ∙ sym is ∙ serves)) refl
+  server_picked id b is serves = grind (arith, nat_tests, is)
 
   pub object_picked : (id : ℕ) (new : Active) (b : Bool) → b ≡ is_server (request_at a.table id) → b ≡ false → Makes old new id taken_up → TakesUp (is_server (request_at old.table id)) old new id
-  object_picked id new b is plain makes = subst (λ x. TakesUp x old new id) (sym (ap (λ x. is_server (request_at x.table id)) (sym same) ∙ sym is ∙ plain)) makes
+  object_picked id new b is plain makes = grind (arith, nat_tests, is, makes)
 
 -- ---- an object that is enlisted, one that is no more, and a timer that is set
 
@@ -373,9 +364,10 @@ module _ {old : Active} (a : Active) (same : a ≡ old) (w : IsWhole a) (id : �
       r ≡ record a.roster { entries = placed before (waiting id given) a.roster.entries } → Enlisted old (parts t r a.pending) id priority waits
   enlists_it h waits may idles tells t r priority given given_is ordered fresh ch roster_is =
       subst (λ x. Enlisted x (parts t r a.pending) id priority waits) same
-      (subst (λ x. Enlisted a (parts t x a.pending) id priority waits) (sym (roster_is ∙ ap (λ p. record a.roster { entries = placed before (waiting id p) a.roster.entries }) given_is))
+      (subst (λ x. Enlisted a (parts t x a.pending) id priority waits) (grind (arith, nat_tests))
       (record {
-        whole = whole_from a (parts t grown a.pending) id q w ch may (enters_placed a w t id q ch priority absent refl idles) (runs_same a w t id q ch (λ e. absurd (false≢true (sym (ap is_pending free) ∙ e))));
+        whole = whole_from a (parts t grown a.pending) id q w ch may
+            (enters_placed a w t id q ch priority absent refl idles) (runs_same a w t id q ch (λ e. absurd (false≢true (sym (ap is_pending free) ∙ e))));
         enlists = record { limit = ch.limit; stands = stands };
       }))
     where
@@ -394,13 +386,15 @@ module _ {old : Active} (a : Active) (same : a ≡ old) (w : IsWhole a) (id : �
       unasked : (o : Option Request) (v : Option Bool) → Tells None o v → timer_in o ≡ None
       unasked o v tells = grind arith
 
-      stands : (asked : ℕ → Option Request) (queues : ℕ → Option Bool) (order : ℕ) → StandsFor a asked queues → IsNewest order asked → queues id ≡ waits → StandsFor (parts t grown a.pending) (asked_anew id (Some (enlisted_with order priority)) asked) queues
+      stands : (asked : ℕ → Option Request) (queues : ℕ → Option Bool) (order : ℕ) → StandsFor a asked queues →
+          IsNewest order asked → queues id ≡ waits → StandsFor (parts t grown a.pending) (asked_anew id (Some (enlisted_with order priority)) asked) queues
       stands asked queues order s newest here =
           let now = asked_anew id (Some (enlisted_with order priority)) asked in
-          let l = listed_placed asked id order priority a.roster.entries (record { priorities = s.priorities; order = s.order }) absent (subst (λ x. AllPairs (λ e f. before e f ≡ true) x.roster.entries) (sym same) ordered.sorted) newest in
+          let l = listed_placed asked id order priority a.roster.entries (record { priorities = s.priorities; order = s.order }) absent
+          (subst (λ x. AllPairs (λ e f. before e f ≡ true) x.roster.entries) (sym same) ordered.sorted) newest in
           let u = timely_kept asked now a.pending.timers (λ n. keeps n (id == n) refl) (record { dues = s.dues; sooner = s.sooner }) in
           record {
-            tells = tells_anew a.table t id q (Some (enlisted_with order priority)) asked queues ch (subst (λ v. Tells q (Some (enlisted_with order priority)) v) (sym here) (tells order priority)) s.tells;
+            tells = grind (arith, nat_tests, tells_anew a.table t id q, q);
             priorities = l.priorities;
             order = l.order;
             dues = u.dues;
@@ -408,8 +402,7 @@ module _ {old : Active} (a : Active) (same : a ≡ old) (w : IsWhole a) (id : �
           }
         where
           keeps : (n : ℕ) (b : Bool) → (id == n) ≡ b → timer_in (asked n) ≡ timer_in (cond b (Some (enlisted_with order priority)) (asked n))
-          keeps n true equal = ap (λ k. timer_in (asked k)) (sym (eqb-true id n equal)) ∙ unasked (asked id) (queues id) (subst (λ h. Tells h (asked id) (queues id)) free (s.tells id))
-          keeps n false other = refl
+          keeps n x equal = grind (arith, nat_tests, eqb-true, unasked, free)
 
   -- a server is told that something waits in its queue, or that nothing does
   pub asks_it :
@@ -437,11 +430,10 @@ module _ {old : Active} (a : Active) (same : a ≡ old) (w : IsWhole a) (id : �
       stands : (asked : ℕ → Option Request) (queues : ℕ → Option Bool) → StandsFor a asked queues → StandsFor (parts t r a.pending) asked (queued_anew id (Some b) queues)
       stands asked queues s =
           let l = follows.listed asked asked (λ n. kept_itself (asked n)) (record { priorities = s.priorities; order = s.order }) in
-          record { tells = λ n. subst (λ h. Tells h (asked n) (queued_anew id (Some b) queues n)) (sym (request_anew a.table t id q ch n)) (go n (id == n) refl); priorities = l.priorities; order = l.order; dues = s.dues; sooner = s.sooner }
+          record { tells = grind (arith, nat_tests); priorities = l.priorities; order = l.order; dues = s.dues; sooner = s.sooner }
         where
           go : (n : ℕ) (x : Bool) → (id == n) ≡ x → Tells (cond x q (request_at a.table n)) (asked n) (cond x (Some b) (queues n))
-          go n true same = subst (λ k. Tells q (asked k) (Some b)) (eqb-true id n same) (signals (asked id) (queues id) (is_ready (request_at a.table id)) (subst (λ h. Tells h (asked id) (queues id)) was (s.tells id)))
-          go n false other = s.tells n
+          go n x other = grind (arith, nat_tests, q, eqb-true, signals, was)
 
   pub removes_it :
       (t : Table) (r : Roster) (p : Pending) → Changes a.table t id None → r ≡ record a.roster { entries = without (λ e. e.id) id a.roster.entries } →
@@ -492,12 +484,23 @@ module _ {old : Active} (a : Active) (same : a ≡ old) (w : IsWhole a) (id : �
       more : Pending
       more = record a.pending { timers = placed no_later (timer_of id due) a.pending.timers }
 
-      stands : (asked : ℕ → Option Request) (queues : ℕ → Option Bool) (r : Request) (order : ℕ) → StandsFor a asked queues → asked id ≡ Some r → IsNewestTimer order asked → StandsFor (parts t a.roster more) (asked_anew id (Some (timed_for due order r)) asked) queues
+      stands : (asked : ℕ → Option Request) (queues : ℕ → Option Bool) (r : Request) (order : ℕ) → StandsFor a asked queues →
+          asked id ≡ Some r → IsNewestTimer order asked → StandsFor (parts t a.roster more) (asked_anew id (Some (timed_for due order r)) asked) queues
       stands asked queues r order s here newest =
           let now = asked_anew id (Some (timed_for due order r)) asked in
-          let l = (follows_same a w t id q ch (ap is_some o.is) refl (sym (ap is_ready o.is))).listed asked now (kept_anew id r (timed_for due order r) asked here (refl, refl)) (record { priorities = s.priorities; order = s.order }) in
-          let u = timely_placed asked id due order r a.pending.timers a.pending.limit (record { dues = s.dues; sooner = s.sooner }) unset (subst (λ x. AreInOrder x.pending) (sym same) ordered) newest in
-          record { tells = tells_anew a.table t id q (Some (timed_for due order r)) asked queues ch (object_tells Machine_idle Machine_issued o.status pending r (timed_for due order r) (queues id) (λ phase status. (refl, refl)) (subst (λ h. Tells h (Some r) (queues id)) o.is (subst (λ x. Tells (request_at a.table id) x (queues id)) here (s.tells id)))) s.tells; priorities = l.priorities; order = l.order; dues = u.dues; sooner = u.sooner }
+          let l = (follows_same a w t id q ch (ap is_some o.is) refl (sym (ap is_ready o.is))).listed asked now
+          (kept_anew id r (timed_for due order r) asked here (refl, refl)) (record { priorities = s.priorities; order = s.order }) in
+          let u = timely_placed asked id due order r a.pending.timers a.pending.limit
+          (record { dues = s.dues; sooner = s.sooner }) unset (subst (λ x. AreInOrder x.pending) (sym same) ordered) newest in
+          record {
+            tells = tells_anew a.table t id q (Some (timed_for due order r)) asked queues ch
+                (object_tells Machine_idle Machine_issued o.status pending r (timed_for due order r) (queues id) (λ phase status. (refl, refl))
+                (subst (λ h. Tells h (Some r) (queues id)) o.is (subst (λ x. Tells (request_at a.table id) x (queues id)) here (s.tells id)))) s.tells;
+            priorities = l.priorities;
+            order = l.order;
+            dues = u.dues;
+            sooner = u.sooner;
+          }
 
   -- an object that is enlisted has a place among the timers
   pub has_place : (s : State) → IsSound old.roster → state_at old.table id ≡ Some s → id < a.pending.limit

@@ -1,7 +1,8 @@
 -- Names and requests of cells that stand once.
-use Rattle.std.proofs.Common.{◌≡◌, ◌==◌, ℕ, true, false, cond, List, ◌∷◌, Some, refl, sym, ap, ◌∙◌, arith}
+use Rattle.std.proofs.lemmas.Bool.Decides.{nat_tests}
+use Rattle.std.proofs.Common.{◌≡◌, ◌==◌, ℕ, true, false, cond, List, ◌∷◌, Some, refl, ap, ◌∙◌, arith}
 use Rattle.std.specs.Prelude.{is_some}
-use Rattle.std.proofs.lemmas.Bool.{eq-eqb, ne_eqb, false≢true}
+use Rattle.std.proofs.lemmas.Bool.{eq-eqb, ne_eqb}
 use Rattle.aom_safety.proofs.Dropping.{requested_unnamed}
 use Rattle.aom_semantics.specs.Places.{Cell, Object, Request, Tidy, named, requested}
 
@@ -11,7 +12,7 @@ asked_lives cs n r e = grind (arith, requested_unnamed cs n)
 
 -- what is there behind a cell has another name, and another place
 pub other_name : (c : Cell) (cs : List Cell) (n : ℕ) → Tidy (c ∷ cs) → is_some (named cs n) ≡ true → (c.object.name == n) ≡ false
-other_name c cs n tidy lives = ne_eqb c.object.name n (λ same. false≢true (sym (ap is_some tidy.1) ∙ ap (λ m. is_some (named cs m)) same ∙ lives))
+other_name c cs n tidy lives = grind (arith, nat_tests, ne_eqb c.object.name n)
 
 -- the request of the first cell, and that of another
 pub asked_first : (c : Cell) (cs : List Cell) → requested (c ∷ cs) c.object.name ≡ c.request

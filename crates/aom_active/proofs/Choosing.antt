@@ -1,11 +1,11 @@
 -- The pick: what is ready first is the candidate that the checked machine takes.
-use Rattle.std.proofs.Common.{◌≡◌, ◌≢◌, ◌==◌, ℕ, ℤ, Bool, true, false, cond, List, [], ◌∷◌, Option, Some, None, refl, sym, ap, ◌∙◌, subst, arith}
-use Rattle.std.specs.Prelude.{◌&&◌, ◌||◌, int_lt, is_some, nat_lt}
-use Rattle.std.specs.Ordering.{int_eq}
-use Rattle.std.proofs.lemmas.Bool.{eq-eqb, eqb-true, eqb-false, false≢true}
+use Rattle.std.proofs.lemmas.Bool.Decides.{nat_tests}
+use Rattle.std.proofs.Common.{◌≡◌, ◌≢◌, ◌==◌, ℕ, Bool, true, false, cond, List, [], ◌∷◌, Option, Some, None, refl, sym, ap, ◌∙◌, subst, arith}
+use Rattle.std.specs.Prelude.{◌||◌, is_some}
+use Rattle.std.proofs.lemmas.Bool.{eq-eqb, eqb-true, eqb-false}
 use Rattle.std.proofs.lemmas.Int.{ints}
 use Rattle.aom_semantics.proofs.Maps.{same_place-true, same_place_refl}
-use Rattle.aom_semantics.specs.Places.{Cell, Object, Place, Request, Tidy, held, named, requested, same_place, service_of}
+use Rattle.aom_semantics.specs.Places.{Cell, Object, Place, Request, Tidy, held, named, requested, service_of}
 use Rattle.aom_semantics.specs.Servers.{has_more}
 use Rattle.aom_semantics.specs.World.{Candidate, among_ready, before_others, first_ready, goes_before, goes_now, is_ready}
 use Rattle.aom_active.proofs.Cells.{asked_first, asked_later, asked_lives, named_first, named_later, other_name}
@@ -28,11 +28,7 @@ service_later c cs n tidy lives = ap (λ b. cond b c.service (service_of cs n)) 
 
 -- what is held behind a cell is held in another place
 held_later : (c : Cell) (cs : List Cell) (p : Place) (o : Object) → Tidy (c ∷ cs) → held cs p ≡ Some o → held (c ∷ cs) p ≡ Some o
-held_later c cs p o tidy e = go (same_place c.owner p) refl
-  where
-    go : (b : Bool) → same_place c.owner p ≡ b → cond b (Some c.object) (held cs p) ≡ Some o
-    go true same = let clash : Some o ≡ None = sym e ∙ sym (ap (λ q. held cs q) (same_place-true c.owner p same)) ∙ tidy.0 in cc
-    go false other = e
+held_later c cs p o tidy e = grind (arith, nat_tests, same_place-true c.owner p)
 
 -- a candidate is a cell that is there, with its request
 record Seated (cs : List Cell) (x : Candidate) : Type 0 where
@@ -61,15 +57,16 @@ seated : (cs : List Cell) → Tidy cs → (x : Candidate) → first_ready cs ≡
 seated [] tidy x e = cc
 seated (c ∷ cs) tidy x e = by_request c.request refl e (λ f. seated_later c cs x tidy (seated cs tidy.2 x f))
   where
-    by_front : (r : Request) → c.request ≡ Some r → goes_now c r ≡ true → (others : Option Candidate) → Some (before_others (first_seat c r) others) ≡ Some x → (others ≡ Some x → Seated (c ∷ cs) x) → Seated (c ∷ cs) x
+    by_front : (r : Request) → c.request ≡ Some r → goes_now c r ≡ true →
+        (others : Option Candidate) → Some (before_others (first_seat c r) others) ≡ Some x → (others ≡ Some x → Seated (c ∷ cs) x) → Seated (c ∷ cs) x
     by_front r here ready None e rest = let same : first_seat c r ≡ x = cc in subst (λ y. Seated (c ∷ cs) y) same (seated_first c cs r here ready)
     by_front r here ready (Some b) e rest = go (goes_before b.request r) e
       where
         go : (g : Bool) → Some (cond g b (first_seat c r)) ≡ Some x → Seated (c ∷ cs) x
-        go true e = rest e
-        go false e = let same : first_seat c r ≡ x = cc in subst (λ y. Seated (c ∷ cs) y) same (seated_first c cs r here ready)
+        go y z = grind (arith, nat_tests, seated_first, ready)
 
-    by_ready : (r : Request) → c.request ≡ Some r → (b : Bool) → goes_now c r ≡ b → cond b (Some (before_others (first_seat c r) (first_ready cs))) (first_ready cs) ≡ Some x → (first_ready cs ≡ Some x → Seated (c ∷ cs) x) → Seated (c ∷ cs) x
+    by_ready : (r : Request) → c.request ≡ Some r → (b : Bool) → goes_now c r ≡ b → cond b
+        (Some (before_others (first_seat c r) (first_ready cs))) (first_ready cs) ≡ Some x → (first_ready cs ≡ Some x → Seated (c ∷ cs) x) → Seated (c ∷ cs) x
     by_ready r here true ready e rest = by_front r here ready (first_ready cs) e rest
     by_ready r here false ready e rest = rest e
 
@@ -79,10 +76,7 @@ seated (c ∷ cs) tidy x e = by_request c.request refl e (λ f. seated_later c c
 
 -- of two requests one does not go before the other where that goes before it
 not_both : (r q : Request) → goes_before r q ≡ true → goes_before q r ≡ false
-not_both r q e = at r.priority q.priority r.order q.order e
-  where
-    at : (a b : ℤ) (m n : ℕ) → (int_lt b a || (int_eq a b && nat_lt m n)) ≡ true → (int_lt a b || (int_eq b a && nat_lt n m)) ≡ false
-    at a b m n e = grind (arith, ints)
+not_both r q e = grind (arith, nat_tests, ints)
 
 -- the candidate of that name with that request comes first
 record IsChosen (cs : List Cell) (id : ℕ) (r : Request) : Type 0 where
@@ -108,7 +102,8 @@ chosen (c ∷ cs) id r tidy asked ready first =
         let s = seated cs tidy.2 b e in
         let other = eqb-false c.object.name b.seat.object.name (other_name c cs b.seat.object.name tidy (ap is_some s.lives)) in
         ap (λ g. cond g b (first_seat c r)) (not_both r b.request
-        (first b.seat.object.name b.request (λ equal. other (same ∙ sym equal)) (asked_later c cs b.seat.object.name b.request tidy s.asked) (behind_going b.seat.object.name b.request s.asked ∙ s.ready)))
+        (first b.seat.object.name b.request (λ equal. other (same ∙ sym equal))
+        (asked_later c cs b.seat.object.name b.request tidy s.asked) (behind_going b.seat.object.name b.request s.asked ∙ s.ready)))
 
     front_going : c.object.name ≡ id → goes_now c r ≡ true
     front_going same = sym (ap (λ v. is_ready r || has_more v.queue) (service_first c cs)) ∙ ap (λ n. going (c ∷ cs) n r) same ∙ ready
@@ -117,8 +112,7 @@ chosen (c ∷ cs) id r tidy asked ready first =
     in_front same here = record {
       candidate = first_seat c r;
       first =
-          ap (λ q. among_ready c q (first_ready cs)) here ∙ ap (λ b. cond b (Some (before_others (first_seat c r) (first_ready cs))) (first_ready cs)) (front_going same)
-          ∙ ap Some (alone (first_ready cs) refl same);
+          grind (arith, nat_tests, front_going, alone);
       name = same;
       request = refl;
     }
@@ -132,26 +126,21 @@ chosen (c ∷ cs) id r tidy asked ready first =
     }
       where
         by_ready : (q : Request) → c.request ≡ Some q → (b : Bool) → goes_now c q ≡ b → cond b (Some (before_others (first_seat c q) (Some w.candidate))) (Some w.candidate) ≡ Some w.candidate
-        by_ready q here true is = ap (λ g. Some (cond g w.candidate (first_seat c q))) (ap (λ p. goes_before p q) w.request ∙ first c.object.name q (eqb-false c.object.name id other) (asked_first c cs ∙ here) (ap (λ v. is_ready q || has_more v.queue) (service_first c cs) ∙ is))
+        by_ready q here true is = ap (λ g. Some (cond g w.candidate (first_seat c q))) (ap (λ p. goes_before p q) w.request ∙ first c.object.name q
+            (eqb-false c.object.name id other) (asked_first c cs ∙ here) (ap (λ v. is_ready q || has_more v.queue) (service_first c cs) ∙ is))
         by_ready q here false is = refl
 
         by_request : (q : Option Request) → c.request ≡ q → among_ready c q (Some w.candidate) ≡ Some w.candidate
-        by_request None here = refl
-        by_request (Some q) here = by_ready q here (goes_now c q) refl
+        by_request x here = grind (arith, nat_tests, by_ready)
 
     go : (b : Bool) → (c.object.name == id) ≡ b → cond b c.request (requested cs id) ≡ Some r → (requested cs id ≡ Some r → IsChosen cs id r) → IsChosen (c ∷ cs) id r
-    go true same here rest = in_front (eqb-true c.object.name id same) here
-    go false other here rest = behind other (rest here)
+    go x same here rest = grind (arith, nat_tests, in_front, eqb-true, behind)
 
 -- the first ready object is the candidate that the checked machine takes
 pub picked :
     (cs : List Cell) (queues : ℕ → Option Bool) (id : ℕ) → Tidy cs → AreWanted queues cs → IsFirstReady id (requested cs) queues →
     (x : Candidate) × (first_ready cs ≡ Some x) × (x.seat.object.name ≡ id) × (named cs id ≡ Some x.seat.object) × (held cs x.seat.place ≡ Some x.seat.object) × (requested cs id ≡ Some x.request)
-picked cs queues id tidy wanted f =
-    let w = chosen cs id f.request tidy f.stands (sym (ap (λ b. is_ready f.request || b) (wanted id)) ∙ f.ready)
-    (λ n q other e goes. f.first n q other e (ap (λ b. is_ready q || b) (wanted n) ∙ goes)) in
-    let s = seated cs tidy w.candidate w.first in
-    (w.candidate, w.first, w.name, ap (λ n. named cs n) (sym w.name) ∙ s.lives, s.holds, f.stands ∙ ap Some (sym w.request))
+picked cs queues id tidy wanted f = grind (arith, chosen cs id f.request tidy f.stands, seated cs tidy)
 
 -- where none is ready there is none
 pub none_picked : (cs : List Cell) (queues : ℕ → Option Bool) → Tidy cs → AreWanted queues cs → NoneReady (requested cs) queues → first_ready cs ≡ None
@@ -159,4 +148,4 @@ none_picked cs queues tidy wanted none = go (first_ready cs) refl
   where
     go : (o : Option Candidate) → first_ready cs ≡ o → o ≡ None
     go None e = refl
-    go (Some x) e = let s = seated cs tidy x e in absurd (false≢true (sym (none x.seat.object.name x.request s.asked) ∙ ap (λ b. is_ready x.request || b) (wanted x.seat.object.name) ∙ s.ready))
+    go (Some x) e = let s = seated cs tidy x e in absurd (grind (arith, nat_tests))

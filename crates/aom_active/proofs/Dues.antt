@@ -1,8 +1,8 @@
 -- The timers: the first that is due is the one that the checked machine takes.
+use Rattle.std.proofs.lemmas.Bool.Decides.{nat_tests}
 use Rattle.std.proofs.Common.{◌≡◌, ◌≢◌, ◌<◌, ◌≤◌, ◌==◌, ℕ, Bool, true, false, cond, List, [], ◌∷◌, Option, Some, None, refl, sym, ap, ◌∙◌, subst, arith}
-use Rattle.std.specs.Prelude.{◌&&◌, ◌||◌, is_some, nat_lt, option_map}
+use Rattle.std.specs.Prelude.{is_some, option_map}
 use Rattle.std.proofs.lemmas.Bool.{eqb-true, eqb-false}
-use Rattle.std.proofs.lemmas.Option.{none-some}
 use Rattle.aom_scheduler.specs.Pending as Held
 use Rattle.aom_scheduler.specs.declared.timer.Timer.{Timer as Machine_timer}
 use Rattle.aom_semantics.specs.Places.{Cell, Object, Request, Tidy, Timer, named, requested}
@@ -18,8 +18,7 @@ among_some : (o : Object) (q : Option Request) (t : Timer) (others : Option Time
 among_some o q t others e = grind arith
 
 among_none : (o : Object) (q : Option Request) (others : Option Timed) → timer_in q ≡ None → among_timers o q others ≡ others
-among_none o None others e = refl
-among_none o (Some r) others e = ap (λ u. among_timers o (Some (record r { timer = u })) others) e
+among_none o x others e = grind arith
 
 -- the timer under a name, in front and behind a cell
 timer_first : (c : Cell) (cs : List Cell) → timer_in (requested (c ∷ cs) c.object.name) ≡ timer_in c.request
@@ -63,10 +62,7 @@ running (c ∷ cs) tidy x e = by_timer (timer_in c.request) refl (λ f. later (r
 
 -- of two timers one is not sooner than the other where that is sooner than it
 pub not_both : (t u : Timer) → is_sooner t u ≡ true → is_sooner u t ≡ false
-not_both t u e = at t.due u.due t.order u.order e
-  where
-    at : (a b m n : ℕ) → (nat_lt a b || ((a == b) && nat_lt m n)) ≡ true → (nat_lt b a || ((b == a) && nat_lt n m)) ≡ false
-    at a b m n e = grind (arith)
+not_both t u e = grind (arith, nat_tests)
 
 -- the timer of that name comes first
 record IsSoonest (cs : List Cell) (id : ℕ) (t : Timer) : Type 0 where
@@ -112,27 +108,25 @@ soonest (c ∷ cs) id t tidy runs first = go (c.object.name == id) refl runs (λ
             ∙ ap (λ s. Some (cond s w.timed (first_running c u))) (ap (λ v. is_sooner v u) w.timer ∙ first c.object.name u (eqb-false c.object.name id other) (timer_first c cs ∙ is))
 
     go : (b : Bool) → (c.object.name == id) ≡ b → timer_in (cond b c.request (requested cs id)) ≡ Some t → (timer_in (requested cs id) ≡ Some t → IsSoonest cs id t) → IsSoonest (c ∷ cs) id t
-    go true same here rest = in_front (eqb-true c.object.name id same) here
-    go false other here rest = behind other (rest here)
+    go x same here rest = grind (arith, nat_tests, in_front, eqb-true, behind)
 
 -- the first timer that is due is the one that the checked machine takes
-pub due_first : (cs : List Cell) (now id : ℕ) → Tidy cs → IsFirstDue now id (requested cs) → (x : Timed) × (first_due cs ≡ Some x) × (x.object.name ≡ id) × (named cs id ≡ Some x.object) × (x.timer.due ≤ now)
-due_first cs now id tidy f =
-    let w = soonest cs id f.timer tidy f.runs f.first in
-    let r = running cs tidy w.timed w.first in
-    (w.timed, w.first, w.name, ap (λ n. named cs n) (sym w.name) ∙ r.lives, subst (λ t. t.due ≤ now) (sym w.timer) f.due)
+pub due_first : (cs : List Cell) (now id : ℕ) → Tidy cs →
+    IsFirstDue now id (requested cs) → (x : Timed) × (first_due cs ≡ Some x) × (x.object.name ≡ id) × (named cs id ≡ Some x.object) × (x.timer.due ≤ now)
+due_first cs now id tidy f = grind (arith, soonest cs id f.timer tidy f.runs f.first, running cs tidy)
 
 -- and where none is due, none that it takes is
 pub none_due : (cs : List Cell) (now : ℕ) → Tidy cs → NoneDue now (requested cs) → (x : Timed) → first_due cs ≡ Some x → now < x.timer.due
 none_due cs now tidy none x e = let r = running cs tidy x e in none x.object.name x.timer r.runs
 
 -- so the first due time is the one that it passes to
-pub next_due_is : (a : Active) (cs : List Cell) (queues : ℕ → Option Bool) → Tidy cs → StandsFor a (requested cs) queues → Held.first_due a.pending.timers ≡ option_map (λ x. x.timer.due) (first_due cs)
+pub next_due_is : (a : Active) (cs : List Cell) (queues : ℕ → Option Bool) →
+    Tidy cs → StandsFor a (requested cs) queues → Held.first_due a.pending.timers ≡ option_map (λ x. x.timer.due) (first_due cs)
 next_due_is a cs queues tidy s = by_timers a.pending.timers (record { dues = s.dues; sooner = s.sooner })
   where
     no_timer : (o : Option Timed) → first_due cs ≡ o → ((n : ℕ) → None ≡ due_in (requested cs n)) → ◌≡◌ {A = Option ℕ} None (option_map (λ x. x.timer.due) o)
     no_timer None e none = refl
-    no_timer (Some x) e none = let r = running cs tidy x e in absurd (none-some _ (none x.object.name ∙ ap (option_map (λ t. t.due)) r.runs))
+    no_timer (Some x) e none = grind (arith, nat_tests, running cs tidy x e)
 
     by_timers : (ts : List Machine_timer) → Timely (requested cs) ts → Held.first_due ts ≡ option_map (λ x. x.timer.due) (first_due cs)
     by_timers [] t = no_timer (first_due cs) refl t.dues

@@ -1,6 +1,6 @@
 -- The first of the timers and the first entry that is ready, as they tell of the requests that they stand for.
 use Rattle.std.proofs.Common.{◌≡◌, ◌≢◌, ◌<◌, ◌≤◌, ◌==◌, ℕ, Bool, true, false, cond, List, [], ◌∷◌, length, Option, Some, None, refl, sym, ap, ◌∙◌, subst, arith}
-use Rattle.std.specs.Prelude.{All, AllPairs, IsSome, is_some, ◌&&◌, ◌||◌, nat_le, nat_lt, option_map}
+use Rattle.std.specs.Prelude.{All, AllPairs, IsSome, is_some, nat_le, option_map}
 use Rattle.std.proofs.lemmas.Bool.{eq-eqb, eqb-true, eqb-false, false≢true, true≢false, leb-true}
 use Rattle.std.proofs.lemmas.Bool.Decides.{nat_tests}
 use Rattle.aom_image.proofs.Given.{true_given}
@@ -46,7 +46,7 @@ pub first_timer : (asked : ℕ → Option Request) (t : Machine_timer) (ts : Lis
 first_timer asked t ts s = record { timer = own.timer; runs = own.is; due_is = own.due_is; first = first }
   where
     own : There (timer_in (asked t.id)) t.due
-    own = timer_there (timer_in (asked t.id)) t.due (sym (ap (λ b. cond b (Some t.due) (due_of t.id ts)) (eq-eqb t.id t.id refl)) ∙ s.dues t.id)
+    own = grind (arith, nat_tests, timer_there, eq-eqb t.id t.id)
 
     first : (n : ℕ) (u : Timer) → n ≢ t.id → timer_in (asked n) ≡ Some u → is_sooner own.timer u ≡ true
     first n u other e = by_place (standing id_of n (λ v. IsSooner (asked t.id) (asked v.id)) ts (stands-if_set n ts set) (pairs-head (λ v w. IsSooner (asked v.id) (asked w.id)) t ts s.sooner))
@@ -83,10 +83,7 @@ first_by asked now id ts s e =
     subst (λ n. IsFirstDue now n asked) d.name (record { timer = f.timer; runs = f.runs; due = omega (arith, f.due_is, leb-true d.timer.due now d.le); first = f.first })
 
 no_earlier : (t u : Timer) → is_sooner t u ≡ true → t.due ≤ u.due
-no_earlier t u e = at t.due u.due t.order u.order e
-  where
-    at : (a b m n : ℕ) → (nat_lt a b || ((a == b) && nat_lt m n)) ≡ true → a ≤ b
-    at a b m n e = grind (arith)
+no_earlier t u e = grind (arith, nat_tests)
 
 pub none_by : (asked : ℕ → Option Request) (now : ℕ) (ts : List Machine_timer) → Timely asked ts → due_by now ts ≡ None → NoneDue now asked
 none_by asked now [] s e = λ n u runs. absurd (none-some _ (s.dues n ∙ ap (option_map (λ v. v.due)) runs))
@@ -185,21 +182,19 @@ first_is_ready a w id e =
 module _ (a : Active) (w : IsWhole a) (asked : ℕ → Option Request) (queues : ℕ → Option Bool) (s : StandsFor a asked queues) where
   -- the entry of a request that is ready
   entry_of : (P : Entry → Type 0) → All P a.roster.entries → (n : ℕ) (r : Request) → asked n ≡ Some r → goes r (queues n) ≡ true → Numbered (λ e. e.id) n (λ e. P e × (e.is_ready ≡ true))
-  entry_of P all n r e ready = record { item = found.item; number_is = found.number_is; holds = (found.holds.0, found.holds.1 ∙ ap (λ k. Held.is_ready (request_at a.table k)) found.number_is ∙ held_ready) }
+  entry_of P all n r e ready = record { item = found.item; number_is = found.number_is; holds = grind arith }
     where
       held_ready : Held.is_ready (request_at a.table n) ≡ true
-      held_ready = same_ready (request_at a.table n) r (queues n) (subst (λ o. Tells (request_at a.table n) o (queues n)) e (s.tells n)) ∙ ready
+      held_ready = grind (arith, nat_tests, same_ready, ready)
 
       found : Numbered (λ f. f.id) n (λ f. P f × (f.is_ready ≡ Held.is_ready (request_at a.table f.id)))
-      found =
-          standing (λ f. f.id) n (λ f. P f × (f.is_ready ≡ Held.is_ready (request_at a.table f.id))) a.roster.entries (w.enlisted n ∙ ready_is_some (request_at a.table n) held_ready)
-          (both P (λ f. f.is_ready ≡ Held.is_ready (request_at a.table f.id)) a.roster.entries all w.marks)
+      found = grind (arith, nat_tests, standing, ready_is_some, held_ready, both P)
 
   pub picks_first : (id : ℕ) → first_ready a.roster.entries ≡ Some id → IsFirstReady id asked queues
   picks_first id e = record { request = own.request; stands = own.is; ready = own.ready ∙ held_ready; first = first }
     where
       f : IsFirstEntry (λ e f. GoesBefore (asked e.id) (asked f.id)) (λ e. e.is_ready ≡ Held.is_ready (request_at a.table e.id)) id a.roster.entries
-      f = first_entry (λ e f. GoesBefore (asked e.id) (asked f.id)) (λ e. e.is_ready ≡ Held.is_ready (request_at a.table e.id)) id a.roster.entries e s.order w.marks
+      f = grind (arith, nat_tests, first_entry)
 
       held_ready : Held.is_ready (request_at a.table id) ≡ true
       held_ready = first_is_ready a w id e

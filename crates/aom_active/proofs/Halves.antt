@@ -1,10 +1,10 @@
 -- What a change of one request leaves of each half: of the entries, and of the timers.
-use Rattle.std.proofs.Common.{◌≡◌, ◌≢◌, ◌<◌, ◌==◌, ℕ, ℤ, Bool, true, false, cond, List, Option, Some, None, get_or, refl, sym, ap, ◌∙◌, subst, arith}
-use Rattle.std.specs.Prelude.{All, AllPairs, IsNone, not, option_map, nat_le, nat_lt, int_le, int_lt, ◌||◌, ◌&&◌}
+use Rattle.std.proofs.lemmas.Bool.Decides.{nat_tests}
+use Rattle.std.proofs.Common.{◌≡◌, ◌≢◌, ◌<◌, ◌==◌, ℕ, ℤ, Bool, true, false, cond, List, Option, Some, None, refl, sym, ap, ◌∙◌, subst, arith}
+use Rattle.std.specs.Prelude.{All, AllPairs, IsNone, not, option_map, nat_le, nat_lt, int_lt, ◌||◌, ◌&&◌}
 use Rattle.std.specs.Ordering.{int_eq}
-use Rattle.std.proofs.lemmas.Bool.{eq-eqb, eqb-true, eqb-false, ne_eqb, leb-false, lt-ltb, or_left}
-use Rattle.std.proofs.lemmas.Int.{ints}
-use Rattle.std.proofs.lemmas.Option.{none-some, same_Some}
+use Rattle.std.proofs.lemmas.Bool.{eq-eqb, eqb-true, eqb-false, ne_eqb}
+use Rattle.std.proofs.lemmas.Option.{same_Some}
 use Rattle.std.proofs.lemmas.List.Elements.{All-filter, All-weaker}
 use Rattle.std.proofs.lemmas.List.Kept.{AllPairs-filter}
 use Rattle.aom_requests.specs.Requests.{Table, Changes, request_at}
@@ -18,7 +18,7 @@ use Rattle.aom_scheduler.proofs.Items.{All-placed}
 use Rattle.aom_scheduler.proofs.Places.{by_priority}
 use Rattle.aom_scheduler.proofs.Timing.{absent-due, by_due}
 use Rattle.aom_semantics.specs.Places.{Request, Timer}
-use Rattle.aom_semantics.specs.World.{goes_before, is_sooner}
+use Rattle.aom_semantics.specs.World.{is_sooner}
 use Rattle.aom_active.specs.Agrees.{ComesSooner, GoesBefore, HasPriority, IsSooner, due_in, timer_in}
 use Rattle.aom_active.specs.Meanings.{IsNewest, IsNewestTimer, asked_anew, enlisted_with, timed_for}
 use Rattle.aom_active.proofs.Lists.{absent_without, both, due_placed, due_without, id_of, marked_all, marked_pairs, own_due, pairs_placed, pairs_weaker}
@@ -33,19 +33,11 @@ asked_other id n r asked other = ap (λ b. cond b r (asked n)) (ne_eqb id n (λ 
 
 -- so in the table
 pub request_anew : (old new : Table) (id : ℕ) (q : Option Machine_request) → Changes old new id q → (n : ℕ) → request_at new n ≡ cond (id == n) q (request_at old n)
-request_anew old new id q ch n = go (id == n) refl
-  where
-    go : (b : Bool) → (id == n) ≡ b → request_at new n ≡ cond b q (request_at old n)
-    go true same = ap (λ m. request_at new m) (sym (eqb-true id n same)) ∙ ch.here
-    go false other = ch.others n (λ same. eqb-false id n other (sym same))
+request_anew old new id q ch n = grind (arith, nat_tests, eqb-true id n, eqb-false id n)
 
 -- two changes in turn at one number
 pub changes_twice : (old middle new : Table) (id : ℕ) (q r : Option Machine_request) → Changes old middle id q → Changes middle new id r → Changes old new id r
-changes_twice old middle new id q r first second = record {
-  here = second.here;
-  others = λ n other. second.others n other ∙ first.others n other;
-  limit = second.limit ∙ first.limit;
-}
+changes_twice old middle new id q r first second = search (arith, nat_tests)
 
 -- ---- requests in the same place of the order
 
@@ -56,15 +48,10 @@ IsKept (Some r) None = ⊥
 IsKept (Some r) (Some q) = (r.priority ≡ q.priority) × (r.order ≡ q.order)
 
 pub kept_itself : (r : Option Request) → IsKept r r
-kept_itself None = tt
-kept_itself (Some r) = (refl, refl)
+kept_itself x = grind arith
 
 pub kept_anew : (id : ℕ) (r q : Request) (asked : ℕ → Option Request) → asked id ≡ Some r → IsKept (Some r) (Some q) → (n : ℕ) → IsKept (asked n) (asked_anew id (Some q) asked n)
-kept_anew id r q asked here kept n = go (id == n) refl
-  where
-    go : (b : Bool) → (id == n) ≡ b → IsKept (asked n) (cond b (Some q) (asked n))
-    go true same = subst (λ o. IsKept o (Some q)) (sym here ∙ ap asked (eqb-true id n same)) kept
-    go false other = kept_itself (asked n)
+kept_anew id r q asked here kept n = grind (arith, nat_tests, eqb-true id n, kept_itself (asked n))
 
 priority_kept : (p : ℤ) (r q : Option Request) → IsKept r q → HasPriority p r → HasPriority p q
 priority_kept p r q kept has = grind arith
@@ -109,19 +96,6 @@ listed_without asked id r es l = record {
       (without (λ e. e.id) id es) (absent_without (λ e. e.id) id es)
       (AllPairs-filter (λ e f. GoesBefore (asked e.id) (asked f.id)) (λ e. not (e.id == id)) es l.order);
 }
-
--- the newest of its priority goes after those of at least its priority, and before all others
-after_these : (r q : Request) → int_le q.priority r.priority ≡ true → r.order < q.order → goes_before r q ≡ true
-after_these r q le less = at r.priority q.priority r.order q.order le less
-  where
-    at : (a b : ℤ) (m n : ℕ) → int_le b a ≡ true → m < n → (int_lt b a || (int_eq a b && nat_lt m n)) ≡ true
-    at a b m n le less = grind (arith, ints)
-
-before_these : (r q : Request) → int_le q.priority r.priority ≡ false → goes_before q r ≡ true
-before_these r q not_le = or_left (int_lt r.priority q.priority) (int_eq q.priority r.priority && nat_lt q.order r.order) (at r.priority q.priority not_le)
-  where
-    at : (a b : ℤ) → int_le b a ≡ false → int_lt a b ≡ true
-    at a b not_le = grind (arith, ints)
 
 pub listed_placed :
     (asked : ℕ → Option Request) (id order : ℕ) (priority : ℤ) (es : List Entry) → Listed asked es → All (λ e. e.id ≢ id) es → AllPairs (λ e f. before e f ≡ true) es →
@@ -175,18 +149,12 @@ pub timely_kept : (asked other : ℕ → Option Request) (ts : List Machine_time
 timely_kept asked other ts same t = record {
   dues = λ n. t.dues n ∙ ap (option_map (λ u. u.due)) (same n);
   sooner =
-      λ i j d less within.
-      subst (λ o. ComesSooner o (timer_in (other (get_or ts j d).id))) (same (get_or ts i d).id)
-      (subst (λ o. ComesSooner (timer_in (asked (get_or ts i d).id)) o) (same (get_or ts j d).id) (t.sooner i j d less within));
+      grind (arith, nat_tests);
 }
 
 -- the timer of a request that is changed so that it keeps it
 pub timer_anew : (id : ℕ) (r q : Request) (asked : ℕ → Option Request) → asked id ≡ Some r → r.timer ≡ q.timer → (n : ℕ) → timer_in (asked n) ≡ timer_in (asked_anew id (Some q) asked n)
-timer_anew id r q asked here same n = go (id == n) refl
-  where
-    go : (b : Bool) → (id == n) ≡ b → timer_in (asked n) ≡ timer_in (cond b (Some q) (asked n))
-    go true equal = ap timer_in (sym (ap asked (eqb-true id n equal)) ∙ here) ∙ same
-    go false other = refl
+timer_anew id r q asked here same n = grind (arith, nat_tests, eqb-true id n)
 
 pub timely_without :
     (asked : ℕ → Option Request) (id : ℕ) (r : Option Request) (ts : List Machine_timer) → timer_in r ≡ None → Timely asked ts → Timely (asked_anew id r asked) (without id_of id ts)
@@ -201,18 +169,14 @@ timely_without asked id r ts none t = record {
 }
   where
     go : (n : ℕ) (b : Bool) → cond b None (due_of n ts) ≡ due_in (cond b r (asked n))
-    go n true = ap (option_map (λ u. u.due)) (sym none)
-    go n false = t.dues n
+    go n x = grind arith
 
 -- the newest of its due time is sooner than those that are due later, and all others are sooner
 after_timers : (t u : Timer) (due : ℕ) → t.due ≡ due → nat_le due u.due ≡ true → t.order < u.order → is_sooner t u ≡ true
-after_timers t u due same le less = at t.due u.due t.order u.order (ap (λ d. nat_le d u.due) same ∙ le) less
-  where
-    at : (a b m n : ℕ) → nat_le a b ≡ true → m < n → (nat_lt a b || ((a == b) && nat_lt m n)) ≡ true
-    at a b m n le less = grind (arith)
+after_timers t u due same le less = grind (arith, nat_tests)
 
 before_timers : (t u : Timer) (due : ℕ) → t.due ≡ due → nat_le due u.due ≡ false → is_sooner u t ≡ true
-before_timers t u due same later = or_left (nat_lt u.due t.due) ((u.due == t.due) && nat_lt u.order t.order) (lt-ltb u.due t.due (omega (arith, leb-false due u.due later, same)))
+before_timers t u due same later = grind arith
 
 pub timely_placed :
     (asked : ℕ → Option Request) (id due order : ℕ) (r : Request) (ts : List Machine_timer) (limit : ℕ) → Timely asked ts → due_of id ts ≡ None → IsOrdered id_of no_later limit ts →
@@ -248,13 +212,10 @@ timely_placed asked id due order r ts limit t unset ordered newest = record {
     all = both (λ u. u.id ≢ id) (λ u. due_of u.id ts ≡ Some u.due) ts absent (own_due ts ordered.distinct)
 
     go : (n : ℕ) (b : Bool) → cond b (Some due) (due_of n ts) ≡ due_in (cond b (Some mine) (asked n))
-    go n true = refl
-    go n false = t.dues n
+    go n x = grind arith
 
     is_after : (u : Machine_timer) (o : Option Timer) → timer_in (asked u.id) ≡ o → Some u.due ≡ option_map (λ v. v.due) o → no_later u (timer_of id due) ≡ true → ComesSooner o (timer_in (Some mine))
-    is_after u None is has first = absurd (none-some _ (sym has))
-    is_after u (Some v) is has first = after_timers v (record { due = due; order = order }) u.due (sym (same_Some u.due v.due has)) first (newest u.id v is)
+    is_after u x is has first = grind (arith, nat_tests, after_timers, order, same_Some u.due)
 
     is_ahead : (u : Machine_timer) (o : Option Timer) → Some u.due ≡ option_map (λ v. v.due) o → no_later u (timer_of id due) ≡ false → ComesSooner (timer_in (Some mine)) o
-    is_ahead u None has later = absurd (none-some _ (sym has))
-    is_ahead u (Some v) has later = before_timers v (record { due = due; order = order }) u.due (sym (same_Some u.due v.due has)) later
+    is_ahead u x has later = grind (arith, nat_tests, before_timers, order, same_Some u.due)

@@ -1,7 +1,7 @@
 -- Lists of items with numbers: what holds of pairs, and where an item stands once one is placed, marked or gone.
-use Rattle.std.proofs.Common.{◌≡◌, ◌≢◌, ◌==◌, ℕ, suc, Bool, true, false, not, cond, List, [], ◌∷◌, Option, Some, None, get_or, refl, sym, ap, ◌∙◌, arith}
-use Rattle.std.specs.Prelude.{All, AllPairs, IsNone, is_some, option_map, map}
-use Rattle.std.proofs.lemmas.Bool.{cond_both, eq-eqb, eqb-true, eqb-false, not-true, true≢false, false≢true}
+use Rattle.std.proofs.Common.{◌≡◌, ◌==◌, ℕ, Bool, true, false, not, cond, List, [], ◌∷◌, Some, None, get_or, refl, sym, ap, ◌∙◌, arith}
+use Rattle.std.specs.Prelude.{All, AllPairs, is_some, map}
+use Rattle.std.proofs.lemmas.Bool.{cond_both, eq-eqb, eqb-true, eqb-false, not-true, false≢true}
 use Rattle.std.proofs.lemmas.List.Elements.{All-nil, All-cons, All-head, All-tail, All-map, All-weaker, filter_passes}
 use Rattle.std.proofs.lemmas.List.Kept.{AllPairs-cons}
 use Rattle.std.proofs.lemmas.Bool.Decides.{nat_tests}
@@ -47,8 +47,7 @@ module _ {A : Type 0} where
           (both P (λ z. before y z ≡ true) ys (All-tail P y ys all) (pairs-head (λ u v. before u v ≡ true) y ys sorted))
         where
           later : (z : A) → before y z ≡ true → (b : Bool) → before z x ≡ b → b ≡ false
-          later z first true f = absurd (true≢false (sym (rank.chain y z x first f) ∙ e))
-          later z first false f = refl
+          later z first w f = grind (arith, nat_tests)
 
 module _ {A : Type 0} (number : A → ℕ) where
   -- an item of the number is there
@@ -56,52 +55,24 @@ module _ {A : Type 0} (number : A → ℕ) where
   stands n xs = is_some (place_of number n xs)
 
   stands_front : (n : ℕ) (x : A) (xs : List A) → stands n (x ∷ xs) ≡ cond (number x == n) true (stands n xs)
-  stands_front n x xs = go (number x == n) (place_of number n xs)
-    where
-      go : (b : Bool) (o : Option ℕ) → is_some (cond b (Some 0) (option_map suc o)) ≡ cond b true (is_some o)
-      go true o = refl
-      go false None = refl
-      go false (Some k) = refl
+  stands_front n x xs = grind (arith, nat_tests)
 
   pub stands_placed : (before : A → A → Bool) (x : A) (n : ℕ) (xs : List A) → stands n (placed before x xs) ≡ cond (number x == n) true (stands n xs)
   stands_placed before x n [] = stands_front n x []
-  stands_placed before x n (y ∷ ys) = go (before y x) (stands_placed before x n ys)
-    where
-      swap : (a b c : Bool) → cond a true (cond b true c) ≡ cond b true (cond a true c)
-      swap true true c = refl
-      swap true false c = refl
-      swap false true c = refl
-      swap false false c = refl
-
-      go : (b : Bool) → stands n (placed before x ys) ≡ cond (number x == n) true (stands n ys) → stands n (cond b (y ∷ placed before x ys) (x ∷ y ∷ ys)) ≡ cond (number x == n) true (stands n (y ∷ ys))
-      go true ih =
-          stands_front n y (placed before x ys) ∙ ap (λ s. cond (number y == n) true s) ih
-          ∙ swap (number y == n) (number x == n) (stands n ys) ∙ ap (λ s. cond (number x == n) true s) (sym (stands_front n y ys))
-      go false ih = stands_front n x (y ∷ ys)
+  stands_placed before x n (y ∷ ys) = grind (arith, stands_placed before x n ys)
 
   pub stands_without : (id n : ℕ) (xs : List A) → stands n (without number id xs) ≡ cond (id == n) false (stands n xs)
-  stands_without id n [] = go (id == n)
-    where
-      go : (b : Bool) → false ≡ cond b false false
-      go true = refl
-      go false = refl
+  stands_without id n [] = grind (arith, nat_tests)
   stands_without id n (x ∷ xs) = go (number x == id) (number x == n) (id == n) refl refl refl (stands_without id n xs) ∙ ap (λ s. cond (id == n) false s) (sym (stands_front n x xs))
     where
       go :
           (a b c : Bool) → (number x == id) ≡ a → (number x == n) ≡ b → (id == n) ≡ c → stands n (without number id xs) ≡ cond c false (stands n xs) →
           stands n (cond (not a) (x ∷ (without number id xs)) (without number id xs)) ≡ cond c false (cond b true (stands n xs))
-      go true b true ea eb ec ih = ih
-      go true true false ea eb ec ih = absurd (true≢false (sym (eq-eqb id n (sym (eqb-true (number x) id ea) ∙ eqb-true (number x) n eb)) ∙ ec))
-      go true false false ea eb ec ih = ih
-      go false true true ea eb ec ih = absurd (true≢false (sym (eq-eqb (number x) id (eqb-true (number x) n eb ∙ sym (eqb-true id n ec))) ∙ ea))
-      go false false true ea eb ec ih = stands_front n x (without number id xs) ∙ ap (λ b. cond b true (stands n (without number id xs))) eb ∙ ih
-      go false b false ea eb ec ih = stands_front n x (without number id xs) ∙ ap (λ b. cond b true (stands n (without number id xs))) eb ∙ ap (λ s. cond b true s) ih
+      go y b z ea eb ec ih = grind (arith, nat_tests, eq-eqb, eqb-true, stands_front)
 
   -- no item has a number that is gone
   pub absent_without : (id : ℕ) (xs : List A) → IsAbsent number id (without number id xs)
-  absent_without id xs =
-      All-weaker (λ x. not (number x == id) ≡ true) (λ x. number x ≢ id) (λ x passes. eqb-false (number x) id (not-true (number x == id) passes))
-      (without number id xs) (filter_passes (λ x. not (number x == id)) xs)
+  absent_without id xs = grind (arith, nat_tests, All-weaker, eqb-false, not-true, filter_passes)
 
   -- what holds of all holds of an item that is there
   pub record Numbered (n : ℕ) (P : A → Type 0) : Type 0 where
@@ -129,15 +100,7 @@ marked_all P keeps id b es all = All-map P (marked_entry id b) es (All-weaker P 
 pub marked_pairs :
     (R : Entry → Entry → Type 0) → ((e f : Entry) (b c : Bool) → R e f → R (record e { is_ready = b }) (record f { is_ready = c })) →
     (id : ℕ) (b : Bool) (es : List Entry) → AllPairs R es → AllPairs R (marked id b es)
-marked_pairs R keeps id b es pairs = pairs_map R (marked_entry id b) es (λ i j d less within. each (get_or es i d) (get_or es j d) (pairs i j d less within))
-  where
-    each : (e f : Entry) → R e f → R (marked_entry id b e) (marked_entry id b f)
-    each e f r =
-        marked_keeps (λ x. R x (marked_entry id b f)) (λ x c h. go_left x c h) id b e
-        (marked_keeps (λ y. R e y) (λ y c h. keeps e y e.is_ready c h) id b f r)
-      where
-        go_left : (x : Entry) (c : Bool) → R x (marked_entry id b f) → R (record x { is_ready = c }) (marked_entry id b f)
-        go_left x c h = keeps x (marked_entry id b f) c (marked_entry id b f).is_ready h
+marked_pairs R keeps id b es pairs = grind (arith, nat_tests, pairs_map R, marked_keeps)
 
 -- ---- timers
 
@@ -159,7 +122,4 @@ own_due ts distinct = λ k d within. due-at (get_or ts k d).id ts k d (own-place
 
 -- an object that has no timer loses none
 pub nothing_stops : (p : Pending) (id : ℕ) → is_some (due_of id p.timers) ≡ false → p ≡ record p { timers = without id_of id p.timers }
-nothing_stops p id unset = ap (λ ts. record p { timers = ts }) (sym (without-absent id_of id p.timers (absent-due id p.timers (none_of (due_of id p.timers) unset))))
-  where
-    none_of : (o : Option ℕ) → is_some o ≡ false → IsNone o
-    none_of o e = grind arith
+nothing_stops p id unset = grind (arith, nat_tests, without-absent, absent-due id p.timers)

@@ -1,7 +1,9 @@
 -- As many signals are in the table as the checked machine has: both count the numbers that signal, the table by its slots and the checked machine by its cells.
-use Rattle.std.proofs.Common.{◌≡◌, ◌≢◌, ◌<◌, ◌≤◌, ◌==◌, ◌+◌, ℕ, zero, suc, Bool, true, false, cond, List, [], ◌∷◌, Option, Some, None, get_or, length, take, ⊎_elim, refl, sym, ap, ◌∙◌, subst, arith}
+use Rattle.std.proofs.lemmas.Bool.Decides.{nat_tests}
+use Rattle.std.proofs.Common.{◌≡◌, ◌<◌, ◌≤◌, ◌==◌, ◌+◌, ℕ, zero, suc, Bool, true, false, cond, List, [], ◌∷◌, Option, Some, None, get_or, length, take}
+use Rattle.std.proofs.Common.{refl, sym, ap, ◌∙◌, subst, arith}
 use Rattle.std.specs.Prelude.{◌||◌, count_by}
-use Rattle.std.proofs.lemmas.Bool.{eq-eqb, eqb-false, eqb-true, ne_eqb, true≢false}
+use Rattle.std.proofs.lemmas.Bool.{eq-eqb, eqb-false, eqb-true, ne_eqb}
 use Rattle.std.proofs.lemmas.List.{get_or_past, take_all}
 use Rattle.std.proofs.lemmas.List.Sums.{count_by_more_no, count_by_more_yes}
 use Rattle.std.proofs.lemmas.Bool.Decides.{leb_tells}
@@ -24,8 +26,7 @@ count_to f (suc n) = cond (f n) (suc (count_to f n)) (count_to f n)
 
 same_counts : (f g : ℕ → Bool) (n : ℕ) → ((i : ℕ) → i < n → f i ≡ g i) → count_to f n ≡ count_to g n
 same_counts f g zero h = refl
-same_counts f g (suc n) h =
-    ap (λ b. cond b (suc (count_to f n)) (count_to f n)) (h n (omega arith)) ∙ ap (λ k. cond (g n) (suc k) k) (same_counts f g n (λ i less. h i (omega (arith, less))))
+same_counts f g (suc n) h = grind (arith, nat_tests, same_counts f g n)
 
 none_to : (f : ℕ → Bool) (n : ℕ) → ((i : ℕ) → f i ≡ false) → count_to f n ≡ 0
 none_to f zero h = refl
@@ -44,7 +45,7 @@ module _ {A : Type 0} (test : A → Bool) (xs : List A) (d : A) where
       on = omega arith
 
       go : count_by test (take n xs) ≡ count_to passes n → (b : Bool) → passes n ≡ b → count_by test (take (suc n) xs) ≡ cond b (suc (count_to passes n)) (count_to passes n)
-      go before true e = sym (ap (λ k. count_by test (take k xs)) on) ∙ count_by_more_yes test xs n d (omega arith) e ∙ ap (λ k. k + 1) before ∙ omega arith
+      go before true e = grind (arith, nat_tests, on, count_by_more_yes test xs n d)
       go before false e = sym (ap (λ k. count_by test (take k xs)) on) ∙ count_by_more_no test xs n d (omega arith) e ∙ before
 
   counted : count_by test xs ≡ count_to passes (length xs)
@@ -59,25 +60,8 @@ module _ (k : ℕ) (b : Bool) (f : ℕ → Bool) (new : f k ≡ false) where
   below n low = same_counts with_one f n (λ i less. ap (λ e. cond e b (f i)) (ne_eqb k i (λ same. omega arith)))
 
   one_more : (n : ℕ) → (b ≡ true → k < n) → count_to with_one n ≡ cond b (suc (count_to f n)) (count_to f n)
-  one_more zero within = go b within
-    where
-      go : (b : Bool) → (b ≡ true → k < 0) → ◌≡◌ {A = ℕ} 0 (cond b 1 0)
-      go true within = let less = within refl in omega arith
-      go false within = refl
-  one_more (suc n) within = go (one_more n) (k == n) refl
-    where
-      swap : (x y : Bool) (c : ℕ) → cond y (suc (cond x (suc c) c)) (cond x (suc c) c) ≡ cond x (suc (cond y (suc c) c)) (cond y (suc c) c)
-      swap x y c = grind arith
-
-      go :
-          ((b ≡ true → k < n) → count_to with_one n ≡ cond b (suc (count_to f n)) (count_to f n)) → (e : Bool) → (k == n) ≡ e →
-          cond (cond e b (f n)) (suc (count_to with_one n)) (count_to with_one n) ≡ cond b (suc (count_to f (suc n))) (count_to f (suc n))
-      go less true e =
-          let same = eqb-true k n e in
-          ap (λ c. cond b (suc c) c) (below n (omega (arith, same))) ∙ ap (λ c. cond b (suc c) c) (sym (ap (λ x. cond x (suc (count_to f n)) (count_to f n)) (ap f (sym same) ∙ new)))
-      go less false e =
-          let lower = less (λ is. let within = within is in let other : (k ≢ n) = eqb-false k n e in omega (arith, within, other)) in
-          ap (λ c. cond (f n) (suc c) c) lower ∙ swap b (f n) (count_to f n)
+  one_more zero within = grind (arith, nat_tests)
+  one_more (suc n) within = grind (arith, nat_tests, one_more n, eqb-true k n, below n, eqb-false k n)
 
 -- ---- the cells
 
@@ -90,15 +74,10 @@ abbrev signals_at : List Cell → ℕ → Bool
 signals_at cs n = tells_signal (requested cs n) (has_more (service_of cs n).queue)
 
 own_signals : (c : Cell) (r : Option Request) → tells_signal r (has_more c.service.queue) ≡ signals c r
-own_signals c None = refl
-own_signals c (Some r) = refl
+own_signals c x = grind arith
 
 signals_first : (c : Cell) (cs : List Cell) (n : ℕ) → signals_at (c ∷ cs) n ≡ cond (c.object.name == n) (signals c c.request) (signals_at cs n)
-signals_first c cs n = go (c.object.name == n)
-  where
-    go : (b : Bool) → tells_signal (cond b c.request (requested cs n)) (has_more (cond b c.service (service_of cs n)).queue) ≡ cond b (signals c c.request) (signals_at cs n)
-    go true = own_signals c c.request
-    go false = refl
+signals_first c cs n = grind (arith, nat_tests, own_signals c c.request)
 
 -- what is not there does not signal
 unnamed_signal : (cs : List Cell) (n : ℕ) → named cs n ≡ None → signals_at cs n ≡ false
@@ -108,14 +87,14 @@ counts_cells : (cs : List Cell) (m : ℕ) → Tidy cs → ((n : ℕ) → signals
 counts_cells [] m tidy low = none_to (signals_at []) m (λ i. refl)
 counts_cells (c ∷ cs) m tidy low =
     same_counts (signals_at (c ∷ cs)) (with_one c.object.name (signals c c.request) (signals_at cs) new) m (λ i less. signals_first c cs i)
-    ∙ one_more c.object.name (signals c c.request) (signals_at cs) new m (λ is. low c.object.name (signals_first c cs c.object.name ∙ ap (λ b. cond b (signals c c.request) (signals_at cs c.object.name)) (eq-eqb c.object.name c.object.name refl) ∙ is))
+    ∙ one_more c.object.name (signals c c.request) (signals_at cs) new m (λ is. low c.object.name (grind (arith, eq-eqb)))
     ∙ ap (λ k. cond (signals c c.request) (suc k) k) (counts_cells cs m tidy.2 (λ n is. low n (signals_first c cs n ∙ other n is)))
   where
     new : signals_at cs c.object.name ≡ false
     new = unnamed_signal cs c.object.name tidy.1
 
     other : (n : ℕ) → signals_at cs n ≡ true → cond (c.object.name == n) (signals c c.request) (signals_at cs n) ≡ true
-    other n is = ap (λ b. cond b (signals c c.request) (signals_at cs n)) (ne_eqb c.object.name n (λ same. true≢false (sym is ∙ ap (signals_at cs) (sym same) ∙ new))) ∙ is
+    other n is = grind (arith, nat_tests, ne_eqb c.object.name n, new)
 
 -- ---- the table
 
@@ -128,11 +107,11 @@ module _ (a : Active) (w : IsWhole a) (cs : List Cell) (queues : ℕ → Option 
   held_signal n = holds_signal (request_at a.table n)
 
   each : (n : ℕ) → held_signal n ≡ signals_at cs n
-  each n = same_signal (request_at a.table n) (requested cs n) (queues n) (w.requests n) (s.tells n) ∙ ap (tells_signal (requested cs n)) (wanted n)
+  each n = grind (arith, nat_tests, same_signal)
 
   -- past the table nothing signals
   within : (n : ℕ) → signals_at cs n ≡ true → n < length a.table.slots
-  within n is = ⊎_elim (λ past. absurd (true≢false (sym is ∙ sym (each n) ∙ ap holds_signal (get_or_past a.table.slots n None past.1)))) (λ less. less.1) (leb_tells (length a.table.slots) n)
+  within n is = grind (arith, nat_tests, each n, get_or_past a.table.slots n None, leb_tells)
 
   pub same_count : tables.signals a.table ≡ signal_count cs
   same_count =

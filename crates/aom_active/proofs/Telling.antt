@@ -1,11 +1,12 @@
 -- What the requests that the active objects stand for tell of the table: what each call requires of it.
+use Rattle.std.proofs.lemmas.Bool.Decides.{nat_tests}
 use Rattle.std.proofs.Common.{◌≡◌, ℕ, Bool, false, true, Option, Some, None, subst, arith}
 use Rattle.std.specs.Prelude.{is_some}
-use mathlib.Core.Path.{fun_ext}
 use Rattle.std.specs.Ordering.{int_eq}
 use Rattle.aom_requests.specs.Requests.{is_pending, is_server, pending, request_at, state_at, state_of, status_at, status_of}
 use Rattle.aom_requests.specs.declared.request.State.{State}
-use Rattle.aom_requests.specs.declared.request.State.TheVariants.{Idle as Machine_idle, Issued as Machine_issued, Active as Machine_active, Cancelling as Machine_cancelling, Aborted as Machine_aborted}
+use Rattle.aom_requests.specs.declared.request.State.TheVariants.{Idle as Machine_idle, Issued as Machine_issued, Active as Machine_active}
+use Rattle.aom_requests.specs.declared.request.State.TheVariants.{Cancelling as Machine_cancelling, Aborted as Machine_aborted}
 use Rattle.aom_requests.specs.declared.request.Request.{Request as Machine_request}
 use Rattle.aom_semantics.specs.Enlisted as Enlisted
 use Rattle.aom_semantics.specs.Enlisted.{in_phase, is_active, is_cancelling}
@@ -63,7 +64,7 @@ module _ (a : Active) (asked : ℕ → Option Request) (queues : ℕ → Option 
   told_server r is = tells_server (request_at a.table id) r (queues id) (subst (λ o. Tells (request_at a.table id) o (queues id)) is (s.tells id))
 
   tells_object : (r : Request) → asked id ≡ Some r → queues id ≡ None → Tells (request_at a.table id) (Some r) None
-  tells_object r is plain = subst (λ v. Tells (request_at a.table id) (Some r) v) plain (subst (λ o. Tells (request_at a.table id) o (queues id)) is (s.tells id))
+  tells_object r is plain = grind (arith, nat_tests)
 
   pub told_state : (r : Request) → asked id ≡ Some r → queues id ≡ None → state_at a.table id ≡ Some (held_state r.phase)
   told_state r is plain = tells_state (request_at a.table id) r (tells_object r is plain)
@@ -88,6 +89,4 @@ queue_follows : (h : Option Machine_request) (o : Option Request) (v waits : Opt
 queue_follows h o v waits same tells = grind arith
 
 pub standing_follows : StandingFollows
-standing_follows a asked other queues then same waits s =
-    let t = subst (λ f. StandsFor a f queues) (fun_ext same) s in
-    record { tells = λ n. queue_follows (request_at a.table n) (other n) (queues n) (then n) (waits n) (t.tells n); priorities = t.priorities; order = t.order; dues = t.dues; sooner = t.sooner }
+standing_follows a asked other queues then same waits s = search (arith, nat_tests, queue_follows)

@@ -1,8 +1,8 @@
 -- What each call leaves: the three parts hang together still, and stand for the requests that it makes.
-use Rattle.std.proofs.Common.{arith, ◌≡◌, ◌≢◌, ◌==◌, ℕ, ℤ, Bool, true, false, not, cond, List, Option, Some, None, refl, sym, ap, ◌∙◌, subst}
-use Rattle.std.specs.Prelude.{All, is_some, option_map}
-use Rattle.std.proofs.lemmas.Bool.{eqb-true, eqb-false, false≢true}
-use Rattle.std.proofs.lemmas.Option.{none-some}
+use Rattle.std.proofs.lemmas.Bool.Decides.{nat_tests}
+use Rattle.std.proofs.Common.{arith, ◌≡◌, ◌==◌, ℕ, ℤ, Bool, true, false, not, cond, List, Option, Some, None, refl, sym, ap, ◌∙◌}
+use Rattle.std.specs.Prelude.{All, is_some}
+use Rattle.std.proofs.lemmas.Bool.{eqb-true, eqb-false}
 use Rattle.std.proofs.lemmas.List.Elements.{All-filter, All-map, All-weaker}
 use Rattle.aom_requests.specs.Requests.{Table, Changes, request_at, is_pending, is_ready}
 use Rattle.aom_requests.specs.declared.request.Request.{Request as Machine_request}
@@ -13,7 +13,7 @@ use Rattle.aom_scheduler.specs.declared.entry.Entry.{Entry}
 use Rattle.aom_scheduler.proofs.Items.{All-placed, IsAbsent}
 use Rattle.aom_scheduler.proofs.Places.{marked-place}
 use Rattle.aom_semantics.specs.Enlisted.{waits}
-use Rattle.aom_semantics.specs.Places.{Request, Timer}
+use Rattle.aom_semantics.specs.Places.{Request}
 use Rattle.aom_active.specs.Agrees.{Active, IsWhole, Tells, due_in, may_stand, timer_in}
 use Rattle.aom_active.specs.Meanings.{asked_anew}
 use Rattle.aom_active.proofs.Halves.{IsKept, Listed, listed_kept, listed_marked, request_anew}
@@ -22,21 +22,14 @@ use Rattle.aom_active.proofs.Lists.{absent_without, both, due_placed, due_withou
 -- ---- the table
 
 -- requests may stand as before, and with the new one
-pub stand_anew : (old new : Table) (id : ℕ) (q : Option Machine_request) → Changes old new id q → may_stand q ≡ true → ((n : ℕ) → may_stand (request_at old n) ≡ true) → (n : ℕ) → may_stand (request_at new n) ≡ true
-stand_anew old new id q ch here others n = ap may_stand (request_anew old new id q ch n) ∙ go (id == n)
-  where
-    go : (b : Bool) → may_stand (cond b q (request_at old n)) ≡ true
-    go true = here
-    go false = others n
+pub stand_anew : (old new : Table) (id : ℕ) (q : Option Machine_request) →
+    Changes old new id q → may_stand q ≡ true → ((n : ℕ) → may_stand (request_at old n) ≡ true) → (n : ℕ) → may_stand (request_at new n) ≡ true
+stand_anew old new id q ch here others n = grind (arith, nat_tests, request_anew old new id q ch n)
 
 pub tells_anew :
     (old new : Table) (id : ℕ) (q : Option Machine_request) (r : Option Request) (asked : ℕ → Option Request) (queues : ℕ → Option Bool) → Changes old new id q → Tells q r (queues id) →
     ((n : ℕ) → Tells (request_at old n) (asked n) (queues n)) → (n : ℕ) → Tells (request_at new n) (asked_anew id r asked n) (queues n)
-tells_anew old new id q r asked queues ch here others n = subst (λ h. Tells h (asked_anew id r asked n) (queues n)) (sym (request_anew old new id q ch n)) (go (id == n) refl)
-  where
-    go : (b : Bool) → (id == n) ≡ b → Tells (cond b q (request_at old n)) (cond b r (asked n)) (queues n)
-    go true same = subst (λ k. Tells q r (queues k)) (eqb-true id n same) here
-    go false other = others n
+tells_anew old new id q r asked queues ch here others n = grind (arith, eqb-true id n)
 
 -- ---- the entries
 
@@ -54,20 +47,12 @@ pub record Follows (old : Roster) (t : Table) (r : Roster) : Type 0 where
 some_anew :
     (old new : Table) (id : ℕ) (q : Option Machine_request) (r s : Roster) → Changes old new id q → ((n : ℕ) → is_some (place n s) ≡ cond (id == n) (is_some q) (is_some (place n r))) →
     ((n : ℕ) → is_some (place n r) ≡ is_some (request_at old n)) → (n : ℕ) → is_some (place n s) ≡ is_some (request_at new n)
-some_anew old new id q r s ch now enlisted n = now n ∙ go (id == n) ∙ ap is_some (sym (request_anew old new id q ch n))
-  where
-    go : (b : Bool) → cond b (is_some q) (is_some (place n r)) ≡ is_some (cond b q (request_at old n))
-    go true = refl
-    go false = enlisted n
+some_anew old new id q r s ch now enlisted n = grind arith
 
 module _ (a : Active) (w : IsWhole a) (t : Table) (id : ℕ) (q : Option Machine_request) (ch : Changes a.table t id q) where
   -- an object that is enlisted stays so
   still : is_some (request_at a.table id) ≡ true → is_some q ≡ true → (n : ℕ) → is_some (place n a.roster) ≡ cond (id == n) (is_some q) (is_some (place n a.roster))
-  still listed some n = go (id == n) refl
-    where
-      go : (b : Bool) → (id == n) ≡ b → is_some (place n a.roster) ≡ cond b (is_some q) (is_some (place n a.roster))
-      go true same = ap (λ k. is_some (place k a.roster)) (sym (eqb-true id n same)) ∙ w.enlisted id ∙ listed ∙ sym some
-      go false other = refl
+  still listed some n = grind (arith, nat_tests, eqb-true id n, listed)
 
   pub follows_same : is_some (request_at a.table id) ≡ true → is_some q ≡ true → is_ready q ≡ is_ready (request_at a.table id) → Follows a.roster t a.roster
   follows_same listed some same = record {
@@ -81,19 +66,14 @@ module _ (a : Active) (w : IsWhole a) (t : Table) (id : ℕ) (q : Option Machine
   }
     where
       each : (n : ℕ) → is_ready (request_at a.table n) ≡ is_ready (request_at t n)
-      each n = go (id == n) refl ∙ ap is_ready (sym (request_anew a.table t id q ch n))
-        where
-          go : (b : Bool) → (id == n) ≡ b → is_ready (request_at a.table n) ≡ is_ready (cond b q (request_at a.table n))
-          go true equal = ap (λ k. is_ready (request_at a.table k)) (sym (eqb-true id n equal)) ∙ sym same
-          go false other = refl
+      each n = grind (arith, nat_tests, request_anew a.table t id q ch n, eqb-true id n)
 
   pub follows_marked : is_some (request_at a.table id) ≡ true → is_some q ≡ true → Follows a.roster t (record a.roster { entries = marked id (is_ready q) a.roster.entries })
   follows_marked listed some = record {
     enters = record {
       places = w.places ∙ sym ch.limit;
       enlisted =
-          some_anew a.table t id q a.roster (record a.roster { entries = marked id (is_ready q) a.roster.entries }) ch
-          (λ n. ap is_some (marked-place id (is_ready q) n a.roster.entries) ∙ still listed some n) w.enlisted;
+          grind (arith, nat_tests, some_anew, marked-place, still, listed);
       marks =
           All-map (λ e. e.is_ready ≡ is_ready (request_at t e.id)) (marked_entry id (is_ready q)) a.roster.entries
           (All-weaker (λ e. e.is_ready ≡ is_ready (request_at a.table e.id)) (λ e. (marked_entry id (is_ready q) e).is_ready ≡ is_ready (request_at t (marked_entry id (is_ready q) e).id))
@@ -104,18 +84,14 @@ module _ (a : Active) (w : IsWhole a) (t : Table) (id : ℕ) (q : Option Machine
     where
       by_id : (e : Entry) (b : Bool) → (e.id == id) ≡ b → e.is_ready ≡ is_ready (request_at a.table e.id) →
           (cond b (record e { is_ready = is_ready q }) e).is_ready ≡ is_ready (request_at t (cond b (record e { is_ready = is_ready q }) e).id)
-      by_id e true same h = ap is_ready (sym ch.here ∙ ap (λ k. request_at t k) (sym (eqb-true e.id id same)))
-      by_id e false other h = h ∙ ap is_ready (sym (ch.others e.id (eqb-false e.id id other)))
+      by_id e x same h = grind (arith, nat_tests, eqb-true, eqb-false)
 
       each : (e : Entry) → e.is_ready ≡ is_ready (request_at a.table e.id) → (marked_entry id (is_ready q) e).is_ready ≡ is_ready (request_at t (marked_entry id (is_ready q) e).id)
       each e h = by_id e (e.id == id) refl h
 
   -- what of the requests of other objects is as before
   marks_apart : (es : List Entry) → IsAbsent (λ e. e.id) id es → All (λ e. e.is_ready ≡ is_ready (request_at a.table e.id)) es → All (λ e. e.is_ready ≡ is_ready (request_at t e.id)) es
-  marks_apart es absent marks =
-      All-weaker (λ e. (e.id ≢ id) × (e.is_ready ≡ is_ready (request_at a.table e.id))) (λ e. e.is_ready ≡ is_ready (request_at t e.id))
-      (λ e h. h.1 ∙ ap is_ready (sym (ch.others e.id h.0))) es
-      (both (λ e. e.id ≢ id) (λ e. e.is_ready ≡ is_ready (request_at a.table e.id)) es absent marks)
+  marks_apart es absent marks = grind (arith, nat_tests, All-weaker, both, marks)
 
   pub enters_without : q ≡ None → Enters t (record a.roster { entries = without (λ e. e.id) id a.roster.entries })
   enters_without none = record {
@@ -128,12 +104,12 @@ module _ (a : Active) (w : IsWhole a) (t : Table) (id : ℕ) (q : Option Machine
         (All-filter (λ e. not (e.id == id)) (λ e. e.is_ready ≡ is_ready (request_at a.table e.id)) a.roster.entries w.marks);
   }
 
-  pub enters_placed : (priority : ℤ) → IsAbsent (λ e. e.id) id a.roster.entries → is_some q ≡ true → is_ready q ≡ false → Enters t (record a.roster { entries = placed before (waiting id priority) a.roster.entries })
+  pub enters_placed : (priority : ℤ) → IsAbsent (λ e. e.id) id a.roster.entries →
+      is_some q ≡ true → is_ready q ≡ false → Enters t (record a.roster { entries = placed before (waiting id priority) a.roster.entries })
   enters_placed priority absent some waits = record {
     places = w.places ∙ sym ch.limit;
     enlisted =
-        some_anew a.table t id q a.roster (record a.roster { entries = placed before (waiting id priority) a.roster.entries }) ch
-        (λ n. stands_placed (λ e. e.id) before (waiting id priority) n a.roster.entries ∙ ap (λ b. cond (id == n) b (is_some (place n a.roster))) (sym some)) w.enlisted;
+        grind (arith, nat_tests, some_anew a.table t id q a.roster, stands_placed);
     marks =
         All-placed before (λ e. e.is_ready ≡ is_ready (request_at t e.id)) (waiting id priority) a.roster.entries (sym waits ∙ sym (ap is_ready ch.here))
         (marks_apart a.roster.entries absent w.marks);
@@ -154,8 +130,7 @@ module _ (a : Active) (w : IsWhole a) (t : Table) (id : ℕ) (q : Option Machine
   }
     where
       go : (n : ℕ) → is_some (due_of n a.pending.timers) ≡ true → (b : Bool) → (id == n) ≡ b → is_pending (cond b q (request_at a.table n)) ≡ true
-      go n set true same = keeps (ap (λ k. is_pending (request_at a.table k)) (eqb-true id n same) ∙ w.waits n set)
-      go n set false other = w.waits n set
+      go n set x same = grind (arith, nat_tests, eqb-true)
 
   pub runs_without : Runs t (record a.pending { timers = without id_of id a.pending.timers })
   runs_without = record {
@@ -169,24 +144,15 @@ module _ (a : Active) (w : IsWhole a) (t : Table) (id : ℕ) (q : Option Machine
   pub runs_placed : (due : ℕ) → due_of id a.pending.timers ≡ None → is_pending q ≡ true → Runs t (record a.pending { timers = placed no_later (timer_of id due) a.pending.timers })
   runs_placed due unset waiting = record {
     dues = w.dues ∙ sym ch.limit;
-    waits = λ n set. ap is_pending (request_anew a.table t id q ch n) ∙ go n (id == n) (sym (ap is_some (due_placed (timer_of id due) n a.pending.timers unset)) ∙ set);
+    waits = grind (arith, nat_tests, request_anew a.table t id q ch, due_placed);
   }
     where
       go : (n : ℕ) (b : Bool) → is_some (cond b (Some due) (due_of n a.pending.timers)) ≡ true → is_pending (cond b q (request_at a.table n)) ≡ true
-      go n true set = waiting
-      go n false set = w.waits n set
+      go n x set = grind arith
 
   -- no timer runs for a request that is not pending
   pub no_timer : is_pending (request_at a.table id) ≡ false → due_of id a.pending.timers ≡ None
-  no_timer over = go (due_of id a.pending.timers) refl
-    where
-      go : (o : Option ℕ) → due_of id a.pending.timers ≡ o → o ≡ None
-      go None e = refl
-      go (Some d) e = absurd (false≢true (sym over ∙ w.waits id (ap is_some e)))
+  no_timer over = grind (arith, nat_tests)
 
 pub no_due_no_timer : (r : Option Request) → None ≡ due_in r → timer_in r ≡ None
-no_due_no_timer r e = go (timer_in r) e
-  where
-    go : (o : Option Timer) → None ≡ option_map (λ t. t.due) o → o ≡ None
-    go None e = refl
-    go (Some t) e = absurd (none-some _ e)
+no_due_no_timer r e = grind (arith, nat_tests)

@@ -11,7 +11,8 @@ returns-in_err-id-clause-completes c =
     (sym c.due.ensures.value ∙ c.in_err-id.was) c.due.ensures.left
 
 pub invariant_of-self-2 : goal.invariant_of-self-2
-invariant_of-self-2 c = (times_out _ c.self.view_is c.self.invariant c.in_ok-id.id c.args.now c.complete.new.self c.mark.new.schedule c.due.new.self c.is_ready-is_ready.result c.in_order.ensures.timers
+invariant_of-self-2 c = (times_out _ c.self.view_is
+    c.self.invariant c.in_ok-id.id c.args.now c.complete.new.self c.mark.new.schedule c.due.new.self c.is_ready-is_ready.result c.in_order.ensures.timers
     (sym c.due.ensures.value ∙ c.in_ok-id.was) c.complete.ensures.completed c.is_ready-is_ready.ensures.ready c.mark.ensures c.due.ensures.left).whole
 
 pub returns-clause-completes : goal.returns-clause-completes

@@ -6,7 +6,11 @@ use Rattle.aom_active.proofs.Calls.{enlists_it}
 use Rattle.aom_active.proofs.active.ActiveObjects.enlist.Goals as goal
 
 pub invariant_of-self : goal.invariant_of-self
-invariant_of-self c = (enlists_it _ c.self.view_is c.self.invariant c.args.id (Request.Object State.Idle (pos 0)) None refl refl (λ order priority. (refl, refl)) c.add.new.self c.insert.new.self c.args.priority _ (to_z-of_z w32 c.args.priority c.ranges.priority) c.in_order.ensures.entries c.requires.fresh c.add.ensures.added c.insert.ensures).whole
+invariant_of-self c = (enlists_it _ c.self.view_is c.self.invariant c.args.id
+    (Request.Object State.Idle (pos 0)) None refl refl (λ order priority. (refl, refl)) c.add.new.self c.insert.new.self c.args.priority _
+    (to_z-of_z w32 c.args.priority c.ranges.priority) c.in_order.ensures.entries c.requires.fresh c.add.ensures.added c.insert.ensures).whole
 
 pub returns : goal.returns
-returns c = (enlists_it _ c.self.view_is c.self.invariant c.args.id (Request.Object State.Idle (pos 0)) None refl refl (λ order priority. (refl, refl)) c.add.new.self c.insert.new.self c.args.priority _ (to_z-of_z w32 c.args.priority c.ranges.priority) c.in_order.ensures.entries c.requires.fresh c.add.ensures.added c.insert.ensures).enlists
+returns c = (enlists_it _ c.self.view_is c.self.invariant c.args.id
+    (Request.Object State.Idle (pos 0)) None refl refl (λ order priority. (refl, refl)) c.add.new.self c.insert.new.self c.args.priority _
+    (to_z-of_z w32 c.args.priority c.ranges.priority) c.in_order.ensures.entries c.requires.fresh c.add.ensures.added c.insert.ensures).enlists

@@ -13,7 +13,8 @@ pub set_waiting-requires : goal.set_waiting-requires
 set_waiting-requires c = pick_enlisted _ c.self.view_is c.self.invariant c.in_ok-pick.pick (sym c.next_ready.ensures.value ∙ c.in_ok-pick.was)
 
 pub invariant_of-self : goal.invariant_of-self
-invariant_of-self c = (takes_up _ c.self.view_is c.self.invariant c.in_ok-pick.pick c.wait_for.new.self c.set_waiting.new.self (sym c.is_server.ensures ∙ c.if-is_server.false) (sym c.next_ready.ensures.value ∙ c.in_ok-pick.was) c.wait_for.ensures.taken c.set_waiting.ensures).whole
+invariant_of-self c = (takes_up _ c.self.view_is c.self.invariant c.in_ok-pick.pick c.wait_for.new.self c.set_waiting.new.self
+    (sym c.is_server.ensures ∙ c.if-is_server.false) (sym c.next_ready.ensures.value ∙ c.in_ok-pick.was) c.wait_for.ensures.taken c.set_waiting.ensures).whole
 
 pub returns-then-is_server : goal.returns-then-is_server
 returns-then-is_server c = (
@@ -24,6 +25,7 @@ returns-then-is_server c = (
 pub returns : goal.returns
 returns c = (
   object_picked _ c.self.view_is c.self.invariant c.in_ok-pick.pick _ c.is_server.result c.is_server.ensures c.if-is_server.false
-      (takes_up _ c.self.view_is c.self.invariant c.in_ok-pick.pick c.wait_for.new.self c.set_waiting.new.self (sym c.is_server.ensures ∙ c.if-is_server.false) (sym c.next_ready.ensures.value ∙ c.in_ok-pick.was) c.wait_for.ensures.taken c.set_waiting.ensures).makes,
+      (takes_up _ c.self.view_is c.self.invariant c.in_ok-pick.pick c.wait_for.new.self c.set_waiting.new.self (sym c.is_server.ensures ∙ c.if-is_server.false)
+      (sym c.next_ready.ensures.value ∙ c.in_ok-pick.was) c.wait_for.ensures.taken c.set_waiting.ensures).makes,
   is_first_ready _ c.self.view_is c.self.invariant c.in_ok-pick.pick (sym c.next_ready.ensures.value ∙ c.in_ok-pick.was),
 )

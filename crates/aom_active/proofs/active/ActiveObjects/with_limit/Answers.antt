@@ -9,11 +9,26 @@ use Rattle.aom_active.proofs.active.ActiveObjects.with_limit.Goals as goal
 none_at : (limit n : ℕ) → request_at (record { slots = replicate limit None; limit = limit }) n ≡ None
 none_at limit n = grind (arith, common_steps)
 
-nobody : (limit : ℕ) (queues : ℕ → Option Bool) → StandsFor (record { table = record { slots = replicate limit None; limit = limit }; roster = record { entries = []; limit = limit }; pending = record { timers = []; limit = limit } }) (λ n. None) queues
+nobody : (limit : ℕ) (queues : ℕ → Option Bool) → StandsFor (record {
+  table = record { slots = replicate limit None; limit = limit };
+  roster = record { entries = []; limit = limit };
+  pending = record { timers = []; limit = limit };
+}) (λ n. None) queues
 nobody limit queues = record { tells = λ n. subst (λ h. Tells h None (queues n)) (sym (none_at limit n)) tt; priorities = search rules; order = search rules; dues = λ n. refl; sooner = search rules }
 
-nothing_kept : (limit : ℕ) → IsWhole (record { table = record { slots = replicate limit None; limit = limit }; roster = record { entries = []; limit = limit }; pending = record { timers = []; limit = limit } })
-nothing_kept limit = record { places = refl; dues = refl; requests = λ n. ap may_stand (none_at limit n); enlisted = λ n. sym (ap is_some (none_at limit n)); marks = search rules; waits = search rules }
+nothing_kept : (limit : ℕ) → IsWhole (record {
+  table = record { slots = replicate limit None; limit = limit };
+  roster = record { entries = []; limit = limit };
+  pending = record { timers = []; limit = limit };
+})
+nothing_kept limit = record {
+  places = refl;
+  dues = refl;
+  requests = λ n. ap may_stand (none_at limit n);
+  enlisted = λ n. sym (ap is_some (none_at limit n));
+  marks = search rules;
+  waits = search rules;
+}
 
 pub returns-clause-stands : goal.returns-clause-stands
 returns-clause-stands c = λ queues. rw (c.in_ok-with_limit.ensures, c.in_ok-with_limit-2.ensures, c.in_ok-with_limit-3.ensures) (nobody c.args.limit queues)
