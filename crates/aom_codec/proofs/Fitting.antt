@@ -200,8 +200,8 @@ first_in servers k h is = ltb-true servers 8 (sym (cond-true _ _ _ (server_sort 
 kind_sort_fits : (servers : ℕ) (k : ClassKind) → first_ok servers k ≡ true → (kind_sort servers).Fits (kind_byte k)
 kind_sort_fits servers x h = grind arith
 
-class_fits : (version : Version) (classes natives servers : ℕ) (c : ClassDecl) → classes ≤ 256 → natives ≤ 16 → first_ok servers c.kind ≡ true → ClassFits version classes natives c
-    → ParentFits version classes c.kind c.parent → (class version classes natives servers).Fits c
+class_fits : (version : Version) (classes natives servers : ℕ) (c : ClassDecl) → classes ≤ 256 → natives ≤ 16 → first_ok servers c.kind ≡ true →
+    ClassFits version classes natives c → ParentFits version classes c.kind c.parent → (class version classes natives servers).Fits c
 class_fits version classes natives servers c few some_natives first h above = (
   grind (
     arith,
@@ -233,8 +233,8 @@ record ClassesIn (version : Version) (classes natives servers : ℕ) (cs : List 
   parents : All (λ c. ParentFits version classes c.kind c.parent) cs
   few : servers + count_by is_server cs ≤ 8
 
-classes_in : (version : Version) (classes natives n servers : ℕ) (cs : List ClassDecl) → servers ≤ 8 → FitEach (class version classes natives) count_server servers n cs
-    → ClassesIn version classes natives servers cs
+classes_in : (version : Version) (classes natives n servers : ℕ) (cs : List ClassDecl) →
+    servers ≤ 8 → FitEach (class version classes natives) count_server servers n cs → ClassesIn version classes natives servers cs
 classes_in version classes natives _ servers _ low no_more = record {
   each = All-nil (ClassFits version classes natives);
   parents = All-nil (λ c. ParentFits version classes c.kind c.parent);
@@ -302,8 +302,8 @@ method_in_range version classes methods m f =
       code = each (instruction l).Fits (InstrFits l) m.code (λ i h. in_range l i h) (all_fit (instruction l) (length m.code) m.code f.0.1.1.1.1.1.1.1.1.1.1.1);
     }
 
-method_fits : (version : Version) (classes methods : ℕ) (m : Method) → classes ≤ 256 → methods ≤ 1024 → MethodFits version classes methods m → OverFits version methods m.over
-    → (method version classes methods).Fits m
+method_fits : (version : Version) (classes methods : ℕ) (m : Method) →
+    classes ≤ 256 → methods ≤ 1024 → MethodFits version classes methods m → OverFits version methods m.over → (method version classes methods).Fits m
 method_fits version classes methods m few some_methods h overs =
     let l = limits version classes methods (length m.code) in
     let bounded : Bounded l = record { classes = few; methods = some_methods; places = h.code_length } in

@@ -280,9 +280,8 @@ method_laws version classes methods =
 -- ---- the whole
 
 image_parts_laws : IsCodec image_parts
-image_parts_laws =
-    of_next _ _ opening_laws (λ o.
-    of_next _ _ (of_many_from (class o.header.version o.classes o.header.natives) count_server (class_laws o.header.version o.classes o.header.natives) o.classes 0) (λ _.
+image_parts_laws = of_next _ _ opening_laws (λ o. of_next _ _
+    (of_many_from (class o.header.version o.classes o.header.natives) count_server (class_laws o.header.version o.classes o.header.natives) o.classes 0) (λ _.
     of_many o.methods (method o.header.version o.classes o.methods) (method_laws o.header.version o.classes o.methods)))
 
 opening_again : (o : Opening) (classes methods : ℕ) → classes ≡ o.classes → methods ≡ o.methods → record { classes = classes; methods = methods; header = o.header } ≡ o

@@ -1,11 +1,10 @@
 -- What is read of an operand is spelled so and fits, and what fits and is spelled so is read: for each kind, once.
 use Rattle.std.proofs.lemmas.Bool.Decides.{nat_tests}
-use Rattle.std.proofs.Common.{◌≡◌, ℕ, ◌+◌, ◌*◌, ◌/◌, ◌%◌, ◌<◌, ◌≤◌, ◌^◌, cond, eqb, ltb, Result, Ok, Err, refl, ap, ◌∙◌, arith, lit<, FitsSigned, Fits, rules}
-use Rattle.std.proofs.Common.{ℤ}
-use Rattle.std.specs.Int.{w32, cast_unsigned, cast_signed}
+use Rattle.std.proofs.Common.{◌≡◌, ℕ, ◌+◌, ◌*◌, ◌/◌, ◌%◌, ◌<◌, ◌^◌, cond, ltb, Ok, Err, refl, ap, ◌∙◌, arith, lit<, FitsSigned, Fits, rules}
+use Rattle.std.specs.Int.{w32, cast_signed}
 use Rattle.std.proofs.Math.Facts.{sfits_to_z}
 use Rattle.std.proofs.lemmas.Int.{of_z-to_z}
-use Rattle.std.proofs.lemmas.Bool.{ltb-true, lt-ltb, ne_eqb, eqb-false}
+use Rattle.std.proofs.lemmas.Bool.{ltb-true, lt-ltb, eqb-false}
 use Rattle.aom_codec.specs.declared.fault.LoadFault.{LoadFault}
 use Rattle.aom_codec.specs.declared.fault.LoadFault.TheVariants.{BadOperand}
 use Rattle.aom_codec.specs.Instructions.{Bounded, below, large_from, small_from, target_from}
@@ -19,7 +18,6 @@ use Rattle.aom_instructions.specs.declared.kinds.SmallKind.{SmallKind}
 use Rattle.aom_instructions.specs.declared.kinds.SmallKind.TheVariants as sk
 use Rattle.aom_instructions.specs.declared.limits.Limits.{Limits}
 use Rattle.aom_instructions.specs.declared.operand.Large.{Large}
-use Rattle.aom_instructions.specs.declared.operand.Large.TheVariants as large
 use Rattle.aom_instructions.specs.declared.operand.Small.{Small}
 use Rattle.aom_instructions.specs.declared.operand.Small.TheVariants as small
 
@@ -83,16 +81,6 @@ small_takes sk.Field (small.Field f) fits = (omega arith, below_is 8 f (small.Fi
 small_takes sk.Depth (small.Depth d) fits = (omega arith, below_is 4 d (small.Depth d) BadOperand fits)
 small_takes sk.CallTarget (small.CallTarget t) fits = target_takes t fits
 small_takes _ _ fits = absurd fits
-
--- what a number with its sign is spelled as
-below_32 : (z : ℤ) → FitsSigned w32 z → cast_unsigned w32 z < 2 ^ 32
-below_32 x h = grind arith
-
-abbrev a_number : ℤ → Result Large LoadFault
-a_number z = Ok (large.Number z)
-
-rounds_read : (n : ℕ) → 1 ≤ n → cond (eqb n 0) (Err BadOperand) (below 65536 n (large.Rounds n) BadOperand) ≡ below 65536 n (large.Rounds n) BadOperand
-rounds_read n some = ap (λ b. cond b (Err BadOperand) (below 65536 n (large.Rounds n) BadOperand)) (ne_eqb n 0 (λ is. omega (arith, is, some)))
 
 pub large_takes : (l : Limits) (k : LargeKind) (o : Large) → Bounded l → LargeFits l k o → ReadsLarge l k o
 large_takes l x y few fits = grind arith

@@ -6,7 +6,7 @@ use Rattle.aom_codec.specs.Spelling as text
 use Rattle.aom_codec.specs.Codec.{Codec, pair, always, keep, spell_many, unused}
 use Rattle.aom_codec.specs.Instructions.{instruction}
 use Rattle.aom_instructions.specs.Fits.{limits}
-use Rattle.aom_codec.specs.Format.{thing, argument, class, count_server, parent, over, method, image}
+use Rattle.aom_codec.specs.Format.{thing, argument, class, count_server, over, method, image}
 use Rattle.aom_codec.specs.declared.fault.LoadFault.TheVariants.{NotZero}
 use Rattle.aom_instructions.specs.declared.limits.Limits.{Limits}
 use Rattle.aom_instructions.specs.declared.version.Version.{Version}
@@ -31,10 +31,6 @@ fields_spelled : (classes : ℕ) (fields : List Thing) (n : ℕ) (last : List �
     ≡ flat_map (λ t. text.pair (text.thing_number t)) fields ++ (text.unused_pairs n ++ last)
 fields_spelled classes fields n last = grind (arith, nat_tests, many_spelled, unused_spelled n)
 
--- what tells of a parent or of what is overridden
-parent_spelled : (version : Version) (k : ClassKind) (classes : ℕ) (o : Option ℕ) → (parent version k classes).spell o ≡ text.family_bytes version o
-parent_spelled x k classes o = grind arith
-
 over_spelled : (version : Version) (methods : ℕ) (o : Option ℕ) → (over version methods).spell o ≡ text.family_bytes version o
 over_spelled x methods o = grind arith
 
@@ -49,8 +45,8 @@ arguments_spelled : (classes : ℕ) (arguments : List Argument) → spell_many (
 arguments_spelled classes arguments = many_spelled (always (argument classes)) keep (λ a. text.pair (text.argument_number a)) (λ s x. refl) tt arguments
 
 method_spelled : (version : Version) (classes methods : ℕ) (m : Method) → (method version classes methods).spell m ≡ text.method version m
-method_spelled version classes methods m =
-    let front = λ (t : List ℕ). text.pair (text.class_number m.class) ++ (text.role_number m.role ∷ m.flags.0 ∷ m.before.0 ∷ m.after.0 ∷ length m.arguments ∷ text.gives_byte m.gives ∷ t) in
+method_spelled version classes methods m = let front = λ (t : List ℕ). text.pair
+    (text.class_number m.class) ++ (text.role_number m.role ∷ m.flags.0 ∷ m.before.0 ∷ m.after.0 ∷ length m.arguments ∷ text.gives_byte m.gives ∷ t) in
     let last = λ (family t : List ℕ). text.pair (text.result_number m.gives) ++ (text.pair (length m.code) ++ (family ++ t)) in
     let code = spell_many (always (instruction (limits version classes methods (length m.code)))) keep tt m.code in
     let arguments = flat_map (λ a. text.pair (text.argument_number a)) m.arguments in

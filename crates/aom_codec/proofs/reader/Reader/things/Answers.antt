@@ -14,6 +14,5 @@ returns-in_err-thing c =
     (always (thing c.args.classes)) keep tt c.args.count c.args.self.now) c.loop.invariant c.in_err-thing.field-0.0 c.loop-test.true c.in_err-thing.ensures)
 
 pub loop-preserved : goal.loop-preserved
-loop-preserved c =
-    rw c.in_ok-push.ensures.items
-    (goes_on (always (thing c.args.classes)) keep tt c.loop.things.items c.args.count c.loop.counter c.loop.self _ c.loop.invariant c.in_ok-thing.thing _ c.loop-test.true c.in_ok-thing.ensures)
+loop-preserved c = rw c.in_ok-push.ensures.items (goes_on (always (thing c.args.classes))
+    keep tt c.loop.things.items c.args.count c.loop.counter c.loop.self _ c.loop.invariant c.in_ok-thing.thing _ c.loop-test.true c.in_ok-thing.ensures)
