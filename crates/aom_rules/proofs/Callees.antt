@@ -1,11 +1,11 @@
 -- In a well-formed image the method of each call is there, and so is the register of a trap's code.
-use Rattle.std.proofs.Common.{◌≡◌, ℕ, length, Some}
+use Rattle.std.proofs.lemmas.Bool.Decides.{nat_tests}
+use Rattle.std.proofs.Common.{arith, ◌≡◌, ℕ, length, Some}
 use Rattle.aom_image.specs.Image.{Image}
 use Rattle.aom_image.specs.Views.{instr_at, method_at}
 use Rattle.aom_image.specs.WellFormed.{WellFormed, MethodFits}
 use Rattle.aom_instructions.specs.Fits.{InstrFits, limits}
 use Rattle.aom_instructions.specs.declared.instr.Instr.{Instr}
-use Rattle.aom_instructions.specs.declared.instr.Instr.TheVariants.{Call, Trap, PushOperation}
 use Rattle.aom_instructions.specs.declared.limits.Limits.{Limits}
 use Rattle.aom_classes.proofs.Facts.{all_there, of_method}
 use Rattle.aom_shape.proofs.Lists.{there}
@@ -13,10 +13,7 @@ use Rattle.aom_site.specs.Calls.{HasCallee, HasCodeRegister}
 
 has_callee : (p : Image) (n : ℕ) (i : Instr) → InstrFits (limits p.header.version (length p.classes) (length p.methods) n) i → HasCallee p i
 unfolding method_at
-has_callee p n (Call target m first c) fits = there p.methods m fits.operands.d
-has_callee p n (Trap target m first c) fits = there p.methods m fits.operands.d
-has_callee p n (PushOperation a m) fits = there p.methods m fits.operands.d
-has_callee p n _ fits = tt
+has_callee p n x fits = grind (arith, nat_tests, there p.methods)
 
 pub callee_there : (p : Image) (m pc : ℕ) (i : Instr) → WellFormed p → instr_at p m pc ≡ Some i → HasCallee p i
 unfolding method_at
@@ -26,8 +23,7 @@ callee_there p m pc i formed e =
     has_callee p (length w.0.code) i (all_there (InstrFits (limits p.header.version (length p.classes) (length p.methods) (length w.0.code))) w.0.code pc i method.code w.2)
 
 code_register : (l : Limits) (i : Instr) → InstrFits l i → HasCodeRegister i
-code_register l (Trap target m first c) fits = fits.operands.c
-code_register l _ fits = tt
+code_register l x fits = grind arith
 
 pub code_register_there : (p : Image) (m pc : ℕ) (i : Instr) → WellFormed p → instr_at p m pc ≡ Some i → HasCodeRegister i
 unfolding method_at

@@ -72,8 +72,8 @@ unfolding image owning called_on method_at class_at arguments_in role_in class_i
 of_an_ancestor = refl
 
 -- nor is it on a cleanup entry
-of_an_ancestor_on_an_entry :
-    rule image 3 0 (record { registers = []; fields = []; entries = An_object 2 Fresh ∷ []; states = 0; delivery = Here }) (Call (On_entry 0) 0 0 0) ≡ Err NotFresh
+of_an_ancestor_on_an_entry : rule image 3 0
+    (record { registers = []; fields = []; entries = An_object 2 Fresh ∷ []; states = 0; delivery = Here }) (Call (On_entry 0) 0 0 0) ≡ Err NotFresh
 unfolding image method_at class_at arguments_in role_in class_in descends_in parent_in role_of own_role keeper_in plays role_number
 of_an_ancestor_on_an_entry = refl
 

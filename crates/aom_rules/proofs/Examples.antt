@@ -5,7 +5,8 @@ use Rattle.aom_image.specs.Small.{a_class, a_header, a_method}
 use Rattle.aom_image.specs.Views.{method_at, class_at, arguments_in, gives_in, leaves_in, quiet_in, role_in, class_in, fields_in}
 use Rattle.aom_image.specs.declared.class.ClassDecl.{ClassDecl}
 use Rattle.aom_image.specs.declared.class.ClassKind.TheVariants.{Plain}
-use Rattle.aom_instructions.specs.declared.instr.Instr.TheVariants.{Const, Add, JumpEmpty, Load, Store, Put, New, NewOrLeave, Push, PushOperation, Pop, PopOperation, Call, Trap, Return, Leave}
+use Rattle.aom_instructions.specs.declared.instr.Instr.TheVariants.{Const, Add, JumpEmpty, Load, Store, Put, New, NewOrLeave, Push, PushOperation, Pop}
+use Rattle.aom_instructions.specs.declared.instr.Instr.TheVariants.{PopOperation, Call, Trap, Return, Leave}
 use Rattle.aom_instructions.specs.declared.instr.Target.TheVariants.{This, Register, Field, Entry as On_entry}
 use Rattle.aom_image.specs.declared.method.Argument.{Argument}
 use Rattle.aom_image.specs.declared.method.Argument.TheVariants.{Own as An_own_argument}
@@ -28,7 +29,8 @@ use Rattle.aom_shape.specs.declared.kind.Filling.{Filling}
 use Rattle.aom_shape.specs.declared.kind.Filling.TheVariants.{Empty, Full, Perhaps}
 use Rattle.aom_shape.specs.declared.kind.Kind.{Kind}
 use Rattle.aom_shape.specs.declared.kind.Kind.TheVariants.{Unset, Word, Null, Own, Maybe}
-use Rattle.aom_shape.specs.declared.why.Why.TheVariants.{RegisterKind, OwnedAtLeave, OwnedAtReturn, CleanupAtReturn, PopEmpty, LeaveNotAllowed, FieldNotNull, FieldsLeft, NotFresh, StillFresh, QuietBroken}
+use Rattle.aom_shape.specs.declared.why.Why.TheVariants.{RegisterKind, OwnedAtLeave, OwnedAtReturn, CleanupAtReturn, PopEmpty, LeaveNotAllowed, FieldNotNull}
+use Rattle.aom_shape.specs.declared.why.Why.TheVariants.{FieldsLeft, NotFresh, StillFresh, QuietBroken}
 
 -- class 1 has a field of class 0
 classes : List ClassDecl
@@ -39,11 +41,7 @@ classes =
 
 -- an image with one method
 with_method : Option ℕ → Role → ℕ → Gives → Image
-with_method class role flags gives = record {
-  header = a_header 4 0 0 None 100;
-  classes = classes;
-  methods = a_method class role flags 0 0 [] gives [] ∷ [];
-}
+with_method class role flags gives = record { header = a_header 4 0 0 None 100; classes = classes; methods = a_method class role flags 0 0 [] gives [] ∷ [] }
 
 -- a state of two registers and a field
 state : Kind → Kind → Filling → Shape
@@ -140,7 +138,8 @@ construct_on_self : rule (called_by (Some 0) Construct 0 [] Nothing (Some 0) 0) 
 unfolding called_by state method_at arguments_in role_in class_in descends_in parent_in class_at classes
 construct_on_self = refl
 
-argument_past_the_registers : rule (called_by None Do 0 (An_own_argument (Object 0) ∷ An_own_argument (Object 0) ∷ []) Nothing None 0) 1 0 (state Unset Unset Empty) (Call This 0 15 0) ≡ Err RegisterKind
+argument_past_the_registers : rule (called_by None Do 0 (An_own_argument (Object 0) ∷ An_own_argument (Object 0) ∷ []) Nothing None 0) 1 0
+    (state Unset Unset Empty) (Call This 0 15 0) ≡ Err RegisterKind
 unfolding called_by state method_at arguments_in role_in class_in descends_in parent_in class_at classes
 argument_past_the_registers = refl
 
@@ -165,7 +164,8 @@ unfolding called_by state method_at arguments_in role_in class_in quiet_in gives
 leave_with_an_owner = refl
 
 -- and one that passes: the object is ready after its construct method, and the argument has moved
-construct_with_an_argument : rule (called_by (Some 1) Construct 0 (An_own_argument (Object 0) ∷ []) Nothing None 0) 1 0 (state (Own (Object 1) Fresh) (Own (Object 0) Ready) Empty) (Call (Register 0) 0 1 0) ≡ Ok ((1, state (Own (Object 1) Ready) Null Empty) ∷ [])
+construct_with_an_argument : rule (called_by (Some 1) Construct 0 (An_own_argument (Object 0) ∷ []) Nothing None 0) 1 0
+    (state (Own (Object 1) Fresh) (Own (Object 0) Ready) Empty) (Call (Register 0) 0 1 0) ≡ Ok ((1, state (Own (Object 1) Ready) Null Empty) ∷ [])
 unfolding called_by state method_at arguments_in role_in class_in quiet_in gives_in leaves_in descends_in parent_in class_at classes
     role_of keeper_in own_role plays role_number
 construct_with_an_argument = refl
@@ -261,7 +261,8 @@ left_at_return : rule (with_method None Do 1 (Left 0)) 0 0 (stacked Word Unset (
 unfolding with_method stacked method_at gives_in quiet_in role_in class_in after_in descends_in parent_in class_at classes
 left_at_return = refl
 
-constructed_on_the_stack : rule (called_by (Some 0) Construct 1 [] Nothing None 1) 1 0 (stacked Unset Unset (An_object 0 Fresh ∷ [])) (Call (On_entry 0) 0 0 0) ≡ Ok ((1, stacked Unset Unset (An_object 0 Ready ∷ [])) ∷ [])
+constructed_on_the_stack : rule (called_by (Some 0) Construct 1 [] Nothing None 1) 1 0
+    (stacked Unset Unset (An_object 0 Fresh ∷ [])) (Call (On_entry 0) 0 0 0) ≡ Ok ((1, stacked Unset Unset (An_object 0 Ready ∷ [])) ∷ [])
 unfolding called_by stacked method_at arguments_in role_in class_in quiet_in gives_in leaves_in descends_in parent_in class_at classes
     role_of keeper_in own_role plays role_number
 constructed_on_the_stack = refl

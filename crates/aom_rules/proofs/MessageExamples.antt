@@ -21,11 +21,7 @@ use Rattle.aom_shape.specs.declared.why.Why.TheVariants.{RegisterKind}
 
 -- its only method is of a plain class, in that role
 of_role : Role → Image
-of_role role = record {
-  header = a_header 4 1 0 None 100;
-  classes = a_class Plain 0 0 [] ∷ [];
-  methods = a_method (Some 0) role 1 0 0 [] Nothing [] ∷ [];
-}
+of_role role = record { header = a_header 4 1 0 None 100; classes = a_class Plain 0 0 [] ∷ []; methods = a_method (Some 0) role 1 0 0 [] Nothing [] ∷ [] }
 
 -- a state of two registers
 state : (a b : Kind) → Delivery → Shape

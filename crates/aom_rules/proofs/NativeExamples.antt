@@ -41,11 +41,7 @@ method class before after =
 
 -- its only method is of that class
 of_class : (class before after : ℕ) → Image
-of_class class before after = record {
-  header = a_header 4 1 1 None 100;
-  classes = classes;
-  methods = method class before after ∷ [];
-}
+of_class class before after = record { header = a_header 4 1 1 None 100; classes = classes; methods = method class before after ∷ [] }
 
 -- a state of two registers
 state : (a b : Kind) → ℕ → Shape

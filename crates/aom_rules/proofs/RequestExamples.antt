@@ -13,7 +13,8 @@ use Rattle.aom_image.specs.declared.method.Role.TheVariants.{Cancel, Construct, 
 use Rattle.aom_image.specs.declared.method.Thing.TheVariants.{Object}
 use Rattle.aom_classes.specs.Roles.{keeper_in, own_role, plays, role_number, role_of}
 use Rattle.aom_roles.specs.Families.{descends_in}
-use Rattle.aom_instructions.specs.declared.instr.Instr.TheVariants.{Abort, Call, Cancel as Cancels, Enlist, Issue, JumpActive, JumpAdded, Leave, Return, SetActive, Status, Trap}
+use Rattle.aom_instructions.specs.declared.instr.Instr.TheVariants.{Abort, Call, Cancel as Cancels, Enlist, Issue, JumpActive, JumpAdded, Leave, Return}
+use Rattle.aom_instructions.specs.declared.instr.Instr.TheVariants.{SetActive, Status, Trap}
 use Rattle.aom_instructions.specs.declared.instr.Target.TheVariants.{This, Register}
 use Rattle.aom_roles.specs.Classes.{kind_in}
 use Rattle.aom_roles.specs.Shapes.{kind_of}
@@ -27,7 +28,8 @@ use Rattle.aom_shape.specs.declared.kind.Delivery.TheVariants.{Here, Gone}
 use Rattle.aom_shape.specs.declared.kind.Filling.TheVariants.{Empty, Perhaps}
 use Rattle.aom_shape.specs.declared.kind.Kind.{Kind}
 use Rattle.aom_shape.specs.declared.kind.Kind.TheVariants.{Word, Unset, Own}
-use Rattle.aom_shape.specs.declared.why.Why.TheVariants.{IssuedAtLeave, IssuedAtReturn, StillActive, NotCancelled, MessageAtLeave, MessageAtReturn, EntryState, NotAdded, NotIdle, NotIssued, RegisterKind}
+use Rattle.aom_shape.specs.declared.why.Why.TheVariants.{IssuedAtLeave, IssuedAtReturn, StillActive, NotCancelled, MessageAtLeave, MessageAtReturn}
+use Rattle.aom_shape.specs.declared.why.Why.TheVariants.{EntryState, NotAdded, NotIdle, NotIssued, RegisterKind}
 
 -- class 0 is active, class 1 that of sessions, class 2 plain, class 3 that of a server
 classes : List ClassDecl
@@ -44,11 +46,7 @@ method role class flags before after =
 
 -- method 0 runs, and may call method 1
 running : Method → Method → Image
-running here there = record {
-  header = a_header 4 1 0 None 100;
-  classes = classes;
-  methods = here ∷ there ∷ [];
-}
+running here there = record { header = a_header 4 1 0 None 100; classes = classes; methods = here ∷ there ∷ [] }
 
 -- a method of the active class that may begin and end in those states, and leave
 active_do : (before after : ℕ) → Method
@@ -129,12 +127,14 @@ called_on_self : rule (running (active_do 11 11) (active_do 3 2)) 0 0 (state Uns
 unfolding running active_do method state method_at arguments_in gives_in role_in class_in quiet_in leaves_in before_in after_in descends_in
 called_on_self = refl
 
-trapped_on_self : rule (running (active_do 11 11) (active_do 3 2)) 0 0 (state Unset 3 Here) (Trap This 1 0 0) ≡ Ok ((1, record (state Unset 11 Here) { registers = Unset ∷ Word ∷ []; fields = replicate 8 Perhaps }) ∷ [])
+trapped_on_self : rule (running (active_do 11 11) (active_do 3 2)) 0 0
+    (state Unset 3 Here) (Trap This 1 0 0) ≡ Ok ((1, record (state Unset 11 Here) { registers = Unset ∷ Word ∷ []; fields = replicate 8 Perhaps }) ∷ [])
 unfolding running active_do method state classes method_at class_at arguments_in gives_in role_in class_in quiet_in before_in kind_of kind_in states_of descends_in
 trapped_on_self = refl
 
 -- another object is constructed in its first state
-constructed_there : rule (running (active_do 11 11) (method Construct (Some 0) 0 1 3)) 0 0 (state (Own (Object 0) Fresh) 6 Here) (Call (Register 0) 1 1 1) ≡ Ok ((1, state (Own (Object 0) Ready) 6 Here) ∷ [])
+constructed_there : rule (running (active_do 11 11) (method Construct (Some 0) 0 1 3)) 0 0
+    (state (Own (Object 0) Fresh) 6 Here) (Call (Register 0) 1 1 1) ≡ Ok ((1, state (Own (Object 0) Ready) 6 Here) ∷ [])
 unfolding running active_do method state method_at arguments_in gives_in role_in class_in quiet_in leaves_in descends_in
     role_of keeper_in own_role plays role_number
 constructed_there = refl

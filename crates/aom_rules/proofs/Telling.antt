@@ -1,10 +1,12 @@
 -- What a test tells of a kind or filling it tells of one that says more.
-use Rattle.std.proofs.Common.{Bool, ◌≡◌, ℕ, zero, suc, ◌<◌, true, List, [], ◌∷◌, length, Option, Some, None, refl, arith}
+use Rattle.std.proofs.lemmas.Bool.Decides.{nat_tests}
+use Rattle.std.proofs.Common.{Bool, ◌≡◌, ℕ, zero, suc, ◌<◌, true, List, [], ◌∷◌, length, Option, Some, refl, arith}
 use Rattle.std.proofs.lemmas.Bool.{false≢true, and_parts}
 use Rattle.aom_image.specs.Image.{Image}
 use Rattle.aom_image.specs.declared.method.Thing.{Thing}
 use Rattle.aom_site.specs.Calls.{empty_past}
-use Rattle.aom_shape.specs.Kinds.{all_empty, is_own_for, is_word, is_unowning, is_object_or_null, may_be_destroyed, may_be, may_be_declared, is_fresh_kind, is_ready_kind, readied, none_owns, is_empty, filled, filling_of}
+use Rattle.aom_shape.specs.Kinds.{all_empty, is_own_for, is_word, is_unowning, is_object_or_null, may_be_destroyed, may_be, may_be_declared, is_fresh_kind}
+use Rattle.aom_shape.specs.Kinds.{is_ready_kind, readied, none_owns, is_empty, filled, filling_of}
 use Rattle.aom_shape.specs.Order.{Weaker, WeakerFilling}
 use Rattle.aom_shape.specs.Order.Weaker.{alike, unset_word, unset_null, maybe_null, maybe_own}
 use Rattle.aom_shape.specs.Order.WeakerFilling.{alike_filling, perhaps_empty, perhaps_full}
@@ -16,9 +18,8 @@ use Rattle.aom_shape.specs.declared.kind.Filling.{Filling}
 use Rattle.aom_shape.specs.declared.kind.Filling.TheVariants.{Perhaps}
 
 -- what holds of each kind and itself, and of each that says more, holds of all that say more
-by_weaker :
-    (R : Kind → Kind → Type 0) → ((k : Kind) → R k k) → R Unset Word → R Unset Null → ((t : Thing) (x : Age) → R (Maybe t x) Null) → ((t : Thing) (x : Age) → R (Maybe t x) (Own t x)) →
-    (a b : Kind) → Weaker a b → R a b
+by_weaker : (R : Kind → Kind → Type 0) → ((k : Kind) → R k k) → R Unset Word →
+    R Unset Null → ((t : Thing) (x : Age) → R (Maybe t x) Null) → ((t : Thing) (x : Age) → R (Maybe t x) (Own t x)) → (a b : Kind) → Weaker a b → R a b
 by_weaker R same word null none some a b (alike {k = k}) = same k
 by_weaker R same word null none some a b unset_word = word
 by_weaker R same word null none some a b unset_null = null
@@ -29,7 +30,8 @@ by_weaker R same word null none some a b (maybe_own {t = t} {a = x}) = some t x
 abbrev Keeps : (Kind → Bool) → Kind → Kind → Type 0
 Keeps test a b = test a ≡ true → test b ≡ true
 
-kept_more : (test : Kind → Bool) → Keeps test Unset Word → Keeps test Unset Null → ((t : Thing) (x : Age) → Keeps test (Maybe t x) Null) → ((t : Thing) (x : Age) → Keeps test (Maybe t x) (Own t x)) → (a b : Kind) → Weaker a b → Keeps test a b
+kept_more : (test : Kind → Bool) → Keeps test Unset Word → Keeps test Unset Null → ((t : Thing) (x : Age) → Keeps test (Maybe t x) Null) →
+    ((t : Thing) (x : Age) → Keeps test (Maybe t x) (Own t x)) → (a b : Kind) → Weaker a b → Keeps test a b
 kept_more test = by_weaker (Keeps test) (λ k h. h)
 
 pub word_more : (a b : Kind) → Weaker a b → is_word a ≡ true → is_word b ≡ true
@@ -48,15 +50,13 @@ pub ready_more : (a b : Kind) → Weaker a b → is_ready_kind a ≡ true → is
 ready_more = kept_more is_ready_kind (λ h. refl) (λ h. refl) (λ t x h. refl) (λ t x h. h)
 
 pub own_more : (p : Image) (x : Thing) (a b : Kind) → Weaker a b → is_own_for p x a ≡ true → is_own_for p x b ≡ true
-own_more p x a b (alike {k = k}) h = h
-own_more p x a b _ h = absurd (false≢true h)
+own_more p x a b y h = grind arith
 
 pub may_be_more : (p : Image) (x : Thing) (a b : Kind) → Weaker a b → may_be p x a ≡ true → may_be p x b ≡ true
 may_be_more p x = kept_more (may_be p x) (λ h. absurd (false≢true h)) (λ h. refl) (λ t x h. refl) (λ t x h. h)
 
 pub declared_more : (p : Image) (o : Option Thing) (a b : Kind) → Weaker a b → may_be_declared p o a ≡ true → may_be_declared p o b ≡ true
-declared_more p None a b w h = h
-declared_more p (Some x) a b w h = may_be_more p x a b w h
+declared_more p x a b w h = grind (arith, nat_tests, may_be_more)
 
 pub empty_more : (x y : Filling) → WeakerFilling x y → is_empty x ≡ true → is_empty y ≡ true
 empty_more x y (alike_filling {x = f}) h = h
@@ -64,17 +64,15 @@ empty_more x y perhaps_empty h = refl
 empty_more x y perhaps_full h = absurd (false≢true h)
 
 pub filled_more : (o : Option Thing) (x y : Filling) → WeakerFilling x y → Weaker (filled o x) (filled o y)
-filled_more None x y h = alike
-filled_more (Some t) x y (alike_filling {x = f}) = alike
 filled_more (Some t) x y perhaps_empty = maybe_null
 filled_more (Some t) x y perhaps_full = maybe_own
+filled_more _ x y _ = alike
 
 pub filling_more : (a b : Kind) → Weaker a b → WeakerFilling (filling_of a) (filling_of b)
 filling_more = by_weaker (λ a b. WeakerFilling (filling_of a) (filling_of b)) (λ k. alike_filling) alike_filling perhaps_empty (λ t x. perhaps_empty) (λ t x. perhaps_full)
 
 pub fresh_more : (a b : Kind) → Weaker a b → is_fresh_kind a ≡ true → is_fresh_kind b ≡ true
-fresh_more a b (alike {k = k}) h = h
-fresh_more a b _ h = absurd (false≢true h)
+fresh_more a b x h = grind arith
 
 pub readied_more : (a b : Kind) → Weaker a b → Weaker (readied a) (readied b)
 readied_more = by_weaker (λ a b. Weaker (readied a) (readied b)) (λ k. alike) unset_word unset_null (λ t x. maybe_null) (λ t x. maybe_own)
@@ -94,9 +92,8 @@ none_owns_more xs ys w h = none_from ys (λ i. unowning_more (at Unset xs i) (at
 
 -- the fields that are declared are empty, read by their numbers
 empty_at : (ts : List Thing) (xs : List Filling) → all_empty ts xs ≡ true → (k : ℕ) → k < length ts → is_empty (at Perhaps xs k) ≡ true
-empty_at (t ∷ ts) (x ∷ xs) h zero below = (and_parts (is_empty x) (all_empty ts xs) h).0
 empty_at (t ∷ ts) (x ∷ xs) h (suc k) below = empty_at ts xs (and_parts (is_empty x) (all_empty ts xs) h).1 k (omega arith)
-empty_at _ _ h k below = absurd (first_of (cc, omega arith))
+empty_at x y h k below = grind arith
 
 empty_from : (ts : List Thing) (xs : List Filling) → ((k : ℕ) → k < length ts → is_empty (at Perhaps xs k) ≡ true) → all_empty ts xs ≡ true
 empty_from [] xs h = refl

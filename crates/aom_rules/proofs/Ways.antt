@@ -1,8 +1,7 @@
 -- Where the ways on from an instruction lead, and what its needs say of them.
-use Rattle.std.proofs.Common.{◌≡◌, ℕ, Bool, true, Option, Some, refl}
+use Rattle.std.proofs.Common.{arith, ◌≡◌, ℕ, Bool, true, Option, Some}
 use Rattle.aom_image.specs.Image.{Image}
 use Rattle.aom_instructions.specs.declared.instr.Instr.{Instr}
-use Rattle.aom_instructions.specs.declared.instr.Instr.TheVariants.{JumpNull, Push}
 use Rattle.aom_roles.specs.Tests.{AllTrue}
 use Rattle.aom_classes.specs.Jumps.{back_of, goes_on, jump_of}
 use Rattle.aom_rules.specs.Cleanup.{owns_object}
@@ -27,8 +26,7 @@ Leads i (Branches_in there here to) = turning (goes_on i) (jump_of i) ≡ turnin
 
 pub leads : (p : Image) (i : Instr) → Leads i (ways_of p i)
 unfolding goes_on jump_of back_of
-leads p (Push a) = refl
-leads p _ = refl
+leads p x = grind arith
 
 -- what is tested is an object or null, and what is pushed is an object
 abbrev pub Allows : Shape → Ways → Type 0
@@ -37,6 +35,4 @@ Allows sh (Goes_on (Pushed a)) = owns_object (register sh a) ≡ true
 Allows sh _ = true ≡ true
 
 pub allows : (p : Image) (m pc : ℕ) (sh : Shape) (i : Instr) → AllTrue (rule_needs p m pc sh i) → Allows sh (ways_of p i)
-allows p m pc sh (JumpNull a to) needs = needs.0
-allows p m pc sh (Push a) needs = needs.0
-allows p m pc sh _ needs = refl
+allows p m pc sh x needs = grind arith

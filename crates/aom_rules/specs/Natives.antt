@@ -1,10 +1,7 @@
 -- The rules of instructions on the native that serves the method's own object.
-use Rattle.std.specs.Prelude.{ℕ, Bool, true, false, List, [], ◌∷◌, Option, Some}
+use Rattle.std.specs.Prelude.{ℕ, List, [], ◌∷◌}
 use Rattle.aom_image.specs.Image.{Image}
 use Rattle.aom_image.specs.Views.{has}
-use Rattle.aom_image.specs.declared.class.ClassKind.{ClassKind}
-use Rattle.aom_image.specs.declared.class.ClassKind.TheVariants.{Active}
-use Rattle.aom_image.specs.declared.class.Provider.TheVariants.{Native}
 use Rattle.aom_roles.specs.Kinds.{is_native_kind}
 use Rattle.aom_roles.specs.States.{server_states}
 use Rattle.aom_rules.specs.Requests.{own_kind}

@@ -1,11 +1,9 @@
 -- The rules of instructions on the request of the method's own object.
-use Rattle.std.specs.Prelude.{ℕ, Bool, true, false, not, cond, ◌&&◌, ◌==◌, List, [], ◌∷◌, Option, Some, bit_and, bit_or, replicate}
+use Rattle.std.specs.Prelude.{ℕ, not, cond, ◌==◌, List, [], ◌∷◌, Option, bit_and, bit_or, replicate}
 use Rattle.aom_image.specs.Image.{Image}
 use Rattle.aom_image.specs.Views.{has, method_class}
 use Rattle.aom_image.specs.declared.class.ClassKind.{ClassKind}
-use Rattle.aom_image.specs.declared.class.ClassKind.TheVariants.{Active, Server}
-use Rattle.aom_image.specs.declared.class.Provider.TheVariants.{Token}
-use Rattle.aom_roles.specs.Kinds.{is_active_kind, is_token_kind, is_issuing_kind, is_listed_kind}
+use Rattle.aom_roles.specs.Kinds.{is_active_kind, is_issuing_kind, is_listed_kind}
 use Rattle.aom_roles.specs.Shapes.{kind_of}
 use Rattle.aom_roles.specs.States.{unlisted, idle, issued, active, cancel_open, cancel_done, server_states, active_states}
 use Rattle.aom_shape.specs.Kinds.{register, is_unowning, is_word}

@@ -34,11 +34,11 @@ pub returns-clause-place : goal.returns-clause-place
 returns-clause-place c = omega (arith, below c.args.linked.now c.args.method c.args.place c.method.result.now c.method.ensures c.requires _ c.as_slice.ensures)
 
 pub returns-clause-callee : goal.returns-clause-callee
-returns-clause-callee c =
-    let read = is_read c.args.linked.now c.args.method c.args.place c.method.result.now c.method.ensures c.requires _ c.as_slice.ensures _ c.index-as_slice-place.is in
+returns-clause-callee c = let read =
+    is_read c.args.linked.now c.args.method c.args.place c.method.result.now c.method.ensures c.requires _ c.as_slice.ensures _ c.index-as_slice-place.is in
     callee_there c.args.linked.now c.args.method c.args.place _ (rw c.image.ensures at c.methods-formed.ensures.well_formed) read
 
 pub returns-clause-code : goal.returns-clause-code
-returns-clause-code c =
-    let read = is_read c.args.linked.now c.args.method c.args.place c.method.result.now c.method.ensures c.requires _ c.as_slice.ensures _ c.index-as_slice-place.is in
+returns-clause-code c = let read =
+    is_read c.args.linked.now c.args.method c.args.place c.method.result.now c.method.ensures c.requires _ c.as_slice.ensures _ c.index-as_slice-place.is in
     code_register_there c.args.linked.now c.args.method c.args.place _ (rw c.image.ensures at c.methods-formed.ensures.well_formed) read
