@@ -1,5 +1,6 @@
 -- A list that begins with what another has, and is no longer, is that one.
-use Rattle.std.proofs.Common.{◌≡◌, ◌≤◌, ◌∷◌, suc, Option, Some, None, IfSome, slice_get, List, [], length, ap, ◌∙◌, refl, arith}
+use Rattle.std.proofs.lemmas.Bool.Decides.{nat_tests}
+use Rattle.std.proofs.Common.{◌≡◌, ◌≤◌, ◌∷◌, suc, List, [], length, ap, ◌∙◌, refl, arith}
 use Rattle.aom_classes.specs.Families.{BeginsWith}
 
 pub begins_whole : {X : Type 0} (xs ys : List X) → BeginsWith xs ys → length xs ≤ length ys → xs ≡ ys
@@ -11,8 +12,4 @@ begins_whole (x ∷ xs) (y ∷ ys) h le =
     ap (λ z. z ∷ xs) first ∙ ap (λ zs. y ∷ zs) (begins_whole xs ys (λ i. h (suc i)) (omega (arith, le)))
 
 pub begins_itself : {X : Type 0} (xs : List X) → BeginsWith xs xs
-begins_itself xs i = go (slice_get xs i) refl
-  where
-    go : (o : Option _) → slice_get xs i ≡ o → IfSome o (λ x. slice_get xs i ≡ Some x)
-    go None e = tt
-    go (Some x) e = e
+begins_itself xs i = grind (arith, nat_tests)

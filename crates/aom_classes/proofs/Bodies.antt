@@ -1,4 +1,5 @@
 -- How the bodies of loops lie in a linked image: what jumps, nexts and nesting give.
+use Rattle.std.proofs.lemmas.Bool.Decides.{nat_tests}
 use Rattle.std.proofs.Common.{◌≡◌, ◌≢◌, ◌<◌, ◌≤◌, ◌∙◌, ℕ, suc, length, Some, IfSome, IsTrue, slice_get, ⊎_elim, ap, sym, refl, subst, arith}
 use Rattle.std.proofs.lemmas.Bool.{cases_lt}
 use Rattle.std.proofs.lemmas.Option.{slice_get_within}
@@ -37,11 +38,7 @@ module _ (p : Image) (formed : WellFormed p) (linked : IsLinked p) (m : ℕ) (k 
 
   closing : (from to d n : ℕ) → Body p m from to d n → Closes k.code d from to
   unfolding loop_in next_in
-  closing from to d n body = record {
-    begins = ap loop_in (in_code from (Loop d n) body.begins);
-    later = body.later;
-    ends = ap next_in (in_code to (Next d (suc from)) body.ends);
-  }
+  closing from to d n body = search (arith, nat_tests, in_code from (Loop d n) body.begins, in_code to)
 
   body_of : (from to d n : ℕ) → slice_get k.code from ≡ Some (Loop d n) → Closes k.code d from to → Body p m from to d n
   body_of from to d n begins c = record {
@@ -134,14 +131,10 @@ linked_is_looped p formed linked = record {
   jumps = λ m place t i at jump from to d n body inside.
       let w = of_method p m place i at in
       jump_stays p formed linked m w.0 w.1 place t i w.2 jump from to d n body inside;
-  nexts = λ m place e t at from to d n body inside.
-      let w = of_method p m place (Next e t) at in
-      next_stays p formed linked m w.0 w.1 place e t w.2 from to d n body inside;
+  nexts = grind (arith, nat_tests, of_method, next_stays);
   begins = λ m place d n at. let w = of_method p m place (Loop d n) at in begun p formed linked m w.0 w.1 place d n w.2;
   closes = λ m place d t at. let w = of_method p m place (Next d t) at in closed p formed linked m w.0 w.1 place d t w.2;
-  once = λ m from to to' d n body other.
-      let w = of_method p m from (Loop d n) body.begins in
-      one_end p formed linked m w.0 w.1 from to to' d n body other;
+  once = grind (arith, nat_tests, of_method, one_end);
   apart = λ m from to d n from' to' d' n' place body other differs inside also.
       let w = of_method p m from (Loop d n) body.begins in
       two_numbers p formed linked m w.0 w.1 from to d n from' to' d' n' place body other differs inside also;

@@ -1,5 +1,7 @@
 -- What tests say, both of two, and no; what holds of each element of a list, place by place or of all at once; and how many pass a test.
-use Rattle.std.proofs.Common.{◌≡◌, ◌<◌, ◌≤◌, ◌+◌, ℕ, Bool, true, false, ◌&&◌, IsTrue, ◌↔◌, List, [], ◌∷◌, ◌++◌, zero, suc, All, length, take, count_by, IfSome, slice_get, slice_index_or, get_or, leb, refl, sym, ap, subst, ◌∙◌}
+use Rattle.std.proofs.lemmas.Bool.Decides.{nat_tests}
+use Rattle.std.proofs.Common.{arith, ◌≡◌, ◌<◌, ◌≤◌, ◌+◌, ℕ, Bool, true, false, ◌&&◌, IsTrue, ◌↔◌, List, [], ◌∷◌, ◌++◌, zero, suc, All, length, take, count_by}
+use Rattle.std.proofs.Common.{IfSome, slice_get, slice_index_or, get_or, leb, refl, sym, ap, subst, ◌∙◌}
 use Rattle.std.proofs.lemmas.List.{take_all}
 use Rattle.std.proofs.lemmas.List.Elements.{All-get_or, All-more}
 use Rattle.std.proofs.lemmas.List.Sums.{count_by_more_yes, count_by_more_no}
@@ -12,8 +14,7 @@ pub both : (a b : Bool) → IsTrue (a && b) → IsTrue a × IsTrue b
 both a b h = true_given (λ x. IsTrue (x && b)) a h (λ none. cc) (λ first second. (first, second))
 
 pub join : (a b : Bool) → IsTrue a → IsTrue b → IsTrue (a && b)
-join true b h k = k
-join false b h k = h
+join x b h k = grind arith
 
 -- what a test says no to
 pub refused : {P : Type 0} (r : Bool) → IsTrue r ↔ P → r ≡ false → ¬ P
@@ -38,7 +39,8 @@ pub all_not : {X : Type 0} (P : X → Type 0) (xs : List X) (i : ℕ) (x : X) �
 all_not P xs i x lt e un = (λ f. absurd (cc), λ all. absurd (un (subst P (read_there xs i x lt e) (All-get_or P xs i x lt all))))
 
 -- how many pass up to an element that passes, and up to one that does not
-pub counted_yes : {X : Type 0} (p : X → Bool) (xs : List X) (i n : ℕ) (x : X) → n ≡ count_by p (take i xs) → i < length xs → x ≡ slice_index_or xs i x → p x ≡ true → n + 1 ≡ count_by p (take (i + 1) xs)
+pub counted_yes : {X : Type 0} (p : X → Bool) (xs : List X) (i n : ℕ) (x : X) →
+    n ≡ count_by p (take i xs) → i < length xs → x ≡ slice_index_or xs i x → p x ≡ true → n + 1 ≡ count_by p (take (i + 1) xs)
 counted_yes p xs i n x h lt e t = ap (λ (k : ℕ). k + 1) h ∙ sym (count_by_more_yes p xs i x lt (ap p (read_there xs i x lt e) ∙ t))
 
 pub counted_no : {X : Type 0} (p : X → Bool) (xs : List X) (i n : ℕ) (x : X) → n ≡ count_by p (take i xs) → i < length xs → x ≡ slice_index_or xs i x → p x ≡ false → n ≡ count_by p (take (i + 1) xs)
@@ -46,9 +48,7 @@ counted_no p xs i n x h lt e t = h ∙ sym (count_by_more_no p xs i x lt (ap p (
 
 -- and whether it is at most so many in all, once each was looked at
 pub counted : {X : Type 0} (p : X → Bool) (xs : List X) (i n k : ℕ) → n ≡ count_by p (take i xs) → length xs ≤ i → IsTrue (leb n k) ↔ (count_by p xs ≤ k)
-counted p xs i n k h le =
-    let all : n ≡ count_by p xs = h ∙ ap (count_by p) (take_all i xs le) in
-    (λ few. subst (λ m. m ≤ k) all (leb-true n k few), λ few. le-leb n k (subst (λ m. m ≤ k) (sym all) few))
+counted p xs i n k h le = grind (arith, nat_tests, take_all i xs le, leb-true n k, le-leb n k)
 
 -- what holds of each element of a list, and of one more at its end
 pub each_push : {X : Type 0} (P : ℕ → X → Type 0) (xs : List X) (x : X) → ((k : ℕ) → IfSome (slice_get xs k) (P k)) → P (length xs) x → (k : ℕ) → IfSome (slice_get (xs ++ x ∷ []) k) (P k)

@@ -1,5 +1,6 @@
 -- What is known of the parts of a linked image, by their numbers.
-use Rattle.std.proofs.Common.{◌≡◌, ℕ, List, All, length, IfSome, Some, None, slice_get, refl, subst}
+use Rattle.std.proofs.lemmas.Bool.Decides.{nat_tests}
+use Rattle.std.proofs.Common.{arith, ◌≡◌, ℕ, List, All, length, IfSome, Some, slice_get, subst}
 use Rattle.std.proofs.lemmas.List.Elements.{All-get_or}
 use Rattle.std.proofs.lemmas.Option.{get_or_from_slice_get, slice_get_within}
 use Rattle.aom_image.specs.Image.{Image}
@@ -20,11 +21,7 @@ all_there P xs k x h e = subst P (get_or_from_slice_get xs k x x e) (All-get_or 
 -- an instruction is one of its method's code
 pub of_method : (p : Image) (m place : ℕ) (i : Instr) → instr_at p m place ≡ Some i → (d : Method) × (method_at p m ≡ Some d) × (slice_get d.code place ≡ Some i)
 unfolding instr_in
-of_method p m place i e =
-    elim (method_at p m) as (λ o. instr_in o place ≡ Some i → (d : Method) × (o ≡ Some d) × (slice_get d.code place ≡ Some i)) [
-      | None ↦ λ f. cc
-      | Some d ↦ λ f. (d, refl, f)
-    ] e
+of_method p m place i e = grind (arith, nat_tests)
 
 -- an instruction's jump and next place are within its method
 pub linked_place : (p : Image) (m place : ℕ) (d : Method) (i : Instr) → IsLinked p → method_at p m ≡ Some d → slice_get d.code place ≡ Some i → KeepsWithin (length d.code) place i

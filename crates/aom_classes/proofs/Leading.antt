@@ -1,5 +1,6 @@
 -- Whether what overrides leads to a method, step by step.
-use Rattle.std.proofs.Common.{◌≡◌, ◌==◌, ◌||◌, ◌∙◌, ℕ, zero, suc, true, false, IfSome, Option, Some, None, length, refl, slice_get, ap}
+use Rattle.std.proofs.lemmas.Bool.Decides.{nat_tests}
+use Rattle.std.proofs.Common.{arith, ◌≡◌, ◌==◌, ◌||◌, ◌∙◌, ℕ, suc, true, false, IfSome, Option, Some, None, length, slice_get, ap}
 use Rattle.aom_image.specs.Image.{Image}
 use Rattle.aom_image.specs.declared.method.Method.{Method}
 use Rattle.aom_classes.specs.Overriding.{AllOverriddenOnce, IsOnly, OverriddenOnce, OverridesNothing, leads_in, leads_to, over_of}
@@ -7,13 +8,11 @@ use Rattle.aom_classes.proofs.Facts.{all_there}
 
 pub none_leads : (p : Image) (n m : ℕ) → leads_in p n None m ≡ false
 unfolding leads_in
-none_leads p zero m = refl
-none_leads p (suc n) m = refl
+none_leads p x m = grind arith
 
 pub here_leads : (p : Image) (n x m : ℕ) → (x == m) ≡ true → leads_in p n (Some x) m ≡ true
 unfolding leads_in
-here_leads p zero x m e = e
-here_leads p (suc n) x m e = ap (λ b. b || leads_in p n (over_of p x) m) e
+here_leads p x y m e = grind arith
 
 pub last_leads : (p : Image) (x m : ℕ) → (x == m) ≡ false → leads_in p 0 (Some x) m ≡ false
 unfolding leads_in
@@ -35,5 +34,4 @@ nothing_once p plain m = every (slice_get p.methods m)
         absurd cc
 
     every : (o : Option Method) → IfSome o (λ e. OverriddenOnce p m)
-    every None = tt
-    every (Some e) = λ k. each k (slice_get p.methods k) refl
+    every x = grind (arith, nat_tests, each)

@@ -1,4 +1,5 @@
 -- The loop or the next that stands where one is found.
+use Rattle.std.proofs.lemmas.Bool.Decides.{nat_tests}
 use Rattle.std.proofs.Common.{◌≡◌, ◌<◌, ℕ, suc, List, length, IsTrue, Option, Some, slice_index_or, refl, arith}
 use Rattle.std.proofs.lemmas.Option.{slice_get_read}
 use Rattle.aom_instructions.specs.declared.instr.Instr.{Instr}
@@ -17,12 +18,9 @@ unfolding next_in
 next_there o d t e = grind arith
 
 -- a body, from what stands at its two places
-pub body_here : (code : List Instr) (p q : ℕ) (i j : Instr) → q < length code → i ≡ slice_index_or code q i → p < length code → j ≡ slice_index_or code p j → p < q → IsTrue (begins_loop j) → back_of i ≡ Some (suc p) → Body code p q
-body_here code p q i j lt at first there later begins back = record {
-  begins = rw (slice_get_read code (length code) p j refl first there) begins;
-  later = later;
-  back = rw (slice_get_read code (length code) q i refl lt at) back;
-}
+pub body_here : (code : List Instr) (p q : ℕ) (i j : Instr) → q < length code →
+    i ≡ slice_index_or code q i → p < length code → j ≡ slice_index_or code p j → p < q → IsTrue (begins_loop j) → back_of i ≡ Some (suc p) → Body code p q
+body_here code p q i j lt at first there later begins back = search (arith, nat_tests, slice_get_read code)
 
 pub body_begins : (code : List Instr) (p q : ℕ) (j : Instr) → p < length code → j ≡ slice_index_or code p j → Body code p q → IsTrue (begins_loop j)
 body_begins code p q j lt at b = rw (slice_get_read code (length code) p j refl lt at) at b.begins

@@ -1,8 +1,8 @@
 -- What loops that nest give: a next goes back, and of two loops with a common place the inner one has the higher number.
-use Rattle.std.proofs.Common.{◌≡◌, ◌<◌, ◌≤◌, ◌+◌, ℕ, zero, suc, List, [], length, Some, IfSome, slice_get, inl, inr, ⊎_elim, ◌∙◌, sym, ap, arith, subst}
+use Rattle.std.proofs.lemmas.Bool.Decides.{nat_tests}
+use Rattle.std.proofs.Common.{◌≡◌, ◌<◌, ◌≤◌, ◌+◌, ℕ, zero, suc, List, [], length, Some, IfSome, slice_get, inl, inr, ⊎_elim, arith, subst}
 use Rattle.std.proofs.lemmas.Option.{slice_get_within, slice_get_cases}
 use Rattle.aom_instructions.specs.declared.instr.Instr.{Instr}
-use Rattle.aom_instructions.specs.declared.instr.Instr.TheVariants.{Next}
 use Rattle.aom_classes.specs.Jumps.{back_of}
 use Rattle.aom_classes.specs.Loops.{Closes, ClosesSome, Ending, LoopsNest, next_at, next_in}
 use Rattle.aom_classes.proofs.Nesting.{ClosedBefore, Scanned, loop_within, must_pass, scanned_more, scanned_none}
@@ -41,19 +41,9 @@ closed_by code q e nest at = let w = nest.closing q in rw at at w
 
 -- it begins right before the place that the next goes back to
 pub back_of_closed : (code : List Instr) (d q t : ℕ) → next_at code q ≡ Some (record { number = d; back = t }) → (c : ClosesSome code d q) → t ≡ suc c.place
-back_of_closed code d q t at c =
-    let same : Some (record { number = d; back = t }) ≡ Some (record { number = d; back = suc c.place }) = sym at ∙ c.closes.ends in
-    let one : record { number = d; back = t } ≡ record { number = d; back = suc c.place } = cc in
-    ap (λ (x : Ending). x.back) one
+back_of_closed code d q t at c = search (arith, nat_tests)
 
 -- so where a next goes back to is within the method
 pub back_within : (code : List Instr) (place : ℕ) (i : Instr) → LoopsNest code → slice_get code place ≡ Some i → IfSome (back_of i) (λ t. t < length code)
 unfolding back_of next_in
-back_within code place (Next d t) nest e =
-    let at = ap next_in e in
-    let c = closed_by code place (record { number = d; back = t }) nest at in
-    let back = back_of_closed code d place t at c in
-    let later = c.closes.later in
-    let within = slice_get_within code place (Next d t) e in
-    omega (arith, back, later, within)
-back_within code place _ nest e = tt
+back_within code place x nest e = grind (arith, slice_get_within code place)

@@ -1,5 +1,7 @@
 -- That going over a method's code with the open loops in hand finds out whether its loops nest.
-use Rattle.std.proofs.Common.{◌≡◌, ◌<◌, ◌≤◌, ◌+◌, ◌∙◌, ℕ, zero, suc, Bool, true, false, List, [], ◌∷◌, ◌++◌, length, take, Some, None, IfSome, slice_get, inl, inr, ⊎_elim, refl, sym, ap, arith, subst}
+use Rattle.std.proofs.lemmas.Bool.Decides.{nat_tests}
+use Rattle.std.proofs.Common.{◌≡◌, ◌<◌, ◌≤◌, ◌+◌, ◌∙◌, ℕ, zero, suc, Bool, true, false, List, [], ◌∷◌, ◌++◌, length, take, Some, None, IfSome, slice_get, inl}
+use Rattle.std.proofs.Common.{inr, ⊎_elim, refl, sym, ap, arith, subst}
 use Rattle.std.specs.Prelude.{◌⊎◌}
 use Rattle.std.specs.List.{count_by}
 use Rattle.std.proofs.lemmas.Bool.{cases_lt}
@@ -82,7 +84,8 @@ counted code i x test e t = count_by_more_yes test code i x (slice_get_within co
 not_counted : (code : List Instr) (i : ℕ) (x : Instr) (test : Instr → Bool) → slice_get code i ≡ Some x → test x ≡ false → count_by test (take (i + 1) code) ≡ count_by test (take i code)
 not_counted code i x test e t = count_by_more_no test code i x (slice_get_within code i x e) (ap test (get_or_from_slice_get code i x x e) ∙ t)
 
-scanned_plain : (code : List Instr) (i : ℕ) (x : Instr) (s : List ℕ) → slice_get code i ≡ Some x → loop_at code i ≡ None → next_at code i ≡ None → is_loop x ≡ false → is_next x ≡ false → Scanned code i s → Scanned code (i + 1) s
+scanned_plain : (code : List Instr) (i : ℕ) (x : Instr) (s : List ℕ) → slice_get code i ≡ Some x →
+    loop_at code i ≡ None → next_at code i ≡ None → is_loop x ≡ false → is_next x ≡ false → Scanned code i s → Scanned code (i + 1) s
 scanned_plain code i x s e no_loop no_next l n h = record {
   opens = λ k p g. let o = h.opens k p g in (omega (arith, o.0), o.1);
   rising = h.rising;
@@ -98,12 +101,12 @@ scanned_plain code i x s e no_loop no_next l n h = record {
   count = (let b = not_counted code i x is_loop e l in let f = not_counted code i x is_next e n in let c = h.count in omega arith);
 }
 
-scanned_enter : (code : List Instr) (i d : ℕ) (x : Instr) (s t : List ℕ) → slice_get code i ≡ Some x → loop_at code i ≡ Some d → next_at code i ≡ None → is_loop x ≡ true → is_next x ≡ false → Enters d i s t → Scanned code i s → Scanned code (i + 1) t
+scanned_enter : (code : List Instr) (i d : ℕ) (x : Instr) (s t : List ℕ) → slice_get code i ≡ Some x →
+    loop_at code i ≡ Some d → next_at code i ≡ None → is_loop x ≡ true → is_next x ≡ false → Enters d i s t → Scanned code i s → Scanned code (i + 1) t
 scanned_enter code i d x s t e is no_next l n a h =
     rw a.last (record {
-      opens = λ k p g. ⊎_elim
-          (λ (old : slice_get s k ≡ Some p). let o = h.opens k p old in (omega (arith, o.0), o.1))
-          (λ (new : (k ≡ length s) × (p ≡ i)). let w = new.0 in let v = new.1 in let u = a.number in (omega arith, ap (loop_at code) v ∙ (is ∙ ap (λ (m : ℕ). Some m) (u ∙ sym w))))
+      opens = λ k p g. ⊎_elim (λ (old : slice_get s k ≡ Some p). let o = h.opens k p old in (omega (arith, o.0), o.1)) (λ (new : (k ≡ length s) × (p ≡ i)).
+          let w = new.0 in let v = new.1 in let u = a.number in (omega arith, ap (loop_at code) v ∙ (is ∙ ap (λ (m : ℕ). Some m) (u ∙ sym w))))
           (last_get s i k p g);
       rising = λ j k p r g f lt. ⊎_elim
           (λ (old : slice_get s k ≡ Some r). ⊎_elim
@@ -115,35 +118,27 @@ scanned_enter code i d x s t e is no_next l n a h =
           (λ (other : (j ≡ length s) × (p ≡ i)). absurd (omega (arith, new.0, other.0, lt)))
           (last_get s i j p g))
           (last_get s i k r f);
-      unclosed = λ k c p q g one. ⊎_elim
-          (λ (old : slice_get s k ≡ Some p). later code i c p q no_next one (h.unclosed k c p q old one))
-          (λ (new : (k ≡ length s) × (p ≡ i)). let w = one.later in omega (arith, w, new.1))
-          (last_get s i k p g);
+      unclosed = grind (arith, nat_tests, later, last_get);
       loops = λ p c lt g. ⊎_elim
           (λ (below : p < i). ⊎_elim (λ o. inl (keep_get s i c p o)) (λ b. inr (still_closed code i c p no_next b)) (h.loops p c below g))
           (λ (same : p ≡ i). inl (let u = a.number in let v : c ≡ length s = cc in rw (v, same) (at_last s i)))
           (at_or_before p i lt);
       closing = λ q f lt g. ⊎_elim (λ (below : q < i). h.closing q f below g) (λ (same : q ≡ i). absurd (cc)) (at_or_before q i lt);
       apart = λ c d p q r t one other lq lt. h.apart c d p q r t one other (earlier code i c p q no_next one lq) (earlier code i d r t no_next other lt);
-      before = λ k c p q r g one lq lt. ⊎_elim
-          (λ (old : slice_get s k ≡ Some r). h.before k c p q r old one (earlier code i c p q no_next one lq) lt)
-          (λ (new : (k ≡ length s) × (r ≡ i)). let w = earlier code i c p q no_next one lq in omega (arith, w, new.1))
-          (last_get s i k r g);
+      before = grind (arith, nat_tests, earlier, last_get);
       number = λ p c lt g. ⊎_elim
           (λ (below : p < i). h.number p c below g)
           (λ (same : p ≡ i). let u = a.number in let v : c ≡ length s = cc in rw (v, same) h.count)
           (at_or_before p i lt);
-      count = (let b = counted code i x is_loop e l in let f = not_counted code i x is_next e n in let c = h.count in let m = length-append s (i ∷ []) in omega arith);
+      count = grind (arith, nat_tests, counted code i x, not_counted code i x, length-append s (i ∷ []));
     })
 
 -- a next closes the one loop that it goes back to
 same_start : (code : List Instr) (i d c p t : ℕ) → next_at code i ≡ Some (record { number = d; back = suc t }) → Closes code c p i → (p ≡ t) × (c ≡ d)
-same_start code i d c p t e one =
-    let g = same_Some _ _ (sym one.ends ∙ e) in
-    let b : suc p ≡ suc t = ap (λ (x : Ending). x.back) g in
-    (cc, ap (λ (x : Ending). x.number) g)
+same_start code i d c p t e one = grind (arith, nat_tests, same_Some)
 
-scanned_leave : (code : List Instr) (i d t : ℕ) (x : Instr) (s r : List ℕ) → slice_get code i ≡ Some x → loop_at code i ≡ None → next_at code i ≡ Some (record { number = d; back = suc t }) → is_loop x ≡ false → is_next x ≡ true → s ≡ r ++ t ∷ [] → d ≡ length r → Scanned code i s → Scanned code (i + 1) r
+scanned_leave : (code : List Instr) (i d t : ℕ) (x : Instr) (s r : List ℕ) → slice_get code i ≡ Some x → loop_at code i ≡ None → next_at code i ≡ Some
+    (record { number = d; back = suc t }) → is_loop x ≡ false → is_next x ≡ true → s ≡ r ++ t ∷ [] → d ≡ length r → Scanned code i s → Scanned code (i + 1) r
 scanned_leave code i d t x s r e no_loop is l n last number h =
     let top : slice_get s d ≡ Some t = rw (last, number) (at_last r t) in
     let keep = λ (k p : ℕ) (g : slice_get r k ≡ Some p). let out : slice_get s k ≡ Some p = rw last (keep_get r t k p g) in out in
@@ -153,9 +148,8 @@ scanned_leave code i d t x s r e no_loop is l n last number h =
       opens = λ k p g. let o = h.opens k p (keep k p g) in (omega (arith, o.0), o.1);
       rising = λ j k p q g f. h.rising j k p q (keep j p g) (keep k q f);
       unclosed = λ k c p q g one. ⊎_elim
-          (λ (lt : q < i + 1). let le = h.unclosed k c p q (keep k p g) one in let same : q ≡ i = omega arith in let w = same_start code i d c p t is (subst (λ (v : ℕ). Closes code c p v) same one) in let u = under k p g in absurd (omega (arith, u, w.0)))
-          (λ (ge : i + 1 ≤ q). ge)
-          (cases_lt q (i + 1));
+          (λ (lt : q < i + 1). let le = h.unclosed k c p q (keep k p g) one in let same : q ≡ i = omega arith in let w = same_start code i d c p t is (subst
+          (λ (v : ℕ). Closes code c p v) same one) in let u = under k p g in absurd (omega (arith, u, w.0))) (λ (ge : i + 1 ≤ q). ge) (cases_lt q (i + 1));
       loops = λ p c lt g. ⊎_elim
           (λ (below : p < i). ⊎_elim
           (λ (o : slice_get s c ≡ Some p). ⊎_elim
@@ -163,26 +157,13 @@ scanned_leave code i d t x s r e no_loop is l n last number h =
           (λ (new : (c ≡ length r) × (p ≡ t)).
           let same : c ≡ d = new.0 ∙ sym number in
           let it : Closes code c p i = rw (same, new.1) closes in
-          inr (record {
-            place = i;
-            below = omega arith;
-            closes = it;
-            only = λ q lq one. let le = h.unclosed c c p q o one in omega arith;
-          }))
+          inr (record { place = i; below = omega arith; closes = it; only = λ q lq one. let le = h.unclosed c c p q o one in omega arith }))
           (last_get r t c p (rw last at o)))
           (λ (b : ClosedBefore code i c p). inr (record {
             place = b.place;
             below = (let w = b.below in omega arith);
             closes = b.closes;
-            only = λ q lq one. ⊎_elim
-                (λ (lq : q < i). b.only q lq one)
-                (λ (same : q ≡ i).
-                let w = same_start code i d c p t is (subst (λ (v : ℕ). Closes code c p v) same one) in
-                let it = subst (λ (v : ℕ). Closes code c v b.place) w.0 b.closes in
-                let le = h.unclosed d c t b.place top it in
-                let lt = b.below in
-                absurd (omega arith))
-                (at_or_before q i lq);
+            only = grind (arith, nat_tests, same_start, at_or_before);
           }))
           (h.loops p c below g))
           (λ (same : p ≡ i). absurd (cc))
@@ -219,14 +200,15 @@ scanned_leave code i d t x s r e no_loop is l n last number h =
           absurd (omega (arith, w.0, u, lt)))
           (at_or_before q i lq);
       number = λ p c lt g. ⊎_elim (λ (below : p < i). h.number p c below g) (λ (same : p ≡ i). absurd (cc)) (at_or_before p i lt);
-      count = (let b = not_counted code i x is_loop e l in let f = counted code i x is_next e n in let c = h.count in let m = length-append r (t ∷ []) in let k : length s ≡ length (r ++ t ∷ []) = ap length last in omega arith);
+      count = grind (arith, nat_tests, not_counted code i x, counted code i x, length-append r (t ∷ []));
     }
 
 -- an instruction that goes on as it must keeps the scan going
 pub scanned_more : (code : List Instr) (i : ℕ) (x : Instr) (s r : List ℕ) → slice_get code i ≡ Some x → Passes i x s r → Scanned code i s → Scanned code (i + 1) r
 unfolding loop_in next_in is_loop is_next
 scanned_more code i (Loop d n) s r e a h = scanned_enter code i d (Loop d n) s r e (ap loop_in e) (ap next_in e) refl refl a h
-scanned_more code i (Next d t) s r e a h = scanned_leave code i d a.start (Next d t) s r e (ap loop_in e) (ap next_in e ∙ ap (λ (b : ℕ). Some (record { number = d; back = b })) a.back) refl refl a.last a.number h
+scanned_more code i (Next d t) s r e a h = scanned_leave code i d a.start
+    (Next d t) s r e (ap loop_in e) (ap next_in e ∙ ap (λ (b : ℕ). Some (record { number = d; back = b })) a.back) refl refl a.last a.number h
 scanned_more code i x s r e a h = rw a (scanned_plain code i x s e (ap loop_in e) (ap next_in e) refl refl h)
 
 pub scanned_none : (code : List Instr) → Scanned code 0 []
@@ -294,20 +276,14 @@ must_pass code i x s e h nest = (s, refl)
 -- where loops nest, none is open at the end
 pub none_open : (code : List Instr) (i : ℕ) (s : List ℕ) → length code ≤ i → Scanned code i s → LoopsNest code → length s ≡ 0
 none_open code i [] le h nest = refl
-none_open code i (p ∷ s) le h nest =
-    let o = h.opens 0 p refl in
-    let one = nest.closed p 0 o.1 in
-    let late = h.unclosed 0 0 p one.place refl one.closes in
-    let within = next_within code one.place _ one.closes.ends in
-    absurd (omega arith)
+none_open code i (p ∷ s) le h nest = grind (arith, h.opens 0 p, nest.closed p 0, h.unclosed 0 0 p, next_within code)
 
 -- what was gone over whole, with no loop open, nests
 all_closed : (code : List Instr) (i : ℕ) → length code ≤ i → Scanned code i [] → LoopsNest code
 unfolding next_in
 all_closed code i le h = record {
-  closed = λ p d e. ⊎_elim
-      (λ (o : slice_get [] d ≡ Some p). absurd (cc))
-      (λ (b : ClosedBefore code i d p). record { place = b.place; closes = b.closes; only = λ q c. b.only q (let w = next_within code q _ c.ends in omega arith) c })
+  closed = λ p d e. ⊎_elim (λ (o : slice_get [] d ≡ Some p). absurd (cc)) (λ (b : ClosedBefore code i d p).
+      record { place = b.place; closes = b.closes; only = λ q c. b.only q (let w = next_within code q _ c.ends in omega arith) c })
       (h.loops p d (let w = loop_within code p d e in omega arith) e);
   closing = λ q. elim (next_at code q) as (λ o. next_at code q ≡ o → IfSome o (λ e. ClosesSome code e.number q)) [
     | None ↦ λ f. tt

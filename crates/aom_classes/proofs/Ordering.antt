@@ -1,10 +1,10 @@
 -- The least numbers that a method may have, as loops and tables come to them.
-use Rattle.std.proofs.Common.{◌≡◌, ◌<◌, ◌≤◌, ◌+◌, ◌++◌, ◌∷◌, ◌==◌, ◌∙◌, ◌⊎◌, ◌↔◌, ℕ, suc, Bool, true, false, IsTrue, List, [], length, Option, Some, None, IfSome, slice_get, slice_index_or, get_or, max, position, leb, inl, inr, ap, sym, subst, refl, arith}
+use Rattle.std.proofs.lemmas.Bool.Decides.{nat_tests}
+use Rattle.std.proofs.Common.{◌≡◌, ◌<◌, ◌≤◌, ◌+◌, ◌++◌, ◌∷◌, ◌==◌, ◌∙◌, ◌⊎◌, ◌↔◌, ℕ, suc, Bool, true, false, IsTrue, List, [], length, Option, Some, None}
+use Rattle.std.proofs.Common.{IfSome, slice_get, slice_index_or, max, position, leb, inl, inr, ap, sym, subst, refl, arith}
 use Rattle.std.proofs.lemmas.Bool.{eqb-true, false≢true, le-leb, leb-true}
 use Rattle.std.proofs.lemmas.Option.{get_or_from_slice_get, slice_get-get_or, slice_get_read, slice_get_within}
-use Rattle.std.proofs.lemmas.Grind.{common_steps}
 use Rattle.std.proofs.lemmas.List.Sums.{fails_before_first}
-use Rattle.std.specs.List.{position_or_len}
 use Rattle.aom_image.specs.Image.{Image}
 use Rattle.aom_image.specs.declared.method.Role.{Role}
 use Rattle.aom_roles.specs.Classes.{sessions_at}
@@ -23,7 +23,7 @@ pub least_same : {P Q : ℕ → Type 0} (n : ℕ) → IsLeast n P → ((m : ℕ)
 least_same n h same m = (λ le. (same m).0 ((h m).0 le), λ q. (h m).1 ((same m).1 q))
 
 pub least_max : {P Q : ℕ → Type 0} (a b : ℕ) → IsLeast a P → IsLeast b Q → IsLeast (max a b) (λ m. P m × Q m)
-least_max a b f g m = (λ le. ((f m).0 (grind (arith, le)), (g m).0 (grind (arith, le))), λ both. (let p = (f m).1 both.0 in let q = (g m).1 both.1 in grind (arith, p, q)))
+least_max a b f g m = (λ le. ((f m).0 (grind (arith, le)), (g m).0 (grind (arith, le))), grind (arith, nat_tests))
 
 -- ---- a loop over a list: above all places that pass a test
 
@@ -35,14 +35,10 @@ module _ {X : Type 0} (test : X → Bool) (xs : List X) where
   least_none m = (λ le k lt. absurd (omega (arith, lt)), λ all. omega arith)
 
   past_all : (m i k : ℕ) → i < m → k < i + 1 → (o : Option X) → IfSome o (λ x. IsTrue (test x) → k < m)
-  past_all m i k within lt None = tt
-  past_all m i k within lt (Some x) = λ passes. omega (arith, within, lt)
+  past_all m i k within lt x = grind arith
 
   pub least_yes : (i : ℕ) (x : X) → i < length xs → x ≡ slice_index_or xs i x → test x ≡ true → IsLeast (i + 1) (λ m. EachBelow (Below m) xs (i + 1))
-  least_yes i x lt is passes m = (
-    λ le k less. past_all m i k (omega (arith, le)) less (slice_get xs k),
-    λ all. (let here : i < m = (subst (λ o. IfSome o (Below m i)) (slice_get_read xs (length xs) i x refl lt is) (all i (omega arith))) passes in omega (arith, here)),
-  )
+  least_yes i x lt is passes m = search (arith, nat_tests, past_all m i, slice_get_read xs)
 
   pub least_no : (n i : ℕ) (x : X) → IsLeast n (λ m. EachBelow (Below m) xs i) → i < length xs → x ≡ slice_index_or xs i x → test x ≡ false → IsLeast n (λ m. EachBelow (Below m) xs (i + 1))
   least_no n i x h lt is fails m = (
@@ -73,9 +69,7 @@ pub read_at : (table : List ℕ) (i k : ℕ) → length table ≡ 256 → k ≡ 
 read_at table i k all same lt = ap (slice_get table) (sym same) ∙ slice_get-get_or table k 0 (omega (arith, all, lt))
 
 pub least_at : (count : ℕ) (table : List ℕ) (P : ℕ → ℕ → Type 0) (i k : ℕ) → AreLeast count table P → k ≡ i → k < count → IsLeast (slice_index_or table k 0) (P i)
-least_at count table P i k h same lt =
-    subst (λ j. IsLeast (slice_index_or table k 0) (P j)) same
-    (subst (λ o. IfSome o (λ n. IsLeast n (P k))) (slice_get-get_or table k 0 (let all = h.all in omega (arith, all, lt))) (h.each k))
+least_at count table P i k h same lt = grind (arith, nat_tests, slice_get-get_or table k 0)
 
 -- a test against the least number is the condition
 pub least_test : {P : ℕ → Type 0} (n m : ℕ) → IsLeast n P → IsTrue (leb n m) ↔ P m
@@ -88,24 +82,19 @@ module _ (p : Image) where
   goes_none c none m = (λ own y family. go y (c == y) refl family own, λ all. all c (itself p c))
     where
       go : (y : ℕ) (b : Bool) → (c == y) ≡ b → descends p c y ≡ true → DestructsBelow p m c → DestructsBelow p m y
-      go y true same family own = subst (DestructsBelow p m) (eqb-true c y same) own
-      go y false other family own = absurd (false≢true (sym (from_none p c y other none) ∙ family))
+      go y x same family own = grind (arith, nat_tests, eqb-true, from_none)
 
   pub goes_parent : (c e : ℕ) → parent_of p c ≡ Some e → (m : ℕ) → (DestructsBelow p m c × GoesBelow p m e) ↔ GoesBelow p m c
   goes_parent c e is m = (λ both y family. go y (c == y) refl family both, λ all. (all c (itself p c), λ y family. all y (child p c e y is family)))
     where
       go : (y : ℕ) (b : Bool) → (c == y) ≡ b → descends p c y ≡ true → DestructsBelow p m c × GoesBelow p m e → DestructsBelow p m y
-      go y true same family both = subst (DestructsBelow p m) (eqb-true c y same) both.0
-      go y false other family both = both.1 y (sym (from_parent p c e y other is) ∙ family)
+      go y x same family both = grind (arith, nat_tests, eqb-true, from_parent)
 
   pub ends_alone : (c : ℕ) → sessions_at p c ≡ None → (m : ℕ) → GoesBelow p m c ↔ EndsBelow p m c
   ends_alone c none m = (λ own. record { own = own; sessions = subst (λ o. IfSome o (GoesBelow p m)) (sym none) tt }, λ all. all.own)
 
   pub ends_sessions : (c s : ℕ) → sessions_at p c ≡ Some s → (m : ℕ) → (GoesBelow p m c × GoesBelow p m s) ↔ EndsBelow p m c
-  ends_sessions c s is m = (
-    λ both. record { own = both.0; sessions = subst (λ o. IfSome o (GoesBelow p m)) (sym is) both.1 },
-    λ all. (all.own, subst (λ o. IfSome o (GoesBelow p m)) is all.sessions),
-  )
+  ends_sessions c s is m = search (arith, nat_tests)
 
   -- ---- a class and all that descend from it
 
@@ -119,30 +108,17 @@ module _ (p : Image) where
 
   module _ (table : List ℕ) (c : ℕ) where
     pub reaches_first : (n : ℕ) → slice_get table c ≡ Some n → IsLeast n (ReachesSome table c 0)
-    reaches_first n is m = (
-      λ le. (subst (λ o. IfSome o (λ n. n ≤ m)) (sym is) le, λ x lt. absurd (omega (arith, lt))),
-      λ some. subst (λ o. IfSome o (λ n. n ≤ m)) is some.0,
-    )
+    reaches_first n is m = search (arith, nat_tests)
 
-    one_more : (i m : ℕ) → ((x : ℕ) → x < i → descends p x c ≡ true → IfSome (slice_get table x) (λ n. n ≤ m)) → (descends p i c ≡ true → IfSome (slice_get table i) (λ n. n ≤ m))
-        → (x : ℕ) → x < i + 1 → descends p x c ≡ true → IfSome (slice_get table x) (λ n. n ≤ m)
-    one_more i m before here x lt = go (x == i) refl
-      where
-        go : (b : Bool) → (x == i) ≡ b → descends p x c ≡ true → IfSome (slice_get table x) (λ n. n ≤ m)
-        go true same = subst (λ y. descends p y c ≡ true → IfSome (slice_get table y) (λ n. n ≤ m)) (sym (eqb-true x i same)) here
-        go false other = before x (grind (arith, lt, other))
+    one_more : (i m : ℕ) → ((x : ℕ) → x < i → descends p x c ≡ true → IfSome (slice_get table x) (λ n. n ≤ m)) → (descends p i c ≡ true →
+        IfSome (slice_get table i) (λ n. n ≤ m)) → (x : ℕ) → x < i + 1 → descends p x c ≡ true → IfSome (slice_get table x) (λ n. n ≤ m)
+    one_more i m before here x lt = grind (arith, nat_tests, eqb-true x i)
 
     pub reaches_yes : (n k i : ℕ) → IsLeast n (ReachesSome table c i) → slice_get table i ≡ Some k → descends p i c ≡ true → IsLeast (max n k) (ReachesSome table c (i + 1))
-    reaches_yes n k i h is there = least_same (max n k) (least_max n k h (λ m. (λ le. le, λ le. le))) (λ m. (
-      λ both. (both.0.0, one_more i m both.0.1 (λ family. subst (λ o. IfSome o (λ n. n ≤ m)) (sym is) both.1)),
-      λ some. ((some.0, λ x lt. some.1 x (omega (arith, lt))), subst (λ o. IfSome o (λ n. n ≤ m)) is (some.1 i (omega arith) there)),
-    ))
+    reaches_yes n k i h is there = grind (arith, nat_tests, least_same, least_max, one_more)
 
     pub reaches_no : (n i : ℕ) → IsLeast n (ReachesSome table c i) → descends p i c ≡ false → IsLeast n (ReachesSome table c (i + 1))
-    reaches_no n i h other = least_same n h (λ m. (
-      λ some. (some.0, one_more i m some.1 (λ family. absurd (false≢true (sym other ∙ family)))),
-      λ some. (some.0, λ x lt. some.1 x (omega (arith, lt))),
-    ))
+    reaches_no n i h other = grind (arith, nat_tests, least_same, one_more)
 
     pub reaches_all : (n i : ℕ) → IsLeast n (ReachesSome table c i) → length p.classes ≤ i → IsLeast n (ReachesAll p table c)
     reaches_all n i h past = least_same n h (λ m. (
@@ -151,8 +127,7 @@ module _ (p : Image) where
     ))
       where
         go : (m x : ℕ) → ReachesSome table c i m → descends p x c ≡ true → (x ≡ c) ⊎ (x < length p.classes) → IfSome (slice_get table x) (λ n. n ≤ m)
-        go m x some family (inl same) = subst (λ y. IfSome (slice_get table y) (λ n. n ≤ m)) (sym same) some.0
-        go m x some family (inr lt) = some.1 x (omega (arith, lt, past)) family
+        go m x some family y = grind (arith, nat_tests)
 
   -- a table of the greatest numbers of another says for each class what the other says for all that descend from it
   pub greatest_least :
@@ -161,13 +136,10 @@ module _ (p : Image) where
   greatest_least table most P few h g = record { each = λ c. go c (slice_get most c) refl (g.each c); all = g.all }
     where
       there : (c x : ℕ) → c < 256 → descends p x c ≡ true → x < 256
-      there c x lt family = elim (descends_there x c family) [ inl same ↦ subst (λ y. y < 256) (sym same) lt | inr within ↦ omega (arith, within, few) ]
+      there c x lt family = grind (arith, nat_tests, descends_there x c family)
 
       said : (x m : ℕ) (o : Option ℕ) → slice_get table x ≡ o → x < 256 → IfSome o (λ n. IsLeast n (P x)) → IfSome o (λ n. n ≤ m) ↔ P x m
-      said x m None e lt least =
-          let read = slice_get-get_or table x 0 (let all = h.all in omega (arith, all, lt)) in
-          let clash : None ≡ Some (get_or table x 0) = sym e ∙ read in cc
-      said x m (Some n) e lt least = least m
+      said x m y e lt least = grind (arith, nat_tests, slice_get-get_or table x 0)
 
       go : (c : ℕ) (o : Option ℕ) → slice_get most c ≡ o → IfSome o (λ n. IsLeast n (ReachesAll p table c)) → IfSome o (λ n. IsLeast n (λ m. (x : ℕ) → descends p x c ≡ true → P x m))
       go c None e least = tt
@@ -185,11 +157,7 @@ none_before test xs none k = go (slice_get xs k) refl
   where
     go : (o : Option _) → slice_get xs k ≡ o → IfSome o (λ x. IsTrue (test x) → k < 0)
     go None e = tt
-    go (Some x) e = λ passes.
-        let within = slice_get_within xs k x e in
-        let past : length xs ≤ position_or_len test xs = grind (arith, common_steps) in
-        let fails : test (get_or xs k x) ≡ false = fails_before_first test xs k x (omega (arith, within, past)) in
-        absurd (false≢true (sym (sym (ap test (get_or_from_slice_get xs k x x e)) ∙ fails) ∙ passes))
+    go (Some x) e = grind (arith, slice_get_within xs k x e, fails_before_first test xs k x, get_or_from_slice_get xs k x x e)
 
 module _ (p : Image) where
   module _ (r : Role) where

@@ -1,5 +1,6 @@
 -- What is known of the methods that the searches by role answer.
-use Rattle.std.proofs.Common.{◌≡◌, ◌∙◌, ℕ, List, [], ◌∷◌, Bool, true, false, cond, Option, Some, slice_get, get_or, position, refl, sym, ap, arith}
+use Rattle.std.proofs.lemmas.Bool.Decides.{nat_tests}
+use Rattle.std.proofs.Common.{◌≡◌, ◌∙◌, ℕ, List, [], ◌∷◌, Bool, true, false, cond, Option, Some, slice_get, get_or, position, sym, ap, arith}
 use Rattle.std.proofs.lemmas.Bool.{eqb-true}
 use Rattle.std.proofs.lemmas.Option.{slice_get-get_or}
 use Rattle.std.proofs.lemmas.List.Quantifiers.{position-Some}
@@ -8,7 +9,8 @@ use Rattle.aom_image.specs.Views.{method_at}
 use Rattle.aom_image.specs.declared.method.Method.{Method}
 use Rattle.aom_image.specs.declared.method.Role.{Role}
 use Rattle.aom_image.specs.declared.method.Role.TheVariants.{Do, Main, Construct, Destruct, Run, Cancel, Error, Accept, Service, Undo}
-use Rattle.aom_classes.specs.Roles.{destructor_of, is_class, is_inherited, is_main, keeper_of, main_of, own_role, plays, role_by, role_number, role_of, same_role}
+use Rattle.aom_classes.specs.Roles.{destructor_of, is_class, is_inherited, is_main, keeper_of, main_of, own_role, plays, role_by, role_number, role_of}
+use Rattle.aom_classes.specs.Roles.{same_role}
 use Rattle.aom_classes.proofs.Each.{both}
 use Rattle.aom_classes.proofs.Keeping.{keeper_found, role_alone}
 use Rattle.aom_roles.proofs.Descending.{itself}
@@ -23,23 +25,11 @@ roles = Do ∷ Main ∷ Construct ∷ Destruct ∷ Run ∷ Cancel ∷ Error ∷ 
 
 at_number : (r : Role) → slice_get roles (role_number r) ≡ Some r
 unfolding roles role_number
-at_number Do = refl
-at_number Main = refl
-at_number Construct = refl
-at_number Destruct = refl
-at_number Run = refl
-at_number Cancel = refl
-at_number Error = refl
-at_number Accept = refl
-at_number Service = refl
-at_number Undo = refl
+at_number x = grind arith
 
 -- roles of one number are one
 pub same_roles : (a b : Role) → same_role a b ≡ true → a ≡ b
-same_roles a b e =
-    let n = eqb-true (role_number a) (role_number b) e in
-    let same : Some a ≡ Some b = sym (at_number a) ∙ (ap (slice_get roles) n ∙ at_number b) in
-    cc
+same_roles a b e = grind (arith, nat_tests, eqb-true, at_number a, roles, at_number b)
 
 -- a place that a search answers has an element that passes
 pub found : {X : Type 0} (test : X → Bool) (xs : List X) (k : ℕ) → position test xs ≡ Some k → (x : X) × (slice_get xs k ≡ Some x) × (test x ≡ true)
@@ -57,10 +47,7 @@ class_is c own e = some_given (λ o. is_class c o ≡ true) own e (λ none. cc) 
 -- and what plays a role in a class itself is one of its methods
 pub own_found : (p : Image) (c m : ℕ) (r : Role) → own_role p c r ≡ Some m → (d : Method) × (method_at p m ≡ Some d) × (d.class ≡ Some c) × (d.role ≡ r)
 unfolding own_role method_at plays
-own_found p c m r e =
-    let w = found (plays c r) p.methods m e in
-    let t = both (is_class c w.0.class) (same_role w.0.role r) w.2 in
-    (w.0, w.1, class_is c w.0.class t.0, same_roles w.0.role r t.1)
+own_found p c m r e = grind (arith, nat_tests, found, both, class_is c, same_roles)
 
 -- the method of a role is there, in that role, of a class that the class descends from
 pub record Inherits (p : Image) (c m : ℕ) (r : Role) : Type 0 where

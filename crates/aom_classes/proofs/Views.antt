@@ -1,5 +1,6 @@
 -- What the views answer, from what the lists of an image have at an index.
-use Rattle.std.proofs.Common.{◌≡◌, ℕ, ◌<◌, ◌≤◌, List, [], length, IsSome, Some, None, slice_get, slice_index_or, refl, subst}
+use Rattle.std.proofs.lemmas.Bool.Decides.{nat_tests}
+use Rattle.std.proofs.Common.{arith, ◌≡◌, ℕ, ◌<◌, ◌≤◌, List, [], length, IsSome, Some, slice_get, slice_index_or, refl}
 use Rattle.std.proofs.lemmas.Option.{slice_get_within, slice_get_read, slice_get_past}
 use Rattle.aom_image.specs.Image.{Image}
 use Rattle.aom_image.specs.Views.{class_at, method_at, instr_at, instr_in, fields_of, fields_in}
@@ -8,24 +9,16 @@ use Rattle.aom_image.specs.declared.method.Method.{Method}
 
 -- an index that has an element is within the list
 pub within : {X : Type 0} (xs ys : List X) (i k : ℕ) → ys ≡ xs → i ≡ k → IsSome (slice_get xs k) → i < length ys
-within xs ys i k e f h =
-    elim (slice_get xs k) as (λ o. slice_get xs k ≡ o → IsSome o → i < length ys) [
-      | None ↦ λ g h. cc
-      | Some x ↦ λ g h. rw (e, f) (slice_get_within xs k x g)
-    ] refl h
+within xs ys i k e f h = grind (arith, nat_tests, slice_get_within xs k)
 
 -- and what is read there is that element
 pub read : {X : Type 0} (xs ys : List X) (i k : ℕ) (x : X) → ys ≡ xs → i ≡ k → IsSome (slice_get xs k) → x ≡ slice_index_or ys i x → slice_get xs k ≡ Some x
-read xs ys i k x e f h g = slice_get_read xs (length xs) k x refl (within xs xs k k refl refl h) (subst (λ zs. x ≡ slice_index_or zs k x) e (subst (λ j. x ≡ slice_index_or ys j x) f g))
+read xs ys i k x e f h g = grind (arith, nat_tests, slice_get_read xs, within xs xs k k)
 
 -- a place with an instruction is in a method
 pub has_method : (p : Image) (m place : ℕ) → IsSome (instr_at p m place) → IsSome (method_at p m)
 unfolding instr_in
-has_method p m place h =
-    elim (method_at p m) as (λ o. IsSome (instr_in o place) → IsSome o) [
-      | None ↦ λ h. h
-      | Some d ↦ λ h. refl
-    ] h
+has_method p m place h = grind (arith, nat_tests)
 
 pub in_method : (p : Image) (m place : ℕ) (d : Method) → method_at p m ≡ Some d → instr_at p m place ≡ slice_get d.code place
 unfolding instr_in
@@ -34,11 +27,7 @@ in_method p m place d e = rw e refl
 -- a class with a field is a class of the image
 pub has_class : (p : Image) (c field : ℕ) → IsSome (slice_get (fields_of p c) field) → IsSome (class_at p c)
 unfolding fields_in
-has_class p c field h =
-    elim (class_at p c) as (λ o. IsSome (slice_get (fields_in o) field) → IsSome o) [
-      | None ↦ λ h. h
-      | Some d ↦ λ h. refl
-    ] h
+has_class p c field h = grind (arith, nat_tests)
 
 pub in_class : (p : Image) (c field : ℕ) (d : ClassDecl) → class_at p c ≡ Some d → slice_get (fields_of p c) field ≡ slice_get d.fields field
 unfolding fields_in

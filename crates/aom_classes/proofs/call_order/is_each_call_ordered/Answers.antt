@@ -7,8 +7,8 @@ pub loop-number-init : goal.loop-number-init
 loop-number-init c = λ k lt. absurd (omega arith)
 
 pub returns-then-not-is_call_ordered : goal.returns-then-not-is_call_ordered
-returns-then-not-is_call_ordered c =
-    each_not (CallsOrdered c.args.image.now) _ _ _ c.loop-number-test.true c.index-methods-number.is (refused _ c.is_call_ordered.ensures c.if-not-is_call_ordered.true)
+returns-then-not-is_call_ordered c = each_not
+    (CallsOrdered c.args.image.now) _ _ _ c.loop-number-test.true c.index-methods-number.is (refused _ c.is_call_ordered.ensures c.if-not-is_call_ordered.true)
 
 pub loop-number-preserved : goal.loop-number-preserved
 loop-number-preserved c =

@@ -4,8 +4,8 @@ use Rattle.aom_classes.proofs.Each.{refused, all_more, all_not, all_whole}
 use Rattle.aom_classes.proofs.call_order.may_own.Goals as goal
 
 pub returns-then-not-may_mention_thing : goal.returns-then-not-may_mention_thing
-returns-then-not-may_mention_thing c =
-    all_not (MentionsThing c.args.image.now c.args.method) _ _ _ c.loop-thing-test.true c.thing-item.is (refused _ c.may_mention_thing.ensures c.if-not-may_mention_thing.true)
+returns-then-not-may_mention_thing c = all_not (MentionsThing c.args.image.now c.args.method) _ _ _ c.loop-thing-test.true c.thing-item.is
+    (refused _ c.may_mention_thing.ensures c.if-not-may_mention_thing.true)
 
 pub loop-thing-preserved : goal.loop-thing-preserved
 loop-thing-preserved c =

@@ -4,8 +4,8 @@ use Rattle.aom_classes.proofs.Each.{refused, all_more, all_not, all_whole}
 use Rattle.aom_classes.proofs.call_order.may_run_each.Goals as goal
 
 pub returns-then-not-may_run : goal.returns-then-not-may_run
-returns-then-not-may_run c =
-    rw (← c.as_slice-instr-items.ensures) (all_not (RunsBelow c.args.image.now c.args.number c.args.method.now.class) _ _ _ c.loop-instr-test.true c.instr-item.is (refused _ c.may_run.ensures c.if-not-may_run.true))
+returns-then-not-may_run c = rw (← c.as_slice-instr-items.ensures) (all_not (RunsBelow c.args.image.now c.args.number c.args.method.now.class)
+    _ _ _ c.loop-instr-test.true c.instr-item.is (refused _ c.may_run.ensures c.if-not-may_run.true))
 
 pub loop-instr-preserved : goal.loop-instr-preserved
 loop-instr-preserved c =

@@ -4,8 +4,8 @@ use Rattle.aom_classes.proofs.Each.{refused, all_more, all_not, all_whole}
 use Rattle.aom_classes.proofs.call_order.may_take_each.Goals as goal
 
 pub returns-then-not-may_take : goal.returns-then-not-may_take
-returns-then-not-may_take c =
-    all_not (MentionsArgument c.args.image.now c.args.method) _ _ _ c.loop-argument-test.true c.argument-item.is (refused _ c.may_take.ensures c.if-not-may_take.true)
+returns-then-not-may_take c = all_not
+    (MentionsArgument c.args.image.now c.args.method) _ _ _ c.loop-argument-test.true c.argument-item.is (refused _ c.may_take.ensures c.if-not-may_take.true)
 
 pub loop-argument-preserved : goal.loop-argument-preserved
 loop-argument-preserved c =

@@ -6,8 +6,8 @@ pub loop-field-init : goal.loop-field-init
 loop-field-init c = λ k lt. absurd (omega arith)
 
 pub returns-then-not-has_field : goal.returns-then-not-has_field
-returns-then-not-has_field c =
-    each_not (λ f t. slice_get c.args.fields.now f ≡ Some t) _ _ _ c.loop-field-test.true c.index-first-field.is (refused _ c.has_field.ensures c.if-not-has_field.true)
+returns-then-not-has_field c = each_not
+    (λ f t. slice_get c.args.fields.now f ≡ Some t) _ _ _ c.loop-field-test.true c.index-first-field.is (refused _ c.has_field.ensures c.if-not-has_field.true)
 
 pub loop-field-preserved : goal.loop-field-preserved
 loop-field-preserved c =

@@ -7,8 +7,8 @@ pub loop-place-init : goal.loop-place-init
 loop-place-init c = λ k lt. absurd (omega arith)
 
 pub returns-then-not-keeps_within : goal.returns-then-not-keeps_within
-returns-then-not-keeps_within c =
-    each_not (KeepsWithin (length c.args.code.now)) _ _ _ c.loop-place-test.true c.index-code-place.is (refused _ c.keeps_within.ensures c.if-not-keeps_within.true)
+returns-then-not-keeps_within c = each_not
+    (KeepsWithin (length c.args.code.now)) _ _ _ c.loop-place-test.true c.index-code-place.is (refused _ c.keeps_within.ensures c.if-not-keeps_within.true)
 
 pub loop-place-preserved : goal.loop-place-preserved
 loop-place-preserved c =

@@ -30,7 +30,8 @@ returns-in_err-start-clause-only c = rw c.from_residual-in_err-start.ensures tt
 pub returns-then-begins_loop-clause-some : goal.returns-then-begins_loop-clause-some
 returns-then-begins_loop-clause-some c =
     let back : c.in_ok-back.back ≡ suc c.in_ok-start.start = omega (arith, c.in_ok-start.ensures) in
-    body_here _ _ _ _ _ c.requires c.index-code-end.is (omega arith) c.index-code-start.is c.if-start-end.true (sym c.begins_loop.ensures ∙ c.if-begins_loop.true) (sym c.in_ok-back.ensures ∙ ap Some back)
+    body_here _ _ _ _ _ c.requires c.index-code-end.is
+    (omega arith) c.index-code-start.is c.if-start-end.true (sym c.begins_loop.ensures ∙ c.if-begins_loop.true) (sym c.in_ok-back.ensures ∙ ap Some back)
 
 pub returns-then-begins_loop-clause-none : goal.returns-then-begins_loop-clause-none
 returns-then-begins_loop-clause-none c = λ none. absurd (none-some _ (sym none))
@@ -46,6 +47,7 @@ returns-else-start-end-clause-none c = λ _ p b.
     let start : c.in_ok-start.start ≡ p = omega (arith, c.in_ok-start.ensures) in
     elim c.else-start-end.branch [
       | else-start-end-via-then-start-end+else-begins_loop w ↦
-          let begins = body_begins _ _ _ _ (omega arith) w.index-code-start.is (subst (λ (x : ℕ). Body c.args.code.now x c.args.end) (sym start) b) in absurd (both_ways _ w.if-begins_loop.false (w.begins_loop.ensures ∙ begins))
+          let begins = body_begins _ _ _ _ (omega arith) w.index-code-start.is (subst (λ (x : ℕ). Body c.args.code.now x c.args.end) (sym start) b) in
+          absurd (both_ways _ w.if-begins_loop.false (w.begins_loop.ensures ∙ begins))
       | else-start-end-via-else-start-end w ↦ absurd (omega (arith, b.later))
     ]

@@ -13,8 +13,8 @@ returns-then-not-pass c =
     )
 
 pub loop-place-preserved : goal.loop-place-preserved
-loop-place-preserved c =
-    let here : slice_get c.args.code.now c.loop-place.place ≡ Some c.index-code-place.result = slice_get_read _ _ _ _ refl c.loop-place-test.true c.index-code-place.is in
+loop-place-preserved c = let here : slice_get c.args.code.now c.loop-place.place ≡ Some c.index-code-place.result =
+    slice_get_read _ _ _ _ refl c.loop-place-test.true c.index-code-place.is in
     scanned_more _ _ _ _ _ here (c.pass.ensures.done c.if-not-pass.false) c.loop-place.invariant
 
 pub returns : goal.returns

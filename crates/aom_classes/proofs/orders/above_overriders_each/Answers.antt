@@ -16,4 +16,5 @@ loop-called-preserved c =
     rw c.push.ensures.items (least_push c.loop-called.called c.loop-called.calls.items (λ k m. OverridersBelow c.args.image.now m k) c.above_overriders.result c.loop-called.invariant here)
 
 pub returns : goal.returns
-returns c = subst (λ n. AreLeast n c.loop-called.calls.items (λ k m. OverridersBelow c.args.image.now m k)) (omega (arith, c.loop-called.auto.called-end, c.loop-called-test.false)) c.loop-called.invariant
+returns c = subst (λ n. AreLeast n c.loop-called.calls.items (λ k m. OverridersBelow c.args.image.now m k))
+    (omega (arith, c.loop-called.auto.called-end, c.loop-called-test.false)) c.loop-called.invariant

@@ -17,9 +17,11 @@ returns-in-Some c =
     let lower = parent_below c.args.image.now c.args.class c.in-Some.parent is in
     let lt : c.number.result < c.args.class = omega (arith, lower, c.number.ensures.value) in
     let line = least_at c.args.class c.args.lines.now (λ k m. CancelsBelow c.args.image.now m k) c.in-Some.parent c.number.result c.requires c.number.ensures.value lt in
-    subst (λ o. IsLeast (slice_index_or c.args.lines.now c.number.result 0) (λ m. asked c.args.image.now Cancel m o)) (sym (keeper_up c.args.image.now Cancel c.args.class c.in-Some.parent none is)) line
+    subst (λ o. IsLeast (slice_index_or c.args.lines.now c.number.result 0) (λ m. asked c.args.image.now Cancel m o))
+    (sym (keeper_up c.args.image.now Cancel c.args.class c.in-Some.parent none is)) line
 
 pub returns-in-None : goal.returns-in-None
 returns-in-None c =
     let none = none_own c.args.image.now Cancel c.above_own-own.result c.args.class c.above_own-own.ensures (omega (arith, c.if-own-gt0.false)) in
-    subst (λ o. IsLeast 0 (λ m. asked c.args.image.now Cancel m o)) (sym (keeper_none c.args.image.now Cancel c.args.class none (sym c.parent_of.ensures ∙ c.in-None.is))) (λ m. (λ le. tt, λ all. omega arith))
+    subst (λ o. IsLeast 0 (λ m. asked c.args.image.now Cancel m o))
+    (sym (keeper_none c.args.image.now Cancel c.args.class none (sym c.parent_of.ensures ∙ c.in-None.is))) (λ m. (λ le. tt, λ all. omega arith))

@@ -15,7 +15,8 @@ loop-other-preserved c =
     elim c.if-descends.branch [
       | then-descends w ↦
           let family = subst (λ x. descends c.args.image.now x c.args.class ≡ true) c.class_number.ensures (sym c.descends.ensures ∙ w.if-descends.true) in
-          rw (w.most-is, w.max-most.ensures) (reaches_yes c.args.image.now c.args.table.now c.args.class c.loop-other.most _ c.loop-other.other c.loop-other.invariant (slice_get-get_or c.args.table.now c.loop-other.other 0 within) family)
+          rw (w.most-is, w.max-most.ensures) (reaches_yes c.args.image.now c.args.table.now
+          c.args.class c.loop-other.most _ c.loop-other.other c.loop-other.invariant (slice_get-get_or c.args.table.now c.loop-other.other 0 within) family)
       | else-descends w ↦
           let other = subst (λ x. descends c.args.image.now x c.args.class ≡ false) c.class_number.ensures (sym c.descends.ensures ∙ w.if-descends.false) in
           rw w.most-is (reaches_no c.args.image.now c.args.table.now c.args.class c.loop-other.most c.loop-other.other c.loop-other.invariant other)

@@ -7,7 +7,8 @@ pub push-requires : goal.push-requires
 push-requires c = omega (arith, c.loop-class.invariant.all, c.loop-class-test.true)
 
 pub loop-class-init : goal.loop-class-init
-loop-class-init c = subst (λ ns. AreLeast 0 ns (λ k m. ReachesAll c.args.image.now c.args.table.now k m)) (sym c.new-most.ensures) (table_none (λ k m. ReachesAll c.args.image.now c.args.table.now k m))
+loop-class-init c = subst (λ ns. AreLeast 0 ns (λ k m. ReachesAll c.args.image.now c.args.table.now k m))
+    (sym c.new-most.ensures) (table_none (λ k m. ReachesAll c.args.image.now c.args.table.now k m))
 
 pub loop-class-preserved : goal.loop-class-preserved
 loop-class-preserved c =
@@ -17,5 +18,6 @@ loop-class-preserved c =
 pub returns : goal.returns
 returns c = record {
   few = c.classes-classes.ensures.well_formed.classes.count;
-  most = subst (λ n. AreLeast n c.loop-class.most.items (λ k m. ReachesAll c.args.image.now c.args.table.now k m)) (omega (arith, c.loop-class.auto.class-end, c.loop-class-test.false)) c.loop-class.invariant;
+  most = subst (λ n. AreLeast n c.loop-class.most.items (λ k m. ReachesAll c.args.image.now c.args.table.now k m))
+      (omega (arith, c.loop-class.auto.class-end, c.loop-class-test.false)) c.loop-class.invariant;
 }

@@ -5,8 +5,8 @@ use Rattle.aom_classes.proofs.Ordering.{least_push, table_none}
 use Rattle.aom_classes.proofs.orders.lines_going.Goals as goal
 
 pub going-requires : goal.going-requires
-going-requires c =
-    subst (λ n. AreLeast n c.as_slice.result.now (λ k m. GoesBelow c.args.image.now m k)) (sym c.class_number.ensures) (subst (λ ns. AreLeast c.loop-class.class ns (λ k m. GoesBelow c.args.image.now m k)) (sym c.as_slice.ensures.value) c.loop-class.invariant)
+going-requires c = subst (λ n. AreLeast n c.as_slice.result.now (λ k m. GoesBelow c.args.image.now m k)) (sym c.class_number.ensures)
+    (subst (λ ns. AreLeast c.loop-class.class ns (λ k m. GoesBelow c.args.image.now m k)) (sym c.as_slice.ensures.value) c.loop-class.invariant)
 
 pub push-requires : goal.push-requires
 push-requires c = omega (arith, c.loop-class.invariant.all, c.loop-class-test.true)

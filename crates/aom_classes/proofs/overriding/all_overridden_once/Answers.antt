@@ -23,5 +23,8 @@ loop-named-preserved c =
 
 pub returns : goal.returns
 returns c =
-    let same = c.as_slice-method-items.ensures ∙ c.methods-methods.ensures.value in
-    (λ _. each_all (λ m e. OverriddenOnce c.args.image.now m) c.args.image.now.methods c.loop-named.named (subst (λ ms. length ms ≤ c.loop-named.named) same c.loop-named-test.false) c.loop-named.invariant, λ _. refl)
+    let same = c.as_slice-method-items.ensures ∙ c.methods-methods.ensures.value in (
+      λ _. each_all (λ m e. OverriddenOnce c.args.image.now m) c.args.image.now.methods c.loop-named.named
+          (subst (λ ms. length ms ≤ c.loop-named.named) same c.loop-named-test.false) c.loop-named.invariant,
+      λ _. refl,
+    )

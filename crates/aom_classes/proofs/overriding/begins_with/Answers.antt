@@ -6,8 +6,8 @@ pub loop-index-init : goal.loop-index-init
 loop-index-init c = λ k lt. absurd (omega arith)
 
 pub returns-then-not-has_argument : goal.returns-then-not-has_argument
-returns-then-not-has_argument c =
-    each_not (λ i t. slice_get c.args.arguments.now i ≡ Some t) _ _ _ c.loop-index-test.true c.index-first-index.is (refused _ c.has_argument.ensures c.if-not-has_argument.true)
+returns-then-not-has_argument c = each_not (λ i t. slice_get c.args.arguments.now i ≡ Some t) _ _ _ c.loop-index-test.true c.index-first-index.is
+    (refused _ c.has_argument.ensures c.if-not-has_argument.true)
 
 pub loop-index-preserved : goal.loop-index-preserved
 loop-index-preserved c =

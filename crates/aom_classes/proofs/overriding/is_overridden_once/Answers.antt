@@ -21,5 +21,8 @@ loop-index-preserved c =
 
 pub returns : goal.returns
 returns c =
-    let same = c.as_slice-method-items.ensures ∙ c.methods-methods.ensures.value in
-    (λ _. each_all (IsOnly c.args.image.now c.args.named) c.args.image.now.methods c.loop-index.index (subst (λ ms. length ms ≤ c.loop-index.index) same c.loop-index-test.false) c.loop-index.invariant, λ _. refl)
+    let same = c.as_slice-method-items.ensures ∙ c.methods-methods.ensures.value in (
+      λ _. each_all (IsOnly c.args.image.now c.args.named) c.args.image.now.methods c.loop-index.index
+          (subst (λ ms. length ms ≤ c.loop-index.index) same c.loop-index-test.false) c.loop-index.invariant,
+      λ _. refl,
+    )

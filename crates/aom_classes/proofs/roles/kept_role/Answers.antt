@@ -19,10 +19,11 @@ pub loop-found-preserved : goal.loop-found-preserved
 loop-found-preserved c =
     let none = sym c.loop-found.invariant.found ∙ no_method c.loop-found.found (c.is_none.ensures ∙ ap not c.loop-found-test.true) in
     record {
-      kept = c.loop-found.invariant.kept ∙ ap (role_by c.args.image.now c.args.role) (keeper_up c.args.image.now c.args.role c.loop-found.here c.in-Some.parent none (sym c.parent_of.ensures ∙ c.in-Some.is));
+      kept = c.loop-found.invariant.kept ∙ ap (role_by c.args.image.now c.args.role)
+          (keeper_up c.args.image.now c.args.role c.loop-found.here c.in-Some.parent none (sym c.parent_of.ensures ∙ c.in-Some.is));
       found = c.own_role-found-in-loop-found.ensures;
     }
 
 pub returns : goal.returns
-returns c =
-    here_kept c.args.image.now c.args.role c.loop-found.here c.loop-found.found c.loop-found.invariant.found (c.is_none.ensures ∙ ap not c.loop-found-test.false) ∙ sym c.loop-found.invariant.kept
+returns c = here_kept c.args.image.now c.args.role c.loop-found.here c.loop-found.found c.loop-found.invariant.found
+    (c.is_none.ensures ∙ ap not c.loop-found-test.false) ∙ sym c.loop-found.invariant.kept
