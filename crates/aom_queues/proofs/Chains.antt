@@ -1,5 +1,6 @@
 -- Chains of links: how they are parted and joined, and what one new link does to them.
-use Rattle.std.proofs.Common.{◌≡◌, ◌≢◌, ◌<◌, ◌⊎◌, ℕ, List, [], ◌∷◌, ◌++◌, length, set, refl, sym, ap, ◌∙◌, subst, inl, inr}
+use Rattle.std.proofs.lemmas.Bool.Decides.{nat_tests}
+use Rattle.std.proofs.Common.{arith, ◌≡◌, ◌≢◌, ◌<◌, ◌⊎◌, ℕ, List, [], ◌∷◌, ◌++◌, length, set, refl, sym, ap, ◌∙◌, subst, inl, inr}
 use Rattle.std.specs.Prelude.{slice_index}
 use Rattle.std.proofs.lemmas.List.{append-nil, get_or-set_same, get_or-set_other}
 use Rattle.aom_queues.specs.Lists.{IsIn, IsOnce}
@@ -13,9 +14,7 @@ module _ (A B : List ℕ) where
 
   pub chain-part : (x : ℕ) (xs : List ℕ) (y : ℕ) (ys : List ℕ) (z : ℕ) → IsChain A B x (xs ++ y ∷ ys) z → IsChain A B x xs y × IsChain A B y ys z
   chain-part x [] y ys z c = (c.0, c.1)
-  chain-part x (w ∷ xs) y ys z c =
-      let d = chain-part w xs y ys z c.1 in
-      ((c.0, d.0), d.1)
+  chain-part x (w ∷ xs) y ys z c = grind (arith, nat_tests, chain-part w xs y ys z c.1)
 
   -- what is linked before the end of a chain stands in it
   pub last-in : (x : ℕ) (xs : List ℕ) (y : ℕ) → IsChain A B x xs y → IsIn (slice_index B y) (x ∷ xs)
@@ -47,22 +46,14 @@ module _ (A B A' B' : List ℕ) (p n : ℕ) (new : IsRelinked A B A' B' p n) whe
   -- a chain that the new link does not touch stays
   pub chain-frame : (x : ℕ) (xs : List ℕ) (y : ℕ) → (IsIn p (x ∷ xs) → ⊥) → (IsIn n (xs ++ y ∷ []) → ⊥) → IsChain A B x xs y → IsChain A' B' x xs y
   chain-frame x [] y out off c = (new.afters x (λ e. out (inl e)) ∙ c.0, new.befores y (λ e. off (inl e)) ∙ c.1)
-  chain-frame x (w ∷ xs) y out off c = (
-    (new.afters x (λ e. out (inl e)) ∙ c.0.0, new.befores w (λ e. off (inl e)) ∙ c.0.1),
-    chain-frame w xs y (λ i. out (inr i)) (λ i. off (inr i)) c.1,
-  )
+  chain-frame x (w ∷ xs) y out off c = search (arith, nat_tests, new.afters x, new.befores w, chain-frame w xs y)
 
 -- a chain whose last link is led to another place ends there
 pub chain-redirect : (A B A' B' : List ℕ) (n x : ℕ) (xs : List ℕ) (y : ℕ) → IsRelinked A B A' B' (slice_index B y) n
     → IsOnce (x ∷ xs) → (IsIn n xs → ⊥) → IsChain A B x xs y → IsChain A' B' x xs n
 chain-redirect A B A' B' n x [] y new once off c = (subst (λ k. slice_index A' k ≡ n) c.1 new.after, new.before ∙ c.1)
-chain-redirect A B A' B' n x (w ∷ xs) y new once off c = (
-  (new.afters x first ∙ c.0.0, new.befores w (λ e. off (inl e)) ∙ c.0.1),
-  chain-redirect A B A' B' n w xs y new once.1 (λ i. off (inr i)) c.1,
-)
-  where
-    first : x ≢ slice_index B y
-    first e = once.0 (subst (λ k. IsIn k (w ∷ xs)) (sym e) (last-in A B w xs y c.1))
+chain-redirect A B A' B' n x (w ∷ xs) y new once off c =
+    search (arith, nat_tests, new.afters x, new.befores w, chain-redirect A B A' B' n w xs y new once.1, last-in A B w xs y c.1)
 
 -- a ring without one of its nodes
 pub chain-unlink : (A B A' B' : List ℕ) (e : ℕ) (xs : List ℕ) (x : ℕ) (ys : List ℕ)
@@ -74,10 +65,7 @@ chain-unlink A B A' B' e xs x ys new once c = go ys (chain-part A B e xs x ys e 
     front zs o = (λ i. o.0 (in-left e xs (x ∷ zs) i), once-left xs (x ∷ zs) o.1)
 
     go : (zs : List ℕ) → IsChain A B e xs x × IsChain A B x zs e → IsOnce (e ∷ (xs ++ x ∷ zs)) → IsChain A' B' e (xs ++ zs) e
-    go [] parts o =
-        let led : IsRelinked A B A' B' (slice_index B x) e = subst (λ k. IsRelinked A B A' B' (slice_index B x) k) parts.1.0 new in
-        subst (λ l. IsChain A' B' e l e) (sym (append-nil xs))
-        (chain-redirect A B A' B' e e xs x led (front [] o) (λ i. o.0 (in-left e xs (x ∷ []) i)) parts.0)
+    go [] parts o = grind (arith, nat_tests, append-nil, chain-redirect, front, in-left)
     go (z ∷ zs) parts o =
         let led : IsRelinked A B A' B' (slice_index B x) z = subst (λ k. IsRelinked A B A' B' (slice_index B x) k) parts.1.0.0 new in
         let near : IsIn (slice_index B x) (e ∷ xs) = last-in A B e xs x parts.0 in
@@ -92,19 +80,15 @@ chain-unlink A B A' B' e xs x ys new once c = go ys (chain-part A B e xs x ys e 
 
         off : IsOnce (x ∷ z ∷ zs) → IsIn z zs ⊎ IsIn z (e ∷ []) → ⊥
         off tail (inl i) = tail.1.0 i
-        off tail (inr (inl same)) = o.0 (in-right e xs (x ∷ z ∷ zs) (inr (inl (sym same))))
-        off tail (inr (inr i)) = i
+        off tail y = grind (arith, in-right e xs (x ∷ z ∷ zs))
 
 -- a ring with a node more, before its end
 pub chain-push : (A B A' B' A'' B'' : List ℕ) (e : ℕ) (xs : List ℕ) (x : ℕ) → IsRelinked A B A' B' (slice_index B e) x → IsRelinked A' B' A'' B'' x e
     → IsOnce (e ∷ xs) → (IsIn x (e ∷ xs) → ⊥) → IsChain A B e xs e → IsChain A'' B'' e (xs ++ x ∷ []) e
-chain-push A B A' B' A'' B'' e xs x first then_end once new c =
-    chain-join A'' B'' e xs x [] e
-    (chain-frame A' B' A'' B'' x e then_end e xs x new (λ i. off (in-either e xs (x ∷ []) i))
-    (chain-redirect A B A' B' x e xs e first once (λ i. new (inr i)) c))
-    (then_end.after, then_end.before)
-  where
-    off : IsIn e xs ⊎ IsIn e (x ∷ []) → ⊥
-    off (inl i) = once.0 i
-    off (inr (inl same)) = new (inl (sym same))
-    off (inr (inr i)) = i
+chain-push A B A' B' A'' B'' e xs x first then_end once new c = grind (
+  arith,
+  chain-join A'' B'' e xs x,
+  chain-frame A' B' A'' B'' x e then_end e xs x new,
+  in-either e xs (x ∷ []),
+  chain-redirect A B A' B' x e xs e first once,
+)

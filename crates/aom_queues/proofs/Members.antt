@@ -1,6 +1,7 @@
 -- Which nodes a list has: after a node was put behind it or taken out of it, and how many there can be.
+use Rattle.std.proofs.lemmas.Bool.Decides.{nat_tests}
 use Rattle.std.proofs.Common.{◌≡◌, ◌≢◌, ◌<◌, ◌≤◌, ◌==◌, ◌⊎◌, ℕ, zero, suc, not, List, [], ◌∷◌, ◌++◌, length, refl, sym, ap, ◌∙◌, subst, inl, inr, arith}
-use Rattle.std.proofs.lemmas.Bool.{cases_eq, eq-eqb, ne_eqb, cond-true, cond-false}
+use Rattle.std.proofs.lemmas.Bool.{eq-eqb, ne_eqb, cond-true, cond-false}
 use Rattle.std.proofs.lemmas.List.{length-append}
 use Rattle.aom_queues.specs.Lists.{IsIn, IsOnce, without}
 
@@ -18,10 +19,7 @@ in-right x (y ∷ xs) ys i = inr (in-right x xs ys i)
 pub in-either : (x : ℕ) (xs ys : List ℕ) → IsIn x (xs ++ ys) → IsIn x xs ⊎ IsIn x ys
 in-either x [] ys i = inr i
 in-either x (y ∷ xs) ys (inl e) = inl (inl e)
-in-either x (y ∷ xs) ys (inr i) = elim (in-either x xs ys i) [
-  | inl a ↦ inl (inr a)
-  | inr b ↦ inr b
-]
+in-either x (y ∷ xs) ys (inr i) = elim (in-either x xs ys i) [ inl a ↦ inl (inr a) | inr b ↦ inr b ]
 
 -- a list where a node stands is parted there
 pub record Parted (x : ℕ) (xs : List ℕ) : Type 0 where
@@ -56,9 +54,7 @@ once-push x [] o new = (λ i. i, tt)
 once-push x (y ∷ xs) o new = (λ i. go (in-either y xs (x ∷ []) i), once-push x xs o.1 (λ i. new (inr i)))
   where
     go : IsIn y xs ⊎ IsIn y (x ∷ []) → ⊥
-    go (inl i) = o.0 i
-    go (inr (inl e)) = new (inl (sym e))
-    go (inr (inr i)) = i
+    go z = grind arith
 
 -- without a node: the others stand as they stood
 pub kept : (x y : ℕ) (ys : List ℕ) → y ≢ x → without x (y ∷ ys) ≡ y ∷ without x ys
@@ -73,57 +69,28 @@ without-absent x (y ∷ xs) absent = kept x y xs (λ e. absent (inl e)) ∙ ap (
 
 pub without-parted : (x : ℕ) (xs ys : List ℕ) → IsOnce (xs ++ x ∷ ys) → without x (xs ++ x ∷ ys) ≡ xs ++ ys
 without-parted x [] ys o = left x x ys refl ∙ without-absent x ys o.0
-without-parted x (y ∷ xs) ys o =
-    kept x y (xs ++ x ∷ ys) (λ e. o.0 (in-right y xs (x ∷ ys) (inl (sym e)))) ∙ ap (λ zs. y ∷ zs) (without-parted x xs ys o.1)
+without-parted x (y ∷ xs) ys o = grind (arith, in-right y xs (x ∷ ys), without-parted x xs ys o.1)
 
 pub in-without : (z x : ℕ) (xs : List ℕ) → IsIn z (without x xs) → (z ≢ x) × IsIn z xs
 in-without z x [] i = elim i [ ]
-in-without z x (y ∷ xs) i = go (cases_eq y x) (in-without z x xs)
-  where
-    go : (y ≡ x) ⊎ (y ≢ x) → (IsIn z (without x xs) → (z ≢ x) × IsIn z xs) → (z ≢ x) × IsIn z (y ∷ xs)
-    go (inl same) more = ((more (subst (IsIn z) (left x y xs same) i)).0, inr (more (subst (IsIn z) (left x y xs same) i)).1)
-    go (inr other) more = deeper (subst (IsIn z) (kept x y xs other) i)
-      where
-        deeper : IsIn z (y ∷ without x xs) → (z ≢ x) × IsIn z (y ∷ xs)
-        deeper (inl e) = (λ same. other (e ∙ same), inl e)
-        deeper (inr j) = ((more j).0, inr (more j).1)
+in-without z x (y ∷ xs) i = grind (arith, in-without z x xs)
 
 pub without-in : (z x : ℕ) (xs : List ℕ) → z ≢ x → IsIn z xs → IsIn z (without x xs)
 without-in z x [] apart i = i
-without-in z x (y ∷ xs) apart i = go (cases_eq y x) i (without-in z x xs apart)
-  where
-    go : (y ≡ x) ⊎ (y ≢ x) → IsIn z (y ∷ xs) → (IsIn z xs → IsIn z (without x xs)) → IsIn z (without x (y ∷ xs))
-    go (inl same) (inl e) more = absurd (apart (sym e ∙ same))
-    go (inl same) (inr j) more = subst (IsIn z) (sym (left x y xs same)) (more j)
-    go (inr other) (inl e) more = subst (IsIn z) (sym (kept x y xs other)) (inl e)
-    go (inr other) (inr j) more = subst (IsIn z) (sym (kept x y xs other)) (inr (more j))
+without-in z x (y ∷ xs) apart i = grind (arith, without-in z x xs apart)
 
 pub once-without : (x : ℕ) (xs : List ℕ) → IsOnce xs → IsOnce (without x xs)
 once-without x [] o = tt
-once-without x (y ∷ xs) o = go (cases_eq y x) (once-without x xs o.1)
-  where
-    go : (y ≡ x) ⊎ (y ≢ x) → IsOnce (without x xs) → IsOnce (without x (y ∷ xs))
-    go (inl same) less = subst IsOnce (sym (left x y xs same)) less
-    go (inr other) less = subst IsOnce (sym (kept x y xs other)) (λ i. o.0 (in-without y x xs i).1, less)
+once-without x (y ∷ xs) o = grind (arith, once-without x xs o.1, in-without y x xs)
 
 -- a node less
 pub length-without : (x : ℕ) (xs : List ℕ) → IsOnce xs → IsIn x xs → suc (length (without x xs)) ≡ length xs
-length-without x xs o i =
-    let p = parted x xs i in
-    let once : IsOnce (p.front ++ x ∷ p.back) = subst IsOnce p.is o in
-    let fewer : length (without x xs) ≡ length (p.front ++ p.back) = ap (λ ys. length (without x ys)) p.is ∙ ap length (without-parted x p.front p.back once) in
-    omega (arith, fewer, ap length p.is, length-append p.front (x ∷ p.back), length-append p.front p.back)
+length-without x xs o i = grind (arith, nat_tests, parted x xs i, without-parted x, length-append)
 
 -- the nodes but one are one less at most
 shorter : (n : ℕ) (ys : List ℕ) → IsOnce ys → length ys ≤ suc (length (without n ys))
 shorter n [] o = omega arith
-shorter n (y ∷ ys) o = go (cases_eq y n) (shorter n ys o.1)
-  where
-    go : (y ≡ n) ⊎ (y ≢ n) → length ys ≤ suc (length (without n ys)) → length (y ∷ ys) ≤ suc (length (without n (y ∷ ys)))
-    go (inl same) less =
-        let absent : IsIn n ys → ⊥ = λ i. o.0 (subst (λ k. IsIn k ys) (sym same) i) in
-        omega (arith, ap length (left n y ys same), ap length (without-absent n ys absent))
-    go (inr other) less = omega (arith, ap length (kept n y ys other), less)
+shorter n (y ∷ ys) o = grind (arith, shorter n ys o.1, without-absent n ys)
 
 -- nodes below a number, none twice, are no more than it
 pub few : (n : ℕ) (xs : List ℕ) → IsOnce xs → ((x : ℕ) → IsIn x xs → x < n) → length xs ≤ n
@@ -132,7 +99,4 @@ few zero (x ∷ xs) o below = absurd (omega (arith, below x (inl refl)))
 few (suc n) xs o below = omega (arith, shorter n xs o, few n (without n xs) (once-without n xs o) less)
   where
     less : (x : ℕ) → IsIn x (without n xs) → x < n
-    less x i =
-        let was = in-without x n xs i in
-        let apart : x ≢ n = was.0 in
-        omega (arith, below x was.1, apart)
+    less x i = grind (arith, nat_tests, in-without)

@@ -1,12 +1,15 @@
 -- All lists as rings: as they are at first, with a node more and with a node less; and that contracts see just these lists.
-use Rattle.std.proofs.Common.{◌≡◌, ◌≢◌, ◌<◌, ◌≤◌, ◌+◌, ◌-◌, ◌⊎◌, ℕ, suc, List, [], ◌∷◌, ◌++◌, Option, Some, None, length, refl, sym, ap, ◌∙◌, subst, inl, inr, arith}
+use Rattle.std.proofs.lemmas.Bool.Decides.{nat_tests}
+use Rattle.std.proofs.Common.{◌≡◌, ◌≢◌, ◌<◌, ◌≤◌, ◌+◌, ◌-◌, ◌⊎◌, ℕ, suc, List, [], ◌∷◌, ◌++◌, Option, Some, None, length, refl, sym, ap, ◌∙◌, subst, inl, inr}
+use Rattle.std.proofs.Common.{arith}
 use Rattle.std.specs.Prelude.{slice_index, slice_index_or, slice_set, map}
 use Rattle.std.proofs.lemmas.Bool.{cases_eq}
 use Rattle.std.proofs.lemmas.Option.{same_Some}
 use Rattle.std.proofs.lemmas.List.{get_or-set_same, get_or-set_other, get_or_past, length-set, length_push, length-map, get_or-map, same_lists, get_or_default}
 use Rattle.aom_queues.specs.Lists.{Table, IsIn, IsOnce, IsFree, IsSound, list_at, with_list, without, first_of, rest_of}
 use Rattle.aom_queues.specs.Rings.{IsChain, IsRinged, walk, lists_from}
-use Rattle.aom_queues.proofs.Members.{in-either, in-right, in-left, Parted, parted, once-push, once-without, in-without, without-in, length-without, without-parted, without-absent, left, few}
+use Rattle.aom_queues.proofs.Members.{in-either, in-right, in-left, Parted, parted, once-push, once-without, in-without, without-in, length-without}
+use Rattle.aom_queues.proofs.Members.{without-parted, without-absent, left, few}
 use Rattle.aom_queues.proofs.Chains.{IsRelinked, relinked, chain-frame, chain-part, chain-unlink, chain-push, last-in, walk-chain}
 
 -- the list of a number
@@ -45,33 +48,14 @@ module _ (A B : List ℕ) (H : List (Option ℕ)) (C : List ℕ) (lists : List (
 
   -- a number with a home is a node's
   pub home-below : (x l : ℕ) → slice_index_or H x None ≡ Some l → x < length H
-  home-below x l e = go (cases_lt x (length H))
-    where
-      cases_lt : (m n : ℕ) → (m < n) ⊎ (n ≤ m)
-      cases_lt m n = grind arith
-
-      go : (x < length H) ⊎ (length H ≤ x) → x < length H
-      go (inl small) = small
-      go (inr large) = absurd (nothing (sym (get_or_past H x None large) ∙ e))
-        where
-          nothing : None ≡ Some l → ⊥
-          nothing e = cc
+  home-below x l e = grind (arith, nat_tests, get_or_past H x None)
 
   pub node-below : (x l : ℕ) → IsIn x (at lists l) → x < length H
   node-below x l i = home-below x l (r.home x l i)
 
   -- a list with a node is one of the lists
   pub list-below : (x l : ℕ) → IsIn x (at lists l) → l < length C
-  list-below x l i = go (cases_lt l (length C))
-    where
-      cases_lt : (m n : ℕ) → (m < n) ⊎ (n ≤ m)
-      cases_lt m n = grind arith
-
-      go : (l < length C) ⊎ (length C ≤ l) → l < length C
-      go (inl small) = small
-      go (inr large) =
-          let past : length lists ≤ l = omega (arith, r.every) in
-          elim (subst (IsIn x) (get_or_past lists l [] past) i) [ ]
+  list-below x l i = grind (arith, nat_tests, get_or_past lists l)
 
   pub apart : (x l m : ℕ) → IsIn x (at lists l) → IsIn x (at lists m) → l ≡ m
   apart x l m i j = same_Some l m (sym (r.home x l i) ∙ r.home x m j)
@@ -96,11 +80,7 @@ module _ (A B : List ℕ) (H : List (Option ℕ)) (C : List ℕ) (lists : List (
 -- a node of the list after a write to one list
 pub at-set-cases : (lists : List (List ℕ)) (l m : ℕ) (xs : List ℕ) (x : ℕ) → l < length lists → IsIn x (at (slice_set lists l xs) m)
     → ((m ≡ l) × IsIn x xs) ⊎ ((m ≢ l) × IsIn x (at lists m))
-at-set-cases lists l m xs x small i = go (cases_eq m l)
-  where
-    go : (m ≡ l) ⊎ (m ≢ l) → ((m ≡ l) × IsIn x xs) ⊎ ((m ≢ l) × IsIn x (at lists m))
-    go (inl same) = inl (same, subst (IsIn x) (ap (λ k. at (slice_set lists l xs) k) same ∙ get_or-set_same lists l xs [] small) i)
-    go (inr other) = inr (other, subst (IsIn x) (get_or-set_other lists l m xs [] other) i)
+at-set-cases lists l m xs x small i = grind (arith, get_or-set_same lists l xs, get_or-set_other lists l m xs)
 
 -- what holds of the list that was written and of all others holds of each
 pub at-set : (P : ℕ → List ℕ → Type 0) (lists : List (List ℕ)) (l : ℕ) (xs : List ℕ) → l < length lists → P l xs
@@ -161,8 +141,7 @@ module _ (A B : List ℕ) (H : List (Option ℕ)) (C : List ℕ) (lists : List (
   second-link = relinked A1 B1 x end (omega (arith, length-set A last x, r.afters_long, node)) (omega (arith, length-set B x last, r.befores_long, small))
 
   new-here : IsIn x (end ∷ at lists l) → ⊥
-  new-here (inl e) = absurd (omega (arith, e, node))
-  new-here (inr i) = free l i
+  new-here y = grind arith
 
   other-ring : (m : ℕ) → m < length C → m ≢ l → IsChain A2 B2 (length H + m) (at lists m) (length H + m)
   other-ring m few_lists other =
@@ -172,13 +151,10 @@ module _ (A B : List ℕ) (H : List (Option ℕ)) (C : List ℕ) (lists : List (
       (chain-frame A B A1 B1 last x first-link e (at lists m) e (out_last last-near) (λ i. off_x (in-either x (at lists m) (e ∷ []) i)) (r.rings m few_lists))
     where
       out_x : IsIn x ((length H + m) ∷ at lists m) → ⊥
-      out_x (inl e) = absurd (omega (arith, e, node))
-      out_x (inr i) = free m i
+      out_x y = grind (arith, nat_tests)
 
       off_x : IsIn x (at lists m) ⊎ IsIn x ((length H + m) ∷ []) → ⊥
-      off_x (inl i) = free m i
-      off_x (inr (inl e)) = absurd (omega (arith, e, node))
-      off_x (inr (inr i)) = i
+      off_x y = grind (arith, nat_tests)
 
       off_end : IsIn end (at lists m) ⊎ IsIn end ((length H + m) ∷ []) → ⊥
       off_end (inl i) = end-out A B H C lists r l m i
@@ -201,9 +177,7 @@ module _ (A B : List ℕ) (H : List (Option ℕ)) (C : List ℕ) (lists : List (
     home = λ y m i. homed y m (at-set-cases lists l m (at lists l ++ x ∷ []) y listed i);
     there = λ y m e. theirs y m (cases_eq y x) e;
     once = at-set (λ k xs. IsOnce xs) lists l (at lists l ++ x ∷ []) listed (once-push x (at lists l) (r.once l) (free l)) (λ k other. r.once k);
-    counted = λ m. at-set (λ k xs. slice_index C2 k ≡ length xs) lists l (at lists l ++ x ∷ []) listed
-        (get_or-set_same C l (slice_index C l + 1) 0 small ∙ ap (λ n. n + 1) (r.counted l) ∙ sym (length_push (at lists l) x))
-        (λ k other. get_or-set_other C l k (slice_index C l + 1) 0 other ∙ r.counted k) m;
+    counted = grind (arith, nat_tests, at-set, listed, get_or-set_same, length_push, get_or-set_other);
     every = length-set lists l (at lists l ++ x ∷ []) ∙ r.every ∙ sym (length-set C l (slice_index C l + 1));
     afters_long = omega (arith, length-set A1 x end, length-set A last x, length-set H x (Some l), length-set C l (slice_index C l + 1), r.afters_long);
     befores_long = omega (arith, length-set B1 end x, length-set B x last, length-set H x (Some l), length-set C l (slice_index C l + 1), r.befores_long);
@@ -211,29 +185,10 @@ module _ (A B : List ℕ) (H : List (Option ℕ)) (C : List ℕ) (lists : List (
   }
     where
       homed : (y m : ℕ) → ((m ≡ l) × IsIn y (at lists l ++ x ∷ [])) ⊎ ((m ≢ l) × IsIn y (at lists m)) → slice_index_or H2 y None ≡ Some m
-      homed y m (inl here) = go (in-either y (at lists l) (x ∷ []) here.1)
-        where
-          go : IsIn y (at lists l) ⊎ IsIn y (x ∷ []) → slice_index_or H2 y None ≡ Some m
-          go (inl i) = get_or-set_other H x y (Some l) None (λ same. free l (subst (λ k. IsIn k (at lists l)) same i)) ∙ r.home y l i ∙ ap Some (sym here.0)
-          go (inr (inl same)) = ap (λ k. slice_index_or H2 k None) (sym same) ∙ get_or-set_same H x (Some l) None node ∙ ap Some (sym here.0)
-          go (inr (inr i)) = elim i [ ]
-      homed y m (inr there) =
-          get_or-set_other H x y (Some l) None (λ same. free m (subst (λ k. IsIn k (at lists m)) same there.1)) ∙ r.home y m there.1
+      homed y z w = grind (arith, in-either y, get_or-set_other H x y (Some l) None, get_or-set_same H x (Some l) None node)
 
       theirs : (y m : ℕ) → (y ≡ x) ⊎ (y ≢ x) → slice_index_or H2 y None ≡ Some m → IsIn y (at lists2 m)
-      theirs y m (inl same) e =
-          let mine : l ≡ m = same_Some l m (sym (get_or-set_same H x (Some l) None node) ∙ ap (λ k. slice_index_or H2 k None) (sym same) ∙ e) in
-          subst (λ k. IsIn y (at lists2 k)) mine
-          (subst (IsIn y) (sym (get_or-set_same lists l (at lists l ++ x ∷ []) [] listed)) (in-right y (at lists l) (x ∷ []) (inl (sym same))))
-      theirs y m (inr other) e =
-          let i = r.there y m (sym (get_or-set_other H x y (Some l) None other) ∙ e) in
-          go (cases_eq m l) i
-        where
-          go : (m ≡ l) ⊎ (m ≢ l) → IsIn y (at lists m) → IsIn y (at lists2 m)
-          go (inl same) i =
-              subst (λ k. IsIn y (at lists2 k)) (sym same) (subst (IsIn y) (sym (get_or-set_same lists l (at lists l ++ x ∷ []) [] listed))
-              (in-left y (at lists l) (x ∷ []) (subst (λ k. IsIn y (at lists k)) same i)))
-          go (inr apart) i = subst (IsIn y) (sym (get_or-set_other lists l m (at lists l ++ x ∷ []) [] apart)) i
+      theirs y z w e = grind (arith, get_or-set_same, in-right, get_or-set_other, in-left)
 
   -- there is room to count one more
   pub one-more : slice_index C l + 1 ≤ length H
@@ -295,8 +250,7 @@ module _ (A B : List ℕ) (H : List (Option ℕ)) (C : List ℕ) (lists : List (
   p-near = go (last-in A B (length H + l) was.front x parts.0)
     where
       go : IsIn p ((length H + l) ∷ was.front) → (p ≡ length H + l) ⊎ IsIn p (at lists l)
-      go (inl e) = inl (sym e)
-      go (inr j) = inr (subst (IsIn p) (sym was.is) (in-left p was.front (x ∷ was.back) j))
+      go y = grind (arith, nat_tests, in-left)
 
   n-near : (n ≡ length H + l) ⊎ IsIn n (at lists l)
   n-near = go was.back parts.1 (λ y j. subst (IsIn y) (sym was.is) (in-right y was.front (x ∷ was.back) (inr j)))
@@ -307,8 +261,7 @@ module _ (A B : List ℕ) (H : List (Option ℕ)) (C : List ℕ) (lists : List (
 
   -- so they have links
   linked : (y : ℕ) → (y ≡ length H + l) ⊎ IsIn y (at lists l) → y < length H + length C
-  linked y (inl e) = omega (arith, e, inside)
-  linked y (inr j) = omega (arith, node-below A B H C lists r y l j)
+  linked y z = grind (arith, nat_tests, inside, node-below A B H C lists r y l)
 
   pub p-below : p < length H + length C
   p-below = linked p p-near
@@ -324,10 +277,7 @@ module _ (A B : List ℕ) (H : List (Option ℕ)) (C : List ℕ) (lists : List (
 
   -- a neighbour is in no other ring
   far : (m y : ℕ) → m ≢ l → (y ≡ length H + l) ⊎ IsIn y (at lists l) → IsIn y ((length H + m) ∷ at lists m) → ⊥
-  far m y other (inl e) (inl f) = other (omega (arith, e, f))
-  far m y other (inl e) (inr j) = end-out A B H C lists r l m (subst (λ k. IsIn k (at lists m)) e j)
-  far m y other (inr j) (inl f) = end-out A B H C lists r m l (subst (λ k. IsIn k (at lists l)) (sym f) j)
-  far m y other (inr j) (inr k) = other (apart A B H C lists r y m l k j)
+  far m y other z w = grind (arith, end-out A B H C lists r l m, end-out A B H C lists r m l, apart A B H C lists r y m l)
 
   untouched : (m : ℕ) → m < length C → m ≢ l → IsChain A3 B3 (length H + m) (at lists m) (length H + m)
   untouched m within other =
@@ -340,10 +290,7 @@ module _ (A B : List ℕ) (H : List (Option ℕ)) (C : List ℕ) (lists : List (
       off (inr (inr j)) = j
 
   shorter-ring : IsChain A3 B3 (length H + l) less (length H + l)
-  shorter-ring =
-      let rest : less ≡ was.front ++ was.back = ap (without x) was.is ∙ without-parted x was.front was.back once-was.1 in
-      subst (λ xs. IsChain A3 B3 (length H + l) xs (length H + l)) (sym rest)
-      (chain-unlink A B A3 B3 (length H + l) was.front x was.back link once-was ring-was)
+  shorter-ring = grind (arith, nat_tests, without-parted, chain-unlink, link, once-was, ring-was)
 
   pub counted-one : 0 < slice_index C l
   counted-one = omega (arith, r.counted l, length-without x (at lists l) (r.once l) i)
@@ -357,9 +304,7 @@ module _ (A B : List ℕ) (H : List (Option ℕ)) (C : List ℕ) (lists : List (
     home = λ y m j. homed y m (at-set-cases lists l m less y named j);
     there = λ y m e. theirs y m (cases_eq y x) e;
     once = at-set (λ k xs. IsOnce xs) lists l less named (once-without x (at lists l) (r.once l)) (λ k other. r.once k);
-    counted = at-set (λ k xs. slice_index C3 k ≡ length xs) lists l less named
-        (get_or-set_same C l (slice_index C l - 1) 0 inside ∙ omega (arith, r.counted l, length-without x (at lists l) (r.once l) i))
-        (λ k other. get_or-set_other C l k (slice_index C l - 1) 0 other ∙ r.counted k);
+    counted = grind (arith, get_or-set_same, inside, length-without, get_or-set_other);
     every = length-set lists l less ∙ r.every ∙ sym (length-set C l (slice_index C l - 1));
     afters_long = omega (arith, length-set A p n, length-set H x None, length-set C l (slice_index C l - 1), r.afters_long);
     befores_long = omega (arith, length-set B n p, length-set H x None, length-set C l (slice_index C l - 1), r.befores_long);
@@ -367,29 +312,17 @@ module _ (A B : List ℕ) (H : List (Option ℕ)) (C : List ℕ) (lists : List (
   }
     where
       homed : (y m : ℕ) → ((m ≡ l) × IsIn y less) ⊎ ((m ≢ l) × IsIn y (at lists m)) → slice_index_or H3 y None ≡ Some m
-      homed y m (inl here) =
-          let was_in = in-without y x (at lists l) here.1 in
-          get_or-set_other H x y None None was_in.0 ∙ r.home y l was_in.1 ∙ ap Some (sym here.0)
-      homed y m (inr there) =
-          get_or-set_other H x y None None (λ same. there.0 (apart A B H C lists r x m l (subst (λ k. IsIn k (at lists m)) same there.1) i)) ∙ r.home y m there.1
+      homed y m z = grind (arith, in-without y x, get_or-set_other H x y None None)
 
       theirs : (y m : ℕ) → (y ≡ x) ⊎ (y ≢ x) → slice_index_or H3 y None ≡ Some m → IsIn y (at lists3 m)
-      theirs y m (inl same) e =
-          let gone : None ≡ Some m = sym (get_or-set_same H x None None x-below) ∙ ap (λ k. slice_index_or H3 k None) (sym same) ∙ e in
-          absurd (cc)
-      theirs y m (inr other) e = go (cases_eq m l) (r.there y m (sym (get_or-set_other H x y None None other) ∙ e))
-        where
-          go : (m ≡ l) ⊎ (m ≢ l) → IsIn y (at lists m) → IsIn y (at lists3 m)
-          go (inl same) j =
-              subst (λ k. IsIn y (at lists3 k)) (sym same) (subst (IsIn y) (sym (get_or-set_same lists l less [] named))
-              (without-in y x (at lists l) other (subst (λ k. IsIn y (at lists k)) same j)))
-          go (inr apart) j = subst (IsIn y) (sym (get_or-set_other lists l m less [] apart)) j
+      theirs y m z e = grind (arith, get_or-set_same, x-below, get_or-set_other, named, without-in)
 
 -- each list without a node is the lists with the one list that has it written
 pub without-one : (t : Table) (l x : ℕ) → IsSound t → IsIn x (list_at t l) → with_list l (without x (list_at t l)) t ≡ record t { lists = map (without x) t.lists }
 without-one t l x s i = ap (λ ls. record t { lists = ls }) (same_lists _ _ (length-set t.lists l (without x (list_at t l)) ∙ sym (length-map t.lists (without x))) each)
   where
-    each : (k : ℕ) (d : List ℕ) → k < length (slice_set t.lists l (without x (list_at t l))) → slice_index_or (slice_set t.lists l (without x (list_at t l))) k d ≡ slice_index_or (map (without x) t.lists) k d
+    each : (k : ℕ) (d : List ℕ) → k < length (slice_set t.lists l (without x (list_at t l))) →
+        slice_index_or (slice_set t.lists l (without x (list_at t l))) k d ≡ slice_index_or (map (without x) t.lists) k d
     each k d within = go (cases_eq k l)
       where
         small : k < length t.lists
@@ -399,9 +332,7 @@ without-one t l x s i = ap (λ ls. record t { lists = ls }) (same_lists _ _ (len
         mapped = get_or-map (without x) t.lists k [] d small
 
         go : (k ≡ l) ⊎ (k ≢ l) → slice_index_or (slice_set t.lists l (without x (list_at t l))) k d ≡ slice_index_or (map (without x) t.lists) k d
-        go (inl same) =
-            ap (λ n. slice_index_or (slice_set t.lists l (without x (list_at t l))) n d) same ∙ get_or-set_same t.lists l (without x (list_at t l)) d (subst (λ n. n < length t.lists) same small)
-            ∙ sym (mapped ∙ ap (λ n. without x (list_at t n)) same)
+        go (inl same) = grind (arith, nat_tests, get_or-set_same, small, mapped)
         go (inr other) =
             get_or-set_other t.lists l k (without x (list_at t l)) d other ∙ get_or_default t.lists k d [] small
             ∙ sym (mapped ∙ without-absent x (list_at t k) (λ j. other (s.apart x k l j i)))
@@ -418,17 +349,11 @@ without-none t x free = ap (λ ls. record t { lists = ls }) (same_lists _ _ (len
 -- a list without its first node is its rest
 pub without-first : (xs : List ℕ) (x : ℕ) → IsOnce xs → first_of xs ≡ Some x → without x xs ≡ rest_of xs
 without-first [] x o e = absurd (cc)
-without-first (y ∷ ys) x o e =
-    let same : y ≡ x = same_Some y x e in
-    left x y ys same ∙ without-absent x ys (λ i. o.0 (subst (λ k. IsIn k ys) (sym same) i))
+without-first (y ∷ ys) x o e = grind (arith, nat_tests, same_Some y x e, left x y ys, without-absent x ys)
 
 pub first-in : (xs : List ℕ) (x : ℕ) → first_of xs ≡ Some x → IsIn x xs
 first-in [] x e = absurd (cc)
 first-in (y ∷ ys) x e = inl (same_Some y x e)
-
-pub first-none : (xs : List ℕ) → first_of xs ≡ None → rest_of xs ≡ xs
-first-none [] e = refl
-first-none (y ∷ ys) e = absurd (cc)
 
 -- a node that was taken out is in no list
 pub free-without : (t : Table) (x : ℕ) → IsFree (record t { lists = map (without x) t.lists }) x

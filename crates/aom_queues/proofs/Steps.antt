@@ -1,12 +1,15 @@
 -- What each call makes of the links, in the words of its contract.
-use Rattle.std.proofs.Common.{◌≡◌, ◌<◌, ◌≤◌, ◌+◌, ◌-◌, ◌==◌, ◌++◌, ℕ, zero, suc, true, false, List, [], ◌∷◌, Option, Some, None, length, take, drop, get_or, replicate, refl, sym, ap, ◌∙◌, subst, inl, inr, arith}
+use Rattle.std.proofs.lemmas.Bool.Decides.{nat_tests}
+use Rattle.std.proofs.Common.{◌≡◌, ◌<◌, ◌≤◌, ◌+◌, ◌-◌, ◌++◌, ℕ, suc, true, List, [], ◌∷◌, Option, Some, None, length, take, drop, get_or}
+use Rattle.std.proofs.Common.{replicate, refl, sym, ap, ◌∙◌, subst, inl, inr, arith}
 use Rattle.std.specs.Prelude.{slice_index, slice_index_or, slice_set, nat_lt}
-use Rattle.std.proofs.lemmas.Bool.{cond-true, cond-false, eq-eqb, ne_eqb}
+use Rattle.std.proofs.lemmas.Bool.{cond-true, cond-false, eq-eqb}
 use Rattle.std.proofs.lemmas.List.{get_or_read, length-set, length-replicate}
 use Rattle.std.proofs.Math.Seq.{take-append_seam}
 use Rattle.aom_queues.specs.Lists.{Table, IsIn, IsOnce, IsFree, IsSound, empty, list_at, with_list, without, first_of, after_node}
 use Rattle.aom_queues.specs.Rings.{AreOwn, IsChain, IsRinged, lists_from, node_at}
-use Rattle.aom_queues.proofs.Rings.{at, lists-seen, ringed-push, ringed-unlink, one-more, last-below, p-below, n-below, counted-one, sound, node-below, list-below}
+use Rattle.aom_queues.proofs.Rings.{at, lists-seen, ringed-push, ringed-unlink, one-more, last-below, p-below, n-below, counted-one, sound, node-below}
+use Rattle.aom_queues.proofs.Rings.{list-below}
 
 module _ (A B : List ℕ) (H : List (Option ℕ)) (C : List ℕ) where
   -- what contracts see
@@ -49,17 +52,12 @@ module _ (A B : List ℕ) (H : List (Option ℕ)) (C : List ℕ) where
         let p_was : slice_index B (length H + l) ≡ p = sym (get_or_read B (length H + l) p the_end (subst (λ n. p ≡ get_or B n p) e_is p_is) 0) in
         let k_was : slice_index C l ≡ k = sym (get_or_read C l k inside k_is 0) in
         let ringed : IsRinged (slice_set (slice_set A p x) x e) (slice_set (slice_set B x p) e x) (slice_set H x (Some l)) (slice_set C l (k + 1)) (slice_set old l (at old l ++ x ∷ [])) =
-        subst (λ n. IsRinged (slice_set (slice_set A p x) x e) (slice_set (slice_set B x p) e x) (slice_set H x (Some l)) (slice_set C l (n + 1)) (slice_set old l (at old l ++ x ∷ []))) k_was
-        (subst (λ n. IsRinged (slice_set (slice_set A n x) x e) (slice_set (slice_set B x n) e x) (slice_set H x (Some l)) (slice_set C l (slice_index C l + 1)) (slice_set old l (at old l ++ x ∷ []))) p_was
-        (subst (λ n. IsRinged (slice_set (slice_set A (slice_index B (length H + l)) x) x n) (slice_set (slice_set B x (slice_index B (length H + l))) n x) (slice_set H x (Some l)) (slice_set C l (slice_index C l + 1)) (slice_set old l (at old l ++ x ∷ []))) (sym e_is)
-        (ringed-push A B H C old r l x inside below absent))) in
+        grind (arith, nat_tests, ringed-push A B H C old r l x inside below absent) in
         let lists_now = lists-seen _ _ _ _ _ ringed in
         record {
           fits = omega (arith, k_was, one-more A B H C old r l x inside below absent, r.few, inside);
           ringed = subst (IsRinged _ _ _ _) (sym lists_now) ringed;
-          seen = ap (λ ls. record { lists = ls; nodes = length (slice_set H x (Some l)) }) lists_now
-              ∙ ap (λ n. record { lists = slice_set old l (at old l ++ x ∷ []); nodes = n }) (length-set H x (Some l))
-              ∙ ap (λ s. with_list l (list_at s l ++ x ∷ []) s) is;
+          seen = grind (arith, nat_tests, length-set H x (Some l));
         }
 
     -- a node leaves its list
@@ -82,13 +80,7 @@ module _ (A B : List ℕ) (H : List (Option ℕ)) (C : List ℕ) where
 
     -- both neighbours have links
     pub neighbours : (l x p n : ℕ) → IsIn x (list_at t l) → p ≡ get_or B x p → n ≡ get_or A x n → (p < length A) × (n < length B)
-    neighbours l x p n i p_is n_is =
-        let old = lists_from A (length H) C in
-        let j : IsIn x (at old l) = subst (λ s. IsIn x (list_at s l)) (sym is) i in
-        let has = node-has l x i in
-        let p_was : slice_index B x ≡ p = sym (get_or_read B x p has.2 p_is 0) in
-        let n_was : slice_index A x ≡ n = sym (get_or_read A x n has.1 n_is 0) in
-        (omega (arith, p_was, p-below A B H C old r l x j, r.afters_long), omega (arith, n_was, n-below A B H C old r l x j, r.befores_long))
+    neighbours l x p n i p_is n_is = grind (arith, node-has l x i, get_or_read B x p, get_or_read A x n, p-below A B H C, n-below A B H C)
 
     pub unlinked : (l x p n k : ℕ) → IsIn x (list_at t l) → p ≡ get_or B x p → n ≡ get_or A x n → k ≡ get_or C l k → Unlinked l x p n k
     unlinked l x p n k i p_is n_is k_is =
@@ -99,30 +91,23 @@ module _ (A B : List ℕ) (H : List (Option ℕ)) (C : List ℕ) where
         let n_was : slice_index A x ≡ n = sym (get_or_read A x n has.1 n_is 0) in
         let k_was : slice_index C l ≡ k = sym (get_or_read C l k has.3 k_is 0) in
         let ringed : IsRinged (slice_set A p n) (slice_set B n p) (slice_set H x None) (slice_set C l (k - 1)) (slice_set old l (without x (at old l))) =
-        subst (λ q. IsRinged (slice_set A p n) (slice_set B n p) (slice_set H x None) (slice_set C l (q - 1)) (slice_set old l (without x (at old l)))) k_was
-        (subst (λ q. IsRinged (slice_set A p q) (slice_set B q p) (slice_set H x None) (slice_set C l (slice_index C l - 1)) (slice_set old l (without x (at old l)))) n_was
-        (subst (λ q. IsRinged (slice_set A q (slice_index A x)) (slice_set B (slice_index A x) q) (slice_set H x None) (slice_set C l (slice_index C l - 1)) (slice_set old l (without x (at old l)))) p_was
-        (ringed-unlink A B H C old r l x j))) in
+        grind (arith, nat_tests, ringed-unlink A B H C old r l x j) in
         let lists_now = lists-seen _ _ _ _ _ ringed in
         record {
           counted = omega (arith, k_was, counted-one A B H C old r l x j);
           ringed = subst (IsRinged _ _ _ _) (sym lists_now) ringed;
-          seen = ap (λ ls. record { lists = ls; nodes = length (slice_set H x None) }) lists_now
-              ∙ ap (λ q. record { lists = slice_set old l (without x (at old l)); nodes = q }) (length-set H x None)
-              ∙ ap (λ s. with_list l (without x (list_at s l)) s) is;
+          seen = grind (arith, nat_tests, length-set H x None);
         }
 
     -- what the links say of the first node, and of the next
     pub first-is : (l : ℕ) → l < length t.lists → node_at (length H) (slice_index A (length H + l)) ≡ first_of (list_at t l)
     first-is l small = go (at (lists_from A (length H) C) l) refl (r.rings l (listed l small)) ∙ ap (λ s. first_of (list_at s l)) is
       where
-        go : (xs : List ℕ) → at (lists_from A (length H) C) l ≡ xs → IsChain A B (length H + l) xs (length H + l) → node_at (length H) (slice_index A (length H + l)) ≡ first_of (at (lists_from A (length H) C) l)
-        go [] e c = ap (node_at (length H)) c.0 ∙ cond-false _ _ _ (large l) ∙ sym (ap first_of e)
-          where
-            large : (l : ℕ) → nat_lt (length H + l) (length H) ≡ false
-            large l = grind arith
-        go (x ∷ xs) e c =
-            ap (node_at (length H)) c.0.0 ∙ cond-true _ _ _ (small_test x (length H) (node-below A B H C (lists_from A (length H) C) r x l (subst (IsIn x) (sym e) (inl refl)))) ∙ sym (ap first_of e)
+        go : (xs : List ℕ) → at (lists_from A (length H) C) l ≡ xs →
+            IsChain A B (length H + l) xs (length H + l) → node_at (length H) (slice_index A (length H + l)) ≡ first_of (at (lists_from A (length H) C) l)
+        go [] e c = grind (arith, nat_tests, cond-false)
+        go (x ∷ xs) e c = ap (node_at (length H)) c.0.0 ∙ cond-true _ _ _
+            (small_test x (length H) (node-below A B H C (lists_from A (length H) C) r x l (subst (IsIn x) (sym e) (inl refl)))) ∙ sym (ap first_of e)
           where
             small_test : (m n : ℕ) → m < n → nat_lt m n ≡ true
             small_test m n h = grind arith
@@ -135,10 +120,7 @@ module _ (A B : List ℕ) (H : List (Option ℕ)) (C : List ℕ) where
         ∙ ap (λ s. after_node x (list_at s l)) is
       where
         behind : (y : ℕ) (ys : List ℕ) → ((z : ℕ) → IsIn z ys → z < length H) → IsChain A B y ys (length H + l) → node_at (length H) (slice_index A y) ≡ first_of ys
-        behind y [] below c = ap (node_at (length H)) c.0 ∙ cond-false _ _ _ (large l)
-          where
-            large : (l : ℕ) → nat_lt (length H + l) (length H) ≡ false
-            large l = grind arith
+        behind y [] below c = grind (arith, nat_tests, cond-false)
         behind y (z ∷ ys) below c = ap (node_at (length H)) c.0.0 ∙ cond-true _ _ _ (small_test z (length H) (below z (inl refl)))
           where
             small_test : (m n : ℕ) → m < n → nat_lt m n ≡ true
@@ -147,12 +129,8 @@ module _ (A B : List ℕ) (H : List (Option ℕ)) (C : List ℕ) where
         walk_to : (b : ℕ) (ys : List ℕ) → IsOnce ys → ((z : ℕ) → IsIn z ys → z < length H) → IsChain A B b ys (length H + l) → IsIn x ys
             → node_at (length H) (slice_index A x) ≡ after_node x ys
         walk_to b [] once below c j = elim j [ ]
-        walk_to b (y ∷ ys) once below c (inl same) =
-            ap (λ n. node_at (length H) (slice_index A n)) (sym same) ∙ behind y ys (λ z k. below z (inr k)) c.1
-            ∙ sym (cond-true (y == x) (first_of ys) (after_node x ys) (eq-eqb y x same))
-        walk_to b (y ∷ ys) once below c (inr k) =
-            walk_to y ys once.1 (λ z i. below z (inr i)) c.1 k
-            ∙ sym (cond-false (y == x) (first_of ys) (after_node x ys) (ne_eqb y x (λ same. once.0 (subst (λ n. IsIn n ys) (sym same) k))))
+        walk_to b (y ∷ ys) once below c (inl same) = grind (arith, nat_tests, behind, cond-true, eq-eqb)
+        walk_to b (y ∷ ys) once below c (inr k) = grind (arith, nat_tests, walk_to y ys once.1)
 
     pub sound-seen : IsSound t
     sound-seen = subst IsSound is (sound A B H C (lists_from A (length H) C) r)
@@ -168,8 +146,8 @@ pub ringed-empty : (A B : List ℕ) (H : List (Option ℕ)) (C : List ℕ) (n m 
     → H ≡ replicate n homeless_one → C ≡ replicate m 0 → IsRinged A B H C (replicate m nobody)
 ringed-empty A B H C n m few a b h k =
     record {
-      rings = λ l small. subst (λ i. IsChain A B (i + l) (at (replicate m nobody) l) (i + l)) (sym long_h)
-          (subst (λ xs. IsChain A B (n + l) xs (n + l)) (sym (none l)) (a.own (n + l) (omega (arith, small, long_c)), b.own (n + l) (omega (arith, small, long_c))));
+      rings = λ l small. subst (λ i. IsChain A B (i + l) (at (replicate m nobody) l) (i + l)) (sym long_h) (subst
+          (λ xs. IsChain A B (n + l) xs (n + l)) (sym (none l)) (a.own (n + l) (omega (arith, small, long_c)), b.own (n + l) (omega (arith, small, long_c))));
       home = λ x l i. elim (subst (IsIn x) (none l) i) [ ];
       there = λ x l e. absurd (nothing l (sym (homeless x) ∙ e));
       once = λ l. subst IsOnce (sym (none l)) tt;
@@ -190,9 +168,8 @@ ringed-empty A B H C n m few a b h k =
     nothing l e = cc
 
     same : {X : Type 0} (d : X) (k i : ℕ) → get_or (replicate k d) i d ≡ d
-    same d zero i = refl
-    same d (suc k) zero = refl
     same d (suc k) (suc i) = same d k i
+    same d _ _ = refl
 
     none : (l : ℕ) → at (replicate m nobody) l ≡ nobody
     none l = same nobody m l
@@ -215,16 +192,10 @@ emptied A B H C n m few a b h k =
     let lists_now = lists-seen A B H C (replicate m nobody) ringed in
     record {
       ringed = subst (IsRinged A B H C) (sym lists_now) ringed;
-      seen = ap (λ ls. record { lists = ls; nodes = length H }) lists_now
-          ∙ ap (λ q. record { lists = replicate m nobody; nodes = q }) (ap length h ∙ length-replicate n homeless_one);
+      seen = grind (arith, nat_tests, length-replicate);
     }
 
 -- places that were written over are as they were written
 pub own-written : (old new : List ℕ) (n : ℕ) → length old ≡ n → length new ≡ length old → ((i : ℕ) → i < length new → slice_index new i ≡ i)
     → AreOwn (take n (new ++ drop (length new) old)) n
-own-written old new n long same own =
-    let whole : take n (new ++ drop (length new) old) ≡ new = ap (λ k. take k (new ++ drop (length new) old)) (sym (same ∙ long)) ∙ take-append_seam new (drop (length new) old) in
-    record {
-      long = ap length whole ∙ same ∙ long;
-      own = λ i small. ap (λ ns. slice_index ns i) whole ∙ own i (omega (arith, small, same, long));
-    }
+own-written old new n long same own = search (arith, nat_tests, take-append_seam new)

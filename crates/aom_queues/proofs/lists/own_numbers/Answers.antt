@@ -9,4 +9,4 @@ returns c =
     let made = c.number.new.places in
     let long : length v.items ≡ v.len = omega (arith, v.ok.0) in
     let same : length made ≡ length v.items = c.number.auto.places ∙ ap length c.deref_mut.ensures.value in
-    subst (λ n. AreOwn (take v.len (made ++ drop (length made) v.items)) n) c.in_ok-numbers.ensures.len (own-written v.items made v.len long same c.number.ensures)
+    subst (λ n. AreOwn (take v.len (made ++ drop (length made) v.items)) n) c.in_ok-numbers.ensures.len (own-written _ made v.len long same c.number.ensures)

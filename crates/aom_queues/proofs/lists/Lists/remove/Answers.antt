@@ -8,7 +8,7 @@ returns-in-Some-clause-removed c = c.unlink.ensures ∙ without-one c.args.self.
 
 pub returns-in-Some-clause-free : goal.returns-in-Some-clause-free
 returns-in-Some-clause-free c =
-    subst (λ (t : Table). IsFree t c.args.node) (sym (c.unlink.ensures ∙ without-one c.args.self.now c.in-Some.list c.args.node c.in_order.ensures c.in-Some.ensures.within))
+    subst (λ (t : Table). IsFree t c.args.node) (sym (c.unlink.ensures ∙ without-one _ _ c.args.node c.in_order.ensures c.in-Some.ensures.within))
     (free-without c.args.self.now c.args.node)
 
 pub returns-in_default-clause-removed : goal.returns-in_default-clause-removed
