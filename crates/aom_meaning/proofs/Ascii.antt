@@ -1,6 +1,6 @@
 -- A word that spells a number, a set or a list is of ASCII.
 use Rattle.std.proofs.lemmas.Bool.Decides.{nat_tests}
-use Rattle.std.proofs.Common.{◌≡◌, ℕ, ◌==◌, Bool, true, not, List, [], ◌∷◌, length, Some, None, Result, Ok, Err, refl, codes, eqb-true, arith}
+use Rattle.std.proofs.Common.{◌≡◌, ℕ, ◌==◌, Bool, true, not, List, [], ◌∷◌, length, Some, None, Ok, refl, codes, eqb-true, arith}
 use Rattle.aom_image.proofs.Given.{some_given, true_given}
 use Rattle.std.specs.Prelude.{if◌then◌else◌}
 use Rattle.std.specs.List.{join_with_byte, list_all}
@@ -9,14 +9,12 @@ use Rattle.std.proofs.lemmas.Bool.{and_parts}
 use Rattle.std.proofs.lemmas.List.Folds.{list_all-append}
 use Rattle.std.proofs.lemmas.List.Splits.{join_with_byte-slice_split}
 use Rattle.std.proofs.lemmas.Slice.Eq.{bytes_eq-Decides}
-use Rattle.aom_text.specs.Numbers.{is_digit, is_digits, number_of, number_within}
+use Rattle.aom_text.specs.Numbers.{is_digit, is_digits, number_of}
 use Rattle.aom_text.specs.Words.{is_plain}
-use Rattle.aom_text.specs.declared.fault.AsmFaultKind.{AsmFaultKind}
-use Rattle.aom_text.specs.declared.fault.AsmFaultKind.TheVariants.{BadNumber}
 use Rattle.aom_text.specs.declared.number.Number.{Number}
 use Rattle.aom_image.specs.declared.method.States.{States}
 use Rattle.aom_syntax.specs.Methods.{cut_letter, letters_of, states_of}
-use Rattle.aom_syntax.specs.Reading.{in_range, number_in}
+use Rattle.aom_syntax.specs.Reading.{number_in}
 use Rattle.aom_syntax.proofs.Within.{passed}
 use Rattle.aom_meaning.proofs.Names.{all_of, digit_is_plain}
 use Rattle.aom_meaning.specs.Meaning.{Elements}
@@ -35,26 +33,16 @@ from_number [] n is = absurd cc
 from_number (b ∷ bs) n is = grind (arith, nat_tests, plain_digits bs, digits_from n, plain_digits (b ∷ bs))
 
 pub plain_number : (low high : ℕ) (w : List ℕ) (n : ℕ) → number_in low high w ≡ Ok n → list_all is_plain w ≡ true
-plain_number low high w n is = some_given (λ o. ◌≡◌ {A = Result ℕ AsmFaultKind} (elim o [ None ↦ Err BadNumber | Some m ↦ in_range (number_within low high m) ]) (Ok n)) (number_of w) is (λ e. cc) (λ m there e. from_number w m there)
+plain_number low high w n is = grind (arith, nat_tests, some_given, from_number w)
 
 -- ---- sets
-
--- what is left behind a letter that is there, or not
-abbrev cut_if : ℕ → List ℕ → List ℕ → Bool → ℕ × List ℕ
-cut_if bit rest whole c = if c then (bit, rest) else (0, whole)
 
 plain_cut : (letter bit : ℕ) (w : List ℕ) → is_plain letter ≡ true → list_all is_plain (cut_letter letter bit w).1 ≡ true → list_all is_plain w ≡ true
 plain_cut letter bit [] is rest = refl
 plain_cut letter bit (b ∷ bs) is rest = grind (arith, nat_tests)
 
 plain_letters : (w : List ℕ) → list_all is_plain (letters_of w).1 ≡ true → list_all is_plain w ≡ true
-plain_letters w rest =
-    let u = cut_letter 117 1 w in
-    let i = cut_letter 105 2 u.1 in
-    let s = cut_letter 115 4 i.1 in
-    let a = cut_letter 97 8 s.1 in
-    let o = cut_letter 111 16 a.1 in
-    plain_cut 117 1 w refl (plain_cut 105 2 u.1 refl (plain_cut 115 4 i.1 refl (plain_cut 97 8 s.1 refl (plain_cut 111 16 a.1 refl (plain_cut 100 32 o.1 refl rest)))))
+plain_letters w rest = grind (arith, nat_tests, plain_cut)
 
 none_left : (w : List ℕ) → (length w == 0) ≡ true → list_all is_plain w ≡ true
 none_left [] is = refl

@@ -12,7 +12,8 @@ use Rattle.aom_image.specs.declared.class.ClassDecl.{ClassDecl}
 use Rattle.aom_image.specs.declared.class.ClassKind.{ClassKind}
 use Rattle.aom_image.specs.declared.class.Provider.{Provider}
 use Rattle.aom_image.specs.declared.method.Thing.{Thing}
-use Rattle.aom_syntax.specs.Classes.{budget, class_statement, declared, fields, flag, kind, listed, optional_parent, provider, said_budget, said_parent, server, thing_of}
+use Rattle.aom_syntax.specs.Classes.{budget, class_statement, declared, fields, flag, kind, listed, optional_parent, provider, said_budget, said_parent}
+use Rattle.aom_syntax.specs.Classes.{server, thing_of}
 use Rattle.aom_syntax.specs.Keywords.{keyword_text}
 use Rattle.aom_syntax.specs.Names.{place_of}
 use Rattle.aom_syntax.specs.Operands.{class}
@@ -20,10 +21,12 @@ use Rattle.aom_syntax.specs.Reading.{Reading, any_keyword, failing, giving, keyw
 use Rattle.aom_syntax.specs.declared.keyword.Keyword.{Keyword}
 use Rattle.aom_syntax.specs.declared.scope.Scope.{Scope}
 use Rattle.aom_asm.proofs.Counting.{begins_with}
-use Rattle.aom_meaning.proofs.Readings.{Takes, Whole, done, first, first_two, gives, in_turn, last, made, takes_any_keyword, takes_keyword, takes_flag, took_same}
+use Rattle.aom_meaning.proofs.Readings.{Takes, Whole, done, first, first_two, gives, in_turn, last, made, takes_any_keyword, takes_keyword, takes_flag}
+use Rattle.aom_meaning.proofs.Readings.{took_same}
 use Rattle.aom_meaning.specs.Meaning.{BudgetMeans, ClassMeans, IsBudget, IsList, IsNumber, IsThing, KindMeans, Names, ParentMeans, ProviderMeans, SaidOr}
 use Rattle.aom_meaning.specs.Source.{ClassText, KindText, ProviderText, class_words, kind_words, part, provider_words}
-use Rattle.aom_meaning.proofs.Pieces.{Leaves, NotNext, Part, Took, is_not, is_there, none_left, not_last, not_part, reads_part, saw, saw_keyword, saw_part, saw_used, take_it, takes_seen, then_reads}
+use Rattle.aom_meaning.proofs.Pieces.{Leaves, NotNext, Part, Took, is_not, is_there, none_left, not_last, not_part, reads_part, saw, saw_keyword, saw_part}
+use Rattle.aom_meaning.proofs.Pieces.{saw_used, take_it, takes_seen, then_reads}
 use Rattle.aom_meaning.proofs.Declared.{reads_mark, saw_declared, saw_mark, takes_declared}
 use Rattle.aom_meaning.proofs.Headers.{number_reads}
 use Rattle.aom_meaning.proofs.Sound.{Sound, giving_sound, next_sound}
@@ -102,11 +105,13 @@ module _ (names : Names) (kinds_before : List ClassDecl) (natives servers : ℕ)
         means = (s.numbered, n_said.says);
       }))))
 
-  if_few : (version : Version) (b : Bool) (vs : List (List ℕ)) → Sound (if b then server (told names kinds_before) else failing LimitPassed) vs (λ K rest. KindSays version (keyword_text k.Server ∷ vs) K rest)
+  if_few : (version : Version) (b : Bool) (vs : List (List ℕ)) →
+      Sound (if b then server (told names kinds_before) else failing LimitPassed) vs (λ K rest. KindSays version (keyword_text k.Server ∷ vs) K rest)
   if_few version true vs = server_sound version vs
   if_few version false vs = record { each = λ p rest is. cc }
 
-  kind_sound : (version : Version) (key : Keyword) (vs : List (List ℕ)) → Sound (kind (told names kinds_before) version natives servers key) vs (λ K rest. KindSays version (keyword_text key ∷ vs) K rest)
+  kind_sound : (version : Version) (key : Keyword) (vs : List (List ℕ)) →
+      Sound (kind (told names kinds_before) version natives servers key) vs (λ K rest. KindSays version (keyword_text key ∷ vs) K rest)
   kind_sound version k.Plain vs = giving_sound _ kinds.Plain vs (record { said = source.plain; words = refl; means = tt })
   kind_sound version k.Session vs = giving_sound _ kinds.Session vs (record { said = source.session; words = refl; means = tt })
   kind_sound version k.Active vs =
@@ -128,8 +133,8 @@ module _ (names : Names) (kinds_before : List ClassDecl) (natives servers : ℕ)
   abbrev found_parent : Option ℕ → List (List ℕ) → Option ℕ × List (List ℕ)
   found_parent parent ws = (parent, ws)
 
-  named_sound : (kind : ClassKind) (ws vs : List (List ℕ)) → ws ≡ keyword_text k.From ∷ vs → (b : Bool) → may_descend kind ≡ b
-      → Sound (if b then next (class (told names kinds_before)) (λ c. giving (Some c)) else failing BadShape) vs (λ parent rest. ParentSays versions.Two kind ws parent rest)
+  named_sound : (kind : ClassKind) (ws vs : List (List ℕ)) → ws ≡ keyword_text k.From ∷ vs → (b : Bool) → may_descend kind ≡ b → Sound (if b then next
+      (class (told names kinds_before)) (λ c. giving (Some c)) else failing BadShape) vs (λ parent rest. ParentSays versions.Two kind ws parent rest)
   named_sound kind ws vs words true may =
       let Q = λ (parent : Option ℕ) (rest : List (List ℕ)). ParentSays versions.Two kind ws parent rest in
       next_sound Q (class (told names kinds_before)) _ vs (λ c us read.
@@ -142,14 +147,14 @@ module _ (names : Names) (kinds_before : List ClassDecl) (natives servers : ℕ)
   said_parent_sound versions.One kind ws vs words = record { each = λ p rest is. cc }
   said_parent_sound versions.Two kind ws vs words = named_sound kind ws vs words (may_descend kind) refl
 
-  parent_says : (version : Version) (kind : ClassKind) (ws : List (List ℕ)) (parent : Option ℕ) (rest : List (List ℕ)) → optional_parent (told names kinds_before) version kind ws ≡ Ok (parent, rest)
-      → ParentSays version kind ws parent rest
+  parent_says : (version : Version) (kind : ClassKind) (ws : List (List ℕ)) (parent : Option ℕ) (rest : List (List ℕ)) →
+      optional_parent (told names kinds_before) version kind ws ≡ Ok (parent, rest) → ParentSays version kind ws parent rest
   parent_says version kind ws parent rest is = go (take_it k.From ws)
     where
       go : Took k.From ws → ParentSays version kind ws parent rest
-      go (is_there vs words there) = (said_parent_sound version kind ws vs words).each parent rest (sym (ap (λ p. if p.0 then said_parent (told names kinds_before) version kind p.1 else Ok (None, p.1)) there) ∙ is)
+      go (is_there vs words there) = (said_parent_sound version kind ws vs words).each parent rest (grind arith)
       go (is_not there) =
-          let same = ok_is (found_parent None ws) (parent, rest) (sym (ap (λ p. if p.0 then said_parent (told names kinds_before) version kind p.1 else Ok (None, p.1)) there) ∙ is) in
+          let same = ok_is (found_parent None ws) (parent, rest) (sym (grind arith) ∙ is) in
           record { said = None; words = ap (λ p. p.1) same; says = subst (ParentMeans names version kind None) (ap (λ p. p.0) same) tt }
 
   record BudgetSays (dispatched : Bool) (ws : List (List ℕ)) (n : ℕ) : Type 0 where
@@ -177,8 +182,8 @@ module _ (names : Names) (kinds_before : List ClassDecl) (natives servers : ℕ)
       let Q = λ (n : ℕ) (rest : List (List ℕ)). BudgetSays false ws n in
       next_sound Q (nothing_more (not owns)) _ ws (λ u rest r. giving_sound Q 0 rest (record { said = None; words = (none_left (not owns) ws u rest r).0; means = refl }))
 
-  owns_says : (owns : Bool) (ws vs : List (List ℕ)) (list : List Thing) (rest : List (List ℕ)) → flag k.Own ws ≡ Ok (owns, vs) → fields (told names kinds_before) owns vs ≡ Ok (list, rest)
-      → Part k.Own (IsList 8 (IsThing names)) [] ws list rest
+  owns_says : (owns : Bool) (ws vs : List (List ℕ)) (list : List Thing) (rest : List (List ℕ)) →
+      flag k.Own ws ≡ Ok (owns, vs) → fields (told names kinds_before) owns vs ≡ Ok (list, rest) → Part k.Own (IsList 8 (IsThing names)) [] ws list rest
   owns_says false ws vs list rest marked read =
       let same : unowned vs ≡ (list, rest) = ok_is (unowned vs) (list, rest) read in
       record { said = None; words = saw_mark k.Own ws false vs marked ∙ ap (λ p. p.1) same; says = sym (ap (λ p. p.0) same) }
@@ -226,14 +231,12 @@ module _ (names : Names) (kinds_before : List ClassDecl) (natives servers : ℕ)
 -- ---- what is read
 
 module _ {names : Names} {scope : Scope} (looks : LooksUp names scope) where
-  own_reads : {Y : Type 0} (g : Bool → List Thing → Reading Y) (said : Option (List ℕ)) (list : List Thing) (rest : List (List ℕ)) (y : Y) → SaidOr (IsList 8 (IsThing names)) [] said list
-      → NotNext k.Own rest
-      → ((owns : Bool) → Whole (g owns list) rest y) → Whole (next (flag k.Own) (λ owns. next (fields scope owns) (g owns))) (part k.Own said ++ rest) y
-  own_reads g None list rest y says other later =
-      let empty : Whole (g false []) rest y = subst (λ l. Whole (g false l) rest y) says (later false) in
-      then_reads (λ owns. next (fields scope owns) (g owns)) (reads_mark k.Own false rest other) (then_reads {r = fields scope false} (g false) (record { reads = refl }) empty)
-  own_reads g (Some w) list rest y says other later =
-      first (λ owns. next (fields scope owns) (g owns)) (takes_flag k.Own) (first (g true) (takes_seen (list_reads 8 (thing_of scope) (IsThing names) (thing_reads looks) w list says)) (later true))
+  own_reads : {Y : Type 0} (g : Bool → List Thing → Reading Y) (said : Option (List ℕ)) (list : List Thing) (rest : List (List ℕ)) (y : Y) →
+      SaidOr (IsList 8 (IsThing names)) [] said list → NotNext k.Own rest →
+      ((owns : Bool) → Whole (g owns list) rest y) → Whole (next (flag k.Own) (λ owns. next (fields scope owns) (g owns))) (part k.Own said ++ rest) y
+  own_reads g None list rest y says other later = search (arith, nat_tests, Whole, says, then_reads, reads_mark)
+  own_reads g (Some w) list rest y says other later = first (λ owns. next (fields scope owns) (g owns))
+      (takes_flag k.Own) (first (g true) (takes_seen (list_reads 8 (thing_of scope) (IsThing names) (thing_reads looks) w list says)) (later true))
 
   module _ (version : Version) (natives servers : ℕ) where
     takes_provider : (said : ProviderText) (p : Provider) → ProviderMeans version natives said p → Takes (next any_keyword (provider version natives)) (provider_words said) p
@@ -242,9 +245,7 @@ module _ {names : Names} {scope : Scope} (looks : LooksUp names scope) where
     takes_provider (source.by_native w) (providers.Native n) means = in_turn _ (takes_any_keyword k.Native) (in_turn _ (takes_seen (number_reads 0 15 w n means.0)) (record {
       reads = λ rest. ap (λ b. (if b then giving (providers.Native n) else failing LimitPassed) rest) (lt-ltb n natives means.1);
     }))
-    takes_provider source.by_token providers.Token means = in_turn _ (takes_any_keyword k.Token) (record {
-      reads = λ rest. ap (λ b. (if b then giving providers.Token else failing BadShape) rest) means;
-    })
+    takes_provider source.by_token providers.Token means = search (arith, nat_tests, in_turn, takes_any_keyword, means)
     takes_provider said p means = absurd means
 
     takes_kind : (said : KindText) (K : ClassKind) → KindMeans names version natives said K → (is_server_kind K ≡ true → servers < 8)
@@ -252,19 +253,18 @@ module _ {names : Names} {scope : Scope} (looks : LooksUp names scope) where
     takes_kind source.plain kinds.Plain means few = in_turn _ (takes_any_keyword k.Plain) (gives _)
     takes_kind source.session kinds.Session means few = in_turn _ (takes_any_keyword k.Session) (gives _)
     takes_kind (source.active said) (kinds.Active p) means few = in_turn _ (takes_any_keyword k.Active) (made any_keyword (provider version natives) kinds.Active (takes_provider said p means))
-    takes_kind (source.server class most) (kinds.Server sessions of_class) means few = in_turn _ (takes_any_keyword k.Server) (record {
-      reads = grind (
-        arith,
-        nat_tests,
-        lt-ltb servers 8,
-        in_turn,
-        takes_class looks class of_class means.0,
-        takes_keyword,
-        takes_seen (number_reads 1 64 most sessions means.1),
-        number_reads 1 64 most sessions means.1,
-        gives (kinds.Server sessions of_class),
-      );
-    })
+    takes_kind (source.server class most) (kinds.Server sessions of_class) means few = search (
+      arith,
+      nat_tests,
+      in_turn,
+      takes_any_keyword,
+      lt-ltb servers 8,
+      takes_class looks class of_class means.0,
+      takes_keyword,
+      takes_seen (number_reads 1 64 most sessions means.1),
+      number_reads 1 64 most sessions means.1,
+      gives (kinds.Server sessions of_class),
+    )
     takes_kind said K means few = absurd means
 
     said_reads : (w : List ℕ) (n : ℕ) → IsBudget w n → Whole said_budget (keyword_text k.Budget ∷ w ∷ []) n
@@ -286,17 +286,14 @@ module _ {names : Names} {scope : Scope} (looks : LooksUp names scope) where
     said_parent_reads : (v : Version) (K : ClassKind) (w : List ℕ) (c : ℕ) → ParentMeans names v K (Some w) (Some c) → (ws : List (List ℕ)) → said_parent scope v K (w ∷ ws) ≡ Ok (Some c, ws)
     said_parent_reads x y w c means ws = grind (arith, nat_tests, in_turn, takes_class looks w c means.2, gives (Some c))
 
-    parent_reads : (K : ClassKind) (said : Option (List ℕ)) (parent : Option ℕ) (ws : List (List ℕ)) → ParentMeans names version K said parent → NotNext k.From ws
-        → Leaves (optional_parent scope version K) (part k.From said ++ ws) parent ws
-    parent_reads K None None ws means other = record { reads = ap (λ p. if p.0 then said_parent scope version K p.1 else Ok (None, p.1)) other.left }
-    parent_reads K (Some w) (Some c) ws means other = record {
-      reads = ap (λ p. if p.0 then said_parent scope version K p.1 else Ok (None, p.1)) (took_same k.From (w ∷ ws)) ∙ said_parent_reads version K w c means ws;
-    }
-    parent_reads K said parent ws means other = absurd means
+    parent_reads : (K : ClassKind) (said : Option (List ℕ)) (parent : Option ℕ) (ws : List (List ℕ)) →
+        ParentMeans names version K said parent → NotNext k.From ws → Leaves (optional_parent scope version K) (part k.From said ++ ws) parent ws
+    parent_reads x said parent ws means other = grind (arith, nat_tests, took_same, said_parent_reads, means)
 
     -- what stands behind the keyword
-    pub class_reads : (place : ℕ) (t : ClassText) (c : ClassDecl) → ClassMeans names version natives t c → place_of t.name scope.classes ≡ Some place → (is_server c ≡ true → servers < 8)
-        → Whole (class_statement scope version natives place servers) (t.name ∷ (kind_words t.kind ++ (part k.From t.parent ++ (part k.Words t.words ++ (part k.Own t.own ++ part k.Budget t.budget))))) c
+    pub class_reads : (place : ℕ) (t : ClassText) (c : ClassDecl) → ClassMeans names version natives t c →
+        place_of t.name scope.classes ≡ Some place → (is_server c ≡ true → servers < 8) → Whole (class_statement scope version natives place servers)
+        (t.name ∷ (kind_words t.kind ++ (part k.From t.parent ++ (part k.Words t.words ++ (part k.Own t.own ++ part k.Budget t.budget))))) c
     class_reads place t c means placed few =
         let budget_words = part k.Budget t.budget in
         let own_words = part k.Own t.own ++ budget_words in

@@ -1,6 +1,6 @@
 -- The statement that declares a class reads back.
 use Rattle.std.proofs.lemmas.Bool.Decides.{nat_tests}
-use Rattle.std.proofs.Common.{◌≡◌, ℕ, ◌<◌, ◌≤◌, Bool, true, List, [], ◌∷◌, ◌++◌, length, Ok, refl, ◌||◌, eqb, arith, Option, None, Some}
+use Rattle.std.proofs.Common.{◌≡◌, ℕ, ◌<◌, ◌≤◌, Bool, true, List, [], ◌∷◌, ◌++◌, length, Ok, refl, ◌||◌, eqb, arith, Option, Some}
 use Rattle.std.specs.Prelude.{◌&&◌, ◌^◌, decimal, nat_le, not}
 use Rattle.std.proofs.lemmas.Bool.{and_parts, lt-ltb}
 use Rattle.aom_text.specs.Names.{has_name_form, is_letter, is_reserved}
@@ -11,7 +11,8 @@ use Rattle.aom_image.specs.declared.class.ClassKind.{ClassKind}
 use Rattle.aom_image.specs.declared.class.Provider.{Provider}
 use Rattle.aom_instructions.specs.declared.version.Version.{Version}
 use Rattle.aom_image.specs.declared.method.Thing.{Thing}
-use Rattle.aom_syntax.specs.Classes.{budget, class_of, class_statement, fields, flag, kind, optional_parent, provider, said_budget, said_parent, thing, thing_of}
+use Rattle.aom_syntax.specs.Classes.{budget, class_of, class_statement, fields, flag, kind, optional_parent, provider, said_budget, said_parent, thing}
+use Rattle.aom_syntax.specs.Classes.{thing_of}
 use Rattle.aom_syntax.specs.Keywords.{keyword_text}
 use Rattle.aom_syntax.specs.Reading.{Reading, any_keyword, giving, next, optional_number}
 use Rattle.aom_syntax.specs.declared.keyword.Keyword.TheVariants as k
@@ -23,11 +24,12 @@ use Rattle.aom_meaning.specs.ReadbackLaws.{ClassesReadBack}
 use Rattle.aom_meaning.proofs.Lists.{Element, plain_form, takes_list}
 use Rattle.aom_meaning.proofs.Names.{lettered, name_lettered}
 use Rattle.aom_meaning.proofs.OperandsBack.{takes_class}
-use Rattle.aom_meaning.proofs.Readings.{Takes, Whole, done, first, first_two, gives, in_turn, last, made, reads_on, sees, takes_any_keyword, takes_declared, takes_flag, takes_keyword, takes_number, takes_optional, takes_word, took_same}
+use Rattle.aom_meaning.proofs.Readings.{Takes, Whole, done, first, first_two, gives, in_turn, last, made, reads_on, sees, takes_any_keyword, takes_declared}
+use Rattle.aom_meaning.proofs.Readings.{takes_flag, takes_keyword, takes_number, takes_optional, takes_word, took_same}
 
 pub name_form : (letter n : ℕ) → n < 1024 → is_letter letter ≡ true → has_name_form (lettered letter n) ≡ true
-name_form letter n few is =
-    let whole = and_parts (has_name_form (lettered letter n) && nat_le (length (lettered letter n)) 32) (not (is_reserved (lettered letter n))) (name_lettered letter n is (omega arith)) in
+name_form letter n few is = let whole = and_parts (has_name_form (lettered letter n) && nat_le (length (lettered letter n)) 32)
+    (not (is_reserved (lettered letter n))) (name_lettered letter n is (omega arith)) in
     (and_parts (has_name_form (lettered letter n)) (nat_le (length (lettered letter n)) 32) whole.0).0
 
 module _ {classes methods : ℕ} {scope : Scope} (names : HasNames classes methods scope) where
@@ -50,8 +52,7 @@ module _ {classes methods : ℕ} {scope : Scope} (names : HasNames classes metho
   -- a parent stands before the word of words
   parent_before : (version : Version) (K : ClassKind) (parent : Option ℕ) → ParentFits version classes K parent → (ws : List (List ℕ))
       → optional_parent scope version K (class_after k.From parent ++ keyword_text k.Words ∷ ws) ≡ Ok (parent, keyword_text k.Words ∷ ws)
-  parent_before version K None fits ws = refl
-  parent_before version K (Some c) fits ws = grind (arith, nat_tests, took_same, said_reads version K c fits)
+  parent_before version x y fits ws = grind (arith, nat_tests, took_same, said_reads)
 
   -- ---- kinds
 
@@ -60,24 +61,13 @@ module _ {classes methods : ℕ} {scope : Scope} (names : HasNames classes metho
     takes_provider x fits = grind (arith, nat_tests, in_turn, takes_any_keyword, gives, takes_number 0 15, lt-ltb)
 
     takes_kind : (K : ClassKind) → KindFits version classes natives K → (is_server_kind K ≡ true → servers < 8) → Takes (next any_keyword (kind scope version natives servers)) (kind_words K) K
-    takes_kind x fits few = grind (
-      arith,
-      nat_tests,
-      in_turn,
-      takes_any_keyword,
-      gives,
-      made,
-      takes_provider,
-      lt-ltb servers 8,
-      takes_class names,
-      takes_keyword,
-      takes_number 1 64,
-    )
+    takes_kind x fits few =
+        grind (arith, nat_tests, in_turn, takes_any_keyword, gives, made, takes_provider, lt-ltb servers 8, takes_class names, takes_keyword, takes_number 1 64)
 
     -- ---- the statement
 
     whole_said : (n : ℕ) → n < 2 ^ 32 → Whole said_budget (keyword_text k.Budget ∷ decimal n ∷ []) n
-    whole_said n fits = first _ (takes_keyword k.Budget) (first _ (takes_number 0 4294967295 n (omega arith) (omega arith) (omega arith)) (record { reads = refl }))
+    whole_said n fits = search (arith, nat_tests, first, takes_keyword, takes_number 0 4294967295 n)
 
     whole_budget : (dispatched : Bool) (n : ℕ) → n < 2 ^ 32 → (dispatched || eqb n 0) ≡ true → Whole (budget true dispatched) (budget_words dispatched n) n
     whole_budget x n fits declared = grind (arith, nat_tests, whole_said n fits, Whole)
@@ -104,16 +94,15 @@ module _ {classes methods : ℕ} {scope : Scope} (names : HasNames classes metho
 
     whole_parent : (c : ClassDecl) → ClassFits version classes natives c → ParentFits version classes c.kind c.parent
         → Whole (behind_kind c.kind) (class_after k.From c.parent ++ (field_words c ++ budget_words (is_dispatched c.kind) c.budget)) c
-    whole_parent c fits parent = record {
-      reads = grind (arith, nat_tests, reads_on, parent_before version c.kind c.parent parent, whole_rest c fits);
-    }
+    whole_parent c fits parent = record { reads = grind (arith, nat_tests, reads_on, parent_before version c.kind c.parent parent, whole_rest c fits) }
 
-    whole_class : (place : ℕ) (c : ClassDecl) → place < classes → ClassFits version classes natives c → ParentFits version classes c.kind c.parent → (is_server c ≡ true → servers < 8)
-        → Whole (class_statement scope version natives place servers) (others_of (class_words place c)) c
+    whole_class : (place : ℕ) (c : ClassDecl) → place < classes → ClassFits version classes natives c → ParentFits version classes c.kind c.parent →
+        (is_server c ≡ true → servers < 8) → Whole (class_statement scope version natives place servers) (others_of (class_words place c)) c
     whole_class place c there fits parent few =
         let few_classes = names.few_classes in
         first _ (takes_declared 99 place scope.classes refl (omega arith) (names.class place there)) (
         first_two any_keyword (kind scope version natives servers) behind_kind (takes_kind c.kind fits.kind few) (whole_parent c fits parent))
 
 pub class_statement_reads : ClassesReadBack
-class_statement_reads classes methods scope names version natives servers place c few_natives there fits parent few = (whole_class names version natives servers few_natives place c there fits parent few).reads
+class_statement_reads classes methods scope names version natives servers place c few_natives there fits parent few =
+    (whole_class names version natives servers few_natives place c there fits parent few).reads

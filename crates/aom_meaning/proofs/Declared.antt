@@ -1,13 +1,13 @@
 -- A name that is declared is read at its place, and the words of the language behind it.
 use Rattle.std.proofs.lemmas.Bool.Decides.{nat_tests}
-use Rattle.std.proofs.Common.{arith, ◌≡◌, ℕ, Bool, true, false, List, [], ◌∷◌, ◌++◌, Some, Ok, Err, refl, sym, ap, ◌∙◌}
+use Rattle.std.proofs.Common.{arith, ◌≡◌, ℕ, Bool, true, List, [], ◌∷◌, ◌++◌, Some, Ok, Err, refl, ap, ◌∙◌}
 use Rattle.std.specs.Prelude.{if◌then◌else◌}
 use Rattle.std.proofs.lemmas.Bool.{eq-eqb}
 use Rattle.aom_text.specs.Names.{is_name}
 use Rattle.aom_text.specs.declared.fault.AsmFaultKind.TheVariants.{DoubleName}
 use Rattle.aom_syntax.specs.Classes.{declared, declared_at, flag, is_at}
 use Rattle.aom_syntax.specs.Names.{place_of}
-use Rattle.aom_syntax.specs.Reading.{◌>>=◌, as_name, name, took}
+use Rattle.aom_syntax.specs.Reading.{◌>>=◌, as_name, name}
 use Rattle.aom_syntax.specs.declared.keyword.Keyword.{Keyword}
 use Rattle.aom_syntax.proofs.RangedNames.{at_place}
 use Rattle.aom_syntax.proofs.Within.{ok_is, passed, steps}
@@ -50,12 +50,8 @@ pub saw_mark : (key : Keyword) (ws : List (List ℕ)) (b : Bool) (rest : List (L
 saw_mark key ws b rest is = go (take_it key ws)
   where
     go : Took key ws → ws ≡ mark key b ++ rest
-    go (is_there vs words there) =
-        let same : pair true vs ≡ (b, rest) = sym there ∙ ok_is (took key ws) (b, rest) is in
-        words ∙ ap (λ p. mark key p.0 ++ p.1) same
-    go (is_not there) =
-        let same : pair false ws ≡ (b, rest) = sym there ∙ ok_is (took key ws) (b, rest) is in
-        ap (λ p. mark key p.0 ++ p.1) same
+    go (is_there vs words there) = grind (arith, nat_tests, pair, ok_is, words)
+    go (is_not there) = grind (arith, nat_tests, pair, ok_is)
 
 pub reads_mark : (key : Keyword) (b : Bool) (rest : List (List ℕ)) → NotNext key rest → Leaves (flag key) (mark key b ++ rest) b rest
 reads_mark key x rest other = grind (arith, nat_tests, took_same key rest)

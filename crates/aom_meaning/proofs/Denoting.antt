@@ -14,15 +14,14 @@ use Rattle.aom_image.specs.declared.class.ClassDecl.{ClassDecl}
 use Rattle.aom_image.specs.declared.image.Header.{Header}
 use Rattle.aom_instructions.specs.declared.version.Version.{Version}
 use Rattle.aom_image.specs.declared.method.Method.{Method}
-use Rattle.aom_syntax.specs.Reading.{◌>>=◌}
 use Rattle.aom_asm.specs.Body.{Program}
-use Rattle.aom_asm.specs.Denoted.{and_then, at_line, denoted, image_of, last_line_of, opened, read_program, read_rest, read_statements, scope_of}
+use Rattle.aom_asm.specs.Denoted.{and_then, denoted, image_of, last_line_of, read_program, read_rest, read_statements, scope_of}
 use Rattle.aom_asm.proofs.Images.{reads_well}
 use Rattle.aom_asm.proofs.Steps.{steps_then}
 use Rattle.aom_meaning.specs.Naming.{heading_of}
 use Rattle.aom_meaning.specs.Texts.{all_words}
 use Rattle.aom_syntax.proofs.Within.{ok_is, passed}
-use Rattle.aom_meaning.proofs.Following.{Goes, first_of}
+use Rattle.aom_meaning.proofs.Following.{Goes}
 use Rattle.aom_asm.proofs.WellRead.{class_bytes, class_sizes, spelled}
 use Rattle.aom_meaning.proofs.Parts.{read_so_far}
 use Rattle.aom_meaning.proofs.WholesBack.{none_left}
@@ -61,7 +60,8 @@ record Others (names : Names) (version : Version) (kinds : List ClassDecl) (ts :
   count : length others ≡ length ms
   bytes : sum_by (spelled version) others ≡ sum_by (spelled version) ms
 
-other_methods : (names : Names) (version : Version) (kinds others : List ClassDecl) (ts : List MethodText) (ms : List Method) → Pairs (MethodMeans names version true kinds) ts ms → Others names version others ts ms
+other_methods : (names : Names) (version : Version) (kinds others : List ClassDecl) (ts : List MethodText) (ms : List Method) →
+    Pairs (MethodMeans names version true kinds) ts ms → Others names version others ts ms
 other_methods names version kinds others _ _ no_pair = record { others = []; means = tt; count = refl; bytes = refl }
 other_methods names version kinds others _ _ (a_pair t ts m ms one more) =
     let b = beside_others names version kinds others t.heading (heading_of m) one.heading in
@@ -84,9 +84,10 @@ record SaysBeside (names : Names) (kinds : List ClassDecl) (text : Source) (h : 
   methods : List Method
   says : Says names false kinds text h cs methods
 
-says_beside : (names : Names) (kinds others : List ClassDecl) (text : Source) (h : Header) (cs : List ClassDecl) (ms : List Method) → Says names true kinds text h cs ms → SaysBeside names others text h cs
-says_beside names kinds others text h cs ms says =
-    let o = other_methods names h.version kinds others (methods_of text.declarations) ms (pairs (MethodMeans names h.version true kinds) (methods_of text.declarations) ms says.methods) in
+says_beside : (names : Names) (kinds others : List ClassDecl) (text : Source) (h : Header) (cs : List ClassDecl) (ms : List Method) →
+    Says names true kinds text h cs ms → SaysBeside names others text h cs
+says_beside names kinds others text h cs ms says = let o = other_methods names h.version kinds others
+    (methods_of text.declarations) ms (pairs (MethodMeans names h.version true kinds) (methods_of text.declarations) ms says.methods) in
     let count = o.count in
     let bytes = o.bytes in
     let some = says.some_method in
@@ -155,23 +156,17 @@ module _ (last : ℕ) (text : Source) (b : Bool) (kinds : List ClassDecl) (h : H
   rest_reads ss words = let g = goes ss words in g.reads ∙ closes g.rest g.words
 
   program_reads : (ss : List Statement) → all_words ss ≡ source_statements text → read_program last (scoped b (names_of text) kinds) ss ≡ Ok whole
-  program_reads ss words =
-      let scope = scoped b (names_of text) kinds in
-      let f = first_of ss words in
-      ap (read_program last scope) f.is
-      ∙ ap (λ ws. and_then (at_line f.one.line (opened scope ws)) (λ p. read_rest last scope p f.rest)) f.here
-      ∙ ap (λ e. and_then (at_line f.one.line (e >>= λ x. Ok (read_so_far x.0 [] [] None 24))) (λ p. read_rest last scope p f.rest)) (header_reads looks text.header h says.header).reads
-      ∙ rest_reads f.rest f.behind
+  program_reads ss words = grind (arith, header_reads, looks, rest_reads)
 
 -- by the names that the statements declare
 by_names : (last : ℕ) (text : Source) (ss : List Statement) → all_words ss ≡ source_statements text
     → (b : Bool) (kinds : List ClassDecl) (h : Header) (cs : List ClassDecl) (ms : List Method) → Says (names_of text) b kinds text h cs ms
     → read_program last (scope_of b ss kinds) ss ≡ Ok (read_so_far h cs ms None (24 + sum_by (class_bytes h.version) cs + sum_by (spelled h.version) ms))
-by_names last text ss words b kinds h cs ms says = ap (λ n. read_program last (scoped b n kinds) ss) (names_are text ss words) ∙ program_reads last text b kinds h cs ms says ss words
+by_names last text ss words b kinds h cs ms says = grind (arith, names_are, program_reads)
 
 -- the bytes of an image, class by class
 summed : (i : Image) → bytes_of i ≤ 2 ^ 20 → 24 + sum_by (class_bytes i.header.version) i.classes + sum_by (spelled i.header.version) i.methods ≤ 2 ^ 20
-summed i small = subst (λ n. 24 + n + sum_by (spelled i.header.version) i.methods ≤ 2 ^ 20) (sym (class_sizes i.header.version i.classes)) small
+summed i small = grind (arith, nat_tests, spelled, class_sizes, small)
 
 multiplied : (i : Image) → 24 + sum_by (class_bytes i.header.version) i.classes + sum_by (spelled i.header.version) i.methods ≤ 2 ^ 20 → bytes_of i ≤ 2 ^ 20
 multiplied i small = subst (λ n. 24 + n + sum_by (spelled i.header.version) i.methods ≤ 2 ^ 20) (class_sizes i.header.version i.classes) small
@@ -235,7 +230,7 @@ module _ (text : List ℕ) (i : Image) where
         few_methods = formed.methods.count;
         small = summed (image_of q) (read_small q formed);
       } in
-      let says : Says (names_of source) true kinds source q.header q.classes q.methods = subst (λ n. Says n true kinds source q.header q.classes q.methods) same read in
+      let says : Says (names_of source) true kinds source q.header q.classes q.methods = grind arith in
       let loose = says_beside (names_of source) kinds [] source q.header q.classes q.methods says in
       let first = by_names last source ss p.words false [] q.header q.classes loose.methods loose.says in
       let again : s.first ≡ read_so_far q.header q.classes loose.methods None (24 + sum_by (class_bytes q.header.version) q.classes + sum_by (spelled q.header.version) loose.methods) = ok_is s.first

@@ -34,7 +34,8 @@ module _ {last : ℕ} {scope : Scope} where
   stays ss same words = record { rest = ss; words = words; reads = ap (λ p. read_rest last scope p ss) same }
 
   -- one statement is read
-  pub steps : {p q : Program} {ws : List (List ℕ)} {left : List (List (List ℕ))} (ss : List Statement) → all_words ss ≡ ws ∷ left → ((rest : List Statement) → all_words rest ≡ left → step scope rest p ws ≡ Ok q) → Goes last scope p ss q left
+  pub steps : {p q : Program} {ws : List (List ℕ)} {left : List (List (List ℕ))} (ss : List Statement) →
+      all_words ss ≡ ws ∷ left → ((rest : List Statement) → all_words rest ≡ left → step scope rest p ws ≡ Ok q) → Goes last scope p ss q left
   steps {p = p} {q = q} ss words read =
       let f = first_of ss words in
       record {
@@ -44,7 +45,8 @@ module _ {last : ℕ} {scope : Scope} where
       }
 
   -- and more is read behind it
-  pub goes_on : {p q r : Program} {ss : List Statement} {left more : List (List (List ℕ))} → Goes last scope p ss q left → ((rest : List Statement) → all_words rest ≡ left → Goes last scope q rest r more) → Goes last scope p ss r more
+  pub goes_on : {p q r : Program} {ss : List Statement} {left more : List (List (List ℕ))} →
+      Goes last scope p ss q left → ((rest : List Statement) → all_words rest ≡ left → Goes last scope q rest r more) → Goes last scope p ss r more
   goes_on first later =
       let next = later first.rest first.words in
       record { rest = next.rest; words = next.words; reads = first.reads ∙ next.reads }

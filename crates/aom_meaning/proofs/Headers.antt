@@ -18,7 +18,8 @@ use Rattle.aom_meaning.proofs.Readings.{Whole, done, ends, first, last, reads_on
 use Rattle.aom_meaning.specs.Meaning.{HeaderMeans, IsNumber, IsNumbered, Names, SaidOrNone, VersionMeans}
 use Rattle.aom_meaning.specs.Source.{HeaderText, header_words, part}
 use Rattle.aom_meaning.proofs.Ascii.{plain_number}
-use Rattle.aom_meaning.proofs.Pieces.{Leaves, NotNext, Reads, Took, is_not, is_there, none_left, not_part, not_word, reads_part, saw, saw_keyword, saw_part, saw_used, take_it, takes_seen, then_reads}
+use Rattle.aom_meaning.proofs.Pieces.{Leaves, NotNext, Reads, Took, is_not, is_there, none_left, not_part, not_word, reads_part, saw, saw_keyword, saw_part}
+use Rattle.aom_meaning.proofs.Pieces.{saw_used, take_it, takes_seen, then_reads}
 use Rattle.aom_meaning.proofs.Sound.{Sound, giving_sound, next_sound}
 use Rattle.aom_meaning.proofs.Words.{LooksUp, takes_class, told}
 
@@ -62,8 +63,8 @@ module _ (names : Names) (kinds : List ClassDecl) where
           giving_sound (λ root rest. RootSays ws root) None rest (record { said = None; words = (none_left true ws u rest none).0; says = tt }))
 
       go : Took k.Root ws → Sound (optional_root (told names kinds)) ws (λ root rest. RootSays ws root)
-      go (is_there vs words there) = record { each = λ root rest is. (behind vs words).each root rest (sym (ap (λ p. if p.0 then said_root p.1 else no_root p.1) there) ∙ is) }
-      go (is_not there) = record { each = λ root rest is. without.each root rest (sym (ap (λ p. if p.0 then said_root p.1 else no_root p.1) there) ∙ is) }
+      go (is_there vs words there) = record { each = λ root rest is. (behind vs words).each root rest (grind arith) }
+      go (is_not there) = search (arith, nat_tests)
 
   record VersionSays (ws : List (List ℕ)) (version : Version) (rest : List (List ℕ)) : Type 0 where
     said : Option (List ℕ)
@@ -82,7 +83,7 @@ module _ (names : Names) (kinds : List ClassDecl) where
     where
       go : Took k.Version ws → VersionSays ws version rest
       go (is_there vs words there) =
-          let s = steps (number 2 2 vs) (λ n. Ok (versioned versions.Two n.1)) (version, rest) (sym (ap (λ p. if p.0 then said_version p.1 else Ok (versions.One, p.1)) there) ∙ is) in
+          let s = steps (number 2 2 vs) (λ n. Ok (versioned versions.Two n.1)) (version, rest) (grind arith) in
           let same = ok_is (versioned versions.Two s.first.1) (version, rest) s.second in
           let n = saw (number_in 2 2) vs s.first.0 s.first.1 s.read in
           let between = (number_between 2 2).each vs s.first.0 s.first.1 s.read in
@@ -157,6 +158,4 @@ module _ {names : Names} {scope : Scope} (looks : LooksUp names scope) where
       last _ (root_reads t.root h.root means.root) (done _))))))))
     where
       no_version_next : NotNext k.Version (part k.Cells t.cells ++ (part k.Messages t.messages ++ (part k.Natives t.natives ++ (keyword_text k.Budget ∷ t.budget ∷ part k.Root t.root))))
-      no_version_next =
-          not_part k.Version k.Cells t.cells _ refl (not_part k.Version k.Messages t.messages _ refl
-          (not_part k.Version k.Natives t.natives _ refl (not_word k.Version (keyword_text k.Budget) (t.budget ∷ part k.Root t.root) refl)))
+      no_version_next = grind (arith, nat_tests, not_part, not_word)

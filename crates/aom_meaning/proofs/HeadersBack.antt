@@ -18,9 +18,7 @@ use Rattle.aom_meaning.proofs.OperandsBack.{takes_class}
 use Rattle.aom_meaning.proofs.Readings.{Takes, Whole, done, ends, first, gives, in_turn, last, takes_keyword, takes_number, takes_optional, took_same}
 
 takes_version : Takes optional_version (keyword_text k.Version ∷ decimal 2 ∷ []) versions.Two
-takes_version = record {
-  reads = grind (arith, nat_tests, took_same, in_turn, takes_number 2 2 2, gives);
-}
+takes_version = record { reads = grind (arith, nat_tests, took_same, in_turn, takes_number 2 2 2, gives) }
 
 -- what stands behind the version
 abbrev limits_said : Header → List (List ℕ)
@@ -39,9 +37,9 @@ module _ {classes methods : ℕ} {scope : Scope} (names : HasNames classes metho
       first _ (takes_number 0 4294967295 h.budget (omega arith) (omega (arith, fits.budget)) (omega (arith, fits.budget))) (
       last _ (whole_root h.root fits.root) (done _))))))
 
-  whole_version : (version : Version) (h : Header) → Whole (limits_and_root scope version) (limits_said h) h → Whole (next optional_version (λ v. limits_and_root scope v)) (version_words version ++ limits_said h) h
-  whole_version versions.One h whole = record { reads = whole.reads }
-  whole_version versions.Two h whole = first _ takes_version whole
+  whole_version : (version : Version) (h : Header) → Whole (limits_and_root scope version) (limits_said h) h →
+      Whole (next optional_version (λ v. limits_and_root scope v)) (version_words version ++ limits_said h) h
+  whole_version x h whole = grind (arith, nat_tests, first, takes_version)
 
   whole_header : (h : Header) → HeaderFits classes h → Whole (image_statement scope) (header_words h) h
   whole_header h fits = first _ (takes_keyword k.Image) (whole_version h.version h (whole_limits h fits))

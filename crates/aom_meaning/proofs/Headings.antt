@@ -18,7 +18,9 @@ use Rattle.aom_image.specs.declared.method.Thing.{Thing}
 use Rattle.aom_image.specs.declared.method.Thing.TheVariants as owned
 use Rattle.aom_syntax.specs.Classes.{declared, flag, listed, thing, thing_of}
 use Rattle.aom_syntax.specs.Keywords.{keyword_text}
-use Rattle.aom_syntax.specs.Methods.{accepted, all_states, argument_of, gives, heading, kind_of, optional_arguments, optional_class, optional_gives, optional_over, optional_states, role, role_of, said_over, states_of, unsaid_gives, usual_after, usual_before, usual_gives, usual_words, promised}
+use Rattle.aom_syntax.specs.Methods.{accepted, all_states, argument_of, gives, heading, kind_of, optional_arguments, optional_class, optional_gives}
+use Rattle.aom_syntax.specs.Methods.{optional_over, optional_states, role, role_of, said_over, states_of, unsaid_gives, usual_after, usual_before}
+use Rattle.aom_syntax.specs.Methods.{usual_gives, usual_words, promised}
 use Rattle.aom_syntax.specs.Names.{place_of}
 use Rattle.aom_syntax.specs.Operands.{class, method}
 use Rattle.aom_syntax.specs.Reading.{◌>>=◌, Reading, any_keyword, giving, next, nothing_more, seen}
@@ -30,10 +32,12 @@ use Rattle.aom_asm.proofs.Counting.{begins_with}
 use Rattle.aom_syntax.proofs.RangedHeadings.{stands_for}
 use Rattle.aom_syntax.proofs.Within.{ok_is, steps}
 use Rattle.aom_meaning.proofs.Readings.{Takes, Whole, done, first, gives as gives_it, in_turn, last, only_two, sees, settle, takes_any_keyword, took_same}
-use Rattle.aom_meaning.specs.Meaning.{AreStates, GivesMeans, HeadingMeans, IsArgument, IsList, IsNumbered, IsThing, Names, OverMeans, SaidOr, SaidOrNone, states}
+use Rattle.aom_meaning.specs.Meaning.{AreStates, GivesMeans, HeadingMeans, IsArgument, IsList, IsNumbered, IsThing, Names, OverMeans, SaidOr, SaidOrNone}
+use Rattle.aom_meaning.specs.Meaning.{states}
 use Rattle.aom_meaning.specs.Source as source
 use Rattle.aom_meaning.specs.Source.{GivesText, HeadingText, gives_words, heading_words, mark, part, promise_words}
-use Rattle.aom_meaning.proofs.Pieces.{Leaves, NotNext, Reads, Took, is_not, is_there, none_left, not_mark, not_part, not_word, pair, reads_part, saw, saw_part, saw_used, take_it, takes_seen, then_reads}
+use Rattle.aom_meaning.proofs.Pieces.{Leaves, NotNext, Reads, Took, is_not, is_there, none_left, not_mark, not_part, not_word, pair, reads_part, saw}
+use Rattle.aom_meaning.proofs.Pieces.{saw_part, saw_used, take_it, takes_seen, then_reads}
 use Rattle.aom_meaning.proofs.Ascii.{plain_states}
 use Rattle.aom_meaning.proofs.Declared.{reads_mark, saw_declared, saw_mark, takes_declared}
 use Rattle.aom_meaning.proofs.Sound.{Sound, giving_sound, next_sound}
@@ -104,9 +108,9 @@ module _ (names : Names) (kinds : List ClassDecl) where
   over_says version ws over rest is = go (take_it k.Over ws)
     where
       go : Took k.Over ws → OverSays version ws over rest
-      go (is_there vs words there) = (said_over_sound version ws vs words).each over rest (sym (ap (λ p. if p.0 then said_over scope version p.1 else Ok (None, p.1)) there) ∙ is)
+      go (is_there vs words there) = search (arith, nat_tests, said_over_sound version ws vs words, words)
       go (is_not there) =
-          let same : pair None ws ≡ (over, rest) = ok_is (pair None ws) (over, rest) (sym (ap (λ p. if p.0 then said_over scope version p.1 else Ok (None, p.1)) there) ∙ is) in
+          let same : pair None ws ≡ (over, rest) = grind (arith, nat_tests, ok_is, pair) in
           record { said = None; words = ap (λ p. p.1) same; says = subst (OverMeans names version None) (ap (λ p. p.0) same) tt }
 
   record GivesSays (usual : Option Gives) (ws : List (List ℕ)) (g : Gives) : Type 0 where
@@ -130,7 +134,8 @@ module _ (names : Names) (kinds : List ClassDecl) where
   result_sound usual k.Maybe vs =
       next_sound _ (thing scope) _ vs (λ t rest read.
       let s = saw (thing_of scope) vs t rest read in
-      giving_sound _ (result.Maybe t) rest (record { said = source.maybe s.w; words = ap (λ v. keyword_text k.Gives ∷ keyword_text k.Maybe ∷ v) s.words; means = thing_means names kinds s.w t s.says }))
+      giving_sound _ (result.Maybe t) rest (record
+      { said = source.maybe s.w; words = ap (λ v. keyword_text k.Gives ∷ keyword_text k.Maybe ∷ v) s.words; means = thing_means names kinds s.w t s.says }))
   result_sound usual k.Left vs =
       next_sound _ (class scope) _ vs (λ c rest read.
       let s = saw_used names.classes 256 vs c rest read in
@@ -178,7 +183,7 @@ module _ (names : Names) (kinds : List ClassDecl) where
 
       go : Took k.Gives ws → Sound (optional_gives scope usual) ws (λ g rest. GivesSays usual ws g)
       go (is_there vs words there) = record { each = λ g rest is. (behind vs words).each g rest (sym (ap (λ p. if p.0 then said_gives p.1 else nothing_said usual p.1) there) ∙ is) }
-      go (is_not there) = record { each = λ g rest is. without.each g rest (sym (ap (λ p. if p.0 then said_gives p.1 else nothing_said usual p.1) there) ∙ is) }
+      go (is_not there) = search (arith, nat_tests)
 
   -- the words of a heading behind its keyword, and what they mean at its place
   pub record HeadingSays (version : Version) (place : ℕ) (ws : List (List ℕ)) (h : Heading) : Type 0 where
@@ -210,7 +215,18 @@ module _ (names : Names) (kinds : List ClassDecl) where
       let a = saw_part k.Args (listed 6 (argument_of scope)) (IsList 6 (IsArgument names)) (replicate (usual_words role) arg.Word)
       (list_means 6 (argument_of scope) (IsArgument names) (argument_means names kinds)) v7 arguments v8 r8 in
       let g = (gives_sound (usual_gives true role (kind_of kinds class)) v8).each gives v9 r9 in
-      let said : HeadingText = record { name = d.w; role = r.key; class = c.said; over = v.said; leaves = leaves; quiet = quiet; before = i.said; after = o.said; arguments = a.said; gives = g.said } in
+      let said : HeadingText = record {
+        name = d.w;
+        role = r.key;
+        class = c.said;
+        over = v.said;
+        leaves = leaves;
+        quiet = quiet;
+        before = i.said;
+        after = o.said;
+        arguments = a.said;
+        gives = g.said;
+      } in
       giving_sound Q _ v9 (record {
         said = said;
         words = grind (arith, nat_tests, saw_mark);
@@ -245,15 +261,11 @@ module _ {names : Names} {scope : Scope} (looks : LooksUp names scope) where
 
   over_reads : (version : Version) (said : Option (List ℕ)) (over : Option ℕ) (rest : List (List ℕ)) → OverMeans names version said over → NotNext k.Over rest
       → Leaves (optional_over scope version) (part k.Over said ++ rest) over rest
-  over_reads version None None rest means other = record { reads = ap (λ p. if p.0 then said_over scope version p.1 else Ok (None, p.1)) other.left }
-  over_reads version (Some w) (Some m) rest means other = record {
-    reads = ap (λ p. if p.0 then said_over scope version p.1 else Ok (None, p.1)) (took_same k.Over (w ∷ rest)) ∙ said_over_reads version w m means rest;
-  }
-  over_reads version said over rest means other = absurd means
+  over_reads version said over rest means other = grind (arith, nat_tests, took_same, said_over_reads, means)
 
   -- what stands behind the keyword
-  pub heading_reads : (version : Version) (place : ℕ) (t : HeadingText) (h : Heading) → HeadingMeans names version scope.is_strict scope.kinds t h → place_of t.name scope.methods ≡ Some place
-      → Whole (heading scope version place) (t.name ∷ keyword_text t.role ∷ promise_words t) h
+  pub heading_reads : (version : Version) (place : ℕ) (t : HeadingText) (h : Heading) → HeadingMeans names version scope.is_strict scope.kinds t h →
+      place_of t.name scope.methods ≡ Some place → Whole (heading scope version place) (t.name ∷ keyword_text t.role ∷ promise_words t) h
   heading_reads version place t h means placed =
       let kind = kind_of scope.kinds h.class in
       let v9 = gives_words t.gives in
@@ -343,6 +355,6 @@ beside_others names version kinds others t h means =
         before = still AreStates (states (usual_before h.role (all_states kind))) before t.before h.before means.before;
         after = still AreStates (states (usual_after h.role (all_states kind))) after t.after h.after means.after;
         arguments = means.arguments;
-        gives = subst (λ o. GivesMeans names o t.gives (gives_or gives t.gives h.gives)) (sym stands.is) (still_gives names (usual_gives true h.role kind) gives t.gives h.gives means.gives);
+        gives = grind (arith, nat_tests, gives_or, gives, still_gives);
       };
     }

@@ -1,7 +1,8 @@
 -- A statement of a method's code is read where its words mean an instruction, and as that instruction.
 use Rattle.std.proofs.lemmas.Bool.Decides.{nat_tests}
 use Rattle.std.proofs.lemmas.Option.{same_Some}
-use Rattle.std.proofs.Common.{◌≡◌, ℕ, suc, Bool, true, false, List, [], ◌∷◌, ◌++◌, length, take, get_or, Option, Some, None, Ok, Err, refl, sym, ap, subst, ◌∙◌, arith}
+use Rattle.std.proofs.Common.{◌≡◌, ℕ, suc, Bool, true, false, List, [], ◌∷◌, ◌++◌, length, take, get_or, Option, Some, None, Ok, Err, refl, sym, ap, subst}
+use Rattle.std.proofs.Common.{◌∙◌, arith}
 use Rattle.aom_instructions.specs.declared.version.Version.{Version}
 use Rattle.aom_image.proofs.Given.{true_given, some_given}
 use Rattle.std.specs.Prelude.{IfSome, if◌then◌else◌}
@@ -154,18 +155,8 @@ module _ (version : Version) (place : ℕ) (labels : List (List ℕ)) where
 
   takes_label : (label : Option (List ℕ)) (m : Mnemonic) → IsNamed place labels label → IsPlaced place labels label
       → Takes (after_label place labels) (label_words label ++ mnemonic_text m ∷ []) (mnemonic_text m)
-  takes_label x m is there = grind (
-    arith,
-    nat_tests,
-    in_turn,
-    takes_word,
-    mnemonic_is_plain m,
-    mnemonic_is_no_label m,
-    colon_is_plain,
-    label_cut,
-    checked,
-    there,
-  )
+  takes_label x m is there =
+      grind (arith, nat_tests, in_turn, takes_word, mnemonic_is_plain m, mnemonic_is_no_label m, colon_is_plain, label_cut, checked, there)
 
   spread : (label : Option (List ℕ)) (w : List ℕ) (ws : List (List ℕ)) → label_words label ++ (w ∷ ws) ≡ (label_words label ++ w ∷ []) ++ ws
   spread x w ws = grind arith
@@ -173,11 +164,11 @@ module _ (version : Version) (place : ℕ) (labels : List (List ℕ)) where
   known_reads : (m : Mnemonic) → is_in version m ≡ true → named_mnemonic version (mnemonic_text m) ≡ Ok m
   known_reads m there = ap (known_mnemonic version (mnemonic_text m)) (mnemonic_reads m) ∙ ap (λ b. if b then Ok m else Err BadShape) there
 
-  pub instruction_reads : (b : Bool) (names : Names) (kinds : List ClassDecl) (t : InstructionText) (i : Instr) → InstructionMeans names version labels t i → IsPlaced place labels t.label
-      → Whole (instruction (scoped b names kinds) version labels place) (instruction_words t) i
+  pub instruction_reads : (b : Bool) (names : Names) (kinds : List ClassDecl) (t : InstructionText) (i : Instr) → InstructionMeans names version labels t i →
+      IsPlaced place labels t.label → Whole (instruction (scoped b names kinds) version labels place) (instruction_words t) i
   instruction_reads b names kinds t i means placed =
-      let found = (operands_follow (lookup names) (scoped b names kinds) labels (finds_more b 256 names kinds [] names.classes) (finds_more b 1024 names kinds [] names.methods)
-      (finds_more b 1024 names kinds [] labels) t.mnemonic).each t.operands i [] means.operands in
+      let found = (operands_follow (lookup names) (scoped b names kinds) labels (finds_more b 256 names kinds [] names.classes)
+      (finds_more b 1024 names kinds [] names.methods) (finds_more b 1024 names kinds [] labels) t.mnemonic).each t.operands i [] means.operands in
       let operands : Whole (words_operands (scoped b names kinds) labels t.mnemonic) t.operands i = record { reads = found } in
       regroup (spread t.label (mnemonic_text t.mnemonic) t.operands) (
       first _ (sees (named_mnemonic version) (takes_label t.label t.mnemonic means.label placed) (known_reads t.mnemonic means.there)) (

@@ -26,7 +26,8 @@ use Rattle.aom_syntax.specs.declared.scope.Scope.{Scope}
 use Rattle.aom_listing.specs.Operands.{label_name}
 use Rattle.aom_listing.specs.Words.{in_text, large_words, small_words, words_statement}
 use Rattle.aom_meaning.specs.Naming.{HasLabel, HasNames}
-use Rattle.aom_meaning.proofs.OperandsBack.{takes_class, takes_depth, takes_field, takes_label, takes_last, takes_method, takes_rounds, takes_signed, takes_target, takes_word_field}
+use Rattle.aom_meaning.proofs.OperandsBack.{takes_class, takes_depth, takes_field, takes_label, takes_last, takes_method, takes_rounds, takes_signed}
+use Rattle.aom_meaning.proofs.OperandsBack.{takes_target, takes_word_field}
 use Rattle.aom_meaning.proofs.Readings.{Takes, gives, in_turn}
 
 -- its words are a mnemonic that the version has and operands, which read back
@@ -58,17 +59,7 @@ labelled labels x to = grind arith
 
 module _ {classes methods : ℕ} {scope : Scope} (names : HasNames classes methods scope) (version : Version) (labels : List (List ℕ)) (places : ℕ) where
   takes_large : (k : LargeKind) (o : Large) → LargeFits (limits version classes methods places) k o → Labelled labels o → Takes (large_operand scope labels k) (large_words o) o
-  takes_large x y fits to = grind (
-    arith,
-    nat_tests,
-    gives,
-    makes,
-    takes_signed,
-    takes_rounds,
-    takes_label scope labels,
-    takes_class names,
-    takes_method names,
-  )
+  takes_large x y fits to = grind (arith, nat_tests, gives, makes, takes_signed, takes_rounds, takes_label scope labels, takes_class names, takes_method names)
 
   takes_in_order : (k : Kinds) (order : Order) (o : Operands) → OperandsFit (limits version classes methods places) k o → Labelled labels o.d
       → Takes (in_order order (small_operand k.a) (small_operand k.b) (small_operand k.c) (large_operand scope labels k.d)) (in_text order o) o
@@ -102,6 +93,6 @@ module _ {classes methods : ℕ} {scope : Scope} (names : HasNames classes metho
     there = fits.version;
     operands = in_text (row (mnemonic i)).kinds.order (operands i);
     words = refl;
-    takes = same_value (parts_make_again i)
-        (makes (λ o. make (mnemonic i) o) (takes_in_order (row (mnemonic i)).kinds (row (mnemonic i)).kinds.order (operands i) fits.operands (labelled labels i to)));
+    takes = same_value (parts_make_again i) (makes
+        (λ o. make (mnemonic i) o) (takes_in_order (row (mnemonic i)).kinds (row (mnemonic i)).kinds.order (operands i) fits.operands (labelled labels i to)));
   }

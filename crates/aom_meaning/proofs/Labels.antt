@@ -34,24 +34,14 @@ label_placed code k few within jumped =
 
 -- a place to which an instruction of the code jumps is a target
 jump_is_target : (code : List Instr) (place d : ℕ) (i : Instr) → slice_get code place ≡ Some i → jump_of i ≡ Some d → is_target code d ≡ true
-jump_is_target code place d i there jumps = grind (
-  arith,
-  nat_tests,
-  list_any_at,
-  slice_get_within code place i there,
-  get_or_from_slice_get code place i i there,
-  eq-eqb d d,
-)
+jump_is_target code place d i there jumps =
+    grind (arith, nat_tests, list_any_at, slice_get_within code place i there, get_or_from_slice_get code place i i there, eq-eqb d d)
 
 -- an instruction that fits jumps into the code
 jump_within : (version : Version) (classes methods places : ℕ) (i : Instr) → InstrFits (limits version classes methods places) i → IfSome (jump_of i) (λ d. d < places)
 jump_within version classes methods places x fits = grind arith
 
-pub has_label : (version : Version) (classes methods : ℕ) (code : List Instr) (place : ℕ) (i : Instr) → length code ≤ 1024 → slice_get code place ≡ Some i → InstrFits (limits version classes methods (length code)) i → HasLabel (code_labels code) i
-has_label version classes methods code place i few there fits = grind (
-  arith,
-  nat_tests,
-  jump_within version classes methods,
-  label_placed code,
-  jump_is_target code place,
-)
+pub has_label : (version : Version) (classes methods : ℕ) (code : List Instr) (place : ℕ) (i : Instr) →
+    length code ≤ 1024 → slice_get code place ≡ Some i → InstrFits (limits version classes methods (length code)) i → HasLabel (code_labels code) i
+has_label version classes methods code place i few there fits =
+    grind (arith, nat_tests, jump_within version classes methods, label_placed code, jump_is_target code place)

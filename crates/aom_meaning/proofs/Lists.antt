@@ -1,6 +1,7 @@
 -- A list in one word reads back: it is parted at its commas, and each part is read.
 use Rattle.std.proofs.lemmas.Bool.Decides.{nat_tests}
-use Rattle.std.proofs.Common.{◌≡◌, ℕ, ◌+◌, ◌≤◌, ◌==◌, true, false, List, [], ◌∷◌, ◌++◌, length, map, Result, Ok, Err, refl, sym, ap, ◌∙◌, append_assoc, append-nil, arith}
+use Rattle.std.proofs.Common.{◌≡◌, ℕ, ◌+◌, ◌≤◌, ◌==◌, true, false, List, [], ◌∷◌, ◌++◌, length, map, Result, Ok, Err, refl, sym, ap, ◌∙◌, append_assoc}
+use Rattle.std.proofs.Common.{append-nil, arith}
 use Rattle.std.specs.Prelude.{codes, if◌then◌else◌}
 use Rattle.std.specs.List.{All, list_all, slice_split}
 use Rattle.std.specs.Str.{bytes_eq}
@@ -33,7 +34,7 @@ IsNoComma b = (b == 44) ≡ false
 
 no_commas : (bs : List ℕ) → list_all is_name_byte bs ≡ true → All IsNoComma bs
 no_commas [] all = All-nil IsNoComma
-no_commas (b ∷ bs) all = let parts = and_parts (is_name_byte b) (list_all is_name_byte bs) all in All-cons IsNoComma b bs (name_byte_is_no_comma b parts.0) (no_commas bs parts.1)
+no_commas (b ∷ bs) all = grind (arith, name_byte_is_no_comma b, no_commas bs)
 
 -- a letter, and then bytes of names
 abbrev pub HasForm : List ℕ → Type 0
@@ -57,9 +58,7 @@ parts_again : (p : List ℕ) (ps : List (List ℕ)) → has_name_form p ≡ true
 parts_again p [] form forms =
     ap (slice_split (λ b. b == 44)) (append-nil p)
     ∙ slice_split_none (λ b. b == 44) p (no_commas p (and_parts (starts_with_letter p) (list_all is_name_byte p) form).1)
-parts_again p (q ∷ qs) form forms =
-    slice_split_at (λ b. b == 44) p 44 (parted_by 44 (q ∷ qs)) (no_commas p (and_parts (starts_with_letter p) (list_all is_name_byte p) form).1) refl
-    ∙ ap (λ parts. p ∷ parts) (parts_again q qs (All-head HasForm q qs forms) (All-tail HasForm q qs forms))
+parts_again p (q ∷ qs) form forms = grind (arith, slice_split_at, no_commas, parts_again q qs (All-head HasForm q qs forms) (All-tail HasForm q qs forms))
 
 -- a list that begins with a letter is not the empty one
 not_minus : (p : List ℕ) (more : List ℕ) → has_name_form p ≡ true → bytes_eq (p ++ more) (codes "-") ≡ false
@@ -80,10 +79,9 @@ module _ {X : Type 0} (most : ℕ) (one : List ℕ → Result X AsmFaultKind) (w
   elements_read : (front xs : List X) → length front + length xs ≤ most → All Element xs → elements most one front (map written xs) ≡ Ok (front ++ xs)
   elements_read front [] few each = ap Ok (sym (append-nil front))
   elements_read front (x ∷ xs) few each =
-      ap (λ b. if b then (one (written x) >>= λ y. elements most one (front ++ y ∷ []) (map written xs)) else Err LimitPassed) (lt-ltb (length front) most (omega arith))
-      ∙ ap (λ e. e >>= λ y. elements most one (front ++ y ∷ []) (map written xs)) (All-head Element x xs each).reads
-      ∙ elements_read (front ++ x ∷ []) xs (omega (arith, length-append front (x ∷ []))) (All-tail Element x xs each)
-      ∙ ap Ok (append_assoc front (x ∷ []) xs)
+      ap (λ b. if b then (one (written x) >>= λ y. elements most one (front ++ y ∷ []) (map written xs)) else Err LimitPassed) (lt-ltb (length front) most
+      (omega arith)) ∙ ap (λ e. e >>= λ y. elements most one (front ++ y ∷ []) (map written xs)) (All-head Element x xs each).reads ∙ elements_read
+      (front ++ x ∷ []) xs (omega (arith, length-append front (x ∷ []))) (All-tail Element x xs each) ∙ ap Ok (append_assoc front (x ∷ []) xs)
 
   list_reads : (xs : List X) → length xs ≤ most → All Element xs → listed most one (list_word (map written xs)) ≡ Ok xs
   list_reads [] few each = refl
@@ -99,4 +97,4 @@ module _ {X : Type 0} (most : ℕ) (one : List ℕ → Result X AsmFaultKind) (w
   )
 
   pub takes_list : (xs : List X) → length xs ≤ most → All Element xs → Takes (seen (listed most one) word) (list_word (map written xs) ∷ []) xs
-  takes_list xs few each = sees (listed most one) (takes_word (list_word (map written xs)) (parted_is_plain (map written xs) (forms_of xs each))) (list_reads xs few each)
+  takes_list xs few each = grind (arith, nat_tests, sees, takes_word, parted_is_plain, forms_of, list_reads)

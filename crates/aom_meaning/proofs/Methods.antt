@@ -17,7 +17,9 @@ use Rattle.aom_image.specs.declared.method.MethodFlags.{MethodFlags}
 use Rattle.aom_image.specs.declared.method.Role.{Role}
 use Rattle.aom_image.specs.declared.method.States.{States}
 use Rattle.aom_syntax.specs.Classes.{flag}
-use Rattle.aom_syntax.specs.Methods.{all_states, argument_of, flags_of, gives, heading, is_quiet_role, kind_of, optional_arguments, optional_class, optional_gives, optional_over, optional_states, role, role_of, said_over, states_of, usual_after, usual_before, usual_gives, usual_words, promised}
+use Rattle.aom_syntax.specs.Methods.{all_states, argument_of, flags_of, gives, heading, is_quiet_role, kind_of, optional_arguments, optional_class}
+use Rattle.aom_syntax.specs.Methods.{optional_gives, optional_over, optional_states, role, role_of, said_over, states_of, usual_after, usual_before}
+use Rattle.aom_syntax.specs.Methods.{usual_gives, usual_words, promised}
 use Rattle.aom_syntax.specs.Reading.{Reading, any_keyword, giving, next, nothing_more, took}
 use Rattle.aom_syntax.specs.Operands.{class}
 use Rattle.aom_syntax.specs.Keywords.{keyword_text}
@@ -32,7 +34,8 @@ use Rattle.aom_meaning.specs.Texts.{SaysQuiet}
 use Rattle.aom_meaning.proofs.ClassesBack.{takes_thing, thing_element}
 use Rattle.aom_meaning.proofs.Lists.{Element, takes_list}
 use Rattle.aom_meaning.proofs.OperandsBack.{takes_class, takes_method}
-use Rattle.aom_meaning.proofs.Readings.{Takes, Whole, done, first, gives as gives_it, in_turn, last, only_two, reads_on, sees, settle, takes_any_keyword, takes_declared, takes_word, took_same}
+use Rattle.aom_meaning.proofs.Readings.{Takes, Whole, done, first, gives as gives_it, in_turn, last, only_two, reads_on, sees, settle, takes_any_keyword}
+use Rattle.aom_meaning.proofs.Readings.{takes_declared, takes_word, took_same}
 
 -- ---- roles
 
@@ -81,7 +84,9 @@ takes_states_out usual s small = record { reads = (sees states_of (takes_word (s
 
 -- ---- the class, what is overridden and the flags, which stand before what is promised
 
-flags_before : {X : Type 0} (leaves quiet : Bool) (f : Bool → Bool → Reading X) (ws : List (List ℕ)) (x : X) → Whole (f leaves quiet) (keyword_text k.In ∷ ws) x → Whole (next (flag k.Leaves) (λ leaves. next (flag k.Quiet) (λ quiet. f leaves quiet))) ((word_where leaves k.Leaves ++ word_where quiet k.Quiet) ++ keyword_text k.In ∷ ws) x
+flags_before : {X : Type 0} (leaves quiet : Bool) (f : Bool → Bool → Reading X) (ws : List (List ℕ)) (x : X) →
+    Whole (f leaves quiet) (keyword_text k.In ∷ ws) x → Whole (next (flag k.Leaves) (λ leaves. next (flag k.Quiet) (λ quiet. f leaves quiet)))
+    ((word_where leaves k.Leaves ++ word_where quiet k.Quiet) ++ keyword_text k.In ∷ ws) x
 flags_before x y f ws z whole = grind arith
 
 -- flags, and what is promised behind them
@@ -101,7 +106,8 @@ module _ {classes methods : ℕ} {scope : Scope} (names : HasNames classes metho
   said_reads : (version : Version) (m : ℕ) → OverFits version methods (Some m) → (ws : List (List ℕ)) → said_over scope version (method_name m ∷ ws) ≡ Ok (Some m, ws)
   said_reads x m fits ws = grind (arith, nat_tests, in_turn, takes_method names m fits.1, gives_it (Some m))
 
-  over_before : (version : Version) (over : Option ℕ) → OverFits version methods over → (ws : List (List ℕ)) → took k.Over ws ≡ (false, ws) → optional_over scope version (method_after k.Over over ++ ws) ≡ Ok (over, ws)
+  over_before : (version : Version) (over : Option ℕ) → OverFits version methods over →
+      (ws : List (List ℕ)) → took k.Over ws ≡ (false, ws) → optional_over scope version (method_after k.Over over ++ ws) ≡ Ok (over, ws)
   over_before version x fits ws other = grind (arith, nat_tests, took_same, said_reads version)
 
   -- ---- arguments and results
@@ -109,7 +115,8 @@ module _ {classes methods : ℕ} {scope : Scope} (names : HasNames classes metho
   argument_element : (a : Argument) → ArgumentFits classes a → Element 6 (argument_of scope) argument_word a
   argument_element x fits = grind (arith, nat_tests, thing_element names)
 
-  takes_arguments : (usual : ℕ) (xs : List Argument) → length xs ≤ 6 → All (ArgumentFits classes) xs → Takes (optional_arguments scope usual) (keyword_text k.Args ∷ list_word (map argument_word xs) ∷ []) xs
+  takes_arguments : (usual : ℕ) (xs : List Argument) →
+      length xs ≤ 6 → All (ArgumentFits classes) xs → Takes (optional_arguments scope usual) (keyword_text k.Args ∷ list_word (map argument_word xs) ∷ []) xs
   takes_arguments usual xs few fits = record { reads = (takes_list 6 (argument_of scope) argument_word xs few (λ i d less. argument_element _ (fits i d less))).reads }
 
   takes_gives : (g : Gives) → GivesFits classes g → Takes (next any_keyword (gives scope)) (gives_words g) g
@@ -124,15 +131,16 @@ module _ {classes methods : ℕ} {scope : Scope} (names : HasNames classes metho
   abbrev with_flags : Method → MethodFlags → Heading
   with_flags m flags = record { class = m.class; over = m.over; role = m.role; flags = flags; before = m.before; after = m.after; arguments = m.arguments; gives = m.gives }
 
-  whole_promise : (version : Version) (m : Method) → MethodFits version classes methods m → (leaves quiet : Bool) → Whole (promised scope m.role m.class m.over leaves quiet) (promise_words m) (with_flags m (flags_of leaves (quiet || is_quiet_role m.role)))
+  whole_promise : (version : Version) (m : Method) → MethodFits version classes methods m → (leaves quiet : Bool) →
+      Whole (promised scope m.role m.class m.over leaves quiet) (promise_words m) (with_flags m (flags_of leaves (quiet || is_quiet_role m.role)))
   whole_promise version m fits leaves quiet =
       first _ (takes_states_in (usual_before m.role (all_states (kind_of scope.kinds m.class))) m.before fits.before) (
       first _ (takes_states_out (usual_after m.role (all_states (kind_of scope.kinds m.class))) m.after fits.after) (
       first _ (takes_arguments (usual_words m.role) m.arguments fits.argument_count fits.arguments) (
       last _ (whole_gives (usual_gives scope.is_strict m.role (kind_of scope.kinds m.class)) m.gives fits.gives) (done _))))
 
-  whole_flags : (version : Version) (m : Method) → MethodFits version classes methods m → (is_quiet_role m.role ≡ true → has m.flags.0 2 ≡ true)
-      → Whole (next (flag k.Leaves) (λ leaves. next (flag k.Quiet) (promised scope m.role m.class m.over leaves))) (flag_words m.flags.0 ++ promise_words m) (heading_of m)
+  whole_flags : (version : Version) (m : Method) → MethodFits version classes methods m → (is_quiet_role m.role ≡ true → has m.flags.0 2 ≡ true) → Whole (next
+      (flag k.Leaves) (λ leaves. next (flag k.Quiet) (promised scope m.role m.class m.over leaves))) (flag_words m.flags.0 ++ promise_words m) (heading_of m)
   whole_flags version m fits quiet = grind (arith, nat_tests, flags_before, settle, flags_read m.role m.flags fits.flags quiet, whole_promise version m fits)
 
   -- what is read behind the class, and behind the role
@@ -142,27 +150,26 @@ module _ {classes methods : ℕ} {scope : Scope} (names : HasNames classes metho
   abbrev behind_role : Version → Role → Reading Heading
   behind_role version role = next (optional_class scope) (behind_class version role)
 
-  module _ (version : Version) (m : Method) (fits : MethodFits version classes methods m) (over_fits : OverFits version methods m.over) (quiet : is_quiet_role m.role ≡ true → has m.flags.0 2 ≡ true) where
+  module _ (version : Version) (m : Method) (fits : MethodFits version classes methods m)
+      (over_fits : OverFits version methods m.over) (quiet : is_quiet_role m.role ≡ true → has m.flags.0 2 ≡ true) where
     abbrev words_flagged : List (List ℕ)
     words_flagged = flag_words m.flags.0 ++ promise_words m
 
     whole_over : Whole (behind_class version m.role m.class) (method_after k.Over m.over ++ words_flagged) (heading_of m)
-    whole_over = record {
-      reads = grind (arith, nat_tests, reads_on, over_before version m.over over_fits, no_over, whole_flags version m fits quiet);
-    }
+    whole_over = record { reads = grind (arith, nat_tests, reads_on, over_before version m.over over_fits, no_over, whole_flags version m fits quiet) }
 
     whole_of_class : Whole (behind_role version m.role) (class_after k.Of m.class ++ (method_after k.Over m.over ++ words_flagged)) (heading_of m)
     whole_of_class = record {
       reads = reads_on (optional_class scope) (behind_class version m.role) {ws = class_after k.Of m.class ++ (method_after k.Over m.over ++ words_flagged)}
-          (class_before m.class fits.class (method_after k.Over m.over ++ words_flagged) (no_class m.over (has m.flags.0 1) (has m.flags.0 2) (others_of (promise_words m))))
-          whole_over.reads;
+          (class_before m.class fits.class (method_after k.Over m.over ++ words_flagged)
+          (no_class m.over (has m.flags.0 1) (has m.flags.0 2) (others_of (promise_words m)))) whole_over.reads;
     }
 
     whole_heading : (place : ℕ) → place < methods → Whole (heading scope version place) (others_of (heading_words place m)) (heading_of m)
     whole_heading place there = grind (arith, nat_tests, first, takes_declared 109 place scope.methods, takes_role m.role, whole_of_class)
 
-  pub heading_reads : (version : Version) (place : ℕ) (m : Method) → place < methods → MethodFits version classes methods m → OverFits version methods m.over → SaysQuiet m
-      → heading scope version place (others_of (heading_words place m)) ≡ Ok (heading_of m, [])
+  pub heading_reads : (version : Version) (place : ℕ) (m : Method) → place < methods → MethodFits version classes methods m →
+      OverFits version methods m.over → SaysQuiet m → heading scope version place (others_of (heading_words place m)) ≡ Ok (heading_of m, [])
   heading_reads version place m there fits over quiet = (whole_heading version m fits over quiet place there).reads
 
 -- whatever names there are

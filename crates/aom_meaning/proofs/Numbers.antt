@@ -1,6 +1,7 @@
 -- Numbers in decimal digits read back.
 use Rattle.std.proofs.lemmas.Bool.Decides.{nat_tests}
-use Rattle.std.proofs.Common.{◌≡◌, ℕ, ℤ, pos, negsuc, suc, ◌<◌, ◌≤◌, ◌^◌, Bool, true, false, nat_lt, nat_le, List, [], ◌∷◌, length, Some, ◌∙◌, arith, rules, refl}
+use Rattle.std.proofs.Common.{◌≡◌, ℕ, ℤ, pos, negsuc, suc, ◌<◌, ◌≤◌, ◌^◌, Bool, true, false, nat_lt, nat_le, List, [], ◌∷◌, length, Some, ◌∙◌, arith, rules}
+use Rattle.std.proofs.Common.{refl}
 use Rattle.std.specs.Fmt.{decimal, signed_decimal}
 use Rattle.std.specs.Prelude.{FitsSigned}
 use Rattle.std.specs.Int.{w32}
@@ -25,7 +26,7 @@ of_digits : (b : Bool) (ds : List ℕ) (n : ℕ) → 0 < length ds → list_all 
 of_digits b ds n some digits is small = grind (arith, nat_tests, common_steps)
 
 pub number_from_decimal : (b : Bool) (n : ℕ) → n < 2 ^ 50 → number_from b (decimal n) ≡ Some (record { is_negative = b; size = n })
-number_from_decimal b n small = of_digits b (decimal n) n (decimal_nonempty n (omega arith)) (all_digits n (omega arith)) (size_of_decimal n (omega arith)) small
+number_from_decimal b n small = grind (arith, decimal_nonempty, all_digits, size_of_decimal)
 
 -- digits begin with no minus
 no_minus : (ds : List ℕ) → list_all is_digit ds ≡ true → number_of ds ≡ number_from false ds

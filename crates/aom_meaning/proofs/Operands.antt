@@ -43,8 +43,8 @@ used_follows limit strict loose names others more = record {
       ∙ t.second;
 }
 
-module _ (strict loose : Scope) (labels : List (List ℕ)) (classes : FindsMore 256 strict loose strict.classes loose.classes) (methods : FindsMore 1024 strict loose strict.methods loose.methods)
-    (places : FindsMore 1024 strict loose labels labels) where
+module _ (strict loose : Scope) (labels : List (List ℕ)) (classes : FindsMore 256 strict loose strict.classes loose.classes)
+    (methods : FindsMore 1024 strict loose strict.methods loose.methods) (places : FindsMore 1024 strict loose labels labels) where
   class_follows : Follows (class strict) (class loose)
   class_follows = used_follows 256 strict loose strict.classes loose.classes classes
 
@@ -65,7 +65,8 @@ module _ (strict loose : Scope) (labels : List (List ℕ)) (classes : FindsMore 
   large_follows : (k : LargeKind) → Follows (large_operand strict labels k) (large_operand loose labels k)
   large_follows x = grind (arith, nat_tests, only, label_follows, class_follows, method_follows, same)
 
-  order_follows : (o : Order) (first second third : Reading Small) {fourth other : Reading Large} → Follows fourth other → Follows (in_order o first second third fourth) (in_order o first second third other)
+  order_follows : (o : Order) (first second third : Reading Small) {fourth other : Reading Large} →
+      Follows fourth other → Follows (in_order o first second third fourth) (in_order o first second third other)
   order_follows LargeLast first second third more = behind first _ _ (λ a. behind second _ _ (λ b. behind third _ _ (λ c. only _ more)))
   order_follows LargeSecond first second third more = behind first _ _ (λ a. only _ more)
 

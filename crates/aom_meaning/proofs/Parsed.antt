@@ -1,6 +1,7 @@
 -- What was read of statements is what they mean: the parts of a program, one after another.
 use Rattle.std.proofs.lemmas.Bool.Decides.{nat_tests}
-use Rattle.std.proofs.Common.{◌≡◌, ℕ, ◌+◌, ◌<◌, ◌≤◌, ◌==◌, Bool, true, false, List, [], ◌∷◌, ◌++◌, map, length, Option, Some, None, Result, Ok, Err, refl, sym, ap, subst, ◌∙◌, append_assoc, append-nil, arith, nat_lt}
+use Rattle.std.proofs.Common.{◌≡◌, ℕ, ◌+◌, ◌<◌, ◌≤◌, ◌==◌, Bool, true, false, List, [], ◌∷◌, ◌++◌, map, length, Option, Some, None, Result, Ok, Err, refl}
+use Rattle.std.proofs.Common.{sym, ap, subst, ◌∙◌, append_assoc, append-nil, arith, nat_lt}
 use Rattle.std.specs.Prelude.{if◌then◌else◌}
 use Rattle.std.specs.List.{count_by}
 use Rattle.std.proofs.lemmas.Bool.{eqb-false, ltb-true}
@@ -24,7 +25,8 @@ use Rattle.aom_syntax.specs.declared.keyword.Keyword.TheVariants as k
 use Rattle.aom_syntax.specs.declared.method.Heading.{Heading}
 use Rattle.aom_syntax.specs.declared.scope.Scope.{Scope}
 use Rattle.aom_asm.specs.Body.{Body, Program}
-use Rattle.aom_asm.specs.Denoted.{at_line, closed, declaration, grown, method_of, read_program, read_rest, step, with_class, with_heading, with_instruction, with_method}
+use Rattle.aom_asm.specs.Denoted.{at_line, closed, declaration, grown, method_of, read_program, read_rest, step, with_class, with_heading, with_instruction}
+use Rattle.aom_asm.specs.Denoted.{with_method}
 use Rattle.aom_asm.specs.TextNames.{labels_of as labels_until}
 use Rattle.aom_asm.proofs.Counting.{begins_with}
 use Rattle.aom_asm.proofs.Steps.{Started, no_ok, program_starts, said, started, steps_then}
@@ -33,7 +35,8 @@ use Rattle.aom_meaning.specs.Texts.{all_words}
 use Rattle.aom_meaning.proofs.Parts.{read_so_far}
 use Rattle.aom_meaning.specs.Meaning.{ClassMeans, HeaderMeans, InstructionMeans, MethodMeans, Names, Pairwise, labels_of}
 use Rattle.aom_meaning.specs.Source as source
-use Rattle.aom_meaning.specs.Source.{Declaration, InstructionText, MethodText, Source, class_words, classes_of, declared_statements, end_words, heading_words, header_words, instruction_words, methods_of, source_statements}
+use Rattle.aom_meaning.specs.Source.{Declaration, InstructionText, MethodText, Source, class_words, classes_of, declared_statements, end_words, heading_words}
+use Rattle.aom_meaning.specs.Source.{header_words, instruction_words, methods_of, source_statements}
 use Rattle.aom_meaning.proofs.Classes.{ClassSays, class_sound}
 use Rattle.aom_meaning.proofs.Headers.{header_sound}
 use Rattle.aom_meaning.proofs.Headings.{HeadingSays, heading_sound}
@@ -44,7 +47,17 @@ use Rattle.aom_meaning.proofs.Texts.{LabelsPlaced, Placed, labels_once, labels_t
 
 -- a method, by what was read of it
 abbrev pub whole_of : Body → Method
-whole_of b = record { class = b.heading.class; over = b.heading.over; role = b.heading.role; flags = b.heading.flags; before = b.heading.before; after = b.heading.after; arguments = b.heading.arguments; gives = b.heading.gives; code = b.code }
+whole_of b = record {
+  class = b.heading.class;
+  over = b.heading.over;
+  role = b.heading.role;
+  flags = b.heading.flags;
+  before = b.heading.before;
+  after = b.heading.after;
+  arguments = b.heading.arguments;
+  gives = b.heading.gives;
+  code = b.code;
+}
 
 abbrev with_code : Body → List Instr → Body
 with_code b code = record { heading = b.heading; labels = b.labels; code = code }
@@ -61,11 +74,12 @@ module _ (last : ℕ) (names : Names) (kinds : List ClassDecl) where
     says : ClassSays names kinds h.natives (count_by is_server cs) h.version (length cs) ws class
     same : q ≡ read_so_far h (cs ++ class ∷ []) ms None size
 
-  class_taken : (h : Header) (cs : List ClassDecl) (ms : List Method) (size : ℕ) (ws : List (List ℕ)) (q : Program) → with_class scope (read_so_far h cs ms None size) ws ≡ Ok q
-      → ClassStep h cs ms ws q
+  class_taken : (h : Header) (cs : List ClassDecl) (ms : List Method) (size : ℕ) (ws : List (List ℕ)) (q : Program) →
+      with_class scope (read_so_far h cs ms None size) ws ≡ Ok q → ClassStep h cs ms ws q
   class_taken h cs ms size ws q is =
       let servers = count_by is_server cs in
-      let i = passed (nat_lt (length cs) 256) (class_statement scope h.version h.natives (length cs) servers ws >>= λ c. grown (28 + family_bytes h.version) size >>= λ n. Ok (read_so_far h (cs ++ c.0 ∷ []) ms None n)) LimitPassed q is in
+      let i = passed (nat_lt (length cs) 256) (class_statement scope h.version h.natives
+      (length cs) servers ws >>= λ c. grown (28 + family_bytes h.version) size >>= λ n. Ok (read_so_far h (cs ++ c.0 ∷ []) ms None n)) LimitPassed q is in
       let s = steps (class_statement scope h.version h.natives (length cs) servers ws) (λ c. grown (28 + family_bytes h.version) size >>= λ n. Ok (read_so_far h (cs ++ c.0 ∷ []) ms None n)) q i.1 in
       let t = steps (grown (28 + family_bytes h.version) size) (λ n. Ok (read_so_far h (cs ++ s.first.0 ∷ []) ms None n)) q s.second in
       record {
@@ -85,7 +99,8 @@ module _ (last : ℕ) (names : Names) (kinds : List ClassDecl) where
       → with_heading scope ss (read_so_far h cs ms None size) ws ≡ Ok q → HeadingStep h cs ms ss ws q
   heading_taken h cs ms size ss ws q is =
       let body : Heading → Option Body = λ m. Some (record { heading = m; labels = labels_until [] ss; code = [] }) in
-      let i = passed (nat_lt (length ms) 1024) (heading scope h.version (length ms) ws >>= λ m. grown (24 + family_bytes h.version) size >>= λ n. Ok (read_so_far h cs ms (body m.0) n)) LimitPassed q is in
+      let i = passed (nat_lt (length ms) 1024) (heading scope h.version
+      (length ms) ws >>= λ m. grown (24 + family_bytes h.version) size >>= λ n. Ok (read_so_far h cs ms (body m.0) n)) LimitPassed q is in
       let s = steps (heading scope h.version (length ms) ws) (λ m. grown (24 + family_bytes h.version) size >>= λ n. Ok (read_so_far h cs ms (body m.0) n)) q i.1 in
       let t = steps (grown (24 + family_bytes h.version) size) (λ n. Ok (read_so_far h cs ms (body s.first.0) n)) q s.second in
       record {
@@ -115,7 +130,7 @@ module _ (last : ℕ) (names : Names) (kinds : List ClassDecl) where
         size = t.first;
         few = ltb-true (length b.code) 1024 i.0;
         says = (instruction_sound (length b.code) b.labels h.version names kinds ws).each u.first.0 u.first.1 u.read;
-        same = sym (ap (λ c. read_so_far h cs ms (Some c) t.first) (ok_is (added u.first.0) s.first u.second) ∙ ok_is (read_so_far h cs ms (Some s.first) t.first) q t.second);
+        same = grind (arith, nat_tests, read_so_far, ok_is);
       }
 
   record EndStep (h : Header) (cs : List ClassDecl) (ms : List Method) (size : ℕ) (b : Body) (ws : List (List ℕ)) (q : Program) : Type 0 where
@@ -123,8 +138,8 @@ module _ (last : ℕ) (names : Names) (kinds : List ClassDecl) where
     none : ws ≡ []
     same : q ≡ read_so_far h cs (ms ++ whole_of b ∷ []) None size
 
-  end_taken : (h : Header) (cs : List ClassDecl) (ms : List Method) (size : ℕ) (b : Body) (ws : List (List ℕ)) (q : Program) → with_method (read_so_far h cs ms None size) b ws ≡ Ok q
-      → EndStep h cs ms size b ws q
+  end_taken : (h : Header) (cs : List ClassDecl) (ms : List Method) (size : ℕ) (b : Body) (ws : List (List ℕ)) (q : Program) →
+      with_method (read_so_far h cs ms None size) b ws ≡ Ok q → EndStep h cs ms size b ws q
   end_taken h cs ms size b ws q is =
       let s = steps (method_of b) (λ m. nothing_more false ws >>= λ u. Ok (read_so_far h cs (ms ++ m ∷ []) None size)) q is in
       let t = steps (nothing_more false ws) (λ u. Ok (read_so_far h cs (ms ++ s.first ∷ []) None size)) q s.second in
@@ -133,7 +148,7 @@ module _ (last : ℕ) (names : Names) (kinds : List ClassDecl) where
       record {
         some = omega (arith, some);
         none = (none_left false ws t.first.0 t.first.1 t.read).0;
-        same = sym (ap (λ m. read_so_far h cs (ms ++ m ∷ []) None size) (ok_is (whole_of b) s.first i.1) ∙ ok_is (read_so_far h cs (ms ++ s.first ∷ []) None size) q t.second);
+        same = grind (arith, nat_tests, read_so_far, size, ok_is);
       }
 
   -- ---- the statements that are left
@@ -173,8 +188,8 @@ module _ (last : ℕ) (names : Names) (kinds : List ClassDecl) where
   IsFew (Some b) = length b.code ≤ 1024
 
   abbrev AllAfter : List Statement → Type 0
-  AllAfter ss = (o : Option Body) (h : Header) (cs : List ClassDecl) (ms : List Method) (size : ℕ) (q : Program) → IsFew o → read_rest last scope (read_so_far h cs ms o size) ss ≡ Ok q
-      → After h ss o cs ms q
+  AllAfter ss = (o : Option Body) (h : Header) (cs : List ClassDecl) (ms : List Method) (size : ℕ) (q : Program) →
+      IsFew o → read_rest last scope (read_so_far h cs ms o size) ss ≡ Ok q → After h ss o cs ms q
 
   nothing_after : AllAfter []
   nothing_after None h cs ms size q few is =
@@ -197,8 +212,8 @@ module _ (last : ℕ) (names : Names) (kinds : List ClassDecl) where
   nothing_after (Some b) h cs ms size q few is = absurd (no_ok BadShape q (said last (Err BadShape) q is))
 
   module _ (s : Statement) (ss : List Statement) (h : Header) (cs : List ClassDecl) (ms : List Method) (q : Program) where
-    add_class : (rest : List (List ℕ)) → s.words ≡ keyword_text k.Class ∷ rest → (c : ClassDecl) → ClassSays names kinds h.natives (count_by is_server cs) h.version (length cs) rest c
-        → Later h ss (cs ++ c ∷ []) ms q → Later h (s ∷ ss) cs ms q
+    add_class : (rest : List (List ℕ)) → s.words ≡ keyword_text k.Class ∷ rest → (c : ClassDecl) →
+        ClassSays names kinds h.natives (count_by is_server cs) h.version (length cs) rest c → Later h ss (cs ++ c ∷ []) ms q → Later h (s ∷ ss) cs ms q
     add_class rest begins c says later = record {
       declarations = source.class says.said ∷ later.declarations;
       words = ap (λ ws. ws ∷ all_words ss) (begins ∙ says.words) ∙ ap (λ r. class_words says.said ∷ r) later.words;
@@ -206,7 +221,7 @@ module _ (last : ℕ) (names : Names) (kinds : List ClassDecl) where
       more_classes = c ∷ later.more_classes;
       classes = later.classes ∙ append_assoc cs (c ∷ []) later.more_classes;
       class_means = (says.means, later.class_means);
-      class_places = (says.placed, subst (λ n. Placed names.classes n (map (λ t. t.name) (classes_of later.declarations))) (length_push cs c) later.class_places);
+      class_places = grind (arith, nat_tests, Placed names.classes, length_push cs c);
       more_methods = later.more_methods;
       methods = later.methods;
       method_means = later.method_means;
@@ -242,11 +257,11 @@ module _ (last : ℕ) (names : Names) (kinds : List ClassDecl) where
             },
             later.method_means,
           );
-          method_places = (says.placed, subst (λ n. Placed names.methods n (map (λ t. t.heading.name) (methods_of later.declarations))) (length_push ms m) later.method_places);
+          method_places = grind (arith, nat_tests, Placed names.methods, length_push ms m);
         }
 
-    add_end : (b : Body) (rest : List (List ℕ)) → s.words ≡ keyword_text k.End ∷ rest → rest ≡ [] → 1 ≤ length b.code → length b.code ≤ 1024 → Later h ss cs (ms ++ whole_of b ∷ []) q
-        → Inside h (s ∷ ss) b cs ms q
+    add_end : (b : Body) (rest : List (List ℕ)) → s.words ≡ keyword_text k.End ∷ rest →
+        rest ≡ [] → 1 ≤ length b.code → length b.code ≤ 1024 → Later h ss cs (ms ++ whole_of b ∷ []) q → Inside h (s ∷ ss) b cs ms q
     add_end b rest begins none some few later =
         let same : b.code ≡ b.code ++ [] = sym (append-nil b.code) in
         record {
@@ -277,8 +292,8 @@ module _ (last : ℕ) (names : Names) (kinds : List ClassDecl) where
         }
 
     -- a class or the beginning of a method
-    declared_after : AllAfter ss → (size : ℕ) (p : Program) → read_rest last scope p ss ≡ Ok q → (key : Keyword) (rest : List (List ℕ)) → any_keyword s.words ≡ Ok (key, rest)
-        → declaration scope ss (read_so_far h cs ms None size) key rest ≡ Ok p → Later h (s ∷ ss) cs ms q
+    declared_after : AllAfter ss → (size : ℕ) (p : Program) → read_rest last scope p ss ≡ Ok q → (key : Keyword) (rest : List (List ℕ)) →
+        any_keyword s.words ≡ Ok (key, rest) → declaration scope ss (read_so_far h cs ms None size) key rest ≡ Ok p → Later h (s ∷ ss) cs ms q
     declared_after all size p behind k.Class rest read is =
         let c = class_taken h cs ms size rest p is in
         add_class rest (begins_with s.words k.Class rest read) c.class c.says (all None h (cs ++ c.class ∷ []) ms c.size q tt (ap (λ p. read_rest last scope p ss) (sym c.same) ∙ behind))

@@ -1,6 +1,7 @@
 -- The parts of a listing are read one after another.
 use Rattle.std.proofs.lemmas.Bool.Decides.{nat_tests}
-use Rattle.std.proofs.Common.{◌≡◌, ℕ, suc, ◌+◌, ◌*◌, ◌<◌, ◌≤◌, ◌^◌, Bool, true, false, List, [], ◌∷◌, ◌++◌, length, Option, Some, None, Result, Ok, Err, refl, sym, ap, subst, ◌∙◌, append_assoc, append-nil, arith}
+use Rattle.std.proofs.Common.{◌≡◌, ℕ, suc, ◌+◌, ◌*◌, ◌<◌, ◌≤◌, ◌^◌, Bool, true, false, List, [], ◌∷◌, ◌++◌, length, Option, Some, None, Result, Ok, Err, refl}
+use Rattle.std.proofs.Common.{sym, ap, subst, ◌∙◌, append_assoc, append-nil, arith}
 use Rattle.std.specs.Prelude.{cond, if◌then◌else◌}
 use Rattle.std.specs.List.{All, count_by, sum_by}
 use Rattle.std.proofs.Math.ListN.{length-append}
@@ -62,7 +63,8 @@ has_its_label true place i = ap label_or_empty (label_cut (label_name place))
 has_its_label false place i = plain_has_no_label i
 
 -- the labels up to the end of a method are those of its code
-labels_there : (code : List Instr) (place : ℕ) (is : List Instr) (labels : List (List ℕ)) (left : List (List (List ℕ))) (ss : List Statement) → all_words ss ≡ instr_statements code place is ++ end_words ∷ left → labels_of labels ss ≡ labels ++ labels_from code place is
+labels_there : (code : List Instr) (place : ℕ) (is : List Instr) (labels : List (List ℕ)) (left : List (List (List ℕ))) (ss : List Statement) →
+    all_words ss ≡ instr_statements code place is ++ end_words ∷ left → labels_of labels ss ≡ labels ++ labels_from code place is
 labels_there code place [] labels left ss words =
     let f = first_of ss words in
     ap (labels_of labels) f.is ∙ ap (λ ws. if is_end ws then labels else labels_of (labels ++ label_in ws ∷ []) f.rest) f.here ∙ sym (append-nil labels)
@@ -105,21 +107,16 @@ module _ (last : ℕ) (h : Header) (classes methods : ℕ) (scope : Scope) (name
 
   -- ---- classes
 
-  class_steps : (cs : List ClassDecl) (c : ClassDecl) (size : ℕ) (rest : List Statement) → length cs < classes → ClassFits h.version classes h.natives c → fits_parent c → (is_server c ≡ true → count_by is_server cs < 8) → size + (28 + more) ≤ 2 ^ 20
+  class_steps : (cs : List ClassDecl) (c : ClassDecl) (size : ℕ) (rest : List Statement) → length cs < classes →
+      ClassFits h.version classes h.natives c → fits_parent c → (is_server c ≡ true → count_by is_server cs < 8) → size + (28 + more) ≤ 2 ^ 20
       → step scope rest (read_so_far h cs [] None size) (class_words (length cs) c) ≡ Ok (read_so_far h (cs ++ c ∷ []) [] None (size + (28 + more)))
-  class_steps cs c size rest there fits parent few enough = grind (
-    arith,
-    nat_tests,
-    takes_any_keyword,
-    lt-ltb,
-    class_statement_reads classes methods scope names h.version h.natives,
-    room,
-  )
+  class_steps cs c size rest there fits parent few enough =
+      grind (arith, nat_tests, takes_any_keyword, lt-ltb, class_statement_reads classes methods scope names h.version h.natives, room)
 
   pub classes_go : (cs todo : List ClassDecl) (size : ℕ) (left : List (List (List ℕ))) (ss : List Statement)
-      → length cs + length todo ≤ classes → All (ClassFits h.version classes h.natives) todo → All fits_parent todo → count_by is_server (cs ++ todo) ≤ 8 → size + sum_by (class_bytes h.version) todo ≤ 2 ^ 20
-      → all_words ss ≡ classes_statements (length cs) todo ++ left
-      → Goes last scope (read_so_far h cs [] None size) ss (read_so_far h (cs ++ todo) [] None (size + sum_by (class_bytes h.version) todo)) left
+      → length cs + length todo ≤ classes → All (ClassFits h.version classes h.natives) todo → All fits_parent todo → count_by is_server (cs ++ todo) ≤ 8 →
+      size + sum_by (class_bytes h.version) todo ≤ 2 ^ 20 → all_words ss ≡ classes_statements (length cs) todo ++ left →
+      Goes last scope (read_so_far h cs [] None size) ss (read_so_far h (cs ++ todo) [] None (size + sum_by (class_bytes h.version) todo)) left
   classes_go cs [] size left ss there fits parents few enough words =
       let same : size ≡ size + 0 = omega arith in
       stays ss (ap (λ l. read_so_far h l [] None size) (sym (append-nil cs)) ∙ ap (λ n. read_so_far h (cs ++ []) [] None n) same) words
@@ -130,9 +127,11 @@ module _ (last : ℕ) (h : Header) (classes methods : ℕ) (scope : Scope) (name
       let summed : (size + (28 + more)) + sum_by (class_bytes h.version) todo ≡ size + sum_by (class_bytes h.version) (c ∷ todo) = omega arith in
       goes_on
       (steps {q = read_so_far h (cs ++ c ∷ []) [] None (size + (28 + more))} {left = classes_statements (length cs + 1) todo ++ left} ss words
-      (λ rest behind. class_steps cs c size rest (omega arith) (All-head (ClassFits h.version classes h.natives) c todo fits) (All-head fits_parent c todo parents) (few_before cs c todo few) (omega arith)))
-      (λ rest behind. arrives (ap (λ l. read_so_far h l [] None ((size + (28 + more)) + sum_by (class_bytes h.version) todo)) regrouped ∙ ap (λ n. read_so_far h (cs ++ c ∷ todo) [] None n) summed)
-      (classes_go (cs ++ c ∷ []) todo (size + (28 + more)) left rest (omega arith) (All-tail (ClassFits h.version classes h.natives) c todo fits) (All-tail fits_parent c todo parents) (subst (λ l. count_by is_server l ≤ 8) (sym regrouped) few) (omega arith)
+      (λ rest behind. class_steps cs c size rest (omega arith)
+      (All-head (ClassFits h.version classes h.natives) c todo fits) (All-head fits_parent c todo parents) (few_before cs c todo few) (omega arith)))
+      (λ rest behind. arrives (grind (arith, nat_tests, class_bytes h.version))
+      (classes_go (cs ++ c ∷ []) todo (size + (28 + more)) left rest (omega arith) (All-tail (ClassFits h.version classes h.natives) c todo fits)
+      (All-tail fits_parent c todo parents) (subst (λ l. count_by is_server l ≤ 8) (sym regrouped) few) (omega arith)
       (behind ∙ ap (λ n. classes_statements n todo ++ left) (sym longer))))
 
   -- ---- methods
@@ -145,7 +144,8 @@ module _ (last : ℕ) (h : Header) (classes methods : ℕ) (scope : Scope) (name
     abbrev opened : List Method → Method → List Instr → ℕ → Program
     opened ms m code size = read_so_far h cs ms (Some (body_of m code)) size
 
-    heading_steps : (ms : List Method) (m : Method) (size : ℕ) (left : List (List (List ℕ))) (rest : List Statement) → length ms < methods → MethodFits h.version classes methods m → OverFits h.version methods m.over → SaysQuiet m → size + (24 + more) ≤ 2 ^ 20
+    heading_steps : (ms : List Method) (m : Method) (size : ℕ) (left : List (List (List ℕ))) (rest : List Statement) →
+        length ms < methods → MethodFits h.version classes methods m → OverFits h.version methods m.over → SaysQuiet m → size + (24 + more) ≤ 2 ^ 20
         → all_words rest ≡ instr_statements m.code 0 m.code ++ end_words ∷ left
         → step scope rest (read_so_far h cs ms None size) (heading_words (length ms) m) ≡ Ok (opened ms m [] (size + (24 + more)))
     heading_steps ms m size left rest there fits over quiet enough words =
@@ -153,8 +153,10 @@ module _ (last : ℕ) (h : Header) (classes methods : ℕ) (scope : Scope) (name
         let ws = others_of (heading_words (length ms) m) in
         let p = read_so_far h cs ms None size in
         ap (λ e. e >>= λ key. declaration scope rest p key.0 key.1) ((takes_any_keyword k.Method).reads ws)
-        ∙ ap (λ b. if b then (heading scope h.version (length ms) ws >>= λ x. grown (24 + more) size >>= λ n. Ok (read_so_far h cs ms (Some (record { heading = x.0; labels = labels_of [] rest; code = [] })) n)) else Err LimitPassed) (lt-ltb (length ms) 1024 (omega arith))
-        ∙ ap (λ e. e >>= λ x. grown (24 + more) size >>= λ n. Ok (read_so_far h cs ms (Some (record { heading = x.0; labels = labels_of [] rest; code = [] })) n)) (heading_reads names h.version (length ms) m there fits over quiet)
+        ∙ ap (λ b. if b then (heading scope h.version (length ms) ws >>= λ x. grown (24 + more) size >>= λ n. Ok (read_so_far h cs ms
+        (Some (record { heading = x.0; labels = labels_of [] rest; code = [] })) n)) else Err LimitPassed) (lt-ltb (length ms) 1024 (omega arith))
+        ∙ ap (λ e. e >>= λ x. grown (24 + more) size >>= λ n. Ok (read_so_far h cs ms
+        (Some (record { heading = x.0; labels = labels_of [] rest; code = [] })) n)) (heading_reads names h.version (length ms) m there fits over quiet)
         ∙ ap (λ e. e >>= λ n. Ok (read_so_far h cs ms (Some (record { heading = heading_of m; labels = labels_of [] rest; code = [] })) n)) (room (24 + more) size enough)
         ∙ ap (λ l. Ok (read_so_far h cs ms (Some (record { heading = heading_of m; labels = l; code = [] })) (size + (24 + more)))) (labels_there m.code 0 m.code [] left rest words)
 
@@ -162,7 +164,8 @@ module _ (last : ℕ) (h : Header) (classes methods : ℕ) (scope : Scope) (name
     abbrev added : List Method → Method → List Instr → ℕ → Result (Instr × List (List ℕ)) AsmFaultKind → Result Program AsmFaultKind
     added ms m done size read = (read >>= λ x. Ok (body_of m (done ++ x.0 ∷ []))) >>= λ b. grown 8 size >>= λ n. Ok (read_so_far h cs ms (Some b) n)
 
-    instruction_steps : (ms : List Method) (m : Method) (done : List Instr) (i : Instr) (todo : List Instr) (size : ℕ) (rest : List Statement) → MethodFits h.version classes methods m → m.code ≡ done ++ i ∷ todo → InstrFits (limits h.version classes methods (length m.code)) i → size + 8 ≤ 2 ^ 20
+    instruction_steps : (ms : List Method) (m : Method) (done : List Instr) (i : Instr) (todo : List Instr) (size : ℕ) (rest : List Statement) →
+        MethodFits h.version classes methods m → m.code ≡ done ++ i ∷ todo → InstrFits (limits h.version classes methods (length m.code)) i → size + 8 ≤ 2 ^ 20
         → step scope rest (opened ms m done size) (instr_words m.code (length done) i) ≡ Ok (opened ms m (done ++ i ∷ []) (size + 8))
     instruction_steps ms m done i todo size rest fits whole fit enough = grind (
       arith,
@@ -176,9 +179,9 @@ module _ (last : ℕ) (h : Header) (classes methods : ℕ) (scope : Scope) (name
     )
 
     instructions_go : (ms : List Method) (m : Method) (done todo : List Instr) (size : ℕ) (left : List (List (List ℕ))) (ss : List Statement)
-        → MethodFits h.version classes methods m → m.code ≡ done ++ todo → All (InstrFits (limits h.version classes methods (length m.code))) todo → size + 8 * length todo ≤ 2 ^ 20
-        → all_words ss ≡ instr_statements m.code (length done) todo ++ left
-        → Goes last scope (opened ms m done size) ss (opened ms m (done ++ todo) (size + 8 * length todo)) left
+        → MethodFits h.version classes methods m → m.code ≡ done ++ todo → All (InstrFits (limits h.version classes methods (length m.code))) todo →
+        size + 8 * length todo ≤ 2 ^ 20 → all_words ss ≡ instr_statements m.code (length done) todo ++ left →
+        Goes last scope (opened ms m done size) ss (opened ms m (done ++ todo) (size + 8 * length todo)) left
     instructions_go ms m done [] size left ss fits whole each enough words =
         let same : size ≡ size + 8 * 0 = omega arith in
         stays ss (ap (λ l. opened ms m l size) (sym (append-nil done)) ∙ ap (λ n. opened ms m (done ++ []) n) same) words
@@ -190,13 +193,16 @@ module _ (last : ℕ) (h : Header) (classes methods : ℕ) (scope : Scope) (name
         (steps {q = opened ms m (done ++ i ∷ []) (size + 8)} {left = instr_statements m.code (length done + 1) todo ++ left} ss words
         (λ rest behind. instruction_steps ms m done i todo size rest fits whole (All-head (InstrFits (limits h.version classes methods (length m.code))) i todo each) (omega arith)))
         (λ rest behind. arrives (ap (λ l. opened ms m l ((size + 8) + 8 * length todo)) regrouped ∙ ap (λ n. opened ms m (done ++ i ∷ todo) n) summed)
-        (instructions_go ms m (done ++ i ∷ []) todo (size + 8) left rest fits (whole ∙ sym regrouped) (All-tail (InstrFits (limits h.version classes methods (length m.code))) i todo each) (omega arith)
+        (instructions_go ms m (done ++ i ∷ []) todo (size + 8) left rest fits
+        (whole ∙ sym regrouped) (All-tail (InstrFits (limits h.version classes methods (length m.code))) i todo each) (omega arith)
         (behind ∙ ap (λ n. instr_statements m.code n todo ++ left) (sym longer))))
 
-    end_steps : (ms : List Method) (m : Method) (size : ℕ) (rest : List Statement) → 1 ≤ length m.code → step scope rest (opened ms m m.code size) end_words ≡ Ok (read_so_far h cs (ms ++ m ∷ []) None size)
+    end_steps : (ms : List Method) (m : Method) (size : ℕ) (rest : List Statement) →
+        1 ≤ length m.code → step scope rest (opened ms m m.code size) end_words ≡ Ok (read_so_far h cs (ms ++ m ∷ []) None size)
     end_steps ms m size rest some = grind (arith, nat_tests, ne_eqb)
 
-    method_goes : (ms : List Method) (m : Method) (size : ℕ) (left : List (List (List ℕ))) (ss : List Statement) → length ms < methods → MethodFits h.version classes methods m → OverFits h.version methods m.over → SaysQuiet m → size + spelled h.version m ≤ 2 ^ 20
+    method_goes : (ms : List Method) (m : Method) (size : ℕ) (left : List (List (List ℕ))) (ss : List Statement) →
+        length ms < methods → MethodFits h.version classes methods m → OverFits h.version methods m.over → SaysQuiet m → size + spelled h.version m ≤ 2 ^ 20
         → all_words ss ≡ method_statements (length ms) m ++ left
         → Goes last scope (read_so_far h cs ms None size) ss (read_so_far h cs (ms ++ m ∷ []) None (size + spelled h.version m)) left
     method_goes ms m size left ss there fits over quiet enough words =
@@ -213,9 +219,9 @@ module _ (last : ℕ) (h : Header) (classes methods : ℕ) (scope : Scope) (name
         (λ rest behind. steps rest behind (λ rest behind. end_steps ms m ((size + (24 + more)) + 8 * length m.code) rest fits.some_code))))
 
     pub methods_go : (ms todo : List Method) (size : ℕ) (left : List (List (List ℕ))) (ss : List Statement)
-        → length ms + length todo ≤ methods → All (MethodFits h.version classes methods) todo → All (λ m. OverFits h.version methods m.over) todo → All SaysQuiet todo → size + sum_by (spelled h.version) todo ≤ 2 ^ 20
-        → all_words ss ≡ methods_statements (length ms) todo ++ left
-        → Goes last scope (read_so_far h cs ms None size) ss (read_so_far h cs (ms ++ todo) None (size + sum_by (spelled h.version) todo)) left
+        → length ms + length todo ≤ methods → All (MethodFits h.version classes methods) todo → All (λ m. OverFits h.version methods m.over) todo →
+        All SaysQuiet todo → size + sum_by (spelled h.version) todo ≤ 2 ^ 20 → all_words ss ≡ methods_statements (length ms) todo ++ left →
+        Goes last scope (read_so_far h cs ms None size) ss (read_so_far h cs (ms ++ todo) None (size + sum_by (spelled h.version) todo)) left
     methods_go ms [] size left ss there fits overs quiet enough words =
         let same : size ≡ size + 0 = omega arith in
         stays ss (ap (λ l. read_so_far h cs l None size) (sym (append-nil ms)) ∙ ap (λ n. read_so_far h cs (ms ++ []) None n) same) words
@@ -226,8 +232,10 @@ module _ (last : ℕ) (h : Header) (classes methods : ℕ) (scope : Scope) (name
         let total : sum_by bytes (m ∷ todo) ≡ bytes m + sum_by bytes todo = sum_by-cons bytes m todo in
         let summed : (size + bytes m) + sum_by bytes todo ≡ size + sum_by bytes (m ∷ todo) = omega arith in
         goes_on
-        (method_goes ms m size (methods_statements (length ms + 1) todo ++ left) ss (omega arith) (All-head (MethodFits h.version classes methods) m todo fits) (All-head (λ m. OverFits h.version methods m.over) m todo overs) (All-head SaysQuiet m todo quiet) (omega arith)
+        (method_goes ms m size (methods_statements (length ms + 1) todo ++ left) ss (omega arith) (All-head (MethodFits h.version classes methods) m todo fits)
+        (All-head (λ m. OverFits h.version methods m.over) m todo overs) (All-head SaysQuiet m todo quiet) (omega arith)
         (words ∙ append_assoc (method_statements (length ms) m) (methods_statements (length ms + 1) todo) left))
-        (λ rest behind. arrives (ap (λ l. read_so_far h cs l None ((size + bytes m) + sum_by bytes todo)) regrouped ∙ ap (λ n. read_so_far h cs (ms ++ m ∷ todo) None n) summed)
-        (methods_go (ms ++ m ∷ []) todo (size + bytes m) left rest (omega arith) (All-tail (MethodFits h.version classes methods) m todo fits) (All-tail (λ m. OverFits h.version methods m.over) m todo overs) (All-tail SaysQuiet m todo quiet) (omega arith)
+        (λ rest behind. arrives (grind (arith, nat_tests))
+        (methods_go (ms ++ m ∷ []) todo (size + bytes m) left rest (omega arith) (All-tail (MethodFits h.version classes methods) m todo fits)
+        (All-tail (λ m. OverFits h.version methods m.over) m todo overs) (All-tail SaysQuiet m todo quiet) (omega arith)
         (behind ∙ ap (λ n. methods_statements n todo ++ left) (sym longer))))

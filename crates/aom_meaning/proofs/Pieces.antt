@@ -1,6 +1,7 @@
 -- What a reading took of the words before it, and what it takes: word by word, and part by part, both ways.
 use Rattle.std.proofs.lemmas.Bool.Decides.{nat_tests}
-use Rattle.std.proofs.Common.{arith, ◌≡◌, ℕ, Bool, true, false, List, [], ◌∷◌, ◌++◌, Option, Some, None, Result, Ok, Err, refl, sym, ap, ◌∙◌, get_or, slice_get, nat_lt}
+use Rattle.std.proofs.Common.{arith, ◌≡◌, ℕ, Bool, true, false, List, [], ◌∷◌, ◌++◌, Option, Some, None, Result, Ok, Err, refl, sym, ap, ◌∙◌, get_or}
+use Rattle.std.proofs.Common.{slice_get}
 use Rattle.std.specs.Prelude.{if◌then◌else◌}
 use Rattle.std.specs.List.{list_all}
 use Rattle.std.specs.Str.{bytes_eq}
@@ -10,14 +11,14 @@ use Rattle.std.proofs.lemmas.Slice.Eq.{bytes_eq-Decides}
 use Rattle.aom_text.specs.Names.{is_name}
 use Rattle.aom_text.specs.Words.{is_plain}
 use Rattle.aom_text.specs.declared.fault.AsmFaultKind.{AsmFaultKind}
-use Rattle.aom_text.specs.declared.fault.AsmFaultKind.TheVariants.{BadShape, UnknownName}
+use Rattle.aom_text.specs.declared.fault.AsmFaultKind.TheVariants.{BadShape}
 use Rattle.aom_syntax.specs.Keywords.{keyword_text}
 use Rattle.aom_syntax.specs.Names.{place_of, referred}
 use Rattle.aom_syntax.specs.Operands.{used}
 use Rattle.aom_syntax.specs.Reading.{◌>>=◌, Reading, as_name, keyword, name, next, nothing_more, seen, took, word}
 use Rattle.aom_syntax.specs.declared.keyword.Keyword.{Keyword}
 use Rattle.aom_syntax.proofs.Within.{ok_is, passed, saw_word, steps}
-use Rattle.aom_meaning.proofs.Readings.{Takes, Whole, reads_on, sees, takes_word, took_same}
+use Rattle.aom_meaning.proofs.Readings.{Takes, Whole, reads_on, sees, takes_word}
 use Rattle.aom_meaning.specs.Meaning.{IsNumbered, SaidOr}
 use Rattle.aom_meaning.specs.Source.{part, mark}
 use Rattle.aom_image.proofs.Given.{some_given}
@@ -128,10 +129,10 @@ pub takes_seen : {X : Type 0} {f : List ℕ → Result X AsmFaultKind} {w : List
 takes_seen {f = f} {w = w} r = sees f (takes_word w r.plain) r.says
 
 module _ {X : Type 0} (key : Keyword) (f : List ℕ → Result X AsmFaultKind) (Says : List ℕ → X → Type 0) (usual : X) where
-  pub reads_part : ((w : List ℕ) (x : X) → Says w x → Reads f w x) → (said : Option (List ℕ)) (x : X) (rest : List (List ℕ)) → SaidOr Says usual said x → NotNext key rest
-      → Leaves (optional key f Says usual) (part key said ++ rest) x rest
+  pub reads_part : ((w : List ℕ) (x : X) → Says w x → Reads f w x) → (said : Option (List ℕ)) (x : X) (rest : List (List ℕ)) →
+      SaidOr Says usual said x → NotNext key rest → Leaves (optional key f Says usual) (part key said ++ rest) x rest
   reads_part reads None x rest says other = record { reads = grind (arith, nat_tests, says) }
-  reads_part reads (Some w) x rest says other = record { reads = ap (λ p. if p.0 then seen f word p.1 else Ok (usual, p.1)) (took_same key (w ∷ rest)) ∙ (takes_seen (reads w x says)).reads rest }
+  reads_part reads (Some w) x rest says other = record { reads = grind arith }
 
 -- ---- names that are used
 
@@ -142,9 +143,7 @@ module _ (space : List (List ℕ)) where
       slice_get-get_or space n [] at.0 ∙ ap Some ((bytes_eq-Decides (get_or space n []) w).0 at.1)
 
   found : (limit n : ℕ) (w : List ℕ) → referred true limit (place_of w space) ≡ Ok n → slice_get space n ≡ Some w
-  found limit n w is = some_given (λ o. referred true limit o ≡ Ok n) (place_of w space) is (λ e. cc) (λ m there e.
-      let i = passed (nat_lt m limit) (Ok m) UnknownName n e in
-      placed w n (there ∙ ap Some (ok_is m n i.1)))
+  found limit n w is = grind (arith, nat_tests, some_given, w, passed, placed, ok_is)
 
   -- a name that is declared is read as its number
   pub record Used (ws : List (List ℕ)) (n : ℕ) (rest : List (List ℕ)) : Type 0 where

@@ -21,13 +21,8 @@ pub found_once : (space : List (List ℕ)) (w : List ℕ) (n : ℕ) → Declared
 found_once space w n once is =
     let within = slice_get_within space n w is.declared in
     let here : get_or space n [] ≡ w = get_or_from_slice_get space n w [] is.declared in
-    let other : (j : ℕ) → j < n → bytes_eq (get_or space j []) w ≡ false = grind (
-      arith,
-      nat_tests,
-      false_from_ne_true,
-      slice_get-get_or space,
-      bytes_eq-Decides,
-    ) in
+    let other : (j : ℕ) → j < n → bytes_eq (get_or space j []) w ≡ false =
+    grind (arith, nat_tests, false_from_ne_true, slice_get-get_or space, bytes_eq-Decides) in
     let at = position_or_len_is (λ v. bytes_eq v w) space n [] (omega arith) other (λ less. (bytes_eq-Decides (get_or space n []) w).1 here) in
     let less : nat_lt n (length space) ≡ true = lt-ltb n (length space) within in
     ap (λ m. cond (nat_lt m (length space)) (Some m) None) at ∙ rw less
@@ -51,8 +46,8 @@ scoped b names kinds = record { is_strict = b; classes = names.classes; methods 
 looks : (b : Bool) (limit : ℕ) (space : List (List ℕ)) → DeclaredOnce space → length space ≤ limit → (w : List ℕ) (n : ℕ) → IsNumbered space w n → referred b limit (place_of w space) ≡ Ok n
 looks b limit space once few w n is = grind (arith, nat_tests, slice_get_within space n w is.declared, found_once space w n once is, refers b limit n)
 
-pub looks_up : (b : Bool) (names : Names) (kinds : List ClassDecl) → DeclaredOnce names.classes → length names.classes ≤ 256 → DeclaredOnce names.methods → length names.methods ≤ 1024
-    → LooksUp names (scoped b names kinds)
+pub looks_up : (b : Bool) (names : Names) (kinds : List ClassDecl) →
+    DeclaredOnce names.classes → length names.classes ≤ 256 → DeclaredOnce names.methods → length names.methods ≤ 1024 → LooksUp names (scoped b names kinds)
 looks_up b names kinds classes few_classes methods few_methods = record { class = looks b 256 names.classes classes few_classes; method = looks b 1024 names.methods methods few_methods }
 
 -- what is found where names are told apart is found where they are not

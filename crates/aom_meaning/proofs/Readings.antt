@@ -1,10 +1,11 @@
 -- What a reading takes from the words before it, and how readings follow each other.
 use Rattle.std.proofs.lemmas.Bool.Decides.{nat_tests}
-use Rattle.std.proofs.Common.{◌≡◌, ℕ, ◌<◌, ◌≤◌, ◌^◌, Bool, true, false, List, [], ◌∷◌, ◌++◌, Some, Result, Ok, Err, refl, sym, ap, ◌∙◌, append_assoc, append-nil, arith}
+use Rattle.std.proofs.Common.{◌≡◌, ℕ, ◌<◌, ◌≤◌, ◌^◌, Bool, true, false, List, [], ◌∷◌, ◌++◌, Some, Result, Ok, Err, refl, sym, ap, ◌∙◌, append_assoc}
+use Rattle.std.proofs.Common.{append-nil, arith}
 use Rattle.std.specs.Prelude.{decimal, if◌then◌else◌}
 use Rattle.std.proofs.lemmas.Bool.{lt-ltb, eq-eqb}
 use Rattle.aom_text.specs.Names.{is_letter}
-use Rattle.aom_text.specs.declared.fault.AsmFaultKind.TheVariants.{NotAscii, BadShape}
+use Rattle.aom_text.specs.declared.fault.AsmFaultKind.TheVariants.{NotAscii}
 use Rattle.aom_syntax.specs.Names.{place_of}
 use Rattle.aom_syntax.specs.Operands.{indexed, used}
 use Rattle.aom_syntax.specs.Classes.{declared, declared_at, flag}
@@ -13,8 +14,8 @@ use Rattle.std.specs.Str.{bytes_eq}
 use Rattle.std.proofs.lemmas.Slice.Eq.{bytes_eq-Decides}
 use Rattle.aom_text.specs.Words.{is_plain}
 use Rattle.aom_text.specs.declared.fault.AsmFaultKind.{AsmFaultKind}
-use Rattle.aom_syntax.specs.Reading.{◌>>=◌, Reading, next, seen, giving, word, took, keyword, any_keyword, known, exactly, number, optional_number, name, as_name}
-use Rattle.aom_syntax.specs.Keywords.{keyword_text, keyword_of, strange}
+use Rattle.aom_syntax.specs.Reading.{◌>>=◌, Reading, next, seen, giving, word, took, keyword, any_keyword, number, optional_number, name}
+use Rattle.aom_syntax.specs.Keywords.{keyword_text}
 use Rattle.aom_syntax.specs.declared.keyword.Keyword.{Keyword}
 use Rattle.aom_meaning.proofs.Names.{lettered, name_lettered, plain_decimal, plain_lettered}
 use Rattle.aom_meaning.proofs.Numbers.{number_of_decimal, within}
@@ -93,9 +94,7 @@ made a f h {us = us} takes = record {
 
 -- what is seen in what was read
 pub sees : {X Y : Type 0} {r : Reading X} (f : X → Result Y AsmFaultKind) {us : List (List ℕ)} {x : X} {y : Y} → Takes r us x → f x ≡ Ok y → Takes (seen f r) us y
-sees f first e = record {
-  reads = λ rest. ap (λ e. e >>= λ p. f p.0 >>= λ y. Ok (y, p.1)) (first.reads rest) ∙ ap (λ e. e >>= λ y. Ok (y, rest)) e;
-}
+sees f first e = record { reads = λ rest. ap (λ e. e >>= λ p. f p.0 >>= λ y. Ok (y, p.1)) (first.reads rest) ∙ ap (λ e. e >>= λ y. Ok (y, rest)) e }
 
 pub takes_word : (w : List ℕ) → list_all is_plain w ≡ true → Takes word (w ∷ []) w
 takes_word w plain = record { reads = λ rest. ap (λ b. if b then Ok (w, rest) else Err NotAscii) plain }
@@ -106,10 +105,10 @@ bytes_eq_same : (w : List ℕ) → bytes_eq w w ≡ true
 bytes_eq_same w = (bytes_eq-Decides w w).1 refl
 
 pub takes_keyword : (key : Keyword) → Takes (keyword key) (keyword_text key ∷ []) tt
-takes_keyword key = sees (exactly key) (takes_word (keyword_text key) (keyword_is_plain key)) (ap (λ b. if b then Ok tt else Err (strange (keyword_text key))) (bytes_eq_same (keyword_text key)))
+takes_keyword key = grind (arith, nat_tests, sees, takes_word, keyword_is_plain key, bytes_eq_same)
 
 pub takes_any_keyword : (key : Keyword) → Takes any_keyword (keyword_text key ∷ []) key
-takes_any_keyword key = sees (λ w. known w (keyword_of w)) (takes_word (keyword_text key) (keyword_is_plain key)) (ap (known (keyword_text key)) (keyword_reads key))
+takes_any_keyword key = grind (arith, nat_tests, sees, takes_word, keyword_is_plain key, keyword_reads key)
 
 pub took_same : (key : Keyword) (ws : List (List ℕ)) → took key (keyword_text key ∷ ws) ≡ (true, ws)
 took_same key ws = ap (λ b. if b then (true, ws) else (false, keyword_text key ∷ ws)) (bytes_eq_same (keyword_text key))
@@ -120,29 +119,20 @@ takes_flag key = record { reads = λ rest. ap Ok (took_same key rest) }
 -- ---- numbers
 
 pub takes_number : (low high n : ℕ) → low ≤ n → n ≤ high → n < 2 ^ 50 → Takes (number low high) (decimal n ∷ []) n
-takes_number low high n above below small = grind (
-  arith,
-  nat_tests,
-  sees,
-  takes_word,
-  plain_decimal n,
-  number_of_decimal n small,
-  within low high n above below,
-)
+takes_number low high n above below small =
+    grind (arith, nat_tests, sees, takes_word, plain_decimal n, number_of_decimal n small, within low high n above below)
 
 pub takes_optional : (key : Keyword) (high n : ℕ) → n ≤ high → n < 2 ^ 50 → Takes (optional_number key high) (keyword_text key ∷ decimal n ∷ []) n
-takes_optional key high n below small = record {
-  reads = grind (arith, nat_tests, took_same key, takes_number 0 high n);
-}
+takes_optional key high n below small = record { reads = grind (arith, nat_tests, took_same key, takes_number 0 high n) }
 
 -- ---- names
 
 pub takes_name : (letter n : ℕ) → is_letter letter ≡ true → n < 2 ^ 32 → Takes name (lettered letter n ∷ []) (lettered letter n)
-takes_name letter n is small = sees as_name (takes_word (lettered letter n) (plain_lettered letter n is (omega arith)))
-    (ap (λ b. if b then Ok (lettered letter n) else Err BadShape) (name_lettered letter n is small))
+takes_name letter n is small = grind (arith, plain_lettered, name_lettered)
 
 -- a name that is used, where it has its number
-pub takes_used : (is_strict : Bool) (limit letter n : ℕ) (names : List (List ℕ)) → is_letter letter ≡ true → n < limit → limit ≤ 2 ^ 32 → place_of (lettered letter n) names ≡ Some n → Takes (used is_strict limit names) (lettered letter n ∷ []) n
+pub takes_used : (is_strict : Bool) (limit letter n : ℕ) (names : List (List ℕ)) → is_letter letter ≡ true →
+    n < limit → limit ≤ 2 ^ 32 → place_of (lettered letter n) names ≡ Some n → Takes (used is_strict limit names) (lettered letter n ∷ []) n
 takes_used is_strict limit letter n names is below few there = grind (arith, nat_tests, sees, takes_name letter n is, lt-ltb n limit below)
 
 pub declared_there : (letter n : ℕ) (names : List (List ℕ)) → place_of (lettered letter n) names ≡ Some n → declared_at n names (lettered letter n) ≡ Ok tt
@@ -158,4 +148,4 @@ pub indexed_reads : (letter highest n : ℕ) → n ≤ highest → n < 2 ^ 50 �
 indexed_reads letter highest n below small = grind (arith, nat_tests, eq-eqb letter letter, number_of_decimal n small, within 0 highest n)
 
 pub takes_indexed : (letter highest n : ℕ) → is_letter letter ≡ true → n ≤ highest → n < 2 ^ 50 → Takes (seen (indexed letter highest) word) (lettered letter n ∷ []) n
-takes_indexed letter highest n is below small = sees (indexed letter highest) (takes_word (lettered letter n) (plain_lettered letter n is (omega arith))) (indexed_reads letter highest n below small)
+takes_indexed letter highest n is below small = grind (arith, plain_lettered, indexed_reads)

@@ -1,6 +1,7 @@
 -- An instruction reads back with its label.
 use Rattle.std.proofs.lemmas.Bool.Decides.{nat_tests}
-use Rattle.std.proofs.Common.{◌≡◌, ℕ, ◌<◌, ◌≤◌, Bool, true, false, List, [], ◌∷◌, ◌++◌, length, slice_get, Some, Ok, Err, refl, sym, ap, ◌∙◌, append_assoc, arith}
+use Rattle.std.proofs.Common.{◌≡◌, ℕ, ◌<◌, ◌≤◌, Bool, true, false, List, [], ◌∷◌, ◌++◌, length, slice_get, Some, Ok, Err, refl, sym, ap, ◌∙◌, append_assoc}
+use Rattle.std.proofs.Common.{arith}
 use Rattle.std.specs.Prelude.{if◌then◌else◌}
 use Rattle.std.specs.List.{list_all}
 use Rattle.std.proofs.Math.ListN.{length-append}
@@ -41,9 +42,7 @@ module _ (version : Version) (place : ℕ) (labels : List (List ℕ)) (m : Mnemo
 
   -- a word without a colon is no label
   plainly : Takes (after_label place labels) (mnemonic_text m ∷ []) (mnemonic_text m)
-  plainly = in_turn _ (takes_word (mnemonic_text m) (mnemonic_is_plain m)) (record {
-    reads = λ rest. ap (λ o. skip_label place labels (mnemonic_text m) o rest) (mnemonic_is_no_label m);
-  })
+  plainly = search (arith, nat_tests, in_turn, takes_word, mnemonic_is_plain m, mnemonic_is_no_label m)
 
   -- a label is skipped
   past_label : place < 1024 → place_of (label_name place) labels ≡ Some place → Takes (after_label place labels) ((label_name place ++ 58 ∷ []) ∷ mnemonic_text m ∷ []) (mnemonic_text m)
@@ -57,15 +56,16 @@ module _ (version : Version) (place : ℕ) (labels : List (List ℕ)) (m : Mnemo
       checked : place < 1024 → place_of (label_name place) labels ≡ Some place → check_label place labels (label_name place) ≡ Ok tt
       checked few there = grind (arith, nat_tests, name_lettered 76 place, declared_there 76 place labels there)
 
-  pub takes_mnemonic : is_in version m ≡ true → (b : Bool) → (b ≡ true → (place < 1024) × (place_of (label_name place) labels ≡ Some place)) → Takes (seen (named_mnemonic version) (after_label place labels)) (label_words b place ++ mnemonic_text m ∷ []) m
+  pub takes_mnemonic : is_in version m ≡ true → (b : Bool) → (b ≡ true → (place < 1024) × (place_of (label_name place) labels ≡ Some place)) →
+      Takes (seen (named_mnemonic version) (after_label place labels)) (label_words b place ++ mnemonic_text m ∷ []) m
   takes_mnemonic known true labelled = let there = labelled refl in sees (named_mnemonic version) (past_label there.0 there.1) (reads_mnemonic known)
   takes_mnemonic known false labelled = sees (named_mnemonic version) plainly (reads_mnemonic known)
 
 -- ---- instructions
 
 module _ {classes methods : ℕ} {scope : Scope} (names : HasNames classes methods scope) (version : Version) (code : List Instr) (few : length code ≤ 1024) where
-  pub instruction_reads : (place : ℕ) (i : Instr) → place < length code → slice_get code place ≡ Some i → InstrFits (limits version classes methods (length code)) i
-      → instruction scope version (code_labels code) place (instr_words code place i) ≡ Ok (i, [])
+  pub instruction_reads : (place : ℕ) (i : Instr) → place < length code → slice_get code place ≡ Some i →
+      InstrFits (limits version classes methods (length code)) i → instruction scope version (code_labels code) place (instr_words code place i) ≡ Ok (i, [])
   instruction_reads place i within there fits =
       let labels = code_labels code in
       let said = says names version labels (length code) i fits (has_label version classes methods code place i few there fits) in

@@ -1,6 +1,7 @@
 -- The names that a listing declares are those of its classes and methods, each at its number.
 use Rattle.std.proofs.lemmas.Bool.Decides.{nat_tests}
-use Rattle.std.proofs.Common.{◌≡◌, ℕ, zero, suc, ◌+◌, ◌<◌, ◌≤◌, Bool, List, [], ◌∷◌, ◌++◌, length, get_or, Some, None, refl, sym, ap, ◌∙◌, append_assoc, append-nil, arith}
+use Rattle.std.proofs.Common.{◌≡◌, ℕ, zero, suc, ◌+◌, ◌<◌, ◌≤◌, Bool, List, [], ◌∷◌, ◌++◌, length, get_or, Some, None, refl, sym, ap, ◌∙◌, append_assoc}
+use Rattle.std.proofs.Common.{append-nil, arith}
 use Rattle.aom_text.specs.declared.text.Statement.{Statement}
 use Rattle.aom_image.specs.Image.{Image}
 use Rattle.aom_image.specs.declared.class.ClassDecl.{ClassDecl}
@@ -95,10 +96,7 @@ method_names_of_classes n (c ∷ cs) names = method_names_of_classes (n + 1) cs 
 
 class_names_of_methods : (n : ℕ) (ms : List Method) (names : List (List ℕ)) → by_words k.Class names (methods_statements n ms) ≡ names
 class_names_of_methods n [] names = refl
-class_names_of_methods n (m ∷ ms) names =
-    by_words_more k.Class names (method_statements n m) (methods_statements (n + 1) ms)
-    ∙ ap (λ l. by_words k.Class l (methods_statements (n + 1) ms)) (body_silent k.Class silent_class m.code names)
-    ∙ class_names_of_methods (n + 1) ms names
+class_names_of_methods n (m ∷ ms) names = grind (arith, by_words_more, body_silent, class_names_of_methods (n + 1) ms names)
 
 method_names_of_methods : (n : ℕ) (ms : List Method) (names : List (List ℕ)) → by_words k.Method names (methods_statements n ms) ≡ names ++ names_from method_name n ms
 method_names_of_methods n [] names = sym (append-nil names)
@@ -120,31 +118,14 @@ image_no_method [] = refl
 image_no_method (w ∷ ws) = refl
 
 declared_classes : (i : Image) (ss : List Statement) → all_words ss ≡ listing i → declared_names k.Class [] ss ≡ names_from class_name 0 i.classes
-declared_classes i ss words = grind (
-  arith,
-  nat_tests,
-  declared_by_words,
-  image_no_class,
-  by_words_more,
-  class_names_of_methods 0 i.methods,
-  class_names_of_classes 0 i.classes,
-)
+declared_classes i ss words =
+    grind (arith, nat_tests, declared_by_words, image_no_class, by_words_more, class_names_of_methods 0 i.methods, class_names_of_classes 0 i.classes)
 
 declared_methods : (i : Image) (ss : List Statement) → all_words ss ≡ listing i → declared_names k.Method [] ss ≡ names_from method_name 0 i.methods
-declared_methods i ss words = grind (
-  arith,
-  nat_tests,
-  declared_by_words,
-  image_no_method,
-  by_words_more,
-  method_names_of_classes 0 i.classes,
-  method_names_of_methods 0 i.methods,
-)
+declared_methods i ss words =
+    grind (arith, nat_tests, declared_by_words, image_no_method, by_words_more, method_names_of_classes 0 i.classes, method_names_of_methods 0 i.methods)
 
-pub has_names : (i : Image) (ss : List Statement) (is_strict : Bool) (kinds : List ClassDecl) → length i.classes ≤ 256 → length i.methods ≤ 1024 → all_words ss ≡ listing i → HasNames (length i.classes) (length i.methods) (scope_of is_strict ss kinds)
-has_names i ss is_strict kinds few_classes few_methods words = record {
-  few_classes = few_classes;
-  few_methods = few_methods;
-  class = λ c there. ap (place_of (class_name c)) (declared_classes i ss words) ∙ numbered 99 i.classes c (omega arith) there;
-  method = λ m there. ap (place_of (method_name m)) (declared_methods i ss words) ∙ numbered 109 i.methods m few_methods there;
-}
+pub has_names : (i : Image) (ss : List Statement) (is_strict : Bool) (kinds : List ClassDecl) →
+    length i.classes ≤ 256 → length i.methods ≤ 1024 → all_words ss ≡ listing i → HasNames (length i.classes) (length i.methods) (scope_of is_strict ss kinds)
+has_names i ss is_strict kinds few_classes few_methods words =
+    search (arith, nat_tests, declared_classes i ss words, numbered 99 i.classes, declared_methods i ss words, numbered 109 i.methods)

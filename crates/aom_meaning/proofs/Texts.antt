@@ -2,12 +2,12 @@
 use Rattle.std.proofs.lemmas.Bool.Decides.{nat_tests}
 use Rattle.std.proofs.lemmas.Option.{same_Some, slice_get-map}
 use Rattle.std.proofs.lemmas.Bool.{false_from_ne_true}
-use Rattle.std.proofs.Common.{◌≡◌, ℕ, zero, suc, ◌+◌, Bool, true, false, List, [], ◌∷◌, ◌++◌, map, Option, Some, None, refl, sym, ap, ◌∙◌, append_assoc, append-nil, arith, slice_get, subst}
-use Rattle.std.specs.Prelude.{IfSome, if◌then◌else◌, option_map}
+use Rattle.std.proofs.Common.{◌≡◌, ℕ, zero, suc, ◌+◌, Bool, true, false, List, [], ◌∷◌, ◌++◌, map, Option, Some, None, refl, sym, ap, ◌∙◌, append_assoc}
+use Rattle.std.proofs.Common.{append-nil, arith, slice_get, subst}
+use Rattle.std.specs.Prelude.{IfSome, if◌then◌else◌}
 use Rattle.std.specs.Str.{bytes_eq}
 use Rattle.std.proofs.lemmas.Slice.Eq.{bytes_eq-Decides}
 use Rattle.aom_text.specs.Names.{is_name}
-use Rattle.aom_text.specs.Words.{others_of}
 use Rattle.aom_text.specs.declared.text.Statement.{Statement}
 use Rattle.aom_syntax.specs.Keywords.{keyword_text}
 use Rattle.aom_syntax.specs.Methods.{label_of}
@@ -16,7 +16,7 @@ use Rattle.aom_syntax.specs.Names.{place_of}
 use Rattle.aom_syntax.specs.declared.keyword.Keyword.{Keyword}
 use Rattle.aom_syntax.specs.declared.keyword.Keyword.TheVariants as k
 use Rattle.aom_instructions.specs.declared.mnemonic.Mnemonic.{Mnemonic}
-use Rattle.aom_asm.specs.TextNames.{declared_names, is_end, label_in, label_or_none, labels_of as labels_until, name_after, with_name}
+use Rattle.aom_asm.specs.TextNames.{declared_names, is_end, label_in, label_or_none, labels_of as labels_until, name_after}
 use Rattle.aom_meaning.specs.Texts.{all_words}
 use Rattle.aom_meaning.proofs.Statements.{label_cut}
 use Rattle.aom_meaning.proofs.Tables.{mnemonic_is_no_label}
@@ -24,7 +24,8 @@ use Rattle.aom_meaning.proofs.TextNames.{by_words, by_words_more, declared_by_wo
 use Rattle.aom_meaning.specs.Denotes.{names_of}
 use Rattle.aom_meaning.specs.Meaning.{DeclaredOnce, Names, labels_of}
 use Rattle.aom_meaning.specs.Source as source
-use Rattle.aom_meaning.specs.Source.{Declaration, InstructionText, Source, classes_of, declaration_statements, declared_statements, end_words, header_words, instruction_words, label_words, methods_of, source_statements}
+use Rattle.aom_meaning.specs.Source.{Declaration, InstructionText, Source, classes_of, declaration_statements, declared_statements, end_words, header_words}
+use Rattle.aom_meaning.specs.Source.{instruction_words, label_words, methods_of, source_statements}
 use Rattle.aom_meaning.proofs.Pieces.{NotNext, not_word}
 use Rattle.aom_meaning.proofs.Places.{once_found}
 use Rattle.aom_meaning.proofs.Following.{first_of}
@@ -57,7 +58,7 @@ module _ (key : Keyword) (foreign : Foreign key) where
 
   code_nameless : (code : List InstructionText) (names : List (List ℕ)) → by_words key names (map instruction_words code) ≡ names
   code_nameless [] names = refl
-  code_nameless (t ∷ ts) names = ap (λ o. by_words key (with_name names o) (map instruction_words ts)) (nameless t.label t.mnemonic t.operands) ∙ code_nameless ts names
+  code_nameless (t ∷ ts) names = grind (arith, nat_tests, by_words, nameless, code_nameless ts names)
 
   body_nameless : (code : List InstructionText) (names : List (List ℕ)) → by_words key names (map instruction_words code ++ end_words ∷ []) ≡ names
   body_nameless code names = by_words_more key names (map instruction_words code) (end_words ∷ []) ∙ code_nameless code names
@@ -90,11 +91,9 @@ class_names (source.method t ∷ ds) names =
 method_names : (ds : List Declaration) (names : List (List ℕ)) → by_words k.Method names (declared_statements ds) ≡ names ++ map (λ t. t.heading.name) (methods_of ds)
 method_names [] names = sym (append-nil names)
 method_names (source.class t ∷ ds) names = method_names ds names
-method_names (source.method t ∷ ds) names =
-    by_words_more k.Method names (declaration_statements (source.method t)) (declared_statements ds)
-    ∙ ap (λ l. by_words k.Method l (declared_statements ds)) (body_nameless k.Method (record { mnemonic = method_foreign; label = refl }) t.code (names ++ t.heading.name ∷ []))
-    ∙ method_names ds (names ++ t.heading.name ∷ [])
-    ∙ append_assoc names (t.heading.name ∷ []) (map (λ t. t.heading.name) (methods_of ds))
+method_names (source.method t ∷ ds) names = by_words_more k.Method names (declaration_statements (source.method t)) (declared_statements ds) ∙ ap (λ l. by_words
+    k.Method l (declared_statements ds)) (body_nameless k.Method (record { mnemonic = method_foreign; label = refl }) t.code (names ++ t.heading.name ∷ []))
+    ∙ method_names ds (names ++ t.heading.name ∷ []) ∙ append_assoc names (t.heading.name ∷ []) (map (λ t. t.heading.name) (methods_of ds))
 
 -- the names that statements declare
 abbrev pub text_names : List Statement → Names
@@ -102,12 +101,7 @@ text_names ss = record { classes = declared_names k.Class [] ss; methods = decla
 
 pub names_are : (s : Source) (ss : List Statement) → all_words ss ≡ source_statements s → text_names ss ≡ names_of s
 names_are s ss words =
-    let classes = declared_by_words k.Class [] ss ∙ ap (by_words k.Class []) words
-    ∙ ap (λ o. by_words k.Class (with_name [] o) (declared_statements s.declarations)) (image_no_class (others_of (header_words s.header))) ∙ class_names s.declarations [] in
-    let methods = declared_by_words k.Method [] ss ∙ ap (by_words k.Method []) words
-    ∙ ap (λ o. by_words k.Method (with_name [] o) (declared_statements s.declarations)) (image_no_method (others_of (header_words s.header))) ∙ method_names s.declarations [] in
-    ap (λ (l : List (List ℕ)). record { classes = l; methods = declared_names k.Method [] ss }) classes
-    ∙ ap (λ (l : List (List ℕ)). record { classes = map (λ t. t.name) (classes_of s.declarations); methods = l }) methods
+    search (arith, nat_tests, declared_by_words, by_words, image_no_class, class_names s.declarations, image_no_method, method_names s.declarations)
 
 -- ---- labels
 
@@ -153,17 +147,10 @@ abbrev pub Placed : List (List ℕ) → ℕ → List (List ℕ) → Type 0
 Placed space n ws = EachAt (λ k w. place_of w space ≡ Some k) n ws
 
 pub placed_once : (space : List (List ℕ)) → Placed space 0 space → DeclaredOnce space
-placed_once space placed = once_found space (record {
-  found = λ w n is. (let same : 0 + n ≡ n = omega arith in nth_at (λ k w. place_of w space ≡ Some k) 0 space n w placed is.declared ∙ ap Some same);
-})
+placed_once space placed = search (arith, nat_tests, once_found space, nth_at)
 
 name_of_label : (label : Option (List ℕ)) (w : List ℕ) → label_or_none label ≡ w → is_name w ≡ true → label ≡ Some w
 name_of_label x w same is = grind arith
 
 pub labels_once : (code : List InstructionText) → LabelsPlaced (labels_of code) 0 code → DeclaredOnce (labels_of code)
-labels_once code placed = once_found (labels_of code) (record {
-  found = λ w n is. (let same : 0 + n ≡ n = omega arith in some_given (λ o. option_map (λ t. label_or_none t.label) o ≡ Some w) (slice_get code n) (sym (slice_get-map (λ t. label_or_none t.label) code n) ∙ is.declared)
-      (λ e. cc) (λ t there e.
-      let named = name_of_label t.label w (same_Some (label_or_none t.label) w e) is.is_name in
-      subst (λ o. IfSome o (λ l. place_of l (labels_of code) ≡ Some (0 + n))) named (nth_at (LabelAt (labels_of code)) 0 code n t placed there)) ∙ ap Some same);
-})
+labels_once code placed = search (arith, nat_tests, once_found, some_given, slice_get-map, name_of_label, same_Some, nth_at)

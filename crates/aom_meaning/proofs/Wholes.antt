@@ -1,6 +1,7 @@
 -- Statements that mean a program are read as that program, whether names are told apart or not.
 use Rattle.std.proofs.lemmas.Bool.Decides.{nat_tests}
-use Rattle.std.proofs.Common.{◌≡◌, ℕ, suc, ◌+◌, ◌*◌, ◌<◌, ◌≤◌, ◌^◌, Bool, true, List, [], ◌∷◌, ◌++◌, map, length, slice_get, Option, Some, None, Result, Ok, Err, refl, sym, ap, subst, ◌∙◌, append_assoc, append-nil, arith}
+use Rattle.std.proofs.Common.{◌≡◌, ℕ, suc, ◌+◌, ◌*◌, ◌<◌, ◌≤◌, ◌^◌, Bool, true, List, [], ◌∷◌, ◌++◌, map, length, Option, Some, None, Result, Ok}
+use Rattle.std.proofs.Common.{Err, refl, sym, ap, subst, ◌∙◌, append_assoc, append-nil, arith}
 use Rattle.std.specs.Prelude.{IfSome, if◌then◌else◌}
 use Rattle.std.specs.List.{count_by, sum_by}
 use Rattle.std.proofs.lemmas.Bool.{lt-ltb, ne_eqb}
@@ -35,7 +36,8 @@ use Rattle.aom_meaning.proofs.Parts.{few_before, read_so_far}
 use Rattle.aom_meaning.proofs.Readings.{takes_any_keyword}
 use Rattle.aom_meaning.specs.Meaning.{ClassMeans, DeclaredOnce, HeadingMeans, InstructionMeans, MethodMeans, Names, labels_of}
 use Rattle.aom_meaning.specs.Source as source
-use Rattle.aom_meaning.specs.Source.{ClassText, Declaration, InstructionText, MethodText, class_words, classes_of, declared_statements, end_words, heading_words, instruction_words, kind_words, methods_of, part, promise_words}
+use Rattle.aom_meaning.specs.Source.{ClassText, Declaration, InstructionText, MethodText, class_words, classes_of, declared_statements, end_words}
+use Rattle.aom_meaning.specs.Source.{heading_words, instruction_words, kind_words, methods_of, part, promise_words}
 use Rattle.aom_meaning.proofs.Classes.{class_reads}
 use Rattle.aom_meaning.proofs.Headings.{heading_reads}
 use Rattle.aom_meaning.proofs.Instructions.{instruction_reads}
@@ -50,37 +52,35 @@ regrouped : {X : Type 0} (front : List X) (x : X) (xs : List X) → front ++ x �
 regrouped front x xs = sym (append_assoc front (x ∷ []) xs)
 
 at_place : (space front : List (List ℕ)) (w : List ℕ) (ws : List (List ℕ)) → DeclaredOnce space → space ≡ front ++ w ∷ ws → is_name w ≡ true → place_of w space ≡ Some (length front)
-at_place space front w ws once whole is = found_once space w (length front) once (record { is_name = is; declared = ap (λ l. slice_get l (length front)) whole ∙ at_seam front w ws })
+at_place space front w ws once whole is = search (arith, nat_tests, found_once space w, at_seam front w ws)
 
 pub classes_placed : (names : Names) (version : Version) (natives : ℕ) (space : List (List ℕ)) → DeclaredOnce space → (front : List (List ℕ)) (ts : List ClassText) (cs : List ClassDecl)
     → Pairs (ClassMeans names version natives) ts cs → space ≡ front ++ map (λ t. t.name) ts → Placed space (length front) (map (λ t. t.name) ts)
 classes_placed names version natives space once front _ _ no_pair whole = tt
 classes_placed names version natives space once front _ _ (a_pair t ts c cs here more) whole = (
   at_place space front t.name (map (λ t. t.name) ts) once whole here.name,
-  subst (λ n. Placed space n (map (λ t. t.name) ts)) (length_push front t.name) (classes_placed names version natives space once (front ++ t.name ∷ []) ts cs more
-      (whole ∙ regrouped front t.name (map (λ t. t.name) ts))),
+  grind (arith, length_push, classes_placed names version natives space once (front ++ t.name ∷ []) ts cs more, regrouped),
 )
 
-pub methods_placed : (names : Names) (version : Version) (b : Bool) (kinds : List ClassDecl) (space : List (List ℕ)) → DeclaredOnce space → (front : List (List ℕ)) (ts : List MethodText) (ms : List Method)
-    → Pairs (MethodMeans names version b kinds) ts ms → space ≡ front ++ map (λ t. t.heading.name) ts → Placed space (length front) (map (λ t. t.heading.name) ts)
+pub methods_placed : (names : Names) (version : Version) (b : Bool) (kinds : List ClassDecl) (space : List (List ℕ)) →
+    DeclaredOnce space → (front : List (List ℕ)) (ts : List MethodText) (ms : List Method) →
+    Pairs (MethodMeans names version b kinds) ts ms → space ≡ front ++ map (λ t. t.heading.name) ts → Placed space (length front) (map (λ t. t.heading.name) ts)
 methods_placed names version b kinds space once front _ _ no_pair whole = tt
 methods_placed names version b kinds space once front _ _ (a_pair t ts m ms here more) whole = (
   at_place space front t.heading.name (map (λ t. t.heading.name) ts) once whole here.heading.name,
-  subst (λ n. Placed space n (map (λ t. t.heading.name) ts)) (length_push front t.heading.name)
-      (methods_placed names version b kinds space once (front ++ t.heading.name ∷ []) ts ms more (whole ∙ regrouped front t.heading.name (map (λ t. t.heading.name) ts))),
+  grind (arith, length_push, methods_placed names version b kinds space once (front ++ t.heading.name ∷ []) ts ms more, regrouped),
 )
 
 one_label : (labels front : List (List ℕ)) (label : Option (List ℕ)) (rest : List (List ℕ)) → DeclaredOnce labels → labels ≡ front ++ label_or_none label ∷ rest
     → IfSome label (λ l. is_name l ≡ true) → IfSome label (λ l. place_of l labels ≡ Some (length front))
 one_label labels front x rest once whole is = grind (arith, nat_tests, at_place labels front)
 
-labels_placed : (names : Names) (version : Version) (all labels : List (List ℕ)) → DeclaredOnce labels → (front : List (List ℕ)) (ts : List InstructionText) (is : List Instr)
-    → Pairs (InstructionMeans names version all) ts is → labels ≡ front ++ labels_of ts → LabelsPlaced labels (length front) ts
+labels_placed : (names : Names) (version : Version) (all labels : List (List ℕ)) → DeclaredOnce labels → (front : List (List ℕ)) (ts : List InstructionText)
+    (is : List Instr) → Pairs (InstructionMeans names version all) ts is → labels ≡ front ++ labels_of ts → LabelsPlaced labels (length front) ts
 labels_placed names version all labels once front _ _ no_pair whole = tt
 labels_placed names version all labels once front _ _ (a_pair t ts i is here more) whole = (
   one_label labels front t.label (labels_of ts) once whole here.label,
-  subst (λ n. LabelsPlaced labels n ts) (length_push front (label_or_none t.label)) (labels_placed names version all labels once (front ++ label_or_none t.label ∷ []) ts is more
-      (whole ∙ regrouped front (label_or_none t.label) (labels_of ts))),
+  grind (arith, length_push, labels_placed names version all labels once (front ++ label_or_none t.label ∷ []) ts is more, regrouped),
 )
 
 -- ---- statement by statement
@@ -93,16 +93,17 @@ module _ (last : ℕ) (names : Names) (h : Header) (b : Bool) (kinds : List Clas
   abbrev more : ℕ
   more = family_bytes h.version
 
-  class_step : (cs : List ClassDecl) (ms : List Method) (t : ClassText) (c : ClassDecl) (size : ℕ) (rest : List Statement) → length cs < 256 → ClassMeans names h.version h.natives t c
-      → place_of t.name names.classes ≡ Some (length cs) → (is_server c ≡ true → count_by is_server cs < 8) → size + (28 + more) ≤ 2 ^ 20
-      → step scope rest (read_so_far h cs ms None size) (class_words t) ≡ Ok (read_so_far h (cs ++ c ∷ []) ms None (size + (28 + more)))
+  class_step : (cs : List ClassDecl) (ms : List Method) (t : ClassText) (c : ClassDecl) (size : ℕ) (rest : List Statement) → length cs < 256 →
+      ClassMeans names h.version h.natives t c → place_of t.name names.classes ≡ Some (length cs) → (is_server c ≡ true → count_by is_server cs < 8) → size
+      + (28 + more) ≤ 2 ^ 20 → step scope rest (read_so_far h cs ms None size) (class_words t) ≡ Ok (read_so_far h (cs ++ c ∷ []) ms None (size + (28 + more)))
   class_step cs ms t c size rest few means placed servers enough =
       let words = t.name ∷ (kind_words t.kind ++ (part k.From t.parent ++ (part k.Words t.words ++ (part k.Own t.own ++ part k.Budget t.budget)))) in
       let p = read_so_far h cs ms None size in
       ap (λ e. e >>= λ key. declaration scope rest p key.0 key.1) ((takes_any_keyword k.Class).reads words)
       ∙ ap (λ b. if b then (class_statement scope h.version h.natives (length cs) (count_by is_server cs) words >>= λ x. grown (28 + more) size >>= λ n. Ok
       (read_so_far h (cs ++ x.0 ∷ []) ms None n)) else Err LimitPassed) (lt-ltb (length cs) 256 few)
-      ∙ ap (λ e. e >>= λ x. grown (28 + more) size >>= λ n. Ok (read_so_far h (cs ++ x.0 ∷ []) ms None n)) (class_reads looks h.version h.natives (count_by is_server cs) (length cs) t c means placed servers).reads
+      ∙ ap (λ e. e >>= λ x. grown (28 + more) size >>= λ n. Ok (read_so_far h (cs ++ x.0 ∷ []) ms None n))
+      (class_reads looks h.version h.natives (count_by is_server cs) (length cs) t c means placed servers).reads
       ∙ ap (λ e. e >>= λ n. Ok (read_so_far h (cs ++ c ∷ []) ms None n)) (room (28 + more) size enough)
 
   module _ (cs : List ClassDecl) where
@@ -133,8 +134,8 @@ module _ (last : ℕ) (names : Names) (h : Header) (b : Bool) (kinds : List Clas
     added ms t m done size read = (read >>= λ x. Ok (body_of t m (done ++ x.0 ∷ []))) >>= λ b. grown 8 size >>= λ n. Ok (read_so_far h cs ms (Some b) n)
 
     code_step : (ms : List Method) (t : MethodText) (m : Method) (done : List Instr) (one : InstructionText) (i : Instr) (size : ℕ) (rest : List Statement) → length done < 1024
-        → InstructionMeans names h.version (labels_of t.code) one i → IfSome one.label (λ l. place_of l (labels_of t.code) ≡ Some (length done)) → size + 8 ≤ 2 ^ 20
-        → step scope rest (open_method ms t m done size) (instruction_words one) ≡ Ok (open_method ms t m (done ++ i ∷ []) (size + 8))
+        → InstructionMeans names h.version (labels_of t.code) one i → IfSome one.label (λ l. place_of l (labels_of t.code) ≡ Some (length done)) →
+        size + 8 ≤ 2 ^ 20 → step scope rest (open_method ms t m done size) (instruction_words one) ≡ Ok (open_method ms t m (done ++ i ∷ []) (size + 8))
     code_step ms t m done one i size rest few means placed enough =
         let ws = instruction_words one in
         ap (λ t'. if t'.0 then with_method (read_so_far h cs ms None size) (body_of t m done) t'.1 else
@@ -148,10 +149,10 @@ module _ (last : ℕ) (names : Names) (h : Header) (b : Bool) (kinds : List Clas
         → step scope rest (open_method ms t m m.code size) end_words ≡ Ok (read_so_far h cs (ms ++ m ∷ []) None size)
     end_step ms t m size rest some = grind (arith, nat_tests, read_so_far h cs (ms ++ m ∷ []) None size, ne_eqb)
 
-    code_goes : (ms : List Method) (t : MethodText) (m : Method) (done : List Instr) (ts : List InstructionText) (todo : List Instr) (size : ℕ) (left : List (List (List ℕ))) (ss : List Statement)
-        → length done + length todo ≤ 1024 → Pairs (InstructionMeans names h.version (labels_of t.code)) ts todo → LabelsPlaced (labels_of t.code) (length done) ts → size + 8 * length todo ≤ 2 ^ 20
-        → all_words ss ≡ map instruction_words ts ++ left
-        → Goes last scope (open_method ms t m done size) ss (open_method ms t m (done ++ todo) (size + 8 * length todo)) left
+    code_goes : (ms : List Method) (t : MethodText) (m : Method) (done : List Instr) (ts : List InstructionText) (todo : List Instr) (size : ℕ) (left : List
+        (List (List ℕ))) (ss : List Statement) → length done + length todo ≤ 1024 → Pairs (InstructionMeans names h.version (labels_of t.code)) ts todo →
+        LabelsPlaced (labels_of t.code) (length done) ts → size + 8 * length todo ≤ 2 ^ 20 → all_words ss ≡ map instruction_words ts ++ left →
+        Goes last scope (open_method ms t m done size) ss (open_method ms t m (done ++ todo) (size + 8 * length todo)) left
     code_goes ms t m done _ _ size left ss few no_pair placed enough words =
         let same : size ≡ size + 8 * 0 = omega arith in
         stays ss (ap (λ l. open_method ms t m l size) (sym (append-nil done)) ∙ ap (λ n. open_method ms t m (done ++ []) n) same) words
@@ -164,10 +165,10 @@ module _ (last : ℕ) (names : Names) (h : Header) (b : Bool) (kinds : List Clas
         (λ rest behind. arrives (ap (λ l. open_method ms t m l ((size + 8) + 8 * length todo)) (append_assoc done (i ∷ []) todo) ∙ ap (λ n. open_method ms t m (done ++ i ∷ todo) n) summed)
         (code_goes ms t m (done ++ i ∷ []) ts todo (size + 8) left rest (omega arith) more (subst (λ n. LabelsPlaced (labels_of t.code) n ts) (sym count) placed.1) (omega arith) behind))
 
-    method_goes : (ms : List Method) (t : MethodText) (m : Method) (size : ℕ) (left : List (List (List ℕ))) (ss : List Statement) → length ms < 1024 → MethodMeans names h.version b kinds t m
-        → place_of t.heading.name names.methods ≡ Some (length ms) → size + spelled h.version m ≤ 2 ^ 20
-        → all_words ss ≡ heading_words t.heading ∷ (map instruction_words t.code ++ (end_words ∷ left))
-        → Goes last scope (read_so_far h cs ms None size) ss (read_so_far h cs (ms ++ m ∷ []) None (size + spelled h.version m)) left
+    method_goes : (ms : List Method) (t : MethodText) (m : Method) (size : ℕ) (left : List (List (List ℕ))) (ss : List Statement) →
+        length ms < 1024 → MethodMeans names h.version b kinds t m → place_of t.heading.name names.methods ≡ Some (length ms) →
+        size + spelled h.version m ≤ 2 ^ 20 → all_words ss ≡ heading_words t.heading ∷ (map instruction_words t.code ++ (end_words ∷ left)) →
+        Goes last scope (read_so_far h cs ms None size) ss (read_so_far h cs (ms ++ m ∷ []) None (size + spelled h.version m)) left
     method_goes ms t m size left ss few means placed enough words =
         let some = means.some in
         let short = means.few in
@@ -188,9 +189,9 @@ module _ (last : ℕ) (names : Names) (h : Header) (b : Bool) (kinds : List Clas
   pub declarations_go : (ds : List Declaration) (cs todo : List ClassDecl) (ms left : List Method) (size : ℕ) (ss : List Statement)
       → Pairs (ClassMeans names h.version h.natives) (classes_of ds) todo → Pairs (MethodMeans names h.version b kinds) (methods_of ds) left
       → Placed names.classes (length cs) (map (λ t. t.name) (classes_of ds)) → Placed names.methods (length ms) (map (λ t. t.heading.name) (methods_of ds))
-      → length cs + length todo ≤ 256 → count_by is_server (cs ++ todo) ≤ 8 → length ms + length left ≤ 1024 → size + sum_by (class_bytes h.version) todo + sum_by (spelled h.version) left ≤ 2 ^ 20
-      → all_words ss ≡ declared_statements ds
-      → Goes last scope (read_so_far h cs ms None size) ss (read_so_far h (cs ++ todo) (ms ++ left) None (size + sum_by (class_bytes h.version) todo + sum_by (spelled h.version) left)) []
+      → length cs + length todo ≤ 256 → count_by is_server (cs ++ todo) ≤ 8 → length ms + length left ≤ 1024 → size + sum_by (class_bytes h.version) todo
+      + sum_by (spelled h.version) left ≤ 2 ^ 20 → all_words ss ≡ declared_statements ds → Goes last scope (read_so_far h cs ms None size) ss
+      (read_so_far h (cs ++ todo) (ms ++ left) None (size + sum_by (class_bytes h.version) todo + sum_by (spelled h.version) left)) []
   declarations_go [] cs _ ms _ size ss no_pair no_pair cp mp few servers short enough words =
       let same : size ≡ size + sum_by (class_bytes h.version) [] + sum_by (spelled h.version) [] = omega arith in
       stays ss (ap (λ l. read_so_far h l ms None size) (sym (append-nil cs)) ∙ ap (λ l. read_so_far h (cs ++ []) l None size) (sym (append-nil ms)) ∙ ap
@@ -204,8 +205,8 @@ module _ (last : ℕ) (names : Names) (h : Header) (b : Bool) (kinds : List Clas
       goes_on
       (steps {q = read_so_far h (cs ++ c ∷ []) ms None (size + (28 + more))} {left = declared_statements ds} ss words
       (λ rest behind. class_step cs ms t c size rest (omega arith) here cp.0 (few_before cs c todo servers) (omega arith)))
-      (λ rest behind. arrives (ap (λ l. read_so_far h l (ms ++ left) None ((size + (28 + more)) + sum_by (class_bytes h.version) todo + sum)) again ∙ ap (λ n. read_so_far h (cs ++ c ∷ todo) (ms ++ left) None n) summed)
-      (declarations_go ds (cs ++ c ∷ []) todo ms left (size + (28 + more)) rest later methods (subst (λ n. Placed names.classes n (map (λ t. t.name) (classes_of ds))) (sym count) cp.1) mp
+      (λ rest behind. arrives (grind arith)
+      (declarations_go ds (cs ++ c ∷ []) todo ms left (size + (28 + more)) rest later methods (grind arith) mp
       (omega arith) (subst (λ l. count_by is_server l ≤ 8) (sym again) servers) short (omega arith) behind))
   declarations_go (source.method t ∷ ds) cs todo ms _ size ss classes (a_pair _ _ m left here more) cp mp few servers short enough words =
       let count : length (ms ++ m ∷ []) ≡ length ms + 1 = length_push ms m in
@@ -217,7 +218,6 @@ module _ (last : ℕ) (names : Names) (h : Header) (b : Bool) (kinds : List Clas
       goes_on
       (method_goes cs ms t m size (declared_statements ds) ss (omega arith) here mp.0 (omega arith)
       (words ∙ ap (λ v. heading_words t.heading ∷ v) (append_assoc (map instruction_words t.code) (end_words ∷ []) (declared_statements ds))))
-      (λ rest behind. arrives (ap (λ l. read_so_far h (cs ++ todo) l None ((size + bytes m) + sum + sum_by bytes left)) again ∙ ap
-      (λ n. read_so_far h (cs ++ todo) (ms ++ m ∷ left) None n) summed)
-      (declarations_go ds cs todo (ms ++ m ∷ []) left (size + bytes m) rest classes more cp (subst (λ n. Placed names.methods n (map (λ t. t.heading.name) (methods_of ds))) (sym count) mp.1)
+      (λ rest behind. arrives (grind arith)
+      (declarations_go ds cs todo (ms ++ m ∷ []) left (size + bytes m) rest classes more cp (grind arith)
       few servers (omega arith) (omega arith) behind))

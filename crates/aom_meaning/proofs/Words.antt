@@ -1,6 +1,7 @@
 -- What one word says is what is read of it: names, numbers, sets, things, arguments and lists, both ways.
 use Rattle.std.proofs.lemmas.Bool.Decides.{nat_tests}
-use Rattle.std.proofs.Common.{◌≡◌, ℕ, ◌+◌, ◌≤◌, ◌==◌, Bool, true, false, List, [], ◌∷◌, ◌++◌, length, Result, Ok, Err, sym, ap, subst, ◌∙◌, append_assoc, append-nil, codes, arith, length-append}
+use Rattle.std.proofs.Common.{◌≡◌, ℕ, ◌+◌, ◌≤◌, ◌==◌, Bool, true, false, List, [], ◌∷◌, ◌++◌, length, Result, Ok, Err, sym, ap, subst, ◌∙◌, append_assoc}
+use Rattle.std.proofs.Common.{append-nil, codes, arith, length-append}
 use Rattle.std.specs.Prelude.{◌&&◌, if◌then◌else◌, nat_le, nat_lt, not}
 use Rattle.std.specs.List.{list_all, slice_split}
 use Rattle.std.specs.Str.{bytes_eq}
@@ -59,9 +60,6 @@ module _ {names : Names} {scope : Scope} (looks : LooksUp names scope) where
 
 -- ---- what may be owned
 
-if_so : {X : Type 0} (b : Bool) (r s : X) → b ≡ true → (if b then r else s) ≡ r
-if_so b r s is = ap (λ b. if b then r else s) is
-
 pub thing_means : (names : Names) (kinds : List ClassDecl) (w : List ℕ) (t : Thing) → thing_of (told names kinds) w ≡ Ok t → IsThing names w t
 thing_means names kinds w t is =
     marked_or (IsThing names w) (bytes_eq w (codes "msg")) owned.Message (class_of (told names kinds) w) (λ c. owned.Object c) t
@@ -84,21 +82,10 @@ no_word w is = false_from_ne_true (bytes_eq w (codes "word")) (λ same. (let cla
 
 module _ {names : Names} {scope : Scope} (looks : LooksUp names scope) where
   pub thing_reads : (w : List ℕ) (t : Thing) → IsThing names w t → Reads (thing_of scope) w t
-  thing_reads w owned.Message is = record { plain = ap (list_all is_plain) is; says = ap (thing_of scope) is }
-  thing_reads w (owned.Object c) is = record {
-    plain = plain_name w is.is_name;
-    says = grind (arith, nat_tests, no_message w is.is_name, name_reads w is.is_name);
-  }
+  thing_reads w x is = grind (arith, nat_tests, plain_name, no_message, name_reads)
 
   pub argument_reads : (w : List ℕ) (a : Argument) → IsArgument names w a → Reads (argument_of scope) w a
-  argument_reads w arg.Word is = record { plain = ap (list_all is_plain) is; says = ap (argument_of scope) is }
-  argument_reads w (arg.Own owned.Message) is = record { plain = ap (list_all is_plain) is; says = ap (argument_of scope) is }
-  argument_reads w (arg.Own (owned.Object c)) is =
-      let t = thing_reads w (owned.Object c) is in
-      record {
-        plain = t.plain;
-        says = grind (arith, nat_tests, no_word w is.is_name);
-      }
+  argument_reads w x is = grind (arith, nat_tests, thing_reads, no_word)
 
 -- ---- lists
 
