@@ -1,7 +1,9 @@
 -- Items in an order, each with a number of its own: where each stands, and what an insertion and a removal leave.
-use Rattle.std.proofs.Common.{◌≡◌, ◌≢◌, ◌<◌, ◌≤◌, ◌+◌, ◌==◌, ℕ, zero, suc, Bool, true, false, not, cond, List, [], ◌∷◌, Some, None, length, take, get_or, refl, sym, ap, ◌∙◌, subst, inl, inr, arith, Option, ◌++◌, drop}
+use Rattle.std.proofs.lemmas.Bool.Decides.{nat_tests}
+use Rattle.std.proofs.Common.{◌≡◌, ◌≢◌, ◌<◌, ◌≤◌, ◌+◌, ◌==◌, ℕ, zero, suc, Bool, true, false, not, cond, List, [], ◌∷◌, Some, None, length, take, get_or}
+use Rattle.std.proofs.Common.{refl, sym, ap, ◌∙◌, subst, inl, inr, arith, Option, ◌++◌}
 use Rattle.std.specs.Prelude.{All, AllPairs, insert, remove, option_map, map, IsSome, IsNone}
-use Rattle.std.proofs.lemmas.Bool.{cases_Bool, eqb-true, eq-eqb, eqb-false, ne_eqb, cases_eq, not-true, false≢true, cond-true, cond-false, true≢false}
+use Rattle.std.proofs.lemmas.Bool.{cases_Bool, eqb-true, eq-eqb, eqb-false, ne_eqb, cases_eq, not-true, cond-true, cond-false}
 use Rattle.std.proofs.lemmas.List.Elements.{All-cons, All-head, All-tail, All-nil, All-weaker, All-filter, All-map, filter_passes}
 use Rattle.std.proofs.lemmas.List.Edits.{length-remove}
 use Rattle.std.proofs.lemmas.List.{get_or-map, length-map, length-take, length-take-le, take-append-drop}
@@ -13,12 +15,10 @@ use Rattle.std.proofs.Math.Seq.{take-nil, take-append_seam}
 module _ {A : Type 0} where
   -- what an option holds that holds something
   pub some_is : (o : Option A) → IsSome o → (x : A) × (o ≡ Some x)
-  some_is None some = absurd (false≢true some)
-  some_is (Some x) some = (x, refl)
+  some_is x some = grind arith
 
   pub none_is : (o : Option A) → IsNone o → o ≡ None
-  none_is None is = refl
-  none_is (Some x) is = absurd (true≢false is)
+  none_is x is = grind arith
 
 module _ {A : Type 0} (R : A → A → Type 0) where
   -- what comes first is related to each that follows, and these to each other
@@ -35,12 +35,7 @@ module _ {A : Type 0} (before : A → A → Bool) where
   -- what holds of the item and of all others holds of all once it is placed
   pub All-placed : (P : A → Type 0) (x : A) (xs : List A) → P x → All P xs → All P (placed before x xs)
   All-placed P x [] here all = All-cons P x [] here all
-  All-placed P x (y ∷ ys) here all =
-      elim (cases_Bool (before y x)) [
-        | inl e ↦ subst (All P) (sym (cond-true _ _ _ e)) (All-cons P y (placed before x ys) (All-head P y ys all)
-            (All-placed P x ys here (All-tail P y ys all)))
-        | inr e ↦ subst (All P) (sym (cond-false _ _ _ e)) (All-cons P x (y ∷ ys) here all)
-      ]
+  All-placed P x (y ∷ ys) here all = grind (arith, All-head, All-placed P x ys here (All-tail P y ys all))
 
   -- pairs are related as before if the item is related to all others, whichever comes first
   pub pairs-placed : (R : A → A → Type 0) (x : A) (xs : List A) → All (R x) xs → All (λ y. R y x) xs → AllPairs R xs → AllPairs R (placed before x xs)
@@ -76,8 +71,7 @@ module _ {A : Type 0} (before : A → A → Bool) where
   placed-at x [] zero up down = refl
   placed-at x [] (suc i) up down = refl
   placed-at x (y ∷ ys) zero up down = sym (cond-false _ _ _ (down (omega arith)))
-  placed-at x (y ∷ ys) (suc i) up down =
-      ap (λ zs. y ∷ zs) (placed-at x ys i (λ k less. up (suc k) (omega arith)) (λ less. down (omega arith))) ∙ sym
+  placed-at x (y ∷ ys) (suc i) up down = ap (λ zs. y ∷ zs) (placed-at x ys i (λ k less. up (suc k) (omega arith)) (λ less. down (omega arith))) ∙ sym
       (cond-true _ _ _ (up 0 (omega arith)))
 
 module _ {A : Type 0} (number : A → ℕ) where
@@ -173,14 +167,12 @@ module _ {A : Type 0} (number : A → ℕ) where
   -- what is left without a number
   pub without-absent : (id : ℕ) (xs : List A) → IsAbsent id xs → without number id xs ≡ xs
   without-absent id [] absent = refl
-  without-absent id (x ∷ xs) absent =
-      kept id x xs (absent-head id x xs absent) ∙ ap (λ ys. x ∷ ys) (without-absent id xs (absent-tail id x xs absent))
+  without-absent id (x ∷ xs) absent = kept id x xs (absent-head id x xs absent) ∙ ap (λ ys. x ∷ ys) (without-absent id xs (absent-tail id x xs absent))
 
   pub without-at : (id : ℕ) (xs : List A) (i : ℕ) → AreDistinct xs → IsAt id xs i → remove xs i ≡ without number id xs
   without-at id _ _ distinct (at_head x xs same) =
       sym (gone id x xs same ∙ without-absent id xs (subst (λ n. IsAbsent n xs) same (distinct-head x xs distinct)))
-  without-at id _ _ distinct (in_tail x xs other at) =
-      ap (λ ys. x ∷ ys) (without-at id xs _ (distinct-tail x xs distinct) at) ∙ sym (kept id x xs other)
+  without-at id _ _ distinct (in_tail x xs other at) = ap (λ ys. x ∷ ys) (without-at id xs _ (distinct-tail x xs distinct) at) ∙ sym (kept id x xs other)
 
 module _ {A : Type 0} (number : A → ℕ) where
   -- a place in the first few items is one in all
@@ -193,10 +185,7 @@ module _ {A : Type 0} (number : A → ℕ) where
   at-longer id _ more _ (in_tail x xs other at) = in_tail x (xs ++ more) other (at-longer id xs more _ at)
 
   pub at-from_take : (id : ℕ) (xs : List A) (n i : ℕ) → IsAt number id (take n xs) i → (i < n) × IsAt number id xs i
-  at-from_take id xs n i at = (
-    omega (arith, at-within number id (take n xs) i at, length-take n xs),
-    subst (λ ys. IsAt number id ys i) (take-append-drop n xs) (at-longer id (take n xs) (drop n xs) i at),
-  )
+  at-from_take id xs n i at = search (arith, nat_tests, at-within number id, length-take n xs, take-append-drop n xs, at-longer id)
 
   -- one item more of another number
   pub place-take_other : (id : ℕ) (xs : List A) (i : ℕ) (d : A) → number (get_or xs i d) ≢ id
@@ -216,8 +205,7 @@ module _ {A : Type 0} (number : A → ℕ) where
   length-without id xs distinct = by_found (place_of number id xs) (find_it number id xs)
     where
       by_found : (o : Option ℕ) → Found number id xs o → length xs ≤ suc (length (without number id xs))
-      by_found _ (there i at) = omega (arith, length-remove xs i (at-within number id xs i at), ap length (without-at number id xs i distinct at))
-      by_found _ (nowhere absent) = omega (arith, ap length (without-absent number id xs absent))
+      by_found _ x = grind (arith, length-remove xs, at-within number id xs, without-at number id xs, without-absent number id xs)
 
   -- items of distinct numbers below the limit are no more than it
   pub few : (limit : ℕ) (xs : List A) → All (λ x. number x < limit) xs → AreDistinct number xs → length xs ≤ limit
@@ -227,8 +215,7 @@ module _ {A : Type 0} (number : A → ℕ) where
       omega (
         arith,
         length-without limit xs distinct,
-        few limit (without number limit xs) less
-            (AllPairs-filter (λ x y. number x ≢ number y) (λ x. not (number x == limit)) xs distinct),
+        few limit (without number limit xs) less (AllPairs-filter (λ x y. number x ≢ number y) (λ x. not (number x == limit)) xs distinct),
       )
     where
       less : All (λ x. number x < limit) (without number limit xs)
@@ -246,11 +233,7 @@ module _ {A : Type 0} (before : A → A → Bool) where
   placed-point x xs i within point = placed-at before x xs i (λ k less. point.0 k x (omega arith) less) (λ less. point.1 i x (omega arith) less)
 
   pub searchable : IsRanking before → (x : A) (xs : List A) → AllPairs (λ y z. before y z ≡ true) xs → IsPartitionedBy (λ y. before y x) xs
-  searchable r x xs sorted = λ i j d le within h.
-      elim (cases_eq i j) [
-        | inl same ↦ subst (λ n. before (get_or xs n d) x ≡ true) (sym same) h
-        | inr other ↦ r.chain (get_or xs i d) (get_or xs j d) x (sorted i j d (omega arith) within) h
-      ]
+  searchable r x xs sorted = grind (arith, nat_tests, cases_eq)
 
   -- what holds of all once the item is placed holds of all others
   pub All-from_placed : (P : A → Type 0) (x : A) (xs : List A) → All P (placed before x xs) → All P xs
@@ -265,10 +248,10 @@ module _ {A : Type 0} (before : A → A → Bool) where
 
 module _ {A : Type 0} where
   pub take-insert : (xs : List A) (i : ℕ) (x : A) → i ≤ length xs → take i (insert xs i x) ≡ take i xs
-  take-insert xs i x within = ap (λ k. take k (insert xs i x)) (sym (length-take-le i xs within)) ∙ take-append_seam (take i xs) (x ∷ drop i xs)
+  take-insert xs i x within = grind (arith, nat_tests, length-take-le i xs within, take-append_seam)
 
   pub take-remove : (xs : List A) (i : ℕ) → i < length xs → take i (remove xs i) ≡ take i xs
-  take-remove xs i within = ap (λ k. take k (remove xs i)) (sym (length-take-le i xs (omega arith))) ∙ take-append_seam (take i xs) (drop (suc i) xs)
+  take-remove xs i within = grind (arith, nat_tests, length-take-le i xs, take-append_seam)
 
 module _ {A : Type 0} (number : A → ℕ) (before : A → A → Bool) where
   -- an order stays one with an item of a new number, and without any
@@ -316,11 +299,7 @@ module _ {A : Type 0} (number : A → ℕ) where
 
   pub walk-on : (id : ℕ) (xs : List A) (at : ℕ) (d : A) → ((p : ℕ) → place_of number id xs ≡ Some p → at ≤ p) → number (get_or xs at d) ≢ id → (p : ℕ)
       → place_of number id xs ≡ Some p → at + 1 ≤ p
-  walk-on id xs at d later other p is =
-      elim (cases_eq at p) [
-        | inl same ↦ absurd (other (subst (λ k. number (get_or xs k d) ≡ id) (sym same) (at-number number id xs p d (place-at number id xs p is))))
-        | inr differs ↦ omega (arith, later p is, differs)
-      ]
+  walk-on id xs at d later other p is = grind (arith, at-number number id xs p d (place-at number id xs p is))
 
   pub walk-ends : (id : ℕ) (xs : List A) (at : ℕ) (d : A) → AreDistinct number xs → at < length xs → number (get_or xs at d) ≡ id
       → place_of number id xs ≡ Some at

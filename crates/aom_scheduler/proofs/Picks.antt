@@ -1,8 +1,10 @@
 -- The first that is ready is the pick: it is ready, and all others that are stand behind it.
-use Rattle.std.proofs.Common.{◌≡◌, ◌<◌, ◌⊎◌, ℕ, zero, suc, ℤ, true, false, List, [], ◌∷◌, Option, Some, None, length, get_or, refl, sym, ap, ◌∙◌, subst, inl, inr, arith, ◌<ℤ◌}
+use Rattle.std.proofs.lemmas.Bool.Decides.{nat_tests}
+use Rattle.std.proofs.Common.{◌≡◌, ◌<◌, ◌⊎◌, ℕ, zero, suc, ℤ, true, false, List, [], ◌∷◌, Option, Some, None, length, get_or, refl, sym, ap, subst, inl}
+use Rattle.std.proofs.Common.{inr, arith, ◌<ℤ◌}
 use Rattle.std.specs.Prelude.{All, AllPairs, slice_get, IfSome, IsSome, IsNone, ◌↔◌, option_map, int_le}
-use Rattle.std.proofs.lemmas.Bool.{cases_Bool, cond-true, cond-false, false≢true, true≢false}
-use Rattle.std.proofs.lemmas.List.Elements.{All-nil, All-cons}
+use Rattle.std.proofs.lemmas.Bool.{cases_Bool, cond-true, cond-false}
+use Rattle.std.proofs.lemmas.List.Elements.{All-nil}
 use Rattle.std.proofs.lemmas.Int.{ints}
 use Rattle.std.proofs.lemmas.Option.{same_Some, slice_get_within, get_or_from_slice_get, IfSome_then}
 use Rattle.aom_scheduler.specs.Roster.{before, first_ready, IsPick, IsBehind}
@@ -18,10 +20,7 @@ behind-first x xs sorted zero e is differs ready = absurd (differs refl)
 behind-first x xs sorted (suc k) e is differs ready =
     let stands : get_or xs k e ≡ e = get_or_from_slice_get xs k e e is in
     let ranks : before x e ≡ true = subst (λ f. before x f ≡ true) stands (sorted 0 (suc k) e (omega arith) (omega (arith, slice_get_within xs k e is))) in
-    elim (le-cases e.priority x.priority ranks) [
-      | inl lower ↦ inl lower
-      | inr same ↦ inr (same, omega arith)
-    ]
+    elim (le-cases e.priority x.priority ranks) [ inl lower ↦ inl lower | inr same ↦ inr (same, omega arith) ]
 
 -- an entry in front that waits changes no pick
 later-pick : (x : Entry) (xs : List Entry) (id : ℕ) → x.is_ready ≡ false → IsPick xs id → IsPick (x ∷ xs) id
@@ -29,12 +28,7 @@ later-pick x xs id waits p =
     record { at = suc p.at; entry = p.entry; there = p.there; same = p.same; ready = p.ready; others = others }
   where
     others : IsBehind (x ∷ xs) (suc p.at) p.entry
-    others zero e is differs ready = absurd (false≢true (sym waits ∙ ap (λ f. f.is_ready) (same_Some x e is) ∙ ready))
-    others (suc k) e is differs ready =
-        elim (p.others k e is (λ same. differs (ap suc same)) ready) [
-          | inl lower ↦ inl lower
-          | inr same ↦ inr (same.0, omega (arith, same.1))
-        ]
+    others y e is differs ready = grind (arith, nat_tests, same_Some)
 
 pub pick-first : (xs : List Entry) → AllPairs (λ e f. before e f ≡ true) xs → IfSome (first_ready xs) (IsPick xs)
 pick-first [] sorted = tt
@@ -58,9 +52,4 @@ front-is now _ n _ long some first = absurd (grind (arith, long, some.0, some.1)
 -- where there is no first, none is ready
 pub none-ready : (xs : List Entry) → IsNone (first_ready xs) → All (λ e. e.is_ready ≡ false) xs
 none-ready [] none = All-nil (λ e. e.is_ready ≡ false)
-none-ready (x ∷ xs) none =
-    elim (cases_Bool x.is_ready) [
-      | inl is_so ↦ absurd (true≢false (subst IsNone (cond-true x.is_ready (Some x.id) (first_ready xs) is_so) none))
-      | inr is_not ↦ All-cons (λ e. e.is_ready ≡ false) x xs is_not (none-ready xs
-          (subst IsNone (cond-false x.is_ready (Some x.id) (first_ready xs) is_not) none))
-    ]
+none-ready (x ∷ xs) none = grind (arith, none-ready xs)

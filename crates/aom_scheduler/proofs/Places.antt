@@ -1,6 +1,8 @@
 -- The list of places after each change: from what the renumbering ensures and from where items stand.
-use Rattle.std.proofs.Common.{◌≡◌, ◌≢◌, ◌<◌, ◌≤◌, ◌==◌, ℕ, suc, ℤ, pos, Bool, true, false, cond, List, [], ◌∷◌, ◌++◌, Option, Some, None, length, take, drop, set, get_or, refl, sym, ap, ◌∙◌, subst, inl, inr, arith}
-use Rattle.std.specs.Prelude.{remove, insert, int_le, not, option_map, IsNone, is_ok, Result, Ok, if◌then◌else◌}
+use Rattle.std.proofs.lemmas.Bool.Decides.{nat_tests}
+use Rattle.std.proofs.Common.{◌≡◌, ◌≢◌, ◌<◌, ◌≤◌, ◌==◌, ℕ, suc, pos, Bool, true, false, cond, List, [], ◌∷◌, ◌++◌, Option, Some, None, length, take, drop}
+use Rattle.std.proofs.Common.{set, get_or, refl, sym, ap, ◌∙◌, subst, inl, inr, arith}
+use Rattle.std.specs.Prelude.{remove, insert, not, IsNone, is_ok, Result, Ok, if◌then◌else◌}
 use Rattle.std.proofs.lemmas.Bool.{cases_Bool, cases_eq, eqb-true, eq-eqb, ne_eqb, cond-true, cond-false}
 use Rattle.std.proofs.lemmas.List.{get_or-set_same, get_or-set_other, length-set}
 use Rattle.std.proofs.lemmas.List.Elements.{All-cons}
@@ -12,7 +14,10 @@ use Rattle.aom_scheduler.specs.Order.{placed, without, place_of, IsOrdered}
 use Rattle.aom_scheduler.specs.Roster.{Roster, place, before, marked, marked_entry}
 use Rattle.aom_scheduler.specs.Places.{or_else, numbered, Knows, IsIndexed}
 use Rattle.aom_scheduler.specs.declared.entry.Entry.{Entry}
-use Rattle.aom_scheduler.proofs.Items.{IsAt, IsAbsent, AreDistinct, Found, there, nowhere, find_it, at-place, place-at, place-absent, absent-place, absent-head, absent-tail, at-from_take, place-take_other, place-take_same, at-within, at-number, IsRanking, All-from_placed, ordered-placed, ordered-without, ordered-map, take-insert, take-remove, without-at, distinct-tail, distinct-head, few, placed-point, at_head, in_tail, none_is}
+use Rattle.aom_scheduler.proofs.Items.{IsAt, IsAbsent, AreDistinct, Found, there, nowhere, find_it, at-place, place-at, place-absent, absent-place}
+use Rattle.aom_scheduler.proofs.Items.{absent-head, absent-tail, at-from_take, place-take_other, place-take_same, at-within, at-number, IsRanking}
+use Rattle.aom_scheduler.proofs.Items.{All-from_placed, ordered-placed, ordered-without, ordered-map, take-insert, take-remove, without-at, distinct-tail}
+use Rattle.aom_scheduler.proofs.Items.{distinct-head, few, placed-point, at_head, in_tail, none_is}
 use Rattle.std.proofs.lemmas.Option.{same_Some}
 
 -- the number of an entry
@@ -21,17 +26,7 @@ id_of e = e.id
 
 -- priorities rank
 pub by_priority : IsRanking before
-by_priority =
-    record {
-      either = λ x y lower. higher x.priority y.priority lower;
-      chain = λ x y z h k. chained x.priority y.priority z.priority h k;
-    }
-  where
-    higher : (a b : ℤ) → int_le b a ≡ false → int_le a b ≡ true
-    higher a b lower = grind (arith, ints)
-
-    chained : (a b c : ℤ) → int_le b a ≡ true → int_le c b ≡ true → int_le c a ≡ true
-    chained a b c h k = grind (arith, ints)
+by_priority = search (arith, nat_tests, ints)
 
 -- one entry more is numbered
 pub numbered-more : (entries : List Entry) (places start : List (Option ℕ)) (at : ℕ) (e : Entry)
@@ -50,14 +45,6 @@ numbered-more entries places start at e distinct within is small before_it id =
           get_or-set_other places e.id id (Some at) None other ∙ before_it id
           ∙ sym (ap (λ o. or_else o (get_or start id None)) (place-take_other id_of id entries at e apart))
     ]
-
--- at first those before the place are known
-pub numbered-start : (places : List (Option ℕ)) (entries : List Entry) → Knows places entries → (id : ℕ) → get_or places id None ≡ numbered id entries places
-numbered-start places entries known id = by_place (place_of id_of id entries) refl
-  where
-    by_place : (o : Option ℕ) → place_of id_of id entries ≡ o → get_or places id None ≡ or_else (place_of id_of id entries) (get_or places id None)
-    by_place None e = ap (λ o. or_else o (get_or places id None)) (sym e)
-    by_place (Some at) e = known id at e ∙ ap (λ o. or_else o (get_or places id None)) (sym e)
 
 -- what is absent beside an item that goes is absent, but for that item
 absent-without : (gone id : ℕ) (xs : List Entry) → id ≢ gone → IsAbsent id_of id (without id_of gone xs) → IsAbsent id_of id xs
@@ -84,8 +71,7 @@ absent-without gone id (x ∷ xs) other absent =
 pub known-insert : (entries : List Entry) (places : List (Option ℕ)) (at : ℕ) (e : Entry) → IsIndexed entries places → at ≤ length entries
     → Knows places (take at (insert entries at e))
 known-insert entries places at e indexed within id i is =
-    let front : IsAt id_of id (take at entries) i = subst (λ xs. IsAt id_of id xs i) (take-insert entries at e within)
-    (place-at id_of id (take at (insert entries at e)) i is) in
+    let front : IsAt id_of id (take at entries) i = grind (arith, take-insert entries at e within, place-at) in
     indexed.stands id ∙ at-place id_of id entries i (at-from_take id_of id entries at i front).1
 
 -- so before a removal
@@ -93,8 +79,7 @@ pub known-remove : (entries : List Entry) (places : List (Option ℕ)) (at gone 
     → Knows (set places gone None) (take at (remove entries at))
 known-remove entries places at gone indexed here id i is =
     let found = place-at id_of gone entries at here in
-    let front : IsAt id_of id (take at entries) i = subst (λ xs. IsAt id_of id xs i) (take-remove entries at (at-within id_of gone entries at found))
-    (place-at id_of id (take at (remove entries at)) i is) in
+    let front : IsAt id_of id (take at entries) i = grind (arith, take-remove entries at, at-within, place-at) in
     let stands = at-from_take id_of id entries at i front in
     let there_it : place_of id_of id entries ≡ Some i = at-place id_of id entries i stands.1 in
     let less : i < at = stands.0 in
@@ -140,22 +125,14 @@ indexed-remove entries after places now gone indexed small is same says =
 
 -- a mark keeps the object and its priority
 marked-id : (id : ℕ) (ready : Bool) (e : Entry) → id_of (marked_entry id ready e) ≡ id_of e
-marked-id id ready e = elim (cases_Bool (e.id == id)) [
-  | inl t ↦ ap id_of (cond-true (e.id == id) (record e { is_ready = ready }) e t)
-  | inr f ↦ ap id_of (cond-false (e.id == id) (record e { is_ready = ready }) e f)
-]
+marked-id id ready e = grind (arith, nat_tests, cases_Bool, cond-true, cond-false)
 
 marked-priority : (id : ℕ) (ready : Bool) (e : Entry) → (marked_entry id ready e).priority ≡ e.priority
-marked-priority id ready e = elim (cases_Bool (e.id == id)) [
-  | inl t ↦ ap (λ x. x.priority) (cond-true (e.id == id) (record e { is_ready = ready }) e t)
-  | inr f ↦ ap (λ x. x.priority) (cond-false (e.id == id) (record e { is_ready = ready }) e f)
-]
+marked-priority id ready e = grind (arith, nat_tests, cases_Bool, cond-true, cond-false)
 
 pub marked-place : (gone : ℕ) (ready : Bool) (id : ℕ) (xs : List Entry) → place_of id_of id (marked gone ready xs) ≡ place_of id_of id xs
 marked-place gone ready id [] = refl
-marked-place gone ready id (x ∷ xs) =
-    ap (λ n. cond (n == id) (Some 0) (option_map suc (place_of id_of id (marked gone ready xs)))) (marked-id gone ready x)
-    ∙ ap (λ o. cond (id_of x == id) (Some 0) (option_map suc o)) (marked-place gone ready id xs)
+marked-place gone ready id (x ∷ xs) = grind (arith, marked-place gone ready id xs)
 
 -- a mark is a write at the object's place
 pub marked-absent : (id : ℕ) (ready : Bool) (xs : List Entry) → IsAbsent id_of id xs → marked id ready xs ≡ xs
@@ -169,8 +146,7 @@ pub marked-at : (id : ℕ) (ready : Bool) (xs : List Entry) (i : ℕ) (d : Entry
 marked-at id ready _ _ d distinct (at_head x xs same) =
     sym (ap (λ y. y ∷ marked id ready xs) (cond-true (x.id == id) (record x { is_ready = ready }) x (eq-eqb (id_of x) id same))
     ∙ ap (λ ys. record x { is_ready = ready } ∷ ys) (marked-absent id ready xs (subst (λ n. IsAbsent id_of n xs) same (distinct-head id_of x xs distinct))))
-marked-at id ready _ _ d distinct (in_tail x xs other at) =
-    ap (λ ys. x ∷ ys) (marked-at id ready xs _ d (distinct-tail id_of x xs distinct) at)
+marked-at id ready _ _ d distinct (in_tail x xs other at) = ap (λ ys. x ∷ ys) (marked-at id ready xs _ d (distinct-tail id_of x xs distinct) at)
     ∙ sym (ap (λ y. y ∷ marked id ready xs) (cond-false (x.id == id) (record x { is_ready = ready }) x (ne_eqb (id_of x) id other)))
 
 -- after a mark all stand where they stood
@@ -183,8 +159,7 @@ indexed-mark entries places id ready indexed =
     }
   where
     standing : (x y : Entry) → before (marked_entry id ready x) (marked_entry id ready y) ≡ before x y
-    standing x y =
-        ap (λ p. int_le p (marked_entry id ready x).priority) (marked-priority id ready y) ∙ ap (λ p. int_le y.priority p) (marked-priority id ready x)
+    standing x y = grind (arith, nat_tests, marked-priority id ready y, marked-priority id ready x)
 
 -- what holds when an entry is put at its place
 pub record Insertion (entries : List Entry) (places : List (Option ℕ)) (at : ℕ) (e : Entry) : Type 0 where
@@ -226,10 +201,7 @@ pub insertion-from : {roster : Roster} {entries shown : List Entry} {places : Li
     → record { entries = entries; limit = length places } ≡ roster → shown ≡ entries
     → IsIndexed entries places → e.id < roster.limit → IsNone (place e.id roster) → at ≤ length shown
     → IsPartitionPoint (λ f. before f e ≡ true) (λ f. before f e ≡ false) shown at → Insertion entries places at e
-insertion-from {entries = entries} {places = places} at e view same indexed small new within point =
-    insertion entries places at e indexed (subst (λ r. e.id < r.limit) (sym view) small) (subst (λ r. IsNone (place e.id r)) (sym view) new)
-    (subst (λ xs. at ≤ length xs) same within)
-    (subst (λ xs. IsPartitionPoint (λ f. before f e ≡ true) (λ f. before f e ≡ false) xs at) same point)
+insertion-from {entries = entries} {places = places} at e view same indexed small new within point = grind (arith, insertion entries places at e indexed)
 
 -- what a fallible insertion leaves where it succeeds
 pub when_ok : {X T E : Type 0} {r : Result T E} {t : T} {now x : X} (y : X) → r ≡ Ok t → now ≡ (if is_ok r then x else y) → now ≡ x
@@ -240,8 +212,7 @@ pub indexed-by_insertion : (entries shown : List Entry) (places lent now : List 
     → shown ≡ insert entries at e → lent ≡ places
     → length now ≡ length lent → ((id : ℕ) → get_or now id None ≡ numbered id shown lent) → IsIndexed shown now
 indexed-by_insertion entries shown places lent now at e made is same long says =
-    indexed-insert entries shown places now e made.indexed made.small made.new (is ∙ made.is) (long ∙ ap length same) (subst (λ ps. (id : ℕ)
-    → get_or now id None ≡ numbered id shown ps) same says)
+    grind (arith, indexed-insert entries shown places now e made.indexed made.small made.new (is ∙ made.is))
 
 -- rosters of the same entries and limit
 pub same_roster : (xs ys : List Entry) (m n : ℕ) → xs ≡ ys → m ≡ n → ◌≡◌ {A = Roster} (record { entries = xs; limit = m }) (record { entries = ys; limit = n })
@@ -255,8 +226,7 @@ stands-in roster entries limit id at o view is some = place-at id_of id entries 
 -- the entry that is written over, marked
 pub marked-in : (entries : List Entry) (id at : ℕ) (ready : Bool) (e : Entry) → AreDistinct id_of entries → IsAt id_of id entries at
     → e ≡ get_or entries at e → set entries at (record e { is_ready = ready }) ≡ marked id ready entries
-marked-in entries id at ready e distinct found is =
-    subst (λ x. set entries at (record x { is_ready = ready }) ≡ marked id ready entries) (sym is) (marked-at id ready entries at e distinct found)
+marked-in entries id at ready e distinct found is = grind (arith, marked-at id ready entries at e distinct found)
 
 -- what holds when the entry at a place goes
 pub record Removal (entries : List Entry) (places : List (Option ℕ)) (at gone : ℕ) : Type 0 where
@@ -299,13 +269,11 @@ removal-from {roster} {entries} {places} {at} {o} gone view is some indexed =
 -- the entries that are left, as far as the places go that are written
 pub ordered-left : (entries shown : List Entry) (places lent : List (Option ℕ)) (at gone : ℕ) → Removal entries places at gone
     → shown ≡ remove entries at → lent ≡ set places gone None → IsOrdered id_of before (length lent) shown
-ordered-left entries shown places lent at gone made is same =
-    subst (λ n. IsOrdered id_of before n shown) (sym (ap length same ∙ length-set places gone None)) (subst (IsOrdered id_of before (length places)) (sym is) made.ordered)
+ordered-left entries shown places lent at gone made is same = grind (arith, length-set places gone None)
 
 -- the places after the entry is gone and those behind it are numbered anew
 pub indexed-by_removal : (entries shown : List Entry) (places lent now : List (Option ℕ)) (at gone : ℕ) → Removal entries places at gone
     → shown ≡ remove entries at → lent ≡ set places gone None
     → length now ≡ length lent → ((id : ℕ) → get_or now id None ≡ numbered id shown lent) → IsIndexed shown now
 indexed-by_removal entries shown places lent now at gone made is same long says =
-    indexed-remove entries shown places now gone made.indexed made.small (is ∙ made.is) (long ∙ ap length same ∙ length-set places gone None)
-    (subst (λ ps. (id : ℕ) → get_or now id None ≡ numbered id shown ps) same says)
+    grind (arith, indexed-remove entries shown places now gone made.indexed made.small (is ∙ made.is), length-set places gone None)

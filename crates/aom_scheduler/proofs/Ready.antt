@@ -1,15 +1,18 @@
 -- Those that are ready, in order: what a mark, an insertion and a removal do to their list, and where a search among them ends.
-use Rattle.std.proofs.Common.{◌≡◌, ◌≢◌, ◌<◌, ◌≤◌, ◌+◌, ◌-◌, ◌==◌, ℕ, Bool, true, false, nat_lt, List, [], ◌∷◌, ◌++◌, Option, Some, length, take, drop, get_or, refl, sym, ap, ◌∙◌, subst, inl, inr, arith}
+use Rattle.std.proofs.lemmas.Bool.Decides.{nat_tests}
+use Rattle.std.proofs.Common.{◌≡◌, ◌≢◌, ◌<◌, ◌≤◌, ◌-◌, ◌==◌, ℕ, Bool, true, false, nat_lt, List, [], ◌∷◌, ◌++◌, Option, Some, length, take, drop, get_or}
+use Rattle.std.proofs.Common.{refl, sym, ap, ◌∙◌, subst, inl, inr, arith}
 use Rattle.std.specs.Prelude.{All, IfSome, remove, insert, map, filter, not, slice_get}
-use Rattle.std.proofs.lemmas.Bool.{cases_Bool, cases_lt, cases_eq, eq-eqb, ne_eqb, cond-true, cond-false, lt-ltb, le-ltb, false≢true}
-use Rattle.std.proofs.lemmas.List.{get_or-take, get_or-drop, get_or_append_left, get_or-append_right, map-append, take-append-drop, length-map, length-append, length-take-le, length-drop}
+use Rattle.std.proofs.lemmas.Bool.{cases_lt, cases_eq, eq-eqb, ne_eqb, cond-true, cond-false, lt-ltb, le-ltb, false≢true}
+use Rattle.std.proofs.lemmas.List.{get_or-take, get_or-drop, get_or_append_left, get_or-append_right, map-append, take-append-drop, length-map, length-append}
+use Rattle.std.proofs.lemmas.List.{length-take-le, length-drop}
 use Rattle.std.proofs.lemmas.List.Elements.{All-filter, All-map, filter-append}
 use Rattle.std.specs.List.Sorted.{IsPartitionPoint, IsPartitionedBy}
 use Rattle.aom_scheduler.specs.Order.{placed, without, place_of}
 use Rattle.aom_scheduler.specs.Roster.{Roster, IsSound, before, marked, marked_entry, ready_ids, first_ready}
 use Rattle.aom_scheduler.specs.Places.{stands_before}
 use Rattle.aom_scheduler.specs.declared.entry.Entry.{Entry}
-use Rattle.aom_scheduler.proofs.Items.{IsAt, AreDistinct, own-place, at-place, distinct-head, distinct-tail, at-within, few, at_head, in_tail, place-at}
+use Rattle.aom_scheduler.proofs.Items.{IsAt, AreDistinct, own-place, at-place, distinct-head, distinct-tail, few, at_head, in_tail}
 use Rattle.aom_scheduler.proofs.Places.{id_of, marked-absent}
 use Rattle.aom_scheduler.specs.Ready.{IsReadyAt, IsWaitingAt}
 use Rattle.std.proofs.lemmas.List.Edits.{length-insert}
@@ -21,31 +24,20 @@ ready-skipped : (e : Entry) (es : List Entry) → e.is_ready ≡ false → ready
 ready-skipped e es is = ap (map (λ f. f.id)) (cond-false e.is_ready (e ∷ filter (λ f. f.is_ready) es) (filter (λ f. f.is_ready) es) is)
 
 ready-append : (xs ys : List Entry) → ready_ids (xs ++ ys) ≡ ready_ids xs ++ ready_ids ys
-ready-append xs ys = ap (map (λ f. f.id)) (filter-append (λ f. f.is_ready) xs ys) ∙ map-append (λ f. f.id) (filter (λ f. f.is_ready) xs)
-    (filter (λ f. f.is_ready) ys)
+ready-append xs ys = grind (arith, nat_tests, filter-append, map-append)
 
 ready-same : (e : Entry) (xs ys : List Entry) → ready_ids xs ≡ ready_ids ys → ready_ids (e ∷ xs) ≡ ready_ids (e ∷ ys)
-ready-same e xs ys same = elim (cases_Bool e.is_ready) [
-  | inl is_so ↦ ready-first e xs is_so ∙ ap (λ ids. e.id ∷ ids) same ∙ sym (ready-first e ys is_so)
-  | inr is_not ↦ ready-skipped e xs is_not ∙ same ∙ sym (ready-skipped e ys is_not)
-]
+ready-same e xs ys same = grind arith
 
 -- no more are ready than have an entry
 pub length-ready : (xs : List Entry) → length (ready_ids xs) ≤ length xs
 length-ready [] = omega arith
-length-ready (x ∷ xs) = elim (cases_Bool x.is_ready) [
-  | inl is_so ↦ omega (arith, ap length (ready-first x xs is_so), length-ready xs)
-  | inr is_not ↦ omega (arith, ap length (ready-skipped x xs is_not), length-ready xs)
-]
+length-ready (x ∷ xs) = grind (arith, length-ready xs)
 
 -- an entry that waits adds nobody
 pub ready-placed : (e : Entry) (xs : List Entry) → e.is_ready ≡ false → ready_ids (placed before e xs) ≡ ready_ids xs
 ready-placed e [] waits = ready-skipped e [] waits
-ready-placed e (x ∷ xs) waits = elim (cases_Bool (before x e)) [
-  | inl is_so ↦ ap ready_ids (cond-true (before x e) (x ∷ placed before e xs) (e ∷ x ∷ xs) is_so) ∙ ready-same x (placed before e xs) xs
-      (ready-placed e xs waits)
-  | inr is_not ↦ ap ready_ids (cond-false (before x e) (x ∷ placed before e xs) (e ∷ x ∷ xs) is_not) ∙ ready-skipped e (x ∷ xs) waits
-]
+ready-placed e (x ∷ xs) waits = grind (arith, ready-placed e xs waits)
 
 marked-here : (id : ℕ) (ready : Bool) (x : Entry) → id_of x ≡ id → marked_entry id ready x ≡ record x { is_ready = ready }
 marked-here id ready x same = cond-true (x.id == id) (record x { is_ready = ready }) x (eq-eqb (id_of x) id same)
@@ -56,8 +48,7 @@ marked-other id ready x other = cond-false (x.id == id) (record x { is_ready = r
 -- the list of a marked object and the rest
 marked-first : (id : ℕ) (ready : Bool) (x : Entry) (xs : List Entry) → AreDistinct id_of (x ∷ xs) → id_of x ≡ id
     → marked id ready (x ∷ xs) ≡ record x { is_ready = ready } ∷ xs
-marked-first id ready x xs distinct same =
-    ap (λ y. y ∷ marked id ready xs) (marked-here id ready x same)
+marked-first id ready x xs distinct same = ap (λ y. y ∷ marked id ready xs) (marked-here id ready x same)
     ∙ ap (λ ys. record x { is_ready = ready } ∷ ys) (marked-absent id ready xs
     (subst (λ n. (k : ℕ) (d : Entry) → k < length xs → id_of (get_or xs k d) ≢ n) same (distinct-head id_of x xs distinct)))
 
@@ -70,103 +61,35 @@ with_ready x xs b = record x { is_ready = b } ∷ xs
 -- marked as it is
 pub marked-same : (id : ℕ) (xs : List Entry) (i : ℕ) (d : Entry) (ready : Bool) → AreDistinct id_of xs → IsAt id_of id xs i
     → (get_or xs i d).is_ready ≡ ready → marked id ready xs ≡ xs
-marked-same id _ _ d ready distinct (at_head x xs same) is =
-    marked-first id ready x xs distinct same ∙ ap (with_ready x xs) (sym is)
+marked-same id _ _ d ready distinct (at_head x xs same) is = grind (arith, marked-first id ready x xs distinct same)
 marked-same id _ _ d ready distinct (in_tail x xs other at) is =
     marked-later id ready x xs other ∙ ap (λ ys. x ∷ ys) (marked-same id xs _ d ready (distinct-tail id_of x xs distinct) at is)
 
 -- one more is ready
 pub ready-more : (id : ℕ) (xs : List Entry) (i : ℕ) (d : Entry) → AreDistinct id_of xs → IsAt id_of id xs i → (get_or xs i d).is_ready ≡ false
     → insert (ready_ids xs) (length (ready_ids (take i xs))) id ≡ ready_ids (marked id true xs)
-ready-more id _ _ d distinct (at_head x xs same) is =
-    ap (λ ids. id ∷ ids) (ready-skipped x xs is) ∙ ap (λ n. n ∷ ready_ids xs) (sym same) ∙ sym (ready-first (record x { is_ready = true }) xs refl) ∙ sym
-    (ap ready_ids (marked-first id true x xs distinct same))
-ready-more id _ _ d distinct (in_tail {i = i} x xs other at) is =
-    let rest = ready-more id xs i d (distinct-tail id_of x xs distinct) at is in
-    let later = sym (ap ready_ids (marked-later id true x xs other)) in
-    elim (cases_Bool x.is_ready) [
-      | inl is_so ↦
-          ap (λ ids. insert ids (length (ready_ids (x ∷ take i xs))) id) (ready-first x xs is_so)
-          ∙ ap (λ ids. insert (x.id ∷ ready_ids xs) (length ids) id) (ready-first x (take i xs) is_so)
-          ∙ ap (λ ids. x.id ∷ ids) rest ∙ sym (ready-first x (marked id true xs) is_so) ∙ later
-      | inr is_not ↦
-          ap (λ ids. insert ids (length (ready_ids (x ∷ take i xs))) id) (ready-skipped x xs is_not)
-          ∙ ap (λ ids. insert (ready_ids xs) (length ids) id) (ready-skipped x (take i xs) is_not)
-          ∙ rest ∙ sym (ready-skipped x (marked id true xs) is_not) ∙ later
-    ]
+ready-more id _ _ d distinct (at_head x xs same) is = grind (arith, marked-first id)
+ready-more id _ _ d distinct (in_tail {i = i} x xs other at) is = grind (arith, ready-more id xs i d (distinct-tail id_of x xs distinct) at is)
 
 -- one fewer is ready
 pub ready-less : (id : ℕ) (xs : List Entry) (i : ℕ) (d : Entry) → AreDistinct id_of xs → IsAt id_of id xs i → (get_or xs i d).is_ready ≡ true
     → (remove (ready_ids xs) (length (ready_ids (take i xs))) ≡ ready_ids (marked id false xs)) × (length (ready_ids (take i xs)) < length (ready_ids xs))
-ready-less id _ _ d distinct (at_head x xs same) is = (
-  ap (λ ids. remove ids 0) (ready-first x xs is) ∙ sym (ready-skipped (record x { is_ready = false }) xs refl) ∙ sym
-      (ap ready_ids (marked-first id false x xs distinct same)),
-  omega (arith, ap length (ready-first x xs is)),
-)
-ready-less id _ _ d distinct (in_tail {i = i} x xs other at) is =
-    let rest = ready-less id xs i d (distinct-tail id_of x xs distinct) at is in
-    let later = sym (ap ready_ids (marked-later id false x xs other)) in
-    elim (cases_Bool x.is_ready) [
-      | inl is_so ↦ (
-        ap (λ ids. remove ids (length (ready_ids (x ∷ take i xs)))) (ready-first x xs is_so)
-            ∙ ap (λ ids. remove (x.id ∷ ready_ids xs) (length ids)) (ready-first x (take i xs) is_so)
-            ∙ ap (λ ids. x.id ∷ ids) rest.0 ∙ sym (ready-first x (marked id false xs) is_so) ∙ later,
-        omega (arith, rest.1, ap length (ready-first x xs is_so), ap length (ready-first x (take i xs) is_so)),
-      )
-      | inr is_not ↦ (
-        ap (λ ids. remove ids (length (ready_ids (x ∷ take i xs)))) (ready-skipped x xs is_not)
-            ∙ ap (λ ids. remove (ready_ids xs) (length ids)) (ready-skipped x (take i xs) is_not)
-            ∙ rest.0 ∙ sym (ready-skipped x (marked id false xs) is_not) ∙ later,
-        omega (arith, rest.1, ap length (ready-skipped x xs is_not), ap length (ready-skipped x (take i xs) is_not)),
-      )
-    ]
+ready-less id _ _ d distinct (at_head x xs same) is = search (arith, nat_tests, ready-first x xs is, ready-skipped, marked-first id)
+ready-less id _ _ d distinct (in_tail {i = i} x xs other at) is = grind (arith, ready-less id xs i d (distinct-tail id_of x xs distinct) at is)
 
 -- an object that waits goes, and those that are ready stay
 pub ready-without : (id : ℕ) (xs : List Entry) → ready_ids (without id_of id (marked id false xs)) ≡ ready_ids (marked id false xs)
 ready-without id [] = refl
-ready-without id (x ∷ xs) = elim (cases_eq x.id id) [
-  | inl same ↦
-      let here = marked-here id false x same in
-      let gone = record x { is_ready = false } in
-      ap (λ y. ready_ids (without id_of id (y ∷ marked id false xs))) here
-      ∙ ap ready_ids (cond-false (not (gone.id == id)) (gone ∷ without id_of id (marked id false xs)) (without id_of id (marked id false xs))
-      (ap not (eq-eqb (id_of x) id same)))
-      ∙ ready-without id xs ∙ sym (ready-skipped gone (marked id false xs) refl) ∙ sym (ap (λ y. ready_ids (y ∷ marked id false xs)) here)
-  | inr other ↦
-      let here = marked-other id false x other in
-      ap (λ y. ready_ids (without id_of id (y ∷ marked id false xs))) here
-      ∙ ap ready_ids (cond-true (not (x.id == id)) (x ∷ without id_of id (marked id false xs)) (without id_of id (marked id false xs))
-      (ap not (ne_eqb (id_of x) id other)))
-      ∙ ready-same x (without id_of id (marked id false xs)) (marked id false xs) (ready-without id xs) ∙ sym
-      (ap (λ y. ready_ids (y ∷ marked id false xs)) here)
-]
+ready-without id (x ∷ xs) = grind (arith, ready-without id xs)
 
 pub without-marked : (id : ℕ) (ready : Bool) (xs : List Entry) → without id_of id (marked id ready xs) ≡ without id_of id xs
 without-marked id ready [] = refl
-without-marked id ready (x ∷ xs) = elim (cases_eq x.id id) [
-  | inl same ↦
-      let test = ap not (eq-eqb (id_of x) id same) in
-      let gone : Entry = record x { is_ready = ready } in
-      ap (λ y. without id_of id (y ∷ marked id ready xs)) (marked-here id ready x same)
-      ∙ cond-false (not (gone.id == id)) (gone ∷ without id_of id (marked id ready xs)) (without id_of id (marked id ready xs)) test
-      ∙ without-marked id ready xs ∙ sym (cond-false (not (x.id == id)) (x ∷ without id_of id xs) (without id_of id xs) test)
-  | inr other ↦
-      let test = ap not (ne_eqb (id_of x) id other) in
-      ap (λ y. without id_of id (y ∷ marked id ready xs)) (marked-other id ready x other)
-      ∙ cond-true (not (x.id == id)) (x ∷ without id_of id (marked id ready xs)) (without id_of id (marked id ready xs)) test
-      ∙ ap (λ ys. x ∷ ys) (without-marked id ready xs) ∙ sym (cond-true (not (x.id == id)) (x ∷ without id_of id xs) (without id_of id xs) test)
-]
+without-marked id ready (x ∷ xs) = grind (arith, without-marked id ready xs)
 
 module _ {A : Type 0} (p : A → Bool) (us vs : List A) where
   -- a test that what is in front passes and what is behind does not
   pub searchable-split : All (λ x. p x ≡ true) us → All (λ x. p x ≡ false) vs → IsPartitionedBy p (us ++ vs)
-  searchable-split front behind = λ i j d le within h.
-      elim (cases_lt j (length us)) [
-        | inl inside ↦ ap p (get_or_append_left us vs d i (omega arith)) ∙ front i d (omega arith)
-        | inr past ↦
-            let is_not = ap p (get_or-append_right us vs (length us) j d refl past) ∙ behind (j - length us) d (omega (arith, within, length-append us vs)) in
-            absurd (false≢true (sym is_not ∙ h))
-      ]
+  searchable-split front behind = grind (arith, get_or_append_left, get_or-append_right, length-append)
 
   pub point-split : (i : ℕ) (d : A) → All (λ x. p x ≡ true) us → All (λ x. p x ≡ false) vs → i ≤ length (us ++ vs)
       → IsPartitionPoint (λ x. p x ≡ true) (λ x. p x ≡ false) (us ++ vs) i → i ≡ length us
@@ -198,25 +121,20 @@ front-all : (xs : List Entry) (i : ℕ) → AreDistinct id_of xs → i ≤ lengt
 front-all xs i distinct le = ready-all (is_in_front xs i) true (take i xs) all
   where
     all : All (λ e. is_in_front xs i (id_of e) ≡ true) (take i xs)
-    all k d within =
-        let less : k < i = omega (arith, within, length-take-le i xs le) in
-        ap (λ e. is_in_front xs i (id_of e)) (get_or-take i xs k d less) ∙ own xs i k d distinct (omega arith) ∙ lt-ltb k i less
+    all k d within = grind (arith, nat_tests, length-take-le, id_of, get_or-take, own, lt-ltb)
 
 behind-all : (xs : List Entry) (i : ℕ) → AreDistinct id_of xs → i ≤ length xs → All (λ n. is_in_front xs i n ≡ false) (ready_ids (drop i xs))
 behind-all xs i distinct le = ready-all (is_in_front xs i) false (drop i xs) all
   where
     all : All (λ e. is_in_front xs i (id_of e) ≡ false) (drop i xs)
-    all k d within =
-        ap (λ e. is_in_front xs i (id_of e)) (get_or-drop i xs k d) ∙ own xs i (i + k) d distinct (omega (arith, within, length-drop i xs)) ∙ le-ltb (i + k)
-        i (omega arith)
+    all k d within = grind (arith, nat_tests, id_of, get_or-drop, own, length-drop, le-ltb)
 
 halves : (xs : List Entry) (i : ℕ) → ready_ids (take i xs) ++ ready_ids (drop i xs) ≡ ready_ids xs
 halves xs i = sym (ready-append (take i xs) (drop i xs)) ∙ ap ready_ids (take-append-drop i xs)
 
 -- a search among the ready is one in an order
 pub searchable-ready : (xs : List Entry) (i : ℕ) → AreDistinct id_of xs → i ≤ length xs → IsPartitionedBy (is_in_front xs i) (ready_ids xs)
-searchable-ready xs i distinct le =
-    subst (IsPartitionedBy (is_in_front xs i)) (halves xs i)
+searchable-ready xs i distinct le = subst (IsPartitionedBy (is_in_front xs i)) (halves xs i)
     (searchable-split (is_in_front xs i) (ready_ids (take i xs)) (ready_ids (drop i xs)) (front-all xs i distinct le) (behind-all xs i distinct le))
 
 -- and ends after those that are ready before the place
@@ -225,25 +143,19 @@ pub point-ready : (xs : List Entry) (i at : ℕ) → AreDistinct id_of xs → i 
 point-ready xs i at distinct le within point =
     let split = sym (halves xs i) in
     point-split (is_in_front xs i) (ready_ids (take i xs)) (ready_ids (drop i xs)) at 0 (front-all xs i distinct le) (behind-all xs i distinct le)
-    (subst (λ ids. at ≤ length ids) split within) (subst (λ ids. IsPartitionPoint (λ n. is_in_front xs i n ≡ true) (λ n. is_in_front xs i n ≡ false) ids at)
-    split point)
+    (subst (λ ids. at ≤ length ids) split within) (grind (arith, nat_tests))
 
 -- the first that is ready is the first of those
 pub first-is : (xs : List Entry) → first_ready xs ≡ slice_get (ready_ids xs) 0
 first-is [] = refl
-first-is (x ∷ xs) = elim (cases_Bool x.is_ready) [
-  | inl is_so ↦ cond-true x.is_ready (Some x.id) (first_ready xs) is_so ∙ sym (ap (λ ids. slice_get ids 0) (ready-first x xs is_so))
-  | inr is_not ↦ cond-false x.is_ready (Some x.id) (first_ready xs) is_not ∙ first-is xs ∙ sym (ap (λ ids. slice_get ids 0) (ready-skipped x xs is_not))
-]
+first-is (x ∷ xs) = grind (arith, first-is xs)
 
 -- a search among the ready for a place ends behind those that stand before it
-pub stands-among : (r : Roster) (ids : List ℕ) (place at : ℕ) → IsSound r → ids ≡ ready_ids r.entries → place ≤ length r.entries → at ≤ length ids
-    → (IsPartitionedBy (is_in_front r.entries place) ids
-    → IsPartitionPoint (λ n. is_in_front r.entries place n ≡ true) (λ n. is_in_front r.entries place n ≡ false) ids at) → at ≡ length (ready_ids (take place r.entries))
+pub stands-among : (r : Roster) (ids : List ℕ) (place at : ℕ) →
+    IsSound r → ids ≡ ready_ids r.entries → place ≤ length r.entries → at ≤ length ids → (IsPartitionedBy (is_in_front r.entries place) ids → IsPartitionPoint
+    (λ n. is_in_front r.entries place n ≡ true) (λ n. is_in_front r.entries place n ≡ false) ids at) → at ≡ length (ready_ids (take place r.entries))
 stands-among r ids place at sound is inside within point =
-    point-ready r.entries place at sound.distinct inside (subst (λ ns. at ≤ length ns) is within)
-    (subst (λ ns. IsPartitionPoint (λ n. is_in_front r.entries place n ≡ true) (λ n. is_in_front r.entries place n ≡ false) ns at) is
-    (point (subst (IsPartitionedBy (is_in_front r.entries place)) (sym is) (searchable-ready r.entries place sound.distinct inside))))
+    grind (arith, point-ready r.entries place at sound.distinct inside, searchable-ready r.entries place sound.distinct inside)
 
 -- where the first that is ready does not stand before the place, none that is ready does
 none-front : (r : Roster) (place : ℕ) (ids others : List ℕ) → All (λ n. is_in_front r.entries place n ≡ true) ids → ids ++ others ≡ ready_ids r.entries
@@ -255,9 +167,7 @@ none-front r place (id ∷ ids) others front split first is not =
 
 pub none-among : (r : Roster) (place : ℕ) → IsSound r → place ≤ length r.entries → (first : Option ℕ) → first ≡ first_ready r.entries
     → IfSome first (λ n. is_in_front r.entries place n ≡ false) → 0 ≡ length (ready_ids (take place r.entries))
-none-among r place sound within first is not =
-    sym (none-front r place (ready_ids (take place r.entries)) (ready_ids (drop place r.entries)) (front-all r.entries place sound.distinct within)
-    (halves r.entries place) first is not)
+none-among r place sound within first is not = grind (arith, none-front r place, front-all r.entries place sound.distinct within, halves r.entries place)
 
 -- an object that stands there is ready
 pub ready-at : (r : Roster) (id place at : ℕ) (d : Entry) → IsSound r → IsAt id_of id r.entries place → at ≡ length (ready_ids (take place r.entries))
@@ -276,8 +186,7 @@ pub waiting-at : (r : Roster) (id place at : ℕ) (d : Entry) → IsSound r → 
 waiting-at r id place at d sound found here waits =
     let inside : at ≤ length (ready_ids r.entries) =
     omega (arith, here, ap length (halves r.entries place), length-append (ready_ids (take place r.entries)) (ready_ids (drop place r.entries))) in
-    let more : insert (ready_ids r.entries) at id ≡ ready_ids (marked id true r.entries) = ap (λ n. insert (ready_ids r.entries) n id) here ∙ ready-more id
-    r.entries place d sound.distinct found waits in
+    let more : insert (ready_ids r.entries) at id ≡ ready_ids (marked id true r.entries) = grind (arith, ready-more) in
     record {
       within = inside;
       room = omega (
@@ -285,8 +194,7 @@ waiting-at r id place at d sound found here waits =
         length-insert (ready_ids r.entries) at id inside,
         ap length more,
         length-ready (marked id true r.entries),
-        length-map r.entries
-            (marked_entry id true),
+        length-map r.entries (marked_entry id true),
         few id_of r.limit r.entries sound.below sound.distinct,
       );
       more = more;

@@ -1,6 +1,8 @@
 -- The list of due times after each change of the timers.
-use Rattle.std.proofs.Common.{◌≡◌, ◌≢◌, ◌<◌, ◌≤◌, ◌==◌, ℕ, suc, true, false, cond, List, [], ◌∷◌, Option, Some, None, length, set, get_or, slice_get, refl, sym, ap, ◌∙◌, subst, inl, inr, arith}
-use Rattle.std.specs.Prelude.{All, AllPairs, IfSome, remove, insert, not, IsNone, Result, Ok, Err, OnErr, IsOk, IsSome, OnSome, nat_lt, is_some}
+use Rattle.std.proofs.lemmas.Bool.Decides.{nat_tests}
+use Rattle.std.proofs.Common.{◌≡◌, ◌≢◌, ◌<◌, ◌≤◌, ◌==◌, ℕ, true, false, List, [], ◌∷◌, Option, Some, None, length, set, get_or, slice_get, refl}
+use Rattle.std.proofs.Common.{sym, ap, ◌∙◌, subst, inl, inr, arith}
+use Rattle.std.specs.Prelude.{All, AllPairs, IfSome, remove, insert, IsNone, Result, OnErr, IsOk, IsSome, OnSome, nat_lt, is_some}
 use Rattle.std.proofs.lemmas.Bool.{cases_Bool, cases_eq, eq-eqb, ne_eqb, cond-true, cond-false, leb-true, leb-false, le-leb, ltb-true, lt-ltb, cases_lt}
 use Rattle.std.proofs.lemmas.List.{get_or-set_same, get_or-set_other, length-set}
 use Rattle.std.proofs.lemmas.List.Edits.{length-insert}
@@ -10,7 +12,9 @@ use Rattle.aom_scheduler.specs.Order.{placed, without, place_of, IsOrdered}
 use Rattle.aom_scheduler.specs.Pending.{Pending, no_later, due_of}
 use Rattle.aom_scheduler.specs.Dues.{IsTimed}
 use Rattle.aom_scheduler.specs.declared.timer.Timer.{Timer}
-use Rattle.aom_scheduler.proofs.Items.{IsAt, IsAbsent, Found, there, nowhere, find_it, place-at, absent-head, absent-tail, at-within, at-number, IsRanking, ordered-placed, ordered-without, without-at, few, pairs-head, pairs-tail, placed-point, at_head, in_tail, none_is, some_is, place-absent}
+use Rattle.aom_scheduler.proofs.Items.{IsAt, IsAbsent, Found, there, nowhere, find_it, place-at, absent-head, absent-tail, at-within, at-number, IsRanking}
+use Rattle.aom_scheduler.proofs.Items.{ordered-placed, ordered-without, without-at, few, pairs-head, pairs-tail, placed-point, at_head, in_tail, none_is}
+use Rattle.aom_scheduler.proofs.Items.{some_is, place-absent}
 use Rattle.std.proofs.lemmas.Option.{get_or_from_slice_get, same_Some, slice_get_within}
 
 -- the number of a timer
@@ -19,11 +23,7 @@ id_of t = t.id
 
 -- due times rank
 pub by_due : IsRanking no_later
-by_due =
-    record {
-      either = λ t u later. le-leb u.due t.due (omega (arith, leb-false t.due u.due later));
-      chain = λ t u v h k. le-leb t.due v.due (omega (arith, leb-true t.due u.due h, leb-true u.due v.due k));
-    }
+by_due = search (arith, nat_tests, le-leb, leb-false, leb-true)
 
 due-here : (id : ℕ) (t : Timer) (ts : List Timer) → id_of t ≡ id → due_of id (t ∷ ts) ≡ Some t.due
 due-here id t ts same = cond-true (t.id == id) (Some t.due) (due_of id ts) (eq-eqb (id_of t) id same)
@@ -45,13 +45,12 @@ blank id = record { id = id; due = 0 }
 -- what stands at a place is its object's one timer
 pub due-each : (ts : List Timer) → AllPairs (λ x y. id_of x ≢ id_of y) ts → All (λ t. due_of t.id ts ≡ Some t.due) ts
 due-each [] pairs = All-nil (λ t. due_of t.id [] ≡ Some t.due)
-due-each (x ∷ xs) pairs = All-cons (λ t. due_of t.id (x ∷ xs) ≡ Some t.due) x xs (due-here x.id x xs refl) (λ k d within.
-    due-later (get_or xs k d).id x xs (pairs-head (λ y z. id_of y ≢ id_of z) x xs pairs k d within) ∙ due-each xs (pairs-tail (λ y z. id_of y ≢ id_of z) x xs pairs) k d within)
+due-each (x ∷ xs) pairs = All-cons (λ t. due_of t.id (x ∷ xs) ≡ Some t.due) x xs (due-here x.id x xs refl) (λ k d within. due-later (get_or xs k d).id x xs
+    (pairs-head (λ y z. id_of y ≢ id_of z) x xs pairs k d within) ∙ due-each xs (pairs-tail (λ y z. id_of y ≢ id_of z) x xs pairs) k d within)
 
 pub due-of_place : (ts : List Timer) → AllPairs (λ x y. id_of x ≢ id_of y) ts → (place : ℕ) (o : Option Timer) → o ≡ slice_get ts place → IfSome o (λ t. due_of t.id ts ≡ Some t.due)
 due-of_place ts pairs place None is = tt
-due-of_place ts pairs place (Some t) is =
-    subst (λ x. due_of x.id ts ≡ Some x.due) (get_or_from_slice_get ts place t t (sym is)) (due-each ts pairs place t (slice_get_within ts place t (sym is)))
+due-of_place ts pairs place (Some t) is = grind (arith, get_or_from_slice_get ts place t t, due-each ts pairs place t, slice_get_within ts place t)
 
 -- an object has a timer exactly if it stands somewhere
 set-stands : (id : ℕ) (ts : List Timer) → is_some (due_of id ts) ≡ is_some (place_of id_of id ts)
@@ -79,34 +78,16 @@ due-placed_same t (u ∷ us) absent = elim (cases_Bool (no_later u t)) [
 
 due-placed_other : (id : ℕ) (t : Timer) (ts : List Timer) → id_of t ≢ id → due_of id (placed no_later t ts) ≡ due_of id ts
 due-placed_other id t [] other = due-later id t [] other
-due-placed_other id t (u ∷ us) other = elim (cases_Bool (no_later u t)) [
-  | inl is_so ↦
-      ap (due_of id) (cond-true (no_later u t) (u ∷ placed no_later t us) (t ∷ u ∷ us) is_so)
-      ∙ ap (λ o. cond (u.id == id) (Some u.due) o) (due-placed_other id t us other)
-  | inr is_not ↦ ap (due_of id) (cond-false (no_later u t) (u ∷ placed no_later t us) (t ∷ u ∷ us) is_not) ∙ due-later id t (u ∷ us) other
-]
+due-placed_other id t (u ∷ us) other = grind (arith, due-placed_other id t us other)
 
 -- a timer that goes is none, and those of others stay
 due-without_same : (id : ℕ) (ts : List Timer) → due_of id (without id_of id ts) ≡ None
 due-without_same id [] = refl
-due-without_same id (t ∷ ts) = elim (cases_eq t.id id) [
-  | inl same ↦ ap (due_of id) (cond-false (not (t.id == id)) (t ∷ without id_of id ts) (without id_of id ts) (ap not (eq-eqb (id_of t) id same))) ∙
-      due-without_same id ts
-  | inr other ↦
-      ap (due_of id) (cond-true (not (t.id == id)) (t ∷ without id_of id ts) (without id_of id ts) (ap not (ne_eqb (id_of t) id other)))
-      ∙ due-later id t (without id_of id ts) other ∙ due-without_same id ts
-]
+due-without_same id (t ∷ ts) = grind (arith, due-without_same id ts)
 
 due-without_other : (gone id : ℕ) (ts : List Timer) → id ≢ gone → due_of id (without id_of gone ts) ≡ due_of id ts
 due-without_other gone id [] other = refl
-due-without_other gone id (t ∷ ts) other = elim (cases_eq t.id gone) [
-  | inl same ↦
-      ap (due_of id) (cond-false (not (t.id == gone)) (t ∷ without id_of gone ts) (without id_of gone ts) (ap not (eq-eqb (id_of t) gone same)))
-      ∙ due-without_other gone id ts other ∙ sym (due-later id t ts (λ here. other (sym here ∙ same)))
-  | inr apart ↦
-      ap (due_of id) (cond-true (not (t.id == gone)) (t ∷ without id_of gone ts) (without id_of gone ts) (ap not (ne_eqb (id_of t) gone apart)))
-      ∙ ap (λ o. cond (t.id == id) (Some t.due) o) (due-without_other gone id ts other)
-]
+due-without_other gone id (t ∷ ts) other = grind (arith, due-without_other gone id ts other)
 
 -- what holds when a timer is put at its place
 pub record Setting (timers : List Timer) (dues : List (Option ℕ)) (at : ℕ) (t : Timer) : Type 0 where
@@ -115,8 +96,7 @@ pub record Setting (timers : List Timer) (dues : List (Option ℕ)) (at : ℕ) (
   pub timed : IsTimed (insert timers at t) (set dues t.id (Some t.due))
 
 pub setting : (timers : List Timer) (dues : List (Option ℕ)) (at : ℕ) (t : Timer) → IsTimed timers dues → t.id < length dues → IsNone (due_of t.id timers)
-    → at ≤ length timers
-    → IsPartitionPoint (λ u. no_later u t ≡ true) (λ u. no_later u t ≡ false) timers at → Setting timers dues at t
+    → at ≤ length timers → IsPartitionPoint (λ u. no_later u t ≡ true) (λ u. no_later u t ≡ false) timers at → Setting timers dues at t
 setting timers dues at t timed small unset within point =
     let is : insert timers at t ≡ placed no_later t timers = placed-point no_later t timers at within point in
     let absent = absent-due t.id timers unset in
@@ -127,12 +107,7 @@ setting timers dues at t timed small unset within point =
       room = omega (arith, few id_of (length dues) (insert timers at t) ordered.below ordered.distinct, length-insert timers at t within);
       timed = record {
         ordered = subst (λ n. IsOrdered id_of no_later n (insert timers at t)) (sym (length-set dues t.id (Some t.due))) ordered;
-        says = λ id. elim (cases_eq id t.id) [
-          | inl same ↦ subst (λ n. get_or (set dues t.id (Some t.due)) n None ≡ due_of n (insert timers at t)) (sym same)
-              (get_or-set_same dues t.id (Some t.due) None small ∙ sym (ap (due_of t.id) is ∙ due-placed_same t timers absent))
-          | inr other ↦ get_or-set_other dues t.id id (Some t.due) None other ∙ timed.says id ∙ sym
-              (ap (due_of id) is ∙ due-placed_other id t timers (λ same. other (sym same)))
-        ];
+        says = grind (arith, get_or-set_same, due-placed_same, get_or-set_other, due-placed_other);
       };
     }
 
@@ -140,8 +115,7 @@ setting timers dues at t timed small unset within point =
 pub setting-from : {pending : Pending} {timers : List Timer} {dues : List (Option ℕ)} (at : ℕ) (t : Timer)
     → record { timers = timers; limit = length dues } ≡ pending → IsTimed timers dues → t.id < pending.limit → IsNone (due_of t.id pending.timers)
     → at ≤ length timers → IsPartitionPoint (λ u. no_later u t ≡ true) (λ u. no_later u t ≡ false) timers at → Setting timers dues at t
-setting-from {timers = timers} {dues = dues} at t view timed small unset =
-    setting timers dues at t timed (subst (λ p. t.id < p.limit) (sym view) small) (subst (λ p. IsNone (due_of t.id p.timers)) (sym view) unset)
+setting-from {timers = timers} {dues = dues} at t view timed small unset = grind (arith, setting timers dues at t timed)
 
 -- what holds when the timer at a place goes
 pub record Ending (timers : List Timer) (dues : List (Option ℕ)) (at gone : ℕ) : Type 0 where
@@ -163,11 +137,7 @@ ending timers dues at gone timed found =
       timed = record {
         ordered = subst (λ n. IsOrdered id_of no_later n (remove timers at)) (sym (length-set dues gone None))
             (subst (IsOrdered id_of no_later (length dues)) (sym is) (ordered-without id_of no_later (length dues) gone timers timed.ordered));
-        says = λ id. elim (cases_eq id gone) [
-          | inl same ↦ subst (λ n. get_or (set dues gone None) n None ≡ due_of n (remove timers at)) (sym same)
-              (get_or-set_same dues gone None None small ∙ sym (ap (due_of gone) is ∙ due-without_same gone timers))
-          | inr other ↦ get_or-set_other dues gone id None None other ∙ timed.says id ∙ sym (ap (due_of id) is ∙ due-without_other gone id timers other)
-        ];
+        says = grind (arith, get_or-set_same, due-without_same, get_or-set_other, due-without_other);
       };
     }
 
@@ -175,8 +145,7 @@ ending timers dues at gone timed found =
 pub ending-from : {pending : Pending} {timers : List Timer} {dues : List (Option ℕ)} {at : ℕ} (gone : ℕ)
     → record { timers = timers; limit = length dues } ≡ pending → IsTimed timers dues → place_of id_of gone pending.timers ≡ Some at
     → Ending timers dues at gone
-ending-from {timers = timers} {dues = dues} {at = at} gone view timed stands =
-    ending timers dues at gone timed (place-at id_of gone timers at (ap (λ p. place_of id_of gone p.timers) view ∙ stands))
+ending-from {timers = timers} {dues = dues} {at = at} gone view timed stands = grind (arith, ending timers dues at gone timed, place-at)
 
 -- lists of timers and limits that are the same
 pub same_pending : (ts us : List Timer) (m n : ℕ) → ts ≡ us → m ≡ n → ◌≡◌ {A = Pending} (record { timers = ts; limit = m }) (record { timers = us; limit = n })
@@ -184,8 +153,7 @@ same_pending ts us m n p q = cc
 
 -- what a fallible insertion says where there is room, and where it succeeded
 pub ok_by_room : {X E : Type 0} (r : Result X E) (len cap : ℕ) → OnErr r (cap ≤ len) → len < cap → IsOk r
-ok_by_room (Ok x) len cap full room = refl
-ok_by_room (Err e) len cap full room = absurd (omega (arith, full))
+ok_by_room x len cap full room = grind arith
 
 -- the timer in front stands first
 pub front-at : (ts : List Timer) (t : Timer) → 0 < length ts → t ≡ get_or ts 0 t → IsAt id_of t.id ts 0
@@ -201,14 +169,12 @@ searchable-early due ts sorted = λ i j d le within h.
           lt-ltb (get_or ts i d).due due (omega (
             arith,
             ltb-true (get_or ts j d).due due h,
-            leb-true (get_or ts i d).due (get_or ts j d).due
-                (sorted i j d (omega arith) within),
+            leb-true (get_or ts i d).due (get_or ts j d).due (sorted i j d (omega arith) within),
           ))
     ]
 
 pub early-ends : (id due start : ℕ) (ts : List Timer) → IsPartitionPoint (λ t. nat_lt t.due due ≡ true) (λ t. nat_lt t.due due ≡ false) ts start
-    → due_of id ts ≡ Some due
-    → (at : ℕ) → place_of id_of id ts ≡ Some at → start ≤ at
+    → due_of id ts ≡ Some due → (at : ℕ) → place_of id_of id ts ≡ Some at → start ≤ at
 early-ends id due start ts point is at stands =
     let d = blank id in
     let due_then : due ≡ (get_or ts at d).due = same_Some due (get_or ts at d).due (sym is ∙ due-at id ts at d (place-at id_of id ts at stands)) in

@@ -49,8 +49,7 @@ invariant_of-self c =
     subst (λ ps. IsIndexed c.insert.new.self.items ps × (length ps ≤ 4096) × (length ps ≤ vec_capacity c.insert.new.self)) (sym over) (
       subst (λ xs. IsIndexed xs now) c.deref-2.ensures.value indexed,
       omega (arith, long, c.self.invariant.1),
-      omega
-          (arith, long, c.self.invariant.2, c.insert.ensures.capacity),
+      omega (arith, long, c.self.invariant.2, c.insert.ensures.capacity),
     )
 
 pub returns : goal.returns

@@ -41,8 +41,7 @@ invariant_of-self c =
     subst (λ ps. IsIndexed c.remove.new.self.items ps × (length ps ≤ 4096) × (length ps ≤ vec_capacity c.remove.new.self)) (sym over) (
       subst (λ xs. IsIndexed xs now) c.deref.ensures.value indexed,
       omega (arith, long, c.self.invariant.1),
-      omega
-          (arith, long, c.self.invariant.2, c.remove.ensures.capacity),
+      omega (arith, long, c.self.invariant.2, c.remove.ensures.capacity),
     )
 
 pub returns-in-Some : goal.returns-in-Some

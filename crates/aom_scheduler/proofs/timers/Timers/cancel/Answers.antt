@@ -15,10 +15,8 @@ invariant_of-self c =
     let dues = c.self.inside.dues.items in
     let timed = subst (λ k. IsTimed (remove c.self.inside.queue.items c.place-at.result) (slice_set dues k None)) (sym c.number.ensures.value) made.timed in (
       subst (λ ts. IsTimed ts (slice_set dues c.number.result None)) (sym items) timed,
-      omega
-          (arith, length-set dues c.number.result None, c.self.invariant.1, c.remove.ensures.capacity),
-      omega
-          (arith, length-set dues c.number.result None, c.self.invariant.2),
+      omega (arith, length-set dues c.number.result None, c.self.invariant.1, c.remove.ensures.capacity),
+      omega (arith, length-set dues c.number.result None, c.self.invariant.2),
     )
 
 pub returns : goal.returns

@@ -14,10 +14,8 @@ invariant_of-self c =
     let made = ending timers dues 0 t.id c.self.invariant.0 (front-at timers t some c.in_ok-timer.ensures.lookup) in
     let timed = subst (λ k. IsTimed (remove timers 0) (slice_set dues k None)) (sym c.number.ensures.value) made.timed in (
       subst (λ ts. IsTimed ts (slice_set dues c.number.result None)) (sym c.pop_front.ensures.rest) timed,
-      omega
-          (arith, length-set dues c.number.result None, c.self.invariant.1, c.pop_front.ensures.capacity),
-      omega
-          (arith, length-set dues c.number.result None, c.self.invariant.2),
+      omega (arith, length-set dues c.number.result None, c.self.invariant.1, c.pop_front.ensures.capacity),
+      omega (arith, length-set dues c.number.result None, c.self.invariant.2),
     )
 
 pub returns-clause-left : goal.returns-clause-left
