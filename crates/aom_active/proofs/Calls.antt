@@ -109,10 +109,10 @@ whole_from a new id q w ch stand enters runs = record {
 abbrev Retimes : List Machine_timer → List Machine_timer → ℕ → (Request → Request) → Type 0
 Retimes ts us id f = (asked : ℕ → Option Request) (r : Request) → asked id ≡ Some r → Timely asked ts → Timely (asked_anew id (Some (f r)) asked) us
 
-made :
-    (a new : Active) (id : ℕ) (q : Option Machine_request) (f : Request → Request) → IsWhole a → Changes a.table new.table id q → may_stand q ≡ true →
-    Follows a.roster new.table new.roster → Runs new.table new.pending → Retimes a.pending.timers new.pending.timers id f →
-    ((r : Request) (waits : Option Bool) → Tells (request_at a.table id) (Some r) waits → Tells q (Some (f r)) waits) → ((r : Request) → IsKept (Some r) (Some (f r))) → Made a new id f
+made : (a new : Active) (id : ℕ) (q : Option Machine_request) (f : Request → Request) → IsWhole a → Changes a.table new.table id q →
+    may_stand q ≡ true → Follows a.roster new.table new.roster → Runs new.table new.pending → Retimes a.pending.timers new.pending.timers id f →
+    ((r : Request) (waits : Option Bool) → Tells (request_at a.table id) (Some r) waits → Tells q (Some (f r)) waits) →
+    ((r : Request) → IsKept (Some r) (Some (f r))) → Made a new id f
 made a new id q f w ch stand follows runs retimes tells kept = record {
   whole = whole_from a new id q w ch stand follows.enters runs;
   makes = record { limit = ch.limit; stands = stands };
@@ -154,8 +154,8 @@ module _ {old : Active} (a : Active) (same : a ≡ old) (w : IsWhole a) (id : �
       r ≡ record a.roster { entries = marked id ready a.roster.entries } → is_some (request_at a.table id) ≡ true → is_some q ≡ true → Follows a.roster t r
   marked_as t r q ready ch ready_is roster_is listed some = grind (arith, follows_marked a w t id q ch listed some)
 
-  pub sets_active :
-      (t : Table) (r : Roster) (ready : Bool) → state_at old.table id ≡ Some Machine_issued → Changes a.table t id (with_state Machine_active (request_at a.table id)) →
+  pub sets_active : (t : Table) (r : Roster) (ready : Bool) →
+      state_at old.table id ≡ Some Machine_issued → Changes a.table t id (with_state Machine_active (request_at a.table id)) →
       ready ≡ is_ready (request_at t id) → r ≡ record a.roster { entries = marked id ready a.roster.entries } → Made old (parts t r a.pending) id waits
   sets_active t r ready state change ready_is roster_is =
       let o = state_here Machine_issued state in
@@ -178,8 +178,8 @@ module _ {old : Active} (a : Active) (same : a ≡ old) (w : IsWhole a) (id : �
       (runs_same a w t id q ch (λ e. sym (ap is_pending o.is) ∙ e)) (retimes_same a.pending.timers id cancelling (λ x. refl))
       (λ x v e. object_tells Machine_active Machine_cancelling o.status o.status x (cancelling x) v (λ phase status. (refl, status)) (subst (λ h. Tells h (Some x) v) o.is e)) (λ x. (refl, refl)))
 
-  pub issues_own :
-      (s t : Table) (code given : ℤ) → given ≡ code → state_at old.table id ≡ Some Machine_idle → Changes a.table s id (Some (Machine_object Machine_issued pending)) →
+  pub issues_own : (s t : Table) (code given : ℤ) →
+      given ≡ code → state_at old.table id ≡ Some Machine_idle → Changes a.table s id (Some (Machine_object Machine_issued pending)) →
       Changes s t id (with_status (kept_code given) (request_at s id)) → Made old (parts t a.roster a.pending) id (completed_at_once code)
   issues_own s t code given given_is state first second =
       let o = state_here Machine_idle state in
@@ -192,8 +192,7 @@ module _ {old : Active} (a : Active) (same : a ≡ old) (w : IsWhole a) (id : �
       (λ x v e. object_tells Machine_idle Machine_issued o.status
       (kept_code code) x (completed_at_once code x) v (λ phase status. (refl, refl)) (subst (λ h. Tells h (Some x) v) o.is e)) (λ x. (refl, refl)))
 
-  pub ends_cancel :
-      (t : Table) → is_being_cancelled (request_at old.table id) ≡ true → is_pending (request_at old.table id) ≡ false →
+  pub ends_cancel : (t : Table) → is_being_cancelled (request_at old.table id) ≡ true → is_pending (request_at old.table id) ≡ false →
       Changes a.table t id (taken (request_at a.table id)) → Made old (parts t a.roster a.pending) id cancelled
   ends_cancel t being completed change =
       let being_here : is_being_cancelled (request_at a.table id) ≡ true = ap (λ x. is_being_cancelled (request_at x.table id)) same ∙ being in
@@ -216,8 +215,7 @@ module _ {old : Active} (a : Active) (same : a ≡ old) (w : IsWhole a) (id : �
       let q = Some (Machine_object Machine_aborted code) in
       let ch = subst (λ h. Changes a.table t id (aborted_request h)) o.in_it.is change in
       let timers = record a.pending { timers = without id_of id a.pending.timers } in
-      subst (λ x. Made x (parts t a.roster p) id aborted) same
-      (subst (λ y. Made a (parts t a.roster y) id aborted) (sym pending_is)
+      subst (λ x. Made x (parts t a.roster p) id aborted) same (subst (λ y. Made a (parts t a.roster y) id aborted) (sym pending_is)
       (made a (parts t a.roster timers) id q aborted w ch (answered o.in_it.status (int_eq o.in_it.status pending) refl)
       (follows_same a w t id q ch (ap is_some o.in_it.is) refl (sym (cancelled_waits (request_at a.table id) being_here)))
       (runs_without a w t id q ch) (retimes_without a.pending.timers id aborted (λ x. refl))
@@ -228,10 +226,9 @@ module _ {old : Active} (a : Active) (same : a ≡ old) (w : IsWhole a) (id : �
       answered : (status : ℤ) (b : Bool) → int_eq status pending ≡ b → not (int_eq (cond b (negsuc 2) status) pending) ≡ true
       answered status x e = grind (arith, nat_tests)
 
-  pub times_out :
-      (now : ℕ) (t : Table) (r : Roster) (p : Pending) (ready : Bool) → AreInOrder old.pending → due_by now a.pending.timers ≡ Some id →
-      Changes a.table t id (with_status (pos 0) (request_at a.table id)) → ready ≡ is_ready (request_at t id) → r ≡ record a.roster { entries = marked id ready a.roster.entries } →
-      p ≡ record a.pending { timers = left_by now a.pending.timers } → Made old (parts t r p) id timed_out
+  pub times_out : (now : ℕ) (t : Table) (r : Roster) (p : Pending) (ready : Bool) → AreInOrder old.pending → due_by now a.pending.timers ≡ Some id →
+      Changes a.table t id (with_status (pos 0) (request_at a.table id)) → ready ≡ is_ready (request_at t id) → r ≡ record a.roster
+      { entries = marked id ready a.roster.entries } → p ≡ record a.pending { timers = left_by now a.pending.timers } → Made old (parts t r p) id timed_out
   times_out now t r p ready ordered due change ready_is roster_is pending_is =
       let o = pending_object (request_at a.table id) (w.waits id (set_by now id a.pending.timers due)) in
       let listed = ap is_some o.in_it.is in
@@ -239,17 +236,15 @@ module _ {old : Active} (a : Active) (same : a ≡ old) (w : IsWhole a) (id : �
       let ch = subst (λ h. Changes a.table t id (with_status (pos 0) h)) o.in_it.is change in
       let timers = record a.pending { timers = without id_of id a.pending.timers } in
       let left = pending_is ∙ ap (λ ts. record a.pending { timers = ts }) (left_some now id a.pending.timers (subst (λ x. AreDistinct id_of x.pending.timers) (sym same) ordered.distinct) due) in
-      subst (λ x. Made x (parts t r p) id timed_out) same
-      (subst (λ y. Made a (parts t r y) id timed_out) (sym left)
+      subst (λ x. Made x (parts t r p) id timed_out) same (subst (λ y. Made a (parts t r y) id timed_out) (sym left)
       (made a (parts t r timers) id q timed_out w ch (completed_stands o.state (pos 0) refl) (marked_as t r q ready ch ready_is roster_is listed refl)
       (runs_without a w t id q ch) (retimes_without a.pending.timers id timed_out (λ x. refl))
       (λ x v e. object_tells o.state o.state o.in_it.status (pos 0) x (timed_out x) v (λ phase status. (phase, refl)) (subst (λ h. Tells h (Some x) v) o.in_it.is e)) (λ x. (refl, refl))))
 
   -- one that is not completed, as long as no timer runs for it, and it stands where it stood
-  issues_as :
-      (f : Request → Request) → ((r : Request) → (f r).phase ≡ Issued) → ((r : Request) → (f r).status ≡ pending) → ((r : Request) → (f r).timer ≡ None) →
-      ((r : Request) → IsKept (Some r) (Some (f r))) →
-      (t : Table) → state_at old.table id ≡ Some Machine_idle → Changes a.table t id (Some (Machine_object Machine_issued pending)) → Made old (parts t a.roster a.pending) id f
+  issues_as : (f : Request → Request) → ((r : Request) → (f r).phase ≡ Issued) → ((r : Request) → (f r).status ≡ pending) →
+      ((r : Request) → (f r).timer ≡ None) → ((r : Request) → IsKept (Some r) (Some (f r))) → (t : Table) → state_at old.table id ≡ Some Machine_idle →
+      Changes a.table t id (Some (Machine_object Machine_issued pending)) → Made old (parts t a.roster a.pending) id f
   issues_as f phase_so status_so timer_so stays t state ch =
       let o = state_here Machine_idle state in
       let q = Some (Machine_object Machine_issued pending) in
@@ -259,8 +254,8 @@ module _ {old : Active} (a : Active) (same : a ≡ old) (w : IsWhole a) (id : �
       (runs_same a w t id q ch (λ e. absurd (false≢true (sym over ∙ e)))) (retimes_none a.pending.timers id f (no_timer a w t id q ch over) timer_so)
       (λ x v e. object_tells Machine_idle Machine_issued o.status pending x (f x) v (λ phase status. (sym (phase_so x), sym (status_so x))) (subst (λ h. Tells h (Some x) v) o.is e)) stays)
 
-  pub issues_native :
-      (t : Table) → state_at old.table id ≡ Some Machine_idle → Changes a.table t id (Some (Machine_object Machine_issued pending)) → Made old (parts t a.roster a.pending) id (begun_with pending)
+  pub issues_native : (t : Table) → state_at old.table id ≡ Some Machine_idle →
+      Changes a.table t id (Some (Machine_object Machine_issued pending)) → Made old (parts t a.roster a.pending) id (begun_with pending)
   issues_native = issues_as (begun_with pending) (λ r. refl) (λ r. refl) (λ r. refl) (λ r. (refl, refl))
 
   -- whichever token completes it
@@ -268,9 +263,9 @@ module _ {old : Active} (a : Active) (same : a ≡ old) (w : IsWhole a) (id : �
       Changes a.table t id (Some (Machine_object Machine_issued pending)) → Made old (parts t a.roster a.pending) id (promised order)
   issues_token order = issues_as (promised order) (λ r. refl) (λ r. refl) (λ r. refl) (λ r. (refl, refl))
 
-  pub completes_it :
-      (t : Table) (r : Roster) (p : Pending) (code given : ℤ) (ready : Bool) → given ≡ code → is_pending (request_at old.table id) ≡ true →
-      Changes a.table t id (with_status (kept_code given) (request_at a.table id)) → ready ≡ is_ready (request_at t id) → r ≡ record a.roster { entries = marked id ready a.roster.entries } →
+  pub completes_it : (t : Table) (r : Roster) (p : Pending) (code given : ℤ) (ready : Bool) →
+      given ≡ code → is_pending (request_at old.table id) ≡ true → Changes a.table t id (with_status (kept_code given) (request_at a.table id)) →
+      ready ≡ is_ready (request_at t id) → r ≡ record a.roster { entries = marked id ready a.roster.entries } →
       p ≡ record a.pending { timers = without id_of id a.pending.timers } → Made old (parts t r p) id (completed_with (recorded code))
   completes_it t r p code given ready given_is awaited change ready_is roster_is pending_is =
       let o = pending_object (request_at a.table id) (ap (λ x. is_pending (request_at x.table id)) same ∙ awaited) in
@@ -280,8 +275,7 @@ module _ {old : Active} (a : Active) (same : a ≡ old) (w : IsWhole a) (id : �
       let ch = subst (λ k. Changes a.table t id (with_status (kept_code k) (Some (Machine_object o.state o.in_it.status)))) given_is
       (subst (λ h. Changes a.table t id (with_status (kept_code given) h)) o.in_it.is change) in
       let timers = record a.pending { timers = without id_of id a.pending.timers } in
-      subst (λ x. Made x (parts t r p) id f) same
-      (subst (λ y. Made a (parts t r y) id f) (sym pending_is)
+      subst (λ x. Made x (parts t r p) id f) same (subst (λ y. Made a (parts t r y) id f) (sym pending_is)
       (made a (parts t r timers) id q f w ch (completed_stands o.state (kept_code code) (kept_is_over code)) (marked_as t r q ready ch ready_is roster_is listed refl)
       (runs_without a w t id q ch) (retimes_without a.pending.timers id f (λ x. refl))
       (λ x v e. object_tells o.state o.state o.in_it.status (kept_code code) x (f x) v (λ phase status. (phase, refl)) (subst (λ h. Tells h (Some x) v) o.in_it.is e)) (λ x. (refl, refl))))
@@ -296,9 +290,8 @@ module _ {old : Active} (a : Active) (same : a ≡ old) (w : IsWhole a) (id : �
   pub pick_enlisted : first_ready a.roster.entries ≡ Some id → is_some (place id a.roster) ≡ true
   pick_enlisted e = w.enlisted id ∙ ready_is_some (request_at a.table id) (pick_is_ready e)
 
-  pub takes_up :
-      (t : Table) (r : Roster) → is_server (request_at a.table id) ≡ false → first_ready a.roster.entries ≡ Some id → Changes a.table t id (taken (request_at a.table id)) →
-      r ≡ record a.roster { entries = marked id false a.roster.entries } → Made old (parts t r a.pending) id taken_up
+  pub takes_up : (t : Table) (r : Roster) → is_server (request_at a.table id) ≡ false → first_ready a.roster.entries ≡ Some id → Changes a.table t id
+      (taken (request_at a.table id)) → r ≡ record a.roster { entries = marked id false a.roster.entries } → Made old (parts t r a.pending) id taken_up
   takes_up t r plain first change roster_is =
       let ready = pick_is_ready first in
       let listed = ready_is_some (request_at a.table id) ready in
@@ -317,16 +310,14 @@ module _ {old : Active} (a : Active) (same : a ≡ old) (w : IsWhole a) where
   -- the timer that is due first, and the pick
   pub none_completes : (now : ℕ) (p : Pending) (result : Option ℕ) → result ≡ None →
       due_by now a.pending.timers ≡ None → p ≡ record a.pending { timers = left_by now a.pending.timers } → Completes now old (parts a.table a.roster p) result
-  none_completes now p result none due pending_is =
-      subst (λ r. Completes now old (parts a.table a.roster p) r) (sym none)
+  none_completes now p result none due pending_is = subst (λ r. Completes now old (parts a.table a.roster p) r) (sym none)
       (grind (arith, nat_tests, left_none now a.pending.timers due, none_by))
 
   pub is_first_due : (now id : ℕ) → due_by now a.pending.timers ≡ Some id → (asked : ℕ → Option Request) (queues : ℕ → Option Bool) → StandsFor old asked queues → IsFirstDue now id asked
   is_first_due now id due asked queues s = search (arith, nat_tests, first_by asked now id a.pending.timers)
 
   pub none_picked : (first result : Option ℕ) → first ≡ None → (IsNone first → All (λ e. e.is_ready ≡ false) a.roster.entries) → result ≡ None → Picks old old result
-  none_picked first result none waits is =
-      subst (λ r. Picks old old r) (sym is)
+  none_picked first result none waits is = subst (λ r. Picks old old r) (sym is)
       (refl, λ asked queues s. picks_none a w asked queues (subst (λ x. StandsFor x asked queues) (sym same) s) (waits (subst IsNone (sym none) refl)))
 
   pub is_first_ready : (id : ℕ) → first_ready a.roster.entries ≡ Some id → (asked : ℕ → Option Request) (queues : ℕ → Option Bool) → StandsFor old asked queues → IsFirstReady id asked queues
@@ -358,8 +349,8 @@ pub record Timed (old new : Active) (id due : ℕ) : Type 0 where
   pub times : Times old new id due
 
 module _ {old : Active} (a : Active) (same : a ≡ old) (w : IsWhole a) (id : ℕ) where
-  pub enlists_it :
-      (h : Machine_request) (waits : Option Bool) → may_stand (Some h) ≡ true → is_ready (Some h) ≡ false → ((order : ℕ) (priority : ℤ) → Tells (Some h) (Some (enlisted_with order priority)) waits) →
+  pub enlists_it : (h : Machine_request) (waits : Option Bool) →
+      may_stand (Some h) ≡ true → is_ready (Some h) ≡ false → ((order : ℕ) (priority : ℤ) → Tells (Some h) (Some (enlisted_with order priority)) waits) →
       (t : Table) (r : Roster) (priority given : ℤ) → given ≡ priority → IsSound old.roster → request_at old.table id ≡ None → Changes a.table t id (Some h) →
       r ≡ record a.roster { entries = placed before (waiting id given) a.roster.entries } → Enlisted old (parts t r a.pending) id priority waits
   enlists_it h waits may idles tells t r priority given given_is ordered fresh ch roster_is =
@@ -405,11 +396,9 @@ module _ {old : Active} (a : Active) (same : a ≡ old) (w : IsWhole a) (id : �
           keeps n x equal = grind (arith, nat_tests, eqb-true, unasked, free)
 
   -- a server is told that something waits in its queue, or that nothing does
-  pub asks_it :
-      (t : Table) (r : Roster) (b : Bool) → is_server (request_at old.table id) ≡ true → Changes a.table t id (Some (Machine_server b)) →
+  pub asks_it : (t : Table) (r : Roster) (b : Bool) → is_server (request_at old.table id) ≡ true → Changes a.table t id (Some (Machine_server b)) →
       r ≡ record a.roster { entries = marked id b a.roster.entries } → Asked old (parts t r a.pending) id b
-  asks_it t r b serves ch roster_is =
-      subst (λ x. Asked x (parts t r a.pending) id b) same
+  asks_it t r b serves ch roster_is = subst (λ x. Asked x (parts t r a.pending) id b) same
       (record { whole = whole_from a (parts t r a.pending) id q w ch refl follows.enters runs; asks = record { limit = ch.limit; stands = stands } })
     where
       q : Option Machine_request
@@ -438,9 +427,7 @@ module _ {old : Active} (a : Active) (same : a ≡ old) (w : IsWhole a) (id : �
   pub removes_it :
       (t : Table) (r : Roster) (p : Pending) → Changes a.table t id None → r ≡ record a.roster { entries = without (λ e. e.id) id a.roster.entries } →
       p ≡ record a.pending { timers = without id_of id a.pending.timers } → Removed old (parts t r p) id
-  removes_it t r p ch roster_is pending_is =
-      subst (λ x. Removed x (parts t r p) id) same
-      (subst (λ x. Removed a (parts t x p) id) (sym roster_is)
+  removes_it t r p ch roster_is pending_is = subst (λ x. Removed x (parts t r p) id) same (subst (λ x. Removed a (parts t x p) id) (sym roster_is)
       (subst (λ x. Removed a (parts t less x) id) (sym pending_is)
       (record {
         whole = whole_from a (parts t less fewer) id None w ch refl (enters_without a w t id None ch refl) (runs_without a w t id None ch);
@@ -459,15 +446,13 @@ module _ {old : Active} (a : Active) (same : a ≡ old) (w : IsWhole a) (id : �
           let u = timely_without asked id None a.pending.timers refl (record { dues = s.dues; sooner = s.sooner }) in
           record { tells = tells_anew a.table t id None None asked queues ch tt s.tells; priorities = l.priorities; order = l.order; dues = u.dues; sooner = u.sooner }
 
-  pub sets_timer :
-      (t : Table) (p : Pending) (due : ℕ) → AreInOrder old.pending → state_at old.table id ≡ Some Machine_idle → Changes a.table t id (Some (Machine_object Machine_issued pending)) →
+  pub sets_timer : (t : Table) (p : Pending) (due : ℕ) →
+      AreInOrder old.pending → state_at old.table id ≡ Some Machine_idle → Changes a.table t id (Some (Machine_object Machine_issued pending)) →
       p ≡ record a.pending { timers = placed no_later (timer_of id due) a.pending.timers } → Timed old (parts t a.roster p) id due
-  sets_timer t p due ordered state ch pending_is =
-      subst (λ x. Timed x (parts t a.roster p) id due) same
+  sets_timer t p due ordered state ch pending_is = subst (λ x. Timed x (parts t a.roster p) id due) same
       (subst (λ x. Timed a (parts t a.roster x) id due) (sym pending_is)
       (record {
-        whole =
-            whole_from a (parts t a.roster more) id q w ch refl (follows_same a w t id q ch (ap is_some o.is) refl (sym (ap is_ready o.is))).enters
+        whole = whole_from a (parts t a.roster more) id q w ch refl (follows_same a w t id q ch (ap is_some o.is) refl (sym (ap is_ready o.is))).enters
             (runs_placed a w t id q ch due unset refl);
         times = record { limit = ch.limit; stands = stands };
       }))

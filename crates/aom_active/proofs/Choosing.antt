@@ -85,13 +85,11 @@ record IsChosen (cs : List Cell) (id : ℕ) (r : Request) : Type 0 where
   name : candidate.seat.object.name ≡ id
   request : candidate.request ≡ r
 
-chosen :
-    (cs : List Cell) (id : ℕ) (r : Request) → Tidy cs → requested cs id ≡ Some r → going cs id r ≡ true →
+chosen : (cs : List Cell) (id : ℕ) (r : Request) → Tidy cs → requested cs id ≡ Some r → going cs id r ≡ true →
     ((n : ℕ) (q : Request) → n ≢ id → requested cs n ≡ Some q → going cs n q ≡ true → goes_before r q ≡ true) → IsChosen cs id r
 chosen [] id r tidy asked ready first = cc
-chosen (c ∷ cs) id r tidy asked ready first =
-    go (c.object.name == id) refl asked (λ here.
-    chosen cs id r tidy.2 here (sym (behind_going id r here) ∙ ready) (λ n q other e goes. first n q other (asked_later c cs n q tidy e) (behind_going n q e ∙ goes)))
+chosen (c ∷ cs) id r tidy asked ready first = go (c.object.name == id) refl asked (λ here. chosen cs id r tidy.2 here
+    (sym (behind_going id r here) ∙ ready) (λ n q other e goes. first n q other (asked_later c cs n q tidy e) (behind_going n q e ∙ goes)))
   where
     behind_going : (n : ℕ) (q : Request) → requested cs n ≡ Some q → going (c ∷ cs) n q ≡ going cs n q
     behind_going n q e = ap (λ v. is_ready q || has_more v.queue) (service_later c cs n tidy (asked_lives cs n q e))
@@ -101,21 +99,14 @@ chosen (c ∷ cs) id r tidy asked ready first =
     alone (Some b) e same =
         let s = seated cs tidy.2 b e in
         let other = eqb-false c.object.name b.seat.object.name (other_name c cs b.seat.object.name tidy (ap is_some s.lives)) in
-        ap (λ g. cond g b (first_seat c r)) (not_both r b.request
-        (first b.seat.object.name b.request (λ equal. other (same ∙ sym equal))
+        ap (λ g. cond g b (first_seat c r)) (not_both r b.request (first b.seat.object.name b.request (λ equal. other (same ∙ sym equal))
         (asked_later c cs b.seat.object.name b.request tidy s.asked) (behind_going b.seat.object.name b.request s.asked ∙ s.ready)))
 
     front_going : c.object.name ≡ id → goes_now c r ≡ true
     front_going same = sym (ap (λ v. is_ready r || has_more v.queue) (service_first c cs)) ∙ ap (λ n. going (c ∷ cs) n r) same ∙ ready
 
     in_front : c.object.name ≡ id → c.request ≡ Some r → IsChosen (c ∷ cs) id r
-    in_front same here = record {
-      candidate = first_seat c r;
-      first =
-          grind (arith, nat_tests, front_going, alone);
-      name = same;
-      request = refl;
-    }
+    in_front same here = record { candidate = first_seat c r; first = grind (arith, nat_tests, front_going, alone); name = same; request = refl }
 
     behind : (c.object.name == id) ≡ false → IsChosen cs id r → IsChosen (c ∷ cs) id r
     behind other w = record {
@@ -137,9 +128,9 @@ chosen (c ∷ cs) id r tidy asked ready first =
     go x same here rest = grind (arith, nat_tests, in_front, eqb-true, behind)
 
 -- the first ready object is the candidate that the checked machine takes
-pub picked :
-    (cs : List Cell) (queues : ℕ → Option Bool) (id : ℕ) → Tidy cs → AreWanted queues cs → IsFirstReady id (requested cs) queues →
-    (x : Candidate) × (first_ready cs ≡ Some x) × (x.seat.object.name ≡ id) × (named cs id ≡ Some x.seat.object) × (held cs x.seat.place ≡ Some x.seat.object) × (requested cs id ≡ Some x.request)
+pub picked : (cs : List Cell) (queues : ℕ → Option Bool) (id : ℕ) →
+    Tidy cs → AreWanted queues cs → IsFirstReady id (requested cs) queues → (x : Candidate) × (first_ready cs ≡ Some x) ×
+    (x.seat.object.name ≡ id) × (named cs id ≡ Some x.seat.object) × (held cs x.seat.place ≡ Some x.seat.object) × (requested cs id ≡ Some x.request)
 picked cs queues id tidy wanted f = grind (arith, chosen cs id f.request tidy f.stands, seated cs tidy)
 
 -- where none is ready there is none

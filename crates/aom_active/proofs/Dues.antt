@@ -71,8 +71,7 @@ record IsSoonest (cs : List Cell) (id : ℕ) (t : Timer) : Type 0 where
   name : timed.object.name ≡ id
   timer : timed.timer ≡ t
 
-soonest :
-    (cs : List Cell) (id : ℕ) (t : Timer) → Tidy cs → timer_in (requested cs id) ≡ Some t →
+soonest : (cs : List Cell) (id : ℕ) (t : Timer) → Tidy cs → timer_in (requested cs id) ≡ Some t →
     ((n : ℕ) (u : Timer) → n ≢ id → timer_in (requested cs n) ≡ Some u → is_sooner t u ≡ true) → IsSoonest cs id t
 soonest [] id t tidy runs first = cc
 soonest (c ∷ cs) id t tidy runs first = go (c.object.name == id) refl runs (λ here. soonest cs id t tidy.2 here (λ n u other e. first n u other (timer_later c cs n u tidy e)))
@@ -103,9 +102,8 @@ soonest (c ∷ cs) id t tidy runs first = go (c.object.name == id) refl runs (λ
       where
         by_timer : (o : Option Timer) → timer_in c.request ≡ o → among_timers c.object c.request (Some w.timed) ≡ Some w.timed
         by_timer None is = among_none c.object c.request (Some w.timed) is
-        by_timer (Some u) is =
-            among_some c.object c.request u (Some w.timed) is
-            ∙ ap (λ s. Some (cond s w.timed (first_running c u))) (ap (λ v. is_sooner v u) w.timer ∙ first c.object.name u (eqb-false c.object.name id other) (timer_first c cs ∙ is))
+        by_timer (Some u) is = among_some c.object c.request u (Some w.timed) is ∙ ap (λ s. Some (cond s w.timed (first_running c u)))
+            (ap (λ v. is_sooner v u) w.timer ∙ first c.object.name u (eqb-false c.object.name id other) (timer_first c cs ∙ is))
 
     go : (b : Bool) → (c.object.name == id) ≡ b → timer_in (cond b c.request (requested cs id)) ≡ Some t → (timer_in (requested cs id) ≡ Some t → IsSoonest cs id t) → IsSoonest (c ∷ cs) id t
     go x same here rest = grind (arith, nat_tests, in_front, eqb-true, behind)

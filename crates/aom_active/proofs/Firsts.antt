@@ -71,8 +71,7 @@ record IsDueFirst (now id : ℕ) (ts : List Machine_timer) : Type 0 where
 
 due_first : (now id : ℕ) (ts : List Machine_timer) → due_by now ts ≡ Some id → IsDueFirst now id ts
 due_first now id [] e = cc
-due_first now id (t ∷ ts) e =
-    true_given (λ b. cond b (Some t.id) None ≡ Some id) (nat_le t.due now) e (λ none. cc)
+due_first now id (t ∷ ts) e = true_given (λ b. cond b (Some t.id) None ≡ Some id) (nat_le t.due now) e (λ none. cc)
     (λ le is. record { timer = t; rest = ts; is = refl; name = same_Some t.id id is; le = le })
 
 -- it is the first that is due, or none is
@@ -139,8 +138,7 @@ first_entry R P id (x ∷ xs) e pairs all = go x.is_ready refl e (λ later. firs
       name = same_Some x.id id e;
       ready = ready;
       holds = All-head P x xs all;
-      first =
-          All-cons (λ f. f.id ≢ id → f.is_ready ≡ true → R x f) x xs (λ other is. absurd (other (same_Some x.id id e)))
+      first = All-cons (λ f. f.id ≢ id → f.is_ready ≡ true → R x f) x xs (λ other is. absurd (other (same_Some x.id id e)))
           (All-weaker (R x) (λ f. f.id ≢ id → f.is_ready ≡ true → R x f) (λ f r other is. r) xs (pairs-head R x xs pairs));
     }
     go false waits e rest =

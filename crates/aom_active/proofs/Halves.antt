@@ -84,34 +84,29 @@ listed_marked asked id b es l = record {
 
 pub listed_without : (asked : ℕ → Option Request) (id : ℕ) (r : Option Request) (es : List Entry) → Listed asked es → Listed (asked_anew id r asked) (without (λ e. e.id) id es)
 listed_without asked id r es l = record {
-  priorities =
-      All-weaker (λ e. (e.id ≢ id) × HasPriority e.priority (asked e.id)) (λ e. HasPriority e.priority (asked_anew id r asked e.id))
+  priorities = All-weaker (λ e. (e.id ≢ id) × HasPriority e.priority (asked e.id)) (λ e. HasPriority e.priority (asked_anew id r asked e.id))
       (λ e h. subst (HasPriority e.priority) (sym (asked_other id e.id r asked h.0)) h.1) (without (λ e. e.id) id es)
       (both (λ e. e.id ≢ id) (λ e. HasPriority e.priority (asked e.id)) (without (λ e. e.id) id es) (absent_without (λ e. e.id) id es)
       (All-filter (λ e. not (e.id == id)) (λ e. HasPriority e.priority (asked e.id)) es l.priorities));
   order =
       pairs_weaker (λ e. e.id ≢ id) (λ e f. GoesBefore (asked e.id) (asked f.id)) (λ e f. GoesBefore (asked_anew id r asked e.id) (asked_anew id r asked f.id))
       (λ e f first second h. subst (λ o. GoesBefore o (asked_anew id r asked f.id)) (sym (asked_other id e.id r asked first))
-      (subst (λ o. GoesBefore (asked e.id) o) (sym (asked_other id f.id r asked second)) h))
-      (without (λ e. e.id) id es) (absent_without (λ e. e.id) id es)
+      (subst (λ o. GoesBefore (asked e.id) o) (sym (asked_other id f.id r asked second)) h)) (without (λ e. e.id) id es) (absent_without (λ e. e.id) id es)
       (AllPairs-filter (λ e f. GoesBefore (asked e.id) (asked f.id)) (λ e. not (e.id == id)) es l.order);
 }
 
-pub listed_placed :
-    (asked : ℕ → Option Request) (id order : ℕ) (priority : ℤ) (es : List Entry) → Listed asked es → All (λ e. e.id ≢ id) es → AllPairs (λ e f. before e f ≡ true) es →
-    IsNewest order asked → Listed (asked_anew id (Some (enlisted_with order priority)) asked) (placed before (waiting id priority) es)
+pub listed_placed : (asked : ℕ → Option Request) (id order : ℕ) (priority : ℤ) (es : List Entry) → Listed asked es → All (λ e. e.id ≢ id) es → AllPairs (λ e f.
+    before e f ≡ true) es → IsNewest order asked → Listed (asked_anew id (Some (enlisted_with order priority)) asked) (placed before (waiting id priority) es)
 listed_placed asked id order priority es l absent sorted newest = record {
-  priorities =
-      All-placed before (λ e. HasPriority e.priority (now e.id)) new es (subst (HasPriority priority) (sym (asked_same id (Some mine) asked)) refl)
-      (All-weaker P (λ e. HasPriority e.priority (now e.id)) (λ e h. subst (HasPriority e.priority) (sym (asked_other id e.id (Some mine) asked h.0)) h.1) es all);
-  order =
-      pairs_placed before (λ e f. GoesBefore (now e.id) (now f.id)) P new by_priority
+  priorities = All-placed before
+      (λ e. HasPriority e.priority (now e.id)) new es (subst (HasPriority priority) (sym (asked_same id (Some mine) asked)) refl) (All-weaker P
+      (λ e. HasPriority e.priority (now e.id)) (λ e h. subst (HasPriority e.priority) (sym (asked_other id e.id (Some mine) asked h.0)) h.1) es all);
+  order = pairs_placed before (λ e f. GoesBefore (now e.id) (now f.id)) P new by_priority
       (λ e h first. subst (λ o. GoesBefore o (now id)) (sym (asked_other id e.id (Some mine) asked h.0))
       (subst (λ o. GoesBefore (asked e.id) o) (sym (asked_same id (Some mine) asked)) (goes_after e (asked e.id) refl h.1 first)))
       (λ e h later. subst (λ o. GoesBefore (now id) o) (sym (asked_other id e.id (Some mine) asked h.0))
       (subst (λ o. GoesBefore o (asked e.id)) (sym (asked_same id (Some mine) asked)) (goes_ahead e (asked e.id) h.1 later)))
-      es all
-      (pairs_weaker (λ e. e.id ≢ id) (λ e f. GoesBefore (asked e.id) (asked f.id)) (λ e f. GoesBefore (now e.id) (now f.id))
+      es all (pairs_weaker (λ e. e.id ≢ id) (λ e f. GoesBefore (asked e.id) (asked f.id)) (λ e f. GoesBefore (now e.id) (now f.id))
       (λ e f first second h. subst (λ o. GoesBefore o (now f.id)) (sym (asked_other id e.id (Some mine) asked first))
       (subst (λ o. GoesBefore (asked e.id) o) (sym (asked_other id f.id (Some mine) asked second)) h)) es absent l.order)
       sorted;
@@ -146,25 +141,20 @@ pub record Timely (asked : ℕ → Option Request) (ts : List Machine_timer) : T
   pub sooner : AllPairs (λ t u. IsSooner (asked t.id) (asked u.id)) ts
 
 pub timely_kept : (asked other : ℕ → Option Request) (ts : List Machine_timer) → ((n : ℕ) → timer_in (asked n) ≡ timer_in (other n)) → Timely asked ts → Timely other ts
-timely_kept asked other ts same t = record {
-  dues = λ n. t.dues n ∙ ap (option_map (λ u. u.due)) (same n);
-  sooner =
-      grind (arith, nat_tests);
-}
+timely_kept asked other ts same t = record { dues = λ n. t.dues n ∙ ap (option_map (λ u. u.due)) (same n); sooner = grind (arith, nat_tests) }
 
 -- the timer of a request that is changed so that it keeps it
 pub timer_anew : (id : ℕ) (r q : Request) (asked : ℕ → Option Request) → asked id ≡ Some r → r.timer ≡ q.timer → (n : ℕ) → timer_in (asked n) ≡ timer_in (asked_anew id (Some q) asked n)
 timer_anew id r q asked here same n = grind (arith, nat_tests, eqb-true id n)
 
-pub timely_without :
-    (asked : ℕ → Option Request) (id : ℕ) (r : Option Request) (ts : List Machine_timer) → timer_in r ≡ None → Timely asked ts → Timely (asked_anew id r asked) (without id_of id ts)
+pub timely_without : (asked : ℕ → Option Request) (id : ℕ) (r : Option Request) (ts : List Machine_timer) →
+    timer_in r ≡ None → Timely asked ts → Timely (asked_anew id r asked) (without id_of id ts)
 timely_without asked id r ts none t = record {
   dues = λ n. due_without id n ts ∙ go n (id == n);
   sooner =
       pairs_weaker (λ u. u.id ≢ id) (λ u v. IsSooner (asked u.id) (asked v.id)) (λ u v. IsSooner (asked_anew id r asked u.id) (asked_anew id r asked v.id))
       (λ u v first second h. subst (λ o. IsSooner o (asked_anew id r asked v.id)) (sym (asked_other id u.id r asked first))
-      (subst (λ o. IsSooner (asked u.id) o) (sym (asked_other id v.id r asked second)) h))
-      (without id_of id ts) (absent_without id_of id ts)
+      (subst (λ o. IsSooner (asked u.id) o) (sym (asked_other id v.id r asked second)) h)) (without id_of id ts) (absent_without id_of id ts)
       (AllPairs-filter (λ u v. IsSooner (asked u.id) (asked v.id)) (λ u. not (u.id == id)) ts t.sooner);
 }
   where
@@ -178,19 +168,17 @@ after_timers t u due same le less = grind (arith, nat_tests)
 before_timers : (t u : Timer) (due : ℕ) → t.due ≡ due → nat_le due u.due ≡ false → is_sooner u t ≡ true
 before_timers t u due same later = grind arith
 
-pub timely_placed :
-    (asked : ℕ → Option Request) (id due order : ℕ) (r : Request) (ts : List Machine_timer) (limit : ℕ) → Timely asked ts → due_of id ts ≡ None → IsOrdered id_of no_later limit ts →
+pub timely_placed : (asked : ℕ → Option Request) (id due order : ℕ) (r : Request) (ts : List Machine_timer) (limit : ℕ) →
+    Timely asked ts → due_of id ts ≡ None → IsOrdered id_of no_later limit ts →
     IsNewestTimer order asked → Timely (asked_anew id (Some (timed_for due order r)) asked) (placed no_later (timer_of id due) ts)
 timely_placed asked id due order r ts limit t unset ordered newest = record {
   dues = λ n. due_placed (timer_of id due) n ts unset ∙ go n (id == n);
-  sooner =
-      pairs_placed no_later (λ u v. IsSooner (now u.id) (now v.id)) P (timer_of id due) by_due
+  sooner = pairs_placed no_later (λ u v. IsSooner (now u.id) (now v.id)) P (timer_of id due) by_due
       (λ u h first. subst (λ o. IsSooner o (now id)) (sym (asked_other id u.id (Some mine) asked h.0))
       (subst (λ o. IsSooner (asked u.id) o) (sym (asked_same id (Some mine) asked)) (is_after u (timer_in (asked u.id)) refl (sym h.1 ∙ t.dues u.id) first)))
       (λ u h later. subst (λ o. IsSooner (now id) o) (sym (asked_other id u.id (Some mine) asked h.0))
       (subst (λ o. IsSooner o (asked u.id)) (sym (asked_same id (Some mine) asked)) (is_ahead u (timer_in (asked u.id)) (sym h.1 ∙ t.dues u.id) later)))
-      ts all
-      (pairs_weaker (λ u. u.id ≢ id) (λ u v. IsSooner (asked u.id) (asked v.id)) (λ u v. IsSooner (now u.id) (now v.id))
+      ts all (pairs_weaker (λ u. u.id ≢ id) (λ u v. IsSooner (asked u.id) (asked v.id)) (λ u v. IsSooner (now u.id) (now v.id))
       (λ u v first second h. subst (λ o. IsSooner o (now v.id)) (sym (asked_other id u.id (Some mine) asked first))
       (subst (λ o. IsSooner (asked u.id) o) (sym (asked_other id v.id (Some mine) asked second)) h)) ts absent t.sooner)
       ordered.sorted;

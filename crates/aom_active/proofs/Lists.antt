@@ -30,20 +30,17 @@ module _ {A : Type 0} where
       AllPairs-cons R (f x) (map f xs) (All-map (R (f x)) f xs (pairs-head S x xs pairs)) (pairs_map R f xs (pairs-tail S x xs pairs))
 
   -- an item that is placed is related to those that it comes after, and to those that it comes before
-  pub pairs_placed :
-      (before : A → A → Bool) (R : A → A → Type 0) (P : A → Type 0) (x : A) → IsRanking before →
+  pub pairs_placed : (before : A → A → Bool) (R : A → A → Type 0) (P : A → Type 0) (x : A) → IsRanking before →
       ((y : A) → P y → before y x ≡ true → R y x) → ((y : A) → P y → before y x ≡ false → R x y) →
       (xs : List A) → All P xs → AllPairs R xs → AllPairs (λ y z. before y z ≡ true) xs → AllPairs R (placed before x xs)
   pairs_placed before R P x rank after ahead [] all pairs sorted = AllPairs-cons R x [] (All-nil (R x)) (pairs-nil R)
-  pairs_placed before R P x rank after ahead (y ∷ ys) all pairs sorted =
-      cond_both (before y x) (y ∷ placed before x ys) (x ∷ y ∷ ys) (AllPairs R)
+  pairs_placed before R P x rank after ahead (y ∷ ys) all pairs sorted = cond_both (before y x) (y ∷ placed before x ys) (x ∷ y ∷ ys) (AllPairs R)
       (λ e. AllPairs-cons R y (placed before x ys) (All-placed before (R y) x ys (after y (All-head P y ys all) e) (pairs-head R y ys pairs))
       (pairs_placed before R P x rank after ahead ys (All-tail P y ys all) (pairs-tail R y ys pairs) (pairs-tail (λ u v. before u v ≡ true) y ys sorted)))
       (λ e. AllPairs-cons R x (y ∷ ys) (All-cons (R x) y ys (ahead y (All-head P y ys all) e) (behind e)) pairs)
     where
       behind : before y x ≡ false → All (R x) ys
-      behind e =
-          All-weaker (λ z. P z × (before y z ≡ true)) (R x) (λ z h. ahead z h.0 (later z h.1 (before z x) refl)) ys
+      behind e = All-weaker (λ z. P z × (before y z ≡ true)) (R x) (λ z h. ahead z h.0 (later z h.1 (before z x) refl)) ys
           (both P (λ z. before y z ≡ true) ys (All-tail P y ys all) (pairs-head (λ u v. before u v ≡ true) y ys sorted))
         where
           later : (z : A) → before y z ≡ true → (b : Bool) → before z x ≡ b → b ≡ false
@@ -65,8 +62,7 @@ module _ {A : Type 0} (number : A → ℕ) where
   stands_without id n [] = grind (arith, nat_tests)
   stands_without id n (x ∷ xs) = go (number x == id) (number x == n) (id == n) refl refl refl (stands_without id n xs) ∙ ap (λ s. cond (id == n) false s) (sym (stands_front n x xs))
     where
-      go :
-          (a b c : Bool) → (number x == id) ≡ a → (number x == n) ≡ b → (id == n) ≡ c → stands n (without number id xs) ≡ cond c false (stands n xs) →
+      go : (a b c : Bool) → (number x == id) ≡ a → (number x == n) ≡ b → (id == n) ≡ c → stands n (without number id xs) ≡ cond c false (stands n xs) →
           stands n (cond (not a) (x ∷ (without number id xs)) (without number id xs)) ≡ cond c false (cond b true (stands n xs))
       go y b z ea eb ec ih = grind (arith, nat_tests, eq-eqb, eqb-true, stands_front)
 
@@ -97,8 +93,7 @@ marked_keeps P keeps id b e p = cond_both (e.id == id) (record e { is_ready = b 
 pub marked_all : (P : Entry → Type 0) → ((e : Entry) (b : Bool) → P e → P (record e { is_ready = b })) → (id : ℕ) (b : Bool) (es : List Entry) → All P es → All P (marked id b es)
 marked_all P keeps id b es all = All-map P (marked_entry id b) es (All-weaker P (λ e. P (marked_entry id b e)) (marked_keeps P keeps id b) es all)
 
-pub marked_pairs :
-    (R : Entry → Entry → Type 0) → ((e f : Entry) (b c : Bool) → R e f → R (record e { is_ready = b }) (record f { is_ready = c })) →
+pub marked_pairs : (R : Entry → Entry → Type 0) → ((e f : Entry) (b c : Bool) → R e f → R (record e { is_ready = b }) (record f { is_ready = c })) →
     (id : ℕ) (b : Bool) (es : List Entry) → AllPairs R es → AllPairs R (marked id b es)
 marked_pairs R keeps id b es pairs = grind (arith, nat_tests, pairs_map R, marked_keeps)
 

@@ -114,9 +114,7 @@ module _ (a : Active) (w : IsWhole a) (cs : List Cell) (queues : ℕ → Option 
   within n is = grind (arith, nat_tests, each n, get_or_past a.table.slots n None, leb_tells)
 
   pub same_count : tables.signals a.table ≡ signal_count cs
-  same_count =
-      counted holds_signal a.table.slots None
-      ∙ same_counts held_signal (signals_at cs) (length a.table.slots) (λ i less. each i)
+  same_count = counted holds_signal a.table.slots None ∙ same_counts held_signal (signals_at cs) (length a.table.slots) (λ i less. each i)
       ∙ counts_cells cs (length a.table.slots) tidy within
 
 -- from the contract of the requests

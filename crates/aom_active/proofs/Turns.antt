@@ -26,8 +26,8 @@ pub stand_anew : (old new : Table) (id : ℕ) (q : Option Machine_request) →
     Changes old new id q → may_stand q ≡ true → ((n : ℕ) → may_stand (request_at old n) ≡ true) → (n : ℕ) → may_stand (request_at new n) ≡ true
 stand_anew old new id q ch here others n = grind (arith, nat_tests, request_anew old new id q ch n)
 
-pub tells_anew :
-    (old new : Table) (id : ℕ) (q : Option Machine_request) (r : Option Request) (asked : ℕ → Option Request) (queues : ℕ → Option Bool) → Changes old new id q → Tells q r (queues id) →
+pub tells_anew : (old new : Table) (id : ℕ) (q : Option Machine_request) (r : Option Request) (asked : ℕ → Option Request) (queues : ℕ → Option Bool) →
+    Changes old new id q → Tells q r (queues id) →
     ((n : ℕ) → Tells (request_at old n) (asked n) (queues n)) → (n : ℕ) → Tells (request_at new n) (asked_anew id r asked n) (queues n)
 tells_anew old new id q r asked queues ch here others n = grind (arith, eqb-true id n)
 
@@ -44,8 +44,8 @@ pub record Follows (old : Roster) (t : Table) (r : Roster) : Type 0 where
   pub enters : Enters t r
   pub listed : (asked other : ℕ → Option Request) → ((n : ℕ) → IsKept (asked n) (other n)) → Listed asked old.entries → Listed other r.entries
 
-some_anew :
-    (old new : Table) (id : ℕ) (q : Option Machine_request) (r s : Roster) → Changes old new id q → ((n : ℕ) → is_some (place n s) ≡ cond (id == n) (is_some q) (is_some (place n r))) →
+some_anew : (old new : Table) (id : ℕ) (q : Option Machine_request) (r s : Roster) →
+    Changes old new id q → ((n : ℕ) → is_some (place n s) ≡ cond (id == n) (is_some q) (is_some (place n r))) →
     ((n : ℕ) → is_some (place n r) ≡ is_some (request_at old n)) → (n : ℕ) → is_some (place n s) ≡ is_some (request_at new n)
 some_anew old new id q r s ch now enlisted n = grind arith
 
@@ -59,8 +59,8 @@ module _ (a : Active) (w : IsWhole a) (t : Table) (id : ℕ) (q : Option Machine
     enters = record {
       places = w.places ∙ sym ch.limit;
       enlisted = some_anew a.table t id q a.roster a.roster ch (still listed some) w.enlisted;
-      marks =
-          All-weaker (λ e. e.is_ready ≡ is_ready (request_at a.table e.id)) (λ e. e.is_ready ≡ is_ready (request_at t e.id)) (λ e h. h ∙ each e.id) a.roster.entries w.marks;
+      marks = All-weaker (λ e. e.is_ready ≡ is_ready (request_at a.table e.id))
+          (λ e. e.is_ready ≡ is_ready (request_at t e.id)) (λ e h. h ∙ each e.id) a.roster.entries w.marks;
     };
     listed = λ asked other kept l. listed_kept asked other a.roster.entries kept l;
   }
@@ -72,12 +72,10 @@ module _ (a : Active) (w : IsWhole a) (t : Table) (id : ℕ) (q : Option Machine
   follows_marked listed some = record {
     enters = record {
       places = w.places ∙ sym ch.limit;
-      enlisted =
-          grind (arith, nat_tests, some_anew, marked-place, still, listed);
-      marks =
-          All-map (λ e. e.is_ready ≡ is_ready (request_at t e.id)) (marked_entry id (is_ready q)) a.roster.entries
-          (All-weaker (λ e. e.is_ready ≡ is_ready (request_at a.table e.id)) (λ e. (marked_entry id (is_ready q) e).is_ready ≡ is_ready (request_at t (marked_entry id (is_ready q) e).id))
-          each a.roster.entries w.marks);
+      enlisted = grind (arith, nat_tests, some_anew, marked-place, still, listed);
+      marks = All-map (λ e. e.is_ready ≡ is_ready (request_at t e.id))
+          (marked_entry id (is_ready q)) a.roster.entries (All-weaker (λ e. e.is_ready ≡ is_ready (request_at a.table e.id))
+          (λ e. (marked_entry id (is_ready q) e).is_ready ≡ is_ready (request_at t (marked_entry id (is_ready q) e).id)) each a.roster.entries w.marks);
     };
     listed = λ asked other kept l. listed_marked other id (is_ready q) a.roster.entries (listed_kept asked other a.roster.entries kept l);
   }
@@ -96,11 +94,9 @@ module _ (a : Active) (w : IsWhole a) (t : Table) (id : ℕ) (q : Option Machine
   pub enters_without : q ≡ None → Enters t (record a.roster { entries = without (λ e. e.id) id a.roster.entries })
   enters_without none = record {
     places = w.places ∙ sym ch.limit;
-    enlisted =
-        some_anew a.table t id q a.roster (record a.roster { entries = without (λ e. e.id) id a.roster.entries }) ch
+    enlisted = some_anew a.table t id q a.roster (record a.roster { entries = without (λ e. e.id) id a.roster.entries }) ch
         (λ n. stands_without (λ e. e.id) id n a.roster.entries ∙ ap (λ b. cond (id == n) b (is_some (place n a.roster))) (sym (ap is_some none))) w.enlisted;
-    marks =
-        marks_apart (without (λ e. e.id) id a.roster.entries) (absent_without (λ e. e.id) id a.roster.entries)
+    marks = marks_apart (without (λ e. e.id) id a.roster.entries) (absent_without (λ e. e.id) id a.roster.entries)
         (All-filter (λ e. not (e.id == id)) (λ e. e.is_ready ≡ is_ready (request_at a.table e.id)) a.roster.entries w.marks);
   }
 
@@ -108,8 +104,7 @@ module _ (a : Active) (w : IsWhole a) (t : Table) (id : ℕ) (q : Option Machine
       is_some q ≡ true → is_ready q ≡ false → Enters t (record a.roster { entries = placed before (waiting id priority) a.roster.entries })
   enters_placed priority absent some waits = record {
     places = w.places ∙ sym ch.limit;
-    enlisted =
-        grind (arith, nat_tests, some_anew a.table t id q a.roster, stands_placed);
+    enlisted = grind (arith, nat_tests, some_anew a.table t id q a.roster, stands_placed);
     marks =
         All-placed before (λ e. e.is_ready ≡ is_ready (request_at t e.id)) (waiting id priority) a.roster.entries (sym waits ∙ sym (ap is_ready ch.here))
         (marks_apart a.roster.entries absent w.marks);
@@ -124,10 +119,7 @@ pub record Runs (t : Table) (p : Pending) : Type 0 where
 
 module _ (a : Active) (w : IsWhole a) (t : Table) (id : ℕ) (q : Option Machine_request) (ch : Changes a.table t id q) where
   pub runs_same : (is_pending (request_at a.table id) ≡ true → is_pending q ≡ true) → Runs t a.pending
-  runs_same keeps = record {
-    dues = w.dues ∙ sym ch.limit;
-    waits = λ n set. ap is_pending (request_anew a.table t id q ch n) ∙ go n set (id == n) refl;
-  }
+  runs_same keeps = record { dues = w.dues ∙ sym ch.limit; waits = λ n set. ap is_pending (request_anew a.table t id q ch n) ∙ go n set (id == n) refl }
     where
       go : (n : ℕ) → is_some (due_of n a.pending.timers) ≡ true → (b : Bool) → (id == n) ≡ b → is_pending (cond b q (request_at a.table n)) ≡ true
       go n set x same = grind (arith, nat_tests, eqb-true)
@@ -142,10 +134,7 @@ module _ (a : Active) (w : IsWhole a) (t : Table) (id : ℕ) (q : Option Machine
       go n b set = grind (arith, w.waits n)
 
   pub runs_placed : (due : ℕ) → due_of id a.pending.timers ≡ None → is_pending q ≡ true → Runs t (record a.pending { timers = placed no_later (timer_of id due) a.pending.timers })
-  runs_placed due unset waiting = record {
-    dues = w.dues ∙ sym ch.limit;
-    waits = grind (arith, nat_tests, request_anew a.table t id q ch, due_placed);
-  }
+  runs_placed due unset waiting = record { dues = w.dues ∙ sym ch.limit; waits = grind (arith, nat_tests, request_anew a.table t id q ch, due_placed) }
     where
       go : (n : ℕ) (b : Bool) → is_some (cond b (Some due) (due_of n a.pending.timers)) ≡ true → is_pending (cond b q (request_at a.table n)) ≡ true
       go n x set = grind arith

@@ -73,19 +73,14 @@ module _ (p : Image) (formed : WellFormed p) (linked : IsLinked p) (m : ℕ) (k 
       let c = closer place e t at in
       let outer = closing from to d n body in
       let later = c.1.later in
-      ⊎_elim
-      (λ (lt : from < c.0). ⊎_elim
-      (λ (apart : to < c.0). absurd (omega (arith, apart, c.2, inside.1)))
-      (λ (within : place < to). (omega (arith, lt, later), omega (arith, within)))
-      (nest.nested d e from to c.0 place outer c.1 lt))
-      (λ (ge : c.0 ≤ from).
+      ⊎_elim (λ (lt : from < c.0). ⊎_elim (λ (apart : to < c.0). absurd (omega (arith, apart, c.2, inside.1)))
+      (λ (within : place < to). (omega (arith, lt, later), omega (arith, within))) (nest.nested d e from to c.0 place outer c.1 lt)) (λ (ge : c.0 ≤ from).
       let same : c.0 ≡ from = omega (arith, ge, c.2, inside.0) in
       let number : e ≡ d = (let two : Some e ≡ Some d = sym c.1.begins ∙ (ap (loop_at k.code) same ∙ outer.begins) in cc) in
       let one = nest.closed from d outer.begins in
       let x = one.only to outer in
       let y = one.only place (subst (λ f. Closes k.code d f place) same (subst (λ u. Closes k.code u c.0 place) number c.1)) in
-      (omega (arith, later, same), omega (arith, x, y)))
-      (cases_lt from c.0)
+      (omega (arith, later, same), omega (arith, x, y))) (cases_lt from c.0)
 
   rounds : (place d n : ℕ) → slice_get k.code place ≡ Some (Loop d n) → 0 < n
   unfolding method_at
@@ -118,13 +113,10 @@ module _ (p : Image) (formed : WellFormed p) (linked : IsLinked p) (m : ℕ) (k 
   two_numbers from to d n from' to' d' n' place body other differs inside also same =
       let a = closing from to d n body in
       let b = closing from' to' d' n' other in
-      ⊎_elim
-      (λ (lt : from < from'). let w = deeper k.code d d' from to from' to' nest a b lt (omega (arith, inside.1, also.0)) in omega (arith, w, same))
+      ⊎_elim (λ (lt : from < from'). let w = deeper k.code d d' from to from' to' nest a b lt (omega (arith, inside.1, also.0)) in omega (arith, w, same))
       (λ (ge : from' ≤ from). ⊎_elim
       (λ (lt : from' < from). let w = deeper k.code d' d from' to' from to nest b a lt (omega (arith, also.1, inside.0)) in omega (arith, w, same))
-      (λ (le : from ≤ from'). differs (omega (arith, ge, le)))
-      (cases_lt from' from))
-      (cases_lt from from')
+      (λ (le : from ≤ from'). differs (omega (arith, ge, le))) (cases_lt from' from)) (cases_lt from from')
 
 pub linked_is_looped : (p : Image) → WellFormed p → IsLinked p → IsLooped p
 linked_is_looped p formed linked = record {

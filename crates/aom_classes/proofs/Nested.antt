@@ -25,15 +25,13 @@ deeper code c d p q r s nest outer inner below within =
     let w = scanned_at code r nest (let l = loop_within code r d inner.begins in omega (arith, l)) in
     let number = nest.number r d inner.begins in
     let count = w.1.count in
-    ⊎_elim
-    (λ (open_here : slice_get w.0 c ≡ Some p). let l = slice_get_within w.0 c p open_here in omega (arith, l, number, count))
+    ⊎_elim (λ (open_here : slice_get w.0 c ≡ Some p). let l = slice_get_within w.0 c p open_here in omega (arith, l, number, count))
     (λ (b : ClosedBefore code r c p).
     let one = nest.closed p c outer.begins in
     let x = one.only q outer in
     let y = one.only b.place b.closes in
     let z = b.below in
-    absurd (omega (arith, x, y, z, within)))
-    (w.1.loops p c below outer.begins)
+    absurd (omega (arith, x, y, z, within))) (w.1.loops p c below outer.begins)
 
 -- the loop that a next closes
 pub closed_by : (code : List Instr) (q : ℕ) (e : Ending) → LoopsNest code → next_at code q ≡ Some e → ClosesSome code e.number q

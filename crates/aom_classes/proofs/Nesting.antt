@@ -90,10 +90,8 @@ scanned_plain code i x s e no_loop no_next l n h = record {
   opens = λ k p g. let o = h.opens k p g in (omega (arith, o.0), o.1);
   rising = h.rising;
   unclosed = λ k d p q g c. later code i d p q no_next c (h.unclosed k d p q g c);
-  loops = λ p d lt g. ⊎_elim
-      (λ (below : p < i). ⊎_elim (λ o. inl o) (λ b. inr (still_closed code i d p no_next b)) (h.loops p d below g))
-      (λ (same : p ≡ i). absurd (cc))
-      (at_or_before p i lt);
+  loops = λ p d lt g. ⊎_elim (λ (below : p < i). ⊎_elim (λ o. inl o) (λ b. inr (still_closed code i d p no_next b)) (h.loops p d below g))
+      (λ (same : p ≡ i). absurd (cc)) (at_or_before p i lt);
   closing = λ q f lt g. ⊎_elim (λ (below : q < i). h.closing q f below g) (λ (same : q ≡ i). absurd (cc)) (at_or_before q i lt);
   apart = λ c d p q r t one other lq lt. h.apart c d p q r t one other (earlier code i c p q no_next one lq) (earlier code i d r t no_next other lt);
   before = λ k c p q r g one lq. h.before k c p q r g one (earlier code i c p q no_next one lq);
@@ -108,28 +106,19 @@ scanned_enter code i d x s t e is no_next l n a h =
       opens = λ k p g. ⊎_elim (λ (old : slice_get s k ≡ Some p). let o = h.opens k p old in (omega (arith, o.0), o.1)) (λ (new : (k ≡ length s) × (p ≡ i)).
           let w = new.0 in let v = new.1 in let u = a.number in (omega arith, ap (loop_at code) v ∙ (is ∙ ap (λ (m : ℕ). Some m) (u ∙ sym w))))
           (last_get s i k p g);
-      rising = λ j k p r g f lt. ⊎_elim
-          (λ (old : slice_get s k ≡ Some r). ⊎_elim
-          (λ (one : slice_get s j ≡ Some p). h.rising j k p r one old lt)
-          (λ (new : (j ≡ length s) × (p ≡ i)). let w = slice_get_within s k r old in absurd (omega (arith, new.0, w, lt)))
-          (last_get s i j p g))
-          (λ (new : (k ≡ length s) × (r ≡ i)). ⊎_elim
-          (λ (one : slice_get s j ≡ Some p). let o = h.opens j p one in omega (arith, o.0, new.1))
-          (λ (other : (j ≡ length s) × (p ≡ i)). absurd (omega (arith, new.0, other.0, lt)))
-          (last_get s i j p g))
-          (last_get s i k r f);
+      rising = λ j k p r g f lt. ⊎_elim (λ (old : slice_get s k ≡ Some r). ⊎_elim (λ (one : slice_get s j ≡ Some p). h.rising j k p r one old lt)
+          (λ (new : (j ≡ length s) × (p ≡ i)). let w = slice_get_within s k r old in absurd (omega (arith, new.0, w, lt))) (last_get s i j p g))
+          (λ (new : (k ≡ length s) × (r ≡ i)). ⊎_elim (λ (one : slice_get s j ≡ Some p). let o = h.opens j p one in omega (arith, o.0, new.1))
+          (λ (other : (j ≡ length s) × (p ≡ i)). absurd (omega (arith, new.0, other.0, lt))) (last_get s i j p g)) (last_get s i k r f);
       unclosed = grind (arith, nat_tests, later, last_get);
       loops = λ p c lt g. ⊎_elim
           (λ (below : p < i). ⊎_elim (λ o. inl (keep_get s i c p o)) (λ b. inr (still_closed code i c p no_next b)) (h.loops p c below g))
-          (λ (same : p ≡ i). inl (let u = a.number in let v : c ≡ length s = cc in rw (v, same) (at_last s i)))
-          (at_or_before p i lt);
+          (λ (same : p ≡ i). inl (let u = a.number in let v : c ≡ length s = cc in rw (v, same) (at_last s i))) (at_or_before p i lt);
       closing = λ q f lt g. ⊎_elim (λ (below : q < i). h.closing q f below g) (λ (same : q ≡ i). absurd (cc)) (at_or_before q i lt);
       apart = λ c d p q r t one other lq lt. h.apart c d p q r t one other (earlier code i c p q no_next one lq) (earlier code i d r t no_next other lt);
       before = grind (arith, nat_tests, earlier, last_get);
-      number = λ p c lt g. ⊎_elim
-          (λ (below : p < i). h.number p c below g)
-          (λ (same : p ≡ i). let u = a.number in let v : c ≡ length s = cc in rw (v, same) h.count)
-          (at_or_before p i lt);
+      number = λ p c lt g. ⊎_elim (λ (below : p < i). h.number p c below g)
+          (λ (same : p ≡ i). let u = a.number in let v : c ≡ length s = cc in rw (v, same) h.count) (at_or_before p i lt);
       count = grind (arith, nat_tests, counted code i x, not_counted code i x, length-append s (i ∷ []));
     })
 
@@ -150,10 +139,7 @@ scanned_leave code i d t x s r e no_loop is l n last number h =
       unclosed = λ k c p q g one. ⊎_elim
           (λ (lt : q < i + 1). let le = h.unclosed k c p q (keep k p g) one in let same : q ≡ i = omega arith in let w = same_start code i d c p t is (subst
           (λ (v : ℕ). Closes code c p v) same one) in let u = under k p g in absurd (omega (arith, u, w.0))) (λ (ge : i + 1 ≤ q). ge) (cases_lt q (i + 1));
-      loops = λ p c lt g. ⊎_elim
-          (λ (below : p < i). ⊎_elim
-          (λ (o : slice_get s c ≡ Some p). ⊎_elim
-          (λ (old : slice_get r c ≡ Some p). inl old)
+      loops = λ p c lt g. ⊎_elim (λ (below : p < i). ⊎_elim (λ (o : slice_get s c ≡ Some p). ⊎_elim (λ (old : slice_get r c ≡ Some p). inl old)
           (λ (new : (c ≡ length r) × (p ≡ t)).
           let same : c ≡ d = new.0 ∙ sym number in
           let it : Closes code c p i = rw (same, new.1) closes in
@@ -164,41 +150,25 @@ scanned_leave code i d t x s r e no_loop is l n last number h =
             below = (let w = b.below in omega arith);
             closes = b.closes;
             only = grind (arith, nat_tests, same_start, at_or_before);
-          }))
-          (h.loops p c below g))
-          (λ (same : p ≡ i). absurd (cc))
-          (at_or_before p i lt);
-      closing = λ q f lt g. ⊎_elim
-          (λ (below : q < i). h.closing q f below g)
-          (λ (same : q ≡ i).
+          })) (h.loops p c below g)) (λ (same : p ≡ i). absurd (cc)) (at_or_before p i lt);
+      closing = λ q f lt g. ⊎_elim (λ (below : q < i). h.closing q f below g) (λ (same : q ≡ i).
           let w : Some f ≡ Some (record { number = d; back = suc t }) = sym g ∙ (ap (next_at code) same ∙ is) in
           let v : f ≡ record { number = d; back = suc t } = cc in
           let u : f.number ≡ d = ap (λ (a : Ending). a.number) v in
-          rw (u, same) (record { place = t; closes = closes }))
-          (at_or_before q i lt);
-      apart = λ c b p q m z one other lq lz lt. ⊎_elim
-          (λ (q_below : q < i). ⊎_elim
-          (λ (z_below : z < i). h.apart c b p q m z one other q_below z_below lt)
+          rw (u, same) (record { place = t; closes = closes })) (at_or_before q i lt);
+      apart = λ c b p q m z one other lq lz lt. ⊎_elim (λ (q_below : q < i). ⊎_elim (λ (z_below : z < i). h.apart c b p q m z one other q_below z_below lt)
           (λ (same : z ≡ i).
           let w = same_start code i d b m t is (subst (λ (v : ℕ). Closes code b m v) same other) in
           let u = h.before d c p q t top one q_below (omega (arith, w.0, lt)) in
-          inl (omega (arith, u, w.0)))
-          (at_or_before z i lz))
-          (λ (same : q ≡ i). ⊎_elim
-          (λ (z_below : z < i). inr (omega (arith, z_below, same)))
+          inl (omega (arith, u, w.0))) (at_or_before z i lz)) (λ (same : q ≡ i). ⊎_elim (λ (z_below : z < i). inr (omega (arith, z_below, same)))
           (λ (also : z ≡ i).
           let w = same_start code i d c p t is (subst (λ (v : ℕ). Closes code c p v) same one) in
           let u = same_start code i d b m t is (subst (λ (v : ℕ). Closes code b m v) also other) in
-          absurd (omega (arith, w.0, u.0, lt)))
-          (at_or_before z i lz))
-          (at_or_before q i lq);
-      before = λ k c p q m g one lq lt. ⊎_elim
-          (λ (q_below : q < i). h.before k c p q m (keep k m g) one q_below lt)
-          (λ (same : q ≡ i).
+          absurd (omega (arith, w.0, u.0, lt))) (at_or_before z i lz)) (at_or_before q i lq);
+      before = λ k c p q m g one lq lt. ⊎_elim (λ (q_below : q < i). h.before k c p q m (keep k m g) one q_below lt) (λ (same : q ≡ i).
           let w = same_start code i d c p t is (subst (λ (v : ℕ). Closes code c p v) same one) in
           let u = under k m g in
-          absurd (omega (arith, w.0, u, lt)))
-          (at_or_before q i lq);
+          absurd (omega (arith, w.0, u, lt))) (at_or_before q i lq);
       number = λ p c lt g. ⊎_elim (λ (below : p < i). h.number p c below g) (λ (same : p ≡ i). absurd (cc)) (at_or_before p i lt);
       count = grind (arith, nat_tests, not_counted code i x, counted code i x, length-append r (t ∷ []));
     }
@@ -242,8 +212,7 @@ closes_top code i d t s is h nest =
     let it : Closes code d p i = some.closes in
     let below : p < i = it.later in
     let one = nest.closed p d it.begins in
-    let open_here : slice_get s d ≡ Some p = ⊎_elim
-    (λ (o : slice_get s d ≡ Some p). o)
+    let open_here : slice_get s d ≡ Some p = ⊎_elim (λ (o : slice_get s d ≡ Some p). o)
     (λ (b : ClosedBefore code i d p). let u = one.only i it in let v = one.only b.place b.closes in let w = b.below in absurd (omega arith))
     (h.loops p d below it.begins) in
     let long : d < length s = slice_get_within s d p open_here in

@@ -13,7 +13,7 @@ loop-called-init c = subst (λ ns. AreLeast 0 ns (λ k m. OverridersBelow c.args
 pub loop-called-preserved : goal.loop-called-preserved
 loop-called-preserved c =
     let here = subst (λ k. IsLeast c.above_overriders.result (λ m. OverridersBelow c.args.image.now m k)) c.number_at.ensures c.above_overriders.ensures in
-    rw c.push.ensures.items (least_push c.loop-called.called c.loop-called.calls.items (λ k m. OverridersBelow c.args.image.now m k) c.above_overriders.result c.loop-called.invariant here)
+    rw c.push.ensures.items (least_push c.loop-called.called _ (λ k m. OverridersBelow c.args.image.now m k) _ c.loop-called.invariant here)
 
 pub returns : goal.returns
 returns c = subst (λ n. AreLeast n c.loop-called.calls.items (λ k m. OverridersBelow c.args.image.now m k))

@@ -17,4 +17,4 @@ loop-number-preserved c =
     ]
 
 pub returns : goal.returns
-returns c = least_all (plays c.args.class c.args.role) c.args.methods.now c.loop-number.above c.loop-number.number c.loop-number.invariant c.loop-number-test.false
+returns c = least_all (plays c.args.class c.args.role) c.args.methods.now c.loop-number.above _ c.loop-number.invariant c.loop-number-test.false

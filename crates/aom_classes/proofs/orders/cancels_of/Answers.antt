@@ -7,4 +7,4 @@ use Rattle.aom_classes.proofs.orders.cancels_of.Goals as goal
 pub returns : goal.returns
 returns c =
     let lines = subst (λ ns. AreLeast 256 ns (λ k m. CancelsBelow c.args.image.now m k)) (sym c.as_slice.ensures.value) c.lines_cancelling-lines.ensures in
-    greatest_least c.args.image.now c.as_slice.result.now c.greatest_each.result.items (λ k m. CancelsBelow c.args.image.now m k) c.greatest_each.ensures.few lines c.greatest_each.ensures.most
+    greatest_least c.args.image.now _ _ (λ k m. CancelsBelow c.args.image.now m k) c.greatest_each.ensures.few lines c.greatest_each.ensures.most

@@ -8,7 +8,7 @@ returns-in-Some c = let own = least_at 256 c.args.lines.now
     (λ k m. GoesBelow c.args.image.now m k) c.args.class c.number.result c.requires c.number.ensures.value c.number.ensures.in_range in
     let sessions = least_at 256 c.args.lines.now (λ k m. GoesBelow c.args.image.now m k)
     c.in-Some.sessions c.number-in-Some.result c.requires c.number-in-Some.ensures.value c.number-in-Some.ensures.in_range in
-    rw c.max.ensures (least_same _ (least_max _ _ own sessions) (ends_sessions c.args.image.now c.args.class c.in-Some.sessions (sym c.sessions_at.ensures ∙ c.in-Some.is)))
+    rw c.max.ensures (least_same _ (least_max _ _ own sessions) (ends_sessions c.args.image.now c.args.class _ (sym c.sessions_at.ensures ∙ c.in-Some.is)))
 
 pub returns-in-None : goal.returns-in-None
 returns-in-None c = let own = least_at 256 c.args.lines.now

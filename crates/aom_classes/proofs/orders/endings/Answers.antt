@@ -13,7 +13,7 @@ loop-class-init c = subst (λ ns. AreLeast 0 ns (λ k m. EndsBelow c.args.image.
 pub loop-class-preserved : goal.loop-class-preserved
 loop-class-preserved c =
     let here = subst (λ k. IsLeast c.ending.result (λ m. EndsBelow c.args.image.now m k)) c.class_number.ensures c.ending.ensures in
-    rw c.push.ensures.items (least_push c.loop-class.class c.loop-class.ends.items (λ k m. EndsBelow c.args.image.now m k) c.ending.result c.loop-class.invariant here)
+    rw c.push.ensures.items (least_push c.loop-class.class _ (λ k m. EndsBelow c.args.image.now m k) c.ending.result c.loop-class.invariant here)
 
 pub returns : goal.returns
 returns c = subst (λ n. AreLeast n c.loop-class.ends.items (λ k m. EndsBelow c.args.image.now m k)) (omega (arith, c.loop-class.auto.class-end, c.loop-class-test.false)) c.loop-class.invariant

@@ -6,7 +6,7 @@ use Rattle.aom_classes.proofs.orders.greatest.Goals as goal
 use Rattle.aom_classes.proofs.orders.greatest.Goals.{then-descends, else-descends}
 
 pub loop-other-init : goal.loop-other-init
-loop-other-init c = reaches_first c.args.image.now c.args.table.now c.args.class _ (read_at c.args.table.now c.args.class c.number.result c.requires c.number.ensures.value c.number.ensures.in_range)
+loop-other-init c = reaches_first c.args.image.now _ c.args.class _ (read_at _ c.args.class _ c.requires c.number.ensures.value c.number.ensures.in_range)
 
 pub loop-other-preserved : goal.loop-other-preserved
 loop-other-preserved c =
@@ -25,4 +25,4 @@ loop-other-preserved c =
 pub returns : goal.returns
 returns c =
     let count = c.len-other-end.ensures ∙ ap (λ cs. length cs) c.classes.ensures.value in
-    reaches_all c.args.image.now c.args.table.now c.args.class c.loop-other.most c.loop-other.other c.loop-other.invariant (omega (arith, c.loop-other-test.false, count))
+    reaches_all c.args.image.now c.args.table.now c.args.class c.loop-other.most _ c.loop-other.invariant (omega (arith, c.loop-other-test.false, count))

@@ -13,7 +13,7 @@ loop-class-init c = subst (λ ns. AreLeast 0 ns (λ k m. ReachesAll c.args.image
 pub loop-class-preserved : goal.loop-class-preserved
 loop-class-preserved c =
     let here = subst (λ k. IsLeast c.greatest.result (λ m. ReachesAll c.args.image.now c.args.table.now k m)) c.class_number.ensures c.greatest.ensures in
-    rw c.push.ensures.items (least_push c.loop-class.class c.loop-class.most.items (λ k m. ReachesAll c.args.image.now c.args.table.now k m) c.greatest.result c.loop-class.invariant here)
+    rw c.push.ensures.items (least_push _ _ (λ k m. ReachesAll c.args.image.now c.args.table.now k m) c.greatest.result c.loop-class.invariant here)
 
 pub returns : goal.returns
 returns c = record {

@@ -17,7 +17,7 @@ loop-class-init c = subst (λ ns. AreLeast 0 ns (λ k m. GoesBelow c.args.image.
 pub loop-class-preserved : goal.loop-class-preserved
 loop-class-preserved c =
     let here = subst (λ k. IsLeast c.going.result (λ m. GoesBelow c.args.image.now m k)) c.class_number.ensures c.going.ensures in
-    rw c.push.ensures.items (least_push c.loop-class.class c.loop-class.lines.items (λ k m. GoesBelow c.args.image.now m k) c.going.result c.loop-class.invariant here)
+    rw c.push.ensures.items (least_push c.loop-class.class _ (λ k m. GoesBelow c.args.image.now m k) c.going.result c.loop-class.invariant here)
 
 pub returns : goal.returns
 returns c = subst (λ n. AreLeast n c.loop-class.lines.items (λ k m. GoesBelow c.args.image.now m k)) (omega (arith, c.loop-class.auto.class-end, c.loop-class-test.false)) c.loop-class.invariant

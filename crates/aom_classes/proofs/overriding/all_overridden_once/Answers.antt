@@ -10,7 +10,7 @@ pub returns-then-not-is_overridden_once : goal.returns-then-not-is_overridden_on
 returns-then-not-is_overridden_once c =
     let same = c.as_slice-method-items.ensures ∙ c.methods-methods.ensures.value in
     let no = refused _ c.is_overridden_once.ensures c.if-not-is_overridden_once.true in
-    each_not (λ m e. OverriddenOnce c.args.image.now m) c.args.image.now.methods c.loop-named.named c._method-item.result (subst (λ ms. c.loop-named.named < length ms) same c.loop-named-test.true)
+    each_not (λ m e. OverriddenOnce c.args.image.now m) _ c.loop-named.named _ (subst (λ ms. c.loop-named.named < length ms) same c.loop-named-test.true)
     (subst (λ ms. c._method-item.result ≡ get_or ms c.loop-named.named c._method-item.result) same c._method-item.is) (rw c.number_at.ensures at no)
 
 pub loop-named-preserved : goal.loop-named-preserved

@@ -10,14 +10,14 @@ loop-here-init c = ap (λ n. leads_in c.args.image.now n c.args.over c.args.meth
 pub returns-then-number : goal.returns-then-number
 returns-then-number c =
     let same = eq-eqb c.in-Some.other c.args.method (sym c.number.ensures.value ∙ c.if-number.true ∙ c.number-in-Some.ensures.value) in
-    sym (c.loop-here.invariant ∙ ap (λ o. leads_in c.args.image.now c.loop-here.left o c.args.method) c.in-Some.is ∙ here_leads c.args.image.now c.loop-here.left c.in-Some.other c.args.method same)
+    sym (c.loop-here.invariant ∙ ap (λ o. leads_in c.args.image.now c.loop-here.left o c.args.method) c.in-Some.is ∙ here_leads _ _ _ c.args.method same)
 
 pub returns-then-left-eq0 : goal.returns-then-left-eq0
 returns-then-left-eq0 c =
     let other = ne_eqb c.in-Some.other c.args.method (λ same. c.if-number.false (c.number.ensures.value ∙ same ∙ sym c.number-in-Some.ensures.value)) in
     sym (
     c.loop-here.invariant ∙ ap (λ o. leads_in c.args.image.now c.loop-here.left o c.args.method) c.in-Some.is
-    ∙ ap (λ n. leads_in c.args.image.now n (Some c.in-Some.other) c.args.method) c.if-left-eq0.true ∙ last_leads c.args.image.now c.in-Some.other c.args.method other
+    ∙ ap (λ n. leads_in c.args.image.now n (Some c.in-Some.other) c.args.method) c.if-left-eq0.true ∙ last_leads _ c.in-Some.other c.args.method other
     )
 
 pub loop-here-preserved : goal.loop-here-preserved
@@ -30,4 +30,4 @@ loop-here-preserved c =
     ∙ ap (λ o. leads_in c.args.image.now (c.loop-here.left - 1) o c.args.method) (sym c.over_of-here.ensures)
 
 pub returns : goal.returns
-returns c = sym (c.loop-here.invariant ∙ ap (λ o. leads_in c.args.image.now c.loop-here.left o c.args.method) c.in_default.is ∙ none_leads c.args.image.now c.loop-here.left c.args.method)
+returns c = sym (c.loop-here.invariant ∙ ap (λ o. leads_in c.args.image.now c.loop-here.left o c.args.method) c.in_default.is ∙ none_leads _ _ c.args.method)

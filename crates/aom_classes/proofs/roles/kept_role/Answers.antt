@@ -10,7 +10,7 @@ loop-found-init c = record { kept = refl; found = c.own_role-found.ensures }
 pub returns-in_default : goal.returns-in_default
 returns-in_default c =
     let none = sym c.loop-found.invariant.found ∙ no_method c.loop-found.found (c.is_none.ensures ∙ ap not c.loop-found-test.true) in
-    sym (c.loop-found.invariant.kept ∙ ap (role_by c.args.image.now c.args.role) (keeper_none c.args.image.now c.args.role c.loop-found.here none (sym c.parent_of.ensures ∙ c.in_default.is)))
+    sym (c.loop-found.invariant.kept ∙ ap (role_by c.args.image.now c.args.role) (keeper_none _ _ _ none (sym c.parent_of.ensures ∙ c.in_default.is)))
 
 pub loop-found-smaller : goal.loop-found-smaller
 loop-found-smaller c = parent_below c.args.image.now c.loop-found.here c.in-Some.parent (sym c.parent_of.ensures ∙ c.in-Some.is)

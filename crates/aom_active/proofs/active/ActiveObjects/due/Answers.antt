@@ -17,7 +17,7 @@ invariant_of-self-2 c = (times_out _ c.self.view_is
 
 pub returns-clause-completes : goal.returns-clause-completes
 returns-clause-completes c = (
-  (times_out _ c.self.view_is c.self.invariant c.in_ok-id.id c.args.now c.complete.new.self c.mark.new.schedule c.due.new.self c.is_ready-is_ready.result c.in_order.ensures.timers
+  (times_out _ c.self.view_is c.self.invariant c.in_ok-id.id c.args.now c.complete.new.self c.mark.new.schedule c.due.new.self _ c.in_order.ensures.timers
       (sym c.due.ensures.value ∙ c.in_ok-id.was) c.complete.ensures.completed c.is_ready-is_ready.ensures.ready c.mark.ensures c.due.ensures.left).makes,
   is_first_due _ c.self.view_is c.self.invariant c.args.now c.in_ok-id.id (sym c.due.ensures.value ∙ c.in_ok-id.was),
 )

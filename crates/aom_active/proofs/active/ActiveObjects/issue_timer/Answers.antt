@@ -9,4 +9,4 @@ invariant_of-self c = (sets_timer _ c.self.view_is
     c.self.invariant c.args.id c.issue.new.self c.after.new.self c.args.due c.in_order.ensures.timers c.requires c.issue.ensures.issued c.after.ensures).whole
 
 pub returns : goal.returns
-returns c = (sets_timer _ c.self.view_is c.self.invariant c.args.id c.issue.new.self c.after.new.self c.args.due c.in_order.ensures.timers c.requires c.issue.ensures.issued c.after.ensures).times
+returns c = (sets_timer _ c.self.view_is c.self.invariant c.args.id _ _ _ c.in_order.ensures.timers c.requires c.issue.ensures.issued c.after.ensures).times

@@ -3,8 +3,8 @@ use Rattle.aom_active.proofs.Calls.{is_first_ready, none_picked, object_picked, 
 use Rattle.aom_active.proofs.active.ActiveObjects.pick.Goals as goal
 
 pub returns-in_err-pick : goal.returns-in_err-pick
-returns-in_err-pick c =
-    none_picked _ c.self.view_is c.self.invariant c.next_ready.result c.from_residual.result (c.in_err-pick.was) c.next_ready.ensures.none c.from_residual.ensures
+returns-in_err-pick c = none_picked _ c.self.view_is c.self.invariant c.next_ready.result c.from_residual.result
+    (c.in_err-pick.was) c.next_ready.ensures.none c.from_residual.ensures
 
 pub wait_for-requires : goal.wait_for-requires
 wait_for-requires c = pick_signals _ c.self.view_is c.self.invariant c.in_ok-pick.pick (sym c.next_ready.ensures.value ∙ c.in_ok-pick.was)

@@ -6,7 +6,7 @@ use Rattle.aom_active.proofs.active.ActiveObjects.timers.Goals as goal
 
 pub returns-clause-each : goal.returns-clause-each
 returns-clause-each c =
-    subst (λ a. All (λ t. due_of t.id a.pending.timers ≡ Some t.due) a.pending.timers) c.self.view_is (due-each c.self.inside.timers.timers c.in_order.ensures.distinct)
+    subst (λ a. All (λ t. due_of t.id a.pending.timers ≡ Some t.due) a.pending.timers) c.self.view_is (due-each _ c.in_order.ensures.distinct)
 
 pub returns-clause-value : goal.returns-clause-value
 returns-clause-value c = search rules

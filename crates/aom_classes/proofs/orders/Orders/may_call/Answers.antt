@@ -7,4 +7,4 @@ use Rattle.aom_classes.proofs.orders.Orders.may_call.Goals as goal
 pub returns : goal.returns
 returns c = λ p orders.
     let table = subst (λ ns. AreLeast 1024 ns (λ k m. OverridersBelow p m k)) (sym c.deref.ensures.0) orders.calls in
-    least_test _ c.args.method (least_at 1024 c.deref.result.now (λ k m. OverridersBelow p m k) c.args.called c.number.result table c.number.ensures.value c.number.ensures.in_range)
+    least_test _ c.args.method (least_at 1024 _ (λ k m. OverridersBelow p m k) c.args.called _ table c.number.ensures.value c.number.ensures.in_range)

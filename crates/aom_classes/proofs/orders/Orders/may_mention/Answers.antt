@@ -7,4 +7,4 @@ use Rattle.aom_classes.proofs.orders.Orders.may_mention.Goals as goal
 pub returns : goal.returns
 returns c = λ p orders.
     let table = subst (λ ns. AreLeast 256 ns (λ k m. Mentions p m k)) (sym c.deref.ensures.0) orders.mentions in
-    least_test _ c.args.method (least_at 256 c.deref.result.now (λ k m. Mentions p m k) c.args.class c.number.result table c.number.ensures.value c.number.ensures.in_range)
+    least_test _ c.args.method (least_at 256 _ (λ k m. Mentions p m k) c.args.class c.number.result table c.number.ensures.value c.number.ensures.in_range)
