@@ -74,9 +74,7 @@ module _ {classes methods : ℕ} {scope : Scope} (names : HasNames classes metho
 
     -- what stands behind the kind, and behind the word before the fields
     abbrev rest_of_fields : ClassKind → Option ℕ → ℕ → Bool → Reading ClassDecl
-    rest_of_fields K parent words owns =
-        next (fields scope owns) (λ list.
-        next (budget owns (is_dispatched K)) (λ n.
+    rest_of_fields K parent words owns = next (fields scope owns) (λ list. next (budget owns (is_dispatched K)) (λ n.
         giving (record { kind = K; parent = parent; words = words; fields = list; budget = n })))
 
     abbrev rest_of_class : ClassKind → Option ℕ → Reading ClassDecl

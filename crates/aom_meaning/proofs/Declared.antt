@@ -40,8 +40,7 @@ saw_declared space place ws u rest is =
     }
 
 pub takes_declared : (space : List (List ℕ)) (place : ℕ) (w : List ℕ) → is_name w ≡ true → place_of w space ≡ Some place → Takes (declared place space) (w ∷ []) tt
-takes_declared space place w is there =
-    sees (declared_at place space) (takes_name w is)
+takes_declared space place w is there = sees (declared_at place space) (takes_name w is)
     (ap (λ o. if is_at place o then Ok tt else Err DoubleName) there ∙ ap (λ b. if b then Ok tt else Err DoubleName) (eq-eqb place place refl))
 
 -- ---- words that stand alone

@@ -46,8 +46,7 @@ module _ (names : Names) (kinds : List ClassDecl) where
   root_sound ws = go (take_it k.Root ws)
     where
       behind : (vs : List (List ℕ)) → ws ≡ keyword_text k.Root ∷ vs → Sound said_root vs (λ root rest. RootSays ws root)
-      behind vs words =
-          next_sound (λ root rest. RootSays ws root) (class (told names kinds)) _ vs (λ c us read.
+      behind vs words = next_sound (λ root rest. RootSays ws root) (class (told names kinds)) _ vs (λ c us read.
           next_sound (λ root rest. RootSays ws root) (nothing_more false) _ us (λ u rest none.
           let s = saw_used names.classes 256 vs c us read in
           let e = (none_left false us u rest none).0 in
@@ -58,8 +57,7 @@ module _ (names : Names) (kinds : List ClassDecl) where
           })))
 
       without : Sound no_root ws (λ root rest. RootSays ws root)
-      without =
-          next_sound (λ root rest. RootSays ws root) (nothing_more true) _ ws (λ u rest none.
+      without = next_sound (λ root rest. RootSays ws root) (nothing_more true) _ ws (λ u rest none.
           giving_sound (λ root rest. RootSays ws root) None rest (record { said = None; words = (none_left true ws u rest none).0; says = tt }))
 
       go : Took k.Root ws → Sound (optional_root (told names kinds)) ws (λ root rest. RootSays ws root)

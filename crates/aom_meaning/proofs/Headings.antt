@@ -127,17 +127,14 @@ module _ (names : Names) (kinds : List ClassDecl) where
   result_sound : (usual : Option Gives) (key : Keyword) (vs : List (List ℕ)) → Sound (gives scope key) vs (λ g rest. ResultSays usual (keyword_text key ∷ vs) g rest)
   result_sound usual k.Nothing vs = giving_sound _ result.Nothing vs (record { said = source.nothing; words = refl; means = tt })
   result_sound usual k.Word vs = giving_sound _ result.Word vs (record { said = source.word; words = refl; means = tt })
-  result_sound usual k.Own vs =
-      next_sound _ (thing scope) _ vs (λ t rest read.
+  result_sound usual k.Own vs = next_sound _ (thing scope) _ vs (λ t rest read.
       let s = saw (thing_of scope) vs t rest read in
       giving_sound _ (result.Own t) rest (record { said = source.own s.w; words = ap (λ v. keyword_text k.Gives ∷ keyword_text k.Own ∷ v) s.words; means = thing_means names kinds s.w t s.says }))
-  result_sound usual k.Maybe vs =
-      next_sound _ (thing scope) _ vs (λ t rest read.
+  result_sound usual k.Maybe vs = next_sound _ (thing scope) _ vs (λ t rest read.
       let s = saw (thing_of scope) vs t rest read in
       giving_sound _ (result.Maybe t) rest (record
       { said = source.maybe s.w; words = ap (λ v. keyword_text k.Gives ∷ keyword_text k.Maybe ∷ v) s.words; means = thing_means names kinds s.w t s.says }))
-  result_sound usual k.Left vs =
-      next_sound _ (class scope) _ vs (λ c rest read.
+  result_sound usual k.Left vs = next_sound _ (class scope) _ vs (λ c rest read.
       let s = saw_used names.classes 256 vs c rest read in
       giving_sound _ (result.Left c) rest (record { said = source.left s.w; words = ap (λ v. keyword_text k.Gives ∷ keyword_text k.Left ∷ v) s.words; means = s.numbered }))
   result_sound usual key vs = record { each = λ g rest is. cc }

@@ -57,8 +57,7 @@ record IsKnown (version : Version) (o : Option Mnemonic) (m : Mnemonic) : Type 0
   there : is_in version m ≡ true
 
 known_is : (version : Version) (w : List ℕ) (o : Option Mnemonic) (m : Mnemonic) → known_mnemonic version w o ≡ Ok m → IsKnown version o m
-known_is version w o m is =
-    some_given (λ o. known_mnemonic version w o ≡ Ok m) o is (λ e. cc) (λ n same e.
+known_is version w o m is = some_given (λ o. known_mnemonic version w o ≡ Ok m) o is (λ e. cc) (λ n same e.
     let p = passed (is_in version n) (Ok n) BadShape m e in
     let one = ok_is n m p.1 in
     record { found = same ∙ ap Some one; there = subst (λ x. is_in version x ≡ true) one p.0 })

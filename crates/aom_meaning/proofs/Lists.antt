@@ -55,8 +55,7 @@ parted_is_plain (p ∷ ps) forms = list_all-append is_plain p (behind 44 ps) ∙
 
 -- parts between commas are found again
 parts_again : (p : List ℕ) (ps : List (List ℕ)) → has_name_form p ≡ true → All HasForm ps → slice_split (λ b. b == 44) (parted_by 44 (p ∷ ps)) ≡ p ∷ ps
-parts_again p [] form forms =
-    ap (slice_split (λ b. b == 44)) (append-nil p)
+parts_again p [] form forms = ap (slice_split (λ b. b == 44)) (append-nil p)
     ∙ slice_split_none (λ b. b == 44) p (no_commas p (and_parts (starts_with_letter p) (list_all is_name_byte p) form).1)
 parts_again p (q ∷ qs) form forms = grind (arith, slice_split_at, no_commas, parts_again q qs (All-head HasForm q qs forms) (All-tail HasForm q qs forms))
 

@@ -65,6 +65,5 @@ same_number letter m n p q e = decimal_injective m n (omega arith) (omega arith)
 
 -- a name stands where its number says, when no earlier place has another kind of name
 pub place_found : (letter k : ℕ) (names : List (List ℕ)) → k < 2 ^ 32 → k < length names → get_or names k [] ≡ lettered letter k
-    → ((j : ℕ) → j < k → (get_or names j [] ≡ lettered letter j) ⊎ (get_or names j [] ≡ []))
-    → position (λ n. bytes_eq n (lettered letter k)) names ≡ Some k
+    → ((j : ℕ) → j < k → (get_or names j [] ≡ lettered letter j) ⊎ (get_or names j [] ≡ [])) → position (λ n. bytes_eq n (lettered letter k)) names ≡ Some k
 place_found letter k names small within here before = grind (arith, nat_tests, differing, same_number letter, position_or_len_is, bytes_eq-Decides, lt-ltb)

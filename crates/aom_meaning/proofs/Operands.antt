@@ -39,8 +39,7 @@ used_follows limit strict loose names others more = record {
       let s = steps (name ws) (λ x. referred strict.is_strict limit (place_of x.0 names) >>= λ y. Ok (y, x.1)) (n, rest) is in
       let t = steps (referred strict.is_strict limit (place_of s.first.0 names)) (λ y. Ok (y, s.first.1)) (n, rest) s.second in
       ap (λ e. e >>= λ x. referred loose.is_strict limit (place_of x.0 others) >>= λ y. Ok (y, x.1)) s.read
-      ∙ ap (λ e. e >>= λ y. Ok (y, s.first.1)) (more.finds s.first.0 t.first t.read)
-      ∙ t.second;
+      ∙ ap (λ e. e >>= λ y. Ok (y, s.first.1)) (more.finds s.first.0 t.first t.read) ∙ t.second;
 }
 
 module _ (strict loose : Scope) (labels : List (List ℕ)) (classes : FindsMore 256 strict loose strict.classes loose.classes)

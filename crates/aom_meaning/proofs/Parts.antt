@@ -125,8 +125,7 @@ module _ (last : ℕ) (h : Header) (classes methods : ℕ) (scope : Scope) (name
       let regrouped : (cs ++ c ∷ []) ++ todo ≡ cs ++ c ∷ todo = append_assoc cs (c ∷ []) todo in
       let total : sum_by (class_bytes h.version) (c ∷ todo) ≡ (28 + more) + sum_by (class_bytes h.version) todo = sum_by-cons (class_bytes h.version) c todo in
       let summed : (size + (28 + more)) + sum_by (class_bytes h.version) todo ≡ size + sum_by (class_bytes h.version) (c ∷ todo) = omega arith in
-      goes_on
-      (steps {q = read_so_far h (cs ++ c ∷ []) [] None (size + (28 + more))} {left = classes_statements (length cs + 1) todo ++ left} ss words
+      goes_on (steps {q = read_so_far h (cs ++ c ∷ []) [] None (size + (28 + more))} {left = classes_statements (length cs + 1) todo ++ left} ss words
       (λ rest behind. class_steps cs c size rest (omega arith)
       (All-head (ClassFits h.version classes h.natives) c todo fits) (All-head fits_parent c todo parents) (few_before cs c todo few) (omega arith)))
       (λ rest behind. arrives (grind (arith, nat_tests, class_bytes h.version))
@@ -189,8 +188,7 @@ module _ (last : ℕ) (h : Header) (classes methods : ℕ) (scope : Scope) (name
         let longer : length (done ++ i ∷ []) ≡ length done + 1 = length-append done (i ∷ []) in
         let regrouped : (done ++ i ∷ []) ++ todo ≡ done ++ i ∷ todo = append_assoc done (i ∷ []) todo in
         let summed : (size + 8) + 8 * length todo ≡ size + 8 * suc (length todo) = omega arith in
-        goes_on
-        (steps {q = opened ms m (done ++ i ∷ []) (size + 8)} {left = instr_statements m.code (length done + 1) todo ++ left} ss words
+        goes_on (steps {q = opened ms m (done ++ i ∷ []) (size + 8)} {left = instr_statements m.code (length done + 1) todo ++ left} ss words
         (λ rest behind. instruction_steps ms m done i todo size rest fits whole (All-head (InstrFits (limits h.version classes methods (length m.code))) i todo each) (omega arith)))
         (λ rest behind. arrives (ap (λ l. opened ms m l ((size + 8) + 8 * length todo)) regrouped ∙ ap (λ n. opened ms m (done ++ i ∷ todo) n) summed)
         (instructions_go ms m (done ++ i ∷ []) todo (size + 8) left rest fits
@@ -211,10 +209,8 @@ module _ (last : ℕ) (h : Header) (classes methods : ℕ) (scope : Scope) (name
         let inner : (code ++ end_words ∷ []) ++ left ≡ code ++ end_words ∷ left = append_assoc code (end_words ∷ []) left in
         let summed : (size + (24 + more)) + 8 * length m.code ≡ size + spelled h.version m = omega arith in
         arrives (ap (λ n. read_so_far h cs (ms ++ m ∷ []) None n) summed) (
-        goes_on
-        (steps {q = opened ms m [] (size + (24 + more))} {left = code ++ end_words ∷ left} ss (words ∙ ap (λ l. heading ∷ l) inner)
-        (λ rest behind. heading_steps ms m size left rest there fits over quiet (omega arith) behind))
-        (λ rest behind. goes_on
+        goes_on (steps {q = opened ms m [] (size + (24 + more))} {left = code ++ end_words ∷ left} ss (words ∙ ap (λ l. heading ∷ l) inner)
+        (λ rest behind. heading_steps ms m size left rest there fits over quiet (omega arith) behind)) (λ rest behind. goes_on
         (instructions_go ms m [] m.code (size + (24 + more)) (end_words ∷ left) rest fits refl fits.code (omega arith) behind)
         (λ rest behind. steps rest behind (λ rest behind. end_steps ms m ((size + (24 + more)) + 8 * length m.code) rest fits.some_code))))
 

@@ -47,10 +47,8 @@ module _ (version : Version) (place : ℕ) (labels : List (List ℕ)) (m : Mnemo
   -- a label is skipped
   past_label : place < 1024 → place_of (label_name place) labels ≡ Some place → Takes (after_label place labels) ((label_name place ++ 58 ∷ []) ∷ mnemonic_text m ∷ []) (mnemonic_text m)
   past_label few there = in_turn _ (takes_word (label_name place ++ 58 ∷ []) (colon_is_plain place few)) (record {
-    reads = λ rest.
-        ap (λ o. skip_label place labels (label_name place ++ 58 ∷ []) o (mnemonic_text m ∷ rest)) (label_cut (label_name place))
-        ∙ ap (λ e. e >>= λ u. word (mnemonic_text m ∷ rest)) (checked few there)
-        ∙ (takes_word (mnemonic_text m) (mnemonic_is_plain m)).reads rest;
+    reads = λ rest. ap (λ o. skip_label place labels (label_name place ++ 58 ∷ []) o (mnemonic_text m ∷ rest)) (label_cut (label_name place))
+        ∙ ap (λ e. e >>= λ u. word (mnemonic_text m ∷ rest)) (checked few there) ∙ (takes_word (mnemonic_text m) (mnemonic_is_plain m)).reads rest;
   })
     where
       checked : place < 1024 → place_of (label_name place) labels ≡ Some place → check_label place labels (label_name place) ≡ Ok tt

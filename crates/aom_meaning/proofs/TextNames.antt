@@ -100,11 +100,9 @@ class_names_of_methods n (m ∷ ms) names = grind (arith, by_words_more, body_si
 
 method_names_of_methods : (n : ℕ) (ms : List Method) (names : List (List ℕ)) → by_words k.Method names (methods_statements n ms) ≡ names ++ names_from method_name n ms
 method_names_of_methods n [] names = sym (append-nil names)
-method_names_of_methods n (m ∷ ms) names =
-    by_words_more k.Method names (method_statements n m) (methods_statements (n + 1) ms)
+method_names_of_methods n (m ∷ ms) names = by_words_more k.Method names (method_statements n m) (methods_statements (n + 1) ms)
     ∙ ap (λ l. by_words k.Method l (methods_statements (n + 1) ms)) (body_silent k.Method silent_method m.code (names ++ method_name n ∷ []))
-    ∙ method_names_of_methods (n + 1) ms (names ++ method_name n ∷ [])
-    ∙ append_assoc names (method_name n ∷ []) (names_from method_name (n + 1) ms)
+    ∙ method_names_of_methods (n + 1) ms (names ++ method_name n ∷ []) ∙ append_assoc names (method_name n ∷ []) (names_from method_name (n + 1) ms)
 
 -- ---- the whole
 

@@ -83,8 +83,7 @@ takes_no_end t = first_is_not t.label t.mnemonic t.operands
 class_names : (ds : List Declaration) (names : List (List ℕ)) → by_words k.Class names (declared_statements ds) ≡ names ++ map (λ t. t.name) (classes_of ds)
 class_names [] names = sym (append-nil names)
 class_names (source.class t ∷ ds) names = class_names ds (names ++ t.name ∷ []) ∙ append_assoc names (t.name ∷ []) (map (λ t. t.name) (classes_of ds))
-class_names (source.method t ∷ ds) names =
-    by_words_more k.Class names (declaration_statements (source.method t)) (declared_statements ds)
+class_names (source.method t ∷ ds) names = by_words_more k.Class names (declaration_statements (source.method t)) (declared_statements ds)
     ∙ ap (λ l. by_words k.Class l (declared_statements ds)) (body_nameless k.Class (record { mnemonic = class_foreign; label = refl }) t.code names)
     ∙ class_names ds names
 
@@ -118,8 +117,7 @@ labels_there (t ∷ ts) left labels ss words =
     ap (labels_until labels) f.is ∙ ap (λ ws. if is_end ws then labels else labels_until (labels ++ label_in ws ∷ []) f.rest) f.here
     ∙ ap (λ b. if b then labels else labels_until (labels ++ label_in (instruction_words t) ∷ []) f.rest) (no_end t)
     ∙ ap (λ l. labels_until (labels ++ l ∷ []) f.rest) (has_label t.label t.mnemonic t.operands)
-    ∙ labels_there ts left (labels ++ label_or_none t.label ∷ []) f.rest f.behind
-    ∙ append_assoc labels (label_or_none t.label ∷ []) (labels_of ts)
+    ∙ labels_there ts left (labels ++ label_or_none t.label ∷ []) f.rest f.behind ∙ append_assoc labels (label_or_none t.label ∷ []) (labels_of ts)
 
 -- each element has what its place asks, from that place on
 abbrev pub EachAt : {X : Type 0} → (ℕ → X → Type 0) → ℕ → List X → Type 0

@@ -159,8 +159,7 @@ module _ (last : ℕ) (names : Names) (h : Header) (b : Bool) (kinds : List Clas
     code_goes ms t m done _ _ size left ss few (a_pair one ts i todo here more) placed enough words =
         let count : length (done ++ i ∷ []) ≡ length done + 1 = length_push done i in
         let summed : (size + 8) + 8 * length todo ≡ size + 8 * suc (length todo) = omega arith in
-        goes_on
-        (steps {q = open_method ms t m (done ++ i ∷ []) (size + 8)} {left = map instruction_words ts ++ left} ss words
+        goes_on (steps {q = open_method ms t m (done ++ i ∷ []) (size + 8)} {left = map instruction_words ts ++ left} ss words
         (λ rest behind. code_step ms t m done one i size rest (omega arith) here placed.0 (omega arith)))
         (λ rest behind. arrives (ap (λ l. open_method ms t m l ((size + 8) + 8 * length todo)) (append_assoc done (i ∷ []) todo) ∙ ap (λ n. open_method ms t m (done ++ i ∷ todo) n) summed)
         (code_goes ms t m (done ++ i ∷ []) ts todo (size + 8) left rest (omega arith) more (subst (λ n. LabelsPlaced (labels_of t.code) n ts) (sym count) placed.1) (omega arith) behind))
@@ -174,10 +173,8 @@ module _ (last : ℕ) (names : Names) (h : Header) (b : Bool) (kinds : List Clas
         let short = means.few in
         let code = pairs (InstructionMeans names h.version (labels_of t.code)) t.code m.code means.code in
         let summed : (size + (24 + more)) + 8 * length m.code ≡ size + spelled h.version m = omega arith in
-        goes_on
-        (steps {q = open_method ms t m [] (size + (24 + more))} {left = map instruction_words t.code ++ (end_words ∷ left)} ss words
-        (λ rest behind. heading_step ms t m size left rest few means.heading placed (omega arith) behind))
-        (λ rest behind. goes_on
+        goes_on (steps {q = open_method ms t m [] (size + (24 + more))} {left = map instruction_words t.code ++ (end_words ∷ left)} ss words
+        (λ rest behind. heading_step ms t m size left rest few means.heading placed (omega arith) behind)) (λ rest behind. goes_on
         (code_goes ms t m [] t.code m.code (size + (24 + more)) (end_words ∷ left) rest (omega arith) code
         (labels_placed names h.version (labels_of t.code) (labels_of t.code) means.labels [] t.code m.code code refl) (omega arith) behind)
         (λ later others. arrives (ap (λ n. read_so_far h cs (ms ++ m ∷ []) None n) summed)
@@ -202,11 +199,9 @@ module _ (last : ℕ) (names : Names) (h : Header) (b : Bool) (kinds : List Clas
       let sum = sum_by (spelled h.version) left in
       let headed : sum_by (class_bytes h.version) (c ∷ todo) ≡ (28 + more) + sum_by (class_bytes h.version) todo = sum_by-cons (class_bytes h.version) c todo in
       let summed : (size + (28 + more)) + sum_by (class_bytes h.version) todo + sum ≡ size + sum_by (class_bytes h.version) (c ∷ todo) + sum = omega arith in
-      goes_on
-      (steps {q = read_so_far h (cs ++ c ∷ []) ms None (size + (28 + more))} {left = declared_statements ds} ss words
+      goes_on (steps {q = read_so_far h (cs ++ c ∷ []) ms None (size + (28 + more))} {left = declared_statements ds} ss words
       (λ rest behind. class_step cs ms t c size rest (omega arith) here cp.0 (few_before cs c todo servers) (omega arith)))
-      (λ rest behind. arrives (grind arith)
-      (declarations_go ds (cs ++ c ∷ []) todo ms left (size + (28 + more)) rest later methods (grind arith) mp
+      (λ rest behind. arrives (grind arith) (declarations_go ds (cs ++ c ∷ []) todo ms left (size + (28 + more)) rest later methods (grind arith) mp
       (omega arith) (subst (λ l. count_by is_server l ≤ 8) (sym again) servers) short (omega arith) behind))
   declarations_go (source.method t ∷ ds) cs todo ms _ size ss classes (a_pair _ _ m left here more) cp mp few servers short enough words =
       let count : length (ms ++ m ∷ []) ≡ length ms + 1 = length_push ms m in
@@ -215,9 +210,7 @@ module _ (last : ℕ) (names : Names) (h : Header) (b : Bool) (kinds : List Clas
       let sum = sum_by (class_bytes h.version) todo in
       let headed : sum_by bytes (m ∷ left) ≡ bytes m + sum_by bytes left = sum_by-cons bytes m left in
       let summed : (size + bytes m) + sum + sum_by bytes left ≡ size + sum + sum_by bytes (m ∷ left) = omega arith in
-      goes_on
-      (method_goes cs ms t m size (declared_statements ds) ss (omega arith) here mp.0 (omega arith)
+      goes_on (method_goes cs ms t m size (declared_statements ds) ss (omega arith) here mp.0 (omega arith)
       (words ∙ ap (λ v. heading_words t.heading ∷ v) (append_assoc (map instruction_words t.code) (end_words ∷ []) (declared_statements ds))))
-      (λ rest behind. arrives (grind arith)
-      (declarations_go ds cs todo (ms ++ m ∷ []) left (size + bytes m) rest classes more cp (grind arith)
+      (λ rest behind. arrives (grind arith) (declarations_go ds cs todo (ms ++ m ∷ []) left (size + bytes m) rest classes more cp (grind arith)
       few servers (omega arith) (omega arith) behind))

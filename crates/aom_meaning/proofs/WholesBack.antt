@@ -40,8 +40,7 @@ module _ (last : ℕ) (i : Image) (formed : WellFormed i) (quiet : AllSayQuiet i
   parts_go : (ss : List Statement) → all_words ss ≡ classes_statements 0 i.classes ++ methods_statements 0 i.methods → Goes last scope (read_so_far i.header [] [] None 24) ss (all_read i) []
   parts_go ss words =
       let enough = small in
-      goes_on
-      (classes_go last i.header (length i.classes) (length i.methods) scope names formed.header.natives [] i.classes 24
+      goes_on (classes_go last i.header (length i.classes) (length i.methods) scope names formed.header.natives [] i.classes 24
       (methods_statements 0 i.methods) ss (omega arith) formed.classes.each formed.families.parents formed.classes.servers (omega arith) words)
       (λ rest behind. methods_go last i.header (length i.classes) (length i.methods) scope names formed.header.natives i.classes [] i.methods
       (24 + sum_by (class_bytes i.header.version) i.classes) [] rest (omega arith) formed.methods.each formed.families.overs quiet enough

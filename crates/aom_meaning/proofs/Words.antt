@@ -66,8 +66,7 @@ thing_means names kinds w t is =
     (λ same. (bytes_eq-Decides w (codes "msg")).0 same) (λ c said. numbered names.classes 256 w c said) is
 
 pub argument_means : (names : Names) (kinds : List ClassDecl) (w : List ℕ) (a : Argument) → argument_of (told names kinds) w ≡ Ok a → IsArgument names w a
-argument_means names kinds w a is =
-    marked_or (IsArgument names w) (bytes_eq w (codes "word")) arg.Word (thing_of (told names kinds) w) (λ t. arg.Own t) a
+argument_means names kinds w a is = marked_or (IsArgument names w) (bytes_eq w (codes "word")) arg.Word (thing_of (told names kinds) w) (λ t. arg.Own t) a
     (λ same. (bytes_eq-Decides w (codes "word")).0 same) (thing_means names kinds w) is
 
 -- a name is no reserved word
@@ -121,8 +120,7 @@ module _ {X : Type 0} (most : ℕ) (one : List ℕ → Result X AsmFaultKind) (S
     parts_read _ front _ few (a_pair p ps x xs here more) =
         ap (λ b. if b then (one p >>= λ y. elements most one (front ++ y ∷ []) ps) else Err LimitPassed) (lt-ltb (length front) most (omega arith))
         ∙ ap (λ e. e >>= λ y. elements most one (front ++ y ∷ []) ps) (reads p x here).says
-        ∙ parts_read ps (front ++ x ∷ []) xs (omega (arith, length-append front (x ∷ []))) more
-        ∙ ap Ok (append_assoc front (x ∷ []) xs)
+        ∙ parts_read ps (front ++ x ∷ []) xs (omega (arith, length-append front (x ∷ []))) more ∙ ap Ok (append_assoc front (x ∷ []) xs)
 
     whole_read : (w : List ℕ) (xs : List X) (b : Bool) → length xs ≤ most → Elements Says b w xs → (if b then Ok [] else elements most one [] (slice_split (λ b. b == 44) w)) ≡ Ok xs
     whole_read w xs true few none = ap Ok (sym none)
