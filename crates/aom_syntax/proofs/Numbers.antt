@@ -1,9 +1,10 @@
 -- Numbers that are read are in their ranges.
+use Rattle.std.proofs.lemmas.Bool.Decides.{nat_tests}
 use Rattle.std.proofs.lemmas.Option.{cond_some}
-use Rattle.std.proofs.Common.{◌≡◌, subst, arith, ℕ, zero, suc, ℤ, pos, neg_ℤ, ◌≤◌, ◌^◌, ◌&&◌, ◌||◌, ◌==◌, not, nat_le, nat_lt, Bool, true, false, FitsSigned, w32, Option, Some, None, Result, Ok, Err, ap, ◌∙◌}
+use Rattle.std.proofs.Common.{◌≡◌, subst, arith, ℕ, ℤ, pos, neg_ℤ, ◌≤◌, ◌^◌, ◌&&◌, ◌||◌, ◌==◌, not, nat_le, nat_lt, Bool, FitsSigned}
+use Rattle.std.proofs.Common.{w32, Option, Some, None, Result, Ok, Err, ap, ◌∙◌}
 use Rattle.std.specs.Prelude.{if◌then◌else◌}
 use Rattle.std.proofs.lemmas.Bool.{and_parts, leb-true, ltb-true}
-use Rattle.aom_text.specs.declared.fault.AsmFaultKind.{AsmFaultKind}
 use Rattle.aom_text.specs.declared.fault.AsmFaultKind.TheVariants.{BadNumber}
 use Rattle.aom_text.specs.declared.number.Number.{Number}
 use Rattle.aom_text.specs.Numbers.{number_of, number_within, number_signed}
@@ -33,34 +34,27 @@ in_range_between low high n x is = between low high n x (in_range_is _ x is)
 
 pub number_between : (low high : ℕ) → Within (Between low high) (number low high)
 number_between low high = seen_within (Between low high) (number_in low high) word (λ w x is.
-    some_given (λ o. ◌≡◌ {A = Result ℕ AsmFaultKind} (elim o [ None ↦ Err BadNumber | Some n ↦ in_range (number_within low high n) ]) (Ok x)) (number_of w) is (λ e. cc)
+    some_given (λ o. ◌≡◌ {A = Result ℕ _} (elim o [ None ↦ Err BadNumber | Some n ↦ in_range (number_within low high n) ]) (Ok x)) (number_of w) is (λ e. cc)
     (λ n there e. in_range_between low high n x e))
 
 -- a number that may be missing
 pub optional_between : (key : Keyword) (high : ℕ) → Within (Between 0 high) (optional_number key high)
-optional_between key high =
-    either (Between 0 high) (λ ws. (took key ws).0) (λ ws. (took key ws).1) (number 0 high) (giving 0) (number_between 0 high)
+optional_between key high = either (Between 0 high) (λ ws. (took key ws).0) (λ ws. (took key ws).1) (number 0 high) (giving 0) (number_between 0 high)
     (giving_within (Between 0 high) 0 (record { least = omega arith; most = omega arith }))
 
 -- ---- numbers with their signs
 
 negative_fits : (n : ℕ) → n ≤ 2 ^ 31 → FitsSigned w32 (neg_ℤ (pos n))
-negative_fits zero small = record { sfits = omega arith }
-negative_fits (suc n) small = record { sfits = small }
+negative_fits x small = grind arith
 
 below_zero : (n : ℕ) (z : ℤ) → (if nat_le n (2 ^ 31) then Some (neg_ℤ (pos n)) else None) ≡ Some z → FitsSigned w32 z
-below_zero n z is =
-    let s = cond_some (nat_le n (2 ^ 31)) (neg_ℤ (pos n)) z is in
-    subst (FitsSigned w32) s.1 (negative_fits n (leb-true _ _ s.0))
+below_zero n z is = grind (arith, nat_tests, cond_some, negative_fits n, leb-true)
 
 from_zero : (n : ℕ) (z : ℤ) → (if nat_lt n (2 ^ 31) then Some (pos n) else None) ≡ Some z → FitsSigned w32 z
-from_zero n z is =
-    let s = cond_some (nat_lt n (2 ^ 31)) (pos n) z is in
-    subst (FitsSigned w32) s.1 (record { sfits = ltb-true _ _ s.0 })
+from_zero n z is = search (arith, nat_tests, cond_some, ltb-true)
 
 signed_fits : (is_negative : Bool) (size : ℕ) (z : ℤ) → number_signed (record { is_negative = is_negative; size = size }) ≡ Some z → FitsSigned w32 z
-signed_fits true size z is = below_zero size z is
-signed_fits false size z is = from_zero size z is
+signed_fits x size z is = grind (arith, nat_tests, below_zero, from_zero)
 
 signed_is : (o : Option Number) (z : ℤ) → signed_of o ≡ Ok z → FitsSigned w32 z
 signed_is o z is = some_given (λ o. signed_of o ≡ Ok z) o is (λ e. cc) (λ n same e. signed_fits n.is_negative n.size z (in_range_is (number_signed n) z e))

@@ -1,4 +1,5 @@
 -- A header that is read is in its range.
+use Rattle.std.proofs.lemmas.Bool.Decides.{nat_tests}
 use Rattle.std.proofs.Common.{◌≡◌, ℕ, ◌<◌, true, false, length, Option, Some, None, arith}
 use Rattle.std.specs.Prelude.{IfSome}
 use Rattle.aom_image.specs.WellFormed.{HeaderFits}
@@ -26,20 +27,16 @@ module _ (scope : Scope) (strict : scope.is_strict ≡ true) where
   class_within = used_below scope.is_strict 256 scope.classes (all_known scope.is_strict (length scope.classes) strict)
 
   said_root : Within IsRoot (next (class scope) (λ c. next (nothing_more false) (λ u. giving (Some c))))
-  said_root =
-      next_within IsClass IsRoot (class scope) (λ c. next (nothing_more false) (λ u. giving (Some c))) class_within (λ c below.
-      after IsRoot (nothing_more false) (λ u. giving (Some c)) (λ u. giving_within IsRoot (Some c) below))
+  said_root = grind (arith, nat_tests, next_within, class_within, after, giving_within)
 
   no_root : Within IsRoot (next (nothing_more true) (λ u. giving None))
   no_root = after IsRoot (nothing_more true) (λ u. giving None) (λ u. giving_within IsRoot None tt)
 
   root_within : Within IsRoot (optional_root scope)
-  root_within = either IsRoot (λ ws. (took k.Root ws).0) (λ ws. (took k.Root ws).1) (next (class scope) (λ c. next (nothing_more false) (λ u. giving (Some c)))) (next (nothing_more true) (λ u. giving None)) said_root no_root
+  root_within = either IsRoot (λ ws. (took k.Root ws).0) (λ ws. (took k.Root ws).1) _ (next (nothing_more true) (λ u. giving None)) said_root no_root
 
   pub header_within : Within Fits (image_statement scope)
-  header_within =
-      after Fits (keyword k.Image) _ (λ u.
-      after Fits optional_version _ (λ version.
+  header_within = after Fits (keyword k.Image) _ (λ u. after Fits optional_version _ (λ version.
       next_within (Between 0 4096) Fits (optional_number k.Cells 4096) _ (optional_between k.Cells 4096) (λ cells few_cells.
       next_within (Between 0 1024) Fits (optional_number k.Messages 1024) _ (optional_between k.Messages 1024) (λ messages few_messages.
       next_within (Between 0 16) Fits (optional_number k.Natives 16) _ (optional_between k.Natives 16) (λ natives few_natives.

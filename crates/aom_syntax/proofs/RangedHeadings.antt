@@ -1,14 +1,15 @@
 -- The beginning of a method that is read is in its range.
-use Rattle.std.proofs.Common.{◌≡◌, ℕ, ◌<◌, ◌≤◌, ◌||◌, Bool, true, false, List, length, replicate, All, Option, Some, None, Ok, slice_get, codes, subst, refl, arith, ap, ◌∙◌}
+use Rattle.std.proofs.lemmas.Bool.Decides.{nat_tests}
+use Rattle.std.proofs.Common.{◌≡◌, ℕ, ◌<◌, ◌≤◌, ◌||◌, Bool, true, false, List, length, replicate, All, Option, Some, None, Ok, slice_get, codes, subst, refl}
+use Rattle.std.proofs.Common.{arith, ap, ◌∙◌}
 use Rattle.std.specs.Prelude.{IfSome}
 use Rattle.std.specs.Str.{bytes_eq}
 use Rattle.std.proofs.lemmas.List.{length-replicate}
 use Rattle.std.proofs.lemmas.List.Elements.{All-replicate}
 use Rattle.std.proofs.lemmas.Option.{get_or_from_slice_get, slice_get_within}
 use Rattle.aom_text.specs.declared.fault.AsmFaultKind.TheVariants.{BadShape}
-use Rattle.aom_image.specs.WellFormed.{ArgumentFits, ClassFits, GivesFits, KindFits, OverFits, ThingFits}
+use Rattle.aom_image.specs.WellFormed.{ArgumentFits, ClassFits, GivesFits, KindFits, OverFits}
 use Rattle.aom_instructions.specs.declared.version.Version.{Version}
-use Rattle.aom_instructions.specs.declared.version.Version.TheVariants as versions
 use Rattle.aom_image.specs.declared.class.ClassDecl.{ClassDecl}
 use Rattle.aom_image.specs.declared.class.ClassKind.{ClassKind}
 use Rattle.aom_image.specs.declared.class.ClassKind.TheVariants as kinds
@@ -17,11 +18,12 @@ use Rattle.aom_image.specs.declared.method.Argument.TheVariants as arg
 use Rattle.aom_image.specs.declared.method.Gives.{Gives}
 use Rattle.aom_image.specs.declared.method.Gives.TheVariants as result
 use Rattle.aom_image.specs.declared.method.Role.{Role}
-use Rattle.aom_image.specs.declared.method.Role.TheVariants as roles
 use Rattle.aom_syntax.specs.Reading.{any_keyword, giving, next, nothing_more, seen, took, word}
-use Rattle.aom_syntax.specs.Operands.{class, method}
-use Rattle.aom_syntax.specs.Classes.{declared, flag, listed, thing, thing_of}
-use Rattle.aom_syntax.specs.Methods.{accepted, all_states, argument_of, flags_of, gives, heading, is_quiet_role, kind_of, not_served, optional_arguments, optional_class, optional_gives, optional_over, optional_states, role, said_over, unsaid_gives, usual_after, usual_before, usual_gives, usual_words, behind_class}
+use Rattle.aom_syntax.specs.Operands.{class}
+use Rattle.aom_syntax.specs.Classes.{declared, flag, listed, thing_of}
+use Rattle.aom_syntax.specs.Methods.{accepted, argument_of, flags_of, gives, heading, is_quiet_role, kind_of, not_served, optional_arguments}
+use Rattle.aom_syntax.specs.Methods.{optional_class, optional_gives, optional_over, role, said_over, unsaid_gives}
+use Rattle.aom_syntax.specs.Methods.{usual_gives, usual_words, behind_class}
 use Rattle.aom_syntax.specs.declared.keyword.Keyword.{Keyword}
 use Rattle.aom_syntax.specs.declared.keyword.Keyword.TheVariants as k
 use Rattle.aom_syntax.specs.declared.method.Heading.{Heading}
@@ -39,16 +41,13 @@ abbrev MayGive : ℕ → Option Gives → Type 0
 MayGive classes usual = IfSome usual (λ g. GivesFits classes g)
 
 not_served_fits : (classes : ℕ) (known : Bool) → MayGive classes (not_served known)
-not_served_fits classes true = tt
-not_served_fits classes false = tt
+not_served_fits classes x = grind arith
 
 accepted_fits : (version : Version) (classes natives : ℕ) (known : Bool) (kind : ClassKind) → KindFits version classes natives kind → MayGive classes (accepted known kind)
-accepted_fits version classes natives known (kinds.Server sessions session) fits = fits.2
-accepted_fits version classes natives known _ fits = not_served_fits classes known
+accepted_fits version classes natives known x fits = grind (arith, nat_tests, not_served_fits classes known)
 
 usual_fits : (version : Version) (classes natives : ℕ) (known : Bool) (role : Role) (kind : ClassKind) → KindFits version classes natives kind → MayGive classes (usual_gives known role kind)
-usual_fits version classes natives known roles.Accept kind fits = accepted_fits version classes natives known kind fits
-usual_fits version classes natives known _ kind fits = tt
+usual_fits version classes natives known x kind fits = grind arith
 
 -- what is not said is what stands for it
 pub stands_for : (usual : Option Gives) (g : Gives) → unsaid_gives usual ≡ Ok g → usual ≡ Some g
@@ -65,7 +64,7 @@ kind_fits version classes natives decls (Some c) all = go (slice_get decls c) re
   where
     go : (o : Option ClassDecl) → slice_get decls c ≡ o → KindFits version classes natives (elim o [ None ↦ kinds.Plain | Some decl ↦ decl.kind ])
     go None there = tt
-    go (Some decl) there = (subst (ClassFits version classes natives) (get_or_from_slice_get decls c decl decl there) (all c decl (slice_get_within decls c decl there))).kind
+    go (Some decl) there = (subst (ClassFits _ _ _) (get_or_from_slice_get decls c decl decl there) (all c decl (slice_get_within decls c decl there))).kind
 
 -- ---- parts of the statement
 
@@ -83,9 +82,8 @@ module _ (scope : Scope) (known : IsKnown scope.is_strict (length scope.classes)
   IsGiven g = GivesFits (length scope.classes) g
 
   class_within : Within IsClass (optional_class scope)
-  class_within =
-      either IsClass (λ ws. (took k.Of ws).0) (λ ws. (took k.Of ws).1) (next (class scope) (λ c. giving (Some c))) (giving None)
-      (next_within (λ c. c < length scope.classes) IsClass (class scope) (λ c. giving (Some c)) (used_below scope.is_strict 256 scope.classes known) (λ c below. giving_within IsClass (Some c) below))
+  class_within = either IsClass (λ ws. (took k.Of ws).0) (λ ws. (took k.Of ws).1) (next (class scope) (λ c. giving (Some c))) (giving None)
+      (next_within (λ c. c < length _) IsClass _ (λ c. giving (Some c)) (used_below _ 256 _ known) (λ c below. giving_within IsClass (Some c) below))
       (giving_within IsClass None tt)
 
   argument_fits : (w : List ℕ) (a : Argument) → argument_of scope w ≡ Ok a → IsArgument a
@@ -96,26 +94,24 @@ module _ (scope : Scope) (known : IsKnown scope.is_strict (length scope.classes)
   arguments_within usual few =
       either AreArguments (λ ws. (took k.Args ws).0) (λ ws. (took k.Args ws).1) (seen (listed 6 (argument_of scope)) word) (giving (replicate usual arg.Word))
       (seen_within AreArguments (listed 6 (argument_of scope)) word (listed_fits IsArgument 6 (argument_of scope) argument_fits))
-      (giving_within AreArguments (replicate usual arg.Word) (record { few = omega (arith, length-replicate usual arg.Word, few); each = All-replicate IsArgument usual arg.Word tt }))
+      (giving_within AreArguments _ (record { few = omega (arith, length-replicate usual arg.Word, few); each = All-replicate IsArgument usual arg.Word tt }))
 
   gives_within : (key : Keyword) → Within IsGiven (gives scope key)
   gives_within k.Nothing = giving_within IsGiven result.Nothing tt
   gives_within k.Word = giving_within IsGiven result.Word tt
-  gives_within k.Own = next_within (ThingFits (length scope.classes)) IsGiven (thing scope) (λ t. giving (result.Own t)) (thing_within scope known) (λ t fits. giving_within IsGiven (result.Own t) fits)
-  gives_within k.Maybe = next_within (ThingFits (length scope.classes)) IsGiven (thing scope) (λ t. giving (result.Maybe t)) (thing_within scope known) (λ t fits. giving_within IsGiven (result.Maybe t) fits)
-  gives_within k.Left = next_within (λ c. c < length scope.classes) IsGiven (class scope) (λ c. giving (result.Left c)) (used_below scope.is_strict 256 scope.classes known) (λ c below. giving_within IsGiven (result.Left c) below)
+  gives_within k.Own = grind (arith, nat_tests, next_within, thing_within scope known, giving_within IsGiven)
+  gives_within k.Maybe = grind (arith, next_within, thing_within scope known)
+  gives_within k.Left = grind (arith, next_within, used_below scope.is_strict 256 scope.classes known)
   gives_within key = failing_within IsGiven BadShape
 
   said_gives : Within IsGiven (next any_keyword (λ key. next (gives scope key) (λ g. next (nothing_more false) (λ u. giving g))))
-  said_gives =
-      after IsGiven any_keyword (λ key. next (gives scope key) (λ g. next (nothing_more false) (λ u. giving g))) (λ key.
+  said_gives = after IsGiven any_keyword (λ key. next (gives scope key) (λ g. next (nothing_more false) (λ u. giving g))) (λ key.
       next_within IsGiven IsGiven (gives scope key) (λ g. next (nothing_more false) (λ u. giving g)) (gives_within key) (λ g fits.
       after IsGiven (nothing_more false) (λ u. giving g) (λ u. giving_within IsGiven g fits)))
 
   optional_within : (usual : Option Gives) → MayGive (length scope.classes) usual → Within IsGiven (optional_gives scope usual)
-  optional_within usual fits =
-      either IsGiven (λ ws. (took k.Gives ws).0) (λ ws. (took k.Gives ws).1) (next any_keyword (λ key. next (gives scope key) (λ g. next (nothing_more false) (λ u. giving g))))
-      (seen (λ u. unsaid_gives usual) (nothing_more true)) said_gives (seen_within IsGiven (λ u. unsaid_gives usual) (nothing_more true) (λ u g is. unsaid_fits (length scope.classes) usual g fits is))
+  optional_within usual fits = either IsGiven (λ ws. (took k.Gives ws).0) (λ ws. (took k.Gives ws).1) _
+      (seen (λ u. unsaid_gives _) (nothing_more true)) said_gives (seen_within IsGiven (λ u. unsaid_gives usual) _ (λ u g is. unsaid_fits _ _ g fits is))
 
 -- ---- the statement
 
@@ -130,14 +126,10 @@ module _ (before_version : Version) (natives : ℕ) (scope : Scope) (version : V
   IsOver v over = OverFits v (length scope.methods) over
 
   said_over_within : (v : Version) → Within (IsOver v) (said_over scope v)
-  said_over_within versions.One = failing_within (IsOver versions.One) BadShape
-  said_over_within versions.Two =
-      next_within (λ m. m < length scope.methods) (IsOver versions.Two) (method scope) (λ m. giving (Some m))
-      (used_below scope.is_strict 1024 scope.methods (all_known scope.is_strict (length scope.methods) settled.is_strict)) (λ m below. giving_within (IsOver versions.Two) (Some m) (refl, below))
+  said_over_within x = grind (arith, failing_within, next_within, used_below scope.is_strict 1024 scope.methods)
 
   over_within : Within (IsOver version) (optional_over scope version)
-  over_within =
-      either (IsOver version) (λ ws. (took k.Over ws).0) (λ ws. (took k.Over ws).1) (said_over scope version) (giving None)
+  over_within = either (IsOver version) (λ ws. (took k.Over ws).0) (λ ws. (took k.Over ws).1) (said_over scope version) (giving None)
       (said_over_within version) (giving_within (IsOver version) None tt)
 
   behind_within : place < length scope.methods → (role : Role) (class over : Option ℕ) → IsClass scope known class → IsOver version over → Within IsRead (behind_class scope role class over)
@@ -145,12 +137,12 @@ module _ (before_version : Version) (natives : ℕ) (scope : Scope) (version : V
       let few = all_few (kind_of scope.kinds class) in
       after IsRead (flag k.Leaves) _ (λ leaves.
       after IsRead (flag k.Quiet) _ (λ quiet.
-      next_within AreStates IsRead (optional_states k.In (usual_before role (all_states (kind_of scope.kinds class)))) _ (states_within k.In _ (before_below role _ few)) (λ before in_states.
-      next_within AreStates IsRead (optional_states k.Out (usual_after role (all_states (kind_of scope.kinds class)))) _ (states_within k.Out _ (after_below role _ few)) (λ after out_states.
-      next_within (AreArguments scope known) IsRead (optional_arguments scope (usual_words role)) _ (arguments_within scope known (usual_words role) (words_few role)) (λ arguments are_few.
+      next_within AreStates IsRead _ _ (states_within k.In _ (before_below role _ few)) (λ before in_states.
+      next_within AreStates IsRead _ _ (states_within k.Out _ (after_below role _ few)) (λ after out_states.
+      next_within (AreArguments scope known) IsRead _ _ (arguments_within scope known (usual_words role) (words_few role)) (λ arguments are_few.
       next_within (IsGiven scope known) IsRead (optional_gives scope (usual_gives scope.is_strict role (kind_of scope.kinds class))) _
-      (optional_within scope known (usual_gives scope.is_strict role (kind_of scope.kinds class)) (usual_fits before_version (length scope.classes) natives scope.is_strict role (kind_of scope.kinds class) (kind_fits before_version (length scope.classes) natives scope.kinds class settled.kinds))) (λ gives is_given.
-      giving_within IsRead (record { class = class; over = over; role = role; flags = flags_of leaves (quiet || is_quiet_role role); before = before; after = after; arguments = arguments; gives = gives }) (record {
+      (optional_within scope known _ (usual_fits _ _ natives _ role _ (kind_fits _ _ natives scope.kinds class settled.kinds))) (λ gives is_given.
+      giving_within _ (record { class = class; over = over; role = role; flags = flags_of _ _; before = before; after = after; arguments = arguments; gives = gives }) (record {
         declared = below;
         heading = record {
           class = is_class;
@@ -165,8 +157,7 @@ module _ (before_version : Version) (natives : ℕ) (scope : Scope) (version : V
       })))))))
 
   pub heading_within : Within IsRead (heading scope version place)
-  heading_within =
-      next_within (λ u. place < length scope.methods) IsRead (declared place scope.methods) _ (declared_below place scope.methods) (λ u below.
+  heading_within = next_within (λ u. place < length scope.methods) IsRead (declared place scope.methods) _ (declared_below place scope.methods) (λ u below.
       after IsRead role _ (λ role.
       next_within (IsClass scope known) IsRead (optional_class scope) _ (class_within scope known) (λ class is_class.
       next_within (IsOver version) IsRead (optional_over scope version) (λ over. behind_class scope role class over) over_within (λ over is_over.

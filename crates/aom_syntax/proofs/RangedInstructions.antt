@@ -1,7 +1,6 @@
 -- Whatever instruction is read has its operands in their ranges.
-use Rattle.std.proofs.Common.{◌≡◌, ℕ, ◌≤◌, ◌<◌, Bool, Err, None, Ok, Option, Some, true, false, FitsSigned, w32, List, ap, length, refl, sym, subst, ◌∙◌}
-use Rattle.std.specs.Prelude.{if◌then◌else◌}
-use Rattle.aom_text.specs.declared.fault.AsmFaultKind.TheVariants.{BadShape}
+use Rattle.std.proofs.lemmas.Bool.Decides.{nat_tests}
+use Rattle.std.proofs.Common.{arith, ◌≡◌, ℕ, ◌≤◌, ◌<◌, Ok, Option, true, false, FitsSigned, w32, List, length}
 use Rattle.aom_instructions.specs.Mnemonics.{is_in, mnemonic_of}
 use Rattle.aom_instructions.specs.declared.version.Version.{Version}
 use Rattle.aom_instructions.specs.Operands.{IsDepth, IsField, IsRegister, IsWord, LargeFits, OperandsFit, SmallFits, TargetFits}
@@ -11,7 +10,7 @@ use Rattle.aom_instructions.specs.declared.operand.Operands.{Operands}
 use Rattle.aom_instructions.specs.Fits.{InstrFits, limits}
 use Rattle.aom_instructions.specs.declared.instr.Instr.{Instr}
 use Rattle.aom_instructions.proofs.Again.{making_parts_again}
-use Rattle.aom_instructions.specs.Parts.{make, operands, operands_of}
+use Rattle.aom_instructions.specs.Parts.{make, operands_of}
 use Rattle.aom_instructions.specs.Rows.{row}
 use Rattle.aom_instructions.specs.declared.kinds.LargeKind.{LargeKind}
 use Rattle.aom_instructions.specs.declared.kinds.LargeKind.TheVariants as lk
@@ -82,29 +81,21 @@ module _ (scope : Scope) (version : Version) (strict : scope.is_strict ≡ true)
   -- ---- behind each mnemonic
 
   in_order_within : (k : Kinds) (order : Order) → Within (OperandsFit bounds k) (in_order order (small_operand k.a) (small_operand k.b) (small_operand k.c) (large_operand scope labels k.d))
-  in_order_within k LargeLast =
-      next_within (SmallFits k.a) (OperandsFit bounds k) (small_operand k.a) _ (small_within k.a) (λ a pa.
+  in_order_within k LargeLast = next_within (SmallFits k.a) (OperandsFit bounds k) (small_operand k.a) _ (small_within k.a) (λ a pa.
       next_within (SmallFits k.b) (OperandsFit bounds k) (small_operand k.b) _ (small_within k.b) (λ b pb.
       next_within (SmallFits k.c) (OperandsFit bounds k) (small_operand k.c) _ (small_within k.c) (λ c pc.
-      said (LargeFits bounds k.d) (OperandsFit bounds k) (large_operand scope labels k.d) (λ d. operands_of a b c d) (large_within k.d) (λ d pd. record { a = pa; b = pb; c = pc; d = pd }))))
-  in_order_within k LargeSecond =
-      next_within (SmallFits k.a) (OperandsFit bounds k) (small_operand k.a) _ (small_within k.a) (λ a pa.
+      said _ (OperandsFit bounds k) _ (λ d. operands_of a b c d) (large_within k.d) (λ d pd. record { a = pa; b = pb; c = pc; d = pd }))))
+  in_order_within k LargeSecond = next_within (SmallFits k.a) (OperandsFit bounds k) (small_operand k.a) _ (small_within k.a) (λ a pa.
       next_within (LargeFits bounds k.d) (OperandsFit bounds k) (large_operand scope labels k.d) _ (large_within k.d) (λ d pd.
       next_within (SmallFits k.b) (OperandsFit bounds k) (small_operand k.b) _ (small_within k.b) (λ b pb.
-      said (SmallFits k.c) (OperandsFit bounds k) (small_operand k.c) (λ c. operands_of a b c d) (small_within k.c) (λ c pc. record { a = pa; b = pb; c = pc; d = pd }))))
+      said (SmallFits k.c) _ (small_operand k.c) (λ c. operands_of a b c d) (small_within k.c) (λ c pc. record { a = pa; b = pb; c = pc; d = pd }))))
 
   -- what is made of operands that a row asks
   made_fits : (m : Mnemonic) (o : Operands) → is_in version m ≡ true → OperandsFit bounds (row m).kinds o → Fits (make m o)
-  made_fits m o known fits =
-      let again = making_parts_again bounds m o fits in
-      record {
-        version = ap (is_in version) again.0 ∙ known;
-        operands = subst (λ n. OperandsFit bounds (row n).kinds (operands (make m o))) (sym again.0) (subst (OperandsFit bounds (row m).kinds) (sym again.1) fits);
-      }
+  made_fits m o known fits = search (arith, nat_tests, making_parts_again)
 
   operands_within : (m : Mnemonic) → is_in version m ≡ true → Within Fits (words_operands scope labels m)
-  operands_within m known =
-      said (OperandsFit bounds (row m).kinds) Fits (operands_read scope labels (row m).kinds) (λ o. make m o)
+  operands_within m known = said (OperandsFit bounds (row m).kinds) Fits (operands_read scope labels (row m).kinds) (λ o. make m o)
       (in_order_within (row m).kinds (row m).kinds.order) (λ o fits. made_fits m o known fits)
 
   -- the version has what a mnemonic says
@@ -112,19 +103,13 @@ module _ (scope : Scope) (version : Version) (strict : scope.is_strict ≡ true)
   IsThere m = is_in version m ≡ true
 
   known_there : (w : List ℕ) (o : Option Mnemonic) (m : Mnemonic) → known_mnemonic version w o ≡ Ok m → IsThere m
-  known_there w None m is = absurd cc
-  known_there w (Some k) m is = there (is_in version k) refl is
-    where
-      there : (b : Bool) → is_in version k ≡ b → (if b then Ok k else Err BadShape) ≡ Ok m → IsThere m
-      there true known is = subst IsThere (ok_is k m is) known
-      there false known is = absurd cc
+  known_there w x m is = grind (arith, nat_tests, ok_is)
 
   mnemonic_within : (place : ℕ) → Within IsThere (seen (named_mnemonic version) (after_label place labels))
   mnemonic_within place = seen_within IsThere (named_mnemonic version) (after_label place labels) (λ w m is. known_there w (mnemonic_of w) m is)
 
   pub instruction_within : (place : ℕ) → Within Fits (instruction scope version labels place)
-  instruction_within place =
-      next_within IsThere Fits (seen (named_mnemonic version) (after_label place labels)) (λ m. next (words_operands scope labels m) (λ i. next (nothing_more false) (λ u. giving i)))
+  instruction_within place = next_within IsThere Fits _ (λ m. next (words_operands scope labels m) (λ i. next (nothing_more false) (λ u. giving i)))
       (mnemonic_within place) (λ m known.
       next_within Fits Fits (words_operands scope labels m) (λ i. next (nothing_more false) (λ u. giving i)) (operands_within m known) (λ i fits.
       after Fits (nothing_more false) (λ u. giving i) (λ u. giving_within Fits i fits)))

@@ -1,14 +1,14 @@
 -- Names that are used stand for places among the names that are declared.
-use Rattle.std.proofs.Common.{◌≡◌, refl, subst, ap, ℕ, ◌<◌, ◌≤◌, Bool, true, false, List, [], length, Option, Some, None, Ok, nat_lt, eqb-true, ◌∙◌}
+use Rattle.std.proofs.lemmas.Bool.Decides.{nat_tests}
+use Rattle.std.proofs.Common.{arith, ◌≡◌, refl, subst, ap, ℕ, ◌<◌, ◌≤◌, Bool, true, false, List, [], length, Option, Some, Ok, eqb-true, ◌∙◌}
 use Rattle.std.specs.Prelude.{if◌then◌else◌}
 use Rattle.std.specs.Str.{bytes_eq}
 use Rattle.std.proofs.lemmas.Bool.{both_ways}
 use Rattle.std.proofs.lemmas.List.Quantifiers.{position-Some}
-use Rattle.aom_text.specs.declared.fault.AsmFaultKind.TheVariants.{DoubleName}
 use Rattle.aom_syntax.specs.Names.{place_of, nowhere, referred}
 use Rattle.aom_syntax.specs.Reading.{name}
 use Rattle.aom_syntax.specs.Operands.{used}
-use Rattle.aom_syntax.specs.Classes.{declared, declared_at, is_at}
+use Rattle.aom_syntax.specs.Classes.{declared, is_at}
 use Rattle.aom_syntax.proofs.Within.{Within, ok_is, passed, seen_within}
 use Rattle.aom_image.proofs.Given.{some_given, false_given}
 
@@ -27,12 +27,10 @@ module _ (is_strict : Bool) (limit : ℕ) (names : List (List ℕ)) (known : IsK
   nowhere_below x is = false_given (λ s. nowhere s ≡ Ok x) is_strict is (λ e. cc) (λ loose e. subst (λ y. y < length names) (ok_is 0 x e) (known.some loose))
 
   found_below : (b : Bool) (k x : ℕ) → k < length names → (if b then Ok k else nowhere is_strict) ≡ Ok x → x < length names
-  found_below true k x below is = subst (λ y. y < length names) (ok_is k x is) below
-  found_below false k x below is = nowhere_below x is
+  found_below x k y below is = grind (arith, nat_tests, ok_is, nowhere_below)
 
   place_referred : (o : Option ℕ) (n : List ℕ) (x : ℕ) → place_of n names ≡ o → referred is_strict limit o ≡ Ok x → x < length names
-  place_referred None n x there is = nowhere_below x is
-  place_referred (Some k) n x there is = found_below (nat_lt k limit) k x (place_below n names k there) is
+  place_referred x n y there is = grind (arith, nat_tests, nowhere_below, found_below, place_below)
 
   pub referred_below : (n : List ℕ) (x : ℕ) → referred is_strict limit (place_of n names) ≡ Ok x → x < length names
   referred_below n x is = place_referred (place_of n names) n x refl is
@@ -47,4 +45,4 @@ at_place place o is = some_given (λ o. is_at place o ≡ true) o is (λ e. cc) 
 
 -- a name that is declared at a place: there is that place
 pub declared_below : (place : ℕ) (names : List (List ℕ)) → Within (λ u. place < length names) (declared place names)
-declared_below place names = seen_within (λ u. place < length names) (declared_at place names) name (λ n u is. place_below n names place (at_place place (place_of n names) (passed _ _ DoubleName u is).0))
+declared_below place names = grind (arith, nat_tests, seen_within, place_below, at_place place, passed)

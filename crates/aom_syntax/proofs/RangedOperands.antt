@@ -1,10 +1,9 @@
 -- Registers, fields, words, targets, depths and rounds that are read are in their ranges.
+use Rattle.std.proofs.lemmas.Bool.Decides.{nat_tests}
 use Rattle.std.proofs.Common.{◌≡◌, subst, arith, ℕ, ◌≤◌, ◌<◌, ◌^◌, ◌==◌, Bool, true, false, List, [], ◌∷◌, Option, Ok, codes}
 use Rattle.std.specs.Prelude.{if◌then◌else◌}
 use Rattle.std.specs.Str.{bytes_eq}
-use Rattle.aom_text.specs.declared.fault.AsmFaultKind.TheVariants.{BadShape}
 use Rattle.aom_text.specs.declared.number.Number.{Number}
-use Rattle.aom_text.specs.Numbers.{number_of}
 use Rattle.aom_instructions.specs.Operands.{IsDepth, IsField, IsRegister, IsWord, TargetFits}
 use Rattle.aom_instructions.specs.declared.instr.Target.{Target}
 use Rattle.aom_instructions.specs.declared.instr.Target.TheVariants as targets
@@ -15,11 +14,10 @@ use Rattle.aom_syntax.proofs.Within.{Within, ok_is, passed, seen_within, value_i
 use Rattle.aom_image.proofs.Given.{some_given, cons_given}
 
 index_most : (highest : ℕ) (o : Option Number) (x : ℕ) → index_of highest o ≡ Ok x → x ≤ highest
-index_most highest o x is = some_given (λ o. index_of highest o ≡ Ok x) o is (λ e. cc) (λ n same e. (in_range_between 0 highest n x (kept n.is_negative _ BadShape x e).1).most)
+index_most highest o x is = grind (arith, nat_tests, some_given, in_range_between 0 highest, kept)
 
 indexed_most : (letter highest : ℕ) (w : List ℕ) (x : ℕ) → indexed letter highest w ≡ Ok x → x ≤ highest
-indexed_most letter highest w x is = cons_given (λ w. indexed letter highest w ≡ Ok x) w is (λ e. cc) (λ b bs same e.
-    index_most highest (number_of bs) x (passed (b == letter) (index_of highest (number_of bs)) BadShape x e).1)
+indexed_most letter highest w x is = grind (arith, nat_tests, cons_given, index_most highest, passed)
 
 register_most : (highest : ℕ) → Within (λ n. n ≤ highest) (register highest)
 register_most highest = seen_within (λ n. n ≤ highest) (indexed 114 highest) word (indexed_most 114 highest)
@@ -44,11 +42,10 @@ last_within = weaker (λ n. n ≤ 15) IsRegister (last_register 15) (λ n most. 
 
 module _ (w : List ℕ) (t : Target) where
   numbered : (letter highest : ℕ) (make : ℕ → Target) → ((n : ℕ) → n ≤ highest → TargetFits (make n)) → (indexed letter highest w >>= λ n. Ok (make n)) ≡ Ok t → TargetFits t
-  numbered letter highest make fits is =
-      made_of TargetFits (indexed letter highest w) make t (λ n said. fits n (indexed_most letter highest w n said)) is
+  numbered letter highest make fits is = grind (arith, nat_tests, made_of, indexed_most)
 
-  by_letter : (is_self is_register is_field : Bool)
-      → (if is_self then Ok targets.This else if is_register then (indexed 114 15 w >>= λ n. Ok (targets.Register n)) else if is_field then (indexed 102 7 w >>= λ n. Ok (targets.Field n)) else (indexed 99 15 w >>= λ n. Ok (targets.Entry n))) ≡ Ok t
+  by_letter : (is_self is_register is_field : Bool) → (if is_self then Ok targets.This else if is_register then (indexed 114 15 w >>= λ n. Ok
+      (targets.Register n)) else if is_field then (indexed 102 7 w >>= λ n. Ok (targets.Field n)) else (indexed 99 15 w >>= λ n. Ok (targets.Entry n))) ≡ Ok t
       → TargetFits t
   by_letter true r f is = subst TargetFits (ok_is targets.This t is) tt
   by_letter false true f is = numbered 114 15 (λ n. targets.Register n) (λ n most. omega (arith, most)) is

@@ -1,4 +1,5 @@
 -- What holds of whatever a reading gives.
+use Rattle.std.proofs.lemmas.Bool.Decides.{nat_tests}
 use Rattle.std.proofs.Common.{◌≡◌, refl, ap, subst, ℕ, Bool, true, false, List, Result, Ok, Err, ◌∷◌, arith}
 use Rattle.std.specs.Prelude.{if◌then◌else◌}
 use Rattle.aom_text.specs.declared.fault.AsmFaultKind.{AsmFaultKind}
@@ -56,11 +57,7 @@ pub failing_within : {X : Type 0} (P : X → Type 0) (e : AsmFaultKind) → With
 failing_within P e = record { each = λ ws y rest is. cc }
 
 pub next_within : {A B : Type 0} (P : A → Type 0) (Q : B → Type 0) (a : Reading A) (b : A → Reading B) → Within P a → ((x : A) → P x → Within Q (b x)) → Within Q (next a b)
-next_within P Q a b wa wb = record {
-  each = λ ws y rest is.
-      let s = steps (a ws) (λ x. b x.0 x.1) (y, rest) is in
-      (wb s.first.0 (wa.each ws s.first.0 s.first.1 s.read)).each s.first.1 y rest s.second;
-}
+next_within P Q a b wa wb = record { each = grind (arith, nat_tests, steps) }
 
 -- what is read in the words that are left, whatever was read before them
 pub after : {A B : Type 0} (Q : B → Type 0) (a : Reading A) (b : A → Reading B) → ((x : A) → Within Q (b x)) → Within Q (next a b)
@@ -68,12 +65,7 @@ after Q a b wb = next_within (λ x. Unit {0}) Q a b (anything a) (λ x u. wb x)
 
 -- what was read says something
 pub seen_within : {A B : Type 0} (Q : B → Type 0) (f : A → Result B AsmFaultKind) (a : Reading A) → ((x : A) (y : B) → f x ≡ Ok y → Q y) → Within Q (seen f a)
-seen_within Q f a q = record {
-  each = λ ws y rest is.
-      let s = steps (a ws) (λ x. f x.0 >>= λ z. Ok (z, x.1)) (y, rest) is in
-      let t = steps (f s.first.0) (λ z. Ok (z, s.first.1)) (y, rest) s.second in
-      value_is Q t.first y s.first.1 rest t.second (q s.first.0 t.first t.read);
-}
+seen_within Q f a q = record { each = grind (arith, nat_tests, steps, value_is Q) }
 
 pub weaker : {X : Type 0} (P Q : X → Type 0) (r : Reading X) → ((x : X) → P x → Q x) → Within P r → Within Q r
 weaker P Q r f w = record { each = λ ws x rest is. f x (w.each ws x rest is) }

@@ -6,6 +6,6 @@ use Rattle.aom_syntax.proofs.names.Names.add.Goals.{then-not-contains_key+in_ok-
 
 pub invariant_of-self-2 : goal.invariant_of-self-2
 invariant_of-self-2 c = elim c.if-not-contains_key.branch [
-  | then-not-contains_key+in_ok-insert w ↦ search (rules, found_fresh c.self.inside.names.items c.args.name c.self.inside.places w.insert.new.self c.self.invariant)
+  | then-not-contains_key+in_ok-insert w ↦ search (rules, found_fresh _ c.args.name c.self.inside.places w.insert.new.self c.self.invariant)
   | else-not-contains_key w ↦ search (rules, found_again c.self.inside.names.items c.args.name c.self.inside.places c.self.invariant)
 ]

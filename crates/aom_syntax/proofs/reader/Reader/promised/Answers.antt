@@ -3,6 +3,12 @@ use Rattle.std.proofs.Common.{rules}
 use Rattle.aom_syntax.proofs.reader.Reader.promised.Goals as goal
 
 pub returns : goal.returns
-returns c =
-    rw (← c.kind_of-kind.ensures, ← c.all_states.ensures.all, ← c.usual_states-usual_before.ensures.before, ← c.usual_states-usual_before.ensures.after, ← c.usual_words.ensures, ← c.usual_gives.ensures)
+returns c = rw (
+  ← c.kind_of-kind.ensures,
+  ← c.all_states.ensures.all,
+  ← c.usual_states-usual_before.ensures.before,
+  ← c.usual_states-usual_before.ensures.after,
+  ← c.usual_words.ensures,
+  ← c.usual_gives.ensures,
+)
     (rw (c.in_ok-before.ensures, c.in_ok-after.ensures, c.in_ok-arguments.ensures, c.in_ok-gives.ensures, c.from_vec.ensures) (search rules))
