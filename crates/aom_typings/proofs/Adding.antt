@@ -1,8 +1,10 @@
 -- What one pass finds is the price: what a place costs in the body of the innermost loop round it, and what follows that loop, add up to what is found there.
-use Rattle.std.proofs.Common.{◌≡◌, ◌<◌, ◌≤◌, ◌+◌, ◌-◌, ◌*◌, ◌∙◌, ℕ, zero, suc, Bool, true, false, cond, List, [], ◌∷◌, length, Some, None, inl, inr, ⊎_elim, refl, sym, ap, arith, subst}
+use Rattle.std.proofs.lemmas.Bool.Decides.{nat_tests}
+use Rattle.std.proofs.Common.{◌≡◌, ◌<◌, ◌≤◌, ◌+◌, ◌-◌, ◌*◌, ◌∙◌, ℕ, zero, suc, Bool, true, false, cond, List, [], ◌∷◌, length, Some, None, inl, inr, ⊎_elim}
+use Rattle.std.proofs.Common.{refl, sym, ap, arith, subst}
 use Rattle.aom_image.proofs.Given.{some_given}
-use Rattle.std.specs.Prelude.{IfSome, IsSome, max, slice_get}
-use Rattle.std.proofs.lemmas.Option.{slice_get_within, same_Some}
+use Rattle.std.specs.Prelude.{IfSome, IsSome, max}
+use Rattle.std.proofs.lemmas.Option.{slice_get_within}
 use Rattle.aom_image.specs.Image.{Image}
 use Rattle.aom_image.specs.Views.{instr_at, method_at}
 use Rattle.aom_instructions.specs.declared.instr.Instr.{Instr}
@@ -25,9 +27,9 @@ use Rattle.aom_typings.specs.Sweeping.{Afters, IsAfter, IsInnermost, after, is_p
 use Rattle.aom_typings.proofs.Going.{ruled_of}
 use Rattle.aom_typings.proofs.At.{IsSweptAt, place_of}
 use Rattle.aom_typings.proofs.Paths.{GoesOn, Rounds, ends_or_goes, outside_cost, rounds_of}
-use Rattle.aom_typings.proofs.Regions.{by_kind, here_is_inside, innermost, innermost_first, innermost_of_body, innermost_of_next, innermost_on, innermost_out, next_is_no_loop, no_next_here, no_way_back, one_end, out_of_both, past_is_outside}
-use Rattle.aom_typings.proofs.Ways.{IsReached, JumpsForward, Way, led_to, way_of}
-use Rattle.aom_typings.proofs.Ways.Way.{back, jump, on}
+use Rattle.aom_typings.proofs.Regions.{by_kind, here_is_inside, innermost, innermost_first, innermost_of_body, innermost_of_next, innermost_on, innermost_out}
+use Rattle.aom_typings.proofs.Regions.{next_is_no_loop, no_next_here, no_way_back, one_end, out_of_both, past_is_outside}
+use Rattle.aom_typings.proofs.Ways.{IsReached, JumpsForward, led_to, way_of}
 use Rattle.aom_typings.proofs.Among.{by_flow, either_cond, either_max}
 use Rattle.aom_typings.proofs.Regions.{Past, passed}
 use Rattle.aom_typings.proofs.Regions.Past.{past_end}
@@ -67,20 +69,12 @@ reached_is_some t m place reached = subst (λ o. IsSome o) (sym reached.1) refl
 
 -- where a reached instruction goes on is reached
 pub leads_on : (p : Image) (t : Typing) (m : ℕ) → IsTyped p t → (place to : ℕ) (sh : Shape) (i : Instr) → Stands p t m place sh i → AmongFlows to (flows p m place sh i) → IsReached t m to
-leads_on p t m typed place to sh i at among =
-    let passes = typed.each m place sh at.shape in
-    let same = same_Some i passes.instr (sym at.instr ∙ passes.stands) in
-    led_to t m to (flows p m place sh passes.instr) passes.flows (subst (λ j. AmongFlows to (flows p m place sh j)) same among)
+leads_on p t m typed place to sh i at among = grind (arith, typed.each m place sh at.shape, led_to t m to)
 
 -- an instruction that ends no round goes on at a later place
 pub goes_forward : (p : Image) (m : ℕ) → JumpsForward p m →
     (place to : ℕ) (sh : Shape) (i : Instr) → instr_at p m place ≡ Some i → next_in (Some i) ≡ None → AmongFlows to (flows p m place sh i) → place < to
-goes_forward p m forward place to sh i stands plain among = go to (way_of p m place to sh i among)
-  where
-    go : (to : ℕ) → Way place i to → place < to
-    go to on = omega arith
-    go to (jump j) = forward place to i stands j
-    go to (back b) = absurd (no_way_back i to plain b)
+goes_forward p m forward place to sh i stands plain among = grind (arith, way_of p m place to sh i among, no_way_back i to plain)
 
 pub way_forward : (p : Image) (t : Typing) (m : ℕ) → JumpsForward p m →
     (place to : ℕ) (sh : Shape) (i : Instr) → Stands p t m place sh i → next_in (Some i) ≡ None → AmongFlows to (flows p m place sh i) → place < to
@@ -103,14 +97,13 @@ module _ (p : Image) (t : Typing) (c : Prices) (a : Afters) (m : ℕ) (looped : 
         goes_on_in to among near =
             let lt = way_forward p t m forward place to sh i at no_next among in
             let inside = here_is_inside r place to w.inside lt near in
-            later to r lt (leads_on p t m typed place to sh i at among) (innermost_on p looped m place to i r at.instr no_loop (way_of p m place to sh i among) w inside)
+            later to r lt (leads_on p t m typed _ to sh i at among) (innermost_on p looped m _ to i r at.instr no_loop (way_of p m _ to sh i among) w inside)
 
         found : c.from m place ≡ own p m c sh i + max (after a m r) (most_within c m r (flows p m place sh i))
         found = (swept place).plain sh i r at no_loop no_next w
 
         plain_most : (cost : ℕ) → cost + after a m r ≡ c.from m place → (k : ℕ) → Costs p t c m r place k → k ≤ cost
-        plain_most cost sum k path = ⊎_elim
-            (λ (e : k ≡ own p m c sh i). omega (arith, found, e, sum))
+        plain_most cost sum k path = ⊎_elim (λ (e : k ≡ own p m c sh i). omega (arith, found, e, sum))
             (λ (g : GoesOn p t c m r place k sh i). by_past (is_past r g.to) (k ≤ cost)
             (λ past. let nothing = outside_cost p t c m r g.to g.rest g.path (past_is_outside r g.to past) in omega (arith, found, sum, g.is, nothing))
             (λ near.
@@ -122,7 +115,7 @@ module _ (p : Image) (t : Typing) (c : Prices) (a : Afters) (m : ℕ) (looped : 
         plain_adds : Adds p t c a m r place
         plain_adds = either_max (λ n. c.from m place ≡ own p m c sh i + n → Adds p t c a m r place) (after a m r) (most_within c m r (flows p m place sh i))
             (λ is. stops (omega (arith, is)))
-            (most_one c m r (λ n. c.from m place ≡ own p m c sh i + n → Adds p t c a m r place) (λ is. stops (omega (arith, is, found))) (flows p m place sh i) on)
+            (most_one c m r (λ n. c.from m place ≡ own p m c sh i + n → Adds p t c a m r place) (λ is. stops (omega (arith, is, found))) _ on)
             found
           where
             stops : own p m c sh i + after a m r ≡ c.from m place → Adds p t c a m r place
@@ -132,7 +125,7 @@ module _ (p : Image) (t : Typing) (c : Prices) (a : Afters) (m : ℕ) (looped : 
             on to among near is =
                 let next = goes_on_in to among near in
                 let sum : own p m c sh i + next.cost + after a m r ≡ c.from m place = omega (arith, is, next.sum) in
-                record { cost = own p m c sh i + next.cost; met = goes w.inside at no_loop no_next among next.met; sum = sum; most = plain_most (own p m c sh i + next.cost) sum }
+                record { cost = own p m c sh i + next.cost; met = goes w.inside at no_loop no_next among next.met; sum = sum; most = plain_most _ sum }
 
       -- ---- a loop
       module _ (sh : Shape) (d n to : ℕ) (at : Stands p t m place sh (Loop d n)) (some : 0 < n) (body : Body p m place to d n) where
@@ -175,10 +168,8 @@ module _ (p : Image) (t : Typing) (c : Prices) (a : Afters) (m : ℕ) (looped : 
         loop_most cost sum k path = go (rounds_of p t c m r place k path sh d n at w.inside)
           where
             rest_of : (out e x : ℕ) → GoesOut p t m place to out → Costs p t c m r out e → k ≡ 1 + x + e → x ≤ n * round.cost → k ≤ cost
-            rest_of out e x g rest is le = by_past (is_past r out) (k ≤ cost)
-                (λ past. let nothing = outside_cost p t c m r out e rest (past_is_outside r out past) in omega (arith, found_loop, sum, is, le, nothing, follows.around))
-                (λ near.
-                let next = goes_out_in out g near in
+            rest_of out e x g rest is le = by_past (is_past r out) (k ≤ cost) (λ past. let nothing = outside_cost p t c m r out e rest
+                (past_is_outside r out past) in omega (arith, found_loop, sum, is, le, nothing, follows.around)) (λ near. let next = goes_out_in out g near in
                 omega (arith, found_loop, sum, is, le, next.sum, next.most e rest, follows.out out g))
 
             go : Rounds p t c m r place k d n → k ≤ cost
@@ -186,8 +177,7 @@ module _ (p : Image) (t : Typing) (c : Prices) (a : Afters) (m : ℕ) (looped : 
                 let same = one_end p looped m place to v.to d n d n body v.body in
                 let less = round.most v.round (subst (λ x. Costs p t c m (Round place x) (suc place) v.round) same v.path) in
                 let all = rounds_more n v.round round.cost less in
-                ⊎_elim
-                (λ (is : k ≡ 1 + n * v.round). omega (arith, found_loop, sum, is, all, follows.around))
+                ⊎_elim (λ (is : k ≡ 1 + n * v.round). omega (arith, found_loop, sum, is, all, follows.around))
                 (λ (x : (out : ℕ) × (e : ℕ) × GoesOut p t m place v.to out × Costs p t c m r out e × (k ≡ 1 + n * v.round + e)).
                 rest_of x.0 x.1 (n * v.round) (subst (λ y. GoesOut p t m place y x.0) same x.2) x.3 x.4 all)
                 v.rest
@@ -201,11 +191,10 @@ module _ (p : Image) (t : Typing) (c : Prices) (a : Afters) (m : ℕ) (looped : 
         loop_adds : Adds p t c a m r place
         loop_adds = ⊎_elim alone
             (λ (x : (out : ℕ) × GoesOut p t m place to out × (c.from m out ≡ a m place)). by_past (is_past r x.0) (Adds p t c a m r place)
-            (λ past. alone (omega (arith, follows.around, out_of_region x.0 x.1 past, x.2)))
-            (λ near.
+            (λ past. alone (omega (arith, follows.around, out_of_region x.0 x.1 past, x.2))) (λ near.
             let next = goes_out_in x.0 x.1 near in
             let sum : 1 + n * round.cost + next.cost + after a m r ≡ c.from m place = omega (arith, found_loop, next.sum, x.2) in
-            record { cost = 1 + n * round.cost + next.cost; met = loops w.inside at body round.met x.1 next.met; sum = sum; most = loop_most (1 + n * round.cost + next.cost) sum }))
+            record { cost = 1 + n * round.cost + next.cost; met = loops w.inside at body round.met x.1 next.met; sum = sum; most = loop_most _ sum }))
             follows.met
 
       -- ---- the end of a round
@@ -221,10 +210,7 @@ module _ (p : Image) (t : Typing) (c : Prices) (a : Afters) (m : ℕ) (looped : 
               cost = 1;
               met = ends w.inside at none;
               sum = omega (arith, found, after_own);
-              most = λ k path. ⊎_elim
-                  (λ (e : k ≡ 1). omega (arith, e))
-                  (λ (g : GoesOn p t c m r place k sh (Next d (suc from))). absurd (no_next_here (Next d (suc from)) d (suc from) g.plain refl))
-                  (ends_or_goes p t c m r place k path sh (Next d (suc from)) at none w.inside);
+              most = grind (arith, no_next_here);
             }
 
       -- ---- any
@@ -232,10 +218,7 @@ module _ (p : Image) (t : Typing) (c : Prices) (a : Afters) (m : ℕ) (looped : 
       place_adds sh i at = by_kind (Adds p t c a m r place) i (λ l n. plain_adds sh i at l n) loop next
         where
           loop : (d n : ℕ) → i ≡ Loop d n → Adds p t c a m r place
-          loop d n e =
-              let here = subst (λ j. Stands p t m place sh j) e at in
-              let begins = looped.begins m place d n here.instr in
-              loop_adds sh d n begins.1 here begins.0 begins.2
+          loop d n e = grind (arith, nat_tests, looped.begins m place d n, loop_adds sh d n)
 
           next : (d to : ℕ) → i ≡ Next d to → Adds p t c a m r place
           next d to e =
@@ -246,9 +229,7 @@ module _ (p : Image) (t : Typing) (c : Prices) (a : Afters) (m : ℕ) (looped : 
     -- from the last place down
     adds_from : (count : ℕ) → ((place : ℕ) (i : Instr) → instr_at p m place ≡ Some i → place < count) →
         (left place : ℕ) (r : Region) → count ≤ place + left → IsReached t m place → IsInnermost p m place r → Adds p t c a m r place
-    adds_from count within zero place r few reached w =
-        let passes = typed.each m place reached.0 reached.1 in
-        absurd (omega (arith, few, within place passes.instr passes.stands))
+    adds_from count within zero place r few reached w = grind (arith, typed.each m place reached.0 reached.1)
     adds_from count within (suc left) place r few reached w =
         let passes = typed.each m place reached.0 reached.1 in
         place_adds place r w (λ to s lt there v. adds_from count within left to s (omega (arith, few, lt)) there v) reached.0 passes.instr (record { shape = reached.1; instr = passes.stands })
@@ -268,10 +249,7 @@ jumps_forward p linked m place to i at j =
     subst (λ o. IfSome o (λ x. place < x)) j keeps.forward
 
 pub in_code : (p : Image) (m : ℕ) (d : Method) → method_at p m ≡ Some d → (place : ℕ) (i : Instr) → instr_at p m place ≡ Some i → place < length d.code
-in_code p m d here place i at =
-    let w = of_method p m place i at in
-    let same : w.0 ≡ d = same_Some w.0 d (sym w.1 ∙ here) in
-    slice_get_within d.code place i (subst (λ x. slice_get x.code place ≡ Some i) same w.2)
+in_code p m d here place i at = grind (arith, of_method p m place i at, slice_get_within d.code place i)
 
 pub law_is_price : SweptIsPrice
 law_is_price p t c a formed linked typed swept = record { methods = methods; classes = ruled_of p formed linked c swept.classes }

@@ -1,23 +1,23 @@
 -- Typings that say the same of each place have the same prices.
+use Rattle.std.proofs.lemmas.Bool.Decides.{nat_tests}
 use Rattle.std.proofs.lemmas.Option.{same_Some}
-use Rattle.std.proofs.Common.{◌≡◌, ◌+◌, ◌∙◌, ℕ, suc, List, [], ◌∷◌, inl, inr, refl, sym, ap, subst}
+use Rattle.std.proofs.Common.{arith, ◌≡◌, ◌+◌, ◌∙◌, ℕ, suc, List, [], ◌∷◌, inl, inr, refl, subst}
 use Rattle.aom_image.specs.Image.{Image}
 use Rattle.aom_instructions.specs.declared.instr.Instr.{Instr}
-use Rattle.aom_instructions.specs.declared.instr.Instr.TheVariants.{Delete, Push}
 use Rattle.aom_roles.specs.Tests.{AllTrue}
 use Rattle.aom_shape.specs.Kinds.{register}
 use Rattle.aom_rules.specs.Laws.{AllFollow, Follows}
 use Rattle.aom_shape.specs.Needs.{Flow}
 use Rattle.aom_shape.specs.Order.{SaysNoMore, Weaker}
-use Rattle.aom_shape.specs.Order.Weaker.{alike, unset_word, unset_null, maybe_null, maybe_own}
+use Rattle.aom_shape.specs.Order.Weaker.{alike}
 use Rattle.aom_rules.specs.Rules.{flows, rule_needs}
 use Rattle.aom_shape.specs.Shape.{Shape}
 use Rattle.aom_rules.specs.Typing.{IsTyped, Typing}
 use Rattle.aom_shape.specs.declared.kind.Kind.{Kind}
 use Rattle.aom_rules.proofs.Monotone.{flows_more}
-use Rattle.aom_typings.specs.Costs.{AmongFlows, ArePrices, Costs, GoesOut, Region, Whole}
+use Rattle.aom_typings.specs.Costs.{AmongFlows, ArePrices, Costs, GoesOut, Region}
 use Rattle.aom_typings.specs.Costs.Costs.{outside, ends, goes, loops, loops_in}
-use Rattle.aom_typings.specs.Prices.{Prices, Stands, kind_price, own, price}
+use Rattle.aom_typings.specs.Prices.{Prices, Stands, own}
 use Rattle.aom_typings.proofs.Among.{by_flow}
 
 -- what one typing reaches the other reaches too, with a state that says just as much
@@ -26,19 +26,14 @@ pub record IsCovered (p : Image) (t d : Typing) : Type 0 where
 
 kind_is : (k l : Kind) → Weaker k l → Weaker l k → k ≡ l
 kind_is _ _ alike back = refl
-kind_is _ _ unset_word back = elim back [ ]
-kind_is _ _ unset_null back = elim back [ ]
-kind_is _ _ (maybe_null {t = t} {a = a}) back = elim back [ ]
-kind_is _ _ (maybe_own {t = t} {a = a}) back = elim back [ ]
+kind_is _ _ _ back = elim back [ ]
 
 register_is : (a b : Shape) (r : ℕ) → SaysNoMore a b → SaysNoMore b a → register a r ≡ register b r
 register_is a b r more less = kind_is (register a r) (register b r) (more.registers r) (less.registers r)
 
 -- an instruction costs itself the same
 own_is : (p : Image) (m : ℕ) (c : Prices) (a b : Shape) (i : Instr) → SaysNoMore a b → SaysNoMore b a → own p m c a i ≡ own p m c b i
-own_is p m c a b (Push r) more less = ap (λ k. 1 + kind_price c k) (register_is a b r more less)
-own_is p m c a b (Delete r) more less = ap (λ k. 1 + kind_price c k) (register_is a b r more less)
-own_is p m c a b _ more less = refl
+own_is p m c a b x more less = grind (arith, nat_tests, register_is a b)
 
 -- where the second list leads the first does
 leads : (to : ℕ) (xs ys : List Flow) → AllFollow xs ys → AmongFlows to ys → AmongFlows to xs
@@ -52,12 +47,10 @@ leads to xs ys all among = by_flow to (λ zs. AllFollow xs zs → AmongFlows to 
 module _ (p : Image) (t d : Typing) (c : Prices) (m : ℕ) (typed : IsTyped p d) (covered : IsCovered p t d) where
   -- there the rule applies
   applies : (place : ℕ) (sh : Shape) (i : Instr) → Stands p d m place sh i → AllTrue (rule_needs p m place sh i)
-  applies place sh i at =
-      let passes = typed.each m place sh at.shape in
-      subst (λ j. AllTrue (rule_needs p m place sh j)) (same_Some passes.instr i (sym passes.stands ∙ at.instr)) passes.needs
+  applies place sh i at = grind (arith, nat_tests, typed.each m place sh at.shape, same_Some)
 
   among_there : (place to : ℕ) (sh other : Shape) (i : Instr) → Stands p d m place other i → SaysNoMore other sh → AmongFlows to (flows p m place sh i) → AmongFlows to (flows p m place other i)
-  among_there place to sh other i at no_more among = leads to (flows p m place other i) (flows p m place sh i) (flows_more p m place other sh i no_more (applies place other i at)) among
+  among_there place to sh other i at no_more among = grind (arith, nat_tests, leads, flows_more, applies)
 
   out_there : (from to out : ℕ) → GoesOut p t m from to out → GoesOut p d m from to out
   out_there from to out g =
@@ -91,12 +84,4 @@ module _ (p : Image) (t d : Typing) (c : Prices) (m : ℕ) (typed : IsTyped p d)
 
 -- a table says the prices by the one as by the other
 pub prices_alike : (p : Image) (t d : Typing) (c : Prices) → IsTyped p t → IsTyped p d → IsCovered p t d → IsCovered p d t → ArePrices p t c → ArePrices p d c
-prices_alike p t d c typed also covered back are = record {
-  methods = λ m some.
-      let one = are.methods m some in
-      record {
-        met = costs_there p t d c m also covered Whole 0 (price c m) one.met;
-        most = λ k path. one.most k (costs_there p d t c m typed back Whole 0 k path);
-      };
-  classes = are.classes;
-}
+prices_alike p t d c typed also covered back are = search (arith, nat_tests, costs_there p t d c, costs_there p d t c)

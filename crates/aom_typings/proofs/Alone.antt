@@ -1,5 +1,6 @@
 -- Of an image without parents and overriders: a line is one destructor, and what stands for a thing or runs in the place of a method is that one.
-use Rattle.std.proofs.Common.{None, Option, Some, ap, arith, false, inl, inr, length, refl, subst, suc, sym, zero, ℕ, ◌∙◌, ◌≡◌}
+use Rattle.std.proofs.lemmas.Bool.Decides.{nat_tests}
+use Rattle.std.proofs.Common.{None, Option, Some, ap, arith, false, length, refl, subst, ℕ, ◌∙◌, ◌≡◌}
 use Rattle.std.proofs.lemmas.List.Elements.{All-get_or}
 use Rattle.std.proofs.lemmas.Option.{get_or_from_slice_get, slice_get_within}
 use Rattle.aom_image.specs.Image.{Image}
@@ -7,16 +8,15 @@ use Rattle.aom_image.specs.Views.{method_at}
 use Rattle.aom_image.specs.declared.method.Method.{Method}
 use Rattle.aom_image.specs.declared.method.Role.TheVariants.{Destruct}
 use Rattle.aom_image.specs.declared.method.Thing.{Thing}
-use Rattle.aom_image.specs.declared.method.Thing.TheVariants.{Message, Object}
-use Rattle.aom_roles.proofs.Descending.{child, itself, one_class, parent_below}
+use Rattle.aom_roles.proofs.Descending.{child, itself, one_class}
 use Rattle.aom_roles.specs.Families.{HasNoParents, parent_of}
 use Rattle.aom_classes.proofs.Keeping.{role_alone}
 use Rattle.aom_classes.specs.Overriding.{OverridesNothing}
 use Rattle.aom_classes.specs.Overriding.{leads_in, over_in, overrides}
-use Rattle.aom_classes.specs.Roles.{destructor_of, own_role, role_of}
+use Rattle.aom_classes.specs.Roles.{destructor_of}
 use Rattle.aom_typings.specs.Layers.{MayRun}
-use Rattle.aom_typings.specs.Most.{line, line_in, most_below, most_run, most_standing}
-use Rattle.aom_typings.proofs.Mosts.{below_has, below_least, most_least}
+use Rattle.aom_typings.specs.Most.{line, most_below, most_run, most_standing}
+use Rattle.aom_typings.proofs.Mosts.{below_least, most_least}
 
 -- ---- parents
 
@@ -25,39 +25,22 @@ parentless p none c = go (parent_of p c) refl
   where
     go : (o : Option ℕ) → parent_of p c ≡ o → o ≡ None
     go None is = refl
-    go (Some e) is =
-        let same = one_class p none c e (child p c e e is (itself p e)) in
-        let lower = parent_below p c e is in
-        absurd (omega (arith, same, lower))
+    go (Some e) is = grind (arith, one_class p none c e (child p c e e is (itself p e)))
 
 pub line_alone : (p : Image) → HasNoParents p → (cost : Option ℕ → ℕ) → cost None ≡ 0 → (x : Thing) → line p cost x ≡ cost (destructor_of p x)
-line_alone p none cost nobody (Object zero) = ap cost (sym (role_alone p Destruct none zero))
-line_alone p none cost nobody (Object (suc n)) =
-    let rest : line_in p cost n (parent_of p (suc n)) ≡ 0 = ap (line_in p cost n) (parentless p none (suc n)) ∙ above n in
-    let own : cost (role_of p (suc n) Destruct) ≡ cost (own_role p (suc n) Destruct) = ap cost (role_alone p Destruct none (suc n)) in
-    omega (arith, rest, own)
-  where
-    above : (n : ℕ) → line_in p cost n None ≡ 0
-    above zero = refl
-    above (suc n) = refl
-line_alone p none cost nobody Message = sym nobody
+line_alone p none cost nobody x = grind (arith, nat_tests, role_alone p Destruct none, parentless p none)
 
 pub below_alone : (p : Image) → HasNoParents p → (f : ℕ → ℕ) (c : ℕ) → most_below p f c ≡ f c
-below_alone p none f c =
-    let up = below_has p f c c (itself p c) in
-    let down = below_least p f c (f c) (λ x h. let same = ap f (one_class p none x c h) in omega (arith, same)) in
-    omega (arith, up, down)
+below_alone p none f c = grind (arith, below_least p f c (f c), one_class p none)
 
 pub standing_alone : (p : Image) → HasNoParents p → (f : Thing → ℕ) (x : Thing) → most_standing p f x ≡ f x
-standing_alone p none f (Object c) = below_alone p none (λ y. f (Object y)) c
-standing_alone p none f Message = refl
+standing_alone p none f x = grind (arith, nat_tests, below_alone p none)
 
 -- ---- overriders
 
 leads_none : (p : Image) (n m : ℕ) → leads_in p n None m ≡ false
 unfolding leads_in
-leads_none p zero m = refl
-leads_none p (suc n) m = refl
+leads_none p x m = grind arith
 
 over_nothing : (p : Image) → OverridesNothing p → (k : ℕ) → over_in (method_at p k) ≡ None
 unfolding over_in method_at
@@ -65,8 +48,7 @@ over_nothing p plain k = go (method_at p k) refl
   where
     go : (o : Option Method) → method_at p k ≡ o → over_in o ≡ None
     go None at = refl
-    go (Some d) at =
-        subst (λ d. d.over ≡ None) (get_or_from_slice_get p.methods k d d at)
+    go (Some d) at = subst (λ d. d.over ≡ None) (get_or_from_slice_get p.methods k d d at)
         (All-get_or (λ d. d.over ≡ None) p.methods k d (slice_get_within p.methods k d at) plain)
 
 pub overrides_nothing : (p : Image) → OverridesNothing p → (k m : ℕ) → overrides p k m ≡ false
@@ -78,5 +60,4 @@ run_alone p plain f m =
     omega (arith, rest)
 
 pub runs_named : (p : Image) → OverridesNothing p → (j k : ℕ) → MayRun p j k → j ≡ k
-runs_named p plain j k (inl same) = same
-runs_named p plain j k (inr over) = let nothing = overrides_nothing p plain k j in cc
+runs_named p plain j k x = grind (arith, nat_tests, overrides_nothing p plain k j)

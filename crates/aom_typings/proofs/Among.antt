@@ -9,10 +9,7 @@ use Rattle.aom_typings.specs.Costs.{AmongFlows}
 
 -- the greater of two is one of them
 pub either_max : (P : ℕ → Type 0) (x y : ℕ) → P x → P y → P (max x y)
-either_max P x y here there = ⊎_elim
-    (λ (lt : x < y). subst P (omega (arith, lt)) there)
-    (λ (ge : y ≤ x). subst P (omega (arith, ge)) here)
-    (cases_lt x y)
+either_max P x y here there = ⊎_elim (λ (lt : x < y). subst P (omega (arith, lt)) there) (λ (ge : y ≤ x). subst P (omega (arith, ge)) here) (cases_lt x y)
 
 pub either_cond : (P : ℕ → Type 0) (b : Bool) (x y : ℕ) → (b ≡ true → P x) → (b ≡ false → P y) → P (cond b x y)
 either_cond P true x y is is_not = is refl
@@ -21,10 +18,8 @@ either_cond P false x y is is_not = is_not refl
 -- what holds of a number and of the one after each of which it holds holds from there on
 pub from_there : (P : ℕ → Type 0) (k n : ℕ) → P k → ((j : ℕ) → P j → P (suc j)) → k ≤ n → P n
 from_there P k zero here more le = subst P (omega (arith, le)) here
-from_there P k (suc n) here more le = ⊎_elim
-    (λ (lt : k < suc n). more n (from_there P k n here more (omega (arith, lt))))
-    (λ (ge : suc n ≤ k). subst P (omega (arith, ge, le)) here)
-    (cases_lt k (suc n))
+from_there P k (suc n) here more le = ⊎_elim (λ (lt : k < suc n). more n (from_there P k n here more (omega (arith, lt))))
+    (λ (ge : suc n ≤ k). subst P (omega (arith, ge, le)) here) (cases_lt k (suc n))
 
 pub below_next : (P : ℕ → Type 0) (n : ℕ) → ((k : ℕ) → k < n → P k) → P n → (k : ℕ) → k < suc n → P k
 below_next P n below here k lt = ⊎_elim (below k) (λ (ge : n ≤ k). subst P (omega (arith, ge, lt)) here) (cases_lt k n)

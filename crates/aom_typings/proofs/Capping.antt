@@ -1,4 +1,5 @@
 -- What one pass finds with each sum kept up to a limit is, up to the limit, what it finds with whole sums.
+use Rattle.std.proofs.lemmas.Bool.Decides.{nat_tests}
 use Rattle.std.proofs.Common.{◌≡◌, ◌<◌, ◌≤◌, ◌∙◌, ℕ, zero, suc, length, Some, None, inl, ⊎_elim, refl, sym, ap, arith, subst}
 use Rattle.aom_image.proofs.Given.{some_given}
 use Rattle.std.specs.Prelude.{IsSome, max, min}
@@ -32,21 +33,17 @@ use Rattle.aom_typings.proofs.Among.{each_below}
 -- what follows a loop is no more, up to the limit, than what the other table says
 follow_below : (limit : ℕ) (p : Image) (t : Typing) (c e : Prices) (a b : Afters) (m from to : ℕ) (r : Region) → IsAfter p t c a m from to r → IsAfter p t e b m from to r →
     Alike limit (after a m r) (after b m r) → ((place : ℕ) → GoesOut p t m from to place → Alike limit (c.from m place) (e.from m place)) → min limit (a m from) ≤ min limit (b m from)
-follow_below limit p t c e a b m from to r one other around out = ⊎_elim
-    (λ (same : a m from ≡ after a m r). omega (arith, same, around, other.around))
-    (λ (x : (place : ℕ) × GoesOut p t m from to place × (c.from m place ≡ a m from)). omega (arith, x.2, out x.0 x.1, other.out x.0 x.1))
-    one.met
+follow_below limit p t c e a b m from to r one other around out = grind (arith, nat_tests)
 
 module _
-    (limit : ℕ) (p : Image) (t : Typing) (looped : IsLooped p) (typed : IsTyped p t) (layered : PaysBefore p t)
-    (forward : (m : ℕ) → JumpsForward p m)
+    (limit : ℕ) (p : Image) (t : Typing) (looped : IsLooped p) (typed : IsTyped p t) (layered : PaysBefore p t) (forward : (m : ℕ) → JumpsForward p m)
     (c e : Prices) (a b : Afters) (capped : IsSweptUpTo limit p t c a) (whole : IsSwept p t e b) where
   module _ (m : ℕ) (before : (k : ℕ) → k < m → Alike limit (price c k) (price e k)) where
     -- what an instruction costs itself
     own_alike : (sh : Shape) (i : Instr) → ((k : ℕ) → Pays p m sh i k → k < m) → Alike limit (own p m c sh i) (own p m e sh i)
-    own_alike sh i below =
-        own_related (λ x y. Alike limit x y) refl p c e (λ x y same. alike_plus limit 1 1 x y refl same) (alike_max limit)
-        (λ x h. omega (arith, capped.classes x, whole.classes x, going_alike limit p (destructor_price c) (destructor_price e) refl x h)) m sh i (λ k paid. before k (below k paid))
+    own_alike sh i below = own_related (λ x y. Alike limit x y) refl p c e (λ x y same. alike_plus limit 1 1 x y refl same) (alike_max limit)
+        (λ x h. omega (arith, capped.classes x, whole.classes x, going_alike limit p (destructor_price c) (destructor_price e) refl x h)) m sh i
+        (λ k paid. before k (below k paid))
 
     -- ---- a place
 
@@ -57,7 +54,7 @@ module _
 
     module _ (k : ℕ) (later : Agrees (suc k)) where
       exit_alike : (from d n to : ℕ) → Body p m from k d n → GoesOut p t m from k to → Alike limit (c.from m to) (e.from m to)
-      exit_alike from d n to body g = let past = g.outside in later.from to (omega (arith, past)) (leads_on p t m typed g.place to g.shape g.instr g.stands g.flow)
+      exit_alike from d n to body g = let past = g.outside in later.from to (omega (arith, past)) (leads_on p t m typed _ to g.shape g.instr g.stands g.flow)
 
       round_it_alike : (from d n : ℕ) (r : Region) → Body p m from k d n → IsInnermost p m from r → Alike limit (after a m r) (after b m r)
       round_it_alike from d n Whole body w = refl
@@ -76,10 +73,8 @@ module _
           omega (arith, up, down)
 
       after_alike : (from to d n : ℕ) → k ≤ to → Body p m from to d n → Alike limit (a m from) (b m from)
-      after_alike from to d n le body = ⊎_elim
-          (λ (lt : k < to). later.after from to d n (omega (arith, lt)) body)
-          (λ (ge : to ≤ k). let same : to ≡ k = omega (arith, ge, le) in follow_alike from d n (subst (λ x. Body p m from x d n) same body))
-          (cases_lt k to)
+      after_alike from to d n le body = ⊎_elim (λ (lt : k < to). later.after from to d n (omega (arith, lt)) body)
+          (λ (ge : to ≤ k). let same : to ≡ k = omega (arith, ge, le) in follow_alike from d n (subst (λ x. Body p m from x d n) same body)) (cases_lt k to)
 
       region_alike : (r : Region) → IsInnermost p m k r → Alike limit (after a m r) (after b m r)
       region_alike Whole w = refl
@@ -97,10 +92,8 @@ module _
               let on = most_related (λ x y. Alike limit x y) refl p c e (λ x y z w one other. alike_max limit x y z w one other) m region.0 (flows p m k sh i)
               (λ to among. later.from to (way_forward p t m (forward m) k to sh i at n among) (leads_on p t m typed k to sh i at among)) in
               let most = alike_max limit (after a m region.0) (after b m region.0)
-              (most_within c m region.0 (flows p m k sh i)) (most_within e m region.0 (flows p m k sh i))
-              (region_alike region.0 region.1) on in
-              let sums = alike_plus limit (own p m c sh i) (own p m e sh i)
-              (max (after a m region.0) (most_within c m region.0 (flows p m k sh i)))
+              (most_within c m region.0 (flows p m k sh i)) (most_within e m region.0 (flows p m k sh i)) (region_alike region.0 region.1) on in
+              let sums = alike_plus limit (own p m c sh i) (own p m e sh i) (max (after a m region.0) (most_within c m region.0 (flows p m k sh i)))
               (max (after b m region.0) (most_within e m region.0 (flows p m k sh i))) owned most in
               ap (λ x. min limit x) one ∙ (alike_kept limit _ ∙ (sums ∙ ap (λ x. min limit x) (sym other)))
 
@@ -116,7 +109,7 @@ module _
               let first = later.from (suc k) (omega arith) next in
               let follows = later.after k begins.1 d n (omega (arith, body.later)) body in
               let sums = alike_loop limit n (c.from m (suc k)) (e.from m (suc k)) (c.round m k) (e.round m k) (a m k) (b m k) first follows
-              ((place_of (λ n. min limit n) p t c a capped m k).rounds begins.1 d n body some) ((place_of (λ n. n) p t e b whole m k).rounds begins.1 d n body some) in
+              ((place_of (λ n. min _ n) p t c a capped m k).rounds _ d n body some) ((place_of (λ n. n) p t e b whole m k).rounds begins.1 d n body some) in
               ap (λ x. min limit x) one ∙ (alike_kept limit _ ∙ (sums ∙ ap (λ x. min limit x) (sym other)))
 
           next : (d to : ℕ) → i ≡ Next d to → Alike limit (c.from m k) (e.from m k)
@@ -131,9 +124,7 @@ module _
 
       agrees_more : Agrees k
       agrees_more = record {
-        from = λ place le reached. ⊎_elim
-            (λ (lt : k < place). later.from place (omega (arith, lt)) reached)
-            (λ (ge : place ≤ k).
+        from = λ place le reached. ⊎_elim (λ (lt : k < place). later.from place (omega (arith, lt)) reached) (λ (ge : place ≤ k).
             let same : place ≡ k = omega (arith, ge, le) in
             let here = subst (λ x. IsReached t m x) same reached in
             let passes = typed.each m k here.0 here.1 in
@@ -180,16 +171,13 @@ module _
           at = record { shape = reached; instr = passes.stands }
 
           plain : loop_in (Some passes.instr) ≡ None → next_in (Some passes.instr) ≡ None → price c m ≤ limit
-          plain l n = let region = innermost p looped m 0 in kept _ _ ((place_of (λ n. min limit n) p t c a capped m 0).plain sh passes.instr region.0 at l n region.1)
+          plain l n = let region = innermost p looped m 0 in kept _ _ ((place_of (λ n. min limit n) p t c a capped m 0).plain sh _ region.0 at l n region.1)
 
           loop : (d n : ℕ) → passes.instr ≡ Loop d n → price c m ≤ limit
           loop d n same = kept _ _ ((place_of (λ n. min limit n) p t c a capped m 0).loops d n sh (subst (λ j. Stands p t m 0 sh j) same at))
 
           next : (d to : ℕ) → passes.instr ≡ Next d to → price c m ≤ limit
-          next d to same =
-              let here = subst (λ j. Stands p t m 0 sh j) same at in
-              let closes = looped.closes m 0 d to here.instr in
-              kept _ _ ((place_of (λ n. min limit n) p t c a capped m 0).nexts d closes.0 sh (subst (λ x. Stands p t m 0 sh (Next d x)) closes.3 here))
+          next d to same = grind (arith, nat_tests, kept, place_of)
 
 -- ---- the law
 

@@ -41,13 +41,13 @@ module _ (R : ℕ → ℕ → Type 0) (none : R 0 0) (times : (n x y : ℕ) → 
     sessions_related p Message h = none
 
   -- what goes costs as the destructors that run
-  module _ (one : R 1 1) (plus : (x y z w : ℕ) → R x y → R z w → R (x + z) (y + w)) (maxima : (x y z w : ℕ) → R x y → R z w → R (max x z) (max y w)) (f g : Option ℕ → ℕ) (nobody : R (f None) (g None)) (p : Image) where
+  module _ (one : R 1 1) (plus : (x y z w : ℕ) → R x y → R z w → R (x + z) (y + w))
+      (maxima : (x y z w : ℕ) → R x y → R z w → R (max x z) (max y w)) (f g : Option ℕ → ℕ) (nobody : R (f None) (g None)) (p : Image) where
     going_related : (x : Thing) → ((k : ℕ) → InLine p x k → R (f (Some k)) (g (Some k))) → R (going p f x) (going p g x)
     going_related x h = plus 1 1 (line p f x) (line p g x) one (line_related R none plus p f g nobody x h)
 
     whole_related : (x : Thing) → ((k : ℕ) → Runs p x k → R (f (Some k)) (g (Some k))) → R (whole_going p f x) (whole_going p g x)
-    whole_related x h =
-        plus (going p f x) (going p g x) (sessions_cost p (λ s. going p f (Object s)) x) (sessions_cost p (λ s. going p g (Object s)) x)
+    whole_related x h = plus (going p f x) (going p g x) (sessions_cost p (λ s. going p f (Object s)) x) (sessions_cost p (λ s. going p g (Object s)) x)
         (going_related x (λ k e. h k (inl e)))
         (sessions_related (λ s. going p f (Object s)) (λ s. going p g (Object s)) p x (λ s is. going_related (Object s) (λ k e. h k (inr (s, is, e)))))
 
@@ -68,9 +68,9 @@ pub going_same : (p : Image) (f g : Option ℕ → ℕ) → f None ≡ g None �
 going_same p f g nobody = all_related (λ x y. x ≡ y) refl times_same refl plus_same max_same f g nobody p
 
 -- two that are alike up to a limit
-pub going_alike : (limit : ℕ) (p : Image) (f g : Option ℕ → ℕ) → f None ≡ g None → (x : Thing) → ((k : ℕ) → Destructs p x k → Alike limit (f (Some k)) (g (Some k))) →
-    Alike limit (all_going p f x) (all_going p g x)
-going_alike limit p f g nobody = all_related (λ x y. Alike limit x y) refl (alike_times limit) refl (alike_plus limit) (alike_max limit) f g (ap (λ n. min limit n) nobody) p
+pub going_alike : (limit : ℕ) (p : Image) (f g : Option ℕ → ℕ) →
+    f None ≡ g None → (x : Thing) → ((k : ℕ) → Destructs p x k → Alike limit (f (Some k)) (g (Some k))) → Alike limit (all_going p f x) (all_going p g x)
+going_alike limit p f g nobody = all_related (λ x y. Alike _ x y) refl (alike_times _) refl (alike_plus _) (alike_max _) f g (ap (λ n. min limit n) nobody) p
 
 -- ---- sessions have none
 
@@ -109,8 +109,7 @@ module _ (p : Image) (formed : WellFormed p) (linked : IsLinked p) (c : Prices) 
 
   all_as_going : ((x : Thing) (s : ℕ) → thing_sessions p x ≡ Some s → c.destruction (Object s) ≡ going p (destructor_price c) (Object s)) → (x : Thing) →
       most_standing p (by_rule p c) x ≡ all_going p (destructor_price c) x
-  all_as_going each x =
-      standing_related (λ x y. x ≡ y) refl max_same p (by_rule p c) (whole_going p (destructor_price c)) x
+  all_as_going each x = standing_related (λ x y. x ≡ y) refl max_same p (by_rule p c) (whole_going p (destructor_price c)) x
       (λ y stands. let same = as_going each y in omega (arith, same))
 
   pub found_of : IsRuled p c → IsFound p c
@@ -132,10 +131,6 @@ module _ (p : Image) (formed : WellFormed p) (linked : IsLinked p) (c : Prices) 
           let most = session_most p (sessions_end p formed linked) (whole_going p (destructor_price c)) s (their_class p linked y s is) in
           let none = no_sessions p linked y s is (λ k. going p (destructor_price c) (Object k)) in
           omega (arith, one, most, none)
-
-pub perhaps_is : (c : Prices) (o : Option ℕ) → perhaps_price c o ≡ destructor_price c o
-perhaps_is c None = refl
-perhaps_is c (Some k) = refl
 
 pub line_is : (p : Image) (c : Prices) (x : Thing) → line p (perhaps_price c) x ≡ line p (destructor_price c) x
 line_is p c x = line_related (λ x y. x ≡ y) refl plus_same p (perhaps_price c) (destructor_price c) refl x (λ k runs. refl)

@@ -1,18 +1,18 @@
 -- The lists of what an instruction may call have each method that it pays for: by the number of a class or a method that counts.
-use Rattle.std.proofs.Common.{Bool, List, None, Option, Some, [], ap, arith, cond, false, inl, inr, length, refl, subst, suc, sym, true, zero, ℕ, ◌++◌, ◌<◌, ◌==◌, ◌||◌, ◌∙◌, ◌∷◌, ◌≡◌}
+use Rattle.std.proofs.lemmas.Bool.Decides.{nat_tests}
+use Rattle.std.proofs.Common.{Bool, List, None, Option, Some, [], ap, arith, false, inl, inr, length, refl, subst, suc, sym, true, zero, ℕ, ◌++◌, ◌<◌}
+use Rattle.std.proofs.Common.{◌==◌, ◌||◌, ◌∙◌, ◌∷◌, ◌≡◌}
 use Rattle.std.specs.Prelude.{◌⊎◌}
-use Rattle.std.proofs.lemmas.Bool.{cases_lt, eqb-true}
+use Rattle.std.proofs.lemmas.Bool.{eqb-true}
 use Rattle.aom_image.specs.Image.{Image}
-use Rattle.aom_image.specs.Views.{method_at}
-use Rattle.aom_image.specs.declared.method.Method.{Method}
 use Rattle.aom_image.specs.declared.method.Role.TheVariants.{Cancel, Destruct}
 use Rattle.aom_image.specs.declared.method.Thing.{Thing}
-use Rattle.aom_image.specs.declared.method.Thing.TheVariants.{Message, Object}
+use Rattle.aom_image.specs.declared.method.Thing.TheVariants.{Object}
 use Rattle.aom_roles.proofs.Descending.{itself, through}
 use Rattle.aom_roles.specs.Classes.{sessions_at}
 use Rattle.aom_roles.specs.Families.{descends, descends_in, parent_of}
 use Rattle.aom_classes.specs.Overriding.{leads_in, over_in, overrides}
-use Rattle.aom_classes.specs.Roles.{keeper_of, own_role, role_by, role_of}
+use Rattle.aom_classes.specs.Roles.{own_role, role_of}
 use Rattle.aom_classes.proofs.Keeping.{keeper_found}
 use Rattle.aom_image.proofs.Given.{some_given}
 use Rattle.aom_roles.specs.Things.{stands_for}
@@ -35,10 +35,7 @@ among_right k (x ∷ xs) ys h = inr (among_right k xs ys h)
 pub among_either : (k : ℕ) (xs ys : List ℕ) → Among k (xs ++ ys) → Among k xs ⊎ Among k ys
 among_either k [] ys h = inr h
 among_either k (x ∷ xs) ys (inl e) = inl (inl e)
-among_either k (x ∷ xs) ys (inr h) = elim (among_either k xs ys h) [
-  | inl there ↦ inl (inr there)
-  | inr there ↦ inr there
-]
+among_either k (x ∷ xs) ys (inr h) = elim (among_either k xs ys h) [ inl there ↦ inl (inr there) | inr there ↦ inr there ]
 
 among_listed : (o : Option ℕ) (k : ℕ) → o ≡ Some k → Among k (listed o)
 among_listed o k is = subst (λ x. Among k (listed x)) (sym is) (inl refl)
@@ -47,39 +44,22 @@ among_listed o k is = subst (λ x. Among k (listed x)) (sym is) (inl refl)
 
 each_has : (counts : ℕ → Bool) (f : ℕ → List ℕ) (n y k : ℕ) → y < n → counts y ≡ true → Among k (f y) → Among k (each_of counts f n)
 each_has counts f zero y k lt c h = absurd (omega (arith, lt))
-each_has counts f (suc n) y k lt c h = elim (cases_lt y n) [
-  | inl less ↦ among_right k (cond (counts n) (f n) []) (each_of counts f n) (each_has counts f n y k less c h)
-  | inr ge ↦
-      let same : y ≡ n = omega (arith, lt, ge) in
-      let here : cond (counts n) (f n) [] ≡ f n = ap (λ b. cond b (f n) []) (ap counts (sym same) ∙ c) in
-      among_left k (cond (counts n) (f n) []) (each_of counts f n) (subst (λ xs. Among k xs) (ap f same ∙ sym here) h)
-]
+each_has counts f (suc n) y k lt c h = grind (arith, among_right k, each_has counts f n y k, among_left k)
 
 each_from : (counts : ℕ → Bool) (f : ℕ → List ℕ) (n k : ℕ) → Among k (each_of counts f n) → (y : ℕ) × (counts y ≡ true) × Among k (f y)
 each_from counts f zero k h = absurd h
-each_from counts f (suc n) k h = elim (among_either k (cond (counts n) (f n) []) (each_of counts f n) h) [
-  | inl here ↦ go (counts n) refl here
-  | inr rest ↦ each_from counts f n k rest
-]
-  where
-    go : (b : Bool) → counts n ≡ b → Among k (cond b (f n) []) → (y : ℕ) × (counts y ≡ true) × Among k (f y)
-    go true is here = (n, is, here)
-    go false is here = absurd here
+each_from counts f (suc n) k h = grind (arith, nat_tests, among_either k, each_from counts f n k)
 
 pub below_lists : (p : Image) (f : ℕ → List ℕ) (c y k : ℕ) → descends p y c ≡ true → Among k (f y) → Among k (each_below p f (Some c))
 below_lists p f c y k h among = go (y == c) refl
   where
     go : (b : Bool) → (y == c) ≡ b → Among k (each_below p f (Some c))
     go true same = among_left k (f c) (each_of (λ x. descends p x c) f (length p.classes)) (subst (λ x. Among k (f x)) (eqb-true y c same) among)
-    go false other =
-        among_right k (f c) (each_of (λ x. descends p x c) f (length p.classes))
+    go false other = among_right k (f c) (each_of (λ x. descends p x c) f (length p.classes))
         (each_has (λ x. descends p x c) f (length p.classes) y k (within_or_same p y c h other) h among)
 
 pub below_from : (p : Image) (f : ℕ → List ℕ) (c k : ℕ) → Among k (each_below p f (Some c)) → (y : ℕ) × (descends p y c ≡ true) × Among k (f y)
-below_from p f c k h = elim (among_either k (f c) (each_of (λ x. descends p x c) f (length p.classes)) h) [
-  | inl here ↦ (c, itself p c, here)
-  | inr rest ↦ each_from (λ x. descends p x c) f (length p.classes) k rest
-]
+below_from p f c k h = grind (arith, nat_tests, among_either k (f c), itself p c, each_from)
 
 -- ---- destructors
 
@@ -88,33 +68,25 @@ own_lists p c d k same is = among_listed (own_role p c Destruct) k (ap (λ x. ow
 
 line_lists : (p : Image) (n : ℕ) (o : Option ℕ) (d k : ℕ) → descends_in p n o d ≡ true → own_role p d Destruct ≡ Some k → Among k (lines p n o)
 unfolding descends_in
-line_lists p zero None d k h is = cc
-line_lists p (suc n) None d k h is = cc
-line_lists p zero (Some c) d k h is = own_lists p c d k (eqb-true c d h) is
 line_lists p (suc n) (Some c) d k h is = go (c == d) refl h (λ above. line_lists p n (parent_of p c) d k above is)
   where
-    go :
-        (b : Bool) → (c == d) ≡ b → (b || descends_in p n (parent_of p c) d) ≡ true →
+    go : (b : Bool) → (c == d) ≡ b → (b || descends_in p n (parent_of p c) d) ≡ true →
         (descends_in p n (parent_of p c) d ≡ true → Among k (lines p n (parent_of p c))) → Among k (lines p (suc n) (Some c))
     go true same h later = among_left k (listed (own_role p c Destruct)) (lines p n (parent_of p c)) (own_lists p c d k (eqb-true c d same) is)
     go false other h later = among_right k (listed (own_role p c Destruct)) (lines p n (parent_of p c)) (later h)
+line_lists p x y d k h is = grind arith
 
 abbrev pub gone_with : Image → ℕ → List ℕ
 gone_with p c = lines_of p (Some c) ++ lines_of p (sessions_at p c)
 
 runs_lists : (p : Image) (c k : ℕ) → Runs p (Object c) k → Among k (gone_with p c)
 runs_lists p c k (inl w) = among_left k (lines_of p (Some c)) (lines_of p (sessions_at p c)) (line_lists p c (Some c) w.0 k w.1 w.2)
-runs_lists p c k (inr w) =
-    among_right k (lines_of p (Some c)) (lines_of p (sessions_at p c))
-    (subst (λ o. Among k (lines_of p o)) (sym w.1) (line_lists p w.0 (Some w.0) w.2.0 k w.2.1 w.2.2))
+runs_lists p c k (inr w) = grind (arith, among_right k, line_lists p w.0 (Some w.0) w.2.0 k w.2.1 w.2.2)
 
 -- the destructors that run as what stands there goes are those that may be called
 pub runs_among : (p : Image) (x : Thing) (k : ℕ) → Destructs p x k → Among k (destructors p (thing_class x))
 runs_among p (Object c) k (Object y, stands, runs) = below_lists p (gone_with p) c y k stands (runs_lists p y k runs)
-runs_among p (Object c) k (Message, stands, runs) = cc
-runs_among p Message k (Object y, stands, runs) = cc
-runs_among p Message k (Message, stands, inl w) = absurd w
-runs_among p Message k (Message, stands, inr w) = let none = w.1 in cc
+runs_among p x k y = grind arith
 
 -- and what stands for a thing runs no others than that
 pub stands_among :
@@ -122,14 +94,12 @@ pub stands_among :
 stands_among p (Object a) (Object b) k h among =
     let w = below_from p (gone_with p) a k among in
     below_lists p (gone_with p) b w.0 k (through p w.0 a b w.1 h) w.2
-stands_among p (Object a) Message k h among = cc
-stands_among p Message y k h among = absurd among
+stands_among p x y k h among = grind arith
 
 -- the destructor that a class has, itself or from above, is in its line
 pub kept_in_line : (p : Image) (c m : ℕ) → role_of p c Destruct ≡ Some m → InLine p (Object c) m
 unfolding role_of
-kept_in_line p c m e =
-    some_given (λ o. role_by p Destruct o ≡ Some m) (keeper_of p c Destruct) e (λ none. cc) (λ y at rest. (y, (keeper_found p Destruct c y at).0, rest))
+kept_in_line p c m e = grind (arith, nat_tests, some_given, keeper_found p Destruct c)
 
 -- ---- cancels and calls
 
@@ -139,15 +109,7 @@ cancel_among p (Some c) k w = below_lists p (λ x. listed (role_of p x Cancel)) 
 
 overrider_there : (p : Image) (k m : ℕ) → overrides p k m ≡ true → k < length p.methods
 unfolding over_in leads_in
-overrider_there p k m over = go (method_at p k) refl over
-  where
-    leads_on : (n : ℕ) → leads_in p n None m ≡ true → ⊥
-    leads_on zero h = cc
-    leads_on (suc n) h = cc
-
-    go : (o : Option Method) → method_at p k ≡ o → leads_in p (length p.methods) (over_in o) m ≡ true → k < length p.methods
-    go None is h = absurd (leads_on (length p.methods) h)
-    go (Some d) is h = method_within p k d is
+overrider_there p k m over = grind (arith, nat_tests, method_within p k)
 
 pub run_among : (p : Image) (j k : ℕ) → MayRun p j k → Among k (bodies p j)
 run_among p j k (inl same) = inl (sym same)

@@ -1,4 +1,5 @@
 -- There is a table of prices: each method's is made from its last place down, and the image's by method.
+use Rattle.std.proofs.lemmas.Bool.Decides.{nat_tests}
 use Rattle.std.proofs.lemmas.Option.{same_Some}
 use Rattle.std.proofs.Common.{◌≡◌, ◌<◌, ◌≤◌, ◌+◌, ◌-◌, ◌*◌, ◌∙◌, ℕ, zero, suc, cond, length, Option, Some, None, inl, inr, ⊎_elim, refl, sym, ap, arith, subst}
 use Rattle.std.proofs.Math.Bool.{and-false}
@@ -20,7 +21,7 @@ use Rattle.aom_shape.specs.Shape.{Shape}
 use Rattle.aom_rules.specs.Typing.{IsTyped, Typing, shape_at}
 use Rattle.aom_typings.proofs.Ways.{JumpsForward}
 use Rattle.aom_typings.specs.Prices.{Prices, Stands, own}
-use Rattle.aom_typings.specs.Costs.{Region, Round, Whole, destructor_price}
+use Rattle.aom_typings.specs.Costs.{Region, destructor_price}
 use Rattle.aom_typings.specs.PriceLaws.{PricesAreFound}
 use Rattle.aom_typings.specs.Layers.{HasPrices, PaysBefore}
 use Rattle.aom_typings.specs.Sweeping.{Afters, IsAfter, IsInnermost, IsSwept, after, all_going, most_within}
@@ -46,7 +47,7 @@ set f m place v k x = cond ((k == m) && (x == place)) v (f k x)
 
 set_here : (f : ℕ → ℕ → ℕ) (m place v : ℕ) → set f m place v m place ≡ v
 unfolding set
-set_here f m place v = ap (λ b. cond (b && (place == place)) v (f m place)) (eq-eqb m m refl) ∙ ap (λ b. cond b v (f m place)) (eq-eqb place place refl)
+set_here f m place v = grind (arith, nat_tests, eq-eqb m m, eq-eqb place place)
 
 set_method : (f : ℕ → ℕ → ℕ) (m place v k x : ℕ) → k ≢ m → set f m place v k x ≡ f k x
 unfolding set
@@ -54,7 +55,7 @@ set_method f m place v k x other = ap (λ b. cond (b && (x == place)) v (f k x))
 
 set_place : (f : ℕ → ℕ → ℕ) (m place v k x : ℕ) → x ≢ place → set f m place v k x ≡ f k x
 unfolding set
-set_place f m place v k x other = ap (λ b. cond ((k == m) && b) v (f k x)) (ne_eqb x place other) ∙ ap (λ b. cond b v (f k x)) (and-false (k == m))
+set_place f m place v k x other = grind (arith, nat_tests, ne_eqb x place other, and-false (k == m))
 
 not_same : (x y : ℕ) → x < y → y ≢ x
 not_same x y lt e = omega (arith, lt, e)
@@ -129,12 +130,9 @@ module _ (p : Image) (t : Typing) (looped : IsLooped p) (typed : IsTyped p t) (l
         after = h;
         before = λ j place lt. swept_same (λ n. n) p t old new w.after h j looped (forward j) layered
             (classes_of p w.from w.round) (classes_of p (set w.from m k v) (set w.round m k u)) place (same_before j place lt) (w.before j place lt);
-        here = λ place le. ⊎_elim
-            (λ (lt : k < place).
-            swept_same (λ n. n) p t old new w.after h m looped (forward m) layered
+        here = λ place le. ⊎_elim (λ (lt : k < place). swept_same (λ n. n) p t old new w.after h m looped (forward m) layered
             (classes_of p w.from w.round) (classes_of p (set w.from m k v) (set w.round m k u)) place (same_here place lt) (w.here place (omega (arith, lt))))
-            (λ (ge : place ≤ k). let same : k ≡ place = omega (arith, ge, le) in subst (λ x. IsSweptAt (λ n. n) p t new h m x) same at)
-            (cases_lt k place);
+            (λ (ge : place ≤ k). let same : k ≡ place = omega (arith, ge, le) in subst (λ x. IsSweptAt (λ n. n) p t new h m x) same at) (cases_lt k place);
       }
 
     kept_others : (j x : ℕ) → j < m → w.after j x ≡ w.after j x
@@ -178,7 +176,7 @@ module _ (p : Image) (t : Typing) (looped : IsLooped p) (typed : IsTyped p t) (l
             let same : v ≡ found_there s i r = ap (λ x. found_there x i region.0) one ∙ ap (λ x. found_there s i x) place in
             let owned = own_same (λ n. n) p old table (classes_of p w.from w.round) (classes_of p (set w.from m k v) (set w.round m k 0)) m s i
             (λ j paid. set_method w.from m k v j 0 (not_below j m (layered.each m k j s i at paid))) in
-            let on = most_same p old table m r (flows p m k s i) (λ to among. set_place w.from m k v m to (not_same k to (way_forward p t m (forward m) k to s i at n among))) in
+            let on = most_same p old table m r _ (λ to among. set_place _ m k v m to (not_same k to (way_forward p t m (forward m) k to s i at n among))) in
             omega (arith, set_here w.from m k v, same, owned, on)
 
     at_loop : (d n : ℕ) → instr_at p m k ≡ Some (Loop d n) → Made p t m k
@@ -197,14 +195,12 @@ module _ (p : Image) (t : Typing) (looped : IsLooped p) (typed : IsTyped p t) (l
         on = set_place w.from m k v m (suc k) (not_same k (suc k) (omega arith))
 
         found : table.from m k ≡ 1 + (n - 1) * table.round m k + table.from m (suc k)
-        found =
-            let rounds : (n - 1) * table.round m k ≡ (n - 1) * u = ap (λ x. (n - 1) * x) (set_here w.round m k u) in
-            omega (arith, set_here w.from m k v, rounds, on)
+        found = grind (arith, nat_tests, u, set_here, v, on)
 
         round : IsSome (shape_at t m (suc k)) → table.from m (suc k) ≡ table.round m k + w.after m k
         round reached = some_given (λ o. IsSome o) (shape_at t m (suc k)) reached (λ s. cc) (λ sh shape s.
             let begins = looped.begins m k d n there in
-            let paid = pays_after (λ n. n) p t looped typed old w.after m (suc k) (Round k begins.1) (λ x le. le) w.here (sh, shape) (innermost_of_body p looped m k begins.1 d n begins.2) in
+            let paid = pays_after (λ n. n) p t looped typed old _ m _ _ (λ x le. le) w.here (sh, shape) (innermost_of_body p looped m k _ d n begins.2) in
             omega (arith, on, set_here w.round m k u, paid))
 
     module _ (d from n : ℕ) (there : instr_at p m k ≡ Some (Next d (suc from))) (body : Body p m from k d n) where
@@ -224,10 +220,7 @@ module _ (p : Image) (t : Typing) (looped : IsLooped p) (typed : IsTyped p t) (l
 
       next_loops : (f to e l : ℕ) → k < to → Body p m f to e l → afters m f ≡ w.after m f
       unfolding afters
-      next_loops f to e l lt other = set_place w.after m from follow m f differs
-        where
-          differs : f ≢ from
-          differs same = let ends = one_end p looped m from k to d n e l body (subst (λ x. Body p m x to e l) same other) in omega (arith, ends, lt)
+      next_loops f to e l lt other = grind (arith, nat_tests, set_place, from, follow, one_end)
 
       abbrev table : Prices
       table = new (1 + follow) 0 afters next_others next_loops
@@ -241,8 +234,7 @@ module _ (p : Image) (t : Typing) (looped : IsLooped p) (typed : IsTyped p t) (l
 
       round_it : (r : Region) → IsInnermost p m from r → after afters m r ≡ after w.after m r
       unfolding afters
-      round_it Whole v = refl
-      round_it (Round f e) v = set_place w.after m from follow m f (not_below f from v.inside.0)
+      round_it x v = grind (arith, nat_tests, set_place, from, follow, not_below)
 
       is_after : (r : Region) → IsInnermost p m from r → IsAfter p t table afters m from k r
       unfolding follow
@@ -252,9 +244,8 @@ module _ (p : Image) (t : Typing) (looped : IsLooped p) (typed : IsTyped p t) (l
           record {
             around = omega (arith, followed, around, same);
             out = λ to g. omega (arith, followed, on to g.outside, exit_most p t m from k (w.from m) to g);
-            met = either_max Met (after w.after m region.0) (body_out p t m from k (w.from m) (suc k))
-                (λ is. inl (omega (arith, is, around, same)))
-                (exit_one p t m from k (w.from m) Met (λ is. inl (omega (arith, is, followed, around, same))) (λ to g is. inr (to, g, omega (arith, on to g.outside, is))))
+            met = either_max Met (after w.after m region.0) (body_out p t m from k (w.from m) (suc k)) (λ is. inl (omega (arith, is, around, same))) (exit_one p
+                t m from k (w.from m) Met (λ is. inl (omega (arith, is, followed, around, same))) (λ to g is. inr (to, g, omega (arith, on to g.outside, is))))
                 followed;
           }
         where
@@ -268,11 +259,7 @@ module _ (p : Image) (t : Typing) (looped : IsLooped p) (typed : IsTyped p t) (l
     at_some i there = by_kind (Made p t m k) i plain loop next
       where
         plain : loop_in (Some i) ≡ None → next_in (Some i) ≡ None → Made p t m k
-        plain l n = go (shape_at t m k) refl
-          where
-            go : (o : Option Shape) → shape_at t m k ≡ o → Made p t m k
-            go None e = at_unreached i there l n e
-            go (Some sh) e = at_plain i there l n sh e
+        plain l n = grind (arith, nat_tests, at_unreached i there l n, at_plain i there l n)
 
         loop : (d n : ℕ) → i ≡ Loop d n → Made p t m k
         loop d n e = at_loop d n (there ∙ ap (λ x. Some x) e)
@@ -284,11 +271,7 @@ module _ (p : Image) (t : Typing) (looped : IsLooped p) (typed : IsTyped p t) (l
             at_next d closes.0 closes.1 (here ∙ ap (λ x. Some (Next d x)) closes.3) closes.2
 
     lowered : Made p t m k
-    lowered = go (instr_at p m k) refl
-      where
-        go : (o : Option Instr) → instr_at p m k ≡ o → Made p t m k
-        go None e = at_end e
-        go (Some i) e = at_some i e
+    lowered = grind (arith, nat_tests, at_end, at_some)
 
   -- ---- a method more
 
@@ -309,7 +292,7 @@ module _ (p : Image) (t : Typing) (looped : IsLooped p) (typed : IsTyped p t) (l
       })
 
       past : (d : Method) → method_at p m ≡ Some d → (place : ℕ) → length d.code ≤ place → instr_at p m place ≡ None
-      past d e place le = none_given (λ o. instr_at p m place ≡ o) (instr_at p m place) refl (λ i at. omega (arith, le, in_code p m d e place i at)) (λ none at. none)
+      past d e place le = grind (arith, nat_tests, none_given, in_code)
 
       go : (o : Option Method) → method_at p m ≡ o → Made p t m 0
       go None e = begin 0 (λ place le. no_method p m place e)
@@ -323,7 +306,7 @@ module _ (p : Image) (t : Typing) (looped : IsLooped p) (typed : IsTyped p t) (l
         from = w.from;
         round = w.round;
         after = w.after;
-        before = λ k place lt. below_next (λ x. IsSweptAt (λ n. n) p t (prices_of p w.from w.round) w.after x place) m (λ j less. w.before j place less) (w.here place (omega arith)) k lt;
+        before = λ k place lt. below_next (λ x. IsSweptAt (λ n. n) p t _ _ x place) m (λ j less. w.before j place less) (w.here place (omega arith)) k lt;
       }
 
 -- ---- the law
@@ -338,7 +321,7 @@ pub found_prices : (p : Image) (t : Typing) → WellFormed p → IsLinked p → 
 found_prices p t formed linked typed layered = record {
   prices = c;
   afters = b.after;
-  swept = record { methods = λ m. from_each (λ n. n) p t c b.after m 0 (λ place le. swept_at m place (method_at p m) refl); classes = classes_of p b.from b.round };
+  swept = record { methods = λ m. from_each (λ n. n) p t c b.after m 0 (λ place le. swept_at m place _ refl); classes = classes_of p b.from b.round };
 }
   where
     b : Below p t (length p.methods)

@@ -1,16 +1,15 @@
 -- Which methods are there, by their numbers.
-use Rattle.std.proofs.Common.{◌≡◌, ◌<◌, ℕ, length, Some, inl, inr}
+use Rattle.std.proofs.lemmas.Bool.Decides.{nat_tests}
+use Rattle.std.proofs.Common.{arith, ◌≡◌, ◌<◌, ℕ, length, Some, inl, inr}
 use Rattle.aom_image.proofs.Given.{some_given}
 use Rattle.std.specs.Prelude.{IsSome}
 use Rattle.std.proofs.lemmas.Option.{slice_get_within}
 use Rattle.aom_image.specs.Image.{Image}
 use Rattle.aom_image.specs.Views.{method_at}
 use Rattle.aom_image.specs.declared.method.Method.{Method}
-use Rattle.aom_image.specs.declared.method.Role.TheVariants.{Destruct}
 use Rattle.aom_image.specs.declared.method.Thing.{Thing}
-use Rattle.aom_image.specs.declared.method.Thing.TheVariants.{Message, Object}
-use Rattle.aom_classes.specs.Roles.{destructor_of}
-use Rattle.aom_classes.proofs.Playing.{destroyed, own_found, role_inherits}
+use Rattle.aom_image.specs.declared.method.Thing.TheVariants.{Object}
+use Rattle.aom_classes.proofs.Playing.{own_found}
 use Rattle.aom_shape.proofs.Lists.{there}
 use Rattle.aom_typings.specs.Layers.{Destructs, InLine}
 
@@ -21,12 +20,8 @@ method_within p m d e = slice_get_within p.methods m d e
 pub method_there : (p : Image) (m : ℕ) → IsSome (method_at p m) → m < length p.methods
 method_there p m some = some_given (λ o. IsSome o) (method_at p m) some (λ s. cc) (λ d e s. method_within p m d e)
 
-pub destructor_within : (p : Image) (x : Thing) (k : ℕ) → destructor_of p x ≡ Some k → k < length p.methods
-destructor_within p x k e = let w = destroyed p x k e in let d = role_inherits p w.0 k Destruct w.2 in method_within p k d.method d.there
-
 in_line : (p : Image) (x : Thing) (k : ℕ) → InLine p x k → k < length p.methods
-in_line p (Object c) k w = let d = own_found p w.0 k Destruct w.2 in method_within p k d.0 d.1
-in_line p Message k w = absurd w
+in_line p x k w = grind (arith, nat_tests, own_found, method_within)
 
 -- each that runs as a thing is destroyed is there
 pub destructs_within : (p : Image) (x : Thing) (k : ℕ) → Destructs p x k → k < length p.methods

@@ -1,5 +1,7 @@
 -- The most of numbers: it is no less than each that counts, no more than what all are within, and related where they are.
-use Rattle.std.proofs.Common.{◌≡◌, ◌<◌, ◌≤◌, ◌+◌, ◌∙◌, ◌==◌, ◌||◌, ℕ, zero, suc, Bool, true, false, cond, length, Option, Some, None, inl, inr, ⊎_elim, refl, sym, ap, arith, subst, IfSome, slice_get}
+use Rattle.std.proofs.lemmas.Bool.Decides.{nat_tests}
+use Rattle.std.proofs.Common.{◌≡◌, ◌<◌, ◌≤◌, ◌+◌, ◌==◌, ◌||◌, ℕ, zero, suc, Bool, true, false, cond, length, Option, Some, None, inl, inr, refl}
+use Rattle.std.proofs.Common.{ap, arith, subst, IfSome, slice_get}
 use Rattle.std.specs.Prelude.{max}
 use Rattle.std.proofs.lemmas.Bool.{cases_lt, eqb-true}
 use Rattle.std.proofs.lemmas.Option.{slice_get_within}
@@ -27,38 +29,20 @@ use Rattle.aom_typings.specs.Layers.{InLine, MayRun}
 
 pub most_has : (counts : ℕ → Bool) (f : ℕ → ℕ) (n k : ℕ) → k < n → counts k ≡ true → f k ≤ most_of counts f n
 most_has counts f zero k lt c = absurd (omega (arith, lt))
-most_has counts f (suc n) k lt c = ⊎_elim
-    (λ (less : k < n). let rest = most_has counts f n k less c in omega (arith, rest))
-    (λ (ge : n ≤ k).
-    let same : k ≡ n = omega (arith, lt, ge) in
-    let here : cond (counts n) (f n) 0 ≡ f k = ap (λ b. cond b (f n) 0) (ap counts (sym same) ∙ c) ∙ ap f (sym same) in
-    omega (arith, here))
-    (cases_lt k n)
+most_has counts f (suc n) k lt c = grind (arith, nat_tests, most_has counts f n k, cases_lt k n)
 
 pub most_least : (counts : ℕ → Bool) (f : ℕ → ℕ) (n v : ℕ) → ((k : ℕ) → k < n → counts k ≡ true → f k ≤ v) → most_of counts f n ≤ v
 most_least counts f zero v each = omega arith
-most_least counts f (suc n) v each =
-    let rest = most_least counts f n v (λ k lt c. each k (omega (arith, lt)) c) in
-    let here = go (counts n) refl in
-    omega (arith, rest, here)
-  where
-    go : (b : Bool) → counts n ≡ b → cond b (f n) 0 ≤ v
-    go true is = each n (omega arith) is
-    go false is = omega arith
+most_least counts f (suc n) v each = grind (arith, nat_tests, most_least counts f n v)
 
 -- ---- what stands for a class has a class that is there, or is it
 
 parent_there : (p : Image) (c : ℕ) (d : Option ClassDecl) (e : ℕ) → class_at p c ≡ d → lower c (parent_in d) ≡ Some e → c < length p.classes
 unfolding class_at parent_in
-parent_there p c None e is some = cc
-parent_there p c (Some d) e is some = slice_get_within p.classes c d is
+parent_there p c x e is some = grind (arith, nat_tests, slice_get_within p.classes c)
 
 pub within_or_same : (p : Image) (c d : ℕ) → descends p c d ≡ true → (c == d) ≡ false → c < length p.classes
-within_or_same p c d h other = go (parent_of p c) refl
-  where
-    go : (o : Option ℕ) → parent_of p c ≡ o → c < length p.classes
-    go None is = let none = from_none p c d other is in cc
-    go (Some e) is = parent_there p c (class_at p c) e refl is
+within_or_same p c d h other = grind (arith, nat_tests, from_none p c d other, parent_there p c)
 
 -- ---- standing
 
@@ -79,25 +63,17 @@ below_least p f c v each =
 
 pub standing_has : (p : Image) (f : Thing → ℕ) (x y : Thing) → stands_for p x y ≡ true → f x ≤ most_standing p f y
 standing_has p f (Object x) (Object y) h = below_has p (λ c. f (Object c)) x y h
-standing_has p f (Object x) Message h = cc
-standing_has p f Message (Object y) h = cc
-standing_has p f Message Message h = omega arith
+standing_has p f x y h = grind arith
 
 pub standing_least : (p : Image) (f : Thing → ℕ) (y : Thing) (v : ℕ) → ((x : Thing) → stands_for p x y ≡ true → f x ≤ v) → most_standing p f y ≤ v
 standing_least p f (Object c) v each = below_least p (λ x. f (Object x)) c v (λ x h. each (Object x) h)
 standing_least p f Message v each = each Message refl
 
 pub stands_itself : (p : Image) (x : Thing) → stands_for p x x ≡ true
-stands_itself p (Object c) = itself p c
-stands_itself p Message = refl
+stands_itself p x = grind (arith, nat_tests, itself p)
 
 pub stands_along : (p : Image) (x y z : Thing) → stands_for p x y ≡ true → stands_for p y z ≡ true → stands_for p x z ≡ true
-stands_along p (Object x) (Object y) (Object z) a b = through p x y z a b
-stands_along p (Object x) (Object y) Message a b = cc
-stands_along p (Object x) Message z a b = cc
-stands_along p Message (Object y) z a b = cc
-stands_along p Message Message (Object z) a b = cc
-stands_along p Message Message Message a b = refl
+stands_along p x y z a b = grind (arith, nat_tests, through)
 
 -- what stands in the place of a thing comes to no more than what the thing is declared to come to
 pub most_stands_in : (p : Image) (f : Thing → ℕ) (x y : Thing) → stands_for p x y ≡ true → most_standing p f x ≤ most_standing p f y
@@ -117,15 +93,7 @@ SessionsEnd p = (c e : ℕ) → parent_of p c ≡ Some e → is_session p e ≡ 
 -- a class with a parent declares it
 parent_named : (p : Image) (c e : ℕ) → parent_of p c ≡ Some e → (d : ClassDecl) × (class_at p c ≡ Some d) × (d.parent ≡ Some e)
 unfolding parent_in
-parent_named p c e is = go (class_at p c) refl is
-  where
-    named : (o : Option ℕ) → lower c o ≡ Some e → o ≡ Some e
-    named None is = cc
-    named (Some f) is = grind arith
-
-    go : (o : Option ClassDecl) → class_at p c ≡ o → lower c (parent_in o) ≡ Some e → (d : ClassDecl) × (class_at p c ≡ Some d) × (d.parent ≡ Some e)
-    go None at is = cc
-    go (Some d) at is = (d, at, named d.parent is)
+parent_named p c e is = grind (arith, nat_tests)
 
 descends_plainly : (k : ClassKind) → may_descend k ≡ true → is_session_kind k ≡ false
 unfolding is_session_kind
@@ -139,12 +107,11 @@ sessions_end p formed linked c e parent =
     let d = own.0 in
     let fits = all_there (λ d. ParentFits p.header.version (length p.classes) d.kind d.parent) p.classes c d formed.families.parents own.1 in
     let may = subst (λ o. ParentFits p.header.version (length p.classes) d.kind o) own.2 fits in
-    let goes : IfSome (slice_get p.classes e) (Continues d) = subst (λ o. IfSome o (λ e. IfSome (slice_get p.classes e) (Continues d))) own.2 (all_there (ContinuesParent p) p.classes c d linked.parents own.1) in
+    let goes : IfSome (slice_get p.classes e) (Continues d) = grind (arith, all_there (ContinuesParent p) p.classes c d linked.parents own.1) in
     of (slice_get p.classes e) refl goes may.1
   where
     of : (o : Option ClassDecl) → slice_get p.classes e ≡ o → IfSome o (Continues (parent_named p c e parent).0) → may_descend (parent_named p c e parent).0.kind ≡ true → is_session p e ≡ false
-    of None at goes may = ap (λ o. is_session_in (kind_in o)) at
-    of (Some f) at goes may = ap (λ o. is_session_in (kind_in o)) at ∙ sym (ap is_session_kind goes.kind) ∙ descends_plainly (parent_named p c e parent).0.kind may
+    of x at goes may = grind (arith, nat_tests, descends_plainly, parent_named)
 
 pub session_alone : (p : Image) → SessionsEnd p → (s x : ℕ) → is_session p s ≡ true → descends p x s ≡ true → x ≡ s
 session_alone p ends s x is h = along p (λ c. c ≡ s) s (λ c e parent same. absurd (clash c e parent same)) refl x h
@@ -171,8 +138,7 @@ module _ (R : ℕ → ℕ → Type 0) (none : R 0 0) (maxima : (x y z w : ℕ) �
       go false is = none
 
   pub below_related : (p : Image) (f g : ℕ → ℕ) (c : ℕ) → ((x : ℕ) → descends p x c ≡ true → R (f x) (g x)) → R (most_below p f c) (most_below p g c)
-  below_related p f g c each =
-      maxima (f c) (g c) (most_of (λ y. descends p y c) f (length p.classes)) (most_of (λ y. descends p y c) g (length p.classes))
+  below_related p f g c each = maxima (f c) (g c) (most_of (λ y. descends p y c) f (length p.classes)) (most_of (λ y. descends p y c) g (length p.classes))
       (each c (itself p c)) (most_related (λ y. descends p y c) f g (length p.classes) each)
 
   pub standing_related :
@@ -181,8 +147,7 @@ module _ (R : ℕ → ℕ → Type 0) (none : R 0 0) (maxima : (x y z w : ℕ) �
   standing_related p f g Message each = each Message refl
 
   pub run_related : (p : Image) (f g : ℕ → ℕ) (j : ℕ) → ((k : ℕ) → MayRun p j k → R (f k) (g k)) → R (most_run p f j) (most_run p g j)
-  run_related p f g j each =
-      maxima (f j) (g j) (most_of (λ k. overrides p k j) f (length p.methods)) (most_of (λ k. overrides p k j) g (length p.methods))
+  run_related p f g j each = maxima (f j) (g j) (most_of (λ k. overrides p k j) f (length p.methods)) (most_of (λ k. overrides p k j) g (length p.methods))
       (each j (inl refl)) (most_related (λ k. overrides p k j) f g (length p.methods) (λ k over. each k (inr over)))
 
 module _ (R : ℕ → ℕ → Type 0) (none : R 0 0) (plus : (x y z w : ℕ) → R x y → R z w → R (x + z) (y + w))
@@ -191,8 +156,7 @@ module _ (R : ℕ → ℕ → Type 0) (none : R 0 0) (plus : (x y z w : ℕ) →
   one_related None each = nobody
   one_related (Some k) each = each k refl
 
-  in_related :
-      (n : ℕ) (o : Option ℕ) → ((k d : ℕ) → descends_in p n o d ≡ true → own_role p d Destruct ≡ Some k → R (f (Some k)) (g (Some k))) →
+  in_related : (n : ℕ) (o : Option ℕ) → ((k d : ℕ) → descends_in p n o d ≡ true → own_role p d Destruct ≡ Some k → R (f (Some k)) (g (Some k))) →
       R (line_in p f n o) (line_in p g n o)
   unfolding descends_in
   in_related zero None each = none

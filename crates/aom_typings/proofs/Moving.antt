@@ -1,5 +1,6 @@
 -- What the pass has found at a place stays so, where a table changes before that place alone.
-use Rattle.std.proofs.Common.{◌≡◌, ◌<◌, ◌≤◌, ◌+◌, ◌-◌, ◌*◌, ◌∙◌, ℕ, suc, List, Some, None, inl, inr, ⊎_elim, refl, sym, ap, arith, subst}
+use Rattle.std.proofs.lemmas.Bool.Decides.{nat_tests}
+use Rattle.std.proofs.Common.{◌≡◌, ◌<◌, ◌≤◌, ◌+◌, ◌-◌, ◌*◌, ◌∙◌, ℕ, suc, List, Some, None, refl, sym, ap, arith, subst}
 use Rattle.std.specs.Prelude.{max}
 use Rattle.aom_image.specs.Image.{Image}
 use Rattle.aom_instructions.specs.declared.instr.Instr.{Instr}
@@ -12,7 +13,7 @@ use Rattle.aom_shape.specs.Shape.{Shape}
 use Rattle.aom_rules.specs.Typing.{Typing}
 use Rattle.aom_typings.proofs.Ways.{JumpsForward}
 use Rattle.aom_typings.specs.Prices.{Prices, Stands, own, price}
-use Rattle.aom_typings.specs.Costs.{AmongFlows, GoesOut, Region, Round, Whole, destructor_price}
+use Rattle.aom_typings.specs.Costs.{AmongFlows, Region, Round, Whole, destructor_price}
 use Rattle.aom_typings.specs.Layers.{Pays, PaysBefore}
 use Rattle.aom_typings.specs.Sweeping.{Afters, IsAfter, IsInnermost, after, all_going, most_within}
 use Rattle.aom_typings.proofs.At.{IsSweptAt}
@@ -24,13 +25,10 @@ use Rattle.aom_typings.proofs.Related.{most_related, own_related}
 -- ---- instructions and flows
 
 -- two tables that say the same of the methods that are paid for
-pub own_same :
-    (keep : ℕ → ℕ) (p : Image) (c c' : Prices) →
-    ((x : Thing) → c.destruction x ≡ keep (all_going p (destructor_price c) x)) →
+pub own_same : (keep : ℕ → ℕ) (p : Image) (c c' : Prices) → ((x : Thing) → c.destruction x ≡ keep (all_going p (destructor_price c) x)) →
     ((x : Thing) → c'.destruction x ≡ keep (all_going p (destructor_price c') x)) →
     (m : ℕ) (sh : Shape) (i : Instr) → ((k : ℕ) → Pays p m sh i k → price c' k ≡ price c k) → own p m c' sh i ≡ own p m c sh i
-own_same keep p c c' classes classes' =
-    own_related (λ x y. x ≡ y) refl p c' c (λ x y e. ap (λ n. 1 + n) e) max_same
+own_same keep p c c' classes classes' = own_related (λ x y. x ≡ y) refl p c' c (λ x y e. ap (λ n. 1 + n) e) max_same
     (λ x h. classes' x ∙ (ap keep (going_same p (destructor_price c') (destructor_price c) refl x h) ∙ sym (classes x)))
 
 pub most_same : (p : Image) (c c' : Prices) (m : ℕ) (r : Region) (fs : List Flow) → ((to : ℕ) → AmongFlows to fs → c'.from m to ≡ c.from m to) → most_within c' m r fs ≡ most_within c m r fs
@@ -46,8 +44,7 @@ pub record AreSameFrom (p : Image) (c c' : Prices) (a a' : Afters) (m down : ℕ
   pub after : (from to d n : ℕ) → down ≤ to → Body p m from to d n → a' m from ≡ a m from
 
 module _
-    (keep : ℕ → ℕ) (p : Image) (t : Typing) (c c' : Prices) (a a' : Afters) (m : ℕ) (looped : IsLooped p)
-    (forward : JumpsForward p m)
+    (keep : ℕ → ℕ) (p : Image) (t : Typing) (c c' : Prices) (a a' : Afters) (m : ℕ) (looped : IsLooped p) (forward : JumpsForward p m)
     (layered : PaysBefore p t) (classes : (x : Thing) → c.destruction x ≡ keep (all_going p (destructor_price c) x))
     (classes' : (x : Thing) → c'.destruction x ≡ keep (all_going p (destructor_price c') x))
     (place : ℕ) (same : AreSameFrom p c c' a a' m place) where
@@ -56,13 +53,13 @@ module _
   after_same Whole k later w = refl
   after_same (Round f e) k later w = same.after f e w.body.0 w.body.1 (omega (arith, later, w.inside.1)) w.body.2
 
-  plain_same : IsSweptAt keep p t c a m place → (sh : Shape) (i : Instr) (r : Region) → Stands p t m place sh i → loop_in (Some i) ≡ None → next_in (Some i) ≡ None → IsInnermost p m place r →
-      c'.from m place ≡ keep (own p m c' sh i + max (after a' m r) (most_within c' m r (flows p m place sh i)))
+  plain_same : IsSweptAt keep p t c a m place → (sh : Shape) (i : Instr) (r : Region) → Stands p t m place sh i → loop_in (Some i) ≡ None → next_in
+      (Some i) ≡ None → IsInnermost p m place r → c'.from m place ≡ keep (own p m c' sh i + max (after a' m r) (most_within c' m r (flows p m place sh i)))
   plain_same swept sh i r at l n w =
       let here = same.from place (omega arith) in
       let owned = own_same keep p c c' classes classes' m sh i (λ k paid. same.before k (layered.each m place k sh i at paid)) in
       let follows = after_same r place (omega arith) w in
-      let on = most_same p c c' m r (flows p m place sh i) (λ to among. same.from to (let lt = way_forward p t m forward place to sh i at n among in omega (arith, lt))) in
+      let on = most_same p c c' m r _ (λ to among. same.from to (let lt = way_forward p t m forward place to sh i at n among in omega (arith, lt))) in
       here ∙ (swept.plain sh i r at l n w ∙ ap keep (omega (arith, owned, follows, on)))
 
   afters_same : IsSweptAt keep p t c a m place → (from d n : ℕ) (r : Region) → Body p m from place d n → IsInnermost p m from r → IsAfter p t c' a' m from place r
@@ -73,10 +70,7 @@ module _
       record {
         around = omega (arith, old.around, own_after, around);
         out = λ to g. omega (arith, old.out to g, own_after, same.from to (omega (arith, g.outside)));
-        met = ⊎_elim
-            (λ (e : a m from ≡ after a m r). inl (own_after ∙ (e ∙ sym around)))
-            (λ (x : (to : ℕ) × GoesOut p t m from place to × (c.from m to ≡ a m from)). let past = x.1.outside in inr (x.0, x.1, same.from x.0 (omega (arith, past)) ∙ (x.2 ∙ sym own_after)))
-            old.met;
+        met = grind (arith, nat_tests, from, after);
       }
     where
       round_it : (s : Region) → IsInnermost p m from s → after a' m s ≡ after a m s

@@ -71,8 +71,8 @@ module _ (p : Image) (t : Typing) (m from end : ℕ) (h : ℕ → ℕ) where
   module _ (P : ℕ → Type 0) (none : P 0) (one : (to : ℕ) → GoesOut p t m from end to → P (h to)) where
     place_one : (place : ℕ) → from < place → place ≤ end → (s : Option Shape) (o : Option Instr) → shape_at t m place ≡ s → instr_at p m place ≡ o → P (place_out place s o)
     unfolding place_out
-    place_one place after upto (Some sh) (Some i) es eo = flows_one end h P none (flows p m place sh i) (λ to among past.
-        one to (record { place = place; inside = (after, upto); shape = sh; instr = i; stands = record { shape = es; instr = eo }; flow = among; outside = past }))
+    place_one place after upto (Some sh) (Some i) es eo = flows_one end h P none (flows p m place sh i) (λ to among past. one to
+        (record { place = place; inside = (after, upto); shape = sh; instr = i; stands = record { shape = es; instr = eo }; flow = among; outside = past }))
     place_one place after upto (Some sh) None es eo = none
     place_one place after upto None o es eo = none
 
@@ -80,7 +80,7 @@ module _ (p : Image) (t : Typing) (m from end : ℕ) (h : ℕ → ℕ) where
     unfolding body_out
     body_one zero within = none
     body_one (suc n) within = either_max P (body_out n) (cond (nat_lt from n) there 0) (body_one n (omega (arith, within)))
-        (either_cond P (nat_lt from n) there 0 (λ past. place_one n (ltb-true from n past) (omega (arith, within)) (shape_at t m n) (instr_at p m n) refl refl) (λ near. none))
+        (either_cond P (nat_lt from n) there 0 (λ past. place_one n (ltb-true from n past) (omega (arith, within)) _ _ refl refl) (λ near. none))
       where
         there : ℕ
         there = place_out n (shape_at t m n) (instr_at p m n)

@@ -1,12 +1,12 @@
 -- A table that pays for each line of destructors pays for the first of it; a call pays for what it names, and a cancel for each that may run.
-use Rattle.std.proofs.Common.{None, Option, Some, ap, arith, cond, refl, suc, true, zero, ℕ, ◌+◌, ◌≡◌, ◌≤◌}
-use Rattle.std.specs.Prelude.{is_some}
+use Rattle.std.proofs.lemmas.Bool.Decides.{nat_tests}
+use Rattle.std.proofs.Common.{None, Option, Some, ap, arith, suc, true, zero, ℕ, ◌+◌, ◌≡◌, ◌≤◌}
 use Rattle.aom_image.specs.Image.{Image}
 use Rattle.aom_image.specs.declared.method.Role.TheVariants.{Cancel, Destruct}
 use Rattle.aom_image.specs.declared.method.Thing.{Thing}
-use Rattle.aom_image.specs.declared.method.Thing.TheVariants.{Message, Object}
-use Rattle.aom_roles.specs.Families.{descends, parent_of}
-use Rattle.aom_classes.specs.Roles.{destructor_of, keeper_in, own_role, role_by, role_of}
+use Rattle.aom_image.specs.declared.method.Thing.TheVariants.{Object}
+use Rattle.aom_roles.specs.Families.{descends}
+use Rattle.aom_classes.specs.Roles.{destructor_of, keeper_in, role_by, role_of}
 use Rattle.aom_rules.specs.Typing.{Typing}
 use Rattle.aom_typings.specs.Most.{line, line_in}
 use Rattle.aom_typings.specs.Prices.{IsPriced, Prices, call_price, cancel_price, perhaps_price, price, sessions_cost}
@@ -16,28 +16,14 @@ first_in : (p : Image) (c : Prices) (n : ℕ) (o : Option ℕ) → perhaps_price
 unfolding keeper_in
 first_in p c zero None = omega arith
 first_in p c (suc n) None = omega arith
-first_in p c zero (Some k) = go (own_role p k Destruct) refl
-  where
-    go : (o : Option ℕ) → own_role p k Destruct ≡ o → perhaps_price c (role_by p Destruct (cond (is_some o) (Some k) None)) ≤ perhaps_price c o
-    go None e = omega arith
-    go (Some m) e = let same = ap (perhaps_price c) e in omega (arith, same)
-first_in p c (suc n) (Some k) = go (own_role p k Destruct) refl (first_in p c n (parent_of p k))
-  where
-    go :
-        (o : Option ℕ) → own_role p k Destruct ≡ o →
-        perhaps_price c (role_by p Destruct (keeper_in p n (parent_of p k) Destruct)) ≤ line_in p (perhaps_price c) n (parent_of p k) →
-        perhaps_price c (role_by p Destruct (cond (is_some o) (Some k) (keeper_in p n (parent_of p k) Destruct))) ≤
-        perhaps_price c o + line_in p (perhaps_price c) n (parent_of p k)
-    go None e above = omega (arith, above)
-    go (Some m) e above = let same = ap (perhaps_price c) e in omega (arith, same)
+first_in p c zero (Some k) = grind (arith, nat_tests)
+first_in p c (suc n) (Some k) = grind (arith, nat_tests, first_in p c n)
 
 first_of_line : (p : Image) (c : Prices) (x : Thing) → perhaps_price c (destructor_of p x) ≤ line p (perhaps_price c) x
 unfolding role_of
-first_of_line p c (Object k) = first_in p c k (Some k)
-first_of_line p c Message = omega arith
+first_of_line p c x = grind (arith, nat_tests, first_in p c)
 
-pub sessions_paid :
-    (p : Image) (t : Typing) (c : Prices) → IsPriced p t c → (x : Thing) →
+pub sessions_paid : (p : Image) (t : Typing) (c : Prices) → IsPriced p t c → (x : Thing) →
     1 + perhaps_price c (destructor_of p x) + sessions_cost p (λ k. c.destruction (Object k)) x ≤ c.destruction x
 sessions_paid p t c priced x = omega (arith, priced.lines x, first_of_line p c x)
 

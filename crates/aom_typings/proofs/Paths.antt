@@ -1,6 +1,6 @@
 -- What the paths from a place cost, by the instruction that stands there.
 use Rattle.std.proofs.lemmas.Option.{same_Some}
-use Rattle.std.proofs.Common.{⊎_elim, ◌≡◌, ◌+◌, ◌*◌, ◌∙◌, ℕ, suc, Some, None, inl, inr, refl, sym, subst, arith}
+use Rattle.std.proofs.Common.{⊎_elim, ◌≡◌, ◌+◌, ◌*◌, ◌∙◌, ℕ, suc, Some, None, inl, inr, refl, sym, arith}
 use Rattle.std.specs.Prelude.{◌⊎◌}
 use Rattle.aom_image.specs.Image.{Image}
 use Rattle.aom_instructions.specs.declared.instr.Instr.{Instr}
@@ -49,15 +49,13 @@ module _ (p : Image) (t : Typing) (c : Prices) (m : ℕ) where
 
   -- one thing alone stands there
   stepped : (r : Region) (place k : ℕ) (sh sh' : Shape) (i i' : Instr) → Stands p t m place sh i → Stands p t m place sh' i' → Steps r place k sh i → Steps r place k sh' i'
-  stepped r place k sh sh' i i' a b s =
-      subst (λ j. Steps r place k sh' j) (same_instr place sh sh' i i' a b) (subst (λ x. Steps r place k x i) (same_Some sh sh' (sym a.shape ∙ b.shape)) s)
+  stepped r place k sh sh' i i' a b s = grind arith
 
   -- a path begins outside, or takes a step
   begins : (r : Region) (place k : ℕ) → Costs p t c m r place k →
       ((Inside r place → ⊥) × (k ≡ 0)) ⊎ (Inside r place × ((sh : Shape) (i : Instr) → Stands p t m place sh i → Steps r place k sh i))
   begins r place k (outside far) = inl (far, refl)
-  begins r place k (ends {sh = sh} {i = i} inside it none) =
-      inr (inside, λ sh' i' at. stepped r place k sh sh' i i' it at ((plain_steps r place k sh i none).0 (inl refl)))
+  begins r place k (ends {sh = sh} {i = i} inside it none) = grind (arith, plain_steps r place k sh i none)
   begins r place k (goes {to = to} {n = n} {sh = sh} {i = i} inside it none plain among rest) =
       let on : GoesOn r place _ sh i = record { to = to; rest = n; among = among; plain = plain; path = rest; is = refl } in
       inr (inside, λ sh' i' at. stepped r place k sh sh' i i' it at ((plain_steps r place k sh i none).0 (inr on)))

@@ -1,4 +1,5 @@
 -- What one pass finds pays for each move.
+use Rattle.std.proofs.lemmas.Bool.Decides.{nat_tests}
 use Rattle.std.proofs.Common.{◌≡◌, ◌≤◌, ◌+◌, ℕ, suc, true, List, [], ◌∷◌, Some, None, inl, inr, refl, ap, arith, subst}
 use Rattle.aom_image.specs.Image.{Image}
 use Rattle.aom_image.specs.WellFormed.{WellFormed}
@@ -17,11 +18,11 @@ use Rattle.aom_rules.specs.Typing.{IsTyped, Typing}
 use Rattle.aom_typings.specs.Prices.{AllPaid, IsPriced, Prices, Stands, own, perhaps_price, sessions_cost}
 use Rattle.aom_typings.specs.Costs.{AmongFlows, Region}
 use Rattle.aom_typings.specs.Most.{line, most_standing}
-use Rattle.aom_typings.proofs.Mosts.{most_stands_in, standing_has, stands_itself}
+use Rattle.aom_typings.proofs.Mosts.{most_stands_in}
 use Rattle.aom_typings.specs.PriceLaws.{SweptPays}
 use Rattle.aom_typings.specs.Sweeping.{Afters, IsInnermost, IsSwept, after, is_past}
 use Rattle.aom_typings.proofs.At.{place_of}
-use Rattle.aom_typings.proofs.Going.{by_rule, line_is, ruled_of}
+use Rattle.aom_typings.proofs.Going.{by_rule, ruled_of}
 use Rattle.aom_typings.proofs.Adding.{by_past, leads_on, reached_is_some, within_most}
 use Rattle.aom_typings.proofs.Regions.{by_kind, innermost}
 use Rattle.aom_typings.proofs.Ways.{IsReached}
@@ -48,14 +49,14 @@ module _ (p : Image) (t : Typing) (c : Prices) (a : Afters) (looped : IsLooped p
           ((place_of (λ n. n) p t c a swept m e).afters f v.body.0 v.body.1 round_it.0 v.body.2 round_it.1).out to
           (record { place = place; inside = v.inside; shape = sh; instr = i; stands = at; flow = among; outside = after })
 
-  flows_paid : (m place : ℕ) (sh : Shape) (i : Instr) → Stands p t m place sh i → loop_in (Some i) ≡ None → next_in (Some i) ≡ None → AllPaid c m (own p m c sh i) (c.from m place) (flows p m place sh i)
+  flows_paid : (m place : ℕ) (sh : Shape) (i : Instr) →
+      Stands p t m place sh i → loop_in (Some i) ≡ None → next_in (Some i) ≡ None → AllPaid c m (own p m c sh i) (c.from m place) (flows p m place sh i)
   flows_paid m place sh i at l n = each_paid c m (own p m c sh i) (c.from m place) (flows p m place sh i) paid
     where
       paid_in : (r : Region) → IsInnermost p m place r → (to : ℕ) → AmongFlows to (flows p m place sh i) → own p m c sh i + c.from m to ≤ c.from m place
       paid_in r w to among =
           let found = (place_of (λ n. n) p t c a swept m place).plain sh i r at l n w in
-          by_past (is_past r to) (own p m c sh i + c.from m to ≤ c.from m place)
-          (λ past. omega (arith, found, out_paid m place to sh i r at among w past))
+          by_past (is_past r to) (own p m c sh i + c.from m to ≤ c.from m place) (λ past. omega (arith, found, out_paid m place to sh i r at among w past))
           (λ near. omega (arith, found, within_most c m to r (flows p m place sh i) among near))
 
       paid : (to : ℕ) → AmongFlows to (flows p m place sh i) → own p m c sh i + c.from m to ≤ c.from m place
@@ -104,18 +105,13 @@ module _ (p : Image) (t : Typing) (c : Prices) (a : Afters) (looped : IsLooped p
           omega (arith, found, one)
 
       next : (d to : ℕ) → i ≡ Next d to → own p m c sh i ≤ c.from m place
-      next d to e =
-          let paid = on_paid m place d to sh (subst (λ j. Stands p t m place sh j) e at) in
-          let one = ap (λ j. own p m c sh j) e in
-          omega (arith, paid, one)
+      next d to e = grind (arith, nat_tests, on_paid m place d to sh)
 
   ruled : (x : Thing) → c.destruction x ≡ most_standing p (by_rule p c) x
   ruled = ruled_of p formed linked c swept.classes
 
   lines_paid : (x : Thing) → 1 + line p (perhaps_price c) x + sessions_cost p (λ k. c.destruction (Object k)) x ≤ c.destruction x
-  lines_paid x =
-      let here = standing_has p (by_rule p c) x x (stands_itself p x) in
-      omega (arith, ruled x, here, line_is p c x)
+  lines_paid x = grind (arith, ruled x)
 
   priced : IsPriced p t c
   priced = record {

@@ -1,4 +1,5 @@
 -- What the pass finds at a place, by the instruction that stands there.
+use Rattle.std.proofs.lemmas.Bool.Decides.{nat_tests}
 use Rattle.std.proofs.lemmas.Option.{same_Some}
 use Rattle.std.proofs.Common.{◌≡◌, ◌≤◌, ◌+◌, ◌-◌, ◌*◌, ◌∙◌, ℕ, suc, Option, Some, None, inl, refl, sym, ap, arith, subst}
 use Rattle.std.specs.Prelude.{IsSome, max}
@@ -27,39 +28,22 @@ instr_same o i j a b = same_Some i j (sym a ∙ b)
 
 module _ (keep : ℕ → ℕ) (p : Image) (t : Typing) (c : Prices) (a : Afters) (m place : ℕ) where
   pub nothing_there : instr_at p m place ≡ None → IsSweptAt keep p t c a m place
-  nothing_there none = record {
-    plain = λ sh i r at l n w. absurd (no_instr (instr_at p m place) i none at.instr);
-    loops = λ d n sh at. absurd (no_instr (instr_at p m place) (Loop d n) none at.instr);
-    nexts = λ d from sh at. absurd (no_instr (instr_at p m place) (Next d (suc from)) none at.instr);
-    rounds = λ to d n body reached. absurd (no_instr (instr_at p m place) (Loop d n) none body.begins);
-    afters = λ from d n r body w. absurd (no_instr (instr_at p m place) (Next d (suc from)) none body.ends);
-  }
+  nothing_there none = search (arith, nat_tests, no_instr)
 
   -- an instruction that neither begins a loop nor ends a round
   pub plain_there : (i : Instr) → instr_at p m place ≡ Some i → loop_in (Some i) ≡ None → next_in (Some i) ≡ None →
-      ((sh : Shape) (r : Region) → Stands p t m place sh i → IsInnermost p m place r → c.from m place ≡ keep (own p m c sh i + max (after a m r) (most_within c m r (flows p m place sh i)))) →
-      IsSweptAt keep p t c a m place
-  plain_there i there no_loop no_next found = record {
-    plain = λ sh j r at l n w.
-        let same = instr_same (instr_at p m place) i j there at.instr in
-        subst (λ x. c.from m place ≡ keep (own p m c sh x + max (after a m r) (most_within c m r (flows p m place sh x)))) same (found sh r (record { shape = at.shape; instr = there }) w);
-    loops = λ d n sh at. absurd (no_loop_here i d n no_loop (instr_same (instr_at p m place) i (Loop d n) there at.instr));
-    nexts = λ d from sh at. absurd (no_next_here i d (suc from) no_next (instr_same (instr_at p m place) i (Next d (suc from)) there at.instr));
-    rounds = λ to d n body reached. absurd (no_loop_here i d n no_loop (instr_same (instr_at p m place) i (Loop d n) there body.begins));
-    afters = λ from d n r body w. absurd (no_next_here i d (suc from) no_next (instr_same (instr_at p m place) i (Next d (suc from)) there body.ends));
-  }
+      ((sh : Shape) (r : Region) → Stands p t m place sh i → IsInnermost p m place r →
+      c.from m place ≡ keep (own p m c sh i + max (after a m r) (most_within c m r (flows p m place sh i)))) → IsSweptAt keep p t c a m place
+  plain_there i there no_loop no_next found = search (arith, nat_tests, instr_same, c.from m place, no_loop_here i, no_next_here i)
 
   pub loop_there : (d n : ℕ) → instr_at p m place ≡ Some (Loop d n) → c.from m place ≡ keep (1 + (n - 1) * c.round m place + c.from m (suc place)) →
       (IsSome (shape_at t m (suc place)) → c.from m (suc place) ≡ c.round m place + a m place) → IsSweptAt keep p t c a m place
   loop_there d n there found round = record {
     plain = λ sh j r at l k w. absurd (no_loop_here j d n l (instr_same (instr_at p m place) j (Loop d n) at.instr there));
-    loops = λ e k sh at.
-        let alike : Loop d n ≡ Loop e k = instr_same (instr_at p m place) (Loop d n) (Loop e k) there at.instr in
-        let same : n ≡ k = cc in
-        subst (λ x. c.from m place ≡ keep (1 + (x - 1) * c.round m place + c.from m (suc place))) same found;
+    loops = grind (arith, nat_tests, instr_same);
     nexts = λ e from sh at. absurd (not_both (Loop d n) d n e (suc from) refl (instr_same (instr_at p m place) (Loop d n) (Next e (suc from)) there at.instr));
     rounds = λ to e k body reached. round reached;
-    afters = λ from e k r body w. absurd (not_both (Loop d n) d n e (suc from) refl (instr_same (instr_at p m place) (Loop d n) (Next e (suc from)) there body.ends));
+    afters = grind (arith, nat_tests, not_both, instr_same);
   }
 
   pub next_there : (d from : ℕ) → instr_at p m place ≡ Some (Next d (suc from)) → c.from m place ≡ keep (1 + a m from) →
@@ -67,20 +51,17 @@ module _ (keep : ℕ → ℕ) (p : Image) (t : Typing) (c : Prices) (a : Afters)
   next_there d from there found follows = record {
     plain = λ sh j r at l n w. absurd (no_next_here j d (suc from) n (instr_same (instr_at p m place) j (Next d (suc from)) at.instr there));
     loops = λ e k sh at. absurd (not_both (Loop e k) e k d (suc from) refl (instr_same (instr_at p m place) (Loop e k) (Next d (suc from)) at.instr there));
-    nexts = λ e f sh at. subst (λ x. c.from m place ≡ keep (1 + a m x)) (from_same e f (instr_same (instr_at p m place) (Next d (suc from)) (Next e (suc f)) there at.instr)) found;
-    rounds = λ to e k body reached. absurd (not_both (Loop e k) e k d (suc from) refl (instr_same (instr_at p m place) (Loop e k) (Next d (suc from)) body.begins there));
-    afters = λ f e k r body w.
-        let same = from_same e f (instr_same (instr_at p m place) (Next d (suc from)) (Next e (suc f)) there body.ends) in
-        subst (λ x. IsAfter p t c a m x place r) same (follows r (subst (λ x. IsInnermost p m x r) (sym same) w));
+    nexts = grind (arith, nat_tests, instr_same);
+    rounds = grind (arith, nat_tests, not_both, instr_same);
+    afters = grind (arith, nat_tests, instr_same);
   }
     where
       from_same : (e f : ℕ) → Next d (suc from) ≡ Next e (suc f) → from ≡ f
       from_same e f same = let one : suc from ≡ suc f = cc in omega (arith, one)
 
 -- what is found at a place is no less than what follows the region that it stands in, where that is within what is kept
-module _
-    (keep : ℕ → ℕ) (p : Image) (t : Typing) (looped : IsLooped p) (typed : IsTyped p t) (c : Prices) (a : Afters) (m place : ℕ) (r : Region) (fits : (x : ℕ) → after a m r ≤ x → after a m r ≤ keep x)
-    (swept : (k : ℕ) → place ≤ k → IsSweptAt keep p t c a m k) where
+module _ (keep : ℕ → ℕ) (p : Image) (t : Typing) (looped : IsLooped p) (typed : IsTyped p t) (c : Prices) (a : Afters)
+    (m place : ℕ) (r : Region) (fits : (x : ℕ) → after a m r ≤ x → after a m r ≤ keep x) (swept : (k : ℕ) → place ≤ k → IsSweptAt keep p t c a m k) where
   pub pays_after : IsReached t m place → IsInnermost p m place r → after a m r ≤ c.from m place
   pays_after reached w = by_kind (after a m r ≤ c.from m place) passes.instr plain loop next
     where

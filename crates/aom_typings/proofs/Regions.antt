@@ -1,4 +1,5 @@
 -- How paths stay in the body of the innermost loop, and how they leave it: from what linking promises of loops and jumps.
+use Rattle.std.proofs.lemmas.Bool.Decides.{nat_tests}
 use Rattle.std.proofs.lemmas.Option.{same_Some}
 use Rattle.std.proofs.Common.{◌≡◌, ◌<◌, ◌≤◌, ◌∙◌, ℕ, zero, suc, true, false, Option, Some, None, inl, inr, ⊎_elim, refl, sym, ap, arith, subst}
 use Rattle.std.specs.Prelude.{◌⊎◌}
@@ -59,18 +60,13 @@ pub data Past (to : ℕ) : Region → Type 0 where
   past_end : (from end : ℕ) → end < to → Past to (Round from end)
 
 pub passed : (r : Region) (to : ℕ) → is_past r to ≡ true → Past to r
-passed Whole to is = cc
-passed (Round from end) to is = past_end from end (ltb-true end to is)
+passed x to is = grind (arith, nat_tests, past_end, ltb-true)
 
 pub past_is_outside : (r : Region) (to : ℕ) → is_past r to ≡ true → Inside r to → ⊥
-past_is_outside r to is = go r (passed r to is)
-  where
-    go : (r : Region) → Past to r → Inside r to → ⊥
-    go _ (past_end from end after) inside = omega (arith, after, inside.1)
+past_is_outside r to is = grind (arith, nat_tests, passed r to is, past_end)
 
 pub here_is_inside : (r : Region) (place to : ℕ) → Inside r place → place < to → is_past r to ≡ false → Inside r to
-here_is_inside Whole place to inside later past = tt
-here_is_inside (Round from end) place to inside later past = (omega (arith, inside.0, later), omega (arith, ltb-false end to past))
+here_is_inside x place to inside later past = grind (arith, nat_tests, ltb-false)
 
 -- ---- bodies
 
@@ -83,77 +79,43 @@ module _ (p : Image) (looped : IsLooped p) (m : ℕ) where
 
   -- a body that has a loop has the loop's body
   pub ends_before : (from to d n f e k l : ℕ) → Body p m from to d n → Body p m f e k l → IsIn from to f → e ≤ to
-  ends_before from to d n f e k l body other inside = ⊎_elim
-      (λ (lt : f < to). nested from to d n f e k l body other (omega (arith, inside.0)) lt)
-      (λ (ge : to ≤ f).
-      let same : f ≡ to = omega (arith, ge, inside.1) in
-      let clash : Some (Loop k l) ≡ Some (Next d (suc from)) = sym other.begins ∙ (ap (λ x. instr_at p m x) same ∙ body.ends) in
-      absurd (not_both (Loop k l) k l d (suc from) refl (same_Some (Loop k l) (Next d (suc from)) clash)))
-      (cases_lt f to)
+  ends_before from to d n f e k l body other inside = grind (arith, nested from to d n f e k l body other)
 
   pub one_end : (from to to' d n d' n' : ℕ) → Body p m from to d n → Body p m from to' d' n' → to' ≡ to
-  one_end from to to' d n d' n' body other =
-      let here = nested from to d n from to' d' n' body other (omega arith) (omega (arith, body.later)) in
-      let there = nested from to' d' n' from to d n other body (omega arith) (omega (arith, other.later)) in
-      omega (arith, here, there)
+  one_end from to to' d n d' n' body other = grind (arith, nested from to d n from to' d' n' body other, nested from to' d' n' from to d n other body)
 
   -- where an instruction goes on in a body, unless it begins the loop, it stands there
   pub came_from : (place to : ℕ) (i : Instr) → instr_at p m place ≡ Some i → loop_in (Some i) ≡ None → Way place i to → (f e k l : ℕ) → Body p m f e k l → IsIn f e to → IsIn f e place
   unfolding loop_in
-  came_from place to i stands none on f e k l body inside = ⊎_elim
-      (λ (lt : f < place). (lt, omega (arith, inside.1)))
-      (λ (ge : place ≤ f).
-      let same : f ≡ place = omega (arith, ge, inside.0) in
-      let begins : Some i ≡ Some (Loop k l) = sym stands ∙ (ap (λ x. instr_at p m x) (sym same) ∙ body.begins) in
-      absurd (no_loop_here i k l none (same_Some i (Loop k l) begins)))
-      (cases_lt f place)
+  came_from place to i stands none on f e k l body inside = grind arith
   came_from place to i stands none (jump j) f e k l body inside = looped.jumps m place to i stands j f e k l body inside
   came_from place to i stands none (back b) f e k l body inside =
       let next = goes_back i to b in
       looped.nexts m place next.0 to (stands ∙ ap (λ x. Some x) next.1) f e k l body inside
 
   pub first_same : (place e d k from f : ℕ) → instr_at p m place ≡ Some (Next d (suc from)) → instr_at p m e ≡ Some (Next k (suc f)) → e ≡ place → f ≡ from
-  first_same place e d k from f at closes here =
-      let two : Some (Next k (suc f)) ≡ Some (Next d (suc from)) = sym closes ∙ (ap (λ x. instr_at p m x) here ∙ at) in
-      let one : suc f ≡ suc from = cc in
-      omega (arith, one)
+  first_same place e d k from f at closes here = grind (arith, nat_tests)
 
   -- the body round a loop ends after it
   pub ends_after : (from to d n f e k l : ℕ) → Body p m from to d n → Body p m f e k l → IsIn f e from → to < e
-  ends_after from to d n f e k l body other inside = ⊎_elim (λ (lt : to < e). lt)
-      (λ (ge : e ≤ to).
-      let before = ends_before f e k l from to d n other body inside in
-      let same : e ≡ to = omega (arith, ge, before) in
-      let first = first_same to e d k from f body.ends other.ends same in
-      absurd (omega (arith, first, inside.0)))
-      (cases_lt to e)
+  ends_after from to d n f e k l body other inside = grind (arith, ends_before f e k l from to d n other body inside)
 
   -- ---- the innermost body
 
   -- that of a loop, at its body's first place
   pub innermost_of_body : (from to d n : ℕ) → Body p m from to d n → IsInnermost p m (suc from) (Round from to)
-  innermost_of_body from to d n body = record {
-    body = (d, n, body);
-    inside = (omega arith, omega (arith, body.later));
-    others = λ f e k l other inside. omega (arith, inside.0);
-  }
+  innermost_of_body from to d n body = search (arith, nat_tests)
 
   -- a region in which a loop begins, or which begins after one, is a body
   data Begun (from : ℕ) : Region → Type 0 where
     begun : (first to : ℕ) → from ≤ first → Begun from (Round first to)
 
   begun_there : (from : ℕ) (r : Region) → BeginsBefore from r → Begun from r
-  begun_there from Whole before = absurd before
-  begun_there from (Round first to) before = begun first to before
+  begun_there from x before = grind (arith, nat_tests, begun)
 
   -- that of a next's loop, at the next
   pub innermost_of_next : (place d from n : ℕ) (r : Region) → instr_at p m place ≡ Some (Next d (suc from)) → Body p m from place d n → IsInnermost p m place r → (end : ℕ) × (r ≡ Round from end)
-  innermost_of_next place d from n r at body w = go r w (begun_there from r (w.others from place d n body (body.later, omega arith)))
-    where
-      go : (s : Region) → IsInnermost p m place s → Begun from s → (end : ℕ) × (s ≡ Round from end)
-      go _ v (begun f e before) =
-          let ends = nested from place d n f e v.body.0 v.body.1 body v.body.2 before v.inside.0 in
-          (e, ap (λ x. Round x e) (first_same place e d v.body.0 from f at v.body.2.ends (omega (arith, ends, v.inside.1))))
+  innermost_of_next place d from n r at body w = grind (arith, begun_there from r, nested from place d n)
 
   -- there is no other
   same_round : (place f e : ℕ) (s : Region) → IsInnermost p m place (Round f e) → IsInnermost p m place s → Begun f s → s ≡ Round f e
@@ -170,11 +132,7 @@ module _ (p : Image) (looped : IsLooped p) (m : ℕ) where
 
   -- and it stays the same along a path that stays in it
   pub innermost_on : (place to : ℕ) (i : Instr) (r : Region) → instr_at p m place ≡ Some i → loop_in (Some i) ≡ None → Way place i to → IsInnermost p m place r → Inside r to → IsInnermost p m to r
-  innermost_on place to i r stands none way w inside = record {
-    body = w.body;
-    inside = inside;
-    others = λ f e k l other there. w.others f e k l other (came_from place to i stands none way f e k l other there);
-  }
+  innermost_on place to i r stands none way w inside = search (arith, nat_tests, came_from place to i stands none way)
 
   -- no loop round the first place
   pub innermost_first : IsInnermost p m 0 Whole
@@ -188,18 +146,13 @@ module _ (p : Image) (looped : IsLooped p) (m : ℕ) where
     out_from from to d n out body g = by_kind (loop_in (Some g.instr) ≡ None) g.instr (λ none next. none) loop (λ k back e. next_is_no_loop g.instr k back e)
       where
         loop : (k l : ℕ) → g.instr ≡ Loop k l → loop_in (Some g.instr) ≡ None
-        loop k l e =
-            let way = loop_way g.place k l out (subst (λ x. Way g.place x out) e (way_of p m g.place out g.shape g.instr g.flow)) in
-            let same : g.place ≡ to = omega (arith, way, g.inside.1, g.outside) in
-            let next : Some g.instr ≡ Some (Next d (suc from)) = sym g.stands.instr ∙ (ap (λ x. instr_at p m x) same ∙ body.ends) in
-            absurd (not_both g.instr k l d (suc from) e (same_Some g.instr (Next d (suc from)) next))
+        loop k l e = grind (arith, nat_tests, loop_way, Way, way_of, not_both, same_Some)
 
     -- a body that has the place to which another body goes out has that body's loop
     out_around : (from to d n out : ℕ) → Body p m from to d n → GoesOut p t m from to out → (f e k l : ℕ) → Body p m f e k l → IsIn f e out → IsIn f e from
     out_around from to d n out body g f e k l other inside =
-        let there = came_from g.place out g.instr g.stands.instr (out_from from to d n out body g) (way_of p m g.place out g.shape g.instr g.flow) f e k l other inside in
-        ⊎_elim
-        (λ (lt : f < from). (lt, omega (arith, g.inside.0, there.1)))
+        let there = came_from _ out _ g.stands.instr (out_from from to d n out body g) (way_of p m g.place out g.shape g.instr g.flow) f e k l other inside in
+        ⊎_elim (λ (lt : f < from). (lt, omega (arith, g.inside.0, there.1)))
         (λ (ge : from ≤ f). let ends = nested from to d n f e k l body other ge (omega (arith, there.0, g.inside.1)) in absurd (omega (arith, ends, inside.1, g.outside)))
         (cases_lt f from)
 
@@ -240,13 +193,10 @@ module _ (p : Image) (looped : IsLooped p) (m : ℕ) where
       loop d n begins =
           let found = looped.begins m k d n begins in
           let body = found.2 in
-          ⊎_elim
-          (λ (lt : k < place). ⊎_elim
+          ⊎_elim (λ (lt : k < place). ⊎_elim
           (λ (past : found.1 < place). inr (λ to' d' n' other inside. let same = one_end k found.1 to' d n d' n' body other in absurd (omega (arith, same, inside.1, past))))
-          (λ (within : place ≤ found.1). inl (found.1, d, n, body, (lt, within)))
-          (cases_lt found.1 place))
-          (λ (ge : place ≤ k). inr (λ to' d' n' other inside. absurd (omega (arith, ge, inside.0))))
-          (cases_lt k place)
+          (λ (within : place ≤ found.1). inl (found.1, d, n, body, (lt, within))) (cases_lt found.1 place))
+          (λ (ge : place ≤ k). inr (λ to' d' n' other inside. absurd (omega (arith, ge, inside.0)))) (cases_lt k place)
 
       go : (o : Option Instr) → instr_at p m k ≡ o → Around place k ⊎ Misses place k
       go None e = inr (λ to d n body inside. let clash : None ≡ Some (Loop d n) = sym e ∙ body.begins in cc)
@@ -259,14 +209,11 @@ module _ (p : Image) (looped : IsLooped p) (m : ℕ) where
   search_below : (place k : ℕ) → ((f e d n : ℕ) → Body p m f e d n → IsIn f e place → f < k) → Found place
   unfolding Found Around Misses
   search_below place zero below = (Whole, record { body = tt; inside = tt; others = λ f e d n other inside. absurd (omega (arith, below f e d n other inside)) })
-  search_below place (suc k) below = ⊎_elim
-      (λ (a : Around place k). (Round k a.0, record { body = (a.1, a.2, a.3); inside = a.4; others = λ f e d n other inside. omega (arith, below f e d n other inside) }))
-      (λ (none : Misses place k). search_below place k (λ f e d n other inside. ⊎_elim
-      (λ (lt : f < k). lt)
-      (λ (ge : k ≤ f). let same : f ≡ k = omega (arith, ge, below f e d n other inside) in
-      absurd (none e d n (subst (λ x. Body p m x e d n) same other) (subst (λ x. IsIn x e place) same inside)))
-      (cases_lt f k)))
-      (around_or place k)
+  search_below place (suc k) below = ⊎_elim (λ (a : Around place k).
+      (Round k a.0, record { body = (a.1, a.2, a.3); inside = a.4; others = λ f e d n other inside. omega (arith, below f e d n other inside) }))
+      (λ (none : Misses place k). search_below place k
+      (λ f e d n other inside. ⊎_elim (λ (lt : f < k). lt) (λ (ge : k ≤ f). let same : f ≡ k = omega (arith, ge, below f e d n other inside) in
+      absurd (none e d n (subst (λ x. Body p m x e d n) same other) (subst (λ x. IsIn x e place) same inside))) (cases_lt f k))) (around_or place k)
 
   pub innermost : (place : ℕ) → (r : Region) × IsInnermost p m place r
   unfolding Found

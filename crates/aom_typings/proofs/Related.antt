@@ -21,7 +21,8 @@ use Rattle.aom_typings.specs.Sweeping.{is_past, most_within}
 
 module _ (R : ℕ → ℕ → Type 0) (none : R 0 0) (p : Image) (c d : Prices) where
   -- where sums with 1 are related, and destructions as the prices of the destructors that run
-  module _ (more : (x y : ℕ) → R x y → R (1 + x) (1 + y)) (maxima : (x y z w : ℕ) → R x y → R z w → R (max x z) (max y w)) (things : (x : Thing) → ((k : ℕ) → Destructs p x k → R (price c k) (price d k)) → R (c.destruction x) (d.destruction x)) where
+  module _ (more : (x y : ℕ) → R x y → R (1 + x) (1 + y)) (maxima : (x y z w : ℕ) → R x y → R z w → R (max x z) (max y w))
+      (things : (x : Thing) → ((k : ℕ) → Destructs p x k → R (price c k) (price d k)) → R (c.destruction x) (d.destruction x)) where
     kind_related : (k : Kind) → ((j : ℕ) → KindDestructs p k j → R (price c j) (price d j)) → R (kind_price c k) (kind_price d k)
     kind_related Unset h = none
     kind_related Word h = none
@@ -35,8 +36,7 @@ module _ (R : ℕ → ℕ → Type 0) (none : R 0 0) (p : Image) (c d : Prices) 
 
     cancel_related : (o : Option ℕ) → ((k : ℕ) → Cancelled p o k → R (price c k) (price d k)) → R (cancel_price p c o) (cancel_price p d o)
     cancel_related None h = none
-    cancel_related (Some x) h =
-        below_related R none maxima p (λ y. perhaps_price c (role_of p y Cancels)) (λ y. perhaps_price d (role_of p y Cancels)) x
+    cancel_related (Some x) h = below_related R none maxima p (λ y. perhaps_price c (role_of p y Cancels)) (λ y. perhaps_price d (role_of p y Cancels)) x
         (λ y descends. perhaps_related (role_of p y Cancels) (λ k is. h k (y, descends, is)))
 
     call_related : (j : ℕ) → ((k : ℕ) → MayRun p j k → R (price c k) (price d k)) → R (call_price p c j) (call_price p d j)

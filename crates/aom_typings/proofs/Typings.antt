@@ -1,4 +1,5 @@
 -- The states of the methods, put together, are a typing of the image, and a typing has the states of each method.
+use Rattle.std.proofs.lemmas.Bool.Decides.{nat_tests}
 use Rattle.std.proofs.Common.{◌≡◌, ℕ, zero, suc, ◌<◌, ◌+◌, List, [], ◌∷◌, ◌++◌, length, length-append, Some, None, IsSome, inl, inr, refl, arith}
 use Rattle.std.proofs.lemmas.Bool.Decides.{eqb_tells, leb_tells}
 use Rattle.aom_image.specs.Image.{Image}
@@ -35,10 +36,7 @@ applies : (p : Image) (t : Typing) (m pc : ℕ) (sh : Shape) → Passes p t m pc
 applies p t m pc sh h = record { instr = h.instr; stands = h.stands; needs = h.needs; flows = meets_all t m _ h.flows }
 
 states_typed : (p : Image) (t : Typing) (m : ℕ) → IsTyped p t → IsSome (method_at p m) → IsMethodTyped p m (at [] t m)
-states_typed p t m h some = record {
-  each = λ pc sh e. applies p t m pc sh (h.each m pc sh e);
-  entry = let k = h.entry m some in record { next = k.0; there = k.1; no_more = k.2 };
-}
+states_typed p t m h some = search (arith, nat_tests, applies p t m, h.each m, h.entry m some, there)
 
 -- and says no more than the strongest one
 pub says_most : (p : Image) (strongest t : Typing) → IsStrongest p strongest → IsTyped p t → (m : ℕ) → IsSome (method_at p m) → IsBelow (at [] t m) (at [] strongest m)
@@ -81,10 +79,7 @@ first_more p t n s h k = record {
 pub image_strongest : (p : Image) (t : Typing) → AreFirst p t (length p.methods) → IsStrongest p t
 image_strongest p t h = record {
   typed = record {
-    each = λ m pc sh e. elim (leb_tells (length p.methods) m) [
-      | inl w ↦ absurd (no_state m pc sh (at_past [] t m (omega (arith, w.1, h.size))) e)
-      | inr w ↦ passes p t m pc sh ((h.each m (omega (arith, w.1))).typed.each pc sh e)
-    ];
+    each = grind (arith, nat_tests, leb_tells, at_past, passes p t);
     entry = λ m some. let k = (h.each m (method_within p m some)).typed.entry in (k.next, k.there, k.no_more);
   };
   each = λ m some. h.each m (method_within p m some);
@@ -95,9 +90,4 @@ image_strongest p t h = record {
 
 -- a method with its strongest states is one of those that have states
 pub has_states : (p : Image) (t : Typing) (m : ℕ) → IsMethodStrongest p m (at [] t m) → m < length t
-has_states p t m h = elim (leb_tells (length t) m) [
-  | inl w ↦
-      let none : None ≡ Some h.typed.entry.next = rw (at_past [] t m w.1) at h.typed.entry.there in
-      absurd cc
-  | inr w ↦ omega (arith, w.1)
-]
+has_states p t m h = grind (arith, nat_tests, leb_tells, at_past)

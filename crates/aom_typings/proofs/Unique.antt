@@ -47,7 +47,7 @@ module _ (p : Image) (t : Typing) (c d : Prices) (formed : WellFormed p) (linked
 pub law_one : PricesAreOne
 law_one p t c d formed linked layered are also = record {
   methods = λ m some. same_there p t c d formed linked layered are also m (method_there p m some);
-  classes = λ x.
-      let same = going_same p (destructor_price c) (destructor_price d) refl x (λ k runs. same_there p t c d formed linked layered are also k (destructs_within p x k runs)) in
+  classes = λ x. let same = going_same p
+      (destructor_price c) (destructor_price d) refl x (λ k runs. same_there p t c d formed linked layered are also k (destructs_within p x k runs)) in
       found_of p formed linked c are.classes x ∙ (same ∙ sym (found_of p formed linked d also.classes x));
 }

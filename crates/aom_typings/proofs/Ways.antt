@@ -1,22 +1,18 @@
 -- Where the flows of an instruction lead: to the next place, where it jumps, or where a next goes back, and each place is reached.
-use Rattle.std.proofs.Common.{◌≡◌, ◌<◌, ℕ, suc, List, [], ◌∷◌, Some, ap, subst}
+use Rattle.std.proofs.lemmas.Bool.Decides.{nat_tests}
+use Rattle.std.proofs.Common.{arith, ◌≡◌, ◌<◌, ℕ, suc, List, [], ◌∷◌, Some, subst}
 use Rattle.aom_image.specs.Image.{Image}
 use Rattle.aom_image.specs.Views.{instr_at}
 use Rattle.aom_instructions.specs.declared.instr.Instr.{Instr}
 use Rattle.aom_classes.specs.Jumps.{back_of, jump_of}
-use Rattle.aom_shape.specs.Kinds.{field, register}
 use Rattle.aom_shape.specs.Needs.{Flow}
 use Rattle.aom_rules.specs.Objects.{flow_jump_empty, flow_jump_null}
-use Rattle.aom_rules.specs.Rules.{flows, ways_of}
+use Rattle.aom_rules.specs.Rules.{flows}
 use Rattle.aom_shape.specs.Shape.{Shape}
-use Rattle.aom_rules.specs.Ways.{Ways, Ends, Goes_on, Goes_to, Branches, Goes_back, Branches_on_null, Branches_on_empty, Branches_in, flowing}
 use Rattle.aom_rules.specs.Typing.{AllLead, Typing, shape_at}
 use Rattle.aom_shape.specs.declared.kind.Filling.{Filling}
-use Rattle.aom_shape.specs.declared.kind.Filling.TheVariants as fillings
 use Rattle.aom_shape.specs.declared.kind.Kind.{Kind}
-use Rattle.aom_shape.specs.declared.kind.Kind.TheVariants as kinds
-use Rattle.aom_rules.proofs.Branching.{by_states}
-use Rattle.aom_rules.proofs.Ways.{Leads, leads}
+use Rattle.aom_rules.proofs.Ways.{leads}
 use Rattle.aom_typings.specs.Costs.{AmongFlows}
 use Rattle.aom_typings.proofs.Among.{by_flow}
 
@@ -36,33 +32,15 @@ AllWays place i (f ∷ fs) = Way place i f.0 × AllWays place i fs
 
 null_ways : (p : Image) (m pc : ℕ) (sh : Shape) (k : Kind) (a to : ℕ) (i : Instr) → jump_of i ≡ Some to → AllWays pc i (flow_jump_null p m pc sh k a to)
 unfolding AllWays
-null_ways p m pc sh kinds.Unset a to i e = tt
-null_ways p m pc sh kinds.Word a to i e = tt
-null_ways p m pc sh kinds.Null a to i e = (jump e, tt)
-null_ways p m pc sh (kinds.Own t age) a to i e = (on, tt)
-null_ways p m pc sh (kinds.Maybe t age) a to i e = (on, (jump e, tt))
+null_ways p m pc sh x a to i e = grind (arith, nat_tests, jump, on)
 
 empty_ways : (p : Image) (m pc : ℕ) (sh : Shape) (x : Filling) (f to : ℕ) (i : Instr) → jump_of i ≡ Some to → AllWays pc i (flow_jump_empty p m pc sh x f to)
 unfolding AllWays
-empty_ways p m pc sh fillings.Empty f to i e = (jump e, tt)
-empty_ways p m pc sh fillings.Full f to i e = (on, tt)
-empty_ways p m pc sh fillings.Perhaps f to i e = (on, (jump e, tt))
+empty_ways p m pc sh x f to i e = grind (arith, nat_tests, jump, on)
 
 all_ways : (p : Image) (m pc : ℕ) (sh : Shape) (i : Instr) → AllWays pc i (flows p m pc sh i)
 unfolding AllWays
-all_ways p m pc sh i = by (ways_of p i) (leads p i)
-  where
-    by : (ways : Ways) → Leads i ways → AllWays pc i (flowing p m pc sh ways)
-    by Ends lead = tt
-    by (Goes_on news) lead = (on, tt)
-    by (Goes_to to) lead = (jump lead, tt)
-    by (Branches to) lead = (on, (jump (ap (λ x. x.1) lead), tt))
-    by (Goes_back to) lead = (back (ap (λ x. x.1) lead), (on, tt))
-    by (Branches_on_null a to) lead = null_ways p m pc sh (register sh a) a to i (ap (λ x. x.1) lead)
-    by (Branches_on_empty f to) lead = empty_ways p m pc sh (field sh f) f to i (ap (λ x. x.1) lead)
-    by (Branches_in there here to) lead =
-        let turned : Way pc i to = jump (ap (λ x. x.1) lead) in
-        by_states (λ fs. AllWays pc i fs) sh (suc pc) there here to tt (λ s. (on, tt)) (λ t. (turned, tt)) (λ s t. (on, (turned, tt)))
+all_ways p m pc sh i = grind (arith, leads p i, on, jump, back)
 
 way_among : (place to : ℕ) (i : Instr) (fs : List Flow) → AllWays place i fs → AmongFlows to fs → Way place i to
 unfolding AllWays
@@ -78,5 +56,5 @@ abbrev pub IsReached : Typing → ℕ → ℕ → Type 0
 IsReached t m place = (sh : Shape) × (shape_at t m place ≡ Some sh)
 
 pub led_to : (t : Typing) (m to : ℕ) (fs : List Flow) → AllLead t m fs → AmongFlows to fs → IsReached t m to
-led_to t m to fs lead among =
-    by_flow to (λ gs. AllLead t m gs → IsReached t m to) (λ f gs e all. subst (λ x. IsReached t m x) e (all.0.0, all.0.1)) (λ f gs rest all. rest all.1) fs among lead
+led_to t m to fs lead among = by_flow to
+    (λ gs. AllLead t m gs → IsReached t m to) (λ f gs e all. subst (λ x. IsReached t m x) e (all.0.0, all.0.1)) (λ f gs rest all. rest all.1) fs among lead

@@ -1,10 +1,10 @@
 -- The cases come out as their tables say; and of the worked method each path from each place costs no more than is said, and one just that.
-use Rattle.std.proofs.Common.{◌≡◌, ◌≤◌, ◌+◌, ◌*◌, ◌∙◌, ℕ, zero, suc, Some, None, inl, inr, ⊎_elim, refl, sym, arith, subst}
+use Rattle.std.proofs.lemmas.Bool.Decides.{nat_tests}
+use Rattle.std.proofs.Common.{◌≡◌, ◌≤◌, ◌+◌, ◌*◌, ◌∙◌, ℕ, suc, Some, None, inl, inr, ⊎_elim, refl, sym, arith, subst}
 use Rattle.std.specs.Prelude.{◌⊎◌}
 use Rattle.aom_image.specs.Views.{class_at, class_in, instr_at, instr_in, method_at}
 use Rattle.aom_instructions.specs.declared.instr.Instr.{Instr}
 use Rattle.aom_instructions.specs.declared.instr.Instr.TheVariants.{Jump, JumpEqual, Loop, Next, Print, Return}
-use Rattle.aom_image.specs.declared.method.Thing.TheVariants.{Object}
 use Rattle.aom_roles.specs.Classes.{kind_in}
 use Rattle.aom_classes.specs.Bodies.{Body}
 use Rattle.aom_classes.specs.Loops.{loop_in, next_in}
@@ -13,10 +13,10 @@ use Rattle.aom_rules.specs.Rules.{flows}
 use Rattle.aom_typings.specs.Cases.{PriceNeedsFail, a_word, worked, worked_typing}
 use Rattle.aom_typings.specs.Costs.{AmongFlows, Costs, GoesOut, Inside, Region, Round, Whole}
 use Rattle.aom_typings.specs.Costs.Costs.{ends, goes, loops}
-use Rattle.aom_typings.specs.Prices.{Prices, Stands, own, price}
+use Rattle.aom_typings.specs.Prices.{Prices, Stands, own}
 use Rattle.aom_typings.proofs.Paths.{GoesOn, Rounds, ends_or_goes, outside_cost, rounds_of}
 use Rattle.aom_typings.proofs.Regions.{no_next_here}
-use Rattle.std.specs.Prelude.{◌==◌, cond, max}
+use Rattle.std.specs.Prelude.{◌==◌, cond}
 use Rattle.aom_classes.specs.Overriding.{leads_in, over_in}
 use Rattle.aom_roles.specs.Families.{descends_in, parent_in}
 use Rattle.std.proofs.lemmas.Bool.{eqb-true}
@@ -30,22 +30,10 @@ There place i = Stands worked worked_typing 0 place a_word i
 -- ---- the code
 
 -- what stands at each place
-at_each :
-    There 0 (Loop 0 3) × There 1 (Loop 1 5) × There 2 (JumpEqual 0 0 7) × There 3 (Print 0) × There 4 (Next 1 2)
+at_each : There 0 (Loop 0 3) × There 1 (Loop 1 5) × There 2 (JumpEqual 0 0 7) × There 3 (Print 0) × There 4 (Next 1 2)
     × There 5 (Next 0 1) × There 6 (Jump 9) × There 7 (Print 0) × There 8 (Print 0) × There 9 (Return 0)
 unfolding method_at instr_in
-at_each = (
-  record { shape = refl; instr = refl },
-  record { shape = refl; instr = refl },
-  record { shape = refl; instr = refl },
-  record { shape = refl; instr = refl },
-  record { shape = refl; instr = refl },
-  record { shape = refl; instr = refl },
-  record { shape = refl; instr = refl },
-  record { shape = refl; instr = refl },
-  record { shape = refl; instr = refl },
-  record { shape = refl; instr = refl },
-)
+at_each = search (arith, nat_tests)
 
 outer : Body worked 0 0 5 0 3
 outer = record { begins = at_each.0.instr; later = omega arith; ends = at_each.5.instr }
@@ -59,9 +47,7 @@ same_depth d t e u same = cc
 -- where the nexts stand: that of depth 1 at 4, and that of depth 0 at 5
 next_place : (to d back : ℕ) → instr_at worked 0 to ≡ Some (Next d back) → to + d ≡ 5
 unfolding method_at instr_in
-next_place (suc (suc (suc (suc zero)))) d back e = omega (arith, same_depth 1 2 d back e)
-next_place (suc (suc (suc (suc (suc zero))))) d back e = omega (arith, same_depth 0 1 d back e)
-next_place _ d back e = absurd (grind arith)
+next_place x d back e = grind (arith, nat_tests, same_depth)
 
 inner_end : (to : ℕ) → instr_at worked 0 to ≡ Some (Next 1 2) → to ≡ 4
 inner_end to e = omega (arith, next_place to 1 2 e)
@@ -101,8 +87,7 @@ module _ (c : Prices) where
   -- an instruction of cost 1 that goes on where paths cost so much at most
   line : (r : Region) (place n : ℕ) (i : Instr) → There place i → loop_in (Some i) ≡ None → Inside r place → own worked 0 c a_word i ≡ 1 →
       ((to : ℕ) → AmongFlows to (flows worked 0 place a_word i) → Most r to n) → Most r place (1 + n)
-  line r place n i at none inside one all k path = ⊎_elim
-      (λ (e : k ≡ own worked 0 c a_word i). omega (arith, e, one))
+  line r place n i at none inside one all k path = ⊎_elim (λ (e : k ≡ own worked 0 c a_word i). omega (arith, e, one))
       (λ (g : GoesOn worked worked_typing c 0 r place k a_word i). omega (arith, g.is, one, all g.to g.among g.rest g.path))
       (ends_or_goes worked worked_typing c 0 r place k path a_word i at none inside)
 
@@ -111,10 +96,7 @@ module _ (c : Prices) where
 
   -- a next ends the round
   round_end : (r : Region) (place d to : ℕ) → There place (Next d to) → loop_in (Some (Next d to)) ≡ None → Inside r place → Most r place 1
-  round_end r place d to at none inside k path = ⊎_elim
-      (λ (e : k ≡ 1). omega (arith, e))
-      (λ (g : GoesOn worked worked_typing c 0 r place k a_word (Next d to)). absurd (no_next_here (Next d to) d to g.plain refl))
-      (ends_or_goes worked worked_typing c 0 r place k path a_word (Next d to) at none inside)
+  round_end r place d to at none inside k path = grind (arith, no_next_here (Next d to) d to)
 
   from_9 : Most Whole 9 1
   unfolding loop_in
@@ -146,8 +128,7 @@ module _ (c : Prices) where
 
   in_2 : Most (Round 1 4) 2 3
   unfolding loop_in
-  in_2 = line (Round 1 4) 2 2 (JumpEqual 0 0 7) at_each.2 refl (omega arith, omega arith) refl
-      (λ to among. ⊎_elim (λ e. subst (λ x. Most (Round 1 4) x 2) e in_3) (λ rest. to_one (Round 1 4) 7 2 to past_inner rest) among)
+  in_2 = grind (arith, line (Round 1 4) 2 2 (JumpEqual 0 0 7) at_each.2, in_3)
 
   -- within the outer body
   in_5 : Most (Round 0 5) 5 1
@@ -163,16 +144,7 @@ module _ (c : Prices) where
   loop_line r place end d n b e at inside is_end most exits k path = go (rounds_of worked worked_typing c 0 r place k path a_word d n at inside)
     where
       go : Rounds worked worked_typing c 0 r place k d n → (x : ℕ) × (x ≤ b) × (k ≤ 1 + n * x + e)
-      go v =
-          let same = is_end v.to v.body in
-          let round = most v.round (subst (λ x. Costs worked worked_typing c 0 (Round place x) (suc place) v.round) same v.path) in
-          ⊎_elim
-          (λ (is : k ≡ 1 + n * v.round). (v.round, round, omega (arith, is)))
-          (λ (x : (out : ℕ) × (y : ℕ) × GoesOut worked worked_typing 0 place v.to out × Path r out y × (k ≡ 1 + n * v.round + y)).
-          let exit = exits x.0 (subst (λ z. GoesOut worked worked_typing 0 place z x.0) same x.2) x.1 x.3 in
-          let is = x.4 in
-          (v.round, round, omega (arith, is, exit)))
-          v.rest
+      go v = grind (arith, nat_tests)
 
   in_1 : Most (Round 0 5) 1 17
   in_1 k path =
@@ -180,10 +152,7 @@ module _ (c : Prices) where
       omega (arith, w.1, w.2)
     where
       exits : (out : ℕ) → GoesOut worked worked_typing 0 1 4 out → Most (Round 0 5) out 1
-      exits out g = ⊎_elim
-          (λ (e : out ≡ 5). subst (λ x. Most (Round 0 5) x 1) (sym e) in_5)
-          (λ (e : out ≡ 7). subst (λ x. Most (Round 0 5) x 1) (sym e) past_outer)
-          (out_of_inner out g)
+      exits out g = grind (arith, nat_tests, in_5, past_outer, out_of_inner)
 
   from_0 : Most Whole 0 55
   from_0 k path =
@@ -191,10 +160,8 @@ module _ (c : Prices) where
       omega (arith, w.1, w.2)
     where
       exits : (out : ℕ) → GoesOut worked worked_typing 0 0 5 out → Most Whole out 3
-      exits out g = ⊎_elim
-          (λ (e : out ≡ 6). subst (λ x. Most Whole x 3) (sym e) (λ k path. omega (arith, from_6 k path)))
-          (λ (e : out ≡ 7). subst (λ x. Most Whole x 3) (sym e) from_7)
-          (out_of_outer out g)
+      exits out g = ⊎_elim (λ (e : out ≡ 6). subst (λ x. Most Whole x 3) (sym e) (λ k path. omega (arith, from_6 k path)))
+          (λ (e : out ≡ 7). subst (λ x. Most Whole x 3) (sym e) from_7) (out_of_outer out g)
 
   -- ---- and one costs just that
 
@@ -221,21 +188,4 @@ module _ (c : Prices) where
 
 pub law_bites : PriceNeedsFail
 unfolding class_at kind_in method_at class_in role_of plays role_number leads_in over_in descends_in parent_in own_role keeper_in
-law_bites = record {
-  called = refl;
-  destroyed = refl;
-  others = refl;
-  cancelled = refl;
-  none_cancelled = refl;
-  destructors = refl;
-  overridden = refl;
-  cancelled_below = refl;
-  childs_line = refl;
-  parents_line = refl;
-  declared = refl;
-  served = λ t c are session server.
-      let one : c.destruction (Object 0) ≡ max (1 + price c 0 + 0) (max 0 (max (1 + price c 0 + 0) 0)) = are.classes (Object 0) in
-      let all : c.destruction (Object 1) ≡ max (1 + (price c 1 + 0) + 3 * c.destruction (Object 0)) (max (1 + (price c 1 + 0) + 3 * c.destruction (Object 0)) (max 0 0)) = are.classes (Object 1) in
-      (omega (arith, one, session), omega (arith, all, one, session, server));
-  worked = λ c. record { met = worked_path c; most = from_0 c };
-}
+law_bites = search (arith, nat_tests, worked_path, from_0)
