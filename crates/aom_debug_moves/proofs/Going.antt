@@ -1,25 +1,23 @@
 -- So many steps, each after its turns: what goes out, by what comes before.
-use Rattle.std.proofs.Common.{◌≡◌, ◌≢◌, ◌⊎◌, ◌∙◌, ◌<◌, ◌+◌, ℕ, suc, Bool, true, false, List, [], ◌∷◌, ◌++◌, Option, Some, None, length, take, refl, sym, ap, subst, inl, inr}
+use Rattle.std.proofs.Common.{◌≡◌, ◌≢◌, ◌∙◌, ◌<◌, ℕ, suc, true, List, [], ◌∷◌, ◌++◌, Option, Some, None, refl, sym}
+use Rattle.std.proofs.Common.{subst, inl, inr}
 use Rattle.std.specs.Prelude.{is_some}
 use Rattle.aom_image.specs.Image.{Image}
 use Rattle.aom_semantics.specs.State.{State}
 use Rattle.aom_semantics.specs.World.{Environment, Reaches, begins as from_here}
 use Rattle.aom_transcript.specs.declared.line.Line.{Line}
-use Rattle.aom_transcript.specs.Text.{text_of}
-use Rattle.aom_machine_state.specs.declared.progress.Progress.{Progress}
-use Rattle.aom_machine_state.specs.declared.progress.Progress.TheVariants.{Ended, Running, Turned}
+use Rattle.aom_machine_state.specs.declared.progress.Progress.TheVariants.{Running, Turned}
 use Rattle.aom_machine_state.specs.Progress.{progress_by, progress_of}
 use Rattle.aom_transcript.specs.declared.line.Ending.{Ending}
 use Rattle.aom_machine.specs.Steps.{progress}
 use Rattle.aom_machine.proofs.Progressing.{at_hand, is_as_far}
-use Rattle.aom_run.specs.Calls.{Stands, StandsFor}
-use Rattle.aom_debug_moves.specs.Sends.{Breaks, Leads, Machine, Sends, Then}
+use Rattle.aom_debug_moves.specs.Sends.{Breaks, Machine, Sends}
 use Rattle.aom_debug_moves.specs.Movers.{Keeps, outside_of}
 use Rattle.aom_debug_moves.specs.declared.mover.Mover.{Mover}
-use Rattle.aom_run.specs.Runs.{Moving, after, begins as stays_there}
+use Rattle.aom_run.specs.Runs.{Moving}
 use Rattle.aom_run.proofs.Reaching.{reaches_both, reaches_then}
 use Rattle.aom_debug_moves.proofs.Keeping.{heard_as}
-use Rattle.aom_debug_moves.proofs.Sending.{after_none, breaks_then, moving_stride, reaches_arrived, sends_then, sent_both}
+use Rattle.aom_debug_moves.proofs.Sending.{after_none, breaks_then, moving_stride, reaches_arrived, sent_both}
 use Rattle.aom_debug_words.specs.declared.spot.Spot.{Spot}
 use Rattle.aom_debug_moves.specs.Moves.{Arrives, Strides}
 use Rattle.aom_debug_moves.specs.Courses.{Courses, Goes, GoesBy, IsOver}
@@ -39,11 +37,12 @@ pub run_of : (p : Image) (outside : Environment) (s : State) (lines : List Line)
 run_of p outside s lines u moving = reaches_then p outside s [] s lines u from_here moving
 
 -- so are steps with the turns before them
-pub reaches_goes : (p : Image) (outside : Environment) (old : List Spot) (s : State) (n : ℕ) (new : List Spot) (lines : List Line) (u : State) → Goes p outside old s n new lines u → Reaches p outside s lines u
+pub reaches_goes : (p : Image) (outside : Environment) (old : List Spot) (s : State) (n : ℕ) (new : List Spot) (lines : List Line) (u : State) →
+    Goes p outside old s n new lines u → Reaches p outside s lines u
 reaches_goes p outside old s _ _ _ _ begins = from_here
 reaches_goes p outside old s _ _ _ _ (strides {n} {mid} {new} {lines} {first} {later} {v} {w} {u} before comes hand once) =
-    reaches_both p outside s lines v (first ++ later) u (reaches_goes p outside old s n mid lines v before)
-    (reaches_both p outside v first w later u (reaches_arrived p outside v first w comes) (run_of p outside w later u (moving_stride p outside.refused mid new w later u once)))
+    reaches_both p outside s lines v (first ++ later) u (reaches_goes p outside old s n mid lines v before) (reaches_both p outside v first w later u
+    (reaches_arrived p outside v first w comes) (run_of p outside w later u (moving_stride p outside.refused mid new w later u once)))
 
 -- so many steps so far
 abbrev pub GoesSo : Image → Environment → ℕ → Courses
@@ -59,8 +58,7 @@ module _ {X : Type 0} {B : X → Type 0} (p : Image) (outside : Environment) whe
 
   module _ (n : ℕ) (old mid : List Spot) (a m c : Machine X B) (before here out : Option (List ℕ)) (x : Sends (GoesSo p outside n old mid) a before here m) where
     pub goes_cut : Breaks (Reaches p outside) m here out c → Breaks (Reaches p outside) a before out c
-    goes_cut y =
-        breaks_then a m c before here out (GoesSo p outside n old mid) (Reaches p outside) x (Reaches p outside)
+    goes_cut y = breaks_then a m c before here out (GoesSo p outside n old mid) (Reaches p outside) x (Reaches p outside)
         (λ s ls v ks u f g. reaches_both p outside s ls v ks u (reaches_goes p outside old s n mid ls v f) g) y
 
     -- the run ends before the next step
@@ -86,11 +84,12 @@ module _ {X : Type 0} {B : X → Type 0} (p : Image) (outside : Environment) whe
           )
 
       pub step_cut : Breaks (Moving p outside.refused) c out last d → Breaks (Reaches p outside) a before last d
-      step_cut z =
-          breaks_then a m d before here last (GoesSo p outside n old mid) (Reaches p outside) x (Reaches p outside) (λ s ls v ks u f g. reaches_both p outside s ls v ks u (reaches_goes p outside old s n mid ls v f) g)
-          (breaks_then m c d here out last (Arrives p outside) (Reaches p outside) y (Reaches p outside) (λ s ls v ks u f g. reaches_both p outside s ls v ks u (reaches_arrived p outside s ls v f) g) (cut_run c d out last z))
+      step_cut z = breaks_then a m d before here last (GoesSo p outside n old mid) (Reaches p outside) x (Reaches p outside) (λ s ls v ks u f g. reaches_both
+          p outside s ls v ks u (reaches_goes p outside old s n mid ls v f) g) (breaks_then m c d here out last (Arrives p outside) (Reaches p outside) y
+          (Reaches p outside) (λ s ls v ks u f g. reaches_both p outside s ls v ks u (reaches_arrived p outside s ls v f) g) (cut_run c d out last z))
 
-  pub all_made : (steps n : ℕ) → n ≡ steps → (old new : List Spot) (a c : Machine X B) (before out : Option (List ℕ)) → Sends (GoesSo p outside n old new) a before out c → Sends (GoesBy p outside steps old new) a before out c
+  pub all_made : (steps n : ℕ) → n ≡ steps → (old new : List Spot) (a c : Machine X B) (before out : Option (List ℕ)) →
+      Sends (GoesSo p outside n old new) a before out c → Sends (GoesBy p outside steps old new) a before out c
   all_made steps n is old new a c before out x s stands = let f = x s stands in (f.0, f.1, inl (subst (λ k. Goes p outside old s k new f.0 f.1) is f.2), f.3, f.4)
 
 -- what goes out in a loop of steps, by what it keeps

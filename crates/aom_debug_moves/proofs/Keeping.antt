@@ -1,5 +1,5 @@
 -- What moves keep, one after another; and what is said by that after some of them is said by what it was before.
-use Rattle.std.proofs.Common.{◌≡◌, ◌∙◌, ℕ, Bool, true, false, List, Option, Some, None, refl, ap, subst, sym}
+use Rattle.std.proofs.Common.{◌≡◌, ◌∙◌, ℕ, Bool, true, false, List, Option, Some, None, refl, ap, subst}
 use Rattle.std.specs.Bool.{then_some}
 use Rattle.aom_image.specs.Image.{Image}
 use Rattle.aom_lines.specs.LineBuffer.{LineBuffer}
@@ -18,7 +18,14 @@ module _ {X : Type 0} {B : X → Type 0} where
   keeps_all m ready = record { image = refl; natives = refl; script = refl; turn = refl; limit = refl; ready = ready }
 
   pub keeps_on : {old mid new : Mover X B} → Keeps old mid → Keeps mid new → Keeps old new
-  keeps_on was is = record { image = is.image ∙ was.image; natives = is.natives ∙ was.natives; script = is.script ∙ was.script; turn = is.turn ∙ was.turn; limit = is.limit ∙ was.limit; ready = is.ready }
+  keeps_on was is = record {
+    image = is.image ∙ was.image;
+    natives = is.natives ∙ was.natives;
+    script = is.script ∙ was.script;
+    turn = is.turn ∙ was.turn;
+    limit = is.limit ∙ was.limit;
+    ready = is.ready;
+  }
 
   -- also where other instructions are noted
   pub keeps_noting : {old new : Mover X B} → Keeps old new → (spots : List Spot) → Keeps old (record new { recent = spots })
@@ -28,19 +35,25 @@ module _ {X : Type 0} {B : X → Type 0} where
       record { image = keeps.image; natives = keeps.natives; script = keeps.script; turn = keeps.turn; limit = keeps.limit; ready = again }
 
   -- a machine that has moved, and stands for a state, and whose turn is cleared again
-  pub keeps_with : (m : Mover X B) → IsReady m → (machine : Machine X B) (turn : LineBuffer) (page : List ℕ) → machine.core.image ≡ m.machine.core.image → natives_of machine ≡ natives_of m.machine → turn ≡ m.turn → Stands machine
-      → Keeps m (record m { machine = machine; turn = turn; page = page })
+  pub keeps_with : (m : Mover X B) → IsReady m → (machine : Machine X B) (turn : LineBuffer) (page : List ℕ) → machine.core.image ≡ m.machine.core.image →
+      natives_of machine ≡ natives_of m.machine → turn ≡ m.turn → Stands machine → Keeps m (record m { machine = machine; turn = turn; page = page })
   keeps_with m ready machine turn page image natives same stands =
       let again : IsReady (record m { machine = machine; turn = turn; page = page }) =
-      record { stands = stands; none = ap (λ (t : LineBuffer). t.lines) same ∙ ready.none; room = rw (image, ap (λ (t : LineBuffer). t.room) same) ready.room; timely = ready.timely; few = ready.few } in
+      record {
+        stands = stands;
+        none = ap (λ (t : LineBuffer). t.lines) same ∙ ready.none;
+        room = rw (image, ap (λ (t : LineBuffer). t.room) same) ready.room;
+        timely = ready.timely;
+        few = ready.few;
+      } in
       record { image = image; natives = natives; script = refl; turn = same; limit = refl; ready = again }
 
   module _ {old new : Mover X B} (keeps : Keeps old new) where
     -- what is heard outside is the same
     pub hears_as : outside_of new ≡ outside_of old
-    hears_as =
-        ap (λ (t : LineBuffer). hearing t.refused new.limit (natives_of new.machine) new.script.timed) keeps.turn ∙ ap (λ l. hearing old.turn.refused l (natives_of new.machine) new.script.timed) keeps.limit
-        ∙ ap (λ n. hearing old.turn.refused old.limit n new.script.timed) keeps.natives ∙ ap (λ (s : Script). hearing old.turn.refused old.limit (natives_of old.machine) s.timed) keeps.script
+    hears_as = ap (λ (t : LineBuffer). hearing t.refused new.limit (natives_of new.machine) new.script.timed) keeps.turn ∙ ap (λ l. hearing old.turn.refused l
+        (natives_of new.machine) new.script.timed) keeps.limit ∙ ap (λ n. hearing old.turn.refused old.limit n new.script.timed) keeps.natives
+        ∙ ap (λ (s : Script). hearing old.turn.refused old.limit (natives_of old.machine) s.timed) keeps.script
 
     pub heard_as : (F : Image → Environment → Type 0) → F new.machine.core.image (outside_of new) → F old.machine.core.image (outside_of old)
     heard_as F x = subst (λ p. F p (outside_of old)) keeps.image (subst (λ o. F new.machine.core.image o) hears_as x)
@@ -49,14 +62,15 @@ module _ {X : Type 0} {B : X → Type 0} where
     begun_as F = heard_as (λ p outside. F p outside.refused)
 
   -- what came of a move, by whether all its lines are out
-  pub went_if : {so may : Leads} (a n : Mover X B) (before out : Option (List ℕ)) (failed : Bool) (far : Progress) (is_out : Bool) (result : Option Progress) → result ≡ then_some is_out far → far ≡ progress n.machine.core
-      → (is_out ≡ true → Sends so a.machine before out n.machine) → (is_out ≡ false → (failed ≡ true) × Breaks may a.machine before out n.machine) → Went so may a before out failed result n
+  pub went_if : {so may : Leads} (a n : Mover X B) (before out : Option (List ℕ)) (failed : Bool) (far : Progress) (is_out : Bool) (result : Option Progress) →
+      result ≡ then_some is_out far → far ≡ progress n.machine.core → (is_out ≡ true → Sends so a.machine before out n.machine) →
+      (is_out ≡ false → (failed ≡ true) × Breaks may a.machine before out n.machine) → Went so may a before out failed result n
   went_if a n before out failed far true result is at sends breaks = rw is (sends refl, at)
   went_if a n before out failed far false result is at sends breaks = rw is (breaks refl)
 
   -- what came of a move is what came of more, by what is out before it
   pub went_as : {so may other must : Leads} (a m n : Mover X B) (before here out : Option (List ℕ)) (failed : Bool) (result : Option Progress)
-      → (Sends so m.machine here out n.machine → Sends other a.machine before out n.machine) → (Breaks may m.machine here out n.machine → Breaks must a.machine before out n.machine)
-      → Went so may m here out failed result n → Went other must a before out failed result n
+      → (Sends so m.machine here out n.machine → Sends other a.machine before out n.machine) → (Breaks may m.machine here out n.machine →
+      Breaks must a.machine before out n.machine) → Went so may m here out failed result n → Went other must a before out failed result n
   went_as a m n before here out failed None sends breaks x = (x.0, breaks x.1)
   went_as a m n before here out failed (Some far) sends breaks x = (sends x.0, x.1)

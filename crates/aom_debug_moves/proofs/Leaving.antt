@@ -1,12 +1,13 @@
 -- What is left of a run falls from one dispatch's end to that of the next.
-use Rattle.std.proofs.Common.{◌≡◌, ◌≢◌, ◌≤◌, ◌<◌, ◌+◌, ◌-◌, ◌^◌, ◌∙◌, ◌⊎◌, ℕ, suc, Bool, true, false, List, [], ◌++◌, Option, Some, None, length, refl, sym, ap, subst, inl, inr, arith}
+use Rattle.std.proofs.Common.{◌≡◌, ◌≤◌, ◌<◌, ◌+◌, ◌-◌, ◌^◌, ◌∙◌, ◌⊎◌, ℕ, suc, Bool, true, List, Option, Some, None, length, sym}
+use Rattle.std.proofs.Common.{ap, subst, inl, inr, arith}
 use Rattle.std.specs.Prelude.{◌*◌, is_some}
 use Rattle.std.proofs.Math.Nat.{mul-le-mul_right, suc-mul}
 use Rattle.aom_image.specs.Image.{Image}
 use Rattle.aom_semantics.specs.State.{Counters, State}
 use Rattle.aom_semantics.specs.World.{IsBetween, Environment}
 use Rattle.aom_progress.specs.Payers.{payer}
-use Rattle.aom_determinism.specs.Endings.{one_where, spare}
+use Rattle.aom_determinism.specs.Endings.{one_where}
 use Rattle.aom_transcript.specs.declared.event.TimedEvent.{TimedEvent}
 use Rattle.aom_transcript.specs.declared.line.Line.{Line}
 use Rattle.aom_transcript.specs.declared.line.Ending.{Ending}
@@ -15,13 +16,13 @@ use Rattle.aom_machine_state.specs.Progress.{progress_by, progress_of}
 use Rattle.aom_machine.specs.Steps.{IsAtHand, progress}
 use Rattle.aom_machine.proofs.Progressing.{between, is_as_far}
 use Rattle.aom_run.specs.Calls.{Stands, StandsFor}
-use Rattle.aom_debug_moves.specs.Sends.{Machine, Sends, Then}
+use Rattle.aom_debug_moves.specs.Sends.{Machine, Sends}
 use Rattle.aom_run.specs.Runs.{Moving}
 use Rattle.aom_run.specs.Turns.{LeadTo}
 use Rattle.aom_run.proofs.Spared.{moving_spares}
 use Rattle.aom_debug_words.specs.declared.spot.Spot.{Spot}
 use Rattle.aom_debug_moves.specs.Moves.{Arrives, TurnsOnce, stays as no_turns, turns}
-use Rattle.aom_debug_moves.specs.Courses.{InDispatch, IsOver, Rests, WalksOn, WalksThere}
+use Rattle.aom_debug_moves.specs.Courses.{InDispatch, IsOver, Rests, WalksOn}
 use Rattle.aom_debug_moves.proofs.Passing.{running_of}
 use Rattle.aom_debug_moves.proofs.Strides.{moving_walk}
 
@@ -59,7 +60,8 @@ module _ (p : Image) (outside : Environment) (few : outside.limit ≤ 2 ^ 64 - 1
   rounds_open s idle = ap (λ e. rounds_by (outside.limit - s.rest.dispatches) e) idle.going
 
   -- a native's end
-  falls_told : (s u : State) → IsBetween s → IsBetween u → u.rest.dispatches ≡ s.rest.dispatches → length outside.events - u.rest.delivered < length outside.events - s.rest.delivered → left_of u < left_of s
+  falls_told : (s u : State) → IsBetween s → IsBetween u →
+      u.rest.dispatches ≡ s.rest.dispatches → length outside.events - u.rest.delivered < length outside.events - s.rest.delivered → left_of u < left_of s
   falls_told s u idle again same less =
       let rounds = rounds_open u again ∙ ap (λ n. suc (outside.limit - n)) same ∙ sym (rounds_open s idle) in
       let all = ap (λ n. n * suc (length outside.events)) rounds in
@@ -85,7 +87,8 @@ module _ (p : Image) (outside : Environment) (few : outside.limit ≤ 2 ^ 64 - 1
       omega (arith, first, last)
 
   -- a dispatch to its end
-  falls_after : (s : State) (lines : List Line) (u : State) (ls : List Line) (v : State) → IsBetween s → progress_of u ≡ Running → IsBetween v → TurnsOnce p outside s lines u → Moving p outside.refused u ls v → left_of v < left_of s
+  falls_after : (s : State) (lines : List Line) (u : State) (ls : List Line) (v : State) →
+      IsBetween s → progress_of u ≡ Running → IsBetween v → TurnsOnce p outside s lines u → Moving p outside.refused u ls v → left_of v < left_of s
   falls_after s lines u ls v idle running again once moving = go once.0 once.2
     where
       by : u.rest.dispatches ≡ s.rest.dispatches → s.rest.dispatches < outside.limit → is_some (payer u.tasks) ≡ true → left_of v < left_of s
@@ -93,8 +96,10 @@ module _ (p : Image) (outside : Environment) (few : outside.limit ≤ 2 ^ 64 - 1
           let one = ap one_where paid in
           let bare = ap (λ ts. one_where (is_some (payer ts))) again.idle in
           let kept = moving_spares p outside.limit few outside.refused u ls v moving in
-          let less : rounds_by (outside.limit - v.rest.dispatches) v.rest.ended < rounds_by (outside.limit - s.rest.dispatches) s.rest.ended = omega (arith, rounds_open v again, rounds_open s idle, one, bare, kept, same, below) in
-          lower (rounds_by (outside.limit - v.rest.dispatches) v.rest.ended) (rounds_by (outside.limit - s.rest.dispatches) s.rest.ended) (length outside.events - v.rest.delivered) (length outside.events - s.rest.delivered) (length outside.events) less (omega arith)
+          let less : rounds_by (outside.limit - v.rest.dispatches) v.rest.ended < rounds_by (outside.limit - s.rest.dispatches) s.rest.ended =
+          omega (arith, rounds_open v again, rounds_open s idle, one, bare, kept, same, below) in
+          lower (rounds_by (outside.limit - v.rest.dispatches) v.rest.ended) (rounds_by (outside.limit - s.rest.dispatches) s.rest.ended)
+          (length outside.events - v.rest.delivered) (length outside.events - s.rest.delivered) (length outside.events) less (omega arith)
 
       go : (ending : Option Ending) → LeadTo outside ending s lines u → left_of v < left_of s
       go (Some ending) leads =
@@ -107,7 +112,8 @@ module _ (p : Image) (outside : Environment) (few : outside.limit ≤ 2 ^ 64 - 1
           open_by (inr told) = absurd (between_runs_not u told.0 running)
 
   -- turns up to a dispatch, and that to its end
-  falls_arrived : (s : State) (lines : List Line) (u : State) (ls : List Line) (v : State) → IsBetween s → progress_of u ≡ Running → IsBetween v → Arrives p outside s lines u → Moving p outside.refused u ls v → left_of v < left_of s
+  falls_arrived : (s : State) (lines : List Line) (u : State) (ls : List Line) (v : State) →
+      IsBetween s → progress_of u ≡ Running → IsBetween v → Arrives p outside s lines u → Moving p outside.refused u ls v → left_of v < left_of s
   falls_arrived s _ _ ls v idle running again no_turns moving = absurd (between_runs_not s idle running)
   falls_arrived s _ _ ls v idle running again (turns {lines} {more} {v = w} {u} before here once) moving =
       let first = arrived_left s lines w idle here before in
@@ -118,7 +124,8 @@ module _ (p : Image) (outside : Environment) (few : outside.limit ≤ 2 ^ 64 - 1
   over_not s over idle = let none = ap is_some idle.going in absurd cc
 
   -- steps in the next dispatch
-  pub falls_on : (stays : State → Bool) (old new : List Spot) (s : State) (lines : List Line) (u : State) → IsBetween s → IsBetween u → InDispatch p outside (WalksOn p outside.refused stays) old new s lines u → left_of u < left_of s
+  pub falls_on : (stays : State → Bool) (old new : List Spot) (s : State) (lines : List Line) (u : State) →
+      IsBetween s → IsBetween u → InDispatch p outside (WalksOn p outside.refused stays) old new s lines u → left_of u < left_of s
   falls_on stays old new s lines u idle again z = go z.4
     where
       by : progress_of z.0 ≡ Running → WalksOn p outside.refused stays old new z.0 z.2 u → left_of u < left_of s
@@ -134,7 +141,8 @@ module _ (p : Image) (outside : Environment) (few : outside.limit ≤ 2 ^ 64 - 1
     left_at : (m : Machine X B) (s : State) → StandsFor m s → left_in outside.events outside.limit m.core.parts.rest ≡ left_of s
     left_at m s stands = ap (λ r. left_in outside.events outside.limit r) stands.stands.agrees.rest
 
-    pub left_falls : (stays : State → Bool) (old new : List Spot) (m c : Machine X B) (mid out : Option (List ℕ)) → Stands m → progress m.core ≡ Turned → Sends (InDispatch p outside (WalksOn p outside.refused stays) old new) m mid out c → progress c.core ≡ Turned
+    pub left_falls : (stays : State → Bool) (old new : List Spot) (m c : Machine X B) (mid out : Option (List ℕ)) →
+        Stands m → progress m.core ≡ Turned → Sends (InDispatch p outside (WalksOn p outside.refused stays) old new) m mid out c → progress c.core ≡ Turned
         → left_in outside.events outside.limit c.core.parts.rest < left_in outside.events outside.limit m.core.parts.rest
     left_falls stays old new m c mid out st resting y again =
         let g = y st.0 st.1 in

@@ -1,5 +1,5 @@
 -- The end of a run by its limit: it is a run, and a machine is cut just where its states say.
-use Rattle.std.proofs.Common.{◌≡◌, ◌∙◌, ◌≤◌, ℕ, Bool, true, false, List, [], ◌++◌, Option, Some, nat_le, refl, sym, ap, subst}
+use Rattle.std.proofs.Common.{◌≡◌, ◌∙◌, ℕ, Bool, true, false, List, [], Option, Some, nat_le, refl, sym, ap, subst}
 use Rattle.std.proofs.lemmas.Bool.{leb-true}
 use Rattle.aom_image.specs.Image.{Image}
 use Rattle.aom_semantics.specs.State.{Counters, State}
@@ -14,19 +14,18 @@ use Rattle.aom_machine_state.specs.declared.progress.Progress.TheVariants.{Ended
 use Rattle.aom_machine.specs.Steps.{progress}
 use Rattle.aom_machine.specs.Turns.{TakesAll}
 use Rattle.aom_machine.proofs.Progressing.{is_as_far}
-use Rattle.aom_run.specs.Calls.{Stands, StandsFor, natives_of}
+use Rattle.aom_run.specs.Calls.{StandsFor}
 use Rattle.aom_run.specs.Runs.{after}
 use Rattle.aom_run.specs.Turns.{TakesTurns}
 use Rattle.aom_run.proofs.Reaching.{reaches_both}
 use Rattle.aom_run.proofs.Resting.{limit_cuts}
 use Rattle.aom_run.proofs.Serving.{cut_so}
-use Rattle.aom_debug_words.specs.declared.spot.Spot.{Spot}
 use Rattle.aom_debug_moves.specs.CourseLaws.{AreRuns}
 use Rattle.aom_debug_moves.specs.Courses.{Courses, ToLimit}
 use Rattle.aom_debug_moves.specs.Moves.{EndsByLimit, is_at_limit, is_cut}
 use Rattle.aom_debug_moves.specs.Movers.{IsReady, Keeps, Mover, outside_of}
 use Rattle.aom_debug_moves.specs.Sends.{IfSo, Sends, Where}
-use Rattle.aom_debug_moves.proofs.Keeping.{keeps_all, keeps_with}
+use Rattle.aom_debug_moves.proofs.Keeping.{keeps_with}
 use Rattle.aom_debug_moves.proofs.Sending.{after_none, sends_if_not, sends_if_so, sends_where}
 
 -- ---- it is a run
@@ -37,8 +36,7 @@ reaches_cut false p outside s lines u x = subst (λ ls. Reaches p outside s ls u
 
 -- so is a way to whose end it comes
 pub reaches_to_limit : (p : Image) (outside : Environment) (leads : Courses) → AreRuns p outside leads → AreRuns p outside (ToLimit p outside leads)
-reaches_to_limit p outside leads runs old new s lines u x =
-    subst (λ ls. Reaches p outside s ls u) (sym x.5)
+reaches_to_limit p outside leads runs old new s lines u x = subst (λ ls. Reaches p outside s ls u) (sym x.5)
     (reaches_both p outside s x.1 x.0 x.2 u (runs old new s x.1 x.0 x.3) (reaches_cut (is_at_limit outside x.0) p outside x.0 x.2 u x.4))
 
 -- ---- where it comes
@@ -55,8 +53,7 @@ module _ {X : Type 0} {B : X → Type 0} (a : Mover X B) where
 
   -- so each state that it stands for says it
   pub told_at : (b : Bool) → Told b → (s : State) → StandsFor a.machine s → b ≡ is_at_limit (outside_of a) s
-  told_at b told s stands =
-      told ∙ ap (λ far. is_cut far (nat_le a.limit a.machine.core.parts.rest.dispatches)) (is_as_far a.machine.core s stands.stands)
+  told_at b told s stands = told ∙ ap (λ far. is_cut far (nat_le a.limit a.machine.core.parts.rest.dispatches)) (is_as_far a.machine.core s stands.stands)
       ∙ ap (λ (r : Counters). is_cut (progress_of s) (nat_le a.limit r.dispatches)) stands.stands.agrees.rest
 
   abbrev pub Ends : Mover X B → Type 0
@@ -74,8 +71,8 @@ module _ {X : Type 0} {B : X → Type 0} (a : Mover X B) where
     cut = record a { machine = record a.machine { core = core } }
 
     takes : TakesTurns a.machine (outside_of a) (Some Limit) a.turn a.turn cut.machine
-    takes =
-        let at = leb-true a.limit a.machine.core.parts.rest.dispatches (cut_parts (progress a.machine.core) (nat_le a.limit a.machine.core.parts.rest.dispatches) (sym told ∙ is)).1 in
+    takes = let at = leb-true a.limit a.machine.core.parts.rest.dispatches
+        (cut_parts (progress a.machine.core) (nat_le a.limit a.machine.core.parts.rest.dispatches) (sym told ∙ is)).1 in
         limit_cuts a.machine (outside_of a) at a.turn cut.machine (cut_so a.machine core image all)
 
     pub cut_ends : Ends cut

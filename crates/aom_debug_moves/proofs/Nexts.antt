@@ -1,5 +1,6 @@
 -- What a machine shows of the step that is next is what each state that it stands for has: by what agrees of tasks, cells and the root.
-use Rattle.std.proofs.Common.{◌≡◌, ◌≢◌, ◌∙◌, ◌<◌, ℕ, Bool, true, false, not, List, [], ◌∷◌, length, Option, Some, None, refl, sym, ap, arith, subst, IsSome, cond, ◌==◌}
+use Rattle.std.proofs.Common.{◌≡◌, ◌≢◌, ◌∙◌, ◌<◌, ℕ, Bool, true, false, not, List, ◌∷◌, length, Option, Some, None, refl, sym, ap, arith, subst, IsSome}
+use Rattle.std.proofs.Common.{cond, ◌==◌}
 use Rattle.std.specs.Prelude.{is_some}
 use Rattle.std.proofs.lemmas.Option.{none-some, same_Some}
 use Rattle.std.proofs.lemmas.Bool.{eq-eqb, eqb-true, false≢true, ne_eqb}
@@ -9,18 +10,16 @@ use Rattle.aom_clients.specs.Table.{session_of}
 use Rattle.aom_image.proofs.Given.{some_given}
 use Rattle.aom_image.specs.Image.{Image}
 use Rattle.aom_image.specs.declared.method.Role.TheVariants.{Destruct}
-use Rattle.aom_image.specs.declared.method.Thing.{Thing}
 use Rattle.aom_image.specs.declared.method.Thing.TheVariants.{Object as An_object_of}
 use Rattle.aom_classes.specs.Roles.{role_of}
 use Rattle.aom_cells.specs.Heap.{Lives, cell_at, class_at, class_of, null}
-use Rattle.aom_cells.specs.declared.cell.Cell.{Cell as Machine_cell}
 use Rattle.aom_frames.specs.Tasks.{Runs, method_here, place_here}
 use Rattle.aom_frames.specs.declared.task.Task.{Task as Machine_task}
 use Rattle.aom_frames.specs.declared.task.Task.TheVariants.{Closing as Closes, Destroy as Destroy_held}
 use Rattle.aom_frames.specs.declared.dispatch.Dispatch.{Dispatch as Machine_dispatch}
 use Rattle.aom_semantics.specs.Destruction.{first_session}
 use Rattle.aom_semantics.specs.Places.{Elsewhere, Going, Object, Place, Root, Session, held, named, service_of}
-use Rattle.aom_semantics.specs.State.{Closing, Destroy, Dispatch, Dispatched as Ends_state, Run, Seat, State, Task, Trapped, Unwind}
+use Rattle.aom_semantics.specs.State.{Closing, Destroy, Dispatch, Dispatched as Ends_state, Seat, State, Task}
 use Rattle.aom_semantics.proofs.Maps.{held_lives}
 use Rattle.aom_machine_state.specs.declared.parts.Parts.{Parts}
 use Rattle.aom_machine_state.specs.Agrees.{SameTasks, dispatch_of, number, number as number_of_object, thing_in}
@@ -28,13 +27,14 @@ use Rattle.aom_machine_state.specs.Places.{IsClosing, IsDestroying, going_here, 
 use Rattle.aom_machine_state.specs.Stands.{StandsFor}
 use Rattle.aom_machine_state.proofs.Cells.{class_told, is_an_object}
 use Rattle.aom_machine_state.proofs.Values.{same_length}
-use Rattle.aom_machine_state.proofs.Alike.{Alike, alike, both_close, both_end, both_go, both_run, both_trapped, both_unwind, no_tasks}
+use Rattle.aom_machine_state.proofs.Alike.{Alike, alike, both_close, both_end, both_go}
 use Rattle.aom_machine_instructions.specs.Going.{ending_here}
 use Rattle.aom_machine_instructions.proofs.Firsts.{ClosesOver, closing_found, found_session, its_session, no_session, session_lives}
 use Rattle.aom_machine_instructions.proofs.Running.{nothing_held, object_lives_at, object_there}
 use Rattle.aom_debug_words.specs.declared.answer.Answer.{Answer}
 use Rattle.aom_debug_words.specs.declared.answer.Answer.TheVariants.{At, Gone}
-use Rattle.aom_debug_moves.specs.Next.{GoesFirst, begins_by, destroyed_under, destruction_by, destruction_of, ends_all_in, first_number, goes_first, gone_by, going_of, is_last_in, next_in}
+use Rattle.aom_debug_moves.specs.Next.{GoesFirst, begins_by, destroyed_under, destruction_by, destruction_of, first_number, goes_first, gone_by}
+use Rattle.aom_debug_moves.specs.Next.{going_of, next_in}
 
 -- what goes is on top
 at_top : (x : ℕ) (ms : List Machine_task) (d : ℕ) → length ms ≡ d → going_in (Destroy_held x ∷ ms) d ≡ x
@@ -44,12 +44,6 @@ at_top x ms d is = subst (λ k. cond k x (going_in ms d) ≡ x) (sym (eq-eqb (le
 abbrev pub NoEnd : List Task → Type 0
 NoEnd (Ends_state d ∷ ts) = ⊥
 NoEnd _ = Unit {0}
-
-pub no_end_of_all : (p : Image) (us : List Task) → NoEnd us → ends_all_in p us ≡ false
-no_end_of_all p us not = grind arith
-
-pub no_last : (us : List Task) → NoEnd us → is_last_in us ≡ false
-no_last us not = grind arith
 
 module _ (p : Image) (m : Parts) (s : State) (st : StandsFor (record { image = p; parts = m }) s) where
   -- what lives under a number is of the class of the machine's cell there
@@ -108,7 +102,8 @@ module _ (p : Image) (m : Parts) (s : State) (st : StandsFor (record { image = p
   firsts : (n first : ℕ) → GoesFirst m n first → Firsts n first (first_session s.cells n (service_of s.cells n).sessions)
   firsts n first goes = go (first_there m.clients (sessions_at m.clients n)) refl
     where
-      its : (c : ℕ) → first_there m.clients (sessions_at m.clients n) ≡ Some c → (r : Option ℕ) → session_of (client_at m.clients c) ≡ r → Firsts n first (first_session s.cells n (service_of s.cells n).sessions)
+      its : (c : ℕ) → first_there m.clients (sessions_at m.clients n) ≡ Some c →
+          (r : Option ℕ) → session_of (client_at m.clients c) ≡ r → Firsts n first (first_session s.cells n (service_of s.cells n).sessions)
       its c found None none = absurd (found_session m.clients (sessions_at m.clients n) c found none)
       its c found (Some r) told =
           let is : first ≡ r = goes.number ∙ ap (λ o. first_number (session_there o m.clients) n) found ∙ ap (λ o. first_number o n) told in
@@ -116,8 +111,8 @@ module _ (p : Image) (m : Parts) (s : State) (st : StandsFor (record { image = p
           subst (Firsts n first) (sym seat.seat) (a_session c seat.object seat.held (is ∙ seat.number))
 
       go : (o : Option ℕ) → first_there m.clients (sessions_at m.clients n) ≡ o → Firsts n first (first_session s.cells n (service_of s.cells n).sessions)
-      go None e =
-          subst (Firsts n first) (sym (no_session p m st.typing s st.typed st.agrees n st.kept.fit e)) (itself (goes.number ∙ ap (λ o. first_number (session_there o m.clients) n) e))
+      go None e = subst (Firsts n first)
+          (sym (no_session p m st.typing s st.typed st.agrees n st.kept.fit e)) (itself (goes.number ∙ ap (λ o. first_number (session_there o m.clients) n) e))
       go (Some c) e = its c e (session_of (client_at m.clients c)) refl
 
   pub first_lives : (n first : ℕ) → Lives m.cells n → GoesFirst m n first → Lives m.cells first
@@ -127,13 +122,15 @@ module _ (p : Image) (m : Parts) (s : State) (st : StandsFor (record { image = p
   ]
 
   -- its destruction begins with that of what goes first
-  begins_with : (o : Object) (first class : ℕ) → named s.cells o.name ≡ Some o → GoesFirst m o.name first → class_at m.cells first ≡ Some class → begins_by class (role_of p class Destruct) ≡ destruction_of p s.cells (Some o)
+  begins_with : (o : Object) (first class : ℕ) → named s.cells o.name ≡ Some o →
+      GoesFirst m o.name first → class_at m.cells first ≡ Some class → begins_by class (role_of p class Destruct) ≡ destruction_of p s.cells (Some o)
   begins_with o first class lives goes told = elim (firsts o.name first goes) as (λ x f. begins_by class (role_of p class Destruct) ≡ destruction_by p (goes_first o x)) [
     | itself is ↦ sym (ap (destruction_by p) (thing_at o first class lives is told))
     | a_session c x holds is ↦ sym (ap (destruction_by p) (thing_at x first class (held_lives s.cells (Elsewhere (Session o.name c)) x st.typed.good.tidy holds) is told))
   ]
 
-  pub destroyed_told : (q : Place) (n first class : ℕ) → n ≡ number (held s.cells q) → Lives m.cells n → GoesFirst m n first → class_at m.cells first ≡ Some class → begins_by class (role_of p class Destruct) ≡ destruction_of p s.cells (held s.cells q)
+  pub destroyed_told : (q : Place) (n first class : ℕ) → n ≡ number (held s.cells q) → Lives m.cells n →
+      GoesFirst m n first → class_at m.cells first ≡ Some class → begins_by class (role_of p class Destruct) ≡ destruction_of p s.cells (held s.cells q)
   destroyed_told q n first class is lives goes told =
       let x = owns_living q n is lives in
       begins_with x.0 first class (held_lives s.cells q x.0 st.typed.good.tidy x.1) (subst (λ k. GoesFirst m k first) x.2 goes) told ∙ sym (ap (destruction_of p s.cells) x.1)
@@ -146,7 +143,8 @@ module _ (p : Image) (m : Parts) (s : State) (st : StandsFor (record { image = p
       go : {ms : List Machine_task} {us : List Task} → Alike ms us → Runs ms → At (record { method = method_here ms; place = place_here ms }) ≡ next_in p s us
       go x runs = grind arith
 
-  pub goes_told : (number class : ℕ) → IsDestroying m.stack.tasks → number ≡ going_here m.stack.tasks → Lives m.cells (going_here m.stack.tasks) → class_at m.cells number ≡ Some class → Gone class ≡ next_in p s s.tasks
+  pub goes_told : (number class : ℕ) → IsDestroying m.stack.tasks →
+      number ≡ going_here m.stack.tasks → Lives m.cells (going_here m.stack.tasks) → class_at m.cells number ≡ Some class → Gone class ≡ next_in p s s.tasks
   goes_told number class going is lives told = go refl refl (alike m.stack.tasks s.tasks st.agrees.tasks) going is
     where
       shows : (x : ℕ) (ms : List Machine_task) (ts : List Task) → m.stack.tasks ≡ Destroy_held x ∷ ms → SameTasks ms ts → x ≡ number_of_object (held s.cells (Going (length ts)))
@@ -159,8 +157,8 @@ module _ (p : Image) (m : Parts) (s : State) (st : StandsFor (record { image = p
       owned x ts (Some o) e shown same some = sym (ap gone_by (thing_at o number class (held_lives s.cells (Going (length ts)) o st.typed.good.tidy e) (same ∙ shown) told))
 
       go : {ms : List Machine_task} {us : List Task} → m.stack.tasks ≡ ms → s.tasks ≡ us → Alike ms us → IsDestroying ms → number ≡ going_here ms → Gone class ≡ next_in p s us
-      go e f (both_go x ms ts small same more) going is =
-          owned x ts (held s.cells (Going (length ts))) refl (shows x ms ts e same) is (subst (λ k. IsSome (cell_at m.cells k)) (sym (is ∙ sym (ap going_here e))) lives)
+      go e f (both_go x ms ts small same more) going is = owned x ts
+          (held s.cells (Going (length ts))) refl (shows x ms ts e same) is (subst (λ k. IsSome (cell_at m.cells k)) (sym (is ∙ sym (ap going_here e))) lives)
       go e f _ going is = absurd going
 
   -- ---- where a server lets go of its sessions
@@ -176,7 +174,8 @@ module _ (p : Image) (m : Parts) (s : State) (st : StandsFor (record { image = p
   pub closes_at : IsClosing m.stack.tasks → (x : ℕ) × ClosesAt x
   closes_at closing = go refl refl (alike m.stack.tasks s.tasks st.agrees.tasks) closing
     where
-      second : (x : ℕ) (ms : List Machine_task) (ts : List Task) → m.stack.tasks ≡ Closes ∷ Destroy_held x ∷ ms → s.tasks ≡ Closing ∷ Destroy ∷ ts → x < 4096 → SameTasks ms ts → (o : Object) → held s.cells (Going (length ts)) ≡ Some o → ClosesAt x
+      second : (x : ℕ) (ms : List Machine_task) (ts : List Task) → m.stack.tasks ≡ Closes ∷ Destroy_held x ∷ ms →
+          s.tasks ≡ Closing ∷ Destroy ∷ ts → x < 4096 → SameTasks ms ts → (o : Object) → held s.cells (Going (length ts)) ≡ Some o → ClosesAt x
       second x ms ts e f small same o holds =
           let deep = same_length ms ts same in
           let over : (length (Destroy_held x ∷ ms) == length ts) ≡ false = ne_eqb (length (Destroy_held x ∷ ms)) (length ts) (λ even. omega (arith, even, deep)) in
@@ -211,7 +210,8 @@ module _ (p : Image) (m : Parts) (s : State) (st : StandsFor (record { image = p
 
   -- ---- the end of a dispatch
 
-  pub ends_told : (d : Machine_dispatch) (all : Dispatch → Bool) (in_tasks : List Task → Bool) (b : Bool) → ((e : Dispatch) (ts : List Task) → in_tasks (Ends_state e ∷ ts) ≡ all e) → ending_here m.stack.tasks ≡ Some d → ((q : Place) → b ≡ all (dispatch_of q d)) → b ≡ in_tasks s.tasks
+  pub ends_told : (d : Machine_dispatch) (all : Dispatch → Bool) (in_tasks : List Task → Bool) (b : Bool) → ((e : Dispatch) (ts : List Task) →
+      in_tasks (Ends_state e ∷ ts) ≡ all e) → ending_here m.stack.tasks ≡ Some d → ((q : Place) → b ≡ all (dispatch_of q d)) → b ≡ in_tasks s.tasks
   ends_told d all in_tasks b is ending by = go (alike m.stack.tasks s.tasks st.agrees.tasks) ending
     where
       go : {ms : List Machine_task} {us : List Task} → Alike ms us → ending_here ms ≡ Some d → b ≡ in_tasks us

@@ -1,45 +1,45 @@
 -- To a place to stay: steps in one dispatch after another, what goes out, and what is noted.
-use Rattle.std.proofs.Common.{arith, ◌≡◌, ◌≢◌, ◌⊎◌, ◌∙◌, ◌+◌, ℕ, suc, Bool, true, false, List, [], ◌++◌, Option, Some, None, refl, sym, ap, subst, inl, inr, append-nil, append_assoc}
+use Rattle.std.proofs.Common.{arith, ◌≡◌, ◌≢◌, ◌⊎◌, ◌∙◌, ℕ, suc, Bool, true, false, List, [], ◌++◌, Option, None, refl, sym, ap, subst, inl, inr}
+use Rattle.std.proofs.Common.{append-nil, append_assoc}
 use Rattle.aom_image.specs.Image.{Image}
 use Rattle.aom_semantics.specs.State.{State}
-use Rattle.aom_semantics.specs.World.{IsBetween, Environment, Reaches, begins as from_here}
+use Rattle.aom_semantics.specs.World.{Environment, Reaches, begins as from_here}
 use Rattle.aom_transcript.specs.declared.line.Line.{Line}
-use Rattle.aom_transcript.specs.Text.{text_of}
 use Rattle.aom_transcript.specs.declared.line.Ending.{Ending}
 use Rattle.std.specs.Prelude.{is_some}
-use Rattle.aom_machine_state.specs.declared.progress.Progress.{Progress}
 use Rattle.aom_machine_state.specs.declared.progress.Progress.TheVariants.{Running, Turned}
 use Rattle.aom_machine_state.specs.Progress.{progress_by, progress_of}
 use Rattle.aom_machine.specs.Steps.{IsAtHand, progress}
 use Rattle.aom_machine.proofs.Progressing.{is_as_far}
-use Rattle.aom_run.specs.Calls.{Stands, StandsFor}
-use Rattle.aom_debug_moves.specs.Sends.{Breaks, Leads, Machine, Sends, Then}
+use Rattle.aom_debug_moves.specs.Sends.{Breaks, Machine, Sends, Then}
 use Rattle.aom_debug_moves.specs.Movers.{Keeps, outside_of}
 use Rattle.aom_debug_moves.specs.declared.mover.Mover.{Mover}
-use Rattle.aom_run.specs.Runs.{Moving, after}
 use Rattle.aom_run.proofs.Reaching.{reaches_both}
 use Rattle.aom_debug_words.specs.declared.spot.Spot.{Spot}
-use Rattle.aom_debug_moves.specs.Moves.{Arrives, Strides, TurnsOnce, stays as no_turns, turns}
+use Rattle.aom_debug_moves.specs.Moves.{Arrives, Strides, stays as no_turns, turns}
 use Rattle.aom_debug_moves.proofs.Keeping.{heard_as}
 use Rattle.aom_debug_moves.proofs.Sending.{breaks_then, moving_stride, reaches_arrived, sent_both}
-use Rattle.aom_debug_moves.specs.Courses.{Courses, GoesOn, HasBegun, InDispatch, IsOver, IsThere, Passes, Rests, Walks, WalksIfAny, WalksOn, WalksThere, stays_at}
+use Rattle.aom_debug_moves.specs.Courses.{Courses, GoesOn, HasBegun, InDispatch, IsOver, IsThere, Passes, Rests, Walks, WalksIfAny, WalksOn}
+use Rattle.aom_debug_moves.specs.Courses.{stays_at}
 use Rattle.aom_debug_moves.specs.declared.walking.Until.{Until}
 use Rattle.aom_debug_moves.specs.Courses.Passes.{begins as passes_none, strides as passes_more}
 use Rattle.aom_debug_moves.specs.Courses.Walks.{begins as walks_none, strides as walks_more}
-use Rattle.aom_debug_moves.proofs.Going.{cut_run, is_over, run_of}
+use Rattle.aom_debug_moves.proofs.Going.{is_over, run_of}
 
 -- turns after turns
-pub arrives_both : (p : Image) (outside : Environment) (s : State) (lines : List Line) (v : State) (more : List Line) (u : State) → Arrives p outside s lines v → Arrives p outside v more u → Arrives p outside s (lines ++ more) u
+pub arrives_both : (p : Image) (outside : Environment) (s : State) (lines : List Line) (v : State) (more : List Line) (u : State) →
+    Arrives p outside s lines v → Arrives p outside v more u → Arrives p outside s (lines ++ more) u
 arrives_both p outside s lines v _ _ x no_turns = subst (λ ls. Arrives p outside s ls v) (sym (append-nil lines)) x
 arrives_both p outside s lines v _ _ x (turns {lines = more} {more = last} {v = w} {u} before idle once) =
     subst (λ ls. Arrives p outside s ls u) (append_assoc lines more last) (turns (arrives_both p outside s lines v more w x before) idle once)
 
 -- steps with the turns before them are a run
-pub reaches_passed : (p : Image) (outside : Environment) (stays : State → Bool) (old : List Spot) (s : State) (n : ℕ) (new : List Spot) (lines : List Line) (u : State) → Passes p outside stays old s n new lines u → Reaches p outside s lines u
+pub reaches_passed : (p : Image) (outside : Environment) (stays : State → Bool) (old : List Spot)
+    (s : State) (n : ℕ) (new : List Spot) (lines : List Line) (u : State) → Passes p outside stays old s n new lines u → Reaches p outside s lines u
 reaches_passed p outside stays old s _ _ _ _ passes_none = from_here
 reaches_passed p outside stays old s _ _ _ _ (passes_more {n} {mid} {new} {lines} {first} {later} {v} {w} {u} before comes hand on once) =
-    reaches_both p outside s lines v (first ++ later) u (reaches_passed p outside stays old s n mid lines v before)
-    (reaches_both p outside v first w later u (reaches_arrived p outside v first w comes) (run_of p outside w later u (moving_stride p outside.refused mid new w later u once)))
+    reaches_both p outside s lines v (first ++ later) u (reaches_passed p outside stays old s n mid lines v before) (reaches_both p outside v first w later u
+    (reaches_arrived p outside v first w comes) (run_of p outside w later u (moving_stride p outside.refused mid new w later u once)))
 
 -- something is at hand
 pub running_of : (s : State) → IsAtHand s → progress_of s ≡ Running
@@ -60,7 +60,8 @@ module _ (p : Image) (outside : Environment) (stays : State → Bool) (old : Lis
   PassesBy k new ls u = ((k ≡ 0) × Rests mid new w ls u) ⊎ ((k ≢ 0) × (m : ℕ) × Passes p outside stays old s (suc m) new (lines ++ (first ++ ls)) u)
 
   module _ (before : Passes p outside stays old s n mid lines v) (comes : Arrives p outside v first w) (free : IsAtHand w → HasBegun n s → stays w ≡ false) where
-    one_more : (k : ℕ) (far new : List Spot) (ls last : List Line) (x u : State) → PassesBy k far ls x → IsAtHand x → (k ≢ 0 → stays x ≡ false) → Strides p outside.refused far new x last u → (m : ℕ) × Passes p outside stays old s (suc m) new (lines ++ (first ++ (ls ++ last))) u
+    one_more : (k : ℕ) (far new : List Spot) (ls last : List Line) (x u : State) → PassesBy k far ls x → IsAtHand x → (k ≢ 0 → stays x ≡ false) →
+        Strides p outside.refused far new x last u → (m : ℕ) × Passes p outside stays old s (suc m) new (lines ++ (first ++ (ls ++ last))) u
     one_more k far new ls last x u (inl none) hand on once =
         let same = none.1.1 in
         let here = subst (λ y. IsAtHand y) same hand in
@@ -77,7 +78,8 @@ module _ (p : Image) (outside : Environment) (stays : State → Bool) (old : Lis
         let more = one_more k far new ls last x u (walked_by k far ls x walked) hand on once in
         inr ((λ none. absurd cc), more.0, more.1)
 
-    pub walked_some : (k : ℕ) (new : List Spot) (ls : List Line) (u : State) → Walks p outside.refused stays mid w (suc k) new ls u → (m : ℕ) × Passes p outside stays old s (suc m) new (lines ++ (first ++ ls)) u
+    pub walked_some : (k : ℕ) (new : List Spot) (ls : List Line) (u : State) →
+        Walks p outside.refused stays mid w (suc k) new ls u → (m : ℕ) × Passes p outside stays old s (suc m) new (lines ++ (first ++ ls)) u
     walked_some k new ls u walked = go (walked_by (suc k) new ls u walked)
       where
         go : PassesBy (suc k) new ls u → (m : ℕ) × Passes p outside stays old s (suc m) new (lines ++ (first ++ ls)) u
@@ -98,15 +100,16 @@ module _ (p : Image) (outside : Environment) (stays : State → Bool) where
     (λ running. absurd (y.0 running)),
     inl (subst (λ v. progress_of v ≢ Running) (sym y.1.1) y.0),
   )
-  far_first old new s ls u (inr y) =
-      let all = walked_some p outside stays old s s s 0 old [] [] passes_none no_turns (λ hand begun. absurd (begun (running_of s hand) refl)) y.0 new ls u y.1 in
+  far_first old new s ls u (inr y) = let all =
+      walked_some p outside stays old s s s 0 old [] [] passes_none no_turns (λ hand begun. absurd (begun (running_of s hand) refl)) y.0 new ls u y.1 in
       (suc all.0, (u, ls, [], all.1, no_turns, sym (append-nil ls)), (λ running none. absurd cc), y.2)
 
   -- the same lines otherwise
   joined : (a b c d : List Line) → (a ++ b) ++ (c ++ d) ≡ a ++ ((b ++ c) ++ d)
   joined a b c d = append_assoc a b (c ++ d) ∙ ap (λ l. a ++ l) (sym (append_assoc b c d))
 
-  module _ (old mid new : List Spot) (s : State) (ls : List Line) (v : State) (x : GoesFar p outside stays old mid s ls v) (ks : List Line) (u : State) (z : InDispatch p outside (WalksOn p outside.refused stays) mid new v ks u) where
+  module _ (old mid new : List Spot) (s : State) (ls : List Line) (v : State) (x : GoesFar p outside stays old mid s ls v)
+      (ks : List Line) (u : State) (z : InDispatch p outside (WalksOn p outside.refused stays) mid new v ks u) where
     comes_on : Arrives p outside x.1.0 (x.1.2 ++ z.1) z.0
     comes_on = arrives_both p outside x.1.0 x.1.2 v z.1 z.0 x.1.4 z.3
 
@@ -147,12 +150,12 @@ module _ (p : Image) (outside : Environment) (stays : State → Bool) where
       go (inr is) = inr is
 
   pub reaches_far : (old new : List Spot) (s : State) (ls : List Line) (u : State) → GoesFar p outside stays old new s ls u → Reaches p outside s ls u
-  reaches_far old new s ls u x =
-      subst (λ l. Reaches p outside s l u) (sym x.1.5)
-      (reaches_both p outside s x.1.1 x.1.0 x.1.2 u (reaches_passed p outside stays old s x.0 new x.1.1 x.1.0 x.1.3) (reaches_arrived p outside x.1.0 x.1.2 u x.1.4))
+  reaches_far old new s ls u x = subst (λ l. Reaches p outside s l u) (sym x.1.5) (reaches_both p outside s x.1.1 x.1.0 x.1.2 u
+      (reaches_passed p outside stays old s x.0 new x.1.1 x.1.0 x.1.3) (reaches_arrived p outside x.1.0 x.1.2 u x.1.4))
 
 module _ {X : Type 0} {B : X → Type 0} (p : Image) (outside : Environment) (stays : State → Bool) where
-  pub begins_far : (old new : List Spot) (a c : Machine X B) (before out : Option (List ℕ)) → Sends (WalksIfAny p outside.refused stays old new) a before out c → Sends (GoesFar p outside stays old new) a before out c
+  pub begins_far : (old new : List Spot) (a c : Machine X B) (before out : Option (List ℕ)) →
+      Sends (WalksIfAny p outside.refused stays old new) a before out c → Sends (GoesFar p outside stays old new) a before out c
   begins_far old new a c before out x s stands = let f = x s stands in (f.0, f.1, far_first p outside stays old new s f.0 f.1 f.2, f.3, f.4)
 
   module _ (old mid : List Spot) (a m c : Machine X B) (before here out : Option (List ℕ)) (x : Sends (GoesFar p outside stays old mid) a before here m) where
@@ -163,11 +166,11 @@ module _ {X : Type 0} {B : X → Type 0} (p : Image) (outside : Environment) (st
         (f.0 ++ g.0, g.1, far_next p outside stays old mid new s f.0 f.1 f.2 g.0 g.1 g.2, sent_both before here out f.0 g.0 f.3 g.3, g.4)
 
     pub far_cut : Breaks (Reaches p outside) m here out c → Breaks (Reaches p outside) a before out c
-    far_cut y =
-        breaks_then a m c before here out (GoesFar p outside stays old mid) (Reaches p outside) x (Reaches p outside)
+    far_cut y = breaks_then a m c before here out (GoesFar p outside stays old mid) (Reaches p outside) x (Reaches p outside)
         (λ s ls v ks u f g. reaches_both p outside s ls v ks u (reaches_far p outside stays old mid s ls v f) g) y
 
-  pub went_on : (old new : List Spot) (a c : Machine X B) (before out : Option (List ℕ)) → progress c.core ≢ Turned → Sends (GoesFar p outside stays old new) a before out c → Sends (GoesOn p outside stays old new) a before out c
+  pub went_on : (old new : List Spot) (a c : Machine X B) (before out : Option (List ℕ)) →
+      progress c.core ≢ Turned → Sends (GoesFar p outside stays old new) a before out c → Sends (GoesOn p outside stays old new) a before out c
   went_on old new a c before out goes x s stands =
       let f = x s stands in
       (f.0, f.1, goes_on_by p outside stays old new s f.0 f.1 (λ is. goes (is_as_far c.core f.1 f.4.stands ∙ is)) f.2, f.3, f.4)

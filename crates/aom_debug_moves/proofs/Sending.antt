@@ -1,5 +1,6 @@
 -- What goes out after what is out: moves one after another, the last of which may be cut.
-use Rattle.std.proofs.Common.{◌≡◌, ◌∙◌, ◌+◌, ◌-◌, ◌^◌, ◌<◌, ◌≤◌, ℕ, suc, ℤ, Bool, true, false, List, [], ◌++◌, Option, Some, None, length, take, refl, sym, ap, subst, arith, IfSome}
+use Rattle.std.proofs.Common.{◌≡◌, ◌∙◌, ◌+◌, ◌-◌, ◌^◌, ◌<◌, ◌≤◌, ℕ, suc, ℤ, Bool, true, false, List, [], ◌++◌, Option, Some, None, length, take, refl, sym}
+use Rattle.std.proofs.Common.{ap, subst, arith, IfSome}
 use Rattle.aom_debug_words.specs.declared.spot.Spot.{Spot}
 use Rattle.aom_image.specs.Image.{Image}
 use Rattle.aom_semantics.specs.State.{State}
@@ -91,7 +92,8 @@ module _ {X : Type 0} {B : X → Type 0} where
         let text = g.3 ∙ ap (λ o. after o (text_of g.0)) f.3 ∙ after_both before (text_of f.0) (text_of g.0) ∙ ap (after before) (sym (text_of_both f.0 g.0)) in
         (f.0 ++ g.0, g.1, (f.1, f.0, g.0, f.2, g.2, refl), text, g.4)
 
-    pub breaks_then : (all : Leads) → ((s : State) (ls : List Line) (v : State) (ks : List Line) (u : State) → first s ls v → later v ks u → all s (ls ++ ks) u) → Breaks later m mid out c → Breaks all a before out c
+    pub breaks_then : (all : Leads) → ((s : State) (ls : List Line) (v : State) (ks : List Line) (u : State) →
+        first s ls v → later v ks u → all s (ls ++ ks) u) → Breaks later m mid out c → Breaks all a before out c
     breaks_then all joins y s stands =
         let f = x s stands in
         let g = y f.1 f.4 in
@@ -101,7 +103,8 @@ module _ {X : Type 0} {B : X → Type 0} where
         in
         (f.0 ++ g.0, g.1, joins s f.0 f.1 g.0 g.1 f.2 g.2, (length (text_of f.0) + n, text), g.4)
 
-  pub sends_as : (a c : Machine X B) (before out : Option (List ℕ)) (one other : Leads) → ((s : State) → StandsFor a s → (ls : List Line) (u : State) → one s ls u → other s ls u) → Sends one a before out c → Sends other a before out c
+  pub sends_as : (a c : Machine X B) (before out : Option (List ℕ)) (one other : Leads) →
+      ((s : State) → StandsFor a s → (ls : List Line) (u : State) → one s ls u → other s ls u) → Sends one a before out c → Sends other a before out c
   sends_as a c before out one other turn x s stands = let f = x s stands in (f.0, f.1, turn s stands f.0 f.1 f.2, f.3, f.4)
 
   pub sends_nothing : (leads : Leads) (m : Machine X B) (out : Option (List ℕ)) → Sends (IfSo false leads) m out out m
@@ -114,14 +117,16 @@ module _ {X : Type 0} {B : X → Type 0} where
   sends_if_not b is leads m out = subst (λ y. Sends (IfSo y leads) m out out m) (sym is) (sends_nothing leads m out)
 
   -- what is asked for is what the states say
-  pub sends_where : (b : Bool) (test : State → Bool) (leads : Leads) (a c : Machine X B) (before out : Option (List ℕ)) → ((s : State) → StandsFor a s → b ≡ test s) → Sends (IfSo b leads) a before out c → Sends (Where test leads) a before out c
+  pub sends_where : (b : Bool) (test : State → Bool) (leads : Leads) (a c : Machine X B) (before out : Option (List ℕ)) →
+      ((s : State) → StandsFor a s → b ≡ test s) → Sends (IfSo b leads) a before out c → Sends (Where test leads) a before out c
   sends_where b test leads a c before out is x = sends_as a c before out (IfSo b leads) (Where test leads) (λ s stands ls u y. subst (λ z. IfSo z leads s ls u) (is s stands) y) x
 
   -- what one step does, whatever it hears
   abbrev pub Stepped : Machine X B → Progress → LineBuffer → LineBuffer → Machine X B → Type 0
   Stepped old far told now new = (s : State) → StandsFor old s → (heard : ℤ) × SteppedOnce old heard far told now new s
 
-  pub stepped_of : (old new : Machine X B) (far : Progress) (told now : LineBuffer) {May : State → ℤ → Type 0} → ((s : State) → StandsFor old s → (heard : ℤ) × May s heard × SteppedOnce old heard far told now new s) → Stepped old far told now new
+  pub stepped_of : (old new : Machine X B) (far : Progress) (told now : LineBuffer) {May : State → ℤ → Type 0} →
+      ((s : State) → StandsFor old s → (heard : ℤ) × May s heard × SteppedOnce old heard far told now new s) → Stepped old far told now new
   stepped_of old new far told now steps s stands = let x = steps s stands in (x.0, x.2)
 
   -- ---- one step
@@ -197,11 +202,13 @@ module _ {X : Type 0} {B : X → Type 0} where
           (f.0 ++ g.0, g.1, turns f.2 is g.2, sent_both before mid out f.0 g.0 f.3 g.3, g.4)
 
       pub arrives_cut : Breaks (Reaches p outside) m mid out c → Breaks (Reaches p outside) a before out c
-      arrives_cut =
-          breaks_then a m c before mid out (Arrives p outside) (Reaches p outside) x (Reaches p outside) (λ s ls v ks u f g. reaches_both p outside s ls v ks u (reaches_arrived p outside s ls v f) g)
+      arrives_cut = breaks_then a m c before mid out (Arrives p outside)
+          (Reaches p outside) x (Reaches p outside) (λ s ls v ks u f g. reaches_both p outside s ls v ks u (reaches_arrived p outside s ls v f) g)
 
   -- fewer dispatches or events are to come
-  pub fewer : (outside : Environment) → outside.limit ≤ 2 ^ 64 - 1 → (m mid : Machine X B) (told turn : LineBuffer) (ending : Option Ending) → Stands m → progress m.core ≡ Turned → TakesTurns m outside ending told turn mid → progress mid.core ≡ Turned → left outside.events outside.limit mid < left outside.events outside.limit m
+  pub fewer : (outside : Environment) →
+      outside.limit ≤ 2 ^ 64 - 1 → (m mid : Machine X B) (told turn : LineBuffer) (ending : Option Ending) → Stands m → progress m.core ≡ Turned →
+      TakesTurns m outside ending told turn mid → progress mid.core ≡ Turned → left outside.events outside.limit mid < left outside.events outside.limit m
   fewer outside few m mid told turn None stands between takes again =
       fewer_left outside few m mid mid told turn (record turn { lines = [] }) Turned None None stands between takes
       (λ s st. ([], s, begins, refl, refl, sym again ∙ is_as_far mid.core s st.stands, (λ no. absurd (turned_not_running no)), st))

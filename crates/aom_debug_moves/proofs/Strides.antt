@@ -1,25 +1,22 @@
 -- Steps one after another, with their lines and what is noted of them: what goes out, and where they end.
-use Rattle.std.proofs.Common.{◌≡◌, ◌≢◌, ◌⊎◌, ◌∙◌, ℕ, suc, Bool, true, false, List, [], ◌++◌, Option, length, take, refl, sym, ap, subst, inl, inr}
+use Rattle.std.proofs.Common.{◌≡◌, ◌≢◌, ◌∙◌, ℕ, suc, Bool, true, false, List, [], ◌++◌, Option, refl, sym, subst, inl, inr}
 use Rattle.aom_image.specs.Image.{Image}
 use Rattle.aom_semantics.specs.State.{State}
 use Rattle.aom_transcript.specs.declared.line.Line.{Line}
-use Rattle.aom_transcript.specs.Text.{text_of}
-use Rattle.aom_machine_state.specs.declared.progress.Progress.{Progress}
 use Rattle.aom_machine_state.specs.declared.progress.Progress.TheVariants.{Running}
-use Rattle.aom_machine_state.specs.Progress.{progress_of}
 use Rattle.aom_machine.specs.Steps.{progress}
 use Rattle.aom_machine.proofs.Progressing.{at_hand, is_as_far}
-use Rattle.aom_run.specs.Calls.{Stands, StandsFor}
-use Rattle.aom_debug_moves.specs.Sends.{Breaks, Leads, Machine, Sends}
+use Rattle.aom_run.specs.Calls.{StandsFor}
+use Rattle.aom_debug_moves.specs.Sends.{Breaks, Machine, Sends}
 use Rattle.aom_debug_moves.specs.Movers.{Keeps}
 use Rattle.aom_debug_moves.specs.declared.mover.Mover.{Mover}
-use Rattle.aom_run.specs.Runs.{Moving, after, begins as stays_there}
+use Rattle.aom_run.specs.Runs.{Moving, begins as stays_there}
 use Rattle.aom_run.proofs.Reaching.{moving_both}
 use Rattle.aom_debug_moves.proofs.Keeping.{begun_as}
 use Rattle.aom_debug_moves.proofs.Sending.{after_none, breaks_then, moving_stride, sent_both}
 use Rattle.aom_debug_words.specs.declared.spot.Spot.{Spot}
 use Rattle.aom_debug_moves.specs.Moves.{Strides}
-use Rattle.aom_debug_moves.specs.Courses.{Courses, IsThere, Walks, WalksIfAny, WalksOn, WalksThere, WalksUnless}
+use Rattle.aom_debug_moves.specs.Courses.{Courses, Walks, WalksIfAny, WalksOn, WalksThere, WalksUnless}
 use Rattle.aom_debug_moves.specs.Courses.Walks.{begins, strides}
 
 -- some steps, from the last of which one may go on
@@ -31,7 +28,8 @@ abbrev pub Begun : Image → List ℕ → (State → Bool) → Courses
 Begun p refused stays old new s lines u = (n : ℕ) × Walks p refused stays old s (suc n) new lines u
 
 -- steps are moves
-pub moving_walk : (p : Image) (refused : List ℕ) (stays : State → Bool) (old : List Spot) (s : State) (n : ℕ) (new : List Spot) (lines : List Line) (u : State) → Walks p refused stays old s n new lines u → Moving p refused s lines u
+pub moving_walk : (p : Image) (refused : List ℕ) (stays : State → Bool) (old : List Spot)
+    (s : State) (n : ℕ) (new : List Spot) (lines : List Line) (u : State) → Walks p refused stays old s n new lines u → Moving p refused s lines u
 moving_walk p refused stays old s _ _ _ _ begins = stays_there
 moving_walk p refused stays old s _ _ _ _ (strides {n} {mid} {new} {lines} {more} {v} {u} before hand on once) =
     moving_both p refused s lines v more u (moving_walk p refused stays old s n mid lines v before) (moving_stride p refused mid new v more u once)
@@ -49,8 +47,7 @@ module _ {X : Type 0} {B : X → Type 0} (p : Image) (refused : List ℕ) (stays
         (f.0 ++ g.0, g.1, (f.2.0, strides f.2.1 (at_hand f.1 (sym (is_as_far m.core f.1 f.4.stands) ∙ running)) f.2.2 g.2), sent_both before here out f.0 g.0 f.3 g.3, g.4)
 
     pub steps_cut : Breaks (Moving p refused) m here out c → Breaks (Moving p refused) a before out c
-    steps_cut y =
-        breaks_then a m c before here out (Underway p refused stays old mid) (Moving p refused) x (Moving p refused)
+    steps_cut y = breaks_then a m c before here out (Underway p refused stays old mid) (Moving p refused) x (Moving p refused)
         (λ s ls v ks u f k. moving_both p refused s ls v ks u (moving_walk p refused stays old s f.0 mid ls v f.1) k) y
 
   module _ (old new : List Spot) (a c : Machine X B) (before out : Option (List ℕ)) (x : Sends (Begun p refused stays old new) a before out c) where
@@ -94,5 +91,5 @@ module _ {X : Type 0} {B : X → Type 0} (a m n : Mover X B) (keeps : Keeps a m)
       (begun_as keeps (λ q r. Sends (Strides q r m.recent n.recent) m.machine here out n.machine) step)
 
   pub step_cut : Breaks (Moving m.machine.core.image m.turn.refused) m.machine here out n.machine → Breaks (Moving a.machine.core.image a.turn.refused) a.machine before out n.machine
-  step_cut cut =
-      steps_cut a.machine.core.image a.turn.refused stays old m.recent a.machine m.machine n.machine before here out so_far (begun_as keeps (λ q r. Breaks (Moving q r) m.machine here out n.machine) cut)
+  step_cut cut = steps_cut a.machine.core.image a.turn.refused stays old m.recent a.machine m.machine n.machine before here out so_far
+      (begun_as keeps (λ q r. Breaks (Moving q r) m.machine here out n.machine) cut)

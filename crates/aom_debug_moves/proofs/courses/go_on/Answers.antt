@@ -21,7 +21,7 @@ loop-progress-init g c =
     let stays = λ (s : State). stays_at p c.args.until c.args.breakpoints.now s in
     let before = g.W.Sink.out c.args.out.now in
     let out = g.W.Sink.out c.walk_unless.new.out in
-    let walks = walked_if_any p a.turn.refused stays a.recent m.recent a.machine m.machine before out c.is_idle-rests.result c.is_idle-rests.ensures.rests c.in_ok-progress.ensures.went.0 in
+    let walks = walked_if_any p _ stays a.recent m.recent a.machine m.machine before out _ c.is_idle-rests.ensures.rests c.in_ok-progress.ensures.went.0 in
     record {
       so_far = begins_far p (outside_of a) stays a.recent m.recent a.machine m.machine before out walks;
       far = c.in_ok-progress.ensures.went.1;
@@ -56,7 +56,7 @@ returns-in_err-progress-2-clause-went g c =
     let out = g.W.Sink.out c.pass.new.out in
     let off = c.in_err-progress-2.ensures.went in
     let cut = heard_as i.keeps (λ q o. Breaks (Reaches q o) m.machine here out n.machine) off.1 in
-    rw c.from_residual-in_err-progress-2.ensures (off.0, far_cut p (outside_of a) stays a.recent m.recent a.machine m.machine n.machine (g.W.Sink.out c.args.out.now) here out i.so_far cut)
+    rw c.from_residual-in_err-progress-2.ensures (off.0, far_cut p _ stays a.recent m.recent a.machine m.machine n.machine _ here out i.so_far cut)
 
 pub loop-progress-smaller : goal.loop-progress-smaller
 loop-progress-smaller g c =
@@ -70,7 +70,8 @@ loop-progress-smaller g c =
     let later = left_in a.script.timed a.limit n.machine.core.parts.rest in
     let before = left_in a.script.timed a.limit m.machine.core.parts.rest in
     let far = c.in_ok-progress-2.progress in
-    let less = nearer far later before (λ again. left_falls a.machine.core.image (outside_of a) c.requires.ready.few _ _ _ m.machine n.machine _ _ keeps.ready.stands resting on (sym some.1 ∙ again)) in
+    let less = nearer far later before (λ again. left_falls a.machine.core.image
+    (outside_of a) c.requires.ready.few _ _ _ m.machine n.machine _ _ keeps.ready.stands resting on (sym some.1 ∙ again)) in
     subst (λ q. to_go far later < to_go q before) (sym c.in-Turned.is) less
 
 pub loop-progress-preserved : goal.loop-progress-preserved

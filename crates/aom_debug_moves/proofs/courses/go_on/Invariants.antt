@@ -11,7 +11,9 @@ use Rattle.aom_debug_moves.proofs.courses.go_on.Given as goal
 
 abbrev pub invariant-loop-progress : goal.invariant-loop-progress
 invariant-loop-progress g l = record {
-  so_far : Sends (GoesFar l.fn.mover.machine.core.image (outside_of l.fn.mover) (λ s. stays_at l.fn.mover.machine.core.image l.fn.until l.fn.breakpoints s) l.fn.mover.recent l.mover.recent) l.fn.mover.machine (g.W.Sink.out l.fn.out) (g.W.Sink.out l.out) l.mover.machine;
+  so_far : Sends (GoesFar l.fn.mover.machine.core.image
+      (outside_of l.fn.mover) (λ s. stays_at l.fn.mover.machine.core.image l.fn.until l.fn.breakpoints s) l.fn.mover.recent l.mover.recent) l.fn.mover.machine
+      (g.W.Sink.out l.fn.out) (g.W.Sink.out l.out) l.mover.machine;
   far : l.progress ≡ progress l.mover.machine.core;
   keeps : Keeps l.fn.mover l.mover;
   agree : AllAgree (λ x. x.ids) (λ x. (goal.Native-dyn g (x.native.vtable, x.native.value)).owed x.native.value) l.mover.machine.natives.slots.items;

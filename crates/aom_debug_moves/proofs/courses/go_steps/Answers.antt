@@ -25,7 +25,8 @@ returns-in_err-other-clause-went g c =
     let m = c.loop-done.mover in
     rw c.from_residual.ensures (
       c.in_err-other.ensures.went.0,
-      goes_cut a.machine.core.image (outside_of a) c.loop-done.done a.recent m.recent a.machine m.machine c.arrive.new.mover.machine _ _ _ i.so_far (cut_so a m c.arrive.new.mover i.keeps _ _ c.in_err-other.ensures.went.1),
+      goes_cut a.machine.core.image (outside_of a) c.loop-done.done a.recent m.recent a.machine m.machine c.arrive.new.mover.machine _ _ _ i.so_far
+          (cut_so a m c.arrive.new.mover i.keeps _ _ c.in_err-other.ensures.went.1),
     )
 
 pub returns-in_default-clause-went : goal.returns-in_default-clause-went
@@ -34,9 +35,9 @@ returns-in_default-clause-went g c =
     let m = c.loop-done.mover in
     let n = c.arrive.new.mover in
     let some = c.in_ok-other.ensures.went in (
-      rw c.arrive.ensures.recent
-          (ends_early a.machine.core.image (outside_of a) c.loop-done.done a.recent m.recent a.machine m.machine n.machine _ _ _ c.loop-done.invariant.so_far c.args.steps c.loop-done-test.true
-          (λ is. c.in_default.not-Running (some.1 ∙ is)) (λ is. c.in_ok-other.ensures.goes (some.1 ∙ is)) (comes_so a m n c.loop-done.invariant.keeps _ _ some.0)),
+      rw c.arrive.ensures.recent (ends_early _ (outside_of a) _ a.recent m.recent
+          a.machine m.machine n.machine _ _ _ c.loop-done.invariant.so_far c.args.steps c.loop-done-test.true (λ is. c.in_default.not-Running (some.1 ∙ is))
+          (λ is. c.in_ok-other.ensures.goes (some.1 ∙ is)) (comes_so a m n c.loop-done.invariant.keeps _ _ some.0)),
       some.1,
     )
 
@@ -51,7 +52,11 @@ returns-in_err-stride-clause-went g c =
     let comes = comes_so a m mid keeps _ _ c.in_ok-other.ensures.went.0 in
     let off = c.in_err-stride.ensures.went in
     let cut = begun_as (keeps_on keeps c.arrive.ensures.keeps) (λ q r. Breaks (Moving q r) mid.machine (g.W.Sink.out c.arrive.new.out) out n) off.1 in
-    rw c.from_residual-in_err-stride.ensures (off.0, step_cut a.machine.core.image (outside_of a) c.loop-done.done a.recent m.recent a.machine m.machine mid.machine _ _ _ c.loop-done.invariant.so_far n out comes cut)
+    rw c.from_residual-in_err-stride.ensures (
+      off.0,
+      step_cut a.machine.core.image
+          (outside_of a) c.loop-done.done a.recent m.recent a.machine m.machine mid.machine _ _ _ c.loop-done.invariant.so_far n out comes cut,
+    )
 
 pub loop-done-preserved : goal.loop-done-preserved
 loop-done-preserved g c =
@@ -64,12 +69,14 @@ loop-done-preserved g c =
     let some = c.in_ok-other.ensures.went in
     let comes = comes_so a m mid i.keeps _ _ some.0 in
     let keeps = keeps_on i.keeps c.arrive.ensures.keeps in
-    let noted = subst (λ spots. Sends (Strides mid.machine.core.image mid.turn.refused spots n.recent) mid.machine (g.W.Sink.out c.arrive.new.out) out n.machine) c.arrive.ensures.recent c.in_ok-stride.ensures.went.0 in
+    let noted = subst (λ spots. Sends (Strides mid.machine.core.image mid.turn.refused spots n.recent) mid.machine
+    (g.W.Sink.out c.arrive.new.out) out n.machine) c.arrive.ensures.recent c.in_ok-stride.ensures.went.0 in
     let step = begun_as keeps (λ q r. Sends (Strides q r m.recent n.recent) mid.machine (g.W.Sink.out c.arrive.new.out) out n.machine) noted in
     let more : suc c.loop-done.done ≡ c.loop-done.done + 1 = omega arith in
     record {
       so_far = subst (λ k. Sends (GoesSo a.machine.core.image (outside_of a) k a.recent n.recent) a.machine (g.W.Sink.out c.args.out.now) out n.machine) more
-          (one_more a.machine.core.image (outside_of a) c.loop-done.done a.recent m.recent a.machine m.machine mid.machine _ _ _ i.so_far n.machine out comes n.recent (sym some.1 ∙ c.in-Running.is) step);
+          (one_more a.machine.core.image (outside_of a) c.loop-done.done
+          a.recent m.recent a.machine m.machine mid.machine _ _ _ i.so_far n.machine out comes n.recent (sym some.1 ∙ c.in-Running.is) step);
       within = omega (arith, c.loop-done-test.true);
       keeps = keeps_on keeps c.stride.ensures.keeps;
       agree = c.stride.ensures.agree;
@@ -81,7 +88,7 @@ returns-clause-went g c =
     let m = c.loop-done.mover in
     let i = c.loop-done.invariant in
     let all : c.loop-done.done ≡ c.args.steps = omega (arith, c.loop-done-test.false, i.within) in
-    (all_made a.machine.core.image (outside_of a) c.args.steps c.loop-done.done all a.recent m.recent a.machine m.machine (g.W.Sink.out c.args.out.now) (g.W.Sink.out c.loop-done.out) i.so_far, c.progress.ensures)
+    (all_made a.machine.core.image _ _ _ all a.recent m.recent a.machine m.machine (g.W.Sink.out c.args.out.now) (g.W.Sink.out c.loop-done.out) i.so_far, c.progress.ensures)
 
 pub arrive-requires-clause-agree : goal.arrive-requires-clause-agree
 arrive-requires-clause-agree g c = c.loop-done.invariant.agree

@@ -21,9 +21,11 @@ returns-in-Running-clause-went g c =
     let stays = λ (s : State). stays_at p c.args.until c.args.breakpoints.now s in
     let rests = c.is_there-rests in
     let unless = begun_as keeps (λ q r. Sends (WalksUnless rests.result q r (λ (s : State). stays_at q c.args.until c.args.breakpoints.now s) a.recent n.recent) m.machine mid out n.machine) in
-    let walks = walked_on p a.turn.refused stays a.recent n.recent m.machine n.machine mid out rests.result (λ s st. rests.ensures s st ∙ ap (λ q. stays_at q c.args.until c.args.breakpoints.now s) keeps.image) in
+    let walks = walked_on p a.turn.refused stays a.recent n.recent m.machine n.machine mid out rests.result
+    (λ s st. rests.ensures s st ∙ ap (λ q. stays_at q c.args.until c.args.breakpoints.now s) keeps.image) in
     went_as a m n _ _ _ _ c.walk_unless.result
-    (λ x. in_dispatch _ _ (WalksOn p a.turn.refused stays) a.recent n.recent a.machine m.machine n.machine _ _ _ some.0 (sym some.1 ∙ c.in-Running.is) (walks (unless (rw c.arrive.ensures.recent at x))))
+    (λ x. in_dispatch _ _ (WalksOn p a.turn.refused stays) a.recent n.recent a.machine m.machine n.machine _ _ _ some.0
+    (sym some.1 ∙ c.in-Running.is) (walks (unless (rw c.arrive.ensures.recent at x))))
     (λ x. walk_cut a m n keeps _ _ _ some.0 x) c.walk_unless.ensures.went
 
 pub returns-in_default-clause-went : goal.returns-in_default-clause-went
@@ -32,8 +34,11 @@ returns-in_default-clause-went g c =
     let p = a.machine.core.image in
     let m = c.arrive.new.mover in
     let some = c.in_ok-other.ensures.went in
-    let leads = WalksOn p a.turn.refused (λ (s : State). stays_at p c.args.until c.args.breakpoints.now s) in
-    (over_there _ _ leads a.recent m.recent c.arrive.ensures.recent a.machine m.machine _ _ (λ is. c.in_default.not-Running (some.1 ∙ is)) (λ is. c.in_ok-other.ensures.goes (some.1 ∙ is)) some.0, some.1)
+    let leads = WalksOn p a.turn.refused (λ (s : State). stays_at p c.args.until c.args.breakpoints.now s) in (
+      over_there _ _ leads a.recent m.recent c.arrive.ensures.recent a.machine m.machine _ _ (λ is. c.in_default.not-Running (some.1 ∙ is))
+          (λ is. c.in_ok-other.ensures.goes (some.1 ∙ is)) some.0,
+      some.1,
+    )
 
 pub arrive-requires-clause-agree : goal.arrive-requires-clause-agree
 arrive-requires-clause-agree g c = c.requires.agree

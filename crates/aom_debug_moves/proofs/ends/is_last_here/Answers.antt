@@ -5,4 +5,4 @@ use Rattle.aom_debug_moves.specs.Next.{is_last, is_last_in}
 use Rattle.aom_debug_moves.proofs.ends.is_last_here.Goals as goal
 
 pub returns-in-Some : goal.returns-in-Some
-returns-in-Some c = λ p s st. ends_told p c.args.parts.now s st c.in-Some.dispatch is_last is_last_in c.is_last.result (λ e ts. refl) (sym c.ending.ensures ∙ c.in-Some.is) c.is_last.ensures
+returns-in-Some c = λ p s st. ends_told p _ s st _ is_last is_last_in c.is_last.result (λ e ts. refl) (sym c.ending.ensures ∙ c.in-Some.is) c.is_last.ensures

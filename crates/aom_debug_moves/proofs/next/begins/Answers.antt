@@ -8,7 +8,7 @@ pub class-requires-clause-lives : goal.class-requires-clause-lives
 class-requires-clause-lives c = c.first_to_go-first.ensures.lives
 
 pub returns : goal.returns
-returns c = λ s st q is. c.begins_by.ensures ∙ destroyed_told c.args.linked.now c.args.parts.now s st q c.args.number c.first_to_go-first.result _ is c.requires.lives c.first_to_go-first.ensures.first c.class.ensures
+returns c = λ s st q is. c.begins_by.ensures ∙ destroyed_told _ _ s st q _ _ _ is c.requires.lives c.first_to_go-first.ensures.first c.class.ensures
 
 pub class-requires-clause-small : goal.class-requires-clause-small
 class-requires-clause-small c = class_fits c.args.linked.now c.args.parts.now c.requires.stands.0 c.requires.stands.1.agrees c.first_to_go-first.result

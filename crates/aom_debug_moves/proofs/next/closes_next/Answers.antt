@@ -1,5 +1,5 @@
 -- What closes its sessions stands over its own going.
-use Rattle.std.proofs.Common.{ap, subst, sym, ◌∙◌}
+use Rattle.std.proofs.Common.{subst, sym, ◌∙◌}
 use Rattle.std.proofs.lemmas.Option.{none-some, same_Some}
 use Rattle.aom_cells.specs.Heap.{Lives}
 use Rattle.aom_debug_moves.proofs.Nexts.{closes_at, closes_next_told}

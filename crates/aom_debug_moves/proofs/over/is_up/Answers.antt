@@ -6,5 +6,5 @@ use Rattle.aom_debug_moves.proofs.over.is_up.Goals as goal
 
 pub returns : goal.returns
 returns g c = λ s st.
-    let many = c.len.ensures ∙ ap (λ (m : Parts). length m.stack.tasks) c.parts.ensures.parts ∙ same_length c.args.machine.now.core.parts.stack.tasks s.tasks st.stands.agrees.tasks in
+    let many = c.len.ensures ∙ ap (λ (m : Parts). length m.stack.tasks) c.parts.ensures.parts ∙ same_length _ s.tasks st.stands.agrees.tasks in
     ap (λ n. nat_le n c.args.depth) many

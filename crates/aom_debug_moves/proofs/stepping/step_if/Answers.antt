@@ -7,7 +7,7 @@ use Rattle.aom_debug_moves.proofs.Sending.{breaks_step, cleared, far_after, send
 use Rattle.aom_debug_moves.proofs.stepping.step_if.Goals as goal
 
 pub returns-then-not-asked-clause-went : goal.returns-then-not-asked-clause-went
-returns-then-not-asked-clause-went g c = (sends_if_not c.args.asked c.if-not-asked.true _ c.args.mover.now.machine (g.W.Sink.out c.args.out.now), c.progress.ensures)
+returns-then-not-asked-clause-went g c = (sends_if_not c.args.asked c.if-not-asked.true _ c.args.mover.now.machine _, c.progress.ensures)
 
 pub returns-clause-keeps : goal.returns-clause-keeps
 returns-clause-keeps g c =
@@ -16,7 +16,7 @@ returns-clause-keeps g c =
     let step = c.step-progress in
     let steps = stepped_of a.machine step.new.self step.result a.turn step.new.turn step.ensures.steps in
     let same = cleared a.machine step.new.self step.result a.turn step.new.turn ready.none steps ready.stands c.send.new.turn c.send.ensures.clear in
-    keeps_with a ready step.new.self c.send.new.turn c.send.new.page step.ensures.image step.ensures.natives same (stands_after a.machine step.new.self step.result a.turn step.new.turn ready.none steps ready.stands)
+    keeps_with a ready _ _ _ step.ensures.image step.ensures.natives same (stands_after a.machine step.new.self step.result a.turn step.new.turn ready.none steps ready.stands)
 
 pub returns-clause-went : goal.returns-clause-went
 returns-clause-went g c =
@@ -28,15 +28,18 @@ returns-clause-went g c =
     let out = g.W.Sink.out c.send.new.out in
     let leads = StepsOnce a.machine.core.image a.turn.refused in
     let steps = stepped_of a.machine step.new.self step.result a.turn step.new.turn step.ensures.steps in
-    went_if a new before out (g.W.Sink.failed c.send.new.out) step.result c.send.result c.then_some.result c.then_some.ensures (far_after a.machine step.new.self step.result a.turn step.new.turn ready.none steps ready.stands)
-    (λ all. sends_if_so c.args.asked c.if-not-asked.false leads a.machine step.new.self before out (sends_step a.machine step.new.self step.result a.turn step.new.turn ready.none steps before out (c.send.ensures.whole all)))
+    went_if a new before out (g.W.Sink.failed c.send.new.out) step.result c.send.result c.then_some.result c.then_some.ensures
+    (far_after a.machine step.new.self step.result a.turn step.new.turn ready.none steps ready.stands)
+    (λ all. sends_if_so c.args.asked c.if-not-asked.false leads a.machine step.new.self before out
+    (sends_step a.machine step.new.self step.result a.turn step.new.turn ready.none steps before out (c.send.ensures.whole all)))
     (λ part. (c.send.ensures.fails part, breaks_step a.machine step.new.self step.result a.turn step.new.turn ready.none steps before out c.send.ensures.prefix.0 c.send.ensures.prefix.1))
 
 pub returns-clause-was : goal.returns-clause-was
 returns-clause-was g c =
     let a = c.args.mover.now in
     let step = c.step-progress in
-    was_running a.machine step.new.self step.result a.turn step.new.turn c.requires.ready.none (stepped_of a.machine step.new.self step.result a.turn step.new.turn step.ensures.steps) c.requires.ready.stands
+    was_running a.machine step.new.self step.result a.turn step.new.turn c.requires.ready.none
+    (stepped_of a.machine step.new.self step.result a.turn step.new.turn step.ensures.steps) c.requires.ready.stands
 
 pub returns-then-not-asked-clause-agree : goal.returns-then-not-asked-clause-agree
 returns-then-not-asked-clause-agree g c = c.requires.agree

@@ -9,7 +9,7 @@ pub loop-progress-init : goal.loop-progress-init
 loop-progress-init g c =
     let a = c.args.mover.now in
     record {
-      so_far = nowhere a.machine.core.image a.turn.refused (λ s. stays_at a.machine.core.image c.args.until c.args.breakpoints.now s) a.recent a.machine (g.W.Sink.out c.args.out.now);
+      so_far = nowhere a.machine.core.image a.turn.refused (λ s. stays_at a.machine.core.image c.args.until c.args.breakpoints.now s) a.recent a.machine _;
       running = c.requires.running;
       keeps = keeps_all a c.requires.ready;
       agree = c.requires.agree;
@@ -32,8 +32,11 @@ pub returns-then-is_there-clause-went : goal.returns-then-is_there-clause-went
 returns-then-is_there-clause-went g c =
     let i = c.loop-progress.invariant in
     let some = c.in_ok-progress.ensures.went in
-    let made = stepped c.args.mover.now c.loop-progress.mover c.stride.new.mover i.keeps _ _ _ _ _ i.so_far i.running some.0 in
-    (there _ _ _ _ _ c.args.mover.now.machine c.stride.new.mover.machine _ _ made c.is_there.result c.if-is_there.true (λ s st. c.is_there.ensures s st ∙ ap (λ q. stays_at q c.args.until c.args.breakpoints.now s) (c.stride.ensures.keeps.image ∙ i.keeps.image)), some.1)
+    let made = stepped c.args.mover.now c.loop-progress.mover c.stride.new.mover i.keeps _ _ _ _ _ i.so_far i.running some.0 in (
+      there _ _ _ _ _ c.args.mover.now.machine c.stride.new.mover.machine _ _ made c.is_there.result c.if-is_there.true
+          (λ s st. c.is_there.ensures s st ∙ ap (λ q. stays_at q c.args.until c.args.breakpoints.now s) (c.stride.ensures.keeps.image ∙ i.keeps.image)),
+      some.1,
+    )
 
 pub loop-progress-preserved : goal.loop-progress-preserved
 loop-progress-preserved g c =
@@ -41,7 +44,8 @@ loop-progress-preserved g c =
     let some = c.in_ok-progress.ensures.went in
     let made = stepped c.args.mover.now c.loop-progress.mover c.stride.new.mover i.keeps _ _ _ _ _ i.so_far i.running some.0 in
     record {
-      so_far = not_there _ _ _ _ _ c.args.mover.now.machine c.stride.new.mover.machine _ _ made c.is_there.result c.if-is_there.false (λ s st. c.is_there.ensures s st ∙ ap (λ q. stays_at q c.args.until c.args.breakpoints.now s) (c.stride.ensures.keeps.image ∙ i.keeps.image));
+      so_far = not_there _ _ _ _ _ c.args.mover.now.machine c.stride.new.mover.machine _ _ made c.is_there.result c.if-is_there.false
+          (λ s st. c.is_there.ensures s st ∙ ap (λ q. stays_at q c.args.until c.args.breakpoints.now s) (c.stride.ensures.keeps.image ∙ i.keeps.image));
       running = sym some.1 ∙ c.in-Running.is;
       keeps = keeps_on i.keeps c.stride.ensures.keeps;
       agree = c.stride.ensures.agree;

@@ -9,4 +9,5 @@ returns-then-rests-clause-went g c =
     (rests_here _ _ _ a.recent a.machine (g.W.Sink.out c.args.out.now) c.args.rests c.if-rests.true, c.progress.ensures)
 
 pub returns-clause-went : goal.returns-clause-went
-returns-clause-went g c = went_as c.args.mover.now c.args.mover.now c.walk.new.mover _ _ _ _ c.walk.result (λ x. goes_on _ _ _ _ _ c.args.mover.now.machine c.walk.new.mover.machine _ _ c.args.rests c.if-rests.false x) (λ x. x) c.walk.ensures.went
+returns-clause-went g c = went_as c.args.mover.now c.args.mover.now c.walk.new.mover _ _ _ _ c.walk.result
+    (λ x. goes_on _ _ _ _ _ c.args.mover.now.machine c.walk.new.mover.machine _ _ c.args.rests c.if-rests.false x) (λ x. x) c.walk.ensures.went
