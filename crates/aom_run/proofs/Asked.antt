@@ -1,6 +1,7 @@
 -- What a step asks fits the natives, and what is kept of them after the call and the step fits the state.
 use Rattle.std.proofs.lemmas.Bool.Decides.{nat_tests}
-use Rattle.std.proofs.Common.{◌≡◌, ◌≢◌, ◌<◌, ◌≤◌, ℤ, ℕ, zero, suc, Bool, true, false, cond, List, [], ◌∷◌, Option, Some, None, refl, sym, ap, ◌∙◌, length, arith, slice_index_or}
+use Rattle.std.proofs.Common.{◌≡◌, ◌≢◌, ◌<◌, ◌≤◌, ℤ, ℕ, zero, suc, Bool, true, false, cond, List, [], ◌∷◌, Option, Some, refl, sym, ap, ◌∙◌, length}
+use Rattle.std.proofs.Common.{arith, slice_index_or}
 use Rattle.std.specs.Prelude.{not, IsSome, ◌&&◌, ◌||◌, pred}
 use Rattle.std.proofs.lemmas.Bool.{true≢false}
 use Rattle.aom_image.specs.Image.{Image}
@@ -10,12 +11,12 @@ use Rattle.aom_rules.specs.Typing.{Typing}
 use Rattle.aom_determinism.specs.Endings.{one_where}
 use Rattle.aom_natives.specs.Owed.{IsNew, IsOwed, times}
 use Rattle.aom_natives.specs.Slots.{ids_at, living_at}
-use Rattle.aom_determinism.specs.Owed.{Finds, FindsWell, is_for, meets, owes, owes_after, serves, serves_object, takes_on}
+use Rattle.aom_determinism.specs.Owed.{Finds, FindsWell, is_for, meets, owes, owes_after, serves, serves_object}
 use Rattle.aom_determinism.proofs.Calls.{for_one}
 use Rattle.aom_semantics.specs.Natives.{is_dead, is_served_by}
 use Rattle.aom_semantics.specs.Places.{Object, named}
 use Rattle.aom_semantics.specs.State.{State}
-use Rattle.aom_semantics.specs.Wanted.{Wanted, Opens, Starts, Asks, Cancels, Closes}
+use Rattle.aom_semantics.specs.Wanted.{Wanted}
 use Rattle.aom_machine_state.specs.Stands.{Machine as Core, StandsFor as Core_stands}
 use Rattle.aom_run.specs.Answers.{Asked, KeepsUnasked, MayAsk, times_after}
 use Rattle.aom_run.specs.Beside.{KeepsUnnamed, Serves}
@@ -40,7 +41,8 @@ one_false b e = ap one_where e
 pub one_there : (b : Bool) → 0 < one_where b → b ≡ true
 one_there x some = grind arith
 
-module _ {L : Type 0} (kept : L → List ℕ) (p : Image) (s : State) (slots : List (Option L)) (keeps : Serves kept p s slots) (formed : WellFormed p) (small : (n x : ℕ) → meets p s.cells n x ≡ true → x < 4096) where
+module _ {L : Type 0} (kept : L → List ℕ) (p : Image) (s : State)
+    (slots : List (Option L)) (keeps : Serves kept p s slots) (formed : WellFormed p) (small : (n x : ℕ) → meets p s.cells n x ≡ true → x < 4096) where
   lives_there : (n x : ℕ) (session outstanding : Bool) → Finds p s n x session outstanding → IsSome (living_at slots n)
   lives_there n x session outstanding finds = grind (arith, nat_tests, serving_named p formed s.cells n x finds.serves)
 
@@ -61,30 +63,24 @@ module _ {L : Type 0} (kept : L → List ℕ) (p : Image) (s : State) (slots : L
 
   -- what is found well may be asked
   pub may_ask : (w : Wanted) → FindsWell p s (Some w) → MayAsk kept slots w
-  may_ask (Opens n x) finds = lives_there n x false false finds
-  may_ask (Starts n x f w) finds = (lives_there n x true false finds, new_there n x true finds, few_there n x finds)
-  may_ask (Asks n x f w) finds = lives_there n x true _ finds
-  may_ask (Cancels n x) finds = (lives_there n x true true finds, owed_there n x finds)
-  may_ask (Closes n x) finds = (lives_there n x true false finds, new_there n x true finds)
+  may_ask y finds = grind (arith, nat_tests, lives_there, new_there, few_there, owed_there)
 
   -- ---- after the call, and the step
 
-  begun : (n x k m : ℕ) (taken : Bool) → Finds p s n x true false → cond (taken && is_for n x k m) (suc (one_where (owes p s.cells k m))) (one_where (owes p s.cells k m)) ≡ one_where ((taken && is_for n x k m) || owes p s.cells k m)
+  begun : (n x k m : ℕ) (taken : Bool) → Finds p s n x true false → cond (taken && is_for n x k m)
+      (suc (one_where (owes p s.cells k m))) (one_where (owes p s.cells k m)) ≡ one_where ((taken && is_for n x k m) || owes p s.cells k m)
   begun n x k m taken finds = grind (arith, nat_tests, for_one n x k m)
 
   ended : (n x k m : ℕ) → cond (is_for n x k m) (pred (one_where (owes p s.cells k m))) (one_where (owes p s.cells k m)) ≡ one_where (not (is_for n x k m) && owes p s.cells k m)
   ended n x k m = grind (arith, nat_tests)
 
-  counted_after : (asked : Option Wanted) (answer : ℤ) → FindsWell p s asked → (k m : ℕ) → times_after asked answer k m (one_where (owes p s.cells k m)) ≡ one_where (owes_after asked answer k m (owes p s.cells k m))
-  counted_after None answer finds k m = refl
-  counted_after (Some (Opens n x)) answer finds k m = refl
-  counted_after (Some (Starts n x f w)) answer finds k m = begun n x k m (takes_on answer) finds
-  counted_after (Some (Asks n x f w)) answer finds k m = refl
-  counted_after (Some (Cancels n x)) answer finds k m = ended n x k m
-  counted_after (Some (Closes n x)) answer finds k m = refl
+  counted_after : (asked : Option Wanted) (answer : ℤ) → FindsWell p s asked →
+      (k m : ℕ) → times_after asked answer k m (one_where (owes p s.cells k m)) ≡ one_where (owes_after asked answer k m (owes p s.cells k m))
+  counted_after y answer finds k m = grind (arith, nat_tests, begun, ended)
 
   -- what is kept after a call is what the state has outstanding that the step which asked it leads to
-  pub serves_after : (t : Typing) (asked : Option Wanted) (answer : ℤ) (new : List (Option L)) (u : State) → FindsWell p s asked → Asked kept slots asked answer new → Went p t s asked answer u → Serves kept p u new
+  pub serves_after : (t : Typing) (asked : Option Wanted) (answer : ℤ) (new : List (Option L)) (u : State) →
+      FindsWell p s asked → Asked kept slots asked answer new → Went p t s asked answer u → Serves kept p u new
   serves_after t asked answer new u finds call went = record {
     enough = (let enough = keeps.enough in let count = call.count in omega (arith, enough, count));
     lives = λ n within. call.living n ∙ keeps.lives n (let count = call.count in omega (arith, within, count)) ∙ ap (λ l. not (is_dead l n)) (sym went.killed);
@@ -104,10 +100,7 @@ module _ {L : Type 0} (p : Image) (s : State) (old new : List (Option L)) where
 
   -- one that serves none is asked nothing
   pub keeps_unnamed : (asked : Option Wanted) → FindsWell p s asked → KeepsUnasked old asked new → KeepsUnnamed p old new
-  keeps_unnamed asked finds keeps = record { at = by_asked asked finds keeps }
-    where
-      by_asked : (asked : Option Wanted) → FindsWell p s asked → KeepsUnasked old asked new → (k : ℕ) → ((t : Thing) → is_served_by p k t ≡ false) → living_at new k ≡ living_at old k
-      by_asked x y z k none = grind (arith, nat_tests, is_another)
+  keeps_unnamed asked finds keeps = search (arith, nat_tests, is_another)
 
 pub unnamed_all : {L : Type 0} (p : Image) (slots : List (Option L)) → KeepsUnnamed p slots slots
 unnamed_all p slots = record { at = λ k none. refl }

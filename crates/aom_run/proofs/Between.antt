@@ -1,6 +1,7 @@
 -- Turns of the machine, one after another: what is due completes requests, events are heard, natives are polled, and time passes, until an object is dispatched, an event is told by a line, or the run ends.
 use Rattle.std.proofs.lemmas.Bool.Decides.{nat_tests}
-use Rattle.std.proofs.Common.{◌≡◌, ◌⊎◌, ◌<◌, ◌≤◌, ℕ, ℤ, suc, Bool, true, false, List, [], Option, Some, None, length, ap, append-nil, arith, refl, subst, sym, ◌∙◌}
+use Rattle.std.proofs.Common.{◌≡◌, ◌⊎◌, ◌<◌, ◌≤◌, ℕ, ℤ, suc, Bool, true, false, List, [], Option, Some, None, length, ap, append-nil, arith, refl, subst, sym}
+use Rattle.std.proofs.Common.{◌∙◌}
 use Rattle.std.proofs.lemmas.List.{append_cancel_left}
 use Rattle.aom_machine.proofs.Progressing.{is_as_far}
 use Rattle.aom_machine_state.specs.declared.progress.Progress.TheVariants.{Turned}
@@ -15,7 +16,8 @@ use Rattle.aom_semantics.specs.World.{Completes, IsBetween, Environment, Reaches
 use Rattle.aom_transcript.specs.declared.line.Line.{Line}
 use Rattle.aom_transcript.specs.declared.event.TimedEvent.{TimedEvent}
 use Rattle.aom_determinism.proofs.Lefts.{event_there}
-use Rattle.aom_run.proofs.Parts.{completed_same, delivered_same, delivers_alike, delivers_by, delivers_well, no_turn, polled_same, polls_by, still_between, turns_by}
+use Rattle.aom_run.proofs.Parts.{completed_same, delivers_alike, delivers_by, delivers_well, no_turn, polled_same, polls_by, still_between}
+use Rattle.aom_run.proofs.Parts.{turns_by}
 use Rattle.aom_run.proofs.Reaching.{reaches_both}
 use Rattle.aom_run.proofs.Turnings.{NoneCome, completes_so, delivers_so, polls_so}
 use Rattle.aom_run.specs.Turns.{AllPolled, CompletesDue, HasCome, IsDue, IsLate, NoneHasCome, Settles, TellsEnd, hearing, to_come, waiting}
@@ -39,7 +41,8 @@ module _ {X : Type 0} {B : X → Type 0} where
         let on : (outside : Environment) → s.rest.dispatches < outside.limit → Reaches old.core.image outside s [] t.state =
         λ outside below.
         let still : w.0.rest.dispatches < outside.limit = subst (λ r. r < outside.limit) (sym (ap (λ r. r.dispatches) w.2)) below in
-        turns_by old.core.image outside s [] w.0 t.state (Completes x.0.object) (w.1 outside below) t.between (completes_so outside w.0 still x.0 x.1 x.2) tt (subst (λ q. turned q w.0 (Completes x.0.object) ≡ Goes t.state) image t.goes) in
+        turns_by old.core.image outside s [] w.0 t.state (Completes x.0.object) (w.1 outside below) t.between
+        (completes_so outside w.0 still x.0 x.1 x.2) tt (subst (λ q. turned q w.0 (Completes x.0.object) ≡ Goes t.state) image t.goes) in
         (t.state, on, (completed_same m.core.image w.0 t.state x.0.object t.goes).1 ∙ w.2, t.stands)
 
     pub completed_far : Stands m → progress new.core ≡ Turned
@@ -80,7 +83,9 @@ module _ {X : Type 0} {B : X → Type 0} where
   pub all_polled : (m new : Machine X B) (may : ℕ → Option (ℕ × ℤ) → Type 0) (b : Bool) → b ≡ false → Polled may m b new → (new ≡ m) × AllPolled new
   all_polled m new may b is polled = grind (arith, nat_tests)
 
-  pub still_rest : (old m new : Machine X B) → m.core.parts.rest ≡ record old.core.parts.rest { polled = m.core.parts.rest.polled } → new.core.parts.rest ≡ record m.core.parts.rest { polled = new.core.parts.rest.polled } → new.core.parts.rest ≡ record old.core.parts.rest { polled = new.core.parts.rest.polled }
+  pub still_rest : (old m new : Machine X B) → m.core.parts.rest ≡ record old.core.parts.rest { polled = m.core.parts.rest.polled } →
+      new.core.parts.rest ≡ record m.core.parts.rest { polled = new.core.parts.rest.polled } →
+      new.core.parts.rest ≡ record old.core.parts.rest { polled = new.core.parts.rest.polled }
   still_rest old m new was is = is ∙ ap (λ (r : Counters). record r { polled = new.core.parts.rest.polled }) was
 
   module _ (m new : Machine X B) (may : ℕ → Option (ℕ × ℤ) → Type 0) (polled : Polled may m true new) where
@@ -123,8 +128,7 @@ module _ {X : Type 0} {B : X → Type 0} where
           → (refused : List ℕ) (limit : ℕ) → s.rest.dispatches < limit → Reaches old.core.image (hearing refused limit (natives_of old) events) s lines u
       further s w u lines same so_far then refused limit below =
           let still : w.rest.dispatches < limit = subst (λ n. n < limit) (sym same) below in
-          reaches_both old.core.image (hearing refused limit (natives_of old) events) s [] w lines u (so_far refused limit below)
-          (subst (λ n. Reaches old.core.image (hearing refused limit n events) w lines u) natives (subst (λ q. Reaches q (hearing refused limit (natives_of m) events) w lines u) image (then refused limit still)))
+          reaches_both old.core.image (hearing refused limit (natives_of old) events) s [] w lines u (so_far refused limit below) (grind (arith, nat_tests))
 
       pub settles_both : (new : Machine X B) → Settles events m new → Settles events old new
       settles_both new then s stands =
@@ -146,7 +150,8 @@ module _ {X : Type 0} {B : X → Type 0} where
     stands_settled old new settled stands = let x = settled stands.0 stands.1 in (x.0, x.4)
 
     -- an event is delivered
-    module _ (m new : Machine X B) (told now : LineBuffer) (none : NoneIsDue m) (come : HasCome events m) (takes : Delivered m come.0.event told now new) (rest : new.core.parts.rest ≡ record m.core.parts.rest { delivered = suc m.core.parts.rest.delivered }) where
+    module _ (m new : Machine X B) (told now : LineBuffer) (none : NoneIsDue m) (come : HasCome events m) (takes : Delivered m come.0.event told now new)
+        (rest : new.core.parts.rest ≡ record m.core.parts.rest { delivered = suc m.core.parts.rest.delivered }) where
       -- with the name for what is sent
       name : (s : State) → StandsFor m s → ℕ
       name s stands = (takes (hearing [] 0 (natives_of m) events) refl s stands).0
@@ -164,12 +169,13 @@ module _ {X : Type 0} {B : X → Type 0} where
 
       same_after : (s : State) (stands : StandsFor m s) → ((taken s stands).state.tasks ≡ s.tasks) × ((taken s stands).state.rest ≡ record s.rest { delivered = suc s.rest.delivered })
       unfolding part
-      same_after s stands = delivered_same m.core.image (hearing [] 0 (natives_of m) events) (name s stands) s (taken s stands).state come.0.event (taken s stands).goes
+      same_after s stands = grind arith
 
       far_after : (s : State) (stands : StandsFor m s) → IsBetween (taken s stands).state
       far_after s stands = let same = same_after s stands in still_between s (taken s stands).state same.0 (ap (λ r. r.ended) same.1) (taken s stands).between
 
-      on : (s : State) (stands : StandsFor m s) (refused : List ℕ) (limit : ℕ) → s.rest.dispatches < limit → Reaches m.core.image (hearing refused limit (natives_of m) events) s (written_by m.core.image s (part s stands)) (taken s stands).state
+      on : (s : State) (stands : StandsFor m s) (refused : List ℕ) (limit : ℕ) → s.rest.dispatches < limit →
+          Reaches m.core.image (hearing refused limit (natives_of m) events) s (written_by m.core.image s (part s stands)) (taken s stands).state
       unfolding part
       on s stands refused limit below =
           let outside = hearing refused limit (natives_of m) events in
@@ -189,10 +195,11 @@ module _ {X : Type 0} {B : X → Type 0} where
       heard_settles quiet s stands =
           let t = taken s stands in
           let same = same_after s stands in
-          let none : written_by m.core.image s (part s stands) ≡ [] = append_cancel_left told.lines (written_by m.core.image s (part s stands)) [] (sym (ap (λ (x : LineBuffer). x.lines) t.lines) ∙ ap (λ (x : LineBuffer). x.lines) quiet ∙ sym (append-nil told.lines)) in
+          let none : written_by m.core.image s (part s stands) ≡ [] = append_cancel_left told.lines (written_by m.core.image s (part s stands)) []
+          (sym (ap (λ (x : LineBuffer). x.lines) t.lines) ∙ ap (λ (x : LineBuffer). x.lines) quiet ∙ sym (append-nil _)) in
           let one = ap (λ r. r.delivered) same.1 in (
             t.state,
-            λ refused limit below. subst (λ ls. Reaches m.core.image (hearing refused limit (natives_of m) events) s ls t.state) none (on s stands refused limit below),
+            grind (arith, nat_tests, on s stands),
             ap (λ r. r.dispatches) same.1,
             omega (arith, one),
             t.stands,
@@ -234,7 +241,8 @@ module _ {X : Type 0} {B : X → Type 0} where
           let still : (refused : List ℕ) (limit : ℕ) → s.rest.dispatches < limit → Reaches m.core.image (hearing refused limit (natives_of m) events) s [] t.state =
           λ refused limit below.
           let outside = hearing refused limit (natives_of m) events in
-          polls_by m.core.image outside s s t.state x.0 x.2 begins t.between (λ heard. polls_so outside s below (none s stands.stands) (none_now refused limit m none_come s stands) heard x.0 x.3) x.6 t.goes in
+          polls_by m.core.image outside s s t.state x.0 x.2 begins t.between
+          (λ heard. polls_so outside s below (none s stands.stands) (none_now refused limit m none_come s stands) heard x.0 x.3) x.6 t.goes in
           (t.state, still, ap (λ r. r.dispatches) same.1, omega (arith, late), t.stands)
 
     pub less_to_come : (old m new : Machine X B) → (m ≡ old) ⊎ (to_come events m < to_come events old) → to_come events new < to_come events m → to_come events new < to_come events old
@@ -248,7 +256,7 @@ module _ {X : Type 0} {B : X → Type 0} where
     had_come old m x none come = grind arith
 
     -- after both less is waited for
-    pub late_falls :
-        (old m new : Machine X B) → m.core.parts.rest ≡ old.core.parts.rest → timers m.core ≤ timers old.core → (IsDue old → timers m.core < timers old.core) → timers new.core ≡ timers m.core
-        → to_come events new ≤ to_come events m → (HasCome events m → to_come events new < to_come events m) → IsLate events old → waiting events new < waiting events old
+    pub late_falls : (old m new : Machine X B) → m.core.parts.rest ≡ old.core.parts.rest → timers m.core ≤ timers old.core →
+        (IsDue old → timers m.core < timers old.core) → timers new.core ≡ timers m.core → to_come events new ≤ to_come events m →
+        (HasCome events m → to_come events new < to_come events m) → IsLate events old → waiting events new < waiting events old
     late_falls old m new rest most due_falls same most_events come_falls x = grind arith

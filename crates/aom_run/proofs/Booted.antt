@@ -3,10 +3,7 @@ use Rattle.std.proofs.lemmas.Bool.Decides.{nat_tests}
 use Rattle.std.proofs.Common.{◌≡◌, ◌<◌, ◌≤◌, ◌↔◌, ℕ, zero, suc, List, [], ◌∷◌, Option, Some, None, refl, sym, ap, ◌∙◌, length, map, arith}
 use Rattle.std.specs.Prelude.{option_map, IsSome}
 use Rattle.aom_image.specs.Image.{Image}
-use Rattle.aom_determinism.specs.Endings.{one_where}
-use Rattle.aom_natives.specs.Owed.{times}
 use Rattle.aom_natives.specs.Slots.{ids_at, living_at}
-use Rattle.aom_determinism.proofs.Cells.{boot_owes_nothing}
 use Rattle.aom_semantics.specs.World.{boot_state}
 use Rattle.aom_run.specs.Beside.{Serves}
 use Rattle.aom_run.specs.declared.fault.BootFault.{BootFault}
@@ -14,7 +11,7 @@ use Rattle.aom_run.specs.declared.fault.BootFault.TheVariants.{OutOfMemory, TooF
 
 -- where memory is wanting, the natives are not too few
 pub memory_is_not_few : (fault : BootFault) (given named : ℕ) → fault ≡ OutOfMemory → named ≤ given → (fault ≡ TooFewNatives) ↔ (given < named)
-memory_is_not_few fault given named is enough = (λ few. absurd (let clash : OutOfMemory ≡ TooFewNatives = sym is ∙ few in cc), λ less. absurd (omega (arith, less, enough)))
+memory_is_not_few fault given named is enough = (grind arith, λ less. absurd (omega (arith, less, enough)))
 
 -- each slot has its box
 all_there : {L B : Type 0} (box : L → B) (slots : List (Option L)) (boxes : List B) → map (option_map box) slots ≡ map (λ b. Some b) boxes → (n : ℕ) → n < length slots → IsSome (living_at slots n)
@@ -36,9 +33,4 @@ module _ {L B : Type 0} (kept : L → List ℕ) (box : L → B) (p : Image) (slo
   count = same_length box slots boxes same
 
   pub serves_at_boot : p.header.natives ≤ length boxes → ((k : ℕ) → ids_at kept slots k ≡ []) → Serves kept p (boot_state p) slots
-  serves_at_boot enough nothing = record {
-    enough = (let c = count in omega (arith, enough, c));
-    lives = λ n within. all_there box slots boxes same n within;
-    ids = λ n m. ap (times m) (nothing n) ∙ ap one_where (sym (boot_owes_nothing.owes p n m));
-    sessions = boot_owes_nothing.sessions p;
-  }
+  serves_at_boot enough nothing = search (arith, nat_tests, count, all_there box slots boxes same)

@@ -1,6 +1,7 @@
 -- Natives that are killed, and those that are polled: which they are in the checked machine.
 use Rattle.std.proofs.lemmas.Bool.Decides.{nat_tests}
-use Rattle.std.proofs.Common.{◌≡◌, ◌<◌, ◌≤◌, ◌+◌, ◌-◌, ℤ, ℕ, suc, true, false, cond, List, [], ◌∷◌, Option, Some, None, refl, sym, ap, subst, ◌∙◌, length, arith}
+use Rattle.std.proofs.Common.{◌≡◌, ◌<◌, ◌≤◌, ◌+◌, ◌-◌, ℤ, ℕ, suc, true, false, cond, List, [], ◌∷◌, Option, Some, None, sym, ap, subst, ◌∙◌, length}
+use Rattle.std.proofs.Common.{arith}
 use Rattle.std.proofs.lemmas.List.{get_or_past, length-append}
 use Rattle.aom_transcript.specs.declared.line.Line.TheVariants.{Killed}
 use Rattle.std.specs.Prelude.{IfSome, IsSome, MatchOption, is_some, ◌==◌}
@@ -21,7 +22,7 @@ use Rattle.aom_run.specs.Calls.{Delivered, StandsFor, Takes, natives_of}
 use Rattle.aom_run.specs.Beside.{KeptSame}
 use Rattle.aom_run.proofs.Asked.{one_there}
 use Rattle.aom_run.proofs.Named.{there}
-use Rattle.aom_run.proofs.Serving.{heard_plain, kept_but, serves_completed, serves_killed, tale_of, takes_plainly, takes_so, untouched, with_any_name}
+use Rattle.aom_run.proofs.Serving.{heard_plain, serves_completed, serves_killed, tale_of, takes_plainly, takes_so, untouched, with_any_name}
 
 -- a slot beyond the last has no native
 beyond : {L : Type 0} (slots : List (Option L)) (n : ℕ) → length slots ≤ n → is_some (living_at slots n) ≡ false
@@ -52,21 +53,23 @@ module _ {X : Type 0} {B : X → Type 0} (old : Machine X B) (s : State) (st : S
   kills_none outside same name n dead = ap (λ b. cond b (Kills n) Hears) (lives_is outside same n ∙ dead)
 
 -- a native that does not live is killed no more
-pub kills_nothing : {X : Type 0} {B : X → Type 0} (old : Machine X B) (core : Core) (image : core.image ≡ old.core.image) (n : ℕ) → is_some (living_at old.natives.slots.items n) ≡ false →
-    ((now : LineBuffer) (s : State) → (st : StandsFor old s) → Core_takes old.core s Hears now now core) → (now : LineBuffer) → Delivered old (Kill n) now now (record { core = core; natives = old.natives })
+pub kills_nothing : {X : Type 0} {B : X → Type 0} (old : Machine X B) (core : Core) (image : core.image ≡ old.core.image) (n : ℕ) → is_some
+    (living_at old.natives.slots.items n) ≡ false → ((now : LineBuffer) (s : State) → (st : StandsFor old s) → Core_takes old.core s Hears now now core) →
+    (now : LineBuffer) → Delivered old (Kill n) now now (record { core = core; natives = old.natives })
 kills_nothing old core image n dead all now outside same s st =
     with_any_name s (λ name. Takes old s (delivers outside name s (Kill n)) now now (record { core = core; natives = old.natives })) (λ name.
     subst (λ part. Takes old s part now now (record { core = core; natives = old.natives })) (sym (kills_none old s st outside same name n dead))
-    (takes_plainly old (record { core = core; natives = old.natives }) s st Hears (heard_plain s) tt tt (untouched (λ l. l.ids) old.natives.slots.items) image now now (all now s st)))
+    (takes_plainly old (record { core = core; natives = old.natives }) s st _ (heard_plain s) tt tt (untouched (λ l. l.ids) _) image now now (all now s st)))
 
 -- one that lives is
-pub kills_one : {X : Type 0} {B : X → Type 0} (old new : Machine X B) (image : new.core.image ≡ old.core.image) (n : ℕ) → IsSome (living_at old.natives.slots.items n) → living_at new.natives.slots.items n ≡ None → KeepsOthers old.natives.slots.items new.natives.slots.items n →
+pub kills_one : {X : Type 0} {B : X → Type 0} (old new : Machine X B) (image : new.core.image ≡ old.core.image) (n : ℕ) →
+    IsSome (living_at old.natives.slots.items n) → living_at new.natives.slots.items n ≡ None → KeepsOthers old.natives.slots.items new.natives.slots.items n →
     (before now : LineBuffer) → ((s : State) (st : StandsFor old s) → Core_takes old.core s (Kills n) before now new.core) → Delivered old (Kill n) before now new
 kills_one old new image n alive dead others before now all outside same s st =
     let core = all s st in
     with_any_name s (λ name. Takes old s (delivers outside name s (Kill n)) before now new) (λ name.
     subst (λ part. Takes old s part before now new) (sym (kills_it old s st outside same name n alive))
-    (takes_so old new s st (Kills n) others.count image before now core (serves_killed (λ l. l.ids) old.natives.slots.items new.natives.slots.items old.core.image s core.state n st.serves (tale_of old new s st (Kills n) tt tt before now core) dead others)))
+    (takes_so old new s st _ others.count image _ now core (serves_killed (λ l. l.ids) _ _ _ s _ n st.serves (tale_of old new s st _ tt tt _ now core) dead others)))
 
 -- with one line
 pub line_more : (old new : Core) (s : State) (n : ℕ) (before now : LineBuffer) → Core_takes old s (Kills n) before now new → length now.lines ≤ length before.lines + 1
@@ -99,15 +102,18 @@ module _ {X : Type 0} {B : X → Type 0} (old : Machine X B) (s : State) (st : S
       let here = there ids id in
       one_there (owes old.core.image s.cells n id) (omega (arith, is, has, here))
 
-  pub polled_none : (new : Machine X B) (image : new.core.image ≡ old.core.image) (n : ℕ) → KeptSame (λ l. l.ids) old.natives.slots.items new.natives.slots.items → (now : LineBuffer) → Core_takes old.core s (Polls n None) now now new.core → Takes old s (Polls n None) now now new
-  polled_none new image n same now core = takes_plainly old new s st (Polls n None) (record { owes = λ n m b. refl; killed = refl }) tt tt same image now now core
+  pub polled_none : (new : Machine X B) (image : new.core.image ≡ old.core.image) (n : ℕ) →
+      KeptSame (λ l. l.ids) old.natives.slots.items new.natives.slots.items →
+      (now : LineBuffer) → Core_takes old.core s (Polls n None) now now new.core → Takes old s (Polls n None) now now new
+  polled_none new image n same now core = search (arith, nat_tests, takes_plainly old new s st (Polls n None))
 
-  pub polled_some : (new : Machine X B) (image : new.core.image ≡ old.core.image) (n id : ℕ) (code : ℤ) (a : Completion) → TakesOut id (ids_at (λ l. l.ids) old.natives.slots.items n) (ids_at (λ l. l.ids) new.natives.slots.items n) →
-      IsSome (living_at old.natives.slots.items n) → IsSome (living_at new.natives.slots.items n) → KeepsOthers old.natives.slots.items new.natives.slots.items n → Answers s.cells (Some (id, code)) (Some a) → AnswersWell old.core.image s (Polls n (Some a)) →
+  pub polled_some : (new : Machine X B) (image : new.core.image ≡ old.core.image) (n id : ℕ) (code : ℤ) (a : Completion) →
+      TakesOut id (ids_at (λ l. l.ids) old.natives.slots.items n) (ids_at (λ l. l.ids) new.natives.slots.items n) →
+      IsSome (living_at old.natives.slots.items n) → IsSome (living_at new.natives.slots.items n) → KeepsOthers
+      old.natives.slots.items new.natives.slots.items n → Answers s.cells (Some (id, code)) (Some a) → AnswersWell old.core.image s (Polls n (Some a)) →
       (now : LineBuffer) → Core_takes old.core s (Polls n (Some a)) now now new.core → Takes old s (Polls n (Some a)) now now new
-  polled_some new image n id code a out before after others is well now core =
-      takes_so old new s st (Polls n (Some a)) others.count image now now core
-      (serves_completed (λ l. l.ids) old.natives.slots.items new.natives.slots.items old.core.image s core.state n id a st.serves (tale_of old new s st (Polls n (Some a)) tt well now now core) named out before after others)
+  polled_some new image n id code a out before after others is well now core = takes_so old new s st (Polls n (Some a)) others.count image now now core
+      (serves_completed (λ l. l.ids) _ _ _ s core.state n id a st.serves (tale_of old new s st _ tt well now now core) named out before after others)
     where
       named : (m : ℕ) → has_name (cell_at s.cells a.cell) m ≡ (id == m)
       named m = ap (λ o. has_name o m) is.1 ∙ ap (λ x. x == m) is.2
@@ -116,14 +122,15 @@ module _ {X : Type 0} {B : X → Type 0} (old : Machine X B) (s : State) (st : S
 pub owed_in : {X : Type 0} {B : X → Type 0} (old : Machine X B) (s : State) (st : StandsFor old s) (n : ℕ) (completion : Option (ℕ × ℤ)) (ids : List ℕ) →
     MatchOption completion (ids ≡ ids_at (λ l. l.ids) old.natives.slots.items n) (λ x. TakesOut x.0 (ids_at (λ l. l.ids) old.natives.slots.items n) ids) →
     IfSome completion (λ x. (s : State) × Core_stands old.core s × (owes old.core.image s.cells n x.0 ≡ true))
-owed_in old s st n None ids same = tt
-owed_in old s st n (Some x) ids out = (s, st.stands, handed_over old s st n x.0 ids out)
+owed_in old s st n x ids same = grind (arith, nat_tests, handed_over)
 
 -- so the poll is one of the checked machine's
 pub polled_so : {X : Type 0} {B : X → Type 0} (old new : Machine X B) (image : new.core.image ≡ old.core.image) (n : ℕ) (completion : Option (ℕ × ℤ)) →
-    MatchOption completion (ids_at (λ l. l.ids) new.natives.slots.items n ≡ ids_at (λ l. l.ids) old.natives.slots.items n) (λ x. TakesOut x.0 (ids_at (λ l. l.ids) old.natives.slots.items n) (ids_at (λ l. l.ids) new.natives.slots.items n)) →
+    MatchOption completion (ids_at (λ l. l.ids) new.natives.slots.items n ≡ ids_at (λ l. l.ids) old.natives.slots.items n)
+    (λ x. TakesOut x.0 (ids_at (λ l. l.ids) old.natives.slots.items n) (ids_at (λ l. l.ids) new.natives.slots.items n)) →
     IsSome (living_at old.natives.slots.items n) → IsSome (living_at new.natives.slots.items n) → KeepsOthers old.natives.slots.items new.natives.slots.items n →
-    (s : State) → StandsFor old s → (answer : Option Completion) → Answers s.cells completion answer → AnswersWell old.core.image s (Polls n answer) → (now : LineBuffer) → Core_takes old.core s (Polls n answer) now now new.core → Takes old s (Polls n answer) now now new
-polled_so old new image n None same before after others s st None is well now core = polled_none old s st new image n (kept_but (λ l. l.ids) old.natives.slots.items new.natives.slots.items n before after same others) now core
+    (s : State) → StandsFor old s → (answer : Option Completion) → Answers s.cells completion answer → AnswersWell old.core.image s (Polls n answer) →
+    (now : LineBuffer) → Core_takes old.core s (Polls n answer) now now new.core → Takes old s (Polls n answer) now now new
+polled_so old new image n None same before after others s st None is well now core = grind arith
 polled_so old new image n (Some x) out before after others s st (Some a) is well now core = polled_some old s st new image n x.0 x.1 a out before after others is well now core
 polled_so old new image n _ out before after others s st _ is well now core = absurd is

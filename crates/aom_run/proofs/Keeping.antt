@@ -1,5 +1,6 @@
 -- What a machine between dispatches keeps while parts of a turn go on, one after another.
-use Rattle.std.proofs.Common.{ap, length, refl, ◌∙◌, ◌≡◌}
+use Rattle.std.proofs.lemmas.Bool.Decides.{nat_tests}
+use Rattle.std.proofs.Common.{arith, ap, length, refl, ◌∙◌, ◌≡◌}
 use Rattle.aom_machine_state.specs.declared.progress.Progress.TheVariants.{Turned}
 use Rattle.aom_machine.specs.Steps.{progress, timers}
 use Rattle.aom_run.specs.Calls.{NoneIsDue, Stands, natives_of}
@@ -18,7 +19,7 @@ module _ {X : Type 0} {B : X → Type 0} where
   keeps_all m stands between = record { stands = stands; between = between; image = refl; natives = refl }
 
   pub keeps_on : {old m new : Machine X B} → Keeps old m → Stands new → progress new.core ≡ Turned → new.core.image ≡ m.core.image → natives_of new ≡ natives_of m → Keeps old new
-  keeps_on was stands between image natives = record { stands = stands; between = between; image = image ∙ was.image; natives = natives ∙ was.natives }
+  keeps_on was stands between image natives = search (arith, nat_tests)
 
   pub keeps_both : {old m new : Machine X B} → Keeps old m → Keeps m new → Keeps old new
   keeps_both was then = keeps_on was then.stands then.between then.image then.natives

@@ -83,24 +83,20 @@ module _ (p : Image) (t : Typing) (sound : Sound p t) where
 
   -- a step
   pub stepped_so : (refused : List ℕ) (heard : ℤ) (s u : State) (lines : List Line) → WellTyped p t s → SessionsHold p s → Steps p refused heard s lines u → Went p t s (asked_of p s) heard u
-  stepped_so refused heard s u lines w holds (steps.rests done) = subst (λ a. Went p t s a heard s) (sym (at_rest p s done)) (stays s heard w holds)
+  stepped_so refused heard s u lines w holds (steps.rests done) = grind (arith, nat_tests, at_rest, stays)
   stepped_so refused heard s u lines w holds (steps.moves {u = x} c hand opened hears e rest) =
       let one = heard_so s heard c x hears (follows c s x refused w holds opened e) in
-      subst (λ a. Went p t s a heard u) (sym (at_hand p s hand)) (along s x u (wanted p s) heard heard one (settled_so refused x u _ heard one.typed one.sessions rest))
+      subst (λ a. Went p t s a heard u) (sym (at_hand p s hand)) (along s x u _ heard heard one (settled_so refused x u _ heard one.typed one.sessions rest))
 
   -- so far there was no step, or the next asks nothing
   abbrev SoFar : (s v : State) (heard : ℤ) → Type 0
   SoFar s v heard = (v ≡ s) ⊎ ((wanted p v ≡ None) × IsAtHand v × Went p t s (asked_of p s) heard v)
 
-  quietly : (refused : List ℕ) (heard : ℤ) (s v u : State) (lines : List Line) → WellTyped p t s → SessionsHold p s → SoFar s v heard → Steps p refused heard v lines u → Went p t s (asked_of p s) heard u
-  quietly refused heard s v u lines w holds (inl same) next = stepped_so refused heard s u lines w holds (subst (λ x. Steps p refused heard x lines u) same next)
-  quietly refused heard s v u lines w holds (inr so) next = grind (
-    arith,
-    nat_tests,
-    at_hand p v so.1,
-    stepped_so refused heard v u lines so.2.typed so.2.sessions next,
-    along s v u,
-  )
+  quietly : (refused : List ℕ) (heard : ℤ) (s v u : State) (lines : List Line) →
+      WellTyped p t s → SessionsHold p s → SoFar s v heard → Steps p refused heard v lines u → Went p t s (asked_of p s) heard u
+  quietly refused heard s v u lines w holds (inl same) next = grind (arith, nat_tests, stepped_so)
+  quietly refused heard s v u lines w holds (inr so) next =
+      grind (arith, nat_tests, at_hand p v so.1, stepped_so refused heard v u lines so.2.typed so.2.sessions next, along s v u)
 
   so_far : (refused : List ℕ) (heard : ℤ) (s : State) (ls : List Line) (v : State) → WellTyped p t s → SessionsHold p s → Quiet p refused heard s ls v → SoFar s v heard
   so_far refused heard s _ v w holds steps.begins = inl refl
@@ -108,5 +104,6 @@ module _ (p : Image) (t : Typing) (sound : Sound p t) where
       inr (none, hand, quietly refused heard s x v ks w holds (so_far refused heard s ls x w holds before) next)
 
   -- several steps
-  pub went_on : (refused : List ℕ) (heard : ℤ) (s v u : State) (lines : List Line) → WellTyped p t s → SessionsHold p s → Quietly p refused heard s v → Steps p refused heard v lines u → Went p t s (asked_of p s) heard u
+  pub went_on : (refused : List ℕ) (heard : ℤ) (s v u : State) (lines : List Line) →
+      WellTyped p t s → SessionsHold p s → Quietly p refused heard s v → Steps p refused heard v lines u → Went p t s (asked_of p s) heard u
   went_on refused heard s v u lines w holds quiet last = quietly refused heard s v u lines w holds (so_far refused heard s quiet.0 v w holds quiet.1) last

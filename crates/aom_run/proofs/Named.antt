@@ -1,6 +1,7 @@
 -- What serves a cell is a native that the image names, and few requests are outstanding at it.
 use Rattle.std.proofs.lemmas.Bool.Decides.{nat_tests}
-use Rattle.std.proofs.Common.{◌≡◌, ◌<◌, ◌≤◌, ℕ, Bool, true, false, List, ◌∷◌, [], Option, Some, None, refl, sym, subst, ◌∙◌, length, slice_get, inl, inr, arith, suc}
+use Rattle.std.proofs.Common.{◌≡◌, ◌<◌, ◌≤◌, ℕ, Bool, true, false, List, ◌∷◌, [], Option, Some, None, refl, sym, subst, ◌∙◌, length, slice_get, inl, inr}
+use Rattle.std.proofs.Common.{arith, suc}
 use Rattle.std.specs.Prelude.{◌==◌}
 use Rattle.std.specs.List.{AllByRecursion, IsDistinct, list_any}
 use Rattle.std.proofs.lemmas.Bool.{cases_eq, eq-eqb, ne_eqb, true≢false}
@@ -12,7 +13,6 @@ use Rattle.aom_image.specs.WellFormed.{ClassFits, KindFits, WellFormed}
 use Rattle.aom_image.specs.declared.class.ClassDecl.{ClassDecl}
 use Rattle.aom_image.specs.declared.class.ClassKind.{ClassKind}
 use Rattle.aom_image.specs.declared.method.Thing.{Thing}
-use Rattle.aom_image.specs.declared.method.Thing.TheVariants.{Object as An_object_of, Message}
 use Rattle.aom_classes.proofs.Facts.{all_there}
 use Rattle.aom_roles.specs.Classes.{kind_in}
 use Rattle.aom_roles.specs.Shapes.{kind_of}
@@ -35,11 +35,10 @@ module _ (p : Image) (formed : WellFormed p) where
     where
       go : (o : Option ClassDecl) → slice_get p.classes c ≡ o → native_of (kind_in o) ≡ Some n → n < p.header.natives
       go None at e = cc
-      go (Some d) at e = kind_names d.kind n (all_there (ClassFits p.header.version (length p.classes) p.header.natives) p.classes c d formed.classes.each at).kind e
+      go (Some d) at e = kind_names d.kind n (all_there (ClassFits p.header.version _ p.header.natives) p.classes c d formed.classes.each at).kind e
 
   thing_names : (t : Thing) (n : ℕ) → native_of (thing_kind p t) ≡ Some n → n < p.header.natives
-  thing_names (An_object_of c) n e = class_names (Some c) n e
-  thing_names Message n e = class_names None n e
+  thing_names x n e = grind (arith, nat_tests, class_names)
 
   -- a native that serves a cell is one of those that the image names
   pub serving_named : (cs : List Cell) (n m : ℕ) → serves p cs n m ≡ true → n < p.header.natives

@@ -4,7 +4,7 @@ use Rattle.aom_image.proofs.Given.{cons_given}
 use Rattle.aom_image.specs.Image.{Image}
 use Rattle.aom_semantics.specs.Moves.{written}
 use Rattle.aom_semantics.specs.State.{State}
-use Rattle.aom_semantics.specs.World.{Reaches, begins, moves as moved, turns, written_turn, IsBusy, Environment}
+use Rattle.aom_semantics.specs.World.{Reaches, begins, moves as moved, turns, IsBusy, Environment}
 use Rattle.aom_transcript.specs.declared.line.Line.{Line}
 use Rattle.aom_lines.specs.LineBuffer.{LineBuffer}
 use Rattle.aom_machine_state.specs.declared.progress.Progress.{Progress}
@@ -28,13 +28,14 @@ pub steps_on : (p : Image) (refused : List ℕ) (heard : ℤ) (b : State) (lines
     → Moving p refused b lines s → Steps p refused heard s more u → Moving p refused b (lines ++ more) u
 steps_on p refused heard b lines s more u r (rests done) = subst (λ ls. Moving p refused b ls s) (sym (append-nil lines)) r
 steps_on p refused heard b lines s _ v r (moves {u = u} {lines = more} c hand free hears goes rest) =
-    subst (λ ls. Moving p refused b ls v) (append_assoc lines _ more) (settled_on p refused b (lines ++ written p s) u more v (goes_on c r hand.busy free goes) rest)
+    subst (λ ls. Moving p refused b ls v) (append_assoc lines _ more) (settled_on p refused b _ u more v (goes_on c r hand.busy free goes) rest)
 
 -- nor are several, of which the first alone hears a native
-quietly_on : (p : Image) (refused : List ℕ) (heard : ℤ) (b : State) (lines : List Line) (s : State) (more : List Line) (v : State) → Moving p refused b lines s → Quiet p refused heard s more v → Moving p refused b (lines ++ more) v
+quietly_on : (p : Image) (refused : List ℕ) (heard : ℤ) (b : State) (lines : List Line) (s : State) (more : List Line) (v : State) →
+    Moving p refused b lines s → Quiet p refused heard s more v → Moving p refused b (lines ++ more) v
 quietly_on p refused heard b lines s _ _ r none = subst (λ ls. Moving p refused b ls s) (sym (append-nil lines)) r
 quietly_on p refused heard b lines s _ _ r (then_on {v} {u} {before = ls} {lines = ks} before last hand wants) =
-    subst (λ l. Moving p refused b l u) (append_assoc lines ls ks) (steps_on p refused heard b (lines ++ ls) v ks u (quietly_on p refused heard b lines s ls v r before) last)
+    subst (λ l. Moving p refused b l u) (append_assoc lines ls ks) (steps_on p _ heard b _ v ks u (quietly_on p refused heard b lines s ls v r before) last)
 
 -- moves that go on from where others came to
 pub moving_both : (p : Image) (refused : List ℕ) (b : State) (lines : List Line) (s : State) (more : List Line) (u : State)
@@ -57,7 +58,7 @@ reaches_both p outside b lines s _ _ r begins = subst (λ ls. Reaches p outside 
 reaches_both p outside b lines s _ _ r (moved {lines = more} {s = v} {u = u} c before busy free goes) =
     subst (λ ls. Reaches p outside b ls u) (append_assoc lines more (written p v)) (moved c (reaches_both p outside b lines s more v r before) busy free goes)
 reaches_both p outside b lines s _ _ r (turns {lines = more} {s = v} {u = u} heard before between owed goes) =
-    subst (λ ls. Reaches p outside b ls u) (append_assoc lines more (written_turn p outside v)) (turns heard (reaches_both p outside b lines s more v r before) between owed goes)
+    subst (λ ls. Reaches p outside b ls u) (append_assoc lines more _) (turns heard (reaches_both p outside b lines s more v r before) between owed goes)
 
 module _ {X : Type 0} {B : X → Type 0} where
   -- what steps do, whatever they hear
@@ -65,14 +66,13 @@ module _ {X : Type 0} {B : X → Type 0} where
   StepsOn old progress told now new = (s : State) → StandsFor old s → (heard : ℤ) × SteppedOn old heard progress told now new s
 
   -- so do steps of which more is said of what they hear
-  pub steps_of : (old new : Machine X B) (progress : Progress) (told now : LineBuffer) {May : State → ℤ → Type 0} → ((s : State) → StandsFor old s → (heard : ℤ) × May s heard × SteppedOn old heard progress told now new s) → StepsOn old progress told now new
+  pub steps_of : (old new : Machine X B) (progress : Progress) (told now : LineBuffer) {May : State → ℤ → Type 0} →
+      ((s : State) → StandsFor old s → (heard : ℤ) × May s heard × SteppedOn old heard progress told now new s) → StepsOn old progress told now new
   steps_of old new progress told now steps s stands = let x = steps s stands in (x.0, x.2)
 
   -- the turn is filled, however far the machine has come
   abbrev pub Went : Machine X B → LineBuffer → LineBuffer → Machine X B → Type 0
-  Went old told now new =
-      (s : State) → StandsFor old s
-      → (lines : List Line) × (u : State) × Moving old.core.image told.refused s lines u
+  Went old told now new = (s : State) → StandsFor old s → (lines : List Line) × (u : State) × Moving old.core.image told.refused s lines u
       × (now ≡ record told { lines = told.lines ++ lines })
       × StandsFor new u
 
@@ -82,7 +82,8 @@ module _ {X : Type 0} {B : X → Type 0} where
   pub went : (old new : Machine X B) (told now : LineBuffer) (progress : Progress) → Filled old progress told now new → Went old told now new
   went old new told now progress filled s stands = let f = filled s stands in (f.0, f.1, f.2, f.3, f.5)
 
-  pub filled : (old m new : Machine X B) (told mid now : LineBuffer) (progress : Progress) → Went old told mid m → m.core.image ≡ old.core.image → StepsOn m progress mid now new → Filled old progress told now new
+  pub filled : (old m new : Machine X B) (told mid now : LineBuffer) (progress : Progress) →
+      Went old told mid m → m.core.image ≡ old.core.image → StepsOn m progress mid now new → Filled old progress told now new
   filled old m new told mid now progress went image stepped s stands =
       let w = went s stands in
       let h = stepped w.1 w.4 in
@@ -94,7 +95,7 @@ module _ {X : Type 0} {B : X → Type 0} where
       let ls = x.3.0 ++ x.0 in
       let moving =
       subst (λ l. Moving old.core.image told.refused s l x.2) (append_assoc w.0 x.3.0 x.0)
-      (steps_on old.core.image told.refused heard s (w.0 ++ x.3.0) x.1 x.0 x.2 (quietly_on old.core.image told.refused heard s w.0 w.1 x.3.0 x.1 w.2 quiet) steps) in
+      (steps_on _ told.refused heard s (w.0 ++ x.3.0) x.1 x.0 x.2 (quietly_on old.core.image told.refused heard s w.0 w.1 x.3.0 x.1 w.2 quiet) steps) in
       let turn = x.5 ∙ ap (λ (t : LineBuffer). record t { lines = t.lines ++ ls }) w.3 ∙ ap (λ l. record told { lines = l }) (append_assoc told.lines w.0 ls) in
       (w.0 ++ ls, x.2, moving, turn, x.6, x.7)
 

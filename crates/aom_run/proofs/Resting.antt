@@ -1,6 +1,7 @@
 -- The machine rests between dispatches, with all that is due by now settled: an object is dispatched, or time passes, or the run ends.
 use Rattle.std.proofs.lemmas.Bool.Decides.{nat_tests}
-use Rattle.std.proofs.Common.{◌≡◌, ◌⊎◌, inl, inr, ◌<◌, ◌≤◌, ◌-◌, ℕ, min, Bool, true, false, cond, List, [], ◌∷◌, ◌++◌, Option, Some, None, length, ap, arith, refl, subst, sym, ◌∙◌}
+use Rattle.std.proofs.Common.{◌≡◌, ◌⊎◌, inl, inr, ◌<◌, ◌≤◌, ◌-◌, ℕ, min, Bool, true, false, cond, List, [], ◌∷◌, ◌++◌, Option, Some, None, length, ap, arith}
+use Rattle.std.proofs.Common.{refl, subst, sym, ◌∙◌}
 use Rattle.std.proofs.lemmas.Bool.{cases_lt}
 use Rattle.aom_machine_state.specs.declared.progress.Progress.TheVariants.{Turned}
 use Rattle.aom_machine.specs.Steps.{progress}
@@ -15,7 +16,9 @@ use Rattle.aom_semantics.specs.Lines.{serve_line}
 use Rattle.aom_semantics.specs.Places.{Asked, Object, service_of}
 use Rattle.aom_semantics.specs.Servers.{is_server}
 use Rattle.aom_semantics.specs.State.{Goes, State}
-use Rattle.aom_semantics.specs.World.{AnswersWell, Cuts, IsBetween, Environment, Passes, Picks, Reaches, Timed, Turning, Waits, begins, due_of, event_at, first_due, first_living, has_signal, Heard, nearer, next_event, next_native, next_time, nothing_heard, pick_line, run_line, time_of, turned, turning, written_by}
+use Rattle.aom_semantics.specs.World.{AnswersWell, Cuts, IsBetween, Environment, Passes, Picks, Reaches, Timed, Turning, Waits, begins, due_of, event_at}
+use Rattle.aom_semantics.specs.World.{first_due, first_living, has_signal, Heard, nearer, next_event, next_native, next_time, nothing_heard, pick_line}
+use Rattle.aom_semantics.specs.World.{run_line, time_of, turned, turning, written_by}
 use Rattle.aom_transcript.specs.declared.line.Ending.TheVariants.{Limit, Waiting}
 use Rattle.aom_transcript.specs.declared.event.TimedEvent.{TimedEvent}
 use Rattle.aom_determinism.proofs.Spending.{picked_pays}
@@ -26,17 +29,16 @@ use Rattle.aom_run.specs.Turns.{AllPolled, IsLate, NoneHasCome, Settles, TakesTu
 
 -- the nearer of two times is one of them
 nearer_is : (a b : Option ℕ) (time : ℕ) → nearer a b ≡ Some time → ((x : ℕ) × (a ≡ Some x) × (x ≤ time)) ⊎ ((x : ℕ) × (b ≡ Some x) × (x ≤ time))
-nearer_is None None time e = cc
-nearer_is None (Some b) time e = let same : b ≡ time = cc in inr (b, refl, omega (arith, same))
-nearer_is (Some a) None time e = let same : a ≡ time = cc in inl (a, refl, omega (arith, same))
 nearer_is (Some a) (Some b) time e = let same : min a b ≡ time = cc in go (cases_lt a b) same
   where
     go : (a < b) ⊎ (b ≤ a) → min a b ≡ time → ((x : ℕ) × (Some a ≡ Some x) × (x ≤ time)) ⊎ ((x : ℕ) × (Some b ≡ Some x) × (x ≤ time))
     go (inl less) same = inl (a, refl, omega (arith, less, same))
     go (inr most) same = inr (b, refl, omega (arith, most, same))
+nearer_is x y time e = grind arith
 
 -- what has that time is there
-timed_is : {A : Type 0} (of : Option A → Option ℕ) (time : A → ℕ) → of None ≡ None → ((a : A) → of (Some a) ≡ Some (time a)) → (o : Option A) (x : ℕ) → of o ≡ Some x → (a : A) × (o ≡ Some a) × (time a ≡ x)
+timed_is : {A : Type 0} (of : Option A → Option ℕ) (time : A → ℕ) →
+    of None ≡ None → ((a : A) → of (Some a) ≡ Some (time a)) → (o : Option A) (x : ℕ) → of o ≡ Some x → (a : A) × (o ≡ Some a) × (time a ≡ x)
 timed_is of time none some y x e = grind arith
 
 due_is : (o : Option Timed) (x : ℕ) → due_of o ≡ Some x → (t : Timed) × (o ≡ Some t) × (t.timer.due ≡ x)
@@ -56,7 +58,8 @@ module _ {X : Type 0} {B : X → Type 0} where
   below_so m limit s stands below = subst (λ r. r.dispatches < limit) stands.stands.agrees.rest below
 
   -- an event is told by a line
-  pub ends_told : (old new : Machine X B) (events : List TimedEvent) (refused : List ℕ) (limit : ℕ) (told now : LineBuffer) → Below old limit → TellsEnd events old told now new → TakesTurns old (hearing refused limit (natives_of old) events) None told now new
+  pub ends_told : (old new : Machine X B) (events : List TimedEvent) (refused : List ℕ) (limit : ℕ) (told now : LineBuffer) →
+      Below old limit → TellsEnd events old told now new → TakesTurns old (hearing refused limit (natives_of old) events) None told now new
   ends_told old new events refused limit told now below tells s stands = grind (arith, nat_tests, below_so old limit s stands below)
 
   -- the machine is between dispatches, there may be more of them, nothing is due, nothing has come, and all natives are polled
@@ -92,7 +95,8 @@ module _ {X : Type 0} {B : X → Type 0} where
     all_polled s stands = ap (λ n. first_living s.killed (n - s.rest.polled) s.rest.polled) (sym rests.natives) ∙ rests.polled s stands
 
     -- a part of a turn
-    one_part : (s : State) (stands : StandsFor old s) (x : Turning) (u : State) → ((heard : Heard) → turning outside heard (rests.far s stands).0 ≡ x) → AnswersWell old.core.image (rests.far s stands).0 x → IsBetween (rests.far s stands).0
+    one_part : (s : State) (stands : StandsFor old s) (x : Turning) (u : State) → ((heard : Heard) → turning outside heard (rests.far s stands).0 ≡ x) →
+        AnswersWell old.core.image (rests.far s stands).0 x → IsBetween (rests.far s stands).0
         → turned m.core.image (rests.far s stands).0 x ≡ Goes u → Reaches old.core.image outside s (written_by old.core.image (rests.far s stands).0 x) u
     one_part s stands x u is owed between goes =
         let w = rests.far s stands in
@@ -110,8 +114,7 @@ module _ {X : Type 0} {B : X → Type 0} where
     one_line o s = go (is_server old.core.image o.thing)
       where
         go : (b : Bool) → length (cond b (serve_line s.rest.clock o.thing (service_of s.cells o.name).queue) (run_line s o)) ≤ 1
-        go true = one_serve s.rest.clock o.thing (service_of s.cells o.name).queue
-        go false = one_run o s
+        go x = grind (arith, nat_tests, one_serve, one_run)
 
     -- an object is dispatched, or a server
     pub dispatches_one : (told now : LineBuffer) (new : Machine X B) → Picked m true told now new → TakesTurns old outside None told now new
@@ -150,8 +153,10 @@ module _ {X : Type 0} {B : X → Type 0} where
             let on : (refused : List ℕ) (limit : ℕ) → s.rest.dispatches < limit → Reaches old.core.image (hearing refused limit (natives_of old) events) s [] t.state =
             λ others most below.
             let still : w.0.rest.dispatches < most = subst (λ n. n < most) (sym w.2) below in
-            let is = passes_so (hearing others most (natives_of old) events) w.0 still (rests.none_due w.0 w.4.stands) (early w.0 w.4) (all_polled w.0 w.4) (quiet w.0 w.4) time (sym (told_so w.0 w.4) ∙ e) in
-            turns_by old.core.image (hearing others most (natives_of old) events) s [] w.0 t.state (Passes time) (w.1 others most below) t.between is tt (subst (λ q. turned q w.0 (Passes time) ≡ Goes t.state) rests.image t.goes) in
+            let is = passes_so (hearing others most (natives_of old) events) w.0 still
+            (rests.none_due w.0 w.4.stands) (early w.0 w.4) (all_polled w.0 w.4) (quiet w.0 w.4) time (sym (told_so w.0 w.4) ∙ e) in
+            turns_by old.core.image (hearing others most (natives_of old) events) s [] w.0 t.state
+            (Passes time) (w.1 others most below) t.between is tt (subst (λ q. turned q w.0 (Passes time) ≡ Goes t.state) rests.image t.goes) in
             let same = sym (goes_same _ t.state t.goes) in
             let before = w.3 in
             let kept = ap (λ (v : State). v.rest.delivered) same in
@@ -203,7 +208,8 @@ module _ {X : Type 0} {B : X → Type 0} where
           tells_on told now tells = ends_told old new events refused limit told now rests.below (tells_after events old passed (again ∙ rests.image) (all ∙ rests.natives) passes_on told now new tells)
 
           -- or all that is due then is settled
-          pub rests_on : Settles events passed new → progress new.core ≡ Turned → NoneIsDue new → NoneHasCome events new → AllPolled new → new.core.image ≡ passed.core.image → natives_of new ≡ natives_of passed → Rests old events limit new
+          pub rests_on : Settles events passed new → progress new.core ≡ Turned → NoneIsDue new →
+              NoneHasCome events new → AllPolled new → new.core.image ≡ passed.core.image → natives_of new ≡ natives_of passed → Rests old events limit new
           rests_on settled between none_due none_come polled same count = record {
             below = rests.below;
             far = settles_both events old passed (again ∙ rests.image) (all ∙ rests.natives) passes_on new settled;
@@ -227,13 +233,7 @@ module _ {X : Type 0} {B : X → Type 0} where
           clock = ap (λ r. r.clock) rests.stands.1.stands.agrees.rest
 
           nearest : (a b : Option ℕ) (time : ℕ) → nearer a b ≡ Some time → (a ≡ Some time) ⊎ (b ≡ Some time)
-          nearest None b time e = inr e
-          nearest (Some a) None time e = inl e
-          nearest (Some a) (Some b) time e = let same : min a b ≡ time = cc in by_less (cases_lt a b) same
-            where
-              by_less : (a < b) ⊎ (b ≤ a) → min a b ≡ time → (Some a ≡ Some time) ⊎ (Some b ≡ Some time)
-              by_less (inl less) same = inl (ap Some (let it : a ≡ time = omega (arith, less, same) in it))
-              by_less (inr most) same = inr (ap Some (let it : b ≡ time = omega (arith, most, same) in it))
+          nearest x b y z = grind (arith, nat_tests, cases_lt)
 
           go : (due_of (first_due s.cells) ≡ Some time) ⊎ (time_of (next_event outside s) ≡ Some time) → m.core.parts.rest.clock ≤ time
           go (inl due) =
@@ -249,7 +249,8 @@ module _ {X : Type 0} {B : X → Type 0} where
 
   -- ---- the limit
 
-  pub limit_cuts : (old : Machine X B) (outside : Environment) → outside.limit ≤ old.core.parts.rest.dispatches → (told : LineBuffer) (new : Machine X B) → TakesAll old Cuts new → TakesTurns old outside (Some Limit) told told new
+  pub limit_cuts : (old : Machine X B) (outside : Environment) → outside.limit ≤ old.core.parts.rest.dispatches →
+      (told : LineBuffer) (new : Machine X B) → TakesAll old Cuts new → TakesTurns old outside (Some Limit) told told new
   limit_cuts old outside at told new takes s stands =
       let t = takes told s stands in
       let is = cuts_so outside s (subst (λ r. outside.limit ≤ r.dispatches) stands.stands.agrees.rest at) in

@@ -1,6 +1,7 @@
 -- A run, some steps of the machine after others.
 use Rattle.std.proofs.lemmas.Bool.Decides.{nat_tests}
-use Rattle.std.proofs.Common.{◌≡◌, ◌≢◌, ◌≤◌, ◌-◌, ◌^◌, ℕ, min, ◌+◌, append-nil, Bool, true, List, [], ◌++◌, Option, Some, None, length, take, refl, sym, ap, subst, suc, ◌<◌, ◌∷◌, ◌∙◌, inl, inr, append_assoc, arith, IfNone}
+use Rattle.std.proofs.Common.{◌≡◌, ◌≢◌, ◌≤◌, ◌-◌, ◌^◌, ℕ, min, ◌+◌, append-nil, Bool, true, List, [], ◌++◌, Option, Some, None, length, take, refl, sym, ap}
+use Rattle.std.proofs.Common.{subst, suc, ◌<◌, ◌∷◌, ◌∙◌, inl, inr, append_assoc, arith, IfNone}
 use Rattle.std.proofs.Math.Nat.{mul-le-mul_right, suc-mul}
 use Rattle.std.specs.Prelude.{◌⊎◌, ◌*◌, is_some}
 use Rattle.aom_image.specs.Image.{Image}
@@ -14,7 +15,7 @@ use Rattle.aom_lines.specs.LineBuffer.{LineBuffer}
 use Rattle.aom_transcript.specs.Text.{ended, end_text, line_text}
 use Rattle.aom_run.specs.Naming.{text_by, transcript_by}
 use Rattle.aom_run.specs.declared.outcome.Outcome.{Outcome}
-use Rattle.aom_run.specs.declared.outcome.Outcome.TheVariants.{Stopped, Waiting, MainLeft, Limit, Error, WriteFault}
+use Rattle.aom_run.specs.declared.outcome.Outcome.TheVariants.{WriteFault}
 use Rattle.aom_machine_state.specs.declared.progress.Progress.{Progress}
 use Rattle.aom_machine_state.specs.declared.progress.Progress.TheVariants as progresses
 use Rattle.aom_machine.specs.Steps.{progress as reached}
@@ -34,10 +35,12 @@ use Rattle.aom_run.proofs.Reaching.{reaches_both, reaches_then}
 use Rattle.aom_run.proofs.Sending.{cut_short, after_both, after_none, text_by_both, cut_next}
 
 -- the beginning of the lines of a run is one of its transcript
-cut_of : (reads : Line → List ℕ) (p : Image) (outside : Environment) (before now : Option (List ℕ)) (lines : List Line) → CanEnd p outside lines → (n : ℕ) → now ≡ after before (take n (text_by reads lines)) → CutShort reads p outside before now
+cut_of : (reads : Line → List ℕ) (p : Image) (outside : Environment) (before now : Option (List ℕ)) (lines : List Line) →
+    CanEnd p outside lines → (n : ℕ) → now ≡ after before (take n (text_by reads lines)) → CutShort reads p outside before now
 cut_of reads p outside before now lines all n out =
     let rest = text_by reads all.more ++ ended (end_text all.ending (count_cells all.last.cells)) in
-    let whole : transcript_by reads (lines ++ all.more) all.ending (count_cells all.last.cells) ≡ text_by reads lines ++ rest = ap (λ t. t ++ ended (end_text all.ending (count_cells all.last.cells))) (text_by_both reads lines all.more) ∙ append_assoc (text_by reads lines) (text_by reads all.more) (ended (end_text all.ending (count_cells all.last.cells))) in
+    let whole : transcript_by reads (lines ++ all.more) all.ending (count_cells all.last.cells) ≡ text_by reads lines ++ rest =
+    ap (λ t. t ++ ended (end_text all.ending (count_cells all.last.cells))) (text_by_both _ lines all.more) ∙ append_assoc _ (text_by reads all.more) _ in
     let short = cut_short n (text_by reads lines) rest in
     record {
       lines = lines ++ all.more;
@@ -87,25 +90,30 @@ module _ {X : Type 0} {B : X → Type 0} where
     pub stands : StandsFor m state
     pub out : now ≡ after before (text_by reads lines)
 
-  pub starts : {reads : Line → List ℕ} (outside : Environment) (out : Option (List ℕ)) (m : Machine X B) (told : List Line) → told ≡ [] → StandsFor m (boot_state m.core.image) → SoFar reads m.core.image outside out out told m
+  pub starts : {reads : Line → List ℕ} (outside : Environment) (out : Option (List ℕ)) (m : Machine X B) (told : List Line) →
+      told ≡ [] → StandsFor m (boot_state m.core.image) → SoFar reads m.core.image outside out out told m
   starts {reads} outside out m told none fresh =
-      record { lines = []; state = boot_state m.core.image; reaches = subst (λ ls. Reaches m.core.image outside (boot_state m.core.image) ls (boot_state m.core.image)) (sym none) begins; stands = fresh; out = after_none out }
+      record {
+        lines = [];
+        state = boot_state _;
+        reaches = subst (λ ls. Reaches m.core.image outside (boot_state m.core.image) ls (boot_state m.core.image))
+            (sym none) begins;
+        stands = fresh;
+        out = after_none out;
+      }
 
   -- a run that has come to a state that the machine stands for can be brought to an end
-  completed : (p : Image) (outside : Environment) → outside.limit ≤ 2 ^ 64 - 1 → (lines : List Line) (s : State) (m : Machine X B) → m.core.image ≡ p → Reaches p outside (boot_state p) lines s → StandsFor m s → CanEnd p outside lines
-  completed p outside few lines s m image r stands =
-      let Whole : Image → Type 0 = λ q. Reaches q outside (boot_state q) lines s → CanEnd q outside lines in
-      let sound = stands.stands.sound in
-      subst Whole image (λ r'. runs_can_end m.core.image stands.stands.typing outside few sound.wired sound.linked sound.typed lines s r' stands.stands.typed) r
+  completed : (p : Image) (outside : Environment) → outside.limit ≤ 2 ^ 64 - 1 →
+      (lines : List Line) (s : State) (m : Machine X B) → m.core.image ≡ p → Reaches p outside (boot_state p) lines s → StandsFor m s → CanEnd p outside lines
+  completed p outside few lines s m image r stands = grind (arith, nat_tests, lines, runs_can_end)
 
   -- ---- a run goes on
 
-  module _ {reads : Line → List ℕ} (p : Image) (outside : Environment) (before mid now : Option (List ℕ)) (m new : Machine X B) (told turn : LineBuffer) (far : SoFar reads p outside before mid told.lines m) (image : m.core.image ≡ p) where
+  module _ {reads : Line → List ℕ} (p : Image) (outside : Environment) (before mid now : Option (List ℕ))
+      (m new : Machine X B) (told turn : LineBuffer) (far : SoFar reads p outside before mid told.lines m) (image : m.core.image ≡ p) where
     module _ (same : told.refused ≡ outside.refused) where
       more : (lines : List Line) (u : State) → Moving m.core.image told.refused far.state lines u → Reaches p outside (boot_state p) ((far.lines ++ told.lines) ++ lines) u
-      more lines u moving =
-          reaches_then p outside (boot_state p) (far.lines ++ told.lines) far.state lines u far.reaches
-          (subst (λ q. Moving q outside.refused far.state lines u) image (subst (λ r. Moving m.core.image r far.state lines u) same moving))
+      more lines u moving = grind (arith, nat_tests, reaches_then, lines)
 
       text : (lines : List Line) → text_by reads far.lines ++ text_by reads (told.lines ++ lines) ≡ text_by reads ((far.lines ++ told.lines) ++ lines)
       text lines = sym (text_by_both reads far.lines (told.lines ++ lines)) ∙ ap (text_by reads) (sym (append_assoc far.lines told.lines lines))
@@ -136,9 +144,8 @@ module _ {X : Type 0} {B : X → Type 0} where
     -- turns
     module _ (none : told.lines ≡ []) where
       bare : (lines : List Line) (u : State) → Reaches m.core.image outside far.state lines u → Reaches p outside (boot_state p) (far.lines ++ lines) u
-      bare lines u turns =
-          reaches_both p outside (boot_state p) far.lines far.state lines u
-          (subst (λ ls. Reaches p outside (boot_state p) ls far.state) (append-nil far.lines) (subst (λ ls. Reaches p outside (boot_state p) (far.lines ++ ls) far.state) none far.reaches))
+      bare lines u turns = reaches_both p outside (boot_state p) far.lines far.state lines u
+          (subst (λ ls. Reaches p outside (boot_state p) ls far.state) (append-nil far.lines) (grind arith))
           (subst (λ q. Reaches q outside far.state lines u) image turns)
 
       pub turned_on : TakesTurns m outside None told turn new → SoFar reads p outside before mid turn.lines new
@@ -151,7 +158,7 @@ module _ {X : Type 0} {B : X → Type 0} where
       turned_end ending takes =
           let x = takes far.state far.stands in
           let silent : far.lines ++ x.0 ≡ far.lines = ap (λ ls. far.lines ++ ls) x.4.0 ∙ append-nil far.lines in
-          record { lines = far.lines; state = x.1; run = record { reaches = subst (λ ls. Reaches p outside (boot_state p) ls x.1) silent (bare x.0 x.1 x.2); ended = x.4.1 }; stands = x.5; out = far.out }
+          record { lines = far.lines; state = x.1; run = record { reaches = grind (arith, bare); ended = x.4.1 }; stands = x.5; out = far.out }
 
       -- the run is over
       pub ends : (ending : Ending) → progresses.Ended ending ≡ reached m.core → Ended reads p outside ending before mid m
@@ -160,7 +167,7 @@ module _ {X : Type 0} {B : X → Type 0} where
             lines = far.lines;
             state = far.state;
             run = record {
-              reaches = subst (λ ls. Reaches p outside (boot_state p) ls far.state) (append-nil far.lines) (subst (λ ls. Reaches p outside (boot_state p) (far.lines ++ ls) far.state) none far.reaches);
+              reaches = subst (λ ls. Reaches p outside (boot_state p) ls far.state) (append-nil far.lines) (grind arith);
               ended = ended_by far.state.rest.ended far.state.tasks ending (sym (is_as_far m.core far.state far.stands.stands) ∙ sym is);
             };
             stands = far.stands;
@@ -168,7 +175,8 @@ module _ {X : Type 0} {B : X → Type 0} where
           }
 
   -- what a dispatch leaves
-  module _ (reads : Line → List ℕ) (m new : Machine X B) (told now : LineBuffer) (progress : Progress) (before out : Option (List ℕ)) (stands : Stands m) (sent : Sent reads m progress told now before out new) where
+  module _ (reads : Line → List ℕ) (m new : Machine X B) (told now : LineBuffer)
+      (progress : Progress) (before out : Option (List ℕ)) (stands : Stands m) (sent : Sent reads m progress told now before out new) where
     pub sent_turn : now ≡ record told { lines = [] }
     sent_turn = (sent stands.0 stands.1).3
 
@@ -193,16 +201,16 @@ module _ {X : Type 0} {B : X → Type 0} where
   rounds limit m = rounds_by (limit - m.core.parts.rest.dispatches) m.core.parts.rest.ended
 
   -- each dispatch of an object is one of them
-  fewer_by : (p : Image) (refused : List ℕ) (limit : ℕ) → limit ≤ 2 ^ 64 - 1 → (m new : Machine X B) (s u v : State) (lines : List Line) (progress : Progress) → StandsFor m s → StandsFor new v
-      → reached m.core ≡ progresses.Turned → s.rest.dispatches < limit → u.rest.dispatches ≡ s.rest.dispatches → is_some (payer u.tasks) ≡ true
-      → Moving p refused u lines v → progress ≡ progress_of v → progress ≢ progresses.Running → rounds limit new < rounds limit m
+  fewer_by : (p : Image) (refused : List ℕ) (limit : ℕ) → limit ≤ 2 ^ 64 - 1 → (m new : Machine X B) (s u v : State) (lines : List Line) (progress : Progress) →
+      StandsFor m s → StandsFor new v → reached m.core ≡ progresses.Turned → s.rest.dispatches < limit → u.rest.dispatches ≡ s.rest.dispatches →
+      is_some (payer u.tasks) ≡ true → Moving p refused u lines v → progress ≡ progress_of v → progress ≢ progresses.Running → rounds limit new < rounds limit m
   fewer_by p refused limit few m new s u v lines progress stands then_stands between below same paid moving far rests = go v.rest.ended refl
     where
       was : rounds limit m ≡ suc (limit - s.rest.dispatches)
-      was = ap (λ e. rounds_by (limit - m.core.parts.rest.dispatches) e) (still_open m.core.parts.rest.ended m.core.parts.stack.tasks between) ∙ ap (λ r. suc (limit - r.dispatches)) stands.stands.agrees.rest
+      was = grind (arith, nat_tests, still_open)
 
       is : (e : Option Ending) → v.rest.ended ≡ e → rounds limit new ≡ rounds_by (limit - v.rest.dispatches) e
-      is e ended = ap (λ r. rounds_by (limit - r.dispatches) r.ended) then_stands.stands.agrees.rest ∙ ap (λ e. rounds_by (limit - v.rest.dispatches) e) ended
+      is e ended = grind (arith, nat_tests)
 
       go : (e : Option Ending) → v.rest.ended ≡ e → rounds limit new < rounds limit m
       go (Some ending) ended = omega (arith, was, is (Some ending) ended)
@@ -218,42 +226,45 @@ module _ {X : Type 0} {B : X → Type 0} where
   left events limit m = rounds limit m * suc (length events) + to_come events m
 
   -- an event that is told by a line leaves as many dispatches, and fewer events
-  fewer_to_come : (events : List TimedEvent) (limit : ℕ) (m new : Machine X B) (s u v : State) → StandsFor m s → StandsFor new v → v ≡ u → reached m.core ≡ progresses.Turned → u.rest.dispatches ≡ s.rest.dispatches
+  fewer_to_come : (events : List TimedEvent) (limit : ℕ) (m new : Machine X B) (s u v : State) →
+      StandsFor m s → StandsFor new v → v ≡ u → reached m.core ≡ progresses.Turned → u.rest.dispatches ≡ s.rest.dispatches
       → u.rest.ended ≡ None → length events - u.rest.delivered < length events - s.rest.delivered → left events limit new < left events limit m
-  fewer_to_come events limit m new s u v stands then_stands none between same going fewer = grind (
-    arith,
-    nat_tests,
-    still_open m.core.parts.rest.ended m.core.parts.stack.tasks between,
-  )
+  fewer_to_come events limit m new s u v stands then_stands none between same going fewer =
+      grind (arith, nat_tests, still_open m.core.parts.rest.ended m.core.parts.stack.tasks between)
 
-  pub fewer_left_by : (reads : Line → List ℕ) (outside : Environment) → outside.limit ≤ 2 ^ 64 - 1 → (m mid new : Machine X B) (told turn now : LineBuffer) (progress : Progress) (before out : Option (List ℕ))
-      → Stands m → reached m.core ≡ progresses.Turned → TakesTurns m outside None told turn mid → Sent reads mid progress turn now before out new → left outside.events outside.limit new < left outside.events outside.limit m
+  pub fewer_left_by : (reads : Line → List ℕ) (outside : Environment) → outside.limit ≤ 2 ^ 64 - 1 → (m mid new : Machine X B) (told turn now : LineBuffer)
+      (progress : Progress) (before out : Option (List ℕ)) → Stands m → reached m.core ≡ progresses.Turned → TakesTurns m outside None told turn mid →
+      Sent reads mid progress turn now before out new → left outside.events outside.limit new < left outside.events outside.limit m
   fewer_left_by reads outside few m mid new told turn now progress before out stands between takes sent =
       let x = takes stands.0 stands.1 in
       let y = sent x.1 x.5 in
       go x.1 x.4.2 x.4.1 x.4.3 y.0 y.1 y.2 y.5 y.6 y.7
     where
-      go : (u : State) → u.rest.dispatches ≡ stands.0.rest.dispatches → stands.0.rest.dispatches < outside.limit → (is_some (payer u.tasks) ≡ true) ⊎ (IsBetween u × (length outside.events - u.rest.delivered < length outside.events - stands.0.rest.delivered))
-          → (lines : List Line) (v : State) → Moving mid.core.image turn.refused u lines v → progress ≡ progress_of v → progress ≢ progresses.Running → StandsFor new v → left outside.events outside.limit new < left outside.events outside.limit m
+      go : (u : State) → u.rest.dispatches ≡ stands.0.rest.dispatches → stands.0.rest.dispatches < outside.limit →
+          (is_some (payer u.tasks) ≡ true) ⊎ (IsBetween u × (length outside.events - u.rest.delivered < length outside.events - stands.0.rest.delivered))
+          → (lines : List Line) (v : State) → Moving mid.core.image turn.refused u lines v → progress ≡ progress_of v →
+          progress ≢ progresses.Running → StandsFor new v → left outside.events outside.limit new < left outside.events outside.limit m
       go u same below (inl paid) lines v moving far rests then_stands =
           lower (rounds outside.limit new) (rounds outside.limit m) (to_come outside.events new) (to_come outside.events m) (length outside.events)
-          (fewer_by mid.core.image turn.refused outside.limit few m new stands.0 u v lines progress stands.1 then_stands between below same paid moving far rests) (omega arith)
-      go u same below (inr told) lines v moving far rests then_stands =
-          fewer_to_come outside.events outside.limit m new stands.0 u v stands.1 then_stands (idle_stays mid.core.image turn.refused u lines v told.0.idle moving) between same told.0.going told.1
+          (fewer_by _ turn.refused _ few m new stands.0 u v lines progress stands.1 then_stands between below same paid moving far rests) (omega arith)
+      go u same below (inr told) lines v moving far rests then_stands = grind (arith, idle_stays)
 
-  pub fewer_left : (outside : Environment) → outside.limit ≤ 2 ^ 64 - 1 → (m mid new : Machine X B) (told turn now : LineBuffer) (progress : Progress) (before out : Option (List ℕ))
-      → Stands m → reached m.core ≡ progresses.Turned → TakesTurns m outside None told turn mid → Sent line_text mid progress turn now before out new
-      → left outside.events outside.limit new < left outside.events outside.limit m
+  pub fewer_left : (outside : Environment) → outside.limit ≤ 2 ^ 64 - 1 → (m mid new : Machine X B) (told turn now : LineBuffer)
+      (progress : Progress) (before out : Option (List ℕ)) → Stands m → reached m.core ≡ progresses.Turned → TakesTurns m outside None told turn mid →
+      Sent line_text mid progress turn now before out new → left outside.events outside.limit new < left outside.events outside.limit m
   fewer_left outside = fewer_left_by line_text outside
 
   -- what the machine in the run has of natives and refused requests is what it had at first
-  pub turns_as : (m new : Machine X B) (limit : ℕ) (events : List TimedEvent) (result : Option Ending) (told now : LineBuffer) {refused : List ℕ} {natives : ℕ} → told.refused ≡ refused → natives_of m ≡ natives
-      → TakesTurns m (hearing told.refused limit (natives_of m) events) result told now new → TakesTurns m (hearing refused limit natives events) result told now new
-  turns_as m new limit events result told now {refused} {natives} same count takes =
-      subst (λ n. TakesTurns m (hearing refused limit n events) result told now new) count (subst (λ r. TakesTurns m (hearing r limit (natives_of m) events) result told now new) same takes)
+  pub turns_as : (m new : Machine X B) (limit : ℕ) (events : List TimedEvent)
+      (result : Option Ending) (told now : LineBuffer) {refused : List ℕ} {natives : ℕ} → told.refused ≡ refused → natives_of m ≡ natives → TakesTurns m
+      (hearing told.refused limit (natives_of m) events) result told now new → TakesTurns m (hearing refused limit natives events) result told now new
+  turns_as m new limit events result told now {refused} {natives} same count takes = subst (λ n. TakesTurns m (hearing refused limit n events)
+      result told now new) count (subst (λ r. TakesTurns m (hearing r limit (natives_of m) events) result told now new) same takes)
 
   -- once turns have dispatched: how far the run has come, with what turn, and that the machine stands for a state
-  pub after_turns : {reads : Line → List ℕ} (p : Image) (events : List TimedEvent) (limit : ℕ) (before mid : Option (List ℕ)) (old m : Machine X B) (told turn first : LineBuffer) {natives : ℕ} → (far : SoFar reads p (hearing first.refused limit natives events) before mid told.lines old) → old.core.image ≡ p →
+  pub after_turns : {reads : Line → List ℕ}
+      (p : Image) (events : List TimedEvent) (limit : ℕ) (before mid : Option (List ℕ)) (old m : Machine X B) (told turn first : LineBuffer) {natives : ℕ} →
+      (far : SoFar reads p (hearing first.refused limit natives events) before mid told.lines old) → old.core.image ≡ p →
       told ≡ record first { lines = [] } → natives_of old ≡ natives → TakesTurns old (hearing told.refused limit (natives_of old) events) None told turn m →
       SoFar reads p (hearing first.refused limit natives events) before mid turn.lines m × (turn ≡ record first { lines = turn.lines }) × Stands m
   after_turns {reads} p events limit before mid old m told turn first {natives} far image is count takes =
@@ -266,7 +277,8 @@ module _ {X : Type 0} {B : X → Type 0} where
       )
 
   -- the last line after the others
-  module _ {reads : Line → List ℕ} (m new : Machine X B) (outside : Environment) (ending : Ending) (before mid now : Option (List ℕ)) (failed : Bool) (run : Ended reads m.core.image outside ending before mid new) where
+  module _ {reads : Line → List ℕ} (m new : Machine X B) (outside : Environment)
+      (ending : Ending) (before mid now : Option (List ℕ)) (failed : Bool) (run : Ended reads m.core.image outside ending before mid new) where
     last : List ℕ
     last = ended (end_text ending (count_cells run.state.cells))
 
@@ -291,9 +303,5 @@ module _ {X : Type 0} {B : X → Type 0} where
         → ((outcome ≡ WriteFault → ⊥) → (s : State) → StandsFor new s → now ≡ after mid (ended (end_text ending (count_cells s.cells))))
         → Ran reads m outside outcome failed before now new
     unfolding last
-    ran Stopped fault is part whole = grind (arith, nat_tests, same_outcome, told)
-    ran Waiting fault is part whole = grind (arith, nat_tests, same_outcome, told)
-    ran (MainLeft n) fault is part whole = grind (arith, nat_tests, same_outcome, told)
-    ran Limit fault is part whole = grind (arith, nat_tests, same_outcome, told)
-    ran (Error n) fault is part whole = grind (arith, nat_tests, same_outcome, told)
     ran WriteFault fault is part whole = grind (arith, nat_tests, cut_last)
+    ran _ fault is part whole = grind (arith, nat_tests, same_outcome, told)

@@ -1,5 +1,7 @@
 -- What is out after several texts, the last of which may be cut.
-use Rattle.std.proofs.Common.{◌≡◌, ℕ, suc, min, arith, ◌+◌, ◌<◌, List, [], ◌∷◌, ◌++◌, Option, Some, None, length, take, drop, get_or, refl, sym, ap, ◌∙◌, append-nil, append_assoc}
+use Rattle.std.proofs.lemmas.Bool.Decides.{nat_tests}
+use Rattle.std.proofs.Common.{◌≡◌, ℕ, suc, min, arith, ◌+◌, ◌<◌, List, [], ◌∷◌, ◌++◌, Option, Some, None, length, take, drop, get_or, refl, sym, ap, ◌∙◌}
+use Rattle.std.proofs.Common.{append-nil, append_assoc}
 use Rattle.std.proofs.Math.Seq.{take-append-add, take-suc}
 use Rattle.std.proofs.lemmas.List.{take-append-le, take-append-drop, take_min}
 use Rattle.std.proofs.lemmas.Grind.{flat_map-append}
@@ -37,12 +39,13 @@ pub record Paged (reads : Line → List ℕ) (before now : Option (List ℕ)) (p
   pub whole : sent ++ page ≡ text_by reads lines
 
 -- one line more
-pub line_added : {reads : Line → List ℕ} (before now : Option (List ℕ)) (old page : List ℕ) (lines : List Line) (i : ℕ) (line : Line)
-    → i < length lines → line ≡ get_or lines i line → Paged reads before now old (take i lines) → page ≡ old ++ ended (reads line) → Paged reads before now page (take (i + 1) lines)
+pub line_added : {reads : Line → List ℕ} (before now : Option (List ℕ)) (old page : List ℕ) (lines : List Line) (i : ℕ) (line : Line) → i < length lines →
+    line ≡ get_or lines i line → Paged reads before now old (take i lines) → page ≡ old ++ ended (reads line) → Paged reads before now page (take (i + 1) lines)
 line_added {reads} before now old page lines i line within is p added =
     let more : i + 1 ≡ suc i = omega arith in
     let next : text_by reads (take (i + 1) lines) ≡ text_by reads (take i lines) ++ ended (reads line) =
-    ap (text_by reads) (ap (λ n. take n lines) more ∙ take-suc lines i line within ∙ ap (λ l. take i lines ++ l ∷ []) (sym is)) ∙ text_by_both reads (take i lines) (line ∷ []) ∙ ap (λ t. text_by reads (take i lines) ++ t) (append-nil (ended (reads line)))
+    ap (text_by _) (ap (λ n. take n lines) more ∙ take-suc _ i line within ∙ ap (λ l. take i lines ++ l ∷ []) (sym is))
+    ∙ text_by_both reads _ _ ∙ ap (λ t. text_by reads (take i lines) ++ t) (append-nil _)
     in
     record {
       sent = p.sent;
@@ -50,11 +53,13 @@ line_added {reads} before now old page lines i line within is p added =
       whole = ap (λ t. p.sent ++ t) added ∙ sym (append_assoc p.sent old (ended (reads line))) ∙ ap (λ t. t ++ ended (reads line)) p.whole ∙ sym next;
     }
 
-pub still_paged : {reads : Line → List ℕ} (before mid now : Option (List ℕ)) (old page : List ℕ) (lines : List Line) → Paged reads before mid old lines → now ≡ mid → page ≡ old → Paged reads before now page lines
+pub still_paged : {reads : Line → List ℕ} (before mid now : Option (List ℕ)) (old page : List ℕ) (lines : List Line) →
+    Paged reads before mid old lines → now ≡ mid → page ≡ old → Paged reads before now page lines
 still_paged {reads} before mid now old page lines p out is = record { sent = p.sent; out = out ∙ p.out; whole = ap (λ t. p.sent ++ t) is ∙ p.whole }
 
 -- the page is out
-pub page_sent : {reads : Line → List ℕ} (before mid now : Option (List ℕ)) (old page : List ℕ) (lines : List Line) → Paged reads before mid old lines → now ≡ after mid old → page ≡ [] → Paged reads before now page lines
+pub page_sent : {reads : Line → List ℕ} (before mid now : Option (List ℕ)) (old page : List ℕ) (lines : List Line) →
+    Paged reads before mid old lines → now ≡ after mid old → page ≡ [] → Paged reads before now page lines
 page_sent {reads} before mid now old page lines p out is =
     record {
       sent = p.sent ++ old;
@@ -63,10 +68,10 @@ page_sent {reads} before mid now old page lines p out is =
     }
 
 -- the beginning of the page is out
-pub page_cut : {reads : Line → List ℕ} (before mid now : Option (List ℕ)) (page : List ℕ) (lines : List Line) (i n : ℕ) → Paged reads before mid page (take i lines) → now ≡ after mid (take n page)
-    → (k : ℕ) × (now ≡ after before (take k (text_by reads lines)))
+pub page_cut : {reads : Line → List ℕ} (before mid now : Option (List ℕ)) (page : List ℕ) (lines : List Line) (i n : ℕ) →
+    Paged reads before mid page (take i lines) → now ≡ after mid (take n page) → (k : ℕ) × (now ≡ after before (take k (text_by reads lines)))
 page_cut {reads} before mid now page lines i n p out =
     let told = text_by reads (take i lines) in
-    let all : told ++ text_by reads (drop i lines) ≡ text_by reads lines = sym (text_by_both reads (take i lines) (drop i lines)) ∙ ap (text_by reads) (take-append-drop i lines) in
+    let all : told ++ text_by reads (drop i lines) ≡ text_by reads lines = sym (text_by_both reads _ _) ∙ ap (text_by reads) (take-append-drop i lines) in
     let sent = length p.sent + n in
-    (min sent (length told), out ∙ ap (λ o. after o (take n page)) p.out ∙ cut_next before p.sent page n ∙ ap (λ t. after before (take sent t)) p.whole ∙ ap (after before) (cut_short sent told (text_by reads (drop i lines)) ∙ ap (take (min sent (length told))) all))
+    (min sent (length told), grind (arith, nat_tests, out, cut_next, sent, cut_short))

@@ -1,8 +1,9 @@
 -- What is kept of natives fits the state that a part of a turn leads to.
 use Rattle.std.proofs.lemmas.Bool.Decides.{nat_tests}
-use Rattle.std.proofs.Common.{◌≡◌, ◌<◌, ◌≤◌, ℕ, cond, suc, Bool, true, false, List, [], ◌∷◌, ◌++◌, Option, Some, None, refl, sym, ap, subst, ◌∙◌, length, inl, inr, arith}
+use Rattle.std.proofs.Common.{◌≡◌, ◌<◌, ◌≤◌, ℕ, suc, Bool, true, false, List, [], ◌∷◌, ◌++◌, Option, Some, None, refl, sym, ap, subst, ◌∙◌, length, inl}
+use Rattle.std.proofs.Common.{inr, arith}
 use Rattle.std.specs.Prelude.{IsSome, is_some, not, ◌&&◌, ◌||◌, ◌==◌}
-use Rattle.std.proofs.lemmas.Bool.{cases_eq, eq-eqb, eqb-true, le-ltb, lt-ltb, ne_eqb, true≢false}
+use Rattle.std.proofs.lemmas.Bool.{cases_eq, eq-eqb, eqb-true, ne_eqb, true≢false}
 use Rattle.std.proofs.lemmas.List.Folds.{list_any-append}
 use Rattle.aom_natives.proofs.Ids.{same-out}
 use Rattle.aom_run.proofs.Named.{at_most_one, elsewhere, there, turned_false}
@@ -14,7 +15,6 @@ use Rattle.aom_natives.specs.Slots.{KeepsOthers, ids_at, ids_of, living_at}
 use Rattle.aom_determinism.specs.Owed.{has_name, killed_turned, owes, owes_turned}
 use Rattle.aom_determinism.proofs.Found.{IsAbout}
 use Rattle.aom_determinism.proofs.Turns.{Tale, sessions_turned, told}
-use Rattle.aom_semantics.specs.Clients.{client_count}
 use Rattle.aom_semantics.specs.Natives.{is_dead}
 use Rattle.aom_semantics.specs.Places.{named}
 use Rattle.aom_semantics.specs.State.{Counters, State}
@@ -48,22 +48,10 @@ module _ {L : Type 0} (kept : L → List ℕ) (p : Image) (s u : State) (slots :
 module _ {L : Type 0} (kept : L → List ℕ) (old new : List (Option L)) where
   -- so where one native lives on with the same, and nothing else is touched
   pub kept_but : (n : ℕ) → IsSome (living_at old n) → IsSome (living_at new n) → ids_at kept new n ≡ ids_at kept old n → KeepsOthers old new n → KeptSame kept old new
-  kept_but n before after same others = record {
-    count = others.count;
-    living = grind (arith, nat_tests, cases_eq);
-    ids = λ k. elim (cases_eq k n) [
-      | inl e ↦ subst (λ x. ids_at kept new x ≡ ids_at kept old x) (sym e) same
-      | inr apart ↦ ap (ids_of kept) (others.others k apart)
-    ];
-  }
+  kept_but n before after same others = search (arith, nat_tests, cases_eq)
 
   pub serves_same : (p : Image) (s : State) → Serves kept p s old → KeptSame kept old new → Serves kept p s new
-  serves_same p s serves same = record {
-    enough = (let enough = serves.enough in let count = same.count in omega (arith, enough, count));
-    lives = λ n within. same.living n ∙ serves.lives n (let count = same.count in omega (arith, within, count));
-    ids = λ n m. ap (times m) (same.ids n) ∙ serves.ids n m;
-    sessions = serves.sessions;
-  }
+  serves_same p s serves same = search (arith, nat_tests)
 
   -- ---- a native is killed
 
@@ -71,13 +59,11 @@ module _ {L : Type 0} (kept : L → List ℕ) (old new : List (Option L)) where
   serves_killed p s u n serves tale dead others = record {
     enough = (let enough = serves.enough in let count = others.count in omega (arith, enough, count));
     lives = λ k within. elim (cases_eq k n) [
-      | inl e ↦ subst (λ x. is_some (living_at new x) ≡ not (is_dead u.killed x)) (sym e) (ap is_some dead ∙ ap not (sym (ap (λ l. is_dead l n) tale.killed ∙ killed_there (s.killed) n n (eq-eqb n n refl))))
-      | inr apart ↦ ap is_some (others.others k apart) ∙ serves.lives k (let count = others.count in omega (arith, within, count)) ∙ ap not (sym (ap (λ l. is_dead l k) tale.killed ∙ killed_else s.killed n k (ne_eqb n k (λ e. apart (sym e)))))
+      | inl e ↦ subst (λ x. is_some (living_at new x) ≡ not (is_dead u.killed x)) (sym e) (ap is_some dead ∙ ap not (sym (ap (λ l. is_dead l n) tale.killed ∙ killed_there _ n n (eq-eqb n n refl))))
+      | inr apart ↦ ap is_some (others.others k apart) ∙ serves.lives k (let count = others.count in omega (arith, within, count))
+          ∙ ap not (sym (ap (λ l. is_dead l k) tale.killed ∙ killed_else _ n k (ne_eqb n k (λ e. apart (sym e)))))
     ];
-    ids = λ k m. elim (cases_eq k n) [
-      | inl e ↦ subst (λ x. times m (ids_at kept new x) ≡ one_where (owes p u.cells x m)) (sym e) (ap (λ o. times m (ids_of kept o)) dead ∙ ap one_where (sym (tale.owes n m ∙ ap (λ b. not b && owes p s.cells n m) (eq-eqb n n refl))))
-      | inr apart ↦ ap (λ o. times m (ids_of kept o)) (others.others k apart) ∙ serves.ids k m ∙ ap one_where (sym (tale.owes k m ∙ ap (λ b. not b && owes p s.cells k m) (ne_eqb n k (λ e. apart (sym e)))))
-    ];
+    ids = grind (arith, nat_tests, cases_eq, owes, eq-eqb, ne_eqb);
     sessions = sessions_turned p s serves.sessions u (Kills n) tale;
   }
     where
@@ -85,15 +71,13 @@ module _ {L : Type 0} (kept : L → List ℕ) (old new : List (Option L)) where
       killed_there killed n k e = list_any-append (λ j. j == k) killed (n ∷ []) ∙ ap (λ b. is_dead killed k || (b || false)) e ∙ or_true (is_dead killed k)
         where
           or_true : (b : Bool) → (b || true) ≡ true
-          or_true true = refl
-          or_true false = refl
+          or_true x = grind (arith, nat_tests)
 
       killed_else : (killed : List ℕ) (n k : ℕ) → (n == k) ≡ false → is_dead (killed ++ n ∷ []) k ≡ is_dead killed k
       killed_else killed n k e = list_any-append (λ j. j == k) killed (n ∷ []) ∙ ap (λ b. is_dead killed k || (b || false)) e ∙ or_false (is_dead killed k)
         where
           or_false : (b : Bool) → (b || false) ≡ b
-          or_false true = refl
-          or_false false = refl
+          or_false x = grind (arith, nat_tests)
 
   -- ---- a native completes a request
 
@@ -104,7 +88,7 @@ module _ {L : Type 0} (kept : L → List ℕ) (old new : List (Option L)) where
     lives = grind (arith, nat_tests, cases_eq);
     ids = λ k m. elim (cases_eq k n) [
       | inl e ↦ subst (λ x. times m (ids_at kept new x) ≡ one_where (owes p u.cells x m)) (sym e) (left_here m)
-      | inr apart ↦ ap (λ o. times m (ids_of kept o)) (others.others k apart) ∙ serves.ids k m ∙ ap one_where (sym (tale.owes k m ∙ ap (λ b. not (b && has_name (cell_at s.cells a.cell) m) && owes p s.cells k m) (ne_eqb n k (λ e. apart (sym e)))))
+      | inr apart ↦ ap (λ o. times m (ids_of kept o)) (others.others k apart) ∙ serves.ids k m ∙ ap one_where (grind (arith, ne_eqb))
     ];
     sessions = sessions_turned p s serves.sessions u (Polls n (Some a)) tale;
   }
@@ -113,8 +97,8 @@ module _ {L : Type 0} (kept : L → List ℕ) (old new : List (Option L)) where
       taken m = sym ((same-out id (ids_at kept old n) (ids_at kept new n) out).at m) ∙ serves.ids n m
 
       left : (m : ℕ) (b owed : Bool) → (id == m) ≡ b → times m (id ∷ ids_at kept new n) ≡ one_where owed → times m (ids_at kept new n) ≡ one_where (not b && owed)
-      left m true owed e is =
-          let one : times m (id ∷ ids_at kept new n) ≡ suc (times m (ids_at kept new n)) = subst (λ y. times y (id ∷ ids_at kept new n) ≡ suc (times y (ids_at kept new n))) (eqb-true id m e) (there (ids_at kept new n) id) in
+      left m true owed e is = let one : times m (id ∷ ids_at kept new n) ≡ suc (times m (ids_at kept new n)) =
+          subst (λ y. times y (id ∷ ids_at kept new n) ≡ suc (times y (ids_at kept new n))) (eqb-true id m e) (there (ids_at kept new n) id) in
           let few = at_most_one owed in
           omega (arith, one, is, few)
       left m false owed e is = sym (elsewhere (ids_at kept new n) id m (turned_false id m e)) ∙ is
@@ -124,7 +108,8 @@ module _ {L : Type 0} (kept : L → List ℕ) (old new : List (Option L)) where
 
 module _ {X : Type 0} {B : X → Type 0} (old new : Machine X B) (s : State) (st : StandsFor old s) where
   -- what the core takes of a turn the whole takes, where what is kept of natives fits the state after it
-  pub takes_so : (part : Turning) → length new.natives.slots.items ≡ length old.natives.slots.items → new.core.image ≡ old.core.image → (before now : LineBuffer) → (core : Core_takes old.core s part before now new.core) →
+  pub takes_so : (part : Turning) → length new.natives.slots.items ≡ length old.natives.slots.items →
+      new.core.image ≡ old.core.image → (before now : LineBuffer) → (core : Core_takes old.core s part before now new.core) →
       Serves (λ l. l.ids) old.core.image core.state new.natives.slots.items → Takes old s part before now new
   takes_so part count image before now core serves = record {
     between = core.between;
@@ -138,19 +123,20 @@ module _ {X : Type 0} {B : X → Type 0} (old new : Machine X B) (s : State) (st
     };
   }
 
-  pub tale_of : (part : Turning) → IsAbout s part → AnswersWell old.core.image s part → (before now : LineBuffer) → (core : Core_takes old.core s part before now new.core) → Tale old.core.image s core.state part
+  pub tale_of : (part : Turning) → IsAbout s part → AnswersWell old.core.image s part →
+      (before now : LineBuffer) → (core : Core_takes old.core s part before now new.core) → Tale old.core.image s core.state part
   tale_of part about well before now core = told old.core.image st.stands.typing s core.state st.stands.typed part st.stands.kept.fit about well core.goes
 
   -- so where natives are as they were, but for calls that change nothing outstanding
-  pub takes_plainly : (part : Turning) → IsPlain s part → IsAbout s part → AnswersWell old.core.image s part → KeptSame (λ l. l.ids) old.natives.slots.items new.natives.slots.items → new.core.image ≡ old.core.image →
+  pub takes_plainly : (part : Turning) → IsPlain s part → IsAbout s part →
+      AnswersWell old.core.image s part → KeptSame (λ l. l.ids) old.natives.slots.items new.natives.slots.items → new.core.image ≡ old.core.image →
       (before now : LineBuffer) → Core_takes old.core s part before now new.core → Takes old s part before now new
-  takes_plainly part plain about well same image before now core =
-      takes_so part same.count image before now core
-      (serves_plainly (λ l. l.ids) old.core.image s core.state new.natives.slots.items (serves_same (λ l. l.ids) old.natives.slots.items new.natives.slots.items old.core.image s st.serves same) part plain (tale_of part about well before now core))
+  takes_plainly part plain about well same image before now core = takes_so part same.count image before now core
+      (serves_plainly (λ l. l.ids) _ s core.state _ (serves_same (λ l. l.ids) _ _ _ s st.serves same) part plain (tale_of part about well before now core))
 
 -- an event that changes nothing leaves no timer due
-pub none_due_still : (old new : Core) (k : ℕ) → new.parts.rest ≡ record old.parts.rest { delivered = k } → ((s : State) → Core_stands new s → Core_stands old (record s { rest = old.parts.rest })) →
-    ((s : State) → Core_stands old s → NoneDue s) → (s : State) → Core_stands new s → NoneDue s
+pub none_due_still : (old new : Core) (k : ℕ) → new.parts.rest ≡ record old.parts.rest { delivered = k } → ((s : State) → Core_stands new s →
+    Core_stands old (record s { rest = old.parts.rest })) → ((s : State) → Core_stands old s → NoneDue s) → (s : State) → Core_stands new s → NoneDue s
 none_due_still old new k rest back none s st x e =
     let same : s.rest.clock ≡ old.parts.rest.clock = sym (ap (λ (r : Counters). r.clock) st.agrees.rest) ∙ ap (λ (r : Counters). r.clock) rest in
     subst (λ c. c < x.timer.due) (sym same) (none (record s { rest = old.parts.rest }) (back s st) x e)
@@ -171,8 +157,9 @@ pub untouched : {L : Type 0} (kept : L → List ℕ) (slots : List (Option L)) �
 untouched kept slots = record { count = refl; living = λ k. refl; ids = λ k. refl }
 
 module _ {X : Type 0} {B : X → Type 0} (old : Machine X B) (core : Core) (image : core.image ≡ old.core.image) where
-  plainly : (part : Turning) (s : State) → StandsFor old s → IsPlain s part → IsAbout s part → AnswersWell old.core.image s part → (before now : LineBuffer) → Core_takes old.core s part before now core → Takes old s part before now (record { core = core; natives = old.natives })
-  plainly part s st plain about well before now taken = takes_plainly old (record { core = core; natives = old.natives }) s st part plain about well (untouched (λ l. l.ids) old.natives.slots.items) image before now taken
+  plainly : (part : Turning) (s : State) → StandsFor old s → IsPlain s part → IsAbout s part → AnswersWell old.core.image s part →
+      (before now : LineBuffer) → Core_takes old.core s part before now core → Takes old s part before now (record { core = core; natives = old.natives })
+  plainly part s st plain about well before now taken = search (arith, nat_tests, takes_plainly old, untouched)
 
   pub cut_so : Core_takes_all old.core Cuts core → TakesAll old Cuts (record { core = core; natives = old.natives })
   cut_so all now s st = plainly Cuts s st (record { owes = λ n m b. refl; killed = refl }) tt tt now now (all now s st.stands)
@@ -190,19 +177,21 @@ module _ {X : Type 0} {B : X → Type 0} (old : Machine X B) (core : Core) (imag
   completed_so false done = (ap (λ (c : Core). record { core = c; natives = old.natives }) done.0, done.1)
 
   -- what a client is told it does, if it is one
-  pub obeyed_so : (client : ℕ) (command : Command) (before now : LineBuffer) → client < 64 → ((s : State) → Core_stands old.core s → Obeyed old.core s client command before now core) → Delivered old (Client client command) before now (record { core = core; natives = old.natives })
+  pub obeyed_so : (client : ℕ) (command : Command) (before now : LineBuffer) → client < 64 → ((s : State) → Core_stands old.core s →
+      Obeyed old.core s client command before now core) → Delivered old (Client client command) before now (record { core = core; natives = old.natives })
   obeyed_so client command before now less done = λ outside same s st.
       let d = done s st.stands in (
         d.0,
         d.1,
-        subst (λ part. Takes old s part before now (record { core = core; natives = old.natives })) (sym (ap (λ b. cond b (Obeys client command d.0) Hears) (lt-ltb client client_count less)))
+        subst (λ part. Takes old s part before now (record { core = core; natives = old.natives })) (grind arith)
             (plainly (Obeys client command d.0) s st (record { owes = λ n m b. refl; killed = refl }) d.1 tt before now d.2),
       )
 
-  pub obeyed_none : (client : ℕ) (command : Command) → 64 ≤ client → Core_takes_all old.core Hears core → (now : LineBuffer) → Delivered old (Client client command) now now (record { core = core; natives = old.natives })
+  pub obeyed_none : (client : ℕ) (command : Command) → 64 ≤ client →
+      Core_takes_all old.core Hears core → (now : LineBuffer) → Delivered old (Client client command) now now (record { core = core; natives = old.natives })
   obeyed_none client command past all now = λ outside same s st.
       with_any_name s (λ name. Takes old s (delivers outside name s (Client client command)) now now (record { core = core; natives = old.natives })) (λ name.
-      subst (λ part. Takes old s part now now (record { core = core; natives = old.natives })) (sym (ap (λ b. cond b (Obeys client command name) Hears) (le-ltb client client_count past)))
+      subst (λ part. Takes old s part now now (record { core = core; natives = old.natives })) (grind arith)
       (plainly Hears s st (heard_plain s) tt tt now now (all now s st.stands)))
 
   pub picked_so : (b : Bool) (before now : LineBuffer) → Core_picked old.core b before now core → Picked old b before now (record { core = core; natives = old.natives })
@@ -212,8 +201,9 @@ module _ {X : Type 0} {B : X → Type 0} (old : Machine X B) (core : Core) (imag
   picked_so false before now done = (ap (λ (c : Core). record { core = c; natives = old.natives }) done.0, done.1, λ s st. done.2 s st.stands)
 
   -- an event that changes nothing writes no line
-  pub heard_only : (event : Event) (now : LineBuffer) → Delivered old event now now (record { core = core; natives = old.natives }) → core.parts.rest ≡ record old.core.parts.rest { delivered = suc old.core.parts.rest.delivered } →
-      ((s : State) → Core_stands core s → Core_stands old.core (record s { rest = old.core.parts.rest })) → timers core ≡ timers old.core → IsDelivered old event false now now (record { core = core; natives = old.natives })
+  pub heard_only : (event : Event) (now : LineBuffer) → Delivered old event now now (record { core = core; natives = old.natives }) → core.parts.rest
+      ≡ record old.core.parts.rest { delivered = suc old.core.parts.rest.delivered } → ((s : State) → Core_stands core s → Core_stands old.core (record s
+      { rest = old.core.parts.rest })) → timers core ≡ timers old.core → IsDelivered old event false now now (record { core = core; natives = old.natives })
   heard_only event now delivered rest back same = record {
     image = image;
     natives = record { count = refl; at = λ k apart. refl };

@@ -1,21 +1,21 @@
 -- A step with the call that it makes: what is kept of natives fits the state after it.
 use Rattle.std.proofs.lemmas.Bool.Decides.{nat_tests}
-use Rattle.std.proofs.Common.{◌≡◌, ◌≢◌, ◌⊎◌, ◌<◌, ℤ, pos, ℕ, suc, Bool, true, false, cond, List, [], ◌∷◌, ◌++◌, Option, Some, None, refl, sym, ap, subst, ◌∙◌, inl, inr, arith}
+use Rattle.std.proofs.Common.{◌≡◌, ◌≢◌, ◌⊎◌, ◌<◌, ℤ, pos, ℕ, suc, true, false, cond, List, [], ◌∷◌, ◌++◌, Option, Some, None, sym, ap, subst, ◌∙◌}
+use Rattle.std.proofs.Common.{arith}
 use Rattle.std.proofs.lemmas.Int.{ints}
-use Rattle.std.specs.Prelude.{IsSome, is_some, int_lt, ◌&&◌, ◌==◌, ◌≤ℤ◌, ◌<ℤ◌}
+use Rattle.std.specs.Prelude.{IsSome, int_lt, ◌≤ℤ◌, ◌<ℤ◌}
 use Rattle.std.proofs.lemmas.Bool.{cases_eq, eq-eqb, eqb-true, ne_eqb}
 use Rattle.aom_natives.specs.Owed.{times}
-use Rattle.aom_natives.specs.Slots.{KeepsOthers, ids_at, ids_of, living_at}
+use Rattle.aom_natives.specs.Slots.{KeepsOthers, ids_at, living_at}
 use Rattle.aom_natives.proofs.Ids.{same-push}
 use Rattle.aom_machine.proofs.Progressing.{is_as_far}
 use Rattle.aom_run.proofs.Named.{elsewhere, there, turned_false}
 use Rattle.aom_semantics.specs.State.{State}
 use Rattle.aom_semantics.specs.Wanted.{Wanted, Starts, wanted}
-use Rattle.aom_determinism.specs.Owed.{FindsWell, is_for, takes_on}
+use Rattle.aom_determinism.specs.Owed.{FindsWell, is_for}
 use Rattle.aom_lines.specs.LineBuffer.{LineBuffer}
 use Rattle.aom_machine_state.specs.declared.progress.Progress.{Progress}
 use Rattle.aom_machine_state.specs.declared.progress.Progress.TheVariants.{Running}
-use Rattle.aom_machine_state.specs.Progress.{progress_of}
 use Rattle.aom_machine_state.specs.Agrees.{heard_by}
 use Rattle.aom_machine_state.specs.Stands.{Machine as Core, StandsFor as Core_stands}
 use Rattle.aom_machine.specs.Steps.{Quiet, StaysIdle as Core_stays_idle, Stepped as Core_stepped, SteppedOn as Core_stepped_on, Steps, begins, progress}
@@ -29,9 +29,10 @@ use Rattle.aom_run.proofs.Moving.{asks_well, went_on}
 -- what is heard where nothing is asked, and where that is
 module _ {L : Type 0} (open_may : L → ℕ → ℤ → Type 0) (start_may call_may : L → ℕ → ℤ → ℤ → ℤ → Type 0) (kept : L → List ℕ) (slots : List (Option L)) where
   pub heard_nothing : (heard : ℤ) (asked : Option Wanted) → asked ≡ None → MayHear open_may start_may call_may slots asked heard × Asked kept slots asked heard slots
-  heard_nothing heard asked none = subst (λ a. MayHear open_may start_may call_may slots a heard × Asked kept slots a heard slots) (sym none) (tt, record { count = refl; living = λ k. refl; unasked = refl; times = λ k m. refl })
+  heard_nothing heard asked none = search (arith, nat_tests)
 
-  pub heard_so : (new : List (Option L)) (heard answer : ℤ) (asked : Option Wanted) (w : Wanted) → asked ≡ Some w → heard ≡ answer → MayHear open_may start_may call_may slots (Some w) answer → Asked kept slots (Some w) answer new →
+  pub heard_so : (new : List (Option L)) (heard answer : ℤ) (asked : Option Wanted) (w : Wanted) →
+      asked ≡ Some w → heard ≡ answer → MayHear open_may start_may call_may slots (Some w) answer → Asked kept slots (Some w) answer new →
       MayHear open_may start_may call_may slots asked heard × Asked kept slots asked heard new
   heard_so new heard answer asked w some same may call = grind (arith, nat_tests)
 
@@ -43,41 +44,18 @@ module _ {L : Type 0} (kept : L → List ℕ) (old new : List (Option L)) (n x :
   here : (m : ℕ) (ids : List ℕ) → times m (ids ++ x ∷ []) ≡ cond (is_for n x n m) (suc (times m ids)) (times m ids)
   here m ids = grind (arith, nat_tests, same-push ids x, eq-eqb n n, eqb-true x m, there ids x, elsewhere ids x m, turned_false x m)
 
-  asked_start : (f w answer : ℤ) → (pos 0 ≤ℤ answer → ids_at kept new n ≡ ids_at kept old n ++ x ∷ []) → (answer <ℤ pos 0 → ids_at kept new n ≡ ids_at kept old n) → IsSome (living_at old n) → IsSome (living_at new n) → KeepsOthers old new n →
-      Asked kept old (Some (Starts n x f w)) answer new
-  asked_start f w answer taken refused before after others = record {
-    count = others.count;
-    unasked = others;
-    living = grind (arith, nat_tests, cases_eq);
-    times = λ k m. elim (cases_eq k n) [
-      | inl e ↦ subst (λ y. times m (ids_at kept new y) ≡ cond (takes_on answer && is_for n x y m) (suc (times m (ids_at kept old y))) (times m (ids_at kept old y))) (sym e) (at_own m (signs answer))
-      | inr apart ↦ ap (λ o. times m (ids_of kept o)) (others.others k apart) ∙ sym (ap (λ b. cond (takes_on answer && (b && (x == m))) (suc (times m (ids_at kept old k))) (times m (ids_at kept old k))) (ne_eqb n k (λ e. apart (sym e))) ∙ never (takes_on answer) _ _)
-    ];
-  }
-    where
-      never : (b : Bool) (y z : ℕ) → cond (b && false) y z ≡ z
-      never y z u = grind arith
-
-      at_own : (m : ℕ) → ((int_lt answer (pos 0) ≡ true) × (answer <ℤ pos 0)) ⊎ ((int_lt answer (pos 0) ≡ false) × (pos 0 ≤ℤ answer)) → times m (ids_at kept new n) ≡ cond (takes_on answer && is_for n x n m) (suc (times m (ids_at kept old n))) (times m (ids_at kept old n))
-      at_own m y = grind (arith, nat_tests, here m)
+  asked_start : (f w answer : ℤ) → (pos 0 ≤ℤ answer → ids_at kept new n ≡ ids_at kept old n ++ x ∷ []) → (answer <ℤ pos 0 → ids_at kept new n
+      ≡ ids_at kept old n) → IsSome (living_at old n) → IsSome (living_at new n) → KeepsOthers old new n → Asked kept old (Some (Starts n x f w)) answer new
+  asked_start f w answer taken refused before after others = search (arith, nat_tests, cases_eq, signs answer, ne_eqb n, here)
 
   -- what is outstanding stays so, where the call neither begins nor cancels
-  pub asked_alone : (asked : Wanted) (answer : ℤ) → asked_at asked ≡ n → ((k m before : ℕ) → times_after (Some asked) answer k m before ≡ before) → ids_at kept new n ≡ ids_at kept old n → IsSome (living_at old n) → IsSome (living_at new n) → KeepsOthers old new n →
+  pub asked_alone : (asked : Wanted) (answer : ℤ) → asked_at asked ≡ n → ((k m before : ℕ) → times_after (Some asked) answer k m before ≡ before) →
+      ids_at kept new n ≡ ids_at kept old n → IsSome (living_at old n) → IsSome (living_at new n) → KeepsOthers old new n →
       Asked kept old (Some asked) answer new
-  asked_alone asked answer at stays same before after others = record {
-    count = others.count;
-    unasked = subst (λ k. KeepsOthers old new k) (sym at) others;
-    living = λ k. elim (cases_eq k n) [
-      | inl e ↦ subst (λ y. is_some (living_at new y) ≡ is_some (living_at old y)) (sym e) (after ∙ sym before)
-      | inr apart ↦ ap is_some (others.others k apart)
-    ];
-    times = λ k m. elim (cases_eq k n) [
-      | inl e ↦ subst (λ y. times m (ids_at kept new y) ≡ times_after (Some asked) answer y m (times m (ids_at kept old y))) (sym e) (ap (times m) same ∙ sym (stays n m _))
-      | inr apart ↦ ap (λ o. times m (ids_of kept o)) (others.others k apart) ∙ sym (stays k m _)
-    ];
-  }
+  asked_alone asked answer at stays same before after others = search (arith, nat_tests, cases_eq)
 
-  pub asked_to_start : (asked : Wanted) (f w answer : ℤ) → asked ≡ Starts n x f w → MayAsk kept old asked → (pos 0 ≤ℤ answer → ids_at kept new n ≡ ids_at kept old n ++ x ∷ []) → (answer <ℤ pos 0 → ids_at kept new n ≡ ids_at kept old n) → IsSome (living_at new n) → KeepsOthers old new n →
+  pub asked_to_start : (asked : Wanted) (f w answer : ℤ) → asked ≡ Starts n x f w → MayAsk kept old asked → (pos 0 ≤ℤ answer → ids_at kept new n
+      ≡ ids_at kept old n ++ x ∷ []) → (answer <ℤ pos 0 → ids_at kept new n ≡ ids_at kept old n) → IsSome (living_at new n) → KeepsOthers old new n →
       Asked kept old (Some asked) answer new
   asked_to_start asked f w answer is fits taken refused after others = grind (arith, nat_tests, asked_start f w answer taken refused)
 
@@ -94,24 +72,26 @@ module _ {X : Type 0} {B : X → Type 0} (old : Machine X B) (s : State) (st : S
 
   -- what is asked fits the natives
   pub fits : (w : Wanted) → wanted old.core.image s ≡ Some w → MayAsk (λ l. l.ids) old.natives.slots.items w
-  fits w e = may_ask (λ l. l.ids) old.core.image s old.natives.slots.items st.serves st.stands.sound.formed (session_small old.core s st.stands) w (subst (FindsWell old.core.image s) e well_asked)
+  fits w e = grind (arith, nat_tests, may_ask, session_small old.core s st.stands, well_asked)
 
   of_asked : (p : Progress) → FindsWell old.core.image s (asked_by p (wanted old.core.image s))
   of_asked x = grind (arith, nat_tests, well_asked)
 
   -- natives that serve no class are asked nothing
-  pub unnamed_stay : (new : Machine X B) → KeepsUnasked old.natives.slots.items (asked_of old.core.image s) new.natives.slots.items → KeepsUnnamed old.core.image old.natives.slots.items new.natives.slots.items
-  unnamed_stay new unasked = keeps_unnamed old.core.image s old.natives.slots.items new.natives.slots.items (asked_of old.core.image s) (of_asked (progress_of s)) unasked
+  pub unnamed_stay : (new : Machine X B) → KeepsUnasked old.natives.slots.items (asked_of old.core.image s) new.natives.slots.items →
+      KeepsUnnamed old.core.image old.natives.slots.items new.natives.slots.items
+  unnamed_stay new unasked = grind (arith, nat_tests, keeps_unnamed, of_asked)
 
   -- the core has gone on with the answer
-  pub stepped_on : (new : Machine X B) (mid : Core) (heard : ℤ) (progress : Progress) (told now : LineBuffer) → mid.image ≡ old.core.image → heard_by mid.parts ≡ heard → Core_stands mid s → new.core.image ≡ mid.image →
-      Asked (λ l. l.ids) old.natives.slots.items (asked_of old.core.image s) heard new.natives.slots.items → Core_stepped_on mid progress told now new.core → SteppedOn old heard progress told now new s
+  pub stepped_on : (new : Machine X B) (mid : Core) (heard : ℤ) (progress : Progress) (told now : LineBuffer) →
+      mid.image ≡ old.core.image → heard_by mid.parts ≡ heard → Core_stands mid s → new.core.image ≡ mid.image → Asked (λ l. l.ids) old.natives.slots.items
+      (asked_of old.core.image s) heard new.natives.slots.items → Core_stepped_on mid progress told now new.core → SteppedOn old heard progress told now new s
   stepped_on new mid heard progress told now image same_heard stands kept asked steps =
       let d = steps s stands in
       let quiet = subst (λ h. Quiet old.core.image told.refused h s d.3.0 d.1) same_heard (subst (λ q. Quiet q told.refused (heard_by mid.parts) s d.3.0 d.1) image d.3.1) in
       let last = subst (λ h. Steps old.core.image told.refused h d.1 d.0 d.2) same_heard (subst (λ q. Steps q told.refused (heard_by mid.parts) d.1 d.0 d.2) image d.4) in
-      let went = went_on old.core.image st.stands.typing st.stands.sound told.refused heard s d.1 d.2 d.0 st.stands.typed st.serves.sessions (d.3.0, quiet) last in
-      let serves = serves_after (λ l. l.ids) old.core.image s old.natives.slots.items st.serves st.stands.sound.formed (session_small old.core s st.stands) st.stands.typing (asked_of old.core.image s) heard new.natives.slots.items d.2 (of_asked (progress_of s)) asked went in (
+      let went = went_on old.core.image _ st.stands.sound told.refused heard s d.1 d.2 d.0 st.stands.typed st.serves.sessions (d.3.0, quiet) last in
+      let serves = serves_after (λ l. l.ids) _ s _ st.serves st.stands.sound.formed (session_small _ s st.stands) _ _ heard _ d.2 (of_asked _) asked went in (
         d.0,
         d.1,
         d.2,
@@ -127,24 +107,21 @@ module _ {X : Type 0} {B : X → Type 0} (old : Machine X B) (s : State) (st : S
       )
 
   -- so it has by one step
-  pub stepped_once : (new : Machine X B) (mid : Core) (heard : ℤ) (progress : Progress) (told now : LineBuffer) → mid.image ≡ old.core.image → heard_by mid.parts ≡ heard → Core_stands mid s → new.core.image ≡ mid.image →
-      Asked (λ l. l.ids) old.natives.slots.items (asked_of old.core.image s) heard new.natives.slots.items → Core_stepped mid progress told now new.core → SteppedOnce old heard progress told now new s
+  pub stepped_once : (new : Machine X B) (mid : Core) (heard : ℤ) (progress : Progress) (told now : LineBuffer) →
+      mid.image ≡ old.core.image → heard_by mid.parts ≡ heard → Core_stands mid s → new.core.image ≡ mid.image → Asked (λ l. l.ids) old.natives.slots.items
+      (asked_of old.core.image s) heard new.natives.slots.items → Core_stepped mid progress told now new.core → SteppedOnce old heard progress told now new s
   unfolding stepped_on
-  stepped_once new mid heard progress told now image same_heard stands kept asked steps =
-      let d = stepped_on new mid heard progress told now image same_heard stands kept asked (λ v there. let x = steps v there in (x.0, v, x.1, ([], begins), x.2, x.3, x.4, x.5)) in
+  stepped_once new mid heard progress told now image same_heard stands kept asked steps = let d = stepped_on new
+      mid heard progress told now image same_heard stands kept asked (λ v there. let x = steps v there in (x.0, v, x.1, ([], begins), x.2, x.3, x.4, x.5)) in
       (d.0, d.2, d.4, d.5, d.6, d.7)
 
 -- where nothing is at hand nothing is asked, and the core stays as it was
 module _ {X : Type 0} {B : X → Type 0} (old mid : Machine X B) (core : Core) where
   pub stays_idle : (told now : LineBuffer) → (progress old.core ≢ Running → mid ≡ old) → Core_stays_idle mid.core told now core → StaysIdle old told now (record { core = core; natives = mid.natives })
-  stays_idle told now first then resting =
-      let same = first resting in
-      let still = then (λ running. resting (ap (λ (m : Machine X B). progress m.core) (sym same) ∙ running)) in
-      (ap (λ (c : Core). record { core = c; natives = mid.natives }) still.0 ∙ same, still.1)
+  stays_idle told now first then resting = search (arith, nat_tests)
 
 module _ {X : Type 0} {B : X → Type 0} (old m new : Machine X B) where
   -- so over steps one after another
   pub unnamed_step : m.core.image ≡ old.core.image → KeepsUnnamed old.core.image old.natives.slots.items m.natives.slots.items → Stands m →
       ((s : State) → StandsFor m s → KeepsUnasked m.natives.slots.items (asked_of m.core.image s) new.natives.slots.items) → KeepsUnnamed old.core.image old.natives.slots.items new.natives.slots.items
-  unnamed_step image was stands unasked =
-      unnamed_on was (subst (λ p. KeepsUnnamed p m.natives.slots.items new.natives.slots.items) image (unnamed_stay m stands.0 stands.1 new (unasked stands.0 stands.1)))
+  unnamed_step image was stands unasked = grind (arith, nat_tests, unnamed_on, unnamed_stay)

@@ -4,7 +4,9 @@ use Rattle.std.proofs.Common.{arith, ◌≡◌, ◌<◌, ◌≤◌, ℕ, true, f
 use Rattle.std.proofs.lemmas.Bool.{le-leb, lt-leb}
 use Rattle.aom_machine.specs.Turns.{NoneDue}
 use Rattle.aom_semantics.specs.State.{State}
-use Rattle.aom_semantics.specs.World.{Candidate, Completes, Completion, Cuts, Heard, Environment, Passes, Picks, Polls, Timed, Turning, Waits, by_event, by_timer, delivers, first_due, first_ready, has_signal, next_event, next_native, next_time, passes, picks, polls, turning}
+use Rattle.aom_semantics.specs.World.{Candidate, Completes, Completion, Cuts, Heard, Environment, Passes, Picks, Polls, Timed, Turning, Waits, by_event}
+use Rattle.aom_semantics.specs.World.{by_timer, delivers, first_due, first_ready, has_signal, next_event, next_native, next_time, passes, picks, polls}
+use Rattle.aom_semantics.specs.World.{turning}
 use Rattle.aom_transcript.specs.declared.event.TimedEvent.{TimedEvent}
 
 -- the next event comes later, if there is one
@@ -30,13 +32,12 @@ module _ (outside : Environment) (s : State) where
     by_first heard next first = grind (arith, nat_tests, lt-leb outside.limit s.rest.dispatches below)
 
     pub completes_so : (x : Timed) → first_due s.cells ≡ Some x → x.timer.due ≤ s.rest.clock → (heard : Heard) → turning outside heard s ≡ Completes x.object
-    completes_so x first late heard = by_first heard (Some x) first ∙ ap (λ b. cond b (Completes x.object) (then_events heard)) (le-leb x.timer.due s.rest.clock late)
+    completes_so x first late heard = grind (arith, nat_tests, by_first, le-leb)
 
     -- nothing is due
     module _ (none : NoneDue s) where
       early : (after : Turning) (next : Option Timed) → first_due s.cells ≡ next → by_timer s next after ≡ after
-      early after None first = refl
-      early after (Some x) first = ap (λ b. cond b (Completes x.object) after) (lt-leb x.timer.due s.rest.clock (none x first))
+      early after x first = grind (arith, nat_tests, lt-leb)
 
       by_next : (heard : Heard) (next : Option TimedEvent) → next_event outside s ≡ next → turning outside heard s ≡ by_event outside heard.name s next (then_natives heard.completion)
       by_next heard next is = grind (arith, nat_tests, by_first heard, early)

@@ -20,8 +20,7 @@ Part reads told turn before out lines = (sent : List Line) × (sent ++ turn.line
 
 module _ {X : Type 0} {B : X → Type 0} where
   abbrev pub Underway : (Line → List ℕ) → Machine X B → LineBuffer → Option (List ℕ) → Option (List ℕ) → LineBuffer → Machine X B → Type 0
-  Underway reads old told before out turn m =
-      (s : State) → StandsFor old s
+  Underway reads old told before out turn m = (s : State) → StandsFor old s
       → (lines : List Line) × (u : State) × Moving old.core.image told.refused s lines u × Part reads told turn before out lines × StandsFor m u
 
   pub underway : (reads : Line → List ℕ) (m : Machine X B) (told : LineBuffer) (out : Option (List ℕ)) → Underway reads m told out out told m
@@ -31,14 +30,16 @@ module _ {X : Type 0} {B : X → Type 0} where
   still_stands m new turn full progress stands f = let y = f stands.0 stands.1 in (y.1, y.5)
 
   -- nothing of a turn changes but its lines
-  pub cleared_same : (m new : Machine X B) (told turn full clear : LineBuffer) (progress : Progress) → turn ≡ record told { lines = turn.lines } → Stands m → Filled m progress turn full new → clear ≡ record full { lines = [] } → clear ≡ record told { lines = clear.lines }
+  pub cleared_same : (m new : Machine X B) (told turn full clear : LineBuffer) (progress : Progress) → turn ≡ record told { lines = turn.lines } →
+      Stands m → Filled m progress turn full new → clear ≡ record full { lines = [] } → clear ≡ record told { lines = clear.lines }
   cleared_same m new told turn full clear progress same stands f is = grind (arith, nat_tests)
 
   module _ (reads : Line → List ℕ) (old m new : Machine X B) (told turn full : LineBuffer) (before out : Option (List ℕ)) (progress : Progress)
       (w : Underway reads old told before out turn m) (image : m.core.image ≡ old.core.image) (same : turn ≡ record told { lines = turn.lines }) (f : Filled m progress turn full new) where
     module _ (s : State) (stands : StandsFor old s) where
       -- steps that fill the turn
-      further : (lines : List Line) × (u : State) × Moving old.core.image told.refused s lines u × Part reads told full before out lines × (full ≡ record told { lines = full.lines }) × (progress ≡ progress_of u) × StandsFor new u
+      further : (lines : List Line) × (u : State) × Moving old.core.image told.refused s lines u ×
+          Part reads told full before out lines × (full ≡ record told { lines = full.lines }) × (progress ≡ progress_of u) × StandsFor new u
       further =
           let x = w s stands in
           let y = f x.1 x.4 in
@@ -66,7 +67,7 @@ module _ {X : Type 0} {B : X → Type 0} where
       pub underway_still : Underway reads old told before now clear new
       underway_still s stands =
           let x = further s stands in
-          let none : (told.lines ++ x.0) ++ clear.lines ≡ told.lines ++ x.0 = ap (λ (t : LineBuffer). (told.lines ++ x.0) ++ t.lines) is ∙ append-nil (told.lines ++ x.0) in
+          let none : (told.lines ++ x.0) ++ clear.lines ≡ told.lines ++ x.0 = ap (λ (t : LineBuffer). (told.lines ++ x.0) ++ t.lines) is ∙ append-nil _ in
           (x.0, x.1, x.2, (told.lines ++ x.0, none, all_out x.3.0 x.0 x.3.1 x.3.2), x.6)
 
       pub is_sent : progress ≢ Running → Sent reads old progress told clear before now new

@@ -8,7 +8,8 @@ use Rattle.aom_run.proofs.asking.call.Goals as goal
 pub returns-in-Start-clause-after : goal.returns-in-Start-clause-after
 returns-in-Start-clause-after g c =
     let fits : FitsSigned w32 c.start.result = search rules in
-    rw (to_z-of_z w32 c.start.result fits) (asked_to_start (λ l. l.ids) c.args.natives.now.slots.items c.start.new.self.slots.items c.in-Start.native c.in-Start.id (as_wanted c.args.wanted) c.in-Start.function c.in-Start.word c.start.result (ap as_wanted c.in-Start.is) c.requires.fits c.start.ensures.taken c.start.ensures.refused c.start.ensures.alive c.start.ensures.others)
+    rw (to_z-of_z w32 c.start.result fits) (asked_to_start (λ l. l.ids) _ _ _ _ _ _ _ _
+    (ap as_wanted c.in-Start.is) c.requires.fits c.start.ensures.taken c.start.ensures.refused c.start.ensures.alive c.start.ensures.others)
 
 pub open-requires-clause-agree : goal.open-requires-clause-agree
 open-requires-clause-agree g c = c.requires.agree
@@ -58,17 +59,17 @@ returns-in-Close-clause-agree g c = c.close.ensures.agree
 pub returns-in-Open-clause-after : goal.returns-in-Open-clause-after
 returns-in-Open-clause-after g c =
     let alive = rw c.in-Open.is at c.requires.fits in
-    rw c.in-Open.is (asked_alone (λ l. l.ids) c.args.natives.now.slots.items c.open.new.self.slots.items c.in-Open.native c.in-Open.id _ _ refl (λ k m before. refl) c.open.ensures.ids alive c.open.ensures.alive c.open.ensures.others)
+    rw c.in-Open.is (asked_alone (λ l. l.ids) _ _ _ c.in-Open.id _ _ refl (λ k m before. refl) c.open.ensures.ids alive c.open.ensures.alive c.open.ensures.others)
 
 pub returns-in-Ask-clause-after : goal.returns-in-Ask-clause-after
 returns-in-Ask-clause-after g c =
     let alive = rw c.in-Ask.is at c.requires.fits in
-    rw c.in-Ask.is (asked_alone (λ l. l.ids) c.args.natives.now.slots.items c.call.new.self.slots.items c.in-Ask.native c.in-Ask.id _ _ refl (λ k m before. refl) c.call.ensures.ids alive c.call.ensures.alive c.call.ensures.others)
+    rw c.in-Ask.is (asked_alone (λ l. l.ids) _ _ _ c.in-Ask.id _ _ refl (λ k m before. refl) c.call.ensures.ids alive c.call.ensures.alive c.call.ensures.others)
 
 pub returns-in-Close-clause-after : goal.returns-in-Close-clause-after
 returns-in-Close-clause-after g c =
     let fits = rw c.in-Close.is at c.requires.fits in
-    rw c.in-Close.is (asked_alone (λ l. l.ids) c.args.natives.now.slots.items c.close.new.self.slots.items c.in-Close.native c.in-Close.id _ _ refl (λ k m before. refl) c.close.ensures.ids fits.0 c.close.ensures.alive c.close.ensures.others)
+    rw c.in-Close.is (asked_alone (λ l. l.ids) _ _ _ c.in-Close.id _ _ refl (λ k m before. refl) c.close.ensures.ids fits.0 c.close.ensures.alive c.close.ensures.others)
 
 pub start-requires-clause-fresh : goal.start-requires-clause-fresh
 start-requires-clause-fresh g c = let fits = rw c.in-Start.is at c.requires.fits in fits.1

@@ -28,24 +28,21 @@ step_on-progress-requires g c =
     let messages = ap (λ (p : Image). p.header.messages) i.kept.image in
     record { agree = i.agree; stands = i.stands; room = omega (arith, room, few, enough, messages); many = omega (arith, room, enough, messages) }
 
-pub returns-then-lines-ge-MANY_LINES-clause-kept :
-    goal.returns-then-lines-ge-MANY_LINES-clause-kept
+pub returns-then-lines-ge-MANY_LINES-clause-kept : goal.returns-then-lines-ge-MANY_LINES-clause-kept
 returns-then-lines-ge-MANY_LINES-clause-kept g c = image_on c.loop-progress.invariant.kept c.step_on-progress.ensures.image c.step_on-progress.ensures.natives
 
-pub returns-then-lines-ge-MANY_LINES-clause-unnamed :
-    goal.returns-then-lines-ge-MANY_LINES-clause-unnamed
+pub returns-then-lines-ge-MANY_LINES-clause-unnamed : goal.returns-then-lines-ge-MANY_LINES-clause-unnamed
 returns-then-lines-ge-MANY_LINES-clause-unnamed g c =
     let i = c.loop-progress.invariant in
     unnamed_step c.args.machine.now c.loop-progress.machine c.step_on-progress.new.self i.kept.image i.unnamed i.stands c.step_on-progress.ensures.unasked
 
-pub returns-then-lines-ge-MANY_LINES-clause-steps :
-    goal.returns-then-lines-ge-MANY_LINES-clause-steps
+pub returns-then-lines-ge-MANY_LINES-clause-steps : goal.returns-then-lines-ge-MANY_LINES-clause-steps
 returns-then-lines-ge-MANY_LINES-clause-steps g c =
     let i = c.loop-progress.invariant in
-    filled c.args.machine.now c.loop-progress.machine c.step_on-progress.new.self c.args.turn.now c.loop-progress.turn c.step_on-progress.new.turn c.step_on-progress.result i.went i.kept.image (steps_of c.loop-progress.machine c.step_on-progress.new.self c.step_on-progress.result c.loop-progress.turn c.step_on-progress.new.turn c.step_on-progress.ensures.steps)
+    filled c.args.machine.now c.loop-progress.machine c.step_on-progress.new.self _ _ _ _ i.went i.kept.image
+    (steps_of c.loop-progress.machine c.step_on-progress.new.self _ _ _ c.step_on-progress.ensures.steps)
 
-pub returns-then-lines-ge-MANY_LINES-clause-falls :
-    goal.returns-then-lines-ge-MANY_LINES-clause-falls
+pub returns-then-lines-ge-MANY_LINES-clause-falls : goal.returns-then-lines-ge-MANY_LINES-clause-falls
 returns-then-lines-ge-MANY_LINES-clause-falls g c = λ running.
     let falls = c.step_on-progress.ensures.falls running in
     let lower = c.loop-progress.invariant.lower in
@@ -61,7 +58,7 @@ loop-progress-preserved g c =
     let new = c.step_on-progress.new.self in
     let now = c.step_on-progress.new.turn in
     let progress = c.step_on-progress.result in
-    let steps = (steps_of c.loop-progress.machine c.step_on-progress.new.self c.step_on-progress.result c.loop-progress.turn c.step_on-progress.new.turn c.step_on-progress.ensures.steps) in
+    let steps = (steps_of c.loop-progress.machine c.step_on-progress.new.self _ c.loop-progress.turn _ c.step_on-progress.ensures.steps) in
     let falls = c.step_on-progress.ensures.falls c.in-Running.is in
     let lower = i.lower in
     let count = ap length c.lines.ensures in
@@ -84,6 +81,7 @@ returns-in_default g c =
       agree = c.step_on-progress.ensures.agree;
       kept = image_on i.kept c.step_on-progress.ensures.image c.step_on-progress.ensures.natives;
       unnamed = unnamed_step c.args.machine.now c.loop-progress.machine c.step_on-progress.new.self i.kept.image i.unnamed i.stands c.step_on-progress.ensures.unasked;
-      steps = filled c.args.machine.now c.loop-progress.machine c.step_on-progress.new.self c.args.turn.now c.loop-progress.turn c.step_on-progress.new.turn c.step_on-progress.result i.went i.kept.image (steps_of c.loop-progress.machine c.step_on-progress.new.self c.step_on-progress.result c.loop-progress.turn c.step_on-progress.new.turn c.step_on-progress.ensures.steps);
+      steps = filled c.args.machine.now c.loop-progress.machine c.step_on-progress.new.self _ _ _ _ i.went i.kept.image
+          (steps_of c.loop-progress.machine c.step_on-progress.new.self _ _ _ c.step_on-progress.ensures.steps);
       falls = λ is. absurd (c.in_default.not-Running is);
     }

@@ -11,25 +11,45 @@ use Rattle.aom_run.proofs.dispatches.run_dispatch.Goals as goal
 
 pub loop-progress-init : goal.loop-progress-init
 loop-progress-init g c =
-    record { underway = underway (named_by c.args.names) c.args.machine.now c.args.turn.now (g.W.Sink.out c.args.out.now); stands = c.requires.stands; agree = c.requires.agree; kept = image_all c.args.machine.now; unnamed = unnamed_all _ _; same = refl; few = c.requires.room.0 }
+    record {
+      underway = underway (named_by c.args.names) c.args.machine.now c.args.turn.now (g.W.Sink.out c.args.out.now);
+      stands = c.requires.stands;
+      agree = c.requires.agree;
+      kept = image_all c.args.machine.now;
+      unnamed = unnamed_all _ _;
+      same = refl;
+      few = c.requires.room.0;
+    }
 
 pub fill-progress-requires : goal.fill-progress-requires
 fill-progress-requires g c =
     let i = c.loop-progress.invariant in
-    record { agree = i.agree; stands = i.stands; room = (i.few, subst (λ (t : LineBuffer). 64 + step_lines c.loop-progress.machine.core.image.header.messages ≤ t.room) (sym i.same) (subst (λ (p : Image). 64 + step_lines p.header.messages ≤ c.args.turn.now.room) (sym i.kept.image) c.requires.room.1)) }
+    record {
+      agree = i.agree;
+      stands = i.stands;
+      room = (
+        i.few,
+        subst (λ (t : LineBuffer). 64 + step_lines c.loop-progress.machine.core.image.header.messages
+            ≤ t.room) (sym i.same) (subst (λ (p : Image). 64 + step_lines p.header.messages ≤ c.args.turn.now.room) (sym i.kept.image) c.requires.room.1),
+      );
+    }
 
 pub returns-then-has_failed-clause-kept : goal.returns-then-has_failed-clause-kept
 returns-then-has_failed-clause-kept g c = let e = c.fill-progress.ensures.kept in image_on c.loop-progress.invariant.kept e.image e.natives
 
 pub returns-then-has_failed-clause-unnamed : goal.returns-then-has_failed-clause-unnamed
-returns-then-has_failed-clause-unnamed g c = let i = c.loop-progress.invariant in unnamed_on i.unnamed (subst (λ p. KeepsUnnamed p c.loop-progress.machine.natives.slots.items c.fill-progress.new.machine.natives.slots.items) i.kept.image c.fill-progress.ensures.unnamed)
+returns-then-has_failed-clause-unnamed g c = let i = c.loop-progress.invariant in unnamed_on i.unnamed (subst (λ p.
+    KeepsUnnamed p c.loop-progress.machine.natives.slots.items c.fill-progress.new.machine.natives.slots.items) i.kept.image c.fill-progress.ensures.unnamed)
 
 pub returns-then-has_failed-clause-none : goal.returns-then-has_failed-clause-none
 returns-then-has_failed-clause-none g c =
     let i = c.loop-progress.invariant in
     let sent = c.put_lines.ensures.prefix in (
       sym c.has_failed.ensures ∙ c.if-has_failed.true,
-      cut_off (named_by c.args.names) c.args.machine.now c.loop-progress.machine c.fill-progress.new.machine c.args.turn.now c.loop-progress.turn c.fill-progress.new.turn (g.W.Sink.out c.args.out.now) (g.W.Sink.out c.loop-progress.out) c.fill-progress.result i.underway i.kept.image i.same c.fill-progress.ensures.steps _ sent.0 (sent.1 ∙ ap (λ ls. after (g.W.Sink.out c.loop-progress.out) (take sent.0 (text_by (named_by c.args.names) ls))) c.lines.ensures),
+      cut_off (named_by c.args.names) c.args.machine.now
+          c.loop-progress.machine c.fill-progress.new.machine c.args.turn.now c.loop-progress.turn c.fill-progress.new.turn (g.W.Sink.out c.args.out.now)
+          (g.W.Sink.out c.loop-progress.out) c.fill-progress.result i.underway i.kept.image i.same c.fill-progress.ensures.steps _ sent.0
+          (sent.1 ∙ ap (λ ls. after (g.W.Sink.out c.loop-progress.out) (take sent.0 (text_by (named_by c.args.names) ls))) c.lines.ensures),
     )
 
 pub loop-progress-smaller : goal.loop-progress-smaller
@@ -41,12 +61,16 @@ loop-progress-preserved g c =
     let out = c.put_lines.ensures.whole (sym c.has_failed.ensures ∙ c.if-has_failed.false) ∙ ap (λ ls. after (g.W.Sink.out c.loop-progress.out) (text_by (named_by c.args.names) ls)) c.lines.ensures in
     let none = ap (λ (t : LineBuffer). length t.lines) c.clear.ensures in
     record {
-      underway = underway_still (named_by c.args.names) c.args.machine.now c.loop-progress.machine c.fill-progress.new.machine c.args.turn.now c.loop-progress.turn c.fill-progress.new.turn (g.W.Sink.out c.args.out.now) (g.W.Sink.out c.loop-progress.out) c.fill-progress.result i.underway i.kept.image i.same c.fill-progress.ensures.steps _ _ c.clear.ensures out;
+      underway = underway_still (named_by c.args.names) c.args.machine.now
+          c.loop-progress.machine c.fill-progress.new.machine c.args.turn.now c.loop-progress.turn c.fill-progress.new.turn (g.W.Sink.out c.args.out.now)
+          (g.W.Sink.out c.loop-progress.out) c.fill-progress.result i.underway i.kept.image i.same c.fill-progress.ensures.steps _ _ c.clear.ensures out;
       stands = still_stands c.loop-progress.machine c.fill-progress.new.machine c.loop-progress.turn c.fill-progress.new.turn c.fill-progress.result i.stands c.fill-progress.ensures.steps;
       agree = c.fill-progress.ensures.agree;
       kept = image_on i.kept c.fill-progress.ensures.kept.image c.fill-progress.ensures.kept.natives;
-      unnamed = unnamed_on i.unnamed (subst (λ p. KeepsUnnamed p c.loop-progress.machine.natives.slots.items c.fill-progress.new.machine.natives.slots.items) i.kept.image c.fill-progress.ensures.unnamed);
-      same = cleared_same c.loop-progress.machine c.fill-progress.new.machine c.args.turn.now c.loop-progress.turn c.fill-progress.new.turn c.clear.new.self c.fill-progress.result i.same i.stands c.fill-progress.ensures.steps c.clear.ensures;
+      unnamed = unnamed_on i.unnamed (subst (λ p. KeepsUnnamed p c.loop-progress.machine.natives.slots.items c.fill-progress.new.machine.natives.slots.items)
+          i.kept.image c.fill-progress.ensures.unnamed);
+      same = cleared_same c.loop-progress.machine c.fill-progress.new.machine c.args.turn.now
+          c.loop-progress.turn c.fill-progress.new.turn c.clear.new.self c.fill-progress.result i.same i.stands c.fill-progress.ensures.steps c.clear.ensures;
       few = omega (arith, none);
     }
 
@@ -57,7 +81,10 @@ returns-in_default g c =
     record {
       agree = c.fill-progress.ensures.agree;
       kept = image_on i.kept c.fill-progress.ensures.kept.image c.fill-progress.ensures.kept.natives;
-      unnamed = unnamed_on i.unnamed (subst (λ p. KeepsUnnamed p c.loop-progress.machine.natives.slots.items c.fill-progress.new.machine.natives.slots.items) i.kept.image c.fill-progress.ensures.unnamed);
+      unnamed = unnamed_on i.unnamed (subst (λ p. KeepsUnnamed p c.loop-progress.machine.natives.slots.items c.fill-progress.new.machine.natives.slots.items)
+          i.kept.image c.fill-progress.ensures.unnamed);
       none = tt;
-      some = is_sent (named_by c.args.names) c.args.machine.now c.loop-progress.machine c.fill-progress.new.machine c.args.turn.now c.loop-progress.turn c.fill-progress.new.turn (g.W.Sink.out c.args.out.now) (g.W.Sink.out c.loop-progress.out) c.fill-progress.result i.underway i.kept.image i.same c.fill-progress.ensures.steps _ _ c.clear.ensures out c.in_default.not-Running;
+      some = is_sent (named_by c.args.names) c.args.machine.now c.loop-progress.machine c.fill-progress.new.machine
+          c.args.turn.now c.loop-progress.turn c.fill-progress.new.turn (g.W.Sink.out c.args.out.now) (g.W.Sink.out c.loop-progress.out)
+          c.fill-progress.result i.underway i.kept.image i.same c.fill-progress.ensures.steps _ _ c.clear.ensures out c.in_default.not-Running;
     }

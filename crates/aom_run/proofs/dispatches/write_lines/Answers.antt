@@ -8,7 +8,7 @@ use Rattle.aom_run.proofs.dispatches.write_lines.Goals as goal
 pub returns-then-has_failed-clause-prefix : goal.returns-then-has_failed-clause-prefix
 returns-then-has_failed-clause-prefix g c =
     let sent = c.write_text.ensures.prefix in
-    page_cut _ _ _ _ c.args.lines.now c.loop-line.line-index sent.0 c.loop-line.invariant (sent.2 ∙ ap (λ t. after (g.W.Sink.out c.loop-line.out) (take sent.0 t)) c.as_bytes.ensures)
+    page_cut _ _ _ _ _ _ sent.0 c.loop-line.invariant (sent.2 ∙ ap (λ t. after (g.W.Sink.out c.loop-line.out) (take sent.0 t)) c.as_bytes.ensures)
 
 pub loop-line-preserved : goal.loop-line-preserved
 loop-line-preserved g c =
@@ -28,4 +28,4 @@ loop-line-preserved g c =
 pub returns-clause-prefix : goal.returns-clause-prefix
 returns-clause-prefix g c =
     let sent = c.write_text-2.ensures.prefix in
-    page_cut _ _ _ _ c.args.lines.now c.loop-line.line-index sent.0 c.loop-line.invariant (sent.2 ∙ ap (λ t. after (g.W.Sink.out c.loop-line.out) (take sent.0 t)) c.as_bytes-2.ensures)
+    page_cut _ _ _ _ _ _ sent.0 c.loop-line.invariant (sent.2 ∙ ap (λ t. after (g.W.Sink.out c.loop-line.out) (take sent.0 t)) c.as_bytes-2.ensures)

@@ -5,7 +5,8 @@ use Rattle.aom_semantics.specs.World.{boot_state}
 use Rattle.aom_run.specs.Calls.{Stands, natives_of}
 use Rattle.aom_run.specs.Naming.{named_by}
 use Rattle.aom_run.specs.Turns.{hearing}
-use Rattle.aom_run.proofs.Running.{after_turns, cut, ends, fewer_left_by, given_up, sent_far, sent_on, sent_rests, sent_turn, starts, turned_end, turned_few, turned_now, turned_same, turned_stands, turns_as}
+use Rattle.aom_run.proofs.Running.{after_turns, cut, ends, fewer_left_by, given_up, sent_far, sent_on, sent_rests, sent_turn, starts, turned_end, turned_few}
+use Rattle.aom_run.proofs.Running.{turned_now, turned_same, turned_stands, turns_as}
 use Rattle.aom_run.proofs.runs.run_lines.Goals as goal
 
 pub run_dispatch-requires : goal.run_dispatch-requires
@@ -22,8 +23,11 @@ returns-in_err-progress-clause-none g c =
     let far = starts outside out c.args.machine.now c.clear.new.self.lines (ap (λ (t : LineBuffer). t.lines) c.clear.ensures) c.requires.fresh in
     let off = c.in_err-progress.ensures.none in
     let fits = c.ranges.limit.fits in
-    given_up c.from_residual.result
-    (off.0, cut _ outside out out _ c.args.machine.now c.run_dispatch.new.machine c.clear.new.self c.run_dispatch.new.turn far refl (ap (λ (t : LineBuffer). t.refused) c.clear.ensures) (omega (arith, fits)) c.run_dispatch.ensures.kept.image off.1)
+    given_up c.from_residual.result (
+      off.0,
+      cut _ outside out out _ c.args.machine.now c.run_dispatch.new.machine c.clear.new.self c.run_dispatch.new.turn far refl
+          (ap (λ (t : LineBuffer). t.refused) c.clear.ensures) (omega (arith, fits)) c.run_dispatch.ensures.kept.image off.1,
+    )
 
 pub loop-progress-init : goal.loop-progress-init
 loop-progress-init g c =
@@ -49,8 +53,9 @@ returns-in-Ended g c =
       agree = i.agree;
       image = i.image;
       none = tt;
-      some = ends _ (hearing c.args.turn.now.refused c.args.limit (natives_of c.args.machine.now) c.args.events.now) (g.W.Sink.out c.args.out.now) (g.W.Sink.out c.loop-progress.out) (g.W.Sink.out c.loop-progress.out) c.loop-progress.machine c.loop-progress.machine c.loop-progress.turn c.loop-progress.turn i.so_far i.image
-          (ap (λ (t : LineBuffer). t.lines) i.turn) c.in-Ended.ending (sym c.in-Ended.is ∙ i.as_far);
+      some = ends _ (hearing c.args.turn.now.refused c.args.limit (natives_of c.args.machine.now) c.args.events.now)
+          (g.W.Sink.out c.args.out.now) (g.W.Sink.out c.loop-progress.out) (g.W.Sink.out c.loop-progress.out) c.loop-progress.machine c.loop-progress.machine
+          c.loop-progress.turn c.loop-progress.turn i.so_far i.image (ap (λ (t : LineBuffer). t.lines) i.turn) c.in-Ended.ending (sym c.in-Ended.is ∙ i.as_far);
     }
 
 pub take_turns-requires : goal.take_turns-requires
@@ -59,7 +64,14 @@ take_turns-requires g c =
     let none = ap (λ (t : LineBuffer). length t.lines) i.turn in
     let kept = ap (λ (t : LineBuffer). t.room) i.turn in
     let room = c.requires.room in
-    record { agree = i.agree; stands = (i.so_far.state, i.so_far.stands); between = sym i.as_far ∙ turned_now c.loop-progress.progress i.rests c.in_default.not-Ended; ranged = c.requires.ranged; room = omega (arith, none, kept, room) }
+    record {
+      agree = i.agree;
+      stands = (i.so_far.state, i.so_far.stands);
+      between = sym i.as_far
+          ∙ turned_now c.loop-progress.progress i.rests c.in_default.not-Ended;
+      ranged = c.requires.ranged;
+      room = omega (arith, none, kept, room);
+    }
 
 pub returns-in-Some : goal.returns-in-Some
 returns-in-Some g c =
@@ -69,8 +81,11 @@ returns-in-Some g c =
       agree = c.take_turns.ensures.agree;
       image = c.take_turns.ensures.image ∙ i.image;
       none = tt;
-      some = turned_end _ (hearing c.args.turn.now.refused c.args.limit (natives_of c.args.machine.now) c.args.events.now) (g.W.Sink.out c.args.out.now) (g.W.Sink.out c.loop-progress.out) (g.W.Sink.out c.loop-progress.out) c.loop-progress.machine c.take_turns.new.machine c.loop-progress.turn c.take_turns.new.turn i.so_far i.image
-          (ap (λ (t : LineBuffer). t.lines) i.turn) c.in-Some.ending (turns_as c.loop-progress.machine c.take_turns.new.machine c.args.limit c.args.events.now (Some c.in-Some.ending) c.loop-progress.turn c.take_turns.new.turn same i.natives c.in-Some.ensures.turns);
+      some = turned_end _ (hearing c.args.turn.now.refused c.args.limit (natives_of c.args.machine.now) c.args.events.now)
+          (g.W.Sink.out c.args.out.now) (g.W.Sink.out c.loop-progress.out)
+          (g.W.Sink.out c.loop-progress.out) c.loop-progress.machine c.take_turns.new.machine c.loop-progress.turn c.take_turns.new.turn i.so_far i.image
+          (ap (λ (t : LineBuffer). t.lines) i.turn) c.in-Some.ending (turns_as c.loop-progress.machine c.take_turns.new.machine c.args.limit c.args.events.now
+          (Some c.in-Some.ending) c.loop-progress.turn c.take_turns.new.turn same i.natives c.in-Some.ensures.turns);
     }
 
 pub run_dispatch-requires-in-loop-progress : goal.run_dispatch-requires-in-loop-progress
@@ -80,10 +95,16 @@ run_dispatch-requires-in-loop-progress g c =
     let stands : Stands c.loop-progress.machine = (i.so_far.state, i.so_far.stands) in
     let turns = c.in_default-take_turns.ensures.turns in
     let messages = ap (λ (p : Image). p.header.messages) (c.take_turns.ensures.image ∙ i.image) in
-    let few = turned_few c.loop-progress.machine c.take_turns.new.machine outside c.loop-progress.turn c.take_turns.new.turn stands turns (ap (λ (t : LineBuffer). t.lines) i.turn) in
-    let kept = ap (λ (t : LineBuffer). t.room) (turned_same c.loop-progress.machine c.take_turns.new.machine outside c.loop-progress.turn c.take_turns.new.turn stands turns ∙ ap (λ (t : LineBuffer). record t { lines = c.take_turns.new.turn.lines }) i.turn) in
+    let few = turned_few c.loop-progress.machine c.take_turns.new.machine outside _ _ stands turns (ap (λ (t : LineBuffer). t.lines) i.turn) in
+    let kept = ap (λ (t : LineBuffer). t.room) (turned_same c.loop-progress.machine c.take_turns.new.machine outside _ _ stands turns
+    ∙ ap (λ (t : LineBuffer). record t { lines = c.take_turns.new.turn.lines }) i.turn) in
     let room = c.requires.room in
-    record { agree = c.take_turns.ensures.agree; stands = turned_stands c.loop-progress.machine c.take_turns.new.machine outside c.loop-progress.turn c.take_turns.new.turn stands turns; room = (omega (arith, few), omega (arith, kept, room, messages)) }
+    record {
+      agree = c.take_turns.ensures.agree;
+      stands = turned_stands c.loop-progress.machine c.take_turns.new.machine
+          outside c.loop-progress.turn c.take_turns.new.turn stands turns;
+      room = (omega (arith, few), omega (arith, kept, room, messages));
+    }
 
 pub returns-in_err-progress-2-clause-image : goal.returns-in_err-progress-2-clause-image
 returns-in_err-progress-2-clause-image g c = c.run_dispatch-in-loop-progress.ensures.kept.image ∙ c.take_turns.ensures.image ∙ c.loop-progress.invariant.image
@@ -92,18 +113,24 @@ pub returns-in_err-progress-2-clause-none : goal.returns-in_err-progress-2-claus
 returns-in_err-progress-2-clause-none g c =
     let i = c.loop-progress.invariant in
     let image = c.take_turns.ensures.image ∙ i.image in
-    let turned = after_turns _ c.args.events.now c.args.limit (g.W.Sink.out c.args.out.now) (g.W.Sink.out c.loop-progress.out) c.loop-progress.machine c.take_turns.new.machine c.loop-progress.turn c.take_turns.new.turn c.args.turn.now i.so_far i.image i.turn i.natives c.in_default-take_turns.ensures.turns in
+    let turned = after_turns _ c.args.events.now c.args.limit
+    (g.W.Sink.out c.args.out.now) (g.W.Sink.out c.loop-progress.out) c.loop-progress.machine c.take_turns.new.machine
+    c.loop-progress.turn c.take_turns.new.turn c.args.turn.now i.so_far i.image i.turn i.natives c.in_default-take_turns.ensures.turns in
     let off = c.in_err-progress-2.ensures.none in
     let fits = c.ranges.limit.fits in
-    given_up c.from_residual-in_err-progress-2.result
-    (off.0, cut _ _ _ _ _ c.take_turns.new.machine c.run_dispatch-in-loop-progress.new.machine c.take_turns.new.turn c.run_dispatch-in-loop-progress.new.turn turned.0 image (ap (λ (t : LineBuffer). t.refused) turned.1) (omega (arith, fits)) (c.run_dispatch-in-loop-progress.ensures.kept.image ∙ image) off.1)
+    given_up c.from_residual-in_err-progress-2.result (
+      off.0,
+      cut _ _ _ _ _ c.take_turns.new.machine c.run_dispatch-in-loop-progress.new.machine c.take_turns.new.turn c.run_dispatch-in-loop-progress.new.turn
+          turned.0 image (ap (λ (t : LineBuffer). t.refused) turned.1) (omega (arith, fits)) (c.run_dispatch-in-loop-progress.ensures.kept.image ∙ image) off.1,
+    )
 
 pub loop-progress-smaller : goal.loop-progress-smaller
 loop-progress-smaller g c =
     let i = c.loop-progress.invariant in
     let fits = c.ranges.limit.fits in
-    fewer_left_by (named_by c.args.names) (hearing c.loop-progress.turn.refused c.args.limit (natives_of c.loop-progress.machine) c.args.events.now) (omega (arith, fits)) c.loop-progress.machine c.take_turns.new.machine c.run_dispatch-in-loop-progress.new.machine c.loop-progress.turn c.take_turns.new.turn
-    c.run_dispatch-in-loop-progress.new.turn _ _ _ (i.so_far.state, i.so_far.stands) (sym i.as_far ∙ turned_now c.loop-progress.progress i.rests c.in_default.not-Ended) c.in_default-take_turns.ensures.turns c.in_ok-progress-2.ensures.some
+    fewer_left_by (named_by c.args.names) _ (omega (arith, fits)) c.loop-progress.machine c.take_turns.new.machine c.run_dispatch-in-loop-progress.new.machine _ _
+    c.run_dispatch-in-loop-progress.new.turn _ _ _ (i.so_far.state, i.so_far.stands) (sym i.as_far
+    ∙ turned_now c.loop-progress.progress i.rests c.in_default.not-Ended) c.in_default-take_turns.ensures.turns c.in_ok-progress-2.ensures.some
 
 pub loop-progress-preserved : goal.loop-progress-preserved
 loop-progress-preserved g c =
@@ -111,7 +138,9 @@ loop-progress-preserved g c =
     let m = c.take_turns.new.machine in
     let new = c.run_dispatch-in-loop-progress.new.machine in
     let image = c.take_turns.ensures.image ∙ i.image in
-    let turned = after_turns _ c.args.events.now c.args.limit (g.W.Sink.out c.args.out.now) (g.W.Sink.out c.loop-progress.out) c.loop-progress.machine c.take_turns.new.machine c.loop-progress.turn c.take_turns.new.turn c.args.turn.now i.so_far i.image i.turn i.natives c.in_default-take_turns.ensures.turns in
+    let turned = after_turns _ c.args.events.now c.args.limit
+    (g.W.Sink.out c.args.out.now) (g.W.Sink.out c.loop-progress.out) c.loop-progress.machine c.take_turns.new.machine
+    c.loop-progress.turn c.take_turns.new.turn c.args.turn.now i.so_far i.image i.turn i.natives c.in_default-take_turns.ensures.turns in
     let sent = c.in_ok-progress-2.ensures.some in
     record {
       so_far = sent_on _ _ _ _ _ m new c.take_turns.new.turn c.run_dispatch-in-loop-progress.new.turn turned.0 image (ap (λ (t : LineBuffer). t.refused) turned.1) _ sent;

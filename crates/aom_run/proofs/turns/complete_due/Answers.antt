@@ -7,7 +7,13 @@ use Rattle.aom_run.proofs.Keeping.{as_many, keeps_all, keeps_on}
 use Rattle.aom_run.proofs.turns.complete_due.Goals as goal
 
 pub loop-init : goal.loop-init
-loop-init g c = record { completed = none_completed c.args.machine.now; keeps = keeps_all c.args.machine.now c.requires.rests.0 c.requires.rests.1; agree = c.requires.agree; natives = refl; fewer = inl refl }
+loop-init g c = record {
+  completed = none_completed c.args.machine.now;
+  keeps = keeps_all c.args.machine.now c.requires.rests.0 c.requires.rests.1;
+  agree = c.requires.agree;
+  natives = refl;
+  fewer = inl refl;
+}
 
 pub due-requires : goal.due-requires
 due-requires g c = record { agree = c.loop.invariant.agree; between = c.loop.invariant.keeps.between }
@@ -24,7 +30,8 @@ loop-preserved g c =
     let one = subst (λ b. Completes_one m b new) c.loop-test.true c.due.ensures.completed in
     record {
       completed = one_completed c.args.machine.now m new i.completed k.image one;
-      keeps = keeps_on k (completed_stands c.args.machine.now m new i.completed k.image one k.stands) (completed_far c.args.machine.now m new i.completed k.image one k.stands) c.due.ensures.image (as_many m new c.due.ensures.natives);
+      keeps = keeps_on k (completed_stands c.args.machine.now m new i.completed k.image one k.stands)
+          (completed_far c.args.machine.now m new i.completed k.image one k.stands) c.due.ensures.image (as_many m new c.due.ensures.natives);
       agree = c.due.ensures.agree;
       natives = c.due.ensures.natives ∙ i.natives;
       fewer = inr (fewer_then c.args.machine.now m new i.fewer (c.due.ensures.fewer c.loop-test.true));

@@ -4,7 +4,8 @@ use Rattle.aom_lines.specs.LineBuffer.{LineBuffer}
 use Rattle.aom_run.specs.Beside.{is_for_native}
 use Rattle.aom_run.specs.Calls.{Delivered, EventInRange}
 use Rattle.aom_run.specs.Turns.{TellsEnd}
-use Rattle.aom_run.proofs.Between.{at_most_to_come, come_within, had_come, heard_far, heard_fewer, heard_settles, heard_stands, heard_tells, less_to_come, none_settles, settles_both, tells_after}
+use Rattle.aom_run.proofs.Between.{at_most_to_come, come_within, had_come, heard_far, heard_fewer, heard_settles, heard_stands, heard_tells, less_to_come}
+use Rattle.aom_run.proofs.Between.{none_settles, settles_both, tells_after}
 use Rattle.aom_run.proofs.Gets.{all_got}
 use Rattle.aom_run.proofs.Keeping.{keeps_on, times_all, times_on}
 use Rattle.aom_run.proofs.turns.hear_due.Goals as goal
@@ -31,7 +32,7 @@ deliver-requires-clause-room g c = subst (λ (t : LineBuffer). length t.lines < 
 pub deliver-requires-clause-ranged : goal.deliver-requires-clause-ranged
 deliver-requires-clause-ranged g c =
     let come = c.in-Some.ensures.some in
-    subst EventInRange come.1 (all_got (λ e. EventInRange e.event) c.args.events.now c.loop-event.machine.core.parts.rest.delivered come.0.0 c.requires.can.0 come.0.1)
+    subst EventInRange come.1 (all_got (λ e. EventInRange e.event) c.args.events.now _ come.0.0 c.requires.can.0 come.0.1)
 
 pub returns-then-deliver-clause-heard : goal.returns-then-deliver-clause-heard
 returns-then-deliver-clause-heard g c =
@@ -43,7 +44,7 @@ returns-then-deliver-clause-heard g c =
     let come = c.in-Some.ensures.some in
     let takes = subst (λ event. Delivered m event c.loop-event.turn now new) (sym come.1) e.delivered in
     subst (λ t. TellsEnd c.args.events.now c.args.machine.now t now new) i.turn
-    (tells_after c.args.events.now c.args.machine.now m i.kept.keeps.image i.kept.keeps.natives i.settled c.loop-event.turn now new (heard_tells c.args.events.now m new c.loop-event.turn now i.kept.none_due come.0 takes e.rest))
+    (tells_after _ c.args.machine.now m i.kept.keeps.image i.kept.keeps.natives i.settled _ now new (heard_tells _ m new _ now i.kept.none_due come.0 takes e.rest))
 
 pub returns-then-deliver-clause-kept : goal.returns-then-deliver-clause-kept
 returns-then-deliver-clause-kept g c =
@@ -54,7 +55,8 @@ returns-then-deliver-clause-kept g c =
     let takes = subst (λ event. Delivered m event c.loop-event.turn c.deliver.new.turn c.deliver.new.self) (sym come.1) e.delivered in
     let none = i.kept.none_due in
     let k = i.kept.keeps in
-    keeps_on k (heard_stands c.args.events.now m c.deliver.new.self c.loop-event.turn c.deliver.new.turn none come.0 takes e.rest k.stands) (heard_far c.args.events.now m c.deliver.new.self c.loop-event.turn c.deliver.new.turn none come.0 takes e.rest k.stands) e.image e.natives.count
+    keeps_on k (heard_stands c.args.events.now m c.deliver.new.self c.loop-event.turn c.deliver.new.turn none come.0 takes e.rest k.stands)
+    (heard_far c.args.events.now m c.deliver.new.self c.loop-event.turn c.deliver.new.turn none come.0 takes e.rest k.stands) e.image e.natives.count
 
 pub loop-event-smaller : goal.loop-event-smaller
 loop-event-smaller g c =
@@ -82,9 +84,10 @@ loop-event-preserved g c =
     let quiet = e.quiet c.if-deliver.false in
     record {
       settled = settles_both events old m k.image k.natives i.settled new (heard_settles events m new told now none come.0 takes e.rest quiet);
-      kept = times_on i.kept (keeps_on k (heard_stands events m new told now none come.0 takes e.rest k.stands) (heard_far events m new told now none come.0 takes e.rest k.stands) e.image e.natives.count) (e.none_due c.if-deliver.false none) e.timers;
+      kept = times_on i.kept (keeps_on k (heard_stands events m new told now none come.0 takes e.rest k.stands)
+          (heard_far events m new told now none come.0 takes e.rest k.stands) e.image e.natives.count) (e.none_due c.if-deliver.false none) e.timers;
       agree = c.deliver.ensures.agree;
-      untold = λ k none. e.natives.at k (subst (λ event. is_for_native event k ≡ false) come.1 (all_got (λ x. is_for_native x.event k ≡ false) events m.core.parts.rest.delivered come.0.0 none come.0.1)) ∙ i.untold k none;
+      untold = λ k none. e.natives.at k (subst (λ event. is_for_native event k ≡ false) come.1 (all_got (λ x. is_for_native x.event k ≡ false) _ _ _ none come.0.1)) ∙ i.untold k none;
       turn = quiet ∙ i.turn;
       fewer = inr (less_to_come events old m new i.fewer (heard_fewer events m new told now none come.0 takes e.rest));
     }

@@ -11,7 +11,8 @@ returns-in-Some g c =
     let es = c.args.events.now in
     let k = c.delivered.result in
     let e = c.in-Some.ensures.lookup in
-    sym (ap (event_at es) (sym (c.delivered.ensures ∙ ap (λ r. r.delivered) c.rest.ensures)) ∙ sym (event_got es k) ∙ slice_get_read es (length es) k c.in-Some.event.now refl (ltb-true k (length es) (sym e.0)) e.1)
+    sym (ap (event_at es) (sym (c.delivered.ensures ∙ ap (λ r. r.delivered) c.rest.ensures))
+    ∙ sym (event_got es k) ∙ slice_get_read es (length es) k c.in-Some.event.now refl (ltb-true k (length es) (sym e.0)) e.1)
 
 pub returns-in-None : goal.returns-in-None
 returns-in-None g c =

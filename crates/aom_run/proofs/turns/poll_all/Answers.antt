@@ -30,7 +30,8 @@ loop-preserved g c =
     let e = c.poll.ensures in
     let polled = polled_so m new _ c.poll.result c.loop-test.true e.polled in
     record {
-      settled = λ events come. settles_both events c.args.machine.now m k.image k.natives (i.settled events come) new (polled_settles events m new _ none (kept_come events c.args.machine.now m i.rest come) polled);
+      settled = λ events come. settles_both events c.args.machine.now m k.image k.natives
+          (i.settled events come) new (polled_settles events m new _ none (kept_come events c.args.machine.now m i.rest come) polled);
       kept = times_on i.kept (keeps_on k (polled_stands m new _ polled k.stands) (polled_far m new _ polled k.stands) e.image e.natives) (e.none_due none) e.timers;
       agree = e.agree;
       rest = still_rest c.args.machine.now m new i.rest e.rest;

@@ -14,7 +14,8 @@ pub returns-then-hear_due-clause-heard : goal.returns-then-hear_due-clause-heard
 returns-then-hear_due-clause-heard g c =
     let done = c.complete_due.ensures in
     let events = c.args.events.now in
-    tells_after events c.args.machine.now c.complete_due.new.machine done.kept.image done.kept.natives (completed_settles events c.args.machine.now c.complete_due.new.machine done.completed) c.args.turn.now c.hear_due.new.turn c.hear_due.new.machine
+    tells_after _ c.args.machine.now c.complete_due.new.machine done.kept.image done.kept.natives
+    (completed_settles _ c.args.machine.now c.complete_due.new.machine done.completed) _ _ c.hear_due.new.machine
     (subst (λ b. HearsAll b c.args.events.now c.complete_due.new.machine c.args.turn.now c.hear_due.new.turn c.hear_due.new.machine) c.if-hear_due.true c.hear_due.ensures.heard)
 
 pub returns-then-hear_due-clause-kept : goal.returns-then-hear_due-clause-kept
@@ -50,8 +51,8 @@ returns g c =
       kept = keeps_both kept polled.kept;
       heard = (all.0, settles_both events old k kept.image kept.natives first new (polled.settled events all.3), polled.none_due, kept_come events k new polled.rest all.3);
       polled = λ e. polled.polled;
-      falls = λ e late.
-          let less = late_falls events old m k (rest_after old m done.completed c.requires.rests.0) done.no_more done.falls heard.timers heard.no_more (heard.falls quiet) late in
+      falls = λ e late. let less = late_falls events old m k
+          (rest_after old m done.completed c.requires.rests.0) done.no_more done.falls heard.timers heard.no_more (heard.falls quiet) late in
           let timers = polled.timers in
           let kept = ap (λ r. r.delivered) polled.rest in
           omega (arith, less, timers, kept);

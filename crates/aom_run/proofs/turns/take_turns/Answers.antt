@@ -5,7 +5,8 @@ use Rattle.aom_run.specs.Calls.{Picked, natives_of}
 use Rattle.aom_run.proofs.Keeping.{as_many}
 use Rattle.aom_run.proofs.Serving.{cut_so, waited_so}
 use Rattle.aom_run.specs.Turns.{HearsAll, TakesTurns, hearing, waiting}
-use Rattle.aom_run.proofs.Resting.{dispatches_one, ends_told, limit_cuts, no_earlier, none_picked, passed_far, passed_late, passed_stands, passed_to_come, rests_on, tells_on, waits_on}
+use Rattle.aom_run.proofs.Resting.{dispatches_one, ends_told, limit_cuts, no_earlier, none_picked, passed_far, passed_late, passed_stands, passed_to_come}
+use Rattle.aom_run.proofs.Resting.{rests_on, tells_on, waits_on}
 use Rattle.aom_run.proofs.turns.take_turns.Goals as goal
 
 pub returns-then-dispatches-from-clause-turns : goal.returns-then-dispatches-from-clause-turns
@@ -13,7 +14,7 @@ returns-then-dispatches-from-clause-turns g c =
     let over = c.if-dispatches-from.true in
     let limit = c.from.ensures in
     let dispatches = c.dispatches.ensures ∙ ap (λ r. r.dispatches) c.rest.ensures in
-    limit_cuts c.args.machine.now (hearing c.args.turn.now.refused c.args.limit (natives_of c.args.machine.now) c.args.events.now) (omega (arith, over, limit, dispatches)) c.args.turn.now (record { core = c.cut.new.self; natives = c.args.machine.now.natives })
+    limit_cuts c.args.machine.now _ (omega (arith, over, limit, dispatches)) _ (record { core = c.cut.new.self; natives = c.args.machine.now.natives })
     (cut_so c.args.machine.now c.cut.new.self c.cut.ensures.image c.cut.ensures.cut)
 
 pub returns-then-settle-clause-turns : goal.returns-then-settle-clause-turns
@@ -21,7 +22,9 @@ returns-then-settle-clause-turns g c =
     let under = c.if-dispatches-from.false in
     let limit = c.from.ensures in
     let dispatches = c.dispatches.ensures ∙ ap (λ r. r.dispatches) c.rest.ensures in
-    ends_told c.args.machine.now c.settle.new.machine c.args.events.now c.args.turn.now.refused c.args.limit c.args.turn.now c.settle.new.turn (omega (arith, under, limit, dispatches)) (subst (λ b. HearsAll b c.args.events.now c.args.machine.now c.args.turn.now c.settle.new.turn c.settle.new.machine) c.if-settle.true c.settle.ensures.heard)
+    ends_told c.args.machine.now c.settle.new.machine c.args.events.now c.args.turn.now.refused c.args.limit c.args.turn.now c.settle.new.turn
+    (omega (arith, under, limit, dispatches)) (subst
+    (λ b. HearsAll b c.args.events.now c.args.machine.now c.args.turn.now c.settle.new.turn c.settle.new.machine) c.if-settle.true c.settle.ensures.heard)
 
 pub loop-limit-init : goal.loop-limit-init
 loop-limit-init g c =
@@ -61,43 +64,49 @@ returns-then-pick g c =
       agree = c.pick.ensures.agree;
       image = c.pick.ensures.image ∙ i.rests.image;
       natives = as_many m c.pick.new.self c.pick.ensures.natives ∙ i.rests.natives;
-      turns = dispatches_one c.args.machine.now m c.args.events.now c.args.turn.now.refused c.args.limit i.rests c.args.turn.now c.pick.new.turn c.pick.new.self (subst (λ t. Picked m true t c.pick.new.turn c.pick.new.self) i.turn picked);
+      turns = dispatches_one c.args.machine.now m c.args.events.now c.args.turn.now.refused c.args.limit i.rests c.args.turn.now c.pick.new.turn c.pick.new.self
+          (subst (λ t. Picked m true t c.pick.new.turn c.pick.new.self) i.turn picked);
     }
 
 pub wait-requires : goal.wait-requires
-wait-requires g c = (none_picked c.args.machine.now c.loop-limit.machine c.pick.new.self c.loop-limit.turn c.pick.new.turn c.pick.result c.loop-limit.invariant.rests c.if-pick.false c.pick.ensures.picked).0.between
+wait-requires g c = (none_picked c.args.machine.now c.loop-limit.machine
+    c.pick.new.self c.loop-limit.turn c.pick.new.turn c.pick.result c.loop-limit.invariant.rests c.if-pick.false c.pick.ensures.picked).0.between
 
 pub returns-in_default : goal.returns-in_default
 returns-in_default g c =
     let i = c.loop-limit.invariant in
     let k = none_picked c.args.machine.now c.loop-limit.machine c.pick.new.self c.loop-limit.turn c.pick.new.turn c.pick.result c.loop-limit.invariant.rests c.if-pick.false c.pick.ensures.picked in
     let waited = waited_so c.pick.new.self c.wait.new.self c.wait.ensures.image c.wait.ensures.waited in
-    let waits = waits_on c.args.machine.now c.pick.new.self c.args.events.now c.args.turn.now.refused c.args.limit k.0 k.2 c.next_time.result c.next_time.ensures c.in_default.is c.args.turn.now (record { core = c.wait.new.self; natives = c.pick.new.self.natives }) waited in
+    let waits = waits_on c.args.machine.now c.pick.new.self c.args.events.now c.args.turn.now.refused c.args.limit k.0 k.2
+    c.next_time.result c.next_time.ensures c.in_default.is c.args.turn.now (record { core = c.wait.new.self; natives = c.pick.new.self.natives }) waited in
     record {
       agree = c.pick.ensures.agree;
       image = c.wait.ensures.image ∙ k.0.image;
       natives = k.0.natives;
-      turns = subst (λ t. TakesTurns c.args.machine.now (hearing c.args.turn.now.refused c.args.limit (natives_of c.args.machine.now) c.args.events.now) (Some Waiting) c.args.turn.now t (record { core = c.wait.new.self; natives = c.pick.new.self.natives })) (sym (k.1 ∙ i.turn)) waits;
+      turns = subst (λ t. TakesTurns c.args.machine.now (hearing c.args.turn.now.refused c.args.limit (natives_of c.args.machine.now) c.args.events.now)
+          (Some Waiting) c.args.turn.now t (record { core = c.wait.new.self; natives = c.pick.new.self.natives })) (sym (k.1 ∙ i.turn)) waits;
     }
 
 pub set_clock-requires : goal.set_clock-requires
-set_clock-requires g c =
-    let k = none_picked c.args.machine.now c.loop-limit.machine c.pick.new.self c.loop-limit.turn c.pick.new.turn c.pick.result c.loop-limit.invariant.rests c.if-pick.false c.pick.ensures.picked in
+set_clock-requires g c = let k = none_picked c.args.machine.now
+    c.loop-limit.machine c.pick.new.self c.loop-limit.turn c.pick.new.turn c.pick.result c.loop-limit.invariant.rests c.if-pick.false c.pick.ensures.picked in
     record {
       agree = c.pick.ensures.agree;
       between = k.0.between;
-      later = no_earlier c.args.machine.now c.pick.new.self c.args.events.now c.args.turn.now.refused c.args.limit k.0 k.2 c.next_time.result c.next_time.ensures c.in-Some.time c.in-Some.is;
+      later = no_earlier c.args.machine.now c.pick.new.self c.args.events.now c.args.turn.now.refused c.args.limit k.0 k.2 _ c.next_time.ensures _ c.in-Some.is;
     }
 
 pub settle-requires-in-loop-limit : goal.settle-requires-in-loop-limit
-settle-requires-in-loop-limit g c =
-    let k = none_picked c.args.machine.now c.loop-limit.machine c.pick.new.self c.loop-limit.turn c.pick.new.turn c.pick.result c.loop-limit.invariant.rests c.if-pick.false c.pick.ensures.picked in
+settle-requires-in-loop-limit g c = let k = none_picked c.args.machine.now
+    c.loop-limit.machine c.pick.new.self c.loop-limit.turn c.pick.new.turn c.pick.result c.loop-limit.invariant.rests c.if-pick.false c.pick.ensures.picked in
     let e = c.set_clock.ensures in
     record {
       agree = e.agree;
       rests = (
-        passed_stands c.args.machine.now c.pick.new.self c.args.events.now c.args.turn.now.refused c.args.limit k.0 k.2 c.next_time.result c.next_time.ensures c.in-Some.time c.in-Some.is c.set_clock.new.self e.image e.passed,
-        passed_far c.args.machine.now c.pick.new.self c.args.events.now c.args.turn.now.refused c.args.limit k.0 k.2 c.next_time.result c.next_time.ensures c.in-Some.time c.in-Some.is c.set_clock.new.self e.image e.passed,
+        passed_stands c.args.machine.now c.pick.new.self c.args.events.now c.args.turn.now.refused
+            c.args.limit k.0 k.2 c.next_time.result c.next_time.ensures c.in-Some.time c.in-Some.is c.set_clock.new.self e.image e.passed,
+        passed_far c.args.machine.now c.pick.new.self c.args.events.now c.args.turn.now.refused
+            c.args.limit k.0 k.2 c.next_time.result c.next_time.ensures c.in-Some.time c.in-Some.is c.set_clock.new.self e.image e.passed,
       );
       can = (c.requires.ranged, subst (λ (t : LineBuffer). length t.lines < t.room) (sym (k.1 ∙ c.loop-limit.invariant.turn)) c.requires.room);
     }
@@ -110,21 +119,26 @@ returns-then-settle-2 g c =
     let done = c.settle-in-loop-limit.ensures in
     let new = c.settle-in-loop-limit.new.machine in
     let now = c.settle-in-loop-limit.new.turn in
-    let tells = subst (λ t. HearsAll true c.args.events.now c.set_clock.new.self t now new) (k.1 ∙ i.turn) (subst (λ b. HearsAll b c.args.events.now c.set_clock.new.self c.pick.new.turn now new) c.if-settle-2.true done.heard) in
+    let tells = subst (λ t. HearsAll true c.args.events.now c.set_clock.new.self t now new)
+    (k.1 ∙ i.turn) (subst (λ b. HearsAll b c.args.events.now c.set_clock.new.self c.pick.new.turn now new) c.if-settle-2.true done.heard) in
     record {
       agree = done.agree;
       image = done.kept.image ∙ e.image ∙ k.0.image;
       natives = done.kept.natives ∙ as_many c.pick.new.self c.set_clock.new.self e.natives ∙ k.0.natives;
-      turns = tells_on c.args.machine.now c.pick.new.self c.args.events.now c.args.turn.now.refused c.args.limit k.0 k.2 c.next_time.result c.next_time.ensures c.in-Some.time c.in-Some.is c.set_clock.new.self e.image e.passed (as_many c.pick.new.self c.set_clock.new.self e.natives) new c.args.turn.now now tells;
+      turns = tells_on c.args.machine.now c.pick.new.self c.args.events.now
+          c.args.turn.now.refused c.args.limit k.0 k.2 c.next_time.result c.next_time.ensures c.in-Some.time c.in-Some.is c.set_clock.new.self e.image e.passed
+          (as_many c.pick.new.self c.set_clock.new.self e.natives) new c.args.turn.now now tells;
     }
 
 pub loop-limit-smaller : goal.loop-limit-smaller
-loop-limit-smaller g c =
-    let k = none_picked c.args.machine.now c.loop-limit.machine c.pick.new.self c.loop-limit.turn c.pick.new.turn c.pick.result c.loop-limit.invariant.rests c.if-pick.false c.pick.ensures.picked in
+loop-limit-smaller g c = let k = none_picked c.args.machine.now
+    c.loop-limit.machine c.pick.new.self c.loop-limit.turn c.pick.new.turn c.pick.result c.loop-limit.invariant.rests c.if-pick.false c.pick.ensures.picked in
     let e = c.set_clock.ensures in
-    let late = passed_late c.args.machine.now c.pick.new.self c.args.events.now c.args.turn.now.refused c.args.limit k.0 k.2 c.next_time.result c.next_time.ensures c.in-Some.time c.in-Some.is c.set_clock.new.self e.image e.passed in
+    let late = passed_late c.args.machine.now c.pick.new.self c.args.events.now
+    c.args.turn.now.refused c.args.limit k.0 k.2 c.next_time.result c.next_time.ensures c.in-Some.time c.in-Some.is c.set_clock.new.self e.image e.passed in
     let falls = c.settle-in-loop-limit.ensures.falls c.if-settle-2.false late in
-    let events = passed_to_come c.args.machine.now c.pick.new.self c.args.events.now c.args.turn.now.refused c.args.limit k.0 k.2 c.next_time.result c.next_time.ensures c.in-Some.time c.in-Some.is c.set_clock.new.self e.image e.passed in
+    let events = passed_to_come c.args.machine.now c.pick.new.self c.args.events.now
+    c.args.turn.now.refused c.args.limit k.0 k.2 c.next_time.result c.next_time.ensures c.in-Some.time c.in-Some.is c.set_clock.new.self e.image e.passed in
     let same = e.timers in
     let still = ap (waiting c.args.events.now) k.3 in
     omega (arith, falls, events, same, still)
@@ -138,8 +152,9 @@ loop-limit-preserved g c =
     let quiet = c.if-settle-2.false in
     let all = subst (λ b. HearsAll b c.args.events.now c.set_clock.new.self c.pick.new.turn c.settle-in-loop-limit.new.turn c.settle-in-loop-limit.new.machine) quiet done.heard in
     record {
-      rests = rests_on c.args.machine.now c.pick.new.self c.args.events.now c.args.turn.now.refused c.args.limit k.0 k.2 c.next_time.result c.next_time.ensures c.in-Some.time c.in-Some.is c.set_clock.new.self e.image e.passed
-          (as_many c.pick.new.self c.set_clock.new.self e.natives) c.settle-in-loop-limit.new.machine all.1 done.kept.between all.2 all.3 (done.polled quiet) done.kept.image done.kept.natives;
+      rests = rests_on c.args.machine.now c.pick.new.self c.args.events.now c.args.turn.now.refused c.args.limit k.0 k.2 c.next_time.result
+          c.next_time.ensures c.in-Some.time c.in-Some.is c.set_clock.new.self e.image e.passed (as_many c.pick.new.self c.set_clock.new.self e.natives)
+          c.settle-in-loop-limit.new.machine all.1 done.kept.between all.2 all.3 (done.polled quiet) done.kept.image done.kept.natives;
       agree = done.agree;
       turn = all.0 ∙ k.1 ∙ i.turn;
     }

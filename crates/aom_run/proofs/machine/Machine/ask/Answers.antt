@@ -18,13 +18,15 @@ returns-in_default g c = record {
 
 -- what is asked fits
 pub call-answer-requires-clause-fits : goal.call-answer-requires-clause-fits
-call-answer-requires-clause-fits g c = fits c.args.self.now c.requires.stands.0 c.requires.stands.1 _ (c.in-Some.ensures c.requires.stands.0 c.requires.stands.1.stands)
+call-answer-requires-clause-fits g c = fits c.args.self.now _ c.requires.stands.1 _ (c.in-Some.ensures c.requires.stands.0 c.requires.stands.1.stands)
 
 -- the answer is heard
 pub returns-in-Some-clause-asked : goal.returns-in-Some-clause-asked
 returns-in-Some-clause-asked g c = λ s st.
     let fits : FitsSigned w32 c.call-answer.result = search rules in
-    heard_so _ _ _ _ _ _ _ _ _ _ (asks_so c.args.self.now s st _ (sym c.progress.ensures ∙ c.in-Running.is) (c.in-Some.ensures s st.stands)) (ap (λ m. heard_by m.parts) c.hear.ensures.heard ∙ ap (int_wrap w32) (to_z-of_z w32 c.call-answer.result fits) ∙ int_wrap_fits w32 c.call-answer.result fits) c.call-answer.ensures.answer c.call-answer.ensures.after
+    heard_so _ _ _ _ _ _ _ _ _ _ (asks_so c.args.self.now s st _ (sym c.progress.ensures ∙ c.in-Running.is) (c.in-Some.ensures s st.stands))
+    (ap (λ m. heard_by m.parts) c.hear.ensures.heard ∙ ap (int_wrap w32) (to_z-of_z w32 c.call-answer.result fits)
+    ∙ int_wrap_fits w32 c.call-answer.result fits) c.call-answer.ensures.answer c.call-answer.ensures.after
 
 pub call-answer-requires-clause-agree : goal.call-answer-requires-clause-agree
 call-answer-requires-clause-agree g c = c.requires.agree

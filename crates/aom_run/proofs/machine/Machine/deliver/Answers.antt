@@ -11,10 +11,11 @@ returns-in-Tell-clause-delivered g c =
     let e = c.tell.ensures in
     record {
       image = e.image;
-      natives = subst (λ x. KeepsUntold x c.args.self.now.natives.slots.items c.tell.new.self.natives.slots.items) (sym c.in-Tell.is) (record { count = e.natives.count; at = untold_but _ _ c.in-Tell.native e.natives });
-      delivered = λ outside same s st.
-          with_any_name s (λ name. Takes c.args.self.now s (delivers outside name s c.args.event) c.args.turn.now c.args.turn.now c.tell.new.self) (λ name.
-          subst (λ x. Takes c.args.self.now s (delivers outside name s x) c.args.turn.now c.args.turn.now c.tell.new.self) (sym c.in-Tell.is) (e.heard c.args.turn.now s st));
+      natives = subst (λ x. KeepsUntold x c.args.self.now.natives.slots.items c.tell.new.self.natives.slots.items)
+          (sym c.in-Tell.is) (record { count = e.natives.count; at = untold_but _ _ c.in-Tell.native e.natives });
+      delivered = λ outside same s st. with_any_name s (λ name. Takes c.args.self.now s (delivers outside name s c.args.event) c.args.turn.now c.args.turn.now
+          c.tell.new.self) (λ name. subst (λ x. Takes c.args.self.now s (delivers outside name s x) c.args.turn.now c.args.turn.now c.tell.new.self)
+          (sym c.in-Tell.is) (e.heard c.args.turn.now s st));
       rest = e.rest;
       timers = e.timers;
       told = omega arith;

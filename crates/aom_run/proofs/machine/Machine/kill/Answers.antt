@@ -10,7 +10,7 @@ pub returns-then-not-is_alive-clause-delivered : goal.returns-then-not-is_alive-
 returns-then-not-is_alive-clause-delivered g c =
     let e = c.hear_event.ensures in
     heard_only c.args.self.now c.hear_event.new.self e.image (Kill c.args.native) c.args.turn.now
-    (kills_nothing c.args.self.now c.hear_event.new.self e.image c.args.native (sym c.is_alive.ensures ∙ c.if-not-is_alive.true) (λ now s st. e.heard now s st.stands) c.args.turn.now) e.rest e.back e.timers
+    (kills_nothing c.args.self.now _ e.image _ (sym c.is_alive.ensures ∙ c.if-not-is_alive.true) (λ now s st. e.heard now s st.stands) _) e.rest e.back e.timers
 
 -- one that lives is
 pub returns-clause-delivered : goal.returns-clause-delivered
@@ -19,11 +19,11 @@ returns-clause-delivered g c =
     record {
       image = e.image;
       natives = record { count = c.kill.ensures.others.count; at = untold_but _ _ c.args.native c.kill.ensures.others };
-      delivered =
-          kills_one c.args.self.now (record { core = c.kill-2.new.self; natives = c.kill.new.self }) e.image c.args.native (sym c.is_alive.ensures ∙ c.if-not-is_alive.false) c.kill.ensures.dead c.kill.ensures.others c.args.turn.now c.kill-2.new.turn (λ s st. e.killed s st.stands);
+      delivered = kills_one c.args.self.now (record { core = c.kill-2.new.self; natives = c.kill.new.self }) e.image c.args.native (sym c.is_alive.ensures
+          ∙ c.if-not-is_alive.false) c.kill.ensures.dead c.kill.ensures.others c.args.turn.now c.kill-2.new.turn (λ s st. e.killed s st.stands);
       rest = e.rest;
       timers = e.timers;
-      told = line_more c.args.self.now.core c.kill-2.new.self c.requires.rests.0.0 c.args.native c.args.turn.now c.kill-2.new.turn (e.killed c.requires.rests.0.0 c.requires.rests.0.1.stands);
+      told = line_more _ c.kill-2.new.self _ c.args.native c.args.turn.now c.kill-2.new.turn (e.killed c.requires.rests.0.0 c.requires.rests.0.1.stands);
       quiet = λ is. absurd (true≢false is);
       none_due = λ is. absurd (true≢false is);
     }

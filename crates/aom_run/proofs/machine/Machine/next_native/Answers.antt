@@ -12,7 +12,7 @@ pub returns-then-is_alive-clause-some : goal.returns-then-is_alive-clause-some
 returns-then-is_alive-clause-some g c =
     let i = c.loop-native.invariant in
     let below : c.loop-native.native < natives_of c.args.self.now = search rules in
-    (below, i.0, sym c.is_alive.ensures ∙ c.if-is_alive.true, λ s st. i.1 s st ∙ first_here s.killed (natives_of c.args.self.now) c.loop-native.native below (is_alive_so c.args.self.now s st c.loop-native.native below (sym c.is_alive.ensures ∙ c.if-is_alive.true)))
+    (below, i.0, sym c.is_alive.ensures ∙ c.if-is_alive.true, λ s st. i.1 s st ∙ first_here _ _ _ below (is_alive_so c.args.self.now s st _ below (sym c.is_alive.ensures ∙ c.if-is_alive.true)))
 
 pub loop-native-smaller : goal.loop-native-smaller
 loop-native-smaller g c =
@@ -24,7 +24,7 @@ loop-native-preserved g c =
     let i = c.loop-native.invariant in
     let from = i.0 in
     let below : c.loop-native.native < natives_of c.args.self.now = search rules in
-    (omega (arith, from), λ s st. i.1 s st ∙ first_later s.killed (natives_of c.args.self.now) c.loop-native.native below (is_dead_so c.args.self.now s st c.loop-native.native below (sym c.is_alive.ensures ∙ c.if-is_alive.false)))
+    (omega (arith, from), λ s st. i.1 s st ∙ first_later _ _ _ below (is_dead_so c.args.self.now s st _ below (sym c.is_alive.ensures ∙ c.if-is_alive.false)))
 
 pub returns-clause-none : goal.returns-clause-none
 returns-clause-none g c = λ e s st.

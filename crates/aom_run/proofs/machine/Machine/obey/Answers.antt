@@ -8,7 +8,7 @@ pub returns-then-client-ge-CLIENTS-clause-delivered : goal.returns-then-client-g
 returns-then-client-ge-CLIENTS-clause-delivered g c =
     let e = c.hear_event.ensures in
     heard_only c.args.self.now c.hear_event.new.self e.image (Client c.args.client c.args.command) c.args.turn.now
-    (obeyed_none c.args.self.now c.hear_event.new.self e.image c.args.client c.args.command c.if-client-ge-CLIENTS.true e.heard c.args.turn.now) e.rest e.back e.timers
+    (obeyed_none c.args.self.now _ e.image c.args.client c.args.command c.if-client-ge-CLIENTS.true e.heard c.args.turn.now) e.rest e.back e.timers
 
 -- a client does what it is told
 pub returns-clause-delivered : goal.returns-clause-delivered

@@ -6,14 +6,15 @@ use Rattle.aom_run.proofs.machine.Machine.poll.Goals as goal
 
 -- what is completed was outstanding
 pub polled-requires-clause-owed : goal.polled-requires-clause-owed
-polled-requires-clause-owed g c = owed_in c.args.self.now c.requires.stands.0 c.requires.stands.1 c.in-Some.native c.poll-completion.result _ c.poll-completion.ensures.ids
+polled-requires-clause-owed g c = owed_in c.args.self.now c.requires.stands.0 c.requires.stands.1 c.in-Some.native _ _ c.poll-completion.ensures.ids
 
 -- the next native is polled, as it stood
 pub returns-clause-polled : goal.returns-clause-polled
 returns-clause-polled g c = λ s st.
     let next = c.in-Some.ensures.some in
     let d = c.polled.ensures.polled s st.stands in
-    let may = subst (λ t. IfSome (living_at c.args.self.now.natives.slots.items c.in-Some.native) (λ l. (g.dyn-1.0.entry l.native.vtable).1.poll_may l.native.value t c.poll-completion.result)) c.clock.ensures c.poll-completion.ensures.answer in (
+    let may = subst (λ t. IfSome (living_at c.args.self.now.natives.slots.items c.in-Some.native)
+    (λ l. (g.dyn-1.0.entry l.native.vtable).1.poll_may l.native.value t c.poll-completion.result)) c.clock.ensures c.poll-completion.ensures.answer in (
       c.in-Some.native,
       c.poll-completion.result,
       d.0,
@@ -21,7 +22,9 @@ returns-clause-polled g c = λ s st.
       may,
       d.1,
       d.2,
-      λ now. polled_so c.args.self.now (record { core = c.polled.new.self; natives = c.poll-completion.new.self }) c.polled.ensures.image c.in-Some.native c.poll-completion.result c.poll-completion.ensures.ids next.2 c.poll-completion.ensures.alive c.poll-completion.ensures.others s st d.0 d.1 d.2 now (d.3 now),
+      λ now. polled_so c.args.self.now
+          (record { core = c.polled.new.self; natives = c.poll-completion.new.self }) c.polled.ensures.image c.in-Some.native c.poll-completion.result
+          c.poll-completion.ensures.ids next.2 c.poll-completion.ensures.alive c.poll-completion.ensures.others s st d.0 d.1 d.2 now (d.3 now),
       c.poll-completion.ensures.others,
     )
 

@@ -6,8 +6,13 @@ use Rattle.aom_run.proofs.Stepped.{stays_idle, stepped_once}
 use Rattle.aom_run.proofs.machine.Machine.step.Goals as goal
 
 pub returns-clause-steps : goal.returns-clause-steps
-returns-clause-steps g c = λ s st.
-    (heard_by c.ask.new.self.core.parts, (c.ask.ensures.asked s st).0, stepped_once c.args.self.now s st (record { core = c.step.new.self; natives = c.ask.new.self.natives }) c.ask.new.self.core (heard_by c.ask.new.self.core.parts) c.step.result c.args.turn.now c.step.new.turn (ap (λ (m : Core). m.image) c.ask.ensures.core) refl (c.ask.ensures.stands s st.stands) c.step.ensures.image (c.ask.ensures.asked s st).1 c.step.ensures.steps)
+returns-clause-steps g c = λ s st. (
+  heard_by c.ask.new.self.core.parts,
+  (c.ask.ensures.asked s st).0,
+  stepped_once c.args.self.now s st
+      (record { core = c.step.new.self; natives = c.ask.new.self.natives }) _ _ _ _ _ (ap (λ (m : Core). m.image) c.ask.ensures.core) refl
+      (c.ask.ensures.stands s st.stands) c.step.ensures.image (c.ask.ensures.asked s st).1 c.step.ensures.steps,
+)
 
 pub returns-clause-falls : goal.returns-clause-falls
 returns-clause-falls g c = λ running. subst (λ r. rank c.step.new.self < r) (ap rank c.ask.ensures.core) (c.step.ensures.falls running)

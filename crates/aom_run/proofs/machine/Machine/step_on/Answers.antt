@@ -6,8 +6,13 @@ use Rattle.aom_run.proofs.Stepped.{stays_idle, stepped_on}
 use Rattle.aom_run.proofs.machine.Machine.step_on.Goals as goal
 
 pub returns-clause-steps : goal.returns-clause-steps
-returns-clause-steps g c = λ s st.
-    (heard_by c.ask.new.self.core.parts, (c.ask.ensures.asked s st).0, stepped_on c.args.self.now s st (record { core = c.step_on.new.self; natives = c.ask.new.self.natives }) c.ask.new.self.core (heard_by c.ask.new.self.core.parts) c.step_on.result c.args.turn.now c.step_on.new.turn (ap (λ (m : Core). m.image) c.ask.ensures.core) refl (c.ask.ensures.stands s st.stands) c.step_on.ensures.image (c.ask.ensures.asked s st).1 c.step_on.ensures.steps)
+returns-clause-steps g c = λ s st. (
+  heard_by c.ask.new.self.core.parts,
+  (c.ask.ensures.asked s st).0,
+  stepped_on c.args.self.now s st (record { core = c.step_on.new.self; natives = c.ask.new.self.natives }) c.ask.new.self.core
+      (heard_by c.ask.new.self.core.parts) c.step_on.result c.args.turn.now c.step_on.new.turn (ap (λ (m : Core). m.image) c.ask.ensures.core) refl
+      (c.ask.ensures.stands s st.stands) c.step_on.ensures.image (c.ask.ensures.asked s st).1 c.step_on.ensures.steps,
+)
 
 pub returns-clause-falls : goal.returns-clause-falls
 returns-clause-falls g c = λ running. subst (λ r. rank c.step_on.new.self < r) (ap rank c.ask.ensures.core) (c.step_on.ensures.falls running)
@@ -16,4 +21,4 @@ pub returns-clause-unasked : goal.returns-clause-unasked
 returns-clause-unasked g c = λ s st. (c.ask.ensures.asked s st).1.unasked
 
 pub returns-clause-idle : goal.returns-clause-idle
-returns-clause-idle g c = stays_idle c.args.self.now c.ask.new.self c.step_on.new.self c.args.turn.now c.step_on.new.turn c.ask.ensures.idle c.step_on.ensures.idle
+returns-clause-idle g c = stays_idle c.args.self.now c.ask.new.self _ c.args.turn.now c.step_on.new.turn c.ask.ensures.idle c.step_on.ensures.idle
