@@ -1,4 +1,5 @@
--- Turns of the machine, one after another: what is due completes requests, events are heard, natives are polled, and time passes, until an object is dispatched, an event is told by a line, or the run ends.
+-- Turns of the machine, one after another: what is due completes requests, events are heard, natives are polled, and time passes, until an object is
+-- dispatched, an event is told by a line, or the run ends.
 use Rattle.std.proofs.lemmas.Bool.Decides.{nat_tests}
 use Rattle.std.proofs.Common.{◌≡◌, ◌⊎◌, ◌<◌, ◌≤◌, ℕ, ℤ, suc, Bool, true, false, List, [], Option, Some, None, length, ap, append-nil, arith, refl, subst, sym}
 use Rattle.std.proofs.Common.{◌∙◌}
