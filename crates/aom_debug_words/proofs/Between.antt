@@ -1,8 +1,7 @@
 -- What stands between dots is read part by part: where a branch is none, or there is no room for one more, no way is said.
-use Rattle.std.proofs.Common.{◌≡◌, ◌∙◌, ◌≤◌, ◌<◌, Bor, ℕ, suc, Bool, true, false, cond, nat_le, List, [], ◌∷◌, ◌++◌, length, Option, Some, None, ap, append_assoc, arith, refl, sym}
+use Rattle.std.proofs.Common.{◌≡◌, ◌∙◌, ◌<◌, Bor, ℕ, suc, Bool, true, false, cond, nat_le, List, [], ◌∷◌, ◌++◌, length, Option, Some, None, ap, append_assoc, arith, refl, sym}
 use Rattle.std.specs.Prelude.{IfSome, option_map}
-use Rattle.std.proofs.lemmas.Bool.{leb-false}
-use Rattle.std.proofs.lemmas.List.{append-nil, length-append}
+use Rattle.std.proofs.lemmas.List.{append-nil}
 use Rattle.std.proofs.lemmas.Option.{none-some, same_Some}
 use Rattle.aom_debug_words.specs.Ways.{Way, before, branch_said, branches_said, fitting, further, parts_in, path_from, way_at}
 use Rattle.aom_debug_words.specs.declared.way.Branch.{Branch}
@@ -41,28 +40,6 @@ goes_on w x b part parts said fits = ap (λ o. onto w (before o (branches_said p
 -- what fits still fits
 pub fits_still : (w x : Way) → fitting w ≡ Some x → fitting x ≡ Some x
 fits_still w x is = ap fitting (sym (fits_so w x is)) ∙ is
-
--- a part is no branch
-pub says_none : (w : Way) (part : List ℕ) (parts : List (List ℕ)) → branch_said part ≡ None → onto w (branches_said (part ∷ parts)) ≡ None
-says_none w part parts none = ap (λ o. onto w (before o (branches_said parts))) none
-
--- there is no room for one more
-pub fits_none : (w : Way) (b : Branch) (part : List ℕ) (parts : List (List ℕ)) → branch_said part ≡ Some b → fitting (further w b) ≡ None → onto w (branches_said (part ∷ parts)) ≡ None
-fits_none w b part parts said full = ap (λ o. onto w (before o (branches_said parts))) said ∙ go (branches_said parts)
-  where
-    many : (c : Bool) → nat_le (length (w.branches ++ b ∷ [])) 85 ≡ c → cond c (Some (further w b)) None ≡ None → nat_le (length (w.branches ++ b ∷ [])) 85 ≡ false
-    many true is e = absurd (none-some (further w b) (sym e))
-    many false is e = is
-
-    go : (o : Option (List Branch)) → onto w (before (Some b) o) ≡ None
-    go None = refl
-    go (Some bs) =
-        let past = leb-false (length (w.branches ++ b ∷ [])) 85 (many (nat_le (length (w.branches ++ b ∷ [])) 85) refl full) in
-        let more = nat_le_false (length (w.branches ++ b ∷ bs)) (omega (arith, past, length-append w.branches (b ∷ []), length-append w.branches (b ∷ bs))) in
-        ap (λ c. cond c (Some (record w { branches = w.branches ++ b ∷ bs })) None) more
-      where
-        nat_le_false : (n : ℕ) → 85 < n → nat_le n 85 ≡ false
-        nat_le_false n less = grind arith
 
 -- how much is not yet read
 abbrev pub left : Option (List ℕ) → ℕ

@@ -1,5 +1,5 @@
 -- What is kept of a line while it comes, by what is taken of it.
-use Rattle.std.proofs.Common.{◌≡◌, ◌≤◌, ◌<◌, ◌+◌, ◌∙◌, ℕ, Bool, true, false, cond, nat_lt, List, [], ◌∷◌, ◌++◌, length, take, length-append, ap, sym, arith, rules, tests, min, Option, Some, None}
+use Rattle.std.proofs.Common.{◌≡◌, ◌≤◌, ◌<◌, ◌+◌, ◌∙◌, ℕ, Bool, true, false, cond, nat_lt, List, [], ◌∷◌, ◌++◌, length, take, length-append, ap, sym, arith, rules, tests, min, Some, None}
 use Rattle.std.proofs.lemmas.List.{length-take, take-append-le, take_all}
 use Rattle.aom_debug_words.specs.Lines.{Kept, fitting_line, pending_of}
 

@@ -1,9 +1,9 @@
 -- The first breakpoint at a place is the one that a search from the front finds, by recursion.
-use Rattle.std.proofs.Common.{◌≡◌, ◌∙◌, ◌+◌, ◌||◌, ℕ, suc, Bool, true, false, not, cond, nat_lt, List, [], ◌∷◌, ◌++◌, ◌&&◌, ◌==◌, length, take, drop, Option, Some, None, refl, sym, ap, arith, rules, tests}
-use Rattle.std.specs.List.{list_any, position, position_or_len, remove}
+use Rattle.std.proofs.Common.{◌≡◌, ◌∙◌, ◌+◌, ◌||◌, ℕ, suc, Bool, true, false, not, cond, nat_lt, List, [], ◌∷◌, ◌++◌, length, Some, None, refl, sym, ap, arith, rules, tests}
+use Rattle.std.specs.List.{position, position_or_len, remove}
 use Rattle.std.proofs.lemmas.Bool.{le-ltb, lt-ltb, ltb-false, ltb-true}
 use Rattle.aom_debug_words.specs.declared.spot.Spot.{Spot}
-use Rattle.aom_debug_words.specs.Marks.{UnbreakUndoesBreak, has_spot, same_spot, with_spot, without_spot}
+use Rattle.aom_debug_words.specs.Marks.{UnbreakUndoesBreak, has_spot, same_spot, without_spot}
 
 one_more : (n : ℕ) → 1 + n ≡ suc n
 one_more n = omega arith

@@ -1,5 +1,5 @@
 -- The ways to what is owned: how the map of owners spells them, and what way words spell.
-use Rattle.std.specs.Prelude.{◌≡◌, ◌≤◌, ℕ, Bool, ◌&&◌, ◌==◌, nat_le, if◌then◌else◌, List, [], ◌∷◌, ◌++◌, codes, decimal, length, Option, Some, None, option_map}
+use Rattle.std.specs.Prelude.{◌≡◌, ◌≤◌, ℕ, Bool, ◌&&◌, ◌==◌, nat_le, if◌then◌else◌, List, [], ◌∷◌, ◌++◌, codes, decimal, length, Option, Some, None}
 use Rattle.std.specs.List.{flat_map, slice_split}
 use Rattle.std.specs.Str.{bytes_eq}
 use Rattle.aom_text.specs.Numbers.{number_of, number_within}

@@ -1,6 +1,6 @@
 -- What is kept of a line that is not long is the line; one that is long is none.
 use Rattle.aom_debug_words.proofs.Keeping.{fits_line, too_long}
-use Rattle.std.proofs.Common.{◌∙◌, ap, sym}
+use Rattle.std.proofs.Common.{◌∙◌, ap}
 use Rattle.std.specs.Prelude.{Some}
 use Rattle.aom_debug_words.proofs.pending.Pending.line.Goals as goal
 
