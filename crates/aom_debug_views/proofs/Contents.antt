@@ -1,12 +1,11 @@
 -- What the numbers in the registers of a frame are told as is what each state has there.
-use Rattle.std.proofs.Common.{arith, ◌≡◌, ◌≢◌, ◌⊎◌, ◌∙◌, ◌-◌, inl, inr, ◌∷◌, take, ℕ, Bool, true, false, List, [], ◌++◌, Option, Some, None, IsSome, slice_index_or, refl, sym, ap, subst, zero, suc}
-use Rattle.std.specs.Prelude.{is_some, option_map}
+use Rattle.std.proofs.lemmas.Bool.Decides.{nat_tests}
+use Rattle.std.proofs.Common.{arith, ◌≡◌, ◌≢◌, ◌⊎◌, ◌∙◌, ◌-◌, ℕ, Bool, false, List, [], ◌++◌, Option, Some, None, IsSome}
+use Rattle.std.proofs.Common.{slice_index_or, refl, sym, ap, subst, zero, suc}
+use Rattle.std.specs.Prelude.{option_map}
 use Rattle.std.specs.Int.{w32, cast_signed}
-use Rattle.std.proofs.lemmas.Bool.{false≢true}
-use Rattle.std.proofs.lemmas.Option.{none-some}
 use Rattle.aom_image.specs.Image.{Image}
 use Rattle.aom_image.specs.Views.{method_at}
-use Rattle.aom_image.specs.declared.method.Thing.TheVariants.{Message}
 use Rattle.aom_cells.specs.Heap.{Lives, cell_at, class_at, class_of as class_of_cell, null}
 use Rattle.aom_cells.specs.declared.cell.Cell.{Cell as Machine_cell}
 use Rattle.aom_frames.specs.declared.frame.Frame.{Frame as Machine_frame}
@@ -19,11 +18,11 @@ use Rattle.aom_shape.specs.declared.kind.Age.{Age}
 use Rattle.aom_shape.specs.declared.kind.Kind.{Kind}
 use Rattle.aom_shape.specs.declared.kind.Kind.TheVariants.{Maybe, Null, Own, Unset, Word}
 use Rattle.aom_semantics.specs.Owned.{over}
-use Rattle.aom_semantics.specs.Places.{Cell, Object, Place, Register, held, service_of}
-use Rattle.aom_semantics.specs.State.{Closing, Destroy, Dispatched, Frame, Run, State, Task, Trapped, Unwind, counter, word}
+use Rattle.aom_semantics.specs.Places.{Cell, Object, Place, Register, held}
+use Rattle.aom_semantics.specs.State.{Frame, Run, State, Task, word}
 use Rattle.aom_typings.specs.Strongest.{IsShapeAt, IsStrongest}
 use Rattle.aom_machine_state.specs.declared.parts.Parts.{Parts}
-use Rattle.aom_machine_state.specs.Agrees.{SameFrame, number}
+use Rattle.aom_machine_state.specs.Agrees.{number}
 use Rattle.aom_machine_state.specs.Stands.{Machine, Stands, StandsFor}
 use Rattle.aom_machine_instructions.proofs.Running.{not_null}
 use Rattle.aom_machine.specs.Agreement.{AgreesInAll}
@@ -33,8 +32,9 @@ use Rattle.aom_debug_words.specs.declared.answer.Source.{Source}
 use Rattle.aom_debug_words.specs.declared.answer.Content.{Content}
 use Rattle.aom_debug_words.specs.declared.answer.Content.TheVariants as contents
 use Rattle.aom_debug_names.specs.Names.{Names}
-use Rattle.aom_debug_views.specs.Frames.{RegisterShows, ShowsFrame, content_by, frame_answers, frame_lines, kind_in, kinds_of, loop_answer, loop_in, loops_in, owned_content, place_in, register_in, thing_content, trap_by, trap_held, trap_in, trap_under}
-use Rattle.aom_debug_views.specs.Owners.{Represents, ShowsIf, ShowsNone, is_frame, may_own, source_at, source_in}
+use Rattle.aom_debug_views.specs.Frames.{RegisterShows, ShowsFrame, content_by, frame_answers, frame_lines, kind_in, kinds_of, loop_answer, loop_in}
+use Rattle.aom_debug_views.specs.Frames.{owned_content, place_in, register_in, trap_by, trap_held, trap_in, trap_under}
+use Rattle.aom_debug_views.specs.Owners.{Represents, ShowsIf, is_frame, may_own, source_at}
 use Rattle.aom_debug_views.specs.Sights.{class_of}
 use Rattle.aom_debug_views.specs.Telling.{IsCut, Tells, TellsPart, answers_by, gathered, listed}
 use Rattle.aom_debug_words.specs.declared.fault.DebugFault.{DebugFault}
@@ -43,31 +43,23 @@ use Rattle.aom_rules.specs.Typing.{Typing, shape_at}
 use Rattle.aom_debug_views.proofs.Registers.{frame_method, frame_shown}
 use Rattle.aom_debug_views.proofs.Showing.{class_held}
 use Rattle.aom_debug_views.proofs.Tasks.{SameOver, frame_there, same_over}
-use Rattle.aom_debug_views.proofs.Telling.{gathered_same}
 use Rattle.aom_debug_views.proofs.Trees.{message_found, none_sends, thing_is}
 use Rattle.aom_debug_views.proofs.Words.{kind_there, word_shown}
 
 -- ---- what a number is told as
 
 class_content : (cs : List Cell) (o : Option Object) (class : ℕ) → class_of o ≡ Some class → Some (contents.Own class) ≡ owned_content cs o
-class_content cs None class is = absurd (none-some class is)
-class_content cs (Some o) class is = sym (ap (λ th. thing_content th (source_in (service_of cs o.name))) (thing_is o.thing class is))
+class_content cs x class is = grind (arith, nat_tests, thing_is)
 
 module _ (p : Image) (m : Parts) (n : ℕ) (r : Place) (shows : Represents (record { image = p; parts = m }) n r) (s : State) (st : StandsFor (record { image = p; parts = m }) s) where
   pub null_content : n ≡ null → Some contents.Null ≡ owned_content s.cells (held s.cells r)
-  null_content is = go (held s.cells r) refl (shows.each s st)
-    where
-      go : (o : Option Object) → held s.cells r ≡ o → n ≡ number o → Some contents.Null ≡ owned_content s.cells o
-      go None holds told = refl
-      go (Some o) holds told = absurd (not_null p m st.typing s st.typed st.agrees r o holds (sym told ∙ is))
+  null_content is = grind (arith, nat_tests, not_null p m st.typing s st.typed st.agrees r)
 
   pub own_content : (class : ℕ) → Some class ≡ class_at m.cells n → Some (contents.Own class) ≡ owned_content s.cells (held s.cells r)
   own_content class is = class_content s.cells (held s.cells r) class (sym (class_held p m s st r n (shows.each s st)) ∙ sym is)
 
   pub message_content : (source : Source) → None ≡ class_at m.cells n → Some source ≡ source_at m n → Some (contents.Message source) ≡ owned_content s.cells (held s.cells r)
-  message_content source none told =
-      let x = message_found p m n source r s st shows (sym none) (sym told) in
-      sym (ap (owned_content s.cells) x.1 ∙ ap (λ th. thing_content th (source_in (service_of s.cells x.0.name))) x.2 ∙ ap (thing_content Message) x.3)
+  message_content source none told = grind (arith, nat_tests, message_found p m n source r s st shows)
 
   pub no_content : n ≢ null → (Lives m.cells n → ⊥) → None ≡ source_at m n → None ≡ owned_content s.cells (held s.cells r)
   no_content some dead unsent = absurd (some (shows.each s st ∙ ap number ((none_sends p m n r dead (sym unsent) shows).each s st)))
@@ -77,8 +69,7 @@ module _ (p : Image) (m : Parts) (n : ℕ) (r : Place) (shows : Represents (reco
   unclassed_content some none = go (source_at m n) refl
     where
       dead : (c : Option Machine_cell) → None ≡ class_of_cell c → IsSome c → ⊥
-      dead None is lives = absurd (false≢true lives)
-      dead (Some c) is lives = none-some c.class is
+      dead x is lives = grind (arith, nat_tests)
 
       go : (told : Option Source) → source_at m n ≡ told → option_map (λ source. contents.Message source) told ≡ owned_content s.cells (held s.cells r)
       go None is = no_content some (dead (cell_at m.cells n) none) (sym is)
@@ -105,7 +96,8 @@ module _ (p : Image) (m : Parts) (stands : Stands (record { image = p; parts = m
 
 -- ---- what a register has, by its kind
 
-module _ (p : Image) (m : Parts) (kind : Kind) (n depth i : ℕ) (shows : RegisterShows (record { image = p; parts = m }) kind n depth i) (s : State) (st : StandsFor (record { image = p; parts = m }) s) (fr : Frame) (there : over s.tasks depth ≡ Some (Run fr)) where
+module _ (p : Image) (m : Parts) (kind : Kind) (n depth i : ℕ) (shows : RegisterShows (record { image = p; parts = m }) kind n depth i)
+    (s : State) (st : StandsFor (record { image = p; parts = m }) s) (fr : Frame) (there : over s.tasks depth ≡ Some (Run fr)) where
   abbrev Has : Option Content → Kind → Type 0
   Has content k = content ≡ content_by s.cells k (word fr i) (held s.cells (Register depth i))
 
@@ -121,63 +113,65 @@ module _ (p : Image) (m : Parts) (kind : Kind) (n depth i : ℕ) (shows : Regist
       subst (λ k. Has (Some (contents.Word (cast_signed w32 n))) k) (sym is) (sym (ap (λ w. option_map (λ v. contents.Word v) w) told))
 
   pub null_has : kind ≡ Null → Has (Some contents.Null) kind
-  null_has is =
-      let told = (shows_so Null is).each s st in
-      subst (λ k. Has (Some contents.Null) k) (sym is) (sym (ap (owned_content s.cells) told))
+  null_has is = grind (arith, nat_tests, shows_so Null is)
 
-  own_has : (t : Thing) (a : Age) (content : Option Content) → kind ≡ Own t a → (Represents (record { image = p; parts = m }) n (Register depth i) → content ≡ owned_content s.cells (held s.cells (Register depth i))) → Has content kind
+  own_has : (t : Thing) (a : Age) (content : Option Content) → kind ≡ Own t a →
+      (Represents (record { image = p; parts = m }) n (Register depth i) → content ≡ owned_content s.cells (held s.cells (Register depth i))) → Has content kind
   own_has t a content is told = subst (λ k. Has content k) (sym is) (told (shows_so (Own t a) is))
 
-  maybe_has : (t : Thing) (a : Age) (content : Option Content) → kind ≡ Maybe t a → (Represents (record { image = p; parts = m }) n (Register depth i) → content ≡ owned_content s.cells (held s.cells (Register depth i))) → Has content kind
+  maybe_has : (t : Thing) (a : Age) (content : Option Content) → kind ≡ Maybe t a →
+      (Represents (record { image = p; parts = m }) n (Register depth i) → content ≡ owned_content s.cells (held s.cells (Register depth i))) → Has content kind
   maybe_has t a content is told = subst (λ k. Has content k) (sym is) (told (shows_so (Maybe t a) is))
 
-  pub owned_has : (content : Option Content) → ((t : Thing) × (a : Age) × (kind ≡ Own t a)) ⊎ ((t : Thing) × (a : Age) × (kind ≡ Maybe t a)) → (Represents (record { image = p; parts = m }) n (Register depth i) → content ≡ owned_content s.cells (held s.cells (Register depth i)))
-      → Has content kind
-  owned_has content (inl x) told = own_has x.0 x.1 content x.2 told
-  owned_has content (inr x) told = maybe_has x.0 x.1 content x.2 told
+  pub owned_has : (content : Option Content) → ((t : Thing) × (a : Age) × (kind ≡ Own t a)) ⊎ ((t : Thing) × (a : Age) × (kind ≡ Maybe t a)) →
+      (Represents (record { image = p; parts = m }) n (Register depth i) → content ≡ owned_content s.cells (held s.cells (Register depth i))) → Has content kind
+  owned_has content x told = grind (arith, nat_tests, own_has, maybe_has)
 
 -- ---- lines of a frame that stands there
 
-pub content_told : (p : Image) (m : Parts) (sh : Shape) (f : Machine_frame) (depth i : ℕ) → ShowsFrame (record { image = p; parts = m }) sh f depth → (s : State) → StandsFor (record { image = p; parts = m }) s → (kind : Kind) (n : ℕ)
-    → kind ≡ register sh i → n ≡ slice_index_or f.registers i null → (content : Option Content)
-    → ((fr : Frame) → over s.tasks depth ≡ Some (Run fr) → RegisterShows (record { image = p; parts = m }) kind n depth i → content ≡ content_by s.cells kind (word fr i) (held s.cells (Register depth i)))
+pub content_told : (p : Image) (m : Parts) (sh : Shape) (f : Machine_frame) (depth i : ℕ) →
+    ShowsFrame (record { image = p; parts = m }) sh f depth → (s : State) → StandsFor (record { image = p; parts = m }) s → (kind : Kind) (n : ℕ) →
+    kind ≡ register sh i → n ≡ slice_index_or f.registers i null → (content : Option Content) → ((fr : Frame) → over s.tasks depth ≡ Some (Run fr) →
+    RegisterShows (record { image = p; parts = m }) kind n depth i → content ≡ content_by s.cells kind (word fr i) (held s.cells (Register depth i)))
     → option_map (λ x. A_register i x) content ≡ register_in (λ k. register sh k) s.cells depth (over s.tasks depth) i
 content_told p m sh f depth i shown s st kind n is number_is content told =
     let fr = shown.there s st in
-    let shows = subst (λ k. RegisterShows (record { image = p; parts = m }) k n depth i) (sym is) (subst (λ x. RegisterShows (record { image = p; parts = m }) (register sh i) x depth i) (sym number_is) (shown.registers i)) in
+    let shows = subst (λ k. RegisterShows (record { image = p; parts = m }) k n depth i)
+    (sym is) (subst (λ x. RegisterShows (record { image = p; parts = m }) (register sh i) x depth i) (sym number_is) (shown.registers i)) in
     ap (λ x. option_map (λ y. A_register i y) x) (told fr.0 fr.1 shows ∙ ap (λ k. content_by s.cells k (word fr.0 i) (held s.cells (Register depth i))) is)
     ∙ sym (ap (λ o. register_in (λ k. register sh k) s.cells depth o i) fr.1)
 
-pub loop_told : (m : Machine) (sh : Shape) (f : Machine_frame) (depth i : ℕ) → ShowsFrame m sh f depth → (s : State) → StandsFor m s → (answer : Option Answer) → answer ≡ loop_answer i (slice_index_or f.counters i 0) → listed answer ≡ listed (loop_in (over s.tasks depth) i)
-loop_told m sh f depth i shown s st answer is =
-    let fr = shown.there s st in
-    ap listed (is ∙ ap (loop_answer i) (fr.2.counters i) ∙ sym (ap (λ o. loop_in o i) fr.1))
+pub loop_told : (m : Machine) (sh : Shape) (f : Machine_frame) (depth i : ℕ) → ShowsFrame m sh f depth → (s : State) →
+    StandsFor m s → (answer : Option Answer) → answer ≡ loop_answer i (slice_index_or f.counters i 0) → listed answer ≡ listed (loop_in (over s.tasks depth) i)
+loop_told m sh f depth i shown s st answer is = grind (arith, nat_tests, shown.there s st)
 
-pub place_told : (m : Machine) (sh : Shape) (f : Machine_frame) (depth : ℕ) → ShowsFrame m sh f depth → (s : State) → StandsFor m s → listed (Some (A_frame (record { method = f.method; place = f.place }))) ≡ listed (place_in (over s.tasks depth))
-place_told m sh f depth shown s st =
-    let fr = shown.there s st in
-    ap (λ k. listed (Some (A_frame (record { method = k; place = f.place })))) fr.2.method ∙ ap (λ k. listed (Some (A_frame (record { method = fr.0.method; place = k })))) fr.2.place ∙ sym (ap (λ o. listed (place_in o)) fr.1)
+pub place_told : (m : Machine) (sh : Shape) (f : Machine_frame) (depth : ℕ) → ShowsFrame m sh f depth →
+    (s : State) → StandsFor m s → listed (Some (A_frame (record { method = f.method; place = f.place }))) ≡ listed (place_in (over s.tasks depth))
+place_told m sh f depth shown s st = search (arith, nat_tests, shown.there s st)
 
 trap_alike : (o : Option Machine_task) (u : Option Task) → SameOver o u → trap_held o ≡ trap_by u
 trap_alike o u same = grind arith
 
-pub trap_told : (p : Image) (m : Parts) (s : State) → StandsFor (record { image = p; parts = m }) s → (k : ℕ) (o : Option Machine_task) → o ≡ over m.stack.tasks k → trap_held o ≡ trap_by (over s.tasks k)
+pub trap_told : (p : Image) (m : Parts) (s : State) →
+    StandsFor (record { image = p; parts = m }) s → (k : ℕ) (o : Option Machine_task) → o ≡ over m.stack.tasks k → trap_held o ≡ trap_by (over s.tasks k)
 trap_told p m s st k o is = ap trap_held is ∙ trap_alike (over m.stack.tasks k) (over s.tasks k) (same_over p m s st k)
 
 pub trap_below : (tasks : List Task) (n : ℕ) → n ≢ 0 → trap_by (over tasks (n - 1)) ≡ trap_under tasks n
-trap_below tasks zero some = absurd (some refl)
-trap_below tasks (suc n) some = let less : suc n - 1 ≡ n = omega arith in ap (λ k. trap_by (over tasks k)) less
+trap_below tasks x some = grind arith
 
-pub trap_there : (m : Machine) (sh : Shape) (f : Machine_frame) (depth : ℕ) → ShowsFrame m sh f depth → (s : State) → StandsFor m s → (answer : Option Answer) → answer ≡ trap_under s.tasks depth → listed answer ≡ listed (trap_in s.tasks depth (over s.tasks depth))
+pub trap_there : (m : Machine) (sh : Shape) (f : Machine_frame) (depth : ℕ) → ShowsFrame m sh f depth → (s : State) →
+    StandsFor m s → (answer : Option Answer) → answer ≡ trap_under s.tasks depth → listed answer ≡ listed (trap_in s.tasks depth (over s.tasks depth))
 trap_there m sh f depth shown s st answer is = let fr = shown.there s st in ap listed (is ∙ sym (ap (λ o. trap_in s.tasks depth o) fr.1))
 
 -- ---- what is out of them
 
-pub told_here : (ns : Names) (m : Machine) (xs : List Answer) (f : State → List Answer) (before now : Option (List ℕ)) → ((s : State) → StandsFor m s → xs ≡ f s) → now ≡ after before (answers_by ns xs) → Tells m (λ s. answers_by ns (f s)) before now
+pub told_here : (ns : Names) (m : Machine) (xs : List Answer) (f : State → List Answer) (before now : Option (List ℕ)) →
+    ((s : State) → StandsFor m s → xs ≡ f s) → now ≡ after before (answers_by ns xs) → Tells m (λ s. answers_by ns (f s)) before now
 told_here ns m xs f before now same put = record { out = λ s st. put ∙ ap (λ ys. after before (answers_by ns ys)) (same s st) }
 
-pub part_here : (ns : Names) (m : Machine) (xs : List Answer) (f : State → List Answer) (fault : DebugFault) (failed : Bool) (before now : Option (List ℕ)) → ((s : State) → StandsFor m s → xs ≡ f s) → IsCut (answers_by ns xs) fault failed before now → TellsPart m (λ s. answers_by ns (f s)) fault failed before now
-part_here ns m xs f fault failed before now same cut = record { told = cut.told; fails = cut.fails; out = λ s st. (cut.sent, cut.out ∙ ap (λ ys. after before (take cut.sent (answers_by ns ys))) (same s st)) }
+pub part_here : (ns : Names) (m : Machine) (xs : List Answer) (f : State → List Answer) (fault : DebugFault) (failed : Bool) (before now : Option (List ℕ)) →
+    ((s : State) → StandsFor m s → xs ≡ f s) → IsCut (answers_by ns xs) fault failed before now → TellsPart m (λ s. answers_by ns (f s)) fault failed before now
+part_here ns m xs f fault failed before now same cut = search (arith, nat_tests)
 
 -- ---- a frame by the strongest typing
 
@@ -186,31 +180,25 @@ gathered_none f zero none = refl
 gathered_none f (suc n) none = ap (λ u. u ++ f n) (gathered_none f n none) ∙ none n
 
 none_lines : (kinds : ℕ → Kind) (s : State) (depth : ℕ) → frame_lines kinds s depth None ≡ []
-none_lines kinds s depth = ap (λ u. u ++ (loops_in None 4 ++ [])) (gathered_none (λ i. listed (register_in kinds s.cells depth None i)) 16 (λ k. refl)) ∙ ap (λ u. u ++ []) (gathered_none (λ i. listed (loop_in None i)) 4 (λ k. refl))
+none_lines kinds s depth = grind (arith, nat_tests, gathered_none)
 
 -- what is no frame has no lines
 pub no_lines : (kinds : ℕ → Kind) (s : State) (depth : ℕ) (o : Option Task) → is_frame o ≡ false → frame_lines kinds s depth o ≡ []
-no_lines kinds s depth None none = none_lines kinds s depth
-no_lines kinds s depth (Some (Run fr)) none = absurd (false≢true (sym none))
-no_lines kinds s depth (Some Trapped) none = none_lines kinds s depth
-no_lines kinds s depth (Some Destroy) none = none_lines kinds s depth
-no_lines kinds s depth (Some Closing) none = none_lines kinds s depth
-no_lines kinds s depth (Some (Unwind code)) none = none_lines kinds s depth
-no_lines kinds s depth (Some (Dispatched d)) none = none_lines kinds s depth
+no_lines kinds s depth x none = grind (arith, nat_tests, none_lines kinds s depth)
 
-same_register : (kinds others : ℕ → Kind) → ((i : ℕ) → kinds i ≡ others i) → (cs : List Cell) (depth : ℕ) (o : Option Task) (i : ℕ) → listed (register_in kinds cs depth o i) ≡ listed (register_in others cs depth o i)
-same_register kinds others same cs depth (Some (Run fr)) i = ap (λ k. listed (option_map (λ x. A_register i x) (content_by cs k (word fr i) (held cs (Register depth i))))) (same i)
-same_register kinds others same cs depth _ i = refl
+same_register : (kinds others : ℕ → Kind) → ((i : ℕ) → kinds i ≡ others i) →
+    (cs : List Cell) (depth : ℕ) (o : Option Task) (i : ℕ) → listed (register_in kinds cs depth o i) ≡ listed (register_in others cs depth o i)
+same_register kinds others same cs depth x i = grind arith
 
 same_lines : (kinds others : ℕ → Kind) → ((i : ℕ) → kinds i ≡ others i) → (s : State) (depth : ℕ) (o : Option Task) → frame_lines kinds s depth o ≡ frame_lines others s depth o
-same_lines kinds others same s depth o =
-    ap (λ u. listed (place_in o) ++ (u ++ (loops_in o 4 ++ listed (trap_in s.tasks depth o))))
-    (gathered_same (λ i. listed (register_in kinds s.cells depth o i)) (λ i. listed (register_in others s.cells depth o i)) 16 (λ k less. same_register kinds others same s.cells depth o k))
+same_lines kinds others same s depth o = grind arith
 
-pub typed_lines : (ns : Names) (p : Image) (m : Parts) (f : Machine_frame) (sh : Shape) (depth : ℕ) → ShowsFrame (record { image = p; parts = m }) sh f depth → IsSome (method_at p f.method) → IsShapeAt p f.method f.place (Some sh) → (t : Typing) → IsStrongest p t → (s : State) → StandsFor (record { image = p; parts = m }) s →
-    answers_by ns (frame_lines (λ i. register sh i) s depth (over s.tasks depth)) ≡ answers_by ns (frame_answers t s depth)
+pub typed_lines : (ns : Names) (p : Image) (m : Parts) (f : Machine_frame) (sh : Shape) (depth : ℕ) → ShowsFrame (record { image = p; parts = m }) sh f depth →
+    IsSome (method_at p f.method) → IsShapeAt p f.method f.place (Some sh) → (t : Typing) → IsStrongest p t → (s : State) → StandsFor (record
+    { image = p; parts = m }) s → answers_by ns (frame_lines (λ i. register sh i) s depth (over s.tasks depth)) ≡ answers_by ns (frame_answers t s depth)
 typed_lines ns p m f sh depth shown method shape t strongest s st =
     let fr = shown.there s st in
     let kind = kind_there p t strongest f.method f.place method sh shape in
     let there = sym kind.1 ∙ ap (λ n. shape_at t n f.place) fr.2.method ∙ ap (λ n. shape_at t fr.0.method n) fr.2.place in
-    ap (answers_by ns) (same_lines (λ i. register sh i) (λ i. kinds_of t (over s.tasks depth) i) (λ i. sym (kind.2 i) ∙ ap (λ x. kind_in x i) there ∙ sym (ap (λ o. kinds_of t o i) fr.1)) s depth (over s.tasks depth))
+    ap (answers_by ns) (same_lines (λ i. register sh i) (λ i. kinds_of t (over s.tasks depth) i)
+    (λ i. sym (kind.2 i) ∙ ap (λ x. kind_in x i) there ∙ sym (ap (λ o. kinds_of t o i) fr.1)) s depth (over s.tasks depth))

@@ -1,12 +1,13 @@
 -- How many numbers have an object of a class is how many objects of the class each state has: their names are distinct, and below the limit.
-use Rattle.std.proofs.Common.{◌≡◌, ◌∙◌, ◌<◌, ℕ, zero, suc, ◌+◌, Bool, true, false, cond, ◌==◌, List, [], ◌∷◌, Option, Some, None, take, refl, sym, ap, add-one, arith}
-use Rattle.std.proofs.lemmas.Bool.{eq-eqb, eqb-false, eqb-true, ne_eqb, false≢true}
+use Rattle.std.proofs.lemmas.Bool.Decides.{nat_tests}
+use Rattle.std.proofs.Common.{◌≡◌, ◌∙◌, ◌<◌, ℕ, zero, suc, ◌+◌, Bool, true, false, cond, ◌==◌, List, [], ◌∷◌, Option, Some, None, refl, sym, ap}
+use Rattle.std.proofs.Common.{add-one, arith}
+use Rattle.std.proofs.lemmas.Bool.{eq-eqb, eqb-true}
 use Rattle.std.proofs.lemmas.List.{append-nil}
 use Rattle.std.proofs.lemmas.Option.{none-some}
 use Rattle.aom_image.specs.Image.{Image}
-use Rattle.aom_cells.specs.Heap.{cell_at, class_at}
-use Rattle.aom_cells.specs.Heap.{class_of as class_of_cell, count as living}
-use Rattle.aom_cells.specs.declared.cell.Cell.{Cell as Machine_cell}
+use Rattle.aom_cells.specs.Heap.{class_at}
+use Rattle.aom_cells.specs.Heap.{count as living}
 use Rattle.aom_semantics.specs.Places.{Cell, Tidy, count_cells, named}
 use Rattle.aom_semantics.specs.State.{State}
 use Rattle.aom_machine_state.specs.declared.parts.Parts.{Parts}
@@ -26,7 +27,7 @@ use Rattle.aom_debug_views.proofs.Showing.{class_named}
 
 pub counted_same : (f g : ℕ → Bool) (n : ℕ) → ((k : ℕ) → k < n → f k ≡ g k) → counted f n ≡ counted g n
 counted_same f g zero same = refl
-counted_same f g (suc n) same = ap (λ k. k + cond (f n) 1 0) (counted_same f g n (λ k less. same k (omega arith))) ∙ ap (λ b. counted g n + cond b 1 0) (same n (omega arith))
+counted_same f g (suc n) same = grind (arith, nat_tests, counted_same f g n)
 
 -- one more
 pub counted_next : (f : ℕ → Bool) (n a b : ℕ) → a ≡ counted f n → b ≡ cond (f n) 1 0 → a + b ≡ counted f (n + 1)
@@ -39,22 +40,7 @@ none_counted (suc n) = ap (λ k. k + 0) (none_counted n)
 -- one number is told otherwise
 counted_one : (f : ℕ → Bool) (x n : ℕ) → f x ≡ false → x < n → counted (λ k. cond (x == k) true (f k)) n ≡ suc (counted f n)
 counted_one f x zero none less = absurd (omega arith)
-counted_one f x (suc n) none less = go (counted_one f x n none) (x == n) refl
-  where
-    g : ℕ → Bool
-    g k = cond (x == k) true (f k)
-
-    go : (x < n → counted g n ≡ suc (counted f n)) → (b : Bool) → (x == n) ≡ b → counted g n + cond (cond (x == n) true (f n)) 1 0 ≡ suc (counted f n + cond (f n) 1 0)
-    go below true is =
-        let same : counted g n ≡ counted f n = counted_same g f n (λ k under. ap (λ b. cond b true (f k)) (ne_eqb x k (λ e. let at = eqb-true x n is in omega (arith, e, at, under)))) in
-        let here : cond {A = ℕ} (cond (x == n) true (f n)) 1 0 ≡ 1 = ap (λ b. cond (cond b true (f n)) 1 0) is in
-        let gone : cond {A = ℕ} (f n) 1 0 ≡ 0 = ap (λ b. cond b 1 0) (ap f (sym (eqb-true x n is)) ∙ none) in
-        omega (arith, same, here, gone)
-    go below false is =
-        let other = eqb-false x n is in
-        let earlier : counted g n ≡ suc (counted f n) = below (omega (arith, other, less)) in
-        let here : cond {A = ℕ} (cond (x == n) true (f n)) 1 0 ≡ cond (f n) 1 0 = ap (λ b. cond (cond b true (f n)) 1 0) is in
-        omega (arith, earlier, here)
+counted_one f x (suc n) none less = grind (arith, counted_one f x n none, counted_same)
 
 module _ (class : ℕ) where
   -- the name of an object of the class
@@ -65,11 +51,7 @@ module _ (class : ℕ) where
   NamesBelow limit cs = (n k : ℕ) → class_of (named cs n) ≡ Some k → n < limit
 
   first_told : (c : Cell) (cs : List Cell) (n : ℕ) → has (c ∷ cs) n ≡ cond (c.object.name == n) (is_class class (class_in c.object.thing)) (has cs n)
-  first_told c cs n = go (c.object.name == n)
-    where
-      go : (b : Bool) → is_class class (class_of (cond b (Some c.object) (named cs n))) ≡ cond b (is_class class (class_in c.object.thing)) (has cs n)
-      go true = refl
-      go false = refl
+  first_told c cs n = grind (arith, nat_tests)
 
   others_below : (limit : ℕ) (c : Cell) (cs : List Cell) → named cs c.object.name ≡ None → NamesBelow limit (c ∷ cs) → NamesBelow limit cs
   others_below limit c cs none below n k is = go (c.object.name == n) refl
@@ -79,36 +61,33 @@ module _ (class : ℕ) where
       go false other = below n k (ap (λ b. class_of (cond b (Some c.object) (named cs n))) other ∙ is)
 
   class_some : (o : Option ℕ) → is_class class o ≡ true → o ≡ Some class
-  class_some None is = absurd (false≢true is)
-  class_some (Some k) is = ap (λ n. Some n) (eqb-true k class is)
+  class_some x is = grind (arith, nat_tests, eqb-true)
 
   -- as many as there are, where all names are below the limit
   counted_names : (limit : ℕ) (cs : List Cell) → Tidy cs → NamesBelow limit cs → counted (has cs) limit ≡ count_class class cs
   counted_names limit [] tidy below = none_counted limit
-  counted_names limit (c ∷ cs) tidy below = counted_same (has (c ∷ cs)) (λ n. cond (c.object.name == n) (is_class class (class_in c.object.thing)) (has cs n)) limit (λ k less. first_told c cs k) ∙ go (counted_names limit cs tidy.2 (others_below limit c cs tidy.1 below)) (is_class class (class_in c.object.thing)) refl
+  counted_names limit (c ∷ cs) tidy below =
+      counted_same (has (c ∷ cs)) (λ n. cond (c.object.name == n) (is_class class (class_in c.object.thing)) (has cs n)) limit (λ k less. first_told c cs k)
+      ∙ go (counted_names limit cs tidy.2 (others_below limit c cs tidy.1 below)) (is_class class (class_in c.object.thing)) refl
     where
       absent : has cs c.object.name ≡ false
       absent = ap (λ o. is_class class (class_of o)) tidy.1
 
       unseen : (k : ℕ) (b : Bool) → (c.object.name == k) ≡ b → cond b false (has cs k) ≡ has cs k
-      unseen k true same = sym (ap (has cs) (sym (eqb-true c.object.name k same)) ∙ absent)
-      unseen k false other = refl
+      unseen k x same = grind (arith, nat_tests, eqb-true, absent)
 
       here : class_of (named (c ∷ cs) c.object.name) ≡ class_in c.object.thing
       here = ap (λ b. class_of (cond b (Some c.object) (named cs c.object.name))) (eq-eqb c.object.name c.object.name refl)
 
-      go : counted (has cs) limit ≡ count_class class cs → (b : Bool) → is_class class (class_in c.object.thing) ≡ b → counted (λ n. cond (c.object.name == n) b (has cs n)) limit ≡ cond b (suc (count_class class cs)) (count_class class cs)
+      go : counted (has cs) limit ≡ count_class class cs → (b : Bool) → is_class class (class_in c.object.thing) ≡ b →
+          counted (λ n. cond (c.object.name == n) b (has cs n)) limit ≡ cond b (suc (count_class class cs)) (count_class class cs)
       go rest true is = counted_one (has cs) c.object.name limit absent (below c.object.name class (here ∙ class_some (class_in c.object.thing) is)) ∙ ap suc rest
       go rest false is = counted_same (λ n. cond (c.object.name == n) false (has cs n)) (has cs) limit (λ k less. unseen k (c.object.name == k) refl) ∙ rest
 
 -- so the machine's numbers are counted
 module _ (p : Image) (m : Parts) (s : State) (st : StandsFor (record { image = p; parts = m }) s) where
   names_below : (class : ℕ) → NamesBelow class m.cells.limit s.cells
-  names_below class n k is = go (cell_at m.cells n) refl (class_named p m s st n ∙ is)
-    where
-      go : (c : Option Machine_cell) → cell_at m.cells n ≡ c → class_of_cell c ≡ Some k → n < m.cells.limit
-      go None there told = absurd (none-some k told)
-      go (Some c) there told = st.agrees.cells.below n c there
+  names_below class n k is = grind (arith, nat_tests, class_named p m s st n)
 
   pub class_counted : (class count : ℕ) → count ≡ counted (λ n. is_class class (class_at m.cells n)) m.cells.limit → count ≡ count_class class s.cells
   class_counted class count is =
@@ -121,10 +100,11 @@ module _ (ns : Names) (m : Parts) (n : ℕ) (is : n ≡ living m.cells) (p : Ima
   all_cells s = Cells (count_cells s.cells) ∷ []
 
   same_count : (s : State) → StandsFor (record { image = p; parts = m }) s → ended (answer_by ns (Cells n)) ≡ answers_by ns (all_cells s)
-  same_count s st = ap (λ k. ended (answer_by ns (Cells k))) (is ∙ st.agrees.cells.count) ∙ sym (append-nil (ended (answer_by ns (Cells (count_cells s.cells)))))
+  same_count s st = grind (arith, nat_tests, append-nil)
 
   pub count_told : (before now : Option (List ℕ)) → now ≡ after before (ended (answer_by ns (Cells n))) → Tells (record { image = p; parts = m }) (λ s. answers_by ns (all_cells s)) before now
   count_told before now out = record { out = λ s st. out ∙ ap (λ t. after before t) (same_count s st) }
 
-  pub count_cut : (fault : DebugFault) (failed : Bool) (before now : Option (List ℕ)) → IsCut (ended (answer_by ns (Cells n))) fault failed before now → TellsPart (record { image = p; parts = m }) (λ s. answers_by ns (all_cells s)) fault failed before now
-  count_cut fault failed before now cut = record { told = cut.told; fails = cut.fails; out = λ s st. (cut.sent, cut.out ∙ ap (λ t. after before (take cut.sent t)) (same_count s st)) }
+  pub count_cut : (fault : DebugFault) (failed : Bool) (before now : Option (List ℕ)) → IsCut (ended (answer_by ns (Cells n))) fault failed before now →
+      TellsPart (record { image = p; parts = m }) (λ s. answers_by ns (all_cells s)) fault failed before now
+  count_cut fault failed before now cut = record { told = cut.told; fails = cut.fails; out = grind (arith, same_count) }

@@ -1,16 +1,17 @@
 -- The machine's timers are those that run in each state that it stands for, in the order of time.
-use Rattle.std.proofs.Common.{◌≡◌, ◌∙◌, ℕ, Bool, true, false, List, [], ◌∷◌, Option, Some, None, IsSome, get_or, length, slice_get, take, refl, sym, ap, subst, suc, arith}
+use Rattle.std.proofs.lemmas.Bool.Decides.{nat_tests}
+use Rattle.std.proofs.Common.{◌≡◌, ◌∙◌, ℕ, Bool, true, false, List, [], ◌∷◌, Option, Some, None, IsSome, get_or, length, slice_get, take, refl, sym, ap}
+use Rattle.std.proofs.Common.{suc, arith}
 use Rattle.std.specs.List.{Contains}
-use Rattle.std.specs.Prelude.{All, is_some, map, ◌==◌, ◌≢◌, AllPairs, if◌then◌else◌}
+use Rattle.std.specs.Prelude.{All, is_some, map, ◌==◌, if◌then◌else◌}
 use Rattle.std.proofs.lemmas.Bool.{eqb-true, false≢true}
 use Rattle.std.proofs.lemmas.List.Elements.{All-map}
 use Rattle.aom_cells.specs.Heap.{class_at}
 use Rattle.aom_image.specs.Image.{Image}
-use Rattle.aom_scheduler.proofs.Timing.{due-each}
 use Rattle.aom_scheduler.specs.Pending.{due_of}
 use Rattle.aom_scheduler.specs.declared.timer.Timer.{Timer}
-use Rattle.aom_active.specs.Agrees.{ComesSooner, IsSooner, due_in, timer_in}
-use Rattle.aom_semantics.specs.Places.{named, requested}
+use Rattle.aom_active.specs.Agrees.{IsSooner, due_in}
+use Rattle.aom_semantics.specs.Places.{requested}
 use Rattle.aom_semantics.specs.State.{State}
 use Rattle.aom_machine_state.specs.declared.parts.Parts.{Parts}
 use Rattle.aom_machine_state.specs.Stands.{Machine, StandsFor}
@@ -19,7 +20,6 @@ use Rattle.aom_debug_words.specs.declared.fault.DebugFault.{DebugFault}
 use Rattle.aom_debug_words.specs.declared.answer.Answer.{Answer}
 use Rattle.aom_debug_words.specs.declared.answer.Answer.TheVariants.{Timer as Timer_answer}
 use Rattle.aom_debug_names.specs.Names.{Names}
-use Rattle.aom_debug_views.specs.Sights.{class_of}
 use Rattle.aom_debug_views.specs.Telling.{Tells, TellsPart, answers_by, gathered, listed}
 use Rattle.aom_debug_views.specs.Timers.{InOrderOfTime, TellsTimers, TellsTimersPart, timer_answer, timer_answers, timer_at, timer_of}
 use Rattle.aom_debug_views.proofs.Enlisted.{pairs_by}
@@ -30,14 +30,13 @@ use Rattle.aom_debug_views.proofs.Telling.{gathered_items}
 
 module _ (p : Image) (m : Parts) (s : State) (st : StandsFor (record { image = p; parts = m }) s) (n : ℕ) where
   no_timer : (due : Option ℕ) → None ≡ timer_of None due
-  no_timer None = refl
-  no_timer (Some due) = refl
+  no_timer x = grind arith
 
   pub classless_told : None ≡ class_at m.cells n → None ≡ timer_answer s.cells n
-  classless_told none = no_timer (due_in (requested s.cells n)) ∙ ap (λ c. timer_of c (due_in (requested s.cells n))) (none ∙ class_named p m s st n)
+  classless_told none = grind (arith, nat_tests, no_timer, class_named p m s st n)
 
   pub timer_told : (class due : ℕ) → Some class ≡ class_at m.cells n → due_in (requested s.cells n) ≡ Some due → Some (Timer_answer class due) ≡ timer_answer s.cells n
-  timer_told class due told is = ap (timer_of (Some class)) (sym is) ∙ ap (λ c. timer_of c (due_in (requested s.cells n))) (told ∙ class_named p m s st n)
+  timer_told class due told is = grind (arith, nat_tests, class_named p m s st n)
 
 -- ---- all timers
 
@@ -58,7 +57,8 @@ module _ (m : Machine) (each : All (λ t. due_of t.id m.parts.active.pending.tim
   -- they are the timers that run, in the order of time
   pub in_order : (s : State) → StandsFor m s → InOrderOfTime s.cells (names_of m.parts)
   in_order s st = record {
-    runs = All-map (λ n. IsSome (due_in (requested s.cells n))) (λ t. t.id) m.parts.active.pending.timers (λ k d within. ap is_some (sym (st.agrees.requests.stands.dues (get_or m.parts.active.pending.timers k d).id) ∙ each k d within));
+    runs = All-map (λ n. IsSome (due_in (requested s.cells n))) (λ t. t.id) m.parts.active.pending.timers
+        (λ k d within. ap is_some (sym (st.agrees.requests.stands.dues (get_or m.parts.active.pending.timers k d).id) ∙ each k d within));
     all = λ n some. found n m.parts.active.pending.timers (ap is_some (st.agrees.requests.stands.dues n) ∙ some);
     order = pairs_by (λ n k. IsSooner (requested s.cells n) (requested s.cells k)) (λ t. t.id) m.parts.active.pending.timers st.agrees.requests.stands.sooner;
   }
@@ -73,7 +73,8 @@ module _ (m : Machine) (each : All (λ t. due_of t.id m.parts.active.pending.tim
   pub timers_told : (ns : Names) (before now : Option (List ℕ)) → Tells m (λ s. answers_by ns (told_to s (length (names_of m.parts)))) before now → TellsTimers ns m before now
   timers_told ns before now all = record { order = in_order; out = λ s st. all.out s st ∙ ap (λ xs. after before (answers_by ns xs)) (all_told s) }
 
-  pub timers_cut : (ns : Names) (fault : DebugFault) (failed : Bool) (before now : Option (List ℕ)) → TellsPart m (λ s. answers_by ns (told_to s (length (names_of m.parts)))) fault failed before now → TellsTimersPart ns m fault failed before now
+  pub timers_cut : (ns : Names) (fault : DebugFault) (failed : Bool) (before now : Option (List ℕ)) →
+      TellsPart m (λ s. answers_by ns (told_to s (length (names_of m.parts)))) fault failed before now → TellsTimersPart ns m fault failed before now
   timers_cut ns fault failed before now cut = record {
     told = cut.told;
     fails = cut.fails;

@@ -1,7 +1,9 @@
 -- Each object and message has one line of the map of owners, but for those in a queue: the way from its owner up to an outer place goes through
 -- just the places from which it hangs, it ends since what stands on it is heavier and heavier, and its end is one of those that the map begins at.
-use Rattle.std.proofs.Common.{◌≡◌, ◌∙◌, ◌<◌, ◌≤◌, ℕ, ℤ, zero, suc, ◌+◌, Bool, true, false, cond, ◌==◌, ◌&&◌, List, [], ◌∷◌, ◌++◌, length, Option, Some, None, inl, inr, refl, sym, ap, subst, arith}
-use Rattle.std.specs.Prelude.{◌||◌, min, not}
+use Rattle.std.proofs.lemmas.Bool.Decides.{nat_tests}
+use Rattle.std.proofs.Common.{◌≡◌, ◌∙◌, ◌<◌, ◌≤◌, ℕ, zero, suc, ◌+◌, Bool, true, false, cond, ◌==◌, ◌&&◌, List, [], ◌∷◌, ◌++◌, length, Option, Some, None}
+use Rattle.std.proofs.Common.{refl, sym, ap, subst, arith}
+use Rattle.std.specs.Prelude.{min, not}
 use Rattle.std.proofs.lemmas.Bool.{eq-eqb, eqb-true, false≢true, ne_eqb}
 use Rattle.std.proofs.lemmas.Option.{none-some, same_Some}
 use Rattle.aom_image.specs.Image.{Image}
@@ -10,7 +12,8 @@ use Rattle.aom_image.specs.declared.method.Thing.TheVariants.{Object as An_objec
 use Rattle.aom_cells.specs.Heap.{cell_at}
 use Rattle.aom_cells.specs.declared.cell.Cell.{Cell as Machine_cell}
 use Rattle.aom_semantics.specs.Owned.{over}
-use Rattle.aom_semantics.specs.Places.{Cell, Elsewhere, Entry, Field, Going, In_service, Object, Place, Queued, Register, Root, Session, Tidy, held, named, same_place, service_of}
+use Rattle.aom_semantics.specs.Places.{Cell, Elsewhere, Entry, Field, Going, In_service, Object, Place, Queued, Register, Root, Session, Tidy, held, named}
+use Rattle.aom_semantics.specs.Places.{same_place, service_of}
 use Rattle.aom_semantics.specs.State.{State}
 use Rattle.aom_semantics.specs.Servers.{is_among, is_queue}
 use Rattle.aom_safety.specs.WellTyped.{Now}
@@ -22,15 +25,14 @@ use Rattle.aom_machine_state.specs.Places.{value}
 use Rattle.aom_machine_state.specs.Serving.{owner_of as owner_by, waits_in}
 use Rattle.aom_machine_state.specs.Stands.{Machine, StandsFor}
 use Rattle.aom_debug_views.specs.Laws.{SessionsApart, ToldOnce, has_line, lines_of}
-use Rattle.aom_debug_views.specs.Owners.{At_root, At_service, By_field, By_session, In_entry, In_going, In_register, Outer, Owned, Way, beneath, entries_map, further, generations, goings_map, grown, is_entry, is_frame, is_going, owners, registers_map, tree}
+use Rattle.aom_debug_views.specs.Owners.{At_root, At_service, By_field, By_session, In_going, In_register, Outer, Owned, Way, beneath, entries_map}
+use Rattle.aom_debug_views.specs.Owners.{further, generations, goings_map, grown, is_frame, is_going, owners, registers_map, tree}
 use Rattle.aom_debug_views.specs.Sights.{counted}
 use Rattle.aom_debug_views.specs.Telling.{gathered}
 use Rattle.aom_cells.specs.Heap.{field_of, null}
 use Rattle.aom_cleanup.specs.declared.item.Item.{Item as Machine_item}
 use Rattle.aom_frames.specs.declared.task.Task.{Task as Machine_task}
 use Rattle.aom_frames.specs.declared.task.Task.TheVariants.{Run as Runs_frame}
-use Rattle.aom_machine_state.specs.Agrees.{word_at}
-use Rattle.aom_machine_state.specs.Agrees.{Represents as Machine_shows}
 use Rattle.aom_machine_instructions.proofs.Running.{not_null}
 use Rattle.std.proofs.Math.Nat.{lt_of_not-le}
 use Rattle.std.proofs.lemmas.List.{get_or_past}
@@ -45,11 +47,7 @@ use Rattle.aom_roles.specs.Things.{is_object}
 
 lines_append : (n : ℕ) (xs ys : List Owned) → lines_of n (xs ++ ys) ≡ lines_of n xs + lines_of n ys
 lines_append n [] ys = omega arith
-lines_append n (x ∷ xs) ys = go (x.object.name == n) (lines_append n xs ys)
-  where
-    go : (b : Bool) → lines_of n (xs ++ ys) ≡ lines_of n xs + lines_of n ys → cond b (suc (lines_of n (xs ++ ys))) (lines_of n (xs ++ ys)) ≡ cond b (suc (lines_of n xs)) (lines_of n xs) + lines_of n ys
-    go true rest = omega (arith, rest)
-    go false rest = rest
+lines_append n (x ∷ xs) ys = grind (arith, nat_tests, lines_append n xs ys)
 
 lines_gathered : (n : ℕ) (f : ℕ → List Owned) (m : ℕ) → lines_of n (gathered f m) ≡ sum_to (λ k. lines_of n (f k)) m
 lines_gathered n f zero = refl
@@ -65,21 +63,17 @@ beneath_count (An_object_of c) k = k
 beneath_count Message k = 0
 
 lines_beneath : (n : ℕ) (t : Thing) (xs : List Owned) → lines_of n (beneath t xs) ≡ beneath_count t (lines_of n xs)
-lines_beneath n (An_object_of c) xs = refl
-lines_beneath n Message xs = refl
+lines_beneath n x xs = grind arith
 
 beneath_zero : (t : Thing) (k : ℕ) → k ≡ 0 → beneath_count t k ≡ 0
-beneath_zero (An_object_of c) k none = none
-beneath_zero Message k none = refl
+beneath_zero x k none = grind arith
 
 -- one more where what owns it is an object
 beneath_more : (t : Thing) (b k : ℕ) → (t ≡ Message → b ≡ 0) → b + beneath_count t k ≡ beneath_count t (b + k)
-beneath_more (An_object_of c) b k none = refl
-beneath_more Message b k none = let zero_there = none refl in omega (arith, zero_there)
+beneath_more x b k none = grind arith
 
 bit_more : (b : Bool) (n : ℕ) → cond b (suc n) n ≡ bit b + n
-bit_more true n = omega arith
-bit_more false n = omega arith
+bit_more x n = grind arith
 
 -- ---- places
 
@@ -88,28 +82,17 @@ place_bit : (cs : List Cell) → Tidy cs → (q r : Place) (x o : Object) → he
 place_bit cs tidy q r x o there here = go (same_place r q) refl
   where
     go : (b : Bool) → same_place r q ≡ b → bit b ≡ bit (o.name == x.name)
-    go true is =
-        let one = same_Some o x (sym here ∙ ap (held cs) (same_place-true r q is) ∙ there) in
-        ap bit (sym (eq-eqb o.name x.name (ap (λ (y : Object). y.name) one)))
-    go false is =
-        ap bit (sym (ne_eqb o.name x.name (λ e. absurd (false≢true (sym is ∙ ap (same_place r) (sym (one_place cs r q o x tidy here there e)) ∙ same_place_refl r)))))
+    go true is = grind (arith, nat_tests, same_Some o x, same_place-true r q is, bit, eq-eqb o.name x.name)
+    go false is = grind (arith, nat_tests, one_place cs r q o x tidy here there)
 
 -- a place that holds nothing is none that holds
 none_bit : (cs : List Cell) (q r : Place) (x : Object) → held cs q ≡ Some x → held cs r ≡ None → bit (same_place r q) ≡ 0
-none_bit cs q r x there none = go (same_place r q) refl
-  where
-    go : (b : Bool) → same_place r q ≡ b → bit b ≡ 0
-    go true is = absurd (none-some x (sym none ∙ ap (held cs) (same_place-true r q is) ∙ there))
-    go false is = refl
+none_bit cs q r x there none = grind (arith, nat_tests, bit, same_place-true r q)
 
 module _ {A : Type 0} where
   within_over : (xs : List A) (k : ℕ) (x : A) → over xs k ≡ Some x → k < length xs
   within_over [] k x is = absurd (none-some x is)
-  within_over (y ∷ ys) k x is = go (within_over ys k x) (length ys == k) refl is
-    where
-      go : (over ys k ≡ Some x → k < length ys) → (b : Bool) → (length ys == k) ≡ b → cond b (Some y) (over ys k) ≡ Some x → k < suc (length ys)
-      go below true at is = let same = eqb-true (length ys) k at in omega (arith, same)
-      go below false at is = let less = below is in omega (arith, less)
+  within_over (y ∷ ys) k x is = grind (arith, nat_tests, within_over ys k x, eqb-true)
 
 -- what lives is held by the place that owns its cell
 owner_there : (cs : List Cell) → Tidy cs → (n : ℕ) (x : Object) → named cs n ≡ Some x → (q : Place) × (owner_by cs n ≡ Some q) × (held cs q ≡ Some x)
@@ -117,21 +100,17 @@ owner_there [] tidy n x is = absurd (none-some x is)
 owner_there (c ∷ cs) tidy n x is = go (c.object.name == n) (owner_there cs tidy.2 n x) is
   where
     later : (q : Place) → held cs q ≡ Some x → (b : Bool) → same_place c.owner q ≡ b → cond b (Some c.object) (held cs q) ≡ Some x
-    later q holds true same = absurd (none-some x (sym tidy.0 ∙ ap (held cs) (same_place-true c.owner q same) ∙ holds))
-    later q holds false other = holds
+    later q holds y same = grind (arith, nat_tests, same_place-true)
 
-    go : (b : Bool) → (named cs n ≡ Some x → (q : Place) × (owner_by cs n ≡ Some q) × (held cs q ≡ Some x)) → cond b (Some c.object) (named cs n) ≡ Some x → (q : Place) × (cond b (Some c.owner) (owner_by cs n) ≡ Some q) × (held (c ∷ cs) q ≡ Some x)
+    go : (b : Bool) → (named cs n ≡ Some x → (q : Place) × (owner_by cs n ≡ Some q) × (held cs q ≡ Some x)) →
+        cond b (Some c.object) (named cs n) ≡ Some x → (q : Place) × (cond b (Some c.owner) (owner_by cs n) ≡ Some q) × (held (c ∷ cs) q ≡ Some x)
     go true below is = (c.owner, refl, ap (λ b. cond b (Some c.object) (held cs c.owner)) (same_place_refl c.owner) ∙ is)
     go false below is = let found = below is in (found.0, found.1, later found.0 found.2 (same_place c.owner found.0) refl)
 
 -- a client that stands among others
 among_is : (c : ℕ) (cs : List ℕ) → is_among c cs ≡ true → IsIn c cs
 among_is c [] among = absurd (false≢true among)
-among_is c (d ∷ cs) among = go (d == c) refl (among_is c cs) among
-  where
-    go : (b : Bool) → (d == c) ≡ b → (is_among c cs ≡ true → IsIn c cs) → (b || is_among c cs) ≡ true → IsIn c (d ∷ cs)
-    go true is later among = inl (eqb-true d c is)
-    go false is later among = inr (later among)
+among_is c (d ∷ cs) among = grind (arith, nat_tests, among_is c cs, eqb-true d c)
 
 -- the way from a place up to one that the map begins at, or to a queue
 data Up (s : State) : Place → Type 0 where
@@ -142,7 +121,8 @@ data Up (s : State) : Place → Type 0 where
   up_service : Up s (Elsewhere In_service)
   up_queue : {n k : ℕ} → Up s (Elsewhere (Queued n k))
   up_field : {n f : ℕ} (o : Object) (q : Place) → named s.cells n ≡ Some o → held s.cells q ≡ Some o → is_object o.thing ≡ true → f < 8 → Up s q → Up s (Field n f)
-  up_session : {n c : ℕ} (o : Object) (q : Place) → named s.cells n ≡ Some o → held s.cells q ≡ Some o → is_object o.thing ≡ true → IsIn c (service_of s.cells n).sessions → Up s q → Up s (Elsewhere (Session n c))
+  up_session : {n c : ℕ} (o : Object) (q : Place) → named s.cells n ≡ Some o →
+      held s.cells q ≡ Some o → is_object o.thing ≡ true → IsIn c (service_of s.cells n).sessions → Up s q → Up s (Elsewhere (Session n c))
 
 -- it ends at one that the map begins at
 abbrev ends_told : {s : State} {q : Place} → Up s q → Bool
@@ -176,16 +156,11 @@ module _ (m : Machine) (s : State) (st : StandsFor m s) (sessions_once : Session
   held_height (Some o) = suc (height o.thing)
 
   low_enough : (r : Place) → held_height (held cs r) ≤ 257
-  low_enough r = go (held cs r)
-    where
-      go : (o : Option Object) → held_height o ≤ 257
-      go None = omega arith
-      go (Some o) = omega arith
+  low_enough r = grind (arith, nat_tests)
 
   -- and what stands over something is an object
   is_high : (x y : Thing) → height x < height y → is_object y ≡ true
-  is_high x (An_object_of c) less = refl
-  is_high x Message less = absurd (omega (arith, less))
+  is_high x y less = grind arith
 
   few_classes : length p.classes ≤ 256
   few_classes = st.sound.formed.classes.count
@@ -207,18 +182,10 @@ module _ (m : Machine) (s : State) (st : StandsFor m s) (sessions_once : Session
 
   -- of what a place holds
   lower : (r : Place) (o x : Object) (f : ℕ) → held cs r ≡ Some o → held cs (Field o.name f) ≡ Some x → height x.thing < height o.thing
-  lower r o x f holds below =
-      let owner = field_owner o.name f x below in
-      let same = ap (λ (y : Object). height y.thing) (same_Some owner.0 o (sym owner.1 ∙ held_lives cs r o tidy holds)) in
-      let less = owner.2 in
-      omega (arith, less, same)
+  lower r o x f holds below = grind (arith, nat_tests, field_owner o.name f x below, same_Some, held_lives)
 
   lower_seat : (r : Place) (o x : Object) (c : ℕ) → held cs r ≡ Some o → held cs (Elsewhere (Session o.name c)) ≡ Some x → height x.thing < height o.thing
-  lower_seat r o x c holds below =
-      let owner = session_owner o.name c x below in
-      let same = ap (λ (y : Object). height y.thing) (same_Some owner.0 o (sym owner.1 ∙ held_lives cs r o tidy holds)) in
-      let less = owner.2 in
-      omega (arith, less, same)
+  lower_seat r o x c holds below = grind (arith, session_owner o.name c x below, held_lives)
 
   -- ---- the way from a place up to an outer one
 
@@ -245,35 +212,22 @@ module _ (m : Machine) (s : State) (st : StandsFor m s) (sessions_once : Session
 
   -- a message is no object
   no_owner : (r : Place) (o y : Object) (n : ℕ) → held cs r ≡ Some o → named cs n ≡ Some y → is_object y.thing ≡ true → o.thing ≡ Message → bit (o.name == n) ≡ 0
-  no_owner r o y n here there high message = go (o.name == n) refl
-    where
-      go : (b : Bool) → (o.name == n) ≡ b → bit b ≡ 0
-      go false is = refl
-      go true is =
-          let same = same_Some o y (sym (held_lives cs r o tidy here) ∙ ap (named cs) (eqb-true o.name n is) ∙ there) in
-          absurd (false≢true (sym (ap is_object message) ∙ ap (λ (z : Object). is_object z.thing) same ∙ high))
+  no_owner r o y n here there high message = grind (arith, held_lives)
 
   -- what owns it on the way
   by_name : (r : Place) (o y : Object) (n : ℕ) → named cs n ≡ Some y → bit (o.name == y.name) ≡ bit (o.name == n)
   by_name r o y n there = ap (λ k. bit (o.name == k)) (named_name cs n y there)
 
   last_apart : (a b : Bool) → b ≡ false → bit (a && b) ≡ 0
-  last_apart true b other = ap bit other
-  last_apart false b other = refl
+  last_apart x b other = grind (arith, nat_tests, bit)
 
   last_same : (a : Bool) → bit (a && true) ≡ bit a
-  last_same true = refl
-  last_same false = refl
+  last_same x = grind arith
 
   -- where the way begins at its end
-  ends_here : (r q : Place) (e : Up s q) (x o : Object) → held cs q ≡ Some x → held cs r ≡ Some o → occurs r q e ≡ bit (same_place r q) → under_it o q e ≡ sum_to (λ f. 0) 8 + sum_of (λ c. 0) (service_of cs o.name).sessions →
-      occurs r q e ≡ bit (o.name == x.name) + beneath_count o.thing (under_it o q e)
-  ends_here r q e x o on here lone nothing =
-      let first = place_bit cs tidy q r x o on here in
-      let fields = sum_none (λ f. 0) 8 (λ f less. refl) in
-      let seats = sum_of_none (λ c. 0) (service_of cs o.name).sessions (λ c among. refl) in
-      let none = beneath_zero o.thing (under_it o q e) (omega (arith, nothing, fields, seats)) in
-      omega (arith, lone, first, none)
+  ends_here : (r q : Place) (e : Up s q) (x o : Object) → held cs q ≡ Some x → held cs r ≡ Some o → occurs r q e ≡ bit (same_place r q) → under_it o q e
+      ≡ sum_to (λ f. 0) 8 + sum_of (λ c. 0) (service_of cs o.name).sessions → occurs r q e ≡ bit (o.name == x.name) + beneath_count o.thing (under_it o q e)
+  ends_here r q e x o on here lone nothing = grind (arith, place_bit, sum_of_none)
 
   -- one that holds an object stands there as often as that is what the way begins with, and as its fields and sessions stand there
   split : (r q : Place) (e : Up s q) (x o : Object) → held cs q ≡ Some x → held cs r ≡ Some o → occurs r q e ≡ bit (o.name == x.name) + beneath_count o.thing (under_it o q e)
@@ -302,11 +256,8 @@ module _ (m : Machine) (s : State) (st : StandsFor m s) (sessions_once : Session
       omega (arith, first, rest, name, more, under)
     where
       one_seat : (b : Bool) → (o.name == n) ≡ b → sum_of (λ d. bit ((o.name == n) && (d == c))) (service_of cs o.name).sessions ≡ bit (o.name == n)
-      one_seat true is =
-          let there_too = subst (λ k. IsIn c (service_of cs k).sessions) (sym (eqb-true o.name n is)) within in
-          sum_of_one (λ d. bit ((o.name == n) && (d == c))) c (service_of cs o.name).sessions (seats_once o.name) there_too (λ d other. last_apart (o.name == n) (d == c) other)
-          ∙ ap (λ b. bit ((o.name == n) && b)) (eq-eqb c c refl) ∙ last_same (o.name == n)
-      one_seat false is = sum_of_none (λ d. bit ((o.name == n) && (d == c))) (service_of cs o.name).sessions (λ d among. ap (λ b. bit (b && (d == c))) is) ∙ sym (ap bit is)
+      one_seat true is = grind (arith, nat_tests, sum_of_one)
+      one_seat false is = grind (arith, nat_tests, sum_of_none, bit)
   split r q (up_register deep small) x o on here = ends_here r q (up_register deep small) x o on here refl refl
   split r q (up_entry high) x o on here = ends_here r q (up_entry high) x o on here refl refl
   split r q (up_going deep) x o on here = ends_here r q (up_going deep) x o on here refl refl
@@ -316,11 +267,7 @@ module _ (m : Machine) (s : State) (st : StandsFor m s) (sessions_once : Session
 
   -- so what hangs from a place has a line of an object as often as the place stands on the way from it
   hangs_on : (fuel : ℕ) (w : Way) (r q : Place) (e : Up s q) (x : Object) → held cs q ≡ Some x → held_height (held cs r) ≤ fuel → lines_of x.name (tree cs fuel w (held cs r)) ≡ occurs r q e
-  hangs_on zero w r q e x on low = go (held cs r) refl low
-    where
-      go : (o : Option Object) → held cs r ≡ o → held_height o ≤ 0 → 0 ≡ occurs r q e
-      go None is low = sym (occurs_none r q e x on is)
-      go (Some o) is low = absurd (omega (arith, low))
+  hangs_on zero w r q e x on low = grind (arith, nat_tests, occurs_none r q e x on)
   hangs_on (suc fuel) w r q e x on low = go (λ w r low. hangs_on fuel w r q e x on low) (held cs r) refl low
     where
       lower_still : (o : Object) → held cs r ≡ Some o → suc (height o.thing) ≤ suc fuel → (f : ℕ) (y : Option Object) → held cs (Field o.name f) ≡ y → held_height y ≤ fuel
@@ -337,7 +284,8 @@ module _ (m : Machine) (s : State) (st : StandsFor m s) (sessions_once : Session
       beyond : (o : Object) → ℕ → List Owned
       beyond o c = tree cs fuel (further w (By_session c)) (held cs (Elsewhere (Session o.name c)))
 
-      go : ((w : Way) (r : Place) → held_height (held cs r) ≤ fuel → lines_of x.name (tree cs fuel w (held cs r)) ≡ occurs r q e) → (o : Option Object) → held cs r ≡ o → held_height o ≤ suc fuel → lines_of x.name (tree cs (suc fuel) w o) ≡ occurs r q e
+      go : ((w : Way) (r : Place) → held_height (held cs r) ≤ fuel → lines_of x.name (tree cs fuel w (held cs r)) ≡ occurs r q e) →
+          (o : Option Object) → held cs r ≡ o → held_height o ≤ suc fuel → lines_of x.name (tree cs (suc fuel) w o) ≡ occurs r q e
       go deeper None is low = sym (occurs_none r q e x on is)
       go deeper (Some o) is low =
           let seats = (service_of cs o.name).sessions in
@@ -346,8 +294,10 @@ module _ (m : Machine) (s : State) (st : StandsFor m s) (sessions_once : Session
           let both = lines_append x.name (gathered (below o) 8) (flat_map (beyond o) seats) in
           let fields = lines_gathered x.name (below o) 8 in
           let sessions = lines_flat x.name (beyond o) seats in
-          let each = sum_same (λ f. lines_of x.name (below o f)) (λ f. occurs (Field o.name f) q e) 8 (λ f less. deeper (further w (By_field f)) (Field o.name f) (lower_still o is low f (held cs (Field o.name f)) refl)) in
-          let every = sum_of_same (λ c. lines_of x.name (beyond o c)) (λ c. occurs (Elsewhere (Session o.name c)) q e) seats (λ c. deeper (further w (By_session c)) (Elsewhere (Session o.name c)) (lower_there o is low c (held cs (Elsewhere (Session o.name c))) refl)) in
+          let each = sum_same (λ f. lines_of x.name (below o f)) (λ f. occurs (Field o.name f) q e) 8
+          (λ f less. deeper (further w (By_field f)) (Field o.name f) (lower_still o is low f (held cs (Field o.name f)) refl)) in
+          let every = sum_of_same (λ c. lines_of x.name (beyond o c)) (λ c. occurs (Elsewhere (Session o.name c)) q e) seats
+          (λ c. deeper (further w (By_session c)) (Elsewhere (Session o.name c)) (lower_there o is low c (held cs (Elsewhere (Session o.name c))) refl)) in
           let under : lines_of x.name owned ≡ under_it o q e = omega (arith, both, fields, sessions, each, every) in
           let down = lines_beneath x.name o.thing owned ∙ ap (beneath_count o.thing) under in
           let all = split r q e x o on is in
@@ -379,7 +329,8 @@ module _ (m : Machine) (s : State) (st : StandsFor m s) (sessions_once : Session
   -- ---- all outer places
 
   abbrev weigh : (Place → ℕ) → ℕ
-  weigh g = g (Elsewhere Root) + (sum_to (λ d. sum_to (λ i. g (Register d i)) 16) (length s.tasks) + (sum_to (λ k. g (Entry k)) (length s.items) + (g (Elsewhere In_service) + sum_to (λ d. g (Going d)) (length s.tasks))))
+  weigh g = g (Elsewhere Root) + (sum_to (λ d. sum_to (λ i. g (Register d i)) 16)
+      (length s.tasks) + (sum_to (λ k. g (Entry k)) (length s.items) + (g (Elsewhere In_service) + sum_to (λ d. g (Going d)) (length s.tasks))))
 
   -- what hangs from a register
   abbrev hanging_at : (depth register : ℕ) → List Owned
@@ -397,14 +348,18 @@ module _ (m : Machine) (s : State) (st : StandsFor m s) (sessions_once : Session
       let fourth = lines_append n service goings in
       let served = each At_service (Elsewhere In_service) in
       let root = each At_root (Elsewhere Root) in
-      let of_registers : lines_of n registers ≡ sum_to (λ d. sum_to (λ i. g (Register d i)) 16) (length s.tasks) = lines_gathered n _ (length s.tasks) ∙ sum_same _ (λ d. sum_to (λ i. g (Register d i)) 16) (length s.tasks) (λ d less. lines_gathered n (hanging_at d) 16 ∙ sum_same (λ i. lines_of n (hanging_at d i)) (λ i. g (Register d i)) 16 (λ i few. each (In_register (counted (λ k. is_frame (over s.tasks k)) d) i) (Register d i))) in
-      let of_entries : lines_of n entries ≡ sum_to (λ k. g (Entry k)) (length s.items) = lines_gathered n _ (length s.items) ∙ sum_same _ (λ k. g (Entry k)) (length s.items) (λ k less. each (In_entry (counted (λ j. is_entry (over s.items j)) k)) (Entry k)) in
-      let of_goings : lines_of n goings ≡ sum_to (λ d. g (Going d)) (length s.tasks) = lines_gathered n _ (length s.tasks) ∙ sum_same _ (λ d. g (Going d)) (length s.tasks) (λ d less. each (In_going (counted (λ j. is_going (over s.tasks j)) d)) (Going d)) in
+      let of_registers : lines_of n registers ≡ sum_to (λ d. sum_to (λ i. g (Register d i)) 16) (length s.tasks) = lines_gathered n _ (length s.tasks)
+      ∙ sum_same _ (λ d. sum_to (λ i. g (Register d i)) 16) (length s.tasks) (λ d less. lines_gathered n (hanging_at d) 16 ∙ sum_same (λ i. lines_of n
+      (hanging_at d i)) (λ i. g (Register d i)) 16 (λ i few. each (In_register (counted (λ k. is_frame (over s.tasks k)) d) i) (Register d i))) in
+      let of_entries : lines_of n entries ≡ sum_to (λ k. g (Entry k)) (length s.items) = grind (arith, lines_gathered n) in
+      let of_goings : lines_of n goings ≡ sum_to (λ d. g (Going d)) (length s.tasks) = lines_gathered n _ (length s.tasks)
+      ∙ sum_same _ (λ d. g (Going d)) (length s.tasks) (λ d less. each (In_going (counted (λ j. is_going (over s.tasks j)) d)) (Going d)) in
       omega (arith, first, second, third, fourth, root, served, of_registers, of_entries, of_goings)
 
-  weigh_same : (g h : Place → ℕ) → g (Elsewhere Root) ≡ h (Elsewhere Root) → ((d i : ℕ) → g (Register d i) ≡ h (Register d i)) → ((k : ℕ) → g (Entry k) ≡ h (Entry k)) → g (Elsewhere In_service) ≡ h (Elsewhere In_service) → ((d : ℕ) → g (Going d) ≡ h (Going d)) → weigh g ≡ weigh h
-  weigh_same g h root registers entries service goings =
-      let first = sum_same (λ d. sum_to (λ i. g (Register d i)) 16) (λ d. sum_to (λ i. h (Register d i)) 16) (length s.tasks) (λ d less. sum_same (λ i. g (Register d i)) (λ i. h (Register d i)) 16 (λ i few. registers d i)) in
+  weigh_same : (g h : Place → ℕ) → g (Elsewhere Root) ≡ h (Elsewhere Root) → ((d i : ℕ) → g (Register d i) ≡ h (Register d i)) →
+      ((k : ℕ) → g (Entry k) ≡ h (Entry k)) → g (Elsewhere In_service) ≡ h (Elsewhere In_service) → ((d : ℕ) → g (Going d) ≡ h (Going d)) → weigh g ≡ weigh h
+  weigh_same g h root registers entries service goings = let first = sum_same (λ d. sum_to (λ i. g (Register d i)) 16) (λ d. sum_to (λ i. h (Register d i)) 16)
+      (length s.tasks) (λ d less. sum_same (λ i. g (Register d i)) (λ i. h (Register d i)) 16 (λ i few. registers d i)) in
       let second = sum_same (λ k. g (Entry k)) (λ k. h (Entry k)) (length s.items) (λ k less. entries k) in
       let third = sum_same (λ d. g (Going d)) (λ d. h (Going d)) (length s.tasks) (λ d less. goings d) in
       omega (arith, root, first, second, service, third)
@@ -419,12 +374,8 @@ module _ (m : Machine) (s : State) (st : StandsFor m s) (sessions_once : Session
 
   -- each way ends at just one of them, or at a queue, and goes through no other
   weigh_one : (q : Place) (e : Up s q) → weigh (λ r. occurs r q e) ≡ bit (ends_told e)
-  weigh_one (Field n f) (up_field y above there holds high few ends) =
-      weigh_same (λ r. occurs r (Field n f) (up_field y above there holds high few ends)) (λ r. occurs r above ends) (omega arith) (λ d i. omega arith) (λ k. omega arith) (omega arith) (λ d. omega arith)
-      ∙ weigh_one above ends
-  weigh_one (Elsewhere (Session n c)) (up_session y above there holds high within ends) =
-      weigh_same (λ r. occurs r (Elsewhere (Session n c)) (up_session y above there holds high within ends)) (λ r. occurs r above ends) (omega arith) (λ d i. omega arith) (λ k. omega arith) (omega arith) (λ d. omega arith)
-      ∙ weigh_one above ends
+  weigh_one (Field n f) (up_field y above there holds high few ends) = grind (arith, weigh_same, weigh_one above ends)
+  weigh_one (Elsewhere (Session n c)) (up_session y above there holds high within ends) = grind (arith, weigh_same, weigh_one above ends)
   weigh_one (Register D I) (up_register deep small) =
       let inner = sum_one (λ i. here D i) I 16 small (λ i other. other_register (D == D) (i == I) other) in
       let outer = sum_one (λ d. sum_to (λ i. here d i) 16) D (length s.tasks) deep (λ d other. sum_none (λ i. here d i) 16 (λ i less. ap (λ b. bit (b && (i == I))) other)) in
@@ -439,8 +390,7 @@ module _ (m : Machine) (s : State) (st : StandsFor m s) (sessions_once : Session
       one = ap (λ b. bit (b && (I == I))) (eq-eqb D D refl) ∙ ap bit (eq-eqb I I refl)
 
       other_register : (a b : Bool) → b ≡ false → bit (a && b) ≡ 0
-      other_register true b other = ap bit other
-      other_register false b other = refl
+      other_register x b other = grind (arith, nat_tests, bit)
   weigh_one (Entry K) (up_entry high) =
       let entries = sum_one (λ k. bit ((k == K) && true)) K (length s.items) high (λ k other. ap (λ b. bit (b && true)) other) in
       let registers = no_registers (λ r. occurs r (Entry K) (up_entry high)) (λ d i. refl) in
@@ -451,21 +401,9 @@ module _ (m : Machine) (s : State) (st : StandsFor m s) (sessions_once : Session
       let registers = no_registers (λ r. occurs r (Going D) (up_going deep)) (λ d i. refl) in
       let entries = sum_none (λ k. occurs (Entry k) (Going D) (up_going deep)) (length s.items) (λ k less. refl) in
       omega (arith, entries, registers, goings, met D)
-  weigh_one (Elsewhere Root) up_root =
-      let registers = no_registers (λ r. occurs r (Elsewhere Root) up_root) (λ d i. refl) in
-      let entries = sum_none (λ k. occurs (Entry k) (Elsewhere Root) up_root) (length s.items) (λ k less. refl) in
-      let goings = sum_none (λ d. occurs (Going d) (Elsewhere Root) up_root) (length s.tasks) (λ k less. refl) in
-      omega (arith, registers, entries, goings)
-  weigh_one (Elsewhere In_service) up_service =
-      let registers = no_registers (λ r. occurs r (Elsewhere In_service) up_service) (λ d i. refl) in
-      let entries = sum_none (λ k. occurs (Entry k) (Elsewhere In_service) up_service) (length s.items) (λ k less. refl) in
-      let goings = sum_none (λ d. occurs (Going d) (Elsewhere In_service) up_service) (length s.tasks) (λ k less. refl) in
-      omega (arith, registers, entries, goings)
-  weigh_one (Elsewhere (Queued n k)) up_queue =
-      let registers = sum_none (λ d. sum_to (λ i. occurs (Register d i) (Elsewhere (Queued n k)) up_queue) 16) (length s.tasks) (λ d less. sum_none (λ i. occurs (Register d i) (Elsewhere (Queued n k)) up_queue) 16 (λ i few. refl)) in
-      let entries = sum_none (λ k. occurs (Entry k) (Elsewhere (Queued n k)) up_queue) (length s.items) (λ k less. refl) in
-      let goings = sum_none (λ d. occurs (Going d) (Elsewhere (Queued n k)) up_queue) (length s.tasks) (λ k less. refl) in
-      omega (arith, registers, entries, goings)
+  weigh_one (Elsewhere Root) up_root = grind (arith, nat_tests, no_registers, up_root, sum_none)
+  weigh_one (Elsewhere In_service) up_service = grind (arith, nat_tests, no_registers, up_service, sum_none)
+  weigh_one (Elsewhere (Queued n k)) up_queue = grind (arith, nat_tests, sum_none, sum_to, up_queue)
 
   -- ---- each place that holds has such a way
 
@@ -474,10 +412,7 @@ module _ (m : Machine) (s : State) (st : StandsFor m s) (sessions_once : Session
 
   -- the number of what it holds stands there, and is not null
   number_there : (r : Place) (x : Object) → held cs r ≡ Some x → value parts r ≡ x.name
-  number_there r x holds = shown (value parts r) (word_at s.tasks r) (subst (λ o. Machine_shows (value parts r) (word_at s.tasks r) o) holds (st.agrees.values r))
-    where
-      shown : (n : ℕ) (w : Option ℤ) → Machine_shows n w (Some x) → n ≡ x.name
-      shown n w shows = grind arith
+  number_there r x holds = grind (arith, nat_tests)
 
   some_number : (r : Place) (x : Object) → held cs r ≡ Some x → null ≡ x.name → ⊥
   some_number r x holds is = not_null p parts st.typing s st.typed st.agrees r x holds (sym is)
@@ -499,10 +434,7 @@ module _ (m : Machine) (s : State) (st : StandsFor m s) (sessions_once : Session
     entry_small k (Some i) there is = let less = within_over parts.entries.items k i there in let many = as_many_items p parts s st in omega (arith, less, many)
 
     field_small : (n f : ℕ) (c : Option Machine_cell) → cell_at parts.cells n ≡ c → field_of c f ≡ x.name → f < 8
-    field_small n f None there is = absurd (some_number r x holds is)
-    field_small n f (Some c) there is =
-        let wide = st.agrees.cells.wide n c there in
-        lt_of_not-le (λ more. some_number r x holds (sym (get_or_past c.fields f null (omega (arith, wide, more))) ∙ is))
+    field_small n f y there is = grind (arith, nat_tests, some_number, lt_of_not-le, get_or_past)
 
   -- a way, and where it ends: a queue alone holds what waits in it
   abbrev Leads : Place → Type 0
@@ -513,21 +445,14 @@ module _ (m : Machine) (s : State) (st : StandsFor m s) (sessions_once : Session
   message_there n k o holds object = false≢true (sym (ap is_object (waiting_message p st.typing st.sound.wired s st.typed n k o holds)) ∙ object)
 
   no_queue : (q : Place) (o : Object) → held cs q ≡ Some o → is_object o.thing ≡ true → is_queue q ≡ false
-  no_queue (Elsewhere (Queued n k)) o holds high = absurd (message_there n k o holds high)
-  no_queue (Elsewhere (Session n c)) o holds high = refl
-  no_queue (Elsewhere Root) o holds high = refl
-  no_queue (Elsewhere In_service) o holds high = refl
-  no_queue (Register d i) o holds high = refl
-  no_queue (Entry k) o holds high = refl
-  no_queue (Going d) o holds high = refl
-  no_queue (Field n f) o holds high = refl
+  no_queue x o holds high = grind (arith, nat_tests, message_there)
 
   up : (fuel : ℕ) (r : Place) (x : Object) → held cs r ≡ Some x → 256 < height x.thing + fuel → Leads r
   up zero r x holds high = absurd (omega (arith, high))
   up (suc fuel) (Register d i) x holds high =
       let there = sym (register_there parts.stack.tasks d i) ∙ number_there (Register d i) x holds in (
-        up_register (task_there (Register d i) x holds d (over parts.stack.tasks d) (register_over (over parts.stack.tasks d) i) refl there (λ none. ap (λ o. register_over o i) none))
-            (register_small (Register d i) x holds d i (over parts.stack.tasks d) refl there),
+        up_register (task_there (Register d i) x holds d (over parts.stack.tasks d) (register_over (over parts.stack.tasks d) i) refl there
+            (λ none. ap (λ o. register_over o i) none)) (register_small (Register d i) x holds d i (over parts.stack.tasks d) refl there),
         refl,
       )
   up (suc fuel) (Entry k) x holds high = (up_entry (entry_small (Entry k) x holds k (over parts.entries.items k) refl (entry_there parts.entries.items k ∙ number_there (Entry k) x holds)), refl)
@@ -562,11 +487,7 @@ module _ (m : Machine) (s : State) (st : StandsFor m s) (sessions_once : Session
   once n None is = lines_weighed n (λ r. 0) (λ outer r. none_hangs generations (record { outer = outer; branches = [] }) r n is) ∙ none
     where
       none : weigh (λ r. 0) ≡ 0
-      none =
-          let registers = sum_none (λ d. sum_to (λ i. 0) 16) (length s.tasks) (λ d less. sum_none (λ i. 0) 16 (λ i few. refl)) in
-          let entries = sum_none (λ k. 0) (length s.items) (λ k less. refl) in
-          let goings = sum_none (λ d. 0) (length s.tasks) (λ k less. refl) in
-          omega (arith, registers, entries, goings)
+      none = grind (arith, nat_tests, sum_none, sum_to)
   once n (Some x) is =
       let owner = owner_there cs tidy n x is in
       let e = up 257 owner.0 x owner.2 (omega arith) in

@@ -1,5 +1,6 @@
 -- There is just one list of the enlisted objects in the order of choice: of two such lists the first names are the same, and so are the rests.
-use Rattle.std.proofs.Common.{◌≡◌, ◌∙◌, ◌⊎◌, ◌<◌, ℕ, zero, suc, List, [], ◌∷◌, Option, IsSome, length, get_or, refl, sym, ap, subst, inl, inr, arith}
+use Rattle.std.proofs.lemmas.Bool.Decides.{nat_tests}
+use Rattle.std.proofs.Common.{◌≡◌, ◌∙◌, ◌⊎◌, ℕ, suc, List, [], ◌∷◌, Option, IsSome, refl, sym, ap, subst, arith}
 use Rattle.std.specs.List.{Contains}
 use Rattle.std.specs.Prelude.{AllPairs}
 use Rattle.aom_active.specs.Agrees.{GoesBefore}
@@ -16,11 +17,7 @@ further : (x n : ℕ) (xs : List ℕ) → Contains xs n → Contains (x ∷ xs) 
 further x n xs h = let within = h.1 in (suc h.0, omega (arith, within), h.2)
 
 first_or_later : (x n : ℕ) (xs : List ℕ) → Contains (x ∷ xs) n → (x ≡ n) ⊎ Contains xs n
-first_or_later x n xs h = go h.0 h.1 h.2
-  where
-    go : (k : ℕ) → k < length (x ∷ xs) → get_or (x ∷ xs) k n ≡ n → (x ≡ n) ⊎ Contains xs n
-    go zero less is = inl is
-    go (suc k) less is = inr (k, omega (arith, less), is)
+first_or_later x n xs h = grind (arith, nat_tests)
 
 none_there : (n : ℕ) → Contains [] n → ⊥
 none_there n h = let within = h.1 in absurd (omega (arith, within))
@@ -32,20 +29,11 @@ module _ (Before : ℕ → ℕ → Type 0) (apart : (n m : ℕ) → Before n m �
   goes_first x n xs pairs h = subst (Before x) h.2 (pairs-head Before x xs pairs h.0 n h.1)
 
   same_first : (x y : ℕ) (xs ys : List ℕ) → AllPairs Before (x ∷ xs) → AllPairs Before (y ∷ ys) → Contains (y ∷ ys) x → Contains (x ∷ xs) y → x ≡ y
-  same_first x y xs ys one other here there = go (first_or_later y x ys here) (first_or_later x y xs there)
-    where
-      go : (y ≡ x) ⊎ Contains ys x → (x ≡ y) ⊎ Contains xs y → x ≡ y
-      go (inl e) b = sym e
-      go (inr a) (inl e) = e
-      go (inr a) (inr b) = absurd (apart x y (goes_first x y xs one b) (goes_first y x ys other a))
+  same_first x y xs ys one other here there = grind (arith, goes_first x y xs one, goes_first y x ys other)
 
   -- who comes later on one comes later on the other
   later_too : (x y n : ℕ) (xs ys : List ℕ) → x ≡ y → AllPairs Before (x ∷ xs) → Contains xs n → Contains (y ∷ ys) n → Contains ys n
-  later_too x y n xs ys same pairs here there = go (first_or_later y n ys there)
-    where
-      go : (y ≡ n) ⊎ Contains ys n → Contains ys n
-      go (inl e) = let itself = subst (Before x) (sym (same ∙ e)) (goes_first x n xs pairs here) in absurd (apart x x itself itself)
-      go (inr h) = h
+  later_too x y n xs ys same pairs here there = grind (arith, goes_first x n xs pairs here)
 
   one_order : (xs ys : List ℕ) → AllPairs Before xs → AllPairs Before ys → ((n : ℕ) → Contains xs n → Contains ys n) → ((n : ℕ) → Contains ys n → Contains xs n) → xs ≡ ys
   one_order [] [] one other there here = refl

@@ -1,29 +1,29 @@
 -- What the strongest abstract state of a frame says of its registers is what they own, also while the frame waits for what stands over it.
-use Rattle.std.proofs.Common.{arith, ◌≡◌, ◌∙◌, ℕ, suc, Bool, true, false, cond, ◌==◌, List, [], ◌∷◌, Option, Some, None, IsSome, inl, inr, slice_index_or, refl, sym, ap, subst}
+use Rattle.std.proofs.lemmas.Bool.Decides.{nat_tests}
+use Rattle.std.proofs.Common.{arith, ◌≡◌, ◌∙◌, ℕ, suc, Bool, true, false, List, [], ◌∷◌, Option, Some, None, IsSome, inr, slice_index_or}
+use Rattle.std.proofs.Common.{refl, sym, ap}
 use Rattle.std.specs.Prelude.{◌⊎◌, is_some}
-use Rattle.std.proofs.lemmas.Bool.{eqb-true, false≢true}
-use Rattle.std.proofs.lemmas.Option.{none-some, same_Some}
+use Rattle.std.proofs.lemmas.Bool.{eqb-true}
+use Rattle.std.proofs.lemmas.Option.{none-some}
 use Rattle.aom_image.specs.Image.{Image}
 use Rattle.aom_image.specs.Views.{arguments_of, instr_at, method_at, method_class}
 use Rattle.aom_image.specs.declared.method.Argument.{Argument}
 use Rattle.aom_image.specs.declared.method.Argument.TheVariants.{Word as A_word, Own as An_own}
 use Rattle.aom_instructions.specs.declared.instr.Instr.{Instr}
 use Rattle.aom_instructions.specs.declared.instr.Target.{Target}
-use Rattle.aom_instructions.specs.declared.instr.Target.TheVariants.{Entry as On_entry, Field as On_field, Register as In_register, This}
 use Rattle.aom_cells.specs.Heap.{null}
 use Rattle.aom_classes.proofs.Facts.{of_method}
 use Rattle.aom_frames.specs.declared.frame.Frame.{Frame as Machine_frame}
 use Rattle.aom_frames.specs.declared.task.Task.TheVariants.{Run as Runs_frame}
 use Rattle.aom_rules.specs.Calls.{while_called}
-use Rattle.aom_rules.specs.Requests.{resting}
-use Rattle.aom_rules.specs.Rules.{ways_of}
-use Rattle.aom_rules.specs.Ways.{As_before, Branches, Branches_in, Branches_on_empty, Branches_on_null, Called, Cancelled, Caught, Dropped, Ends, Filled, Goes_back, Handed, Goes_on, Goes_to, Holding, Left_in, Moved, News, Popped, Pushed, Pushed_operation, Taken, Taken_message, Ways}
-use Rattle.aom_shape.specs.Arguments.{after_of, arguments_moved}
+use Rattle.aom_rules.specs.Ways.{News}
+use Rattle.aom_rules.specs.Ways.{Ways}
+use Rattle.aom_shape.specs.Arguments.{arguments_moved}
 use Rattle.aom_shape.specs.Kinds.{is_object_or_null, is_unowning, readied, register, set_register}
 use Rattle.aom_shape.specs.Order.{SaysNoMore, Weaker, alike, maybe_null, maybe_own, unset_null, unset_word}
 use Rattle.aom_shape.specs.Shape.{Shape}
 use Rattle.aom_shape.specs.declared.kind.Kind.{Kind}
-use Rattle.aom_shape.specs.declared.kind.Kind.TheVariants.{Maybe, Null, Own, Unset, Word}
+use Rattle.aom_shape.specs.declared.kind.Kind.TheVariants.{Maybe, Null, Own, Unset}
 use Rattle.aom_semantics.specs.Owned.{over}
 use Rattle.aom_semantics.specs.Places.{Object, Register, held}
 use Rattle.aom_semantics.specs.State.{Frame, Run, State, Task}
@@ -47,74 +47,34 @@ readied_null : (k : Kind) → readied k ≡ Null → k ≡ Null
 readied_null k is = grind arith
 
 readied_twice : (k : Kind) → readied (readied k) ≡ readied k
-readied_twice (Own t a) = refl
-readied_twice (Maybe t a) = refl
-readied_twice _ = refl
+readied_twice x = grind arith
 
 keeps_on : (a b c : Kind) → Keeps a b → Keeps b c → Keeps a c
-keeps_on a b c first (inl gone) = inl gone
-keeps_on a b c (inl gone) (inr same) = inl (readied_null c (same ∙ ap readied gone))
-keeps_on a b c (inr kept) (inr same) = inr (same ∙ kept)
+keeps_on a b c first x = grind (arith, nat_tests, readied_null c)
 
 keeps_set : (sh : Shape) (r j : ℕ) (k : Kind) → Keeps (register sh r) k → Keeps (register sh j) (register (set_register sh r k) j)
-keeps_set sh r j k keeps = subst (Keeps (register sh j)) (sym (at-put_at Unset sh.registers r j k)) (go (r == j) refl)
-  where
-    go : (b : Bool) → (r == j) ≡ b → Keeps (register sh j) (cond b k (register sh j))
-    go true same = subst (λ i. Keeps (register sh i) k) (eqb-true r j same) keeps
-    go false other = inr refl
+keeps_set sh r j k keeps = grind (arith, nat_tests, at-put_at Unset sh.registers r j k, eqb-true r j)
 
 moved_keeps : (xs : List Argument) (first j : ℕ) (sh : Shape) → Keeps (register sh j) (register (arguments_moved xs first sh) j)
 moved_keeps [] first j sh = inr refl
 moved_keeps (A_word ∷ xs) first j sh = moved_keeps xs (suc first) j sh
-moved_keeps (An_own t ∷ xs) first j sh = keeps_on (register sh j) (register (set_register sh first Null) j) _ (keeps_set sh first j Null (inl refl)) (moved_keeps xs (suc first) j (set_register sh first Null))
+moved_keeps (An_own t ∷ xs) first j sh = grind (arith, keeps_set sh first j Null, moved_keeps xs)
 
 called_keeps : (target : Target) (class : Option ℕ) (ended j : ℕ) (sh : Shape) → Keeps (register sh j) (register (while_called target class ended sh) j)
-called_keeps This None ended j sh = inr refl
-called_keeps This (Some c) ended j sh = inr refl
-called_keeps (In_register r) class ended j sh = keeps_set sh r j (readied (register sh r)) (inr (readied_twice (register sh r)))
-called_keeps (On_field f) class ended j sh = inr refl
-called_keeps (On_entry k) class ended j sh = inr refl
+called_keeps x class ended j sh = grind (arith, nat_tests, keeps_set sh, readied_twice)
 
 module _ (p : Image) (j : ℕ) (sh : Shape) where
   call_keeps : (target : Target) (m first ended : ℕ) → Keeps (register sh j) (register (while_called target (method_class p m) ended (arguments_moved (arguments_of p m) first sh)) j)
-  call_keeps target m first ended =
-      let moved = arguments_moved (arguments_of p m) first sh in
-      keeps_on (register sh j) (register moved j) (register (while_called target (method_class p m) ended moved) j) (moved_keeps (arguments_of p m) first j sh) (called_keeps target (method_class p m) ended j moved)
+  call_keeps target m first ended = grind (arith, nat_tests, keeps_on, moved_keeps, called_keeps target)
 
   news_keep : (news : News) → Keeps (register sh j) (register (waiting_for p news sh) j)
-  news_keep (Called target m first c) = call_keeps target m first (after_of p m)
-  news_keep (Caught target m first c) = call_keeps target m first (resting p (method_class p m))
-  news_keep (Holding a Null) = keeps_set sh a j Null (inl refl)
-  news_keep (Holding a Unset) = inr refl
-  news_keep (Holding a Word) = inr refl
-  news_keep (Holding a (Own t x)) = inr refl
-  news_keep (Holding a (Maybe t x)) = inr refl
-  news_keep Dropped = inr refl
-  news_keep As_before = inr refl
-  news_keep (Moved a b) = inr refl
-  news_keep (Taken a f) = inr refl
-  news_keep (Taken_message a) = inr refl
-  news_keep (Handed a) = inr refl
-  news_keep (Filled f a) = inr refl
-  news_keep (Pushed a) = inr refl
-  news_keep Pushed_operation = inr refl
-  news_keep (Popped a) = inr refl
-  news_keep (Left_in states) = inr refl
-  news_keep Cancelled = inr refl
+  news_keep x = grind (arith, nat_tests, call_keeps, keeps_set sh)
 
   ways_keep : (ways : Ways) → Keeps (register sh j) (register (waiting_by p ways sh) j)
-  ways_keep (Goes_on news) = news_keep news
-  ways_keep Ends = inr refl
-  ways_keep (Goes_to to) = inr refl
-  ways_keep (Branches to) = inr refl
-  ways_keep (Goes_back to) = inr refl
-  ways_keep (Branches_on_null a to) = inr refl
-  ways_keep (Branches_on_empty f to) = inr refl
-  ways_keep (Branches_in there here to) = inr refl
+  ways_keep x = grind (arith, nat_tests, news_keep)
 
   waiting_keeps : (i : Option Instr) → Keeps (register sh j) (register (while_waiting p i sh) j)
-  waiting_keeps (Some i) = ways_keep (ways_of p i)
-  waiting_keeps None = inr refl
+  waiting_keeps x = grind (arith, nat_tests, ways_keep)
 
 state_keeps : (p : Image) (above : List Task) (fr : Frame) (sh : Shape) (j : ℕ) → Keeps (register sh j) (register (state_under p above fr sh) j)
 state_keeps p [] fr sh j = inr refl
@@ -123,22 +83,16 @@ state_keeps p (task ∷ above) fr sh j = waiting_keeps p j sh (instr_at p fr.met
 -- ---- what a kind says of a register's number
 
 readied_object : (k : Kind) → is_object_or_null (readied k) ≡ is_object_or_null k
-readied_object (Own t a) = refl
-readied_object (Maybe t a) = refl
-readied_object _ = refl
+readied_object x = grind arith
 
 readied_none : (k : Kind) → is_unowning (readied k) ≡ is_unowning k
-readied_none (Own t a) = refl
-readied_none (Maybe t a) = refl
-readied_none _ = refl
+readied_none x = grind arith
 
 keeps_object : (a b : Kind) → Keeps a b → is_object_or_null a ≡ true → is_object_or_null b ≡ true
-keeps_object a b (inl gone) is = ap is_object_or_null gone
-keeps_object a b (inr same) is = sym (readied_object b) ∙ ap is_object_or_null same ∙ readied_object a ∙ is
+keeps_object a b x is = grind (arith, nat_tests, readied_object b, readied_object a)
 
 keeps_none : (a b : Kind) → Keeps a b → is_unowning a ≡ true → is_unowning b ≡ true
-keeps_none a b (inl gone) is = ap is_unowning gone
-keeps_none a b (inr same) is = sym (readied_none b) ∙ ap is_unowning same ∙ readied_none a ∙ is
+keeps_none a b x is = grind (arith, nat_tests, readied_none b, readied_none a)
 
 -- the state that says no more says of each register whether it may own
 weaker_owns : (a b : Kind) → Weaker a b → (may_own a ≡ true → is_object_or_null b ≡ true) × (may_own a ≡ false → is_unowning b ≡ true)
@@ -151,17 +105,10 @@ weaker_owns _ _ maybe_null = (λ is. refl, λ is. cc)
 weaker_owns _ _ maybe_own = (λ is. refl, λ is. cc)
 
 number_shown : (p : Image) (k : Kind) (n : ℕ) (o : Option Object) → is_object_or_null k ≡ true → NumberSays p k n o → n ≡ number o
-number_shown p Null n o is says = says.number ∙ ap number (sym says.none)
-number_shown p (Own t a) n o is says = says.number ∙ ap number (sym says.owned)
-number_shown p (Maybe t a) n o is (inl says) = says.number ∙ ap number (sym says.none)
-number_shown p (Maybe t a) n o is (inr says) = says.number ∙ ap number (sym says.owned)
-number_shown p _ n o is says = absurd (false≢true is)
+number_shown p x n o is says = grind arith
 
 none_shown : (p : Image) (k : Kind) (n : ℕ) (o : Option Object) → is_unowning k ≡ true → NumberSays p k n o → o ≡ None
-none_shown p Null n o is says = says.none
-none_shown p Unset n o is says = says
-none_shown p Word n o is says = says
-none_shown p _ n o is says = absurd (false≢true is)
+none_shown p x n o is says = grind arith
 
 -- ---- the registers of a frame
 
@@ -171,9 +118,7 @@ module _ (p : Image) (m : Parts) (agrees : AgreesInAll (record { image = p; part
 
   -- the agreement of a frame that stands at a depth
   agreed : (s : State) (st : StandsFor M s) (k : ℕ) (fr : Frame) → over s.tasks k ≡ Some (Run fr) → (above : List Task) × RegistersAgree p (agrees s st).typing m s above fr k
-  agreed s st k fr there =
-      let w = parted s.tasks k (Run fr) there in
-      (w.0, subst (λ n. RegistersAgree p (agrees s st).typing m s w.0 fr n) w.3 ((agrees s st).registers w.0 fr w.1 w.2))
+  agreed s st k fr there = grind (arith, nat_tests, parted s.tasks k (Run fr) there)
 
   -- its method is there
   pub frame_method : Stands M → (k : ℕ) (f : Machine_frame) → over m.stack.tasks k ≡ Some (Runs_frame f) → IsSome (method_at p f.method)
@@ -196,7 +141,7 @@ module _ (p : Image) (m : Parts) (agrees : AgreesInAll (record { image = p; part
       let passes = (agrees s st).strongest.typed.each fr.method fr.place a.1.shape a.1.typed in
       let method = of_method p fr.method fr.place passes.instr passes.stands in
       let here = (agrees s st).strongest.each fr.method (ap is_some method.1) in
-      let at_frame : IsShapeAt p fr.method fr.place found = subst (λ n. IsShapeAt p n fr.place found) same.method (subst (λ n. IsShapeAt p f.method n found) same.place shape) in
+      let at_frame : IsShapeAt p fr.method fr.place found = grind (arith, nat_tests) in
       let meets = (here.least at_frame.states at_frame.strongest.typed).each fr.place a.1.shape a.1.typed in
       (a.0, a.1, meets.next, at_frame.there ∙ meets.there, meets.no_more)
 
@@ -207,12 +152,13 @@ module _ (p : Image) (m : Parts) (agrees : AgreesInAll (record { image = p; part
       let r = reached s st k f fr.0 None fr.1 fr.2 shape in
       none-some r.2 r.3
 
-  register_kind : (s : State) (st : StandsFor M s) (k i : ℕ) (f : Machine_frame) (sh : Shape) → over m.stack.tasks k ≡ Some (Runs_frame f) → IsShapeAt p f.method f.place (Some sh) →
-      (kept : Kind) × ((may_own (register sh i) ≡ true → is_object_or_null kept ≡ true) × (may_own (register sh i) ≡ false → is_unowning kept ≡ true)) × NumberSays p kept (value m (Register k i)) (held s.cells (Register k i))
+  register_kind : (s : State) (st : StandsFor M s) (k i : ℕ) (f : Machine_frame) (sh : Shape) → over m.stack.tasks k ≡ Some (Runs_frame f) →
+      IsShapeAt p f.method f.place (Some sh) → (kept : Kind) × ((may_own (register sh i) ≡ true → is_object_or_null kept ≡ true) ×
+      (may_own (register sh i) ≡ false → is_unowning kept ≡ true)) × NumberSays p kept (value m (Register k i)) (held s.cells (Register k i))
   register_kind s st k i f sh there shape =
       let fr = frame_there p m s st k f there in
       let r = reached s st k f fr.0 (Some sh) fr.1 fr.2 shape in
-      let weaker : Weaker (register sh i) (register r.1.shape i) = subst (λ (x : Shape). Weaker (register x i) (register r.1.shape i)) (sym (same_Some sh r.2 r.3)) (r.4.registers i) in
+      let weaker : Weaker (register sh i) (register r.1.shape i) = grind arith in
       let keeps = state_keeps p r.0 fr.0 r.1.shape i in
       let owns = weaker_owns (register sh i) (register r.1.shape i) weaker in (
         register (state_under p r.0 fr.0 r.1.shape) i,

@@ -1,11 +1,10 @@
 -- What a machine's numbers show of each state that it stands for: the classes of cells, and the items of the cleanup stack.
-use Rattle.std.proofs.Common.{◌≡◌, ◌∙◌, ◌<◌, ℕ, suc, ◌-◌, Bool, true, false, cond, ◌==◌, List, [], ◌∷◌, length, Option, Some, None, slice_get, refl, sym, ap, arith}
+use Rattle.std.proofs.lemmas.Bool.Decides.{nat_tests}
+use Rattle.std.proofs.Common.{◌≡◌, ◌∙◌, ◌<◌, ℕ, ◌-◌, Bool, cond, ◌==◌, List, [], ◌∷◌, length, Option, Some, None, slice_get, refl, sym, ap}
+use Rattle.std.proofs.Common.{arith}
 use Rattle.std.proofs.lemmas.Bool.{eqb-false, eqb-true}
 use Rattle.std.proofs.lemmas.Option.{none-some, same_Some}
 use Rattle.aom_image.specs.Image.{Image}
-use Rattle.aom_image.specs.declared.method.Thing.{Thing}
-use Rattle.aom_image.specs.declared.method.Thing.TheVariants.{Object as An_object_of, Message}
-use Rattle.aom_roles.specs.Things.{is_object}
 use Rattle.aom_cells.specs.Heap.{Heap, cell_at, class_at, null}
 use Rattle.aom_cells.specs.Heap.{class_of as class_of_cell}
 use Rattle.aom_cells.specs.declared.cell.Cell.{Cell as Machine_cell}
@@ -24,7 +23,7 @@ use Rattle.aom_machine_state.proofs.Entries.{same_items_length}
 use Rattle.aom_debug_words.specs.declared.answer.Answer.{Answer}
 use Rattle.aom_debug_views.proofs.Over.{BothOver, one_over}
 use Rattle.aom_debug_views.specs.Owners.{entries_of, is_entry}
-use Rattle.aom_debug_views.specs.Sights.{class_in, class_of, held_answer, item_answer}
+use Rattle.aom_debug_views.specs.Sights.{class_of, held_answer, item_answer}
 
 -- ---- what stands over so many others
 
@@ -32,31 +31,13 @@ module _ {A : Type 0} where
   -- by how many lie above it
   pub over_from_top : (xs : List A) (k : ℕ) → k < length xs → slice_get xs ((length xs - k) - 1) ≡ over xs k
   over_from_top [] k less = absurd (omega arith)
-  over_from_top (x ∷ xs) k less = go (over_from_top xs k) (length xs == k) refl
-    where
-      go : (k < length xs → slice_get xs ((length xs - k) - 1) ≡ over xs k) → (b : Bool) → (length xs == k) ≡ b → slice_get (x ∷ xs) ((suc (length xs) - k) - 1) ≡ cond b (Some x) (over xs k)
-      go below true is =
-          let same = eqb-true (length xs) k is in
-          let top : (suc (length xs) - k) - 1 ≡ 0 = omega (arith, same) in
-          ap (slice_get (x ∷ xs)) top
-      go below false is =
-          let other = eqb-false (length xs) k is in
-          let at : (suc (length xs) - k) - 1 ≡ suc ((length xs - k) - 1) = omega (arith, other, less) in
-          ap (slice_get (x ∷ xs)) at ∙ below (omega (arith, other, less))
+  over_from_top (x ∷ xs) k less = grind (arith, nat_tests, over_from_top xs k, eqb-true, eqb-false)
 
 -- ---- classes
 
 -- what the machine has under a number is of the class of what has that name
 class_shown : (c : Option Machine_cell) (o : Option Object) → thing_in c ≡ thing_of o → class_of_cell c ≡ class_of o
-class_shown None None is = refl
-class_shown (Some c) None is = absurd (none-some (An_object_of c.class) (sym is))
-class_shown c (Some o) is = go c o.thing is
-  where
-    go : (c : Option Machine_cell) (th : Thing) → thing_in c ≡ cond (is_object th) (Some th) None → class_of_cell c ≡ class_in th
-    go None (An_object_of k) is = absurd (none-some (An_object_of k) is)
-    go None Message is = refl
-    go (Some c) (An_object_of k) is = ap class_in (same_Some (An_object_of c.class) (An_object_of k) is)
-    go (Some c) Message is = absurd (none-some (An_object_of c.class) (sym is))
+class_shown c x is = grind (arith, nat_tests, same_Some)
 
 module _ (p : Image) (m : Parts) (s : State) (st : StandsFor (record { image = p; parts = m }) s) where
   -- the class of the cell of a name
@@ -65,11 +46,7 @@ module _ (p : Image) (m : Parts) (s : State) (st : StandsFor (record { image = p
 
   -- the class of what a place holds
   pub class_held : (r : Place) (n : ℕ) → n ≡ number (held s.cells r) → class_at m.cells n ≡ class_of (held s.cells r)
-  class_held r n is = go (held s.cells r) refl is
-    where
-      go : (o : Option Object) → held s.cells r ≡ o → n ≡ number o → class_at m.cells n ≡ class_of o
-      go None holds is = ap (class_at m.cells) is ∙ ap class_of_cell st.agrees.cells.null_is_none
-      go (Some o) holds is = ap (class_at m.cells) is ∙ class_named o.name ∙ ap class_of (held_lives s.cells r o st.typed.good.tidy holds)
+  class_held r n is = grind (arith, nat_tests, class_named, held_lives s.cells r)
 
 -- ---- the cleanup stack
 
@@ -83,7 +60,8 @@ abbrev pub answer_at : Heap → Option Machine_item → Option Answer
 answer_at h None = None
 answer_at h (Some i) = held_answer h i
 
-same_answer : (h : Heap) (cs : List Cell) (k : ℕ) (o : Option Machine_item) (u : Option Item) → SameOver o u → ((n : ℕ) → o ≡ Some (Holds_object n) → class_at h n ≡ class_of (held cs (Entry k))) → answer_at h o ≡ item_answer cs k u
+same_answer : (h : Heap) (cs : List Cell) (k : ℕ) (o : Option Machine_item) (u : Option Item) →
+    SameOver o u → ((n : ℕ) → o ≡ Some (Holds_object n) → class_at h n ≡ class_of (held cs (Entry k))) → answer_at h o ≡ item_answer cs k u
 same_answer h cs k o u same object = grind arith
 
 -- how many entries that is
@@ -101,11 +79,7 @@ owned_over (Some i) = owned_by i
 
 pub entry_there : (is : List Machine_item) (k : ℕ) → owned_over (over is k) ≡ entry_in is k
 entry_there [] k = refl
-entry_there (i ∷ is) k = go (entry_there is k) (length is == k)
-  where
-    go : owned_over (over is k) ≡ entry_in is k → (b : Bool) → owned_over (cond b (Some i) (over is k)) ≡ cond b (owned_by i) (entry_in is k)
-    go below true = refl
-    go below false = below
+entry_there (i ∷ is) k = grind (arith, nat_tests, entry_there is k)
 
 -- the number in the place of an entry is that of the item there
 entry_number : (is : List Machine_item) (k n : ℕ) → over is k ≡ Some (Holds_object n) → entry_in is k ≡ n
@@ -113,15 +87,13 @@ entry_number [] k n is_there = absurd (none-some (Holds_object n) is_there)
 entry_number (i ∷ is) k n there = go (entry_number is k n) (length is == k) there
   where
     go : (over is k ≡ Some (Holds_object n) → entry_in is k ≡ n) → (b : Bool) → cond b (Some i) (over is k) ≡ Some (Holds_object n) → cond b (owned_by i) (entry_in is k) ≡ n
-    go below true there = ap owned_by (same_Some i (Holds_object n) there)
-    go below false there = below there
+    go below x y = grind (arith, nat_tests, same_Some)
 
 module _ (p : Image) (m : Parts) (s : State) (st : StandsFor (record { image = p; parts = m }) s) where
   -- so is an item told as that of the state
   pub item_told : (k : ℕ) (o : Option Machine_item) → o ≡ over m.entries.items k → answer_at m.cells o ≡ item_answer s.cells k (over s.items k)
-  item_told k o there =
-      ap (answer_at m.cells) there ∙ same_answer m.cells s.cells k (over m.entries.items k) (over s.items k) (both_over k m.entries.items s.items st.agrees.entries)
-      (λ n object. class_held p m s st (Entry k) n (sym (entry_number m.entries.items k n object) ∙ st.agrees.values (Entry k)))
+  item_told k o there = ap (answer_at m.cells) there ∙ same_answer m.cells s.cells k (over m.entries.items k) (over s.items k) (both_over k m.entries.items
+      s.items st.agrees.entries) (λ n object. class_held p m s st (Entry k) n (sym (entry_number m.entries.items k n object) ∙ st.agrees.values (Entry k)))
 
   pub as_many_items : length m.entries.items ≡ length s.items
   as_many_items = same_items_length m.entries.items s.items st.agrees.entries

@@ -1,6 +1,5 @@
 -- Sums over the first numbers, and over a list.
-use Rattle.std.proofs.Common.{◌≡◌, ◌≢◌, ◌⊎◌, ◌∙◌, ◌<◌, ℕ, zero, suc, ◌+◌, Bool, true, false, cond, ◌==◌, List, [], ◌∷◌, inl, inr, refl, sym, ap, subst, arith}
-use Rattle.std.proofs.lemmas.Bool.{cases_eq, eqb-false, eqb-true, ne_eqb}
+use Rattle.std.proofs.Common.{◌≡◌, ◌<◌, ℕ, zero, suc, ◌+◌, Bool, false, cond, ◌==◌, List, [], ◌∷◌, inl, inr, refl, arith}
 use Rattle.aom_queues.specs.Lists.{IsIn, IsOnce}
 
 abbrev pub sum_to : (ℕ → ℕ) → ℕ → ℕ
@@ -25,19 +24,7 @@ sum_add f g (suc n) = let below = sum_add f g n in omega (arith, below)
 -- one number alone counts
 pub sum_one : (f : ℕ → ℕ) (at n : ℕ) → at < n → ((k : ℕ) → (k == at) ≡ false → f k ≡ 0) → sum_to f n ≡ f at
 sum_one f at zero less none = absurd (omega arith)
-sum_one f at (suc n) less none = go (sum_one f at n) (n == at) refl
-  where
-    go : (at < n → ((k : ℕ) → (k == at) ≡ false → f k ≡ 0) → sum_to f n ≡ f at) → (b : Bool) → (n == at) ≡ b → sum_to f n + f n ≡ f at
-    go below true is =
-        let same = eqb-true n at is in
-        let rest : sum_to f n ≡ 0 = sum_none f n (λ k under. none k (ne_eqb k at (λ e. omega (arith, e, same, under)))) in
-        let here : f n ≡ f at = ap f same in
-        omega (arith, rest, here)
-    go below false other =
-        let differs = eqb-false n at other in
-        let rest : sum_to f n ≡ f at = below (omega (arith, differs, less)) none in
-        let here : f n ≡ 0 = none n other in
-        omega (arith, rest, here)
+sum_one f at (suc n) less none = grind (arith, sum_one f at n, sum_none f n)
 
 -- ---- over a list
 
@@ -60,15 +47,4 @@ sum_of_add f g (x ∷ xs) = let rest = sum_of_add f g xs in omega (arith, rest)
 -- where one alone, which stands there once, gives anything
 pub sum_of_one : (f : ℕ → ℕ) (at : ℕ) (xs : List ℕ) → IsOnce xs → IsIn at xs → ((x : ℕ) → (x == at) ≡ false → f x ≡ 0) → sum_of f xs ≡ f at
 sum_of_one f at [] once there none = absurd there
-sum_of_one f at (x ∷ xs) once there none = go (cases_eq x at) there (λ later. sum_of_one f at xs once.1 later none)
-  where
-    go : (x ≡ at) ⊎ (x ≢ at) → (x ≡ at) ⊎ IsIn at xs → (IsIn at xs → sum_of f xs ≡ f at) → f x + sum_of f xs ≡ f at
-    go (inl same) there below =
-        let rest = sum_of_none f xs (λ y among. none y (ne_eqb y at (λ e. once.0 (subst (λ z. IsIn z xs) (e ∙ sym same) among)))) in
-        let here : f x ≡ f at = ap f same in
-        omega (arith, rest, here)
-    go (inr apart) (inl e) below = absurd (apart e)
-    go (inr apart) (inr later) below =
-        let rest = below later in
-        let here = none x (ne_eqb x at apart) in
-        omega (arith, rest, here)
+sum_of_one f at (x ∷ xs) once there none = grind (arith, sum_of_one f at xs once.1, sum_of_none f xs)

@@ -1,5 +1,7 @@
 -- What stands at a depth of the machine is what stands there in each state that it stands for.
-use Rattle.std.proofs.Common.{◌≡◌, ◌∙◌, ℕ, ℤ, zero, suc, Bool, true, false, cond, ◌==◌, List, [], ◌∷◌, ◌++◌, length, Option, Some, None, slice_get, slice_index_or, refl, sym, ap, subst, arith}
+use Rattle.std.proofs.lemmas.Bool.Decides.{nat_tests}
+use Rattle.std.proofs.Common.{◌≡◌, ◌∙◌, ℕ, ℤ, zero, suc, Bool, true, false, cond, ◌==◌, List, [], ◌∷◌, ◌++◌, length, Option, Some, None, slice_get}
+use Rattle.std.proofs.Common.{slice_index_or, refl, sym, ap, subst, arith}
 use Rattle.std.specs.Prelude.{is_some, reverse}
 use Rattle.std.proofs.lemmas.Bool.{eq-eqb, eqb-false, eqb-true, ne_eqb}
 use Rattle.std.proofs.lemmas.List.{length-reverse, reverse-append}
@@ -28,11 +30,7 @@ use Rattle.aom_debug_views.specs.Owners.{Represents, ShowsNone, frame_over, goin
 -- ---- lists
 
 suc_same : (n k : ℕ) {B : Type 0} (x y : B) → cond (suc n == suc k) x y ≡ cond (n == k) x y
-suc_same n k x y = go (n == k) refl
-  where
-    go : (b : Bool) → (n == k) ≡ b → cond (suc n == suc k) x y ≡ cond b x y
-    go true is = ap (λ c. cond c x y) (eq-eqb (suc n) (suc k) (ap suc (eqb-true n k is)))
-    go false is = ap (λ c. cond c x y) (ne_eqb (suc n) (suc k) (λ e. let other = eqb-false n k is in omega (arith, e, other)))
+suc_same n k x y = grind (arith, nat_tests, eq-eqb, eqb-true n k, ne_eqb, eqb-false n k)
 
 module _ {A : Type 0} where
   last_read : (ys : List A) (x : A) (k : ℕ) → slice_get (ys ++ x ∷ []) k ≡ cond (length ys == k) (Some x) (slice_get ys k)
@@ -44,16 +42,15 @@ module _ {A : Type 0} where
   -- by how many lie below it
   pub over_from_bottom : (xs : List A) (k : ℕ) → slice_get (reverse xs) k ≡ over xs k
   over_from_bottom [] k = refl
-  over_from_bottom (x ∷ xs) k =
-      ap (λ (ys : List A). slice_get ys k) (reverse-append (x ∷ []) xs) ∙ last_read (reverse xs) x k
-      ∙ ap (λ n. cond (n == k) (Some x) (slice_get (reverse xs) k)) (length-reverse xs) ∙ ap (λ o. cond (length xs == k) (Some x) o) (over_from_bottom xs k)
+  over_from_bottom (x ∷ xs) k = grind (arith, reverse-append (x ∷ []) xs, last_read, length-reverse xs, over_from_bottom xs k)
 
   -- what lies above it, and what below
   pub parted : (xs : List A) (k : ℕ) (x : A) → over xs k ≡ Some x → (above below : List A) × (xs ≡ above ++ x ∷ below) × (length below ≡ k)
   parted [] k x is = absurd (none-some x is)
   parted (y ∷ ys) k x is = go (parted ys k x) (length ys == k) refl is
     where
-      go : (over ys k ≡ Some x → (above below : List A) × (ys ≡ above ++ x ∷ below) × (length below ≡ k)) → (b : Bool) → (length ys == k) ≡ b → cond b (Some y) (over ys k) ≡ Some x → (above below : List A) × ((y ∷ ys) ≡ above ++ x ∷ below) × (length below ≡ k)
+      go : (over ys k ≡ Some x → (above below : List A) × (ys ≡ above ++ x ∷ below) × (length below ≡ k)) → (b : Bool) →
+          (length ys == k) ≡ b → cond b (Some y) (over ys k) ≡ Some x → (above below : List A) × ((y ∷ ys) ≡ above ++ x ∷ below) × (length below ≡ k)
       go rest true at is = ([], ys, ap (λ z. z ∷ ys) (same_Some y x is), eqb-true (length ys) k at)
       go rest false at is = let more = rest is in (y ∷ more.0, more.1, ap (λ (zs : List A). y ∷ zs) more.2, more.3)
 
@@ -70,8 +67,7 @@ frame_by : (f : Machine_frame) (u : Option Task) → SameOver (Some (Runs_frame 
 frame_by f u same = grind arith
 
 frame_found : (o : Option Machine_task) (f : Machine_frame) → frame_over o ≡ Some f → o ≡ Some (Runs_frame f)
-frame_found (Some (Runs_frame g)) f is = ap (λ x. Some (Runs_frame x)) (same_Some g f is)
-frame_found _ f is = absurd (none-some f is)
+frame_found x f is = grind (arith, nat_tests, same_Some)
 
 -- how many frames and destructions that is
 abbrev goings_over : Option Machine_task → ℕ
@@ -162,5 +158,4 @@ module _ (p : Image) (m : Parts) where
           sym (register_there tasks k i ∙ both.0) ∙ subst (λ w. Machine_shows (value m (Register k i)) w (held s.cells (Register k i))) word (st.agrees.values (Register k i))
 
       by_null : (s : State) → StandsFor M s → (o : Option Object) → held s.cells (Register k i) ≡ o → null ≡ number (held s.cells (Register k i)) → o ≡ None
-      by_null s st None holds is = refl
-      by_null s st (Some o) holds is = absurd (not_null p m st.typing s st.typed st.agrees (Register k i) o holds (sym (is ∙ ap number holds)))
+      by_null s st x holds is = grind (arith, not_null p m st.typing s st.typed st.agrees (Register k i))

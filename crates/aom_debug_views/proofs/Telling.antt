@@ -1,5 +1,7 @@
 -- What goes out piece by piece: one text after another is out, or a beginning of them all.
-use Rattle.std.proofs.Common.{◌≡◌, ◌∙◌, ◌<◌, ℕ, zero, suc, ◌+◌, List, [], ◌∷◌, ◌++◌, Option, Some, None, Bool, true, false, ◌==◌, length, min, take, slice_get, refl, sym, ap, append_assoc, add-one, arith}
+use Rattle.std.proofs.lemmas.Bool.Decides.{nat_tests}
+use Rattle.std.proofs.Common.{◌≡◌, ◌∙◌, ◌<◌, ℕ, zero, suc, ◌+◌, List, [], ◌∷◌, ◌++◌, Option, Some, None, Bool, true, false, ◌==◌, length, min, take}
+use Rattle.std.proofs.Common.{slice_get, refl, sym, ap, append_assoc, add-one, arith}
 use Rattle.std.specs.Prelude.{map, option_map}
 use Rattle.std.specs.List.{flat_map}
 use Rattle.std.proofs.Math.Seq.{take-append-add}
@@ -22,15 +24,14 @@ sent_on (Some t) now new a b was put = put ∙ ap (λ o. after o b) was ∙ ap (
 
 -- the first text and a beginning of the second are a beginning of these and a third
 beginning : (a b c : List ℕ) (n : ℕ) → take (length a + min n (length b)) (a ++ (b ++ c)) ≡ a ++ take n b
-beginning a b c n = take-append-add a (b ++ c) (min n (length b)) ∙ ap (λ (u : List ℕ). a ++ u) (take-append-le (min n (length b)) b c (omega arith) ∙ take_min n b)
+beginning a b c n = grind (arith, nat_tests, take-append-add a (b ++ c), take-append-le, take_min n b)
 
 pub cut_on : (before now new : Option (List ℕ)) (a b c : List ℕ) (n : ℕ) → now ≡ after before a → new ≡ after now (take n b) → (sent : ℕ) × (new ≡ after before (take sent (a ++ (b ++ c))))
-cut_on before now new a b c n was put = (length a + min n (length b), sent_on before now new a (take n b) was put ∙ ap (λ u. after before u) (sym (beginning a b c n)))
+cut_on before now new a b c n was put = search (arith, nat_tests, sent_on before now new a, beginning a b c n)
 
 -- nothing is out yet
 pub none_sent : (before : Option (List ℕ)) → before ≡ after before []
-none_sent None = refl
-none_sent (Some t) = ap (λ (u : List ℕ). Some u) (sym (append-nil t))
+none_sent x = grind (arith, nat_tests, append-nil)
 
 -- ---- what is gathered
 
@@ -41,11 +42,14 @@ module _ {A : Type 0} where
   gathered_here f i (suc n) less = go (gathered_here f i n) (i == n) refl
     where
       go : (i < n → (rest : List A) × (gathered f n ≡ gathered f i ++ (f i ++ rest))) → (b : Bool) → (i == n) ≡ b → (rest : List A) × (gathered f (suc n) ≡ gathered f i ++ (f i ++ rest))
-      go below true is = ([], ap (λ k. gathered f k ++ f k) (sym (eqb-true i n is)) ∙ ap (λ (u : List A). gathered f i ++ u) (sym (append-nil (f i))))
+      go below true is = search (arith, nat_tests, eqb-true i n is, append-nil (f i))
       go below false is =
           let other = eqb-false i n is in
-          let earlier = below (omega (arith, other, less)) in
-          (earlier.0 ++ f n, ap (λ (u : List A). u ++ f n) earlier.1 ∙ append_assoc (gathered f i) (f i ++ earlier.0) (f n) ∙ ap (λ (u : List A). gathered f i ++ u) (append_assoc (f i) earlier.0 (f n)))
+          let earlier = below (omega (arith, other, less)) in (
+            earlier.0 ++ f n,
+            ap (λ (u : List A). u ++ f n) earlier.1
+                ∙ append_assoc (gathered f i) (f i ++ earlier.0) (f n) ∙ ap (λ (u : List A). gathered f i ++ u) (append_assoc (f i) earlier.0 (f n)),
+          )
 
   -- the first alone, and then the others
   gathered_front : (f : ℕ → List A) (n : ℕ) → gathered f (suc n) ≡ f 0 ++ gathered (λ k. f (suc k)) n
@@ -60,7 +64,7 @@ module _ {A : Type 0} where
   -- the same is gathered of the same
   pub gathered_same : (f g : ℕ → List A) (n : ℕ) → ((k : ℕ) → k < n → f k ≡ g k) → gathered f n ≡ gathered g n
   gathered_same f g zero same = refl
-  gathered_same f g (suc n) same = ap (λ (u : List A). u ++ f n) (gathered_same f g n (λ k less. same k (omega arith))) ∙ ap (λ (u : List A). gathered g n ++ u) (same n (omega arith))
+  gathered_same f g (suc n) same = grind (arith, nat_tests, gathered_same f g n)
 
 -- ---- lines that go out one by one
 
@@ -73,7 +77,8 @@ module _ {A : Type 0} (line : A → List ℕ) (f : ℕ → List A) where
   line_sent before now new i was put = rw add-one (sent_on before now new (text_to i) (flat_map line (f i)) was put ∙ ap (λ u. after before u) (sym (flat_map-append line (gathered f i) (f i))))
 
   -- or a beginning of them, and so of all
-  pub line_cut : (before now new : Option (List ℕ)) (i n sent : ℕ) → i < n → now ≡ after before (text_to i) → new ≡ after now (take sent (flat_map line (f i))) → (part : ℕ) × (new ≡ after before (take part (text_to n)))
+  pub line_cut : (before now new : Option (List ℕ)) (i n sent : ℕ) →
+      i < n → now ≡ after before (text_to i) → new ≡ after now (take sent (flat_map line (f i))) → (part : ℕ) × (new ≡ after before (take part (text_to n)))
   line_cut before now new i n sent less was put =
       let all = gathered_here f i n less in
       let parts : text_to n ≡ text_to i ++ (flat_map line (f i) ++ flat_map line all.0) =
@@ -83,7 +88,8 @@ module _ {A : Type 0} (line : A → List ℕ) (f : ℕ → List A) where
       (cut.0, cut.1 ∙ ap (λ u. after before (take cut.0 u)) (sym parts))
 
   -- so a fault says
-  pub lines_cut : (before now new : Option (List ℕ)) (i n : ℕ) (xs : List A) (fault : DebugFault) (failed : Bool) → i < n → now ≡ after before (text_to i) → xs ≡ f i → IsCut (flat_map line xs) fault failed now new → IsCut (text_to n) fault failed before new
+  pub lines_cut : (before now new : Option (List ℕ)) (i n : ℕ) (xs : List A) (fault : DebugFault) (failed : Bool) →
+      i < n → now ≡ after before (text_to i) → xs ≡ f i → IsCut (flat_map line xs) fault failed now new → IsCut (text_to n) fault failed before new
   lines_cut before now new i n xs fault failed less was same cut =
       let part = line_cut before now new i n cut.sent less was (cut.out ∙ ap (λ ys. after now (take cut.sent (flat_map line ys))) same) in
       record { told = cut.told; fails = cut.fails; sent = part.0; out = part.1 }
@@ -96,22 +102,25 @@ module _ {A : Type 0} (line : A → List ℕ) (m : Machine) (f : State → ℕ �
   pub tells_none : (before : Option (List ℕ)) → TellsTo 0 before before
   tells_none before = record { out = λ s st. none_sent before }
 
-  pub tells_next : (i : ℕ) (before now new : Option (List ℕ)) (xs : List A) → TellsTo i before now → ((s : State) → StandsFor m s → xs ≡ f s i) → new ≡ after now (flat_map line xs) → TellsTo (i + 1) before new
-  tells_next i before now new xs was same put = record { out = λ s st. line_sent line (f s) before now new i (was.out s st) (put ∙ ap (λ ys. after now (flat_map line ys)) (same s st)) }
+  pub tells_next : (i : ℕ) (before now new : Option (List ℕ)) (xs : List A) →
+      TellsTo i before now → ((s : State) → StandsFor m s → xs ≡ f s i) → new ≡ after now (flat_map line xs) → TellsTo (i + 1) before new
+  tells_next i before now new xs was same put = record { out = grind (arith, nat_tests, line_sent line) }
 
-  pub tells_part : (n : State → ℕ) (i : ℕ) (before now new : Option (List ℕ)) (xs : List A) (fault : DebugFault) (failed : Bool) → TellsTo i before now → ((s : State) → StandsFor m s → xs ≡ f s i) → ((s : State) → StandsFor m s → i < n s) →
+  pub tells_part : (n : State → ℕ) (i : ℕ) (before now new : Option (List ℕ)) (xs : List A) (fault : DebugFault) (failed : Bool) →
+      TellsTo i before now → ((s : State) → StandsFor m s → xs ≡ f s i) → ((s : State) → StandsFor m s → i < n s) →
       IsCut (flat_map line xs) fault failed now new → TellsPart m (λ s. flat_map line (gathered (f s) (n s))) fault failed before new
   tells_part n i before now new xs fault failed was same within cut = record {
     told = cut.told;
     fails = cut.fails;
-    out = λ s st. line_cut line (f s) before now new i (n s) cut.sent (within s st) (was.out s st) (cut.out ∙ ap (λ ys. after now (take cut.sent (flat_map line ys))) (same s st));
+    out = λ s st. line_cut line (f s) before now new i (n s) cut.sent (within s st) (was.out s st) (grind arith);
   }
 
   -- where what is told depends on the state
   pub tells_further : (i : ℕ) (before now new : Option (List ℕ)) → TellsTo i before now → Tells m (λ s. flat_map line (f s i)) now new → TellsTo (i + 1) before new
   tells_further i before now new was later = record { out = λ s st. line_sent line (f s) before now new i (was.out s st) (later.out s st) }
 
-  pub part_further : (n : State → ℕ) (i : ℕ) (before now new : Option (List ℕ)) (fault : DebugFault) (failed : Bool) → TellsTo i before now → ((s : State) → StandsFor m s → i < n s) → TellsPart m (λ s. flat_map line (f s i)) fault failed now new →
+  pub part_further : (n : State → ℕ) (i : ℕ) (before now new : Option (List ℕ)) (fault : DebugFault) (failed : Bool) →
+      TellsTo i before now → ((s : State) → StandsFor m s → i < n s) → TellsPart m (λ s. flat_map line (f s i)) fault failed now new →
       TellsPart m (λ s. flat_map line (gathered (f s) (n s))) fault failed before new
   part_further n i before now new fault failed was within cut = record {
     told = cut.told;
@@ -119,7 +128,8 @@ module _ {A : Type 0} (line : A → List ℕ) (m : Machine) (f : State → ℕ �
     out = λ s st. let sent = cut.out s st in line_cut line (f s) before now new i (n s) sent.0 (within s st) (was.out s st) sent.1;
   }
 
-  pub tells_all : (n : State → ℕ) (i : ℕ) (before now : Option (List ℕ)) → TellsTo i before now → ((s : State) → StandsFor m s → i ≡ n s) → Tells m (λ s. flat_map line (gathered (f s) (n s))) before now
+  pub tells_all : (n : State → ℕ) (i : ℕ) (before now : Option (List ℕ)) →
+      TellsTo i before now → ((s : State) → StandsFor m s → i ≡ n s) → Tells m (λ s. flat_map line (gathered (f s) (n s))) before now
   tells_all n i before now was all = record { out = λ s st. was.out s st ∙ ap (λ k. after before (flat_map line (gathered (f s) k))) (all s st) }
 
 -- a text that is the same in each state
@@ -137,7 +147,10 @@ module _ {A : Type 0} (line : A → List ℕ) (m : Machine) (a b : State → Lis
   both s = flat_map line (a s ++ b s)
 
   pub tells_both : (before now new : Option (List ℕ)) → Tells m (λ s. flat_map line (a s)) before now → Tells m (λ s. flat_map line (b s)) now new → Tells m both before new
-  tells_both before now new first later = record { out = λ s st. sent_on before now new (flat_map line (a s)) (flat_map line (b s)) (first.out s st) (later.out s st) ∙ ap (λ u. after before u) (sym (flat_map-append line (a s) (b s))) }
+  tells_both before now new first later = record {
+    out = λ s st. sent_on before now new
+        (flat_map line (a s)) (flat_map line (b s)) (first.out s st) (later.out s st) ∙ ap (λ u. after before u) (sym (flat_map-append line (a s) (b s)));
+  }
 
   pub cut_first : (before new : Option (List ℕ)) (fault : DebugFault) (failed : Bool) → TellsPart m (λ s. flat_map line (a s)) fault failed before new → TellsPart m both fault failed before new
   cut_first before new fault failed first = record {
@@ -149,14 +162,15 @@ module _ {A : Type 0} (line : A → List ℕ) (m : Machine) (a b : State → Lis
         (cut.0, cut.1 ∙ ap (λ u. after before (take cut.0 u)) (sym (flat_map-append line (a s) (b s))));
   }
 
-  pub cut_later : (before now new : Option (List ℕ)) (fault : DebugFault) (failed : Bool) → Tells m (λ s. flat_map line (a s)) before now → TellsPart m (λ s. flat_map line (b s)) fault failed now new → TellsPart m both fault failed before new
+  pub cut_later : (before now new : Option (List ℕ)) (fault : DebugFault) (failed : Bool) →
+      Tells m (λ s. flat_map line (a s)) before now → TellsPart m (λ s. flat_map line (b s)) fault failed now new → TellsPart m both fault failed before new
   cut_later before now new fault failed first later = record {
     told = later.told;
     fails = later.fails;
     out = λ s st.
         let sent = later.out s st in
         let cut = cut_on before now new (flat_map line (a s)) (flat_map line (b s)) [] sent.0 (first.out s st) sent.1 in
-        (cut.0, cut.1 ∙ ap (λ u. after before (take cut.0 u)) (ap (λ (u : List ℕ). flat_map line (a s) ++ u) (append-nil (flat_map line (b s))) ∙ sym (flat_map-append line (a s) (b s))));
+        (cut.0, grind (arith, nat_tests, append-nil, flat_map-append line (a s) (b s)));
   }
 
 -- ---- the answer of each item of a list
@@ -168,7 +182,8 @@ module _ {X B : Type 0} (f : X → B) where
 -- ---- a text in parts
 
 -- a beginning of one part is one of the whole
-pub cut_within : (before now new : Option (List ℕ)) (a b c all : List ℕ) (fault : DebugFault) (failed : Bool) → a ++ (b ++ c) ≡ all → now ≡ after before a → IsCut b fault failed now new → IsCut all fault failed before new
+pub cut_within : (before now new : Option (List ℕ)) (a b c all : List ℕ) (fault : DebugFault) (failed : Bool) →
+    a ++ (b ++ c) ≡ all → now ≡ after before a → IsCut b fault failed now new → IsCut all fault failed before new
 cut_within before now new a b c all fault failed is was cut =
     let part = cut_on before now new a b c cut.sent was cut.out in
     record { told = cut.told; fails = cut.fails; sent = part.0; out = part.1 ∙ ap (λ u. after before (take part.0 u)) is }
@@ -177,8 +192,9 @@ cut_within before now new a b c all fault failed is was cut =
 pub cut_in_first : (before new : Option (List ℕ)) (a b : List ℕ) (fault : DebugFault) (failed : Bool) → IsCut a fault failed before new → IsCut (a ++ b) fault failed before new
 cut_in_first before new a b fault failed cut = cut_within before before new [] a b (a ++ b) fault failed refl (none_sent before) cut
 
-pub cut_in_second : (before now new : Option (List ℕ)) (a b : List ℕ) (fault : DebugFault) (failed : Bool) → now ≡ after before a → IsCut b fault failed now new → IsCut (a ++ b) fault failed before new
+pub cut_in_second : (before now new : Option (List ℕ)) (a b : List ℕ) (fault : DebugFault) (failed : Bool) →
+    now ≡ after before a → IsCut b fault failed now new → IsCut (a ++ b) fault failed before new
 cut_in_second before now new a b fault failed was cut = cut_within before now new a b [] (a ++ b) fault failed (ap (λ (u : List ℕ). a ++ u) (append-nil b)) was cut
 
 pub cut_as : (a b : List ℕ) (fault : DebugFault) (failed : Bool) (before now : Option (List ℕ)) → a ≡ b → IsCut a fault failed before now → IsCut b fault failed before now
-cut_as a b fault failed before now is cut = record { told = cut.told; fails = cut.fails; sent = cut.sent; out = cut.out ∙ ap (λ t. after before (take cut.sent t)) is }
+cut_as a b fault failed before now is cut = search (arith, nat_tests)

@@ -1,26 +1,24 @@
 -- What hangs from a place: the line of what it holds, and then what hangs from its fields, is what goes out.
-use Rattle.std.proofs.Common.{◌≡◌, ◌∙◌, ◌<◌, ◌≤◌, ◌+◌, ◌-◌, ℕ, zero, suc, Bool, true, false, cond, nat_lt, List, [], ◌∷◌, ◌++◌, Option, Some, None, codes, decimal, length, take, refl, sym, ap, append_assoc, arith}
+use Rattle.std.proofs.lemmas.Bool.Decides.{nat_tests}
+use Rattle.std.proofs.Common.{◌≡◌, ◌∙◌, ◌<◌, ◌≤◌, ◌+◌, ◌-◌, ℕ, zero, suc, Bool, true, false, cond, nat_lt, List, [], ◌∷◌, ◌++◌, Option, Some, None, codes}
+use Rattle.std.proofs.Common.{length, take, refl, sym, ap, append_assoc, arith}
 use Rattle.std.specs.Prelude.{is_some, not}
-use Rattle.std.proofs.lemmas.Bool.{false≢true, ltb-false, ltb-true}
+use Rattle.std.proofs.lemmas.Bool.{ltb-false, ltb-true}
 use Rattle.std.specs.List.{flat_map}
 use Rattle.std.proofs.lemmas.Grind.{flat_map-append}
-use Rattle.std.proofs.lemmas.List.{append-nil, get_or_past}
-use Rattle.std.proofs.lemmas.Option.{none-some, same_Some}
+use Rattle.std.proofs.lemmas.List.{append-nil}
+use Rattle.std.proofs.lemmas.Option.{same_Some}
 use Rattle.aom_image.specs.Image.{Image}
 use Rattle.aom_image.specs.declared.method.Thing.{Thing}
 use Rattle.aom_image.specs.declared.method.Thing.TheVariants.{Object as An_object_of, Message}
 use Rattle.aom_roles.specs.Things.{is_object}
-use Rattle.aom_cells.specs.Heap.{Lives, cell_at, class_at, field_at}
-use Rattle.aom_cells.specs.Heap.{class_of as class_of_cell}
-use Rattle.aom_cells.specs.declared.cell.Cell.{Cell as Machine_cell}
+use Rattle.aom_cells.specs.Heap.{Lives, class_at, field_at}
 use Rattle.aom_clients.specs.Clients.{client_at, place_at, sessions_at}
 use Rattle.aom_clients.specs.declared.place.Place.{Place as Message_place}
-use Rattle.aom_clients.specs.declared.place.Place.TheVariants.{Discarded, Free, Held, Queued}
 use Rattle.aom_transcript.specs.Text.{ended}
 use Rattle.aom_semantics.proofs.Maps.{held_lives}
-use Rattle.aom_semantics.specs.Places.{Cell, Elsewhere, Field, Object, Place, Register, Sender, Session, Token, held, named, service_of, Service}
+use Rattle.aom_semantics.specs.Places.{Cell, Elsewhere, Field, Object, Place, Register, Sender, Session, Token, held, named, service_of}
 use Rattle.aom_semantics.specs.State.{State}
-use Rattle.aom_safety.proofs.Services.{service_unnamed}
 use Rattle.aom_safety.specs.Kept.{one_if_some, sources_of}
 use Rattle.aom_safety.proofs.Sources.{has_sender}
 use Rattle.aom_machine_state.specs.declared.parts.Parts.{Parts}
@@ -34,14 +32,13 @@ use Rattle.aom_tokens.specs.Tokens.{class_at as token_class}
 use Rattle.aom_debug_names.specs.Names.{Names, class_by}
 use Rattle.aom_debug_names.specs.Answers.{hearer_by}
 use Rattle.aom_debug_words.specs.declared.answer.Source.{Source}
-use Rattle.aom_debug_words.specs.declared.answer.Source.TheVariants as sources
 use Rattle.aom_machine_state.proofs.Serving.{taken_sent}
 use Rattle.aom_run.specs.Runs.{after}
-use Rattle.aom_machine_instructions.proofs.Finding.{object_lives}
-use Rattle.aom_machine_instructions.proofs.Running.{null_unnamed}
 use Rattle.aom_debug_words.specs.declared.fault.DebugFault.{DebugFault}
 use Rattle.aom_debug_views.specs.Sights.{class_in, class_of}
-use Rattle.aom_debug_views.specs.Owners.{Branch, By_field, By_session, In_register, Outer, Owned, Represents, ShowsNone, Way, beneath, branch_text, frame_registers, further, generations, grown, message_text, outer_text, owned_line, owners_text, thing_text, tree, way_text, source_at, source_by, source_in, source_of}
+use Rattle.aom_debug_views.specs.Owners.{Branch, By_field, By_session, In_register, Outer, Owned, Represents, ShowsNone, Way, branch_text}
+use Rattle.aom_debug_views.specs.Owners.{frame_registers, further, generations, grown, message_text, outer_text, owned_line, owners_text, tree}
+use Rattle.aom_debug_views.specs.Owners.{way_text, source_at, source_by, source_in, source_of}
 use Rattle.aom_debug_views.specs.Telling.{IsCut, Tells, TellsPart, gathered}
 use Rattle.aom_debug_views.proofs.Telling.{cut_on, none_sent, sent_on}
 use Rattle.aom_debug_views.proofs.Showing.{class_held}
@@ -54,10 +51,9 @@ gathered_none (suc n) f none = ap (λ (xs : List Owned). xs ++ f n) (gathered_no
 
 -- one branch further
 pub way_further : (w : Way) (b : Branch) (old new : List ℕ) → old ≡ way_text w → new ≡ old ++ branch_text b → new ≡ way_text (further w b)
-way_further w b old new is put =
-    put ∙ ap (λ (t : List ℕ). t ++ branch_text b) is
-    ∙ append_assoc (outer_text w.outer) (flat_map branch_text w.branches) (branch_text b)
-    ∙ ap (λ (t : List ℕ). outer_text w.outer ++ t) (ap (λ (t : List ℕ). flat_map branch_text w.branches ++ t) (sym (append-nil (branch_text b))) ∙ sym (flat_map-append branch_text w.branches (b ∷ [])))
+way_further w b old new is put = put ∙ ap (λ (t : List ℕ). t ++ branch_text b) is
+    ∙ append_assoc (outer_text w.outer) (flat_map branch_text w.branches) (branch_text b) ∙ ap (λ (t : List ℕ). outer_text w.outer ++ t)
+    (ap (λ (t : List ℕ). flat_map branch_text w.branches ++ t) (sym (append-nil (branch_text b))) ∙ sym (flat_map-append branch_text w.branches (b ∷ [])))
 
 pub way_begins : (outer : Outer) (t : List ℕ) → t ≡ outer_text outer → t ≡ way_text (record { outer = outer; branches = [] })
 way_begins outer t is = is ∙ sym (append-nil (outer_text outer))
@@ -65,48 +61,29 @@ way_begins outer t is = is ∙ sym (append-nil (outer_text outer))
 -- ---- what a place holds
 
 pub thing_is : (t : Thing) (class : ℕ) → class_in t ≡ Some class → t ≡ An_object_of class
-thing_is (An_object_of c) class is = ap (λ k. An_object_of k) (same_Some c class is)
-thing_is Message class is = absurd (none-some class is)
+thing_is x class is = grind (arith, nat_tests, same_Some)
 
 pub tree_none : (cs : List Cell) (n : ℕ) (w : Way) (o : Option Object) → o ≡ None → tree cs n w o ≡ []
-tree_none cs zero w o none = refl
-tree_none cs (suc n) w o none = ap (tree cs (suc n) w) none
+tree_none cs x w o none = grind arith
 
 -- ---- who hears when a message is completed
 
 -- where a place is told to have nothing, it has no token and no client's message
 unsourced : (c : Option ℕ) (x : Message_place) → source_of c x ≡ None → (c ≡ None) × (is_taken x ≡ false)
-unsourced (Some c) x none = absurd (none-some (sources.Token c) (sym none))
-unsourced None Free none = (refl, refl)
-unsourced None (Queued d) none = absurd (none-some (sources.Client d) (sym none))
-unsourced None (Held d) none = absurd (none-some (sources.Client d) (sym none))
-unsourced None (Discarded d) none = absurd (none-some (sources.Client d) (sym none))
+unsourced x y none = grind arith
 
 -- no message is without either
 uncounted : (sd : Option Sender) (t : Option Token) → is_some sd ≡ false → class_of_token t ≡ None → one_if_some sd + one_if_some t ≡ 1 → ⊥
-uncounted (Some sd) t unsent untold one = false≢true (sym unsent)
-uncounted None (Some t) unsent untold one = none-some t.class (sym untold)
-uncounted None None unsent untold one = omega (arith, one)
+uncounted x t unsent untold one = grind arith
 
 -- what is told of a place is who hears of the message there
 told_source : (c : Option ℕ) (slot : Bool) (x : Message_place) (sd : Option Sender) (t : Option Token) (source : Source) →
     class_of_token t ≡ c → sent_by slot x ≡ sd → one_if_some sd + one_if_some t ≡ 1 → source_of c x ≡ Some source → source_by sd t ≡ Some source
-told_source (Some k) slot x (Some sd) (Some t) source class sent one is = absurd (omega (arith, one))
-told_source (Some k) slot x None (Some t) source class sent one is = ap (λ c. Some (sources.Token c)) (same_Some t.class k class) ∙ is
-told_source (Some k) slot x sd None source class sent one is = absurd (none-some k class)
-told_source None slot x sd (Some t) source class sent one is = absurd (none-some t.class (sym class))
-told_source None slot Free sd None source class sent one is = absurd (none-some source is)
-told_source None slot (Queued d) sd None source class sent one is = ap (λ z. source_by z None) (sym sent) ∙ is
-told_source None slot (Held d) sd None source class sent one is = ap (λ z. source_by z None) (sym sent) ∙ is
-told_source None slot (Discarded d) sd None source class sent one is = ap (λ z. source_by z None) (sym sent) ∙ is
+told_source x slot y sd z source class sent one is = grind (arith, nat_tests, same_Some)
 
 -- and where there is neither, nothing is told
 untold_source : (c : Option ℕ) (slot : Bool) (x : Message_place) (source : Source) → c ≡ None → sent_by slot x ≡ None → source_of c x ≡ Some source → ⊥
-untold_source (Some k) slot x source none unsent is = none-some k (sym none)
-untold_source None slot Free source none unsent is = none-some source is
-untold_source None slot (Queued d) source none unsent is = none-some _ (sym unsent)
-untold_source None slot (Held d) source none unsent is = none-some _ (sym unsent)
-untold_source None slot (Discarded d) source none unsent is = none-some _ (sym unsent)
+untold_source x slot y source none unsent is = grind arith
 
 -- of each message it is told
 message_sourced : (p : Image) (m : Parts) (s : State) → StandsFor (record { image = p; parts = m }) s → (o : Object) → named s.cells o.name ≡ Some o → o.thing ≡ Message → source_at m o.name ≡ None → ⊥
@@ -119,41 +96,26 @@ message_sourced p m s st o lives message untold = low (nat_lt o.name 4096) refl 
     one = st.kept.fit.sources o lives ∙ ap (λ th. cond (is_object th) 0 1) message
 
     named_so : (j : ℕ) → o.name ≡ message_name j → source_of (token_class m.tokens j) (place_at m.clients j) ≡ None → ⊥
-    named_so j name none =
-        let both = unsourced (token_class m.tokens j) (place_at m.clients j) none in
-        let unsent = ap (has_sender s.cells) name ∙ sym (taken_sent m.clients s.cells s.clients st.agrees.services.clients j) ∙ both.1 in
-        let untold_class = ap (λ n. class_of_token (service_of s.cells n).token) name ∙ sym (st.agrees.services.tokens.classes j) ∙ both.0 in
-        uncounted (service_of s.cells o.name).sender (service_of s.cells o.name).token unsent untold_class one
+    named_so j name none = grind (arith, nat_tests, unsourced, has_sender, taken_sent, uncounted, one)
 
     -- a message place is below 1,024
     within : (j : ℕ) → o.name ≡ message_name j → 1024 ≤ j → ⊥
-    within j name past =
-        false≢true (sym (ap is_some (st.agrees.services.messages.within j past)) ∙ st.agrees.services.messages.there j ∙ ap (λ n. is_a_message (named s.cells n)) (sym name) ∙ said)
+    within j name past = grind (arith, nat_tests, said)
 
     high : (b : Bool) → nat_lt o.name 5120 ≡ b → nat_lt o.name 4096 ≡ false → cond b (source_of (token_class m.tokens (o.name - 4096)) (place_at m.clients (o.name - 4096))) None ≡ None → ⊥
-    high true less past none =
-        let most = ltb-false o.name 4096 past in
-        named_so (o.name - 4096) (omega (arith, most)) none
-    high false more past none =
-        let most = ltb-false o.name 4096 past in
-        let beyond = ltb-false o.name 5120 more in
-        within (o.name - 4096) (omega (arith, most)) (omega (arith, most, beyond))
+    high x less past none = grind (arith, nat_tests, ltb-false, named_so, within)
 
     low : (b : Bool) → nat_lt o.name 4096 ≡ b → cond b None (cond (nat_lt o.name 5120) (source_of (token_class m.tokens (o.name - 4096)) (place_at m.clients (o.name - 4096))) None) ≡ None → ⊥
-    low true less none = false≢true (sym (st.agrees.services.messages.past o.name (ltb-true o.name 4096 less)) ∙ said)
-    low false past none = high (nat_lt o.name 5120) refl past none
+    low x less none = grind (arith, nat_tests, ltb-true, said, high)
 
 module _ (p : Image) (m : Parts) where
   abbrev M : Machine
   M = record { image = p; parts = m }
 
   -- a cell's number is that of a place that holds an object of that name and class
-  pub found : (n class : ℕ) (r : Place) (s : State) → StandsFor M s → Represents M n r → class_at m.cells n ≡ Some class → (o : Object) × (held s.cells r ≡ Some o) × (o.thing ≡ An_object_of class) × (o.name ≡ n)
-  found n class r s st shows told = go (held s.cells r) refl (shows.each s st) (sym (class_held p m s st r n (shows.each s st)) ∙ told)
-    where
-      go : (o : Option Object) → held s.cells r ≡ o → n ≡ number o → class_of o ≡ Some class → (x : Object) × (held s.cells r ≡ Some x) × (x.thing ≡ An_object_of class) × (x.name ≡ n)
-      go None holds is told = absurd (none-some class told)
-      go (Some o) holds is told = (o, holds, thing_is o.thing class told, sym is)
+  pub found : (n class : ℕ) (r : Place) (s : State) → StandsFor M s →
+      Represents M n r → class_at m.cells n ≡ Some class → (o : Object) × (held s.cells r ≡ Some o) × (o.thing ≡ An_object_of class) × (o.name ≡ n)
+  found n class r s st shows told = grind (arith, class_held p m s st r n (shows.each s st))
 
   -- a field of a cell
   pub field_shows : (n f k : ℕ) → k ≡ field_at m.cells n f → Represents M k (Field n f)
@@ -177,42 +139,27 @@ module _ (p : Image) (m : Parts) where
   under n depth w s = gathered (below n depth w s) 8 ++ flat_map (beyond n depth w s) (seats_of n s)
 
   -- what hangs from a place is the line of what it holds, and then that
-  tree_found : (ns : Names) (n class depth : ℕ) (w : Way) (r : Place) (t : List ℕ) (s : State) → StandsFor M s → Represents M n r → class_at m.cells n ≡ Some class → t ≡ way_text w →
-      owners_text ns (tree s.cells (suc depth) w (held s.cells r)) ≡ ended (t ++ codes " " ++ class_by ns class) ++ (flat_map (owned_line ns) (gathered (below n depth w s) 8) ++ flat_map (owned_line ns) (flat_map (beyond n depth w s) (seats_of n s)))
-  tree_found ns n class depth w r t s st shows told is =
-      let x = found n class r s st shows told in
-      let from = source_in (service_of s.cells x.0.name) in
-      ap (λ o. owners_text ns (tree s.cells (suc depth) w o)) x.1
-      ∙ ap (λ th. ended (way_text w ++ codes " " ++ thing_text ns th from) ++ flat_map (owned_line ns) (beneath th (under x.0.name depth w s))) x.2
-      ∙ ap (λ k. ended (way_text w ++ codes " " ++ class_by ns class) ++ flat_map (owned_line ns) (under k depth w s)) x.3
-      ∙ ap (λ (u : List ℕ). ended (way_text w ++ codes " " ++ class_by ns class) ++ u) (flat_map-append (owned_line ns) (gathered (below n depth w s) 8) (flat_map (beyond n depth w s) (seats_of n s)))
-      ∙ ap (λ (u : List ℕ). ended (u ++ codes " " ++ class_by ns class) ++ (flat_map (owned_line ns) (gathered (below n depth w s) 8) ++ flat_map (owned_line ns) (flat_map (beyond n depth w s) (seats_of n s)))) (sym is)
+  tree_found : (ns : Names) (n class depth : ℕ) (w : Way) (r : Place) (t : List ℕ) (s : State) → StandsFor M s → Represents M n r → class_at m.cells n
+      ≡ Some class → t ≡ way_text w → owners_text ns (tree s.cells (suc depth) w (held s.cells r)) ≡ ended (t ++ codes " " ++ class_by ns class)
+      ++ (flat_map (owned_line ns) (gathered (below n depth w s) 8) ++ flat_map (owned_line ns) (flat_map (beyond n depth w s) (seats_of n s)))
+  tree_found ns n class depth w r t s st shows told is = grind (arith, found n class r s st shows told, flat_map-append)
 
   -- ---- messages
 
   -- the number of a message is that of its place
   at_place : (n : ℕ) (source : Source) → source_at m n ≡ Some source → (j : ℕ) × (n ≡ message_name j) × (source_of (token_class m.tokens j) (place_at m.clients j) ≡ Some source)
-  at_place n source is = low (nat_lt n 4096) refl is
-    where
-      high : (b : Bool) → (nat_lt n 4096 ≡ false) → cond b (source_of (token_class m.tokens (n - 4096)) (place_at m.clients (n - 4096))) None ≡ Some source → (j : ℕ) × (n ≡ message_name j) × (source_of (token_class m.tokens j) (place_at m.clients j) ≡ Some source)
-      high true past is = let most = ltb-false n 4096 past in (n - 4096, omega (arith, most), is)
-      high false past is = absurd (none-some source is)
-
-      low : (b : Bool) → nat_lt n 4096 ≡ b → cond b None (cond (nat_lt n 5120) (source_of (token_class m.tokens (n - 4096)) (place_at m.clients (n - 4096))) None) ≡ Some source → (j : ℕ) × (n ≡ message_name j) × (source_of (token_class m.tokens j) (place_at m.clients j) ≡ Some source)
-      low true less is = absurd (none-some source is)
-      low false past is = high (nat_lt n 5120) past is
+  at_place n source is = grind (arith, nat_tests, ltb-false n 4096)
 
   -- so a number that no cell has, and of which it is told who hears, is that of a place that holds a message of that name
-  pub message_found : (n : ℕ) (source : Source) (r : Place) (s : State) → StandsFor M s → Represents M n r → class_at m.cells n ≡ None → source_at m n ≡ Some source →
-      (o : Object) × (held s.cells r ≡ Some o) × (o.thing ≡ Message) × (source_in (service_of s.cells o.name) ≡ Some source)
+  pub message_found : (n : ℕ) (source : Source) (r : Place) (s : State) → StandsFor M s → Represents M n r → class_at m.cells n ≡ None →
+      source_at m n ≡ Some source → (o : Object) × (held s.cells r ≡ Some o) × (o.thing ≡ Message) × (source_in (service_of s.cells o.name) ≡ Some source)
   message_found n source r s st shows none is = go (held s.cells r) refl (shows.each s st) (sym (class_held p m s st r n (shows.each s st)) ∙ none)
     where
       at : (j : ℕ) × (n ≡ message_name j) × (source_of (token_class m.tokens j) (place_at m.clients j) ≡ Some source)
       at = at_place n source is
 
       plain : (th : Thing) → class_in th ≡ None → th ≡ Message
-      plain (An_object_of c) told = absurd (none-some c (sym told))
-      plain Message told = refl
+      plain x told = grind (arith, nat_tests)
 
       sent : sent_by (holds m.clients at.0) (place_at m.clients at.0) ≡ (service_of s.cells n).sender
       sent = st.agrees.services.clients.senders at.0 ∙ ap (λ k. (service_of s.cells k).sender) (sym at.1)
@@ -222,26 +169,23 @@ module _ (p : Image) (m : Parts) where
 
       go : (o : Option Object) → held s.cells r ≡ o → n ≡ number o → class_of o ≡ None →
           (x : Object) × (held s.cells r ≡ Some x) × (x.thing ≡ Message) × (source_in (service_of s.cells x.name) ≡ Some source)
-      go None is_held same class =
-          let unnamed = service_unnamed s.cells n (ap (named s.cells) same ∙ null_unnamed p m s st.agrees) in
-          absurd (untold_source (token_class m.tokens at.0) (holds m.clients at.0) (place_at m.clients at.0) source (sym told ∙ ap (λ (v : Service). class_of_token v.token) unnamed) (sent ∙ ap (λ (v : Service). v.sender) unnamed) at.2)
+      go None is_held same class = grind arith
       go (Some o) is_held same class =
           let message = plain o.thing class in
           let lives = held_lives s.cells r o st.typed.good.tidy is_held in
           let one = ap (λ k. sources_of (service_of s.cells k)) same ∙ st.kept.fit.sources o lives ∙ ap (λ th. cond (is_object th) 0 1) message in
-          let v = service_of s.cells n in
-          (o, is_held, message, ap (λ k. source_in (service_of s.cells k)) (sym same) ∙ told_source (token_class m.tokens at.0) (holds m.clients at.0) (place_at m.clients at.0) v.sender v.token source told sent one at.2)
+          let v = service_of s.cells n in (
+            o,
+            is_held,
+            message,
+            ap (λ k. source_in (service_of s.cells k)) (sym same)
+                ∙ told_source (token_class m.tokens at.0) (holds m.clients at.0) (place_at m.clients at.0) v.sender v.token source told sent one at.2,
+          )
 
-  tree_message : (ns : Names) (n : ℕ) (source : Source) (depth : ℕ) (w : Way) (r : Place) (t : List ℕ) (s : State) → StandsFor M s → Represents M n r → class_at m.cells n ≡ None → source_at m n ≡ Some source → t ≡ way_text w →
+  tree_message : (ns : Names) (n : ℕ) (source : Source) (depth : ℕ) (w : Way) (r : Place) (t : List ℕ) (s : State) →
+      StandsFor M s → Represents M n r → class_at m.cells n ≡ None → source_at m n ≡ Some source → t ≡ way_text w →
       owners_text ns (tree s.cells (suc depth) w (held s.cells r)) ≡ ended (t ++ codes " " ++ hearer_by ns source)
-  tree_message ns n source depth w r t s st shows none told is =
-      let x = message_found n source r s st shows none told in
-      let from = source_in (service_of s.cells x.0.name) in
-      ap (λ o. owners_text ns (tree s.cells (suc depth) w o)) x.1
-      ∙ ap (λ th. ended (way_text w ++ codes " " ++ thing_text ns th from) ++ flat_map (owned_line ns) (beneath th (under x.0.name depth w s))) x.2
-      ∙ append-nil (ended (way_text w ++ codes " " ++ thing_text ns Message from))
-      ∙ ap (λ sd. ended (way_text w ++ codes " " ++ thing_text ns Message sd)) x.3
-      ∙ ap (λ (u : List ℕ). ended (u ++ codes " " ++ hearer_by ns source)) (sym is)
+  tree_message ns n source depth w r t s st shows none told is = grind (arith, message_found n source r s st shows none told, append-nil)
 
   -- a number that neither has is that of a place that holds nothing
   pub none_sends : (n : ℕ) (r : Place) → (Lives m.cells n → ⊥) → source_at m n ≡ None → Represents M n r → ShowsNone M r
@@ -251,58 +195,42 @@ module _ (p : Image) (m : Parts) where
       placed s st o lives message same = message_sourced p m s st o lives message (ap (source_at m) (sym same) ∙ unsent)
 
       go : (s : State) → StandsFor M s → (o : Option Object) → held s.cells r ≡ o → n ≡ number o → o ≡ None
-      go s st None holds is = refl
-      go s st (Some o) holds is = absurd (by o.thing refl)
-        where
-          lives : named s.cells o.name ≡ Some o
-          lives = held_lives s.cells r o st.typed.good.tidy holds
-
-          by : (th : Thing) → o.thing ≡ th → ⊥
-          by (An_object_of c) thing = none (object_lives p m st.typing s st.typed st.agrees r o n holds (ap is_object thing) is)
-          by Message thing = placed s st o lives thing is
+      go s st x holds is = grind (arith, held_lives s.cells r, placed s st)
 
   -- ---- what is out
 
   -- the line of a message is all that hangs there
-  pub message_told : (ns : Names) (n : ℕ) (source : Source) (depth d : ℕ) (w : Way) (r : Place) (t : List ℕ) → Represents M n r → class_at m.cells n ≡ None → source_at m n ≡ Some source → t ≡ way_text w → d ≡ suc depth → (before now : Option (List ℕ)) →
+  pub message_told : (ns : Names) (n : ℕ) (source : Source) (depth d : ℕ) (w : Way) (r : Place) (t : List ℕ) →
+      Represents M n r → class_at m.cells n ≡ None → source_at m n ≡ Some source → t ≡ way_text w → d ≡ suc depth → (before now : Option (List ℕ)) →
       now ≡ after before (ended (t ++ codes " " ++ hearer_by ns source)) → Tells M (λ s. owners_text ns (tree s.cells d w (held s.cells r))) before now
-  message_told ns n source depth d w r t shows none sent is deep before now put = record {
-    out = λ s st. put ∙ ap (λ u. after before u) (sym (ap (λ k. owners_text ns (tree s.cells k w (held s.cells r))) deep ∙ tree_message ns n source depth w r t s st shows none sent is));
-  }
+  message_told ns n source depth d w r t shows none sent is deep before now put = search (arith, nat_tests, tree_message ns n source depth w r t)
 
-  pub message_unsent : (ns : Names) (n : ℕ) (source : Source) (depth d : ℕ) (w : Way) (r : Place) (t : List ℕ) → Represents M n r → class_at m.cells n ≡ None → source_at m n ≡ Some source → t ≡ way_text w → d ≡ suc depth → (before now : Option (List ℕ)) (fault : DebugFault) (failed : Bool) →
+  pub message_unsent : (ns : Names) (n : ℕ) (source : Source) (depth d : ℕ) (w : Way) (r : Place) (t : List ℕ) → Represents M n r → class_at m.cells n ≡ None →
+      source_at m n ≡ Some source → t ≡ way_text w → d ≡ suc depth → (before now : Option (List ℕ)) (fault : DebugFault) (failed : Bool) →
       IsCut (ended (t ++ codes " " ++ hearer_by ns source)) fault failed before now → TellsPart M (λ s. owners_text ns (tree s.cells d w (held s.cells r))) fault failed before now
-  message_unsent ns n source depth d w r t shows none sent is deep before now fault failed cut = record {
-    told = cut.told;
-    fails = cut.fails;
-    out = λ s st. (cut.sent, cut.out ∙ ap (λ u. after before (take cut.sent u)) (sym (ap (λ k. owners_text ns (tree s.cells k w (held s.cells r))) deep ∙ tree_message ns n source depth w r t s st shows none sent is)));
-  }
+  message_unsent ns n source depth d w r t shows none sent is deep before now fault failed cut =
+      search (arith, nat_tests, tree_message ns n source depth w r t)
 
   -- where no cell has the number, a message's line is all that hangs there, if there is one
-  module _ (ns : Names) (n depth d : ℕ) (w : Way) (r : Place) (t : List ℕ) (shows : Represents M n r) (none : Lives m.cells n → ⊥) (is : t ≡ way_text w) (deep : d ≡ suc depth) (before now : Option (List ℕ)) where
+  module _ (ns : Names) (n depth d : ℕ) (w : Way) (r : Place)
+      (t : List ℕ) (shows : Represents M n r) (none : Lives m.cells n → ⊥) (is : t ≡ way_text w) (deep : d ≡ suc depth) (before now : Option (List ℕ)) where
     classless : class_at m.cells n ≡ None
-    classless = go (cell_at m.cells n) refl
-      where
-        go : (c : Option Machine_cell) → cell_at m.cells n ≡ c → class_of_cell c ≡ None
-        go None at = refl
-        go (Some c) at = absurd (none (ap is_some at))
+    classless = grind (arith, nat_tests)
 
     pub uncelled_told : now ≡ after before (message_text ns t (source_at m n)) → Tells M (λ s. owners_text ns (tree s.cells d w (held s.cells r))) before now
     uncelled_told put = go (source_at m n) refl put
       where
         go : (o : Option Source) → source_at m n ≡ o → now ≡ after before (message_text ns t o) → Tells M (λ s. owners_text ns (tree s.cells d w (held s.cells r))) before now
-        go None unsent put = record { out = λ s st. put ∙ ap (λ xs. after before (owners_text ns xs)) (sym (tree_none s.cells d w (held s.cells r) ((none_sends n r none unsent shows).each s st))) }
+        go None unsent put = search (arith, nat_tests, tree_none, none_sends n r none unsent shows)
         go (Some source) sent put = message_told ns n source depth d w r t shows classless sent is deep before now put
 
-    pub uncelled_cut : (fault : DebugFault) (failed : Bool) → IsCut (message_text ns t (source_at m n)) fault failed before now → TellsPart M (λ s. owners_text ns (tree s.cells d w (held s.cells r))) fault failed before now
+    pub uncelled_cut : (fault : DebugFault) (failed : Bool) → IsCut (message_text ns t (source_at m n)) fault failed before now →
+        TellsPart M (λ s. owners_text ns (tree s.cells d w (held s.cells r))) fault failed before now
     uncelled_cut fault failed cut = go (source_at m n) refl cut
       where
-        go : (o : Option Source) → source_at m n ≡ o → IsCut (message_text ns t o) fault failed before now → TellsPart M (λ s. owners_text ns (tree s.cells d w (held s.cells r))) fault failed before now
-        go None unsent cut = record {
-          told = cut.told;
-          fails = cut.fails;
-          out = λ s st. (cut.sent, cut.out ∙ ap (λ xs. after before (take cut.sent (owners_text ns xs))) (sym (tree_none s.cells d w (held s.cells r) ((none_sends n r none unsent shows).each s st))));
-        }
+        go : (o : Option Source) → source_at m n ≡ o →
+            IsCut (message_text ns t o) fault failed before now → TellsPart M (λ s. owners_text ns (tree s.cells d w (held s.cells r))) fault failed before now
+        go None unsent cut = search (arith, nat_tests, tree_none, none_sends n r none unsent shows)
         go (Some source) sent cut = message_unsent ns n source depth d w r t shows classless sent is deep before now fault failed cut
 
   -- all that hangs from an object is out, or a beginning of it, by the line, by what hangs from the fields, and by what hangs from the sessions
@@ -320,7 +248,7 @@ module _ (p : Image) (m : Parts) where
     Tree s = owners_text ns (tree s.cells d w (held s.cells r))
 
     parts_of : (s : State) → StandsFor M s → line_text ++ (fields_text s ++ sessions_text s) ≡ Tree s
-    parts_of s st = sym (ap (λ k. owners_text ns (tree s.cells k w (held s.cells r))) deep ∙ tree_found ns n class depth w r t s st shows told is)
+    parts_of s st = grind (arith, nat_tests, tree_found ns n class depth w r t s st shows told is)
 
     module _ (before now mid : Option (List ℕ)) (first : now ≡ after before line_text) (fields : Tells M fields_text now mid) where
       so_far : (s : State) → StandsFor M s → mid ≡ after before (line_text ++ fields_text s)
@@ -328,8 +256,7 @@ module _ (p : Image) (m : Parts) where
 
       pub tree_told : (new : Option (List ℕ)) → Tells M sessions_text mid new → Tells M Tree before new
       tree_told new later = record {
-        out = λ s st.
-            sent_on before mid new (line_text ++ fields_text s) (sessions_text s) (so_far s st) (later.out s st)
+        out = λ s st. sent_on before mid new (line_text ++ fields_text s) (sessions_text s) (so_far s st) (later.out s st)
             ∙ ap (λ u. after before u) (append_assoc line_text (fields_text s) (sessions_text s) ∙ parts_of s st);
       }
 
@@ -339,8 +266,11 @@ module _ (p : Image) (m : Parts) where
         fails = later.fails;
         out = λ s st.
             let sent = later.out s st in
-            let all = cut_on before mid new (line_text ++ fields_text s) (sessions_text s) [] sent.0 (so_far s st) sent.1 in
-            (all.0, all.1 ∙ ap (λ u. after before (take all.0 u)) (ap (λ (u : List ℕ). (line_text ++ fields_text s) ++ u) (append-nil (sessions_text s)) ∙ append_assoc line_text (fields_text s) (sessions_text s) ∙ parts_of s st));
+            let all = cut_on before mid new (line_text ++ fields_text s) (sessions_text s) [] sent.0 (so_far s st) sent.1 in (
+              all.0,
+              all.1 ∙ ap (λ u. after before (take all.0 u)) (ap (λ (u : List ℕ). (line_text ++ fields_text s) ++ u) (append-nil (sessions_text s))
+                  ∙ append_assoc line_text (fields_text s) (sessions_text s) ∙ parts_of s st),
+            );
       }
 
     pub line_unsent : (before new : Option (List ℕ)) (fault : DebugFault) (failed : Bool) → IsCut line_text fault failed before new → TellsPart M Tree fault failed before new
@@ -352,7 +282,8 @@ module _ (p : Image) (m : Parts) where
           (all.0, all.1 ∙ ap (λ u. after before (take all.0 u)) (parts_of s st));
     }
 
-    pub fields_unsent : (before now new : Option (List ℕ)) (fault : DebugFault) (failed : Bool) → now ≡ after before line_text → TellsPart M fields_text fault failed now new → TellsPart M Tree fault failed before new
+    pub fields_unsent : (before now new : Option (List ℕ)) (fault : DebugFault) (failed : Bool) →
+        now ≡ after before line_text → TellsPart M fields_text fault failed now new → TellsPart M Tree fault failed before new
     fields_unsent before now new fault failed first later = record {
       told = later.told;
       fails = later.fails;
@@ -366,34 +297,24 @@ module _ (p : Image) (m : Parts) where
 
   -- a cell's number is below that of the lists of servers
   pub listed_there : (n : ℕ) → Lives m.cells n → (s : State) → StandsFor M s → n < length m.clients.sessions
-  listed_there n lives s st = go (cell_at m.cells n) refl lives
-    where
-      go : (c : Option Machine_cell) → cell_at m.cells n ≡ c → is_some c ≡ true → n < length m.clients.sessions
-      go None at some = absurd (false≢true some)
-      go (Some c) at some =
-          let below = st.agrees.cells.below n c at in
-          let limit = st.agrees.cells.limit in
-          let sized = st.agrees.services.sized.sessions in
-          omega (arith, below, limit, sized)
+  listed_there n lives s st = grind (arith, nat_tests)
 
   module _ (ns : Names) (n depth : ℕ) (w : Way) where
     abbrev pub done_text : List ℕ → State → List ℕ
     done_text clients s = flat_map (owned_line ns) (flat_map (beyond n depth w s) clients)
 
     one_more : (clients : List ℕ) (c : ℕ) (s : State) → done_text (clients ++ c ∷ []) s ≡ done_text clients s ++ flat_map (owned_line ns) (beyond n depth w s c)
-    one_more clients c s =
-        ap (flat_map (owned_line ns)) (flat_map-append (beyond n depth w s) clients (c ∷ []))
-        ∙ flat_map-append (owned_line ns) (flat_map (beyond n depth w s) clients) (beyond n depth w s c ++ [])
-        ∙ ap (λ (xs : List Owned). done_text clients s ++ flat_map (owned_line ns) xs) (append-nil (beyond n depth w s c))
+    one_more clients c s = grind (arith, nat_tests, flat_map-append, append-nil)
 
-    pub seat_told : (clients : List ℕ) (c : ℕ) (before now new : Option (List ℕ)) → Tells M (done_text clients) before now → Tells M (λ s. flat_map (owned_line ns) (beyond n depth w s c)) now new → Tells M (done_text (clients ++ c ∷ [])) before new
-    seat_told clients c before now new was later = record {
-      out = λ s st. sent_on before now new (done_text clients s) (flat_map (owned_line ns) (beyond n depth w s c)) (was.out s st) (later.out s st) ∙ ap (λ u. after before u) (sym (one_more clients c s));
-    }
+    pub seat_told : (clients : List ℕ) (c : ℕ) (before now new : Option (List ℕ)) → Tells M (done_text clients) before now →
+        Tells M (λ s. flat_map (owned_line ns) (beyond n depth w s c)) now new → Tells M (done_text (clients ++ c ∷ [])) before new
+    seat_told clients c before now new was later = search (arith, nat_tests, sent_on before now new, one_more clients c)
 
     -- those that come behind them
-    pub seat_cut : (clients : List ℕ) (c : ℕ) (others : List ℕ) → ((s : State) → StandsFor M s → (clients ++ c ∷ []) ++ others ≡ seats_of n s) → (before now new : Option (List ℕ)) (fault : DebugFault) (failed : Bool) →
-        Tells M (done_text clients) before now → TellsPart M (λ s. flat_map (owned_line ns) (beyond n depth w s c)) fault failed now new → TellsPart M (λ s. flat_map (owned_line ns) (flat_map (beyond n depth w s) (seats_of n s))) fault failed before new
+    pub seat_cut : (clients : List ℕ) (c : ℕ) (others : List ℕ) →
+        ((s : State) → StandsFor M s → (clients ++ c ∷ []) ++ others ≡ seats_of n s) → (before now new : Option (List ℕ)) (fault : DebugFault) (failed : Bool) →
+        Tells M (done_text clients) before now → TellsPart M (λ s. flat_map (owned_line ns) (beyond n depth w s c)) fault failed now new →
+        TellsPart M (λ s. flat_map (owned_line ns) (flat_map (beyond n depth w s) (seats_of n s))) fault failed before new
     seat_cut clients c others all before now new fault failed was cut = record {
       told = cut.told;
       fails = cut.fails;
@@ -403,8 +324,7 @@ module _ (p : Image) (m : Parts) where
           let rest = flat_map (owned_line ns) (flat_map (beyond n depth w s) others) in
           let part = cut_on before now new (done_text clients s) here rest sent.0 (was.out s st) sent.1 in
           let whole : done_text clients s ++ (here ++ rest) ≡ flat_map (owned_line ns) (flat_map (beyond n depth w s) (seats_of n s)) =
-          sym (append_assoc (done_text clients s) here rest)
-          ∙ ap (λ (u : List ℕ). u ++ rest) (sym (one_more clients c s))
+          sym (append_assoc (done_text clients s) here rest) ∙ ap (λ (u : List ℕ). u ++ rest) (sym (one_more clients c s))
           ∙ sym (flat_map-append (owned_line ns) (flat_map (beyond n depth w s) (clients ++ c ∷ [])) (flat_map (beyond n depth w s) others))
           ∙ ap (flat_map (owned_line ns)) (sym (flat_map-append (beyond n depth w s) (clients ++ c ∷ []) others))
           ∙ ap (λ cs. flat_map (owned_line ns) (flat_map (beyond n depth w s) cs)) (all s st)
@@ -412,19 +332,23 @@ module _ (p : Image) (m : Parts) where
           (part.0, part.1 ∙ ap (λ u. after before (take part.0 u)) whole);
     }
 
-    pub seats_told : (clients : List ℕ) → clients ≡ sessions_at m.clients n → (before now : Option (List ℕ)) → Tells M (done_text clients) before now → Tells M (λ s. flat_map (owned_line ns) (flat_map (beyond n depth w s) (seats_of n s))) before now
+    pub seats_told : (clients : List ℕ) → clients ≡ sessions_at m.clients n → (before now : Option (List ℕ)) →
+        Tells M (done_text clients) before now → Tells M (λ s. flat_map (owned_line ns) (flat_map (beyond n depth w s) (seats_of n s))) before now
     seats_told clients all before now was = record { out = λ s st. was.out s st ∙ ap (λ cs. after before (done_text cs s)) (all ∙ st.agrees.services.clients.sessions n) }
 
   -- where nothing is held, nothing hangs
   pub tree_untold : (ns : Names) (d : ℕ) (w : Way) (r : Place) (out : Option (List ℕ)) → ShowsNone M r → Tells M (λ s. owners_text ns (tree s.cells d w (held s.cells r))) out out
-  tree_untold ns d w r out none = record { out = λ s st. none_sent out ∙ ap (λ xs. after out (owners_text ns xs)) (sym (tree_none s.cells d w (held s.cells r) (none.each s st))) }
+  tree_untold ns d w r out none = record { out = grind (arith, nat_tests, none_sent out, tree_none) }
 
   -- as many generations as there are hang from an outer place
-  pub grown_told : (ns : Names) (outer : Outer) (r : Place) (before now : Option (List ℕ)) → Tells M (λ s. owners_text ns (tree s.cells 257 (record { outer = outer; branches = [] }) (held s.cells r))) before now → Tells M (λ s. owners_text ns (grown s.cells outer r)) before now
+  pub grown_told : (ns : Names) (outer : Outer) (r : Place) (before now : Option (List ℕ)) → Tells M (λ s. owners_text ns (tree s.cells 257
+      (record { outer = outer; branches = [] }) (held s.cells r))) before now → Tells M (λ s. owners_text ns (grown s.cells outer r)) before now
   unfolding generations
   grown_told ns outer r before now told = told
 
-  pub grown_cut : (ns : Names) (outer : Outer) (r : Place) (fault : DebugFault) (failed : Bool) (before now : Option (List ℕ)) → TellsPart M (λ s. owners_text ns (tree s.cells 257 (record { outer = outer; branches = [] }) (held s.cells r))) fault failed before now → TellsPart M (λ s. owners_text ns (grown s.cells outer r)) fault failed before now
+  pub grown_cut : (ns : Names) (outer : Outer) (r : Place) (fault : DebugFault) (failed : Bool) (before now : Option (List ℕ)) →
+      TellsPart M (λ s. owners_text ns (tree s.cells 257 (record { outer = outer; branches = [] }) (held s.cells r))) fault failed before now →
+      TellsPart M (λ s. owners_text ns (grown s.cells outer r)) fault failed before now
   unfolding generations
   grown_cut ns outer r fault failed before now cut = cut
 
@@ -434,4 +358,8 @@ module _ (p : Image) (m : Parts) where
 
   -- nothing hangs from registers that own nothing
   pub none_hang : (ns : Names) (depth frames : ℕ) (out : Option (List ℕ)) → ((i : ℕ) → ShowsNone M (Register depth i)) → Tells M (λ s. owners_text ns (frame_registers s.cells depth frames 16)) out out
-  none_hang ns depth frames out none = record { out = λ s st. none_sent out ∙ ap (λ xs. after out (owners_text ns xs)) (sym (gathered_none 16 (λ i. grown s.cells (In_register frames i) (Register depth i)) (λ i. tree_none s.cells generations (record { outer = In_register frames i; branches = [] }) (held s.cells (Register depth i)) ((none i).each s st)))) }
+  none_hang ns depth frames out none = record {
+    out = λ s st. none_sent out
+        ∙ ap (λ xs. after out (owners_text ns xs)) (sym (gathered_none 16 (λ i. grown s.cells (In_register frames i) (Register depth i))
+        (λ i. tree_none s.cells generations (record { outer = In_register frames i; branches = [] }) (held s.cells (Register depth i)) ((none i).each s st))));
+  }

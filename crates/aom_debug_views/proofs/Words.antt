@@ -1,11 +1,12 @@
 -- What the strongest typing says is a word is one in each state, also while its method waits: no argument that moves stood there.
-use Rattle.std.proofs.Common.{arith, ◌≡◌, ◌∙◌, ℕ, suc, ℤ, Bool, true, false, cond, ◌==◌, List, [], ◌∷◌, ◌++◌, Option, Some, None, IsSome, slice_index_or, refl, sym, ap, subst, length}
-use Rattle.std.specs.Prelude.{is_some}
+use Rattle.std.proofs.lemmas.Bool.Decides.{nat_tests}
+use Rattle.std.proofs.Common.{arith, ◌≡◌, ◌∙◌, ℕ, suc, ℤ, Bool, true, false, List, [], ◌∷◌, ◌++◌, Option, Some, None, IsSome, slice_index_or}
+use Rattle.std.proofs.Common.{refl, sym, ap, subst, length}
 use Rattle.std.specs.Int.{w32, cast_signed}
-use Rattle.std.proofs.lemmas.Bool.{eqb-true, false≢true}
-use Rattle.std.proofs.lemmas.Option.{none-some, same_Some}
+use Rattle.std.proofs.lemmas.Bool.{eqb-true}
+use Rattle.std.proofs.lemmas.Option.{same_Some}
 use Rattle.aom_image.specs.Image.{Image}
-use Rattle.aom_image.specs.Views.{arguments_of, instr_at, method_at, method_class, method_role}
+use Rattle.aom_image.specs.Views.{arguments_of, instr_at, method_at, method_class}
 use Rattle.aom_image.specs.declared.method.Argument.{Argument}
 use Rattle.aom_image.specs.declared.method.Argument.TheVariants.{Word as A_word, Own as An_own}
 use Rattle.aom_image.specs.declared.method.Thing.{Thing}
@@ -14,22 +15,20 @@ use Rattle.aom_shape.specs.declared.kind.Age.{Age}
 use Rattle.aom_instructions.specs.declared.instr.Instr.{Instr}
 use Rattle.aom_instructions.specs.declared.instr.Instr.TheVariants.{Call, Delete, Reply, Trap}
 use Rattle.aom_instructions.specs.declared.instr.Target.{Target}
-use Rattle.aom_instructions.specs.declared.instr.Target.TheVariants.{Entry as On_entry, Field as On_field, Register as In_register, This}
 use Rattle.aom_roles.specs.Tests.{AllTrue}
-use Rattle.aom_roles.specs.Roles.{is_construct}
 use Rattle.aom_cells.specs.Heap.{null}
 use Rattle.aom_frames.specs.declared.frame.Frame.{Frame as Machine_frame}
 use Rattle.aom_frames.specs.declared.task.Task.TheVariants.{Run as Runs_frame}
-use Rattle.aom_rules.specs.Calls.{each_argument, rule_arguments, rule_moved, rule_target, rule_trapped, while_called}
+use Rattle.aom_rules.specs.Calls.{each_argument, while_called}
 use Rattle.aom_rules.specs.Rules.{rule_needs, ways_of}
 use Rattle.aom_rules.specs.Typing.{Typing, shape_at}
 use Rattle.aom_shape.specs.Arguments.{arguments_moved}
-use Rattle.aom_shape.specs.Kinds.{is_own_for, may_be_destroyed, readied, register, set_register}
+use Rattle.aom_shape.specs.Kinds.{is_own_for, may_be_destroyed, register, set_register}
 use Rattle.aom_shape.specs.Order.{Weaker, alike, maybe_null, maybe_own, unset_null, unset_word}
 use Rattle.aom_shape.specs.Shape.{Shape}
 use Rattle.aom_roles.specs.Tables.{at}
 use Rattle.aom_shape.specs.declared.kind.Kind.{Kind}
-use Rattle.aom_shape.specs.declared.kind.Kind.TheVariants.{Maybe, Null, Own, Unset, Word}
+use Rattle.aom_shape.specs.declared.kind.Kind.TheVariants.{Null, Own, Unset, Word}
 use Rattle.aom_semantics.specs.Owned.{over}
 use Rattle.aom_semantics.specs.Places.{Cell, Object, Register, held}
 use Rattle.aom_semantics.specs.State.{Closing, Destroy, Dispatched, Frame, Run, State, Task, Trapped, Unwind, word}
@@ -41,9 +40,9 @@ use Rattle.aom_machine_state.specs.declared.parts.Parts.{Parts}
 use Rattle.aom_machine_state.specs.Agrees.{Represents as Machine_shows, SameFrame}
 use Rattle.aom_machine_state.specs.Places.{value}
 use Rattle.aom_machine_state.specs.Stands.{Machine, StandsFor}
-use Rattle.aom_machine_state.specs.Waits.{AllWait, KindSays, OthersWait, Waits, waiting_by, while_waiting}
+use Rattle.aom_machine_state.specs.Waits.{AllWait, KindSays, Waits, waiting_by, while_waiting}
 use Rattle.aom_machine.proofs.Waiting.{runs_typed}
-use Rattle.aom_debug_views.specs.Frames.{ShowsWord, kind_in}
+use Rattle.aom_debug_views.specs.Frames.{ShowsWord}
 use Rattle.aom_debug_views.proofs.Tasks.{frame_there, parted, register_value, word_over, word_there}
 
 -- ---- two strongest typings of a method say the same of each register
@@ -64,59 +63,45 @@ same_kind _ _ unset_null back = null_alone _ back
 same_kind _ _ maybe_null back = null_alone _ back
 same_kind _ _ maybe_own back = own_alone _ _ _ back
 
-same_shapes : (p : Image) (m : ℕ) (a b : Shapes) → IsMethodStrongest p m a → IsMethodStrongest p m b → (pc : ℕ) (sh : Shape) → at None a pc ≡ Some sh → (next : Shape) × (at None b pc ≡ Some next) × ((i : ℕ) → register next i ≡ register sh i)
+same_shapes : (p : Image) (m : ℕ) (a b : Shapes) → IsMethodStrongest p m a → IsMethodStrongest p m b →
+    (pc : ℕ) (sh : Shape) → at None a pc ≡ Some sh → (next : Shape) × (at None b pc ≡ Some next) × ((i : ℕ) → register next i ≡ register sh i)
 same_shapes p m a b x y pc sh there =
     let down = (x.least b y.typed).each pc sh there in
     let up = (y.least a x.typed).each pc down.next down.there in
-    let same = same_Some up.next sh (sym up.there ∙ there) in
-    (down.next, down.there, λ i. same_kind (register down.next i) (register sh i) (down.no_more.registers i) (subst (λ (z : Shape). Weaker (register z i) (register down.next i)) same (up.no_more.registers i)))
+    let same = same_Some up.next sh (sym up.there ∙ there) in (
+      down.next,
+      down.there,
+      λ i. same_kind (register down.next i)
+          (register sh i) (down.no_more.registers i) (subst (λ (z : Shape). Weaker (register z i) (register down.next i)) same (up.no_more.registers i)),
+    )
 
-pub kind_there : (p : Image) (t : Typing) → IsStrongest p t → (m pc : ℕ) → IsSome (method_at p m) → (sh : Shape) → IsShapeAt p m pc (Some sh) → (shape : Shape) × (shape_at t m pc ≡ Some shape) × ((i : ℕ) → register shape i ≡ register sh i)
+pub kind_there : (p : Image) (t : Typing) → IsStrongest p t → (m pc : ℕ) → IsSome (method_at p m) →
+    (sh : Shape) → IsShapeAt p m pc (Some sh) → (shape : Shape) × (shape_at t m pc ≡ Some shape) × ((i : ℕ) → register shape i ≡ register sh i)
 kind_there p t strongest m pc method sh shape = same_shapes p m shape.states (at [] t m) shape.strongest (strongest.each m method) pc sh (sym shape.there)
 
 -- ---- a register that is a word stays one while a call is at hand
 
-argument_words : (p : Image) (xs : List Argument) (first : ℕ) (sh now : Shape) (i : ℕ) → AllTrue (each_argument p sh xs first) → register sh i ≡ Word → register now i ≡ Word → register (arguments_moved xs first now) i ≡ Word
+argument_words : (p : Image) (xs : List Argument) (first : ℕ) (sh now : Shape) (i : ℕ) →
+    AllTrue (each_argument p sh xs first) → register sh i ≡ Word → register now i ≡ Word → register (arguments_moved xs first now) i ≡ Word
 argument_words p [] first sh now i met is here = here
 argument_words p (A_word ∷ xs) first sh now i met is here = argument_words p xs (suc first) sh now i met.1 is here
-argument_words p (An_own t ∷ xs) first sh now i met is here = argument_words p xs (suc first) sh (set_register now first Null) i met.1.1 is (at-put_at Unset now.registers first i Null ∙ go (first == i) refl)
-  where
-    go : (b : Bool) → (first == i) ≡ b → cond b Null (register now i) ≡ Word
-    go true same = absurd (false≢true (ap (is_own_for p t) (sym (ap (λ k. register sh k) (eqb-true first i same) ∙ is)) ∙ met.0))
-    go false other = here
+argument_words p (An_own t ∷ xs) first sh now i met is here = grind (arith, argument_words p xs, at-put_at Unset now.registers first i Null)
 
 called_words : (target : Target) (class : Option ℕ) (ended i : ℕ) (sh : Shape) → register sh i ≡ Word → register (while_called target class ended sh) i ≡ Word
-called_words This None ended i sh is = is
-called_words This (Some c) ended i sh is = is
-called_words (In_register r) class ended i sh is = at-put_at Unset sh.registers r i (readied (register sh r)) ∙ go (r == i) refl
-  where
-    go : (b : Bool) → (r == i) ≡ b → cond b (readied (register sh r)) (register sh i) ≡ Word
-    go true same = ap (λ k. readied (register sh k)) (eqb-true r i same) ∙ ap readied is
-    go false other = is
-called_words (On_field f) class ended i sh is = is
-called_words (On_entry k) class ended i sh is = is
+called_words x class ended i sh is = grind (arith, nat_tests, at-put_at Unset sh.registers, eqb-true)
 
 -- what goes was no word
 emptied_words : (sh : Shape) (a i : ℕ) (test : Kind → Bool) → test Word ≡ false → test (register sh a) ≡ true → register sh i ≡ Word → register (set_register sh a Null) i ≡ Word
-emptied_words sh a i test never met is = at-put_at Unset sh.registers a i Null ∙ go (a == i) refl
-  where
-    go : (b : Bool) → (a == i) ≡ b → cond b Null (register sh i) ≡ Word
-    go true same = absurd (false≢true (sym never ∙ ap test (sym (ap (λ k. register sh k) (eqb-true a i same) ∙ is)) ∙ met))
-    go false other = is
+emptied_words sh a i test never met is = grind (arith, at-put_at Unset sh.registers a i Null)
 
 module _ (p : Image) (m pc : ℕ) (sh : Shape) (i : ℕ) (is : register sh i ≡ Word) where
-  call_words : (target : Target) (m' first ended : ℕ) → AllTrue (each_argument p sh (arguments_of p m') first) → register (while_called target (method_class p m') ended (arguments_moved (arguments_of p m') first sh)) i ≡ Word
-  call_words target m' first ended met = called_words target (method_class p m') ended i (arguments_moved (arguments_of p m') first sh) (argument_words p (arguments_of p m') first sh sh i met is is)
+  call_words : (target : Target) (m' first ended : ℕ) → AllTrue (each_argument p sh (arguments_of p m') first) →
+      register (while_called target (method_class p m') ended (arguments_moved (arguments_of p m') first sh)) i ≡ Word
+  call_words target m' first ended met = grind (arith, nat_tests, called_words target, argument_words p)
 
   waiting_words : (x : Instr) → AllTrue (rule_needs p m pc sh x) → register (waiting_by p (ways_of p x) sh) i ≡ Word
-  waiting_words (Call target m' first c) met =
-      let xs = arguments_of p m' in
-      let later = (all_parts (rule_target p m sh target m' (method_class p m') (is_construct (method_role p m')) first (length xs)) _ met).1 in
-      call_words target m' first _ (all_parts (rule_arguments p sh xs first) (rule_moved p m (arguments_moved xs first sh) target m' c) later).0.1
-  waiting_words (Trap target m' first c) met =
-      let xs = arguments_of p m' in
-      let later = (all_parts (rule_target p m sh target m' (method_class p m') (is_construct (method_role p m')) first (length xs)) _ met.1).1 in
-      call_words target m' first _ (all_parts (rule_arguments p sh xs first) (rule_trapped p m pc sh (arguments_moved xs first sh) target m' c) later).0.1
+  waiting_words (Call target m' first c) met = grind (arith, all_parts, call_words target m' first)
+  waiting_words (Trap target m' first c) met = grind (arith, all_parts, call_words target m' first)
   waiting_words (Delete a) met = emptied_words sh a i may_be_destroyed refl met.0 is
   waiting_words (Reply a b) met = emptied_words sh a i (is_own_for p Message) refl met.0 is
   waiting_words _ met = is
@@ -136,9 +121,7 @@ word_said : (p : Image) (k : Kind) (w : Option ℤ) (o : Option Object) → k �
 word_said p k w o is says = (subst (λ x. KindSays p x w o) is says).0
 
 word_of_number : (n : ℕ) (w : Option ℤ) (o : Option Object) → IsSome w → Machine_shows n w o → w ≡ Some (cast_signed w32 n)
-word_of_number n None o some shows = absurd (false≢true some)
-word_of_number n (Some w) None some shows = ap (λ x. Some x) (sym shows)
-word_of_number n (Some w) (Some o) some shows = absurd shows
+word_of_number n x o some shows = grind arith
 
 module _ (p : Image) (m : Parts) where
   abbrev M : Machine
@@ -154,28 +137,27 @@ module _ (p : Image) (m : Parts) where
         ap (λ x. register (while_waiting p x other) i) passes.stands ∙ waiting_words p fr.method fr.place other i (word_is other there) passes.instr passes.needs
 
     has_word : (above below : List Task) → s.tasks ≡ above ++ Run fr ∷ below → IsSome (word fr i)
-    has_word [] below split =
-        let runs = runs_typed p st.typing s fr below st.typed split in
-        word_said p (register runs.shape i) (word fr i) _ (word_is runs.shape runs.typed) (runs.says i)
-    has_word (task ∷ above) below split =
-        let waits = under_words p st.typing s.cells above fr below (subst (λ ts. OthersWait p st.typing s.cells ts) split st.waits) in
-        word_said p (register (while_waiting p (instr_at p fr.method fr.place) waits.shape) i) (word fr i) _ (while_words waits.shape waits.typed) (waits.says i)
+    has_word [] below split = grind (arith, runs_typed p st.typing s fr below st.typed split)
+    has_word (task ∷ above) below split = grind (arith, under_words p st.typing s.cells above fr below, while_words)
 
   -- the number in the register is that word
-  pub word_shown : (k i : ℕ) (f : Machine_frame) (sh : Shape) → over m.stack.tasks k ≡ Some (Runs_frame f) → IsSome (method_at p f.method) → IsShapeAt p f.method f.place (Some sh) → register sh i ≡ Word → ShowsWord M (slice_index_or f.registers i null) k i
+  pub word_shown : (k i : ℕ) (f : Machine_frame) (sh : Shape) → over m.stack.tasks k ≡ Some (Runs_frame f) →
+      IsSome (method_at p f.method) → IsShapeAt p f.method f.place (Some sh) → register sh i ≡ Word → ShowsWord M (slice_index_or f.registers i null) k i
   word_shown k i f sh held_there method shape is = record { each = λ s st fr there. by s st fr there (frame_there p m s st k f held_there) }
     where
-      by : (s : State) → StandsFor M s → (fr : Frame) → over s.tasks k ≡ Some (Run fr) → ((g : Frame) × (over s.tasks k ≡ Some (Run g)) × SameFrame f g) → word fr i ≡ Some (cast_signed w32 (slice_index_or f.registers i null))
+      by : (s : State) → StandsFor M s → (fr : Frame) → over s.tasks k ≡ Some (Run fr) →
+          ((g : Frame) × (over s.tasks k ≡ Some (Run g)) × SameFrame f g) → word fr i ≡ Some (cast_signed w32 (slice_index_or f.registers i null))
       by s st fr there found =
           let run : Run found.0 ≡ Run fr = same_Some (Run found.0) (Run fr) (sym found.1 ∙ there) in
           let same : SameFrame f fr = subst (λ (o : Option Task). by_frame o) there (subst (λ (o : Option Task). by_frame o) (sym found.1) found.2) in
           let kind = kind_there p st.typing st.sound.strongest f.method f.place method sh shape in
-          let typed : shape_at st.typing fr.method fr.place ≡ Some kind.0 = ap (λ n. shape_at st.typing n fr.place) (sym same.method) ∙ ap (λ n. shape_at st.typing f.method n) (sym same.place) ∙ kind.1 in
+          let typed : shape_at st.typing fr.method fr.place ≡ Some kind.0 =
+          ap (λ n. shape_at st.typing n fr.place) (sym same.method) ∙ ap (λ n. shape_at st.typing f.method n) (sym same.place) ∙ kind.1 in
           let parts = parted s.tasks k (Run fr) there in
           let some = has_word s st k i fr kind.0 typed (kind.2 i ∙ is) parts.0 parts.1 parts.2 in
           let word_here = word_there s.tasks k i ∙ ap (λ o. word_over o i) there in
           let shows = subst (λ w. Machine_shows (value m (Register k i)) w (held s.cells (Register k i))) word_here (st.agrees.values (Register k i)) in
-          word_of_number _ (word fr i) (held s.cells (Register k i)) some (subst (λ n. Machine_shows n (word fr i) (held s.cells (Register k i))) (register_value p m k i f held_there) shows)
+          word_of_number _ (word fr i) (held s.cells (Register k i)) some (grind (arith, register_value p m k i f held_there))
         where
           by_frame : Option Task → Type 0
           by_frame (Some (Run g)) = SameFrame f g

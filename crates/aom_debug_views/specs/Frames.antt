@@ -1,7 +1,6 @@
 -- What a debugger tells of the methods at hand: where each stands, its registers and its loops, and whether a trap called it.
-use Rattle.std.specs.Prelude.{◌≡◌, ℕ, zero, suc, ℤ, List, [], ◌∷◌, ◌++◌, length, Option, Some, None, option_map, slice_index_or}
+use Rattle.std.specs.Prelude.{◌≡◌, ℕ, zero, suc, ℤ, List, ◌++◌, length, Option, Some, None, option_map, slice_index_or}
 use Rattle.std.specs.Int.{w32, cast_signed}
-use Rattle.aom_image.specs.Image.{Image}
 use Rattle.aom_image.specs.declared.method.Thing.{Thing}
 use Rattle.aom_image.specs.declared.method.Thing.TheVariants.{Object as An_object_of, Message}
 use Rattle.aom_cells.specs.Heap.{null}
@@ -13,7 +12,6 @@ use Rattle.aom_shape.specs.Shape.{Shape}
 use Rattle.aom_shape.specs.declared.kind.Kind.{Kind}
 use Rattle.aom_shape.specs.declared.kind.Kind.TheVariants.{Maybe, Null, Own, Unset, Word}
 use Rattle.aom_rules.specs.Typing.{Typing, shape_at}
-use Rattle.aom_typings.specs.Strongest.{IsStrongest}
 use Rattle.aom_semantics.specs.Owned.{over}
 use Rattle.aom_semantics.specs.Places.{Cell, Object, Register, held, service_of}
 use Rattle.aom_semantics.specs.State.{Frame, Run, State, Task, Trapped, counter, word}

@@ -1,5 +1,5 @@
 -- What a place owns, as a value.
-use Rattle.std.specs.Prelude.{ℕ, ◌≡◌, ◌<◌, List, Option, Some, None}
+use Rattle.std.specs.Prelude.{ℕ, ◌≡◌, ◌<◌, Some, None}
 use Rattle.aom_image.specs.declared.method.Thing.TheVariants.{Object as An_object_of, Message as A_message}
 use Rattle.aom_cells.specs.Heap.{class_at}
 use Rattle.aom_semantics.specs.Places.{Elsewhere, Entry as At_entry, Field as In_field, Going as Goes, In_service, Object as Machine_object, Place, Register as In_register_of, Root as Of_image, Session as Of_session, held, service_of}

@@ -6,4 +6,5 @@ use Rattle.aom_debug_views.specs.Telling.{Tells, answers_by, gathered, listed}
 use Rattle.aom_debug_views.proofs.actives.tell_actives.Given as goal
 
 abbrev pub invariant-loop-place : goal.invariant-loop-place
-invariant-loop-place g l = (p : Image) → Tells (record { image = p; parts = l.parts }) (λ s. answers_by l.names (gathered (λ k. listed (active_at p s.cells (slice_get (map (λ e. e.id) l.parts.active.roster.entries) k))) l.place)) (g.W.Sink.out l.initial.out) (g.W.Sink.out l.out)
+invariant-loop-place g l = (p : Image) → Tells (record { image = p; parts = l.parts }) (λ s. answers_by l.names (gathered (λ k. listed
+    (active_at p s.cells (slice_get (map (λ e. e.id) l.parts.active.roster.entries) k))) l.place)) (g.W.Sink.out l.initial.out) (g.W.Sink.out l.out)

@@ -11,4 +11,4 @@ returns c = λ p s st.
     let most = c.loop-number.auto.number-end in
     let least = c.loop-number-test.false in
     let all : c.loop-number.number ≡ c.args.parts.now.cells.limit = omega (arith, limit, most, least) in
-    class_counted p c.args.parts.now s st c.args.class c.loop-number.count (c.loop-number.invariant.count ∙ ap (counted (λ n. is_class c.args.class (class_at c.args.parts.now.cells n))) all)
+    class_counted p _ s st c.args.class _ (c.loop-number.invariant.count ∙ ap (counted (λ n. is_class c.args.class (class_at c.args.parts.now.cells n))) all)

@@ -19,18 +19,24 @@ returns-in_err-tell_by-clause-err g c =
     let error = err_from_is_err_and c.from_residual.result c.from_residual.ensures.1 in
     let m = c.args.parts.now in
     let n = c.count.result in
-    rw (error.1, error.2) (λ p. cut_first (of_answer c.args.names.now) (record { image = p; parts = m }) (all_cells c.args.names.now m n c.count.ensures.value p) (λ s. first_classes s.cells (length c.args.linked.now.classes)) _ _ _ _ (count_cut c.args.names.now m n c.count.ensures.value p _ _ _ _ c.in_err-tell_by.ensures.err))
+    rw (error.1, error.2) (λ p. cut_first (of_answer c.args.names.now) (record { image = p; parts = m })
+    (all_cells c.args.names.now m n c.count.ensures.value p) (λ s. first_classes s.cells (length c.args.linked.now.classes)) _ _ _ _
+    (count_cut c.args.names.now m n c.count.ensures.value p _ _ _ _ c.in_err-tell_by.ensures.err))
 
 pub returns-clause-ok : goal.returns-clause-ok
 returns-clause-ok g c =
     let m = c.args.parts.now in
     let n = c.count.result in
     let many : c.len.result ≡ length c.args.linked.now.classes = c.len.ensures ∙ ap length c.classes.ensures.value ∙ ap (λ (x : Image). length x.classes) c.image.ensures in
-    IfOk-weaker c.tell_classes.result _ _ (λ _ told p. tells_both (of_answer c.args.names.now) (record { image = p; parts = m }) (all_cells c.args.names.now m n c.count.ensures.value p) (λ s. first_classes s.cells (length c.args.linked.now.classes)) _ _ _ (count_told c.args.names.now m n c.count.ensures.value p _ _ c.in_ok-tell_by.ensures.ok) (rw many at told p)) c.tell_classes.ensures.ok
+    IfOk-weaker c.tell_classes.result _ _ (λ _ told p. tells_both (of_answer c.args.names.now) (record { image = p; parts = m })
+    (all_cells c.args.names.now m n c.count.ensures.value p) (λ s. first_classes s.cells (length c.args.linked.now.classes)) _ _ _
+    (count_told c.args.names.now m n c.count.ensures.value p _ _ c.in_ok-tell_by.ensures.ok) (rw many at told p)) c.tell_classes.ensures.ok
 
 pub returns-clause-err : goal.returns-clause-err
 returns-clause-err g c =
     let m = c.args.parts.now in
     let n = c.count.result in
     let many : c.len.result ≡ length c.args.linked.now.classes = c.len.ensures ∙ ap length c.classes.ensures.value ∙ ap (λ (x : Image). length x.classes) c.image.ensures in
-    IfErr-weaker c.tell_classes.result _ _ (λ fault cut p. cut_later (of_answer c.args.names.now) (record { image = p; parts = m }) (all_cells c.args.names.now m n c.count.ensures.value p) (λ s. first_classes s.cells (length c.args.linked.now.classes)) _ _ _ _ _ (count_told c.args.names.now m n c.count.ensures.value p _ _ c.in_ok-tell_by.ensures.ok) (rw many at cut p)) c.tell_classes.ensures.err
+    IfErr-weaker c.tell_classes.result _ _ (λ fault cut p. cut_later (of_answer c.args.names.now) (record { image = p; parts = m })
+    (all_cells c.args.names.now m n c.count.ensures.value p) (λ s. first_classes s.cells (length c.args.linked.now.classes)) _ _ _ _ _
+    (count_told c.args.names.now m n c.count.ensures.value p _ _ c.in_ok-tell_by.ensures.ok) (rw many at cut p)) c.tell_classes.ensures.err

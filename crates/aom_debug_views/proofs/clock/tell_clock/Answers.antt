@@ -9,17 +9,19 @@ use Rattle.aom_debug_words.specs.declared.answer.Answer.TheVariants.{Clock}
 use Rattle.aom_debug_views.proofs.clock.tell_clock.Goals as goal
 
 pub returns-clause-ok : goal.returns-clause-ok
-returns-clause-ok g c =
-    IfOk-weaker c.tell.result _ _
+returns-clause-ok g c = IfOk-weaker c.tell.result _ _
     (λ done out p. record { out = λ s st. out ∙ ap (λ n. after (g.W.Sink.out c.args.out.now) (ended (answer_text (Clock n)))) (c.clock.ensures ∙ ap (λ (r : Counters). r.clock) st.agrees.rest) })
     c.tell.ensures.ok
 
 pub returns-clause-err : goal.returns-clause-err
-returns-clause-err g c =
-    IfErr-weaker c.tell.result _ _
+returns-clause-err g c = IfErr-weaker c.tell.result _ _
     (λ fault cut p. record {
       told = cut.told;
       fails = cut.fails;
-      out = λ s st. (cut.sent, cut.out ∙ ap (λ n. after (g.W.Sink.out c.args.out.now) (take cut.sent (ended (answer_text (Clock n))))) (c.clock.ensures ∙ ap (λ (r : Counters). r.clock) st.agrees.rest));
+      out = λ s st. (
+        cut.sent,
+        cut.out ∙ ap (λ n. after (g.W.Sink.out c.args.out.now) (take cut.sent (ended (answer_text (Clock n)))))
+            (c.clock.ensures ∙ ap (λ (r : Counters). r.clock) st.agrees.rest),
+      );
     })
     c.tell.ensures.err

@@ -10,4 +10,4 @@ pub returns-in-Some : goal.returns-in-Some
 returns-in-Some c = λ p r shows s st. own_content p c.args.parts.now c.args.number r shows s st c.in-Some.class c.in-Some.ensures
 
 pub returns-in-None : goal.returns-in-None
-returns-in-None c = λ p r shows s st. c.message_content.ensures ∙ unclassed_content p c.args.parts.now c.args.number r shows s st c.if-number-eq-NULL.false c.in-None.ensures
+returns-in-None c = λ p r shows s st. c.message_content.ensures ∙ unclassed_content p _ c.args.number r shows s st c.if-number-eq-NULL.false c.in-None.ensures

@@ -23,14 +23,18 @@ told sh depth s i = listed (register_in (λ k. register sh k) s.cells depth (ove
 pub returns-in_err-tell_any_by-clause-err : goal.returns-in_err-tell_any_by-clause-err
 returns-in_err-tell_any_by-clause-err g c =
     let error = err_from_is_err_and c.from_residual.result c.from_residual.ensures.1 in
-    rw (error.1, error.2) (λ p depth shown. tells_part (of_answer c.args.names.now) (record { image = p; parts = c.args.parts.now }) (told c.args.shape.now depth) (λ s. 16) c.loop-register.register _ _ _ (listed c.register_answer.result) _ _ (c.loop-register.invariant p depth shown)
+    rw (error.1, error.2) (λ p depth shown. tells_part (of_answer c.args.names.now)
+    (record { image = p; parts = c.args.parts.now }) (told c.args.shape.now depth) (λ s. 16) _ _ _ _ _ _ _ (c.loop-register.invariant p depth shown)
     (λ s st. ap listed (c.register_answer.ensures p depth shown s st)) (λ s st. c.loop-register-test.true) c.in_err-tell_any_by.ensures.err)
 
 pub loop-register-preserved : goal.loop-register-preserved
-loop-register-preserved g c = λ p depth shown. tells_next (of_answer c.args.names.now) (record { image = p; parts = c.args.parts.now }) (told c.args.shape.now depth) c.loop-register.register _ _ _ (listed c.register_answer.result) (c.loop-register.invariant p depth shown) (λ s st. ap listed (c.register_answer.ensures p depth shown s st)) c.in_ok-tell_any_by.ensures.ok
+loop-register-preserved g c = λ p depth shown. tells_next (of_answer c.args.names.now)
+    (record { image = p; parts = c.args.parts.now }) (told c.args.shape.now depth) c.loop-register.register _ _ _ (listed c.register_answer.result)
+    (c.loop-register.invariant p depth shown) (λ s st. ap listed (c.register_answer.ensures p depth shown s st)) c.in_ok-tell_any_by.ensures.ok
 
 pub returns-clause-ok : goal.returns-clause-ok
 returns-clause-ok g c =
     let most = c.loop-register.auto.register-end in
     let least = c.loop-register-test.false in
-    λ p depth shown. tells_all (of_answer c.args.names.now) (record { image = p; parts = c.args.parts.now }) (told c.args.shape.now depth) (λ s. 16) c.loop-register.register _ _ (c.loop-register.invariant p depth shown) (λ s st. omega (arith, most, least))
+    λ p depth shown. tells_all (of_answer c.args.names.now) (record { image = p; parts = c.args.parts.now })
+    (told c.args.shape.now depth) (λ s. 16) c.loop-register.register _ _ (c.loop-register.invariant p depth shown) (λ s st. omega (arith, most, least))

@@ -8,4 +8,6 @@ use Rattle.aom_debug_views.specs.Telling.{Tells, answers_by}
 use Rattle.aom_debug_views.proofs.frames.tell_contents.Given as goal
 
 abbrev pub invariant-loop-register : goal.invariant-loop-register
-invariant-loop-register g l = (p : Image) (depth : ℕ) → ShowsFrame (record { image = p; parts = l.parts }) l.shape l.frame depth → Tells (record { image = p; parts = l.parts }) (λ s. answers_by l.names (registers_in (λ i. register l.shape i) s.cells depth (over s.tasks depth) l.register)) (g.W.Sink.out l.initial.out) (g.W.Sink.out l.out)
+invariant-loop-register g l = (p : Image) (depth : ℕ) → ShowsFrame (record { image = p; parts = l.parts }) l.shape l.frame depth → Tells
+    (record { image = p; parts = l.parts }) (λ s. answers_by l.names (registers_in (λ i. register l.shape i) s.cells depth (over s.tasks depth) l.register))
+    (g.W.Sink.out l.initial.out) (g.W.Sink.out l.out)

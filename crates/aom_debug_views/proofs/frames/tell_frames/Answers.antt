@@ -21,14 +21,14 @@ returns-in_err-tell_method-clause-err g c =
     let within = c.loop-depth-test.true in
     let count = c.len-depth-end.ensures in
     let told = rw c.checked.ensures at c.in_err-tell_method.ensures.err in
-    rw (error.1, error.2) (λ t strongest. part_further (of_answer c.args.names.now) m (frame_answers t) (λ s. length s.tasks) c.loop-depth.depth _ _ _ _ _ (c.loop-depth.invariant t strongest) (λ s st. let many = as_many_tasks m.image m.parts s st in omega (arith, within, count, many))
-    (told t strongest))
+    rw (error.1, error.2) (λ t strongest. part_further (of_answer c.args.names.now) m (frame_answers t) (λ s. length s.tasks) c.loop-depth.depth _ _ _ _ _
+    (c.loop-depth.invariant t strongest) (λ s st. let many = as_many_tasks m.image m.parts s st in omega (arith, within, count, many)) (told t strongest))
 
 pub loop-depth-preserved : goal.loop-depth-preserved
 loop-depth-preserved g c =
     let m : Machine = record { image = c.args.accepted.now; parts = c.args.parts.now } in
     let told = rw c.checked.ensures at c.in_ok-tell_method.ensures.ok in
-    λ t strongest. tells_further (of_answer c.args.names.now) m (frame_answers t) c.loop-depth.depth _ _ _ (c.loop-depth.invariant t strongest) (told t strongest)
+    λ t strongest. tells_further (of_answer c.args.names.now) m (frame_answers t) _ _ _ _ (c.loop-depth.invariant t strongest) (told t strongest)
 
 pub returns-clause-ok : goal.returns-clause-ok
 returns-clause-ok g c =
@@ -36,4 +36,5 @@ returns-clause-ok g c =
     let count = c.len-depth-end.ensures in
     let most = c.loop-depth.auto.depth-end in
     let least = c.loop-depth-test.false in
-    λ t strongest. tells_all (of_answer c.args.names.now) m (frame_answers t) (λ s. length s.tasks) c.loop-depth.depth _ _ (c.loop-depth.invariant t strongest) (λ s st. let many = as_many_tasks m.image m.parts s st in omega (arith, count, most, least, many))
+    λ t strongest. tells_all (of_answer c.args.names.now) m (frame_answers t) (λ s. length s.tasks) c.loop-depth.depth _ _
+    (c.loop-depth.invariant t strongest) (λ s st. let many = as_many_tasks m.image m.parts s st in omega (arith, count, most, least, many))

@@ -6,4 +6,5 @@ use Rattle.aom_debug_views.specs.Telling.{Tells, answers_by, gathered}
 use Rattle.aom_debug_views.proofs.frames.tell_frames.Given as goal
 
 abbrev pub invariant-loop-depth : goal.invariant-loop-depth
-invariant-loop-depth g l = (t : Typing) → IsStrongest l.accepted t → Tells (record { image = l.accepted; parts = l.parts }) (λ s. answers_by l.names (gathered (frame_answers t s) l.depth)) (g.W.Sink.out l.initial.out) (g.W.Sink.out l.out)
+invariant-loop-depth g l = (t : Typing) → IsStrongest l.accepted t → Tells (record { image = l.accepted; parts = l.parts })
+    (λ s. answers_by l.names (gathered (frame_answers t s) l.depth)) (g.W.Sink.out l.initial.out) (g.W.Sink.out l.out)

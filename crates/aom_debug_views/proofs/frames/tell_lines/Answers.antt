@@ -42,7 +42,8 @@ returns-in_err-tell_head-clause-err g c =
     let error = err_from_is_err_and c.from_residual.result c.from_residual.ensures.1 in
     let sh = c.args.shape.now in
     let k = c.args.depth in
-    rw (error.1, error.2) (λ p shown. let m : Machine = record { image = p; parts = c.args.parts.now } in cut_first (of_answer c.args.names.now) m (head k) (last_three sh k) _ _ _ _ (c.in_err-tell_head.ensures.err m sh k shown))
+    rw (error.1, error.2) (λ p shown. let m : Machine = record { image = p; parts = c.args.parts.now } in
+    cut_first (of_answer c.args.names.now) m (head k) (last_three sh k) _ _ _ _ (c.in_err-tell_head.ensures.err m sh k shown))
 
 pub returns-in_err-tell_contents-clause-err : goal.returns-in_err-tell_contents-clause-err
 returns-in_err-tell_contents-clause-err g c =
@@ -51,7 +52,8 @@ returns-in_err-tell_contents-clause-err g c =
     let k = c.args.depth in
     rw (error.1, error.2) (λ p shown.
     let m : Machine = record { image = p; parts = c.args.parts.now } in
-    cut_later (of_answer c.args.names.now) m (head k) (last_three sh k) _ _ _ _ _ (c.in_ok-tell_head.ensures.ok m sh k shown) (cut_first (of_answer c.args.names.now) m (contents sh k) (last_two k) _ _ _ _ (c.in_err-tell_contents.ensures.err p k shown)))
+    cut_later (of_answer c.args.names.now) m (head k) (last_three sh k) _ _ _ _ _ (c.in_ok-tell_head.ensures.ok m sh k shown)
+    (cut_first (of_answer c.args.names.now) m (contents sh k) (last_two k) _ _ _ _ (c.in_err-tell_contents.ensures.err p k shown)))
 
 pub returns-in_err-tell_loops-clause-err : goal.returns-in_err-tell_loops-clause-err
 returns-in_err-tell_loops-clause-err g c =
@@ -61,7 +63,8 @@ returns-in_err-tell_loops-clause-err g c =
     rw (error.1, error.2) (λ p shown.
     let m : Machine = record { image = p; parts = c.args.parts.now } in
     cut_later (of_answer c.args.names.now) m (head k) (last_three sh k) _ _ _ _ _ (c.in_ok-tell_head.ensures.ok m sh k shown)
-    (cut_later (of_answer c.args.names.now) m (contents sh k) (last_two k) _ _ _ _ _ (c.in_ok-tell_contents.ensures.ok p k shown) (cut_first (of_answer c.args.names.now) m (loops k) (trap k) _ _ _ _ (c.in_err-tell_loops.ensures.err m sh k shown))))
+    (cut_later (of_answer c.args.names.now) m (contents sh k) (last_two k) _ _ _ _ _ (c.in_ok-tell_contents.ensures.ok p k shown)
+    (cut_first (of_answer c.args.names.now) m (loops k) (trap k) _ _ _ _ (c.in_err-tell_loops.ensures.err m sh k shown))))
 
 pub returns-clause-ok : goal.returns-clause-ok
 returns-clause-ok g c =
@@ -70,7 +73,8 @@ returns-clause-ok g c =
     IfOk-weaker c.tell_trap.result _ _ (λ _ told p shown.
     let m : Machine = record { image = p; parts = c.args.parts.now } in
     tells_both (of_answer c.args.names.now) m (head k) (last_three sh k) _ _ _ (c.in_ok-tell_head.ensures.ok m sh k shown)
-    (tells_both (of_answer c.args.names.now) m (contents sh k) (last_two k) _ _ _ (c.in_ok-tell_contents.ensures.ok p k shown) (tells_both (of_answer c.args.names.now) m (loops k) (trap k) _ _ _ (c.in_ok-tell_loops.ensures.ok m sh k shown) (told p sh c.args.frame.now shown)))) c.tell_trap.ensures.ok
+    (tells_both (of_answer c.args.names.now) m (contents sh k) (last_two k) _ _ _ (c.in_ok-tell_contents.ensures.ok p k shown) (tells_both (of_answer
+    c.args.names.now) m (loops k) (trap k) _ _ _ (c.in_ok-tell_loops.ensures.ok m sh k shown) (told p sh c.args.frame.now shown)))) c.tell_trap.ensures.ok
 
 pub returns-clause-err : goal.returns-clause-err
 returns-clause-err g c =
@@ -79,4 +83,6 @@ returns-clause-err g c =
     IfErr-weaker c.tell_trap.result _ _ (λ fault cut p shown.
     let m : Machine = record { image = p; parts = c.args.parts.now } in
     cut_later (of_answer c.args.names.now) m (head k) (last_three sh k) _ _ _ _ _ (c.in_ok-tell_head.ensures.ok m sh k shown)
-    (cut_later (of_answer c.args.names.now) m (contents sh k) (last_two k) _ _ _ _ _ (c.in_ok-tell_contents.ensures.ok p k shown) (cut_later (of_answer c.args.names.now) m (loops k) (trap k) _ _ _ _ _ (c.in_ok-tell_loops.ensures.ok m sh k shown) (cut p sh c.args.frame.now shown)))) c.tell_trap.ensures.err
+    (cut_later (of_answer c.args.names.now) m (contents sh k) (last_two k) _ _ _ _ _ (c.in_ok-tell_contents.ensures.ok p k shown)
+    (cut_later (of_answer c.args.names.now) m (loops k) (trap k) _ _ _ _ _ (c.in_ok-tell_loops.ensures.ok m sh k shown) (cut p sh c.args.frame.now shown))))
+    c.tell_trap.ensures.err

@@ -23,13 +23,14 @@ pub returns-in_err-tell_any_by-clause-err : goal.returns-in_err-tell_any_by-clau
 returns-in_err-tell_any_by-clause-err g c =
     let error = err_from_is_err_and c.from_residual.result c.from_residual.ensures.1 in
     let answer = c.loop_answer.ensures ∙ ap (loop_answer c.loop-number.number) c.counter.ensures in
-    rw (error.1, error.2) (λ m sh depth shown. tells_part (of_answer c.args.names.now) m (told depth) (λ s. 4) c.loop-number.number _ _ _ (listed c.loop_answer.result) _ _ (c.loop-number.invariant m sh depth shown)
-    (λ s st. loop_told m sh c.args.frame.now depth c.loop-number.number shown s st c.loop_answer.result answer) (λ s st. c.loop-number-test.true) c.in_err-tell_any_by.ensures.err)
+    rw (error.1, error.2) (λ m sh depth shown. tells_part (of_answer c.args.names.now) m (told depth) (λ s. 4) _ _ _ _ _ _ _ (c.loop-number.invariant m sh depth shown)
+    (λ s st. loop_told m sh c.args.frame.now depth _ shown s st _ answer) (λ s st. c.loop-number-test.true) c.in_err-tell_any_by.ensures.err)
 
 pub loop-number-preserved : goal.loop-number-preserved
 loop-number-preserved g c =
     let answer = c.loop_answer.ensures ∙ ap (loop_answer c.loop-number.number) c.counter.ensures in
-    λ m sh depth shown. tells_next (of_answer c.args.names.now) m (told depth) c.loop-number.number _ _ _ (listed c.loop_answer.result) (c.loop-number.invariant m sh depth shown) (λ s st. loop_told m sh c.args.frame.now depth c.loop-number.number shown s st c.loop_answer.result answer) c.in_ok-tell_any_by.ensures.ok
+    λ m sh depth shown. tells_next (of_answer c.args.names.now) m
+    (told depth) _ _ _ _ _ (c.loop-number.invariant m sh depth shown) (λ s st. loop_told m sh _ _ _ shown s st _ answer) c.in_ok-tell_any_by.ensures.ok
 
 pub returns-clause-ok : goal.returns-clause-ok
 returns-clause-ok g c =

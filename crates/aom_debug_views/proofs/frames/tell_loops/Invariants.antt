@@ -8,4 +8,5 @@ use Rattle.aom_debug_views.specs.Telling.{Tells, answers_by}
 use Rattle.aom_debug_views.proofs.frames.tell_loops.Given as goal
 
 abbrev pub invariant-loop-number : goal.invariant-loop-number
-invariant-loop-number g l = (m : Machine) (sh : Shape) (depth : ℕ) → ShowsFrame m sh l.frame depth → Tells m (λ s. answers_by l.names (loops_in (over s.tasks depth) l.number)) (g.W.Sink.out l.initial.out) (g.W.Sink.out l.out)
+invariant-loop-number g l = (m : Machine) (sh : Shape) (depth : ℕ) →
+    ShowsFrame m sh l.frame depth → Tells m (λ s. answers_by l.names (loops_in (over s.tasks depth) l.number)) (g.W.Sink.out l.initial.out) (g.W.Sink.out l.out)

@@ -37,7 +37,8 @@ returns-in-Some-shape-clause-ok g c =
     let there = frame_stands p m k f c.in-Some.ensures in
     let shown = frame_shows p m c.requires.stands c.requires.agrees k f sh there c.in-Some-shape.ensures in
     let method = frame_method p m c.requires.agrees c.requires.stands k f there in
-    IfOk-weaker c.tell_lines.result _ _ (λ _ told t strongest. tells_same (record { image = p; parts = m }) _ (λ s. answers_by c.args.names.now (frame_answers t s k)) (typed_lines c.args.names.now p m f sh k shown method c.in-Some-shape.ensures t strongest) _ _ (told p shown)) c.tell_lines.ensures.ok
+    IfOk-weaker c.tell_lines.result _ _ (λ _ told t strongest. tells_same (record { image = p; parts = m }) _ (λ s. answers_by c.args.names.now (frame_answers
+    t s k)) (typed_lines c.args.names.now p m f sh k shown method c.in-Some-shape.ensures t strongest) _ _ (told p shown)) c.tell_lines.ensures.ok
 
 pub returns-in-Some-shape-clause-err : goal.returns-in-Some-shape-clause-err
 returns-in-Some-shape-clause-err g c =
@@ -49,11 +50,13 @@ returns-in-Some-shape-clause-err g c =
     let there = frame_stands p m k f c.in-Some.ensures in
     let shown = frame_shows p m c.requires.stands c.requires.agrees k f sh there c.in-Some-shape.ensures in
     let method = frame_method p m c.requires.agrees c.requires.stands k f there in
-    IfErr-weaker c.tell_lines.result _ _ (λ fault cut t strongest. part_same (record { image = p; parts = m }) _ (λ s. answers_by c.args.names.now (frame_answers t s k)) (typed_lines c.args.names.now p m f sh k shown method c.in-Some-shape.ensures t strongest) _ _ _ _ (cut p shown)) c.tell_lines.ensures.err
+    IfErr-weaker c.tell_lines.result _ _
+    (λ fault cut t strongest. part_same (record { image = p; parts = m }) _ (λ s. answers_by c.args.names.now (frame_answers t s k))
+    (typed_lines c.args.names.now p m f sh k shown method c.in-Some-shape.ensures t strongest) _ _ _ _ (cut p shown)) c.tell_lines.ensures.err
 
 pub returns-in-None-clause-ok : goal.returns-in-None-clause-ok
 returns-in-None-clause-ok g c =
     let p = c.args.checked.now in
     let m = c.args.parts.now in
     let f = c.in-Some.frame in
-    λ t strongest. record { out = λ s st. absurd (is_reached p m c.requires.agrees s st c.args.depth f (frame_stands p m c.args.depth f c.in-Some.ensures) c.in-None.ensures) }
+    λ t strongest. record { out = λ s st. absurd (is_reached p m c.requires.agrees s st _ f (frame_stands p m _ f c.in-Some.ensures) c.in-None.ensures) }

@@ -10,9 +10,11 @@ use Rattle.aom_debug_views.proofs.frames.tell_trap.Goals as goal
 pub returns-clause-ok : goal.returns-clause-ok
 returns-clause-ok g c = IfOk-weaker c.tell_any_by.result _ _ (λ _ put p sh f shown.
     let m : Machine = record { image = p; parts = c.args.parts.now } in
-    told_here c.args.names.now m (listed c.trap_under.result) (λ s. listed (trap_in s.tasks c.args.depth (over s.tasks c.args.depth))) _ _ (λ s st. trap_there m sh f c.args.depth shown s st c.trap_under.result (c.trap_under.ensures p s st)) put) c.tell_any_by.ensures.ok
+    told_here c.args.names.now m (listed c.trap_under.result) (λ s. listed (trap_in s.tasks c.args.depth (over s.tasks c.args.depth))) _ _
+    (λ s st. trap_there m sh f c.args.depth shown s st c.trap_under.result (c.trap_under.ensures p s st)) put) c.tell_any_by.ensures.ok
 
 pub returns-clause-err : goal.returns-clause-err
 returns-clause-err g c = IfErr-weaker c.tell_any_by.result _ _ (λ fault cut p sh f shown.
     let m : Machine = record { image = p; parts = c.args.parts.now } in
-    part_here c.args.names.now m (listed c.trap_under.result) (λ s. listed (trap_in s.tasks c.args.depth (over s.tasks c.args.depth))) _ _ _ _ (λ s st. trap_there m sh f c.args.depth shown s st c.trap_under.result (c.trap_under.ensures p s st)) cut) c.tell_any_by.ensures.err
+    part_here c.args.names.now m (listed c.trap_under.result) (λ s. listed (trap_in s.tasks c.args.depth (over s.tasks c.args.depth))) _ _ _ _
+    (λ s st. trap_there m sh f c.args.depth shown s st c.trap_under.result (c.trap_under.ensures p s st)) cut) c.tell_any_by.ensures.err

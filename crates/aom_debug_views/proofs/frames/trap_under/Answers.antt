@@ -11,4 +11,4 @@ returns-then-depth-eq0 c = λ p s st. sym (ap (trap_under s.tasks) c.if-depth-eq
 pub returns : goal.returns
 returns c = λ p s st.
     let m = c.args.parts.now in
-    c.trap_of.ensures ∙ trap_told p m s st _ c.task.result (c.task.ensures ∙ over_from_bottom m.stack.tasks _) ∙ trap_below s.tasks c.args.depth c.if-depth-eq0.false
+    c.trap_of.ensures ∙ trap_told p m s st _ _ (c.task.ensures ∙ over_from_bottom m.stack.tasks _) ∙ trap_below s.tasks c.args.depth c.if-depth-eq0.false

@@ -23,7 +23,7 @@ pub returns-in-Some-shape : goal.returns-in-Some-shape
 returns-in-Some-shape c =
     let p = c.args.checked.now in
     let m = c.args.parts.now in
-    let all = frame_shown p m c.requires.agrees c.args.depth c.in-Some.frame c.in-Some-shape.shape (frame_stands p m c.args.depth c.in-Some.frame c.in-Some.ensures) c.in-Some-shape.ensures in
+    let all = frame_shown p m c.requires.agrees c.args.depth _ _ (frame_stands p m c.args.depth c.in-Some.frame c.in-Some.ensures) c.in-Some-shape.ensures in
     subst (λ n. Represents (record { image = p; parts = m }) n (Register c.args.depth c.args.register)) (sym c.register_in.ensures)
     (shown_if _ (record { image = p; parts = m }) _ (Register c.args.depth c.args.register) (all.each c.args.register))
 
@@ -32,4 +32,4 @@ returns-in-None c =
     let p = c.args.checked.now in
     let m = c.args.parts.now in
     let f = c.in-Some.frame in
-    record { each = λ s st. absurd (is_reached p m c.requires.agrees s st c.args.depth f (frame_stands p m c.args.depth f c.in-Some.ensures) c.in-None.ensures) }
+    record { each = λ s st. absurd (is_reached p m c.requires.agrees s st _ f (frame_stands p m c.args.depth f c.in-Some.ensures) c.in-None.ensures) }

@@ -20,7 +20,9 @@ abbrev hangs : State → ℕ → List Owned
 hangs s k = grown s.cells (In_entry (counted (λ j. is_entry (over s.items j)) k)) (Entry k)
 
 -- the number of the entry is that of each state
-numbered : (ns : Names) (p : Image) (m : Parts) (n k : ℕ) → ((p : Image) (s : State) → StandsFor (record { image = p; parts = m }) s → n ≡ counted (λ j. is_entry (over s.items j)) k) → (s : State) → StandsFor (record { image = p; parts = m }) s → owners_text ns (grown s.cells (In_entry n) (Entry k)) ≡ owners_text ns (hangs s k)
+numbered : (ns : Names) (p : Image) (m : Parts) (n k : ℕ) →
+    ((p : Image) (s : State) → StandsFor (record { image = p; parts = m }) s → n ≡ counted (λ j. is_entry (over s.items j)) k) →
+    (s : State) → StandsFor (record { image = p; parts = m }) s → owners_text ns (grown s.cells (In_entry n) (Entry k)) ≡ owners_text ns (hangs s k)
 numbered ns p m n k count s st = ap (λ j. owners_text ns (grown s.cells (In_entry j) (Entry k))) (count p s st)
 
 pub returns-in_err-tell_place-clause-err : goal.returns-in_err-tell_place-clause-err
@@ -29,8 +31,10 @@ returns-in_err-tell_place-clause-err g c =
     let m = c.args.parts.now in
     let k = c.loop-height.height in
     rw (error.1, error.2) (λ p.
-    let cut = c.in_err-tell_place.ensures.err p (In_entry c.loop-height.entries) (Entry k) c.entry.ensures.text (subst (λ n. Represents (record { image = p; parts = m }) n (Entry k)) (sym c.item_number.ensures) (entry_shows p m k)) in
-    part_further (owned_line c.args.names.now) (record { image = p; parts = m }) hangs (λ s. length s.items) k _ _ _ _ _ (c.loop-height.invariant.out p) (λ s st. let many = as_many_items p m s st in omega (arith, c.loop-height-test.true, c.len-height-end.ensures.value, many))
+    let cut = c.in_err-tell_place.ensures.err p (In_entry c.loop-height.entries) (Entry k) c.entry.ensures.text
+    (subst (λ n. Represents (record { image = p; parts = m }) n (Entry k)) (sym c.item_number.ensures) (entry_shows p m k)) in
+    part_further (owned_line c.args.names.now) (record { image = p; parts = m }) hangs (λ s. length s.items) k _ _ _ _ _ (c.loop-height.invariant.out p)
+    (λ s st. let many = as_many_items p m s st in omega (arith, c.loop-height-test.true, c.len-height-end.ensures.value, many))
     (part_same (record { image = p; parts = m }) _ (λ s. owners_text c.args.names.now (hangs s k)) (numbered c.args.names.now p m c.loop-height.entries k c.loop-height.invariant.count) _ _ _ _ cut))
 
 pub loop-height-preserved : goal.loop-height-preserved
@@ -40,13 +44,17 @@ loop-height-preserved g c =
     let few = c.loop-height.invariant.few in
     record {
       few = omega (arith, few, c.entries_at-entries.ensures.few);
-      count = λ p s st. counted_next (λ j. is_entry (over s.items j)) k c.loop-height.entries c.entries_at-entries.result (c.loop-height.invariant.count p s st) (c.entries_at-entries.ensures.value p s st);
-      out = λ p.
-          let told = c.in_ok-tell_place.ensures.ok p (In_entry c.loop-height.entries) (Entry k) c.entry.ensures.text (subst (λ n. Represents (record { image = p; parts = m }) n (Entry k)) (sym c.item_number.ensures) (entry_shows p m k)) in
-          tells_further (owned_line c.args.names.now) (record { image = p; parts = m }) hangs k _ _ _ (c.loop-height.invariant.out p) (tells_same (record { image = p; parts = m }) _ (λ s. owners_text c.args.names.now (hangs s k)) (numbered c.args.names.now p m c.loop-height.entries k c.loop-height.invariant.count) _ _ told);
+      count = λ p s st. counted_next (λ j. is_entry (over s.items j)) k _ _ (c.loop-height.invariant.count p s st) (c.entries_at-entries.ensures.value p s st);
+      out = λ p. let told = c.in_ok-tell_place.ensures.ok p (In_entry c.loop-height.entries) (Entry k) c.entry.ensures.text
+          (subst (λ n. Represents (record { image = p; parts = m }) n (Entry k)) (sym c.item_number.ensures) (entry_shows p m k)) in
+          tells_further (owned_line c.args.names.now)
+          (record { image = p; parts = m }) hangs k _ _ _ (c.loop-height.invariant.out p) (tells_same (record { image = p; parts = m }) _
+          (λ s. owners_text c.args.names.now (hangs s k)) (numbered c.args.names.now p m c.loop-height.entries k c.loop-height.invariant.count) _ _ told);
     }
 
 pub returns-clause-ok : goal.returns-clause-ok
 returns-clause-ok g c =
     let m = c.args.parts.now in
-    λ p. tells_all (owned_line c.args.names.now) (record { image = p; parts = m }) hangs (λ s. length s.items) c.loop-height.height _ _ (c.loop-height.invariant.out p) (λ s st. let many = as_many_items p m s st in omega (arith, c.len-height-end.ensures.value, c.loop-height.auto.height-end, c.loop-height-test.false, many))
+    λ p. tells_all (owned_line c.args.names.now) (record { image = p; parts = m }) hangs
+    (λ s. length s.items) c.loop-height.height _ _ (c.loop-height.invariant.out p) (λ s st. let many = as_many_items p m s st in
+    omega (arith, c.len-height-end.ensures.value, c.loop-height.auto.height-end, c.loop-height-test.false, many))

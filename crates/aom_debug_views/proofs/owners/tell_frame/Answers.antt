@@ -14,16 +14,19 @@ pub returns-in_err-tell_register-clause-err : goal.returns-in_err-tell_register-
 returns-in_err-tell_register-clause-err g c =
     let error = err_from_is_err_and c.from_residual.result c.from_residual.ensures.1 in
     let at = c.loop-register.register in
-    rw (error.1, error.2) (λ p depth shown. part_further (owned_line c.args.names.now) (record { image = p; parts = c.args.parts.now }) (hangs c.args.frames depth) (λ s. 16) at _ _ _ _ _ (c.loop-register.invariant p depth shown) (λ s st. c.loop-register-test.true)
+    rw (error.1, error.2) (λ p depth shown. part_further (owned_line c.args.names.now) (record { image = p; parts = c.args.parts.now })
+    (hangs c.args.frames depth) (λ s. 16) at _ _ _ _ _ (c.loop-register.invariant p depth shown) (λ s st. c.loop-register-test.true)
     (c.in_err-tell_register.ensures.err p depth (shown.each at)))
 
 pub loop-register-preserved : goal.loop-register-preserved
 loop-register-preserved g c =
     let at = c.loop-register.register in
-    λ p depth shown. tells_further (owned_line c.args.names.now) (record { image = p; parts = c.args.parts.now }) (hangs c.args.frames depth) at _ _ _ (c.loop-register.invariant p depth shown) (c.in_ok-tell_register.ensures.ok p depth (shown.each at))
+    λ p depth shown. tells_further (owned_line c.args.names.now) (record { image = p; parts = c.args.parts.now })
+    (hangs c.args.frames depth) at _ _ _ (c.loop-register.invariant p depth shown) (c.in_ok-tell_register.ensures.ok p depth (shown.each at))
 
 pub returns-clause-ok : goal.returns-clause-ok
 returns-clause-ok g c =
     let most = c.loop-register.auto.register-end in
     let least = c.loop-register-test.false in
-    λ p depth shown. tells_all (owned_line c.args.names.now) (record { image = p; parts = c.args.parts.now }) (hangs c.args.frames depth) (λ s. 16) c.loop-register.register _ _ (c.loop-register.invariant p depth shown) (λ s st. omega (arith, most, least))
+    λ p depth shown. tells_all (owned_line c.args.names.now) (record { image = p; parts = c.args.parts.now })
+    (hangs c.args.frames depth) (λ s. 16) c.loop-register.register _ _ (c.loop-register.invariant p depth shown) (λ s st. omega (arith, most, least))

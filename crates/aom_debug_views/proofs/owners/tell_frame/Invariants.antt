@@ -6,4 +6,6 @@ use Rattle.aom_debug_views.specs.Telling.{Tells}
 use Rattle.aom_debug_views.proofs.owners.tell_frame.Given as goal
 
 abbrev pub invariant-loop-register : goal.invariant-loop-register
-invariant-loop-register g l = (p : Image) (depth : ℕ) → ShowsAll (record { image = p; parts = l.parts }) l.shape l.frame.registers depth → Tells (record { image = p; parts = l.parts }) (λ s. owners_text l.names (frame_registers s.cells depth l.frames l.register)) (g.W.Sink.out l.initial.out) (g.W.Sink.out l.out)
+invariant-loop-register g l =
+    (p : Image) (depth : ℕ) → ShowsAll (record { image = p; parts = l.parts }) l.shape l.frame.registers depth → Tells (record { image = p; parts = l.parts })
+    (λ s. owners_text l.names (frame_registers s.cells depth l.frames l.register)) (g.W.Sink.out l.initial.out) (g.W.Sink.out l.out)

@@ -19,7 +19,9 @@ abbrev hangs : State → ℕ → List Owned
 hangs s k = grown s.cells (In_going (counted (λ j. is_going (over s.tasks j)) k)) (Going k)
 
 -- the number of the destruction is that of each state
-numbered : (ns : Names) (p : Image) (m : Parts) (n k : ℕ) → ((p : Image) (s : State) → StandsFor (record { image = p; parts = m }) s → n ≡ counted (λ j. is_going (over s.tasks j)) k) → (s : State) → StandsFor (record { image = p; parts = m }) s → owners_text ns (grown s.cells (In_going n) (Going k)) ≡ owners_text ns (hangs s k)
+numbered : (ns : Names) (p : Image) (m : Parts) (n k : ℕ) →
+    ((p : Image) (s : State) → StandsFor (record { image = p; parts = m }) s → n ≡ counted (λ j. is_going (over s.tasks j)) k) →
+    (s : State) → StandsFor (record { image = p; parts = m }) s → owners_text ns (grown s.cells (In_going n) (Going k)) ≡ owners_text ns (hangs s k)
 numbered ns p m n k count s st = ap (λ j. owners_text ns (grown s.cells (In_going j) (Going k))) (count p s st)
 
 pub returns-in_err-tell_place-clause-err : goal.returns-in_err-tell_place-clause-err
@@ -28,8 +30,10 @@ returns-in_err-tell_place-clause-err g c =
     let m = c.args.parts.now in
     let k = c.loop-depth.depth in
     rw (error.1, error.2) (λ p.
-    let cut = c.in_err-tell_place.ensures.err p (In_going c.loop-depth.goings) (Going k) c.going.ensures.text (subst (λ n. Represents (record { image = p; parts = m }) n (Going k)) (sym c.going_number.ensures) (going_shows p m k)) in
-    part_further (owned_line c.args.names.now) (record { image = p; parts = m }) hangs (λ s. length s.tasks) k _ _ _ _ _ (c.loop-depth.invariant.out p) (λ s st. let many = as_many_tasks p m s st in omega (arith, c.loop-depth-test.true, c.len-depth-end.ensures, many))
+    let cut = c.in_err-tell_place.ensures.err p (In_going c.loop-depth.goings) (Going k) c.going.ensures.text
+    (subst (λ n. Represents (record { image = p; parts = m }) n (Going k)) (sym c.going_number.ensures) (going_shows p m k)) in
+    part_further (owned_line c.args.names.now) (record { image = p; parts = m }) hangs (λ s. length s.tasks) k _ _ _ _ _
+    (c.loop-depth.invariant.out p) (λ s st. let many = as_many_tasks p m s st in omega (arith, c.loop-depth-test.true, c.len-depth-end.ensures, many))
     (part_same (record { image = p; parts = m }) _ (λ s. owners_text c.args.names.now (hangs s k)) (numbered c.args.names.now p m c.loop-depth.goings k c.loop-depth.invariant.count) _ _ _ _ cut))
 
 pub loop-depth-preserved : goal.loop-depth-preserved
@@ -39,13 +43,17 @@ loop-depth-preserved g c =
     let few = c.loop-depth.invariant.few in
     record {
       few = omega (arith, few, c.goings_at-goings.ensures.few);
-      count = λ p s st. counted_next (λ j. is_going (over s.tasks j)) k c.loop-depth.goings c.goings_at-goings.result (c.loop-depth.invariant.count p s st) (c.goings_at-goings.ensures.value p s st);
-      out = λ p.
-          let told = c.in_ok-tell_place.ensures.ok p (In_going c.loop-depth.goings) (Going k) c.going.ensures.text (subst (λ n. Represents (record { image = p; parts = m }) n (Going k)) (sym c.going_number.ensures) (going_shows p m k)) in
-          tells_further (owned_line c.args.names.now) (record { image = p; parts = m }) hangs k _ _ _ (c.loop-depth.invariant.out p) (tells_same (record { image = p; parts = m }) _ (λ s. owners_text c.args.names.now (hangs s k)) (numbered c.args.names.now p m c.loop-depth.goings k c.loop-depth.invariant.count) _ _ told);
+      count = λ p s st. counted_next (λ j. is_going (over s.tasks j)) k _ _ (c.loop-depth.invariant.count p s st) (c.goings_at-goings.ensures.value p s st);
+      out = λ p. let told = c.in_ok-tell_place.ensures.ok p (In_going c.loop-depth.goings) (Going k) c.going.ensures.text
+          (subst (λ n. Represents (record { image = p; parts = m }) n (Going k)) (sym c.going_number.ensures) (going_shows p m k)) in
+          tells_further (owned_line c.args.names.now)
+          (record { image = p; parts = m }) hangs k _ _ _ (c.loop-depth.invariant.out p) (tells_same (record { image = p; parts = m }) _
+          (λ s. owners_text c.args.names.now (hangs s k)) (numbered c.args.names.now p m c.loop-depth.goings k c.loop-depth.invariant.count) _ _ told);
     }
 
 pub returns-clause-ok : goal.returns-clause-ok
 returns-clause-ok g c =
     let m = c.args.parts.now in
-    λ p. tells_all (owned_line c.args.names.now) (record { image = p; parts = m }) hangs (λ s. length s.tasks) c.loop-depth.depth _ _ (c.loop-depth.invariant.out p) (λ s st. let many = as_many_tasks p m s st in omega (arith, c.len-depth-end.ensures, c.loop-depth.auto.depth-end, c.loop-depth-test.false, many))
+    λ p. tells_all
+    (owned_line c.args.names.now) (record { image = p; parts = m }) hangs (λ s. length s.tasks) c.loop-depth.depth _ _ (c.loop-depth.invariant.out p)
+    (λ s st. let many = as_many_tasks p m s st in omega (arith, c.len-depth-end.ensures, c.loop-depth.auto.depth-end, c.loop-depth-test.false, many))

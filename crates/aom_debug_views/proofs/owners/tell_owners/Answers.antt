@@ -38,40 +38,53 @@ pub returns-in_err-tell_place-clause-err : goal.returns-in_err-tell_place-clause
 returns-in_err-tell_place-clause-err g c =
     let error = err_from_is_err_and c.from_residual.result c.from_residual.ensures.1 in
     let m : Machine = record { image = c.args.accepted.now; parts = c.args.parts.now } in
-    rw (error.1, error.2) (cut_first (owned_line c.args.names.now) m of_root last_four _ _ _ _ (c.in_err-tell_place.ensures.err m.image At_root (Elsewhere Root) c.root.ensures.text (root_shows m.image m.parts)))
+    rw (error.1, error.2) (cut_first (owned_line c.args.names.now) m of_root last_four _ _ _ _
+    (c.in_err-tell_place.ensures.err m.image At_root (Elsewhere Root) c.root.ensures.text (root_shows m.image m.parts)))
 
 pub returns-in_err-tell_registers-clause-err : goal.returns-in_err-tell_registers-clause-err
 returns-in_err-tell_registers-clause-err g c =
     let error = err_from_is_err_and c.from_residual-in_err-tell_registers.result c.from_residual-in_err-tell_registers.ensures.1 in
     let m : Machine = record { image = c.args.accepted.now; parts = c.args.parts.now } in
-    rw (error.1, error.2) (cut_later (owned_line c.args.names.now) m of_root last_four _ _ _ _ _ (c.in_ok-tell_place.ensures.ok m.image At_root (Elsewhere Root) c.root.ensures.text (root_shows m.image m.parts))
+    rw (error.1, error.2) (cut_later (owned_line c.args.names.now) m of_root last_four _ _ _ _ _
+    (c.in_ok-tell_place.ensures.ok m.image At_root (Elsewhere Root) c.root.ensures.text (root_shows m.image m.parts))
     (cut_first (owned_line c.args.names.now) m of_registers last_three _ _ _ _ (rw c.checked.ensures at c.in_err-tell_registers.ensures.err)))
 
 pub returns-in_err-tell_entries-clause-err : goal.returns-in_err-tell_entries-clause-err
 returns-in_err-tell_entries-clause-err g c =
     let error = err_from_is_err_and c.from_residual-in_err-tell_entries.result c.from_residual-in_err-tell_entries.ensures.1 in
     let m : Machine = record { image = c.args.accepted.now; parts = c.args.parts.now } in
-    rw (error.1, error.2) (cut_later (owned_line c.args.names.now) m of_root last_four _ _ _ _ _ (c.in_ok-tell_place.ensures.ok m.image At_root (Elsewhere Root) c.root.ensures.text (root_shows m.image m.parts))
-    (cut_later (owned_line c.args.names.now) m of_registers last_three _ _ _ _ _ (rw c.checked.ensures at c.in_ok-tell_registers.ensures.ok) (cut_first (owned_line c.args.names.now) m of_entries last_two _ _ _ _ (c.in_err-tell_entries.ensures.err m.image))))
+    rw (error.1, error.2) (cut_later (owned_line c.args.names.now) m of_root last_four _ _ _ _ _
+    (c.in_ok-tell_place.ensures.ok m.image At_root (Elsewhere Root) c.root.ensures.text (root_shows m.image m.parts))
+    (cut_later (owned_line c.args.names.now) m of_registers last_three _ _ _ _ _ (rw c.checked.ensures at c.in_ok-tell_registers.ensures.ok)
+    (cut_first (owned_line c.args.names.now) m of_entries last_two _ _ _ _ (c.in_err-tell_entries.ensures.err m.image))))
 
 pub returns-in_err-tell_place-2-clause-err : goal.returns-in_err-tell_place-2-clause-err
 returns-in_err-tell_place-2-clause-err g c =
     let error = err_from_is_err_and c.from_residual-in_err-tell_place-2.result c.from_residual-in_err-tell_place-2.ensures.1 in
     let m : Machine = record { image = c.args.accepted.now; parts = c.args.parts.now } in
-    rw (error.1, error.2) (cut_later (owned_line c.args.names.now) m of_root last_four _ _ _ _ _ (c.in_ok-tell_place.ensures.ok m.image At_root (Elsewhere Root) c.root.ensures.text (root_shows m.image m.parts))
-    (cut_later (owned_line c.args.names.now) m of_registers last_three _ _ _ _ _ (rw c.checked.ensures at c.in_ok-tell_registers.ensures.ok) (cut_later (owned_line c.args.names.now) m of_entries last_two _ _ _ _ _ (c.in_ok-tell_entries.ensures.ok m.image)
-    (cut_first (owned_line c.args.names.now) m of_service of_goings _ _ _ _ (c.in_err-tell_place-2.ensures.err m.image At_service (Elsewhere In_service) c.service.ensures.text (service_shows m.image m.parts))))))
+    rw (error.1, error.2) (cut_later (owned_line c.args.names.now) m of_root last_four _ _ _ _ _
+    (c.in_ok-tell_place.ensures.ok m.image At_root (Elsewhere Root) c.root.ensures.text (root_shows m.image m.parts))
+    (cut_later (owned_line c.args.names.now) m of_registers last_three _ _ _ _ _ (rw c.checked.ensures at c.in_ok-tell_registers.ensures.ok)
+    (cut_later (owned_line c.args.names.now) m of_entries last_two _ _ _ _ _ (c.in_ok-tell_entries.ensures.ok m.image)
+    (cut_first (owned_line c.args.names.now) m of_service of_goings _ _ _ _
+    (c.in_err-tell_place-2.ensures.err m.image At_service (Elsewhere In_service) c.service.ensures.text (service_shows m.image m.parts))))))
 
 pub returns-clause-ok : goal.returns-clause-ok
 returns-clause-ok g c =
     let m : Machine = record { image = c.args.accepted.now; parts = c.args.parts.now } in
-    IfOk-weaker c.tell_goings.result _ _ (λ _ told. tells_both (owned_line c.args.names.now) m of_root last_four _ _ _ (c.in_ok-tell_place.ensures.ok m.image At_root (Elsewhere Root) c.root.ensures.text (root_shows m.image m.parts))
-    (tells_both (owned_line c.args.names.now) m of_registers last_three _ _ _ (rw c.checked.ensures at c.in_ok-tell_registers.ensures.ok) (tells_both (owned_line c.args.names.now) m of_entries last_two _ _ _ (c.in_ok-tell_entries.ensures.ok m.image)
-    (tells_both (owned_line c.args.names.now) m of_service of_goings _ _ _ (c.in_ok-tell_place-2.ensures.ok m.image At_service (Elsewhere In_service) c.service.ensures.text (service_shows m.image m.parts)) (told m.image))))) c.tell_goings.ensures.ok
+    IfOk-weaker c.tell_goings.result _ _ (λ _ told. tells_both (owned_line c.args.names.now) m of_root last_four _ _ _
+    (c.in_ok-tell_place.ensures.ok m.image At_root (Elsewhere Root) c.root.ensures.text (root_shows m.image m.parts))
+    (tells_both (owned_line c.args.names.now) m of_registers last_three _ _ _ (rw c.checked.ensures at c.in_ok-tell_registers.ensures.ok)
+    (tells_both (owned_line c.args.names.now) m of_entries last_two _ _ _ (c.in_ok-tell_entries.ensures.ok m.image)
+    (tells_both (owned_line c.args.names.now) m of_service of_goings _ _ _ (c.in_ok-tell_place-2.ensures.ok m.image At_service
+    (Elsewhere In_service) c.service.ensures.text (service_shows m.image m.parts)) (told m.image))))) c.tell_goings.ensures.ok
 
 pub returns-clause-err : goal.returns-clause-err
 returns-clause-err g c =
     let m : Machine = record { image = c.args.accepted.now; parts = c.args.parts.now } in
-    IfErr-weaker c.tell_goings.result _ _ (λ fault cut. cut_later (owned_line c.args.names.now) m of_root last_four _ _ _ _ _ (c.in_ok-tell_place.ensures.ok m.image At_root (Elsewhere Root) c.root.ensures.text (root_shows m.image m.parts))
-    (cut_later (owned_line c.args.names.now) m of_registers last_three _ _ _ _ _ (rw c.checked.ensures at c.in_ok-tell_registers.ensures.ok) (cut_later (owned_line c.args.names.now) m of_entries last_two _ _ _ _ _ (c.in_ok-tell_entries.ensures.ok m.image)
-    (cut_later (owned_line c.args.names.now) m of_service of_goings _ _ _ _ _ (c.in_ok-tell_place-2.ensures.ok m.image At_service (Elsewhere In_service) c.service.ensures.text (service_shows m.image m.parts)) (cut m.image))))) c.tell_goings.ensures.err
+    IfErr-weaker c.tell_goings.result _ _ (λ fault cut. cut_later (owned_line c.args.names.now) m of_root last_four _ _ _ _ _
+    (c.in_ok-tell_place.ensures.ok m.image At_root (Elsewhere Root) c.root.ensures.text (root_shows m.image m.parts))
+    (cut_later (owned_line c.args.names.now) m of_registers last_three _ _ _ _ _ (rw c.checked.ensures at c.in_ok-tell_registers.ensures.ok)
+    (cut_later (owned_line c.args.names.now) m of_entries last_two _ _ _ _ _ (c.in_ok-tell_entries.ensures.ok m.image)
+    (cut_later (owned_line c.args.names.now) m of_service of_goings _ _ _ _ _ (c.in_ok-tell_place-2.ensures.ok m.image At_service
+    (Elsewhere In_service) c.service.ensures.text (service_shows m.image m.parts)) (cut m.image))))) c.tell_goings.ensures.err

@@ -14,14 +14,15 @@ unshown : (may answer : Bool) (m : Machine) (n : ℕ) (r : Place) → answer ≡
 unshown may answer m n r is none shows = subst (λ b. ShowsIf b m n r) (sym is ∙ none) shows
 
 pub returns-then-may_own-clause-ok : goal.returns-then-may_own-clause-ok
-returns-then-may_own-clause-ok g c = IfOk-weaker c.tell_place.result _ _ (λ _ told p depth shows.
-    told p (In_register c.args.frames c.args.register) (Register depth c.args.register) c.register.ensures.text
-    (shown _ c.may_own.result (record { image = p; parts = c.args.parts.now }) _ c.register-then-may_own.result (Register depth c.args.register) c.may_own.ensures c.if-may_own.true c.register-then-may_own.ensures shows)) c.tell_place.ensures.ok
+returns-then-may_own-clause-ok g c = IfOk-weaker c.tell_place.result _ _ (λ _ told p depth shows. told p (In_register c.args.frames c.args.register) (Register
+    depth c.args.register) c.register.ensures.text (shown _ c.may_own.result (record { image = p; parts = c.args.parts.now }) _ c.register-then-may_own.result
+    (Register depth c.args.register) c.may_own.ensures c.if-may_own.true c.register-then-may_own.ensures shows)) c.tell_place.ensures.ok
 
 pub returns-then-may_own-clause-err : goal.returns-then-may_own-clause-err
 returns-then-may_own-clause-err g c = IfErr-weaker c.tell_place.result _ _ (λ fault cut p depth shows.
     cut p (In_register c.args.frames c.args.register) (Register depth c.args.register) c.register.ensures.text
-    (shown _ c.may_own.result (record { image = p; parts = c.args.parts.now }) _ c.register-then-may_own.result (Register depth c.args.register) c.may_own.ensures c.if-may_own.true c.register-then-may_own.ensures shows)) c.tell_place.ensures.err
+    (shown _ c.may_own.result (record { image = p; parts = c.args.parts.now }) _ c.register-then-may_own.result
+    (Register depth c.args.register) c.may_own.ensures c.if-may_own.true c.register-then-may_own.ensures shows)) c.tell_place.ensures.err
 
 pub returns-else-may_own-clause-ok : goal.returns-else-may_own-clause-ok
 returns-else-may_own-clause-ok g c = λ p depth shows.

@@ -12,7 +12,9 @@ returns-in_err-send-clause-err g c =
     rw (error.1, error.2) (cut_as _ _ _ _ _ _ (tail_ends c.args.head.now c.args.found) (cut_in_first _ _ _ _ _ _ c.in_err-send.ensures.err))
 
 pub returns-clause-ok : goal.returns-clause-ok
-returns-clause-ok g c = IfOk-weaker c.send_tail.result _ _ (λ done put. subst (λ t. g.W.Sink.out c.send_tail.new.out ≡ after (g.W.Sink.out c.args.out.now) t) (tail_ends c.args.head.now c.args.found) (sent_on _ _ _ _ _ c.in_ok-send.ensures.ok put)) c.send_tail.ensures.ok
+returns-clause-ok g c = IfOk-weaker c.send_tail.result _ _ (λ done put. subst (λ t. g.W.Sink.out c.send_tail.new.out ≡ after (g.W.Sink.out c.args.out.now) t)
+    (tail_ends c.args.head.now c.args.found) (sent_on _ _ _ _ _ c.in_ok-send.ensures.ok put)) c.send_tail.ensures.ok
 
 pub returns-clause-err : goal.returns-clause-err
-returns-clause-err g c = IfErr-weaker c.send_tail.result _ _ (λ fault cut. cut_as _ _ _ _ _ _ (tail_ends c.args.head.now c.args.found) (cut_in_second _ _ _ _ _ _ _ c.in_ok-send.ensures.ok cut)) c.send_tail.ensures.err
+returns-clause-err g c = IfErr-weaker c.send_tail.result _ _
+    (λ fault cut. cut_as _ _ _ _ _ _ (tail_ends c.args.head.now c.args.found) (cut_in_second _ _ _ _ _ _ _ c.in_ok-send.ensures.ok cut)) c.send_tail.ensures.err

@@ -6,4 +6,5 @@ use Rattle.aom_debug_views.specs.Telling.{Tells, answers_by, gathered, listed}
 use Rattle.aom_debug_views.proofs.timers.tell_timers.Given as goal
 
 abbrev pub invariant-loop-place : goal.invariant-loop-place
-invariant-loop-place g l = (p : Image) → Tells (record { image = p; parts = l.parts }) (λ s. answers_by l.names (gathered (λ k. listed (timer_at s.cells (slice_get (map (λ t. t.id) l.parts.active.pending.timers) k))) l.place)) (g.W.Sink.out l.initial.out) (g.W.Sink.out l.out)
+invariant-loop-place g l = (p : Image) → Tells (record { image = p; parts = l.parts }) (λ s. answers_by l.names (gathered
+    (λ k. listed (timer_at s.cells (slice_get (map (λ t. t.id) l.parts.active.pending.timers) k))) l.place)) (g.W.Sink.out l.initial.out) (g.W.Sink.out l.out)

@@ -1,5 +1,6 @@
 -- The line of what is held, and then what hangs from its fields, one field after another, and from its sessions, one after another.
-use Rattle.std.proofs.Common.{◌≡◌, ◌≢◌, ◌∙◌, ◌<◌, ◌-◌, ◌++◌, ◌∷◌, [], ℕ, IfSome, List, Option, Some, ap, append_assoc, arith, length, refl, rules, subst, suc, sym, take}
+use Rattle.std.proofs.Common.{◌≡◌, ◌≢◌, ◌∙◌, ◌<◌, ◌-◌, ◌++◌, ◌∷◌, [], ℕ, IfSome, List, Option, Some, ap, append_assoc, arith, length, refl, rules, subst, suc}
+use Rattle.std.proofs.Common.{sym, take}
 use Rattle.std.proofs.Math.Seq.{take-append_seam}
 use Rattle.std.proofs.lemmas.Bool.{false≢true}
 use Rattle.std.proofs.lemmas.List.{append-nil}
@@ -10,7 +11,8 @@ use Rattle.aom_queues.specs.Lists.{IsIn, IsOnce}
 use Rattle.aom_semantics.specs.Places.{Elsewhere, Field, Session}
 use Rattle.aom_debug_views.specs.Owners.{By_field, By_session, Represents, branch_text, further, owned_line}
 use Rattle.aom_debug_views.proofs.Telling.{none_sent, part_further, tells_all, tells_further}
-use Rattle.aom_debug_views.proofs.Trees.{below, field_shows, fields_unsent, line_unsent, seat_cut, seat_told, seats_told, session_shows, sessions_unsent, tree_told, uncelled_cut, uncelled_told, way_further}
+use Rattle.aom_debug_views.proofs.Trees.{below, field_shows, fields_unsent, line_unsent, seat_cut, seat_told, seats_told, session_shows, sessions_unsent}
+use Rattle.aom_debug_views.proofs.Trees.{tree_told, uncelled_cut, uncelled_told, way_further}
 use Rattle.aom_debug_views.proofs.tree.+tell_tree.Goals as goal
 
 -- a way that was entered and cut again is as it was
@@ -20,11 +22,8 @@ back_again first way entered after now b n cut long same text begun =
 
 -- the clients that were told, one more, and those behind it
 one_behind : (done xs : List ℕ) (next : Option ℕ) (c : ℕ) → IsOnce xs → IsIn c xs → next ≡ Some c → done ++ from next xs ≡ xs → (done ++ c ∷ []) ++ from (client_after c xs) xs ≡ xs
-one_behind done xs next c once inside is all =
-    append_assoc done (c ∷ []) (from (client_after c xs) xs)
-    ∙ ap (λ ys. done ++ ys) (sym (from-next c xs once inside))
-    ∙ ap (λ o. done ++ from o xs) (sym is)
-    ∙ all
+one_behind done xs next c once inside is all = append_assoc done (c ∷ []) (from (client_after c xs) xs)
+    ∙ ap (λ ys. done ++ ys) (sym (from-next c xs once inside)) ∙ ap (λ o. done ++ from o xs) (sym is) ∙ all
 
 -- a depth that is not 0 is one more than another
 deeper : (n : ℕ) → n ≢ 0 → n ≡ suc (n - 1)
@@ -46,7 +45,8 @@ returns-in_err-tell_owned-clause-err g t c =
     let m = c.args.parts.now in
     let deep = deeper c.args.depth c.if-depth-eq0.false in
     rw (error.1, error.2) (λ p w r is shows.
-    line_unsent p m c.args.names.now c.in-Some.id c.class.result (c.args.depth - 1) c.args.depth w r c.args.way.now (subst (λ k. Represents (record { image = p; parts = m }) k r) (sym c.in-Some.ensures.value) shows) c.class.ensures is deep _ _ _ _ c.in_err-tell_owned.ensures.err)
+    line_unsent p m c.args.names.now c.in-Some.id c.class.result (c.args.depth - 1) c.args.depth w r c.args.way.now (subst (λ k. Represents
+    (record { image = p; parts = m }) k r) (sym c.in-Some.ensures.value) shows) c.class.ensures is deep _ _ _ _ c.in_err-tell_owned.ensures.err)
 
 pub returns-in_err-tell_tree-clause-err : goal.returns-in_err-tell_tree-clause-err
 returns-in_err-tell_tree-clause-err g t c =
@@ -59,8 +59,10 @@ returns-in_err-tell_tree-clause-err g t c =
     let begun = c.tell_owned.ensures.same ∙ is in
     let here = way_further w (By_field at) c.loop-field.way c.enter.new.way (c.loop-field.invariant.same ∙ begun) c.enter.ensures.text in
     let cut = c.in_err-tell_tree.ensures.err p (further w (By_field at)) (Field id at) here (field_shows p m id at c.field.result c.field.ensures) in
-    fields_unsent p m c.args.names.now id c.class.result (c.args.depth - 1) c.args.depth w r c.args.way.now (subst (λ k. Represents (record { image = p; parts = m }) k r) (sym c.in-Some.ensures.value) shows) c.class.ensures is deep _ _ _ _ _ c.in_ok-tell_owned.ensures.ok
-    (part_further (owned_line c.args.names.now) (record { image = p; parts = m }) (below p m id (c.args.depth - 1) w) (λ s. 8) at _ _ _ _ _ (c.loop-field.invariant.out p w begun) (λ s st. c.loop-field-test.true) cut))
+    fields_unsent p m c.args.names.now id c.class.result (c.args.depth - 1) c.args.depth w r c.args.way.now (subst (λ k. Represents
+    (record { image = p; parts = m }) k r) (sym c.in-Some.ensures.value) shows) c.class.ensures is deep _ _ _ _ _ c.in_ok-tell_owned.ensures.ok
+    (part_further (owned_line c.args.names.now) (record { image = p; parts = m })
+    (below p m id (c.args.depth - 1) w) (λ s. 8) at _ _ _ _ _ (c.loop-field.invariant.out p w begun) (λ s st. c.loop-field-test.true) cut))
 
 pub loop-field-preserved : goal.loop-field-preserved
 loop-field-preserved g t c =
@@ -69,7 +71,8 @@ loop-field-preserved g t c =
     let at = c.loop-field.field in
     let first = c.tell_owned.new.way in
     record {
-      same = back_again first c.loop-field.way c.enter.new.way c.tell_tree.new.way c.cut.new.self (branch_text (By_field at)) c.len-length.result c.cut.ensures c.len-length.ensures c.in_ok-tell_tree.ensures.same c.enter.ensures.text c.loop-field.invariant.same;
+      same = back_again first c.loop-field.way c.enter.new.way c.tell_tree.new.way c.cut.new.self (branch_text
+          (By_field at)) c.len-length.result c.cut.ensures c.len-length.ensures c.in_ok-tell_tree.ensures.same c.enter.ensures.text c.loop-field.invariant.same;
       out = λ p w is.
           let here = way_further w (By_field at) c.loop-field.way c.enter.new.way (c.loop-field.invariant.same ∙ is) c.enter.ensures.text in
           tells_further (owned_line c.args.names.now) (record { image = p; parts = m }) (below p m id (c.args.depth - 1) w) at _ _ _ (c.loop-field.invariant.out p w is)
@@ -110,9 +113,11 @@ returns-in_err-tell_tree-2-clause-err g t c =
     let at_seats = c.loop-field.invariant.same ∙ begun in
     let here = way_further w (By_session client) c.loop-next.way c.enter_session.new.way (i.same ∙ at_seats) c.enter_session.ensures.text in
     let cut = c.in_err-tell_tree-2.ensures.err p (further w (By_session client)) (Elsewhere (Session id client)) here (session_shows p m id client c.session_number.result c.session_number.ensures) in
-    sessions_unsent p m c.args.names.now id c.class.result (c.args.depth - 1) c.args.depth w r c.args.way.now (subst (λ k. Represents (record { image = p; parts = m }) k r) (sym c.in-Some.ensures.value) shows) c.class.ensures is deep _ _ _ c.in_ok-tell_owned.ensures.ok
-    (tells_all (owned_line c.args.names.now) (record { image = p; parts = m }) (below p m id (c.args.depth - 1) w) (λ s. 8) c.loop-field.field _ _ (c.loop-field.invariant.out p w begun) (λ s st. omega (arith, most, least))) _ _ _
-    (seat_cut p m c.args.names.now id (c.args.depth - 1) w i.so_far.0 client (from (client_after client xs) xs) (λ s st. all ∙ st.agrees.services.clients.sessions id) _ _ _ _ _ (i.so_far.2 p w at_seats) cut))
+    sessions_unsent p m c.args.names.now id c.class.result (c.args.depth - 1) c.args.depth w r c.args.way.now (subst
+    (λ k. Represents (record { image = p; parts = m }) k r) (sym c.in-Some.ensures.value) shows) c.class.ensures is deep _ _ _ c.in_ok-tell_owned.ensures.ok
+    (tells_all (owned_line c.args.names.now) (record { image = p; parts = m })
+    (below p m id (c.args.depth - 1) w) (λ s. 8) c.loop-field.field _ _ (c.loop-field.invariant.out p w begun) (λ s st. omega (arith, most, least))) _ _ _
+    (seat_cut p m c.args.names.now id _ w i.so_far.0 client _ (λ s st. all ∙ st.agrees.services.clients.sessions id) _ _ _ _ _ (i.so_far.2 p w at_seats) cut))
 
 pub loop-next-smaller : goal.loop-next-smaller
 loop-next-smaller g t c =
@@ -132,7 +137,9 @@ loop-next-preserved g t c =
     let first = c.loop-field.way in
     let all = one_behind i.so_far.0 xs c.loop-next.next client (c.are_apart.ensures.once id) (i.inside client c.in-Some-next.is) c.in-Some-next.is i.so_far.1 in
     record {
-      same = back_again first c.loop-next.way c.enter_session.new.way c.tell_tree-in-Some-next.new.way c.cut-in-Some-next.new.self (branch_text (By_session client)) c.len-length.result c.cut-in-Some-next.ensures (c.len-length.ensures ∙ ap length (sym c.loop-field.invariant.same)) c.in_ok-tell_tree-2.ensures.same c.enter_session.ensures.text i.same;
+      same = back_again first c.loop-next.way c.enter_session.new.way c.tell_tree-in-Some-next.new.way c.cut-in-Some-next.new.self
+          (branch_text (By_session client)) c.len-length.result c.cut-in-Some-next.ensures
+          (c.len-length.ensures ∙ ap length (sym c.loop-field.invariant.same)) c.in_ok-tell_tree-2.ensures.same c.enter_session.ensures.text i.same;
       inside = λ d e. after-in client d xs (sym next ∙ e);
       small = λ d e. subst (λ o. IfSome o (λ k. k < 64)) e c.next_session-next.ensures.below;
       so_far = (
@@ -160,8 +167,10 @@ returns-clause-ok g t c =
     let all : i.so_far.0 ≡ xs = sym (append-nil i.so_far.0) ∙ ap (λ o. i.so_far.0 ++ from o xs) (sym c.in_default-next.is) ∙ i.so_far.1 in
     λ p w r is shows.
     let begun = c.tell_owned.ensures.same ∙ is in
-    tree_told p m c.args.names.now id c.class.result (c.args.depth - 1) c.args.depth w r c.args.way.now (subst (λ k. Represents (record { image = p; parts = m }) k r) (sym c.in-Some.ensures.value) shows) c.class.ensures is deep _ _ _ c.in_ok-tell_owned.ensures.ok
-    (tells_all (owned_line c.args.names.now) (record { image = p; parts = m }) (below p m id (c.args.depth - 1) w) (λ s. 8) c.loop-field.field _ _ (c.loop-field.invariant.out p w begun) (λ s st. omega (arith, most, least))) _
+    tree_told p m c.args.names.now id c.class.result (c.args.depth - 1) c.args.depth w r c.args.way.now (subst
+    (λ k. Represents (record { image = p; parts = m }) k r) (sym c.in-Some.ensures.value) shows) c.class.ensures is deep _ _ _ c.in_ok-tell_owned.ensures.ok
+    (tells_all (owned_line c.args.names.now) (record { image = p; parts = m })
+    (below p m id (c.args.depth - 1) w) (λ s. 8) c.loop-field.field _ _ (c.loop-field.invariant.out p w begun) (λ s st. omega (arith, most, least))) _
     (seats_told p m c.args.names.now id (c.args.depth - 1) w i.so_far.0 all _ _ (i.so_far.2 p w (c.loop-field.invariant.same ∙ begun)))
 
 pub returns-then-depth-eq0-clause-ok : goal.returns-then-depth-eq0-clause-ok

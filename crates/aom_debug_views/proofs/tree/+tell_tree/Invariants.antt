@@ -16,7 +16,8 @@ decreases-tell_tree g l = l.depth
 abbrev pub invariant-loop-field : goal.invariant-loop-field
 invariant-loop-field g l = record {
   same : l.way ≡ l.initial.way;
-  out : (p : Image) (w : Way) → l.initial.way ≡ way_text w → Tells (record { image = p; parts = l.parts }) (λ s. flat_map (owned_line l.names) (gathered (below p l.parts l.id (l.depth - 1) w s) l.field)) (g.W.Sink.out l.initial.out) (g.W.Sink.out l.out);
+  out : (p : Image) (w : Way) → l.initial.way ≡ way_text w → Tells (record { image = p; parts = l.parts })
+      (λ s. flat_map (owned_line l.names) (gathered (below p l.parts l.id (l.depth - 1) w s) l.field)) (g.W.Sink.out l.initial.out) (g.W.Sink.out l.out);
 }
 
 abbrev pub invariant-loop-next : goal.invariant-loop-next
@@ -26,7 +27,8 @@ invariant-loop-next g l = record {
   small : (d : ℕ) → l.next ≡ Some d → d < 64;
   -- those that were told, and what hangs from them
   so_far : (done : List ℕ) × (done ++ from l.next (sessions_at l.parts.clients l.id) ≡ sessions_at l.parts.clients l.id)
-      × ((p : Image) (w : Way) → l.initial.way ≡ way_text w → Tells (record { image = p; parts = l.parts }) (done_text p l.parts l.names l.id (l.depth - 1) w done) (g.W.Sink.out l.initial.out) (g.W.Sink.out l.out));
+      × ((p : Image) (w : Way) → l.initial.way ≡ way_text w → Tells
+      (record { image = p; parts = l.parts }) (done_text p l.parts l.names l.id (l.depth - 1) w done) (g.W.Sink.out l.initial.out) (g.W.Sink.out l.out));
 }
 
 abbrev pub decreases-loop-next : goal.decreases-loop-next
