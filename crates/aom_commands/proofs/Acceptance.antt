@@ -1,5 +1,6 @@
 -- What is known of an accepted image makes it acceptable, and its bytes those of one.
-use Rattle.std.proofs.Common.{ℕ, List}
+use Rattle.std.proofs.lemmas.Bool.Decides.{nat_tests}
+use Rattle.std.proofs.Common.{arith, ℕ, List}
 use Rattle.aom_image.specs.Image.{Image}
 use Rattle.aom_classes.specs.Linked.{IsLinked}
 use Rattle.aom_rules.specs.Typing.{IsTyped, Typing}
@@ -10,7 +11,7 @@ use Rattle.aom_commands.specs.Acceptable.{IsAcceptable, IsSpelled}
 use Rattle.aom_commands.specs.Headline.{Accepts}
 
 pub acceptable_of : {p : Image} → IsLinked p → (t : Typing) × IsTyped p t → BudgetsWithin p → DepthsWithin p → HeightsWithin p → IsAcceptable p
-acceptable_of linked typed budgets depths heights = record { linked = linked; typing = typed.0; typed = typed.1; budgets = budgets; depths = depths; heights = heights }
+acceptable_of linked typed budgets depths heights = search (arith, nat_tests)
 
 pub accepts_of : (bytes : List ℕ) (p : Image) → IsSpelled bytes p → IsLinked p → (t : Typing) × IsTyped p t → BudgetsWithin p → DepthsWithin p → HeightsWithin p → Accepts bytes
 accepts_of bytes p spelled linked typed budgets depths heights = record { image = p; spelled = spelled; acceptable = acceptable_of linked typed budgets depths heights }

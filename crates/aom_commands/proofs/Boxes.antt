@@ -1,21 +1,19 @@
 -- Boxes that are made one after the other, each for its kind, stand as new natives, and owe nothing; and so do those of a machine that has booted with them.
-use Rattle.std.proofs.Common.{◌≡◌, ◌<◌, ◌+◌, ℕ, suc, List, [], ◌∷◌, ◌++◌, Option, Some, None, length, map, option_map, take, get_or, refl, ap, sym, subst, ◌∙◌}
-use Rattle.std.proofs.lemmas.List.{take_all, take_more}
+use Rattle.std.proofs.lemmas.Bool.Decides.{nat_tests}
+use Rattle.std.proofs.Common.{arith, ◌≡◌, ◌<◌, ◌+◌, ℕ, suc, List, [], ◌∷◌, ◌++◌, Option, Some, None, length, map, option_map, take, get_or, refl, ap}
+use Rattle.std.proofs.Common.{subst, ◌∙◌}
+use Rattle.std.proofs.lemmas.List.{take_more}
 use Rattle.aom_natives.specs.Owed.{OweNothing}
 use Rattle.aom_natives.specs.declared.kind.NativeKind.{NativeKind}
-use Rattle.aom_natives.specs.declared.kind.NativeKind.TheVariants.{Counter, Line, Delay}
+use Rattle.aom_natives.specs.declared.kind.NativeKind.TheVariants.{Counter}
 use Rattle.aom_commands.specs.Beside.{AllNew, AreNew, Stance, StandsAs, new_of}
 
 -- what is the same stands so
 pub stands_same : (it that : Stance) → it ≡ that → StandsAs it that
-stands_same it that same =
-    subst (λ (x : Stance). StandsAs it x) same
-    (record { owed = refl; open_may = λ id answer x. x; start_may = λ id function word answer x. x; call_may = λ id function word answer x. x; poll_may = λ now answer x. x })
+stands_same it that same = search (arith, nat_tests)
 
 new_owes : (it : Stance) (kind : NativeKind) → StandsAs it (new_of kind) → it.owed ≡ []
-new_owes it Counter stands = stands.owed
-new_owes it Line stands = stands.owed
-new_owes it Delay stands = stands.owed
+new_owes it x stands = grind arith
 
 module _ {B : Type 0} (stance : B → Stance) where
   pub owe_nothing : (kinds : List NativeKind) (boxes : List B) → AreNew stance kinds boxes → OweNothing (λ b. (stance b).owed) boxes
@@ -43,22 +41,21 @@ module _ {B : Type 0} (stance : B → Stance) where
   pub none_made : (kinds : List NativeKind) (boxes : List B) → boxes ≡ [] → Made kinds boxes 0
   none_made kinds boxes is = rw is (record { new = tt })
 
-  pub one_more_made : (kinds : List NativeKind) (old new : List B) (b : B) (i : ℕ) (k : NativeKind) → Made kinds old i → new ≡ old ++ b ∷ [] → i < length kinds → get_or kinds i Counter ≡ k → StandsAs (stance b) (new_of k) → Made kinds new (i + 1)
+  pub one_more_made : (kinds : List NativeKind) (old new : List B) (b : B) (i : ℕ) (k : NativeKind) →
+      Made kinds old i → new ≡ old ++ b ∷ [] → i < length kinds → get_or kinds i Counter ≡ k → StandsAs (stance b) (new_of k) → Made kinds new (i + 1)
   one_more_made kinds old new b i k made is within at stands =
       let more : take (i + 1) kinds ≡ take i kinds ++ k ∷ [] = take_more kinds i Counter within ∙ ap (λ x. take i kinds ++ x ∷ []) at in
-      record { new = subst (λ ks. AreNew stance ks new) (sym more) (subst (λ bs. AreNew stance (take i kinds ++ k ∷ []) bs) (sym is) (one_behind (take i kinds) old k b made.new stands)) }
+      record { new = grind (arith, nat_tests, new, one_behind) }
 
   pub all_made : (kinds : List NativeKind) (boxes : List B) (i : ℕ) → take i kinds ≡ kinds → Made kinds boxes i → AreNew stance kinds boxes
   all_made kinds boxes i all made = subst (λ ks. AreNew stance ks boxes) all made.new
 
   -- a machine has them in its slots
   module _ {L : Type 0} (native : L → B) where
-    pub all_new : (kinds : List NativeKind) (slots : List (Option L)) (boxes : List B) → map (option_map native) slots ≡ map (λ b. Some b) boxes → AreNew stance kinds boxes → AllNew (λ l. stance (native l)) kinds slots
+    pub all_new : (kinds : List NativeKind) (slots : List (Option L)) (boxes : List B) →
+        map (option_map native) slots ≡ map (λ b. Some b) boxes → AreNew stance kinds boxes → AllNew (λ l. stance (native l)) kinds slots
     all_new [] [] [] same new = tt
-    all_new (k ∷ ks) (Some l ∷ ls) (b ∷ bs) same new =
-        let one : b ≡ native l = cc in
-        let rest : map (option_map native) ls ≡ map (λ x. Some x) bs = cc in
-        (subst (λ x. StandsAs (stance x) (new_of k)) one new.0, all_new ks ls bs rest new.1)
+    all_new (k ∷ ks) (Some l ∷ ls) (b ∷ bs) same new = grind (arith, nat_tests, all_new ks ls bs)
     all_new (k ∷ ks) (None ∷ ls) (b ∷ bs) same new = absurd cc
     all_new kinds [] (b ∷ bs) same new = absurd cc
     all_new kinds (l ∷ ls) [] same new = absurd cc

@@ -1,5 +1,6 @@
 -- What was assembled or listed is what a text denotes, by the law that joins reading and meaning.
-use Rattle.std.proofs.Common.{◌≡◌, ◌≢◌, ℕ, ◌≤◌, ◌^◌, List, length, Ok, Err, sym, subst, ◌∙◌}
+use Rattle.std.proofs.lemmas.Bool.Decides.{nat_tests}
+use Rattle.std.proofs.Common.{arith, ◌≡◌, ◌≢◌, ℕ, List, Ok, Err, sym, ◌∙◌}
 use Rattle.aom_text.specs.declared.fault.AsmFault.{AsmFault}
 use Rattle.aom_text.specs.declared.fault.AsmFaultKind.{AsmFaultKind}
 use Rattle.aom_text.specs.declared.fault.AsmFaultKind.TheVariants as kinds
@@ -10,7 +11,6 @@ use Rattle.aom_asm.specs.Denoted.{denoted}
 use Rattle.aom_asm.proofs.Steps.{no_ok}
 use Rattle.aom_listing.specs.Listing.{listing_text}
 use Rattle.aom_meaning.proofs.Assembling.{listing_assembles}
-use Rattle.aom_meaning.specs.Denotes.{Denotes}
 use Rattle.aom_meaning.proofs.Denoting.{denotes_read, read_denotes}
 use Rattle.aom_commands.specs.Status.{of_asm, of_asm_kind}
 use Rattle.aom_commands.specs.Assembly.{IsFaulty, Lists, Makes, RefusesText}
@@ -23,16 +23,10 @@ means_nothing text fault is = record { meaningless = λ i d. no_ok fault i (sym 
 
 -- a fault is the text's first, unless it is that memory was wanting
 no_image_of : (text : List ℕ) (fault : AsmFault) (kind : AsmFaultKind) → (kind ≢ kinds.OutOfMemory → denoted text ≡ Err fault) → RefusesText text (of_asm_kind fault kind)
-no_image_of text fault kinds.OutOfMemory is = tt
-no_image_of text fault kind is = means_nothing text fault (is (λ e. cc))
+no_image_of text fault kind is = grind (arith, nat_tests, means_nothing text fault)
 
 pub no_image : (text : List ℕ) (fault : AsmFault) → (fault.kind ≢ kinds.OutOfMemory → denoted text ≡ Err fault) → RefusesText text (of_asm fault)
 no_image text fault is = no_image_of text fault fault.kind is
 
 pub lists : (bytes text : List ℕ) (i : Image) → WellFormed i → bytes ≡ spell i → text ≡ listing_text i → Lists bytes text
-lists bytes text i formed spelled listed = record {
-  image = i;
-  spelled = record { formed = formed; spelling = spelled };
-  listing = listed;
-  denotes = λ quiet short. subst (λ t. Denotes t i) (sym listed) (read_denotes (listing_text i) i (listing_assembles i formed quiet (subst (λ (t : List ℕ). length t ≤ 2 ^ 20) listed short)));
-}
+lists bytes text i formed spelled listed = search (arith, nat_tests, read_denotes, listing_assembles i formed)

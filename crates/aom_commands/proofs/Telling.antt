@@ -1,7 +1,7 @@
 -- What is known of an outcome, of a script and of the image is what the status answers.
-use Rattle.std.proofs.Common.{◌≡◌, ◌↔◌, ◌<◌, ◌≤◌, ◌∙◌, Bool, List, None, Option, ℕ, Result, Ok, Err, true, false, ap, arith, pos, refl, sym, subst, inl, inr}
+use Rattle.std.proofs.lemmas.Bool.Decides.{nat_tests}
+use Rattle.std.proofs.Common.{◌≡◌, ◌∙◌, Bool, List, None, Option, ℕ, Result, Ok, Err, true, false, ap, arith, pos, refl, sym, subst, inl, inr}
 use Rattle.aom_transcript.specs.declared.line.Line.{Line}
-use Rattle.aom_semantics.specs.Places.{count_cells}
 use Rattle.aom_semantics.specs.State.{State}
 use Rattle.aom_semantics.specs.World.{Environment, Reaches, Run_of, boot_state}
 use Rattle.std.specs.Prelude.{◌⊎◌, IfErr, IfOk}
@@ -14,33 +14,31 @@ use Rattle.aom_typings.specs.Dispatches.{IsAffordable}
 use Rattle.aom_typings.specs.Prices.{Prices}
 use Rattle.aom_safety.specs.Laws.{LinkedIsWired}
 use Rattle.aom_transcript.specs.declared.line.Ending.{Ending}
-use Rattle.aom_transcript.specs.declared.line.Ending.TheVariants as endings
 use Rattle.aom_determinism.proofs.Oracles.{each_run_follows}
 use Rattle.aom_determinism.proofs.Polling.{nothing_is_heard}
 use Rattle.aom_determinism.specs.Hearing.{Follows, Oracle}
 use Rattle.aom_determinism.specs.Determined.{TextIsDetermined}
 use Rattle.aom_determinism.proofs.Alike.{alike_counted}
-use Rattle.aom_run.specs.Naming.{transcript_by}
 use Rattle.aom_progress.specs.Runs.{TypedRunsWell}
 use Rattle.aom_progress.specs.Laws.{StepsWithin}
 use Rattle.aom_run.specs.declared.outcome.Outcome.{Outcome}
-use Rattle.aom_run.specs.declared.outcome.Outcome.TheVariants.{Stopped, Waiting, MainLeft, Limit, Error, WriteFault}
+use Rattle.aom_run.specs.declared.outcome.Outcome.TheVariants.{Stopped, WriteFault}
 use Rattle.aom_script.proofs.Faulting.{IsOfText, is_of_text}
-use Rattle.aom_run.specs.Runs.{Ran, after}
+use Rattle.aom_run.specs.Runs.{Ran}
 use Rattle.aom_run.specs.declared.machine.Machine.{Machine}
 use Rattle.aom_script.specs.Script.{Script, denoted, RefusesOrWants, WantsMemory}
 use Rattle.aom_script.specs.declared.fault.ScriptFault.{ScriptFault}
 use Rattle.aom_script.specs.declared.fault.ScriptFaultKind.{ScriptFaultKind}
-use Rattle.aom_script.specs.declared.fault.ScriptFaultKind.TheVariants as kinds
 use Rattle.aom_commands.specs.declared.status.ExitStatus.{ExitStatus}
 use Rattle.aom_commands.specs.declared.status.ExitStatus.TheVariants as statuses
 use Rattle.aom_commands.specs.declared.faults.Fault.{Fault}
 use Rattle.aom_commands.specs.declared.faults.Fault.TheVariants as faults
-use Rattle.aom_run.specs.declared.fault.BootFault.{BootFault}
 use Rattle.aom_run.specs.declared.fault.BootFault.TheVariants as boots
-use Rattle.aom_commands.specs.Status.{of_boot, of_script, of_script_kind, status_of}
+use Rattle.aom_commands.specs.Status.{of_script, of_script_kind, status_of}
 use Rattle.aom_commands.specs.Acceptable.{IsSpelled, IsAcceptable, Refuses, RefusesOrWants as RefusesImage}
-use Rattle.aom_commands.specs.Headline.{Sent, outside_of, IsSilent, Told, Represents, Accepts, AcceptedAnswers, AllRunWell, CheckAnswers, Ends, EndsAs, EndsOrFails, HasNatives, ImageWantsMemory, IsNoScript, IsOnly, IsRefused, RefusesBoot, RunAnswersBy, Runs, Shown, Tells, Transcribed}
+use Rattle.aom_commands.specs.Headline.{Sent, outside_of, IsSilent, Told, Represents, Accepts, AcceptedAnswers, AllRunWell, CheckAnswers, Ends, EndsAs}
+use Rattle.aom_commands.specs.Headline.{EndsOrFails, HasNatives, ImageWantsMemory, IsNoScript, IsOnly, IsRefused, RefusesBoot, RunAnswersBy, Runs, Shown}
+use Rattle.aom_commands.specs.Headline.{Tells, Transcribed}
 use Rattle.aom_machine.proofs.Affording.{affords}
 use Rattle.aom_commands.specs.Explored.{AcceptedExplores, Begun, BreaksOff, ExploreAnswers, Explored, Plans, RefusesTry}
 use Rattle.aom_commands.specs.Explored.ExploreBreaks.{script_wants_memory as wants_for_script, machine_wants_memory as wants_for_machine, output_fails as fails}
@@ -51,8 +49,7 @@ use Rattle.aom_commands.specs.Headline.RunBreaks.{machine_wants_memory, output_f
 -- ---- a run
 
 -- what the laws of runs say of an accepted image
-pub all_run_well :
-    (p : Image) → IsLinked p → (t : Typing) × IsStrongest p t × (c : Prices) × IsAffordable p t c × CostsWithin p c →
+pub all_run_well : (p : Image) → IsLinked p → (t : Typing) × IsStrongest p t × (c : Prices) × IsAffordable p t c × CostsWithin p c →
     TypedRunsWell → StepsWithin → LinkedIsWired → TextIsDetermined → AllRunWell p
 all_run_well p linked table law steps wired determined =
     record {
@@ -89,15 +86,13 @@ module _ (reads : Line → List ℕ) (bytes text : List ℕ) (limit natives : �
   unheard none lines s reached = nothing_is_heard.idle r.image around (nothing_is_heard.unnamed r.image r.spelled.formed none) silence (λ n. refl) (boot_state r.image) lines s reached
 
   -- two runs that hear the same end alike
-  ends_as : (oracle : Oracle) (ending : Ending) (out : Sent) (shown : Transcribed reads r.image around ending out) (lines : List Line) (last : State) (other : Ending) (run : Run_of r.image around lines last other)
+  ends_as : (oracle : Oracle) (ending : Ending) (out : Sent)
+      (shown : Transcribed reads r.image around ending out) (lines : List Line) (last : State) (other : Ending) (run : Run_of r.image around lines last other)
       → Follows oracle shown.run.reaches → Follows oracle run.reaches → EndsAs reads ending out lines last other
   ends_as oracle ending out shown lines last other run one another =
       let same = r.determined.ended oracle shown.lines lines shown.last last ending other shown.run run one another in (
         sym same.1,
-        shown.out
-            ∙ ap (λ ls. after out.before (transcript_by reads ls ending (count_cells shown.last.cells))) same.0
-            ∙ ap (λ e. after out.before (transcript_by reads lines e (count_cells shown.last.cells))) same.1
-            ∙ ap (λ n. after out.before (transcript_by reads lines other n)) (alike_counted shown.last last same.2),
+        grind (arith, nat_tests, alike_counted shown.last last same.2),
       )
 
   -- what went out is what each run that ends and hears the same has written
@@ -114,45 +109,41 @@ module _ (reads : Line → List ℕ) (bytes text : List ℕ) (limit natives : �
   so : (ending : Ending) (out : Sent) → HasNatives r.image natives → Transcribed reads r.image around ending out → Shown reads bytes text limit natives ending out
   so ending out enough shown = record { runs = r; enough = enough; transcribed = shown; only = only ending out shown }
 
-  ran : (out errors : Sent) (outcome : Outcome) (status : ExitStatus) → HasNatives r.image natives → Represents reads r.image around outcome out → Ends outcome status errors
-      → AcceptedAnswers reads bytes text limit natives out errors status
-  ran out errors Stopped status enough shows ends = subst (AcceptedAnswers reads bytes text limit natives out errors) (sym ends.0) (so _ out enough shows, ends.1)
+  ran : (out errors : Sent) (outcome : Outcome) (status : ExitStatus) → HasNatives r.image natives →
+      Represents reads r.image around outcome out → Ends outcome status errors → AcceptedAnswers reads bytes text limit natives out errors status
+  ran out errors Stopped status enough shows ends = grind (arith, nat_tests, so)
   ran out errors WriteFault status enough shows ends = subst (AcceptedAnswers reads bytes text limit natives out errors) (sym ends.0) (output_fails r enough shows ends.1)
   ran out errors _ status enough shows ends = subst (AcceptedAnswers reads bytes text limit natives out errors) (sym ends.0) (_, tt, so _ out enough shows, ends.1)
 
--- the fault by which a machine does not boot
-pub boot_refused : (p : Image) (natives : ℕ) (fault : BootFault) → (fault ≡ boots.TooFewNatives) ↔ (natives < p.header.natives) → RefusesBoot p natives (of_boot fault)
-boot_refused p natives boots.TooFewNatives tells = tells.0 refl
-boot_refused p natives boots.OutOfMemory tells = not_fewer (λ few. let other = tells.1 few in cc)
-  where
-    not_fewer : (natives < p.header.natives → ⊥) → p.header.natives ≤ natives
-    not_fewer none = omega (arith, none)
-
 -- what a run of a machine sends is what its outcome shows
-pub shown_by : {X : Type 0} {B : X → Type 0} (reads : Line → List ℕ) (p : Image) (m new : Machine X B) (outside : Environment) (outcome : Outcome) (failed : Bool) (before now : Option (List ℕ)) → m.core.image ≡ p → Ran reads m outside outcome failed before now new
+pub shown_by : {X : Type 0} {B : X → Type 0} (reads : Line → List ℕ) (p : Image) (m new : Machine X B) (outside : Environment)
+    (outcome : Outcome) (failed : Bool) (before now : Option (List ℕ)) → m.core.image ≡ p → Ran reads m outside outcome failed before now new
     → Represents reads p outside outcome (record { before = before; now = now; failed = failed })
-shown_by reads p m new outside WriteFault failed before now image ran = rw (← image) (record { failed = ran.0; beginning = ran.1 })
-shown_by reads p m new outside _ failed before now image ran = rw (← image) (record { lines = ran.lines; last = ran.state; run = ran.run; out = ran.out })
+shown_by reads p m new outside x failed before now image ran = grind arith
 
-module _ (reads : Line → List ℕ) (bytes text : List ℕ) (limit natives : ℕ) (p : Image) (script : Script) (acceptable : IsAcceptable p) (well : AllRunWell p) (spelled : IsSpelled bytes p) (denotes : denoted text ≡ Ok script) (out errors : Sent) where
+module _ (reads : Line → List ℕ) (bytes text : List ℕ) (limit natives : ℕ) (p : Image) (script : Script)
+    (acceptable : IsAcceptable p) (well : AllRunWell p) (spelled : IsSpelled bytes p) (denotes : denoted text ≡ Ok script) (out errors : Sent) where
   abbrev of_it : Runs bytes text limit natives
   of_it = runs_of bytes text limit natives p script acceptable well spelled denotes
 
   -- a run of an accepted image under a script ended so
-  ran_of : (outcome : Outcome) (status : ExitStatus) → HasNatives p natives → Represents reads p (outside_of script limit natives) outcome out → Ends outcome status errors → AcceptedAnswers reads bytes text limit natives out errors status
+  ran_of : (outcome : Outcome) (status : ExitStatus) → HasNatives p natives → Represents reads p (outside_of script limit natives) outcome out →
+      Ends outcome status errors → AcceptedAnswers reads bytes text limit natives out errors status
   ran_of outcome status enough shows ends = ran reads bytes text limit natives of_it out errors outcome status enough shows ends
 
   -- its machine did not boot, and that is told
   unbooted : (fault : Fault) (status : ExitStatus) → RefusesBoot p natives fault → IsSilent out → Told fault status errors → AcceptedAnswers reads bytes text limit natives out errors status
   unbooted (faults.Boot boots.TooFewNatives) status few silent told =
       let accepts : Accepts bytes = record { image = p; spelled = spelled; acceptable = acceptable } in
-      subst (AcceptedAnswers reads bytes text limit natives out errors) (sym told.0) (inr (record { silent = silent; accepts = accepts; script = script; denotes = denotes; few = few; tells = told.1 }))
+      subst (AcceptedAnswers reads bytes text limit natives out errors)
+      (sym told.0) (inr (record { silent = silent; accepts = accepts; script = script; denotes = denotes; few = few; tells = told.1 }))
   unbooted faults.Memory status enough silent told = subst (AcceptedAnswers reads bytes text limit natives out errors) (sym told.0) (machine_wants_memory silent of_it enough told.1)
   unbooted _ status refused silent told = absurd refused
 
   -- a run that may not have been made
-  pub ended_so : (found : Result Outcome Fault) (status : ExitStatus) → IfOk found (λ _. HasNatives p natives) → IfOk found (λ outcome. Represents reads p (outside_of script limit natives) outcome out)
-      → IfErr found (λ fault. RefusesBoot p natives fault × IsSilent out) → EndsOrFails found status errors → AcceptedAnswers reads bytes text limit natives out errors status
+  pub ended_so : (found : Result Outcome Fault) (status : ExitStatus) →
+      IfOk found (λ _. HasNatives p natives) → IfOk found (λ outcome. Represents reads p (outside_of script limit natives) outcome out) → IfErr found
+      (λ fault. RefusesBoot p natives fault × IsSilent out) → EndsOrFails found status errors → AcceptedAnswers reads bytes text limit natives out errors status
   ended_so (Ok outcome) status enough shows refused ends = ran_of outcome status enough shows ends
   ended_so (Err fault) status enough shows refused told = unbooted fault status refused.0 refused.1 told
 
@@ -163,72 +154,66 @@ told_so : (fault : ScriptFault) (kind : ScriptFaultKind) → IsOfText kind → o
 told_so fault kind h = grind arith
 
 -- what is told of a text that is no script, or that there was no memory for, is what each status answers which is one of that
-unread : (answers : ExitStatus → Type 0) (bytes text : List ℕ) (fault : ScriptFault) (line : Fault) (out errors : Sent) (status : ExitStatus) → Accepts bytes → RefusesOrWants text fault → IsSilent out
-    → line ≡ of_script fault → Told line status errors → (IsNoScript bytes text out errors → answers statuses.CallRefused) → (WantsMemory text fault → Tells faults.Memory errors → answers statuses.Fault)
-    → answers status
-unread answers bytes text fault line out errors status accepts (inl denotes) silent is told refused wanting =
-    let script : Told (faults.Script fault) status errors = subst (λ f. Told f status errors) (is ∙ told_so fault fault.kind (is_of_text text fault denotes)) told in
+unread : (answers : ExitStatus → Type 0) (bytes text : List ℕ) (fault : ScriptFault) (line : Fault) (out errors : Sent) (status : ExitStatus) →
+    Accepts bytes → RefusesOrWants text fault → IsSilent out → line ≡ of_script fault → Told line status errors → (IsNoScript bytes text out errors →
+    answers statuses.CallRefused) → (WantsMemory text fault → Tells faults.Memory errors → answers statuses.Fault) → answers status
+unread answers bytes text fault line out errors status accepts (inl denotes) silent is told refused wanting = let script : Told
+    (faults.Script fault) status errors = subst (λ f. Told f status errors) (is ∙ told_so fault fault.kind (is_of_text text fault denotes)) told in
     subst answers (sym script.0) (refused (record { silent = silent; accepts = accepts; fault = fault; denotes = denotes; tells = script.1 }))
 unread answers bytes text fault line out errors status accepts (inr wants) silent is told refused wanting =
     let memory : Told faults.Memory status errors = subst (λ f. Told f status errors) (is ∙ ap (of_script_kind fault) wants.lines.kind) told in
     subst answers (sym memory.0) (wanting wants memory.1)
 
-pub unscripted : (reads : Line → List ℕ) (bytes text : List ℕ) (limit natives : ℕ) (fault : ScriptFault) (line : Fault) (out errors : Sent) (status : ExitStatus) → Accepts bytes → RefusesOrWants text fault → IsSilent out
+pub unscripted : (reads : Line → List ℕ) (bytes text : List ℕ) (limit natives : ℕ)
+    (fault : ScriptFault) (line : Fault) (out errors : Sent) (status : ExitStatus) → Accepts bytes → RefusesOrWants text fault → IsSilent out
     → line ≡ of_script fault → Told line status errors → AcceptedAnswers reads bytes text limit natives out errors status
-unscripted reads bytes text limit natives fault line out errors status accepts refuses silent is told =
-    unread (AcceptedAnswers reads bytes text limit natives out errors) bytes text fault line out errors status accepts refuses silent is told inl (script_wants_memory silent accepts fault)
+unscripted reads bytes text limit natives fault line out errors status accepts refuses silent is told = unread (AcceptedAnswers reads
+    bytes text limit natives out errors) bytes text fault line out errors status accepts refuses silent is told inl (script_wants_memory silent accepts fault)
 
 -- ---- runs into which faults are injected
 
--- with enough natives memory alone is wanting
-pub tried_refused : (p : Image) (natives : ℕ) (fault : Fault) → HasNatives p natives → RefusesTry p natives fault → fault ≡ faults.Memory
-tried_refused p natives fault enough refused = grind arith
-
--- want of memory is a reason at any time
-pub memory_refused : (p : Image) (natives : ℕ) (fault : Fault) → fault ≡ faults.Memory → RefusesTry p natives fault
-memory_refused p natives fault is = rw is tt
-
 -- nothing was tried yet
-pub begin_refused : (p : Image) (script : Script) (limit natives : ℕ) (tries : Tries) (sent : Sent) (fault : Fault) → IsSilent sent → RefusesTry p natives fault → BreaksOff p script limit natives tries sent fault
-begin_refused p script limit natives tries sent (faults.Boot boots.TooFewNatives) silent few = (few, silent)
-begin_refused p script limit natives tries sent faults.Memory silent wants = inl silent
-begin_refused p script limit natives tries sent _ silent refused = absurd refused
+pub begin_refused : (p : Image) (script : Script) (limit natives : ℕ) (tries : Tries) (sent : Sent) (fault : Fault) →
+    IsSilent sent → RefusesTry p natives fault → BreaksOff p script limit natives tries sent fault
+begin_refused p script limit natives tries sent x silent few = grind arith
 
 -- some of what is planned was tried
-pub stopped_there : (p : Image) (script : Script) (limit natives : ℕ) (tries : Tries) (injections given : List Injection) (left : Option Injection) (sent : Sent) (fault other : Fault) → Plans p script limit natives tries injections left
+pub stopped_there : (p : Image) (script : Script) (limit natives : ℕ) (tries : Tries)
+    (injections given : List Injection) (left : Option Injection) (sent : Sent) (fault other : Fault) → Plans p script limit natives tries injections left
     → given ≡ injections → fault ≡ other → other ≡ faults.Memory → Begun p script limit natives given sent → BreaksOff p script limit natives tries sent fault
-stopped_there p script limit natives tries injections given left sent fault other plans same is memory begun =
-    subst (BreaksOff p script limit natives tries sent) (sym (is ∙ memory)) (inr (injections, left, plans, subst (λ xs. Begun p script limit natives xs sent) same begun))
+stopped_there p script limit natives tries injections given left sent fault other plans same is memory begun = grind arith
 
--- why a machine does not boot is why its run is not made
-pub run_refused : (p : Image) (natives : ℕ) (fault : Fault) → RefusesBoot p natives fault → RefusesTry p natives fault
-run_refused p natives fault refused = grind arith
-
-module _ (bytes text : List ℕ) (limit natives : ℕ) (p : Image) (script : Script) (acceptable : IsAcceptable p) (well : AllRunWell p) (spelled : IsSpelled bytes p) (denotes : denoted text ≡ Ok script) (tries : Tries) (out errors : Sent) where
+module _ (bytes text : List ℕ) (limit natives : ℕ) (p : Image) (script : Script) (acceptable : IsAcceptable p)
+    (well : AllRunWell p) (spelled : IsSpelled bytes p) (denotes : denoted text ≡ Ok script) (tries : Tries) (out errors : Sent) where
   abbrev of_them : Runs bytes text limit natives
   of_them = runs_of bytes text limit natives p script acceptable well spelled denotes
 
   -- one of them was not made, and that is told
-  pub broken_off : (fault : Fault) (status : ExitStatus) → BreaksOff p script limit natives tries out fault → Told fault status errors → AcceptedExplores bytes text limit natives tries out errors status
+  pub broken_off : (fault : Fault) (status : ExitStatus) →
+      BreaksOff p script limit natives tries out fault → Told fault status errors → AcceptedExplores bytes text limit natives tries out errors status
   broken_off (faults.Boot boots.TooFewNatives) status off told =
       let accepts : Accepts bytes = record { image = p; spelled = spelled; acceptable = acceptable } in
-      subst (AcceptedExplores bytes text limit natives tries out errors) (sym told.0) (inr (record { silent = off.1; accepts = accepts; script = script; denotes = denotes; few = off.0; tells = told.1 }))
+      subst (AcceptedExplores bytes text limit natives tries out errors)
+      (sym told.0) (inr (record { silent = off.1; accepts = accepts; script = script; denotes = denotes; few = off.0; tells = told.1 }))
   broken_off faults.Memory status off told = subst (AcceptedExplores bytes text limit natives tries out errors) (sym told.0) (wants_for_machine of_them off told.1)
   broken_off _ status off told = absurd off
 
   -- the output failed
-  pub cut_off : (status : ExitStatus) → HasNatives p natives → Explored p script limit natives tries out → out.failed ≡ true → Told faults.Write status errors → AcceptedExplores bytes text limit natives tries out errors status
+  pub cut_off : (status : ExitStatus) → HasNatives p natives → Explored p script limit natives tries out →
+      out.failed ≡ true → Told faults.Write status errors → AcceptedExplores bytes text limit natives tries out errors status
   cut_off status enough explored failed told = subst (AcceptedExplores bytes text limit natives tries out errors) (sym told.0) (fails of_them enough explored failed told.1)
 
   pub explored : HasNatives p natives → Explored p script limit natives tries out → out.failed ≡ false → IsSilent errors → AcceptedExplores bytes text limit natives tries out errors statuses.Done
   explored enough all lives silent = (of_them, enough, all, lives, silent)
 
-pub untried : (bytes text : List ℕ) (limit natives : ℕ) (tries : Tries) (fault : ScriptFault) (line : Fault) (out errors : Sent) (status : ExitStatus) → Accepts bytes → RefusesOrWants text fault → IsSilent out
+pub untried : (bytes text : List ℕ) (limit natives : ℕ) (tries : Tries) (fault : ScriptFault) (line : Fault) (out errors : Sent) (status : ExitStatus) →
+    Accepts bytes → RefusesOrWants text fault → IsSilent out
     → line ≡ of_script fault → Told line status errors → AcceptedExplores bytes text limit natives tries out errors status
-untried bytes text limit natives tries fault line out errors status accepts refuses silent is told =
-    unread (AcceptedExplores bytes text limit natives tries out errors) bytes text fault line out errors status accepts refuses silent is told inl (wants_for_script silent accepts fault)
+untried bytes text limit natives tries fault line out errors status accepts refuses silent is told = unread (AcceptedExplores bytes
+    text limit natives tries out errors) bytes text fault line out errors status accepts refuses silent is told inl (wants_for_script silent accepts fault)
 
-pub explores : (bytes text : List ℕ) (limit natives : ℕ) (tries : Tries) (out errors : Sent) (status : ExitStatus) → AcceptedExplores bytes text limit natives tries out errors status → ExploreAnswers bytes text limit natives tries out errors status
+pub explores : (bytes text : List ℕ) (limit natives : ℕ) (tries : Tries) (out errors : Sent) (status : ExitStatus) →
+    AcceptedExplores bytes text limit natives tries out errors status → ExploreAnswers bytes text limit natives tries out errors status
 explores bytes text limit natives tries out errors statuses.ImageRefused a = absurd a
 explores bytes text limit natives tries out errors statuses.Fault a = inr a
 explores bytes text limit natives tries out errors _ a = a
@@ -247,23 +232,22 @@ turned answers bytes fault out errors status refuses complete silent told refuse
   where
     go : (fault ≡ faults.Memory) ⊎ (Refuses bytes fault × (status_of fault ≡ statuses.ImageRefused) × (fault ≡ faults.Memory → ⊥)) → answers status
     go (inl memory) = let is : Told faults.Memory status errors = subst (λ f. Told f status errors) memory told in subst answers (sym is.0) (wants (record { silent = silent; tells = is.1 }))
-    go (inr (why, is, other)) =
-        subst answers (sym (told.0 ∙ is))
+    go (inr (why, is, other)) = subst answers (sym (told.0 ∙ is))
         (refused (record { silent = silent; fault = fault; refuses = why; none = λ p spelled acceptable. other (complete p spelled acceptable); status = is; tells = told.1 }) refl)
 
 pub unaccepted : (reads : Line → List ℕ) (bytes text : List ℕ) (limit natives : ℕ) (fault : Fault) (out errors : Sent) (status : ExitStatus) → RefusesImage bytes fault
     → ((p : Image) → IsSpelled bytes p → IsAcceptable p → fault ≡ faults.Memory) → IsSilent out → Told fault status errors → RunAnswersBy reads bytes text limit natives out errors status
-unaccepted reads bytes text limit natives fault out errors status refuses complete silent told =
-    turned (RunAnswersBy reads bytes text limit natives out errors) bytes fault out errors status refuses complete silent told (λ refused _. refused) inl
+unaccepted reads bytes text limit natives fault out errors status refuses complete silent told = grind arith
 
-pub unchecked : (bytes : List ℕ) (fault : Fault) (out errors : Sent) (status : ExitStatus) → RefusesImage bytes fault
-    → ((p : Image) → IsSpelled bytes p → IsAcceptable p → fault ≡ faults.Memory) → IsSilent out → Told fault status errors → CheckAnswers bytes out errors status
-unchecked bytes fault out errors status refuses complete silent told = turned (CheckAnswers bytes out errors) bytes fault out errors status refuses complete silent told (λ refused _. refused) inl
+pub unchecked : (bytes : List ℕ) (fault : Fault) (out errors : Sent) (status : ExitStatus) → RefusesImage bytes fault →
+    ((p : Image) → IsSpelled bytes p → IsAcceptable p → fault ≡ faults.Memory) → IsSilent out → Told fault status errors → CheckAnswers bytes out errors status
+unchecked bytes fault out errors status refuses complete silent told = grind (arith, nat_tests, turned)
 
 -- ---- an accepted image
 
 -- what is answered of an accepted image is an answer
-pub accepted : (reads : Line → List ℕ) (bytes text : List ℕ) (limit natives : ℕ) (out errors : Sent) (status : ExitStatus) → AcceptedAnswers reads bytes text limit natives out errors status → RunAnswersBy reads bytes text limit natives out errors status
+pub accepted : (reads : Line → List ℕ) (bytes text : List ℕ) (limit natives : ℕ) (out errors : Sent) (status : ExitStatus) →
+    AcceptedAnswers reads bytes text limit natives out errors status → RunAnswersBy reads bytes text limit natives out errors status
 accepted reads bytes text limit natives out errors statuses.ImageRefused answers = absurd answers
 accepted reads bytes text limit natives out errors statuses.Fault answers = inr answers
 accepted reads bytes text limit natives out errors _ answers = answers

@@ -1,5 +1,6 @@
 -- What is known of the translation that was sent, or of the fault that was told, is what the status answers.
-use Rattle.std.proofs.Common.{ℕ, List, arith, inl, inr}
+use Rattle.std.proofs.lemmas.Bool.Decides.{nat_tests}
+use Rattle.std.proofs.Common.{ℕ, List, arith, inl}
 use Rattle.aom_image.specs.Image.{Image}
 use Rattle.aom_classes.specs.Linked.{IsLinked}
 use Rattle.aom_rules.specs.Typing.{Typing, IsTyped}
@@ -19,7 +20,7 @@ use Rattle.aom_commands.proofs.Sending.{due_sent}
 use Rattle.aom_commands.proofs.Telling.{turned}
 
 pub translated : (to : Translation) (file text : List ℕ) (out errors : Sent) (status : ExitStatus) → IsTranslation to file text → Sends text status out errors → Translates to file out errors status
-translated to file text out errors status is sends = due_sent (Translates to file out errors) text out errors status (IsTranslation to file) is sends (λ all. all) inr
+translated to file text out errors status is sends = grind (arith, nat_tests, due_sent)
 
 -- a text that denotes no image, or want of memory
 unassembled : (text : List ℕ) (fault : Fault) (out errors : Sent) (status : ExitStatus) → RefusesText text fault → IsSilent out → Told fault status errors → Translates Asm text out errors status
@@ -30,11 +31,12 @@ unlisted : (bytes : List ℕ) (fault : Fault) (out errors : Sent) (status : Exit
 unlisted bytes fault out errors status refuses silent told = grind arith
 
 -- so the first fault is told
-pub untranslated : (to : Translation) (file : List ℕ) (fault : Fault) (out errors : Sent) (status : ExitStatus) → RefusesFile to file fault → IsSilent out → Told fault status errors → Translates to file out errors status
+pub untranslated : (to : Translation) (file : List ℕ) (fault : Fault) (out errors : Sent) (status : ExitStatus) →
+    RefusesFile to file fault → IsSilent out → Told fault status errors → Translates to file out errors status
 untranslated Asm text fault out errors status refuses silent told = unassembled text fault out errors status refuses silent told
 untranslated Dis bytes fault out errors status refuses silent told = unlisted bytes fault out errors status refuses silent told
-untranslated Dot bytes fault out errors status stops silent told =
-    turned (Translates Dot bytes out errors) bytes fault out errors status stops.refuses stops.complete silent told (no_figures bytes fault out errors stops.early) inl
+untranslated Dot bytes fault out errors status stops silent told = turned
+    (Translates Dot bytes out errors) bytes fault out errors status stops.refuses stops.complete silent told (no_figures bytes fault out errors stops.early) inl
 
 -- the graph of the image that the bytes are
 pub drawn_of : (names : Names) (bytes text : List ℕ) (p : Image) (t : Typing) → IsSpelled bytes p → IsLinked p → IsTyped p t → IsGraph names p text → IsDrawnBy names bytes text
@@ -43,8 +45,9 @@ drawn_of names bytes text p t spelled linked typed graph = record { image = p; s
 -- ---- a graph by names
 
 pub drawn_by : (names : Names) (bytes text : List ℕ) (out errors : Sent) (status : ExitStatus) → IsDrawnBy names bytes text → Sends text status out errors → DrawsBy names bytes out errors status
-drawn_by names bytes text out errors status is sends = due_sent (DrawsBy names bytes out errors) text out errors status (IsDrawnBy names bytes) is sends (λ all. all) inr
+drawn_by names bytes text out errors status is sends = grind (arith, nat_tests, due_sent)
 
-pub undrawn : (names : Names) (bytes : List ℕ) (fault : Fault) (out errors : Sent) (status : ExitStatus) → StopsEarly bytes fault → IsSilent out → Told fault status errors → DrawsBy names bytes out errors status
-undrawn names bytes fault out errors status stops silent told =
-    turned (DrawsBy names bytes out errors) bytes fault out errors status stops.refuses stops.complete silent told (no_figures bytes fault out errors stops.early) inl
+pub undrawn : (names : Names) (bytes : List ℕ) (fault : Fault) (out errors : Sent) (status : ExitStatus) →
+    StopsEarly bytes fault → IsSilent out → Told fault status errors → DrawsBy names bytes out errors status
+undrawn names bytes fault out errors status stops silent told = turned
+    (DrawsBy names bytes out errors) bytes fault out errors status stops.refuses stops.complete silent told (no_figures bytes fault out errors stops.early) inl

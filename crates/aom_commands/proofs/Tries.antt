@@ -1,5 +1,7 @@
 -- Lines of runs into which faults are injected, one after the other.
-use Rattle.std.proofs.Common.{◌≡◌, ◌<◌, ◌≤◌, ℕ, suc, ◌+◌, ◌||◌, Bool, false, true, List, [], ◌∷◌, ◌++◌, Option, Some, length, map, option_map, take, get_or, refl, sym, ap, subst, ◌∙◌, arith, inl, inr}
+use Rattle.std.proofs.lemmas.Bool.Decides.{nat_tests}
+use Rattle.std.proofs.Common.{◌≡◌, ◌<◌, ◌≤◌, ℕ, suc, ◌+◌, ◌||◌, Bool, false, true, List, [], ◌∷◌, ◌++◌, Option, Some, length, map, option_map, take, get_or}
+use Rattle.std.proofs.Common.{refl, sym, ap, subst, ◌∙◌, arith, inl, inr}
 use Rattle.std.specs.Prelude.{◌⊎◌}
 use Rattle.std.proofs.Math.Seq.{take-suc}
 use Rattle.std.proofs.lemmas.List.{length-map, take_all}
@@ -11,7 +13,6 @@ use Rattle.aom_semantics.specs.World.{Environment, Run_of, boot_state}
 use Rattle.aom_transcript.specs.declared.line.Ending.{Ending}
 use Rattle.aom_transcript.specs.declared.line.Line.{Line}
 use Rattle.aom_transcript.specs.Text.{line_text}
-use Rattle.aom_transcript.specs.declared.line.Ending.TheVariants as endings
 use Rattle.aom_run.specs.Calls.{StandsFor, natives_of}
 use Rattle.aom_run.specs.declared.machine.Machine.{Machine}
 use Rattle.aom_run.specs.Outcomes.{outcome_of}
@@ -21,7 +22,7 @@ use Rattle.aom_run.specs.declared.outcome.Outcome.{Outcome}
 use Rattle.aom_script.specs.Script.{Script}
 use Rattle.aom_run.proofs.Sending.{after_both, after_none, cut_next}
 use Rattle.aom_transcript.specs.Text.{transcript}
-use Rattle.aom_injection.specs.Planned.{clients_among, deaths_of, marks_times, natives_among, pairs_of, part_of, planned, some_pairs, times_in, unplanned}
+use Rattle.aom_injection.specs.Planned.{clients_among, deaths_of, marks_times, natives_among, pairs_of, part_of, planned, some_pairs, unplanned}
 use Rattle.aom_injection.specs.Tallies.{Tally, counted, nothing_counted, tally_of}
 use Rattle.aom_injection.specs.declared.injection.Injection.{Injection}
 use Rattle.aom_injection.specs.declared.injection.Injection.TheVariants.{Refusal}
@@ -35,7 +36,8 @@ use Rattle.aom_commands.specs.declared.faults.Fault.TheVariants as faults
 -- ---- texts, one behind the other
 
 -- a text more went out behind one
-pub says_on : (text more : List ℕ) (mid sent : Sent) → Says text mid → mid.failed ≡ false → mid.before ≡ sent.before → Says more (record { before = mid.now; now = sent.now; failed = sent.failed }) → Says (text ++ more) sent
+pub says_on : (text more : List ℕ) (mid sent : Sent) → Says text mid →
+    mid.failed ≡ false → mid.before ≡ sent.before → Says more (record { before = mid.now; now = sent.now; failed = sent.failed }) → Says (text ++ more) sent
 says_on text more mid sent said lives same says =
     let out : mid.now ≡ after sent.before text = said.whole lives ∙ ap (λ o. after o text) same in
     record {
@@ -71,16 +73,12 @@ module _ (p : Image) (script : Script) (limit natives : ℕ) (injections : List 
   start tally sent is same = record { endings = []; text = []; tried = none; says = says_nothing sent same; counts = is; many = ap (λ (t : Tally). t.tries) is }
 
   counts_one : (tally : Tally) (ending : Ending) → (counted tally ending).tries ≡ tally.tries + 1
-  counts_one tally endings.Stopped = refl
-  counts_one tally endings.Waiting = refl
-  counts_one tally (endings.MainLeft code) = refl
-  counts_one tally endings.Limit = refl
-  counts_one tally (endings.Error answer) = refl
+  counts_one tally x = grind arith
 
   -- one more was
   pub one_more : (place : ℕ) (old new : Tally) (mid sent : Sent) (injection other : Injection) (ending : Ending) (line : List ℕ) → place < length injections → injection ≡ get_or injections place other
-      → SoFar place old mid → mid.failed ≡ false → mid.before ≡ sent.before → Tried p script limit natives injection ending line → Says line (record { before = mid.now; now = sent.now; failed = sent.failed })
-      → new ≡ counted old ending → SoFar (place + 1) new sent
+      → SoFar place old mid → mid.failed ≡ false → mid.before ≡ sent.before → Tried p script limit natives injection ending line →
+      Says line (record { before = mid.now; now = sent.now; failed = sent.failed }) → new ≡ counted old ending → SoFar (place + 1) new sent
   one_more place old new mid sent injection other ending line within is far lives same tried says counts =
       let more : place + 1 ≡ suc place = omega arith in
       let next : take (place + 1) injections ≡ take place injections ++ injection ∷ [] =
@@ -109,13 +107,11 @@ none_die (time ∷ times) = none_die times
 -- where nobody dies the times do not matter
 same_deaths : (kills deaths : Bool) (natives : ℕ) (timed : List TimedEvent) (times others : List ℕ) → (kills || deaths ≡ true → times ≡ others)
     → deaths_of times (natives_among kills natives ++ clients_among deaths timed) ≡ deaths_of others (natives_among kills natives ++ clients_among deaths timed)
-same_deaths true deaths natives timed times others same = ap (λ ts. deaths_of ts (natives_among true natives ++ clients_among deaths timed)) (same refl)
-same_deaths false true natives timed times others same = ap (λ ts. deaths_of ts (clients_among true timed)) (same refl)
-same_deaths false false natives timed times others same = none_die times ∙ sym (none_die others)
+same_deaths x deaths natives timed times others same = grind (arith, none_die times, none_die others)
 
-pub plans : (p : Image) (script : Script) (limit natives : ℕ) (tries : Tries) (requests : ℕ) (times : List ℕ) (injections : List Injection) (left : Option Injection)
-    → HasPlain p (outside_of script limit natives) (marks_times tries) requests times → injections ≡ planned tries natives script.timed requests times → left ≡ unplanned tries requests
-    → Plans p script limit natives tries injections left
+pub plans : (p : Image) (script : Script) (limit natives : ℕ) (tries : Tries) (requests : ℕ)
+    (times : List ℕ) (injections : List Injection) (left : Option Injection) → HasPlain p (outside_of script limit natives) (marks_times tries) requests times →
+    injections ≡ planned tries natives script.timed requests times → left ≡ unplanned tries requests → Plans p script limit natives tries injections left
 plans p script limit natives tries requests times injections left plain is left_is =
     let refusals = λ (n : ℕ). map Refusal (part_of tries.part n) in
     let pairs = λ (n : ℕ). some_pairs tries.pairs (pairs_of tries.part n) in
@@ -123,20 +119,17 @@ plans p script limit natives tries requests times injections left plain is left_
       last = plain.last;
       text = plain.text;
       plain = plain.is;
-      injections_are = is
-          ∙ ap (λ xs. refusals requests ++ xs ++ pairs requests) (same_deaths tries.kills tries.deaths natives script.timed times (times_in plain.text) plain.marked)
-          ∙ ap (λ n. planned tries natives script.timed n (times_in plain.text)) plain.asked;
+      injections_are = grind (arith, same_deaths tries.kills tries.deaths natives script.timed times);
       left_is = left_is ∙ ap (unplanned tries) plain.asked;
     }
 
 -- ---- all of it
 
 -- the closing lines went out behind the others, unless the sink had failed
-pub explored_so : (p : Image) (script : Script) (limit natives : ℕ) (tries : Tries) (injections : List Injection) (left : Option Injection) (tally : Tally) (mid sent : Sent)
-    → Plans p script limit natives tries injections left → TriesAll p script limit natives injections tally mid → mid.before ≡ sent.before
-    → (mid.failed ≡ false → Says (closing tries left tally) (record { before = mid.now; now = sent.now; failed = sent.failed }))
-    → (mid.failed ≡ true → (sent.now ≡ mid.now) × (sent.failed ≡ true))
-    → Explored p script limit natives tries sent
+pub explored_so : (p : Image) (script : Script) (limit natives : ℕ) (tries : Tries) (injections : List Injection) (left : Option Injection)
+    (tally : Tally) (mid sent : Sent) → Plans p script limit natives tries injections left → TriesAll p script limit natives injections tally mid →
+    mid.before ≡ sent.before → (mid.failed ≡ false → Says (closing tries left tally) (record { before = mid.now; now = sent.now; failed = sent.failed })) →
+    (mid.failed ≡ true → (sent.now ≡ mid.now) × (sent.failed ≡ true)) → Explored p script limit natives tries sent
 explored_so p script limit natives tries injections left tally mid sent plans all same says stays = record { injections = injections; left = left; plans = plans; ends = go mid.failed refl }
   where
     go : (failed : Bool) → mid.failed ≡ failed → Finished p script limit natives tries injections left sent ⊎ ((sent.failed ≡ true) × Begun p script limit natives injections sent)
@@ -146,7 +139,7 @@ explored_so p script limit natives tries injections left tally mid sent plans al
           endings = b.endings;
           text = b.text;
           tried = subst (λ xs. EachTried p script limit natives xs b.endings b.text) (all.all lives) b.tried;
-          says = subst (λ t. Says (b.text ++ closing tries left t) sent) all.counts (says_on b.text (closing tries left tally) mid sent b.says lives same (says lives));
+          says = grind (arith, nat_tests, says_on b.text, says lives);
         })
     go true fails =
         let b = all.begun in
@@ -156,15 +149,15 @@ explored_so p script limit natives tries injections left tally mid sent plans al
 -- ---- a run to its end
 
 module _ {X : Type 0} {B : X → Type 0} where
-  told_of : {reads : Line → List ℕ} (m new : Machine X B) (outside : Environment) (ending : Ending) (failed : Bool) (before now : Option (List ℕ)) → Ran reads m outside (outcome_of ending) failed before now new → Told reads m.core.image outside ending before now new
-  told_of m new outside endings.Stopped failed before now ran = ran
-  told_of m new outside _ failed before now ran = ran
+  told_of : {reads : Line → List ℕ} (m new : Machine X B) (outside : Environment) (ending : Ending) (failed : Bool) (before now : Option (List ℕ)) →
+      Ran reads m outside (outcome_of ending) failed before now new → Told reads m.core.image outside ending before now new
+  told_of m new outside x failed before now ran = grind arith
 
   -- how it ended, with how many cells and after how many requests, the machine tells; its transcript went out
-  pub last_so : (p : Image) (m new : Machine X B) (outside : Environment) (outcome : Outcome) (ending : Ending) (failed : Bool) (before now : Option (List ℕ)) (cells requests : ℕ)
-      → m.core.image ≡ p → outcome ≡ outcome_of ending → Ran line_text m outside outcome failed before now new
-      → ((s : State) → StandsFor new s → (cells ≡ count_cells s.cells) × (requests ≡ s.rest.requests))
-      → (text : List ℕ) × IsLast p outside (record { ending = ending; cells = cells; requests = requests }) text × (now ≡ after before text)
+  pub last_so : (p : Image) (m new : Machine X B) (outside : Environment) (outcome : Outcome)
+      (ending : Ending) (failed : Bool) (before now : Option (List ℕ)) (cells requests : ℕ) → m.core.image ≡ p → outcome ≡ outcome_of ending →
+      Ran line_text m outside outcome failed before now new → ((s : State) → StandsFor new s → (cells ≡ count_cells s.cells) × (requests ≡ s.rest.requests)) →
+      (text : List ℕ) × IsLast p outside (record { ending = ending; cells = cells; requests = requests }) text × (now ≡ after before text)
   last_so p m new outside outcome ending failed before now cells requests image is ran tells =
       let told = told_of m new outside ending failed before now (subst (λ o. Ran line_text m outside o failed before now new) is ran) in (
         transcript told.lines ending (count_cells told.state.cells),
@@ -181,15 +174,13 @@ module _ {X : Type 0} {B : X → Type 0} where
 
 -- what is kept, where it is
 pub kept_so : (keeps : Bool) (text other : List ℕ) → kept_text keeps text ≡ Some other → text ≡ other
-kept_so true text other is = cc
-kept_so false text other is = absurd cc
+kept_so x text other is = grind arith
 
 -- ---- a machine that has booted
 
 -- it has as many natives as boxes were given to it
 pub given_all : {L B : Type 0} (native : L → B) (slots : List (Option L)) (boxes : List B) → map (option_map native) slots ≡ map (λ b. Some b) boxes → length slots ≡ length boxes
-given_all {L} {B} native slots boxes same =
-    sym (length-map slots (option_map native)) ∙ ap length same ∙ length-map boxes (λ (b : B). Some b)
+given_all {L} {B} native slots boxes same = grind (arith, nat_tests, length-map)
 
 -- a machine that has not run is fresh
 pub fresh_so : {X : Type 0} {B : X → Type 0} (p : Image) (m : Machine X B) → m.core.image ≡ p → StandsFor m (boot_state p) → IsFresh m
@@ -197,7 +188,7 @@ fresh_so p m image stands = subst (λ q. StandsFor m (boot_state q)) (sym image)
 
 -- and has as many natives as its image names
 pub has_enough : {X : Type 0} {B : X → Type 0} (p : Image) (m : Machine X B) (natives : ℕ) → m.core.image ≡ p → natives_of m ≡ natives → StandsFor m (boot_state p) → HasNatives p natives
-has_enough p m natives image count stands = subst (λ n. HasNatives p n) count (subst (λ q. HasNatives q (natives_of m)) image stands.serves.enough)
+has_enough p m natives image count stands = grind (arith, nat_tests)
 
 -- want of memory is told of a machine that has them
 pub wants_memory : (p : Image) (natives : ℕ) (fault : Fault) → fault ≡ faults.Memory → HasNatives p natives → RefusesBoot p natives fault

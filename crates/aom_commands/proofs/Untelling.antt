@@ -1,17 +1,18 @@
 -- What follows of an answer follows of one that is not told yet, and what is said of a text of an equal one.
-use Rattle.std.proofs.Common.{◌≡◌, ◌∙◌, ℕ, List, Option, Ok, Err, Result, ap, subst, sym}
+use Rattle.std.proofs.Common.{arith, ◌≡◌, ◌∙◌, ℕ, List, Option, Ok, Err, Result, ap, subst, sym}
 use Rattle.aom_run.specs.Runs.{after}
 use Rattle.aom_commands.specs.declared.status.ExitStatus.{ExitStatus}
 use Rattle.aom_commands.specs.declared.faults.Fault.{Fault}
 use Rattle.aom_commands.specs.Headline.{Says, Sent}
 use Rattle.aom_commands.specs.Untold.{Answered, Untold}
 
-pub untold_weaker : (one other : Sent → ExitStatus → Type 0) (found : Result ExitStatus Fault) → ((errors : Sent) (status : ExitStatus) → one errors status → other errors status) → Untold one found → Untold other found
-untold_weaker one other (Ok status) follows untold = λ errors silent. follows errors status (untold errors silent)
-untold_weaker one other (Err fault) follows untold = λ errors status told. follows errors status (untold errors status told)
+pub untold_weaker : (one other : Sent → ExitStatus → Type 0) (found : Result ExitStatus Fault) →
+    ((errors : Sent) (status : ExitStatus) → one errors status → other errors status) → Untold one found → Untold other found
+untold_weaker one other x follows untold = grind arith
 
 -- what was not told yet is told
-pub answered : (answers : Sent → ExitStatus → Type 0) (found : Result ExitStatus Fault) (errors : Sent) (status : ExitStatus) → Untold answers found → Answered found errors status → answers errors status
+pub answered : (answers : Sent → ExitStatus → Type 0) (found : Result ExitStatus Fault) (errors : Sent) (status : ExitStatus) →
+    Untold answers found → Answered found errors status → answers errors status
 answered answers (Ok found) errors status untold told = subst (answers errors) (sym told.0) (untold errors told.1)
 answered answers (Err fault) errors status untold told = untold errors status told
 

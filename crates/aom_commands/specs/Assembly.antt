@@ -3,7 +3,6 @@ use Rattle.std.specs.Prelude.{ℕ, ◌≡◌, ◌≤◌, ◌^◌, List, length, 
 use Rattle.aom_image.specs.Image.{Image}
 use Rattle.aom_codec.specs.Spelling.{spell}
 use Rattle.aom_codec.specs.Format.{first_fault}
-use Rattle.aom_codec.specs.declared.fault.LoadFault.{LoadFault}
 use Rattle.aom_text.specs.declared.fault.AsmFault.{AsmFault}
 use Rattle.aom_asm.specs.Denoted.{denoted}
 use Rattle.aom_listing.specs.Listing.{listing_text}

@@ -11,13 +11,14 @@ use Rattle.aom_commands.proofs.Refusing.{no_value}
 pub returns-in_err-image-clause-err : goal.returns-in_err-image-clause-err
 returns-in_err-image-clause-err c =
     let e = err_from_is_err_and c.from_residual.result c.from_residual.ensures.1 in
-    rw (e.1, e.2) (load_stops c.args.bytes.now c.in_err-image.field-0.0 c.in_err-image.ensures.fault (λ p spelled. c.in_err-image.ensures.only p spelled.formed spelled.spelling))
+    rw (e.1, e.2) (load_stops c.args.bytes.now _ c.in_err-image.ensures.fault (λ p spelled. c.in_err-image.ensures.only p spelled.formed spelled.spelling))
 
 pub returns-in_err-link-clause-err : goal.returns-in_err-link-clause-err
 returns-in_err-link-clause-err c =
     let e = err_from_is_err_and c.from_residual-in_err-link.result c.from_residual-in_err-link.ensures.1 in
     let found = c.in_ok-image.ensures.found in
-    rw (e.1, e.2) (link_stops c.args.bytes.now _ _ (record { formed = found.0; spelling = found.1 }) (λ p spelled. c.in_ok-image.ensures.only p spelled.formed spelled.spelling) c.in_err-link.ensures.err)
+    rw (e.1, e.2) (link_stops c.args.bytes.now _ _
+    (record { formed = found.0; spelling = found.1 }) (λ p spelled. c.in_ok-image.ensures.only p spelled.formed spelled.spelling) c.in_err-link.ensures.err)
 
 pub returns-clause-ok : goal.returns-clause-ok
 returns-clause-ok c =
@@ -26,8 +27,7 @@ returns-clause-ok c =
     subst (λ p. IsSpelled c.args.bytes.now p × IsLinked p) (sym ok.0) (record { formed = found.0; spelling = found.1 }, ok.1)
 
 pub returns-clause-only : goal.returns-clause-only
-returns-clause-only c =
-    λ p spelled. c.in_ok-link.ensures.ok.0 ∙ c.in_ok-image.ensures.only p spelled.formed spelled.spelling
+returns-clause-only c = λ p spelled. c.in_ok-link.ensures.ok.0 ∙ c.in_ok-image.ensures.only p spelled.formed spelled.spelling
 
 pub returns-in_err-image-clause-ok : goal.returns-in_err-image-clause-ok
 returns-in_err-image-clause-ok c = search (rules, no_value)

@@ -6,7 +6,7 @@ use Rattle.aom_commands.proofs.commands.try_draw.Goals as goal
 
 pub returns-in-Ok : goal.returns-in-Ok
 returns-in-Ok g c =
-    untold_weaker _ _ c.try_send.result (λ errors status sends. drawn_by c.args.names.now c.args.image.now c.deref.result.now _ errors status (rw c.deref.ensures.value c.in-Ok.ensures.ok) sends) c.try_send.ensures
+    untold_weaker _ _ _ (λ errors status sends. drawn_by _ _ _ _ errors status (rw c.deref.ensures.value c.in-Ok.ensures.ok) sends) c.try_send.ensures
 
 pub returns-in-Err : goal.returns-in-Err
 returns-in-Err g c = λ errors status told. undrawn c.args.names.now c.args.image.now c.in-Err.fault _ errors status c.in-Err.ensures.err refl told

@@ -7,8 +7,8 @@ use Rattle.aom_commands.proofs.commands.try_run_named.Goals as goal
 
 pub returns-in-Ok : goal.returns-in-Ok
 returns-in-Ok g c =
-    untold_weaker _ _ c.run_text-ended.result (λ errors status. accepted (named_by c.args.names) c.args.image.now c.args.script.now c.args.limit (length c.args.boxes.items) _ errors status) (c.run_text-ended.ensures c.args.image.now c.in-Ok.ensures.ok.0)
+    untold_weaker _ _ _ (λ errors status. accepted (named_by c.args.names) _ _ _ _ _ _ _) (c.run_text-ended.ensures c.args.image.now c.in-Ok.ensures.ok.0)
 
 pub returns-in-Err : goal.returns-in-Err
-returns-in-Err g c =
-    λ errors status told. unaccepted (named_by c.args.names) c.args.image.now c.args.script.now c.args.limit (length c.args.boxes.items) c.in-Err.refusal _ errors status c.in-Err.ensures.err c.in-Err.ensures.complete refl told
+returns-in-Err g c = λ errors status told. unaccepted (named_by c.args.names) c.args.image.now c.args.script.now c.args.limit
+    (length c.args.boxes.items) c.in-Err.refusal _ errors status c.in-Err.ensures.err c.in-Err.ensures.complete refl told

@@ -5,6 +5,5 @@ use Rattle.aom_commands.proofs.Untelling.{answered}
 use Rattle.aom_commands.proofs.exploring.explore_bytes.Goals as goal
 
 pub returns-in-Ok : goal.returns-in-Ok
-returns-in-Ok g c =
-    explores c.args.image.now c.args.script.now c.args.limit (length c.args.kinds.now) c.args.tries _ _ c.answer.result
+returns-in-Ok g c = explores c.args.image.now c.args.script.now c.args.limit (length c.args.kinds.now) c.args.tries _ _ c.answer.result
     (answered _ c.explore_text-found.result _ c.answer.result (c.explore_text-found.ensures c.args.image.now c.in-Ok.ensures.ok.0) c.answer.ensures)

@@ -4,8 +4,7 @@ use Rattle.aom_commands.proofs.exploring.last_of.OwnLists.{own-1}
 use Rattle.aom_commands.proofs.exploring.last_of.Given as goal
 
 abbrev pub invariant-loop-kind : goal.invariant-loop-kind
-invariant-loop-kind l =
-    Made
+invariant-loop-kind l = Made
     (λ b. record {
       owed = (own-1.entry b.vtable).1.owed b.value;
       open_may = (own-1.entry b.vtable).1.open_may b.value;

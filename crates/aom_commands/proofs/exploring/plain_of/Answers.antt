@@ -16,9 +16,7 @@ returns-clause-ok c =
       text = text;
       is = last.1;
       asked = refl;
-      marked = λ marks.
-          c.in_ok-times.ensures.times
-          ∙ ap times_in (c.as_slice.ensures.value
-          ∙ kept_so kept.keeps kept.text.items text
-          (last.2 ∙ ap (λ (xs : List ℕ). after (kept_text c.new-kept.result.keeps xs) text) c.new-kept.ensures.empty ∙ ap (λ (b : Bool). after (kept_text b []) text) (c.new-kept.ensures.keeps ∙ marks)));
+      marked = λ marks. c.in_ok-times.ensures.times ∙ ap times_in (c.as_slice.ensures.value
+          ∙ kept_so kept.keeps kept.text.items text (last.2 ∙ ap (λ (xs : List ℕ). after (kept_text c.new-kept.result.keeps xs) text) c.new-kept.ensures.empty
+          ∙ ap (λ (b : Bool). after (kept_text b []) text) (c.new-kept.ensures.keeps ∙ marks)));
     }

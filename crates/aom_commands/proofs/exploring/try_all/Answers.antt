@@ -23,7 +23,8 @@ loop-place-preserved g c =
     let mid : Sent = record { before = out; now = g.W.Sink.out c.loop-place.out; failed = g.W.Sink.failed c.loop-place.out } in
     let sent : Sent = record { before = out; now = g.W.Sink.out c.try_one.new.out; failed = g.W.Sink.failed c.try_one.new.out } in
     record {
-      far = one_more trial.accepted.now trial.script.now trial.limit (length trial.kinds.now) c.args.injections.now c.loop-place.place c.loop-place.tally c.count.new.self mid sent _ _ c.in_ok-ending.ending tried.0
+      far = one_more trial.accepted.now trial.script.now trial.limit
+          (length trial.kinds.now) c.args.injections.now c.loop-place.place c.loop-place.tally c.count.new.self mid sent _ _ c.in_ok-ending.ending tried.0
           (omega (arith, c.loop-place-test.true)) refl i.far (sym c.has_failed.ensures ∙ search rules) refl tried.1 tried.2 c.count.ensures;
       within = omega (arith, c.loop-place-test.true);
     }
@@ -32,6 +33,6 @@ pub returns-clause-ok : goal.returns-clause-ok
 returns-clause-ok g c =
     let i = c.loop-place.invariant in
     elim c.loop-place-test.branch [
-      | then-loop-place-test+else-not-has_failed w ↦ all_tried _ _ _ _ _ c.loop-place.place c.loop-place.tally _ i.far (λ lives. let failed = sym w.has_failed.ensures in absurd cc)
+      | then-loop-place-test+else-not-has_failed w ↦ all_tried _ _ _ _ _ _ _ _ i.far (λ lives. let failed = sym w.has_failed.ensures in absurd cc)
       | else-loop-place-test w ↦ all_tried _ _ _ _ _ c.loop-place.place c.loop-place.tally _ i.far (λ lives. omega (arith, w.loop-place-test.false))
     ]

@@ -1,5 +1,4 @@
 -- A machine that boots has just the natives that it was given.
-use Rattle.std.proofs.Common.{length}
 use Rattle.aom_commands.proofs.Tries.{fresh_so, given_all, has_enough}
 use Rattle.aom_commands.proofs.running.booted.Goals as goal
 
@@ -12,4 +11,4 @@ returns-in-Ok-clause-natives g c = given_all (λ l. l.native) c.in-Ok.machine.na
 pub returns-in-Ok-clause-enough : goal.returns-in-Ok-clause-enough
 returns-in-Ok-clause-enough g c =
     let machine = c.in-Ok.machine in
-    has_enough c.args.accepted.now machine (length c.args.boxes.items) c.in-Ok.ensures.image (given_all (λ l. l.native) machine.natives.slots.items c.args.boxes.items c.in-Ok.ensures.boxes) c.in-Ok.ensures.stands
+    has_enough _ machine _ c.in-Ok.ensures.image (given_all (λ l. l.native) _ c.args.boxes.items c.in-Ok.ensures.boxes) c.in-Ok.ensures.stands

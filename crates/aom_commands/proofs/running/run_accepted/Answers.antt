@@ -11,5 +11,5 @@ pub returns-clause-enough : goal.returns-clause-enough
 returns-clause-enough g c = IfOk-weaker c.run_booted-outcome.result _ _ (λ _ _. c.in_ok-machine.ensures.enough) c.run_booted-outcome.ensures.ok
 
 pub returns-clause-err : goal.returns-clause-err
-returns-clause-err g c =
-    IfErr-weaker c.run_booted-outcome.result _ _ (λ fault wants. (wants_memory c.args.accepted.now (length c.args.boxes.items) fault wants.0 c.in_ok-machine.ensures.enough, wants.1)) c.run_booted-outcome.ensures.err
+returns-clause-err g c = IfErr-weaker c.run_booted-outcome.result _ _ (λ fault wants.
+    (wants_memory c.args.accepted.now (length c.args.boxes.items) fault wants.0 c.in_ok-machine.ensures.enough, wants.1)) c.run_booted-outcome.ensures.err
