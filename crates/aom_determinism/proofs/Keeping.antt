@@ -9,8 +9,7 @@ use Rattle.aom_image.specs.declared.method.Argument.{Argument}
 use Rattle.aom_image.specs.declared.method.Argument.TheVariants.{Own as Takes_own, Word as Takes_word}
 use Rattle.aom_image.specs.declared.method.Gives.{Gives}
 use Rattle.aom_clients.specs.declared.client.Client.{Client}
-use Rattle.aom_safety.proofs.ClientsEffects.{IsFine}
-use Rattle.aom_safety.proofs.ClientsMoves.{Steady, held_elsewhere, steady_ended, steady_passed, steady_result, steady_update}
+use Rattle.aom_safety.proofs.ClientsMoves.{IsSteady, Steady, held_elsewhere, steady_ended, steady_passed, steady_result, steady_update}
 use Rattle.aom_safety.proofs.Dropping.{Same, Went, dropped, each_name, held_dropped}
 use Rattle.aom_semantics.proofs.Maps.{named_name}
 use Rattle.aom_safety.proofs.Services.{held_served, service_here, service_moved, service_there, service_unnamed}
@@ -79,7 +78,7 @@ module _ (p : Image) (fr : Frame) (ts : List Task) (s : State) where
   place_stored : (home : Home) (w : ℕ) (v : ℤ) (q : Place) → held (stored s.cells home w v) q ≡ held s.cells q
   place_stored home w v q = grind (arith, held_set_word)
 
-  pub calm_update : (u : Update) → IsFine fr s u → Calm s.cells (cells_after p fr ts s u)
+  pub calm_update : (u : Update) → IsSteady fr s u → Calm s.cells (cells_after p fr ts s u)
   calm_update x f = grind (
     arith,
     nat_tests,

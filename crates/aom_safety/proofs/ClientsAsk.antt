@@ -1,7 +1,7 @@
 -- What a client asks of a server, and what it sends, is kept: by the entry that is queued last.
 use Rattle.std.proofs.lemmas.Bool.Decides.{nat_tests}
 use Rattle.std.proofs.Math.Bool.{or-false}
-use Rattle.std.proofs.Common.{[], Bool, List, None, Option, Some, ap, arith, cond, false, refl, sym, true, ℕ, ◌<◌, ◌==◌, ◌∙◌, ◌∷◌, ◌≡◌, ◌≤◌}
+use Rattle.std.proofs.Common.{[], Bool, List, None, Option, Some, ap, arith, cond, false, refl, sym, true, ℕ, ◌<◌, ◌∙◌, ◌∷◌, ◌≡◌, ◌≤◌}
 use Rattle.std.proofs.lemmas.Bool.{eq-eqb, eqb-true, le-ltb, ne_eqb, ltb-true}
 use Rattle.std.proofs.lemmas.List.Folds.{list_any-append}
 use Rattle.std.specs.List.{list_any}
@@ -9,7 +9,6 @@ use Rattle.std.specs.Prelude.{is_some, nat_lt, ◌||◌}
 use Rattle.aom_image.specs.Image.{Image}
 use Rattle.aom_image.specs.declared.class.ClassKind.{ClassKind}
 use Rattle.aom_image.specs.declared.method.Thing.{Thing}
-use Rattle.aom_roles.specs.Things.{is_object}
 use Rattle.aom_clients.specs.Nodes.{is_connecting_at, is_open_at}
 use Rattle.aom_clients.specs.Table.{row, server_of}
 use Rattle.aom_clients.specs.declared.client.Client.{Client}
@@ -17,15 +16,13 @@ use Rattle.aom_clients.specs.declared.client.Client.TheVariants.{Connecting}
 use Rattle.aom_clients.specs.declared.refusal.Refusal.{Refusal}
 use Rattle.aom_roles.specs.Classes.{sessions_in, sessions_of}
 use Rattle.aom_roles.specs.Shapes.{kind_of}
-use Rattle.aom_safety.proofs.ClientsFit.{senders_then, IsFree, by_server, fit_changed, none_of_free, names_then, servers_then, seats_then, enlisted_then, served_then, sources_then}
-use Rattle.aom_semantics.proofs.Maps.{same_place-true}
+use Rattle.aom_safety.proofs.ClientsFit.{Changes, IsFree, by_server, fit_reserved, listed_changed, none_of_free, sessions_changed}
 use Rattle.aom_safety.proofs.Queues.{client_here, none_passes, queue_last, queue_other}
-use Rattle.aom_safety.proofs.Seated.{seats_asked, seats_none}
-use Rattle.aom_safety.proofs.Services.{service_unnamed}
+use Rattle.aom_safety.proofs.Seated.{seats_asked}
 use Rattle.aom_semantics.specs.Clients.{Listed, among_listed, asked_of, asked_server, client_at, earlier, first_listed, is_of_class, most_of, with_client}
 use Rattle.aom_semantics.specs.Enlisted.{thing_kind}
-use Rattle.aom_safety.specs.Kept.{ClientsFit, EntryFits, QueueFits, is_connect_of, is_message_of, asked_again, sources_of}
-use Rattle.aom_semantics.specs.Places.{Asked, Cell, Connect_of, Elsewhere, In_service, Message_of, Object, Queued, Request, Service, Tidy, held, named, same_place, service_of, requested}
+use Rattle.aom_safety.specs.Kept.{ClientsFit, EntryFits, QueueFits, is_connect_of, is_message_of, asked_again}
+use Rattle.aom_semantics.specs.Places.{Asked, Cell, Connect_of, Message_of, Object, Request, Service, Tidy, named, service_of, requested}
 use Rattle.aom_semantics.specs.Servers.{asked_last, has_session, is_from, is_message, is_server, reserved, seats_taken}
 
 -- ---- the server that is asked stands, and is one
@@ -104,9 +101,8 @@ module _ (p : Image) (clients : List Client) (cs : List Cell) (fit : ClientsFit 
   -- which is of its sender, where it is a message
   senders_asked :
       (e : Asked) → ((d m : ℕ) → is_message_of d m e ≡ true → is_from d (service_of cs m).sender ≡ true) →
-      (n d m : ℕ) → list_any (is_message_of d m) (service_of (reserved (asked_last e) o.name cs) n).queue ≡ true → is_from d (service_of (reserved (asked_last e) o.name cs) m).sender ≡ true
-  senders_asked e own = senders_then p cs o lives (asked_last e) clients fit (λ d h. h)
-      (λ d m h. last d m (list_any (is_message_of d m) (service_of cs o.name).queue) refl (sym (list_any-append (is_message_of d m) (service_of cs o.name).queue (e ∷ [])) ∙ h))
+      (d m : ℕ) → list_any (is_message_of d m) (asked_last e (service_of cs o.name)).queue ≡ true → is_from d (service_of cs m).sender ≡ true
+  senders_asked e own d m h = last d m (list_any (is_message_of d m) (service_of cs o.name).queue) refl (sym (list_any-append (is_message_of d m) (service_of cs o.name).queue (e ∷ [])) ∙ h)
     where
       last : (d m : ℕ) (b : Bool) → list_any (is_message_of d m) (service_of cs o.name).queue ≡ b → (b || (is_message_of d m e || false)) ≡ true → is_from d (service_of cs m).sender ≡ true
       last d m true at h = fit.senders o.name d m at
@@ -117,18 +113,12 @@ module _ (p : Image) (clients : List Client) (cs : List Cell) (fit : ClientsFit 
       is_server p o.thing ≡ true → is_some (requested cs o.name) ≡ true → (e : Asked) → EntryFits clients o.name e → list_any (asked_again e) (service_of cs o.name).queue ≡ false →
       ((d m : ℕ) → is_message_of d m e ≡ true → is_from d (service_of cs m).sender ≡ true) → seats_taken (asked_last e (service_of cs o.name)) ≤ most_of (thing_kind p o.thing) →
       ClientsFit p clients (reserved (asked_last e) o.name cs)
-  fit_asked serves listed e entry new own room = record {
-    queues = by_server cs o lives (asked_last e) (λ n v. QueueFits clients n v.queue) (queue_last clients o.name e (service_of cs o.name).queue entry new (fit.queues o.name)) (λ n other. fit.queues n);
-    sessions = by_server cs o lives (asked_last e) (λ n v. (d : ℕ) → has_session v d ≡ true → server_of (client_at clients d) ≡ Some n) (fit.sessions o.name) (λ n other. fit.sessions n);
-    listed = by_server cs o lives (asked_last e) (λ n v. (d : ℕ) → server_of (client_at clients d) ≡ Some n → has_session v d ≡ true) (fit.listed o.name) (λ n other. fit.listed n);
-    servers = servers_then p cs o lives (asked_last e) serves clients fit;
-    names = names_then p cs o lives (asked_last e) serves clients fit;
-    senders = senders_asked e own;
-    sources = sources_then p cs o lives (asked_last e) refl fit.sources;
-    served = served_then p cs o lives (asked_last e) refl fit.served;
-    enlisted = enlisted_then p cs o lives (asked_last e) listed clients fit;
-    seats = seats_then p cs o lives (asked_last e) clients fit room;
-  }
+  fit_asked serves listed e entry new own room =
+      fit_reserved p clients cs fit o lives serves listed (asked_last e) clients refl refl
+      (by_server cs o lives (asked_last e) (λ n v. QueueFits clients n v.queue) (queue_last clients o.name e (service_of cs o.name).queue entry new (fit.queues o.name)) (λ n other. fit.queues n))
+      (by_server cs o lives (asked_last e) (λ n v. (d : ℕ) → has_session v d ≡ true → server_of (client_at clients d) ≡ Some n) (fit.sessions o.name) (λ n other. fit.sessions n))
+      (by_server cs o lives (asked_last e) (λ n v. (d : ℕ) → server_of (client_at clients d) ≡ Some n → has_session v d ≡ true) (fit.listed o.name) (λ n other. fit.listed n))
+      (senders_asked e own) room
 
 module _ (p : Image) (clients : List Client) (cs : List Cell) (fit : ClientsFit p clients cs) (o : Object) (lives : named cs o.name ≡ Some o) (serves : is_server p o.thing ≡ true)
     (listed : is_some (requested cs o.name) ≡ true) (c : ℕ) where
@@ -137,21 +127,14 @@ module _ (p : Image) (clients : List Client) (cs : List Cell) (fit : ClientsFit 
   pub fit_connecting :
       (slots : ℕ) → IsFree (client_at clients c) → seats_taken (service_of cs o.name) < most_of (thing_kind p o.thing) →
       ClientsFit p (with_client c (Connecting o.name slots) clients) (reserved (asked_last (Connect_of c)) o.name cs)
-  fit_connecting slots free room = fit_changed p c (Connecting o.name slots) clients cs (reserved (asked_last (Connect_of c)) o.name cs) fit record {
-    queues = by_server cs o lives (asked_last (Connect_of c)) (λ n v. QueueFits (with_client c (Connecting o.name slots) clients) n v.queue)
-        (queue_last (with_client c (Connecting o.name slots) clients) o.name (Connect_of c) (service_of cs o.name).queue entry (none_passes (is_connect_of c) clients o.name never (service_of cs o.name).queue (fit.queues o.name)) (queues o.name))
-        (λ n e. queues n);
-    others = λ n d e. by_server cs o lives (asked_last (Connect_of c)) (λ n v. has_session v d ≡ has_session (service_of cs n) d) refl (λ n other. refl) n;
-    has = by_server cs o lives (asked_last (Connect_of c)) (λ n v. has_session v c ≡ true → server_of (Connecting o.name slots) ≡ Some n) (λ h. unlisted o.name h) (λ n other h. unlisted n h);
-    listed = λ n h. cc;
-    servers = servers_then p cs o lives (asked_last (Connect_of c)) serves clients fit;
-    names = names_then p cs o lives (asked_last (Connect_of c)) serves clients fit;
-    senders = senders_asked p clients cs fit o lives (Connect_of c) (λ d m h. cc);
-    sources = sources_then p cs o lives (asked_last (Connect_of c)) refl fit.sources;
-    served = served_then p cs o lives (asked_last (Connect_of c)) refl fit.served;
-    enlisted = enlisted_then p cs o lives (asked_last (Connect_of c)) listed clients fit;
-    seats = seats_then p cs o lives (asked_last (Connect_of c)) clients fit (let one = seats_asked (Connect_of c) (service_of cs o.name) in omega (arith, room, one));
-  }
+  fit_connecting slots free room =
+      fit_reserved p clients cs fit o lives serves listed (asked_last (Connect_of c)) (with_client c (Connecting o.name slots) clients) refl refl
+      (by_server cs o lives (asked_last (Connect_of c)) (λ n v. QueueFits (with_client c (Connecting o.name slots) clients) n v.queue)
+      (queue_last (with_client c (Connecting o.name slots) clients) o.name (Connect_of c) (service_of cs o.name).queue entry (none_passes (is_connect_of c) clients o.name never (service_of cs o.name).queue (fit.queues o.name)) (queues o.name))
+      (λ n e. queues n))
+      (sessions_changed p c (Connecting o.name slots) clients cs (reserved (asked_last (Connect_of c)) o.name cs) fit now)
+      (listed_changed p c (Connecting o.name slots) clients cs (reserved (asked_last (Connect_of c)) o.name cs) fit now)
+      (senders_asked p clients cs fit o lives (Connect_of c) (λ d m h. cc)) (let one = seats_asked (Connect_of c) (service_of cs o.name) in omega (arith, room, one))
     where
       queues : (n : ℕ) → QueueFits (with_client c (Connecting o.name slots) clients) n (service_of cs n).queue
       queues n = queue_other c n (Connecting o.name slots) clients (service_of cs n).queue (none_of_free clients c n free (service_of cs n).queue (fit.queues n)) (fit.queues n)
@@ -165,63 +148,12 @@ module _ (p : Image) (clients : List Client) (cs : List Cell) (fit : ClientsFit 
       unlisted : (n : ℕ) → has_session (service_of cs n) c ≡ true → None ≡ Some n
       unlisted n h = sym free.alone ∙ fit.sessions n c h
 
--- ---- a new cell
-
-pub fit_with :
-    (p : Image) (clients : List Client) (cs : List Cell) (x : Cell) → named cs x.object.name ≡ None → x.service.queue ≡ [] → x.service.sessions ≡ [] →
-    ((n m : ℕ) → x.owner ≡ Elsewhere (Queued n m) → x.object.name ≡ m) → sources_of x.service ≡ cond (is_object x.object.thing) 0 1 →
-    same_place x.owner (Elsewhere In_service) ≡ false → ClientsFit p clients cs → ClientsFit p clients (x ∷ cs)
-fit_with p clients cs x free no_queue no_sessions named_so sent unserved_yet fit = record {
-  queues = λ n. queues n (x.object.name == n);
-  sessions = λ n c h. fit.sessions n c (sym (session_so n c (x.object.name == n) refl) ∙ h);
-  listed = λ n c h. session_so n c (x.object.name == n) refl ∙ fit.listed n c h;
-  servers = λ o h plain. servers o plain (x.object.name == o.name) h;
-  names = λ n m o h. names n m o (same_place x.owner (Elsewhere (Queued n m))) refl h;
-  senders = λ n c m h. senders n c m (x.object.name == n) (x.object.name == m) refl h;
-  sources = λ o h. sources o (x.object.name == o.name) h;
-  served = λ o h. served o (x.object.name == o.name) refl (sym (ap (λ b. cond b (Some x.object) (held cs (Elsewhere In_service))) unserved_yet) ∙ h);
-  enlisted = λ o h e. enlisted o (x.object.name == o.name) h e;
-  seats = λ o h. seats o (x.object.name == o.name) h;
-}
-  where
-    queues : (n : ℕ) (b : Bool) → QueueFits clients n (cond b x.service (service_of cs n)).queue
-    queues n y = grind arith
-
-    session_so : (n c : ℕ) (b : Bool) → (x.object.name == n) ≡ b → has_session (cond b x.service (service_of cs n)) c ≡ has_session (service_of cs n) c
-    session_so n c true e = grind (arith, nat_tests, eqb-true x.object.name n e, service_unnamed cs x.object.name free)
-    session_so n c false e = refl
-
-    servers :
-        (o : Object) → is_server p o.thing ≡ false → (b : Bool) → cond b (Some x.object) (named cs o.name) ≡ Some o →
-        ((cond b x.service (service_of cs o.name)).queue ≡ []) × ((cond b x.service (service_of cs o.name)).sessions ≡ [])
-    servers o plain y h = grind arith
-
-    enlisted :
-        (o : Object) (b : Bool) → cond b (Some x.object) (named cs o.name) ≡ Some o → cond b x.request (requested cs o.name) ≡ None →
-        ((cond b x.service (service_of cs o.name)).queue ≡ []) × ((cond b x.service (service_of cs o.name)).sessions ≡ [])
-    enlisted o y h e = grind arith
-
-    seats : (o : Object) (b : Bool) → cond b (Some x.object) (named cs o.name) ≡ Some o → seats_taken (cond b x.service (service_of cs o.name)) ≤ most_of (thing_kind p o.thing)
-    seats o y h = grind (arith, nat_tests, seats_none x.service no_queue no_sessions)
-
-    sources : (o : Object) (b : Bool) → cond b (Some x.object) (named cs o.name) ≡ Some o → sources_of (cond b x.service (service_of cs o.name)) ≡ cond (is_object o.thing) 0 1
-    sources o y h = grind arith
-
-    -- the new one's name was free
-    served : (o : Object) (b : Bool) → (x.object.name == o.name) ≡ b → held cs (Elsewhere In_service) ≡ Some o → is_some (cond b x.service (service_of cs o.name)).sender ≡ true
-    served o true e h = grind (arith, nat_tests, eqb-true x.object.name o.name e, service_unnamed cs x.object.name free)
-    served o false e h = fit.served o h
-
-    names : (n m : ℕ) (o : Object) (b : Bool) → same_place x.owner (Elsewhere (Queued n m)) ≡ b → cond b (Some x.object) (held cs (Elsewhere (Queued n m))) ≡ Some o → o.name ≡ m
-    names n m o true e h = grind (arith, nat_tests, same_place-true x.owner (Elsewhere (Queued n m)) e)
-    names n m o false e h = fit.names n m o h
-
-    senders :
-        (n c m : ℕ) (b d : Bool) → (x.object.name == m) ≡ d → list_any (is_message_of c m) (cond b x.service (service_of cs n)).queue ≡ true →
-        is_from c (cond d x.service (service_of cs m)).sender ≡ true
-    senders n c m true d e h = let none : false ≡ true = ap (λ q. list_any (is_message_of c m) q) (sym no_queue) ∙ h in cc
-    senders n c m false true e h = grind (arith, nat_tests, eqb-true x.object.name m e, service_unnamed cs x.object.name free)
-    senders n c m false false e h = fit.senders n c m h
+      now : Changes c (Connecting o.name slots) cs (reserved (asked_last (Connect_of c)) o.name cs)
+      now = record {
+        others = λ n d e. by_server cs o lives (asked_last (Connect_of c)) (λ n v. has_session v d ≡ has_session (service_of cs n) d) refl (λ n other. refl) n;
+        has = by_server cs o lives (asked_last (Connect_of c)) (λ n v. has_session v c ≡ true → server_of (Connecting o.name slots) ≡ Some n) (λ h. unlisted o.name h) (λ n other h. unlisted n h);
+        listed = λ n h. cc;
+      }
 
 -- ---- a message
 

@@ -11,7 +11,8 @@ use Rattle.aom_clients.specs.declared.client.Client.{Client}
 use Rattle.aom_clients.specs.declared.client.Client.TheVariants.{Closing, Connecting, Dead, Dying, Gone, Open, Unconnected}
 use Rattle.aom_clients.specs.declared.refusal.Refusal.{Refusal}
 use Rattle.aom_roles.specs.Shapes.{kind_of}
-use Rattle.aom_safety.proofs.ClientsAsk.{asked_none, connects_free, fit_connecting, fit_sent, fit_with, listed_room, listed_serves, asked_there}
+use Rattle.aom_safety.proofs.ClientsAsk.{asked_none, connects_free, fit_connecting, fit_sent, listed_room, listed_serves, asked_there}
+use Rattle.aom_safety.proofs.ClientsSteady.{fit_steady, steady_more}
 use Rattle.aom_safety.proofs.ClientsLeave.{empty, fit_told, fit_withdrawn, queue_leaving, queue_left, service_left}
 use Rattle.aom_semantics.proofs.Maps.{named_name}
 use Rattle.aom_safety.proofs.Queues.{client_here, none_passes, none_stays}
@@ -101,7 +102,7 @@ module _ (p : Image) (c : ℕ) (s : State) (tidy : Tidy s.cells) (fit : ClientsF
       same = ap (λ b. record message { service = cond b (asked_last (Message_of c name) (cond b message.service (service_of s.cells server))) message.service } ∷ set_service server (asked_last (Message_of c name) (cond b message.service (service_of s.cells server))) s.cells) other_server
 
       with_it : ClientsFit p s.clients (message ∷ s.cells)
-      with_it = fit_with p s.clients s.cells message free refl refl (λ n m e. cc) refl refl fit
+      with_it = fit_steady p s.clients s.cells (message ∷ s.cells) (steady_more message s.cells free refl refl (λ n m e. cc) refl refl) fit
 
       sent : ClientsFit p s.clients (reserved (asked_last (Message_of c name)) there.0.name (message ∷ s.cells))
       sent = fit_sent p s.clients (message ∷ s.cells) with_it there.0 (ap (λ b. cond b (Some message.object) (named s.cells there.0.name)) other ∙ there.2) there.3 (ap (λ b. is_some (cond b None (requested s.cells there.0.name))) other ∙ listed) c name

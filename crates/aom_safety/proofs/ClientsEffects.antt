@@ -1,38 +1,40 @@
 -- What is kept of clients stays so in each effect of an instruction: by the cells that it changes, and the tasks below it.
-use Rattle.std.proofs.lemmas.Bool.Decides.{nat_tests}
-use Rattle.std.proofs.Common.{Bool, List, None, Option, Some, cond, length, refl, subst, suc, sym, ℕ, ◌∷◌, ◌≡◌, arith}
+use Rattle.std.proofs.Common.{Bool, List, None, Option, Some, cond, false, length, refl, subst, suc, sym, true, ℕ, ℤ, ◌∷◌, ◌≡◌, arith}
+use Rattle.std.proofs.lemmas.Option.{none-some}
 use Rattle.aom_image.specs.Image.{Image}
 use Rattle.aom_image.specs.Views.{arguments_of}
+use Rattle.aom_image.specs.declared.class.ClassKind.{ClassKind}
 use Rattle.aom_clients.specs.declared.client.Client.{Client}
 use Rattle.aom_instructions.specs.declared.instr.Instr.{Instr}
 use Rattle.aom_instructions.specs.declared.instr.Instr.TheVariants as instrs
 use Rattle.aom_safety.proofs.ClientsFit.{IsFit}
-use Rattle.aom_safety.proofs.ClientsMoves.{Steady, fit_steady, steady_asked, steady_moved, steady_passed, steady_update, tasks_steady}
+use Rattle.aom_safety.proofs.ClientsSteady.{Steady, fit_steady}
+use Rattle.aom_safety.proofs.ClientsMoves.{Fewer, IsSteady, steady_asked, steady_moved, steady_passed, steady_update, tasks_steady}
 use Rattle.aom_safety.proofs.ClientsTurn.{tasks_begun, on_none}
 use Rattle.aom_semantics.specs.Cleanup.{to_trap, top_place}
-use Rattle.aom_semantics.specs.Effects.{Calls, Cancels, Carried, Destroys, Destroys_last, Effect, Goes_on, Handed, Leaves, Made, Replied, Requested, Returns, Same as Unchanged, Sets_trap, The_message, Update, applied, cancels_if, cells_after, deals, deletes, effect, hands_unless, jumps_unless, makes_unless, round}
-use Rattle.aom_semantics.specs.Enlisted.{cancelling, on_request, own_request}
-use Rattle.aom_semantics.specs.Tokens.{is_crowded}
+use Rattle.aom_semantics.specs.Effects.{Calls, Cancels, Destroys, Destroys_last, Effect, Goes_on, Leaves, Requested, Returns, Same as Unchanged, Sets_trap, applied, asking_with, cancels_if, deals, deletes, effect, hands_unless, jumps_unless, makes_unless, round}
+use Rattle.aom_semantics.specs.Enlisted.{Asking, aborted, cancelling, completed_at_once, home_kind, issued_of, on_request, own_request, waits}
+use Rattle.aom_semantics.specs.Tokens.{busy, is_crowded}
 use Rattle.aom_safety.specs.Kept.{ClientsFit, TasksKept}
 use Rattle.aom_semantics.specs.Places.{Cell, Going, Object, Request, named}
 use Rattle.aom_semantics.specs.State.{Choice, Frame, Item, Run, State, Task}
-use Rattle.aom_semantics.specs.Words.{here}
+use Rattle.aom_semantics.specs.Words.{here, read}
+
+-- ---- what becomes of a request waits for no new token
+
+pub fewer_on : (f : Request → Request) → ((r : Request) (k : ℕ) → (f r).token ≡ Some k → r.token ≡ Some k) → (q : Option Request) → Fewer (on_request f q) q
+fewer_on f fewer x k e = grind arith
+
+fewer_issued : (kind : Option ClassKind) (asking : Asking) (a : ℤ) (r : Request) (k : ℕ) → (issued_of kind asking a r).token ≡ Some k → r.token ≡ Some k
+fewer_issued kind asking a r k e = grind arith
 
 -- ---- the effects that this is of
 
--- a cell that is made has the name that is free; no request is taken away, nothing comes to be served, no message is completed, and no method returns
+-- whose updates keep what servers have; no method returns
 module _ (fr : Frame) (s : State) where
-  abbrev pub IsFine : Update → Type 0
-  IsFine (Carried from The_message) = ⊥
-  IsFine (Made name class a) = named s.cells name ≡ None
-  IsFine (Requested r) = r ≡ None → own_request s.cells fr.home ≡ None
-  IsFine (Replied a code) = ⊥
-  IsFine (Handed name a) = named s.cells name ≡ None
-  IsFine _ = Unit {0}
-
   abbrev pub Fine : Effect → Type 0
-  Fine (Goes_on ch) = IsFine ch.update
-  Fine (Leaves code u) = IsFine u
+  Fine (Goes_on ch) = IsSteady fr s ch.update
+  Fine (Leaves code u) = IsSteady fr s u
   Fine (Returns g a) = ⊥
   Fine _ = Unit {0}
 
@@ -60,21 +62,26 @@ module _ (p : Image) (c : Choice) (fr : Frame) (ts : List Task) (s : State) (fre
   fine_deals : (items : List Item) (o : Option Object) → Fine fr s (deals fr items o)
   fine_deals x y = grind arith
 
-  fine_makes : (b : Bool) (x a : ℕ) → IsFine fr s (makes_unless b c.name x a)
+  fine_makes : (b : Bool) (x a : ℕ) → IsSteady fr s (makes_unless b c.name x a)
   fine_makes x y a = grind arith
 
-  fine_hands : (b : Bool) (a : ℕ) (own : Option Request) → own ≡ own_request s.cells fr.home → IsFine fr s (hands_unless b c.name a own)
-  fine_hands x a own e = grind (arith, nat_tests, on_none)
+  fine_requests : (f : Request → Request) → ((r : Request) (k : ℕ) → (f r).token ≡ Some k → r.token ≡ Some k) → IsSteady fr s (Requested (on_request f (own_request s.cells fr.home)))
+  fine_requests f fewer = (on_none f (own_request s.cells fr.home), fewer_on f fewer (own_request s.cells fr.home))
 
-  fine_some : (r : Request) → IsFine fr s (Requested (Some r))
-  fine_some r = λ e. cc
+  fine_hands : (b : Bool) (a : ℕ) → IsSteady fr s (hands_unless b c.name a (own_request s.cells fr.home))
+  fine_hands true a = fine_requests (completed_at_once busy) (λ r k e. absurd (none-some k e))
+  fine_hands false a = free
 
   pub fine_effect : (i : Instr) → IsUsual i → Fine fr s (effect p c fr ts s i)
   fine_effect (instrs.Reply a b) usual = absurd usual
   fine_effect (instrs.Return a) usual = absurd usual
-  fine_effect (instrs.Hand a) usual = fine_hands (is_crowded p s.cells) a (own_request s.cells fr.home) refl
+  fine_effect (instrs.Hand a) usual = fine_hands (is_crowded p s.cells) a
+  fine_effect (instrs.Enlist priority) usual = (λ e. cc, λ k e. absurd (none-some k e))
+  fine_effect (instrs.Issue a b) usual = fine_requests (issued_of (home_kind p fr.home) (asking_with p c fr ts s) (read fr ts s a)) (fewer_issued (home_kind p fr.home) (asking_with p c fr ts s) (read fr ts s a))
+  fine_effect instrs.SetActive usual = fine_requests waits (λ r k e. e)
+  fine_effect instrs.Abort usual = fine_requests aborted (λ r k e. absurd (none-some k e))
   -- by the form of its effect
-  fine_effect _ usual = search (free, fine_cond, fine_unless, fine_round, fine_makes, fine_deletes, fine_deals, fine_cancels, fine_some, on_none)
+  fine_effect _ usual = search (free, fine_cond, fine_unless, fine_round, fine_makes, fine_deletes, fine_deals, fine_cancels)
 
 -- ---- the effects
 
@@ -83,9 +90,6 @@ tasks_to_trap p clients cs (Run fr ∷ ts) k = tasks_to_trap p clients cs ts k
 tasks_to_trap p clients cs _ k = k
 
 module _ (p : Image) (fr : Frame) (ts : List Task) (s : State) (fit : ClientsFit p s.clients s.cells) (stage : TasksKept p s.clients s.cells ts) where
-  steady : (u : Update) → IsFine fr s u → Steady s.cells (cells_after p fr ts s u)
-  steady u f = grind (arith, steady_update)
-
   -- with those cells, and tasks over these
   kept_by : (u : State) → u.clients ≡ s.clients → Steady s.cells u.cells → (TasksKept p s.clients u.cells ts → TasksKept p s.clients u.cells u.tasks) → IsFit p u
   kept_by u clients still over = record {
@@ -94,16 +98,16 @@ module _ (p : Image) (fr : Frame) (ts : List Task) (s : State) (fit : ClientsFit
   }
 
   pub effect_kept : (e : Effect) → Fine fr s e → IsFit p (applied p fr ts s e)
-  effect_kept (Goes_on ch) f = kept_by (applied p fr ts s (Goes_on ch)) refl (steady ch.update f) (λ k. k)
+  effect_kept (Goes_on ch) f = kept_by (applied p fr ts s (Goes_on ch)) refl (steady_update p fr ts s ch.update f) (λ k. k)
   effect_kept (Calls target m first) f = kept_by (applied p fr ts s (Calls target m first)) refl (steady_passed p fr ts s _ (arguments_of p m) first 0 s.cells) (λ k. k)
   effect_kept (Sets_trap target m first) f = kept_by (applied p fr ts s (Sets_trap target m first)) refl (steady_passed p fr ts s _ (arguments_of p m) first 0 s.cells) (λ k. k)
   effect_kept (Cancels m) f =
       kept_by (applied p fr ts s (Cancels m)) refl
       (steady_asked s.cells fr.home (on_request cancelling (own_request s.cells fr.home)) (λ e. on_none cancelling (own_request s.cells fr.home) e)) (λ k. k)
   effect_kept (Returns g a) f = absurd f
-  effect_kept (Leaves code u) f = kept_by (applied p fr ts s (Leaves code u)) refl (steady u f) (λ k. tasks_to_trap p s.clients _ ts k)
+  effect_kept (Leaves code u) f = kept_by (applied p fr ts s (Leaves code u)) refl (steady_update p fr ts s u f) (λ k. tasks_to_trap p s.clients _ ts k)
   effect_kept (Destroys x a words) f =
       kept_by (applied p fr ts s (Destroys x a words)) refl (steady_moved s.cells (here fr ts s a) (Going (suc (length ts))) (λ n m. refl) refl) (λ k. tasks_begun p s.clients _ x _ _ k)
   effect_kept (Destroys_last x) f =
       kept_by (applied p fr ts s (Destroys_last x)) refl (steady_moved s.cells (top_place s.items) (Going (suc (length ts))) (λ n m. refl) refl) (λ k. tasks_begun p s.clients _ x _ _ k)
-  effect_kept r f = kept_by (applied p fr ts s r) refl (steady Unchanged tt) (λ k. k)
+  effect_kept r f = kept_by (applied p fr ts s r) refl (steady_update p fr ts s Unchanged tt) (λ k. k)

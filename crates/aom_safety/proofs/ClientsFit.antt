@@ -97,40 +97,26 @@ module _ (clients : List Client) (c n : ℕ) where
 
 -- ---- one client is at something else
 
-pub record Changes (p : Image) (c : ℕ) (to : Client) (clients : List Client) (cs cs' : List Cell) : Type 0 where
-  pub queues : (n : ℕ) → QueueFits (with_client c to clients) n (service_of cs' n).queue
+pub record Changes (c : ℕ) (to : Client) (cs cs' : List Cell) : Type 0 where
   pub others : (n d : ℕ) → (c == d) ≡ false → has_session (service_of cs' n) d ≡ has_session (service_of cs n) d
   pub has : (n : ℕ) → has_session (service_of cs' n) c ≡ true → server_of to ≡ Some n
   pub listed : (n : ℕ) → server_of to ≡ Some n → has_session (service_of cs' n) c ≡ true
-  pub servers : (o : Object) → named cs' o.name ≡ Some o → is_server p o.thing ≡ false → ((service_of cs' o.name).queue ≡ []) × ((service_of cs' o.name).sessions ≡ [])
-  pub names : (n m : ℕ) (o : Object) → held cs' (Elsewhere (Queued n m)) ≡ Some o → o.name ≡ m
-  pub senders : (n d m : ℕ) → list_any (is_message_of d m) (service_of cs' n).queue ≡ true → is_from d (service_of cs' m).sender ≡ true
-  pub sources : HasSources cs'
-  pub served : ServesSent cs'
-  pub enlisted : (o : Object) → named cs' o.name ≡ Some o → requested cs' o.name ≡ None → ((service_of cs' o.name).queue ≡ []) × ((service_of cs' o.name).sessions ≡ [])
-  pub seats : (o : Object) → named cs' o.name ≡ Some o → seats_taken (service_of cs' o.name) ≤ most_of (thing_kind p o.thing)
 
-pub fit_changed : (p : Image) (c : ℕ) (to : Client) (clients : List Client) (cs cs' : List Cell) → ClientsFit p clients cs → Changes p c to clients cs cs' → ClientsFit p (with_client c to clients) cs'
-fit_changed p c to clients cs cs' fit ch = record {
-  queues = ch.queues;
-  sessions = λ n d. sessions n d (c == d) refl;
-  listed = λ n d. listed n d (c == d) refl;
-  servers = ch.servers;
-  names = ch.names;
-  senders = ch.senders;
-  sources = ch.sources;
-  served = ch.served;
-  seats = ch.seats;
-  enlisted = ch.enlisted;
-}
-  where
-    sessions : (n d : ℕ) (b : Bool) → (c == d) ≡ b → has_session (service_of cs' n) d ≡ true → server_of (client_at (with_client c to clients) d) ≡ Some n
-    sessions n d true e h = grind (arith, nat_tests, eqb-true c d e, client_here c to clients)
-    sessions n d false e h = ap server_of (client_there c d to clients e) ∙ fit.sessions n d (sym (ch.others n d e) ∙ h)
+-- so that sessions are of clients as they are then
+module _ (p : Image) (c : ℕ) (to : Client) (clients : List Client) (cs cs' : List Cell) (fit : ClientsFit p clients cs) (ch : Changes c to cs cs') where
+  pub sessions_changed : (n d : ℕ) → has_session (service_of cs' n) d ≡ true → server_of (client_at (with_client c to clients) d) ≡ Some n
+  sessions_changed n d = go (c == d) refl
+    where
+      go : (b : Bool) → (c == d) ≡ b → has_session (service_of cs' n) d ≡ true → server_of (client_at (with_client c to clients) d) ≡ Some n
+      go true e h = grind (arith, nat_tests, eqb-true c d e, client_here c to clients)
+      go false e h = ap server_of (client_there c d to clients e) ∙ fit.sessions n d (sym (ch.others n d e) ∙ h)
 
-    listed : (n d : ℕ) (b : Bool) → (c == d) ≡ b → server_of (client_at (with_client c to clients) d) ≡ Some n → has_session (service_of cs' n) d ≡ true
-    listed n d true e h = grind (arith, nat_tests, eqb-true c d e, client_here c to clients)
-    listed n d false e h = ch.others n d e ∙ fit.listed n d (sym (ap server_of (client_there c d to clients e)) ∙ h)
+  pub listed_changed : (n d : ℕ) → server_of (client_at (with_client c to clients) d) ≡ Some n → has_session (service_of cs' n) d ≡ true
+  listed_changed n d = go (c == d) refl
+    where
+      go : (b : Bool) → (c == d) ≡ b → server_of (client_at (with_client c to clients) d) ≡ Some n → has_session (service_of cs' n) d ≡ true
+      go true e h = grind (arith, nat_tests, eqb-true c d e, client_here c to clients)
+      go false e h = ch.others n d e ∙ fit.listed n d (sym (ap server_of (client_there c d to clients e)) ∙ h)
 
 -- ---- the service of one server changes
 
@@ -205,6 +191,30 @@ module _ (p : Image) (cs : List Cell) (o : Object) (lives : named cs o.name ≡ 
     pub names_then : (n m : ℕ) (x : Object) → held then (Elsewhere (Queued n m)) ≡ Some x → x.name ≡ m
     names_then n m x e = fit.names n m x (sym (held_served cs o.name (f (service_of cs o.name)) (Elsewhere (Queued n m))) ∙ e)
 
+-- ---- the service of an enlisted server changes, and no sender and no token does
+
+module _ (p : Image) (clients : List Client) (cs : List Cell) (fit : ClientsFit p clients cs) (o : Object) (lives : named cs o.name ≡ Some o) (serves : is_server p o.thing ≡ true)
+    (listed : is_some (requested cs o.name) ≡ true) (f : Service → Service) (clients' : List Client) where
+  pub fit_reserved :
+      (f (service_of cs o.name)).sender ≡ (service_of cs o.name).sender → (f (service_of cs o.name)).token ≡ (service_of cs o.name).token →
+      ((n : ℕ) → QueueFits clients' n (service_of (reserved f o.name cs) n).queue) →
+      ((n d : ℕ) → has_session (service_of (reserved f o.name cs) n) d ≡ true → server_of (client_at clients' d) ≡ Some n) →
+      ((n d : ℕ) → server_of (client_at clients' d) ≡ Some n → has_session (service_of (reserved f o.name cs) n) d ≡ true) →
+      ((d m : ℕ) → list_any (is_message_of d m) (f (service_of cs o.name)).queue ≡ true → is_from d (service_of cs m).sender ≡ true) →
+      seats_taken (f (service_of cs o.name)) ≤ most_of (thing_kind p o.thing) → ClientsFit p clients' (reserved f o.name cs)
+  fit_reserved sender token queues sessions has senders room = record {
+    queues = queues;
+    sessions = sessions;
+    listed = has;
+    servers = servers_then p cs o lives f serves clients fit;
+    names = names_then p cs o lives f serves clients fit;
+    senders = senders_then p cs o lives f clients fit (λ d h. ap (is_from d) sender ∙ h) senders;
+    sources = sources_then p cs o lives f (grind (arith, nat_tests, sender, token)) fit.sources;
+    served = served_then p cs o lives f (ap is_some sender) fit.served;
+    enlisted = enlisted_then p cs o lives f listed clients fit;
+    seats = seats_then p cs o lives f clients fit room;
+  }
+
 -- ---- `accept` has given a session
 
 module _ (p : Image) (clients : List Client) (cs : List Cell) (fit : ClientsFit p clients cs) (o : Object) (lives : named cs o.name ≡ Some o) (serves : is_server p o.thing ≡ true)
@@ -221,26 +231,25 @@ module _ (p : Image) (clients : List Client) (cs : List Cell) (fit : ClientsFit 
     is_open x e = grind arith
 
     pub fit_accepted : ClientsFit p (with_client c (at_opening session own) clients) (reserved (opened c) o.name cs)
-    fit_accepted = fit_changed p c (at_opening session own) clients cs (reserved (opened c) o.name cs) fit record {
-      queues = by_server cs o lives (opened c) (λ n v. QueueFits (with_client c (at_opening session own) clients) n v.queue) (queues o.name) (λ n e. queues n);
-      others = λ n d e. by_server cs o lives (opened c) (λ n v. has_session v d ≡ has_session (service_of cs n) d)
-          (list_any-append (λ x. x == d) (service_of cs o.name).sessions (c ∷ []) ∙ ap (λ b. list_any (λ x. x == d) (service_of cs o.name).sessions || (b || false)) e ∙ or-false (list_any (λ x. x == d) (service_of cs o.name).sessions))
-          (λ n other. refl) n;
-      has = by_server cs o lives (opened c) (λ n v. has_session v c ≡ true → server_of (at_opening session own) ≡ Some n) (λ h. is_open own at) (λ n other h. let clash : Some n ≡ None = sym (fit.sessions n c h) ∙ (connecting_only o.name n own at).2 in cc);
-      listed = by_server cs o lives (opened c) (λ n v. server_of (at_opening session own) ≡ Some n → has_session v c ≡ true) (λ h. eqb_same (service_of cs o.name).sessions) (λ n other h.
-          let same : Some o.name ≡ Some n = sym (is_open own at) ∙ h in
-          absurd (true≢false (sym (eq-eqb o.name n cc) ∙ other)));
-      servers = servers_then p cs o lives (opened c) serves clients fit;
-      names = names_then p cs o lives (opened c) serves clients fit;
-      senders = senders_then p cs o lives (opened c) clients fit (λ d h. h) (λ d m h. fit.senders o.name d m h);
-      sources = sources_then p cs o lives (opened c) refl fit.sources;
-      served = served_then p cs o lives (opened c) refl fit.served;
-      enlisted = enlisted_then p cs o lives (opened c) listed clients fit;
-      seats = seats_then p cs o lives (opened c) clients fit (let one = seats_opened c (service_of cs o.name) in omega (arith, room, one));
-    }
+    fit_accepted =
+        fit_reserved p clients cs fit o lives serves listed (opened c) (with_client c (at_opening session own) clients) refl refl
+        (by_server cs o lives (opened c) (λ n v. QueueFits (with_client c (at_opening session own) clients) n v.queue) (queues o.name) (λ n e. queues n))
+        (sessions_changed p c (at_opening session own) clients cs (reserved (opened c) o.name cs) fit now) (listed_changed p c (at_opening session own) clients cs (reserved (opened c) o.name cs) fit now)
+        (fit.senders o.name) (let one = seats_opened c (service_of cs o.name) in omega (arith, room, one))
       where
         queues : (n : ℕ) → QueueFits (with_client c (at_opening session own) clients) n (service_of cs n).queue
         queues n = grind (arith, nat_tests, queue_other c n, none_of_connecting clients c n o.name at)
+
+        now : Changes c (at_opening session own) cs (reserved (opened c) o.name cs)
+        now = record {
+          others = λ n d e. by_server cs o lives (opened c) (λ n v. has_session v d ≡ has_session (service_of cs n) d)
+              (list_any-append (λ x. x == d) (service_of cs o.name).sessions (c ∷ []) ∙ ap (λ b. list_any (λ x. x == d) (service_of cs o.name).sessions || (b || false)) e ∙ or-false (list_any (λ x. x == d) (service_of cs o.name).sessions))
+              (λ n other. refl) n;
+          has = by_server cs o lives (opened c) (λ n v. has_session v c ≡ true → server_of (at_opening session own) ≡ Some n) (λ h. is_open own at) (λ n other h. let clash : Some n ≡ None = sym (fit.sessions n c h) ∙ (connecting_only o.name n own at).2 in cc);
+          listed = by_server cs o lives (opened c) (λ n v. server_of (at_opening session own) ≡ Some n → has_session v c ≡ true) (λ h. eqb_same (service_of cs o.name).sessions) (λ n other h.
+              let same : Some o.name ≡ Some n = sym (is_open own at) ∙ h in
+              absurd (true≢false (sym (eq-eqb o.name n cc) ∙ other)));
+        }
 
   -- ---- a close is served
 
@@ -252,21 +261,20 @@ module _ (p : Image) (clients : List Client) (cs : List Cell) (fit : ClientsFit 
     other_stays d other k e = ap not (ne_eqb k c (λ same. true≢false (sym (eq-eqb c d (sym same ∙ eqb-true k d e)) ∙ other)))
 
     pub fit_parted : ClientsFit p (with_client c (at_parting own) clients) (reserved (parted c) o.name cs)
-    fit_parted = fit_changed p c (at_parting own) clients cs (reserved (parted c) o.name cs) fit record {
-      queues = by_server cs o lives (parted c) (λ n v. QueueFits (with_client c (at_parting own) clients) n v.queue) (queues o.name) (λ n e. queues n);
-      others = λ n d e. by_server cs o lives (parted c) (λ n v. has_session v d ≡ has_session (service_of cs n) d) (any-filter_same (λ x. x == d) (is_other c) true (other_stays d e) (service_of cs o.name).sessions) (λ n other. refl) n;
-      has = by_server cs o lives (parted c) (λ n v. has_session v c ≡ true → server_of (at_parting own) ≡ Some n)
-          (λ h. absurd (true≢false (sym h ∙ any-filter_same (λ x. x == c) (is_other c) false (λ k e. ap not e) (service_of cs o.name).sessions)))
-          (λ n other h. let same : Some o.name ≡ Some n = sym ((leaving_only o.name n own at).2) ∙ fit.sessions n c h in absurd (true≢false (sym (eq-eqb o.name n cc) ∙ other)));
-      listed = λ n h. let clash : None ≡ Some n = sym free.alone ∙ h in cc;
-      servers = servers_then p cs o lives (parted c) serves clients fit;
-      names = names_then p cs o lives (parted c) serves clients fit;
-      senders = senders_then p cs o lives (parted c) clients fit (λ d h. h) (λ d m h. fit.senders o.name d m h);
-      sources = sources_then p cs o lives (parted c) refl fit.sources;
-      served = served_then p cs o lives (parted c) refl fit.served;
-      enlisted = enlisted_then p cs o lives (parted c) listed clients fit;
-      seats = seats_then p cs o lives (parted c) clients fit (let less = seats_parted c (service_of cs o.name) in let was = fit.seats o lives in omega (arith, less, was));
-    }
+    fit_parted =
+        fit_reserved p clients cs fit o lives serves listed (parted c) (with_client c (at_parting own) clients) refl refl
+        (by_server cs o lives (parted c) (λ n v. QueueFits (with_client c (at_parting own) clients) n v.queue) (queues o.name) (λ n e. queues n))
+        (sessions_changed p c (at_parting own) clients cs (reserved (parted c) o.name cs) fit now) (listed_changed p c (at_parting own) clients cs (reserved (parted c) o.name cs) fit now)
+        (fit.senders o.name) (let less = seats_parted c (service_of cs o.name) in let was = fit.seats o lives in omega (arith, less, was))
       where
         queues : (n : ℕ) → QueueFits (with_client c (at_parting own) clients) n (service_of cs n).queue
         queues n = grind (arith, nat_tests, queue_other c n, none_of_leaving clients c n o.name at)
+
+        now : Changes c (at_parting own) cs (reserved (parted c) o.name cs)
+        now = record {
+          others = λ n d e. by_server cs o lives (parted c) (λ n v. has_session v d ≡ has_session (service_of cs n) d) (any-filter_same (λ x. x == d) (is_other c) true (other_stays d e) (service_of cs o.name).sessions) (λ n other. refl) n;
+          has = by_server cs o lives (parted c) (λ n v. has_session v c ≡ true → server_of (at_parting own) ≡ Some n)
+              (λ h. absurd (true≢false (sym h ∙ any-filter_same (λ x. x == c) (is_other c) false (λ k e. ap not e) (service_of cs o.name).sessions)))
+              (λ n other h. let same : Some o.name ≡ Some n = sym ((leaving_only o.name n own at).2) ∙ fit.sessions n c h in absurd (true≢false (sym (eq-eqb o.name n cc) ∙ other)));
+          listed = λ n h. let clash : None ≡ Some n = sym free.alone ∙ h in cc;
+        }

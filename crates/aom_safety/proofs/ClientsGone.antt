@@ -11,14 +11,15 @@ use Rattle.aom_clients.specs.declared.client.Client.{Client}
 use Rattle.aom_clients.specs.declared.client.Client.TheVariants.{Unconnected}
 use Rattle.aom_semantics.proofs.Altering.{held_kept, named_kept, read_kept, requests, unslotting}
 use Rattle.aom_safety.proofs.ClientsFit.{connecting_only, leaving_only}
+use Rattle.aom_safety.proofs.ClientsSteady.{carried_sifted, fit_eased}
 use Rattle.aom_semantics.proofs.Maps.{cond_same, same_place-true, same_place_comm, same_place_refl}
 use Rattle.aom_safety.proofs.Queues.{client_here, client_there, none_passes}
-use Rattle.aom_safety.proofs.Sifted.{a_cell_of, cell_in, cell_lives, cell_name, cell_of, cell_owner, cell_placed, held_cell, held_sifted, named_before, named_cell, object_in, service_cell, service_gone, service_in, service_sifted, sifted, unheld_sifted, requested_before, clients_sifted}
-use Rattle.aom_safety.proofs.Sources.{has_sender, served_as, served_sifted, sources_as, sources_at, sources_sifted, unslotted_one, unslotted_some}
+use Rattle.aom_safety.proofs.Sifted.{a_cell_of, cell_in, cell_lives, cell_name, cell_of, cell_owner, cell_placed, held_cell, named_cell, object_in, service_cell, service_gone, service_in, service_sifted, sifted, clients_sifted}
+use Rattle.aom_safety.proofs.Sources.{has_sender, served_as, sources_as, sources_at, unslotted_one, unslotted_some}
 use Rattle.aom_safety.proofs.Unslotting.{each_unslotted_alike, service_unslotted}
 use Rattle.aom_semantics.specs.Clients.{client_at, each_unslotted, queue_ended, sessions_ended, most_of}
 use Rattle.aom_safety.specs.Kept.{ClientsFit, EntryFits, QueueFits, ConnectKept, StageKept, is_close_of, is_connect_of, is_message_of}
-use Rattle.aom_semantics.specs.Places.{Asked, Cell, Service, Close_of, Connect_of, Elsewhere, In_service, Message_of, Object, Place, Queued, Sender, Tidy, held, named, same_place, service_of, unserved, without, requested}
+use Rattle.aom_semantics.specs.Places.{Asked, Cell, Close_of, Connect_of, Elsewhere, In_service, Message_of, Object, Place, Queued, Sender, Tidy, held, named, same_place, service_of, unserved, without, requested}
 use Rattle.aom_semantics.specs.State.{Accept_left, Accepted, Accepts, Parts, Service_left, Serves, Stage}
 use Rattle.aom_semantics.specs.Servers.{all_unslotted, has_session, is_from, is_queue_of, is_server, unslotted, without_queue, seats_taken}
 use Rattle.aom_semantics.specs.Enlisted.{thing_kind}
@@ -56,17 +57,6 @@ open_server n x e = grind arith
 -- who has a session, or may have one, connects to nobody
 has_server : (k n : ℕ) (x : Client) → server_of x ≡ Some n → is_connecting_at k x ≡ false
 has_server k n x e = grind arith
-
--- what is held of the cells that are left was held before
-pub held_before : (drops : Cell → Bool) (left : Cell → Service) (cs : List Cell) (q : Place) (x : Object) → Tidy cs → held (sifted drops left cs) q ≡ Some x → held cs q ≡ Some x
-held_before drops left cs q x tidy h = go (cell_in cs q) refl h
-  where
-    unless_some : (b : Bool) (y : Option Object) → cond b None y ≡ Some x → y ≡ Some x
-    unless_some b y h = grind arith
-
-    go : (y : Option Cell) → cell_in cs q ≡ y → held (sifted drops left cs) q ≡ Some x → held cs q ≡ Some x
-    go None e h = let clash : None ≡ Some x = sym (unheld_sifted drops left cs q tidy (held_cell cs q ∙ ap object_in e)) ∙ h in cc
-    go (Some y) e h = held_cell cs q ∙ ap object_in e ∙ unless_some (drops y) (Some y.object) (sym (held_sifted drops left cs q tidy y e) ∙ h)
 
 -- ---- the cells
 
@@ -233,39 +223,28 @@ module _
   listed_left : (n d : ℕ) → server_of (client_at then d) ≡ Some n → has_session (service_of left n) d ≡ true
   listed_left n d h = grind (arith, nat_tests, sessions_ended_at, queue_ended_at, gone_alone, has_left n d, ne_eqb o.name n)
 
-  servers_left : (x : Object) → named left x.name ≡ Some x → is_server p x.thing ≡ false → ((service_of left x.name).queue ≡ []) × ((service_of left x.name).sessions ≡ [])
-  servers_left x h plain = grind (arith, nat_tests, named_before, named_cell cs x.name, object_in, eqb-true o.name x.name, service_none, service_left x.name)
-
-  names_left : (n m : ℕ) (x : Object) → held left (Elsewhere (Queued n m)) ≡ Some x → x.name ≡ m
-  names_left n m x h = fit.names n m x (held_before drops (λ c. c.service) cs (Elsewhere (Queued n m)) x tidy h)
-
   fit_left : ClientsFit p then left
-  fit_left = record {
+  fit_left = fit_eased p clients then cs left fit record {
+    carried = carried_sifted drops (λ c. c.service) (λ c. refl) (λ c. refl) cs tidy;
     queues = λ n. queues n (o.name == n) refl;
     sessions = sessions_left;
     listed = listed_left;
-    servers = servers_left;
-    names = names_left;
     senders = λ n d m h. senders n d m (o.name == n) refl h;
-    sources = sources_sifted drops (λ c. c.service) (λ c. refl) cs tidy fit.sources;
-    served = served_sifted drops (λ c. c.service) (λ c. refl) cs tidy fit.served;
-    seats = λ x h. seats x h (o.name == x.name) refl;
-    enlisted = λ x h e. enlisted x h e (o.name == x.name) refl;
+    quiet = λ n none. quiet n none (o.name == n) refl;
+    seats = λ n. seats n (o.name == n) refl;
   }
     where
       queues : (n : ℕ) (b : Bool) → (o.name == n) ≡ b → QueueFits then n (service_of left n).queue
       queues n true e = grind (arith, nat_tests, eqb-true o.name n e, service_none)
       queues n false e = subst (λ q. QueueFits then n q) (sym (service_left n e).0) (queue_kept n e (service_of cs n).queue (fit.queues n))
 
-      enlisted :
-          (x : Object) → named left x.name ≡ Some x → requested left x.name ≡ None → (b : Bool) → (o.name == x.name) ≡ b →
-          ((service_of left x.name).queue ≡ []) × ((service_of left x.name).sessions ≡ [])
-      enlisted x h e true f = grind (arith, nat_tests, eqb-true o.name x.name f, service_none)
-      enlisted x h e false f = grind (arith, nat_tests, named_before, named_cell cs x.name, object_in, requested_before, service_left x.name f)
+      quiet : (n : ℕ) → ((service_of cs n).queue ≡ []) × ((service_of cs n).sessions ≡ []) → (b : Bool) → (o.name == n) ≡ b → ((service_of left n).queue ≡ []) × ((service_of left n).sessions ≡ [])
+      quiet n none true e = grind (arith, nat_tests, eqb-true o.name n e, service_none)
+      quiet n none false e = ((service_left n e).0 ∙ none.0, (service_left n e).1 ∙ none.1)
 
-      seats : (x : Object) → named left x.name ≡ Some x → (b : Bool) → (o.name == x.name) ≡ b → seats_taken (service_of left x.name) ≤ most_of (thing_kind p x.thing)
-      seats x h true e = grind (arith, nat_tests, eqb-true o.name x.name e, service_none)
-      seats x h false e = grind (arith, nat_tests, named_before, named_cell cs x.name, object_in, seats_same, service_left x.name e)
+      seats : (n : ℕ) (b : Bool) → (o.name == n) ≡ b → seats_taken (service_of left n) ≤ seats_taken (service_of cs n)
+      seats n true e = let none : seats_taken (service_of left n) ≡ 0 = ap (λ i. seats_taken (service_of left i)) (sym (eqb-true o.name n e)) ∙ ap seats_taken service_none in omega (arith, none)
+      seats n false e = let same = seats_same (service_of left n) (service_of cs n) (service_left n e).0 (service_left n e).1 in omega (arith, same)
 
       senders : (n d m : ℕ) (b : Bool) → (o.name == n) ≡ b → list_any (is_message_of d m) (service_of left n).queue ≡ true → is_from d (service_of left m).sender ≡ true
       senders n d m true e h = grind (arith, nat_tests, eqb-true o.name n e, service_none)

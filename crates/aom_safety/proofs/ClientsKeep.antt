@@ -15,7 +15,8 @@ use Rattle.aom_safety.proofs.ClientsEffects.{IsUsual, effect_kept, fine_effect}
 use Rattle.aom_safety.proofs.ClientsFacts.{IsAt, goes_apart, queued_well, server_lives, serving_plain, waiting_well}
 use Rattle.aom_safety.proofs.ClientsFit.{IsFit, fit_parted}
 use Rattle.aom_safety.proofs.ClientsGone.{fit_gone, stage_gone}
-use Rattle.aom_safety.proofs.ClientsMoves.{Steady, fit_steady, fit_unconnected, steady_ended, steady_moved, steady_redeemed, tasks_steady}
+use Rattle.aom_safety.proofs.ClientsSteady.{Steady, fit_steady}
+use Rattle.aom_safety.proofs.ClientsMoves.{fit_unconnected, steady_ended, steady_moved, steady_redeemed, tasks_steady}
 use Rattle.aom_safety.proofs.Redeeming.{redeemed_by_alike}
 use Rattle.aom_safety.proofs.TokensKeep.{boot_apart, moved_apart, turned_apart}
 use Rattle.aom_safety.proofs.ClientsReturn.{fit_without, return_kept, tasks_without}
@@ -220,7 +221,7 @@ module _ (p : Image) (t : Typing) (wired : IsWired p) (c : Choice) (s : State) (
     returns_kept g a =
         let still = steady_ended p fr s.cells in
         return_kept p fr ts (record (counted p s) { cells = ended_cells p fr s.cells }) (fit_steady p s.clients s.cells (ended_cells p fr s.cells) still kept.fit) g a ts
-        (λ x d at. let l = there (Run fr ∷ ts) tasks x d Accepts at in ((ended_alike p fr s.cells).named_so x.object.name ∙ l.0, l.1, stays_listed (requested s.cells x.object.name) (requested (ended_cells p fr s.cells) x.object.name) (still.listed x.object.name) l.2))
+        (λ x d at. let l = there (Run fr ∷ ts) tasks x d Accepts at in ((ended_alike p fr s.cells).named_so x.object.name ∙ l.0, l.1, stays_listed (requested s.cells x.object.name) (requested (ended_cells p fr s.cells) x.object.name) (still.carried.enlisted x.object ((ended_alike p fr s.cells).named_so x.object.name ∙ l.0)) l.2))
         tasks (tasks_steady p s.clients s.cells (ended_cells p fr s.cells) still ts stage_below) (tasks_steady p s.clients s.cells (ended_cells p fr s.cells) still ts stage_below)
 
     act_kept : (i : Instr) → AllTrue (needs p c fr ts (counted p s) i) → IsFit p (applied p fr ts (counted p s) (effect p c fr ts (counted p s) i))
@@ -277,7 +278,7 @@ without_tokens p s kept = record { fit = kept.fit; stage = kept.stage }
 pub clients_keep : ClientsKeep
 clients_keep = record {
   boot = λ p. with_tokens p (boot_state p) (boot_kept p) boot_apart;
-  moves = λ p t wired typed c s u w free kept e. with_tokens p u (moved_kept p t wired c s w free (without_tokens p s kept) u e) (moved_apart p c s u w.good.tidy kept.tokens e);
+  moves = λ p t wired typed c s u w free kept e. with_tokens p u (moved_kept p t wired c s w free (without_tokens p s kept) u e) (moved_apart p c s u free w.good.tidy kept.tokens e);
   turns = λ p t outside wired typed heard s u w between hears kept e. with_tokens p u (turn_kept p t wired s w between.idle (without_tokens p s kept) outside heard u hears.name e)
       (turned_apart p outside heard s u w.good.tidy kept.tokens e);
 }

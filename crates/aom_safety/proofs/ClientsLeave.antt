@@ -1,7 +1,7 @@
 -- A client that closes or dies leaves what is kept: its messages that wait go, and where its session was open a close is asked last.
 use Rattle.std.proofs.lemmas.Bool.Decides.{nat_tests}
 use Rattle.std.proofs.Math.Bool.{and-false}
-use Rattle.std.proofs.Common.{[], Bool, List, None, Option, Some, ap, arith, false, refl, subst, sym, true, ℕ, ◌&&◌, ◌==◌, ◌∙◌, ◌∷◌, ◌≡◌, ◌≤◌}
+use Rattle.std.proofs.Common.{[], Bool, List, None, Option, Some, ap, arith, false, refl, subst, sym, true, ℕ, ◌&&◌, ◌+◌, ◌==◌, ◌∙◌, ◌∷◌, ◌≡◌}
 use Rattle.std.proofs.lemmas.Bool.{eq-eqb, eqb-true, ne_eqb}
 use Rattle.std.specs.List.{list_any}
 use Rattle.std.specs.Prelude.{filter, is_some}
@@ -9,18 +9,17 @@ use Rattle.aom_image.specs.Image.{Image}
 use Rattle.aom_clients.specs.Nodes.{is_leaving}
 use Rattle.aom_clients.specs.Table.{server_of}
 use Rattle.aom_clients.specs.declared.client.Client.{Client}
-use Rattle.aom_safety.proofs.ClientsGone.{held_before}
 use Rattle.aom_safety.proofs.ClientsAsk.{fit_asked}
-use Rattle.aom_safety.proofs.ClientsFit.{fit_changed}
+use Rattle.aom_safety.proofs.ClientsFit.{Changes, listed_changed, sessions_changed}
+use Rattle.aom_safety.proofs.ClientsSteady.{Carried, carried_sifted, fit_eased}
 use Rattle.aom_safety.proofs.Queues.{client_here, client_of, entry_other, is_of, none_stays, queue_other, queue_stays}
 use Rattle.aom_safety.proofs.Seated.{seats_asked, seats_left}
-use Rattle.aom_safety.proofs.Sifted.{cell_of_sifted, kept, cell_lives, cell_of, cell_placed, held_cell, named_before, named_cell, object_in, service_cell, service_gone, service_in, service_sifted, sifted, withdrawn_so, requested_before}
-use Rattle.aom_safety.proofs.Sources.{discarded_one, discarded_some, served_sifted, sources_sifted}
-use Rattle.aom_semantics.specs.Clients.{client_at, most_of, with_client}
-use Rattle.aom_semantics.specs.Enlisted.{thing_kind}
-use Rattle.aom_safety.specs.Kept.{ClientsFit, QueueFits, ServesSent, is_close_of, is_message_of}
+use Rattle.aom_safety.proofs.Sifted.{cell_of_sifted, kept, cell_lives, cell_of, cell_placed, held_cell, named_cell, object_in, service_cell, service_gone, service_in, service_sifted, sifted, withdrawn_so}
+use Rattle.aom_safety.proofs.Sources.{discarded_one, discarded_some}
+use Rattle.aom_semantics.specs.Clients.{client_at, with_client}
+use Rattle.aom_safety.specs.Kept.{ClientsFit, QueueFits, is_close_of, is_message_of, one_if_some}
 use Rattle.aom_semantics.specs.Places.{Asked, Cell, Close_of, Elsewhere, Object, Place, Queued, Sender, Service, Tidy, held, named, service_of, unserved, requested}
-use Rattle.aom_semantics.specs.Servers.{asked_last, discarded, reserved, is_from, is_queue, is_server, left_by, seats_taken, stays, withdrawn}
+use Rattle.aom_semantics.specs.Servers.{asked_last, discarded, reserved, is_from, is_queue, is_server, left_by, stays, withdrawn}
 
 -- ---- lists
 
@@ -141,38 +140,22 @@ module _ (p : Image) (clients : List Client) (cs : List Cell) (tidy : Tidy cs) (
   -- the client is at something else then, and asks for nothing more
   module _ (to : Client) (session : server_of to ≡ server_of (client_at clients c)) (queues : (n : ℕ) → QueueFits (with_client c to clients) n (filter (stays c) (service_of cs n).queue)) where
     pub fit_withdrawn : ClientsFit p (with_client c to clients) (withdrawn c cs)
-    fit_withdrawn = fit_changed p c to clients cs (withdrawn c cs) fit record {
+    fit_withdrawn = fit_eased p clients (with_client c to clients) cs (withdrawn c cs) fit record {
+      carried = subst (Carried cs) (sym (withdrawn_so c cs)) (carried_sifted drops left (λ x. ap (λ k. k + one_if_some x.service.token) (discarded_one c x.service.sender)) (λ x. discarded_some c x.service.sender) cs tidy);
       queues = λ n. subst (λ q. QueueFits (with_client c to clients) n q) (sym (service_left n).0) (queues n);
-      others = λ n d other. ap (λ xs. list_any (λ k. k == d) xs) (service_left n).1;
-      has = λ n h. session ∙ fit.sessions n c (sym (ap (λ xs. list_any (λ k. k == c) xs) (service_left n).1) ∙ h);
-      listed = λ n h. ap (λ xs. list_any (λ k. k == c) xs) (service_left n).1 ∙ fit.listed n c (sym session ∙ h);
-      servers = servers;
-      names = names;
+      sessions = sessions_changed p c to clients cs (withdrawn c cs) fit now;
+      listed = listed_changed p c to clients cs (withdrawn c cs) fit now;
       senders = λ n d m h. let parts = message_stays c d m (service_of cs n).queue (ap (λ q. list_any (is_message_of d m) q) (sym (service_left n).0) ∙ h) in sender_left d m parts.0 (fit.senders n d m parts.1);
-      sources = grind (arith, nat_tests, withdrawn_so c cs, sources_sifted, discarded_one c);
-      served = subst (λ l. ServesSent l) (sym (withdrawn_so c cs)) (served_sifted drops left (λ x. discarded_some c x.service.sender) cs tidy fit.served);
-      enlisted = λ o there none. enlisted o there none;
-      seats = seats;
+      quiet = λ n none. ((service_left n).0 ∙ ap (λ q. filter (stays c) q) none.0, (service_left n).1 ∙ none.1);
+      seats = λ n. seats_left c (service_of (withdrawn c cs) n) (service_of cs n) (service_left n).0 (service_left n).1;
     }
       where
-        before : (o : Object) → named (withdrawn c cs) o.name ≡ Some o → named cs o.name ≡ Some o
-        before o there = grind (arith, nat_tests, named_before, withdrawn_so c cs, named_cell cs o.name, object_in)
-
-        enlisted :
-            (o : Object) → named (withdrawn c cs) o.name ≡ Some o → requested (withdrawn c cs) o.name ≡ None →
-            ((service_of (withdrawn c cs) o.name).queue ≡ []) × ((service_of (withdrawn c cs) o.name).sessions ≡ [])
-        enlisted o there none = grind (arith, nat_tests, requested_before, withdrawn_so c cs, before o there, service_left o.name)
-
-        seats : (o : Object) → named (withdrawn c cs) o.name ≡ Some o → seats_taken (service_of (withdrawn c cs) o.name) ≤ most_of (thing_kind p o.thing)
-        seats o there = grind (arith, nat_tests, before o there, seats_left c, service_left o.name)
-
-        servers :
-            (o : Object) → named (withdrawn c cs) o.name ≡ Some o → is_server p o.thing ≡ false →
-            ((service_of (withdrawn c cs) o.name).queue ≡ []) × ((service_of (withdrawn c cs) o.name).sessions ≡ [])
-        servers o there plain = grind (arith, nat_tests, before o there, service_left o.name)
-
-        names : (n m : ℕ) (o : Object) → held (withdrawn c cs) (Elsewhere (Queued n m)) ≡ Some o → o.name ≡ m
-        names n m o h = grind (arith, nat_tests, held_before, withdrawn_so c cs)
+        now : Changes c to cs (withdrawn c cs)
+        now = record {
+          others = λ n d other. ap (λ xs. list_any (λ k. k == d) xs) (service_left n).1;
+          has = λ n h. session ∙ fit.sessions n c (sym (ap (λ xs. list_any (λ k. k == c) xs) (service_left n).1) ∙ h);
+          listed = λ n h. ap (λ xs. list_any (λ k. k == c) xs) (service_left n).1 ∙ fit.listed n c (sym session ∙ h);
+        }
 
 -- ---- a close is asked last
 

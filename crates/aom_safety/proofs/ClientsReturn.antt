@@ -1,22 +1,22 @@
 -- What is kept of clients stays so where a method returns, where a message is completed, and where a dispatch comes to its end.
 use Rattle.std.proofs.lemmas.Bool.Decides.{nat_tests}
 use Rattle.aom_semantics.specs.Destruction.{line_on}
-use Rattle.std.proofs.Common.{[], Bool, List, None, Some, ap, cond, false, refl, subst, sym, true, ℕ, ℤ, ◌==◌, ◌∙◌, ◌∷◌, ◌≡◌, ◌<◌, ◌≤◌, arith}
+use Rattle.std.proofs.Common.{[], Bool, List, Some, ap, cond, false, refl, subst, sym, true, ℕ, ℤ, ◌∙◌, ◌∷◌, ◌≡◌, ◌<◌, arith}
 use Rattle.std.specs.List.{list_any}
 use Rattle.aom_image.specs.Image.{Image}
 use Rattle.aom_image.specs.declared.method.Gives.{Gives}
 use Rattle.aom_clients.specs.declared.client.Client.{Client}
 use Rattle.aom_safety.proofs.ClientsFacts.{IsAt}
 use Rattle.aom_safety.proofs.ClientsFit.{IsFit, fit_accepted}
-use Rattle.aom_safety.proofs.ClientsMoves.{NoQueue, fit_steady, steady_moved, steady_result, tasks_queues, tasks_steady}
-use Rattle.aom_semantics.proofs.Maps.{held_without, named_moved, same_place-true, same_place_comm, requested_moved}
-use Rattle.aom_safety.proofs.Sifted.{a_cell_of, cell_in, cell_lives, cell_of, cell_owner, cell_placed, held_cell, named_before, named_cell, object_in, service_cell, service_in, service_sifted, sifted, requested_before, clients_sifted}
-use Rattle.aom_safety.proofs.Sources.{served_sifted, sources_sifted}
+use Rattle.aom_safety.proofs.ClientsSteady.{Steady, carried_sifted, fit_steady}
+use Rattle.aom_safety.proofs.ClientsMoves.{NoQueue, steady_moved, steady_result, tasks_queues, tasks_steady}
+use Rattle.aom_semantics.proofs.Maps.{named_moved, same_place-true, same_place_comm, requested_moved}
+use Rattle.aom_safety.proofs.Sifted.{a_cell_of, cell_in, cell_lives, cell_of, cell_owner, cell_placed, held_cell, named_cell, object_in, service_cell, service_in, service_sifted, sifted, clients_sifted}
 use Rattle.aom_semantics.specs.Calls.{answered_by, result_cells, returned}
 use Rattle.aom_semantics.specs.Clients.{most_of}
-use Rattle.aom_safety.specs.Kept.{ClientsFit, QueueFits, TasksKept, is_connect_of, is_message_of}
+use Rattle.aom_safety.specs.Kept.{ClientsFit, TasksKept, is_connect_of, is_message_of}
 use Rattle.aom_semantics.specs.Places.{Cell, Elsewhere, Object, Place, Queued, Session, Tidy, held, moved, named, same_place, service_of, without, requested}
-use Rattle.aom_semantics.specs.Servers.{is_from, is_server, seats_taken}
+use Rattle.aom_semantics.specs.Servers.{is_from, is_server}
 use Rattle.aom_semantics.specs.State.{Home, Accept_left, Accepts, Destroy, Dispatch, Dispatched, Frame, Of_server, Parts, Run, Seat, State, Task, Trapped, Unwind}
 use Rattle.aom_semantics.specs.Words.{here}
 use Rattle.aom_semantics.specs.Enlisted.{thing_kind}
@@ -122,37 +122,16 @@ module _
       let stays : drops y.0 ≡ false = ap (λ q. same_place q g) (cell_owner cs (Elsewhere (Queued n m)) y.0 y.1) ∙ same_place_comm (Elsewhere (Queued n m)) g ∙ apart n m in
       subst (λ v. is_from d v.sender ≡ true) (service_cell cs m ∙ ap service_in at ∙ sym (service_sifted drops (λ c. c.service) cs tidy m y.0 at stays)) (fit.senders n d m h)
 
-  fit_left : ClientsFit p clients left
-  fit_left = record {
-    queues = λ n. subst (λ q. QueueFits clients n q) (sym (service_left n).0) (fit.queues n);
-    sessions = λ n d h. fit.sessions n d (ap (λ xs. list_any (λ k. k == d) xs) (sym (service_left n).1) ∙ h);
-    listed = λ n d h. ap (λ xs. list_any (λ k. k == d) xs) (service_left n).1 ∙ fit.listed n d h;
-    servers = servers;
-    names = names;
-    senders = λ n d m h. sender_left n d m (ap (λ q. list_any (is_message_of d m) q) (sym (service_left n).0) ∙ h);
-    sources = sources_sifted drops (λ c. c.service) (λ c. refl) cs tidy fit.sources;
-    served = served_sifted drops (λ c. c.service) (λ c. refl) cs tidy fit.served;
-    seats = seats;
-    enlisted = enlisted;
+  steady_left : Steady cs left
+  steady_left = record {
+    carried = carried_sifted drops (λ c. c.service) (λ c. refl) (λ c. refl) cs tidy;
+    queues = λ n. (service_left n).0;
+    sessions = λ n. (service_left n).1;
+    senders = λ n d m h from. sender_left n d m h;
   }
-    where
-      before : (x : Object) → named left x.name ≡ Some x → named cs x.name ≡ Some x
-      before x h = grind (arith, nat_tests, named_before, named_cell cs x.name, object_in)
-
-      enlisted : (x : Object) → named left x.name ≡ Some x → requested left x.name ≡ None → ((service_of left x.name).queue ≡ []) × ((service_of left x.name).sessions ≡ [])
-      enlisted x h e = grind (arith, nat_tests, before x h, requested_before, service_left x.name)
-
-      seats : (x : Object) → named left x.name ≡ Some x → seats_taken (service_of left x.name) ≤ most_of (thing_kind p x.thing)
-      seats x h = grind (arith, nat_tests, before x h, seats_same, service_left x.name)
-
-      servers : (x : Object) → named left x.name ≡ Some x → is_server p x.thing ≡ false → ((service_of left x.name).queue ≡ []) × ((service_of left x.name).sessions ≡ [])
-      servers x h plain = grind (arith, nat_tests, before x h, service_left x.name)
-
-      names : (n m : ℕ) (x : Object) → held left (Elsewhere (Queued n m)) ≡ Some x → x.name ≡ m
-      names n m x h = grind (arith, nat_tests, held_without cs g (Elsewhere (Queued n m)), without_so g cs)
 
   pub fit_without : ClientsFit p clients (without g cs)
-  fit_without = subst (λ l. ClientsFit p clients l) (sym (without_so g cs)) fit_left
+  fit_without = subst (λ l. ClientsFit p clients l) (sym (without_so g cs)) (fit_steady p clients cs left steady_left fit)
 
   pub tasks_without : (ts : List Task) → TasksKept p clients cs ts → TasksKept p clients (without g cs) ts
   tasks_without ts k =

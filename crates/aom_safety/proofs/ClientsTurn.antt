@@ -1,6 +1,6 @@
 -- What is kept of clients stays so in each turn: as a server is picked, as a client does something, and in all others, where nothing of it changes.
 use Rattle.std.proofs.lemmas.Bool.Decides.{nat_tests}
-use Rattle.std.proofs.Common.{[], Bool, List, None, Option, Some, ap, cond, false, refl, subst, sym, true, ℕ, ◌∙◌, ◌∷◌, ◌≡◌, ◌<◌, ◌≤◌, arith, ◌==◌}
+use Rattle.std.proofs.Common.{[], Bool, List, None, Option, Some, ap, cond, false, refl, subst, sym, true, ℕ, ◌∙◌, ◌∷◌, ◌≡◌, ◌<◌, arith, ◌==◌}
 use Rattle.std.specs.List.{list_any}
 use Rattle.std.specs.Prelude.{◌&&◌, ◌||◌, is_some}
 use Rattle.aom_image.specs.Image.{Image}
@@ -10,10 +10,12 @@ use Rattle.aom_clients.specs.Table.{server_of}
 use Rattle.aom_clients.specs.declared.client.Client.{Client}
 use Rattle.aom_rules.specs.Typing.{Typing}
 use Rattle.aom_safety.proofs.ClientsCommand.{fit_commanded}
-use Rattle.aom_safety.proofs.ClientsFit.{IsFit, senders_then, by_server, seats_then, enlisted_then, sent_then, served_then, sources_then}
+use Rattle.aom_safety.proofs.ClientsFit.{IsFit, by_server, fit_reserved, sent_then}
+pub use Rattle.aom_safety.proofs.ClientsSteady.{Same, fit_same}
+use Rattle.aom_safety.proofs.ClientsSteady.{fit_steady, steady_as}
 use Rattle.aom_semantics.proofs.Maps.{held_moved, named_moved, requested_moved, requested_unnamed}
 use Rattle.aom_safety.proofs.Owners.{IsQueuedAt, in_queue, queued_lower}
-use Rattle.aom_safety.proofs.Services.{held_served, named_served, service_asked, service_bereaved, service_here, service_moved}
+use Rattle.aom_safety.proofs.Services.{held_served, service_asked, service_bereaved, service_here, service_moved}
 use Rattle.aom_safety.proofs.Signals.{at_rest}
 use Rattle.aom_safety.proofs.Storing.{bereaved_alike, rerequested_alike, requested_here, requested_there}
 use Rattle.aom_safety.proofs.Straight.{fits_unowning}
@@ -25,42 +27,21 @@ use Rattle.aom_semantics.specs.Clients.{client_at, most_of}
 use Rattle.aom_semantics.specs.Destruction.{begun}
 use Rattle.aom_semantics.specs.Enlisted.{completed_with, on_request, part_of, recorded, timed_out, thing_kind, taken_up}
 use Rattle.aom_semantics.specs.Natives.{all_bereaved, is_served_by, terminated_request, is_owed, terminated}
-use Rattle.aom_safety.specs.Kept.{ClientsFit, QueueFits, TasksKept, is_connect_of, is_message_of, sources_of}
+use Rattle.aom_safety.specs.Kept.{ClientsFit, QueueFits, ServesSent, TasksKept, is_connect_of, is_message_of}
 use Rattle.aom_safety.specs.Laws.{IsWired}
 use Rattle.aom_semantics.specs.Places.{Asked, Cell, Close_of, Connect_of, Elsewhere, Going, In_service, Message_of, Object, Place, Queued, Request, Root, Session, held, moved, named, requested, same_place, seen, service_of, set_request}
-use Rattle.aom_semantics.specs.Servers.{has_session, is_from, is_server, reserved, rest_of as rest, taken_first, seats_taken}
+use Rattle.aom_semantics.specs.Servers.{has_session, is_server, reserved, rest_of as rest, taken_first, seats_taken}
 use Rattle.aom_semantics.specs.State.{NullOrDead, WrongKind, Goes, Inside, Seat, State, Task}
 use Rattle.aom_safety.specs.WellTyped.{Fits, Good, WellTyped}
 use Rattle.aom_semantics.specs.World.{Candidate, Completes, Completion, Cuts, Heard, Hears, Kills, Obeys, Environment, Passes, Picks, Polls, Strays, Timed, Turning, Waits, accepting, attended, attending, by_event, by_timer, delivers, dispatched, first_ready, heard_one, lives, parting_with, picks, picked, polls, serves_first, taken_from, turn, turned, turning, with_request}
 use Rattle.aom_transcript.specs.declared.event.Event.{Event}
 use Rattle.aom_transcript.specs.declared.event.TimedEvent.{TimedEvent}
 use Rattle.aom_safety.proofs.Seated.{seats_first, seats_rest}
-use Rattle.aom_safety.proofs.Sources.{from_some, has_sender, served_as, sources_as}
+use Rattle.aom_safety.proofs.Sources.{from_some, has_sender}
 use Rattle.aom_safety.proofs.Things.{message_plain}
 use Rattle.std.proofs.lemmas.Bool.{eq-eqb, eqb-true}
 
 -- ---- cells of which clients have the same
-
-pub record Same (cs cs' : List Cell) : Type 0 where
-  pub service_so : (n : ℕ) → service_of cs' n ≡ service_of cs n
-  pub named_so : (n : ℕ) → named cs' n ≡ named cs n
-  pub held_so : (q : Place) → held cs' q ≡ held cs q
-  -- what is enlisted stays so
-  pub listed_so : (n : ℕ) → requested cs' n ≡ None → requested cs n ≡ None
-
-pub fit_same : (p : Image) (clients : List Client) (cs cs' : List Cell) → Same cs cs' → ClientsFit p clients cs → ClientsFit p clients cs'
-fit_same p clients cs cs' like fit = record {
-  queues = λ n. subst (λ v. QueueFits clients n v.queue) (sym (like.service_so n)) (fit.queues n);
-  sessions = λ n c h. fit.sessions n c (ap (λ v. has_session v c) (sym (like.service_so n)) ∙ h);
-  listed = λ n c h. ap (λ v. has_session v c) (like.service_so n) ∙ fit.listed n c h;
-  servers = λ o h plain. subst (λ v. (v.queue ≡ []) × (v.sessions ≡ [])) (sym (like.service_so o.name)) (fit.servers o (sym (like.named_so o.name) ∙ h) plain);
-  names = λ n m o h. fit.names n m o (sym (like.held_so (Elsewhere (Queued n m))) ∙ h);
-  senders = grind (arith, nat_tests);
-  sources = sources_as cs cs' (λ n. ap sources_of (like.service_so n)) (λ o h. sym (like.named_so o.name) ∙ h) fit.sources;
-  served = served_as cs cs' (λ n. ap (λ v. is_some v.sender) (like.service_so n)) (λ o h. sym (like.held_so (Elsewhere In_service)) ∙ h) fit.served;
-  seats = λ o h. subst (λ v. seats_taken v ≤ most_of (thing_kind p o.thing)) (sym (like.service_so o.name)) (fit.seats o (sym (like.named_so o.name) ∙ h));
-  enlisted = grind (arith, nat_tests);
-}
 
 -- a request that changes is there still
 pub on_none : (f : Request → Request) (r : Option Request) → on_request f r ≡ None → r ≡ None
@@ -99,47 +80,42 @@ same_bereaved p n cs = let like = bereaved_alike p n cs in record { service_so =
 pub fit_moved :
     (p : Image) (clients : List Client) (cs : List Cell) (a b : Place) → held cs b ≡ None → ((n m : ℕ) → same_place b (Elsewhere (Queued n m)) ≡ false) →
     (same_place b (Elsewhere In_service) ≡ true → (o : Object) → held cs a ≡ Some o → has_sender cs o.name ≡ true) → ClientsFit p clients cs → ClientsFit p clients (moved a b cs)
-fit_moved p clients cs a b free apart sent fit = record {
-  queues = λ n. subst (λ v. QueueFits clients n v.queue) (sym (service_moved cs a b n)) (fit.queues n);
-  sessions = λ n c h. fit.sessions n c (ap (λ v. has_session v c) (sym (service_moved cs a b n)) ∙ h);
-  listed = λ n c h. ap (λ v. has_session v c) (service_moved cs a b n) ∙ fit.listed n c h;
-  servers = grind (arith, nat_tests, service_moved cs a b, named_moved cs a b);
-  names = λ n m o h. names n m o (same_place a (Elsewhere (Queued n m))) (sym (ap (λ x. cond x (held cs a) (cond (same_place a (Elsewhere (Queued n m))) None (held cs (Elsewhere (Queued n m))))) (apart n m)) ∙ sym (held_moved cs a b (Elsewhere (Queued n m)) free) ∙ h);
-  senders = λ n c m h. subst (λ v. is_from c v.sender ≡ true) (sym (service_moved cs a b m)) (fit.senders n c m (ap (λ v. list_any (is_message_of c m) v.queue) (sym (service_moved cs a b n)) ∙ h));
-  sources = sources_as cs (moved a b cs) (λ n. ap sources_of (service_moved cs a b n)) (λ o h. sym (named_moved cs a b o.name) ∙ h) fit.sources;
-  served = λ o h. same o.name ∙ served o (same_place b (Elsewhere In_service)) refl (same_place a (Elsewhere In_service)) (sym (held_moved cs a b (Elsewhere In_service) free) ∙ h);
-  seats = λ o h. subst (λ v. seats_taken v ≤ most_of (thing_kind p o.thing)) (sym (service_moved cs a b o.name)) (fit.seats o (sym (named_moved cs a b o.name) ∙ h));
-  enlisted = λ o h e. subst (λ v. (v.queue ≡ []) × (v.sessions ≡ [])) (sym (service_moved cs a b o.name)) (fit.enlisted o (sym (named_moved cs a b o.name) ∙ h) (sym (requested_moved cs a b o.name) ∙ e));
-}
+fit_moved p clients cs a b free apart sent =
+    fit_steady p clients cs (moved a b cs) (steady_as cs (moved a b cs) (service_moved cs a b) (named_moved cs a b) (λ n e. sym (requested_moved cs a b n) ∙ e)
+    (λ n m. queued (Elsewhere (Queued n m)) (apart n m)) (λ was o h. same o.name ∙ served was o (same_place b (Elsewhere In_service)) refl (same_place a (Elsewhere In_service)) (sym (held_moved cs a b (Elsewhere In_service) free) ∙ h)))
   where
     same : (n : ℕ) → has_sender (moved a b cs) n ≡ has_sender cs n
     same n = ap (λ v. is_some v.sender) (service_moved cs a b n)
 
     served :
-        (o : Object) (x : Bool) → same_place b (Elsewhere In_service) ≡ x → (y : Bool) → cond x (held cs a) (cond y None (held cs (Elsewhere In_service))) ≡ Some o →
+        ServesSent cs → (o : Object) (x : Bool) → same_place b (Elsewhere In_service) ≡ x → (y : Bool) → cond x (held cs a) (cond y None (held cs (Elsewhere In_service))) ≡ Some o →
         has_sender cs o.name ≡ true
-    served o x e y h = grind arith
+    served was o x e y h = grind arith
 
-    names : (n m : ℕ) (o : Object) (x : Bool) → cond x None (held cs (Elsewhere (Queued n m))) ≡ Some o → o.name ≡ m
-    names n m o x h = grind arith
+    unless_moved : (o : Object) (x : Bool) (was : Option Object) → cond x None was ≡ Some o → was ≡ Some o
+    unless_moved o x was h = grind arith
+
+    queued : (q : Place) → same_place b q ≡ false → (o : Object) → held (moved a b cs) q ≡ Some o → held cs q ≡ Some o
+    queued q other o h =
+        unless_moved o (same_place a q) (held cs q) (sym (ap (λ x. cond x (held cs a) (cond (same_place a q) None (held cs q))) other) ∙ sym (held_moved cs a b q free) ∙ h)
+
+-- what is asked of anything is a server
+asked_serves :
+    (p : Image) (clients : List Client) (cs : List Cell) → ClientsFit p clients cs → (o : Object) → named cs o.name ≡ Some o → (e : Asked) (es : List Asked) → (service_of cs o.name).queue ≡ e ∷ es →
+    is_server p o.thing ≡ true
+asked_serves p clients cs fit o lives e es queue = grind (arith, nat_tests)
 
 -- the first of a queue is taken
 pub fit_taken :
     (p : Image) (clients : List Client) (cs : List Cell) (o : Object) → named cs o.name ≡ Some o → is_some (requested cs o.name) ≡ true → (e : Asked) (es : List Asked) →
     (service_of cs o.name).queue ≡ e ∷ es → ClientsFit p clients cs → ClientsFit p clients (reserved taken_first o.name cs)
-fit_taken p clients cs o lives listed e es queue fit = record {
-  queues = by_server cs o lives taken_first (λ n v. QueueFits clients n v.queue) (subst (λ q. QueueFits clients o.name (rest q)) (sym queue) (subst (λ q. QueueFits clients o.name q) queue (fit.queues o.name)).1) (λ n other. fit.queues n);
-  sessions = by_server cs o lives taken_first (λ n v. (d : ℕ) → has_session v d ≡ true → server_of (client_at clients d) ≡ Some n) (fit.sessions o.name) (λ n other. fit.sessions n);
-  listed = by_server cs o lives taken_first (λ n v. (d : ℕ) → server_of (client_at clients d) ≡ Some n → has_session v d ≡ true) (fit.listed o.name) (λ n other. fit.listed n);
-  servers = λ x h plain. by_server cs o lives taken_first (λ n v. ((service_of cs n).queue ≡ []) × ((service_of cs n).sessions ≡ []) → (v.queue ≡ []) × (v.sessions ≡ [])) (λ h. (ap rest h.0, h.1)) (λ n other h. h) x.name (fit.servers x (sym (named_served cs o.name (taken_first (service_of cs o.name)) x.name) ∙ h) plain);
-  names = λ n m x h. fit.names n m x (sym (held_served cs o.name (taken_first (service_of cs o.name)) (Elsewhere (Queued n m))) ∙ h);
-  senders = senders_then p cs o lives taken_first clients fit (λ d h. h)
-      (λ d m h. fit.senders o.name d m (ap (λ q. list_any (is_message_of d m) q) queue ∙ or_right (is_message_of d m e) (list_any (is_message_of d m) es) (ap (λ q. list_any (is_message_of d m) (rest q)) (sym queue) ∙ h)));
-  enlisted = enlisted_then p cs o lives taken_first listed clients fit;
-  sources = sources_then p cs o lives taken_first refl fit.sources;
-  served = served_then p cs o lives taken_first refl fit.served;
-  seats = seats_then p cs o lives taken_first clients fit (let less = seats_rest (service_of cs o.name) in let was = fit.seats o lives in omega (arith, less, was));
-}
+fit_taken p clients cs o lives listed e es queue fit =
+    fit_reserved p clients cs fit o lives (asked_serves p clients cs fit o lives e es queue) listed taken_first clients refl refl
+    (by_server cs o lives taken_first (λ n v. QueueFits clients n v.queue) (subst (λ q. QueueFits clients o.name (rest q)) (sym queue) (subst (λ q. QueueFits clients o.name q) queue (fit.queues o.name)).1) (λ n other. fit.queues n))
+    (by_server cs o lives taken_first (λ n v. (d : ℕ) → has_session v d ≡ true → server_of (client_at clients d) ≡ Some n) (fit.sessions o.name) (λ n other. fit.sessions n))
+    (by_server cs o lives taken_first (λ n v. (d : ℕ) → server_of (client_at clients d) ≡ Some n → has_session v d ≡ true) (fit.listed o.name) (λ n other. fit.listed n))
+    (λ d m h. fit.senders o.name d m (ap (list_any (is_message_of d m)) queue ∙ or_right (is_message_of d m e) (list_any (is_message_of d m) es) (ap (λ q. list_any (is_message_of d m) (rest q)) (sym queue) ∙ h)))
+    (let less = seats_rest (service_of cs o.name) in let was = fit.seats o lives in omega (arith, less, was))
   where
     or_right : (b x : Bool) → x ≡ true → (b || x) ≡ true
     or_right x y h = grind arith

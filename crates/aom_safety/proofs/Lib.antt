@@ -6,6 +6,7 @@ pub mod Sifted
 pub mod Queues
 pub mod Seated
 pub mod Sources
+pub mod ClientsSteady
 pub mod ClientsFit
 pub mod ClientsAsk
 pub mod ClientsLeave

@@ -1,18 +1,20 @@
 -- No two requests wait for one token and no two tokens have one order, in each state of a run: only `hand` brings an order, and a new one.
 use Rattle.std.proofs.lemmas.Bool.Decides.{nat_tests}
-use Rattle.std.proofs.Common.{Bool, List, None, Option, Some, [], arith, cond, length, refl, subst, suc, sym, ℕ, ℤ, ◌∙◌, ◌∷◌, ◌≡◌}
+use Rattle.std.proofs.Common.{Bool, List, None, Option, Some, [], arith, length, refl, subst, suc, sym, ℕ, ℤ, ◌∷◌, ◌≡◌}
 use Rattle.std.proofs.lemmas.Option.{none-some}
 use Rattle.aom_image.specs.Image.{Image}
 use Rattle.aom_image.specs.Views.{arguments_of}
-use Rattle.aom_image.specs.declared.class.ClassKind.{ClassKind}
 use Rattle.aom_image.specs.declared.method.Argument.{Argument}
 use Rattle.aom_image.specs.declared.method.Argument.TheVariants.{Own as Takes_own, Word as Takes_word}
 use Rattle.aom_image.specs.declared.method.Gives.{Gives}
 use Rattle.aom_clients.specs.declared.client.Client.{Client}
 use Rattle.aom_clients.specs.declared.refusal.Refusal.{Refusal}
 use Rattle.aom_instructions.specs.declared.instr.Instr.{Instr}
+use Rattle.aom_instructions.specs.declared.instr.Instr.TheVariants as instrs
 use Rattle.aom_transcript.specs.declared.event.Command.{Command}
 use Rattle.aom_safety.proofs.Apart.{handed_apart, redeemed_by_apart}
+use Rattle.aom_safety.proofs.ClientsEffects.{Fine, IsUsual, fewer_on, fine_effect}
+use Rattle.aom_safety.proofs.ClientsMoves.{IsSteady}
 use Rattle.aom_safety.proofs.Guarded.{acts_at}
 use Rattle.aom_safety.proofs.Moving.{steps_are_moves}
 use Rattle.aom_safety.proofs.Orders.{NoneComes, apart_still, comes_asked, comes_bereaved, comes_gone, comes_itself, comes_more, comes_moved, comes_opened, comes_requested, comes_served, comes_stored, comes_then, comes_withdrawn, comes_without}
@@ -22,89 +24,40 @@ use Rattle.aom_semantics.specs.Calls.{accepted_cells, passed_cells, result_cells
 use Rattle.aom_semantics.specs.Cleanup.{top_place}
 use Rattle.aom_semantics.specs.Clients.{Listed, client_at, commanded, connecting, leaving, sending, told}
 use Rattle.aom_semantics.specs.Destruction.{first_session, parting}
-use Rattle.aom_semantics.specs.Effects.{Calls, Cancels, Carried, Destroys, Destroys_last, Effect, Goes_on, Handed, Leaves, Made, Popped, Pushed, Replied, Requested, Returns, Sessioned, Sets_trap, Update, Written, applied, cancels_if, cells_after, deals, deletes, effect, hands_unless, jumps_unless, makes_unless, round, spot_place}
-use Rattle.aom_semantics.specs.Enlisted.{Asking, completed_with, ended_cells, issued_of, on_request, own_request}
-use Rattle.aom_semantics.specs.Moves.{answered, asking, counted, dispatch_ends, handled, main_ends, object_ends, step}
-use Rattle.aom_semantics.specs.Places.{Cell, Elsewhere, Entry, Going, In_service, Object, Place, Queued, Request, Root, Session, Tidy, held, moved, requested, service_of, without}
+use Rattle.aom_semantics.specs.Effects.{Calls, Cancels, Carried, Destroys, Destroys_last, Effect, Goes_on, Handed, Leaves, Made, Popped, Pushed, Replied, Requested, Returns, Sessioned, Sets_trap, Update, Written, applied, cells_after, effect, spot_place}
+use Rattle.aom_semantics.specs.Enlisted.{completed_with, ended_cells, on_request}
+use Rattle.aom_semantics.specs.Moves.{answered, counted, dispatch_ends, handled, main_ends, object_ends, step}
+use Rattle.aom_semantics.specs.Places.{Cell, Elsewhere, Entry, Going, In_service, Object, Place, Queued, Request, Root, Session, Tidy, held, moved, named, requested, service_of, without}
 use Rattle.aom_semantics.specs.Servers.{opened, parted, reserved, taken_first, withdrawn}
-use Rattle.aom_semantics.specs.State.{Accepts, Answered, Asks, Choice, Dispatch, Frame, Goes, Item, Object_left, Of_main, Of_object, Of_server, Parts, Seat, Service_left, State, Task}
+use Rattle.aom_semantics.specs.State.{Accepts, Answered, Asks, Choice, Dispatch, Frame, Goes, Object_left, Of_main, Of_object, Of_server, Parts, Seat, Service_left, State, Task}
 use Rattle.aom_safety.specs.Steps.{Acts, Arrives, Clears, Comes_out, Empties, Ends, Move, Rests, Undoes, Vanishes}
-use Rattle.aom_semantics.specs.Tokens.{TokensApart, awaited, redeemed_by, token_of}
-use Rattle.aom_semantics.specs.Words.{here}
+use Rattle.aom_semantics.specs.Tokens.{TokensApart, redeemed_by, token_of}
+use Rattle.aom_semantics.specs.Words.{here, read}
 use Rattle.aom_semantics.specs.World.{Heard, Environment, heard_one, taken_from, turn, with_request}
 
--- ---- what becomes of a request waits for no new token
-
-abbrev Fewer : Option Request → Option Request → Type 0
-Fewer r old = (k : ℕ) → awaited r ≡ Some k → awaited old ≡ Some k
-
-fewer_on : (f : Request → Request) → ((r : Request) (k : ℕ) → (f r).token ≡ Some k → r.token ≡ Some k) → (q : Option Request) → Fewer (on_request f q) q
-fewer_on f fewer x k e = grind arith
-
-fewer_none : (f : Request → Request) → ((r : Request) → (f r).token ≡ None) → (q : Option Request) → Fewer (on_request f q) q
-fewer_none f none q = fewer_on f (λ r k e. absurd (none-some k (sym (none r) ∙ e))) q
-
-fewer_issued : (kind : Option ClassKind) (asking : Asking) (a : ℤ) (r : Request) (k : ℕ) → (issued_of kind asking a r).token ≡ Some k → r.token ≡ Some k
-fewer_issued kind asking a r k e = grind arith
-
 -- ---- an update
-
-module _ (fr : Frame) (s : State) where
-  abbrev IsThin : Update → Type 0
-  IsThin (Requested r) = Fewer r (own_request s.cells fr.home)
-  IsThin _ = Unit {0}
-
-  abbrev ThinEffect : Effect → Type 0
-  ThinEffect (Goes_on ch) = IsThin ch.update
-  ThinEffect (Leaves code u) = IsThin u
-  ThinEffect _ = Unit {0}
-
-module _ (p : Image) (c : Choice) (fr : Frame) (ts : List Task) (s : State) where
-  thin_cond : (b : Bool) (x y : Effect) → ThinEffect fr s x → ThinEffect fr s y → ThinEffect fr s (cond b x y)
-  thin_cond x y z h k = grind arith
-
-  thin_unless : (o : Option Object) (to : ℕ) → ThinEffect fr s (jumps_unless fr o to)
-  thin_unless x to = grind arith
-
-  thin_round : (n depth to : ℕ) → ThinEffect fr s (round n depth to)
-  thin_round x depth to = grind arith
-
-  thin_cancels : (b : Bool) (m : Option ℕ) → ThinEffect fr s (cancels_if fr b m)
-  thin_cancels x m = grind arith
-
-  thin_deletes : (o : Option Object) (a : ℕ) → ThinEffect fr s (deletes fr o a)
-  thin_deletes x a = grind arith
-
-  thin_deals : (items : List Item) (o : Option Object) → ThinEffect fr s (deals fr items o)
-  thin_deals x y = grind arith
-
-  thin_makes : (b : Bool) (x a : ℕ) → IsThin fr s (makes_unless b c.name x a)
-  thin_makes x y a = grind arith
-
-  thin_hands : (b : Bool) (a : ℕ) → IsThin fr s (hands_unless b c.name a (own_request s.cells fr.home))
-  thin_hands x a = grind (arith, nat_tests, fewer_none)
-
-  thin_effect : (i : Instr) → ThinEffect fr s (effect p c fr ts s i)
-  thin_effect x = grind (arith, nat_tests, fewer_on, fewer_issued, fewer_none, thin_hands, thin_cond, thin_unless, thin_round, thin_makes, thin_deletes)
 
 module _ (p : Image) (fr : Frame) (ts : List Task) (s : State) (tidy : Tidy s.cells) (apart : TokensApart s.cells) where
   still : (us : List Cell) → NoneComes s.cells us → TokensApart us
   still us none = apart_still s.cells us none apart
 
-  apart_updated : (u : Update) → IsThin fr s u → TokensApart (cells_after p fr ts s u)
+  apart_updated : (u : Update) → IsSteady fr s u → TokensApart (cells_after p fr ts s u)
   apart_updated (Carried from to) f = still _ (comes_moved s.cells (spot_place p fr ts s from) (spot_place p fr ts s to))
   apart_updated (Made name class a) f = still _ (comes_more _ s.cells refl refl)
   apart_updated (Written w v) f = still _ (comes_stored s.cells fr.home w v)
-  apart_updated (Requested r) f = still _ (comes_requested s.cells fr.home r f)
+  apart_updated (Requested r) f = still _ (comes_requested s.cells fr.home r f.1)
   apart_updated (Sessioned session) f = still _ (comes_opened s.cells fr.home session)
   apart_updated (Pushed a) f = still _ (comes_moved s.cells (here fr ts s a) (Entry (length s.items)))
   apart_updated (Popped a) f = still _ (comes_moved s.cells (top_place s.items) (here fr ts s a))
-  apart_updated (Replied a code) f =
+  apart_updated (Replied a code) f = absurd f
+  apart_updated (Handed name a) f = handed_apart name fr.home (here fr ts s a) s.cells apart
+  apart_updated _ f = apart
+
+  apart_replied : (a : ℕ) (code : ℤ) → TokensApart (cells_after p fr ts s (Replied a code))
+  apart_replied a code =
       let order = token_of s.cells (held s.cells (here fr ts s a)) in
       let cs = redeemed_by order code s.cells in
       apart_still cs (without (here fr ts s a) cs) (comes_without cs ((redeemed_by_alike order code s.cells).tidy tidy) (here fr ts s a)) (redeemed_by_apart order code s.cells apart)
-  apart_updated (Handed name a) f = handed_apart name fr.home (here fr ts s a) s.cells apart
-  apart_updated _ f = apart
 
 -- ---- an effect
 
@@ -131,16 +84,24 @@ module _ (p : Image) (fr : Frame) (ts : List Task) (s : State) where
   comes_ended = grind (arith, nat_tests, NoneComes s.cells, comes_requested s.cells fr.home, fewer_on, comes_itself s.cells)
 
 module _ (p : Image) (fr : Frame) (ts : List Task) (s : State) (tidy : Tidy s.cells) (apart : TokensApart s.cells) where
-  apart_applied : (e : Effect) → ThinEffect fr s e → TokensApart (applied p fr ts s e).cells
+  apart_applied : (e : Effect) → Fine fr s e → TokensApart (applied p fr ts s e).cells
   apart_applied (Goes_on ch) f = apart_updated p fr ts s tidy apart ch.update f
   apart_applied (Leaves code u) f = apart_updated p fr ts s tidy apart u f
   apart_applied (Calls target m first) f = still p fr ts s tidy apart _ (comes_passed p fr ts s _ (arguments_of p m) first 0 s.cells)
   apart_applied (Sets_trap target m first) f = still p fr ts s tidy apart _ (comes_passed p fr ts s _ (arguments_of p m) first 0 s.cells)
   apart_applied (Cancels m) f = grind (arith, nat_tests, still p fr ts s tidy apart, comes_requested s.cells fr.home, fewer_on)
-  apart_applied (Returns g a) f = grind (arith, nat_tests, still p fr ts s tidy apart, comes_then s.cells, comes_ended p fr ts s, comes_returned p fr ts)
+  apart_applied (Returns g a) f = absurd f
   apart_applied (Destroys o a words) f = still p fr ts s tidy apart _ (comes_moved s.cells (here fr ts s a) (Going (suc (length ts))))
   apart_applied (Destroys_last o) f = still p fr ts s tidy apart _ (comes_moved s.cells (top_place s.items) (Going (suc (length ts))))
   apart_applied _ f = apart
+
+  apart_acted : (c : Choice) → named s.cells c.name ≡ None → (i : Instr) → TokensApart (applied p fr ts s (effect p c fr ts s i)).cells
+  apart_acted c free (instrs.Reply a b) = apart_replied p fr ts s tidy apart a (read fr ts s b)
+  apart_acted c free (instrs.Return a) = grind (arith, nat_tests, still p fr ts s tidy apart, comes_then s.cells, comes_ended p fr ts s, comes_returned p fr ts)
+  apart_acted c free i = usual i tt
+    where
+      usual : (i : Instr) → IsUsual i → TokensApart (applied p fr ts s (effect p c fr ts s i)).cells
+      usual i u = apart_applied (effect p c fr ts s i) (fine_effect p c fr ts s free i u)
 
 -- ---- the other moves
 
@@ -167,8 +128,8 @@ comes_dispatched p (Of_server x client (Service_left code)) s tidy = comes_witho
 comes_dispatched p (Of_server x client Parts) s tidy = comes_served s.cells x.object.name (parted client (service_of s.cells x.object.name)) refl
 comes_dispatched p _ s tidy = comes_itself s.cells
 
-pub moved_apart : (p : Image) (c : Choice) (s u : State) → Tidy s.cells → TokensApart s.cells → step p c s ≡ Goes u → TokensApart u.cells
-moved_apart p c s u tidy apart e = of (steps_are_moves p c s u e)
+pub moved_apart : (p : Image) (c : Choice) (s u : State) → named s.cells c.name ≡ None → Tidy s.cells → TokensApart s.cells → step p c s ≡ Goes u → TokensApart u.cells
+moved_apart p c s u free tidy apart e = of (steps_are_moves p c s u e)
   where
     v : State
     v = counted p s
@@ -180,7 +141,7 @@ moved_apart p c s u tidy apart e = of (steps_are_moves p c s u e)
     by w same none = along w same (apart_still s.cells w.cells none apart)
 
     of : Move p c s u → TokensApart u.cells
-    of (Acts fr ts i x at there met may same) = let a = acts_at p c s u fr ts i at there e in along _ (sym a.1) (apart_applied p fr ts v tidy apart (effect p c fr ts v i) (thin_effect p c fr ts v i))
+    of (Acts fr ts i x at there met may same) = let a = acts_at p c s u fr ts i at there e in along _ (sym a.1) (apart_acted p fr ts v tidy apart c free i)
     of (Vanishes ts o at there none same) = by _ same (comes_gone s.cells tidy o.name (Going (length ts)) (service_of s.cells o.name).sessions)
     of (Empties ts o at there same) = by _ same (comes_parting p o (first_session s.cells o.name (service_of s.cells o.name).sessions) ts v)
     of (Clears code ts items o at top there same) = by _ same (comes_moved s.cells (Entry (length items)) _)

@@ -1,0 +1,217 @@
+-- What clients are at and what they have at servers say the same where servers have no more than they had: by what is left of each cell.
+use Rattle.std.proofs.Common.{[], Bool, List, None, Some, ap, arith, cond, false, inl, inr, refl, subst, sym, true, ℕ, ◌==◌, ◌∙◌, ◌∷◌, ◌≡◌, ◌≤◌, ◌⊎◌}
+use Rattle.std.proofs.lemmas.Bool.{eqb-true}
+use Rattle.std.specs.List.{list_any}
+use Rattle.std.specs.Prelude.{is_some}
+use Rattle.aom_image.specs.Image.{Image}
+use Rattle.aom_clients.specs.Table.{server_of}
+use Rattle.aom_clients.specs.declared.client.Client.{Client}
+use Rattle.aom_roles.specs.Things.{is_object}
+use Rattle.aom_safety.proofs.Seated.{seats_same}
+use Rattle.aom_safety.proofs.Services.{service_unnamed}
+use Rattle.aom_safety.proofs.Sifted.{held_cell, named_before, named_cell, object_in, placed_before, requested_before, sifted}
+use Rattle.aom_safety.proofs.Sources.{served_as, served_sifted, sources_as, sources_sifted}
+use Rattle.aom_safety.specs.Kept.{ClientsFit, HasSources, QueueFits, ServesSent, is_message_of, sources_of}
+use Rattle.aom_semantics.proofs.Maps.{requested_unnamed, same_place-true}
+use Rattle.aom_semantics.specs.Clients.{client_at, most_of}
+use Rattle.aom_semantics.specs.Enlisted.{thing_kind}
+use Rattle.aom_semantics.specs.Places.{Cell, Elsewhere, In_service, Object, Place, Queued, Service, Tidy, held, named, requested, same_place, service_of, unserved}
+use Rattle.aom_semantics.specs.Servers.{has_session, is_among, is_from, seats_taken}
+
+-- ---- what is kept of cells, whatever clients are at
+
+abbrev pub Lived : List Cell → Object → Type 0
+Lived cs o = (named cs o.name ≡ Some o) ⊎ (named cs o.name ≡ None)
+
+abbrev AreNamed : List Cell → Type 0
+AreNamed cs = (n m : ℕ) (o : Object) → held cs (Elsewhere (Queued n m)) ≡ Some o → o.name ≡ m
+
+pub record Carried (cs cs' : List Cell) : Type 0 where
+  -- each cell was there, or is new and no other had its name
+  pub lived : (o : Object) → named cs' o.name ≡ Some o → Lived cs o
+  -- what is enlisted stays so
+  pub enlisted : (o : Object) → named cs' o.name ≡ Some o → requested cs' o.name ≡ None → requested cs o.name ≡ None
+  pub names : AreNamed cs → AreNamed cs'
+  pub sources : HasSources cs → HasSources cs'
+  pub served : ServesSent cs → ServesSent cs'
+
+pub carried_itself : (cs : List Cell) → Carried cs cs
+carried_itself cs = record { lived = λ o h. inl h; enlisted = λ o h e. e; names = λ h. h; sources = λ h. h; served = λ h. h }
+
+-- some cells go, and those that stay have their senders and tokens
+pub carried_sifted :
+    (drops : Cell → Bool) (f : Cell → Service) → ((c : Cell) → sources_of (f c) ≡ sources_of c.service) → ((c : Cell) → is_some (f c).sender ≡ is_some c.service.sender) →
+    (cs : List Cell) → Tidy cs → Carried cs (sifted drops f cs)
+carried_sifted drops f sources senders cs tidy = record {
+  lived = λ o h. let b = named_before drops f cs o.name o tidy h in inl (named_cell cs o.name ∙ ap object_in b.1 ∙ ap (λ y. Some y) b.2);
+  enlisted = λ o h e. sym (requested_before drops f cs o.name o tidy h) ∙ e;
+  names = λ was n m o h. let b = placed_before drops f cs (Elsewhere (Queued n m)) o tidy h in was n m o (held_cell cs (Elsewhere (Queued n m)) ∙ ap object_in b.1 ∙ ap (λ y. Some y) b.2);
+  sources = sources_sifted drops f sources cs tidy;
+  served = served_sifted drops f senders cs tidy;
+}
+
+-- ---- servers have no more than they had
+
+-- nobody asks anything of it, and nobody has a session with it
+abbrev IsQuiet : Service → Type 0
+IsQuiet v = (v.queue ≡ []) × (v.sessions ≡ [])
+
+-- and what they have is of these clients
+pub record Eased (clients : List Client) (cs cs' : List Cell) : Type 0 where
+  pub carried : Carried cs cs'
+  pub queues : (n : ℕ) → QueueFits clients n (service_of cs' n).queue
+  pub sessions : (n c : ℕ) → has_session (service_of cs' n) c ≡ true → server_of (client_at clients c) ≡ Some n
+  pub listed : (n c : ℕ) → server_of (client_at clients c) ≡ Some n → has_session (service_of cs' n) c ≡ true
+  pub senders : (n c m : ℕ) → list_any (is_message_of c m) (service_of cs' n).queue ≡ true → is_from c (service_of cs' m).sender ≡ true
+  pub quiet : (n : ℕ) → IsQuiet (service_of cs n) → IsQuiet (service_of cs' n)
+  pub seats : (n : ℕ) → seats_taken (service_of cs' n) ≤ seats_taken (service_of cs n)
+
+pub fit_eased : (p : Image) (clients clients' : List Client) (cs cs' : List Cell) → ClientsFit p clients cs → Eased clients' cs cs' → ClientsFit p clients' cs'
+fit_eased p clients clients' cs cs' fit e = record {
+  queues = e.queues;
+  sessions = e.sessions;
+  listed = e.listed;
+  servers = λ o h plain. quiet o (e.carried.lived o h) (λ was. fit.servers o was plain);
+  enlisted = λ o h none. quiet o (e.carried.lived o h) (λ was. fit.enlisted o was (e.carried.enlisted o h none));
+  names = e.carried.names fit.names;
+  senders = e.senders;
+  sources = e.carried.sources fit.sources;
+  served = e.carried.served fit.served;
+  seats = λ o h. seats o (e.carried.lived o h);
+}
+  where
+    quiet : (o : Object) → Lived cs o → (named cs o.name ≡ Some o → IsQuiet (service_of cs o.name)) → IsQuiet (service_of cs' o.name)
+    quiet o (inl was) none = e.quiet o.name (none was)
+    quiet o (inr new) none = e.quiet o.name (subst IsQuiet (sym (service_unnamed cs o.name new)) (refl, refl))
+
+    seats : (o : Object) → Lived cs o → seats_taken (service_of cs' o.name) ≤ most_of (thing_kind p o.thing)
+    seats o (inl was) = let fewer = e.seats o.name in let all = fit.seats o was in omega (arith, fewer, all)
+    seats o (inr new) = let fewer = e.seats o.name in let none : seats_taken (service_of cs o.name) ≡ 0 = ap seats_taken (service_unnamed cs o.name new) in omega (arith, fewer, none)
+
+-- ---- servers have what they had
+
+pub record Steady (cs cs' : List Cell) : Type 0 where
+  pub carried : Carried cs cs'
+  pub queues : (n : ℕ) → (service_of cs' n).queue ≡ (service_of cs n).queue
+  pub sessions : (n : ℕ) → (service_of cs' n).sessions ≡ (service_of cs n).sessions
+  -- and a message that waits its sender
+  pub senders : (n c m : ℕ) → list_any (is_message_of c m) (service_of cs n).queue ≡ true → is_from c (service_of cs m).sender ≡ true → is_from c (service_of cs' m).sender ≡ true
+
+pub fit_steady : (p : Image) (clients : List Client) (cs cs' : List Cell) → Steady cs cs' → ClientsFit p clients cs → ClientsFit p clients cs'
+fit_steady p clients cs cs' still fit = fit_eased p clients clients cs cs' fit record {
+  carried = still.carried;
+  queues = λ n. subst (QueueFits clients n) (sym (still.queues n)) (fit.queues n);
+  sessions = λ n c h. fit.sessions n c (ap (is_among c) (sym (still.sessions n)) ∙ h);
+  listed = λ n c h. ap (is_among c) (still.sessions n) ∙ fit.listed n c h;
+  senders = λ n c m h. let was = ap (list_any (is_message_of c m)) (sym (still.queues n)) ∙ h in still.senders n c m was (fit.senders n c m was);
+  quiet = λ n none. (still.queues n ∙ none.0, still.sessions n ∙ none.1);
+  seats = λ n. let same = seats_same (service_of cs' n) (service_of cs n) (still.queues n) (still.sessions n) in omega (arith, same);
+}
+
+pub steady_itself : (cs : List Cell) → Steady cs cs
+steady_itself cs = record { carried = carried_itself cs; queues = λ n. refl; sessions = λ n. refl; senders = λ n c m h from. from }
+
+-- one change after another, where no cell is made
+pub steady_moved_then : (cs cs' cs'' : List Cell) → Steady cs cs' → Steady cs' cs'' → ((n : ℕ) → named cs' n ≡ named cs n) → Steady cs cs''
+steady_moved_then cs cs' cs'' a b names = record {
+  carried = record {
+    lived = λ o h. lived o (b.carried.lived o h);
+    enlisted = λ o h e. enlisted o (b.carried.lived o h) (b.carried.enlisted o h e);
+    names = λ h. b.carried.names (a.carried.names h);
+    sources = λ h. b.carried.sources (a.carried.sources h);
+    served = λ h. b.carried.served (a.carried.served h);
+  };
+  queues = λ n. b.queues n ∙ a.queues n;
+  sessions = λ n. b.sessions n ∙ a.sessions n;
+  senders = λ n c m h from. b.senders n c m (ap (list_any (is_message_of c m)) (a.queues n) ∙ h) (a.senders n c m h from);
+}
+  where
+    lived : (o : Object) → Lived cs' o → Lived cs o
+    lived o x = grind arith
+
+    enlisted : (o : Object) → Lived cs' o → requested cs' o.name ≡ None → requested cs o.name ≡ None
+    enlisted o (inl was) e = a.carried.enlisted o was e
+    enlisted o (inr new) e = requested_unnamed cs o.name (sym (names o.name) ∙ new)
+
+-- ---- clients have the same at each cell
+
+pub record Same (cs cs' : List Cell) : Type 0 where
+  pub service_so : (n : ℕ) → service_of cs' n ≡ service_of cs n
+  pub named_so : (n : ℕ) → named cs' n ≡ named cs n
+  pub held_so : (q : Place) → held cs' q ≡ held cs q
+  -- what is enlisted stays so
+  pub listed_so : (n : ℕ) → requested cs' n ≡ None → requested cs n ≡ None
+
+-- or where cells move, to no queue, and what comes to be served has a sender
+pub steady_as :
+    (cs cs' : List Cell) → ((n : ℕ) → service_of cs' n ≡ service_of cs n) → ((n : ℕ) → named cs' n ≡ named cs n) → ((n : ℕ) → requested cs' n ≡ None → requested cs n ≡ None) →
+    ((n m : ℕ) (o : Object) → held cs' (Elsewhere (Queued n m)) ≡ Some o → held cs (Elsewhere (Queued n m)) ≡ Some o) → (ServesSent cs → ServesSent cs') → Steady cs cs'
+steady_as cs cs' services names listed queued served = record {
+  carried = record {
+    lived = λ o h. inl (sym (names o.name) ∙ h);
+    enlisted = λ o h. listed o.name;
+    names = λ was n m o h. was n m o (queued n m o h);
+    sources = sources_as cs cs' (λ n. ap sources_of (services n)) (λ o h. sym (names o.name) ∙ h);
+    served = served;
+  };
+  queues = λ n. ap (λ v. v.queue) (services n);
+  sessions = λ n. ap (λ v. v.sessions) (services n);
+  senders = λ n c m h from. ap (λ v. is_from c v.sender) (services m) ∙ from;
+}
+
+pub steady_same : (cs cs' : List Cell) → Same cs cs' → Steady cs cs'
+steady_same cs cs' like =
+    steady_as cs cs' like.service_so like.named_so like.listed_so (λ n m o h. sym (like.held_so (Elsewhere (Queued n m))) ∙ h)
+    (served_as cs cs' (λ n. ap (λ v. is_some v.sender) (like.service_so n)) (λ o h. sym (like.held_so (Elsewhere In_service)) ∙ h))
+
+pub fit_same : (p : Image) (clients : List Client) (cs cs' : List Cell) → Same cs cs' → ClientsFit p clients cs → ClientsFit p clients cs'
+fit_same p clients cs cs' like = fit_steady p clients cs cs' (steady_same cs cs' like)
+
+-- ---- a cell more, of a name that is free, of which nobody asks anything
+
+pub steady_more :
+    (x : Cell) (cs : List Cell) → named cs x.object.name ≡ None → x.service.queue ≡ [] → x.service.sessions ≡ [] → ((n m : ℕ) → x.owner ≡ Elsewhere (Queued n m) → x.object.name ≡ m) →
+    sources_of x.service ≡ cond (is_object x.object.thing) 0 1 → same_place x.owner (Elsewhere In_service) ≡ false → Steady cs (x ∷ cs)
+steady_more x cs free queue sessions named_so source aside = record {
+  carried = record {
+    lived = λ o. lived o (x.object.name == o.name) refl;
+    enlisted = λ o h. enlisted o.name (x.object.name == o.name) refl;
+    names = λ was n m o. names was n m o (same_place x.owner (Elsewhere (Queued n m))) refl;
+    sources = λ had o. sources had o (x.object.name == o.name);
+    served = λ sent o h. served sent o (x.object.name == o.name) refl (sym (ap (λ b. cond b (Some x.object) (held cs (Elsewhere In_service))) aside) ∙ h);
+  };
+  queues = λ n. part (λ v. v.queue) queue n (x.object.name == n) refl;
+  sessions = λ n. part (λ v. v.sessions) sessions n (x.object.name == n) refl;
+  senders = λ n c m h. sender c m (x.object.name == m) refl;
+}
+  where
+    none : (n : ℕ) → (x.object.name == n) ≡ true → service_of cs n ≡ unserved
+    none n e = ap (service_of cs) (sym (eqb-true x.object.name n e)) ∙ service_unnamed cs x.object.name free
+
+    part : {A : Type 0} (f : Service → A) → f x.service ≡ f unserved → (n : ℕ) (b : Bool) → (x.object.name == n) ≡ b → f (cond b x.service (service_of cs n)) ≡ f (service_of cs n)
+    part f same n true e = same ∙ sym (ap f (none n e))
+    part f same n false e = refl
+
+    sender : (c m : ℕ) (b : Bool) → (x.object.name == m) ≡ b → is_from c (service_of cs m).sender ≡ true → is_from c (cond b x.service (service_of cs m)).sender ≡ true
+    sender c m true e from = let clash : false ≡ true = sym (ap (λ v. is_from c v.sender) (none m e)) ∙ from in cc
+    sender c m false e from = from
+
+    served : ServesSent cs → (o : Object) (b : Bool) → (x.object.name == o.name) ≡ b → held cs (Elsewhere In_service) ≡ Some o → is_some (cond b x.service (service_of cs o.name)).sender ≡ true
+    served sent o true e h = let clash : false ≡ true = sym (ap (λ v. is_some v.sender) (none o.name e)) ∙ sent o h in cc
+    served sent o false e h = sent o h
+
+    enlisted : (n : ℕ) (b : Bool) → (x.object.name == n) ≡ b → cond b x.request (requested cs n) ≡ None → requested cs n ≡ None
+    enlisted n true same e = requested_unnamed cs n (ap (named cs) (sym (eqb-true x.object.name n same)) ∙ free)
+    enlisted n false other e = e
+
+    lived : (o : Object) (b : Bool) → (x.object.name == o.name) ≡ b → cond b (Some x.object) (named cs o.name) ≡ Some o → Lived cs o
+    lived o true e h = inr (ap (named cs) (sym (eqb-true x.object.name o.name e)) ∙ free)
+    lived o false e h = inl h
+
+    names : AreNamed cs → (n m : ℕ) (o : Object) (b : Bool) → same_place x.owner (Elsewhere (Queued n m)) ≡ b → cond b (Some x.object) (held cs (Elsewhere (Queued n m))) ≡ Some o → o.name ≡ m
+    names was n m o true e h = let same : x.object ≡ o = cc in ap (λ (y : Object). y.name) (sym same) ∙ named_so n m (same_place-true x.owner (Elsewhere (Queued n m)) e)
+    names was n m o false e h = was n m o h
+
+    sources : HasSources cs → (o : Object) (b : Bool) → cond b (Some x.object) (named cs o.name) ≡ Some o → sources_of (cond b x.service (service_of cs o.name)) ≡ cond (is_object o.thing) 0 1
+    sources had o true h = let same : x.object ≡ o = cc in source ∙ ap (λ (y : Object). cond (is_object y.thing) 0 1) same
+    sources had o false h = had o h
