@@ -161,7 +161,7 @@ module _ (p : Image) (m : Parts) (s : State) (st : StandsFor (record { image = p
         found = acts.found ∙ ap (λ n. nat_lt n m.messages.limit) st.agrees.services.messages.count ∙ ap (λ n. nat_lt (count_messages s.cells) n) st.agrees.services.messages.limit
 
         alike : kept.send_refusal c acts.place m.clients ≡ refusal p c s (Send words)
-        alike = send_refused p c s m.clients same words acts.place found
+        alike = send_refused p c s m.clients same (typed_now p m s st idle c).good.tidy words acts.place found
 
         by_place : (place : Option ℕ) → IfSome place (λ n. (n < 1024) × (message_at m.messages n ≡ None)) → (n : ℕ) → place ≡ Some n → (n < 1024) × (named s.cells (message_name n) ≡ None)
         by_place None free n e = absurd (none-some n e)

@@ -70,7 +70,7 @@ module _ (p : Image) (few : p.header.cells ≤ 4096) (m : Parts) (s : State) (ti
         let room = subst (λ i. x.number < i) (sym agrees.services.sized.sessions) below in
         let now : SameClients k (reserved (opened c) x.number s.cells) (with_client c (at_opening 0 (client_at s.clients c)) s.clients) =
         subst (λ y. SameClients (kept.opened y (Some n) c m.clients) (reserved (opened c) x.number s.cells) (with_client c (at_opening 0 (client_at s.clients c)) s.clients)) (sym at.1)
-        (same_opened m.clients s.cells s.clients same tidy (subject_of x) lives c (connecting_below s.cells s.clients m.clients same c x.number kept_so.0) at.0 n at.1 none room) in
+        (same_opened m.clients s.cells s.clients same (subject_of x) lives c (connecting_below s.cells s.clients m.clients same c x.number kept_so.0) at.0 n at.1 none room) in
         subst (λ l. SameClients k l (with_client c (at_opening 0 (client_at s.clients c)) s.clients)) (sym (reserved_moved (opened c) s.cells from to x.number))
         (same_still k (reserved (opened c) x.number s.cells) _ _ (still_moved (reserved (opened c) x.number s.cells) from to refl) now)
 

@@ -1,6 +1,7 @@
 -- What the machine keeps of clients and servers as it begins: nobody asked for anything, and there is no message.
 use Rattle.std.proofs.Common.{List, None, Option, [], ap, arith, length, refl, subst, sym, ℕ, ◌∙◌, ◌≡◌}
 use Rattle.std.proofs.lemmas.List.{length-replicate}
+use Rattle.std.proofs.lemmas.Bool.{false≢true}
 use Rattle.std.proofs.lemmas.Option.{none-some}
 use Rattle.std.specs.Prelude.{AllPairs, map, ◌<◌}
 use Rattle.aom_clients.specs.Clients as kept
@@ -66,10 +67,10 @@ clients_begin cells =
       sessions = λ n. first_sessions cells n;
       senders = λ m. ap (sent_by (holds s m)) (first_place cells m);
       waits = λ m. ap is_queued (first_place cells m);
-      slots_of = λ c m. ap (is_among m) (first_sent cells c);
+      out = λ c m h. absurd (false≢true (sym (ap (is_among m) (first_sent cells c)) ∙ h));
       slotted = λ m c e. absurd (let clash = sym (first_place cells m) ∙ e in cc);
       once = λ c. subst Once (sym (first_sent cells c)) tt;
-      slots = λ c. ap length (first_sent cells c);
+      silent = λ n c small. refl;
       many = first_many cells;
       lists = first_lists cells;
     }

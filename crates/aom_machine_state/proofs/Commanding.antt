@@ -31,6 +31,7 @@ use Rattle.aom_semantics.specs.Servers.{asked_last, is_connect, is_from, is_queu
 use Rattle.aom_semantics.specs.State.{State}
 use Rattle.aom_safety.specs.WellTyped.{WellTyped}
 use Rattle.aom_transcript.specs.declared.event.Command.TheVariants.{Close, Connect, Die, Send}
+use Rattle.aom_machine_state.proofs.Completing.{slots_so}
 use Rattle.aom_machine_state.proofs.Premises.{free_nowhere, messages_wait, queue_empty}
 use Rattle.aom_machine_state.proofs.Serving.{same_connecting, same_sent}
 use Rattle.aom_machine_state.proofs.Withdrawing.{queue_owner, same_left}
@@ -69,8 +70,8 @@ module _ (p : Image) (c : ℕ) (s : State) (k : kept.State) (same : SameClients 
   connect_refused class slots = grind (arith, nat_tests, row_connect, seats_counted k s.cells s.clients same)
 
   -- and so is a send, where a place is found while fewer messages are kept than may be
-  pub send_refused : (words : List ℤ) (place : Option ℕ) → is_some place ≡ nat_lt (count_messages s.cells) p.header.messages → kept.send_refusal c place k ≡ refusal p c s (Send words)
-  send_refused words place found = grind (arith, nat_tests)
+  pub send_refused : Tidy s.cells → (words : List ℤ) (place : Option ℕ) → is_some place ≡ nat_lt (count_messages s.cells) p.header.messages → kept.send_refusal c place k ≡ refusal p c s (Send words)
+  send_refused tidy words place found = grind (arith, nat_tests, slots_so k s.cells s.clients same tidy c)
 
 -- ---- commands
 
@@ -100,7 +101,7 @@ module _
       go None (Some x) e =
           let l = asked_there p class s.cells x w.good.tidy e in
           subst (λ n. SameClients (kept.queued n (entry.Connect c) (kept.with_client c (Connecting n slots) k)) (reserved (asked_last (Connect_of c)) n s.cells) (with_client c (Connecting n slots) s.clients)) l.1
-          (same_connecting k s.cells s.clients same w.good.tidy l.0 l.2 c client slots (subst (λ n. l.0.name < n) (sym sized.queues) (below l.0 l.2 (serves_class class l.0.thing l.3 (asked_serves class x e)))))
+          (same_connecting k s.cells s.clients same l.0 l.2 c client slots (subst (λ n. l.0.name < n) (sym sized.queues) (below l.0 l.2 (serves_class class l.0.thing l.3 (asked_serves class x e)))))
 
   -- ---- a send
 
@@ -111,7 +112,7 @@ module _
   pub same_send : (words : List ℤ) (place : Option ℕ) → is_some place ≡ nat_lt (count_messages s.cells) p.header.messages → ((m : ℕ) → place ≡ Some m → (m < 1024) × (named s.cells (message_name m) ≡ None)) →
       (name : ℕ) → ((m : ℕ) → place ≡ Some m → name ≡ message_name m) → After (kept.after_send c place k) (commanded p c s (Send words) name)
   same_send words place found free name called =
-      subst (λ r. After (kept.sending r (kept.client_at k c) c place k) (sending p c s (refusal p c s (Send words)) (client_at s.clients c) name words)) (sym (send_refused p c s k same words place found))
+      subst (λ r. After (kept.sending r (kept.client_at k c) c place k) (sending p c s (refusal p c s (Send words)) (client_at s.clients c) name words)) (sym (send_refused p c s k same w.good.tidy words place found))
       (subst (λ y. After (kept.sending (refusal p c s (Send words)) (kept.client_at k c) c place k) (sending p c s (refusal p c s (Send words)) y name words)) (same.at c) (go (refusal p c s (Send words)) refl (kept.client_at k c) refl place refl))
     where
       -- with no place it is refused
@@ -132,7 +133,7 @@ module _
           let f = free m here in
           subst (λ i. After (kept.sending None (Open n session slots) c (Some m) k) (sending p c s None (Open n 0 slots) i words)) (sym (called m here))
           (subst (λ i. After (kept.sending None (Open i session slots) c (Some m) k) (sending p c s None (Open i 0 slots) (message_name m) words)) o.1
-          (same_sent k s.cells s.clients same w.good.tidy o.0 o.2 c client m words (subst (λ i. o.0.name < i) (sym sized.queues) (below o.0 o.2 o.3)) (subst (λ i. m < i) (sym sized.places) f.0) f.1 (free_nowhere p t wired s w s.clients fit (message_name m) f.1)))
+          (same_sent k s.cells s.clients same o.0 o.2 c client m words (subst (λ i. o.0.name < i) (sym sized.queues) (below o.0 o.2 o.3)) (subst (λ i. m < i) (sym sized.places) f.0) f.1 (free_nowhere p t wired s w s.clients fit (message_name m) f.1)))
       go None e (Open n session slots) at None here = absurd (refused e here)
       go None e Unconnected at y here = same
       go None e (Connecting n slots) at y here = same

@@ -12,7 +12,7 @@ use Rattle.aom_clients.specs.declared.client.Client.TheVariants.{Unconnected}
 use Rattle.aom_clients.specs.declared.entry.Entry.{Entry}
 use Rattle.aom_clients.specs.declared.entry.Entry.TheVariants.{Close, Connect, Message}
 use Rattle.aom_clients.specs.declared.place.Place.TheVariants.{Free}
-use Rattle.aom_machine_state.proofs.Serving.{map_at}
+use Rattle.std.proofs.Math.ListN.{get_or-map}
 
 -- ---- lists with one place written
 
@@ -81,7 +81,7 @@ module _ (k : ℕ) where
 
   -- and hold no slot
   sent_completed : (m : ℕ) (s : kept.State) (c : ℕ) → kept.sent_at (kept.after_complete m s) c ≡ filter (λ n. not (n == m)) (kept.sent_at s c)
-  sent_completed m s c = map_at (λ ms. filter (λ n. not (n == m)) ms) s.sent c refl
+  sent_completed m s c = get_or-map (filter (λ n. not (n == m))) s.sent c []
 
   pub sent_after_queue : (es : List Entry) (s : kept.State) (c : ℕ) → kept.sent_at (kept.queue_gone k es s) c ≡ all_without es (kept.sent_at s c)
   sent_after_queue [] s c = refl

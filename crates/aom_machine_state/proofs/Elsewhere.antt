@@ -37,7 +37,8 @@ use Rattle.aom_machine_state.specs.Agrees.{Represents, number, word_at}
 use Rattle.aom_machine_state.specs.Places.{Others, is_numbered, other_in, session_number, session_with, value_in}
 use Rattle.aom_machine_state.specs.Serving.{SameClients, asked_by, message_name}
 use Rattle.aom_machine_state.proofs.CellFields.{elsewhere_written}
-use Rattle.aom_machine_state.proofs.Serving.{at_set, map_at}
+use Rattle.aom_machine_state.proofs.Serving.{at_set}
+use Rattle.std.proofs.Math.ListN.{get_or-map}
 
 -- ---- what waits in a queue is told by what stands for the queues
 
@@ -123,7 +124,7 @@ module _ (others : Others) (us : List Machine_task) (h : Heap) (es : List Item) 
       here n = ap (λ x. cond (k == n) x null) told ∙ ap (λ x. cond (k == n) session (session_with n x)) (sym was)
 
       queues : ShowSame s then
-      queues n m = ap (list_any (is_numbered m)) (map_at (filter (kept.is_no_connect_of c)) s.queues n refl) ∙ shows_filtered (kept.is_no_connect_of c) m (no_connect_shows c m) (queue_at s n)
+      queues n m = ap (list_any (is_numbered m)) (get_or-map (filter (kept.is_no_connect_of c)) s.queues n []) ∙ shows_filtered (kept.is_no_connect_of c) m (no_connect_shows c m) (queue_at s n)
 
   -- the cell of a session is at hand to go
   pub session_released : server_of (client_at s c) ≡ Some k → (r : Place) → after (kept.after_release c s) r ≡ changed before (Elsewhere (Session k c)) null r
@@ -162,14 +163,14 @@ module _ (others : Others) (us : List Machine_task) (h : Heap) (es : List Item) 
       then = kept.opened (Connecting k slots) None c s
 
       queues : ShowSame s then
-      queues n m = ap (list_any (is_numbered m)) (map_at (filter (kept.is_no_connect_of c)) s.queues n refl) ∙ shows_filtered (kept.is_no_connect_of c) m (no_connect_shows c m) (queue_at s n)
+      queues n m = ap (list_any (is_numbered m)) (get_or-map (filter (kept.is_no_connect_of c)) s.queues n []) ∙ shows_filtered (kept.is_no_connect_of c) m (no_connect_shows c m) (queue_at s n)
 
   -- a close is served, once the cell of the session is at hand to go
   pub session_closed : is_leaving k (client_at s c) ≡ true → session_with k (client_at s c) ≡ null → (r : Place) → after (kept.after_closed c s) r ≡ before r
   session_closed leaves none r = go (client_at s c) refl leaves none
     where
       queues : (to : Client) → ShowSame s (kept.parted c to s)
-      queues to n m = ap (list_any (is_numbered m)) (map_at (filter (kept.is_no_close_of c)) s.queues n refl) ∙ shows_filtered (kept.is_no_close_of c) m (no_close_shows c m) (queue_at s n)
+      queues to n m = ap (list_any (is_numbered m)) (get_or-map (filter (kept.is_no_close_of c)) s.queues n []) ∙ shows_filtered (kept.is_no_close_of c) m (no_close_shows c m) (queue_at s n)
 
       both_null : (b : Bool) → cond b null null ≡ null
       both_null true = refl

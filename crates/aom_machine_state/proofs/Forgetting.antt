@@ -8,6 +8,7 @@ use Rattle.aom_roles.specs.Things.{is_object}
 use Rattle.aom_messages.specs.Store.{Store, count, message_at, word_at, word_of}
 use Rattle.aom_roles.specs.Tables.{at}
 use Rattle.aom_semantics.proofs.Maps.{same_place-true, same_place_refl, tidy_without, without_none}
+use Rattle.aom_safety.proofs.ClientsReturn.{without_so}
 use Rattle.aom_safety.proofs.Sifted.{cell_in, cell_name, cell_of, cell_of_sifted, cell_placed, kept as left_cell, named_cell, object_in, sifted}
 use Rattle.aom_semantics.specs.Clients.{count_messages}
 use Rattle.aom_semantics.specs.Places.{Cell, Place as Owner, Service, Tidy, held, named, same_place, without, word_field}
@@ -27,12 +28,8 @@ words_cell [] n w = refl
 words_cell (c ∷ cs) n w = grind (arith, nat_tests, words_cell cs n w, cell_of cs n)
 
 -- the cell at a place goes
-pub without_sifted : (q : Owner) (cs : List Cell) → without q cs ≡ sifted (λ c. same_place c.owner q) (λ c. c.service) cs
-without_sifted q [] = refl
-without_sifted q (c ∷ cs) = ap (λ l. cond (same_place c.owner q) l (c ∷ l)) (without_sifted q cs)
-
 cell_without : (cs : List Cell) (q : Owner) (n : ℕ) → Tidy cs → cell_of (without q cs) n ≡ left_cell (λ c. same_place c.owner q) (λ c. c.service) (cell_of cs n)
-cell_without cs q n tidy = grind (arith, nat_tests, cell_of, without_sifted q cs, cell_of_sifted)
+cell_without cs q n tidy = grind (arith, nat_tests, cell_of, without_so q cs, cell_of_sifted)
 
 -- what is there then was there, and was at another place
 before_without : (cs : List Cell) (q : Owner) (n : ℕ) (y : Cell) → Tidy cs → cell_of (without q cs) n ≡ Some y → (cell_of cs n ≡ Some y) × (same_place y.owner q ≡ false)

@@ -133,16 +133,6 @@ module _ (p : Image) (t : Typing) (wired : IsWired p) (s : State) (w : WellTyped
       let same : service_of s.cells x.object.name ≡ x.service = service_cell s.cells x.object.name ∙ ap service_in lives in
       (ap (λ (v : Service). v.queue) (sym same) ∙ none.0, ap (λ (v : Service). v.sessions) (sym same) ∙ none.1)
 
-  -- a message that waits holds no slot but of a client that has a session there
-  pub owed_there : (n m d : ℕ) → has_message (service_of s.cells n) m ≡ true → holds_slot d (service_of s.cells m).sender ≡ true → is_among d (service_of s.cells n).sessions ≡ true
-  owed_there n m d h slot =
-      let c = asking m (service_of s.cells n).queue h in
-      let client = of_client (service_of s.cells m).sender c.0 (fit.senders n c.0 m c.1) slot in
-      ap (λ i. is_among i (service_of s.cells n).sessions) (sym client) ∙ fit.listed n c.0 (open_server n (client_at clients c.0) (opens clients n c.0 m (service_of s.cells n).queue (fit.queues n) c.1))
-    where
-      of_client : (x : Option Sender) (c : ℕ) → is_from c x ≡ true → holds_slot d x ≡ true → c ≡ d
-      of_client x c f g = grind arith
-
   -- of a number that is free nothing is asked for
   pub free_nowhere : (m : ℕ) → named s.cells m ≡ None → (n : ℕ) → has_message (service_of s.cells n) m ≡ false
   free_nowhere m free n = none_named m (service_of s.cells n).queue (λ d. nobody p 0 (record s { clients = clients }) w.good.tidy fit n m free d)

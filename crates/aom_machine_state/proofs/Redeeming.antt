@@ -21,7 +21,8 @@ use Rattle.aom_native_sessions.specs.Sessions.{Standing}
 use Rattle.aom_roles.specs.Tables.{at}
 use Rattle.aom_safety.proofs.Apart.{living_waits, redeems_none, redeems_one, void_waits_none}
 use Rattle.aom_semantics.proofs.Maps.{held_lives, unnamed}
-use Rattle.aom_safety.proofs.Redeeming.{redeemed_alike, requested_redeemed}
+use Rattle.aom_safety.proofs.Redeeming.{redeemed_alike, redeeming, requested_redeemed}
+use Rattle.aom_semantics.proofs.Altering.{count_kept, read_kept, sessions}
 use Rattle.aom_safety.proofs.Services.{service_unnamed, service_without}
 use Rattle.aom_safety.proofs.Things.{message_plain}
 use Rattle.aom_semantics.specs.Clients.{count_messages}
@@ -38,13 +39,14 @@ use Rattle.aom_tokens.specs.declared.tokens.Token.{Token as Machine_token}
 use Rattle.aom_machine_state.proofs.Asking.{requests_as}
 use Rattle.aom_machine_state.proofs.Beside.{listed_beside}
 use Rattle.aom_machine_state.proofs.Cells.{cells_as}
-use Rattle.aom_machine_state.proofs.Completing.{owner_unnamed, owner_without, slots_without}
+use Rattle.aom_machine_state.proofs.Completing.{owner_unnamed, owner_without}
 use Rattle.aom_machine_state.proofs.Listing.{listed_alike}
 use Rattle.aom_machine_state.proofs.Messages.{message_gone, messages_as}
 use Rattle.aom_machine_state.proofs.Premises.{owner_held}
 use Rattle.aom_machine_state.proofs.Replying.{beside_completed, cells_completed, message_unasked, natives_completed, requests_completed, told_no_sender}
 use Rattle.aom_machine_state.proofs.Serving.{names_apart}
 use Rattle.aom_machine_state.proofs.Sessions.{natives_as}
+use Rattle.aom_machine_state.proofs.Unslotted.{words_at}
 use Rattle.aom_machine_state.proofs.Still.{Still, same_still, same_untold, still_each, untold}
 use Rattle.aom_machine_state.proofs.Tokens.{tokens_redeemed}
 use Rattle.aom_machine_state.specs.Agrees.{SameCells, SameNatives, SameRequests, thing_of}
@@ -66,23 +68,14 @@ module _ (k : ℕ) (code : ℤ) where
   redeemed_without g (c ∷ cs) = grind (arith, nat_tests, redeemed_without g cs)
 
   words_redeemed : (cs : List Cell) (n w : ℕ) → word_field (after cs) n w ≡ word_field cs n w
-  words_redeemed [] n w = refl
-  words_redeemed (c ∷ cs) n w = ap (λ x. cond (c.object.name == n) (at (pos 0) c.words w) x) (words_redeemed cs n w)
-
-  count_redeemed : (cs : List Cell) → count_cells (after cs) ≡ count_cells cs
-  count_redeemed [] = refl
-  count_redeemed (c ∷ cs) = ap (λ n. cond (is_object c.object.thing) (suc n) n) (count_redeemed cs)
+  words_redeemed cs n w = read_kept (redeeming k code) (words_at w) (λ c. refl) cs n
 
   many_redeemed : (cs : List Cell) → count_messages (after cs) ≡ count_messages cs
   many_redeemed [] = refl
   many_redeemed (c ∷ cs) = ap (λ n. cond (is_object c.object.thing) n (suc n)) (many_redeemed cs)
 
-  session_redeemed : (cs : List Cell) (n : ℕ) → in_session (after cs) n ≡ in_session cs n
-  session_redeemed [] n = refl
-  session_redeemed (c ∷ cs) n = ap (λ x. cond (c.object.name == n) c.session x) (session_redeemed cs n)
-
   still_redeemed : (cs : List Cell) → Still cs (after cs)
-  still_redeemed cs = still_each after (redeemed k code) refl (λ c cs. refl) (λ c. refl) (λ c. refl) (λ c. refl) cs
+  still_redeemed cs = still_each (redeeming k code) (λ c. refl) (λ c. refl) cs
 
   names_so : (cs : List Cell) (n : ℕ) → named (after cs) n ≡ named cs n
   names_so cs n = (redeemed_alike k code cs).named_so n
@@ -92,10 +85,10 @@ module _ (k : ℕ) (code : ℤ) where
 
   module _ (p : Image) (cs : List Cell) where
     pub cells_redeemed : (h : Heap) → SameCells p h cs → SameCells p h (after cs)
-    cells_redeemed h same = cells_as p h cs (after cs) (λ n. ap thing_of (names_so cs n)) (λ n w small. words_redeemed cs n w) (count_redeemed cs) same
+    cells_redeemed h same = cells_as p h cs (after cs) (λ n. ap thing_of (names_so cs n)) (λ n w small. words_redeemed cs n w) (count_kept (redeeming k code) cs) same
 
     pub natives_redeemed : (a : Standing) (killed : List ℕ) → SameNatives p a cs killed → SameNatives p a (after cs) killed
-    natives_redeemed a killed same = natives_as p a killed cs (after cs) (session_redeemed cs) same
+    natives_redeemed a killed same = natives_as p a killed cs (after cs) (read_kept (redeeming k code) sessions (λ c. refl) cs) same
 
     messages_redeemed : (store : Store) → SameMessages p store cs → SameMessages p store (after cs)
     messages_redeemed store same = messages_as p store cs (after cs) (λ n. ap is_a_message (names_so cs n)) (λ m w. words_redeemed cs (message_name m) w) (many_redeemed cs) same
@@ -232,7 +225,7 @@ module _
   nothing_else = grind (arith, nat_tests, held_lives s.cells g o w.good.tidy there, message_plain p o.thing message, untold, unsent)
 
   clients_first : (k : Kept_state) (clients : List Client) → SameClients k s.cells clients → SameClients k first clients
-  clients_first k clients h = same_untold k s.cells first clients (λ n. services n (o.name == n) refl) (λ m. owners m (place == m) refl) slots h
+  clients_first k clients h = same_untold k s.cells first clients (λ n. services n (o.name == n) refl) (λ m. owners m (place == m) refl) h
     where
       gone : named first o.name ≡ None
       gone = unnamed s.cells g o w.good.tidy there
@@ -248,11 +241,6 @@ module _
           let one : message_name m ≡ o.name = ap message_name (sym (eqb-true place m e)) ∙ sym name in
           ap (λ i. waits_in (owner_of first i)) one ∙ ap waits_in (owner_unnamed first o.name gone) ∙ sym apart ∙ sym (ap waits_in (owner_held s.cells w.good.tidy g o there)) ∙ ap (λ i. waits_in (owner_of s.cells i)) (sym one)
       owners m false e = ap waits_in (owner_without g o s.cells (message_name m) w.good.tidy there (ap (λ i. i == message_name m) name ∙ names_apart place m e))
-
-      slots : (c : ℕ) → slots_taken c first ≡ slots_taken c s.cells
-      slots c =
-          let all = slots_without g o s.cells c w.good.tidy there ∙ ap (λ x. slots_taken c first + cond (holds_slot c x) 1 0) unsent in
-          omega (arith, all)
 
   tokens_answered : (now : Kept) → Sets tokens.places now.places place None → LetsGo (kept.redeemed tokens place) tokens now → SameTokens p now redeemed_left
   tokens_answered now freed lets = go (kept.redeemed tokens place) refl lets

@@ -29,7 +29,7 @@ use Rattle.aom_semantics.specs.Servers.{is_queue}
 use Rattle.aom_semantics.specs.State.{State}
 use Rattle.aom_safety.specs.WellTyped.{WellTyped}
 use Rattle.aom_machine_state.proofs.Beside.{Beside, beside_sifted, cells_beside, listed_beside, natives_beside, requests_beside}
-use Rattle.aom_machine_state.proofs.Forgetting.{without_sifted}
+use Rattle.aom_safety.proofs.ClientsReturn.{without_so}
 use Rattle.aom_machine_state.proofs.Messages.{message_gone}
 use Rattle.aom_machine_state.proofs.Premises.{completes_at, owner_held}
 use Rattle.aom_machine_state.proofs.Servicing.{same_replied}
@@ -85,7 +85,7 @@ module _ (p : Image) (t : Typing) (s : State) (w : WellTyped p t s) (g : Place) 
 
   module _ (place : ℕ) (name : o.name ≡ message_name place) where
     pub beside_completed : Beside s.cells left
-    beside_completed = subst (Beside s.cells) (sym (without_sifted g s.cells)) (beside_sifted (λ c. same_place c.owner g) (λ c. c.service) s.cells w.good.tidy goes)
+    beside_completed = subst (Beside s.cells) (sym (without_so g s.cells)) (beside_sifted (λ c. same_place c.owner g) (λ c. c.service) s.cells w.good.tidy goes)
       where
         goes : (n : ℕ) (x : Cell) → cell_of s.cells n ≡ Some x → same_place x.owner g ≡ true → (4096 ≤ n) × (is_object x.object.thing ≡ false) × (x.request ≡ None)
         goes n x e here =

@@ -26,9 +26,9 @@ use Rattle.aom_semantics.specs.Places.{Cell, Elsewhere, In_service, Object, Plac
 use Rattle.aom_semantics.specs.Servers.{is_message, is_queue, is_server, opened, parted, reserved, taken_first, without_queue}
 use Rattle.aom_semantics.specs.State.{Accepts, Of_server, Parts, Seat, State}
 use Rattle.aom_safety.specs.WellTyped.{WellTyped}
-use Rattle.aom_machine_state.proofs.Completing.{no_slot, same_completed}
+use Rattle.aom_machine_state.proofs.Completing.{same_completed}
 use Rattle.aom_machine_state.proofs.Departing.{at_set_or, is_at}
-use Rattle.aom_machine_state.proofs.Premises.{asked_there, closes_nowhere, connecting_below, connects_nowhere, goes_there, leaving_below, messages_wait, owed_there, owned_nowhere, owner_waiting, queue_empty, session_alone, waiting_there, waits_apart}
+use Rattle.aom_machine_state.proofs.Premises.{asked_there, closes_nowhere, connecting_below, connects_nowhere, goes_there, leaving_below, messages_wait, owned_nowhere, owner_waiting, queue_empty, session_alone, waiting_there, waits_apart}
 use Rattle.aom_machine_state.proofs.Serving.{listed_as, same_opened, same_parted, same_served, same_taken, same_unopened}
 use Rattle.aom_machine_state.proofs.Still.{same_still, still_moved}
 use Rattle.aom_machine_state.proofs.Vanishing.{same_vanished}
@@ -79,7 +79,7 @@ module _ (p : Image) (t : Typing) (wired : IsWired p) (s : State) (w : WellTyped
         let none = connects_nowhere p s.clients s.cells fit x.object.name c kept_so.0 kept_so.1 in
         let now : SameClients (kept.after_connected c (Some session) k) (reserved (opened c) x.object.name s.cells) (with_client c (at_opening 0 (client_at s.clients c)) s.clients) =
         subst (λ y. SameClients (kept.opened y (Some session) c k) (reserved (opened c) x.object.name s.cells) (with_client c (at_opening 0 (client_at s.clients c)) s.clients)) (sym at.1)
-        (same_opened k s.cells s.clients same w.good.tidy x.object lives c (connecting_below s.cells s.clients k same c x.object.name kept_so.0) at.0 session at.1 none session_room) in
+        (same_opened k s.cells s.clients same x.object lives c (connecting_below s.cells s.clients k same c x.object.name kept_so.0) at.0 session at.1 none session_room) in
         subst (λ l. SameClients (kept.after_connected c (Some session) k) l (with_client c (at_opening 0 (client_at s.clients c)) s.clients)) (sym (reserved_moved (opened c) s.cells from (Elsewhere (Session x.object.name c)) x.object.name))
         (same_still (kept.after_connected c (Some session) k) (reserved (opened c) x.object.name s.cells) _ _ (still_moved (reserved (opened c) x.object.name s.cells) from (Elsewhere (Session x.object.name c)) apart) now)
 
@@ -90,7 +90,7 @@ module _ (p : Image) (t : Typing) (wired : IsWired p) (s : State) (w : WellTyped
       nat_tests,
       connecting_here k s.cells s.clients same x.object.name c kept_so.0,
       connects_nowhere p s.clients s.cells fit x.object.name c kept_so.0 kept_so.1,
-      same_unopened k s.cells s.clients same w.good.tidy x.object lives c (connecting_below s.cells s.clients k same c x.object.name kept_so.0),
+      same_unopened k s.cells s.clients same x.object lives c (connecting_below s.cells s.clients k same c x.object.name kept_so.0),
       connecting_below s.cells s.clients k same c x.object.name kept_so.0,
       session_room,
     )
@@ -99,7 +99,7 @@ module _ (p : Image) (t : Typing) (wired : IsWired p) (s : State) (w : WellTyped
   module _ (x : Seat) (c : ℕ) (lives : named s.cells x.object.name ≡ Some x.object) (kept_so : StageKept p s.clients s.cells x.object c Parts) where
     parting_as : (next : Client) → sessionless next ≡ next → SameClients (kept.parted c next k) (reserved (parted c) x.object.name s.cells) (with_client c next s.clients)
     parting_as next plain =
-        same_parted k s.cells s.clients same w.good.tidy x.object lives c (leaving_below s.cells s.clients k same c x.object.name kept_so.0) next plain
+        same_parted k s.cells s.clients same x.object lives c (leaving_below s.cells s.clients k same c x.object.name kept_so.0) next plain
         (closes_nowhere p s.clients s.cells fit x.object.name c kept_so.0 kept_so.1) (session_alone p s.clients s.cells fit x.object.name c kept_so.0)
 
     pub same_closed : SameClients (kept.after_closed c k) (reserved (parted c) x.object.name s.cells) (with_client c (at_parting (client_at s.clients c)) s.clients)
@@ -116,8 +116,8 @@ module _ (p : Image) (t : Typing) (wired : IsWired p) (s : State) (w : WellTyped
   pub same_gone : (g : Owner) (o : Object) → held s.cells g ≡ Some o → is_queue g ≡ false → o.name < 4096 → o.name < cells →
       SameClients (kept.server_gone o.name k) (each_unslotted (service_of s.cells o.name).sessions (without g (without_queue o.name s.cells))) (sessions_ended (service_of s.cells o.name).sessions (queue_ended (service_of s.cells o.name).queue s.clients))
   same_gone g o there apart small below =
-      same_vanished k s.cells s.clients same w.good.tidy o g there apart small (no_slot k s.cells s.clients same w.good.tidy o.name small) (subst (λ n. o.name < n) (sym sized.queues) below) (subst (λ n. o.name < n) (sym sized.sessions) below)
-      (queue_empty p t wired s w s.clients fit) (asked_there p t wired s w s.clients fit o.name) (waiting_there p t wired s w s.clients fit) (owed_there p t wired s w s.clients fit o.name) (goes_there p t wired s w s.clients fit k same o.name)
+      same_vanished k s.cells s.clients same w.good.tidy o g there apart small (subst (λ n. o.name < n) (sym sized.queues) below) (subst (λ n. o.name < n) (sym sized.sessions) below)
+      (queue_empty p t wired s w s.clients fit) (asked_there p t wired s w s.clients fit o.name) (waiting_there p t wired s w s.clients fit) (goes_there p t wired s w s.clients fit k same o.name)
 
   -- ---- the first of a queue is served
 
@@ -130,14 +130,14 @@ module _ (p : Image) (t : Typing) (wired : IsWired p) (s : State) (w : WellTyped
 
     -- a connect or a close
     pub same_next : (e : Entry) (es : List Entry) → kept.queue_at k o.name ≡ e ∷ es → ((m : ℕ) → e ≡ Message m → ⊥) → SameClients (kept.after_next o.name k) (reserved taken_first o.name s.cells) s.clients
-    same_next e es at other = grind (arith, nat_tests, first_so e es at, same_taken k s.cells s.clients same w.good.tidy o lives 0, queue_room)
+    same_next e es at other = grind (arith, nat_tests, first_so e es at, same_taken k s.cells s.clients same o lives 0, queue_room)
 
     -- a message, which goes into service
     pub same_attended : (m : ℕ) (es : List Entry) → kept.queue_at k o.name ≡ Message m ∷ es → m < 1024 →
         SameClients (kept.after_next o.name k) (moved (Elsewhere (Waits_at o.name (message_name m))) (Elsewhere In_service) (reserved taken_first o.name s.cells)) s.clients
     same_attended m es at small =
         subst (λ n. SameClients n (moved (Elsewhere (Waits_at o.name (message_name m))) (Elsewhere In_service) (reserved taken_first o.name s.cells)) s.clients) (sym (first_so (Message m) es at))
-        (same_served k s.cells s.clients same w.good.tidy o lives 0 (omega arith) m es at queue_room (subst (λ n. m < n) (sym sized.places) small) who.0 who.1 (owner_waiting p t wired s w s.clients fit k same o.name m first) (waits_apart p t wired s w s.clients fit k same o.name m))
+        (same_served k s.cells s.clients same o lives 0 (omega arith) m es at queue_room (subst (λ n. m < n) (sym sized.places) small) who.0 who.1 (owner_waiting p t wired s w s.clients fit k same o.name m first) (waits_apart p t wired s w s.clients fit k same o.name m))
       where
         first : list_any (is_at m) (kept.queue_at k o.name) ≡ true
         first = ap (λ l. list_any (is_at m) l) at ∙ ap (λ b. b || list_any (is_at m) es) (eq-eqb m m refl)

@@ -4,6 +4,7 @@ use Rattle.std.proofs.Common.{Bool, List, None, Option, Some, [], ap, cond, fals
 use Rattle.std.specs.List.{list_any}
 use Rattle.std.specs.Prelude.{filter, is_some, map, not, ◌||◌}
 use Rattle.std.proofs.lemmas.Bool.{eq-eqb, eqb-true, false≢true, ne_eqb}
+use Rattle.std.proofs.Math.ListN.{get_or-map}
 use Rattle.std.proofs.lemmas.List.{get_or-set_other, get_or-set_same, length-append, length-set, map-append}
 use Rattle.std.proofs.lemmas.List.Folds.{list_any-append}
 use Rattle.aom_image.specs.declared.method.Thing.TheVariants.{Message as A_message}
@@ -14,8 +15,9 @@ use Rattle.aom_clients.specs.declared.entry.Entry.{Entry}
 use Rattle.aom_clients.specs.declared.entry.Entry.TheVariants.{Connect, Message, Close}
 use Rattle.aom_clients.specs.declared.place.Place.{Place}
 use Rattle.aom_clients.specs.declared.place.Place.TheVariants.{Free, Held, Queued}
-use Rattle.aom_clients.specs.Table.{held_place, is_queued, sender}
+use Rattle.aom_clients.specs.Table.{held_place, is_out_of, is_queued, sender}
 use Rattle.aom_safety.proofs.ClientsFit.{by_server}
+use Rattle.aom_semantics.proofs.Altering.{Reads, moving, read_kept, read_so, serving}
 use Rattle.aom_semantics.proofs.Maps.{at-put_at, front_free, same_place_refl}
 use Rattle.aom_safety.proofs.Services.{named_served, service_moved, service_unnamed}
 use Rattle.aom_semantics.specs.Clients.{at_opening, client_at, with_client}
@@ -48,12 +50,6 @@ once_last : (ms : List ℕ) (m : ℕ) → Once ms → is_among m ms ≡ false �
 once_last [] m once none = (refl, tt)
 once_last (k ∷ ms) m once none = grind (arith, nat_tests, front_false (k == m), list_any-append, ne_eqb m k, eq-eqb k m, or_false, once_last ms m once.1)
 
--- a list of lists, each with a function
-pub map_at : {A : Type 0} (f : List A → List A) (lists : List (List A)) (n : ℕ) → f [] ≡ [] → slice_index_or (map f lists) n [] ≡ f (slice_index_or lists n [])
-map_at f [] n e = sym e
-map_at f (l ∷ lists) zero e = refl
-map_at f (l ∷ lists) (suc n) e = map_at f lists n e
-
 -- where no connect of the client waits, none leaves the queue, and so of its close
 no_connects : (places : List Place) (c : ℕ) (es : List Entry) → list_any (is_connect_of c) (map (asked_by places) es) ≡ false → filter (kept.is_no_connect_of c) es ≡ es
 no_connects places c [] none = refl
@@ -77,16 +73,13 @@ pub absent_served : (cs : List Cell) (n : ℕ) (v : Service) → named cs n ≡ 
 absent_served [] n v e = refl
 absent_served (c ∷ cs) n v e = grind (arith, nat_tests, front_free (c.object.name == n) c.object, absent_served cs n v)
 
--- of which the sender is as it was
-slots_served : (cs : List Cell) → Tidy cs → (n : ℕ) (v : Service) (c : ℕ) → v.sender ≡ (service_of cs n).sender → slots_taken c (set_service n v cs) ≡ slots_taken c cs
-slots_served [] tidy n v c same = refl
-slots_served (x ∷ xs) tidy n v c same = grind (arith, nat_tests, slots_served xs tidy.2 n v c, absent_served xs n v, eqb-true x.object.name n)
+abbrev pub owners : Reads owner_of
+owners = record { of = λ c. Some c.owner; first = λ c cs n. refl }
 
 owner_served : (cs : List Cell) (n : ℕ) (v : Service) (m : ℕ) → owner_of (set_service n v cs) m ≡ owner_of cs m
-owner_served [] n v m = refl
-owner_served (c ∷ cs) n v m = ap (λ p. cond (c.object.name == m) (Some c.owner) p) (owner_served cs n v m)
+owner_served cs n v = read_kept (serving n v) owners (λ c. refl) cs
 
-module _ (cs : List Cell) (o : Object) (lives : named cs o.name ≡ Some o) (tidy : Tidy cs) (f : Service → Service) where
+module _ (cs : List Cell) (o : Object) (lives : named cs o.name ≡ Some o) (f : Service → Service) where
   abbrev pub then : List Cell
   then = reserved f o.name cs
 
@@ -99,12 +92,8 @@ module _ (cs : List Cell) (o : Object) (lives : named cs o.name ≡ Some o) (tid
       (ap told (at_set [] lists o.name o.name entries small ∙ ap (λ b. cond b entries (slice_index_or lists o.name [])) (eq-eqb o.name o.name refl)) ∙ here)
       (λ n other. ap told (at_set [] lists o.name n entries small ∙ ap (λ b. cond b entries (slice_index_or lists n [])) other) ∙ others n) n
 
-  module _ (sender : (v : Service) → (f v).sender ≡ v.sender) where
-    pub sender_then : (n : ℕ) → (service_of then n).sender ≡ (service_of cs n).sender
-    sender_then n = by_server cs o lives f (λ n v. v.sender ≡ (service_of cs n).sender) (sender (service_of cs o.name)) (λ n other. refl) n
-
-    pub slots_then : (c : ℕ) → slots_taken c then ≡ slots_taken c cs
-    slots_then c = slots_served cs tidy o.name (f (service_of cs o.name)) c (sender (service_of cs o.name))
+  pub sender_then : ((v : Service) → (f v).sender ≡ v.sender) → (n : ℕ) → (service_of then n).sender ≡ (service_of cs n).sender
+  sender_then sender n = by_server cs o lives f (λ n v. v.sender ≡ (service_of cs n).sender) (sender (service_of cs o.name)) (λ n other. refl) n
 
 -- ---- the place of a message changes, and its sender is as it was
 
@@ -141,12 +130,7 @@ moved_from a b None = None
 moved_from a b (Some p) = Some (cond (same_place p a) b p)
 
 pub owner_moved : (cs : List Cell) (a b : Owner) (n : ℕ) → owner_of (moved a b cs) n ≡ moved_from a b (owner_of cs n)
-owner_moved [] a b n = refl
-owner_moved (c ∷ cs) a b n = grind (arith, nat_tests, owner_moved cs a b n)
-
-pub slots_moved : (cs : List Cell) (a b : Owner) (c : ℕ) → slots_taken c (moved a b cs) ≡ slots_taken c cs
-slots_moved [] a b c = refl
-slots_moved (x ∷ xs) a b c = ap (λ k. cond (holds_slot c x.service.sender) (suc k) k) (slots_moved xs a b c)
+owner_moved cs a b n = read_so (moving a b) owners n (moved_from a b) cs (λ c is here. refl) (λ none. refl)
 
 -- ---- the places that are taken
 
@@ -156,6 +140,15 @@ taken_by slot x = grind arith
 -- are those whose message has a sender
 pub taken_sent : (s : kept.State) (cs : List Cell) (clients : List Client) → SameClients s cs clients → (m : ℕ) → is_taken (kept.place_at s m) ≡ is_some (service_of cs (message_name m)).sender
 taken_sent s cs clients same m = sym (taken_by (holds s m) (kept.place_at s m)) ∙ ap is_some (same.senders m)
+
+-- ---- the slots
+
+-- a message is among its client's where it holds a slot
+pub slots_of : (s : kept.State) (cs : List Cell) (clients : List Client) → SameClients s cs clients → (c m : ℕ) → is_among m (kept.sent_at s c) ≡ holds_slot c (service_of cs (message_name m)).sender
+slots_of s cs clients same c m = here (kept.place_at s m) refl (same.out c m) ∙ ap (holds_slot c) (same.senders m)
+  where
+    here : (x : Place) → kept.place_at s m ≡ x → (is_among m (kept.sent_at s c) ≡ true → is_out_of c x ≡ true) → is_among m (kept.sent_at s c) ≡ holds_slot c (sent_by (is_among m (kept.sent_at s (sender x))) x)
+    here x e out = grind (arith, nat_tests, eqb-true)
 
 -- ---- a client is at something else, and nothing is asked
 
@@ -169,7 +162,7 @@ same_client s cs clients same c client to = grind (arith, nat_tests, listed_as s
 
 -- ---- a connect
 
-module _ (s : kept.State) (cs : List Cell) (clients : List Client) (same : SameClients s cs clients) (tidy : Tidy cs) (o : Object) (lives : named cs o.name ≡ Some o) (c : ℕ) (client : c < 64) where
+module _ (s : kept.State) (cs : List Cell) (clients : List Client) (same : SameClients s cs clients) (o : Object) (lives : named cs o.name ≡ Some o) (c : ℕ) (client : c < 64) where
   numbered : c < length s.clients
   numbered = subst (λ n. c < n) (sym same.many) client
 
@@ -181,12 +174,12 @@ module _ (s : kept.State) (cs : List Cell) (clients : List Client) (same : SameC
     at = at;
     queues = waits;
     sessions = listed;
-    senders = λ m. same.senders m ∙ sym (sender_then cs o lives tidy f sender (message_name m));
+    senders = λ m. same.senders m ∙ sym (sender_then cs o lives f sender (message_name m));
     waits = λ m. same.waits m ∙ ap waits_in (sym (owner_served cs o.name _ (message_name m)));
-    slots_of = λ d m. same.slots_of d m ∙ ap (holds_slot d) (sym (sender_then cs o lives tidy f sender (message_name m)));
+    out = same.out;
     slotted = same.slotted;
     once = same.once;
-    slots = λ d. same.slots d ∙ sym (slots_then cs o lives tidy f sender d);
+    silent = λ n d small. ap (holds_slot d) (sender_then cs o lives f sender n) ∙ same.silent n d small;
     many = long ∙ same.many;
     lists = same.lists;
   }
@@ -196,7 +189,7 @@ module _ (s : kept.State) (cs : List Cell) (clients : List Client) (same : SameC
         SameClients (kept.queued o.name (Connect c) (kept.with_client c (Connecting o.name slots) s)) (reserved (asked_last (Connect_of c)) o.name cs) (with_client c (Connecting o.name slots) clients)
     same_connecting =
         served_as (asked_last (Connect_of c)) (λ v. refl) _ _ _ _ (client_set s.clients clients c (Connecting o.name slots) (Connecting o.name slots) numbered refl same.at)
-        (listed_then cs o lives tidy (asked_last (Connect_of c)) s.queues (kept.queue_at s o.name ++ Connect c ∷ []) (λ es. map (asked_by s.places) es) (λ v. v.queue) queue
+        (listed_then cs o lives (asked_last (Connect_of c)) s.queues (kept.queue_at s o.name ++ Connect c ∷ []) (λ es. map (asked_by s.places) es) (λ v. v.queue) queue
         (map-append (asked_by s.places) (kept.queue_at s o.name) (Connect c ∷ []) ∙ ap (λ es. es ++ Connect_of c ∷ []) (same.queues o.name)) same.queues)
         (λ n. by_server cs o lives (asked_last (Connect_of c)) (λ n v. kept.sessions_at s n ≡ v.sessions) (same.sessions o.name) (λ n other. same.sessions n) n) (length-set s.clients c (Connecting o.name slots))
 
@@ -205,7 +198,7 @@ module _ (s : kept.State) (cs : List Cell) (clients : List Client) (same : SameC
     pub same_closing : SameClients (kept.queued o.name (Close c) s) (reserved (asked_last (Close_of c)) o.name cs) clients
     same_closing =
         served_as (asked_last (Close_of c)) (λ v. refl) _ _ _ _ same.at
-        (listed_then cs o lives tidy (asked_last (Close_of c)) s.queues (kept.queue_at s o.name ++ Close c ∷ []) (λ es. map (asked_by s.places) es) (λ v. v.queue) queue
+        (listed_then cs o lives (asked_last (Close_of c)) s.queues (kept.queue_at s o.name ++ Close c ∷ []) (λ es. map (asked_by s.places) es) (λ v. v.queue) queue
         (map-append (asked_by s.places) (kept.queue_at s o.name) (Close c ∷ []) ∙ ap (λ es. es ++ Close_of c ∷ []) (same.queues o.name)) same.queues)
         (λ n. by_server cs o lives (asked_last (Close_of c)) (λ n v. kept.sessions_at s n ≡ v.sessions) (same.sessions o.name) (λ n other. same.sessions n) n) refl
 
@@ -219,7 +212,7 @@ module _ (s : kept.State) (cs : List Cell) (clients : List Client) (same : SameC
     pub same_taken : SameClients (kept.with_queue o.name es s) (reserved taken_first o.name cs) clients
     same_taken =
         served_as taken_first (λ v. refl) _ _ _ _ same.at
-        (listed_then cs o lives tidy taken_first s.queues es (λ l. map (asked_by s.places) l) (λ v. v.queue) queue (sym (ap rest_of first_asked)) same.queues)
+        (listed_then cs o lives taken_first s.queues es (λ l. map (asked_by s.places) l) (λ v. v.queue) queue (sym (ap rest_of first_asked)) same.queues)
         (λ n. by_server cs o lives taken_first (λ n v. kept.sessions_at s n ≡ v.sessions) (same.sessions o.name) (λ n other. same.sessions n) n) refl
 
   -- ---- a session opens
@@ -227,7 +220,7 @@ module _ (s : kept.State) (cs : List Cell) (clients : List Client) (same : SameC
   -- where no connect of the client waits any more
   module _ (slots session : ℕ) (at : kept.client_at s c ≡ Connecting o.name slots) (none : (n : ℕ) → list_any (is_connect_of c) (service_of cs n).queue ≡ false) (server : o.name < length s.sessions) where
     unqueued : (n : ℕ) → slice_index_or (map (λ es. filter (kept.is_no_connect_of c) es) s.queues) n [] ≡ kept.queue_at s n
-    unqueued n = grind (arith, nat_tests, map_at, no_connects s.places c)
+    unqueued n = get_or-map (filter (kept.is_no_connect_of c)) s.queues n [] ∙ no_connects s.places c (kept.queue_at s n) (ap (list_any (is_connect_of c)) (same.queues n) ∙ none n)
 
     own : client_at clients c ≡ Connecting o.name slots
     own = sym (same.at c) ∙ ap sessionless at
@@ -238,7 +231,7 @@ module _ (s : kept.State) (cs : List Cell) (clients : List Client) (same : SameC
         served_as (opened c) (λ v. refl) _ _ _ _ (subst (λ x. (d : ℕ) → sessionless (kept.client_at (kept.with_client c (Open o.name session slots) s) d) ≡ client_at (with_client c (at_opening 0 x) clients) d) (sym own)
         (client_set s.clients clients c (Open o.name session slots) (Open o.name 0 slots) numbered refl same.at))
         (λ n. ap (λ l. map (asked_by s.places) l) (unqueued n) ∙ by_server cs o lives (opened c) (λ n v. map (asked_by s.places) (kept.queue_at s n) ≡ v.queue) (same.queues o.name) (λ n other. same.queues n) n)
-        (listed_then cs o lives tidy (opened c) s.sessions (kept.sessions_at s o.name ++ c ∷ []) (λ l. l) (λ v. v.sessions) server (ap (λ l. l ++ c ∷ []) (same.sessions o.name)) same.sessions) (length-set s.clients c (Open o.name session slots))
+        (listed_then cs o lives (opened c) s.sessions (kept.sessions_at s o.name ++ c ∷ []) (λ l. l) (λ v. v.sessions) server (ap (λ l. l ++ c ∷ []) (same.sessions o.name)) same.sessions) (length-set s.clients c (Open o.name session slots))
 
     -- or none does
     pub same_unopened : SameClients (kept.opened (Connecting o.name slots) None c s) cs (with_client c Unconnected clients)
@@ -251,13 +244,13 @@ module _ (s : kept.State) (cs : List Cell) (clients : List Client) (same : SameC
   -- of a client that has it with this server alone, and whose close waits no more
   module _ (next : Client) (plain : sessionless next ≡ next) (none : (n : ℕ) → list_any (is_close_of c) (service_of cs n).queue ≡ false) (only : (n : ℕ) → (o.name == n) ≡ false → is_among c (service_of cs n).sessions ≡ false) where
     unclosed : (n : ℕ) → slice_index_or (map (λ es. filter (kept.is_no_close_of c) es) s.queues) n [] ≡ kept.queue_at s n
-    unclosed n = grind (arith, nat_tests, map_at, no_closes s.places c)
+    unclosed n = get_or-map (filter (kept.is_no_close_of c)) s.queues n [] ∙ no_closes s.places c (kept.queue_at s n) (ap (list_any (is_close_of c)) (same.queues n) ∙ none n)
 
     pub same_parted : SameClients (kept.parted c next s) (reserved (parted c) o.name cs) (with_client c next clients)
     same_parted =
         served_as (parted c) (λ v. refl) _ _ _ _ (client_set s.clients clients c next next numbered plain same.at)
         (λ n. ap (λ l. map (asked_by s.places) l) (unclosed n) ∙ by_server cs o lives (parted c) (λ n v. map (asked_by s.places) (kept.queue_at s n) ≡ v.queue) (same.queues o.name) (λ n other. same.queues n) n)
-        (λ n. map_at (λ l. filter (λ d. not (d == c)) l) s.sessions n refl
+        (λ n. get_or-map (filter (λ d. not (d == c))) s.sessions n []
         ∙ by_server cs o lives (parted c) (λ n v. filter (λ d. not (d == c)) (kept.sessions_at s n) ≡ v.sessions) (ap (λ l. filter (λ d. not (d == c)) l) (same.sessions o.name))
         (λ n other. ap (λ l. filter (λ d. not (d == c)) l) (same.sessions n) ∙ none_parted c (service_of cs n).sessions (only n other)) n) (length-set s.clients c next)
 
@@ -290,6 +283,9 @@ module _ (s : kept.State) (cs : List Cell) (clients : List Client) (same : SameC
       slotted_now : (j d : ℕ) → kept.place_at taken j ≡ Queued d → is_among j (kept.sent_at taken d) ≡ true
       slotted_now j d e = grind (arith, nat_tests, at_set Free s.places m j, held_now)
 
+      out_now : (d j : ℕ) → is_among j (kept.sent_at taken d) ≡ true → is_out_of d (kept.place_at taken j) ≡ true
+      out_now d j h = grind (arith, nat_tests, at_set Free s.places m j, held_now, same.out d j, eqb-true m j)
+
       pub same_served : SameClients taken (moved from (Elsewhere In_service) cs') clients
       same_served = record {
         at = same.at;
@@ -297,10 +293,10 @@ module _ (s : kept.State) (cs : List Cell) (clients : List Client) (same : SameC
         sessions = grind (arith, nat_tests, same_taken (Message m) es at queue, service_moved);
         senders = λ j. senders_now j ∙ (same_taken (Message m) es at queue).senders j ∙ sym (ap (λ (v : Service). v.sender) (service_moved cs' from (Elsewhere In_service) (message_name j)));
         waits = waits_now;
-        slots_of = grind (arith, nat_tests, same_taken (Message m) es at queue, service_moved);
+        out = out_now;
         slotted = slotted_now;
         once = same.once;
-        slots = λ d. (same_taken (Message m) es at queue).slots d ∙ sym (slots_moved cs' from (Elsewhere In_service) d);
+        silent = λ n d small. ap (λ (v : Service). holds_slot d v.sender) (service_moved cs' from (Elsewhere In_service) n) ∙ (same_taken (Message m) es at queue).silent n d small;
         many = same.many;
         lists = same.lists;
       }
@@ -335,20 +331,6 @@ module _ (s : kept.State) (cs : List Cell) (clients : List Client) (same : SameC
     sent_of : (d : ℕ) → kept.sent_at sent d ≡ cond (c == d) (kept.sent_at s c ++ m ∷ []) (kept.sent_at s d)
     sent_of d = at_set [] s.sent c d (kept.sent_at s c ++ m ∷ []) listed
 
-    slots_after : (d : ℕ) → length (kept.sent_at sent d) ≡ slots_taken d (message ∷ behind)
-    slots_after d = ap length (sent_of d) ∙ go (c == d) refl
-      where
-        plus_one : (n : ℕ) → n + 1 ≡ suc n
-        plus_one n = omega arith
-
-        rest : slots_taken d behind ≡ slots_taken d cs
-        rest = slots_then cs o lives tidy (asked_last (Message_of c (message_name m))) (λ v. refl) d
-
-        go : (b : Bool) → (c == d) ≡ b → length (cond b (kept.sent_at s c ++ m ∷ []) (kept.sent_at s d)) ≡ cond (b && true) (suc (slots_taken d behind)) (slots_taken d behind)
-        go true e =
-            length-append (kept.sent_at s c) (m ∷ []) ∙ plus_one (length (kept.sent_at s c)) ∙ ap suc (ap (λ i. length (kept.sent_at s i)) (eqb-true c d e) ∙ same.slots d ∙ sym rest)
-        go false e = same.slots d ∙ sym rest
-
     -- what is told of the place that is taken, and of all others
     told_new : {A B : Type 0} (f : Place → A) (g : B → A) (j : ℕ) (x y : B) → f (Queued c) ≡ g x → ((m == j) ≡ false → f (kept.place_at s j) ≡ g y) → f (kept.place_at sent j) ≡ g (cond (message_name m == message_name j) x y)
     told_new f g j x y here others = grind (arith, nat_tests, places_at j, eq-eqb, eqb-true m j, names_apart m j)
@@ -380,14 +362,14 @@ module _ (s : kept.State) (cs : List Cell) (clients : List Client) (same : SameC
         go false e =
             ap (λ b. sent_by b (kept.place_at s j)) (still (kept.place_at s j) e) ∙ same.senders j
             ∙ sym (ap (λ b. (cond b message.service (service_of behind (message_name j))).sender) (names_apart m j e)
-            ∙ sender_then cs o lives tidy (asked_last (Message_of c (message_name m))) (λ v. refl) (message_name j))
+            ∙ sender_then cs o lives (asked_last (Message_of c (message_name m))) (λ v. refl) (message_name j))
 
     -- what the new cell has is nothing, of those that have a queue
     other_service : (n : ℕ) → ((service_of (message ∷ behind) n).queue ≡ (service_of behind n).queue) × ((service_of (message ∷ behind) n).sessions ≡ (service_of behind n).sessions)
     other_service n = grind (arith, nat_tests, service_unnamed, named_served cs o.name, eqb-true)
 
     absent : (d : ℕ) → is_among m (kept.sent_at s d) ≡ false
-    absent d = same.slots_of d m ∙ ap (λ (v : Service). holds_slot d v.sender) (service_unnamed cs (message_name m) unused)
+    absent d = slots_of s cs clients same d m ∙ ap (λ (v : Service). holds_slot d v.sender) (service_unnamed cs (message_name m) unused)
 
     once_after : (d : ℕ) → Once (kept.sent_at sent d)
     once_after d = grind (arith, nat_tests, sent_of d, once_last, absent c)
@@ -408,28 +390,13 @@ module _ (s : kept.State) (cs : List Cell) (clients : List Client) (same : SameC
             ap (λ b. is_among j (cond b (kept.sent_at s c ++ m ∷ []) (kept.sent_at s d))) (eq-eqb c d client) ∙ appended ∙ ap (λ b. is_among j (kept.sent_at s c) || (b || false)) f ∙ or_true (is_among j (kept.sent_at s c))
         go false f e = still (same.slotted j d e) (c == d) refl
 
-    slots_of_after : (d j : ℕ) → is_among j (kept.sent_at sent d) ≡ holds_slot d (service_of (message ∷ behind) (message_name j)).sender
-    slots_of_after d j = ap (λ l. is_among j l) (sent_of d) ∙ go (c == d) (m == j) refl refl
-      where
-        behind_so : holds_slot d (service_of behind (message_name j)).sender ≡ is_among j (kept.sent_at s d)
-        behind_so = ap (holds_slot d) (sender_then cs o lives tidy (asked_last (Message_of c (message_name m))) (λ v. refl) (message_name j)) ∙ sym (same.slots_of d j)
+    out_after : (d j : ℕ) → is_among j (kept.sent_at sent d) ≡ true → is_out_of d (kept.place_at sent j) ≡ true
+    out_after d j h = grind (arith, nat_tests, sent_of d, places_at j, list_any-append, same.out d j, eqb-true c d, eqb-true m j, eq-eqb c d, absent d)
 
-        here : (m == j) ≡ true → holds_slot d (cond (message_name m == message_name j) message.service (service_of behind (message_name j))).sender ≡ ((c == d) && true)
-        here e = ap (λ b. holds_slot d (cond b message.service (service_of behind (message_name j))).sender) (eq-eqb (message_name m) (message_name j) (ap message_name (eqb-true m j e)))
-
-        there : (m == j) ≡ false → holds_slot d (cond (message_name m == message_name j) message.service (service_of behind (message_name j))).sender ≡ is_among j (kept.sent_at s d)
-        there e = ap (λ b. holds_slot d (cond b message.service (service_of behind (message_name j))).sender) (names_apart m j e) ∙ behind_so
-
-        appended : is_among j (kept.sent_at s c ++ m ∷ []) ≡ (is_among j (kept.sent_at s c) || ((m == j) || false))
-        appended = list_any-append (λ n. n == j) (kept.sent_at s c) (m ∷ [])
-
-        go : (b x : Bool) → (c == d) ≡ b → (m == j) ≡ x →
-            is_among j (cond b (kept.sent_at s c ++ m ∷ []) (kept.sent_at s d)) ≡ holds_slot d (cond (message_name m == message_name j) message.service (service_of behind (message_name j))).sender
-        go true true e g = appended ∙ ap (λ b. is_among j (kept.sent_at s c) || (b || false)) g ∙ or_true (is_among j (kept.sent_at s c)) ∙ sym (here g ∙ ap (λ b. b && true) e)
-        go true false e g =
-            appended ∙ ap (λ b. is_among j (kept.sent_at s c) || (b || false)) g ∙ or_false (is_among j (kept.sent_at s c)) ∙ ap (λ i. is_among j (kept.sent_at s i)) (eqb-true c d e) ∙ sym (there g)
-        go false true e g = ap (λ i. is_among i (kept.sent_at s d)) (sym (eqb-true m j g)) ∙ absent d ∙ sym (here g ∙ ap (λ b. b && true) e)
-        go false false e g = sym (there g)
+    silent_after : (n d : ℕ) → n < 4096 → holds_slot d (service_of (message ∷ behind) n).sender ≡ false
+    silent_after n d small =
+        ap (λ b. holds_slot d (cond b message.service (service_of behind n)).sender) (ne_eqb (message_name m) n (λ at. absurd (omega (arith, at, small))))
+        ∙ ap (holds_slot d) (sender_then cs o lives (asked_last (Message_of c (message_name m))) (λ v. refl) n) ∙ same.silent n d small
 
     pub same_sent : SameClients sent (message ∷ behind) clients
     same_sent =
@@ -437,7 +404,7 @@ module _ (s : kept.State) (cs : List Cell) (clients : List Client) (same : SameC
         let sessions_after : (n : ℕ) → kept.sessions_at s n ≡ (service_of (message ∷ behind) n).sessions =
         λ n. by_server cs o lives (asked_last (Message_of c (message_name m))) (λ n v. kept.sessions_at s n ≡ v.sessions) (same.sessions o.name) (λ n other. same.sessions n) n ∙ sym (other_service n).1 in
         let lists = length-set s.sent c (kept.sent_at s c ++ m ∷ []) ∙ same.lists in
-        assumption (same.at, queues_after, sessions_after, senders_after, waits_then, slots_of_after, slotted_after, once_after, slots_after, same.many, lists)
+        assumption (same.at, queues_after, sessions_after, senders_after, waits_then, out_after, slotted_after, once_after, silent_after, same.many, lists)
       where
         old : (n : ℕ) → map (asked_by sent.places) (kept.queue_at s n) ≡ (service_of cs n).queue
         old n = asked_apart s.places m (Queued c) place (kept.queue_at s n) (ap (λ l. list_any (is_message (message_name m)) l) (same.queues n) ∙ nowhere n) ∙ same.queues n
@@ -446,5 +413,5 @@ module _ (s : kept.State) (cs : List Cell) (clients : List Client) (same : SameC
         own = ap (λ x. Message_of (sender x) (message_name m)) (places_at m ∙ ap (λ b. cond b (Queued c) (kept.place_at s m)) (eq-eqb m m refl))
 
         queues : (n : ℕ) → map (asked_by sent.places) (kept.queue_at sent n) ≡ (service_of behind n).queue
-        queues n = listed_then cs o lives tidy (asked_last (Message_of c (message_name m))) s.queues (kept.queue_at s o.name ++ Message m ∷ []) (λ l. map (asked_by sent.places) l) (λ v. v.queue) queue
+        queues n = listed_then cs o lives (asked_last (Message_of c (message_name m))) s.queues (kept.queue_at s o.name ++ Message m ∷ []) (λ l. map (asked_by sent.places) l) (λ v. v.queue) queue
             (map-append (asked_by sent.places) (kept.queue_at s o.name) (Message m ∷ []) ∙ ap (λ l. l ++ asked_by sent.places (Message m) ∷ []) (old o.name) ∙ ap (λ a. (service_of cs o.name).queue ++ a ∷ []) own) old n

@@ -8,49 +8,48 @@ use Rattle.aom_clients.specs.declared.client.Client.{Client}
 use Rattle.aom_image.specs.Image.{Image}
 use Rattle.aom_image.specs.declared.method.Thing.{Thing}
 use Rattle.aom_roles.specs.Tables.{put_at}
+use Rattle.aom_semantics.proofs.Altering.{Alters, asking, bereaving, opening, read_kept, services, storing}
 use Rattle.aom_semantics.proofs.Maps.{same_place-true}
 use Rattle.aom_safety.proofs.Services.{service_moved, service_unnamed}
 use Rattle.aom_semantics.specs.Natives.{all_bereaved, bereaved, resessioned}
 use Rattle.aom_semantics.specs.Places.{Cell, Place as Owner, Request, Service, moved, named, service_of, set_request, set_session, set_word_field, unserved, with_new}
-use Rattle.aom_semantics.specs.Servers.{holds_slot, is_queue, slots_taken}
+use Rattle.aom_semantics.specs.Servers.{holds_slot, is_queue}
 use Rattle.aom_semantics.specs.State.{Home}
-use Rattle.aom_machine_state.proofs.Serving.{moved_from, owner_moved, slots_moved}
+use Rattle.aom_machine_state.proofs.Serving.{moved_from, owner_moved, owners}
 use Rattle.aom_machine_state.specs.Serving.{SameClients, message_name, owner_of, waits_in}
 
 -- clients have the same at all cells, and messages stay where they are
 pub record Still (cs cs' : List Cell) : Type 0 where
   pub services : (n : ℕ) → service_of cs' n ≡ service_of cs n
   pub owners : (m : ℕ) → waits_in (owner_of cs' (message_name m)) ≡ waits_in (owner_of cs (message_name m))
-  pub slots : (c : ℕ) → slots_taken c cs' ≡ slots_taken c cs
 
 -- what clients have at a cell, whether or not it is a token
 abbrev pub untold : Service → Service
 untold v = record v { token = None }
 
 pub still_itself : (cs : List Cell) → Still cs cs
-still_itself cs = record { services = λ n. refl; owners = λ m. refl; slots = λ c. refl }
+still_itself cs = record { services = λ n. refl; owners = λ m. refl }
 
 -- which messages are tokens is no matter of clients
 module _ (s : kept.State) (cs cs' : List Cell) (clients : List Client) where
   pub same_untold :
-      ((n : ℕ) → untold (service_of cs' n) ≡ untold (service_of cs n)) → ((m : ℕ) → waits_in (owner_of cs' (message_name m)) ≡ waits_in (owner_of cs (message_name m))) →
-      ((c : ℕ) → slots_taken c cs' ≡ slots_taken c cs) → SameClients s cs clients → SameClients s cs' clients
-  same_untold services owners slots same = record {
+      ((n : ℕ) → untold (service_of cs' n) ≡ untold (service_of cs n)) → ((m : ℕ) → waits_in (owner_of cs' (message_name m)) ≡ waits_in (owner_of cs (message_name m))) → SameClients s cs clients → SameClients s cs' clients
+  same_untold services owners same = record {
     at = same.at;
     queues = λ n. same.queues n ∙ ap (λ (v : Service). v.queue) (sym (services n));
     sessions = λ n. same.sessions n ∙ ap (λ (v : Service). v.sessions) (sym (services n));
     senders = λ m. same.senders m ∙ ap (λ (v : Service). v.sender) (sym (services (message_name m)));
     waits = λ m. same.waits m ∙ sym (owners m);
-    slots_of = λ c m. same.slots_of c m ∙ ap (λ (v : Service). holds_slot c v.sender) (sym (services (message_name m)));
+    out = same.out;
     slotted = same.slotted;
     once = same.once;
-    slots = λ c. same.slots c ∙ sym (slots c);
+    silent = λ n c small. ap (λ (v : Service). holds_slot c v.sender) (services n) ∙ same.silent n c small;
     many = same.many;
     lists = same.lists;
   }
 
   pub same_still : Still cs cs' → SameClients s cs clients → SameClients s cs' clients
-  same_still still same = same_untold (λ n. ap untold (still.services n)) still.owners still.slots same
+  same_still still same = same_untold (λ n. ap untold (still.services n)) still.owners same
 
 -- ---- a cell moves
 
@@ -62,7 +61,6 @@ pub still_moved : (cs : List Cell) (a b : Owner) → is_queue a ≡ is_queue b �
 still_moved cs a b alike = record {
   services = service_moved cs a b;
   owners = λ m. ap waits_in (owner_moved cs a b (message_name m)) ∙ waits_moved a b alike (owner_of cs (message_name m));
-  slots = slots_moved cs a b;
 }
 
 -- ---- a cell is made
@@ -71,7 +69,6 @@ pub still_new : (cs : List Cell) (name : ℕ) (x : Thing) (ws : List ℤ) (owner
 still_new cs name x ws owner small free = record {
   services = λ n. service n (name == n) refl;
   owners = λ m. ap (λ b. waits_in (cond b (Some owner) (owner_of cs (message_name m)))) (apart m);
-  slots = λ c. refl;
 }
   where
     apart : (m : ℕ) → (name == message_name m) ≡ false
@@ -84,36 +81,21 @@ still_new cs name x ws owner small free = record {
 -- ---- what is no matter of clients
 
 -- each cell is another, with the same object, owner and service
-module _
-    (then : List Cell → List Cell) (f : Cell → Cell) (none : then [] ≡ []) (each : (c : Cell) (cs : List Cell) → then (c ∷ cs) ≡ f c ∷ then cs) (object : (c : Cell) → (f c).object ≡ c.object) (owner : (c : Cell) → (f c).owner ≡ c.owner)
-    (service : (c : Cell) → (f c).service ≡ c.service) where
-  services_each : (cs : List Cell) (n : ℕ) → service_of (then cs) n ≡ service_of cs n
-  services_each [] n = ap (λ l. service_of l n) none
-  services_each (c ∷ cs) n = grind (arith, nat_tests, services_each cs n)
-
-  owners_each : (cs : List Cell) (n : ℕ) → owner_of (then cs) n ≡ owner_of cs n
-  owners_each [] n = ap (λ l. owner_of l n) none
-  owners_each (c ∷ cs) n = grind (arith, nat_tests, owners_each cs n)
-
-  slots_each : (cs : List Cell) (d : ℕ) → slots_taken d (then cs) ≡ slots_taken d cs
-  slots_each [] d = ap (slots_taken d) none
-  slots_each (c ∷ cs) d = grind (arith, nat_tests, slots_each cs d)
-
-  pub still_each : (cs : List Cell) → Still cs (then cs)
-  still_each cs = record { services = services_each cs; owners = λ m. ap waits_in (owners_each cs (message_name m)); slots = slots_each cs }
+pub still_each : {change : List Cell → List Cell} (a : Alters change) → ((c : Cell) → (a.each c).owner ≡ c.owner) → ((c : Cell) → (a.each c).service ≡ c.service) → (cs : List Cell) → Still cs (change cs)
+still_each a owner service cs = record { services = read_kept a services service cs; owners = λ m. ap waits_in (read_kept a owners (λ c. ap (λ q. Some q) (owner c)) cs (message_name m)) }
 
 pub still_requested : (cs : List Cell) (n : ℕ) (r : Option Request) → Still cs (set_request n r cs)
-still_requested cs n r = still_each (set_request n r) (λ c. record c { request = cond (c.object.name == n) r c.request }) refl (λ c cs. refl) (λ c. refl) (λ c. refl) (λ c. refl) cs
+still_requested cs n r = still_each (asking n r) (λ c. refl) (λ c. refl) cs
 
 pub still_sessioned : (cs : List Cell) (n : ℕ) (is_open : Bool) → Still cs (set_session n is_open cs)
-still_sessioned cs n is_open = still_each (set_session n is_open) (λ c. record c { session = cond (c.object.name == n) is_open c.session }) refl (λ c cs. refl) (λ c. refl) (λ c. refl) (λ c. refl) cs
+still_sessioned cs n is_open = still_each (opening n is_open) (λ c. refl) (λ c. refl) cs
 
 pub still_written : (cs : List Cell) (n w : ℕ) (v : ℤ) → Still cs (set_word_field n w v cs)
-still_written cs n w v = still_each (set_word_field n w v) (λ c. record c { words = cond (c.object.name == n) (put_at (pos 0) c.words w v) c.words }) refl (λ c cs. refl) (λ c. refl) (λ c. refl) (λ c. refl) cs
+still_written cs n w v = still_each (storing n w v) (λ c. refl) (λ c. refl) cs
 
 -- a native is killed
 pub still_bereaved : (p : Image) (native : ℕ) (cs : List Cell) → Still cs (all_bereaved p native cs)
-still_bereaved p native cs = still_each (all_bereaved p native) (bereaved p native) refl (λ c cs. refl) (λ c. refl) (λ c. refl) (λ c. refl) cs
+still_bereaved p native cs = still_each (bereaving p native) (λ c. refl) (λ c. refl) cs
 
 -- the session of what a method works on is another
 pub still_opened : (cs : List Cell) (home : Home) (is_open : Bool) → Still cs (resessioned cs home is_open)

@@ -7,33 +7,25 @@ use Rattle.aom_machine_state.specs.Agrees.{SameCells, SameNatives, thing_of}
 use Rattle.aom_native_sessions.specs.Sessions.{Standing}
 use Rattle.aom_roles.specs.Tables.{at}
 use Rattle.aom_safety.proofs.Unslotting.{each_unslotted_alike}
+use Rattle.aom_semantics.proofs.Altering.{Reads, count_kept, read_kept, sessions, unslotting}
 use Rattle.aom_semantics.specs.Clients.{each_unslotted}
 use Rattle.aom_semantics.specs.Places.{Cell, count_cells, in_session, word_field}
 use Rattle.aom_semantics.specs.Servers.{all_unslotted}
 
-words_unslotted : (c : ℕ) (cs : List Cell) (n w : ℕ) → word_field (all_unslotted c cs) n w ≡ word_field cs n w
-words_unslotted c [] n w = refl
-words_unslotted c (x ∷ xs) n w = ap (λ v. cond (x.object.name == n) (at (pos 0) x.words w) v) (words_unslotted c xs n w)
-
-count_unslotted : (c : ℕ) (cs : List Cell) → count_cells (all_unslotted c cs) ≡ count_cells cs
-count_unslotted c [] = refl
-count_unslotted c (x ∷ xs) = ap (λ n. cond (is_object x.object.thing) (suc n) n) (count_unslotted c xs)
-
-session_unslotted : (c : ℕ) (cs : List Cell) (n : ℕ) → in_session (all_unslotted c cs) n ≡ in_session cs n
-session_unslotted c [] n = refl
-session_unslotted c (x ∷ xs) n = ap (λ b. cond (x.object.name == n) x.session b) (session_unslotted c xs n)
+abbrev pub words_at : (w : ℕ) → Reads (λ cs n. word_field cs n w)
+words_at w = record { of = λ c. at (pos 0) c.words w; first = λ c cs n. refl }
 
 pub each_words : (clients : List ℕ) (cs : List Cell) (n w : ℕ) → word_field (each_unslotted clients cs) n w ≡ word_field cs n w
 each_words [] cs n w = refl
-each_words (c ∷ clients) cs n w = each_words clients (all_unslotted c cs) n w ∙ words_unslotted c cs n w
+each_words (c ∷ clients) cs n w = each_words clients (all_unslotted c cs) n w ∙ read_kept (unslotting c) (words_at w) (λ x. refl) cs n
 
 each_count : (clients : List ℕ) (cs : List Cell) → count_cells (each_unslotted clients cs) ≡ count_cells cs
 each_count [] cs = refl
-each_count (c ∷ clients) cs = each_count clients (all_unslotted c cs) ∙ count_unslotted c cs
+each_count (c ∷ clients) cs = each_count clients (all_unslotted c cs) ∙ count_kept (unslotting c) cs
 
 each_session : (clients : List ℕ) (cs : List Cell) (n : ℕ) → in_session (each_unslotted clients cs) n ≡ in_session cs n
 each_session [] cs n = refl
-each_session (c ∷ clients) cs n = each_session clients (all_unslotted c cs) n ∙ session_unslotted c cs n
+each_session (c ∷ clients) cs n = each_session clients (all_unslotted c cs) n ∙ read_kept (unslotting c) sessions (λ x. refl) cs n
 
 pub cells_unslotted : (p : Image) (h : Heap) (clients : List ℕ) (cs : List Cell) → SameCells p h cs → SameCells p h (each_unslotted clients cs)
 cells_unslotted p h clients cs same = record {

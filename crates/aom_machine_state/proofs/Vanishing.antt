@@ -5,7 +5,7 @@ use Rattle.std.specs.List.{list_any}
 use Rattle.std.specs.Prelude.{filter, map, ◌||◌}
 use Rattle.std.proofs.lemmas.Bool.{eq-eqb, eqb-true, false≢true}
 use Rattle.aom_clients.specs.Clients as kept
-use Rattle.aom_clients.specs.Table.{at_gone, is_queued, sender}
+use Rattle.aom_clients.specs.Table.{at_gone, is_out_of, is_queued, sender}
 use Rattle.aom_clients.specs.declared.client.Client.{Client}
 use Rattle.aom_clients.specs.declared.client.Client.TheVariants.{Unconnected}
 use Rattle.aom_clients.specs.declared.entry.Entry.{Entry}
@@ -13,6 +13,8 @@ use Rattle.aom_clients.specs.declared.entry.Entry.TheVariants.{Close, Connect, M
 use Rattle.aom_clients.specs.declared.place.Place.{Place}
 use Rattle.aom_clients.specs.declared.place.Place.TheVariants.{Free, Queued}
 use Rattle.aom_safety.proofs.ClientsGone.{gone_so, goes_with, queue_ended_at, sessions_ended_at}
+use Rattle.aom_safety.proofs.Unslotting.{service_unslotted}
+use Rattle.aom_semantics.proofs.Altering.{read_kept, unslotting}
 use Rattle.aom_semantics.proofs.Maps.{one_place, same_place-true, same_place_refl}
 use Rattle.aom_safety.proofs.Parting.{among_others, among_parted}
 use Rattle.aom_safety.proofs.Sifted.{a_cell_of, cell_in, cell_lives, cell_name, cell_of, cell_of_sifted, cell_owner, cell_placed, held_cell, kept as left_cell, named_cell, object_in, service_cell, service_in, sifted}
@@ -22,7 +24,7 @@ use Rattle.aom_semantics.specs.Places.{Cell, Close_of, Connect_of, Elsewhere, Ob
 use Rattle.aom_semantics.specs.Servers.{all_unslotted, has_message, holds_slot, is_among, is_message, is_other, is_queue, is_queue_of, slots_taken, unslotted, without_queue}
 use Rattle.aom_machine_state.proofs.Completing.{once_without, queued_still}
 use Rattle.aom_machine_state.proofs.Departing.{all_without, client_after_queue, client_after_sessions, connects, is_at, lengths_after_queue, lengths_after_sessions, place_after_queue, places_after_sessions, queue_after_queue, queues_after_sessions, sent_after_queue, sent_after_sessions, sessions_after_queue, sessions_after_sessions}
-use Rattle.aom_machine_state.proofs.Serving.{names_apart}
+use Rattle.aom_machine_state.proofs.Serving.{names_apart, owners, slots_of}
 use Rattle.aom_machine_state.proofs.Withdrawing.{owner_cell, owner_in, queue_of_owner, queue_of_queue}
 use Rattle.aom_machine_state.specs.Serving.{Once, SameClients, asked_by, holds, message_name, owner_of, sent_by, sessionless, waits_in}
 use Rattle.aom_safety.proofs.Destroying.{eqb_comm}
@@ -58,31 +60,18 @@ lost_sent xs slot x = grind (arith, nat_tests, lost_none xs, lost_some xs)
 lost_slot : (xs : List ℕ) (d : ℕ) (m : Option Sender) → holds_slot d (lost xs m) ≡ cond (is_among d xs) false (holds_slot d m)
 lost_slot xs d x = grind (arith, nat_tests, lost_none xs, lost_some xs, eqb-true)
 
-service_unslotted : (c : ℕ) (cs : List Cell) (n : ℕ) → service_of (all_unslotted c cs) n ≡ record (service_of cs n) { sender = unslotted c (service_of cs n).sender }
-service_unslotted c [] n = refl
-service_unslotted c (x ∷ cs) n = grind (arith, nat_tests, service_unslotted c cs n)
-
 pub service_lost : (xs : List ℕ) (cs : List Cell) (n : ℕ) → service_of (each_unslotted xs cs) n ≡ record (service_of cs n) { sender = lost xs (service_of cs n).sender }
 service_lost [] cs n = refl
 service_lost (c ∷ xs) cs n = grind (arith, nat_tests, service_lost xs, service_unslotted c cs n)
 
 owner_unslotted : (c : ℕ) (cs : List Cell) (n : ℕ) → owner_of (all_unslotted c cs) n ≡ owner_of cs n
-owner_unslotted c [] n = refl
-owner_unslotted c (x ∷ cs) n = ap (λ p. cond (x.object.name == n) (Some x.owner) p) (owner_unslotted c cs n)
+owner_unslotted c cs n = read_kept (unslotting c) owners (λ x. refl) cs n
 
 owner_lost : (xs : List ℕ) (cs : List Cell) (n : ℕ) → owner_of (each_unslotted xs cs) n ≡ owner_of cs n
 owner_lost [] cs n = refl
 owner_lost (c ∷ xs) cs n = owner_lost xs (all_unslotted c cs) n ∙ owner_unslotted c cs n
 
-slots_unslotted : (c : ℕ) (cs : List Cell) (d : ℕ) → slots_taken d (all_unslotted c cs) ≡ cond (c == d) 0 (slots_taken d cs)
-slots_unslotted c [] d = grind (arith, nat_tests)
-slots_unslotted c (x ∷ cs) d = grind (arith, nat_tests, lost_slot (c ∷ []) d x.service.sender, slots_unslotted c cs d)
-
-slots_lost : (xs : List ℕ) (cs : List Cell) (d : ℕ) → slots_taken d (each_unslotted xs cs) ≡ cond (is_among d xs) 0 (slots_taken d cs)
-slots_lost [] cs d = refl
-slots_lost (c ∷ xs) cs d = grind (arith, nat_tests, slots_lost xs, slots_unslotted c cs d)
-
--- ---- of the cells that go none holds a slot
+-- ---- each cell
 
 abbrev pub AllCells : (Cell → Type 0) → List Cell → Type 0
 AllCells P [] = Unit {0}
@@ -96,10 +85,6 @@ each_cell P (c ∷ cs) t h =
     behind : (n : ℕ) (x : Cell) → cell_of cs n ≡ Some x → (b : Bool) → (c.object.name == n) ≡ b → cond b (Some c) (cell_of cs n) ≡ Some x
     behind n x e true f = let clash : None ≡ Some x.object = sym t.1 ∙ ap (λ k. named cs k) (eqb-true c.object.name n f) ∙ named_cell cs n ∙ ap object_in e in cc
     behind n x e false f = e
-
-slots_sifted : (drops : Cell → Bool) (d : ℕ) (cs : List Cell) → AllCells (λ x. drops x ≡ true → holds_slot d x.service.sender ≡ false) cs → slots_taken d (sifted drops (λ c. c.service) cs) ≡ slots_taken d cs
-slots_sifted drops d [] none = refl
-slots_sifted drops d (x ∷ cs) none = grind (arith, nat_tests, slots_sifted drops d cs none.1, sifted drops)
 
 -- ---- entries on both sides
 
@@ -139,17 +124,6 @@ once_after (Connect c ∷ es) ms once = once_after es ms once
 once_after (Close c ∷ es) ms once = once_after es ms once
 once_after (Message k ∷ es) ms once = once_after es (filter (is_other k) ms) (once_without k ms once)
 
--- all stay of which none goes
-none_goes : (k : ℕ) (ms : List ℕ) → is_among k ms ≡ false → filter (is_other k) ms ≡ ms
-none_goes k [] none = refl
-none_goes k (m ∷ ms) none = grind (arith, nat_tests, none_goes k ms)
-
-all_stay : (es : List Entry) (ms : List ℕ) → ((k : ℕ) → list_any (is_at k) es ≡ true → is_among k ms ≡ false) → all_without es ms ≡ ms
-all_stay [] ms none = refl
-all_stay (Connect c ∷ es) ms none = all_stay es ms none
-all_stay (Close c ∷ es) ms none = all_stay es ms none
-all_stay (Message k ∷ es) ms none = grind (arith, nat_tests, all_without es, none_goes k ms, is_at k, eq-eqb k k, all_stay es ms)
-
 -- ---- the whole
 
 gone_sessionless : (x : Client) → sessionless (at_gone x) ≡ at_gone (sessionless x)
@@ -165,11 +139,10 @@ client_alike false false x = refl
 -- the object at g goes; it is none of messages, and nothing is a message in its queue but what is asked of it
 module _
     (s : kept.State) (cs : List Cell) (clients : List Client) (same : SameClients s cs clients) (tidy : Tidy cs) (o : Object) (g : Owner) (there : held cs g ≡ Some o) (apart : is_queue g ≡ false) (small : o.name < 4096)
-    (silent : (d : ℕ) → holds_slot d (service_of cs o.name).sender ≡ false) (queue_room : o.name < length s.queues) (session_room : o.name < length s.sessions)
+    (queue_room : o.name < length s.queues) (session_room : o.name < length s.sessions)
     (empty : (n : ℕ) (x : Cell) → cell_of cs n ≡ Some x → is_queue x.owner ≡ true → (x.service.queue ≡ []) × (x.service.sessions ≡ []))
     (asked : (m : ℕ) (x : Object) → held cs (Elsewhere (Waits_at o.name m)) ≡ Some x → (x.name ≡ m) × (has_message (service_of cs o.name) m ≡ true))
     (waiting : (n m : ℕ) → has_message (service_of cs n) m ≡ true → (x : Object) × (held cs (Elsewhere (Waits_at n m)) ≡ Some x) × (x.name ≡ m))
-    (owed : (m d : ℕ) → has_message (service_of cs o.name) m ≡ true → holds_slot d (service_of cs m).sender ≡ true → is_among d (service_of cs o.name).sessions ≡ true)
     (going : (j d : ℕ) → kept.place_at s j ≡ Queued d → is_among d (service_of cs o.name).sessions ≡ true → has_message (service_of cs o.name) (message_name j) ≡ true) where
   abbrev k : ℕ
   k = o.name
@@ -337,40 +310,27 @@ module _
   waits_then : (j : ℕ) → is_queued (kept.place_at then j) ≡ waits_in (owner_of left (message_name j))
   waits_then j = place_told is_queued refl j ∙ ap (λ b. cond (goes j) false b) (same.waits j) ∙ sym (owner_left j)
 
-  slots_of_then : (d j : ℕ) → is_among j (kept.sent_at then d) ≡ holds_slot d (service_of left (message_name j)).sender
-  slots_of_then d j = grind (arith, nat_tests, among_then d j, lost_slot, sender_left j)
+  out_then : (d j : ℕ) → is_among j (kept.sent_at then d) ≡ true → is_out_of d (kept.place_at then j) ≡ true
+  out_then d j h = grind (arith, nat_tests, among_then d j, place_then j, same.out d j)
+
+  -- what stays holds no slot that it did not hold
+  silent_then : (n d : ℕ) → n < 4096 → holds_slot d (service_of left n).sender ≡ false
+  silent_then n d low =
+      ap (λ (v : Service). holds_slot d v.sender) (service_lost xs stay n) ∙ lost_slot xs d (service_of stay n).sender
+      ∙ ap (cond (is_among d xs) false) (ap (λ (v : Service). holds_slot d v.sender) (service_cell stay n ∙ ap service_in (cell_of_sifted drops (λ c. c.service) cs n tidy)) ∙ stays (cell_of cs n) (sym (ap (λ (v : Service). holds_slot d v.sender) (service_cell cs n)) ∙ same.silent n d low))
+      ∙ never (is_among d xs)
+    where
+      stays : (x : Option Cell) → holds_slot d (service_in x).sender ≡ false → holds_slot d (service_in (left_cell drops (λ c. c.service) x)).sender ≡ false
+      stays x none = grind (arith, nat_tests)
+
+      never : (b : Bool) → cond b false false ≡ false
+      never b = grind (arith, nat_tests)
 
   slotted_then : (j d : ℕ) → kept.place_at then j ≡ Queued d → is_among j (kept.sent_at then d) ≡ true
   slotted_then j d e = grind (arith, nat_tests, queued_still, place_then j, among_then d j)
 
   once_then : (d : ℕ) → Once (kept.sent_at then d)
   once_then d = grind (arith, nat_tests, sent_then d, all_without, once_after)
-
-  -- of clients that have no session with it nothing goes
-  slots_then : (d : ℕ) → length (kept.sent_at then d) ≡ slots_taken d left
-  slots_then d = ap length (sent_then d) ∙ go (is_among d xs) refl ∙ sym (slots_lost xs stay d)
-    where
-      unowed : is_among d xs ≡ false → (m : ℕ) → has_message (service_of cs k) m ≡ true → holds_slot d (service_of cs m).sender ≡ false
-      unowed none m h = by (holds_slot d (service_of cs m).sender) refl
-        where
-          by : (b : Bool) → holds_slot d (service_of cs m).sender ≡ b → b ≡ false
-          by true e = absurd (false≢true (sym none ∙ owed m d h e))
-          by false e = refl
-
-      unheld : is_among d xs ≡ false → (n : ℕ) (x : Cell) → cell_of cs n ≡ Some x → drops x ≡ true → holds_slot d x.service.sender ≡ false
-      unheld none n x e h = elim (either_true (is_queue_of k x.owner) (same_place x.owner g) h) [
-        | inl queue ↦ ap (λ (v : Service). holds_slot d v.sender) (sym told) ∙ unowed none n (drops_queue n x e queue)
-        | inr own ↦ ap (λ (v : Service). holds_slot d v.sender) (sym told ∙ ap (λ i. service_of cs i) (drops_own n x e own)) ∙ silent d
-      ]
-        where
-          told : service_of cs n ≡ x.service
-          told = service_cell cs n ∙ ap service_in e
-
-      go : (b : Bool) → is_among d xs ≡ b → length (cond b [] (all_without es (kept.sent_at s d))) ≡ cond b 0 (slots_taken d stay)
-      go true e = refl
-      go false e =
-          ap length (all_stay es (kept.sent_at s d) (λ j h. same.slots_of d j ∙ unowed e (message_name j) (sym (goes_at j) ∙ h))) ∙ same.slots d
-          ∙ sym (slots_sifted drops d cs (each_cell (λ x. drops x ≡ true → holds_slot d x.service.sender ≡ false) cs tidy (unheld e)))
 
   -- ---- queues, sessions and clients
 
@@ -416,7 +376,7 @@ module _
   same_left =
       let many = (lengths_after_sessions k (kept.sessions_at s k) between).0 ∙ (lengths_after_queue k es s).0 ∙ same.many in
       let lists = (lengths_after_sessions k (kept.sessions_at s k) between).2 ∙ (lengths_after_queue k es s).3 ∙ same.lists in
-      assumption (at_then, queues_then, sessions_then, senders_then, waits_then, slots_of_then, slotted_then, once_then, slots_then, many, lists)
+      assumption (at_then, queues_then, sessions_then, senders_then, waits_then, out_then, slotted_then, once_then, silent_then, many, lists)
 
   pub same_vanished : SameClients then (each_unslotted xs (without g (without_queue k cs))) (sessions_ended xs (queue_ended (service_of cs k).queue clients))
   same_vanished = grind (arith, nat_tests, gone_so, same_left)

@@ -3,6 +3,7 @@ use Rattle.std.proofs.Common.{Bool, List, None, Option, Some, [], ap, cond, fals
 use Rattle.std.specs.Prelude.{filter, map, not}
 use Rattle.std.proofs.lemmas.Bool.{eq-eqb, eqb-true, false≢true, ne_eqb}
 use Rattle.std.proofs.lemmas.Bool.Decides.{nat_tests}
+use Rattle.std.proofs.Math.ListN.{get_or-map}
 use Rattle.std.proofs.lemmas.List.{length-set}
 use Rattle.aom_clients.specs.Clients as kept
 use Rattle.aom_clients.specs.declared.client.Client.{Client}
@@ -12,7 +13,7 @@ use Rattle.aom_clients.specs.declared.entry.Entry.{Entry}
 use Rattle.aom_clients.specs.declared.entry.Entry.TheVariants.{Connect, Message, Close}
 use Rattle.aom_clients.specs.declared.place.Place.{Place}
 use Rattle.aom_clients.specs.declared.place.Place.TheVariants.{Free, Queued}
-use Rattle.aom_clients.specs.Table.{is_queued, is_waiting_of, sender}
+use Rattle.aom_clients.specs.Table.{is_out_of, is_queued, is_waiting_of, sender}
 use Rattle.aom_safety.proofs.Sifted.{cell_of, cell_of_sifted, kept as left_cell, service_cell, service_in, withdrawn_so}
 use Rattle.aom_semantics.specs.Places.{Asked, Cell, Close_of, Connect_of, Elsewhere, Object, Place as Owner, Queued as Waits_at, named, Sender, Service, Tidy, service_of}
 use Rattle.aom_semantics.specs.Servers.{asked_last, discarded, holds_slot, is_among, is_from, is_queue, is_queue_of, left_by, reserved, slots_taken, stays, withdrawn}
@@ -20,11 +21,6 @@ use Rattle.aom_semantics.specs.Clients.{client_at, told, with_client}
 use Rattle.aom_semantics.specs.State.{State}
 use Rattle.aom_machine_state.proofs.Serving.{at_set, same_client, same_closing}
 use Rattle.aom_machine_state.specs.Serving.{Once, SameClients, asked_by, holds, message_name, owner_of, sent_by, sessionless, waits_in}
-
-at_map : {A : Type 0} (f : A → A) (none : A) (xs : List A) (n : ℕ) → f none ≡ none → slice_index_or (map f xs) n none ≡ f (slice_index_or xs n none)
-at_map f none [] n e = sym e
-at_map f none (x ∷ xs) zero e = refl
-at_map f none (x ∷ xs) (suc n) e = at_map f none xs n e
 
 -- ---- owners that are queues
 
@@ -75,9 +71,9 @@ module _ (c : ℕ) where
   slot_left : (goes : Bool) (x : Option Sender) (d : ℕ) → (goes ≡ true → is_from c x ≡ true) → holds_slot d (remains goes x) ≡ cond (c == d) false (holds_slot d x)
   slot_left goes x d from = grind (arith, nat_tests, eqb-true c d)
 
-  slots_withdrawn : (cs : List Cell) (d : ℕ) → slots_taken d (withdrawn c cs) ≡ cond (c == d) 0 (slots_taken d cs)
-  slots_withdrawn [] d = grind (arith, nat_tests)
-  slots_withdrawn (x ∷ xs) d = grind (arith, nat_tests, slots_withdrawn xs d, slot_left)
+  -- nor does what held none
+  slot_then : (d : ℕ) (x : Option Cell) → holds_slot d (service_in x).sender ≡ false → holds_slot d (service_in (left_of x)).sender ≡ false
+  slot_then d x none = grind (arith, nat_tests, slot_left)
 
   -- what is at a place that another client's message has, and whose it is
   left_other : (p : Place) → (sender p == c) ≡ false → kept.left_place c p ≡ p
@@ -85,6 +81,9 @@ module _ (c : ℕ) where
 
   left_queued : (p : Place) (d : ℕ) → kept.left_place c p ≡ Queued d → (p ≡ Queued d) × ((d == c) ≡ false)
   left_queued p d e = grind (arith, nat_tests)
+
+  left_out : (p : Place) (d : ℕ) → (c == d) ≡ false → is_out_of d p ≡ true → is_out_of d (kept.left_place c p) ≡ true
+  left_out p d other out = grind (arith, nat_tests, eqb-true)
 
   left_own : (p : Place) → is_queued p ≡ false → sender (kept.left_place c p) ≡ sender p
   left_own x e = grind arith
@@ -112,7 +111,7 @@ module _ (c : ℕ) (places : List Place) where
   entries_left [] waits = refl
   entries_left (Connect d ∷ es) waits = step (not (d == c)) (Connect d) (filter (λ e. kept.stays c places e) es) (Connect_of d) _ (entries_left es waits) (λ h. refl)
   entries_left (Close d ∷ es) waits = ap (λ l. Close_of d ∷ l) (entries_left es waits)
-  entries_left (Message j ∷ es) waits = grind (arith, nat_tests, waits_of c, step, entries_left es waits.1, at_map, left_other c)
+  entries_left (Message j ∷ es) waits = grind (arith, nat_tests, waits_of c, step, entries_left es waits.1, get_or-map (kept.left_place c) places j Free, left_other c)
 
 -- ---- all of it
 
@@ -141,7 +140,7 @@ module _ (s : kept.State) (cs : List Cell) (clients : List Client) (same : SameC
   sessions_left y z at = grind (arith, nat_tests, service_in, first)
 
   place_then : (j : ℕ) → kept.place_at then j ≡ kept.left_place c (kept.place_at s j)
-  place_then j = at_map (λ p. kept.left_place c p) Free s.places j refl
+  place_then j = get_or-map (kept.left_place c) s.places j Free
 
   sent_of : (d : ℕ) → kept.sent_at then d ≡ cond (c == d) [] (kept.sent_at s d)
   sent_of d = at_set [] s.sent c d [] (subst (λ n. c < n) (sym same.lists) client)
@@ -206,25 +205,11 @@ module _ (s : kept.State) (cs : List Cell) (clients : List Client) (same : SameC
   waits_then : (j : ℕ) → is_queued (kept.place_at then j) ≡ waits_in (owner_of left (message_name j))
   waits_then j = told_then is_queued (λ x. waits_in (owner_in x)) (λ j. queued_left c (holds s j) (kept.place_at s j)) (λ x v. refl) refl waits_told j ∙ sym (ap waits_in (owner_cell left (message_name j)))
 
-  slots_of_then : (d j : ℕ) → is_among j (kept.sent_at then d) ≡ holds_slot d (service_of left (message_name j)).sender
-  slots_of_then d j =
-      among_then d j ∙ ap (λ b. cond (c == d) false b) (same.slots_of d j ∙ ap (λ (v : Service). holds_slot d v.sender) (service_cell cs (message_name j))) ∙ go (cell_of cs (message_name j))
-      ∙ sym (ap (λ (v : Service). holds_slot d v.sender) (service_then (message_name j)))
-    where
-      go : (x : Option Cell) → cond (c == d) false (holds_slot d (service_in x).sender) ≡ holds_slot d (service_in (left_of c x)).sender
-      go None = never (c == d)
-        where
-          never : (b : Bool) → cond b false false ≡ false
-          never true = refl
-          never false = refl
-      go (Some x) = sym (slot_left c (drops c x) x.service.sender d (λ e. second (is_queue x.owner) (is_from c x.service.sender) e)) ∙ by (drops c x)
-        where
-          second : (a b : Bool) → (a && b) ≡ true → b ≡ true
-          second x b e = grind arith
+  out_then : (d j : ℕ) → is_among j (kept.sent_at then d) ≡ true → is_out_of d (kept.place_at then j) ≡ true
+  out_then d j h = grind (arith, nat_tests, among_then d j, place_then j, same.out d j, left_out c)
 
-          by : (b : Bool) → holds_slot d (remains c b x.service.sender) ≡ holds_slot d (service_in (cond b None (Some (record x { service = left_by c x.service })))).sender
-          by true = refl
-          by false = refl
+  silent_then : (n d : ℕ) → n < 4096 → holds_slot d (service_of left n).sender ≡ false
+  silent_then n d small = ap (λ (v : Service). holds_slot d v.sender) (service_then n) ∙ slot_then c d (cell_of cs n) (sym (ap (λ (v : Service). holds_slot d v.sender) (service_cell cs n)) ∙ same.silent n d small)
 
   slotted_then : (j d : ℕ) → kept.place_at then j ≡ Queued d → is_among j (kept.sent_at then d) ≡ true
   slotted_then j d e = grind (arith, nat_tests, left_queued c, place_then j, among_then d j, swapped d c)
@@ -232,24 +217,21 @@ module _ (s : kept.State) (cs : List Cell) (clients : List Client) (same : SameC
   pub same_withdrawn : SameClients then left clients
   same_withdrawn = record {
     at = same.at;
-    queues = λ n. ap (λ es. map (asked_by then.places) es) (at_map (λ es. filter (λ e. kept.stays c s.places e) es) [] s.queues n refl) ∙ entries_left c s.places (kept.queue_at s n) (waiting n)
+    queues = λ n. ap (λ es. map (asked_by then.places) es) (get_or-map (filter (kept.stays c s.places)) s.queues n []) ∙ entries_left c s.places (kept.queue_at s n) (waiting n)
         ∙ ap (λ q. filter (stays c) q) (same.queues n ∙ ap (λ (v : Service). v.queue) (service_cell cs n)) ∙ queue_left n (cell_of cs n) refl ∙ sym (ap (λ (v : Service). v.queue) (service_then n));
     sessions = λ n. same.sessions n ∙ ap (λ (v : Service). v.sessions) (service_cell cs n) ∙ sessions_left n (cell_of cs n) refl ∙ sym (ap (λ (v : Service). v.sessions) (service_then n));
     senders = senders_then;
     waits = waits_then;
-    slots_of = slots_of_then;
+    out = out_then;
     slotted = slotted_then;
     once = λ d. subst Once (sym (sent_of d)) (once_then (c == d) d);
-    slots = λ d. ap length (sent_of d) ∙ slots_so (c == d) d ∙ sym (slots_withdrawn c cs d);
+    silent = silent_then;
     many = same.many;
     lists = length-set s.sent c [] ∙ same.lists;
   }
     where
       once_then : (b : Bool) (d : ℕ) → Once (cond b [] (kept.sent_at s d))
       once_then y d = grind arith
-
-      slots_so : (b : Bool) (d : ℕ) → length (cond b [] (kept.sent_at s d)) ≡ cond b 0 (slots_taken d cs)
-      slots_so y d = grind arith
 
   -- its close is asked for where its session was open
   module _ (p : Image) (st : State) (to : Client) (tidy_left : Tidy left)
@@ -264,7 +246,7 @@ module _ (s : kept.State) (cs : List Cell) (clients : List Client) (same : SameC
     told_so (Open n session slots) at =
         let o = server n session slots at in
         subst (λ k. SameClients (kept.queued k (Close c) moved) (reserved (asked_last (Close_of c)) k left) (with_client c (sessionless to) clients)) o.1
-        (same_closing moved left (with_client c (sessionless to) clients) now tidy_left o.0 o.2 c client o.3)
+        (same_closing moved left (with_client c (sessionless to) clients) now o.0 o.2 c client o.3)
     told_so _ at = now
 
     pub same_left : SameClients (kept.leaving (Some to) c s) (told p c st (client_at clients c) left) (with_client c (sessionless to) clients)

@@ -1,5 +1,5 @@
 -- What the machine's clients, queues and message places stand for.
-use Rattle.std.specs.Prelude.{◌≡◌, ◌+◌, ◌==◌, ℕ, Bool, true, false, cond, List, [], ◌∷◌, Option, Some, None, length, map, slice_index_or}
+use Rattle.std.specs.Prelude.{◌≡◌, ◌+◌, ◌<◌, ◌==◌, ℕ, Bool, true, false, cond, List, [], ◌∷◌, Option, Some, None, length, map, slice_index_or}
 use Rattle.aom_clients.specs.declared.client.Client.{Client}
 use Rattle.aom_clients.specs.declared.client.Client.TheVariants.{Open, Closing, Dying}
 use Rattle.aom_clients.specs.declared.entry.Entry.{Entry}
@@ -7,10 +7,10 @@ use Rattle.aom_clients.specs.declared.entry.Entry.TheVariants.{Connect, Message,
 use Rattle.aom_clients.specs.declared.place.Place.{Place}
 use Rattle.aom_clients.specs.declared.place.Place.TheVariants.{Free, Queued, Held, Discarded}
 use Rattle.aom_clients.specs.Clients as kept
-use Rattle.aom_clients.specs.Table.{is_queued, sender}
+use Rattle.aom_clients.specs.Table.{is_out_of, is_queued, sender}
 use Rattle.aom_semantics.specs.Clients.{client_at}
 use Rattle.aom_semantics.specs.Places.{Asked, Cell, Close_of, Connect_of, Message_of, Place as Owner, Sender, service_of}
-use Rattle.aom_semantics.specs.Servers.{holds_slot, is_among, is_queue, slots_taken}
+use Rattle.aom_semantics.specs.Servers.{holds_slot, is_among, is_queue}
 
 -- the number of the message at a place, past those of cells
 abbrev pub message_name : ℕ → ℕ
@@ -67,12 +67,13 @@ pub record SameClients (s : kept.State) (cs : List Cell) (clients : List Client)
   pub sessions : (n : ℕ) → kept.sessions_at s n ≡ (service_of cs n).sessions
   pub senders : (m : ℕ) → sent_by (holds s m) (kept.place_at s m) ≡ (service_of cs (message_name m)).sender
   pub waits : (m : ℕ) → is_queued (kept.place_at s m) ≡ waits_in (owner_of cs (message_name m))
-  -- of each client the messages that hold a slot of it, each once
-  pub slots_of : (c m : ℕ) → is_among m (kept.sent_at s c) ≡ holds_slot c (service_of cs (message_name m)).sender
+  -- the messages that hold a slot of a client wait or are held, and are of it, each once
+  pub out : (c m : ℕ) → is_among m (kept.sent_at s c) ≡ true → is_out_of c (kept.place_at s m) ≡ true
   -- what waits holds one
   pub slotted : (m c : ℕ) → kept.place_at s m ≡ Queued c → is_among m (kept.sent_at s c) ≡ true
   pub once : (c : ℕ) → Once (kept.sent_at s c)
-  pub slots : (c : ℕ) → length (kept.sent_at s c) ≡ slots_taken c cs
+  -- an object holds none
+  pub silent : (n c : ℕ) → n < 4096 → holds_slot c (service_of cs n).sender ≡ false
   pub many : length s.clients ≡ 64
   pub lists : length s.sent ≡ 64
 

@@ -355,7 +355,7 @@ all_declared : (p : Image) (t : Typing) (c : Prices) → IsAffordable p t c → 
 all_declared p t c affords objects x = grind arith
 
 -- a declaration is a number of 32 bits
-declared_fits : (p : Image) → WellFormed p → (payer : Option ℕ) → declared_of p payer < 2 ^ 32
+pub declared_fits : (p : Image) → WellFormed p → (payer : Option ℕ) → declared_of p payer < 2 ^ 32
 unfolding class_at
 declared_fits p formed None = formed.header.budget
 declared_fits p formed (Some x) = of_class (slice_get p.classes x) refl
