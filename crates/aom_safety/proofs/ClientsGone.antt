@@ -11,10 +11,10 @@ use Rattle.aom_clients.specs.declared.client.Client.{Client}
 use Rattle.aom_clients.specs.declared.client.Client.TheVariants.{Unconnected}
 use Rattle.aom_semantics.proofs.Altering.{held_kept, named_kept, read_kept, requests, unslotting}
 use Rattle.aom_safety.proofs.ClientsFit.{connecting_only, leaving_only}
-use Rattle.aom_safety.proofs.ClientsSteady.{carried_sifted, fit_eased}
+use Rattle.aom_safety.proofs.ClientsSteady.{carried_sifted, fit_eased, quiet_waiting, sender_stays}
 use Rattle.aom_semantics.proofs.Maps.{cond_same, same_place-true, same_place_comm, same_place_refl}
 use Rattle.aom_safety.proofs.Queues.{client_here, client_there, none_passes}
-use Rattle.aom_safety.proofs.Sifted.{a_cell_of, cell_in, cell_lives, cell_name, cell_of, cell_owner, cell_placed, held_cell, named_cell, object_in, service_cell, service_gone, service_in, service_sifted, sifted, clients_sifted}
+use Rattle.aom_safety.proofs.Sifted.{a_cell_of, cell_in, cell_lives, cell_name, cell_of, cell_owner, cell_placed, held_cell, service_gone, sifted, clients_sifted}
 use Rattle.aom_safety.proofs.Sources.{has_sender, served_as, sources_as, sources_at, unslotted_one, unslotted_some}
 use Rattle.aom_safety.proofs.Unslotting.{each_unslotted_alike, service_unslotted}
 use Rattle.aom_semantics.specs.Clients.{client_at, each_unslotted, queue_ended, sessions_ended, most_of}
@@ -169,16 +169,8 @@ module _
           let equal : x ≡ o_cell.0 = cc in
           true≢false (sym (eq-eqb o.name n (ap (λ y. y.name) (sym o_cell.2) ∙ ap (λ y. y.object.name) (sym equal) ∙ name)) ∙ other)
 
-      waits : (k m : ℕ) → x.owner ≡ Elsewhere (Queued k m) → (x.service.queue ≡ []) × (x.service.sessions ≡ [])
-      waits k m at =
-          let holds : held cs (Elsewhere (Queued k m)) ≡ Some x.object = ap (λ q. held cs q) (sym at) ∙ held_cell cs x.owner ∙ ap object_in in_place in
-          let lives = cell_lives cs x.owner x tidy in_place in
-          let none = fit.servers x.object (named_cell cs x.object.name ∙ ap object_in lives) (waiting k m x.object holds) in
-          let same : service_of cs x.object.name ≡ x.service = service_cell cs x.object.name ∙ ap service_in lives in
-          (ap (λ v. v.queue) (sym same) ∙ none.0, ap (λ v. v.sessions) (sym same) ∙ none.1)
-
       go : (q : Place) → x.owner ≡ q → (is_queue_of o.name x.owner || same_place x.owner g) ≡ true → (x.service.queue ≡ []) × (x.service.sessions ≡ [])
-      go (Elsewhere (Queued k m)) at h = waits k m at
+      go (Elsewhere (Queued k m)) at h = quiet_waiting p clients cs tidy fit waiting n x e k m at
       go q at h = absurd (not_it (ap (λ r. is_queue_of o.name r || same_place x.owner g) (sym at) ∙ h))
 
   service_left : (n : ℕ) → (o.name == n) ≡ false → ((service_of left n).queue ≡ (service_of cs n).queue) × ((service_of left n).sessions ≡ (service_of cs n).sessions)
@@ -203,16 +195,10 @@ module _
 
   -- a message in the queue of another server stays
   sender_left : (n d m : ℕ) → (o.name == n) ≡ false → list_any (is_message_of d m) (service_of cs n).queue ≡ true → is_from d (service_of left m).sender ≡ true
-  sender_left n d m other h =
-      let x = queued n d m h in
-      let y = a_cell_of (cell_in cs (Elsewhere (Queued n m))) x.0 (sym (held_cell cs (Elsewhere (Queued n m))) ∙ x.1) in
-      let lives : cell_of cs y.0.object.name ≡ Some y.0 = cell_lives cs (Elsewhere (Queued n m)) y.0 tidy y.1 in
-      let name : y.0.object.name ≡ m = ap (λ z. z.name) y.2 ∙ fit.names n m x.0 x.1 in
-      let here : cell_of cs m ≡ Some y.0 = ap (λ k. cell_of cs k) (sym name) ∙ lives in
-      let owner : y.0.owner ≡ Elsewhere (Queued n m) = cell_owner cs (Elsewhere (Queued n m)) y.0 y.1 in
-      let stays : drops y.0 ≡ false =
-      grind (arith, nat_tests, ne_eqb n o.name, eq-eqb o.name n, same_place_comm (Elsewhere (Queued n m)) g) in
-      subst (λ v. is_from d v.sender ≡ true) (service_cell cs m ∙ ap service_in here ∙ sym (service_sifted drops (λ c. c.service) cs tidy m y.0 here stays)) (fit.senders n d m h)
+  sender_left n d m other h = sender_stays p clients cs tidy fit drops queued n d m stays h
+    where
+      stays : (y : Cell) → y.owner ≡ Elsewhere (Queued n m) → drops y ≡ false
+      stays y owner = grind (arith, nat_tests, ne_eqb n o.name, eq-eqb o.name n, same_place_comm (Elsewhere (Queued n m)) g)
 
   has_left : (n d : ℕ) → (o.name == n) ≡ false → has_session (service_of left n) d ≡ has_session (service_of cs n) d
   has_left n d other = ap (λ xs. list_any (λ k. k == d) xs) (service_left n other).1

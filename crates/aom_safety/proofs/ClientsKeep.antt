@@ -16,7 +16,7 @@ use Rattle.aom_safety.proofs.ClientsFacts.{IsAt, goes_apart, queued_well, server
 use Rattle.aom_safety.proofs.ClientsFit.{IsFit, fit_parted}
 use Rattle.aom_safety.proofs.ClientsGone.{fit_gone, stage_gone}
 use Rattle.aom_safety.proofs.ClientsSteady.{Steady, fit_steady}
-use Rattle.aom_safety.proofs.ClientsMoves.{fit_unconnected, steady_ended, steady_moved, steady_redeemed, tasks_steady}
+use Rattle.aom_safety.proofs.ClientsMoves.{fit_unconnected, steady_ended, steady_moved, steady_redeemed, tasks_staged, tasks_steady}
 use Rattle.aom_safety.proofs.Redeeming.{redeemed_by_alike}
 use Rattle.aom_safety.proofs.TokensKeep.{boot_apart, moved_apart, turned_apart}
 use Rattle.aom_safety.proofs.ClientsReturn.{fit_without, return_kept, tasks_without}
@@ -145,20 +145,6 @@ module _ (p : Image) (s : State) (fit : ClientsFit p s.clients s.cells) where
 
 tasks_resumed : (p : Image) (clients : List Client) (cs : List Cell) (ts : List Task) → TasksKept p clients cs ts → TasksKept p clients cs (resumed ts)
 tasks_resumed p clients cs x k = grind arith
-
--- what a stage has stays kept, so do tasks
-tasks_staged :
-    (p : Image) (clients clients' : List Client) (cs cs' : List Cell) (ts : List Task) →
-    ((x : Seat) (c : ℕ) (stage : Stage) → IsAt (Of_server x c stage) ts → StageKept p clients cs x.object c stage → StageKept p clients' cs' x.object c stage) → TasksKept p clients cs ts →
-    TasksKept p clients' cs' ts
-tasks_staged p clients clients' cs cs' [] still k = tt
-tasks_staged p clients clients' cs cs' (Run fr ∷ ts) still k = tasks_staged p clients clients' cs cs' ts still k
-tasks_staged p clients clients' cs cs' (Trapped ∷ ts) still k = tasks_staged p clients clients' cs cs' ts still k
-tasks_staged p clients clients' cs cs' (Destroy ∷ ts) still k = tasks_staged p clients clients' cs cs' ts still k
-tasks_staged p clients clients' cs cs' (Closing ∷ ts) still k = tasks_staged p clients clients' cs cs' ts still k
-tasks_staged p clients clients' cs cs' (Unwind code ∷ ts) still k = tasks_staged p clients clients' cs cs' ts still k
-tasks_staged p clients clients' cs cs' (Dispatched (Of_server x c stage) ∷ ts) still k = still x c stage refl k
-tasks_staged p clients clients' cs cs' (Dispatched _ ∷ ts) still k = tt
 
 -- ---- each move
 

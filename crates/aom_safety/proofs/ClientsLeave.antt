@@ -11,10 +11,10 @@ use Rattle.aom_clients.specs.Table.{server_of}
 use Rattle.aom_clients.specs.declared.client.Client.{Client}
 use Rattle.aom_safety.proofs.ClientsAsk.{fit_asked}
 use Rattle.aom_safety.proofs.ClientsFit.{Changes, listed_changed, sessions_changed}
-use Rattle.aom_safety.proofs.ClientsSteady.{Carried, carried_sifted, fit_eased}
+use Rattle.aom_safety.proofs.ClientsSteady.{Carried, carried_sifted, fit_eased, quiet_waiting}
 use Rattle.aom_safety.proofs.Queues.{client_here, client_of, entry_other, is_of, none_stays, queue_other, queue_stays}
 use Rattle.aom_safety.proofs.Seated.{seats_asked, seats_left}
-use Rattle.aom_safety.proofs.Sifted.{cell_of_sifted, kept, cell_lives, cell_of, cell_placed, held_cell, named_cell, object_in, service_cell, service_gone, service_in, service_sifted, sifted, withdrawn_so}
+use Rattle.aom_safety.proofs.Sifted.{cell_of_sifted, kept, cell_of, service_cell, service_gone, service_in, service_sifted, sifted, withdrawn_so}
 use Rattle.aom_safety.proofs.Sources.{discarded_one, discarded_some}
 use Rattle.aom_semantics.specs.Clients.{client_at, with_client}
 use Rattle.aom_safety.specs.Kept.{ClientsFit, QueueFits, is_close_of, is_message_of, one_if_some}
@@ -77,16 +77,8 @@ module _ (p : Image) (clients : List Client) (cs : List Cell) (tidy : Tidy cs) (
   pub empty : (n : ℕ) (x : Cell) → cell_of cs n ≡ Some x → drops x ≡ true → (x.service.queue ≡ []) × (x.service.sessions ≡ [])
   empty n x e goes = go x.owner refl goes
     where
-      lives : cell_of cs x.object.name ≡ Some x
-      lives = cell_lives cs x.owner x tidy (cell_placed cs n x tidy e)
-
       go : (q : Place) → x.owner ≡ q → (is_queue q && is_from c x.service.sender) ≡ true → (x.service.queue ≡ []) × (x.service.sessions ≡ [])
-      go (Elsewhere (Queued k m)) at g =
-          let there : held cs (Elsewhere (Queued k m)) ≡ Some x.object = ap (λ q. held cs q) (sym at) ∙ held_cell cs x.owner ∙ ap object_in (cell_placed cs n x tidy e) in
-          let plain = waiting k m x.object there in
-          let none = fit.servers x.object (named_cell cs x.object.name ∙ ap object_in lives) plain in
-          let same : service_of cs x.object.name ≡ x.service = service_cell cs x.object.name ∙ ap service_in lives in
-          (ap (λ v. v.queue) (sym same) ∙ none.0, ap (λ v. v.sessions) (sym same) ∙ none.1)
+      go (Elsewhere (Queued k m)) at g = quiet_waiting p clients cs tidy fit waiting n x e k m at
       go _ at g = cc
 
   -- so that each queue loses its entries alone, and sessions stay

@@ -15,6 +15,7 @@ use Rattle.aom_clients.specs.Nodes.{is_connecting_at}
 use Rattle.aom_clients.specs.declared.client.Client.{Client}
 use Rattle.aom_clients.specs.declared.client.Client.TheVariants.{Unconnected}
 use Rattle.aom_semantics.proofs.Altering.{Alters, held_kept, named_kept, opening, read_kept, requests, services, storing}
+use Rattle.aom_safety.proofs.ClientsFacts.{IsAt}
 use Rattle.aom_safety.proofs.ClientsFit.{Changes, connecting_only, listed_changed, none_of_connecting, sessions_changed}
 pub use Rattle.aom_safety.proofs.ClientsSteady.{Steady, fit_steady}
 use Rattle.aom_safety.proofs.ClientsSteady.{carried_itself, fit_eased, steady_as, steady_itself, steady_more, steady_moved_then, steady_same}
@@ -34,11 +35,25 @@ use Rattle.aom_semantics.specs.Enlisted.{ended_cells, on_request, own_request, r
 use Rattle.aom_safety.specs.Kept.{ClientsFit, ConnectKept, StageKept, TasksKept, is_close_of, is_connect_of}
 use Rattle.aom_semantics.specs.Natives.{resessioned}
 use Rattle.aom_semantics.specs.Places.{Cell, Elsewhere, Entry, In_service, Object, Place, Queued, Request, Token, held, moved, named, same_place, service_of, set_request, with_new, requested}
-use Rattle.aom_semantics.specs.State.{Accept_left, Accepted, Accepts, AtRoot, Closing, Destroy, Dispatched, Frame, Home, Inside, Of_server, Parts, Run, Service_left, Serves, Stage, State, Static, Task, Trapped, Unwind, field_place}
+use Rattle.aom_semantics.specs.State.{Accept_left, Accepted, Accepts, AtRoot, Closing, Destroy, Dispatched, Frame, Home, Inside, Of_server, Parts, Run, Seat, Service_left, Serves, Stage, State, Static, Task, Trapped, Unwind, field_place}
 use Rattle.aom_semantics.specs.Words.{here, stored}
 use Rattle.aom_safety.proofs.Seated.{seats_same}
 
 -- ---- tasks
+
+-- what a stage has stays kept, so do tasks
+pub tasks_staged :
+    (p : Image) (clients clients' : List Client) (cs cs' : List Cell) (ts : List Task) →
+    ((x : Seat) (c : ℕ) (stage : Stage) → IsAt (Of_server x c stage) ts → StageKept p clients cs x.object c stage → StageKept p clients' cs' x.object c stage) → TasksKept p clients cs ts →
+    TasksKept p clients' cs' ts
+tasks_staged p clients clients' cs cs' [] still k = tt
+tasks_staged p clients clients' cs cs' (Run fr ∷ ts) still k = tasks_staged p clients clients' cs cs' ts still k
+tasks_staged p clients clients' cs cs' (Trapped ∷ ts) still k = tasks_staged p clients clients' cs cs' ts still k
+tasks_staged p clients clients' cs cs' (Destroy ∷ ts) still k = tasks_staged p clients clients' cs cs' ts still k
+tasks_staged p clients clients' cs cs' (Closing ∷ ts) still k = tasks_staged p clients clients' cs cs' ts still k
+tasks_staged p clients clients' cs cs' (Unwind code ∷ ts) still k = tasks_staged p clients clients' cs cs' ts still k
+tasks_staged p clients clients' cs cs' (Dispatched (Of_server x c stage) ∷ ts) still k = still x c stage refl k
+tasks_staged p clients clients' cs cs' (Dispatched _ ∷ ts) still k = tt
 
 module _ (p : Image) (clients : List Client) (cs cs' : List Cell) (queues : (n : ℕ) → (service_of cs' n).queue ≡ (service_of cs n).queue)
     (sessions : (n : ℕ) → (service_of cs' n).sessions ≡ (service_of cs n).sessions) where
@@ -64,14 +79,7 @@ module _ (p : Image) (clients : List Client) (cs cs' : List Cell) (queues : (n :
   stage_queues o c (Service_left code) k = tt
 
   pub tasks_queues : (ts : List Task) → TasksKept p clients cs ts → TasksKept p clients cs' ts
-  tasks_queues [] k = tt
-  tasks_queues (Run fr ∷ ts) k = tasks_queues ts k
-  tasks_queues (Trapped ∷ ts) k = tasks_queues ts k
-  tasks_queues (Destroy ∷ ts) k = tasks_queues ts k
-  tasks_queues (Closing ∷ ts) k = tasks_queues ts k
-  tasks_queues (Unwind code ∷ ts) k = tasks_queues ts k
-  tasks_queues (Dispatched (Of_server x c stage) ∷ ts) k = stage_queues x.object c stage k
-  tasks_queues (Dispatched _ ∷ ts) k = tt
+  tasks_queues ts k = tasks_staged p clients clients cs cs' ts (λ x c stage at. stage_queues x.object c stage) k
 
 pub tasks_steady : (p : Image) (clients : List Client) (cs cs' : List Cell) → Steady cs cs' → (ts : List Task) → TasksKept p clients cs ts → TasksKept p clients cs' ts
 tasks_steady p clients cs cs' still ts k = tasks_queues p clients cs cs' still.queues still.sessions ts k

@@ -8,15 +8,15 @@ use Rattle.aom_image.specs.declared.method.Gives.{Gives}
 use Rattle.aom_clients.specs.declared.client.Client.{Client}
 use Rattle.aom_safety.proofs.ClientsFacts.{IsAt}
 use Rattle.aom_safety.proofs.ClientsFit.{IsFit, fit_accepted}
-use Rattle.aom_safety.proofs.ClientsSteady.{Steady, carried_sifted, fit_steady}
+use Rattle.aom_safety.proofs.ClientsSteady.{Steady, carried_sifted, fit_steady, quiet_cell, sender_stays}
 use Rattle.aom_safety.proofs.ClientsMoves.{NoQueue, steady_moved, steady_result, tasks_queues, tasks_steady}
 use Rattle.aom_semantics.proofs.Maps.{named_moved, same_place-true, same_place_comm, requested_moved}
-use Rattle.aom_safety.proofs.Sifted.{a_cell_of, cell_in, cell_lives, cell_of, cell_owner, cell_placed, held_cell, named_cell, object_in, service_cell, service_in, service_sifted, sifted, clients_sifted}
+use Rattle.aom_safety.proofs.Sifted.{cell_in, cell_of, cell_placed, held_cell, object_in, sifted, clients_sifted}
 use Rattle.aom_semantics.specs.Calls.{answered_by, result_cells, returned}
 use Rattle.aom_semantics.specs.Clients.{most_of}
 use Rattle.aom_safety.specs.Kept.{ClientsFit, TasksKept, is_connect_of, is_message_of}
 use Rattle.aom_semantics.specs.Places.{Cell, Elsewhere, Object, Place, Queued, Session, Tidy, held, moved, named, same_place, service_of, without, requested}
-use Rattle.aom_semantics.specs.Servers.{is_from, is_server}
+use Rattle.aom_semantics.specs.Servers.{is_server}
 use Rattle.aom_semantics.specs.State.{Home, Accept_left, Accepts, Destroy, Dispatch, Dispatched, Frame, Of_server, Parts, Run, Seat, State, Task, Trapped, Unwind}
 use Rattle.aom_semantics.specs.Words.{here}
 use Rattle.aom_semantics.specs.Enlisted.{thing_kind}
@@ -102,32 +102,22 @@ module _
   empty : (n : ℕ) (x : Cell) → cell_of cs n ≡ Some x → drops x ≡ true → (x.service.queue ≡ []) × (x.service.sessions ≡ [])
   empty n x e goes =
       let in_place : cell_in cs x.owner ≡ Some x = cell_placed cs n x tidy e in
-      let lives = cell_lives cs x.owner x tidy in_place in
       let one : Some x.object ≡ Some o = sym (held_cell cs x.owner ∙ ap object_in in_place) ∙ ap (λ q. held cs q) (same_place-true x.owner g goes) ∙ there in
       let equal : x.object ≡ o = cc in
-      let none = fit.servers x.object (named_cell cs x.object.name ∙ ap object_in lives) (ap (λ y. is_server p y.thing) equal ∙ plain) in
-      let same : service_of cs x.object.name ≡ x.service = service_cell cs x.object.name ∙ ap service_in lives in
-      (ap (λ v. v.queue) (sym same) ∙ none.0, ap (λ v. v.sessions) (sym same) ∙ none.1)
+      quiet_cell p clients cs tidy fit n x e (ap (λ y. is_server p y.thing) equal ∙ plain)
 
   service_left : (n : ℕ) → ((service_of left n).queue ≡ (service_of cs n).queue) × ((service_of left n).sessions ≡ (service_of cs n).sessions)
   service_left n = clients_sifted drops cs tidy n (empty n)
 
-  sender_left : (n d m : ℕ) → list_any (is_message_of d m) (service_of cs n).queue ≡ true → is_from d (service_of left m).sender ≡ true
-  sender_left n d m h =
-      let x = queued n d m h in
-      let y = a_cell_of (cell_in cs (Elsewhere (Queued n m))) x.0 (sym (held_cell cs (Elsewhere (Queued n m))) ∙ x.1) in
-      let lives : cell_of cs y.0.object.name ≡ Some y.0 = cell_lives cs (Elsewhere (Queued n m)) y.0 tidy y.1 in
-      let name : y.0.object.name ≡ m = ap (λ z. z.name) y.2 ∙ fit.names n m x.0 x.1 in
-      let at : cell_of cs m ≡ Some y.0 = ap (λ k. cell_of cs k) (sym name) ∙ lives in
-      let stays : drops y.0 ≡ false = ap (λ q. same_place q g) (cell_owner cs (Elsewhere (Queued n m)) y.0 y.1) ∙ same_place_comm (Elsewhere (Queued n m)) g ∙ apart n m in
-      subst (λ v. is_from d v.sender ≡ true) (service_cell cs m ∙ ap service_in at ∙ sym (service_sifted drops (λ c. c.service) cs tidy m y.0 at stays)) (fit.senders n d m h)
+  stays : (n m : ℕ) (y : Cell) → y.owner ≡ Elsewhere (Queued n m) → drops y ≡ false
+  stays n m y owner = ap (λ q. same_place q g) owner ∙ same_place_comm (Elsewhere (Queued n m)) g ∙ apart n m
 
   steady_left : Steady cs left
   steady_left = record {
     carried = carried_sifted drops (λ c. c.service) (λ c. refl) (λ c. refl) cs tidy;
     queues = λ n. (service_left n).0;
     sessions = λ n. (service_left n).1;
-    senders = λ n d m h from. sender_left n d m h;
+    senders = λ n d m h from. sender_stays p clients cs tidy fit drops queued n d m (stays n m) h;
   }
 
   pub fit_without : ClientsFit p clients (without g cs)

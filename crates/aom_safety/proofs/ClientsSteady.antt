@@ -9,14 +9,14 @@ use Rattle.aom_clients.specs.declared.client.Client.{Client}
 use Rattle.aom_roles.specs.Things.{is_object}
 use Rattle.aom_safety.proofs.Seated.{seats_same}
 use Rattle.aom_safety.proofs.Services.{service_unnamed}
-use Rattle.aom_safety.proofs.Sifted.{held_cell, named_before, named_cell, object_in, placed_before, requested_before, sifted}
+use Rattle.aom_safety.proofs.Sifted.{a_cell_of, cell_in, cell_lives, cell_of, cell_owner, cell_placed, held_cell, named_before, named_cell, object_in, placed_before, requested_before, service_cell, service_in, service_sifted, sifted}
 use Rattle.aom_safety.proofs.Sources.{served_as, served_sifted, sources_as, sources_sifted}
 use Rattle.aom_safety.specs.Kept.{ClientsFit, HasSources, QueueFits, ServesSent, is_message_of, sources_of}
 use Rattle.aom_semantics.proofs.Maps.{requested_unnamed, same_place-true}
 use Rattle.aom_semantics.specs.Clients.{client_at, most_of}
 use Rattle.aom_semantics.specs.Enlisted.{thing_kind}
 use Rattle.aom_semantics.specs.Places.{Cell, Elsewhere, In_service, Object, Place, Queued, Service, Tidy, held, named, requested, same_place, service_of, unserved}
-use Rattle.aom_semantics.specs.Servers.{has_session, is_among, is_from, seats_taken}
+use Rattle.aom_semantics.specs.Servers.{has_session, is_among, is_from, is_server, seats_taken}
 
 -- ---- what is kept of cells, whatever clients are at
 
@@ -53,7 +53,7 @@ carried_sifted drops f sources senders cs tidy = record {
 -- ---- servers have no more than they had
 
 -- nobody asks anything of it, and nobody has a session with it
-abbrev IsQuiet : Service → Type 0
+abbrev pub IsQuiet : Service → Type 0
 IsQuiet v = (v.queue ≡ []) × (v.sessions ≡ [])
 
 -- and what they have is of these clients
@@ -215,3 +215,32 @@ steady_more x cs free queue sessions named_so source aside = record {
     sources : HasSources cs → (o : Object) (b : Bool) → cond b (Some x.object) (named cs o.name) ≡ Some o → sources_of (cond b x.service (service_of cs o.name)) ≡ cond (is_object o.thing) 0 1
     sources had o true h = let same : x.object ≡ o = cc in source ∙ ap (λ (y : Object). cond (is_object y.thing) 0 1) same
     sources had o false h = had o h
+
+-- ---- a cell that goes, and one that stays
+
+module _ (p : Image) (clients : List Client) (cs : List Cell) (tidy : Tidy cs) (fit : ClientsFit p clients cs) where
+  -- of what is no server nobody asks anything
+  pub quiet_cell : (n : ℕ) (x : Cell) → cell_of cs n ≡ Some x → is_server p x.object.thing ≡ false → IsQuiet x.service
+  quiet_cell n x e plain =
+      let lives = cell_lives cs x.owner x tidy (cell_placed cs n x tidy e) in
+      subst IsQuiet (service_cell cs x.object.name ∙ ap service_in lives) (fit.servers x.object (named_cell cs x.object.name ∙ ap object_in lives) plain)
+
+  -- nor of what waits in a queue
+  pub quiet_waiting :
+      ((n m : ℕ) (o : Object) → held cs (Elsewhere (Queued n m)) ≡ Some o → is_server p o.thing ≡ false) →
+      (n : ℕ) (x : Cell) → cell_of cs n ≡ Some x → (k m : ℕ) → x.owner ≡ Elsewhere (Queued k m) → IsQuiet x.service
+  quiet_waiting waiting n x e k m at = quiet_cell n x e (waiting k m x.object (ap (held cs) (sym at) ∙ held_cell cs x.owner ∙ ap object_in (cell_placed cs n x tidy e)))
+
+  -- a message that stays in its queue has its sender still
+  pub sender_stays :
+      (drops : Cell → Bool) → ((n c m : ℕ) → list_any (is_message_of c m) (service_of cs n).queue ≡ true → (x : Object) × (held cs (Elsewhere (Queued n m)) ≡ Some x)) →
+      (n d m : ℕ) → ((y : Cell) → y.owner ≡ Elsewhere (Queued n m) → drops y ≡ false) → list_any (is_message_of d m) (service_of cs n).queue ≡ true →
+      is_from d (service_of (sifted drops (λ c. c.service) cs) m).sender ≡ true
+  sender_stays drops queued n d m stays h =
+      let x = queued n d m h in
+      let y = a_cell_of (cell_in cs (Elsewhere (Queued n m))) x.0 (sym (held_cell cs (Elsewhere (Queued n m))) ∙ x.1) in
+      let lives : cell_of cs y.0.object.name ≡ Some y.0 = cell_lives cs (Elsewhere (Queued n m)) y.0 tidy y.1 in
+      let name : y.0.object.name ≡ m = ap (λ z. z.name) y.2 ∙ fit.names n m x.0 x.1 in
+      let here : cell_of cs m ≡ Some y.0 = ap (cell_of cs) (sym name) ∙ lives in
+      let left = service_sifted drops (λ c. c.service) cs tidy m y.0 here (stays y.0 (cell_owner cs (Elsewhere (Queued n m)) y.0 y.1)) in
+      subst (λ v. is_from d v.sender ≡ true) (service_cell cs m ∙ ap service_in here ∙ sym left) (fit.senders n d m h)
