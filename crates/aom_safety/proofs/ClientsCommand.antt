@@ -165,13 +165,11 @@ module _ (p : Image) (c : ℕ) (s : State) (tidy : Tidy s.cells) (fit : ClientsF
     fit_closes _ at = fit
 
     fit_dies : (k : Client) → own ≡ k → ClientsFit p (leaving p c s (row k).die).clients (leaving p c s (row k).die).cells
-    fit_dies Unconnected at = grind (arith, nat_tests, goes_alone Dead)
-    fit_dies (Connecting server slots) at = grind (arith, nat_tests, goes_alone Dead)
     fit_dies (Open server session slots) at = grind (arith, nat_tests, goes_told server session slots at (Dying server session), eq-eqb server server)
     fit_dies (Closing server session) at = grind (arith, nat_tests, goes_still (Dying server session))
-    fit_dies Gone at = grind (arith, nat_tests, goes_alone Dead)
     fit_dies Dead at = fit
     fit_dies (Dying server session) at = fit
+    fit_dies _ at = grind (arith, nat_tests, goes_alone Dead)
 
     -- whatever is commanded
     pub fit_commanded : (command : Command) (name : ℕ) → named s.cells name ≡ None → ClientsFit p (commanded p c s command name).clients (commanded p c s command name).cells

@@ -23,9 +23,9 @@ use Rattle.aom_safety.proofs.Services.{service_unnamed}
 use Rattle.aom_safety.specs.Claims.{Dispatching, Dying, Ending, Layer, Mark, Method, Unwinding, by_stage, claim, declared, delivered, serves, tasks_of}
 use Rattle.aom_safety.specs.Kept.{ClientsFit, is_message_of}
 use Rattle.aom_safety.specs.Laws.{IsWired}
-use Rattle.aom_semantics.specs.Places.{Asked, Cell, Close_of, Connect_of, Elsewhere, Going, In_service, Message_of, Object, Place, Queued, held, named, seen, service_of, requested}
+use Rattle.aom_semantics.specs.Places.{Asked, Cell, Elsewhere, Going, In_service, Message_of, Object, Place, Queued, held, named, seen, service_of, requested}
 use Rattle.aom_semantics.specs.Servers.{has_message, is_message, is_server, message_thing}
-use Rattle.aom_semantics.specs.State.{Closing, Destroy, Dispatch, Dispatched, Of_server, Run, Seat, Stage, State, Task, Trapped, Unwind}
+use Rattle.aom_semantics.specs.State.{Destroy, Dispatch, Dispatched, Of_server, Seat, Stage, State, Task}
 use Rattle.aom_safety.specs.WellTyped.{Back, Caught, Fits, Gone, Leaves, Now, Returns, SomeIn, Stack, WellTyped}
 use Rattle.aom_roles.specs.Things.{stands_for}
 use Rattle.aom_safety.proofs.Things.{stands_message, message_plain}
@@ -37,9 +37,8 @@ claim_queued p d (l ∷ ls) n m = claim_queued p d ls n m
 
 message_any : (c m : ℕ) (es : List Asked) → list_any (is_message_of c m) es ≡ true → list_any (λ e. is_message m e) es ≡ true
 message_any c m [] h = cc
-message_any c m (Connect_of d ∷ es) h = message_any c m es h
-message_any c m (Close_of d ∷ es) h = message_any c m es h
 message_any c m (Message_of d k ∷ es) h = grind (arith, nat_tests, message_any c m es)
+message_any c m (_ ∷ es) h = message_any c m es h
 
 module _ (p : Image) (t : Typing) (s : State) (w : WellTyped p t s) where
   -- what a client sent waits in the queue
@@ -81,12 +80,8 @@ module _ (p : Image) (t : Typing) (wired : IsWired p) (s : State) (w : WellTyped
 
 abbrev pub IsAt : Dispatch → List Task → Type 0
 IsAt d [] = ⊥
-IsAt d (Run fr ∷ ts) = IsAt d ts
-IsAt d (Trapped ∷ ts) = IsAt d ts
-IsAt d (Destroy ∷ ts) = IsAt d ts
-IsAt d (Closing ∷ ts) = IsAt d ts
-IsAt d (Unwind code ∷ ts) = IsAt d ts
 IsAt d (Dispatched e ∷ ts) = e ≡ d
+IsAt d (_ ∷ ts) = IsAt d ts
 
 abbrev pub ServerLives : Image → List Cell → Seat → List Layer → Type 0
 ServerLives p cs x ls = (named cs x.object.name ≡ Some x.object) × (is_server p x.object.thing ≡ true) × SomeIn x.object.name ls × (is_some (requested cs x.object.name) ≡ true)

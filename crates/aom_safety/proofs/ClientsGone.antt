@@ -20,7 +20,7 @@ use Rattle.aom_safety.proofs.Unslotting.{each_unslotted_alike, service_unslotted
 use Rattle.aom_semantics.specs.Clients.{client_at, each_unslotted, queue_ended, sessions_ended, most_of}
 use Rattle.aom_safety.specs.Kept.{ClientsFit, EntryFits, QueueFits, ConnectKept, StageKept, is_close_of, is_connect_of, is_message_of}
 use Rattle.aom_semantics.specs.Places.{Asked, Cell, Close_of, Connect_of, Elsewhere, In_service, Message_of, Object, Place, Queued, Sender, Tidy, held, named, same_place, service_of, unserved, without, requested}
-use Rattle.aom_semantics.specs.State.{Accept_left, Accepted, Accepts, Parts, Service_left, Serves, Stage}
+use Rattle.aom_semantics.specs.State.{Accept_left, Accepts, Parts, Stage}
 use Rattle.aom_semantics.specs.Servers.{all_unslotted, has_session, is_from, is_queue_of, is_server, unslotted, without_queue, seats_taken}
 use Rattle.aom_semantics.specs.Enlisted.{thing_kind}
 use Rattle.aom_safety.proofs.Seated.{seats_same}
@@ -266,6 +266,4 @@ module _
       at Accepts k = connect k
       at (Accept_left code) k = connect k
       at Parts k = (ap (λ x. is_leaving n x) (with_session n c other (leaving_only n n (client_at clients c) k.0).2) ∙ k.0, ap (λ q. list_any (is_close_of c) q) queue ∙ k.1)
-      at Accepted k = tt
-      at (Serves y) k = tt
-      at (Service_left code) k = tt
+      at _ k = tt

@@ -41,7 +41,7 @@ use Rattle.aom_safety.specs.Laws.{ClientsKeep, IsWired}
 use Rattle.aom_semantics.specs.Moves.{answered, asking, counted, dispatch_ends, handled, main_ends, object_ends, stage_ends, step}
 use Rattle.aom_semantics.specs.Places.{Cell, Elsewhere, Entry, Going, In_service, Object, Place, Queued, Root, Tidy, held, moved, named, service_of, without, requested, Request}
 use Rattle.aom_semantics.specs.Servers.{is_server}
-use Rattle.aom_semantics.specs.State.{Accept_left, Accepted, Accepts, Answered, Asks, Choice, Closing, Destroy, Dispatch, Dispatched, Frame, Goes, Main_left, Object_left, Of_main, Of_object, Of_root, Of_server, Parts, Run, Seat, Service_left, Serves, Stage, State, Task, Trapped, Unwind, resumed}
+use Rattle.aom_semantics.specs.State.{Accept_left, Accepts, Answered, Asks, Choice, Closing, Destroy, Dispatch, Dispatched, Frame, Goes, Object_left, Of_main, Of_object, Of_root, Of_server, Parts, Run, Seat, Service_left, Stage, State, Task, Trapped, Unwind, resumed}
 use Rattle.aom_safety.specs.WellTyped.{Now, WellTyped}
 use Rattle.aom_semantics.specs.World.{boot_state, main_tasks}
 use Rattle.std.specs.Prelude.{is_some}
@@ -124,22 +124,19 @@ module _ (p : Image) (s : State) (fit : ClientsFit p s.clients s.cells) where
     stage_kept :
         (x : Seat) (c : ℕ) (stage : Stage) → named s.cells x.object.name ≡ Some x.object → is_server p x.object.thing ≡ true → is_some (requested s.cells x.object.name) ≡ true →
         StageKept p s.clients s.cells x.object c stage → IsFit p (stage_ends x c stage s)
-    stage_kept x c Accepts lives serves listed k = same_cells p s fit _ refl refl tt
-    stage_kept x c Accepted lives serves listed k = same_cells p s fit _ refl refl tt
-    stage_kept x c (Serves o) lives serves listed k = same_cells p s fit _ refl refl tt
     stage_kept x c (Accept_left code) lives serves listed k = record { fit = fit_unconnected p s.clients s.cells fit x.object.name c k.0 k.1; stage = tt }
     stage_kept x c (Service_left code) lives serves listed k = record { fit = service_gone_kept; stage = tt }
     stage_kept x c Parts lives serves listed k = record { fit = fit_parted p s.clients s.cells fit x.object lives serves listed c k.0 k.1; stage = tt }
+    stage_kept x c _ lives serves listed k = same_cells p s fit _ refl refl tt
 
     dispatch_kept : (d : Dispatch) (ts : List Task) → ((x : Seat) (c : ℕ) (stage : Stage) → d ≡ Of_server x c stage → (named s.cells x.object.name ≡ Some x.object) × (is_server p x.object.thing ≡ true) × (is_some (requested s.cells x.object.name) ≡ true)) → TasksKept p s.clients s.cells (Dispatched d ∷ ts) → IsFit p (dispatch_ends p d s)
     dispatch_kept Of_main ts there k = main_kept p s fit s.rest.stopped (held s.cells (Elsewhere Root))
-    dispatch_kept (Main_left code) ts there k = same_cells p s fit _ refl refl tt
-    dispatch_kept Of_root ts there k = same_cells p s fit _ refl refl tt
     dispatch_kept (Of_object x) ts there k = object_kept
     dispatch_kept (Object_left x code) ts there k = asking_kept (part_of p Answers x.object.thing) x code
     dispatch_kept (Asks x) ts there k = object_kept
     dispatch_kept (Answered x answer) ts there k = answered_kept answer
     dispatch_kept (Of_server x c stage) ts there k = let l = there x c stage refl in stage_kept x c stage l.0 l.1 l.2 k
+    dispatch_kept _ ts there k = same_cells p s fit _ refl refl tt
 
 -- ---- a cell goes
 

@@ -35,7 +35,7 @@ use Rattle.aom_semantics.specs.Enlisted.{ended_cells, on_request, own_request, r
 use Rattle.aom_safety.specs.Kept.{ClientsFit, ConnectKept, StageKept, TasksKept, is_close_of, is_connect_of}
 use Rattle.aom_semantics.specs.Natives.{resessioned}
 use Rattle.aom_semantics.specs.Places.{Cell, Elsewhere, Entry, In_service, Object, Place, Queued, Request, Token, held, moved, named, same_place, service_of, set_request, with_new, requested}
-use Rattle.aom_semantics.specs.State.{Accept_left, Accepted, Accepts, AtRoot, Closing, Destroy, Dispatched, Frame, Home, Inside, Of_server, Parts, Run, Seat, Service_left, Serves, Stage, State, Static, Task, Trapped, Unwind, field_place}
+use Rattle.aom_semantics.specs.State.{Accept_left, Accepts, Dispatched, Frame, Home, Inside, Of_server, Parts, Seat, Stage, State, Task, field_place}
 use Rattle.aom_semantics.specs.Words.{here, stored}
 use Rattle.aom_safety.proofs.Seated.{seats_same}
 
@@ -47,13 +47,9 @@ pub tasks_staged :
     ((x : Seat) (c : ℕ) (stage : Stage) → IsAt (Of_server x c stage) ts → StageKept p clients cs x.object c stage → StageKept p clients' cs' x.object c stage) → TasksKept p clients cs ts →
     TasksKept p clients' cs' ts
 tasks_staged p clients clients' cs cs' [] still k = tt
-tasks_staged p clients clients' cs cs' (Run fr ∷ ts) still k = tasks_staged p clients clients' cs cs' ts still k
-tasks_staged p clients clients' cs cs' (Trapped ∷ ts) still k = tasks_staged p clients clients' cs cs' ts still k
-tasks_staged p clients clients' cs cs' (Destroy ∷ ts) still k = tasks_staged p clients clients' cs cs' ts still k
-tasks_staged p clients clients' cs cs' (Closing ∷ ts) still k = tasks_staged p clients clients' cs cs' ts still k
-tasks_staged p clients clients' cs cs' (Unwind code ∷ ts) still k = tasks_staged p clients clients' cs cs' ts still k
 tasks_staged p clients clients' cs cs' (Dispatched (Of_server x c stage) ∷ ts) still k = still x c stage refl k
 tasks_staged p clients clients' cs cs' (Dispatched _ ∷ ts) still k = tt
+tasks_staged p clients clients' cs cs' (_ ∷ ts) still k = tasks_staged p clients clients' cs cs' ts still k
 
 module _ (p : Image) (clients : List Client) (cs cs' : List Cell) (queues : (n : ℕ) → (service_of cs' n).queue ≡ (service_of cs n).queue)
     (sessions : (n : ℕ) → (service_of cs' n).sessions ≡ (service_of cs n).sessions) where
@@ -74,9 +70,7 @@ module _ (p : Image) (clients : List Client) (cs cs' : List Cell) (queues : (n :
   stage_queues o c Accepts k = connect_queues o c k
   stage_queues o c (Accept_left code) k = connect_queues o c k
   stage_queues o c Parts k = (k.0, ap (λ q. list_any (is_close_of c) q) (queues o.name) ∙ k.1)
-  stage_queues o c Accepted k = tt
-  stage_queues o c (Serves x) k = tt
-  stage_queues o c (Service_left code) k = tt
+  stage_queues o c _ k = tt
 
   pub tasks_queues : (ts : List Task) → TasksKept p clients cs ts → TasksKept p clients cs' ts
   tasks_queues ts k = tasks_staged p clients clients cs cs' ts (λ x c stage at. stage_queues x.object c stage) k
@@ -136,9 +130,8 @@ abbrev pub Fewer : Option Request → Option Request → Type 0
 Fewer r old = (k : ℕ) → awaited r ≡ Some k → awaited old ≡ Some k
 
 pub steady_asked : (cs : List Cell) (home : Home) (r : Option Request) → (r ≡ None → own_request cs home ≡ None) → Steady cs (rerequested cs home r)
-steady_asked cs Static r keeps = steady_itself cs
-steady_asked cs AtRoot r keeps = steady_itself cs
 steady_asked cs (Inside o from) r keeps = steady_same cs (set_request o.name r cs) (same_requested cs o r keeps)
+steady_asked cs _ r keeps = steady_itself cs
 
 -- a token is handed out
 pub steady_handed : (cs : List Cell) (name : ℕ) (home : Home) (owner : Place) → NoQueue owner → NoService owner → named cs name ≡ None → Steady cs (handed_cells name home owner cs)
@@ -173,14 +166,12 @@ steady_altered {change = change} a stays asks serves cs = steady_same cs (change
 })
 
 pub steady_opened : (cs : List Cell) (home : Home) (b : Bool) → Steady cs (resessioned cs home b)
-steady_opened cs Static b = steady_itself cs
-steady_opened cs AtRoot b = steady_itself cs
 steady_opened cs (Inside o from) b = steady_altered (opening o.name b) (λ c. refl) (λ c. refl) (λ c. refl) cs
+steady_opened cs _ b = steady_itself cs
 
 pub steady_stored : (cs : List Cell) (home : Home) (w : ℕ) (v : ℤ) → Steady cs (stored cs home w v)
-steady_stored cs Static w v = steady_itself cs
-steady_stored cs AtRoot w v = steady_itself cs
 steady_stored cs (Inside o from) w v = steady_altered (storing o.name w v) (λ c. refl) (λ c. refl) (λ c. refl) cs
+steady_stored cs _ w v = steady_itself cs
 
 pub steady_ended : (p : Image) (fr : Frame) (cs : List Cell) → Steady cs (ended_cells p fr cs)
 steady_ended p fr cs = grind (arith, nat_tests, steady_asked cs fr.home, on_none, steady_itself cs)

@@ -33,7 +33,7 @@ use Rattle.aom_semantics.specs.Places.{Asked, Cell, Close_of, Connect_of, Elsewh
 use Rattle.aom_semantics.specs.Servers.{has_session, is_server, reserved, rest_of as rest, taken_first, seats_taken}
 use Rattle.aom_semantics.specs.State.{NullOrDead, WrongKind, Goes, Inside, Seat, State, Task}
 use Rattle.aom_safety.specs.WellTyped.{Fits, Good, WellTyped}
-use Rattle.aom_semantics.specs.World.{Candidate, Completes, Completion, Cuts, Heard, Hears, Kills, Obeys, Environment, Passes, Picks, Polls, Strays, Timed, Turning, Waits, accepting, attended, attending, by_event, by_timer, delivers, dispatched, first_ready, heard_one, lives, parting_with, picks, picked, polls, serves_first, taken_from, turn, turned, turning, with_request}
+use Rattle.aom_semantics.specs.World.{Candidate, Completes, Completion, Cuts, Heard, Hears, Kills, Obeys, Environment, Picks, Polls, Strays, Timed, Turning, accepting, attended, attending, by_event, by_timer, delivers, dispatched, first_ready, heard_one, lives, parting_with, picks, picked, polls, serves_first, taken_from, turn, turned, turning, with_request}
 use Rattle.aom_transcript.specs.declared.event.Event.{Event}
 use Rattle.aom_transcript.specs.declared.event.TimedEvent.{TimedEvent}
 use Rattle.aom_safety.proofs.Seated.{seats_first, seats_rest}
@@ -259,8 +259,7 @@ module _ (p : Image) (t : Typing) (wired : IsWired p) (s : State) (w : WellTyped
   })
   turned_kept (Picks x) f u e = picked_kept x f.0 f.1 u e
   turned_kept Strays f u e = cc
-  turned_kept (Passes time) f u e = subst (λ v. IsFit p v) (goes_same _ u e) (same_kept _ refl refl idle_now)
-  turned_kept Waits f u e = subst (λ v. IsFit p v) (goes_same _ u e) (same_kept _ refl refl idle_now)
+  turned_kept _ f u e = subst (λ v. IsFit p v) (goes_same _ u e) (same_kept _ refl refl idle_now)
 
   -- each turn is such
   picks_found : (b : Bool) (y : Option Candidate) → first_ready s.cells ≡ y → (next : Option ℕ) → IsFound (picks b y next)
