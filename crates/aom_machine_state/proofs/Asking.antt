@@ -46,9 +46,8 @@ module _ (p : Image) (a : Active) where
   requests_written cs n w v h = requests_alike cs (set_word_field n w v cs) (asked_written cs n w v) (named_set_word cs n w v) (λ k. ap (λ (x : Service). x.queue) (service_stored cs n w v k)) h
 
   pub requests_stored : (cs : List Cell) (home : Home) (w : ℕ) (v : ℤ) → SameRequests p a cs → SameRequests p a (stored cs home w v)
-  requests_stored cs Static w v h = h
-  requests_stored cs AtRoot w v h = h
   requests_stored cs (Inside o from) w v h = requests_written cs o.name w v h
+  requests_stored cs _ w v h = h
 
   pub requests_made : (cs : List Cell) (n : ℕ) (thing : Thing) (words : List ℤ) (owner : Place) → named cs n ≡ None → SameRequests p a cs → SameRequests p a (with_new n thing words owner cs)
   requests_made cs n thing words owner fresh h = grind (arith, nat_tests, requests_as cs, asked_new cs n thing words owner fresh)

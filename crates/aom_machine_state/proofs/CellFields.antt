@@ -66,8 +66,7 @@ cells_rewritten p h h' cs cs' n c c' same at ch class as_wide as_many names as_l
   wide = grind (arith, nat_tests);
   classes = grind (arith, nat_tests);
   null_is_none = ch.others null (λ d. none-some _ (sym (sym at ∙ ap (λ i. cell_at h i) (sym d) ∙ same.null_is_none))) ∙ same.null_is_none;
-  below = λ k z is. subst (λ l. k < l) (sym ch.limit) (cases (n == k)
-      (λ e. subst (λ i. i < h.limit) (eqb-true n k e) (same.below n c at))
+  below = λ k z is. subst (λ l. k < l) (sym ch.limit) (cases (n == k) (λ e. subst (λ i. i < h.limit) (eqb-true n k e) (same.below n c at))
       (λ e. same.below k z (sym (other k e) ∙ is)));
 }
   where
@@ -82,15 +81,8 @@ cells_rewritten p h h' cs cs' n c c' same at ch class as_wide as_many names as_l
 
 -- a field is written
 pub cells_put : (p : Image) (h h' : Heap) (cs : List Cell) (n f x : ℕ) (o : Object) → SameCells p h cs → named cs n ≡ Some o → is_object o.thing ≡ true → PutsField n f x h h' → SameCells p h' cs
-cells_put p h h' cs n f x o same lives object puts = grind (
-  arith,
-  nat_tests,
-  cell_of p h cs n o same lives object,
-  cells_rewritten p h h' cs cs n,
-  length-set,
-  eqb-true n,
-  eq-eqb n,
-)
+cells_put p h h' cs n f x o same lives object puts =
+    grind (arith, nat_tests, cell_of p h cs n o same lives object, cells_rewritten p h h' cs cs n, length-set, eqb-true n, eq-eqb n)
 
 -- a word is written
 pub cells_stored : (p : Image) (h h' : Heap) (cs : List Cell) (n w : ℕ) (v : ℤ) (o : Object) → SameCells p h cs → named cs n ≡ Some o → is_object o.thing ≡ true → PutsWord n w v h h' → SameCells p h' (set_word_field n w v cs)

@@ -45,13 +45,5 @@ word_left (Some c) w x v d = get_or-set_other c.words w x v (pos 0) (λ e. false
 
 pub words_stored : (h h' : Heap) (cs : List Cell) (n w : ℕ) (v : ℤ) (o : Object) → ((k x : ℕ) → k < 4096 → cell_word h k x ≡ word_field cs k x) → named cs n ≡ Some o → Changes h h' n (with_word (cell_at h n) w v) → cell_word h' n w ≡ v
     → (k x : ℕ) → k < 4096 → cell_word h' k x ≡ word_field (set_word_field n w v cs) k x
-words_stored h h' cs n w v o same lives ch here k x small = grind (
-  arith,
-  nat_tests,
-  eqb-true n k,
-  eq-eqb n k,
-  words_other cs n w v k x,
-  words_here cs n w v x,
-  eqb-true w x,
-  word_left,
-)
+words_stored h h' cs n w v o same lives ch here k x small =
+    grind (arith, nat_tests, eqb-true n k, eq-eqb n k, words_other cs n w v k x, words_here cs n w v x, eqb-true w x, word_left)

@@ -53,8 +53,7 @@ row_die x = grind arith
 connects_counted : (places : List Place) (es : List Entry) → length (filter kept.is_connect es) ≡ length (filter is_connect (map (asked_by places) es))
 connects_counted places [] = refl
 connects_counted places (entry.Connect c ∷ es) = ap suc (connects_counted places es)
-connects_counted places (entry.Message m ∷ es) = connects_counted places es
-connects_counted places (entry.Close c ∷ es) = connects_counted places es
+connects_counted places (_ ∷ es) = connects_counted places es
 
 pub seats_counted : (k : kept.State) (cs : List Cell) (clients : List Client) → SameClients k cs clients → (n : ℕ) → length (kept.sessions_at k n) + length (filter kept.is_connect (kept.queue_at k n)) ≡ seats_taken (service_of cs n)
 seats_counted k cs clients same n = grind (arith, nat_tests, connects_counted k.places)

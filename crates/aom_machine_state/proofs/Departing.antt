@@ -49,20 +49,17 @@ once_more x y z w = grind arith
 
 abbrev pub connects : ℕ → Entry → Bool
 connects c (Connect d) = d == c
-connects c (Message m) = false
-connects c (Close d) = false
+connects c _ = false
 
 abbrev pub is_at : ℕ → Entry → Bool
-is_at m (Connect d) = false
 is_at m (Message k) = k == m
-is_at m (Close d) = false
+is_at m _ = false
 
 -- places without those of the messages among these
 abbrev pub all_without : List Entry → List ℕ → List ℕ
 all_without [] ms = ms
-all_without (Connect d ∷ es) ms = all_without es ms
 all_without (Message m ∷ es) ms = all_without es (filter (λ n. not (n == m)) ms)
-all_without (Close d ∷ es) ms = all_without es ms
+all_without (_ ∷ es) ms = all_without es ms
 
 module _ (k : ℕ) where
   -- clients whose connects wait are unconnected
@@ -133,9 +130,8 @@ module _ (k : ℕ) where
 
       go : (a b : Bool) → cond a (at_gone (cond b (at_gone (kept.client_at s c)) (kept.client_at s c))) (cond b (at_gone (kept.client_at s c)) (kept.client_at s c)) ≡ cond (b || a) (at_gone (kept.client_at s c)) (kept.client_at s c)
       go true true = gone_again (kept.client_at s c)
-      go true false = refl
       go false true = refl
-      go false false = refl
+      go _ false = refl
 
   pub sent_after_sessions : (cs : List ℕ) (s : kept.State) (c : ℕ) → kept.sent_at (kept.sessions_gone k cs s) c ≡ cond (list_any (λ d. d == c) cs) [] (kept.sent_at s c)
   sent_after_sessions [] s c = refl
@@ -173,11 +169,5 @@ module _ (k : ℕ) where
   pub lengths_after_sessions : (cs : List ℕ) (s : kept.State) →
       (length (kept.sessions_gone k cs s).clients ≡ length s.clients) × (length (kept.sessions_gone k cs s).sessions ≡ length s.sessions) × (length (kept.sessions_gone k cs s).sent ≡ length s.sent)
   lengths_after_sessions [] s = (refl, refl, refl)
-  lengths_after_sessions (c ∷ cs) s = grind (
-    arith,
-    nat_tests,
-    lengths_after_sessions cs,
-    length-set s.clients c,
-    length-set s.sessions k cs,
-    length-set s.sent c,
-  )
+  lengths_after_sessions (c ∷ cs) s =
+      grind (arith, nat_tests, lengths_after_sessions cs, length-set s.clients c, length-set s.sessions k cs, length-set s.sent c)

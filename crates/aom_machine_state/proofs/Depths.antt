@@ -14,20 +14,12 @@ use Rattle.aom_machine_state.specs.Room.{AllFit, AllRunUnder, AllUnder, Destruct
 abbrev pub AllLow : ℕ → List Task → Type 0
 AllLow n [] = Unit {0}
 AllLow n (Run fr ∷ ts) = (fr.height ≤ n) × AllLow n ts
-AllLow n (Trapped ∷ ts) = AllLow n ts
-AllLow n (Destroy ∷ ts) = AllLow n ts
-AllLow n (Closing ∷ ts) = AllLow n ts
-AllLow n (Unwind code ∷ ts) = AllLow n ts
-AllLow n (Dispatched d ∷ ts) = AllLow n ts
+AllLow n (_ ∷ ts) = AllLow n ts
 
 pub lower : (n k : ℕ) (ts : List Task) → n ≤ k → AllLow n ts → AllLow k ts
 lower n k [] le w = tt
 lower n k (Run fr ∷ ts) le w = (omega (arith, w.0), lower n k ts le w.1)
-lower n k (Trapped ∷ ts) le w = lower n k ts le w
-lower n k (Destroy ∷ ts) le w = lower n k ts le w
-lower n k (Closing ∷ ts) le w = lower n k ts le w
-lower n k (Unwind code ∷ ts) le w = lower n k ts le w
-lower n k (Dispatched d ∷ ts) le w = lower n k ts le w
+lower n k (_ ∷ ts) le w = lower n k ts le w
 
 -- entries below one number own what they owned, and below another the same cells go
 abbrev pub SameBelow : List Cell → List Cell → (entries goings : ℕ) → Type 0
@@ -56,11 +48,7 @@ module _ (p : Image) (depth heights : ℕ → ℕ) where
   pub under_less : (n k : ℕ) (ts : List Task) → n < k → IsUnder depth k ts → IsUnder depth n ts
   under_less n k [] lt u = tt
   under_less n k (Run fr ∷ ts) lt u = omega (arith, lt, u)
-  under_less n k (Trapped ∷ ts) lt u = under_less n k ts lt u
-  under_less n k (Destroy ∷ ts) lt u = under_less n k ts lt u
-  under_less n k (Closing ∷ ts) lt u = under_less n k ts lt u
-  under_less n k (Unwind code ∷ ts) lt u = under_less n k ts lt u
-  under_less n k (Dispatched d ∷ ts) lt u = under_less n k ts lt u
+  under_less n k (_ ∷ ts) lt u = under_less n k ts lt u
 
   -- ---- cells move
 
@@ -81,11 +69,9 @@ module _ (p : Image) (depth heights : ℕ → ℕ) where
   all_same : (cs cs' : List Cell) (items : List Item) (ts : List Task) → SameBelow cs cs' (length items) (length ts) → AllRunUnder p depth cs items ts → AllRunUnder p depth cs' items ts
   all_same cs cs' items [] same w = tt
   all_same cs cs' items (Run fr ∷ ts) same w = (same_runs cs cs' fr.height (depth fr.method) items same.0 w.0, all_same cs cs' items ts (fewer cs cs' (length items) (length ts) same) w.1)
-  all_same cs cs' items (Trapped ∷ ts) same w = all_same cs cs' items ts (fewer cs cs' (length items) (length ts) same) w
   all_same cs cs' items (Destroy ∷ ts) same w = (same_going cs cs' ts same.1 w.0, all_same cs cs' items ts (fewer cs cs' (length items) (length ts) same) w.1)
   all_same cs cs' items (Closing ∷ ts) same w = (w.0, all_same cs cs' items ts (fewer cs cs' (length items) (length ts) same) w.1)
-  all_same cs cs' items (Unwind code ∷ ts) same w = all_same cs cs' items ts (fewer cs cs' (length items) (length ts) same) w
-  all_same cs cs' items (Dispatched d ∷ ts) same w = all_same cs cs' items ts (fewer cs cs' (length items) (length ts) same) w
+  all_same cs cs' items (_ ∷ ts) same w = all_same cs cs' items ts (fewer cs cs' (length items) (length ts) same) w
 
   pub recelled : (cs cs' : List Cell) (items : List Item) (ts : List Task) → SameBelow cs cs' (length items) (length ts) → Roomy cs items ts → Roomy cs' items ts
   recelled cs cs' items ts same w = (w.0, all_same cs cs' items ts same w.1, w.2, w.3)
@@ -95,20 +81,14 @@ module _ (p : Image) (depth heights : ℕ → ℕ) where
   runs_below : (cs : List Cell) (i : Item) (items : List Item) (ts : List Task) → AllRunUnder p depth cs (i ∷ items) ts → AllRunUnder p depth cs items ts
   runs_below cs i items [] w = tt
   runs_below cs i items (Run fr ∷ ts) w = (w.0.1, runs_below cs i items ts w.1)
-  runs_below cs i items (Trapped ∷ ts) w = runs_below cs i items ts w
   runs_below cs i items (Destroy ∷ ts) w = (w.0, runs_below cs i items ts w.1)
   runs_below cs i items (Closing ∷ ts) w = (w.0, runs_below cs i items ts w.1)
-  runs_below cs i items (Unwind code ∷ ts) w = runs_below cs i items ts w
-  runs_below cs i items (Dispatched d ∷ ts) w = runs_below cs i items ts w
+  runs_below cs i items (_ ∷ ts) w = runs_below cs i items ts w
 
   same_fit : (items items' : List Item) (ts : List Task) (n : ℕ) → AllLow n ts → ((h : ℕ) → h ≤ n → below_height h items' ≡ below_height h items) → AllFit p heights items ts → AllFit p heights items' ts
   same_fit items items' [] n low same w = tt
   same_fit items items' (Run fr ∷ ts) n low same w = (grind (arith, nat_tests), same_fit items items' ts n low.1 same w.1)
-  same_fit items items' (Trapped ∷ ts) n low same w = same_fit items items' ts n low same w
-  same_fit items items' (Destroy ∷ ts) n low same w = same_fit items items' ts n low same w
-  same_fit items items' (Closing ∷ ts) n low same w = same_fit items items' ts n low same w
-  same_fit items items' (Unwind code ∷ ts) n low same w = same_fit items items' ts n low same w
-  same_fit items items' (Dispatched d ∷ ts) n low same w = same_fit items items' ts n low same w
+  same_fit items items' (_ ∷ ts) n low same w = same_fit items items' ts n low same w
 
   pub popped : (cs : List Cell) (i : Item) (items : List Item) (ts : List Task) → AllLow (length items) ts → Roomy cs (i ∷ items) ts → Roomy cs items ts
   popped cs i items ts low w = (
@@ -127,11 +107,9 @@ module _ (p : Image) (depth heights : ℕ → ℕ) where
   pushed_runs : (cs : List Cell) (i : Item) (items : List Item) (ts : List Task) → AllUnder depth ts → ((m : ℕ) → RunsBy p cs i (length items) m → IsUnder depth (depth m) ts) → AllRunUnder p depth cs items ts → AllRunUnder p depth cs (i ∷ items) ts
   pushed_runs cs i items [] u h w = tt
   pushed_runs cs i items (Run fr ∷ ts) u h w = ((λ le m e. h m e, w.0), pushed_runs cs i items ts u.1 (λ m e. under_less (depth m) (depth fr.method) ts (h m e) u.0) w.1)
-  pushed_runs cs i items (Trapped ∷ ts) u h w = pushed_runs cs i items ts u h w
   pushed_runs cs i items (Destroy ∷ ts) u h w = (w.0, pushed_runs cs i items ts u h w.1)
   pushed_runs cs i items (Closing ∷ ts) u h w = (w.0, pushed_runs cs i items ts u h w.1)
-  pushed_runs cs i items (Unwind code ∷ ts) u h w = pushed_runs cs i items ts u h w
-  pushed_runs cs i items (Dispatched d ∷ ts) u h w = pushed_runs cs i items ts u h w
+  pushed_runs cs i items (_ ∷ ts) u h w = pushed_runs cs i items ts u h w
 
   pub item_pushed : (cs : List Cell) (i : Item) (items : List Item) (ts : List Task) → AllLow (length items) ts → ((m : ℕ) → RunsBy p cs i (length items) m → IsUnder depth (depth m) ts) → entries_in (i ∷ items) ≤ 1024 → Roomy cs items ts → Roomy cs (i ∷ items) ts
   item_pushed cs i items ts low h few w = (
@@ -154,11 +132,9 @@ module _ (p : Image) (depth heights : ℕ → ℕ) where
   pub top_under : (cs : List Cell) (i : Item) (items : List Item) (ts : List Task) (m : ℕ) → AllLow (length items) ts → RunsBy p cs i (length items) m → AllRunUnder p depth cs (i ∷ items) ts → IsUnder depth (depth m) ts
   top_under cs i items [] m low e w = tt
   top_under cs i items (Run fr ∷ ts) m low e w = w.0.0 low.0 m e
-  top_under cs i items (Trapped ∷ ts) m low e w = top_under cs i items ts m low e w
   top_under cs i items (Destroy ∷ ts) m low e w = top_under cs i items ts m low e w.1
   top_under cs i items (Closing ∷ ts) m low e w = top_under cs i items ts m low e w.1
-  top_under cs i items (Unwind code ∷ ts) m low e w = top_under cs i items ts m low e w
-  top_under cs i items (Dispatched d ∷ ts) m low e w = top_under cs i items ts m low e w
+  top_under cs i items (_ ∷ ts) m low e w = top_under cs i items ts m low e w
 
   -- a cell is at hand to go, or is gone
   pub going_begins : (cs : List Cell) (items : List Item) (ts : List Task) → GoesUnder p depth cs ts → Roomy cs items ts → Roomy cs items (Destroy ∷ ts)

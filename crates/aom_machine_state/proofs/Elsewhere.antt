@@ -44,9 +44,8 @@ use Rattle.std.proofs.Math.ListN.{get_or-map}
 
 numbered_asked : (places : List Message_place) (m : ℕ) (es : List Entry) → list_any (is_numbered m) es ≡ list_any (is_message m) (map (asked_by places) es)
 numbered_asked places m [] = refl
-numbered_asked places m (Connect c ∷ es) = numbered_asked places m es
 numbered_asked places m (Message k ∷ es) = ap (λ b. (message_name k == m) || b) (numbered_asked places m es)
-numbered_asked places m (Close c ∷ es) = numbered_asked places m es
+numbered_asked places m (_ ∷ es) = numbered_asked places m es
 
 -- the number of a message is where it waits, in each state that is well typed and in which what clients have is told
 module _ (p : Image) (t : Typing) (s : State) (w : WellTyped p t s) (fit : ClientsFit p s.clients s.cells) where
@@ -79,10 +78,9 @@ session_written : (others : Others) (s' : kept.State) (c k x : ℕ) → ((n d : 
 session_written others s' c k x sessions queues us h es r = elsewhere_written us h es others (record others { clients = s' }) (Session k c) x other r
   where
     other : (o : Other) → other_in (record others { clients = s' }) o ≡ changed (value_in us h es others) (Elsewhere (Session k c)) x (Elsewhere o)
-    other Root = refl
     other (Session n d) = sessions n d
-    other In_service = refl
     other (Queued n m) = ap (λ b. cond b m null) (queues n m)
+    other _ = refl
 
 -- the same is shown where no message goes
 shows_filtered : (stays : Entry → Bool) (m : ℕ) → ((e : Entry) → stays e ≡ false → is_numbered m e ≡ false) → (es : List Entry) → list_any (is_numbered m) (filter stays es) ≡ list_any (is_numbered m) es
@@ -142,14 +140,9 @@ module _ (others : Others) (us : List Machine_task) (h : Heap) (es : List Item) 
 
   -- the same places have the same numbers
   unmoved : (s' : kept.State) → ((n d : ℕ) → session_with n (client_at s' d) ≡ session_with n (client_at s d)) → ShowSame s s' → (r : Place) → after s' r ≡ before r
-  unmoved s' sessions queues (Elsewhere Root) = refl
   unmoved s' sessions queues (Elsewhere (Session n d)) = sessions n d
-  unmoved s' sessions queues (Elsewhere In_service) = refl
   unmoved s' sessions queues (Elsewhere (Queued n m)) = ap (λ b. cond b m null) (queues n m)
-  unmoved s' sessions queues (Register d i) = refl
-  unmoved s' sessions queues (Entry_at i) = refl
-  unmoved s' sessions queues (Field n f) = refl
-  unmoved s' sessions queues (Going i) = refl
+  unmoved s' sessions queues _ = refl
 
   -- a client is at something else, and has no cell of a session before or after, or the same one
   sessions_same : (s' : kept.State) (to : Client) → ((d : ℕ) → client_at s' d ≡ cond (c == d) to (client_at s d)) → ((n : ℕ) → session_with n to ≡ session_with n (client_at s c)) → (n d : ℕ) → session_with n (client_at s' d) ≡ session_with n (client_at s d)
@@ -205,10 +198,9 @@ queue_written others s' k m x to sessions at here us h es r = elsewhere_written 
     by n j false e = refl
 
     other : (o : Other) → other_in (record others { clients = s' }) o ≡ changed (value_in us h es others) (Elsewhere (Queued k m)) x (Elsewhere o)
-    other Root = refl
     other (Session n d) = sessions n d
-    other In_service = refl
     other (Queued n j) = ap (λ q. number_at q j) (at n) ∙ by n j (k == n) refl
+    other _ = refl
 
 -- the first of a queue is a message, which is taken
 pub message_taken : (others : Others) (k m : ℕ) (rest : List Entry) → k < length others.clients.queues → queue_at others.clients k ≡ Message m ∷ rest → list_any (is_numbered (message_name m)) rest ≡ false
@@ -233,9 +225,5 @@ others_same others s' sessions us h es x aside = grind arith
 -- what places show goes on so where messages come and go in queues alone
 pub shows_again : (p : Image) (t : Typing) (s : State) (others : Others) (s' : kept.State) (us : List Machine_task) (h : Heap) (es : List Item) (cs : List Cell) (ts : List Task) → WellTyped p t s → ClientsFit p s.clients s.cells → SameClients s' s.cells s.clients → SessionsSame others.clients s'
     → ((r : Place) → ((n m : ℕ) → r ≡ Elsewhere (Queued n m) → ⊥) → held s.cells r ≡ held cs r) → ((r : Place) → Represents (value_in us h es others r) (word_at ts r) (held cs r)) → (r : Place) → Represents (value_in us h es (record others { clients = s' }) r) (word_at ts r) (held s.cells r)
-shows_again p t s others s' us h es cs ts w fit same sessions holds old r = grind (
-  arith,
-  nat_tests,
-  others_same others s' sessions us h es r,
-  queued_shows p t s w fit s' same,
-)
+shows_again p t s others s' us h es cs ts w fit same sessions holds old r =
+    grind (arith, nat_tests, others_same others s' sessions us h es r, queued_shows p t s w fit s' same)

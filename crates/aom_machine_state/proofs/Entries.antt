@@ -70,20 +70,8 @@ less n = omega arith
 pub entry_number : (is : List Machine_item) (js : List Item) (k n : ℕ) → SameItems is js → is_some (entry_at js k) ≡ true → n ≡ length js - suc k → number_in (item_at is k) ≡ entry_in is n
 entry_number (i ∷ is) (An_object ∷ js) zero n same some at = last_number i is n (same_items_length is js same.1 ∙ sym (at ∙ less (length js)))
 entry_number (i ∷ is) (An_operation m w ∷ js) zero n same some at = last_number i is n (same_items_length is js same.1 ∙ sym (at ∙ less (length js)))
-entry_number (i ∷ is) (An_object ∷ js) (suc k) n same some at = grind (
-  arith,
-  nat_tests,
-  same_items_length is js same.1,
-  some_entry js k some,
-  entry_number is js k n same.1 some,
-  ne_eqb,
-)
-entry_number (i ∷ is) (An_operation m w ∷ js) (suc k) n same some at = grind (
-  arith,
-  nat_tests,
-  same_items_length is js same.1,
-  some_entry js k some,
-  entry_number is js k n same.1 some,
-  ne_eqb,
-)
+entry_number (i ∷ is) (An_object ∷ js) (suc k) n same some at =
+    grind (arith, nat_tests, same_items_length is js same.1, some_entry js k some, entry_number is js k n same.1 some, ne_eqb)
+entry_number (i ∷ is) (An_operation m w ∷ js) (suc k) n same some at =
+    grind (arith, nat_tests, same_items_length is js same.1, some_entry js k some, entry_number is js k n same.1 some, ne_eqb)
 entry_number _ _ k n same some at = absurd (grind arith)

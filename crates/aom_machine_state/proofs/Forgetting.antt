@@ -73,14 +73,8 @@ module _ (drops : Cell → Bool) (f : Cell → Service) where
   -- it does not matter that one of them goes first
   left_without : (cs : List Cell) (x : Cell) → Tidy cs → cell_in cs x.owner ≡ Some x → drops x ≡ true → left (without x.owner cs) ≡ left cs
   left_without [] x tidy e h = cc
-  left_without (c ∷ cs) x tidy e h = grind (
-    arith,
-    nat_tests,
-    left_without cs x tidy.2,
-    cell_in cs x.owner,
-    without_none cs x.owner,
-    same_place-true c.owner x.owner,
-  )
+  left_without (c ∷ cs) x tidy e h =
+      grind (arith, nat_tests, left_without cs x tidy.2, cell_in cs x.owner, without_none cs x.owner, same_place-true c.owner x.owner)
 
   -- what goes are just the messages of these places
   pub record Forgets (places : List ℕ) (cs : List Cell) : Type 0 where
@@ -89,8 +83,7 @@ module _ (drops : Cell → Bool) (f : Cell → Service) where
 
   count_left : (places : List ℕ) → Once places → (cs : List Cell) → Tidy cs → Forgets places cs → count_messages (left cs) + length places ≡ count_messages cs
   count_left [] once cs tidy forgets = grind (arith, nat_tests, count_stay cs, each_cell, cell_of cs)
-  count_left (m ∷ ms) once cs tidy forgets =
-      more (count_messages (left cs)) (length ms) (count_messages (without x.owner cs)) (count_messages cs)
+  count_left (m ∷ ms) once cs tidy forgets = more (count_messages (left cs)) (length ms) (count_messages (without x.owner cs)) (count_messages cs)
       (ap (λ l. count_messages l + length ms) (sym (left_without cs x tidy placed w.2)) ∙ count_left ms once.1 (without x.owner cs) (tidy_without cs x.owner tidy) rest) (count_without cs x (message_name m) tidy w.1 w.3)
     where
       w : (x : Cell) × (cell_of cs (message_name m) ≡ Some x) × (drops x ≡ true) × (is_object x.object.thing ≡ false)

@@ -33,12 +33,8 @@ low_stack p t cs back (Dispatching d seats ∷ ls) n s le = subst (λ us. AllLow
 -- under a trap the methods began where its mark was not there yet
 abbrev pub LowUnder : ℕ → List Task → Type 0
 LowUnder n [] = Unit {0}
-LowUnder n (Run fr ∷ ts) = Unit {0}
 LowUnder n (Trapped ∷ ts) = AllLow (n - 1) ts
-LowUnder n (Destroy ∷ ts) = Unit {0}
-LowUnder n (Closing ∷ ts) = Unit {0}
-LowUnder n (Unwind code ∷ ts) = Unit {0}
-LowUnder n (Dispatched d ∷ ts) = Unit {0}
+LowUnder n (_ ∷ ts) = Unit {0}
 
 low_under : (p : Image) (t : Typing) (cs : List Cell) (back : Back) (ls : List Layer) → Stack p t cs back ls → LowUnder (length (items_of ls)) (tasks_of ls)
 low_under p t cs back (Mark gv ∷ ls) s = low_stack p t cs (Caught gv) ls (suc (length (items_of ls)) - 1) s.1 (omega arith)

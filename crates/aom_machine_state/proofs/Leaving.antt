@@ -46,15 +46,13 @@ Taking p ms was left = (before after : Store) → ((m : ℕ) → is_among m ms �
 -- those of the messages among these entries
 abbrev pub places_in : List Entry → List ℕ
 places_in [] = []
-places_in (Connect c ∷ es) = places_in es
 places_in (Message m ∷ es) = m ∷ places_in es
-places_in (Close c ∷ es) = places_in es
+places_in (_ ∷ es) = places_in es
 
 pub among_places : (es : List Entry) (m : ℕ) → is_among m (places_in es) ≡ list_any (is_at m) es
 among_places [] m = refl
-among_places (Connect c ∷ es) m = among_places es m
 among_places (Message k ∷ es) m = ap (λ b. (k == m) || b) (among_places es m)
-among_places (Close c ∷ es) m = among_places es m
+among_places (_ ∷ es) m = among_places es m
 
 among_filtered : (test : ℕ → Bool) (ms : List ℕ) (j : ℕ) → is_among j (filter test ms) ≡ (test j && is_among j ms)
 among_filtered test [] j = grind (arith, nat_tests)
@@ -67,9 +65,8 @@ once_filtered test (m ∷ ms) once = grind (arith, nat_tests, once_filtered test
 -- no message waits twice
 once_asked : (clients : List Client) (n : ℕ) (places : List Place) (es : List Entry) → QueueFits clients n (map (asked_by places) es) → Once (places_in es)
 once_asked clients n places [] fits = tt
-once_asked clients n places (Connect c ∷ es) fits = once_asked clients n places es fits.1
-once_asked clients n places (Close c ∷ es) fits = once_asked clients n places es fits.1
 once_asked clients n places (Message m ∷ es) fits = (among_places es m ∙ sym (asks_message places es m) ∙ fits.0.1, once_asked clients n places es fits.1)
+once_asked clients n places (_ ∷ es) fits = once_asked clients n places es fits.1
 
 -- ---- what goes
 
@@ -208,8 +205,7 @@ module _ (p : Image) (t : Typing) (wired : IsWired p) (s : State) (w : WellTyped
   gone_message before kept_so n x e h = let m = message_place before kept_so n x e h in let name = m.1 in (omega (arith, name), waiting_message n x e h, waiting_unasked n x e h)
 
   pub beside_withdrawn : (before : Store) → SameMessages p before s.cells → (c : ℕ) → Beside s.cells (withdrawn c s.cells)
-  beside_withdrawn before kept_so c =
-      subst (Beside s.cells) (sym (withdrawn_so c s.cells))
+  beside_withdrawn before kept_so c = subst (Beside s.cells) (sym (withdrawn_so c s.cells))
       (beside_sifted (drops c) (λ x. left_by c x.service) s.cells w.good.tidy (λ n x e h. gone_message before kept_so n x e (and_parts (is_queue x.owner) (is_from c x.service.sender) h).0))
 
   pub beside_unqueued : (before : Store) → SameMessages p before s.cells → (n : ℕ) → Beside s.cells (without_queue n s.cells)

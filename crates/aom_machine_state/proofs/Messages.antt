@@ -83,13 +83,7 @@ name_apart : (n m : ℕ) → n < message_name 0 → (n == message_name m) ≡ fa
 name_apart n m small = ne_eqb n (message_name m) (λ e. absurd (omega (arith, small, e)))
 
 is_message_without : (cs : List Cell) (g : Place) (o : Object) → Tidy cs → held cs g ≡ Some o → is_object o.thing ≡ true → named cs o.name ≡ Some o → (n : ℕ) → is_a_message (named (without g cs) n) ≡ is_a_message (named cs n)
-is_message_without cs g o tidy holds object lives n = grind (
-  arith,
-  nat_tests,
-  eqb-true o.name n,
-  unnamed cs g o tidy holds,
-  named_without cs g o n tidy holds,
-)
+is_message_without cs g o tidy holds object lives n = grind (arith, nat_tests, eqb-true o.name n, unnamed cs g o tidy holds, named_without cs g o n tidy holds)
 
 -- ---- the store
 
@@ -111,15 +105,8 @@ module _ (p : Image) (store : Store) where
 
   -- a cell's word is written
   pub messages_written : (cs : List Cell) (n w : ℕ) (v : ℤ) → n < message_name 0 → SameMessages p store cs → SameMessages p store (set_word_field n w v cs)
-  messages_written cs n w v small h = grind (
-    arith,
-    nat_tests,
-    messages_as cs,
-    named_set_word cs n w v,
-    words_other cs n w v,
-    name_apart n,
-    many_written cs n w v,
-  )
+  messages_written cs n w v small h =
+      grind (arith, nat_tests, messages_as cs, named_set_word cs n w v, words_other cs n w v, name_apart n, many_written cs n w v)
 
   pub messages_asked : (cs : List Cell) (n : ℕ) (r : Option Request) → SameMessages p store cs → SameMessages p store (set_request n r cs)
   messages_asked cs n r h =

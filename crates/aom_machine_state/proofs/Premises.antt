@@ -77,9 +77,8 @@ asking m (Message_of d k ∷ q) h = go (k == m) refl h (asking m q)
 -- its client is open there
 opens : (clients : List Client) (n c m : ℕ) (q : List Asked) → QueueFits clients n q → list_any (is_message_of c m) q ≡ true → is_open_at n (client_at clients c) ≡ true
 opens clients n c m [] fits h = cc
-opens clients n c m (Connect_of d ∷ q) fits h = opens clients n c m q fits.1 h
-opens clients n c m (Close_of d ∷ q) fits h = opens clients n c m q fits.1 h
 opens clients n c m (Message_of d k ∷ q) fits h = grind (arith, nat_tests, opens clients n c m q fits.1, eqb-true d c)
+opens clients n c m (_ ∷ q) fits h = opens clients n c m q fits.1 h
 
 -- all messages of a queue wait where each does
 waits_each : (places : List Place) (es : List Entry) → ((j : ℕ) → list_any (is_at j) es ≡ true → is_queued (slice_index_or places j Free) ≡ true) → AllWait places es
@@ -198,13 +197,8 @@ module _ (p : Image) (t : Typing) (wired : IsWired p) (s : State) (w : WellTyped
 
     -- a message that has a sender and is owned elsewhere was taken, and is completed once
     pub completes_at : (g : Owner) (o : Object) (m : ℕ) → held s.cells g ≡ Some o → is_queue g ≡ false → has_sender s.cells o.name ≡ true → o.name ≡ message_name m → IsSome (completion (kept.place_at k m))
-    completes_at g o m there apart sent name = grind (
-      arith,
-      nat_tests,
-      taken_sent k s.cells clients same m,
-      has_sender s.cells,
-      owner_held s.cells w.good.tidy g o there,
-    )
+    completes_at g o m there apart sent name =
+        grind (arith, nat_tests, taken_sent k s.cells clients same m, has_sender s.cells, owner_held s.cells w.good.tidy g o there)
 
 -- a client that is at something is one of those that there are
 module _ (cs : List Cell) (clients : List Client) (k : kept.State) (same : SameClients k cs clients) (c : ℕ) where

@@ -205,14 +205,12 @@ module _
       swapped (SameRequests p b) (go (kept.redeemed tokens place) refl answers (requests_completed p t s w g o there message place name a requests))
     where
       go : (x : Option ℕ) → kept.redeemed tokens place ≡ x → Redeems x code a b → SameRequests p a first → SameRequests p b (all_redeemed order code first)
-      go None e is h =
-          subst (λ c. SameRequests p c (all_redeemed order code first)) (sym is)
+      go None e is h = subst (λ c. SameRequests p c (all_redeemed order code first)) (sym is)
           (requests_none order code p first a (λ x. ap (redeemed_request order code) (asked_first x) ∙ redeems_none s.cells code order (waits_nowhere p tokens s.cells same place told kept_so.tokens order told_order e) x ∙ sym (asked_first x)) h)
       go (Some n) e makes h =
           let waits = waits_here p tokens s.cells same place told kept_so.tokens order told_order n e in
           let r = request_there (requested s.cells n) waits in
-          requests_one order code p first a b n r.0 (asked_first n ∙ r.1)
-          (λ x.
+          requests_one order code p first a b n r.0 (asked_first n ∙ r.1) (λ x.
           ap (redeemed_request order code) (asked_first x) ∙ redeems_one s.cells kept_so.tokens code n order waits x
           ∙ ap (λ q. cond (x == n) (on_request (redeemed_with code) q) (requested s.cells x)) r.1 ∙ ap (λ q. cond (x == n) (Some (redeemed_with code r.0)) q) (sym (asked_first x)))
           makes h

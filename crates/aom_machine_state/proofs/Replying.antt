@@ -101,15 +101,8 @@ module _ (p : Image) (t : Typing) (s : State) (w : WellTyped p t s) (g : Place) 
     natives_completed a few same = natives_beside p a s.killed s.cells left few beside_completed same
 
     pub requests_completed : (a : Active) → SameRequests p a s.cells → SameRequests p a left
-    requests_completed a same = grind (
-      arith,
-      nat_tests,
-      requests_beside p a s.cells,
-      beside_completed,
-      message_unasked,
-      eqb-true o.name,
-      service_without s.cells g o,
-    )
+    requests_completed a same =
+        grind (arith, nat_tests, requests_beside p a s.cells, beside_completed, message_unasked, eqb-true o.name, service_without s.cells g o)
 
     -- it is kept, at a place that there is
     module _ (store : Store) (same : SameMessages p store s.cells) where

@@ -59,23 +59,17 @@ module _ (p : Image) {s : Kept_state} {store : Store} {tokens : Kept} {table : T
   pub services_still :
       (cs ds : List Cell) → Still cs ds → (SameMessages p store cs → SameMessages p store ds) → (SameListed p table cs → SameListed p table ds) → ((n : ℕ) → awaited (requested ds n) ≡ awaited (requested cs n)) →
       Serves p s store tokens table at cs → Serves p s store tokens table at ds
-  services_still cs ds still messages listed asks same = grind (
-    arith,
-    nat_tests,
-    services_with cs ds still messages listed tokens,
-    tokens_still p tokens cs ds asks,
-  )
+  services_still cs ds still messages listed asks same =
+      grind (arith, nat_tests, services_with cs ds still messages listed tokens, tokens_still p tokens cs ds asks)
 
   -- from no queue to no queue
   pub services_moved : (cs : List Cell) (q r : Place) → is_queue q ≡ false → is_queue r ≡ false → Serves p s store tokens table at cs → Serves p s store tokens table at (moved q r cs)
-  services_moved cs q r from to =
-      services_still cs (moved q r cs) (still_moved cs q r (from ∙ sym to)) (messages_moved p store cs q r)
+  services_moved cs q r from to = services_still cs (moved q r cs) (still_moved cs q r (from ∙ sym to)) (messages_moved p store cs q r)
       (listed_alike p table cs (moved q r cs) (named_moved cs q r) (λ n. ap (option_map (λ x. x.order)) (requested_moved cs q r n))) (λ n. ap awaited (requested_moved cs q r n))
 
   -- a word of a cell
   services_written : (cs : List Cell) (n w : ℕ) (v : ℤ) → n < 4096 → Serves p s store tokens table at cs → Serves p s store tokens table at (set_word_field n w v cs)
-  services_written cs n w v small =
-      services_still cs (set_word_field n w v cs) (still_written cs n w v) (messages_written p store cs n w v small)
+  services_written cs n w v small = services_still cs (set_word_field n w v cs) (still_written cs n w v) (messages_written p store cs n w v small)
       (listed_alike p table cs (set_word_field n w v cs) (named_set_word cs n w v) (λ m. ap (option_map (λ x. x.order)) (asked_written cs n w v m))) (λ m. ap awaited (asked_written cs n w v m))
 
   pub services_stored : (cs : List Cell) (home : Home) (w : ℕ) (v : ℤ) → ((o : Object) (from : Place) → home ≡ Inside o from → o.name < 4096) → Serves p s store tokens table at cs → Serves p s store tokens table at (stored cs home w v)
@@ -94,8 +88,7 @@ module _ (p : Image) {s : Kept_state} {store : Store} {tokens : Kept} {table : T
   pub services_asked :
       (cs : List Cell) (o : Object) (r : Option Request) → named cs o.name ≡ Some o → option_map (λ x. x.order) r ≡ option_map (λ x. x.order) (requested cs o.name) → awaited r ≡ awaited (requested cs o.name) →
       Serves p s store tokens table at cs → Serves p s store tokens table at (set_request o.name r cs)
-  services_asked cs o r lives order token same =
-      services_asked_with cs o r lives order tokens
+  services_asked cs o r lives order token same = services_asked_with cs o r lives order tokens
       (tokens_still p tokens cs (set_request o.name r cs) (λ n. read_asked awaited cs o r lives token n) (λ m. ap (λ (v : Service). v.token) ((still_requested cs o.name r).services (message_name m))) same.tokens) same
 
   -- of what a method works on, where tokens go on
@@ -103,18 +96,16 @@ module _ (p : Image) {s : Kept_state} {store : Store} {tokens : Kept} {table : T
       (cs : List Cell) (home : Home) (r : Option Request) → ((o : Object) (from : Place) → home ≡ Inside o from → named cs o.name ≡ Some o) →
       option_map (λ x. x.order) r ≡ option_map (λ x. x.order) (own_request cs home) → (now : Kept) → SameTokens p now (rerequested cs home r) →
       Serves p s store tokens table at cs → Serves p s store now table at (rerequested cs home r)
-  services_rerequested_with cs Static r lives order now go_on same = services_with cs cs (still_itself cs) (λ x. x) (λ x. x) now go_on same
-  services_rerequested_with cs AtRoot r lives order now go_on same = services_with cs cs (still_itself cs) (λ x. x) (λ x. x) now go_on same
   services_rerequested_with cs (Inside o from) r lives order now go_on same = services_asked_with cs o r (lives o from refl) order now go_on same
+  services_rerequested_with cs _ r lives order now go_on same = services_with cs cs (still_itself cs) (λ x. x) (λ x. x) now go_on same
 
   -- and where it waits for the same one
   pub services_rerequested :
       (cs : List Cell) (home : Home) (r : Option Request) → ((o : Object) (from : Place) → home ≡ Inside o from → named cs o.name ≡ Some o) →
       option_map (λ x. x.order) r ≡ option_map (λ x. x.order) (own_request cs home) → awaited r ≡ awaited (own_request cs home) →
       Serves p s store tokens table at cs → Serves p s store tokens table at (rerequested cs home r)
-  services_rerequested cs Static r lives order token same = same
-  services_rerequested cs AtRoot r lives order token same = same
   services_rerequested cs (Inside o from) r lives order token same = services_asked cs o r (lives o from refl) order token same
+  services_rerequested cs _ r lives order token same = same
 
   -- a session with a native
   pub services_resessioned : (cs : List Cell) (home : Home) (b : Bool) → Serves p s store tokens table at cs → Serves p s store tokens table at (resessioned cs home b)

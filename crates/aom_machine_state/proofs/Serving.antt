@@ -113,15 +113,8 @@ pub asked_apart : (places : List Place) (m : ℕ) (p : Place) → m < length pla
 asked_apart places m p small [] none = refl
 asked_apart places m p small (Connect c ∷ es) none = ap (λ l. Connect_of c ∷ l) (asked_apart places m p small es none)
 asked_apart places m p small (Close c ∷ es) none = ap (λ l. Close_of c ∷ l) (asked_apart places m p small es none)
-asked_apart places m p small (Message j ∷ es) none = grind (
-  arith,
-  nat_tests,
-  front_false,
-  at_set Free places m j p small,
-  asked_apart places m p small es,
-  eq-eqb,
-  eqb-true m j,
-)
+asked_apart places m p small (Message j ∷ es) none =
+    grind (arith, nat_tests, front_false, at_set Free places m j p small, asked_apart places m p small es, eq-eqb, eqb-true m j)
 
 -- ---- cells move
 
@@ -196,8 +189,7 @@ module _ (s : kept.State) (cs : List Cell) (clients : List Client) (same : SameC
   -- a close is asked for, and no client is at anything else
   module _ (queue : o.name < length s.queues) where
     pub same_closing : SameClients (kept.queued o.name (Close c) s) (reserved (asked_last (Close_of c)) o.name cs) clients
-    same_closing =
-        served_as (asked_last (Close_of c)) (λ v. refl) _ _ _ _ same.at
+    same_closing = served_as (asked_last (Close_of c)) (λ v. refl) _ _ _ _ same.at
         (listed_then cs o lives (asked_last (Close_of c)) s.queues (kept.queue_at s o.name ++ Close c ∷ []) (λ es. map (asked_by s.places) es) (λ v. v.queue) queue
         (map-append (asked_by s.places) (kept.queue_at s o.name) (Close c ∷ []) ∙ ap (λ es. es ++ Close_of c ∷ []) (same.queues o.name)) same.queues)
         (λ n. by_server cs o lives (asked_last (Close_of c)) (λ n v. kept.sessions_at s n ≡ v.sessions) (same.sessions o.name) (λ n other. same.sessions n) n) refl
@@ -210,8 +202,7 @@ module _ (s : kept.State) (cs : List Cell) (clients : List Client) (same : SameC
     first_asked = sym (same.queues o.name) ∙ ap (λ l. map (asked_by s.places) l) at
 
     pub same_taken : SameClients (kept.with_queue o.name es s) (reserved taken_first o.name cs) clients
-    same_taken =
-        served_as taken_first (λ v. refl) _ _ _ _ same.at
+    same_taken = served_as taken_first (λ v. refl) _ _ _ _ same.at
         (listed_then cs o lives taken_first s.queues es (λ l. map (asked_by s.places) l) (λ v. v.queue) queue (sym (ap rest_of first_asked)) same.queues)
         (λ n. by_server cs o lives taken_first (λ n v. kept.sessions_at s n ≡ v.sessions) (same.sessions o.name) (λ n other. same.sessions n) n) refl
 
@@ -247,8 +238,7 @@ module _ (s : kept.State) (cs : List Cell) (clients : List Client) (same : SameC
     unclosed n = get_or-map (filter (kept.is_no_close_of c)) s.queues n [] ∙ no_closes s.places c (kept.queue_at s n) (ap (list_any (is_close_of c)) (same.queues n) ∙ none n)
 
     pub same_parted : SameClients (kept.parted c next s) (reserved (parted c) o.name cs) (with_client c next clients)
-    same_parted =
-        served_as (parted c) (λ v. refl) _ _ _ _ (client_set s.clients clients c next next numbered plain same.at)
+    same_parted = served_as (parted c) (λ v. refl) _ _ _ _ (client_set s.clients clients c next next numbered plain same.at)
         (λ n. ap (λ l. map (asked_by s.places) l) (unclosed n) ∙ by_server cs o lives (parted c) (λ n v. map (asked_by s.places) (kept.queue_at s n) ≡ v.queue) (same.queues o.name) (λ n other. same.queues n) n)
         (λ n. get_or-map (filter (λ d. not (d == c))) s.sessions n []
         ∙ by_server cs o lives (parted c) (λ n v. filter (λ d. not (d == c)) (kept.sessions_at s n) ≡ v.sessions) (ap (λ l. filter (λ d. not (d == c)) l) (same.sessions o.name))
@@ -336,8 +326,7 @@ module _ (s : kept.State) (cs : List Cell) (clients : List Client) (same : SameC
     told_new f g j x y here others = grind (arith, nat_tests, places_at j, eq-eqb, eqb-true m j, names_apart m j)
 
     waits_then : (j : ℕ) → is_queued (kept.place_at sent j) ≡ waits_in (owner_of (message ∷ behind) (message_name j))
-    waits_then j =
-        told_new is_queued waits_in j (Some message.owner) (owner_of behind (message_name j)) refl
+    waits_then j = told_new is_queued waits_in j (Some message.owner) (owner_of behind (message_name j)) refl
         (λ e. same.waits j ∙ sym (ap waits_in (owner_served cs o.name (asked_last (Message_of c (message_name m)) (service_of cs o.name)) (message_name j))))
 
     senders_after : (j : ℕ) → sent_by (holds sent j) (kept.place_at sent j) ≡ (service_of (message ∷ behind) (message_name j)).sender
@@ -359,8 +348,7 @@ module _ (s : kept.State) (cs : List Cell) (clients : List Client) (same : SameC
             ap (λ b. Some (record { client = c; holds_slot = b; is_told = true })) (ap (λ l. is_among j l) (sent_of c ∙ ap (λ b. cond b (kept.sent_at s c ++ m ∷ []) (kept.sent_at s c)) (eq-eqb c c refl))
             ∙ list_any-append (λ d. d == j) (kept.sent_at s c) (m ∷ []) ∙ ap (λ b. is_among j (kept.sent_at s c) || (b || false)) e ∙ or_true (is_among j (kept.sent_at s c)))
             ∙ sym (ap (λ b. (cond b message.service (service_of behind (message_name j))).sender) (eq-eqb (message_name m) (message_name j) (ap message_name (eqb-true m j e))))
-        go false e =
-            ap (λ b. sent_by b (kept.place_at s j)) (still (kept.place_at s j) e) ∙ same.senders j
+        go false e = ap (λ b. sent_by b (kept.place_at s j)) (still (kept.place_at s j) e) ∙ same.senders j
             ∙ sym (ap (λ b. (cond b message.service (service_of behind (message_name j))).sender) (names_apart m j e)
             ∙ sender_then cs o lives (asked_last (Message_of c (message_name m))) (λ v. refl) (message_name j))
 

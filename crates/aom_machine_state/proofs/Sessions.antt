@@ -41,9 +41,8 @@ module _ (p : Image) (w : Standing) (killed : List ℕ) where
   natives_asked cs n r h = natives_as cs (set_request n r cs) (session_asked cs n r) h
 
   pub natives_rerequested : (cs : List Cell) (home : Home) (r : Option Request) → SameNatives p w cs killed → SameNatives p w (rerequested cs home r) killed
-  natives_rerequested cs Static r h = h
-  natives_rerequested cs AtRoot r h = h
   natives_rerequested cs (Inside o from) r h = natives_asked cs o.name r h
+  natives_rerequested cs _ r h = h
 
 module _ (p : Image) (fr : Frame) (ts : List Task) (s : State) (w : Standing) where
   pub natives_passed : (depth : ℕ) (xs : List Argument) (first to : ℕ) (cs : List Cell) → SameNatives p w cs s.killed → SameNatives p w (passed_cells p fr ts s depth xs first to cs) s.killed
@@ -63,11 +62,7 @@ session_there [] n b k apart = refl
 session_there (c ∷ cs) n b k apart = grind (arith, nat_tests, session_there cs n b k apart, eqb-true c.object.name n)
 
 pub natives_set : (p : Image) (old new : Standing) (killed : List ℕ) (cs : List Cell) (o : Object) (b : Bool) → named cs o.name ≡ Some o → Sets old new o.name b → SameNatives p old cs killed → SameNatives p new (set_session o.name b cs) killed
-natives_set p old new killed cs o b lives set h = record {
-  sessions = λ n. by n (o.name == n) refl;
-  dead = set.killed ∙ h.dead;
-  limit = set.places ∙ h.limit;
-}
+natives_set p old new killed cs o b lives set h = record { sessions = λ n. by n (o.name == n) refl; dead = set.killed ∙ h.dead; limit = set.places ∙ h.limit }
   where
     by : (n : ℕ) (x : Bool) → (o.name == n) ≡ x → is_open new n ≡ in_session (set_session o.name b cs) n
     by n true same = grind (arith, nat_tests, eqb-true o.name n same, session_here cs o.name b o lives)

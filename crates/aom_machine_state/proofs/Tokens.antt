@@ -157,8 +157,7 @@ module _ (p : Image) (w new : Kept) (cs : List Cell) (same : SameTokens p w cs) 
 
   -- at another place all is as it was
   other_token : (x : ℕ) → (m == x) ≡ false → (service_of left (message_name x)).token ≡ (service_of cs (message_name x)).token
-  other_token x other =
-      ap (λ (v : Service). v.token)
+  other_token x other = ap (λ (v : Service). v.token)
       (service_without us g it (message_name x) tidy_then held_then (ap (λ i. i == message_name x) name ∙ names_apart m x other) ∙ told_as_before k code cs (message_name x))
 
   gone_token : (service_of left (message_name m)).token ≡ None

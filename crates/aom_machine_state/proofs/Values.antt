@@ -81,13 +81,9 @@ pub destroys_word : (us : List Task) (d : ℕ) (r : Place) → word_at (Destroy 
 destroys_word us d x = grind (arith, nat_tests, at_depth, word_past us)
 
 -- whatever a place has goes to another place, and null takes its place
-pub moves : (v v' : Place → ℕ) (w w' : Place → Option ℤ) (h h' : Place → Option Object) (p q : Place)
-    → ((r : Place) → Represents (v r) (w r) (h r))
-    → w p ≡ None
-    → ((r : Place) → v' r ≡ changed (changed v p null) q (v p) r)
-    → ((r : Place) → w' r ≡ changed w q None r)
-    → ((r : Place) → h' r ≡ transfer p q h r)
-    → (r : Place) → Represents (v' r) (w' r) (h' r)
+pub moves : (v v' : Place → ℕ) (w w' : Place → Option ℤ) (h h' : Place → Option Object) (p q : Place) → ((r : Place) → Represents (v r) (w r) (h r))
+    → w p ≡ None → ((r : Place) → v' r ≡ changed (changed v p null) q (v p) r) → ((r : Place) → w' r ≡ changed w q None r)
+    → ((r : Place) → h' r ≡ transfer p q h r) → (r : Place) → Represents (v' r) (w' r) (h' r)
 moves v v' w w' h h' p q old no_word ev ew eh r =
     subst (λ n. Represents n (w' r) (h' r)) (sym (ev r)) (subst (λ x. Represents (changed (changed v p null) q (v p) r) x (h' r)) (sym (ew r)) (subst (λ o. Represents (changed (changed v p null) q (v p) r) (changed w q None r) o) (sym (eh r)) (go (same_place q r) (same_place p r) refl)))
   where
@@ -98,12 +94,8 @@ moves v v' w w' h h' p q old no_word ev ew eh r =
 
 -- one place is written
 pub writes : (v v' : Place → ℕ) (w w' : Place → Option ℤ) (h h' : Place → Option Object) (q : Place) (n : ℕ) (x : Option ℤ) (o : Option Object)
-    → ((r : Place) → Represents (v r) (w r) (h r))
-    → Represents n x o
-    → ((r : Place) → v' r ≡ changed v q n r)
-    → ((r : Place) → w' r ≡ changed w q x r)
-    → ((r : Place) → h' r ≡ changed h q o r)
-    → (r : Place) → Represents (v' r) (w' r) (h' r)
+    → ((r : Place) → Represents (v r) (w r) (h r)) → Represents n x o → ((r : Place) → v' r ≡ changed v q n r) → ((r : Place) → w' r ≡ changed w q x r)
+    → ((r : Place) → h' r ≡ changed h q o r) → (r : Place) → Represents (v' r) (w' r) (h' r)
 writes v v' w w' h h' q n x o old new ev ew eh r = grind (arith, nat_tests)
 
 pub kept : {A : Type 0} (f : Place → A) (q r : Place) → f r ≡ changed f q (f q) r

@@ -93,15 +93,13 @@ names_same k j = grind (arith, nat_tests, eq-eqb, eqb-true k j, names_apart k j)
 
 pub asks_message : (places : List Place) (es : List Entry) (j : ℕ) → list_any (is_message (message_name j)) (map (asked_by places) es) ≡ list_any (is_at j) es
 asks_message places [] j = refl
-asks_message places (Connect c ∷ es) j = asks_message places es j
 asks_message places (Message k ∷ es) j = grind (arith, nat_tests, names_same k j, asks_message places es j)
-asks_message places (Close c ∷ es) j = asks_message places es j
+asks_message places (_ ∷ es) j = asks_message places es j
 
 pub asks_connect : (places : List Place) (es : List Entry) (c : ℕ) → list_any (is_connect_of c) (map (asked_by places) es) ≡ list_any (connects c) es
 asks_connect places [] c = refl
 asks_connect places (Connect d ∷ es) c = ap (λ b. (d == c) || b) (asks_connect places es c)
-asks_connect places (Message k ∷ es) c = asks_connect places es c
-asks_connect places (Close d ∷ es) c = asks_connect places es c
+asks_connect places (_ ∷ es) c = asks_connect places es c
 
 -- the same is asked where the senders of its messages are the same
 asked_alike : (places places' : List Place) (es : List Entry) → ((m : ℕ) → list_any (is_at m) es ≡ true → sender (slice_index_or places' m Free) ≡ sender (slice_index_or places m Free)) → map (asked_by places') es ≡ map (asked_by places) es
@@ -114,15 +112,13 @@ asked_alike places places' (Message k ∷ es) same = grind (arith, nat_tests, is
 
 among_without : (es : List Entry) (ms : List ℕ) (j : ℕ) → is_among j (all_without es ms) ≡ cond (list_any (is_at j) es) false (is_among j ms)
 among_without [] ms j = refl
-among_without (Connect c ∷ es) ms j = among_without es ms j
-among_without (Close c ∷ es) ms j = among_without es ms j
 among_without (Message k ∷ es) ms j = grind (arith, nat_tests, among_without es, is_at j, eqb-true k j, among_parted k ms, among_others j k ms)
+among_without (_ ∷ es) ms j = among_without es ms j
 
 once_after : (es : List Entry) (ms : List ℕ) → Once ms → Once (all_without es ms)
 once_after [] ms once = once
-once_after (Connect c ∷ es) ms once = once_after es ms once
-once_after (Close c ∷ es) ms once = once_after es ms once
 once_after (Message k ∷ es) ms once = once_after es (filter (is_other k) ms) (once_without k ms once)
+once_after (_ ∷ es) ms once = once_after es ms once
 
 -- ---- the whole
 
@@ -315,8 +311,7 @@ module _
 
   -- what stays holds no slot that it did not hold
   silent_then : (n d : ℕ) → n < 4096 → holds_slot d (service_of left n).sender ≡ false
-  silent_then n d low =
-      ap (λ (v : Service). holds_slot d v.sender) (service_lost xs stay n) ∙ lost_slot xs d (service_of stay n).sender
+  silent_then n d low = ap (λ (v : Service). holds_slot d v.sender) (service_lost xs stay n) ∙ lost_slot xs d (service_of stay n).sender
       ∙ ap (cond (is_among d xs) false) (ap (λ (v : Service). holds_slot d v.sender) (service_cell stay n ∙ ap service_in (cell_of_sifted drops (λ c. c.service) cs n tidy)) ∙ stays (cell_of cs n) (sym (ap (λ (v : Service). holds_slot d v.sender) (service_cell cs n)) ∙ same.silent n d low))
       ∙ never (is_among d xs)
     where
@@ -359,18 +354,8 @@ module _
   sessions_then n = grind (arith, nat_tests, sessions_after_sessions, sessions_after_queue, service_lost, parts_stay n)
 
   at_then : (c : ℕ) → sessionless (kept.client_at then c) ≡ client_at (sessions_ended xs (queue_ended (service_of cs k).queue clients)) c
-  at_then c = grind (
-    arith,
-    nat_tests,
-    client_after_sessions,
-    listed_so,
-    client_after_queue,
-    client_alike,
-    connects c,
-    connects_at c,
-    sessions_ended_at,
-    queue_ended_at,
-  )
+  at_then c =
+      grind (arith, nat_tests, client_after_sessions, listed_so, client_after_queue, client_alike, connects c, connects_at c, sessions_ended_at, queue_ended_at)
 
   same_left : SameClients then left (sessions_ended xs (queue_ended (service_of cs k).queue clients))
   same_left =

@@ -96,9 +96,8 @@ module _ (c : ℕ) where
 -- the messages in it wait
 abbrev pub AllWait : List Place → List Entry → Type 0
 AllWait places [] = Unit {0}
-AllWait places (Connect c ∷ es) = AllWait places es
 AllWait places (Message j ∷ es) = (is_queued (slice_index_or places j Free) ≡ true) × AllWait places es
-AllWait places (Close c ∷ es) = AllWait places es
+AllWait places (_ ∷ es) = AllWait places es
 
 module _ (c : ℕ) (places : List Place) where
   abbrev places' : List Place
@@ -171,8 +170,7 @@ module _ (s : kept.State) (cs : List Cell) (clients : List Client) (same : SameC
   left_sender j (Some x) at = grind (arith, nat_tests, goes_so j x at, sender_told j (Some x) at, service_in)
 
   senders_then : (j : ℕ) → sent_by (holds then j) (kept.place_at then j) ≡ (service_of left (message_name j)).sender
-  senders_then j =
-      ap (λ p. sent_by (is_among j (kept.sent_at then (sender p))) p) (place_then j)
+  senders_then j = ap (λ p. sent_by (is_among j (kept.sent_at then (sender p))) p) (place_then j)
       ∙ sender_left c (holds s j) (is_among j (kept.sent_at then (sender (kept.left_place c (kept.place_at s j))))) (kept.place_at s j) other own
       ∙ left_sender j (cell_of cs (message_name j)) refl ∙ sym (ap (λ (v : Service). v.sender) (service_then (message_name j)))
     where
