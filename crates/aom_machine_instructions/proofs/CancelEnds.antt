@@ -156,9 +156,8 @@ module _ (p : Image) (m : Parts) (h : At_hand p m) where
   by_ended P same other = go (is_cancel (method_role p h.frame.method))
     where
       asked : (home : Home) (r : Option Request) → P (rerequested cells home r)
-      asked Static r = same
-      asked AtRoot r = same
       asked (Inside o from) r = other o.name r
+      asked _ r = same
 
       go : (b : Bool) → P (cond b (rerequested cells h.frame.home taken) cells)
       go true = asked h.frame.home taken

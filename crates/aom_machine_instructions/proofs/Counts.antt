@@ -39,41 +39,25 @@ use Rattle.aom_machine_instructions.proofs.RoomMoves.{line_goes, none_going_ther
 abbrev pub methods_in : List Task → ℕ
 methods_in [] = 0
 methods_in (Run fr ∷ ts) = suc (methods_in ts)
-methods_in (Trapped ∷ ts) = methods_in ts
-methods_in (Destroy ∷ ts) = methods_in ts
-methods_in (Closing ∷ ts) = methods_in ts
-methods_in (Unwind code ∷ ts) = methods_in ts
-methods_in (Dispatched d ∷ ts) = methods_in ts
+methods_in (_ ∷ ts) = methods_in ts
 
 -- over a method of some depth there are few
 few_under : (depth : ℕ → ℕ) → ((m : ℕ) → depth m ≤ 256) → (n : ℕ) (ts : List Task) → n ≤ 256 → IsUnder depth n ts → AllUnder depth ts → (n + methods_in ts) ≤ 256
 few_under depth within n [] le u all = omega (arith, le)
 few_under depth within n (Run fr ∷ ts) le u all = let few = few_under depth within (depth fr.method) ts (within fr.method) all.0 all.1 in omega (arith, few, u)
-few_under depth within n (Trapped ∷ ts) le u all = few_under depth within n ts le u all
-few_under depth within n (Destroy ∷ ts) le u all = few_under depth within n ts le u all
-few_under depth within n (Closing ∷ ts) le u all = few_under depth within n ts le u all
-few_under depth within n (Unwind code ∷ ts) le u all = few_under depth within n ts le u all
-few_under depth within n (Dispatched d ∷ ts) le u all = few_under depth within n ts le u all
+few_under depth within n (_ ∷ ts) le u all = few_under depth within n ts le u all
 
 few_methods : (depth : ℕ → ℕ) → ((m : ℕ) → depth m ≤ 256) → (ts : List Task) → AllUnder depth ts → methods_in ts ≤ 257
 few_methods depth within [] all = omega arith
 few_methods depth within (Run fr ∷ ts) all = let few = few_under depth within (depth fr.method) ts (within fr.method) all.0 all.1 in omega (arith, few)
-few_methods depth within (Trapped ∷ ts) all = few_methods depth within ts all
-few_methods depth within (Destroy ∷ ts) all = few_methods depth within ts all
-few_methods depth within (Closing ∷ ts) all = few_methods depth within ts all
-few_methods depth within (Unwind code ∷ ts) all = few_methods depth within ts all
-few_methods depth within (Dispatched d ∷ ts) all = few_methods depth within ts all
+few_methods depth within (_ ∷ ts) all = few_methods depth within ts all
 
 -- ---- tasks
 
 abbrev unwindings_in : List Task → ℕ
 unwindings_in [] = 0
-unwindings_in (Run fr ∷ ts) = unwindings_in ts
-unwindings_in (Trapped ∷ ts) = unwindings_in ts
-unwindings_in (Destroy ∷ ts) = unwindings_in ts
-unwindings_in (Closing ∷ ts) = unwindings_in ts
 unwindings_in (Unwind code ∷ ts) = suc (unwindings_in ts)
-unwindings_in (Dispatched d ∷ ts) = unwindings_in ts
+unwindings_in (_ ∷ ts) = unwindings_in ts
 
 none_unwinds : (ts : List Task) → is_clearing ts ≡ false → unwindings_in ts ≡ 0
 none_unwinds [] e = refl
@@ -83,7 +67,6 @@ none_unwinds (Dispatched d ∷ ts) e = none_unwinds ts e
 none_unwinds _ e = absurd (true≢false e)
 
 calm_below : (p : Image) (ts : List Task) → IsCalm p ts → Below (calm p) ts
-calm_below p [] h = h
 calm_below p (Run fr ∷ ts) h = h
 calm_below p _ h = h
 
@@ -91,10 +74,8 @@ one_unwinds : (p : Image) (ts : List Task) → Below (calm p) ts → unwindings_
 one_unwinds p [] h = omega arith
 one_unwinds p (Run fr ∷ ts) h = one_unwinds p ts h.1
 one_unwinds p (Trapped ∷ ts) h = one_unwinds p ts h.1
-one_unwinds p (Destroy ∷ ts) h = one_unwinds p ts h
-one_unwinds p (Closing ∷ ts) h = one_unwinds p ts h
 one_unwinds p (Unwind code ∷ ts) h = let none = none_unwinds ts h.0 in omega (arith, none)
-one_unwinds p (Dispatched d ∷ ts) h = one_unwinds p ts h
+one_unwinds p (_ ∷ ts) h = one_unwinds p ts h
 
 -- over each method stand at most three tasks that are none, a session that goes with its server, and so over an unwinding and what it stands on
 module _ (p : Image) (t : Typing) (depth : ℕ → ℕ) (cs : List Cell) (items : List Item) where

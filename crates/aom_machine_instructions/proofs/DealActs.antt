@@ -65,8 +65,7 @@ module _ (p : Image) (formed : WellFormed p) (m : Parts) (t : Typing) (s : State
       let v : State = record s { cells = moved from (Going (length ts)) s.cells; items = js } in
       begins p mid v us ts n (class_at m.cells n) o (length js) name (subst (λ i. i < 4096) (sym name) (object_small p m s formed agrees o lives cell))
       (ap (λ i. is_server_class p (class_at m.cells i)) name ∙ server_same p m s agrees o lives cell) (ap (λ i. destructor_at p m.cells i) name ∙ destructor_same p m s agrees o lives cell)
-      agrees.tasks
-      (aside_with p m (record s { cells = v.cells }) mid.entries js aside same agrees.entry_room)
+      agrees.tasks (aside_with p m (record s { cells = v.cells }) mid.entries js aside same agrees.entry_room)
       (dying_shows p mid v us ts n s.cells from v' (word_at ts) refl old long refl there empty (value_popped us m.cells is (others m) n (length js) even) (λ q. refl))
 
   -- an operation is run
@@ -93,8 +92,7 @@ module _ (p : Image) (formed : WellFormed p) (m : Parts) (t : Typing) (s : State
       (aside_with p m s (with_items is m).entries js (aside_of p m s agrees) same agrees.entry_room)
       (reframed f fr (slice_set f.registers 0 n) (Some w ∷ []) 0 0 begun (length-set f.registers 0 n ∙ length-replicate 16 null) refl, agrees.tasks)
       (writes _ _ _ _ (held s.cells) _ q0 n (Some w) None base word
-      (value_written f us m.cells is (others m) d 0 n 0 long (let wide = length-replicate 16 null in omega arith))
-      (word_written fr ts 0 0 (Some w))
+      (value_written f us m.cells is (others m) d 0 n 0 long (let wide = length-replicate 16 null in omega arith)) (word_written fr ts 0 0 (Some w))
       (λ q. kept (held s.cells) q0 q ∙ ap (λ o. changed (held s.cells) q0 o q) (none_above p t s d 0 typed (omega arith))))
 
   pub deals : tops_entry s.items ≡ true → top_is_whole s.cells s.items ≡ true → Agrees p (dealt_with p m) (deals_with p s.items s.tasks s)
@@ -114,8 +112,7 @@ module _ (p : Image) (m : Parts) where
   deletes_whole next = let n = needs_met p m PopDelete next in top_lives p (counting next.counts m) next.stands.1.typing next.stands.0 next.stands.1.typed next.stands.1.agrees n.1.1.0
 
 pub pop_delete_does : (p : Image) (m : Parts) (refused : List ℕ) → DoesIn p refused PopDelete m (dealt_with p m)
-pop_delete_does p m refused h here =
-    plain_at p m _ refused PopDelete refl h (λ c needs typed.
+pop_delete_does p m refused h here = plain_at p m _ refused PopDelete refl h (λ c needs typed.
     let s = h.state in
     subst (Agrees p (dealt_with p m)) (dealing_effect p h.frame h.below s s.items (held s.cells (top_place s.items)) refl refl needs.0 needs.1.0)
     (subst (λ us. Agrees p (dealt_with p m) (deals_with p s.items us s)) h.top (deals p h.formed m h.typing s h.typed h.agrees needs.0 needs.1.0)))

@@ -85,15 +85,8 @@ which m s e x is = let both : Some e.dispatch ≡ Some x = sym (ap ending_here e
 
 -- nothing is left at hand
 emptied : (p : Image) (m : Parts) (s : State) (r r' : Counters) → Agrees p m s → Closing s → r ≡ r' → Agrees p (record m { stack = record m.stack { tasks = [] }; rest = r }) (record s { tasks = []; rest = r' })
-emptied p m s r r' agrees shut same = grind (
-  arith,
-  nat_tests,
-  agrees_with p,
-  aside_counted p m s r r' (aside_of p m s agrees) same,
-  aside_of p m s agrees,
-  held s.cells,
-  shows_null,
-)
+emptied p m s r r' agrees shut same =
+    grind (arith, nat_tests, agrees_with p, aside_counted p m s r r' (aside_of p m s agrees) same, aside_of p m s agrees, held s.cells, shows_null)
 
 -- the state as the end of a dispatch finds it
 abbrev pub at_close : State → State
@@ -218,8 +211,7 @@ module _ (p : Image) (formed : WellFormed p) (m : Parts) (announced : m.rest.ann
         (reframed f fr (slice_set f.registers 0 n) (Some code ∷ []) 0 0 (begun_frame k x.number home (length s.items) refl (λ there. object_small p m s formed agrees (subject_of x) sits refl)) (length-set f.registers 0 n ∙ length-replicate 16 null) refl, ((e.place, refl), tt))
         (writes _ _ _ _ (held s.cells) _ here n (Some code) None base (to_z-of_z w32 code fits)
         (value_written f us m.cells m.entries.items (others m) 1 0 n 0 refl (let wide = length-replicate 16 null in omega arith))
-        (word_written fr ts 0 0 (Some code))
-        (λ q. kept (held s.cells) here q ∙ ap (λ o. changed (held s.cells) here o q) (shut.registers 1 0)))
+        (word_written fr ts 0 0 (Some code)) (λ q. kept (held s.cells) here q ∙ ap (λ o. changed (held s.cells) here o q) (shut.registers 1 0)))
 
   asking_alike : (method : Option ℕ) (x : Subject) (code : ℤ) → named s.cells x.number ≡ Some (subject_of x) → FitsSigned w32 code → Agrees p (ends.asking p method x code m) (asking p method (seat_of e.place x) code (at_close s))
   asking_alike None x code sits fits = answered_alike code

@@ -143,11 +143,9 @@ module _ (p : Image) (trapped : Bool) (heap : Heap) (es : List Item) (rest : Oth
   lower_written f g i small (Going k) = going_kept trapped f (record f { registers = slice_set f.registers i null }) g ms k
   lower_written f g i small (Register e j) =
       let f' = record f { registers = slice_set f.registers i null } in
-      past_called f' g e j
-      ∙ ap (λ n. cond (n == e) (slice_index_or g.registers j null) (register_in (Runs_frame f' ∷ ms) e j)) (same_tops f' f)
+      past_called f' g e j ∙ ap (λ n. cond (n == e) (slice_index_or g.registers j null) (register_in (Runs_frame f' ∷ ms) e j)) (same_tops f' f)
       ∙ ap (λ n. cond (length (held_tops f) == e) (slice_index_or g.registers j null) n) (value_written f ms heap es rest (length ts) i null f.place deep small (Register e j))
-      ∙ go (length (held_tops f) == e) refl
-      ∙ ap (λ x. cond ((length ts == e) && (i == j)) null x) (sym (past_called f g e j))
+      ∙ go (length (held_tops f) == e) refl ∙ ap (λ x. cond ((length ts == e) && (i == j)) null x) (sym (past_called f g e j))
     where
       go : (b : Bool) → (length (held_tops f) == e) ≡ b
           → cond b (slice_index_or g.registers j null) (cond ((length ts == e) && (i == j)) null (register_in (Runs_frame f ∷ ms) e j)) ≡ cond ((length ts == e) && (i == j)) null (cond b (slice_index_or g.registers j null) (register_in (Runs_frame f ∷ ms) e j))
@@ -160,8 +158,7 @@ module _ (p : Image) (trapped : Bool) (heap : Heap) (es : List Item) (rest : Oth
   lower_written f g i small _ = refl
 
   words_put : (ws : List (Option ℤ)) (to : ℕ) (w : Option ℤ) → length ws ≡ to → (r : Place) → word_at (Run (with_words (ws ++ w ∷ [])) ∷ tops) r ≡ changed (word_at (Run (with_words ws) ∷ tops)) (upper to) w r
-  words_put ws to w even r =
-      ap (λ vs. word_at (Run (with_words vs) ∷ tops) r) (sym (put_at_end None ws w) ∙ ap (λ n. put_at None ws n w) even)
+  words_put ws to w even r = ap (λ vs. word_at (Run (with_words vs) ∷ tops) r) (sym (put_at_end None ws w) ∙ ap (λ n. put_at None ws n w) even)
       ∙ word_written (with_words ws) tops to cal.place w r
 
   upper_written : (f g : Machine_frame) (to n : ℕ) → to < length g.registers → (r : Place)
@@ -203,8 +200,7 @@ module _ (p : Image) (trapped : Bool) (heap : Heap) (es : List Item) (rest : Oth
         values = moves v _ (word_at (Run (with_words ws) ∷ tops)) _ (held cs) _ (lower first) (upper to) passing.values (lower_word (with_words ws) first ∙ none)
             (λ r. upper_written (with_register first null f) g to n (omega arith) r
             ∙ ap (λ x. cond (same_place (upper to) r) n x) (lower_written f g first (omega arith) r)
-            ∙ ap (λ x. changed (changed v (lower first) null) (upper to) x r) (sym (lower_value f g first)))
-            (words_put ws to None passing.even)
+            ∙ ap (λ x. changed (changed v (lower first) null) (upper to) x r) (sym (lower_value f g first))) (words_put ws to None passing.even)
             (λ r. held_moved cs (lower first) (upper to) r there);
         cells = cells_moved p heap cs (lower first) (upper to) passing.cells;
         free = grind (arith, nat_tests, held_moved cs, ne_eqb to);
@@ -285,12 +281,8 @@ module _ (p : Image) (m : Parts) (h : At_hand p m) where
       (named h.state.cells o.name ≡ Some o) × (is_object o.thing ≡ true)
   owned_there class None q at worked o from e = cc
   owned_there None (Some x) q at worked o from e = absurd (false≢true worked)
-  owned_there (Some c) (Some x) q at worked o from e = grind (
-    arith,
-    nat_tests,
-    held_lives h.state.cells q x h.typed.good.tidy at,
-    object_for p x.thing c worked,
-  )
+  owned_there (Some c) (Some x) q at worked o from e =
+      grind (arith, nat_tests, held_lives h.state.cells q x h.typed.good.tidy at, object_for p x.thing c worked)
 
   target_there :
       (target : Target) (k : ℕ) (class : Option ℕ) (first count : ℕ) → AllTrue (needs_target p h.frame h.below h.state target k class first count) → (o : Object) (from : Place) →
@@ -335,8 +327,7 @@ module _ (p : Image) (m : Parts) (h : At_hand p m) where
       ∙ ap (λ y. body_of p k (or_else (class_above v) y)) (class_viewed (cell_at m.cells o.name) o.thing (object_class p m h.state h.agrees o x.0 x.1))
       ∙ ap (body_of p k) same
 
-  body_told :
-      (target : Target) (k first count : ℕ) → AllTrue (needs_target p h.frame h.below h.state target k (method_class p k) first count) →
+  body_told : (target : Target) (k first count : ℕ) → AllTrue (needs_target p h.frame h.below h.state target k (method_class p k) first count) →
       body_on p k (target_here target (method_class p k) m) (view_of target (method_class p k) m.stack.tasks) m.cells ≡ run_by p h.frame h.below h.state target k
   body_told target k first count needs =
       let class = method_class p k in
@@ -345,12 +336,10 @@ module _ (p : Image) (m : Parts) (h : At_hand p m) where
 
   -- so it lives, where it is a cell
   home_lives : (home : Home) → ((o : Object) (from : Place) → home ≡ Inside o from → (named h.state.cells o.name ≡ Some o) × (is_object o.thing ≡ true)) → home_number home ≢ null → Lives m.cells (home_number home)
-  home_lives Static there some = absurd (some refl)
-  home_lives AtRoot there some = absurd (some refl)
   home_lives (Inside o from) there some = let x = there o from refl in object_lives_at p m h.state h.agrees o x.0 x.1
+  home_lives _ there some = absurd (some refl)
 
-  target_lives :
-      (target : Target) (k first count : ℕ) → AllTrue (needs_target p h.frame h.below h.state target k (method_class p k) first count) →
+  target_lives : (target : Target) (k first count : ℕ) → AllTrue (needs_target p h.frame h.below h.state target k (method_class p k) first count) →
       target_here target (method_class p k) m ≢ null → Lives m.cells (target_here target (method_class p k) m)
   target_lives target k first count needs =
       let class = method_class p k in
@@ -483,8 +472,7 @@ traps_well p m target k first x next = (
 )
 
 -- what a target asks hangs on cells and items alone
-needs_kept :
-    (p : Image) (fr : Frame) (ts : List Task) (s : State) (r : Counters) (target : Target) (k : ℕ) (class : Option ℕ) (first count : ℕ) →
+needs_kept : (p : Image) (fr : Frame) (ts : List Task) (s : State) (r : Counters) (target : Target) (k : ℕ) (class : Option ℕ) (first count : ℕ) →
     AllTrue (needs_target p fr ts (record s { rest = r }) target k class first count) → AllTrue (needs_target p fr ts s target k class first count)
 needs_kept p fr ts s r x k class first count n = grind arith
 
@@ -497,8 +485,7 @@ TargetLives p m target k =
     let n = target_here target (method_class p k) m in
     (n ≢ null → Lives m.cells n) × IfSome (class_at m.cells n) (λ class. class < 256)
 
-lives_on :
-    (p : Image) (m : Parts) (r : Counters) (h : At_hand p (counting r m)) (q : Counters) (target : Target) (k first : ℕ) →
+lives_on : (p : Image) (m : Parts) (r : Counters) (h : At_hand p (counting r m)) (q : Counters) (target : Target) (k first : ℕ) →
     AllTrue (needs_target p h.frame h.below (record h.state { rest = q }) target k (method_class p k) first (length (arguments_of p k))) → TargetLives p m target k
 lives_on p m r h q target k first needs = (
   subst (λ n. n ≢ null → Lives m.cells n) (target_kept m r target (method_class p k))
@@ -507,23 +494,9 @@ lives_on p m r h q target k first needs = (
 )
 
 pub call_lives : (p : Image) (m : Parts) (target : Target) (k first x : ℕ) → IsNext p (Call target k first x) m → TargetLives p m target k
-call_lives p m target k first x next = grind (
-  arith,
-  nat_tests,
-  at_hand p,
-  at_step,
-  needs_met p m (Call target k first x) next,
-  lives_on p m next.counts,
-  all_parts,
-)
+call_lives p m target k first x next =
+    grind (arith, nat_tests, at_hand p, at_step, needs_met p m (Call target k first x) next, lives_on p m next.counts, all_parts)
 
 pub trap_lives : (p : Image) (m : Parts) (target : Target) (k first x : ℕ) → IsNext p (Trap target k first x) m → TargetLives p m target k
-trap_lives p m target k first x next = grind (
-  arith,
-  nat_tests,
-  at_hand p,
-  at_step,
-  needs_met p m (Trap target k first x) next,
-  lives_on p m next.counts,
-  all_parts,
-)
+trap_lives p m target k first x next =
+    grind (arith, nat_tests, at_hand p, at_step, needs_met p m (Trap target k first x) next, lives_on p m next.counts, all_parts)

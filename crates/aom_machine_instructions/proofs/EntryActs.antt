@@ -89,8 +89,7 @@ module _ (p : Image) (m : Parts) (h : At_hand p m) (r : Counters) (rest : record
       let v = value_in (Runs_frame f ∷ ms) m.cells m.entries.items (others m) in
       record {
         frame = framed p m h f ms _ a null top;
-        values = moves v _ _ _ (held s.cells) _ here there top.values was
-            (λ q.
+        values = moves v _ _ _ (held s.cells) _ here there top.values was (λ q.
             value_pushed (Runs_frame (with_register a null f) ∷ ms) m.cells m.entries.items (others m) n (length s.items) (same_items_length m.entries.items s.items h.agrees.entries) q
             ∙ ap (λ x. changed (λ z. x) there n q) (value_written f ms m.cells m.entries.items (others m) (length ts) a null f.place top.deep (omega arith) q)
             ∙ ap (λ x. changed (changed v here null) there x q) (ap (λ us. register_here us a) e ∙ sym (value_here f ms m.cells m.entries.items (others m) (length ts) a top.deep)))
@@ -190,8 +189,7 @@ module _ (m : Parts) (refused : List ℕ) (es : Machine_items) where
             (λ q. value_written f ms m.cells es.items (others m) (length ts) a n f.place top.deep (omega arith) q
             ∙ ap (λ x. changed (λ z. x) here n q) (value_popped (Runs_frame f ∷ ms) m.cells es.items (others m) n (length items) deep q)
             ∙ ap (λ x. changed (changed v from null) here x q) (sym (top_value (Runs_frame f ∷ ms) m.cells es.items (others m) n (length items) deep)))
-            (word_written fr ts a fr.place None)
-            (λ q. held_moved s.cells from here q (free _ met.0));
+            (word_written fr ts a fr.place None) (λ q. held_moved s.cells from here q (free _ met.0));
       }))
 
   pub pop_operation_does : (i : Machine_item) → m.entries ≡ record es { items = i ∷ es.items } → Does refused PopOperation m (places.next (record m { entries = es }))

@@ -94,9 +94,8 @@ module _ (p : Image) (m : Parts) (h : At_hand p m) where
   has_cell w has n = go h.frame.home refl (word_there w has)
     where
       go : (home : Home) → h.frame.home ≡ home → nat_lt w (word_count p (home_holder home)) ≡ true → ⊥
-      go Static e has = no_words w has
-      go AtRoot e has = no_words w has
       go (Inside o from) e has = inside_there o from e n
+      go _ e has = no_words w has
 
   -- ---- words
 
@@ -104,9 +103,8 @@ module _ (p : Image) (m : Parts) (h : At_hand p m) where
   word_loaded w has = go h.frame.home refl (word_there w has)
     where
       go : (home : Home) → h.frame.home ≡ home → nat_lt w (word_count p (home_holder home)) ≡ true → cell_word m.cells (this m) w ≡ loaded h.state.cells home w
-      go Static e has = no_words w has
-      go AtRoot e has = no_words w has
       go (Inside o from) e has = ap (λ n. cell_word m.cells n w) (inside_number o from e) ∙ h.agrees.cells.words o.name w (inside_small o from e)
+      go _ e has = no_words w has
 
   held_stored : (home : Home) (w : ℕ) (v : ℤ) (r : Place) → held (stored h.state.cells home w v) r ≡ held h.state.cells r
   held_stored x w v r = grind (arith, nat_tests, held_set_word h.state.cells)
@@ -115,9 +113,8 @@ module _ (p : Image) (m : Parts) (h : At_hand p m) where
   cells_after_store heap w v has puts = go h.frame.home refl (word_there w has)
     where
       go : (home : Home) → h.frame.home ≡ home → nat_lt w (word_count p (home_holder home)) ≡ true → SameCells p heap (stored h.state.cells home w v)
-      go Static e has = no_words w has
-      go AtRoot e has = no_words w has
       go (Inside o from) e has = cells_stored p m.cells heap h.state.cells o.name w v o h.agrees.cells (housed o from e) (inside_object o from e) (subst (λ n. PutsWord n w v m.cells heap) (inside_number o from e) puts)
+      go _ e has = no_words w has
 
   -- ---- owning fields
 
@@ -150,8 +147,7 @@ module _ (p : Image) (m : Parts) (h : At_hand p m) where
     pub rest : mid ≡ record m { cells = mid.cells; root = mid.root }
 
   pub field_written_here : (mid : Parts) (f x : ℕ) → is_some (field_thing p (holder_of p h.frame.method) f) ≡ true → WritesField f x m mid → Written mid (field_place h.frame.home f) x
-  field_written_here mid f x has writes =
-      by_home f (λ home. Written mid (field_place home f) x)
+  field_written_here mid f x has writes = by_home f (λ home. Written mid (field_place home f) x)
       (λ e. elim writes [ inl root ↦ at_root root.1 | inr cell ↦ absurd (cell.0 (this_is ∙ ap home_number e)) ])
       (λ o from e. elim writes [ inl root ↦ absurd (inside_there o from e root.0) | inr cell ↦ in_cell o from e cell.1 cell.2 ])
       has
@@ -175,13 +171,11 @@ module _ (p : Image) (m : Parts) (h : At_hand p m) where
 -- ---- the instructions
 
 pub load_does : (m new : Parts) (refused : List ℕ) (a w : ℕ) → WritesWord a (cell_word m.cells (this m) w) m new → Does refused (Load a w) m new
-load_does m new refused a w x =
-    plain_does m new refused (Load a w) refl (λ p h c met.
+load_does m new refused a w x = plain_does m new refused (Load a w) refl (λ p h c met.
     subst (λ v. Agrees p new (applied p h.frame h.below h.state (writes_word h.frame a v))) (word_loaded p m h w met.0) (word_put p m new h a _ (free _ met.1.0) x))
 
 pub store_does : (m : Parts) (refused : List ℕ) (w b : ℕ) (heap : Heap) → PutsWord (this m) w (cast_signed w32 (register_here m.stack.tasks b)) m.cells heap → Does refused (Store w b) m (places.next (record m { cells = heap }))
-store_does m refused w b heap puts =
-    plain_does m (places.next (record m { cells = heap })) refused (Store w b) refl (λ p h c met.
+store_does m refused w b heap puts = plain_does m (places.next (record m { cells = heap })) refused (Store w b) refl (λ p h c met.
     let s = h.state in
     let fr = h.frame in
     let ts = h.below in
@@ -206,8 +200,7 @@ goes_by_field p m mid h g x a n ws from to written from_no to_no shows =
     shows)
 
 pub take_does : (m mid : Parts) (refused : List ℕ) (a g n : ℕ) → a < 16 → n ≡ field_here g m → WritesField g null m mid → Does refused (Take a g) m (places.next (set_register a n mid))
-take_does m mid refused a g n small reads writes =
-    plain_does m (places.next (set_register a n mid)) refused (Take a g) refl (λ p h c met.
+take_does m mid refused a g n small reads writes = plain_does m (places.next (set_register a n mid)) refused (Take a g) refl (λ p h c met.
     let q = field_place h.frame.home g in
     let here = Register (length h.below) a in
     let written = field_written_here p m h mid g null met.0 writes in
@@ -216,13 +209,11 @@ take_does m mid refused a g n small reads writes =
     let v = value_in (Runs_frame f ∷ ms) m.cells m.entries.items (others m) in
     record {
       frame = framed p m h f ms _ a n top;
-      values = moves v _ _ _ (held h.state.cells) _ q here top.values (no_word_there p m h h.frame.home g (Run h.frame ∷ h.below))
-          (λ r.
+      values = moves v _ _ _ (held h.state.cells) _ q here top.values (no_word_there p m h h.frame.home g (Run h.frame ∷ h.below)) (λ r.
           value_written f ms mid.cells m.entries.items (record (others m) { root = mid.root }) (length h.below) a n f.place top.deep (omega arith) r
           ∙ ap (λ y. changed (λ z. y) here n r) (written.values (Runs_frame f ∷ ms) r)
           ∙ ap (λ y. changed (changed v q null) here y r) (reads ∙ sym (field_read_here p m h g (Runs_frame f ∷ ms) met.0)))
-          (word_written h.frame h.below a h.frame.place None)
-          (λ r. held_moved h.state.cells q here r (free _ met.1.0));
+          (word_written h.frame h.below a h.frame.place None) (λ r. held_moved h.state.cells q here r (free _ met.1.0));
     }))
 
 -- a field that a thing is declared for is declared
@@ -230,8 +221,7 @@ declared_some : (p : Image) (t : Option Thing) (o : Option Object) → is_declar
 declared_some p t o e = some_given (λ t. is_declared_thing p t o ≡ true) t e (λ none. false≢true none) (λ x is _. ap is_some is)
 
 pub put_does : (m mid : Parts) (refused : List ℕ) (g b x : ℕ) → b < 16 → x ≡ register_here m.stack.tasks b → WritesField g x m mid → Does refused (Put g b) m (places.next (set_register b null mid))
-put_does m mid refused g b x small reads writes =
-    plain_does m (places.next (set_register b null mid)) refused (Put g b) refl (λ p h c met.
+put_does m mid refused g b x small reads writes = plain_does m (places.next (set_register b null mid)) refused (Put g b) refl (λ p h c met.
     let fr = h.frame in
     let ts = h.below in
     let q = field_place fr.home g in
@@ -242,8 +232,7 @@ put_does m mid refused g b x small reads writes =
     let v = value_in (Runs_frame f ∷ ms) m.cells m.entries.items (others m) in
     record {
       frame = framed p m h f ms _ b null top;
-      values = moves v _ _ _ (held h.state.cells) _ here q top.values (word_here fr ts b ∙ no_word _ met.0)
-          (λ r.
+      values = moves v _ _ _ (held h.state.cells) _ here q top.values (word_here fr ts b ∙ no_word _ met.0) (λ r.
           written.values (Runs_frame (with_register b null f) ∷ ms) r
           ∙ ap (λ y. changed (λ z. y) q x r) (value_written f ms m.cells m.entries.items (others m) (length ts) b null f.place top.deep (omega arith) r)
           ∙ ap (λ y. changed (changed v here null) q y r) (reads ∙ ap (λ us. register_here us b) e ∙ sym (value_here f ms m.cells m.entries.items (others m) (length ts) b top.deep)))

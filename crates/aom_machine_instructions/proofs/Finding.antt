@@ -73,19 +73,14 @@ module _ (p : Image) (t : Typing) (s : State) (sound : Sound p t) (typed : WellT
 
   -- where a method goes on after the going of a cell, there is one too
   pub goes_there : (fr : Frame) (ts : List Task) → s.tasks ≡ Destroy ∷ Run fr ∷ ts → IsSome (instr_at p fr.method (suc fr.place))
-  goes_there fr ts top =
-      going_layer (Good p t s.cells) (Run fr ∷ ts) typed.layers (sym typed.tasks ∙ top) typed.good (λ o ls under good.
+  goes_there fr ts top = going_layer (Good p t s.cells) (Run fr ∷ ts) typed.layers (sym typed.tasks ∙ top) typed.good (λ o ls under good.
       method_layer (λ ls. Good p t s.cells (Dying o ∷ ls)) fr ts ls under good (λ sh ls _ good.
       let leads = good.stack.2.0 in
       ap is_some (sound.typed.each fr.method (suc fr.place) leads.0 leads.1).stands))
 
 pub finds_instr : (p : Image) (m : Parts) → Stands (record { image = p; parts = m }) → Runs m.stack.tasks → IsSome (instr_at p (method_here m.stack.tasks) (place_here m.stack.tasks))
-finds_instr p m st runs = grind (
-  arith,
-  nat_tests,
-  frame_of m.stack.tasks st.0.tasks runs st.1.agrees.tasks,
-  runs_there p st.1.typing st.0 st.1.sound st.1.typed,
-)
+finds_instr p m st runs =
+    grind (arith, nat_tests, frame_of m.stack.tasks st.0.tasks runs st.1.agrees.tasks, runs_there p st.1.typing st.0 st.1.sound st.1.typed)
 
 -- the next place is no overflow
 pub runs_within : (p : Image) (m : Parts) → Stands (record { image = p; parts = m }) → Runs m.stack.tasks → place_here m.stack.tasks + 1 < 2 ^ 64
@@ -132,12 +127,8 @@ not_trapped p m ms st e = go st.1.typed.layers st.1.typed.good (subst (λ us. Sa
   where
     go : (ls : List Layer) → Good p st.1.typing st.0.cells ls → SameTasks (Is_trap ∷ ms) (tasks_of ls) → ⊥
     go [] good same = same
-    go (A_method fr sh ∷ ls) good same = same.0
     go (Mark g ∷ ls) good same = good.stack.0
-    go (Dying o ∷ ls) good same = same.0
-    go (Dispatching d seats ∷ ls) good same = same.0
-    go (Unwinding code es ∷ ls) good same = same.0
-    go (Ending o left ∷ ls) good same = same.0
+    go (_ ∷ ls) good same = same.0
 
 -- a typed place lies before another that has an instruction
 before : (p : Image) (m place : ℕ) → IsSome (instr_at p m (suc place)) → IsSome (instr_at p m place)
@@ -155,12 +146,8 @@ before p m place some = elim (method_at p m) as (λ o. IsSome (instr_in o (suc p
 -- the innermost task is a trap
 abbrev pub IsTrapOnTop : List Task → Type 0
 IsTrapOnTop [] = ⊥
-IsTrapOnTop (Run fr ∷ ts) = ⊥
 IsTrapOnTop (Trapped ∷ ts) = Unit {0}
-IsTrapOnTop (Destroy ∷ ts) = ⊥
-IsTrapOnTop (Closing ∷ ts) = ⊥
-IsTrapOnTop (Unwind code ∷ ts) = ⊥
-IsTrapOnTop (Dispatched d ∷ ts) = ⊥
+IsTrapOnTop (_ ∷ ts) = ⊥
 
 -- what stands below a method that runs
 pub data Beneath (p : Image) : List Task → Type 0 where
@@ -174,11 +161,10 @@ pub data Beneath (p : Image) : List Task → Type 0 where
 
 -- so it is, by what the task above brings back
 abbrev BeneathBy : Image → Back → List Task → Type 0
-BeneathBy p Now ts = Unit {0}
 BeneathBy p (Returns m home) ts = Beneath p ts
 BeneathBy p (Caught g) ts = Beneath p (Trapped ∷ ts)
-BeneathBy p Gone ts = Unit {0}
 BeneathBy p Leaves ts = Beneath p ts × IsTrapOnTop ts
+BeneathBy p _ ts = Unit {0}
 
 module _ (p : Image) (t : Typing) (s : State) (sound : Sound p t) where
   leads_on : (fr : Frame) (sh : Shape) → shape_at t fr.method (suc fr.place) ≡ Some sh → IsSome (instr_at p fr.method (suc fr.place))
@@ -211,12 +197,8 @@ module _ (p : Image) (formed : WellFormed p) where
 
   pub held_beneath : {ms : List Machine_task} {ts : List Task} → Beneath p ts → Alike ms ts → Below (at_traps p) ts → ReturnsTo p ms
   held_beneath (a_method g _ some) (both_run f _ _ _ same _ _) fits = goes_on_there f g same some
-  held_beneath (a_catcher g ts some) (both_trapped _ _ _ (both_run f _ _ _ same _ _)) fits = grind (
-    arith,
-    nat_tests,
-    goes_on_there f g same some,
-    code_register p formed g ts fits.0,
-  )
+  held_beneath (a_catcher g ts some) (both_trapped _ _ _ (both_run f _ _ _ same _ _)) fits =
+      grind (arith, nat_tests, goes_on_there f g same some, code_register p formed g ts fits.0)
   held_beneath (a_dispatch d _) (both_trapped _ _ _ (both_end x _ _ _ _ _ _)) fits = tt
   held_beneath (a_going _) (both_go x _ _ _ _ _) fits = tt
   held_beneath (a_leave code _) (both_unwind _ _ _ _ _ _ _) fits = tt

@@ -63,10 +63,7 @@ found_session k (d ∷ cs) c e none = go (has_cell (client_at k d)) refl e (λ e
     no_cell_there (Open server session slots) there none = none-some session (sym none)
     no_cell_there (Closing server session) there none = none-some session (sym none)
     no_cell_there (Dying server session) there none = none-some session (sym none)
-    no_cell_there Unconnected there none = true≢false (sym there)
-    no_cell_there (Connecting server slots) there none = true≢false (sym there)
-    no_cell_there Gone there none = true≢false (sym there)
-    no_cell_there Dead there none = true≢false (sym there)
+    no_cell_there _ there none = true≢false (sym there)
 
     go : (b : Bool) → has_cell (client_at k d) ≡ b → cond b (Some d) (first_there k cs) ≡ Some c → (first_there k cs ≡ Some c → ⊥) → ⊥
     go true there e rest = no_cell_there (client_at k c) (subst (λ i. has_cell (client_at k i) ≡ true) (same_Some d c e) there) none
@@ -143,8 +140,7 @@ module _ (p : Image) (m : Parts) (t : Typing) (s : State) (typed : WellTyped p t
     pub no_session : first_there m.clients (sessions_at m.clients n) ≡ None → first_session s.cells n (service_of s.cells n).sessions ≡ None
     no_session e = grind (arith, nat_tests, none_first, own_with)
 
-    pub its_session :
-        (c r : ℕ) → first_there m.clients (sessions_at m.clients n) ≡ Some c → session_of (client_at m.clients c) ≡ Some r → (r ≡ null → ⊥) →
+    pub its_session : (c r : ℕ) → first_there m.clients (sessions_at m.clients n) ≡ Some c → session_of (client_at m.clients c) ≡ Some r → (r ≡ null → ⊥) →
         IsSeat c r (first_session s.cells n (service_of s.cells n).sessions)
     its_session c r e is some = some_first (service_of s.cells n).sessions own_with c r (ap (first_there m.clients) (sym (agrees.services.clients.sessions n)) ∙ e) is some
 

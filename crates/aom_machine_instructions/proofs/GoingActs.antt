@@ -107,8 +107,7 @@ module _ (p : Image) (m : Parts) (v : State) (us : List Machine_task) (ts : List
       subst (λ b. Agrees p (with_tasks (cond b (Closes ∷ Destroys n ∷ us) (destructed p (destructor_in p class) n (Destroys n ∷ us))) m) (record v { tasks = checked.begun p o height ts })) (sym serves) (go (is_server p o.thing))
     where
       go : (b : Bool) → Agrees p (with_tasks (cond b (Closes ∷ Destroys n ∷ us) (destructed p (destructor_in p class) n (Destroys n ∷ us))) m) (record v { tasks = cond b (Closing ∷ Destroy ∷ ts) (checked.destructed p o height ts) })
-      go true = agrees_with p m v (Closes ∷ Destroys n ∷ us) (Closing ∷ Destroy ∷ ts) aside (tt, (small, same))
-          (λ q.
+      go true = agrees_with p m v (Closes ∷ Destroys n ∷ us) (Closing ∷ Destroy ∷ ts) aside (tt, (small, same)) (λ q.
           subst (λ x. Represents x (word_at (Closing ∷ Destroy ∷ ts) q) (held v.cells q)) (sym (closes_value (Destroys n ∷ us) m.cells m.entries.items (others m) q))
           (subst (λ w. Represents (value_in (Destroys n ∷ us) m.cells m.entries.items (others m) q) w (held v.cells q)) (sym (closes_word (Destroy ∷ ts) q)) (values q)))
       go false = subst (λ d. Agrees p (with_tasks (destructed p d n (Destroys n ∷ us)) m) (record v { tasks = checked.destructed p o height ts })) (sym destructor) (destructs (destructor_of p o.thing) o height (destructor_class p o.thing) name small same aside values)
@@ -125,8 +124,7 @@ module _ (p : Image) (m : Parts) (v : State) (us : List Machine_task) (ts : List
 module _ (p : Image) (m : Parts) (refused : List ℕ) where
   pub delete_does : (a : ℕ) → a < 16 → (register_here m.stack.tasks a ≡ null → ⊥)
       → DoesIn p refused (Delete a) m (with_tasks (dying p m.cells (register_here m.stack.tasks a) (on_top (with_register a null) m.stack.tasks)) m)
-  delete_does a small is h here =
-      plain_at p m _ refused (Delete a) refl h (λ c needs typed. by_top p m h
+  delete_does a small is h here = plain_at p m _ refused (Delete a) refl h (λ c needs typed. by_top p m h
       (λ us. (register_here us a ≡ null → ⊥) → Agrees p (with_tasks (dying p m.cells (register_here us a) (on_top (with_register a null) us)) m) (applied p h.frame h.below (requested (Delete a) h.state) (deletes h.frame (held h.state.cells (Register (length h.below) a)) a)))
       (λ f ms top is.
       let x = some_held (held h.state.cells (Register (length h.below) a)) (λ n. is (shown p m h f ms top a (no_word _ needs.0) ∙ n)) in
@@ -203,9 +201,7 @@ pub record Ends_cell (m : Parts) (s : State) (x : ℕ) (ms : List Machine_task) 
 
 pub by_going : (p : Image) (m : Parts) (h : In_going p m) (G : List Machine_task → Type 0)
     → ((x : ℕ) (ms : List Machine_task) → Ends_cell m h.state x ms h.below → G (Destroys x ∷ ms)) → G m.stack.tasks
-by_going p m h G show =
-    go
-    (alike m.stack.tasks (Destroy ∷ h.below) (subst (λ us. SameTasks m.stack.tasks us) h.top h.agrees.tasks))
+by_going p m h G show = go (alike m.stack.tasks (Destroy ∷ h.below) (subst (λ us. SameTasks m.stack.tasks us) h.top h.agrees.tasks))
     (λ r. subst (λ us. Represents (value_in m.stack.tasks m.cells m.entries.items (others m) r) (word_at us r) (held h.state.cells r)) h.top (h.agrees.values r))
   where
     go : {ms : List Machine_task} → Alike ms (Destroy ∷ h.below) → ((r : Place) → Represents (value_in ms m.cells m.entries.items (others m) r) (word_at (Destroy ∷ h.below) r) (held h.state.cells r)) → G ms

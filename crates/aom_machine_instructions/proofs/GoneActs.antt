@@ -78,15 +78,13 @@ use Rattle.aom_machine_instructions.specs.Serving.{AllKept, CanVanish, Drops, an
 -- the same entries are messages
 is_there : (es : List Entry) (m : ℕ) → is_among m (places_in es) ≡ has_message m es
 is_there [] m = refl
-is_there (Connect c ∷ es) m = is_there es m
 is_there (Message k ∷ es) m = ap (λ b. (k == m) || b) (is_there es m)
-is_there (Close c ∷ es) m = is_there es m
+is_there (_ ∷ es) m = is_there es m
 
 many_there : (es : List Entry) → length (places_in es) ≡ count_messages es
 many_there [] = refl
-many_there (Connect c ∷ es) = many_there es
 many_there (Message k ∷ es) = ap suc (many_there es)
-many_there (Close c ∷ es) = many_there es
+many_there (_ ∷ es) = many_there es
 
 -- what is kept, each once
 all_kept : (store : Store) (es : List Entry) → Once (places_in es) → ((m : ℕ) → is_among m (places_in es) ≡ true → is_some (message_at store m) ≡ true) → AllKept store es
@@ -122,14 +120,12 @@ none_then s s' same c none i = same i c ∙ none i
 abbrev Quiet : kept.State → List Entry → Type 0
 Quiet s [] = Unit {0}
 Quiet s (Connect c ∷ es) = NoCell s c × Quiet s es
-Quiet s (Message m ∷ es) = Quiet s es
-Quiet s (Close c ∷ es) = Quiet s es
+Quiet s (_ ∷ es) = Quiet s es
 
 quiet_then : (s s' : kept.State) → SessionsSame s s' → (es : List Entry) → Quiet s es → Quiet s' es
 quiet_then s s' same [] quiet = tt
 quiet_then s s' same (Connect c ∷ es) quiet = (none_then s s' same c quiet.0, quiet_then s s' same es quiet.1)
-quiet_then s s' same (Message m ∷ es) quiet = quiet_then s s' same es quiet
-quiet_then s s' same (Close c ∷ es) quiet = quiet_then s s' same es quiet
+quiet_then s s' same (_ ∷ es) quiet = quiet_then s s' same es quiet
 
 queue_same : (n : ℕ) (es : List Entry) (s : kept.State) → Quiet s es → SessionsSame s (kept.queue_gone n es s)
 queue_same n [] s quiet = λ i d. refl
@@ -137,13 +133,11 @@ queue_same n (e ∷ es) s quiet = λ i d. queue_same n es (kept.gone n (e ∷ es
   where
     one : (e : Entry) → Quiet s (e ∷ es) → SessionsSame s (kept.gone n (e ∷ es) s)
     one (Connect c) quiet = set_same s (kept.gone n (Connect c ∷ es) s) c Unconnected refl (λ large. refl) quiet.0 (λ i. refl)
-    one (Message m) quiet = λ i d. refl
-    one (Close c) quiet = λ i d. refl
+    one _ quiet = λ i d. refl
 
     rest : (e : Entry) → Quiet s (e ∷ es) → Quiet s es
     rest (Connect c) quiet = quiet.1
-    rest (Message m) quiet = quiet
-    rest (Close c) quiet = quiet
+    rest _ quiet = quiet
 
 -- so have those whose sessions end
 abbrev NoneOf : kept.State → List ℕ → Type 0
@@ -269,8 +263,7 @@ module _ (p : Image) (m : Parts) (h : In_going p m) (o : Object) (holds : held h
   quiet_here : (es : List Entry) → QueueFits s.clients n (map (asked_by k.places) es) → Quiet k es
   quiet_here [] fits = tt
   quiet_here (Connect c ∷ es) fits = grind (arith, nat_tests, connecting_here, same, quiet_here es fits.1)
-  quiet_here (Message j ∷ es) fits = quiet_here es fits.1
-  quiet_here (Close c ∷ es) fits = quiet_here es fits.1
+  quiet_here (_ ∷ es) fits = quiet_here es fits.1
 
   sessions_stay : SessionsSame k k'
   sessions_stay i d =
@@ -336,8 +329,7 @@ module _ (p : Image) (m : Parts) (h : In_going p m) (o : Object) (holds : held h
     listed_so = listed_gone p m.listed unqueued after n
         (λ class. ap (λ o. lists p class o (requested after n)) (each.named_so n ∙ unnamed unqueued g o tidy there))
         (λ i class other. ap (λ o. lists p class o (requested after i)) (each.named_so i ∙ named_without unqueued g o i tidy there other) ∙ ap (lists p class (named unqueued i)) (asked i other))
-        (λ i other. ap order_in (asked i other))
-        (listed_beside p m.listed s.cells unqueued beside h.agrees.services.listed)
+        (λ i other. ap order_in (asked i other)) (listed_beside p m.listed s.cells unqueued beside h.agrees.services.listed)
       where
         each : Alike gone after
         each = each_unslotted_alike xs gone
@@ -346,19 +338,14 @@ module _ (p : Image) (m : Parts) (h : In_going p m) (o : Object) (holds : held h
         asked i other = each_unslotted_requests xs gone i ∙ requested_without unqueued g o i tidy there other
 
     messages_so : SameMessages p store after
-    messages_so =
-        messages_unslotted p store xs gone
-        (messages_without p store unqueued g o tidy there lives_there object small
+    messages_so = messages_unslotted p store xs gone (messages_without p store unqueued g o tidy there lives_there object small
         (messages_unqueued p h.typing h.wired s h.typed h.kept.fit k same n m.messages store
-        (λ j e. drops.gone j (sym (is_there (kept.queue_at k n) j) ∙ e))
-        (λ j e. drops.others j (sym (is_there (kept.queue_at k n) j) ∙ e))
-        drops.limit
-        (ap (λ i. count_kept store + i) (many_there (kept.queue_at k n)) ∙ drops.count)
+        (λ j e. drops.gone j (sym (is_there (kept.queue_at k n) j) ∙ e)) (λ j e. drops.others j (sym (is_there (kept.queue_at k n) j) ∙ e))
+        drops.limit (ap (λ i. count_kept store + i) (many_there (kept.queue_at k n)) ∙ drops.count)
         h.agrees.services.messages))
 
     tokens_so : SameTokens p m.tokens after
-    tokens_so =
-        tokens_unslotted p m.tokens xs gone
+    tokens_so = tokens_unslotted p m.tokens xs gone
         (tokens_without p m.tokens unqueued g o tidy there small (ap awaited (beside.requests o.name) ∙ going_untold)
         (tokens_beside p m.tokens s.cells unqueued beside (told_unqueued p h.typing h.wired s h.typed h.kept.fit k same m.messages h.agrees.services.messages n) h.agrees.services.tokens))
 
@@ -391,8 +378,7 @@ module _ (p : Image) (m : Parts) (h : In_going p m) (o : Object) (holds : held h
 
 pub go_does : (m : Parts) (heap : Heap) (a : Active) (w : Standing) (store : Store) (n class : ℕ) (told : LineBuffer) → n ≡ going_here m.stack.tasks → class_at m.cells n ≡ Some class → Changes m.cells heap n None → count heap + 1 ≡ count m.cells → Delists m.active a n → Sets m.sessions w n false → Drops (kept.queue_at m.clients n) m.messages store
     → GoesAway m (places.next (record (with_tasks (below_first m.stack.tasks) m) { cells = heap; active = a; sessions = w; clients = kept.server_gone n m.clients; messages = store; listed = unlisted n m.listed })) told (record told { lines = (told.lines ++ gone_lines m.clients (kept.queue_at m.clients n)) ++ Gone class ∷ [] })
-go_does m heap a w store n class told which is gone less off shut drops p h o holds free typed fits =
-    by_going p m h
+go_does m heap a w store n class told which is gone less off shut drops p h o holds free typed fits = by_going p m h
     (λ us. n ≡ going_here us → Agrees p (places.next (record (with_tasks (below_first us) m) { cells = heap; active = a; sessions = w; clients = kept.server_gone n m.clients; messages = store; listed = unlisted n m.listed })) (vanished o h.below h.state)
     × (record told { lines = (told.lines ++ gone_lines m.clients (kept.queue_at m.clients n)) ++ Gone class ∷ [] } ≡ record told { lines = told.lines ++ (queue_lines h.state.cells (Some o) ++ goes_line (Some o)) }))
     (λ x ms top which.
@@ -424,9 +410,8 @@ can_vanish p m st n lives =
 -- each entry is one line, or none
 gone_counted : (s : kept.State) (es : List Entry) → length (gone_lines s es) ≡ answers es
 gone_counted s [] = refl
-gone_counted s (Connect c ∷ es) = ap suc (gone_counted s es)
-gone_counted s (Message m ∷ es) = ap suc (gone_counted s es)
 gone_counted s (Close c ∷ es) = gone_counted s es
+gone_counted s (_ ∷ es) = ap suc (gone_counted s es)
 
 -- so there is room for the cell's line
 pub room_left : (told : LineBuffer) (s : kept.State) (es : List Entry) → (length told.lines + answers es) < told.room → length (told.lines ++ gone_lines s es) < told.room

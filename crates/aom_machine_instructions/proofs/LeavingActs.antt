@@ -82,14 +82,12 @@ leaves p m s code agrees free =
     (subst (λ w. Represents (value_in (held_to_trap m.stack.tasks) m.cells m.entries.items (others m) r) w (held s.cells r)) (sym (unwinds_word (to_trap s.tasks) code r)) (stays.values r)))
 
 pub leaves_at : (p : Image) (m : Parts) (s : State) (fr : Frame) (ts : List Task) (code : ℤ) → s.tasks ≡ Run fr ∷ ts → Agrees p m s → above_trap_is_free s.cells (Run fr ∷ ts) ≡ true → Agrees p (leaving code m) (record s { tasks = Unwind code ∷ to_trap ts })
-leaves_at p m s fr ts code top agrees free =
-    subst (λ us. Agrees p (leaving code m) (record s { tasks = Unwind code ∷ to_trap us })) top
+leaves_at p m s fr ts code top agrees free = subst (λ us. Agrees p (leaving code m) (record s { tasks = Unwind code ∷ to_trap us })) top
     (leaves p m s code agrees (subst (λ us. above_trap_is_free s.cells us ≡ true) (sym top) free))
 
 module _ (m : Parts) (refused : List ℕ) where
   -- with a register's word
-  left_with :
-      (p : Image) (h : At_hand p m) (a : ℕ) → is_some (word h.frame a) ≡ true → above_trap_is_free h.state.cells (Run h.frame ∷ h.below) ≡ true →
+  left_with : (p : Image) (h : At_hand p m) (a : ℕ) → is_some (word h.frame a) ≡ true → above_trap_is_free h.state.cells (Run h.frame ∷ h.below) ≡ true →
       Agrees p (leaving (cast_signed w32 (register_here m.stack.tasks a)) m) (applied p h.frame h.below h.state (Leaves (read h.frame h.below h.state a) Same))
   left_with p h a some free =
       subst (λ w. Agrees p (leaving (cast_signed w32 (register_here m.stack.tasks a)) m) (applied p h.frame h.below h.state (Leaves w Same))) (word_read p m h a some)

@@ -210,8 +210,7 @@ module _ (p : Image) (formed : WellFormed p) (m : Parts) (announced : m.rest.ann
         (tt, (e.small, e.same))
         aside_then
         (dying_shows p m' v us vs r s.cells from (value_in us m.cells m.entries.items (others m)) (word_at vs) refl old (ap (λ i. suc (suc i)) deep) refl shown empty
-        (session_released (others m) us m.cells m.entries.items c o.name client with_it)
-        (λ q. refl)))
+        (session_released (others m) us m.cells m.entries.items c o.name client with_it) (λ q. refl)))
       where
         object_small_there : r ≡ y.name → r < 4096
         object_small_there name = subst (λ i. i < 4096) (sym name) (object_small p m s formed agrees y y_lives y_cell)

@@ -43,8 +43,7 @@ use Rattle.aom_machine_instructions.proofs.WordActs.{plain_at}
 -- what follows in a line is of a class
 next_class : (p : Image) (k m : ℕ) → next_destructor p m ≡ Some k → (c : ℕ) × (method_class p k ≡ Some c)
 unfolding class_in
-next_class p k m e =
-    some_given (λ q. class_destructor p q ≡ Some k) (parent_above p m) e (λ none. cc) (λ c at role.
+next_class p k m e = some_given (λ q. class_destructor p q ≡ Some k) (parent_above p m) e (λ none. cc) (λ c at role.
     let w = families_inherit.roles p c k Destruct role in (w.class, ap class_in w.there ∙ w.of))
 
 -- and is a method
@@ -66,8 +65,7 @@ module _ (p : Image) (m : Parts) (refused : List ℕ) (a : ℕ) (act : Active) (
   still h q = (ended_alike p h.frame h.state.cells).held_so q
 
   -- over a cell that goes stands a destructor of its line, which works on it and gives nothing
-  line_here :
-      (h : At_hand p m) (ts : List Task) → h.state.tasks ≡ Run h.frame ∷ Destroy ∷ ts →
+  line_here : (h : At_hand p m) (ts : List Task) → h.state.tasks ≡ Run h.frame ∷ Destroy ∷ ts →
       (o : Object) × (held h.state.cells (Going (length ts)) ≡ Some o) × (h.frame.home ≡ Inside o (Going (length ts))) × (gives_of p h.frame.method ≡ Nothing)
   line_here h ts at =
       method_layer (λ ls. Good p h.typing h.state.cells ls) h.frame (Destroy ∷ ts) h.typed.layers (sym h.typed.tasks ∙ at) h.typed.good (λ sh ls under good.
@@ -96,8 +94,7 @@ module _ (p : Image) (m : Parts) (refused : List ℕ) (a : ℕ) (act : Active) (
   goes us = with_tasks (destructed p (next_destructor p (method_here us)) (going_here (below_first us)) (below_first us)) mid
 
   pub return_to_going : IsDestroying (below_first m.stack.tasks) → DoesIn p refused (Return a) m (goes m.stack.tasks)
-  return_to_going going h here =
-      plain_at p m (goes m.stack.tasks) refused (Return a) refl h (λ c needs typed.
+  return_to_going going h here = plain_at p m (goes m.stack.tasks) refused (Return a) refl h (λ c needs typed.
       let met = all_parts (result_needs p h.frame h.below h.state (gives_of p h.frame.method) a) _ needs in
       by_top p m h (λ us. IsDestroying (below_first us) → Agrees p (goes us) (after h h.below))
       (λ f ms top has. go h f ms h.below h.top (top_over h h.below f ms top) (tops A_going ms has) (alike ms h.below top.below) met.1.1.0) going)

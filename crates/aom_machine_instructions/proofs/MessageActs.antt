@@ -70,12 +70,10 @@ module _ (m : Parts) (refused : List ℕ) where
       let wide = top.frame.wide in
       record {
         frame = framed p m h f ms _ a m.served top;
-        values = moves _ _ _ _ (held s.cells) _ from to top.values refl
-            (λ r.
+        values = moves _ _ _ _ (held s.cells) _ from to top.values refl (λ r.
             value_written f ms m.cells m.entries.items (others mid) (length ts) a m.served f.place top.deep (omega arith) r
             ∙ ap (λ y. changed (λ q. y) to m.served r) (served_written (Runs_frame f ∷ ms) m.cells m.entries.items (others m) null r))
-            (word_written h.frame ts a h.frame.place None)
-            (λ r. held_moved s.cells from to r (free _ met.1.1.0));
+            (word_written h.frame ts a h.frame.place None) (λ r. held_moved s.cells from to r (free _ met.1.1.0));
       }))
 
 -- ---- a message is completed
@@ -162,11 +160,8 @@ module _ (m : Parts) where
 -- the register is null, the message is completed, and the method goes on
 module _ (m mid new : Parts) (told now : LineBuffer) (n : ℕ) (code : ℤ) (a b : ℕ) (emptied : mid ≡ set_register a null m) (number_so : n ≡ register_here m.stack.tasks a) (completes : Completes n code mid new told now) where
   pub reply_done : (refused : List ℕ) (last : Parts) → class_at mid.tokens completes.place ≡ None → a < 16 → last ≡ places.next new → Does refused (Reply a b) m last
-  reply_done refused last sent small goes_on = grind (
-    arith,
-    nat_tests,
-    reply_does m refused a b completes.place new.messages small (completes.number ∙ number_so),
-  )
+  reply_done refused last sent small goes_on =
+      grind (arith, nat_tests, reply_does m refused a b completes.place new.messages small (completes.number ∙ number_so))
 
   pub reply_told : code ≡ cast_signed w32 (register_here m.stack.tasks b) → Tells (Reply a b) m told now
   reply_told read =

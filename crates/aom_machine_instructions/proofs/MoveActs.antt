@@ -38,12 +38,10 @@ module _ (m : Parts) (refused : List ℕ) where
       let still : length left.registers ≡ 16 = length-set f.registers b null ∙ wide in
       record {
         frame = reframed f h.frame (slice_set left.registers a x) _ f.place h.frame.place top.frame (length-set left.registers a x ∙ still) top.frame.place;
-        values = moves _ _ _ _ (held s.cells) _ from to top.values (word_here h.frame ts b ∙ no_word _ met.0)
-            (λ r.
+        values = moves _ _ _ _ (held s.cells) _ from to top.values (word_here h.frame ts b ∙ no_word _ met.0) (λ r.
             value_written left ms m.cells m.entries.items (others m) (length ts) a x f.place top.deep (omega arith) r
             ∙ ap (λ y. changed (λ q. y) to x r) (value_written f ms m.cells m.entries.items (others m) (length ts) b null f.place top.deep (omega arith) r)
             ∙ ap (λ y. changed (changed (value_in (Runs_frame f ∷ ms) m.cells m.entries.items (others m)) from null) to y r)
             (ap (λ us. register_here us b) e ∙ sym (value_here f ms m.cells m.entries.items (others m) (length ts) b top.deep)))
-            (word_written h.frame ts a h.frame.place None)
-            (λ r. held_moved s.cells from to r (free _ met.1.0));
+            (word_written h.frame ts a h.frame.place None) (λ r. held_moved s.cells from to r (free _ met.1.0));
       }))

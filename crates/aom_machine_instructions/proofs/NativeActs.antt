@@ -80,8 +80,7 @@ module _ (p : Image) (m : Parts) (h : At_hand p m) (on : OnObject p m h) (w : St
       resessioned_alike h.state.cells h.frame.home b,
       still_opened h.state.cells h.frame.home b,
     );
-    natives =
-        grind (arith, nat_tests, natives_set p m.sessions w h.state.killed h.state.cells on.object b on.lives);
+    natives = grind (arith, nat_tests, natives_set p m.sessions w h.state.killed h.state.cells on.object b on.lives);
     services = services_resessioned p h.state.cells h.frame.home b h.agrees.services;
     rest = h.agrees.rest;
     room = h.agrees.entry_room;
@@ -103,16 +102,14 @@ module _ (p : Image) (m : Parts) (h : At_hand p m) (on : OnObject p m h) (w : St
 module _ (p : Image) (m new : Parts) (refused : List ℕ) (n : ℕ) (serves : native_of (kind_here p m) ≡ Some n) where
   pub connect_does : (a : ℕ) (w : Standing) → Sets m.sessions w (this m) (opens (is_killed m.sessions n) (is_open m.sessions (this m)) (heard_by m))
       → WritesWord a (connected (is_killed m.sessions n) (is_open m.sessions (this m)) (heard_by m)) (record m { sessions = w }) new → DoesIn p refused (Connect a) m new
-  connect_does a w set writes h here =
-      heard_at p m new refused (Connect a) refl h (λ c hears met typed.
+  connect_does a w set writes h here = heard_at p m new refused (Connect a) refl h (λ c hears met typed.
       let on = on_object p m h (native_listed _ met.0) in
       let flag = subst (λ b. Sets m.sessions w (this m) b) (heard_told p m h on n serves opens c hears) set in
       let word = subst (λ v. WritesWord a v (record m { sessions = w }) new) (heard_told p m h on n serves connected c hears) writes in
       session_put p m h on w _ flag new a _ (free _ met.1.0) word)
 
   pub ask_does : (a b x : ℕ) → WritesWord a (replied (is_killed m.sessions n) (is_open m.sessions (this m)) (heard_by m)) m new → DoesIn p refused (Ask a b x) m new
-  ask_does a b x writes h here =
-      heard_at p m new refused (Ask a b x) refl h (λ c hears met typed.
+  ask_does a b x writes h here = heard_at p m new refused (Ask a b x) refl h (λ c hears met typed.
       let on = on_object p m h (native_listed _ met.1.1.0) in
       word_put p m new h a _ (free _ met.1.1.1.0) (subst (λ v. WritesWord a v m new) (heard_told p m h on n serves replied c hears) writes))
 

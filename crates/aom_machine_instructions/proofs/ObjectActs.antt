@@ -56,8 +56,7 @@ module _ (m : Parts) (refused : List ℕ) where
   passes_full p h r to n = grind (arith, nat_tests, some_held, passes m refused p h)
 
   pub jump_null_does : (a to : ℕ) → register_here m.stack.tasks a ≡ null → Does refused (JumpNull a to) m (places.to_place to m)
-  jump_null_does a to is =
-      plain_does m (places.to_place to m) refused (JumpNull a to) refl
+  jump_null_does a to is = plain_does m (places.to_place to m) refused (JumpNull a to) refl
       (λ p h c met. jumps_empty p h (Register (length h.below) a) to (sym (shown_here p m h a (no_word _ met.0)) ∙ is))
 
   pub jump_object_does : (a to : ℕ) → (register_here m.stack.tasks a ≡ null → ⊥) → Does refused (JumpNull a to) m (places.next m)
@@ -75,16 +74,14 @@ module _ (m : Parts) (refused : List ℕ) where
       (λ f ms e top. written p m h mid s.cells a null None None small refl f ms top (λ q. refl) (still_none p m h a none))
 
   pub delete_null_does : (p : Image) (a : ℕ) → a < 16 → register_here m.stack.tasks a ≡ null → DoesIn p refused (Delete a) m (places.next (set_register a null m))
-  delete_null_does p a small is h here =
-      plain_at p m _ refused (Delete a) refl h (λ c needs typed.
+  delete_null_does p a small is h here = plain_at p m _ refused (Delete a) refl h (λ c needs typed.
       let none = nothing_held p m h.typing h.state h.typed h.agrees (Register (length h.below) a) (sym is ∙ shown_here p m h a (no_word _ needs.0)) in
       subst (λ o. Agrees p (places.next (set_register a null m)) (applied p h.frame h.below (requested (Delete a) h.state) (deletes h.frame o a))) (sym none)
       (nulled p h a m.rest _ small h.agrees.rest none))
 
 -- the fields of a new cell are null, and so are those of one that is not there
 values_kept : (ms : List Machine_task) (h h' : Heap) (es : List Item) (rest : Others) (n class : ℕ) → cell_at h n ≡ None → Changes h h' n (Some (blank class)) → (r : Place) → value_in ms h' es rest r ≡ value_in ms h es rest r
-values_kept ms h h' es rest n class none ch (Field k g) = cases (n == k)
-    (λ e.
+values_kept ms h h' es rest n class none ch (Field k g) = cases (n == k) (λ e.
     let same = eqb-true n k e in
     ap (λ i. field_of (cell_at h' i) g) (sym same) ∙ ap (λ o. field_of o g) ch.here ∙ all_same 8 g null ∙ ap (λ o. field_of o g) (sym none) ∙ ap (λ i. field_of (cell_at h i) g) same)
     (λ e. ap (λ o. field_of o g) (ch.others k (λ d. false≢true (sym e ∙ eq-eqb n k (sym d)))))
@@ -103,13 +100,11 @@ cells_made p h h' cs n class ws q same zeros small none some ch more within = re
       (λ e. ap (λ c. word_of c w) (other k e) ∙ same.words k w below ∙ ap (λ b. cond b (at (pos 0) ws w) (word_field cs k w)) (sym e));
   count = (let c = same.count in omega arith);
   limit = ch.limit ∙ same.limit;
-  wide = λ k c is. cases (n == k)
-      (λ e. let it : blank class ≡ c = new k c e is in ap (λ z. length z.fields) (sym it) ∙ length-replicate 8 null)
+  wide = λ k c is. cases (n == k) (λ e. let it : blank class ≡ c = new k c e is in ap (λ z. length z.fields) (sym it) ∙ length-replicate 8 null)
       (λ e. same.wide k c (sym (other k e) ∙ is));
   classes = grind (arith, nat_tests);
   null_is_none = ch.others null (λ d. some (sym d)) ∙ same.null_is_none;
-  below = λ k c is. cases (n == k)
-      (λ e. subst (λ i. i < h'.limit) (eqb-true n k e) within)
+  below = λ k c is. cases (n == k) (λ e. subst (λ i. i < h'.limit) (eqb-true n k e) within)
       (λ e. subst (λ l. k < l) (sym ch.limit) (same.below k c (sym (other k e) ∙ is)));
 }
   where
@@ -171,8 +166,7 @@ module _ (m : Parts) (turn : LineBuffer) where
         services = services_made p s.cells n class (zeros p class) here fresh below h.agrees.services;
         rest = rest;
         room = h.agrees.entry_room;
-      })
-      (λ f ms e top. written p m h (asked heap) cs a n None (Some (record { name = n; thing = An_object_of class })) small refl f ms top
+      }) (λ f ms e top. written p m h (asked heap) cs a n None (Some (record { name = n; thing = An_object_of class })) small refl f ms top
       (values_kept (Runs_frame f ∷ ms) m.cells heap m.entries.items (others m) n class none ch) (λ q. refl))
 
   pub asks_one : (r : Counters) → m.rest ≡ r → record m.rest { requests = raised m.rest.requests } ≡ record r { requests = raised r.requests }

@@ -262,19 +262,16 @@ module _ (p : Image) (m : Parts) (h : At_hand p m) where
 
     -- the requests with another one of this object
     requests_asked : (a : Active) (r : Option Request) → a.table.limit ≡ m.active.table.limit → StandsFor a (asked_anew (this m) r (requested h.state.cells)) (queued p h.state.cells) → SameRequests p a (rerequested h.state.cells h.frame.home r)
-    requests_asked a r limit stands =
-        subst (λ home. SameRequests p a (rerequested h.state.cells home r)) (sym x.home)
+    requests_asked a r limit stands = subst (λ home. SameRequests p a (rerequested h.state.cells home r)) (sym x.home)
         (requests_set p m.active a h.state.cells x.object r x.lives limit (subst (λ n. StandsFor a (asked_anew n r (requested h.state.cells)) (queued p h.state.cells)) x.number stands) h.agrees.requests)
 
     -- it becomes this of it
     pub requests_become : (a : Active) (f : Request → Request) (r : Request) → own_request h.state.cells h.frame.home ≡ Some r → Makes m.active a (this m) f → SameRequests p a (rerequested h.state.cells h.frame.home (on_request f (own_request h.state.cells h.frame.home)))
-    requests_become a f r is makes =
-        subst (λ o. SameRequests p a (rerequested h.state.cells h.frame.home (on_request f o))) (sym is)
+    requests_become a f r is makes = subst (λ o. SameRequests p a (rerequested h.state.cells h.frame.home (on_request f o))) (sym is)
         (requests_asked a (Some (f r)) makes.limit (makes.stands (requested h.state.cells) (queued p h.state.cells) r h.agrees.requests.stands (sym own_told ∙ is)))
 
     pub requests_enlisted : (a : Active) (priority : ℤ) (waits : Option Bool) → queued p h.state.cells (this m) ≡ waits → Enlists m.active a (this m) priority waits → SameRequests p a (rerequested h.state.cells h.frame.home (Some (first_request h.state.cells priority)))
-    requests_enlisted a priority waits is enlists =
-        requests_asked a (Some (first_request h.state.cells priority)) enlists.limit
+    requests_enlisted a priority waits is enlists = requests_asked a (Some (first_request h.state.cells priority)) enlists.limit
         (enlists.stands (requested h.state.cells) (queued p h.state.cells) (next_order h.state.cells) h.agrees.requests.stands (newest h.state.cells h.typed.good.tidy) is)
 
     -- the cells then
@@ -394,15 +391,8 @@ module _ (p : Image) (m : Parts) where
       state_told p _ _ x (issuing_active _ n.1.1.1.0) r.0 r.1 ∙ ap (λ x. Some (held_state x)) (idle_only r.0.phase r.2)
 
   pub issue_provided : (a b : ℕ) → IsNext p (Issue a b) m → is_active_kind (kind_here p m) ≡ true
-  issue_provided a b next = grind (
-    arith,
-    nat_tests,
-    needs_met p m (Issue a b) next,
-    finds_object p m (Issue a b) next,
-    active_listed,
-    issuing_active,
-    kind_told p,
-  )
+  issue_provided a b next =
+      grind (arith, nat_tests, needs_met p m (Issue a b) next, finds_object p m (Issue a b) next, active_listed, issuing_active, kind_told p)
 
   -- one that waits from then on has a request
   pub set_active_issued : IsNext p SetActive m → state_at m.active.table (this m) ≡ Some (held_state Issued)
@@ -444,8 +434,7 @@ module _ (m : Parts) (refused : List ℕ) where
 
   -- the status of the last request, and 0 where there was none
   pub status_does : (new : Parts) (a : ℕ) → WritesWord a (word_or_zero (status_at m.active.table (this m))) m new → Does refused (Status a) m new
-  status_does new a x =
-      plain_does m new refused (Status a) refl (λ p h c met.
+  status_does new a x = plain_does m new refused (Status a) refl (λ p h c met.
       subst (λ v. Agrees p new (applied p h.frame h.below h.state (writes_word h.frame a v))) (status_told p m h (on_object p m h (active_listed _ met.0)) met.0) (word_put p m new h a _ (free _ met.1.0) x))
 
 module _ (m : Parts) (refused : List ℕ) (a : Active) where
@@ -460,8 +449,7 @@ module _ (m : Parts) (refused : List ℕ) (a : Active) where
       asks_on p m h a w m.listed _ (requests_become p m h on a f r.0 r.1 makes) (services on)
 
   pub set_active_does : Makes m.active a (this m) waits → Does refused SetActive m (places.next (record m { active = a }))
-  set_active_does makes =
-      plain_does m _ refused SetActive refl (λ p h c met.
+  set_active_does makes = plain_does m _ refused SetActive refl (λ p h c met.
       becomes is_issued waits m.tokens makes p h (λ on. services_become p m h on waits (λ r. refl) (token_kept waits (λ r. refl) (own_request h.state.cells h.frame.home))) met.0 met.1.1.1.0)
 
   -- its token, if it waits for one, is void
@@ -485,15 +473,13 @@ module _ (p : Image) (m : Parts) (h : At_hand p m) (on : OnObject p m h) (n : �
 requests_made : (p : Image) (m : Parts) (h : At_hand p m) (on : OnObject p m h) (a : Active) (q : Provider) (w status : ℤ) (r : Request) → own_request h.state.cells h.frame.home ≡ Some r
     → ((n : ℕ) → q ≡ Native n → started (is_killed m.sessions n) (is_open m.sessions (this m)) (heard_by m) ≡ status) → Issues q m.sessions (heard_by m) h.state.rest.clock w m.active a (this m)
     → SameRequests p a (rerequested h.state.cells h.frame.home (on_request (issued_by q (made_with p m h on status) w) (own_request h.state.cells h.frame.home)))
-requests_made p m h on a Own w status r is begins issues = requests_become p m h on a (completed_at_once w) r is issues
 requests_made p m h on a A_timer w status r is begins issues = requests_timed p m h on a w status r is issues
-requests_made p m h on a A_token w status r is begins issues = requests_become p m h on a (completed_at_once w) r is issues
 requests_made p m h on a (Native n) w status r is begins issues = requests_become p m h on a (begun_with status) r is (subst (λ v. Makes m.active a (this m) (begun_with v)) (begins n refl) issues)
+requests_made p m h on a _ w status r is begins issues = requests_become p m h on a (completed_at_once w) r is issues
 
 pub issue_does : (p : Image) (m : Parts) (refused : List ℕ) (a : Active) (q : Provider) (b x : ℕ) → provider_of (kind_here p m) ≡ Some q
     → Issues q m.sessions (heard_by m) m.rest.clock (cast_signed w32 (register_here m.stack.tasks b)) m.active a (this m) → DoesIn p refused (Issue b x) m (places.next (record m { active = a }))
-issue_does p m refused a q b x provider issues h here =
-    heard_at p m _ refused (Issue b x) refl h (λ c hears met typed.
+issue_does p m refused a q b x provider issues h here = heard_at p m _ refused (Issue b x) refl h (λ c hears met typed.
     let clock = h.state.rest.clock in
     let asking = asking_with p c h.frame h.below h.state in
     let w = read h.frame h.below h.state b in
@@ -508,8 +494,7 @@ issue_does p m refused a q b x provider issues h here =
 
 -- a request that is not active is left alone
 pub cancel_idle_does : (m : Parts) (refused : List ℕ) → is_waited_for (request_at m.active.table (this m)) ≡ false → Does refused Cancel m (places.next m)
-cancel_idle_does m refused idle =
-    plain_does m _ refused Cancel refl (λ p h c met.
+cancel_idle_does m refused idle = plain_does m _ refused Cancel refl (λ p h c met.
     let on = on_object p m h (active_listed _ met.0) in
     subst (λ b. Agrees p (places.next m) (applied p h.frame h.below h.state (cancels_if h.frame b (cancel_method p h.frame)))) (sym (sym (active_told p m h on) ∙ idle)) (passes m refused p h))
 
@@ -551,8 +536,7 @@ module _ (p : Image) (m : Parts) (refused : List ℕ) (a : Active) (k : ℕ) whe
       })
 
   pub cancel_does : (class counted : ℕ) → class_at m.cells (this m) ≡ Some class → Some counted ≡ or_else (class_above (view_here m.stack.tasks)) (Some class) → role_of p counted Cancels_role ≡ Some k → is_waited_for (request_at m.active.table (this m)) ≡ true → Makes m.active a (this m) cancelling → DoesIn p refused Cancel m cancels
-  cancel_does class counted is counts role waited makes h here =
-      plain_at p m _ refused Cancel refl h (λ c met typed.
+  cancel_does class counted is counts role waited makes h here = plain_at p m _ refused Cancel refl h (λ c met typed.
       let on = on_object p m h (active_listed _ met.0) in
       let active = sym (active_told p m h on) ∙ waited in
       let r = in_one enlisted.is_active _ active in

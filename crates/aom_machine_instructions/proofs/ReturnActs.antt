@@ -119,10 +119,8 @@ none_above p t s d i typed le = grind (arith, nat_tests, fits_null p, claim_regi
 -- what the result comes to owns nothing
 abbrev pub bears : Gives → Bool
 bears Nothing = false
-bears A_word = true
-bears (An_own t) = true
-bears (A_maybe t) = true
 bears (Left c) = false
+bears _ = true
 
 awaits : (g : Gives) (x : ℕ) (sh : Shape) → Awaits g x sh → OnTrue (bears g) (is_unowning (register sh x) ≡ true)
 awaits x y sh a = grind arith
@@ -182,11 +180,9 @@ word_alone p t s fr ts i w typed top has = method_layer (λ ls. Good p t s.cells
 
 -- what gives an object has no word in its register
 abbrev pub Wordless : Gives → Option ℤ → Type 0
-Wordless Nothing w = Unit {0}
-Wordless A_word w = Unit {0}
 Wordless (An_own t) w = w ≡ None
 Wordless (A_maybe t) w = w ≡ None
-Wordless (Left c) w = Unit {0}
+Wordless _ w = Unit {0}
 
 wordless : (p : Image) (fr : Frame) (ts : List Task) (s : State) (g : Gives) (a : ℕ) → AllTrue (result_needs p fr ts s g a) → Wordless g (word fr a)
 wordless p fr ts s x a met = grind (arith, nat_tests, no_word)
@@ -195,8 +191,7 @@ module _ (p : Image) (m : Parts) (t : Typing) (s : State) (fr : Frame) (agrees :
   -- to the going of a cell, to an unwinding or to a dispatch: nothing goes over
   pub to_waiting : (ms : List Machine_task) (ts : List Task) → Top m s fr ts f ms → ((i : ℕ) → held s.cells (Register (length ts) i) ≡ None)
       → Agrees p (with_tasks ms m) (record s { tasks = ts })
-  to_waiting ms ts top clear =
-      retasked p m s ms ts agrees top.below
+  to_waiting ms ts top clear = retasked p m s ms ts agrees top.below
       (λ r. subst (Represents (value_in ms m.cells m.entries.items (others m) r) (word_at ts r)) (cleared_none _ (held s.cells) clear r) (beneath f ms fr ts m.cells m.entries.items (others m) (held s.cells) top.deep top.values r))
 
   -- to a method, or through a trap to one
@@ -266,8 +261,7 @@ module _ (p : Image) (m : Parts) (t : Typing) (s : State) (fr : Frame) (agrees :
     lands cs w o aside shows holds =
         let wide = same_frame.wide in
         record {
-          values = writes _ _ _ _ _ _ to n w o base shows
-              (value_written g ms m.cells m.entries.items (others m) (length ts) x n g.place deep (omega arith))
+          values = writes _ _ _ _ _ _ to n w o base shows (value_written g ms m.cells m.entries.items (others m) (length ts) x n g.place deep (omega arith))
               (word_written caller ts x caller.place w)
               holds;
           aside = aside;
@@ -276,8 +270,7 @@ module _ (p : Image) (m : Parts) (t : Typing) (s : State) (fr : Frame) (agrees :
 
     -- with a word
     lands_word : IsClear s.cells → held s.cells to ≡ None → Landed (slice_set g.registers x n) (set_word caller x (word fr a)).words s.cells
-    lands_word clear empty =
-        lands s.cells (word fr a) None (aside_of p m s agrees) (subst (Represents n (word fr a)) (clear a) number_shows)
+    lands_word clear empty = lands s.cells (word fr a) None (aside_of p m s agrees) (subst (Represents n (word fr a)) (clear a) number_shows)
         (λ r. kept (held s.cells) to r ∙ ap (λ o. changed (held s.cells) to o r) empty ∙ ap (λ o. cond (same_place to r) None o) (sym (cleared_none _ (held s.cells) clear r)))
 
     -- with an object
@@ -293,12 +286,10 @@ module _ (p : Image) (m : Parts) (t : Typing) (s : State) (fr : Frame) (agrees :
         holds (Field k i) = elsewhere (Field k i) refl refl
         holds (Going k) = elsewhere (Going k) refl refl
         holds (Elsewhere o) = elsewhere (Elsewhere o) refl refl
-        holds (Register e i) = cases (length over == e)
-            (λ b.
+        holds (Register e i) = cases (length over == e) (λ b.
             let at = eqb-true (length over) e b in
             let above = high in
-            ap (λ k. held (moved from to s.cells) (Register k i)) (sym at)
-            ∙ clear i
+            ap (λ k. held (moved from to s.cells) (Register k i)) (sym at) ∙ clear i
             ∙ sym (ap (λ c. cond (c && (x == i)) (held s.cells from) (under (Register e i))) (ne_eqb (length ts) e (λ d. absurd (omega arith))) ∙ ap (λ c. cond c None (held s.cells (Register e i))) b))
             (λ b. elsewhere (Register e i) (ap (λ c. c && (a == i)) b) (ap (λ c. cond c None (held s.cells (Register e i))) b))
 
@@ -320,19 +311,14 @@ module _ (p : Image) (m : Parts) (t : Typing) (s : State) (fr : Frame) (agrees :
         let q = Register (length ts) (suc x) in
         let wide = landed.wide in
         let was : m.entries.items ≡ Is_mark ∷ es.items = ap (λ (e : Machine_items). e.items) marked in
-        let old : (r : Place) → Represents (value_in (Runs_frame g' ∷ ms) m.cells es.items (others m) r) (word_at (Run caller' ∷ ts) r) (held cs r) = grind (
-          arith,
-          nat_tests,
-          value_alike (Runs_frame g' ∷ ms) m.cells (Is_mark ∷ es.items) es.items,
-          mark_shows_none es.items,
-        ) in
+        let old : (r : Place) → Represents (value_in (Runs_frame g' ∷ ms) m.cells es.items (others m) r) (word_at (Run caller' ∷ ts) r) (held cs r) =
+        grind (arith, nat_tests, value_alike (Runs_frame g' ∷ ms) m.cells (Is_mark ∷ es.items) es.items, mark_shows_none es.items) in
         agrees_with p (record m { entries = es }) (record s { cells = cs; items = below_top s.items }) (Runs_frame (record g { registers = slice_set rs (suc x) 0; place = suc g.place }) ∷ ms) (Run (next (set_word caller' (suc x) (Some (pos 0)))) ∷ ts)
         (aside_unmarked p m (record s { cells = cs }) es marked landed.aside)
         (moved_on g caller (slice_set rs (suc x) 0) (set_word caller' (suc x) (Some (pos 0))).words same_frame (length-set rs (suc x) 0 ∙ wide), same_there.1)
         (writes _ _ _ _ (held cs) _ q 0 (Some (pos 0)) None old refl
         (value_written g' ms m.cells es.items (others m) (length ts) (suc x) 0 (suc g.place) deep (omega arith))
-        (word_written caller' ts (suc x) (suc caller.place) (Some (pos 0)))
-        (λ r. kept (held cs) q r ∙ ap (λ o. changed (held cs) q o r) empty))
+        (word_written caller' ts (suc x) (suc caller.place) (Some (pos 0))) (λ r. kept (held cs) q r ∙ ap (λ o. changed (held cs) q o r) empty))
 
   -- to a method
   module _ (g : Machine_frame) (ms : List Machine_task) (caller : Frame) (ts : List Task) (top : Top m s fr (Run caller ∷ ts) f (Runs_frame g ∷ ms)) (empty : bears (gives_of p fr.method) ≡ true → held s.cells (Register (length ts) (result_register (instr_at p caller.method caller.place))) ≡ None) (small : result_register (instr_at p caller.method caller.place) < 16) where
@@ -343,17 +329,14 @@ module _ (p : Image) (m : Parts) (t : Typing) (s : State) (fr : Frame) (agrees :
     k = slice_index_or f.registers a null
 
     abbrev Goes : Gives → Type 0
-    Goes gv =
-        Wordless gv (word fr a) → bears gv ≡ bears (gives_of p fr.method)
-        → WellTyped p t (returned p fr (Run caller ∷ ts) s gv a (Run caller ∷ ts))
+    Goes gv = Wordless gv (word fr a) → bears gv ≡ bears (gives_of p fr.method) → WellTyped p t (returned p fr (Run caller ∷ ts) s gv a (Run caller ∷ ts))
         → Agrees p (places.next (resulted gv y k (with_tasks (Runs_frame g ∷ ms) m))) (returned p fr (Run caller ∷ ts) s gv a (Run caller ∷ ts))
 
     to_method : (gv : Gives) → Goes gv
-    to_method Nothing met same typed = lands_next false g ms caller ts top small _ _ _ (lands_bare false g ms caller ts top small (λ i. none_above p t _ _ i typed (omega arith)))
     to_method A_word met same typed = lands_next false g ms caller ts top small _ _ _ (lands_word false g ms caller ts top small (λ i. none_above p t _ _ i typed (omega arith)) (empty (sym same)))
     to_method (An_own z) met same typed = lands_next false g ms caller ts top small _ _ _ (lands_object false g ms caller ts top small (λ i. none_above p t _ _ i typed (omega arith)) (empty (sym same)) met)
     to_method (A_maybe z) met same typed = lands_next false g ms caller ts top small _ _ _ (lands_object false g ms caller ts top small (λ i. none_above p t _ _ i typed (omega arith)) (empty (sym same)) met)
-    to_method (Left z) met same typed = lands_next false g ms caller ts top small _ _ _ (lands_bare false g ms caller ts top small (λ i. none_above p t _ _ i typed (omega arith)))
+    to_method _ met same typed = lands_next false g ms caller ts top small _ _ _ (lands_bare false g ms caller ts top small (λ i. none_above p t _ _ i typed (omega arith)))
 
   -- through a trap
   module _ (es : Machine_items) (marked : m.entries ≡ record es { items = Is_mark ∷ es.items }) (g : Machine_frame) (ms : List Machine_task) (caller : Frame) (ts : List Task) (top : Top m s fr (Trapped ∷ Run caller ∷ ts) f (Is_trap ∷ Runs_frame g ∷ ms)) (empty : bears (gives_of p fr.method) ≡ true → held s.cells (Register (length ts) (result_register (instr_at p caller.method caller.place))) ≡ None) (coded : suc (result_register (instr_at p caller.method caller.place)) < 16) where
@@ -367,8 +350,7 @@ module _ (p : Image) (m : Parts) (t : Typing) (s : State) (fr : Frame) (agrees :
     small_too = omega (arith, coded)
 
     abbrev GoesThrough : Gives → Type 0
-    GoesThrough gv =
-        Wordless gv (word fr a) → bears gv ≡ bears (gives_of p fr.method)
+    GoesThrough gv = Wordless gv (word fr a) → bears gv ≡ bears (gives_of p fr.method)
         → WellTyped p t (returned p fr (Trapped ∷ Run caller ∷ ts) s gv a (Trapped ∷ Run caller ∷ ts))
         → Agrees p (places.next (places.set_register (suc z) 0 (resulted gv z j (with_tasks (Runs_frame g ∷ ms) (record m { entries = es }))))) (returned p fr (Trapped ∷ Run caller ∷ ts) s gv a (Trapped ∷ Run caller ∷ ts))
 
@@ -377,11 +359,10 @@ module _ (p : Image) (m : Parts) (t : Typing) (s : State) (fr : Frame) (agrees :
     code_alone cs caller' items typed = word_alone p t _ (next (set_word caller' (suc z) (Some (pos 0)))) ts (suc z) (pos 0) typed refl (at-put_at None caller'.words (suc z) (suc z) (Some (pos 0)) ∙ ap (λ b. cond b (Some (pos 0)) (word caller' (suc z))) (eq-eqb (suc z) (suc z) refl))
 
     through : (gv : Gives) → GoesThrough gv
-    through Nothing met same typed = lands_coded true g ms caller ts top small_too es marked coded _ _ _ (code_alone _ caller _ typed) (lands_bare true g ms caller ts top small_too (λ i. none_above p t _ _ i typed (omega arith)))
     through A_word met same typed = lands_coded true g ms caller ts top small_too es marked coded _ _ _ (code_alone _ (set_word caller z (word fr a)) _ typed) (lands_word true g ms caller ts top small_too (λ i. none_above p t _ _ i typed (omega arith)) (empty (sym same)))
     through (An_own thing) met same typed = lands_coded true g ms caller ts top small_too es marked coded _ _ _ (code_alone _ (set_word caller z None) _ typed) (lands_object true g ms caller ts top small_too (λ i. none_above p t _ _ i typed (omega arith)) (empty (sym same)) met)
     through (A_maybe thing) met same typed = lands_coded true g ms caller ts top small_too es marked coded _ _ _ (code_alone _ (set_word caller z None) _ typed) (lands_object true g ms caller ts top small_too (λ i. none_above p t _ _ i typed (omega arith)) (empty (sym same)) met)
-    through (Left thing) met same typed = lands_coded true g ms caller ts top small_too es marked coded _ _ _ (code_alone _ caller _ typed) (lands_bare true g ms caller ts top small_too (λ i. none_above p t _ _ i typed (omega arith)))
+    through _ met same typed = lands_coded true g ms caller ts top small_too es marked coded _ _ _ (code_alone _ caller _ typed) (lands_bare true g ms caller ts top small_too (λ i. none_above p t _ _ i typed (omega arith)))
 
 -- ---- a return to a dispatch of the machine's
 
@@ -398,8 +379,7 @@ accepting_or : (x : Machine_dispatch) → Accepting x
 accepting_or x = grind arith
 
 -- it is served on both sides, and all else stays
-returned_plain :
-    (p : Image) (fr : Frame) (s : State) (g : Gives) (a : ℕ) (ts : List Task) (q : Place) (x : Machine_dispatch) → AcceptsNot x →
+returned_plain : (p : Image) (fr : Frame) (s : State) (g : Gives) (a : ℕ) (ts : List Task) (q : Place) (x : Machine_dispatch) → AcceptsNot x →
     returned p fr (Trapped ∷ Dispatched (dispatch_of q x) ∷ ts) s g a (Trapped ∷ Dispatched (dispatch_of q x) ∷ ts) ≡ record s { tasks = Dispatched (dispatch_of q (ends.served x)) ∷ ts; items = below_top s.items }
 returned_plain p fr s g a ts q x plain = grind arith
 
@@ -492,20 +472,14 @@ module _ (p : Image) (m : Parts) (refused : List ℕ) (a : ℕ) (act : Active) (
   still h q = (ended_alike p h.frame h.state.cells).held_so q
 
   top_over : (h : At_hand p m) (ts : List Task) (f : Machine_frame) (ms : List Machine_task) → Top m h.state h.frame ts f ms → Top mid (past h) h.frame ts f ms
-  top_over h ts f ms top = record {
-    frame = top.frame;
-    below = top.below;
-    deep = top.deep;
-    values = grind (arith, nat_tests, still h);
-  }
+  top_over h ts f ms top = record { frame = top.frame; below = top.below; deep = top.deep; values = grind (arith, nat_tests, still h) }
 
   -- what holds of the machine's tasks tells what is below its method
   by_return : (P : List Machine_task → Type 0) (G : List Machine_task → Parts) → P m.stack.tasks
       → ((h : At_hand p m) (f : Machine_frame) (ms : List Machine_task) → Top mid (past h) h.frame h.below f ms → Alike ms h.below → AllTrue (result_needs p h.frame h.below h.state (gives_of p h.frame.method) a) → AllTrue (end_needs p h.frame h.below h.state h.below)
       → WellTyped p h.typing (after h h.below) → P (Runs_frame f ∷ ms) → Agrees p (G (Runs_frame f ∷ ms)) (after h h.below))
       → DoesIn p refused (Return a) m (G m.stack.tasks)
-  by_return P G has each h here =
-      plain_at p m (G m.stack.tasks) refused (Return a) refl h (λ c needs typed.
+  by_return P G has each h here = plain_at p m (G m.stack.tasks) refused (Return a) refl h (λ c needs typed.
       let met = all_parts (result_needs p h.frame h.below h.state (gives_of p h.frame.method) a) _ needs in
       by_top p m h (λ us. P us → Agrees p (G us) (after h h.below)) (λ f ms top has. each h f ms (top_over h h.below f ms top) (alike ms h.below top.below) met.0 met.1.1.1.1 typed has) has)
 

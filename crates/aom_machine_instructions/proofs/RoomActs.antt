@@ -130,13 +130,8 @@ stored_same cs x w v e = grind (arith, nat_tests, held_set_word cs)
 passed_same : (p : Image) (fr : Frame) (ts : List Task) (s : State) (d : ℕ) (xs : List Argument) (first to : ℕ) (cs : List Cell) (e : Place) → IsDealt e → held (passed_cells p fr ts s d xs first to cs) e ≡ held cs e
 passed_same p fr ts s d [] first to cs e dealt = refl
 passed_same p fr ts s d (Takes_word ∷ xs) first to cs e dealt = passed_same p fr ts s d xs (suc first) (suc to) cs e dealt
-passed_same p fr ts s d (Takes_own t ∷ xs) first to cs e dealt = grind (
-  arith,
-  nat_tests,
-  passed_same p fr ts s d xs,
-  held_apart cs,
-  register_apart d to e dealt,
-)
+passed_same p fr ts s d (Takes_own t ∷ xs) first to cs e dealt =
+    grind (arith, nat_tests, passed_same p fr ts s d xs, held_apart cs, register_apart d to e dealt)
 
 result_same : (p : Image) (fr : Frame) (ts : List Task) (s : State) (g : Gives) (a x : ℕ) (below : List Task) (e : Place) → IsDealt e → held (result_cells p fr ts s g a x below) e ≡ held s.cells e
 result_same p fr ts s x a y below e dealt = grind (arith, nat_tests, held_apart s.cells, register_apart)
@@ -202,8 +197,7 @@ module _ (p : Image) (t : Typing) (depth heights : ℕ → ℕ) (tables : Tables
   clears cs items o ts there free lone low w =
       let cells' = moved (Entry (length items)) (Going (length ts)) cs in
       begins_over cells' items o ts (goes_there_now cs (Entry (length items)) (length ts) free refl ∙ there)
-      (λ m d. top_under p depth heights cs An_object items ts m low (subst (λ x. Destructs p x m) (sym there) d) w.1)
-      (λ server. lone)
+      (λ m d. top_under p depth heights cs An_object items ts m low (subst (λ x. Destructs p x m) (sym there) d) w.1) (λ server. lone)
       (recelled p depth heights cs cells' items ts (
         λ k lt. held_apart cs (Entry (length items)) (Going (length ts)) (Entry k) (entry_apart (length items) k lt) refl,
         λ k lt. held_apart cs (Entry (length items)) (Going (length ts)) (Going k) refl (going_apart (length ts) k lt),
@@ -211,11 +205,9 @@ module _ (p : Image) (t : Typing) (depth heights : ℕ → ℕ) (tables : Tables
 
   pub undoes : (cs : List Cell) (items : List Item) (m : ℕ) (w : ℤ) (ts : List Task) → IsUndo p m → AllLow (length items) ts → Roomy p depth heights cs (An_operation m w ∷ items) ts
       → Roomy p depth heights cs items (Run (operation_frame m w (length items)) ∷ ts)
-  undoes cs items m w ts undo low room =
-      begins p depth heights cs items (operation_frame m w (length items)) ts refl
+  undoes cs items m w ts undo low room = begins p depth heights cs items (operation_frame m w (length items)) ts refl
       (top_under p depth heights cs (An_operation m w) items ts m low refl room.1)
-      (λ may. absurd (pushes_none (is_quiet p m) (leaves p m) undo.quiet undo.leaves may))
-      (popped p depth heights cs (An_operation m w) items ts low room)
+      (λ may. absurd (pushes_none (is_quiet p m) (leaves p m) undo.quiet undo.leaves may)) (popped p depth heights cs (An_operation m w) items ts low room)
 
   -- what an instruction calls is less deep than its method
   pub may_call : (fr : Frame) (sh : Shape) → shape_at t fr.method fr.place ≡ Some sh → (i : Instr) (k : ℕ) → instr_at p fr.method fr.place ≡ Some i → Among k (callees p fr.method sh i) → depth k < depth fr.method
@@ -346,9 +338,8 @@ module _ (p : Image) (t : Typing) (depth heights : ℕ → ℕ) (tables : Tables
             (λ may. absurd (pushes_none (is_quiet p m) (leaves p m) next.1 next.2 may)) there
 
         on : (home : Home) → Roomy p depth heights over.cells s.items (line_on p fr.method home fr.height below)
-        on Static = there
-        on AtRoot = there
         on (Inside o from) = by o (next_destructor p fr.method) refl
+        on _ = there
 
     return_room :
         (g : Gives) (a : ℕ) (below : List Task) → LowUnder fr.height below → LineGoes p s.cells fr.method below → (gives_of p fr.method ≡ Nothing → length s.items ≡ fr.height) →
@@ -381,8 +372,7 @@ module _ (p : Image) (t : Typing) (depth heights : ℕ → ℕ) (tables : Tables
         let stays : leaves p m ≡ false = grind (arith, nat_tests, false_given) in
         let among : Among m (cancels p (method_class p fr.method)) = subst (λ o. Among m (cancels p o)) (sym its.2) (cancel_among p (Some its.1) m (its.0, its.3, its.4)) in
         begins p depth heights (begun_cells fr s.cells) s.items (frame_as m fr.home fr.view (length s.items)) (Run fr ∷ ts) refl
-        (may_call fr h.shape h.there Cancel m stands among)
-        (λ may. absurd (pushes_none (is_quiet p m) (leaves p m) quiet stays may))
+        (may_call fr h.shape h.there Cancel m stands among) (λ may. absurd (pushes_none (is_quiet p m) (leaves p m) quiet stays may))
         (moves (begun_cells fr s.cells) (λ e dealt. (rerequested_alike s.cells fr.home (on_request cancelling (own_request s.cells fr.home))).held_so e))
 
     -- ---- the cleanup stack
@@ -399,8 +389,7 @@ module _ (p : Image) (t : Typing) (depth heights : ℕ → ℕ) (tables : Tables
         let fit = w.2.0 (pushes_where (is_quiet p fr.method) (leaves p fr.method) leave) in
         omega (arith, more, fit, counted_own)
 
-    push_room :
-        (a : ℕ) → instr_at p fr.method fr.place ≡ Some (Push a) → leaves p fr.method ≡ true →
+    push_room : (a : ℕ) → instr_at p fr.method fr.place ≡ Some (Push a) → leaves p fr.method ≡ true →
         Leads t fr.method (suc fr.place) (with_entry (entry_of (register h.shape a)) (set_register h.shape a Null)) → After (Pushed a)
     push_room a stands leave leads =
         item_pushed p depth heights (moved (here fr ts s a) (Entry (length s.items)) s.cells) An_object s.items (Run fr ∷ ts) all_low
@@ -418,8 +407,7 @@ module _ (p : Image) (t : Typing) (depth heights : ℕ → ℕ) (tables : Tables
     push_operation_room :
         (a m : ℕ) (v : ℤ) → instr_at p fr.method fr.place ≡ Some (PushOperation a m) → leaves p fr.method ≡ true → Leads t fr.method (suc fr.place) (with_entry Operation h.shape) →
         After (Pushed_operation m v)
-    push_operation_room a m v stands leave leads =
-        item_pushed p depth heights s.cells (An_operation m v) s.items (Run fr ∷ ts) all_low
+    push_operation_room a m v stands leave leads = item_pushed p depth heights s.cells (An_operation m v) s.items (Run fr ∷ ts) all_low
         (λ k e. subst (λ x. depth x < depth fr.method) (sym e) (may_call fr h.shape h.there (PushOperation a m) m stands (inl refl)))
         (let few = pushes (PushOperation a m) (with_entry Operation h.shape) stands leave leads refl in omega (arith, few))
         w
@@ -497,8 +485,7 @@ module _ (p : Image) (t : Typing) (depth heights : ℕ → ℕ) (tables : Tables
     delete_room o a words stands there fits =
         begins_over (moved (here fr ts s a) (Going (length (Run fr ∷ ts))) s.cells) s.items o (Run (with_words fr words) ∷ ts)
         (goes_there_now s.cells (here fr ts s a) (length (Run fr ∷ ts)) unheld refl ∙ there)
-        (λ m e. may_call fr h.shape h.there (Delete a) m stands (destructs_as p (seen s.cells) o (register h.shape a) m fits e))
-        (λ server. tt)
+        (λ m e. may_call fr h.shape h.there (Delete a) m stands (destructs_as p (seen s.cells) o (register h.shape a) m fits e)) (λ server. tt)
         (recelled p depth heights s.cells (moved (here fr ts s a) (Going (length (Run fr ∷ ts))) s.cells) s.items (Run fr ∷ ts) (
           λ k lt. held_apart s.cells (here fr ts s a) (Going (length (Run fr ∷ ts))) (Entry k) refl refl,
           λ k lt. held_apart s.cells (here fr ts s a) (Going (length (Run fr ∷ ts))) (Going k) refl (going_apart (length (Run fr ∷ ts)) k lt),

@@ -91,8 +91,7 @@ pub first_held : (cs : List Cell) (n : ℕ) (clients : List ℕ) (x : Seat) → 
 first_held cs n [] x e = cc
 first_held cs n (d ∷ clients) x e = go (held cs (Elsewhere (Session n d))) refl e (λ e. first_held cs n clients x e)
   where
-    go :
-        (o : Option Object) → held cs (Elsewhere (Session n d)) ≡ o → seat_or o (Elsewhere (Session n d)) (first_session cs n clients) ≡ Some x →
+    go : (o : Option Object) → held cs (Elsewhere (Session n d)) ≡ o → seat_or o (Elsewhere (Session n d)) (first_session cs n clients) ≡ Some x →
         (first_session cs n clients ≡ Some x → (c : ℕ) × (x.place ≡ Elsewhere (Session n c)) × (held cs (Elsewhere (Session n c)) ≡ Some x.object)) →
         (c : ℕ) × (x.place ≡ Elsewhere (Session n c)) × (held cs (Elsewhere (Session n c)) ≡ Some x.object)
     go None there e later = later e
@@ -188,13 +187,8 @@ module _ (p : Image) (t : Typing) (depth heights : ℕ → ℕ) (tables : Tables
   -- a dispatch ends, and its method that answers finds all the room that there is
   module _ (within : (m : ℕ) → heights m ≤ 1024) (s : State) (bare : s.items ≡ []) (free : held s.cells (Going 1) ≡ None) where
     root_roomy : (v : State) → v.cells ≡ s.cells → v.items ≡ s.items → (b : Bool) (root : Option Object) → held s.cells (Elsewhere Root) ≡ root → RoomyState (main_ends p b root v)
-    root_roomy v cells items x root holds = grind (
-      arith,
-      nat_tests,
-      begins_over p t depth heights tables,
-      goes_there_now v.cells (Elsewhere Root) 1,
-      few v (items ∙ bare),
-    )
+    root_roomy v cells items x root holds =
+        grind (arith, nat_tests, begins_over p t depth heights tables, goes_there_now v.cells (Elsewhere Root) 1, few v (items ∙ bare))
 
     answer_roomy : (answer : ℤ) → RoomyState (answered p answer s)
     answer_roomy answer = grind (arith, nat_tests, root_roomy, few s bare)
@@ -222,8 +216,7 @@ module _ (p : Image) (t : Typing) (depth heights : ℕ → ℕ) (tables : Tables
       again h = record { shape = h.shape; below = h.below; there = h.there; items = h.items; height = h.height; holder = h.holder; view = h.view; low = h.low; low_under = h.low_under; fits = h.fits; free = h.free }
 
   -- under a leave, with its last item
-  with_top :
-      (code : ℤ) (ts : List Task) (i : Item) (items : List Item) (s : State) → RoomyState s → s.tasks ≡ Unwind code ∷ ts → s.items ≡ i ∷ items →
+  with_top : (code : ℤ) (ts : List Task) (i : Item) (items : List Item) (s : State) → RoomyState s → s.tasks ≡ Unwind code ∷ ts → s.items ≡ i ∷ items →
       Roomy p depth heights s.cells (i ∷ items) (Unwind code ∷ ts)
   with_top code ts i items s room at top = subst (λ is. Roomy p depth heights s.cells is (Unwind code ∷ ts)) top (subst (λ us. Roomy p depth heights s.cells s.items us) at room)
 
@@ -241,8 +234,7 @@ module _ (p : Image) (t : Typing) (depth heights : ℕ → ℕ) (tables : Tables
       let cells' = moved x.place (Going k) s.cells in
       begins_over p t depth heights tables cells' s.items x.object (Closing ∷ Destroy ∷ ts)
       (goes_there_now s.cells x.place k (none_going_there p t s w k (ap length at)) (apart (Going k) tt) ∙ from)
-      (λ m d. room.1.1.0 m (subst (λ y. Destructs p y m) (sym there) (its.destructs m d)))
-      (λ server. absurd (true≢false (sym server ∙ its.plain)))
+      (λ m d. room.1.1.0 m (subst (λ y. Destructs p y m) (sym there) (its.destructs m d))) (λ server. absurd (true≢false (sym server ∙ its.plain)))
       (recelled p depth heights s.cells cells' s.items (Closing ∷ Destroy ∷ ts) (
         λ j lt. held_apart s.cells x.place (Going k) (Entry j) (apart (Entry j) tt) refl,
         λ j lt. held_apart s.cells x.place (Going k) (Going j) (apart (Going j) tt) (going_apart k j lt),
@@ -260,12 +252,8 @@ module _ (p : Image) (t : Typing) (depth heights : ℕ → ℕ) (tables : Tables
         λ k lt. still (Entry k) ∙ held_without left (Going (length ts)) (Entry k) ∙ before (Entry k) ∙ held_dropped (is_queue_of o.name) s.cells (Entry k),
         grind (arith, nat_tests, held_without left, going_apart, held_dropped),
       ) (going_ends p depth heights s.cells s.items ts (subst (λ us. Roomy p depth heights s.cells s.items us) at room))))
-  roomy_moves within typed c s u w room (Empties ts o at there same) = grind (
-    arith,
-    nat_tests,
-    emptied c s w ts o at there,
-    Roomy p depth heights s.cells s.items,
-  )
+  roomy_moves within typed c s u w room (Empties ts o at there same) =
+      grind (arith, nat_tests, emptied c s w ts o at there, Roomy p depth heights s.cells s.items)
   roomy_moves within typed c s u w room (Clears code ts items o at top there same) =
       subst RoomyState (sym same) (clears p t depth heights tables s.cells items o (Unwind code ∷ ts) there (none_going_there p t s w (length (Unwind code ∷ ts)) (ap length at)) tt (low_unwinding p t s code ts An_object items w at top) (with_top code ts An_object items s room at top))
   roomy_moves within typed c s u w room (Undoes code ts items m x at top same) =

@@ -101,12 +101,8 @@ session_gone p t s x c typed top =
     dispatch_layer (Good p t s.cells) (Of_server x c checked.Parts) [] typed.layers (sym typed.tasks ∙ top) typed.good (λ seats ls _ good.
     let q = Elsewhere (Session x.object.name c) in
     let old = claim p (declared p s.cells) ls q in
-    let null_there : cond ((x.object.name == x.object.name) && (c == c)) Null old ≡ Null = grind (
-      arith,
-      nat_tests,
-      eq-eqb x.object.name x.object.name,
-      eq-eqb c c,
-    ) in
+    let null_there : cond ((x.object.name == x.object.name) && (c == c)) Null old ≡ Null =
+    grind (arith, nat_tests, eq-eqb x.object.name x.object.name, eq-eqb c c) in
     fits_null p (seen s.cells) (held s.cells q) (subst (Fits p (seen s.cells) (held s.cells q)) null_there (good.fits q)))
 
 -- ---- what is left
@@ -250,8 +246,7 @@ module _ (p : Image) (formed : WellFormed p) (m : Parts) (announced : m.rest.ann
           same_values r = grind arith
 
       told : completion_lines (completion (kept.place_at m.clients does.place)) code ≡ message_line s.cells (held s.cells q) code
-      told =
-          same_lines (completion (kept.place_at m.clients does.place))
+      told = same_lines (completion (kept.place_at m.clients does.place))
           ∙ sym (ap (λ o. message_line s.cells o code) its.there ∙ message_told m.clients s.cells s.clients agrees.services.clients its.object does.place code name
           (was_taken p t s typed q its.object its.there its.message does.place name wired fits refl m.clients agrees.services.clients))
         where
@@ -293,10 +288,7 @@ module _ (p : Image) (formed : WellFormed p) (m : Parts) (announced : m.rest.ann
     subst (λ k. Agrees p (then k) (stage_ends (seat_of e.place x) c checked.Accepted (at_close s))) (sym does.0) (over m.clients m.messages m.served stages.Accepted _ e (ends_so e.place m.clients m.messages m.served s.cells s.clients (plain stages.Accepted e))),
     does.1,
   )
-  ends_stage (stages.AcceptLeft code) mid before now e does = (
-    grind (arith, nat_tests, at_close s, over, ends_so e.place, left_alone code e),
-    does.1,
-  )
+  ends_stage (stages.AcceptLeft code) mid before now e does = (grind (arith, nat_tests, at_close s, over, ends_so e.place, left_alone code e), does.1)
   ends_stage (stages.Serves o) mid before now e does = (
     subst (λ k. Agrees p (then k) (stage_ends (seat_of e.place x) c (checked.Serves (subject_of o)) (at_close s))) (sym does.0) (over m.clients m.messages m.served (stages.Serves o) _ e (ends_so e.place m.clients m.messages m.served s.cells s.clients (plain (stages.Serves o) e))),
     does.1 ∙ ap (λ ls. record before { lines = ls }) (sym (append-nil before.lines)),
@@ -312,12 +304,8 @@ module _ (p : Image) (formed : WellFormed p) (m : Parts) (announced : m.rest.ann
 
   -- what a service that left needs is met
   needs_met : (stage : Machine_stage) (e : AtStage p m s x c stage) (v : State) → guarded (needs_end (Of_server (seat_of e.place x) c (stage_of stage)) s.cells) v ≡ Goes v
-  needs_met stages.Accepts e v = refl
-  needs_met stages.Accepted e v = refl
-  needs_met (stages.AcceptLeft code) e v = refl
-  needs_met (stages.Serves o) e v = refl
   needs_met (stages.ServiceLeft code) e v = ap (λ o. guarded ((is_some o, CompletedTwice) ∷ []) v) (its code e).there
-  needs_met stages.Parts e v = refl
+  needs_met _ e v = refl
 
   -- the client is one, and the message that a service left is still the one that is served
   can_end_stage : (stage : Machine_stage) → AtStage p m s x c stage → CanEndStage c stage m

@@ -119,14 +119,12 @@ module _ (m : Parts) (a b place : ℕ) (store : Store) (active : Active) (w : Ke
           services = services_answered p h.typing s h.typed g it.object it.there it.message place name h.kept refl m.tokens h.agrees.services.tokens told code m.clients m.messages store m.listed w gone fewer freed lets h.agrees.services;
           rest = h.agrees.rest;
           room = h.agrees.entry_room;
-        })
-        (λ f ms e top. written p m h mid left a null None None small refl f ms top (λ q. refl)
+        }) (λ f ms e top. written p m h mid left a null None None small refl f ms top (λ q. refl)
         (λ q. held_without (all_redeemed order code s.cells) g q ∙ ap (λ o. changed (λ z. o) g None q) ((redeemed_alike order code s.cells).held_so q)))))
 
     -- a token has no client
     redeem_silent : message_line h.state.cells (held h.state.cells g) (read h.frame h.below h.state b) ≡ []
-    redeem_silent =
-        ap (λ o. message_line h.state.cells o (read h.frame h.below h.state b)) it.there
+    redeem_silent = ap (λ o. message_line h.state.cells o (read h.frame h.below h.state b)) it.there
         ∙ ap (told_line (read h.frame h.below h.state b)) (told_no_sender p h.typing h.state h.typed g it.object it.there it.message h.kept.fit.sources (some_token (service_of h.state.cells it.object.name).token its))
       where
         some_token : (x : Option Token) → order_in x ≡ Some order → is_some x ≡ true
@@ -138,14 +136,12 @@ module _ (m mid new : Parts) (told now : LineBuffer) (n : ℕ) (code : ℤ) (a b
   redeem_done : (refused : List ℕ) (last : Parts) → a < 16 → last ≡ places.next new → RedeemsOne n code mid new told now → Does refused (Reply a b) m last
   redeem_done refused last small goes_on does =
       let r = subst (λ (x : Parts). Redeems does.place code x new) emptied does.redeems in
-      subst (λ x. Does refused (Reply a b) m x) (sym (goes_on ∙ ap places.next r.rest))
-      (plain_does m _ refused (Reply a b) refl (λ p h c met.
+      subst (λ x. Does refused (Reply a b) m x) (sym (goes_on ∙ ap places.next r.rest)) (plain_does m _ refused (Reply a b) refl (λ p h c met.
       redeem_agrees m a b does.place new.messages new.active new.tokens code (does.number ∙ number_so) (subst (λ (x : Parts). is_some (class_at x.tokens does.place) ≡ true) emptied does.token) read_so p h c met
       small r.released r.count r.freed r.lets r.answers))
 
   redeem_told : RedeemsOne n code mid new told now → Tells (Reply a b) m told now
-  redeem_told does p h c met =
-      does.silent ∙ ap (λ ls. record told { lines = ls }) (sym (append-nil told.lines))
+  redeem_told does p h c met = does.silent ∙ ap (λ ls. record told { lines = ls }) (sym (append-nil told.lines))
       ∙ ap (λ ls. record told { lines = told.lines ++ ls })
       (sym (redeem_silent m a b does.place new.messages new.active new.tokens code (does.number ∙ number_so) (subst (λ (x : Parts). is_some (class_at x.tokens does.place) ≡ true) emptied does.token) read_so p h c met))
 
@@ -226,8 +222,7 @@ module _ (m : Parts) (refused : List ℕ) (a class : ℕ) (small : a < 16) (clas
 
   -- there is no room
   hand_none : (new : Parts) → HandsNone null (this m) m new → Does refused (Hand a) m (places.next (set_register a null new))
-  hand_none new does =
-      subst (λ x. Does refused (Hand a) m (places.next (set_register a null x))) (sym does.rest)
+  hand_none new does = subst (λ x. Does refused (Hand a) m (places.next (set_register a null x))) (sym does.rest)
       (plain_does m _ refused (Hand a) refl (λ p h c met.
       let s = h.state in
       let own = own_request s.cells h.frame.home in
@@ -250,8 +245,7 @@ module _ (m : Parts) (refused : List ℕ) (a class : ℕ) (small : a < 16) (clas
         services = services_become p m h on (completed_at_once busy) (λ r. refl) (busy_untold own ∙ sym (idle_untold p m h on met.1.1.1.0));
         rest = h.agrees.rest;
         room = h.agrees.entry_room;
-      })
-      (λ f ms e top. written p m h mid cs a null None None small refl f ms top (λ q. refl)
+      }) (λ f ms e top. written p m h mid cs a null None None small refl f ms top (λ q. refl)
       (λ q. (rerequested_alike s.cells h.frame.home (on_request (completed_at_once busy) own)).held_so q ∙ still_none p m h a (free _ met.0) q)))))
 
   -- there is
@@ -291,8 +285,7 @@ module _ (m : Parts) (refused : List ℕ) (a class : ℕ) (small : a < 16) (clas
         ∙ ap (λ q. with_token (message_name does.place) (record { class = class; order = next_order }) here (set_request on.object.name (on_request (promised next_order) q) s.cells)) asks.1
 
     table_then : SameRequests p new.active (set_request on.object.name (Some (promised next_order asks.0)) s.cells)
-    table_then =
-        requests_set p m.active new.active s.cells on.object (Some (promised next_order asks.0)) on.lives (does.makes next_order).limit
+    table_then = requests_set p m.active new.active s.cells on.object (Some (promised next_order asks.0)) on.lives (does.makes next_order).limit
         (subst (λ i. StandsFor new.active (asked_anew i (Some (promised next_order asks.0)) (requested s.cells)) (queued p s.cells)) on.number
         ((does.makes next_order).stands (requested s.cells) (queued p s.cells) asks.0 h.agrees.requests.stands (ap (requested s.cells) on.number ∙ asks.1))) h.agrees.requests
 

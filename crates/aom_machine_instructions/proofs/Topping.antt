@@ -120,9 +120,8 @@ finds_mark p m a next trapped =
 -- an entry is last or not
 pub not_both : (is : List Machine_item) → IsAboveMark is → IsNotAboveMark is → ⊥
 not_both [] above not = above
-not_both (Holds_object n ∷ is) above not = not
-not_both (Holds_operation k n ∷ is) above not = not
 not_both (Is_mark ∷ is) above not = above
+not_both (_ ∷ is) above not = not
 
 -- what a method returns to through a trap
 caught_within : (p : Image) {ms : List Machine_task} → ReturnsTo p ms → Tops A_catcher ms

@@ -171,17 +171,15 @@ module _ (p : Image) (m : Parts) (s : State) (agrees : Agrees p m s) (es : Machi
       (moved_on g caller (slice_set rs (suc x) n) (set_word caller' (suc x) (Some code)).words same_frame (length-set rs (suc x) n ∙ wide), same_below)
       (writes _ _ _ _ (held s.cells) _ q n (Some code) None cleared.values (to_z-of_z w32 code fits)
       (value_written g' ms m.cells es.items (others m) (length ts) (suc x) n (suc g.place) deep (omega arith))
-      (word_written caller' ts (suc x) (suc caller.place) (Some code))
-      (λ r. kept (held s.cells) q r ∙ ap (λ o. changed (held s.cells) q o r) none))
+      (word_written caller' ts (suc x) (suc caller.place) (Some code)) (λ r. kept (held s.cells) q r ∙ ap (λ o. changed (held s.cells) q o r) none))
 
   -- by what the method gives
   tells : (code : ℤ) (gv : Gives) → FitsSigned w32 code → (bears gv ≡ true → held s.cells (Register (length ts) x) ≡ None) → held s.cells (Register (length ts) (suc x)) ≡ None
       → Agrees p (places.next (places.set_register (suc x) (cast_unsigned w32 code) (lost gv x (record (with_tasks (Runs_frame g ∷ ms) m) { entries = es })))) (record s { tasks = Run (next (code_told gv x code caller)) ∷ ts; items = below_top s.items })
-  tells code Nothing fits free none = codes code g.registers caller.words fits none (record { values = base; wide = same_frame.wide })
   tells code A_word fits free none = codes code _ _ fits none (clears 0 (Some (pos 0)) refl (free refl))
   tells code (An_own t) fits free none = codes code _ _ fits none (clears null None refl (free refl))
   tells code (A_maybe t) fits free none = codes code _ _ fits none (clears null None refl (free refl))
-  tells code (Left y) fits free none = codes code g.registers caller.words fits none (record { values = base; wide = same_frame.wide })
+  tells code _ fits free none = codes code g.registers caller.words fits none (record { values = base; wide = same_frame.wide })
 
 -- the code's register has a word then
 code_alone : (p : Image) (t : Typing) (gv : Gives) (x : ℕ) (code : ℤ) (caller : Frame) (ts : List Task) (s : State) → WellTyped p t s → s.tasks ≡ Run (next (code_told gv x code caller)) ∷ ts → held s.cells (Register (length ts) (suc x)) ≡ None
@@ -191,11 +189,10 @@ code_alone p t gv x code caller ts s typed top = word_alone p t s (next (code_to
     written ws = at-put_at None ws (suc x) (suc x) (Some code) ∙ ap (λ b. cond b (Some code) (at None ws (suc x))) (eq-eqb (suc x) (suc x) refl)
 
     has : (gv : Gives) → word (next (code_told gv x code caller)) (suc x) ≡ Some code
-    has Nothing = written caller.words
     has A_word = written (set_word caller x (Some (pos 0))).words
     has (An_own t) = written (set_word caller x None).words
     has (A_maybe t) = written (set_word caller x None).words
-    has (Left y) = written caller.words
+    has _ = written caller.words
 
 -- a code as it is told is the one at hand
 pub told_code : (k code : ℤ) → FitsSigned w32 k → k ≡ code → (to_z w32 (of_z w32 k) ≡ code) × FitsSigned w32 code

@@ -39,9 +39,8 @@ kept_still e old new drops (f ∷ es) once kept = (still f once kept.0, kept.1, 
 
 counts : (xs ys : List Entry) → count_messages (xs ++ ys) ≡ count_messages xs + count_messages ys
 counts [] ys = omega arith
-counts (Connect c ∷ xs) ys = counts xs ys
 counts (Message m ∷ xs) ys = let more = counts xs ys in omega (arith, more)
-counts (Close c ∷ xs) ys = counts xs ys
+counts (_ ∷ xs) ys = counts xs ys
 
 -- one more is dropped
 drops_more : (done : List Entry) (e : Entry) (old mid new : Store) → Drops done old mid → Drops (e ∷ []) mid new → Drops (done ++ e ∷ []) old new

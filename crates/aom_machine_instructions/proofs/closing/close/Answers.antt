@@ -69,6 +69,5 @@ redispatch-requires-clause-room c =
     stage_room c.in-Server.client c.in-Server.stage c.args.parts.now c.end_stage.new.parts c.args.turn.now c.end_stage.new.turn c.end_stage.ensures (has_room c.args.linked.now c.args.parts.now c.requires.stands)
 
 pub returns-in-Server : goal.returns-in-Server
-returns-in-Server c =
-    rw c.redispatch.ensures
+returns-in-Server c = rw c.redispatch.ensures
     (stage_moves c.args.linked.now c.args.parts.now c.args.turn.now c.end_stage.new.turn c.requires.announced c.in-Server.subject c.in-Server.client c.in-Server.stage c.end_stage.new.parts (c.requires.ending ∙ ap (λ d. Some d) c.in-Server.is) c.end_stage.ensures)

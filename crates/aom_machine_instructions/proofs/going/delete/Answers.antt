@@ -6,8 +6,7 @@ use Rattle.aom_machine_instructions.proofs.Resulting.{on_top_runs}
 use Rattle.aom_machine_instructions.proofs.going.delete.Goals as goal
 
 pub begin-requires-clause-lives : goal.begin-requires-clause-lives
-begin-requires-clause-lives c =
-    rw (c.take_register-number.ensures.emptied, c.take_register-number.ensures.value)
+begin-requires-clause-lives c = rw (c.take_register-number.ensures.emptied, c.take_register-number.ensures.value)
     (deletes_living c.args.linked.now c.args.parts.now c.args.from c.requires (λ e. c.if-number.false (c.take_register-number.ensures.value ∙ e)))
 
 pub returns-then-number-clause-does : goal.returns-then-number-clause-does

@@ -25,8 +25,7 @@ returns c =
     let after : (result_register i + 1) ≡ suc (result_register i) = omega arith in
     rw (c.next.ensures, c.set_register.ensures, c.lose_result.ensures)
     (ap (λ g. made g c.result_of-to.result (c.result_of-to.result + 1) c.cast_unsigned.result) gives
-    ∙ ap (λ x. made (called p i) x (x + 1) c.cast_unsigned.result) to
-    ∙ ap (λ k. made (called p i) (result_register i) k c.cast_unsigned.result) after
+    ∙ ap (λ x. made (called p i) x (x + 1) c.cast_unsigned.result) to ∙ ap (λ k. made (called p i) (result_register i) k c.cast_unsigned.result) after
     ∙ ap (λ n. made (called p i) (result_register i) (suc (result_register i)) n) bits)
 
 pub called_gives-gives-requires : goal.called_gives-gives-requires

@@ -35,14 +35,8 @@ returns c = λ refused.
 
 pub next-requires-clause-runs : goal.next-requires-clause-runs
 next-requires-clause-runs c =
-    elim c.if-is_server.branch [
-      | then-is_server w ↦ rw w.parts-is c.requires.runs
-      | else-is_server w ↦ rw w.parts-is c.requires.runs
-    ]
+    elim c.if-is_server.branch [ then-is_server w ↦ rw w.parts-is c.requires.runs | else-is_server w ↦ rw w.parts-is c.requires.runs ]
 
 pub next-requires-clause-within : goal.next-requires-clause-within
 next-requires-clause-within c =
-    elim c.if-is_server.branch [
-      | then-is_server w ↦ rw w.parts-is c.requires.within
-      | else-is_server w ↦ rw w.parts-is c.requires.within
-    ]
+    elim c.if-is_server.branch [ then-is_server w ↦ rw w.parts-is c.requires.within | else-is_server w ↦ rw w.parts-is c.requires.within ]
