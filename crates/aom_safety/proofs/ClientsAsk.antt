@@ -49,13 +49,11 @@ module _ (class : ℕ) (c : Cell) (cs : List Cell) (t : Tidy (c ∷ cs)) (x : Li
     ap (λ b. is_some (cond b c.request (requested cs c.object.name))) (eq-eqb c.object.name c.object.name refl) ∙ listed,
   )
 
-  first :
-      (order : ℕ) → is_of_class class c.object.thing ≡ true → is_some c.request ≡ true → (others : Option Listed) → first_listed class cs ≡ others →
+  first : (order : ℕ) → is_of_class class c.object.thing ≡ true → is_some c.request ≡ true → (others : Option Listed) → first_listed class cs ≡ others →
       Some (earlier (me order) others) ≡ Some x → IsListed class (c ∷ cs) x
   first order of listed y same e = grind (arith, nat_tests, here order of listed, among)
 
-  of_class :
-      (order : ℕ) → is_some c.request ≡ true → (b : Bool) → is_of_class class c.object.thing ≡ b →
+  of_class : (order : ℕ) → is_some c.request ≡ true → (b : Bool) → is_of_class class c.object.thing ≡ b →
       cond b (Some (earlier (me order) (first_listed class cs))) (first_listed class cs) ≡ Some x → IsListed class (c ∷ cs) x
   of_class order listed true of e = first order of listed (first_listed class cs) refl e
   of_class order listed false of e = among (first_listed class cs) refl e
@@ -99,8 +97,7 @@ connects_free x e = grind arith
 
 module _ (p : Image) (clients : List Client) (cs : List Cell) (fit : ClientsFit p clients cs) (o : Object) (lives : named cs o.name ≡ Some o) where
   -- which is of its sender, where it is a message
-  senders_asked :
-      (e : Asked) → ((d m : ℕ) → is_message_of d m e ≡ true → is_from d (service_of cs m).sender ≡ true) →
+  senders_asked : (e : Asked) → ((d m : ℕ) → is_message_of d m e ≡ true → is_from d (service_of cs m).sender ≡ true) →
       (d m : ℕ) → list_any (is_message_of d m) (asked_last e (service_of cs o.name)).queue ≡ true → is_from d (service_of cs m).sender ≡ true
   senders_asked e own d m h = last d m (list_any (is_message_of d m) (service_of cs o.name).queue) refl (sym (list_any-append (is_message_of d m) (service_of cs o.name).queue (e ∷ [])) ∙ h)
     where
@@ -113,8 +110,7 @@ module _ (p : Image) (clients : List Client) (cs : List Cell) (fit : ClientsFit 
       is_server p o.thing ≡ true → is_some (requested cs o.name) ≡ true → (e : Asked) → EntryFits clients o.name e → list_any (asked_again e) (service_of cs o.name).queue ≡ false →
       ((d m : ℕ) → is_message_of d m e ≡ true → is_from d (service_of cs m).sender ≡ true) → seats_taken (asked_last e (service_of cs o.name)) ≤ most_of (thing_kind p o.thing) →
       ClientsFit p clients (reserved (asked_last e) o.name cs)
-  fit_asked serves listed e entry new own room =
-      fit_reserved p clients cs fit o lives serves listed (asked_last e) clients refl refl
+  fit_asked serves listed e entry new own room = fit_reserved p clients cs fit o lives serves listed (asked_last e) clients refl refl
       (by_server cs o lives (asked_last e) (λ n v. QueueFits clients n v.queue) (queue_last clients o.name e (service_of cs o.name).queue entry new (fit.queues o.name)) (λ n other. fit.queues n))
       (by_server cs o lives (asked_last e) (λ n v. (d : ℕ) → has_session v d ≡ true → server_of (client_at clients d) ≡ Some n) (fit.sessions o.name) (λ n other. fit.sessions n))
       (by_server cs o lives (asked_last e) (λ n v. (d : ℕ) → server_of (client_at clients d) ≡ Some n → has_session v d ≡ true) (fit.listed o.name) (λ n other. fit.listed n))
@@ -124,15 +120,13 @@ module _ (p : Image) (clients : List Client) (cs : List Cell) (fit : ClientsFit 
     (listed : is_some (requested cs o.name) ≡ true) (c : ℕ) where
   -- ---- a connect
 
-  pub fit_connecting :
-      (slots : ℕ) → IsFree (client_at clients c) → seats_taken (service_of cs o.name) < most_of (thing_kind p o.thing) →
+  pub fit_connecting : (slots : ℕ) → IsFree (client_at clients c) → seats_taken (service_of cs o.name) < most_of (thing_kind p o.thing) →
       ClientsFit p (with_client c (Connecting o.name slots) clients) (reserved (asked_last (Connect_of c)) o.name cs)
-  fit_connecting slots free room =
-      fit_reserved p clients cs fit o lives serves listed (asked_last (Connect_of c)) (with_client c (Connecting o.name slots) clients) refl refl
-      (by_server cs o lives (asked_last (Connect_of c)) (λ n v. QueueFits (with_client c (Connecting o.name slots) clients) n v.queue)
-      (queue_last (with_client c (Connecting o.name slots) clients) o.name (Connect_of c) (service_of cs o.name).queue entry (none_passes (is_connect_of c) clients o.name never (service_of cs o.name).queue (fit.queues o.name)) (queues o.name))
-      (λ n e. queues n))
-      (sessions_changed p c (Connecting o.name slots) clients cs (reserved (asked_last (Connect_of c)) o.name cs) fit now)
+  fit_connecting slots free room = fit_reserved p clients cs fit o lives serves listed (asked_last (Connect_of c))
+      (with_client c (Connecting o.name slots) clients) refl refl (by_server cs o lives (asked_last (Connect_of c)) (λ n v. QueueFits
+      (with_client c (Connecting o.name slots) clients) n v.queue) (queue_last (with_client c (Connecting o.name slots) clients) o.name (Connect_of c)
+      (service_of cs o.name).queue entry (none_passes (is_connect_of c) clients o.name never (service_of cs o.name).queue (fit.queues o.name)) (queues o.name))
+      (λ n e. queues n)) (sessions_changed p c (Connecting o.name slots) clients cs (reserved (asked_last (Connect_of c)) o.name cs) fit now)
       (listed_changed p c (Connecting o.name slots) clients cs (reserved (asked_last (Connect_of c)) o.name cs) fit now)
       (senders_asked p clients cs fit o lives (Connect_of c) (λ d m h. cc)) (let one = seats_asked (Connect_of c) (service_of cs o.name) in omega (arith, room, one))
     where

@@ -18,9 +18,11 @@ use Rattle.aom_semantics.proofs.Maps.{named_name}
 use Rattle.aom_safety.proofs.Queues.{client_here, none_passes, none_stays}
 use Rattle.aom_safety.proofs.Services.{service_unnamed}
 use Rattle.aom_safety.proofs.Sifted.{a_cell_of, cell_of, named_cell, named_sifted, service_cell, service_in, withdrawn_so}
-use Rattle.aom_semantics.specs.Clients.{sent_message, asked_server, Listed, asked_of, client_at, commanded, connecting, leaving, most_of, refusal, sending, with_client, with_message}
+use Rattle.aom_semantics.specs.Clients.{sent_message, asked_server, Listed, asked_of, client_at, commanded, connecting}
+use Rattle.aom_semantics.specs.Clients.{leaving, most_of, refusal, sending, with_client, with_message}
 use Rattle.aom_safety.specs.Kept.{ClientsFit, is_close_of, is_message_of}
-use Rattle.aom_semantics.specs.Places.{Asked, Cell, Close_of, Connect_of, Elsewhere, Message_of, Object, Queued, Tidy, held, named, service_of, set_service, requested}
+use Rattle.aom_semantics.specs.Places.{Asked, Cell, Close_of, Connect_of, Elsewhere, Message_of, Object}
+use Rattle.aom_semantics.specs.Places.{Queued, Tidy, held, named, service_of, set_service, requested}
 use Rattle.aom_semantics.specs.Servers.{asked_last, has_session, is_from, is_message, is_server, reserved, seats_taken, stays, withdrawn}
 use Rattle.aom_semantics.specs.State.{State}
 use Rattle.aom_transcript.specs.declared.event.Command.{Command}
@@ -71,14 +73,15 @@ module _ (p : Image) (c : ℕ) (s : State) (tidy : Tidy s.cells) (fit : ClientsF
           let asked = asked_none (row own).connect (most_of (kind_of p (Some class))) x s.cells e in
           let l = asked_there p class s.cells x tidy there in
           subst (λ n. ClientsFit p (with_client c (Connecting n slots) s.clients) (reserved (asked_last (Connect_of c)) n s.cells)) l.1
-          (fit_connecting p s.clients s.cells fit l.0 l.2 (listed_serves p class _ l.0.thing l.3 asked.1) l.4 c slots (connects_free own asked.0) (listed_room p class (service_of s.cells l.0.name) l.0.thing l.3 (ap (λ n. nat_lt (seats_taken (service_of s.cells n)) (most_of (kind_of p (Some class)))) l.1 ∙ asked.1)))
+          (fit_connecting p s.clients s.cells fit l.0 l.2 (listed_serves p class _ l.0.thing l.3 asked.1) l.4 c slots
+          (connects_free own asked.0) (listed_room p class (service_of s.cells l.0.name) l.0.thing l.3
+          (ap (λ n. nat_lt (seats_taken (service_of s.cells n)) (most_of (kind_of p (Some class)))) l.1 ∙ asked.1)))
       go None None there e = fit
       go (Some r) x there e = fit
 
   -- ---- it sends
 
-  fit_sends :
-      (refused : Option Refusal) (name : ℕ) (words : List ℤ) → named s.cells name ≡ None → (k : Client) → own ≡ k →
+  fit_sends : (refused : Option Refusal) (name : ℕ) (words : List ℤ) → named s.cells name ≡ None → (k : Client) → own ≡ k →
       ClientsFit p (sending p c s refused k name words).clients (sending p c s refused k name words).cells
   fit_sends None name words free (Open server session slots) at =
       subst (λ l. ClientsFit p s.clients l) same (subst (λ n. ClientsFit p s.clients (reserved (asked_last (Message_of c name)) n (message ∷ s.cells))) there.1 sent)
@@ -99,15 +102,17 @@ module _ (p : Image) (c : ℕ) (s : State) (tidy : Tidy s.cells) (fit : ClientsF
       other_server = ap (λ n. name == n) (sym there.1) ∙ other
 
       same : reserved (asked_last (Message_of c name)) server (message ∷ s.cells) ≡ with_message p c s name words server
-      same = ap (λ b. record message { service = cond b (asked_last (Message_of c name) (cond b message.service (service_of s.cells server))) message.service } ∷ set_service server (asked_last (Message_of c name) (cond b message.service (service_of s.cells server))) s.cells) other_server
+      same = ap (λ b. record message { service = cond b (asked_last (Message_of c name) (cond b message.service (service_of s.cells server))) message.service }
+          ∷ set_service server (asked_last (Message_of c name) (cond b message.service (service_of s.cells server))) s.cells) other_server
 
       with_it : ClientsFit p s.clients (message ∷ s.cells)
       with_it = fit_steady p s.clients s.cells (message ∷ s.cells) (steady_more message s.cells free refl refl (λ n m e. cc) refl refl) fit
 
       sent : ClientsFit p s.clients (reserved (asked_last (Message_of c name)) there.0.name (message ∷ s.cells))
-      sent = fit_sent p s.clients (message ∷ s.cells) with_it there.0 (ap (λ b. cond b (Some message.object) (named s.cells there.0.name)) other ∙ there.2) there.3 (ap (λ b. is_some (cond b None (requested s.cells there.0.name))) other ∙ listed) c name
-          (ap (λ k. is_open_at there.0.name k) at ∙ eq-eqb server there.0.name (sym there.1))
-          (ap (λ b. list_any (λ e. is_message name e) (cond b message.service (service_of s.cells there.0.name)).queue) other ∙ none_named name (service_of s.cells there.0.name).queue (nobody there.0.name name free))
+      sent = fit_sent p s.clients (message ∷ s.cells) with_it there.0 (ap (λ b. cond b (Some message.object) (named s.cells there.0.name)) other ∙ there.2)
+          there.3 (ap (λ b. is_some (cond b None (requested s.cells there.0.name))) other ∙ listed) c name (ap (λ k. is_open_at there.0.name k) at ∙ eq-eqb
+          server there.0.name (sym there.1)) (ap (λ b. list_any (λ e. is_message name e) (cond b message.service (service_of s.cells there.0.name)).queue) other
+          ∙ none_named name (service_of s.cells there.0.name).queue (nobody there.0.name name free))
           (ap (λ b. is_from c (cond b message.service (service_of s.cells name)).sender) (eq-eqb name name refl) ∙ eq-eqb c c refl)
   fit_sends _ name words free k at = fit
 
@@ -141,8 +146,7 @@ module _ (p : Image) (c : ℕ) (s : State) (tidy : Tidy s.cells) (fit : ClientsF
     )
 
     -- with its session open: a close is asked last
-    goes_told :
-        (server session slots : ℕ) → own ≡ Open server session slots → (to : Client) → server_of to ≡ Some server → is_leaving server to ≡ true →
+    goes_told : (server session slots : ℕ) → own ≡ Open server session slots → (to : Client) → server_of to ≡ Some server → is_leaving server to ≡ true →
         ClientsFit p (with_client c to s.clients) (reserved (asked_last (Close_of c)) server (withdrawn c s.cells))
     goes_told server session slots at to same leaves = grind (
       arith,

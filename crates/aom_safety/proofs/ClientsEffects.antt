@@ -12,7 +12,8 @@ use Rattle.aom_safety.proofs.ClientsSteady.{Steady, fit_steady}
 use Rattle.aom_safety.proofs.ClientsMoves.{Fewer, IsSteady, steady_asked, steady_moved, steady_passed, steady_update, tasks_steady}
 use Rattle.aom_safety.proofs.ClientsTurn.{tasks_begun, on_none}
 use Rattle.aom_semantics.specs.Cleanup.{to_trap, top_place}
-use Rattle.aom_semantics.specs.Effects.{Calls, Cancels, Destroys, Destroys_last, Effect, Goes_on, Leaves, Requested, Returns, Same as Unchanged, Sets_trap, applied, asking_with, cancels_if, deals, deletes, effect, hands_unless, jumps_unless, makes_unless, round}
+use Rattle.aom_semantics.specs.Effects.{Calls, Cancels, Destroys, Destroys_last, Effect, Goes_on, Leaves, Requested, Returns, Same as Unchanged, Sets_trap}
+use Rattle.aom_semantics.specs.Effects.{applied, asking_with, cancels_if, deals, deletes, effect, hands_unless, jumps_unless, makes_unless, round}
 use Rattle.aom_semantics.specs.Enlisted.{Asking, aborted, cancelling, completed_at_once, home_kind, issued_of, on_request, own_request, waits}
 use Rattle.aom_semantics.specs.Tokens.{busy, is_crowded}
 use Rattle.aom_safety.specs.Kept.{ClientsFit, TasksKept}
@@ -77,7 +78,8 @@ module _ (p : Image) (c : Choice) (fr : Frame) (ts : List Task) (s : State) (fre
   fine_effect (instrs.Return a) usual = absurd usual
   fine_effect (instrs.Hand a) usual = fine_hands (is_crowded p s.cells) a
   fine_effect (instrs.Enlist priority) usual = (λ e. cc, λ k e. absurd (none-some k e))
-  fine_effect (instrs.Issue a b) usual = fine_requests (issued_of (home_kind p fr.home) (asking_with p c fr ts s) (read fr ts s a)) (fewer_issued (home_kind p fr.home) (asking_with p c fr ts s) (read fr ts s a))
+  fine_effect (instrs.Issue a b) usual = fine_requests (issued_of (home_kind p fr.home) (asking_with p c fr ts s) (read fr ts s a))
+      (fewer_issued (home_kind p fr.home) (asking_with p c fr ts s) (read fr ts s a))
   fine_effect instrs.SetActive usual = fine_requests waits (λ r k e. e)
   fine_effect instrs.Abort usual = fine_requests aborted (λ r k e. absurd (none-some k e))
   -- by the form of its effect
@@ -101,8 +103,7 @@ module _ (p : Image) (fr : Frame) (ts : List Task) (s : State) (fit : ClientsFit
   effect_kept (Goes_on ch) f = kept_by (applied p fr ts s (Goes_on ch)) refl (steady_update p fr ts s ch.update f) (λ k. k)
   effect_kept (Calls target m first) f = kept_by (applied p fr ts s (Calls target m first)) refl (steady_passed p fr ts s _ (arguments_of p m) first 0 s.cells) (λ k. k)
   effect_kept (Sets_trap target m first) f = kept_by (applied p fr ts s (Sets_trap target m first)) refl (steady_passed p fr ts s _ (arguments_of p m) first 0 s.cells) (λ k. k)
-  effect_kept (Cancels m) f =
-      kept_by (applied p fr ts s (Cancels m)) refl
+  effect_kept (Cancels m) f = kept_by (applied p fr ts s (Cancels m)) refl
       (steady_asked s.cells fr.home (on_request cancelling (own_request s.cells fr.home)) (λ e. on_none cancelling (own_request s.cells fr.home) e)) (λ k. k)
   effect_kept (Returns g a) f = absurd f
   effect_kept (Leaves code u) f = kept_by (applied p fr ts s (Leaves code u)) refl (steady_update p fr ts s u f) (λ k. tasks_to_trap p s.clients _ ts k)

@@ -113,8 +113,7 @@ pub service_message :
 service_message p cs [] t back x s h = absurd h
 service_message p cs (Method fr sh ∷ ls) t back x s h = go (serves p fr.method) (service_message p cs ls t (Returns fr.method fr.home) x s.4) h
   where
-    go :
-        (b : Bool) → (HasThing (claim p (declared p cs) ls (Elsewhere In_service)) x → x ≡ Message) →
+    go : (b : Bool) → (HasThing (claim p (declared p cs) ls (Elsewhere In_service)) x → x ≡ Message) →
         HasThing (cond b (delivered sh.delivery) (claim p (declared p cs) ls (Elsewhere In_service))) x → x ≡ Message
     go true below h = message_delivered sh.delivery x h
     go false below h = below h

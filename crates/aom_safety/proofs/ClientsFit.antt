@@ -68,17 +68,8 @@ module _ (clients : List Client) (c n : ℕ) where
   none_but_own :
       (is_own : Asked → Bool) (k : ℕ) → ((e : Asked) → c ≡ client_of e → EntryFits clients n e → (k ≡ n) × (is_own e ≡ true)) → (es : List Asked) → QueueFits clients n es →
       (k ≡ n → list_any is_own es ≡ false) → list_any (is_of c) es ≡ false
-  none_but_own is_own k entry es fits none = grind (
-    arith,
-    nat_tests,
-    is_of c,
-    only_own is_own,
-    eqb-true k n,
-    none_passes (is_of c) clients n,
-    eq-eqb k n,
-    eqb-true c,
-    client_of,
-  )
+  none_but_own is_own k entry es fits none =
+      grind (arith, nat_tests, is_of c, only_own is_own, eqb-true k n, none_passes (is_of c) clients n, eq-eqb k n, eqb-true c, client_of)
 
   -- of one that connects
   pub none_of_connecting :
@@ -138,15 +129,8 @@ module _ (p : Image) (cs : List Cell) (o : Object) (lives : named cs o.name ≡ 
   pub enlisted_then :
       is_some (requested cs o.name) ≡ true → (clients : List Client) → ClientsFit p clients cs → (x : Object) → named then x.name ≡ Some x → requested then x.name ≡ None →
       ((service_of then x.name).queue ≡ []) × ((service_of then x.name).sessions ≡ [])
-  enlisted_then listed clients fit x there none = grind (
-    arith,
-    nat_tests,
-    named_served cs o.name,
-    requested_served cs o.name,
-    ne_eqb o.name x.name,
-    listed,
-    service_there cs o.name x.name,
-  )
+  enlisted_then listed clients fit x there none =
+      grind (arith, nat_tests, named_served cs o.name, requested_served cs o.name, ne_eqb o.name x.name, listed, service_there cs o.name x.name)
 
   -- as long as it has seats
   pub seats_then :
@@ -167,7 +151,8 @@ module _ (p : Image) (cs : List Cell) (o : Object) (lives : named cs o.name ≡ 
       (clients : List Client) → ClientsFit p clients cs → ((d : ℕ) → is_from d (service_of cs o.name).sender ≡ true → is_from d (f (service_of cs o.name)).sender ≡ true) →
       ((d m : ℕ) → list_any (is_message_of d m) (f (service_of cs o.name)).queue ≡ true → is_from d (service_of cs m).sender ≡ true) →
       (n d m : ℕ) → list_any (is_message_of d m) (service_of then n).queue ≡ true → is_from d (service_of then m).sender ≡ true
-  senders_then clients fit keeps here n d m = by_server cs o lives f (λ n v. list_any (is_message_of d m) v.queue ≡ true → is_from d (service_of then m).sender ≡ true) (λ h. still (here d m h)) (λ n other h. still (fit.senders n d m h)) n
+  senders_then clients fit keeps here n d m = by_server cs o lives f (λ n v. list_any (is_message_of d m) v.queue ≡ true →
+      is_from d (service_of then m).sender ≡ true) (λ h. still (here d m h)) (λ n other h. still (fit.senders n d m h)) n
     where
       still : is_from d (service_of cs m).sender ≡ true → is_from d (service_of then m).sender ≡ true
       still = by_server cs o lives f (λ m v. is_from d (service_of cs m).sender ≡ true → is_from d v.sender ≡ true) (keeps d) (λ n other h. h) m
@@ -195,8 +180,7 @@ module _ (p : Image) (cs : List Cell) (o : Object) (lives : named cs o.name ≡ 
 
 module _ (p : Image) (clients : List Client) (cs : List Cell) (fit : ClientsFit p clients cs) (o : Object) (lives : named cs o.name ≡ Some o) (serves : is_server p o.thing ≡ true)
     (listed : is_some (requested cs o.name) ≡ true) (f : Service → Service) (clients' : List Client) where
-  pub fit_reserved :
-      (f (service_of cs o.name)).sender ≡ (service_of cs o.name).sender → (f (service_of cs o.name)).token ≡ (service_of cs o.name).token →
+  pub fit_reserved : (f (service_of cs o.name)).sender ≡ (service_of cs o.name).sender → (f (service_of cs o.name)).token ≡ (service_of cs o.name).token →
       ((n : ℕ) → QueueFits clients' n (service_of (reserved f o.name cs) n).queue) →
       ((n d : ℕ) → has_session (service_of (reserved f o.name cs) n) d ≡ true → server_of (client_at clients' d) ≡ Some n) →
       ((n d : ℕ) → server_of (client_at clients' d) ≡ Some n → has_session (service_of (reserved f o.name cs) n) d ≡ true) →
@@ -231,21 +215,21 @@ module _ (p : Image) (clients : List Client) (cs : List Cell) (fit : ClientsFit 
     is_open x e = grind arith
 
     pub fit_accepted : ClientsFit p (with_client c (at_opening session own) clients) (reserved (opened c) o.name cs)
-    fit_accepted =
-        fit_reserved p clients cs fit o lives serves listed (opened c) (with_client c (at_opening session own) clients) refl refl
+    fit_accepted = fit_reserved p clients cs fit o lives serves listed (opened c) (with_client c (at_opening session own) clients) refl refl
         (by_server cs o lives (opened c) (λ n v. QueueFits (with_client c (at_opening session own) clients) n v.queue) (queues o.name) (λ n e. queues n))
-        (sessions_changed p c (at_opening session own) clients cs (reserved (opened c) o.name cs) fit now) (listed_changed p c (at_opening session own) clients cs (reserved (opened c) o.name cs) fit now)
-        (fit.senders o.name) (let one = seats_opened c (service_of cs o.name) in omega (arith, room, one))
+        (sessions_changed p c (at_opening session own) clients cs (reserved (opened c) o.name cs) fit now) (listed_changed p c (at_opening session own) clients
+        cs (reserved (opened c) o.name cs) fit now) (fit.senders o.name) (let one = seats_opened c (service_of cs o.name) in omega (arith, room, one))
       where
         queues : (n : ℕ) → QueueFits (with_client c (at_opening session own) clients) n (service_of cs n).queue
         queues n = grind (arith, nat_tests, queue_other c n, none_of_connecting clients c n o.name at)
 
         now : Changes c (at_opening session own) cs (reserved (opened c) o.name cs)
         now = record {
-          others = λ n d e. by_server cs o lives (opened c) (λ n v. has_session v d ≡ has_session (service_of cs n) d)
-              (list_any-append (λ x. x == d) (service_of cs o.name).sessions (c ∷ []) ∙ ap (λ b. list_any (λ x. x == d) (service_of cs o.name).sessions || (b || false)) e ∙ or-false (list_any (λ x. x == d) (service_of cs o.name).sessions))
-              (λ n other. refl) n;
-          has = by_server cs o lives (opened c) (λ n v. has_session v c ≡ true → server_of (at_opening session own) ≡ Some n) (λ h. is_open own at) (λ n other h. let clash : Some n ≡ None = sym (fit.sessions n c h) ∙ (connecting_only o.name n own at).2 in cc);
+          others = λ n d e. by_server cs o lives (opened c) (λ n v. has_session v d ≡ has_session (service_of cs n) d) (list_any-append
+              (λ x. x == d) (service_of cs o.name).sessions (c ∷ []) ∙ ap (λ b. list_any (λ x. x == d) (service_of cs o.name).sessions || (b || false)) e
+              ∙ or-false (list_any (λ x. x == d) (service_of cs o.name).sessions)) (λ n other. refl) n;
+          has = by_server cs o lives (opened c) (λ n v. has_session v c ≡ true → server_of (at_opening session own) ≡ Some n)
+              (λ h. is_open own at) (λ n other h. let clash : Some n ≡ None = sym (fit.sessions n c h) ∙ (connecting_only o.name n own at).2 in cc);
           listed = by_server cs o lives (opened c) (λ n v. server_of (at_opening session own) ≡ Some n → has_session v c ≡ true) (λ h. eqb_same (service_of cs o.name).sessions) (λ n other h.
               let same : Some o.name ≡ Some n = sym (is_open own at) ∙ h in
               absurd (true≢false (sym (eq-eqb o.name n cc) ∙ other)));
@@ -261,8 +245,7 @@ module _ (p : Image) (clients : List Client) (cs : List Cell) (fit : ClientsFit 
     other_stays d other k e = ap not (ne_eqb k c (λ same. true≢false (sym (eq-eqb c d (sym same ∙ eqb-true k d e)) ∙ other)))
 
     pub fit_parted : ClientsFit p (with_client c (at_parting own) clients) (reserved (parted c) o.name cs)
-    fit_parted =
-        fit_reserved p clients cs fit o lives serves listed (parted c) (with_client c (at_parting own) clients) refl refl
+    fit_parted = fit_reserved p clients cs fit o lives serves listed (parted c) (with_client c (at_parting own) clients) refl refl
         (by_server cs o lives (parted c) (λ n v. QueueFits (with_client c (at_parting own) clients) n v.queue) (queues o.name) (λ n e. queues n))
         (sessions_changed p c (at_parting own) clients cs (reserved (parted c) o.name cs) fit now) (listed_changed p c (at_parting own) clients cs (reserved (parted c) o.name cs) fit now)
         (fit.senders o.name) (let less = seats_parted c (service_of cs o.name) in let was = fit.seats o lives in omega (arith, less, was))
@@ -272,7 +255,8 @@ module _ (p : Image) (clients : List Client) (cs : List Cell) (fit : ClientsFit 
 
         now : Changes c (at_parting own) cs (reserved (parted c) o.name cs)
         now = record {
-          others = λ n d e. by_server cs o lives (parted c) (λ n v. has_session v d ≡ has_session (service_of cs n) d) (any-filter_same (λ x. x == d) (is_other c) true (other_stays d e) (service_of cs o.name).sessions) (λ n other. refl) n;
+          others = λ n d e. by_server cs o lives (parted c) (λ n v. has_session v d ≡ has_session (service_of cs n) d)
+              (any-filter_same (λ x. x == d) (is_other c) true (other_stays d e) (service_of cs o.name).sessions) (λ n other. refl) n;
           has = by_server cs o lives (parted c) (λ n v. has_session v c ≡ true → server_of (at_parting own) ≡ Some n)
               (λ h. absurd (true≢false (sym h ∙ any-filter_same (λ x. x == c) (is_other c) false (λ k e. ap not e) (service_of cs o.name).sessions)))
               (λ n other h. let same : Some o.name ≡ Some n = sym ((leaving_only o.name n own at).2) ∙ fit.sessions n c h in absurd (true≢false (sym (eq-eqb o.name n cc) ∙ other)));

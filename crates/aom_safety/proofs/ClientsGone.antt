@@ -14,12 +14,14 @@ use Rattle.aom_safety.proofs.ClientsFit.{connecting_only, leaving_only}
 use Rattle.aom_safety.proofs.ClientsSteady.{carried_sifted, fit_eased, quiet_waiting, sender_stays}
 use Rattle.aom_semantics.proofs.Maps.{cond_same, same_place-true, same_place_comm, same_place_refl}
 use Rattle.aom_safety.proofs.Queues.{client_here, client_there, none_passes}
-use Rattle.aom_safety.proofs.Sifted.{a_cell_of, cell_in, cell_lives, cell_name, cell_of, cell_owner, cell_placed, held_cell, service_gone, sifted, clients_sifted}
+use Rattle.aom_safety.proofs.Sifted.{a_cell_of, cell_in, cell_lives, cell_name, cell_of, cell_owner}
+use Rattle.aom_safety.proofs.Sifted.{cell_placed, held_cell, service_gone, sifted, clients_sifted}
 use Rattle.aom_safety.proofs.Sources.{has_sender, served_as, sources_as, sources_at, unslotted_one, unslotted_some}
 use Rattle.aom_safety.proofs.Unslotting.{each_unslotted_alike, service_unslotted}
 use Rattle.aom_semantics.specs.Clients.{client_at, each_unslotted, queue_ended, sessions_ended, most_of}
 use Rattle.aom_safety.specs.Kept.{ClientsFit, EntryFits, QueueFits, ConnectKept, StageKept, is_close_of, is_connect_of, is_message_of}
-use Rattle.aom_semantics.specs.Places.{Asked, Cell, Close_of, Connect_of, Elsewhere, In_service, Message_of, Object, Place, Queued, Sender, Tidy, held, named, same_place, service_of, unserved, without, requested}
+use Rattle.aom_semantics.specs.Places.{Asked, Cell, Close_of, Connect_of, Elsewhere, In_service, Message_of, Object, Place, Queued}
+use Rattle.aom_semantics.specs.Places.{Sender, Tidy, held, named, same_place, service_of, unserved, without, requested}
 use Rattle.aom_semantics.specs.State.{Accept_left, Accepts, Parts, Stage}
 use Rattle.aom_semantics.specs.Servers.{all_unslotted, has_session, is_from, is_queue_of, is_server, unslotted, without_queue, seats_taken}
 use Rattle.aom_semantics.specs.Enlisted.{thing_kind}
@@ -31,15 +33,8 @@ pub queue_ended_at : (q : List Asked) (clients : List Client) (c : ℕ) → clie
 queue_ended_at [] clients c = refl
 queue_ended_at (Message_of d m ∷ es) clients c = queue_ended_at es clients c
 queue_ended_at (Close_of d ∷ es) clients c = queue_ended_at es clients c
-queue_ended_at (Connect_of d ∷ es) clients c = grind (
-  arith,
-  nat_tests,
-  queue_ended_at es,
-  eqb-true d c,
-  client_here d Unconnected clients,
-  cond_same,
-  client_there d c Unconnected clients,
-)
+queue_ended_at (Connect_of d ∷ es) clients c =
+    grind (arith, nat_tests, queue_ended_at es, eqb-true d c, client_here d Unconnected clients, cond_same, client_there d c Unconnected clients)
 
 gone_twice : (x : Client) → at_gone (at_gone x) ≡ at_gone x
 gone_twice x = grind arith
@@ -81,11 +76,13 @@ module _ (p : Image) (clients : List Client) (c : ℕ) where
     listed = λ n d h. ap (λ v. has_session v d) (service_unslotted c cs n) ∙ fit.listed n d h;
     servers = grind (arith, nat_tests, service_unslotted c cs, named_unslotted cs);
     names = λ n m o h. fit.names n m o (sym (held_unslotted cs (Elsewhere (Queued n m))) ∙ h);
-    senders = λ n d m h. subst (λ v. is_from d v.sender ≡ true) (sym (service_unslotted c cs m)) (from_unslotted d (service_of cs m).sender (fit.senders n d m (ap (λ v. list_any (is_message_of d m) v.queue) (sym (service_unslotted c cs n)) ∙ h)));
+    senders = λ n d m h. subst (λ v. is_from d v.sender ≡ true) (sym (service_unslotted c cs m))
+        (from_unslotted d (service_of cs m).sender (fit.senders n d m (ap (λ v. list_any (is_message_of d m) v.queue) (sym (service_unslotted c cs n)) ∙ h)));
     sources = sources_as cs (all_unslotted c cs) sources (λ o h. sym (named_unslotted cs o.name) ∙ h) fit.sources;
     served = served_as cs (all_unslotted c cs) sent (λ o h. sym (held_unslotted cs (Elsewhere In_service)) ∙ h) fit.served;
     seats = λ o h. subst (λ v. seats_taken v ≤ most_of (thing_kind p o.thing)) (sym (service_unslotted c cs o.name)) (fit.seats o (sym (named_unslotted cs o.name) ∙ h));
-    enlisted = λ o h e. subst (λ v. (v.queue ≡ []) × (v.sessions ≡ [])) (sym (service_unslotted c cs o.name)) (fit.enlisted o (sym (named_unslotted cs o.name) ∙ h) (sym (requested_unslotted cs o.name) ∙ e));
+    enlisted = λ o h e. subst (λ v. (v.queue ≡ []) × (v.sessions ≡ []))
+        (sym (service_unslotted c cs o.name)) (fit.enlisted o (sym (named_unslotted cs o.name) ∙ h) (sym (requested_unslotted cs o.name) ∙ e));
   }
     where
       sent : (n : ℕ) → has_sender (all_unslotted c cs) n ≡ has_sender cs n
@@ -106,16 +103,15 @@ pub gone_so : (n : ℕ) (g : Place) (cs : List Cell) → without g (without_queu
 gone_so n g [] = refl
 gone_so n g (c ∷ cs) = go (is_queue_of n c.owner) (gone_so n g cs)
   where
-    go :
-        (b : Bool) → without g (without_queue n cs) ≡ sifted (goes_with n g) (λ c. c.service) cs →
+    go : (b : Bool) → without g (without_queue n cs) ≡ sifted (goes_with n g) (λ c. c.service) cs →
         without g (cond b (without_queue n cs) (c ∷ without_queue n cs))
         ≡ cond (b || same_place c.owner g) (sifted (goes_with n g) (λ c. c.service) cs) (c ∷ sifted (goes_with n g) (λ c. c.service) cs)
     go true e = e
     go false e = ap (λ l. cond (same_place c.owner g) l (c ∷ l)) e
 
 -- waiting: what is in a queue is no server; queued: what is asked of a server stands in its queue
-module _
-    (p : Image) (clients : List Client) (cs : List Cell) (tidy : Tidy cs) (fit : ClientsFit p clients cs) (o : Object) (g : Place) (there : held cs g ≡ Some o) (apart : (n m : ℕ) → same_place g (Elsewhere (Queued n m)) ≡ false)
+module _ (p : Image) (clients : List Client) (cs : List Cell) (tidy : Tidy cs)
+    (fit : ClientsFit p clients cs) (o : Object) (g : Place) (there : held cs g ≡ Some o) (apart : (n m : ℕ) → same_place g (Elsewhere (Queued n m)) ≡ false)
     (waiting : (n m : ℕ) (x : Object) → held cs (Elsewhere (Queued n m)) ≡ Some x → is_server p x.thing ≡ false)
     (queued : (n c m : ℕ) → list_any (is_message_of c m) (service_of cs n).queue ≡ true → (x : Object) × (held cs (Elsewhere (Queued n m)) ≡ Some x)) where
   abbrev drops : Cell → Bool
@@ -241,8 +237,7 @@ module _
   fit_gone = fit_each_unslotted p then (service_of cs o.name).sessions (without g (without_queue o.name cs)) (subst (λ l. ClientsFit p then l) (sym (gone_so o.name g cs)) fit_left)
 
   -- a stage of the dispatch of another server stays kept
-  pub stage_gone :
-      (x : Object) (c : ℕ) (stage : Stage) → (o.name == x.name) ≡ false → StageKept p clients cs x c stage →
+  pub stage_gone : (x : Object) (c : ℕ) (stage : Stage) → (o.name == x.name) ≡ false → StageKept p clients cs x c stage →
       StageKept p then (each_unslotted (service_of cs o.name).sessions (without g (without_queue o.name cs))) x c stage
   stage_gone x c stage other k = at stage k
     where
@@ -250,16 +245,19 @@ module _
       n = x.name
 
       sessions : (service_of (each_unslotted (service_of cs o.name).sessions (without g (without_queue o.name cs))) n).sessions ≡ (service_of cs n).sessions
-      sessions = (each_unslotted_alike (service_of cs o.name).sessions (without g (without_queue o.name cs))).sessions_so n ∙ ap (λ l. (service_of l n).sessions) (gone_so o.name g cs) ∙ (service_left n other).1
+      sessions = (each_unslotted_alike (service_of cs o.name).sessions (without g (without_queue o.name cs))).sessions_so n
+          ∙ ap (λ l. (service_of l n).sessions) (gone_so o.name g cs) ∙ (service_left n other).1
 
       queue : (service_of (each_unslotted (service_of cs o.name).sessions (without g (without_queue o.name cs))) n).queue ≡ (service_of cs n).queue
-      queue = (each_unslotted_alike (service_of cs o.name).sessions (without g (without_queue o.name cs))).queues_so n ∙ ap (λ l. (service_of l n).queue) (gone_so o.name g cs) ∙ (service_left n other).0
+      queue = (each_unslotted_alike (service_of cs o.name).sessions (without g (without_queue o.name cs))).queues_so n
+          ∙ ap (λ l. (service_of l n).queue) (gone_so o.name g cs) ∙ (service_left n other).0
 
       connect : ConnectKept p clients cs x c → ConnectKept p then (each_unslotted (service_of cs o.name).sessions (without g (without_queue o.name cs))) x c
       connect k = (
         ap (λ x. is_connecting_at n x) (with_connect n c other k.0) ∙ k.0,
         ap (λ q. list_any (is_connect_of c) q) queue ∙ k.1,
-        subst (λ i. i < most_of (thing_kind p x.thing)) (sym (seats_same (service_of (each_unslotted (service_of cs o.name).sessions (without g (without_queue o.name cs))) n) (service_of cs n) queue sessions)) k.2,
+        subst (λ i. i < most_of (thing_kind p x.thing)) (sym (seats_same
+            (service_of (each_unslotted (service_of cs o.name).sessions (without g (without_queue o.name cs))) n) (service_of cs n) queue sessions)) k.2,
       )
 
       at : (stage : Stage) → StageKept p clients cs x c stage → StageKept p then (each_unslotted (service_of cs o.name).sessions (without g (without_queue o.name cs))) x c stage

@@ -39,9 +39,11 @@ use Rattle.aom_semantics.specs.Enlisted.{ended_cells, part_of}
 use Rattle.aom_safety.specs.Kept.{ClientsFit, IsKept, StageKept, TasksKept, is_message_of}
 use Rattle.aom_safety.specs.Laws.{ClientsKeep, IsWired}
 use Rattle.aom_semantics.specs.Moves.{answered, asking, counted, dispatch_ends, handled, main_ends, object_ends, stage_ends, step}
-use Rattle.aom_semantics.specs.Places.{Cell, Elsewhere, Entry, Going, In_service, Object, Place, Queued, Root, Tidy, held, moved, named, service_of, without, requested, Request}
+use Rattle.aom_semantics.specs.Places.{Cell, Elsewhere, Entry, Going, In_service, Object, Place, Queued, Root}
+use Rattle.aom_semantics.specs.Places.{Tidy, held, moved, named, service_of, without, requested, Request}
 use Rattle.aom_semantics.specs.Servers.{is_server}
-use Rattle.aom_semantics.specs.State.{Accept_left, Accepts, Answered, Asks, Choice, Closing, Destroy, Dispatch, Dispatched, Frame, Goes, Object_left, Of_main, Of_object, Of_root, Of_server, Parts, Run, Seat, Service_left, Stage, State, Task, Trapped, Unwind, resumed}
+use Rattle.aom_semantics.specs.State.{Accept_left, Accepts, Answered, Asks, Choice, Closing, Destroy, Dispatch, Dispatched, Frame, Goes, Object_left, Of_main}
+use Rattle.aom_semantics.specs.State.{Of_object, Of_root, Of_server, Parts, Run, Seat, Service_left, Stage, State, Task, Trapped, Unwind, resumed}
 use Rattle.aom_safety.specs.WellTyped.{Now, WellTyped}
 use Rattle.aom_semantics.specs.World.{boot_state, main_tasks}
 use Rattle.std.specs.Prelude.{is_some}
@@ -129,7 +131,9 @@ module _ (p : Image) (s : State) (fit : ClientsFit p s.clients s.cells) where
     stage_kept x c Parts lives serves listed k = record { fit = fit_parted p s.clients s.cells fit x.object lives serves listed c k.0 k.1; stage = tt }
     stage_kept x c _ lives serves listed k = same_cells p s fit _ refl refl tt
 
-    dispatch_kept : (d : Dispatch) (ts : List Task) → ((x : Seat) (c : ℕ) (stage : Stage) → d ≡ Of_server x c stage → (named s.cells x.object.name ≡ Some x.object) × (is_server p x.object.thing ≡ true) × (is_some (requested s.cells x.object.name) ≡ true)) → TasksKept p s.clients s.cells (Dispatched d ∷ ts) → IsFit p (dispatch_ends p d s)
+    dispatch_kept : (d : Dispatch) (ts : List Task) → ((x : Seat) (c : ℕ) (stage : Stage) → d ≡ Of_server x c stage →
+        (named s.cells x.object.name ≡ Some x.object) × (is_server p x.object.thing ≡ true) × (is_some (requested s.cells x.object.name) ≡ true)) →
+        TasksKept p s.clients s.cells (Dispatched d ∷ ts) → IsFit p (dispatch_ends p d s)
     dispatch_kept Of_main ts there k = main_kept p s fit s.rest.stopped (held s.cells (Elsewhere Root))
     dispatch_kept (Of_object x) ts there k = object_kept
     dispatch_kept (Object_left x code) ts there k = asking_kept (part_of p Answers x.object.thing) x code
@@ -153,8 +157,7 @@ module _ (p : Image) (t : Typing) (wired : IsWired p) (c : Choice) (s : State) (
   queued = queued_well p t s w s.clients kept.fit
 
   -- the server that is dispatched stands
-  there :
-      (ts : List Task) → s.tasks ≡ ts → (x : Seat) (d : ℕ) (stage : Stage) → IsAt (Of_server x d stage) ts →
+  there : (ts : List Task) → s.tasks ≡ ts → (x : Seat) (d : ℕ) (stage : Stage) → IsAt (Of_server x d stage) ts →
       (named s.cells x.object.name ≡ Some x.object) × (is_server p x.object.thing ≡ true) × (is_some (requested s.cells x.object.name) ≡ true)
   there ts tasks x d stage at = let l = server_lives p t s.cells w.layers Now x d stage w.good.stack (subst (λ l. IsAt (Of_server x d stage) l) (sym tasks ∙ w.tasks) at) in (l.0, l.1, l.3)
 
@@ -184,8 +187,7 @@ module _ (p : Image) (t : Typing) (wired : IsWired p) (c : Choice) (s : State) (
         waiting : (n c m : ℕ) → list_any (is_message_of c m) (service_of cs n).queue ≡ true → (x : Object) × (held cs (Elsewhere (Queued n m)) ≡ Some x)
         waiting n c m h = let x = queued n c m (ap (λ q. list_any (is_message_of c m) q) (sym (still.queues n)) ∙ h) in (x.0, like.held_so (Elsewhere (Queued n m)) ∙ x.1)
 
-        go :
-            (o : Option Object) → held s.cells (here fr ts (counted p s) a) ≡ o → is_thing p Message (held s.cells (here fr ts (counted p s) a)) ≡ true →
+        go : (o : Option Object) → held s.cells (here fr ts (counted p s) a) ≡ o → is_thing p Message (held s.cells (here fr ts (counted p s) a)) ≡ true →
             IsFit p (applied p fr ts (counted p s) (effect p c fr ts (counted p s) (instrs.Reply a b)))
         go None e thing = record {
           fit = subst (λ l. ClientsFit p s.clients l) (sym (without_none cs (here fr ts (counted p s) a) (like.held_so (here fr ts (counted p s) a) ∙ e))) fit;
@@ -222,8 +224,8 @@ module _ (p : Image) (t : Typing) (wired : IsWired p) (c : Choice) (s : State) (
   gone_kept ts o tasks at = record {
     fit = fit_gone p s.clients s.cells tidy kept.fit o (Going (length ts)) at (λ n m. refl) (waiting_well p t wired s w) queued;
     stage = tasks_resumed p _ _ ts (tasks_staged p s.clients _ s.cells _ ts
-        (λ x d stage below k. stage_gone p s.clients s.cells tidy kept.fit o (Going (length ts)) at (λ n m. refl) (waiting_well p t wired s w) queued x.object d stage (goes_apart p t s w ts tasks o at x d stage below) k)
-        (stage_at (Destroy ∷ ts) tasks));
+        (λ x d stage below k. stage_gone p s.clients s.cells tidy kept.fit o (Going (length ts)) at (λ n m. refl)
+        (waiting_well p t wired s w) queued x.object d stage (goes_apart p t s w ts tasks o at x d stage below) k) (stage_at (Destroy ∷ ts) tasks));
   }
 
   moved_kept : (u : State) → step p c s ≡ Goes u → IsFit p u

@@ -18,7 +18,8 @@ use Rattle.aom_safety.proofs.Sifted.{cell_of_sifted, kept, cell_of, service_cell
 use Rattle.aom_safety.proofs.Sources.{discarded_one, discarded_some}
 use Rattle.aom_semantics.specs.Clients.{client_at, with_client}
 use Rattle.aom_safety.specs.Kept.{ClientsFit, QueueFits, is_close_of, is_message_of, one_if_some}
-use Rattle.aom_semantics.specs.Places.{Asked, Cell, Close_of, Elsewhere, Object, Place, Queued, Sender, Service, Tidy, held, named, service_of, unserved, requested}
+use Rattle.aom_semantics.specs.Places.{Asked, Cell, Close_of, Elsewhere, Object, Place, Queued, Sender}
+use Rattle.aom_semantics.specs.Places.{Service, Tidy, held, named, service_of, unserved, requested}
 use Rattle.aom_semantics.specs.Servers.{asked_last, discarded, reserved, is_from, is_queue, is_server, left_by, stays, withdrawn}
 
 -- ---- lists
@@ -34,8 +35,7 @@ none_but_close c [] none = refl
 none_but_close c (e ∷ es) none = grind (arith, nat_tests, none_but_close c es, is_of c e, ne_eqb c, eq-eqb, is_of c)
 
 -- so that what is left of a queue fits whatever it is at then
-pub queue_left :
-    (clients : List Client) (c n : ℕ) (to : Client) (es : List Asked) → list_any (is_close_of c) es ≡ false → QueueFits clients n es →
+pub queue_left : (clients : List Client) (c n : ℕ) (to : Client) (es : List Asked) → list_any (is_close_of c) es ≡ false → QueueFits clients n es →
     QueueFits (with_client c to clients) n (filter (stays c) es)
 queue_left clients c n to es none fits = queue_other c n to clients (filter (stays c) es) (none_but_close c es none) (queue_stays clients n (stays c) es fits)
 
@@ -88,8 +88,7 @@ module _ (p : Image) (clients : List Client) (cs : List Cell) (tidy : Tidy cs) (
       then : service_of (withdrawn c cs) n ≡ service_of (sifted drops left cs) n
       then = ap (λ l. service_of l n) (withdrawn_so c cs)
 
-      at :
-          (x : Cell) → cell_of cs n ≡ Some x → (b : Bool) → drops x ≡ b →
+      at : (x : Cell) → cell_of cs n ≡ Some x → (b : Bool) → drops x ≡ b →
           ((service_of (withdrawn c cs) n).queue ≡ filter (stays c) (service_of cs n).queue) × ((service_of (withdrawn c cs) n).sessions ≡ (service_of cs n).sessions)
       at x e true d =
           let none = empty n x e d in
@@ -105,8 +104,7 @@ module _ (p : Image) (clients : List Client) (cs : List Cell) (tidy : Tidy cs) (
             ap (λ v. v.sessions) now ∙ ap (λ v. v.sessions) (sym was),
           )
 
-      go :
-          (x : Option Cell) → cell_of cs n ≡ x →
+      go : (x : Option Cell) → cell_of cs n ≡ x →
           ((service_of (withdrawn c cs) n).queue ≡ filter (stays c) (service_of cs n).queue) × ((service_of (withdrawn c cs) n).sessions ≡ (service_of cs n).sessions)
       go None e =
           let was : service_of cs n ≡ unserved = service_cell cs n ∙ ap service_in e in
@@ -116,28 +114,20 @@ module _ (p : Image) (clients : List Client) (cs : List Cell) (tidy : Tidy cs) (
 
   -- a message of another client has its sender still
   sender_left : (d m : ℕ) → (c == d) ≡ false → is_from d (service_of cs m).sender ≡ true → is_from d (service_of (withdrawn c cs) m).sender ≡ true
-  sender_left d m other h = grind (
-    arith,
-    nat_tests,
-    cell_of cs m,
-    service_cell cs m,
-    service_in,
-    from_other,
-    and-false,
-    withdrawn_so,
-    service_sifted,
-    from_kept,
-  )
+  sender_left d m other h =
+      grind (arith, nat_tests, cell_of cs m, service_cell cs m, service_in, from_other, and-false, withdrawn_so, service_sifted, from_kept)
 
   -- the client is at something else then, and asks for nothing more
   module _ (to : Client) (session : server_of to ≡ server_of (client_at clients c)) (queues : (n : ℕ) → QueueFits (with_client c to clients) n (filter (stays c) (service_of cs n).queue)) where
     pub fit_withdrawn : ClientsFit p (with_client c to clients) (withdrawn c cs)
     fit_withdrawn = fit_eased p clients (with_client c to clients) cs (withdrawn c cs) fit record {
-      carried = subst (Carried cs) (sym (withdrawn_so c cs)) (carried_sifted drops left (λ x. ap (λ k. k + one_if_some x.service.token) (discarded_one c x.service.sender)) (λ x. discarded_some c x.service.sender) cs tidy);
+      carried = subst (Carried cs) (sym (withdrawn_so c cs)) (carried_sifted drops left
+          (λ x. ap (λ k. k + one_if_some x.service.token) (discarded_one c x.service.sender)) (λ x. discarded_some c x.service.sender) cs tidy);
       queues = λ n. subst (λ q. QueueFits (with_client c to clients) n q) (sym (service_left n).0) (queues n);
       sessions = sessions_changed p c to clients cs (withdrawn c cs) fit now;
       listed = listed_changed p c to clients cs (withdrawn c cs) fit now;
-      senders = λ n d m h. let parts = message_stays c d m (service_of cs n).queue (ap (λ q. list_any (is_message_of d m) q) (sym (service_left n).0) ∙ h) in sender_left d m parts.0 (fit.senders n d m parts.1);
+      senders = λ n d m h. let parts = message_stays c d m (service_of cs n).queue (ap (λ q. list_any (is_message_of d m) q) (sym (service_left n).0) ∙ h) in
+          sender_left d m parts.0 (fit.senders n d m parts.1);
       quiet = λ n none. ((service_left n).0 ∙ ap (λ q. filter (stays c) q) none.0, (service_left n).1 ∙ none.1);
       seats = λ n. seats_left c (service_of (withdrawn c cs) n) (service_of cs n) (service_left n).0 (service_left n).1;
     }

@@ -30,11 +30,13 @@ use Rattle.aom_semantics.specs.Clients.{client_at, with_client}
 use Rattle.aom_safety.proofs.Redeeming.{redeeming, requested_redeemed}
 use Rattle.aom_safety.proofs.Storing.{rerequested_alike}
 use Rattle.aom_semantics.specs.Tokens.{all_redeemed, awaited, handed_cells, home_class, next_token, promised, redeemed_by, redeemed_request, with_token}
-use Rattle.aom_semantics.specs.Effects.{Carried, Handed, In_field, In_register, Made, Popped, Pushed, Replied, Requested, Sessioned, The_message, Update, Written, cells_after, spot_place}
+use Rattle.aom_semantics.specs.Effects.{Carried, Handed, In_field, In_register, Made, Popped, Pushed, Replied, Requested}
+use Rattle.aom_semantics.specs.Effects.{Sessioned, The_message, Update, Written, cells_after, spot_place}
 use Rattle.aom_semantics.specs.Enlisted.{ended_cells, on_request, own_request, rerequested}
 use Rattle.aom_safety.specs.Kept.{ClientsFit, ConnectKept, StageKept, TasksKept, is_close_of, is_connect_of}
 use Rattle.aom_semantics.specs.Natives.{resessioned}
-use Rattle.aom_semantics.specs.Places.{Cell, Elsewhere, Entry, In_service, Object, Place, Queued, Request, Token, held, moved, named, same_place, service_of, set_request, with_new, requested}
+use Rattle.aom_semantics.specs.Places.{Cell, Elsewhere, Entry, In_service, Object, Place, Queued, Request, Token, held}
+use Rattle.aom_semantics.specs.Places.{moved, named, same_place, service_of, set_request, with_new, requested}
 use Rattle.aom_semantics.specs.State.{Accept_left, Accepts, Dispatched, Frame, Home, Inside, Of_server, Parts, Seat, Stage, State, Task, field_place}
 use Rattle.aom_semantics.specs.Words.{here, stored}
 use Rattle.aom_safety.proofs.Seated.{seats_same}
@@ -42,8 +44,7 @@ use Rattle.aom_safety.proofs.Seated.{seats_same}
 -- ---- tasks
 
 -- what a stage has stays kept, so do tasks
-pub tasks_staged :
-    (p : Image) (clients clients' : List Client) (cs cs' : List Cell) (ts : List Task) →
+pub tasks_staged : (p : Image) (clients clients' : List Client) (cs cs' : List Cell) (ts : List Task) →
     ((x : Seat) (c : ℕ) (stage : Stage) → IsAt (Of_server x c stage) ts → StageKept p clients cs x.object c stage → StageKept p clients' cs' x.object c stage) → TasksKept p clients cs ts →
     TasksKept p clients' cs' ts
 tasks_staged p clients clients' cs cs' [] still k = tt
@@ -57,13 +58,7 @@ module _ (p : Image) (clients : List Client) (cs cs' : List Cell) (queues : (n :
   connect_queues o c k = (
     k.0,
     ap (λ q. list_any (is_connect_of c) q) (queues o.name) ∙ k.1,
-    grind (
-      arith,
-      nat_tests,
-      seats_same,
-      queues o.name,
-      sessions o.name,
-    ),
+    grind (arith, nat_tests, seats_same, queues o.name, sessions o.name),
   )
 
   pub stage_queues : (o : Object) (c : ℕ) (stage : Stage) → StageKept p clients cs o c stage → StageKept p clients cs' o c stage
@@ -89,8 +84,7 @@ held_elsewhere [] a b r apart = go (same_place a r)
     go false = refl
 held_elsewhere (c ∷ cs) a b r apart = go (same_place c.owner a) refl (same_place a r) refl (held_elsewhere cs a b r apart)
   where
-    go :
-        (x : Bool) → same_place c.owner a ≡ x → (y : Bool) → same_place a r ≡ y → held (moved a b cs) r ≡ cond y None (held cs r) →
+    go : (x : Bool) → same_place c.owner a ≡ x → (y : Bool) → same_place a r ≡ y → held (moved a b cs) r ≡ cond y None (held cs r) →
         cond (same_place (cond x b c.owner) r) (Some c.object) (held (moved a b cs) r) ≡ cond y None (cond (same_place c.owner r) (Some c.object) (held cs r))
     go true e true f ih = ap (λ z. cond z (Some c.object) (held (moved a b cs) r)) apart ∙ ih
     go true e false f ih = ap (λ z. cond z (Some c.object) (held (moved a b cs) r)) apart ∙ ih ∙ sym (ap (λ z. cond z (Some c.object) (held cs r)) (same_place_along c.owner a r e ∙ f))
@@ -117,7 +111,8 @@ steady_moved cs a b apart aside =
 no_queue : (owner : Place) → NoQueue owner → (name n m : ℕ) → owner ≡ Elsewhere (Queued n m) → name ≡ m
 no_queue owner apart name n m e = absurd (true≢false (sym (same_place_refl (Elsewhere (Queued n m))) ∙ ap (λ q. same_place q (Elsewhere (Queued n m))) (sym e) ∙ apart n m))
 
-pub steady_new : (cs : List Cell) (name : ℕ) (x : Thing) (ws : List ℤ) (owner : Place) → NoQueue owner → NoService owner → is_object x ≡ true → named cs name ≡ None → Steady cs (with_new name x ws owner cs)
+pub steady_new : (cs : List Cell) (name : ℕ) (x : Thing) (ws : List ℤ) (owner : Place) →
+    NoQueue owner → NoService owner → is_object x ≡ true → named cs name ≡ None → Steady cs (with_new name x ws owner cs)
 steady_new cs name x ws owner apart aside object free = steady_more _ cs free refl refl (no_queue owner apart name) (sym (ap (λ b. cond b 0 1) object)) aside
 
 pub steady_token : (cs : List Cell) (name : ℕ) (token : Token) (owner : Place) → NoQueue owner → NoService owner → named cs name ≡ None → Steady cs (with_token name token owner cs)
@@ -224,7 +219,8 @@ module _ (p : Image) (clients : List Client) (cs : List Cell) (fit : ClientsFit 
   pub fit_unconnected : ClientsFit p (with_client c Unconnected clients) cs
   fit_unconnected = fit_eased p clients (with_client c Unconnected clients) cs cs fit record {
     carried = carried_itself cs;
-    queues = λ k. queue_other c k Unconnected clients (service_of cs k).queue (none_of_connecting clients c k n at (service_of cs k).queue (fit.queues k) (λ same. subst (λ i. list_any (is_connect_of c) (service_of cs i).queue ≡ false) same none)) (fit.queues k);
+    queues = λ k. queue_other c k Unconnected clients (service_of cs k).queue (none_of_connecting clients c k n at (service_of cs k).queue
+        (fit.queues k) (λ same. subst (λ i. list_any (is_connect_of c) (service_of cs i).queue ≡ false) same none)) (fit.queues k);
     sessions = sessions_changed p c Unconnected clients cs cs fit now;
     listed = listed_changed p c Unconnected clients cs cs fit now;
     senders = fit.senders;

@@ -17,7 +17,8 @@ use Rattle.aom_semantics.specs.Clients.{most_of}
 use Rattle.aom_safety.specs.Kept.{ClientsFit, TasksKept, is_connect_of, is_message_of}
 use Rattle.aom_semantics.specs.Places.{Cell, Elsewhere, Object, Place, Queued, Session, Tidy, held, moved, named, same_place, service_of, without, requested}
 use Rattle.aom_semantics.specs.Servers.{is_server}
-use Rattle.aom_semantics.specs.State.{Home, Accept_left, Accepts, Destroy, Dispatch, Dispatched, Frame, Of_server, Parts, Run, Seat, State, Task, Trapped, Unwind}
+use Rattle.aom_semantics.specs.State.{Home, Accept_left, Accepts, Destroy, Dispatch, Dispatched, Frame}
+use Rattle.aom_semantics.specs.State.{Of_server, Parts, Run, Seat, State, Task, Trapped, Unwind}
 use Rattle.aom_semantics.specs.Words.{here}
 use Rattle.aom_semantics.specs.Enlisted.{thing_kind}
 use Rattle.aom_safety.proofs.Seated.{seats_same}
@@ -50,15 +51,16 @@ module _ (p : Image) (fr : Frame) (ts : List Task) (s : State) (fit : ClientsFit
     accept_kept x c lives serves listed stage =
         let still = steady_moved s.cells (here fr ts s a) (Elsewhere (Session x.object.name c)) (λ n m. refl) refl in
         record {
-          fit = fit_accepted p s.clients (moved (here fr ts s a) (Elsewhere (Session x.object.name c)) s.cells) (fit_steady p s.clients s.cells (moved (here fr ts s a) (Elsewhere (Session x.object.name c)) s.cells) still fit) x.object
-              (named_moved s.cells (here fr ts s a) (Elsewhere (Session x.object.name c)) x.object.name ∙ lives) serves
-              (ap is_some (requested_moved s.cells (here fr ts s a) (Elsewhere (Session x.object.name c)) x.object.name) ∙ listed) c _ stage.0 (ap (λ q. list_any (is_connect_of c) q) (still.queues x.object.name) ∙ stage.1)
-              (subst (λ n. n < most_of (thing_kind p x.object.thing)) (sym (seats_same (service_of (moved (here fr ts s a) (Elsewhere (Session x.object.name c)) s.cells) x.object.name) (service_of s.cells x.object.name) (still.queues x.object.name) (still.sessions x.object.name))) stage.2);
+          fit = fit_accepted p s.clients (moved (here fr ts s a) (Elsewhere (Session x.object.name c)) s.cells) (fit_steady p s.clients s.cells (moved (here fr
+              ts s a) (Elsewhere (Session x.object.name c)) s.cells) still fit) x.object (named_moved s.cells (here fr ts s a) (Elsewhere (Session x.object.name
+              c)) x.object.name ∙ lives) serves (ap is_some (requested_moved s.cells (here fr ts s a) (Elsewhere (Session x.object.name c)) x.object.name)
+              ∙ listed) c _ stage.0 (ap (λ q. list_any (is_connect_of c) q) (still.queues x.object.name) ∙ stage.1) (subst (λ n. n < most_of
+              (thing_kind p x.object.thing)) (sym (seats_same (service_of (moved (here fr ts s a) (Elsewhere (Session x.object.name c)) s.cells) x.object.name)
+              (service_of s.cells x.object.name) (still.queues x.object.name) (still.sessions x.object.name))) stage.2);
           stage = tt;
         }
 
-    ended_kept :
-        (d : Dispatch) →
+    ended_kept : (d : Dispatch) →
         ((x : Seat) (c : ℕ) → d ≡ Of_server x c Accepts → (named s.cells x.object.name ≡ Some x.object) × (is_server p x.object.thing ≡ true) × (is_some (requested s.cells x.object.name) ≡ true)) →
         TasksKept p s.clients s.cells (Dispatched d ∷ below) → IsFit p (returned p fr ts s g a (Trapped ∷ Dispatched d ∷ below))
     ended_kept (Of_server x c Accepts) there stage = let l = there x c refl in accept_kept x c l.0 l.1 l.2 stage
@@ -74,7 +76,9 @@ module _ (p : Image) (fr : Frame) (ts : List Task) (s : State) (fit : ClientsFit
   line_kept m x height below k = grind arith
 
   -- to whatever is below; where it is the end of `accept`, its server stands
-  pub return_kept : (g : Gives) (a : ℕ) (below : List Task) → ((x : Seat) (c : ℕ) → IsAt (Of_server x c Accepts) below → (named s.cells x.object.name ≡ Some x.object) × (is_server p x.object.thing ≡ true) × (is_some (requested s.cells x.object.name) ≡ true)) → s.tasks ≡ Run fr ∷ ts → TasksKept p s.clients s.cells below → TasksKept p s.clients s.cells ts → IsFit p (returned p fr ts s g a below)
+  pub return_kept : (g : Gives) (a : ℕ) (below : List Task) → ((x : Seat) (c : ℕ) → IsAt (Of_server x c Accepts) below →
+      (named s.cells x.object.name ≡ Some x.object) × (is_server p x.object.thing ≡ true) × (is_some (requested s.cells x.object.name) ≡ true)) →
+      s.tasks ≡ Run fr ∷ ts → TasksKept p s.clients s.cells below → TasksKept p s.clients s.cells ts → IsFit p (returned p fr ts s g a below)
   return_kept g a (Run caller ∷ below) there tasks stage all = result_kept g a _ below _ refl refl refl (λ cs k. k) stage
   return_kept g a (Trapped ∷ Run caller ∷ below) there tasks stage all = result_kept g a _ below _ refl refl refl (λ cs k. k) stage
   return_kept g a (Trapped ∷ Dispatched d ∷ below) there tasks stage all = ended_kept g a below d there stage
@@ -89,8 +93,8 @@ pub without_so : (g : Place) (cs : List Cell) → without g cs ≡ sifted (λ c.
 without_so g [] = refl
 without_so g (c ∷ cs) = ap (λ l. cond (same_place c.owner g) l (c ∷ l)) (without_so g cs)
 
-module _
-    (p : Image) (clients : List Client) (cs : List Cell) (tidy : Tidy cs) (fit : ClientsFit p clients cs) (o : Object) (g : Place) (there : held cs g ≡ Some o) (apart : NoQueue g) (plain : is_server p o.thing ≡ false)
+module _ (p : Image) (clients : List Client) (cs : List Cell) (tidy : Tidy cs)
+    (fit : ClientsFit p clients cs) (o : Object) (g : Place) (there : held cs g ≡ Some o) (apart : NoQueue g) (plain : is_server p o.thing ≡ false)
     (queued : (n c m : ℕ) → list_any (is_message_of c m) (service_of cs n).queue ≡ true → (x : Object) × (held cs (Elsewhere (Queued n m)) ≡ Some x)) where
   abbrev drops : Cell → Bool
   drops c = same_place c.owner g
@@ -124,6 +128,5 @@ module _
   fit_without = subst (λ l. ClientsFit p clients l) (sym (without_so g cs)) (fit_steady p clients cs left steady_left fit)
 
   pub tasks_without : (ts : List Task) → TasksKept p clients cs ts → TasksKept p clients (without g cs) ts
-  tasks_without ts k =
-      tasks_queues p clients cs (without g cs) (λ n. ap (λ l. (service_of l n).queue) (without_so g cs) ∙ (service_left n).0)
+  tasks_without ts k = tasks_queues p clients cs (without g cs) (λ n. ap (λ l. (service_of l n).queue) (without_so g cs) ∙ (service_left n).0)
       (λ n. ap (λ l. (service_of l n).sessions) (without_so g cs) ∙ (service_left n).1) ts k

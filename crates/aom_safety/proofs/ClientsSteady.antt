@@ -9,13 +9,15 @@ use Rattle.aom_clients.specs.declared.client.Client.{Client}
 use Rattle.aom_roles.specs.Things.{is_object}
 use Rattle.aom_safety.proofs.Seated.{seats_same}
 use Rattle.aom_safety.proofs.Services.{service_unnamed}
-use Rattle.aom_safety.proofs.Sifted.{a_cell_of, cell_in, cell_lives, cell_of, cell_owner, cell_placed, held_cell, named_before, named_cell, object_in, placed_before, requested_before, service_cell, service_in, service_sifted, sifted}
+use Rattle.aom_safety.proofs.Sifted.{a_cell_of, cell_in, cell_lives, cell_of, cell_owner, cell_placed, held_cell, named_before, named_cell}
+use Rattle.aom_safety.proofs.Sifted.{object_in, placed_before, requested_before, service_cell, service_in, service_sifted, sifted}
 use Rattle.aom_safety.proofs.Sources.{served_as, served_sifted, sources_as, sources_sifted}
 use Rattle.aom_safety.specs.Kept.{ClientsFit, HasSources, QueueFits, ServesSent, is_message_of, sources_of}
 use Rattle.aom_semantics.proofs.Maps.{requested_unnamed, same_place-true}
 use Rattle.aom_semantics.specs.Clients.{client_at, most_of}
 use Rattle.aom_semantics.specs.Enlisted.{thing_kind}
-use Rattle.aom_semantics.specs.Places.{Cell, Elsewhere, In_service, Object, Place, Queued, Service, Tidy, held, named, requested, same_place, service_of, unserved}
+use Rattle.aom_semantics.specs.Places.{Cell, Elsewhere, In_service, Object, Place, Queued, Service, Tidy}
+use Rattle.aom_semantics.specs.Places.{held, named, requested, same_place, service_of, unserved}
 use Rattle.aom_semantics.specs.Servers.{has_session, is_among, is_from, is_server, seats_taken}
 
 -- ---- what is kept of cells, whatever clients are at
@@ -160,8 +162,7 @@ steady_as cs cs' services names listed queued served = record {
 }
 
 pub steady_same : (cs cs' : List Cell) → Same cs cs' → Steady cs cs'
-steady_same cs cs' like =
-    steady_as cs cs' like.service_so like.named_so like.listed_so (λ n m o h. sym (like.held_so (Elsewhere (Queued n m))) ∙ h)
+steady_same cs cs' like = steady_as cs cs' like.service_so like.named_so like.listed_so (λ n m o h. sym (like.held_so (Elsewhere (Queued n m))) ∙ h)
     (served_as cs cs' (λ n. ap (λ v. is_some v.sender) (like.service_so n)) (λ o h. sym (like.held_so (Elsewhere In_service)) ∙ h))
 
 pub fit_same : (p : Image) (clients : List Client) (cs cs' : List Cell) → Same cs cs' → ClientsFit p clients cs → ClientsFit p clients cs'
@@ -226,8 +227,7 @@ module _ (p : Image) (clients : List Client) (cs : List Cell) (tidy : Tidy cs) (
       subst IsQuiet (service_cell cs x.object.name ∙ ap service_in lives) (fit.servers x.object (named_cell cs x.object.name ∙ ap object_in lives) plain)
 
   -- nor of what waits in a queue
-  pub quiet_waiting :
-      ((n m : ℕ) (o : Object) → held cs (Elsewhere (Queued n m)) ≡ Some o → is_server p o.thing ≡ false) →
+  pub quiet_waiting : ((n m : ℕ) (o : Object) → held cs (Elsewhere (Queued n m)) ≡ Some o → is_server p o.thing ≡ false) →
       (n : ℕ) (x : Cell) → cell_of cs n ≡ Some x → (k m : ℕ) → x.owner ≡ Elsewhere (Queued k m) → IsQuiet x.service
   quiet_waiting waiting n x e k m at = quiet_cell n x e (waiting k m x.object (ap (held cs) (sym at) ∙ held_cell cs x.owner ∙ ap object_in (cell_placed cs n x tidy e)))
 

@@ -29,11 +29,14 @@ use Rattle.aom_semantics.specs.Enlisted.{completed_with, on_request, part_of, re
 use Rattle.aom_semantics.specs.Natives.{all_bereaved, is_served_by, terminated_request, is_owed, terminated}
 use Rattle.aom_safety.specs.Kept.{ClientsFit, QueueFits, ServesSent, TasksKept, is_connect_of, is_message_of}
 use Rattle.aom_safety.specs.Laws.{IsWired}
-use Rattle.aom_semantics.specs.Places.{Asked, Cell, Close_of, Connect_of, Elsewhere, Going, In_service, Message_of, Object, Place, Queued, Request, Root, Session, held, moved, named, requested, same_place, seen, service_of, set_request}
+use Rattle.aom_semantics.specs.Places.{Asked, Cell, Close_of, Connect_of, Elsewhere, Going, In_service, Message_of, Object, Place, Queued}
+use Rattle.aom_semantics.specs.Places.{Request, Root, Session, held, moved, named, requested, same_place, seen, service_of, set_request}
 use Rattle.aom_semantics.specs.Servers.{has_session, is_server, reserved, rest_of as rest, taken_first, seats_taken}
 use Rattle.aom_semantics.specs.State.{NullOrDead, WrongKind, Goes, Inside, Seat, State, Task}
 use Rattle.aom_safety.specs.WellTyped.{Fits, Good, WellTyped}
-use Rattle.aom_semantics.specs.World.{Candidate, Completes, Completion, Cuts, Heard, Hears, Kills, Obeys, Environment, Picks, Polls, Strays, Timed, Turning, accepting, attended, attending, by_event, by_timer, delivers, dispatched, first_ready, heard_one, lives, parting_with, picks, picked, polls, serves_first, taken_from, turn, turned, turning, with_request}
+use Rattle.aom_semantics.specs.World.{Candidate, Completes, Completion, Cuts, Heard, Hears, Kills, Obeys, Environment, Picks, Polls, Strays, Timed}
+use Rattle.aom_semantics.specs.World.{Turning, accepting, attended, attending, by_event, by_timer, delivers, dispatched, first_ready, heard_one, lives}
+use Rattle.aom_semantics.specs.World.{parting_with, picks, picked, polls, serves_first, taken_from, turn, turned, turning, with_request}
 use Rattle.aom_transcript.specs.declared.event.Event.{Event}
 use Rattle.aom_transcript.specs.declared.event.TimedEvent.{TimedEvent}
 use Rattle.aom_safety.proofs.Seated.{seats_first, seats_rest}
@@ -62,8 +65,7 @@ listed_bereaved p n (c ∷ cs) m e = go (c.object.name == m) e (listed_bereaved 
         owed x e = grind arith
     ends false r e = e
 
-    go :
-        (b : Bool) → cond b (cond (is_served_by p n c.object.thing) (terminated_request c.request) c.request) (requested (all_bereaved p n cs) m) ≡ None →
+    go : (b : Bool) → cond b (cond (is_served_by p n c.object.thing) (terminated_request c.request) c.request) (requested (all_bereaved p n cs) m) ≡ None →
         (requested (all_bereaved p n cs) m ≡ None → requested cs m ≡ None) → cond b c.request (requested cs m) ≡ None
     go true e rest = ends (is_served_by p n c.object.thing) c.request e
     go false e rest = rest e
@@ -80,9 +82,9 @@ same_bereaved p n cs = let like = bereaved_alike p n cs in record { service_so =
 pub fit_moved :
     (p : Image) (clients : List Client) (cs : List Cell) (a b : Place) → held cs b ≡ None → ((n m : ℕ) → same_place b (Elsewhere (Queued n m)) ≡ false) →
     (same_place b (Elsewhere In_service) ≡ true → (o : Object) → held cs a ≡ Some o → has_sender cs o.name ≡ true) → ClientsFit p clients cs → ClientsFit p clients (moved a b cs)
-fit_moved p clients cs a b free apart sent =
-    fit_steady p clients cs (moved a b cs) (steady_as cs (moved a b cs) (service_moved cs a b) (named_moved cs a b) (λ n e. sym (requested_moved cs a b n) ∙ e)
-    (λ n m. queued (Elsewhere (Queued n m)) (apart n m)) (λ was o h. same o.name ∙ served was o (same_place b (Elsewhere In_service)) refl (same_place a (Elsewhere In_service)) (sym (held_moved cs a b (Elsewhere In_service) free) ∙ h)))
+fit_moved p clients cs a b free apart sent = fit_steady p clients cs (moved a b cs) (steady_as cs (moved a b cs) (service_moved cs a b)
+    (named_moved cs a b) (λ n e. sym (requested_moved cs a b n) ∙ e) (λ n m. queued (Elsewhere (Queued n m)) (apart n m)) (λ was o h. same o.name
+    ∙ served was o (same_place b (Elsewhere In_service)) refl (same_place a (Elsewhere In_service)) (sym (held_moved cs a b (Elsewhere In_service) free) ∙ h)))
   where
     same : (n : ℕ) → has_sender (moved a b cs) n ≡ has_sender cs n
     same n = ap (λ v. is_some v.sender) (service_moved cs a b n)
@@ -109,13 +111,13 @@ asked_serves p clients cs fit o lives e es queue = grind (arith, nat_tests)
 pub fit_taken :
     (p : Image) (clients : List Client) (cs : List Cell) (o : Object) → named cs o.name ≡ Some o → is_some (requested cs o.name) ≡ true → (e : Asked) (es : List Asked) →
     (service_of cs o.name).queue ≡ e ∷ es → ClientsFit p clients cs → ClientsFit p clients (reserved taken_first o.name cs)
-fit_taken p clients cs o lives listed e es queue fit =
-    fit_reserved p clients cs fit o lives (asked_serves p clients cs fit o lives e es queue) listed taken_first clients refl refl
-    (by_server cs o lives taken_first (λ n v. QueueFits clients n v.queue) (subst (λ q. QueueFits clients o.name (rest q)) (sym queue) (subst (λ q. QueueFits clients o.name q) queue (fit.queues o.name)).1) (λ n other. fit.queues n))
-    (by_server cs o lives taken_first (λ n v. (d : ℕ) → has_session v d ≡ true → server_of (client_at clients d) ≡ Some n) (fit.sessions o.name) (λ n other. fit.sessions n))
-    (by_server cs o lives taken_first (λ n v. (d : ℕ) → server_of (client_at clients d) ≡ Some n → has_session v d ≡ true) (fit.listed o.name) (λ n other. fit.listed n))
-    (λ d m h. fit.senders o.name d m (ap (list_any (is_message_of d m)) queue ∙ or_right (is_message_of d m e) (list_any (is_message_of d m) es) (ap (λ q. list_any (is_message_of d m) (rest q)) (sym queue) ∙ h)))
-    (let less = seats_rest (service_of cs o.name) in let was = fit.seats o lives in omega (arith, less, was))
+fit_taken p clients cs o lives listed e es queue fit = fit_reserved p clients cs fit o lives (asked_serves p clients cs fit o lives e es queue)
+    listed taken_first clients refl refl (by_server cs o lives taken_first (λ n v. QueueFits clients n v.queue) (subst (λ q. QueueFits clients o.name (rest q))
+    (sym queue) (subst (λ q. QueueFits clients o.name q) queue (fit.queues o.name)).1) (λ n other. fit.queues n)) (by_server cs o lives taken_first
+    (λ n v. (d : ℕ) → has_session v d ≡ true → server_of (client_at clients d) ≡ Some n) (fit.sessions o.name) (λ n other. fit.sessions n)) (by_server cs
+    o lives taken_first (λ n v. (d : ℕ) → server_of (client_at clients d) ≡ Some n → has_session v d ≡ true) (fit.listed o.name) (λ n other. fit.listed n)) (λ
+    d m h. fit.senders o.name d m (ap (list_any (is_message_of d m)) queue ∙ or_right (is_message_of d m e) (list_any (is_message_of d m) es) (ap (λ q. list_any
+    (is_message_of d m) (rest q)) (sym queue) ∙ h))) (let less = seats_rest (service_of cs o.name) in let was = fit.seats o lives in omega (arith, less, was))
   where
     or_right : (b x : Bool) → x ≡ true → (b || x) ≡ true
     or_right x y h = grind arith
@@ -235,7 +237,8 @@ module _ (p : Image) (t : Typing) (wired : IsWired p) (s : State) (w : WellTyped
 
   requested_kept : (f : Request → Request) (o : Object) (u : State) → u.cells ≡ with_request f o s.cells → u.clients ≡ s.clients → u.tasks ≡ [] → IsFit p u
   requested_kept f o u cells clients tasks = record {
-    fit = subst (λ l. ClientsFit p l u.cells) (sym clients) (subst (λ l. ClientsFit p s.clients l) (sym cells) (fit_same p s.clients s.cells (with_request f o s.cells) (same_requested s.cells o (on_request f (requested s.cells o.name)) (λ e. on_none f (requested s.cells o.name) e)) kept.fit));
+    fit = subst (λ l. ClientsFit p l u.cells) (sym clients) (subst (λ l. ClientsFit p s.clients l) (sym cells) (fit_same p s.clients s.cells (with_request
+        f o s.cells) (same_requested s.cells o (on_request f (requested s.cells o.name)) (λ e. on_none f (requested s.cells o.name) e)) kept.fit));
     stage = stage_idle u.clients u.cells u.tasks tasks;
   }
 
@@ -243,8 +246,7 @@ module _ (p : Image) (t : Typing) (wired : IsWired p) (s : State) (w : WellTyped
   turned_kept Cuts f u e = subst (λ v. IsFit p v) (goes_same _ u e) (same_kept _ refl refl idle_now)
   turned_kept (Completes o) f u e = subst (λ v. IsFit p v) (goes_same _ u e) (requested_kept timed_out o _ refl refl idle_now)
   turned_kept Hears f u e = subst (λ v. IsFit p v) (goes_same _ u e) (same_kept _ refl refl idle_now)
-  turned_kept (Kills n) f u e =
-      subst (λ v. IsFit p v) (goes_same _ u e)
+  turned_kept (Kills n) f u e = subst (λ v. IsFit p v) (goes_same _ u e)
       (record { fit = fit_same p s.clients s.cells (all_bereaved p n s.cells) (same_bereaved p n s.cells) kept.fit; stage = stage_idle s.clients (all_bereaved p n s.cells) s.tasks idle_now })
   turned_kept (Polls n answer) f u e = go u (polled_so p s u n answer e)
     where

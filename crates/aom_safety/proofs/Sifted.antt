@@ -113,7 +113,8 @@ module _ (drops : Cell → Bool) (f : Cell → Service) where
       unheld = held_cell (sifted drops f cs) c.owner ∙ ap object_in (cell_in_sifted cs c.owner t.2 ∙ ap kept (no_cell (cell_in cs c.owner) (sym (held_cell cs c.owner) ∙ t.0)))
 
       unnamed : named (sifted drops f cs) c.object.name ≡ None
-      unnamed = named_cell (sifted drops f cs) c.object.name ∙ ap object_in (cell_of_sifted cs c.object.name t.2 ∙ ap kept (no_cell (cell_of cs c.object.name) (sym (named_cell cs c.object.name) ∙ t.1)))
+      unnamed = named_cell (sifted drops f cs) c.object.name
+          ∙ ap object_in (cell_of_sifted cs c.object.name t.2 ∙ ap kept (no_cell (cell_of cs c.object.name) (sym (named_cell cs c.object.name) ∙ t.1)))
 
       go : (d : Bool) → Tidy (sifted drops f cs) → Tidy (cond d (sifted drops f cs) (record c { service = f c } ∷ sifted drops f cs))
       go true ih = ih

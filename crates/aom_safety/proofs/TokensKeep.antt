@@ -17,19 +17,23 @@ use Rattle.aom_safety.proofs.ClientsEffects.{Fine, IsUsual, fewer_on, fine_effec
 use Rattle.aom_safety.proofs.ClientsMoves.{IsSteady}
 use Rattle.aom_safety.proofs.Guarded.{acts_at}
 use Rattle.aom_safety.proofs.Moving.{steps_are_moves}
-use Rattle.aom_safety.proofs.Orders.{NoneComes, apart_still, comes_asked, comes_bereaved, comes_gone, comes_itself, comes_more, comes_moved, comes_opened, comes_requested, comes_served, comes_stored, comes_then, comes_withdrawn, comes_without}
+use Rattle.aom_safety.proofs.Orders.{NoneComes, apart_still, comes_asked, comes_bereaved, comes_gone, comes_itself, comes_more, comes_moved}
+use Rattle.aom_safety.proofs.Orders.{comes_opened, comes_requested, comes_served, comes_stored, comes_then, comes_withdrawn, comes_without}
 use Rattle.aom_safety.proofs.Redeeming.{redeemed_by_alike}
 use Rattle.aom_safety.proofs.Turned.{accepts, attends, completes, handles, keeps_all, kills, obeys, parts, picks, turns_so}
 use Rattle.aom_semantics.specs.Calls.{accepted_cells, passed_cells, result_cells, returned}
 use Rattle.aom_semantics.specs.Cleanup.{top_place}
 use Rattle.aom_semantics.specs.Clients.{Listed, client_at, commanded, connecting, leaving, sending, told}
 use Rattle.aom_semantics.specs.Destruction.{first_session, parting}
-use Rattle.aom_semantics.specs.Effects.{Calls, Cancels, Carried, Destroys, Destroys_last, Effect, Goes_on, Handed, Leaves, Made, Popped, Pushed, Replied, Requested, Returns, Sessioned, Sets_trap, Update, Written, applied, cells_after, effect, spot_place}
+use Rattle.aom_semantics.specs.Effects.{Calls, Cancels, Carried, Destroys, Destroys_last, Effect, Goes_on, Handed, Leaves, Made, Popped, Pushed, Replied}
+use Rattle.aom_semantics.specs.Effects.{Requested, Returns, Sessioned, Sets_trap, Update, Written, applied, cells_after, effect, spot_place}
 use Rattle.aom_semantics.specs.Enlisted.{completed_with, ended_cells, on_request}
 use Rattle.aom_semantics.specs.Moves.{answered, counted, dispatch_ends, handled, main_ends, object_ends, step}
-use Rattle.aom_semantics.specs.Places.{Cell, Elsewhere, Entry, Going, In_service, Object, Place, Queued, Request, Root, Session, Tidy, held, moved, named, requested, service_of, without}
+use Rattle.aom_semantics.specs.Places.{Cell, Elsewhere, Entry, Going, In_service, Object, Place, Queued, Request}
+use Rattle.aom_semantics.specs.Places.{Root, Session, Tidy, held, moved, named, requested, service_of, without}
 use Rattle.aom_semantics.specs.Servers.{opened, parted, reserved, taken_first, withdrawn}
-use Rattle.aom_semantics.specs.State.{Accepts, Answered, Asks, Choice, Dispatch, Frame, Goes, Object_left, Of_main, Of_object, Of_server, Parts, Seat, Service_left, State, Task}
+use Rattle.aom_semantics.specs.State.{Accepts, Answered, Asks, Choice, Dispatch, Frame, Goes, Object_left, Of_main}
+use Rattle.aom_semantics.specs.State.{Of_object, Of_server, Parts, Seat, Service_left, State, Task}
 use Rattle.aom_safety.specs.Steps.{Acts, Arrives, Clears, Comes_out, Empties, Ends, Move, Rests, Undoes, Vanishes}
 use Rattle.aom_semantics.specs.Tokens.{TokensApart, redeemed_by, token_of}
 use Rattle.aom_semantics.specs.Words.{here, read}
