@@ -1,5 +1,6 @@
 -- What reads answer, and the lists at first.
-use Rattle.std.proofs.Common.{Option, ◌≡◌, ◌≢◌, ◌<◌, ◌≤◌, ◌+◌, ◌⊎◌, ◌==◌, ℕ, zero, suc, Bool, true, false, cond, List, [], ◌∷◌, Some, None, length, replicate, get_or, refl, sym, ap, ◌∙◌, subst, inl, inr, arith, rules}
+use Rattle.std.proofs.lemmas.Bool.Decides.{nat_tests}
+use Rattle.std.proofs.Common.{Option, ◌≡◌, ◌≢◌, ◌<◌, ◌≤◌, ◌+◌, ◌⊎◌, ◌==◌, ℕ, zero, suc, Bool, true, false, List, [], ◌∷◌, Some, None, length, replicate, get_or, refl, sym, ap, ◌∙◌, subst, inl, inr, arith, rules}
 use Rattle.std.specs.Prelude.{map, filter, slice_index_or, nat_lt, is_some, All, IfSome}
 use Rattle.std.proofs.lemmas.List.Elements.{All-nil, All-cons}
 use Rattle.std.proofs.lemmas.Bool.{cases_eq, eq-eqb, ne_eqb, cond-true, cond-false}
@@ -7,9 +8,9 @@ use Rattle.std.proofs.lemmas.Option.{same_Some}
 use Rattle.std.proofs.lemmas.List.{length-map, length-replicate, get_or_past}
 use Rattle.aom_queues.specs.Lists.{Table, IsIn, empty, list_at, first_of, after_node}
 use Rattle.aom_clients.specs.declared.client.Client.{Client}
-use Rattle.aom_clients.specs.declared.client.Client.TheVariants.{Unconnected, Connecting, Open, Closing, Gone, Dead, Dying}
+use Rattle.aom_clients.specs.declared.client.Client.TheVariants.{Unconnected, Open}
 use Rattle.aom_clients.specs.declared.place.Place.{Place}
-use Rattle.aom_clients.specs.declared.place.Place.TheVariants.{Free, Queued, Held, Discarded}
+use Rattle.aom_clients.specs.declared.place.Place.TheVariants.{Free, Held, Discarded}
 use Rattle.aom_clients.specs.declared.entry.Entry.{Entry}
 use Rattle.aom_clients.specs.declared.place.Completion.{Completion}
 use Rattle.aom_clients.specs.Table.{completion, server_of}
@@ -28,13 +29,8 @@ slot-taken true m e = refl
 slot-taken false m e = absurd (cc)
 
 slot-below : (x : Client) (used : ℕ) → has_slot used x ≡ true → used < slots_of x
-slot-below Unconnected used h = absurd (false-true h)
-slot-below (Connecting k n) used h = absurd (false-true h)
 slot-below (Open k s n) used h = less used n h
-slot-below (Closing k s) used h = absurd (false-true h)
-slot-below Gone used h = absurd (false-true h)
-slot-below Dead used h = absurd (false-true h)
-slot-below (Dying k s) used h = absurd (false-true h)
+slot-below _ used h = absurd (false-true h)
 
 -- nodes after a node, as contracts of sessions say it
 pub first-same : (xs : List ℕ) → first_of xs ≡ first_client xs
@@ -43,8 +39,7 @@ first-same (x ∷ xs) = refl
 
 pub after-same : (c : ℕ) (xs : List ℕ) → after_node c xs ≡ client_after c xs
 after-same c [] = refl
-after-same c (x ∷ xs) =
-    ap (λ o. cond (x == c) o (after_node c xs)) (first-same xs) ∙ ap (λ o. cond (x == c) (first_client xs) o) (after-same c xs)
+after-same c (x ∷ xs) = grind (arith, nat_tests, first-same xs, after-same c xs)
 
 -- whether a queue has an entry is told by its length
 some-first : (s : State) (es : List Entry) → nat_lt 0 (length es) ≡ is_some (first_entry s es)
@@ -53,10 +48,7 @@ some-first s (e ∷ es) = search rules
 
 none-waits : (es : List Entry) → nat_lt 0 (length es) ≡ false → es ≡ []
 none-waits [] nothing_is = refl
-none-waits (e ∷ es) nothing_is = absurd (false-true (sym nothing_is ∙ ap (λ n. nat_lt 0 n) refl ∙ some))
-  where
-    some : nat_lt 0 (suc (length es)) ≡ true
-    some = search rules
+none-waits (e ∷ es) nothing_is = grind (arith, nat_tests, false-true)
 
 first-in : (d : ℕ) (xs : List ℕ) → first_of xs ≡ Some d → IsIn d xs
 first-in d [] e = absurd (nothing d e)
@@ -72,16 +64,11 @@ after-in c d (x ∷ xs) e = go (cases_eq x c) (after-in c d xs)
 
 module _ (cl : List Client) (pl : List Place) (q cn ss st : Table) (r : IsKept cl pl q cn ss st) (s : State) (is : state_of cl pl q ss st ≡ s) where
   pub slot-room : (c : ℕ) → has_slot (length (sent_at s c)) (client_at s c) ≡ true → length (sent_at s c) < 64
-  slot-room c h =
-      let few = r.named.slots c in
-      omega (arith, slot-below (client_at s c) (length (sent_at s c)) h, ap slots_of (client-is cl pl q cn ss st r s is c), few)
+  slot-room c h = grind (arith, nat_tests, slot-below, client-is)
 
   pub room-is : (k most : ℕ) → nat_lt (length (list_at ss k) + length (list_at cn k)) most
       ≡ nat_lt (length (sessions_at s k) + length (filter is_connect (queue_at s k))) most
-  room-is k most =
-      ap (λ n. nat_lt (n + length (list_at cn k)) most) (ap (λ t. length (sessions_at t k)) is)
-      ∙ ap (λ n. nat_lt (length (sessions_at s k) + n) most)
-      (ap length (r.listed.same k) ∙ connects-counted (list_at q k) ∙ ap (λ es. length (filter is_connect es)) (queue-is cl pl q cn ss st r s is k))
+  room-is k most = grind (arith, nat_tests, connects-counted, queue-is)
 
   session-small : (k c : ℕ) → IsIn c (list_at ss k) → c < 64
   session-small k c i = go (cases_lt c (length cl))
@@ -124,10 +111,7 @@ abbrev all_places : List Place
 all_places = replicate 1024 Free
 
 no-list : (n m k : ℕ) → list_at (empty n m) k ≡ []
-no-list n m k = same-all (nobody) m k
-  where
-    nobody : List ℕ
-    nobody = []
+no-list n m k = grind (arith, nat_tests, same-all)
 
 no-node : (n m k x : ℕ) → IsIn x (list_at (empty n m) k) → ⊥
 no-node n m k x i = elim (subst (IsIn x) (no-list n m k) i) [ ]
@@ -159,10 +143,7 @@ at-first cells few = record {
     waits = λ c m e. let free = unused m in absurd (cc);
   };
   listed = record { same = λ k. no-list 64 cells k ∙ sym (ap connecting_in (no-list 1152 cells k)) };
-  connected = record {
-    has = λ k c i. absurd (no-node 64 cells k c i);
-    listed = λ k c e. absurd (nothing k (sym (ap server_of (calm c)) ∙ e));
-  };
+  connected = record { has = λ k c i. absurd (no-node 64 cells k c i); listed = λ k c e. absurd (nothing k (sym (ap server_of (calm c)) ∙ e)) };
   out = record {
     out = λ c m small i. absurd (no-node 1024 128 c m i);
     past = λ c m small i. absurd (no-node 1024 128 (64 + c) m i);
@@ -171,10 +152,7 @@ at-first cells few = record {
     senders = λ c m e. let free = unused m in absurd (cc);
     few = λ c small. omega (arith, ap length (no-list 1024 128 c));
   };
-  named = record {
-    servers = λ c k e. absurd (nothing k (sym (ap named_by (calm c)) ∙ e));
-    slots = λ c. omega (arith, ap slots_of (calm c));
-  };
+  named = record { servers = λ c k e. absurd (nothing k (sym (ap named_by (calm c)) ∙ e)); slots = λ c. omega (arith, ap slots_of (calm c)) };
 }
   where
     nil : List ℕ
@@ -209,7 +187,6 @@ pub completed-below : (pl : List Place) (st : Table) → AreSent pl st → (m : 
 completed-below pl st s m t e = go (slice_index_or pl m Free) refl e
   where
     go : (p : Place) → slice_index_or pl m Free ≡ p → Some t ≡ completion p → t.client < 64
-    go Free is e = absurd (nothing t (sym e))
-    go (Queued c) is e = absurd (nothing t (sym e))
     go (Held c) is e = subst (λ (x : Completion). x.client < 64) (sym (same_Some t (record { client = c; is_told = true }) e)) (s.held c m is).0
     go (Discarded c) is e = subst (λ (x : Completion). x.client < 64) (sym (same_Some t (record { client = c; is_told = false }) e)) (s.senders c m is)
+    go _ is e = absurd (nothing t (sym e))

@@ -1,5 +1,6 @@
 -- What a close or a death makes of the lists.
-use Rattle.std.proofs.Common.{◌≡◌, ◌≢◌, ◌<◌, ◌+◌, ◌==◌, ◌++◌, ℕ, suc, true, List, [], ◌∷◌, Some, length, take, refl, sym, ap, ◌∙◌, subst, inl, inr, arith}
+use Rattle.std.proofs.lemmas.Bool.Decides.{nat_tests}
+use Rattle.std.proofs.Common.{◌≡◌, ◌≢◌, ◌<◌, ◌+◌, ◌++◌, ℕ, suc, true, List, [], ◌∷◌, Some, length, take, refl, sym, ap, ◌∙◌, subst, inl, inr, arith}
 use Rattle.std.specs.Prelude.{map, filter, slice_index_or, slice_set}
 use Rattle.std.proofs.lemmas.Bool.{eq-eqb, ne_eqb, eqb-true, cond-false}
 use Rattle.std.proofs.lemmas.List.{length-set, length-map, get_or-set_same, get_or-set_other, get_or-take, take-set-le}
@@ -8,11 +9,11 @@ use Rattle.aom_queues.proofs.Members.{in-without, without-in}
 use Rattle.aom_clients.specs.declared.client.Client.{Client}
 use Rattle.aom_clients.specs.declared.client.Client.TheVariants.{Unconnected, Connecting, Open, Closing, Gone, Dead, Dying}
 use Rattle.aom_clients.specs.declared.place.Place.{Place}
-use Rattle.aom_clients.specs.declared.place.Place.TheVariants.{Free, Queued, Held, Discarded}
+use Rattle.aom_clients.specs.declared.place.Place.TheVariants.{Free, Queued}
 use Rattle.aom_clients.specs.declared.entry.Entry.TheVariants.{Close}
 use Rattle.aom_clients.specs.Table.{is_queued, is_out_of, is_waiting_of}
 use Rattle.aom_clients.specs.Clients.{State, client_at, with_client, left_place, stays, withdrawn, told, leaving, freed}
-use Rattle.aom_clients.specs.Nodes.{entry_of, is_leaving, is_open_at, named_by, is_held_of, state_of, Waits, AreSized, AreEntries, AreConnects, IsKept}
+use Rattle.aom_clients.specs.Nodes.{entry_of, is_leaving, named_by, is_held_of, state_of, Waits, AreSized, AreEntries, AreConnects, IsKept}
 use Rattle.aom_clients.specs.Parts.{IsLeft, CanClose, close_queued}
 use Rattle.aom_clients.proofs.Entries.{close-is, message-no, close-no}
 use Rattle.aom_clients.proofs.Tables.{Alike, alike-same, alike-with, alike-without, alike-then, at-without, shown, shown-push}
@@ -29,14 +30,7 @@ use Rattle.aom_clients.proofs.Slots.{left-queued, left-at, sent-left}
 in-drop : (n : ℕ) (ms zs : List ℕ) → IsIn n (drop_each ms zs) → IsIn n zs × (IsIn n ms → ⊥)
 unfolding drop_each
 in-drop n [] zs i = (i, λ j. j)
-in-drop n (m ∷ ms) zs i =
-    let deeper = in-drop n ms (without m zs) i in
-    let was = in-without n m zs deeper.0 in
-    (was.1, λ j. out was.0 deeper.1 j)
-  where
-    out : (n ≢ m) → (IsIn n ms → ⊥) → IsIn n (m ∷ ms) → ⊥
-    out other absent (inl e) = other (sym e)
-    out other absent (inr j) = absent j
+in-drop n (m ∷ ms) zs i = grind (arith, nat_tests, in-drop n ms, in-without n m zs)
 
 drop-in : (n : ℕ) (ms zs : List ℕ) → (IsIn n ms → ⊥) → IsIn n zs → IsIn n (drop_each ms zs)
 unfolding drop_each
@@ -44,9 +38,7 @@ drop-in n [] zs absent i = i
 drop-in n (m ∷ ms) zs absent i = drop-in n ms (without m zs) (λ j. absent (inr j)) (without-in n m zs (λ e. absent (inl (sym e))) i)
 
 each-at : (q : Table) (ms : List ℕ) (k : ℕ) → list_at (record q { lists = without_each ms q.lists }) k ≡ drop_each ms (list_at q k)
-each-at q ms k =
-    ap (λ ls. slice_index_or ls k []) (each-dropped ms q.lists) ∙ ap (λ d. slice_index_or (map (drop_each ms) q.lists) k d) (sym (drop-nil ms))
-    ∙ get_or-map (drop_each ms) q.lists k []
+each-at q ms k = grind (arith, nat_tests, each-dropped ms q.lists, drop_each ms, drop-nil ms, get_or-map (drop_each ms) q.lists k)
 
 alike-each : (q : Table) (ms : List ℕ) → Alike q (record q { lists = without_each ms q.lists })
 alike-each q ms = record { lists = ap length (each-dropped ms q.lists) ∙ length-map q.lists (drop_each ms); nodes = refl }
@@ -149,10 +141,7 @@ module _ (cl : List Client) (pl : List Place) (q cn ss st : Table) (r : IsKept c
     }
       where
         queued : (k m : ℕ) → (m ≢ 1024 + c) × IsIn m (list_at q k) × (IsIn m xs → ⊥) → m < 1024 → (d : ℕ) × (place pl m ≡ Queued d) → is_queued (place pl3 m) ≡ true
-        queued k m i less w = ap is_queued (left-at c pl m ∙ ap (left_place c) w.1 ∙ cond-false (w.0 == c) Free (Queued w.0) (ne_eqb w.0 c other))
-          where
-            other : w.0 ≢ c
-            other same = i.2 ((r.out.waiting c m (w.1 ∙ ap Queued same)).1)
+        queued k m i less w = grind (arith, nat_tests, left-at, cond-false, ne_eqb w.0)
 
         waits : (d m : ℕ) → (place pl m ≡ Queued d) × (d ≢ c) → Waits cl q2 d m
         waits d m was =
@@ -167,15 +156,12 @@ module _ (cl : List Client) (pl : List Place) (q cn ss st : Table) (r : IsKept c
             absent i = was.1 (eqb-true d c (sym (ap (is_out_of c) was.0) ∙ r.out.out c m small i))
 
     entries-client-left : AreEntries cl2 pl3 q2
-    entries-client-left =
-        entries-client cl pl3 q2 c next (among cl pl q cn ss st r s is c small) (λ j less i. absurd ((in-q2 j (1024 + c) i).0 refl))
+    entries-client-left = entries-client cl pl3 q2 c next (among cl pl q cn ss st r s is c small) (λ j less i. absurd ((in-q2 j (1024 + c) i).0 refl))
         (λ j less i. lv.leaving j (r.entries.closes j c less (in-q2 j (1088 + c) i).1))
         (λ m e. absurd ((left-queued c c (place pl m) (sym (left-at c pl m) ∙ e)).1 refl)) entries-left
 
     sized-left : AreSized cl2 pl3 q2 cn2 ss st2
-    sized-left =
-        sized-as _ _ _ _ _ _ _ _ _ _ _ _ (length-set cl c next) (length-map pl (left_place c)) (alike-then q q1 q2 (alike-each q xs) (alike-without q1 (1024 + c)))
-        (alike-without cn c) (alike-same ss) (alike-then st st1 st2 (alike-with st c []) (alike-with st1 (64 + c) [])) r.sized
+    sized-left = grind (arith, nat_tests, sized-as, length-set, length-map, alike-then, alike-each, alike-without, alike-same)
 
     kept-so-far : IsKept cl2 pl3 q2 cn2 ss st2
     kept-so-far = record {
@@ -201,7 +187,7 @@ module _ (cl : List Client) (pl : List Place) (q cn ss st : Table) (r : IsKept c
     }
       where
         mine : is_leaving k (client cl2 c) ≡ true
-        mine = ap (is_leaving k) (get_or-set_same cl c next Unconnected (among cl pl q cn ss st r s is c small)) ∙ lv.opened k (ap (is_open_at k) e ∙ eq-eqb k k refl)
+        mine = grind (arith, nat_tests, get_or-set_same, among, eq-eqb)
 
         apt : IsApt cl2 pl3 k (1088 + c)
         apt = record {
@@ -232,10 +218,8 @@ module _ (cl : List Client) (pl : List Place) (q cn ss st : Table) (r : IsKept c
         gone z i j w = (below z j, ap (is_waiting_of c) w.1 ∙ sym (ap (is_out_of c) w.1) ∙ r.out.out c z small j)
 
         waiting : (p : Place) → is_waiting_of c p ≡ true → p ≡ Queued c
-        waiting Free w = absurd (false-true w)
         waiting (Queued d) w = ap Queued (eqb-true d c w)
-        waiting (Held d) w = absurd (false-true w)
-        waiting (Discarded d) w = absurd (false-true w)
+        waiting _ w = absurd (false-true w)
 
     queues-shown : shown entry_of q2.lists ≡ map (filter (stays c pl)) (shown entry_of q.lists)
     queues-shown = ap (λ ls. shown entry_of (map (without (1024 + c)) ls)) (each-dropped xs q.lists) ∙ queues-left xs pl c small q.lists tells
@@ -254,8 +238,7 @@ module _ (cl : List Client) (pl : List Place) (q cn ss st : Table) (r : IsKept c
     told-seen (Dying k n) = refl
 
     pub left-seen : (x : Client) → x ≡ client_at s c → state_of cl2 pl2 (close_queued x c q2) ss st2 ≡ leaving (Some next) c s
-    left-seen x e =
-        ap (λ ps. state_of cl2 ps (close_queued x c q2) ss st2) places-are ∙ told-seen x
+    left-seen x e = ap (λ ps. state_of cl2 ps (close_queued x c q2) ss st2) places-are ∙ told-seen x
         ∙ ap (λ qs. told x c (record { clients = cl2; places = pl3; queues = qs; sessions = ss.lists; sent = take 64 st2.lists })) queues-shown
         ∙ ap (λ ls. told x c (record { clients = cl2; places = pl3; queues = map (filter (stays c pl)) (shown entry_of q.lists); sessions = ss.lists; sent = ls })) sent-shown
         ∙ ap (λ t. told x c (with_client c next (withdrawn c t))) is ∙ ap (λ y. told y c (with_client c next (withdrawn c s))) e

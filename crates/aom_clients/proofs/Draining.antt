@@ -1,11 +1,12 @@
 -- One message more was taken off its list: what is left comes to the same.
-use Rattle.std.proofs.Common.{◌≡◌, ◌≢◌, ◌<◌, ◌≤◌, ◌+◌, ℕ, suc, Bool, true, false, cond, List, [], ◌∷◌, ◌++◌, Some, None, length, refl, sym, ap, ◌∙◌, subst, inl, inr, arith}
+use Rattle.std.proofs.lemmas.Bool.Decides.{nat_tests}
+use Rattle.std.proofs.Common.{◌≡◌, ◌≢◌, ◌<◌, ◌≤◌, ◌+◌, ℕ, suc, List, [], ◌∷◌, ◌++◌, Some, None, length, refl, sym, ap, ◌∙◌, subst, inl, inr, arith}
 use Rattle.std.specs.Prelude.{map, slice_set}
 use Rattle.std.proofs.lemmas.List.{length-set, length-append, set-set, set-get_or, set_comm, append_assoc, append-nil, get_or-set_same, get_or-set_other}
 use Rattle.aom_queues.specs.Lists.{Table, IsIn, list_at, with_list, without, first_of, rest_of}
 use Rattle.aom_clients.specs.declared.place.Place.{Place}
-use Rattle.aom_clients.specs.Table.{is_queued, closed_place}
-use Rattle.aom_clients.specs.Withdrawals.{without_each, left_at, left_each, waiting_each, noted}
+use Rattle.aom_clients.specs.Table.{closed_place}
+use Rattle.aom_clients.specs.Withdrawals.{without_each, left_each, waiting_each, noted}
 use Rattle.aom_clients.proofs.Leaving.{place, length-each}
 use Rattle.aom_clients.proofs.Services.{shape, empty}
 
@@ -36,26 +37,14 @@ module _ (t u : Table) (k m : ℕ) (d : Drained t u k m) where
 
   pub queues-drained : (q v : Table) → v ≡ record q { lists = map (without m) q.lists }
       → record v { lists = without_each (list_at u k) v.lists } ≡ record q { lists = without_each (list_at t k) q.lists }
-  queues-drained q v is = ap (λ (w : Table). record w { lists = without_each (list_at u k) w.lists }) is ∙ ap (λ xs. record q { lists = without_each xs q.lists }) (sym d.shaped)
+  queues-drained q v is = grind (arith, nat_tests)
 
   pub freed-drained : (pl : List Place) (was p : Place) (freed more : List ℕ) → was ≡ place pl m → p ≡ closed_place was → more ≡ noted m was freed
       → more ++ waiting_each (list_at u k) (slice_set pl m p) ≡ freed ++ waiting_each (list_at t k) pl
-  freed-drained pl was p freed more was_is p_is more_is =
-      ap (λ xs. xs ++ waiting_each (list_at u k) (slice_set pl m p)) (more_is ∙ ap (λ x. noted m x freed) was_is)
-      ∙ ap (λ x. noted m (place pl m) freed ++ waiting_each (list_at u k) (slice_set pl m x)) (p_is ∙ ap closed_place was_is)
-      ∙ by (is_queued (place pl m)) ∙ ap (λ xs. freed ++ waiting_each xs pl) (sym d.shaped)
-    where
-      by : (b : Bool) → cond b (freed ++ m ∷ []) freed ++ waiting_each (list_at u k) (left_at m pl)
-          ≡ freed ++ cond b (m ∷ waiting_each (list_at u k) (left_at m pl)) (waiting_each (list_at u k) (left_at m pl))
-      by true = append_assoc freed (m ∷ []) (waiting_each (list_at u k) (left_at m pl))
-      by false = refl
+  freed-drained pl was p freed more was_is p_is more_is = grind (arith, nat_tests, place pl, append_assoc freed)
 
   pub room-drained : (was : Place) (freed more : List ℕ) → more ≡ noted m was freed → length freed + length (list_at t k) ≤ 64 → length more + length (list_at u k) ≤ 64
-  room-drained was freed more is room = omega (arith, ap length is, by (is_queued was), ap length d.shaped, room)
-    where
-      by : (b : Bool) → length (cond b (freed ++ m ∷ []) freed) ≤ length freed + 1
-      by true = omega (arith, length-append freed (m ∷ []))
-      by false = omega arith
+  room-drained was freed more is room = grind (arith, nat_tests, length-append freed)
 
 -- in the end the list is empty
 pub drained-all : (t : Table) (k : ℕ) → first_of (list_at t k) ≡ None → list_at t k ≡ []
@@ -105,8 +94,7 @@ released t u v c m small first u_is v_is =
     at_c = ap (λ w. list_at w c) v_is ∙ get_or-set_other u.lists (64 + c) c (list_at u (64 + c) ++ m ∷ []) [] apart
 
     at_past : list_at v (64 + c) ≡ list_at t (64 + c) ++ m ∷ []
-    at_past =
-        ap (λ w. list_at w (64 + c)) v_is ∙ get_or-set_same u.lists (64 + c) (list_at u (64 + c) ++ m ∷ []) [] (omega (arith, small, u_long))
+    at_past = ap (λ w. list_at w (64 + c)) v_is ∙ get_or-set_same u.lists (64 + c) (list_at u (64 + c) ++ m ∷ []) [] (omega (arith, small, u_long))
         ∙ ap (λ xs. xs ++ m ∷ []) (ap (λ w. list_at w (64 + c)) u_is ∙ get_or-set_other t.lists c (64 + c) (rest_of (list_at t c)) [] back)
 
     whole : list_at v (64 + c) ++ list_at v c ≡ list_at t (64 + c) ++ list_at t c
@@ -117,13 +105,7 @@ released t u v c m small first u_is v_is =
 -- and when none is left
 pub released-all : (t : Table) (c : ℕ) → None ≡ first_of (list_at t c) → c < length t.lists
     → with_list c [] (with_list (64 + c) (list_at t (64 + c) ++ list_at t c) t) ≡ t
-released-all t c e small =
-    let none : list_at t c ≡ [] = drained-all t c (sym e) in
-    let apart : 64 + c ≢ c = λ h. absurd (omega (arith, h)) in
-    ap (λ xs. with_list c [] (with_list (64 + c) (list_at t (64 + c) ++ xs) t)) none
-    ∙ ap (λ xs. with_list c [] (with_list (64 + c) xs t)) (append-nil (list_at t (64 + c)))
-    ∙ ap (λ ls. with_list c [] (record t { lists = ls })) (set-get_or t.lists (64 + c) [])
-    ∙ ap (λ xs. with_list c xs t) (sym none) ∙ ap (λ ls. record t { lists = ls }) (set-get_or t.lists c [])
+released-all t c e small = grind (arith, nat_tests, drained-all t c, append-nil, set-get_or t.lists (64 + c), set-get_or t.lists c)
 
 -- the same of the other loops
 pub emptied-all : (t : Table) (k : ℕ) → None ≡ first_of (list_at t k) → with_list k [] t ≡ t

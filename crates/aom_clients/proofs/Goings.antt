@@ -1,13 +1,13 @@
 -- What the end of a session with a server that goes makes of the lists.
-use Rattle.std.proofs.Common.{◌≡◌, ◌<◌, ◌≤◌, ◌+◌, ◌⊎◌, ◌++◌, ℕ, true, List, [], ◌∷◌, Some, length, refl, sym, ap, ◌∙◌, subst, inl, inr, arith}
+use Rattle.std.proofs.lemmas.Bool.Decides.{nat_tests}
+use Rattle.std.proofs.Common.{◌≡◌, ◌<◌, ◌+◌, ◌++◌, ℕ, true, List, [], ◌∷◌, Some, length, refl, sym, ap, ◌∙◌, subst, inl, arith}
 use Rattle.std.specs.Prelude.{map, slice_set}
 use Rattle.std.proofs.lemmas.Bool.{eqb-true}
 use Rattle.std.proofs.lemmas.List.{length-set, get_or_past, take-set-le}
 use Rattle.aom_queues.specs.Lists.{Table, IsIn, IsFree, list_at, with_list, first_of, rest_of}
 use Rattle.aom_clients.specs.declared.client.Client.{Client}
-use Rattle.aom_clients.specs.declared.client.Client.TheVariants.{Unconnected}
 use Rattle.aom_clients.specs.declared.place.Place.{Place}
-use Rattle.aom_clients.specs.declared.place.Place.TheVariants.{Free, Queued, Held, Discarded}
+use Rattle.aom_clients.specs.declared.place.Place.TheVariants.{Queued}
 use Rattle.aom_clients.specs.Table.{server_of, is_out_of, at_gone}
 use Rattle.aom_clients.specs.Clients.{State, queue_at, session_gone, after_session_gone}
 use Rattle.aom_clients.specs.Nodes.{entry_of, is_held_of, state_of, IsKept}
@@ -43,11 +43,7 @@ module _ (cl : List Client) (pl : List Place) (q cn ss st : Table) (r : IsKept c
 
     -- a client with a session is one of the clients
     pub session-below : c < 64
-    session-below = go (cases_lt c (length cl))
-      where
-        go : (c < length cl) ⊎ (length cl ≤ c) → c < 64
-        go (inl less) = omega (arith, less, r.sized.clients_long)
-        go (inr large) = absurd (nothing k (sym (ap server_of (get_or_past cl c Unconnected large)) ∙ named-here))
+    session-below = grind (arith, nat_tests, cases_lt, nothing, get_or_past, named-here)
 
     few : c < length cl
     few = omega (arith, session-below, r.sized.clients_long)
@@ -72,10 +68,8 @@ module _ (cl : List Client) (pl : List Place) (q cn ss st : Table) (r : IsKept c
     all-held m i = go (place pl m) refl (r.out.out c m session-below i)
       where
         go : (p : Place) → place pl m ≡ p → is_out_of c p ≡ true → is_held_of c p ≡ true
-        go Free e h = h
         go (Queued d) e h = absurd (no-wait m (e ∙ ap Queued (eqb-true d c h)))
-        go (Held d) e h = h
-        go (Discarded d) e h = h
+        go _ e h = h
 
     abbrev st1 : Table
     st1 = with_list c [] (with_list (64 + c) (list_at st (64 + c) ++ list_at st c) st)

@@ -1,5 +1,6 @@
 -- What holds of clients, places and lists still holds after a change of one part.
-use Rattle.std.proofs.Common.{◌≡◌, ◌≢◌, ◌<◌, ◌≤◌, ◌+◌, ◌-◌, ◌⊎◌, ◌++◌, ℕ, true, false, cond, List, [], ◌∷◌, Some, None, length, refl, sym, ap, ◌∙◌, subst, inl, inr, arith}
+use Rattle.std.proofs.lemmas.Bool.Decides.{nat_tests}
+use Rattle.std.proofs.Common.{◌≡◌, ◌≢◌, ◌<◌, ◌≤◌, ◌+◌, ◌⊎◌, ◌++◌, ℕ, true, false, List, [], ◌∷◌, Some, None, length, refl, sym, ap, ◌∙◌, subst, inl, inr, arith}
 use Rattle.std.specs.Prelude.{map, slice_index_or, slice_set}
 use Rattle.std.proofs.lemmas.Bool.{cases_eq, eq-eqb}
 use Rattle.std.proofs.lemmas.Option.{same_Some}
@@ -13,19 +14,14 @@ use Rattle.aom_clients.specs.declared.place.Place.{Place}
 use Rattle.aom_clients.specs.declared.place.Place.TheVariants.{Free, Queued, Held, Discarded}
 use Rattle.aom_clients.specs.Table.{server_of, is_queued, is_out_of, held_place}
 use Rattle.aom_clients.specs.Nodes.{is_connect_node, connecting_in, is_connecting_at, is_leaving, is_open_at, slots_of, named_by, is_held_of, Waits, AreSized, AreEntries, AreConnects, AreSessions, AreSent, AreNamed}
-use Rattle.aom_clients.proofs.Entries.{Kind, kind, message-no, close-no, listing-yes, listing-no, listing-append}
-use Rattle.aom_clients.proofs.Entries.Kind.{message, connect, close}
+use Rattle.aom_clients.proofs.Entries.{Kind, kind, listing-yes, listing-no, listing-append}
 use Rattle.aom_clients.proofs.Tables.{Alike, Fewer, fewer-with, fewer-without, at-without, pushed-in, push-keeps, push-has}
 use Rattle.aom_clients.proofs.Plain.{nothing, false-true}
 
 -- what holds of the item that is written and of all others holds of each
 pub at-write : {A : Type 0} (d : A) (P : ℕ → A → Type 0) (xs : List A) (c : ℕ) (v : A) → c < length xs → P c v → ((i : ℕ) → i ≢ c → P i (slice_index_or xs i d))
     → (i : ℕ) → P i (slice_index_or (slice_set xs c v) i d)
-at-write d P xs c v small here others i = go (cases_eq i c)
-  where
-    go : (i ≡ c) ⊎ (i ≢ c) → P i (slice_index_or (slice_set xs c v) i d)
-    go (inl same) = subst (λ k. P k (slice_index_or (slice_set xs c v) k d)) (sym same) (subst (P c) (sym (get_or-set_same xs c v d small)) here)
-    go (inr other) = subst (P i) (sym (get_or-set_other xs c i v d other)) (others i other)
+at-write d P xs c v small here others i = grind (arith, nat_tests, cases_eq i c, get_or-set_same xs c v d small, get_or-set_other xs c i v d)
 
 -- sizes ---------------------------------------------------------------------------------------------------------------------------------
 pub sized-as : (cl cl' : List Client) (pl pl' : List Place) (q q' cn cn' ss ss' st st' : Table) → length cl' ≡ length cl → length pl' ≡ length pl
@@ -74,8 +70,7 @@ entries-fewer cl pl q q' f stay e =
 pub entries-client : (cl : List Client) (pl : List Place) (q : Table) (c : ℕ) (to : Client) → c < length cl
     → ((k : ℕ) → c < 64 → IsIn (1024 + c) (list_at q k) → is_connecting_at k to ≡ true)
     → ((k : ℕ) → c < 64 → IsIn (1088 + c) (list_at q k) → is_leaving k to ≡ true)
-    → ((m : ℕ) → slice_index_or pl m Free ≡ Queued c → Waits (slice_set cl c to) q c m)
-    → AreEntries cl pl q → AreEntries (slice_set cl c to) pl q
+    → ((m : ℕ) → slice_index_or pl m Free ≡ Queued c → Waits (slice_set cl c to) q c m) → AreEntries cl pl q → AreEntries (slice_set cl c to) pl q
 entries-client cl pl q c to small connecting leaving waiting e =
     record {
       messages = e.messages;
@@ -151,11 +146,9 @@ listed-with q cn k xs ys small long is a =
     few = omega (arith, small, long)
 
     go : (j : ℕ) → (j ≡ k) ⊎ (j ≢ k) → list_at (with_list k ys cn) j ≡ connecting_in (list_at (with_list k xs q) j)
-    go j (inl same) =
-        ap (list_at (with_list k ys cn)) same ∙ get_or-set_same cn.lists k ys [] few ∙ is
+    go j (inl same) = ap (list_at (with_list k ys cn)) same ∙ get_or-set_same cn.lists k ys [] few ∙ is
         ∙ sym (ap (λ i. connecting_in (list_at (with_list k xs q) i)) same ∙ ap connecting_in (get_or-set_same q.lists k xs [] small))
-    go j (inr other) =
-        get_or-set_other cn.lists k j ys [] other ∙ a.same j ∙ sym (ap connecting_in (get_or-set_other q.lists k j xs [] other))
+    go j (inr other) = get_or-set_other cn.lists k j ys [] other ∙ a.same j ∙ sym (ap connecting_in (get_or-set_other q.lists k j xs [] other))
 
 listed-one : (q cn : Table) (k : ℕ) (xs : List ℕ) → k < length q.lists → list_at cn k ≡ connecting_in xs → AreConnects q cn → AreConnects (with_list k xs q) cn
 listed-one q cn k xs small is a = record { same = λ j. go j (cases_eq j k) }
@@ -166,20 +159,15 @@ listed-one q cn k xs small is a = record { same = λ j. go j (cases_eq j k) }
 
 pub listed-push-connect : (q cn : Table) (k c : ℕ) → k < length q.lists → length cn.lists ≡ length q.lists → c < 64 → AreConnects q cn
     → AreConnects (with_list k (list_at q k ++ (1024 + c) ∷ []) q) (with_list k (list_at cn k ++ c ∷ []) cn)
-listed-push-connect q cn k c small long less a =
-    listed-with q cn k (list_at q k ++ (1024 + c) ∷ []) (list_at cn k ++ c ∷ []) small long
-    (ap (λ xs. xs ++ c ∷ []) (a.same k) ∙ ap (λ xs. connecting_in (list_at q k) ++ xs) (sym (listing-yes c [] less)) ∙ sym (listing-append (list_at q k) ((1024 + c) ∷ []))) a
+listed-push-connect q cn k c small long less a = grind (arith, nat_tests, listed-with q cn k, listing-yes c, listing-append)
 
 pub listed-push-other : (q cn : Table) (k n : ℕ) → k < length q.lists → is_connect_node n ≡ false → AreConnects q cn → AreConnects (with_list k (list_at q k ++ n ∷ []) q) cn
-listed-push-other q cn k n small other a =
-    listed-one q cn k (list_at q k ++ n ∷ []) small
-    (a.same k ∙ sym (listing-append (list_at q k) (n ∷ []) ∙ ap (λ xs. connecting_in (list_at q k) ++ xs) (listing-no n [] other) ∙ append-nil (connecting_in (list_at q k)))) a
+listed-push-other q cn k n small other a = grind (arith, nat_tests, listed-one q cn k, listing-append, listing-no n, append-nil)
 
 -- the first entry leaves
 pub listed-rest-connect : (q cn : Table) (k c : ℕ) (ns : List ℕ) → k < length q.lists → length cn.lists ≡ length q.lists → c < 64 → list_at q k ≡ (1024 + c) ∷ ns → AreConnects q cn
     → AreConnects (with_list k ns q) (with_list k (rest_of (list_at cn k)) cn)
-listed-rest-connect q cn k c ns small long less is a =
-    listed-with q cn k ns (rest_of (list_at cn k)) small long (ap rest_of (a.same k ∙ ap connecting_in is ∙ listing-yes c ns less)) a
+listed-rest-connect q cn k c ns small long less is a = grind (arith, nat_tests, listed-with q cn k ns, listing-yes c ns less)
 
 pub listed-rest-other : (q cn : Table) (k n : ℕ) (ns : List ℕ) → k < length q.lists → is_connect_node n ≡ false → list_at q k ≡ n ∷ ns → AreConnects q cn → AreConnects (with_list k ns q) cn
 listed-rest-other q cn k n ns small other is a = listed-one q cn k ns small (a.same k ∙ ap connecting_in is ∙ listing-no n ns other) a
@@ -187,31 +175,21 @@ listed-rest-other q cn k n ns small other is a = listed-one q cn k ns small (a.s
 -- a node leaves
 without-connect : (c : ℕ) → c < 64 → (xs : List ℕ) → connecting_in (without (1024 + c) xs) ≡ without c (connecting_in xs)
 without-connect c less [] = refl
-without-connect c less (x ∷ xs) = go x (kind x) (cases_eq x (1024 + c)) (without-connect c less xs)
-  where
-    go : (x : ℕ) → Kind x → (x ≡ 1024 + c) ⊎ (x ≢ 1024 + c) → connecting_in (without (1024 + c) xs) ≡ without c (connecting_in xs)
-        → connecting_in (without (1024 + c) (x ∷ xs)) ≡ without c (connecting_in (x ∷ xs))
-    go x k (inl same) rest =
-        ap connecting_in (left (1024 + c) x xs same) ∙ rest
-        ∙ sym (ap (λ n. without c (connecting_in (n ∷ xs))) same ∙ ap (without c) (listing-yes c xs less) ∙ left c c (connecting_in xs) refl)
-    go _ (message m small) (inr other) rest =
-        ap connecting_in (kept (1024 + c) m xs other) ∙ listing-no m (without (1024 + c) xs) (message-no m small) ∙ rest
-        ∙ sym (ap (without c) (listing-no m xs (message-no m small)))
-    go _ (connect d small) (inr other) rest =
-        let apart : d ≢ c = λ e. other (ap (λ n. 1024 + n) e) in
-        ap connecting_in (kept (1024 + c) (1024 + d) xs other) ∙ listing-yes d (without (1024 + c) xs) small ∙ ap (λ ys. d ∷ ys) rest
-        ∙ sym (ap (without c) (listing-yes d xs small) ∙ kept c d (connecting_in xs) apart)
-    go _ (close d) (inr other) rest =
-        ap connecting_in (kept (1024 + c) (1088 + d) xs other) ∙ listing-no (1088 + d) (without (1024 + c) xs) (close-no d) ∙ rest
-        ∙ sym (ap (without c) (listing-no (1088 + d) xs (close-no d)))
+without-connect c less (x ∷ xs) = grind (
+  arith,
+  nat_tests,
+  kind x,
+  cases_eq x (1024 + c),
+  without-connect c less xs,
+  Kind x,
+  left (1024 + c) x xs,
+  listing-yes c xs less,
+  left c c,
+)
 
 without-other : (n : ℕ) → is_connect_node n ≡ false → (xs : List ℕ) → connecting_in (without n xs) ≡ connecting_in xs
 without-other n other [] = refl
-without-other n other (x ∷ xs) = go (cases_eq x n) (without-other n other xs)
-  where
-    go : (x ≡ n) ⊎ (x ≢ n) → connecting_in (without n xs) ≡ connecting_in xs → connecting_in (without n (x ∷ xs)) ≡ connecting_in (x ∷ xs)
-    go (inl same) rest = ap connecting_in (left n x xs same) ∙ rest ∙ sym (listing-no x xs (ap is_connect_node same ∙ other))
-    go (inr apart) rest = ap connecting_in (kept n x xs apart) ∙ ap (λ ys. cond (is_connect_node x) ((x - 1024) ∷ ys) ys) rest
+without-other n other (x ∷ xs) = grind (arith, nat_tests, cases_eq x n, without-other n other xs, left n x xs, listing-no x xs, kept n x xs)
 
 pub listed-without-connect : (q cn : Table) (c : ℕ) → c < 64 → AreConnects q cn
     → AreConnects (record q { lists = map (without (1024 + c)) q.lists }) (record cn { lists = map (without c) cn.lists })
@@ -267,25 +245,19 @@ sessions-fewer cl ss ss' c to small none f free stay s =
 
 pub sessions-part : (cl : List Client) (ss : Table) (c : ℕ) (to : Client) → c < length cl → server_of to ≡ None → AreSessions cl ss
     → AreSessions (slice_set cl c to) (record ss { lists = map (without c) ss.lists })
-sessions-part cl ss c to small none s =
-    sessions-fewer cl ss (record ss { lists = map (without c) ss.lists }) c to small none (fewer-without ss c) (free-without ss c)
-    (λ k d other i. subst (IsIn d) (sym (at-without ss c k)) (without-in d c (list_at ss k) other i)) s
+sessions-part cl ss c to small none s = grind (arith, nat_tests, sessions-fewer cl ss, fewer-without ss c, free-without ss c, at-without ss c, without-in)
 
 pub sessions-first : (cl : List Client) (ss : Table) (k c : ℕ) (cs : List ℕ) (to : Client) → c < length cl → k < length ss.lists → server_of to ≡ None
     → list_at ss k ≡ c ∷ cs → IsFree (with_list k cs ss) c → AreSessions cl ss → AreSessions (slice_set cl c to) (with_list k cs ss)
-sessions-first cl ss k c cs to small there none is free s =
-    sessions-fewer cl ss (with_list k cs ss) c to small none
-    (fewer-with ss k cs there (λ n i. subst (IsIn n) (sym is) (inr i))) free (λ j d other i. stay j d other i (cases_eq j k)) s
-  where
-    stay : (j d : ℕ) → d ≢ c → IsIn d (list_at ss j) → (j ≡ k) ⊎ (j ≢ k) → IsIn d (list_at (with_list k cs ss) j)
-    stay j d other i (inl same) =
-        subst (λ n. IsIn d (list_at (with_list k cs ss) n)) (sym same) (subst (IsIn d) (sym (get_or-set_same ss.lists k cs [] there))
-        (behind (subst (IsIn d) is (subst (λ n. IsIn d (list_at ss n)) same i))))
-      where
-        behind : IsIn d (c ∷ cs) → IsIn d cs
-        behind (inl e) = absurd (other (sym e))
-        behind (inr i) = i
-    stay j d other i (inr apart) = subst (IsIn d) (sym (get_or-set_other ss.lists k j cs [] apart)) i
+sessions-first cl ss k c cs to small there none is free s = grind (
+  arith,
+  nat_tests,
+  sessions-fewer cl ss,
+  fewer-with ss k cs there,
+  cases_eq,
+  get_or-set_same ss.lists k cs,
+  get_or-set_other ss.lists k,
+)
 
 -- messages --------------------------------------------------------------------------------------------------------------------------------
 free-out : (c : ℕ) (p : Place) → p ≡ Free → is_out_of c p ≡ true → ⊥
@@ -371,10 +343,8 @@ sent-taken pl st m place s =
     out_as d (Discarded c) e = e
 
     held_as : (d : ℕ) (p : Place) → is_held_of d p ≡ true → is_held_of d (held_place p) ≡ true
-    held_as d Free e = e
     held_as d (Queued c) e = absurd (cc)
-    held_as d (Held c) e = e
-    held_as d (Discarded c) e = e
+    held_as d _ e = e
 
     never : (d : ℕ) (p : Place) → held_place p ≡ Queued d → ⊥
     never d x e = grind arith
@@ -391,19 +361,13 @@ sent-taken pl st m place s =
     from d (Discarded c) is e = absurd (cc)
 
     gone : (d : ℕ) (p : Place) → slice_index_or pl m Free ≡ p → held_place p ≡ Discarded d → d < 64
-    gone d Free is e = absurd (cc)
-    gone d (Queued c) is e = absurd (cc)
-    gone d (Held c) is e = absurd (cc)
     gone d (Discarded c) is e = s.senders d m (is ∙ e)
+    gone d _ is e = absurd (cc)
 
 -- a message is no more
 shorter-without : (n : ℕ) (ys : List ℕ) → length (without n ys) ≤ length ys
 shorter-without n [] = omega arith
-shorter-without n (y ∷ ys) = go (cases_eq y n) (shorter-without n ys)
-  where
-    go : (y ≡ n) ⊎ (y ≢ n) → length (without n ys) ≤ length ys → length (without n (y ∷ ys)) ≤ length (y ∷ ys)
-    go (inl same) less = omega (arith, ap length (left n y ys same), less)
-    go (inr other) less = omega (arith, ap length (kept n y ys other), less)
+shorter-without n (y ∷ ys) = grind (arith, nat_tests, cases_eq y n, shorter-without n ys, left n y ys, kept n y ys)
 
 pub sent-complete : (pl : List Place) (st : Table) (m : ℕ) → m < length pl → AreSent pl st → AreSent (slice_set pl m Free) (record st { lists = map (without m) st.lists })
 sent-complete pl st m place s =

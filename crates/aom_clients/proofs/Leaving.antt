@@ -1,5 +1,6 @@
 -- A client leaves its server: what becomes of its messages, of the queues and of the lists.
-use Rattle.std.proofs.Common.{◌≡◌, ◌≢◌, ◌<◌, ◌≤◌, ◌+◌, ◌⊎◌, ◌==◌, ℕ, Bool, true, false, not, cond, List, [], ◌∷◌, Some, length, refl, sym, ap, ◌∙◌, subst, inl, inr, arith}
+use Rattle.std.proofs.lemmas.Bool.Decides.{nat_tests}
+use Rattle.std.proofs.Common.{◌≡◌, ◌≢◌, ◌<◌, ◌≤◌, ◌+◌, ◌⊎◌, ◌==◌, ℕ, Bool, true, false, cond, List, [], ◌∷◌, Some, length, refl, sym, ap, ◌∙◌, subst, inl, inr, arith}
 use Rattle.std.specs.Prelude.{map, filter, slice_index_or}
 use Rattle.std.proofs.lemmas.Bool.{cases_eq, eq-eqb, ne_eqb, eqb-true, cond-true, cond-false}
 use Rattle.std.proofs.lemmas.Option.{same_Some}
@@ -48,10 +49,9 @@ leaves Gone next (inl e) = subst (Leaves Gone) (same_Some Unconnected next e)
     (record { server = refl; named = λ k h. h; slots = omega arith; leaving = λ k h. h; opened = λ k h. h })
 leaves Gone next (inr e) = subst (Leaves Gone) (same_Some Dead next e)
     (record { server = refl; named = λ k h. h; slots = omega arith; leaving = λ k h. h; opened = λ k h. h })
-leaves Dead next (inl e) = absurd (nothing next e)
 leaves Dead next (inr e) = absurd (nothing next e)
-leaves (Dying k s) next (inl e) = absurd (nothing next e)
 leaves (Dying k s) next (inr e) = absurd (nothing next e)
+leaves _ next (inl e) = absurd (nothing next e)
 
 -- places ----------------------------------------------------------------------------------------------------------------------------------
 abbrev pub place : List Place → ℕ → Place
@@ -65,11 +65,7 @@ closed-twice (Discarded c) = refl
 
 -- a place that has something is one of the places
 pub place-there : (pl : List Place) (m : ℕ) (p : Place) → place pl m ≡ p → (p ≡ Free → ⊥) → m < length pl
-place-there pl m p e some = go (cases_lt m (length pl))
-  where
-    go : (m < length pl) ⊎ (length pl ≤ m) → m < length pl
-    go (inl small) = small
-    go (inr large) = absurd (some (sym e ∙ get_or_past pl m Free large))
+place-there pl m p e some = grind (arith, nat_tests, cases_lt m, get_or_past pl m Free)
 
 pub length-each : (xs : List ℕ) (pl : List Place) → length (left_each xs pl) ≡ length pl
 length-each [] pl = refl
@@ -100,8 +96,7 @@ at-closed m pl n = go (cases_eq n m) (cases_lt m (length pl))
     go (inl e) (inl less) =
         ap closed_place (ap (place (left_at m pl)) e ∙ get_or-set_same pl m (closed_place (place pl m)) Free less ∙ ap (λ k. closed_place (place pl k)) (sym e))
         ∙ closed-twice (place pl n)
-    go (inl e) (inr large) =
-        ap closed_place (get_or_past (left_at m pl) n Free (omega (arith, e, large, length-set pl m (closed_place (place pl m))))
+    go (inl e) (inr large) = ap closed_place (get_or_past (left_at m pl) n Free (omega (arith, e, large, length-set pl m (closed_place (place pl m))))
         ∙ sym (get_or_past pl n Free (omega (arith, e, large))))
     go (inr other) d = ap closed_place (get_or-set_other pl m n (closed_place (place pl m)) Free other)
 
@@ -111,23 +106,16 @@ each-closed (m ∷ ms) pl n = each-closed ms (left_at m pl) n ∙ at-closed m pl
 
 each-in : (xs : List ℕ) (pl : List Place) (n : ℕ) → n < length pl → IsIn n xs → place (left_each xs pl) n ≡ closed_place (place pl n)
 each-in [] pl n small i = elim i [ ]
-each-in (m ∷ ms) pl n small (inl e) =
-    let here : place (left_at m pl) n ≡ closed_place (place pl n) =
-    ap (place (left_at m pl)) (sym e) ∙ get_or-set_same pl m (closed_place (place pl m)) Free (omega (arith, e, small)) ∙ ap (λ k. closed_place (place pl k)) e in
-    each-stays ms (left_at m pl) n (ap closed_place here ∙ closed-twice (place pl n) ∙ sym here) ∙ here
-each-in (m ∷ ms) pl n small (inr i) =
-    each-in ms (left_at m pl) n (omega (arith, small, length-set pl m (closed_place (place pl m)))) i ∙ at-closed m pl n
+each-in (m ∷ ms) pl n small (inl e) = grind (arith, nat_tests, get_or-set_same pl m, each-stays ms, closed-twice)
+each-in (m ∷ ms) pl n small (inr i) = grind (arith, nat_tests, each-in ms, length-set pl m, at-closed m pl n)
 
 each-out : (xs : List ℕ) (pl : List Place) (n : ℕ) → (IsIn n xs → ⊥) → place (left_each xs pl) n ≡ place pl n
 each-out [] pl n out = refl
-each-out (m ∷ ms) pl n out =
-    each-out ms (left_at m pl) n (λ i. out (inr i)) ∙ get_or-set_other pl m n (closed_place (place pl m)) Free (λ e. out (inl (sym e)))
+each-out (m ∷ ms) pl n out = grind (arith, nat_tests, each-out ms, get_or-set_other pl m n)
 
 held-out : (c : ℕ) (p : Place) → is_held_of c p ≡ true → is_out_of c p ≡ true
-held-out c Free e = absurd (cc)
-held-out c (Queued d) e = absurd (cc)
 held-out c (Held d) e = e
-held-out c (Discarded d) e = absurd (cc)
+held-out c _ e = absurd (cc)
 
 -- the places of a client that leaves, whose messages are on its two lists
 module _ (pl : List Place) (st : Table) (c : ℕ) (small : c < 64) (s : AreSent pl st) where
@@ -141,23 +129,17 @@ module _ (pl : List Place) (st : Table) (c : ℕ) (small : c < 64) (s : AreSent 
   both = left_each ys (left_each xs pl)
 
   found : (n : ℕ) → n < length pl → IsIn n xs ⊎ IsIn n ys → place both n ≡ closed_place (place pl n)
-  found n inside (inl i) =
-      let e = each-in xs pl n inside i in
-      each-stays ys (left_each xs pl) n (ap closed_place e ∙ closed-twice (place pl n) ∙ sym e) ∙ e
+  found n inside (inl i) = grind (arith, nat_tests, each-in, each-stays, closed-twice)
   found n inside (inr i) = each-in ys (left_each xs pl) n (omega (arith, inside, length-each xs pl)) i ∙ each-closed xs pl n
 
   listed : (n : ℕ) (p : Place) → place pl n ≡ p → is_out_of c p ≡ true → IsIn n xs ⊎ IsIn n ys
-  listed n Free is e = absurd (cc)
   listed n (Queued d) is e = inl (s.waiting c n (is ∙ ap Queued (eqb-true d c e))).1
   listed n (Held d) is e = (s.held c n (is ∙ ap Held (eqb-true d c e))).1
-  listed n (Discarded d) is e = absurd (cc)
+  listed n _ is e = absurd (cc)
 
   one : (n : ℕ) → n < length pl → (b : Bool) → is_out_of c (place pl n) ≡ b → place both n ≡ left_place c (place pl n)
   one n inside true e = found n inside (listed n (place pl n) refl e) ∙ sym (cond-true (is_out_of c (place pl n)) (closed_place (place pl n)) (place pl n) e)
-  one n inside false e =
-      each-out ys (left_each xs pl) n (λ i. false-true (sym e ∙ held-out c (place pl n) (s.past c n small i)))
-      ∙ each-out xs pl n (λ i. false-true (sym e ∙ s.out c n small i))
-      ∙ sym (cond-false (is_out_of c (place pl n)) (closed_place (place pl n)) (place pl n) e)
+  one n inside false e = grind (arith, nat_tests, each-out, false-true, held-out, cond-false)
 
   pub places-left : both ≡ map (left_place c) pl
   places-left = same_lists _ _ (length-each ys (left_each xs pl) ∙ length-each xs pl ∙ sym (length-map pl (left_place c))) each
@@ -172,12 +154,7 @@ module _ (pl : List Place) (st : Table) (c : ℕ) (small : c < 64) (s : AreSent 
 pub waiting-is : (ms : List ℕ) (pl now : List Place) → IsOnce ms → ((n : ℕ) → IsIn n ms → place now n ≡ place pl n)
     → waiting_each ms now ≡ filter (λ m. is_queued (place pl m)) ms
 waiting-is [] pl now once same = refl
-waiting-is (m ∷ ms) pl now once same =
-    ap (λ zs. cond (is_queued (place now m)) (m ∷ zs) zs) (waiting-is ms pl (left_at m now) once.1 later)
-    ∙ ap (λ p. cond (is_queued p) (m ∷ filter (λ n. is_queued (place pl n)) ms) (filter (λ n. is_queued (place pl n)) ms)) (same m (inl refl))
-  where
-    later : (n : ℕ) → IsIn n ms → place (left_at m now) n ≡ place pl n
-    later n i = get_or-set_other now m n (closed_place (place now m)) Free (λ e. once.0 (subst (λ k. IsIn k ms) e i)) ∙ same n (inr i)
+waiting-is (m ∷ ms) pl now once same = grind (arith, nat_tests, waiting-is ms pl, get_or-set_other now m)
 
 -- queues ----------------------------------------------------------------------------------------------------------------------------------
 -- one queue without all these
@@ -243,8 +220,7 @@ tells-tail ms pl c z zs t = record { gone = λ y i. t.gone y (inr i); stay = λ 
 pub queue-left : (ms : List ℕ) (pl : List Place) (c : ℕ) → c < 64 → (zs : List ℕ) → Tells ms pl c zs
     → map entry_of (without (1024 + c) (drop_each ms zs)) ≡ filter (stays c pl) (map entry_of zs)
 queue-left ms pl c small [] t = ap (λ ys. map entry_of (without (1024 + c) ys)) (drop-nil ms)
-queue-left ms pl c small (z ∷ zs) t =
-    ap (λ ys. map entry_of (without (1024 + c) ys)) (drop-cons ms z zs)
+queue-left ms pl c small (z ∷ zs) t = ap (λ ys. map entry_of (without (1024 + c) ys)) (drop-cons ms z zs)
     ∙ go z (kind z) t (has z ms) refl (cases_eq z (1024 + c)) (queue-left ms pl c small zs (tells-tail ms pl c z zs t))
   where
     rest : List Entry
@@ -254,36 +230,20 @@ queue-left ms pl c small (z ∷ zs) t =
     stay : (y : ℕ) → stays c pl (entry_of y) ≡ true → y ≢ 1024 + c → (b : Bool) → b ≡ false
         → map entry_of (without (1024 + c) (drop_each ms zs)) ≡ filter (stays c pl) (map entry_of zs)
         → map entry_of (without (1024 + c) (cond b (drop_each ms zs) (y ∷ drop_each ms zs))) ≡ filter (stays c pl) (entry_of y ∷ map entry_of zs)
-    stay y passes other b no_more less =
-        ap (λ d. map entry_of (without (1024 + c) (cond d (drop_each ms zs) (y ∷ drop_each ms zs)))) no_more
-        ∙ ap (map entry_of) (kept (1024 + c) y (drop_each ms zs) other) ∙ ap (λ es. entry_of y ∷ es) less
-        ∙ sym (cond-true (stays c pl (entry_of y)) (entry_of y ∷ filter (stays c pl) (map entry_of zs)) (filter (stays c pl) (map entry_of zs)) passes)
+    stay y passes other b no_more less = grind (arith, nat_tests, kept, cond-true)
 
     goes : (y : ℕ) → stays c pl (entry_of y) ≡ false → (b : Bool) → (b ≡ true) ⊎ (y ≡ 1024 + c)
         → map entry_of (without (1024 + c) (drop_each ms zs)) ≡ filter (stays c pl) (map entry_of zs)
         → map entry_of (without (1024 + c) (cond b (drop_each ms zs) (y ∷ drop_each ms zs))) ≡ filter (stays c pl) (entry_of y ∷ map entry_of zs)
-    goes y fails true either less =
-        less ∙ sym (cond-false (stays c pl (entry_of y)) (entry_of y ∷ filter (stays c pl) (map entry_of zs)) (filter (stays c pl) (map entry_of zs)) fails)
+    goes y fails true either less = grind (arith, nat_tests, cond-false)
     goes y fails false (inl e) less = absurd (false-true e)
-    goes y fails false (inr same) less =
-        ap (map entry_of) (left (1024 + c) y (drop_each ms zs) same) ∙ less
-        ∙ sym (cond-false (stays c pl (entry_of y)) (entry_of y ∷ filter (stays c pl) (map entry_of zs)) (filter (stays c pl) (map entry_of zs)) fails)
+    goes y fails false (inr same) less = grind (arith, nat_tests, left, cond-false)
 
     go : (y : ℕ) → Kind y → Tells ms pl c (y ∷ zs) → (b : Bool) → has y ms ≡ b → (y ≡ 1024 + c) ⊎ (y ≢ 1024 + c)
         → map entry_of (without (1024 + c) (drop_each ms zs)) ≡ filter (stays c pl) (map entry_of zs)
         → map entry_of (without (1024 + c) (cond (has y ms) (drop_each ms zs) (y ∷ drop_each ms zs))) ≡ filter (stays c pl) (entry_of y ∷ map entry_of zs)
-    go y k t true e d less =
-        let out = t.gone y (inl refl) (has-in y ms e) in
-        goes y (ap (stays c pl) (message-is y out.0) ∙ ap not out.1) (has y ms) (inl e) less
-    go _ (message m less) t false e d more =
-        stay m (ap (stays c pl) (message-is m less) ∙ waits (is_waiting_of c (place pl m)) refl) (λ same. absurd (omega (arith, same, less))) (has m ms) e more
-      where
-        waits : (b : Bool) → is_waiting_of c (place pl m) ≡ b → not (is_waiting_of c (place pl m)) ≡ true
-        waits true w = absurd (false-true (sym e ∙ in-has m ms (t.stay m (inl refl) w less)))
-        waits false w = ap not w
-    go _ (connect d less) t false e (inl same) more =
-        goes (1024 + d) (ap (stays c pl) (connect-is d less) ∙ ap not (eq-eqb d c (omega (arith, same)))) (has (1024 + d) ms) (inr same) more
-    go _ (connect d less) t false e (inr other) more =
-        stay (1024 + d) (ap (stays c pl) (connect-is d less) ∙ ap not (ne_eqb d c (λ is. other (ap (λ n. 1024 + n) is)))) other (has (1024 + d) ms) e more
-    go _ (close d) t false e x more =
-        stay (1088 + d) (ap (stays c pl) (close-is d)) (λ same. absurd (omega (arith, same, small))) (has (1088 + d) ms) e more
+    go y k t true e d less = grind (arith, nat_tests, has-in y, goes y, message-is y, has y)
+    go _ (message m less) t false e d more = grind (arith, nat_tests, stay m, message-is m less, has m, false-true, in-has m)
+    go _ (connect d less) t false e (inl same) more = grind (arith, nat_tests, goes (1024 + d), connect-is d less, eq-eqb d, has (1024 + d))
+    go _ (connect d less) t false e (inr other) more = grind (arith, nat_tests, stay (1024 + d), connect-is d less, ne_eqb d, has (1024 + d))
+    go _ (close d) t false e x more = grind (arith, nat_tests, stay (1088 + d), close-is d, has (1088 + d))

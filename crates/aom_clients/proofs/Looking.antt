@@ -45,10 +45,7 @@ from-next c [] once inside = absurd inside
 from-next c (x ∷ xs) once inside = go (cases_eq x c) (from-next c xs once.1)
   where
     other : x ≢ c → IsIn c xs
-    other apart = elim inside [
-      | inl e ↦ absurd (apart e)
-      | inr later ↦ later
-    ]
+    other apart = elim inside [ inl e ↦ absurd (apart e) | inr later ↦ later ]
 
     go : (x ≡ c) ⊎ (x ≢ c) → (IsIn c xs → from (Some c) xs ≡ c ∷ from (client_after c xs) xs) → from (Some c) (x ∷ xs) ≡ c ∷ from (client_after c (x ∷ xs)) (x ∷ xs)
     go (inl same) later =
@@ -58,8 +55,7 @@ from-next c (x ∷ xs) once inside = go (cases_eq x c) (from-next c xs once.1)
         ∙ ap (λ o. c ∷ from o (x ∷ xs)) (sym next)
     go (inr apart) later =
         let next : client_after c (x ∷ xs) ≡ client_after c xs = cond-false (x == c) (first_client xs) (client_after c xs) (ne_eqb x c apart) in
-        from-later c x xs apart ∙ later (other apart)
-        ∙ ap (λ ys. c ∷ ys) (sym (from-behind x xs (client_after c xs) (λ d e. after-in c d xs e) once.0))
+        from-later c x xs apart ∙ later (other apart) ∙ ap (λ ys. c ∷ ys) (sym (from-behind x xs (client_after c xs) (λ d e. after-in c d xs e) once.0))
         ∙ ap (λ o. c ∷ from o (x ∷ xs)) (sym next)
 
 pub looked : (s : State) (c : ℕ) (xs : List ℕ) → IsOnce xs → IsIn c xs → has_cell (client_at s c) ≡ false → first_there s (from (Some c) xs) ≡ first_there s (from (client_after c xs) xs)

@@ -1,5 +1,6 @@
 -- What the parts of a service, and the going of a server, make of the lists: they are kept, and tell the state that their definitions tell.
-use Rattle.std.proofs.Common.{◌≡◌, ◌≢◌, ◌<◌, ◌≤◌, ◌+◌, ◌⊎◌, ◌++◌, ℕ, true, List, [], ◌∷◌, Option, Some, None, length, take, refl, sym, ap, ◌∙◌, subst, inl, inr, arith}
+use Rattle.std.proofs.lemmas.Bool.Decides.{nat_tests}
+use Rattle.std.proofs.Common.{◌≡◌, ◌≢◌, ◌<◌, ◌≤◌, ◌+◌, ◌++◌, ℕ, true, List, [], ◌∷◌, Option, Some, None, length, take, refl, sym, ap, ◌∙◌, subst, inl, inr, arith}
 use Rattle.std.specs.Prelude.{map, filter, slice_set, IfSome, IsNone, IsSome}
 use Rattle.std.proofs.lemmas.Bool.{cases_eq}
 use Rattle.std.proofs.lemmas.Option.{same_Some}
@@ -7,14 +8,13 @@ use Rattle.std.proofs.lemmas.List.{length-set, get_or-set_same, get_or-set_other
 use Rattle.aom_queues.specs.Lists.{Table, IsIn, IsFree, list_at, with_list, without, first_of, rest_of}
 use Rattle.aom_queues.proofs.Members.{in-without, without-in}
 use Rattle.aom_clients.specs.declared.client.Client.{Client}
-use Rattle.aom_clients.specs.declared.client.Client.TheVariants.{Unconnected, Connecting, Open, Closing, Gone, Dead, Dying}
+use Rattle.aom_clients.specs.declared.client.Client.TheVariants.{Unconnected, Connecting, Open}
 use Rattle.aom_clients.specs.declared.place.Place.{Place}
-use Rattle.aom_clients.specs.declared.place.Place.TheVariants.{Free, Queued, Held, Discarded}
+use Rattle.aom_clients.specs.declared.place.Place.TheVariants.{Free, Queued}
 use Rattle.aom_clients.specs.declared.entry.Entry.{Entry}
-use Rattle.aom_clients.specs.declared.entry.Entry.TheVariants.{Connect, Message, Close}
 use Rattle.aom_clients.specs.declared.entry.Taken.{Taken}
 use Rattle.aom_clients.specs.Table.{is_queued, held_place, completion, sender}
-use Rattle.aom_clients.specs.Clients.{MessageBelow, IsNumbered, State, client_at, place_at, queue_at, sessions_at, with_client, with_queue, taken_entry, first_entry, taking, taken, after_next, opened, going, gone, parted, after_complete, after_next_gone, is_no_connect_of, is_no_close_of}
+use Rattle.aom_clients.specs.Clients.{MessageBelow, IsNumbered, State, client_at, place_at, queue_at, sessions_at, with_client, with_queue, first_entry, taking, taken, after_next, opened, going, gone, parted, after_complete, after_next_gone, is_no_connect_of, is_no_close_of}
 use Rattle.aom_clients.specs.Nodes.{entry_of, is_connect_node, slots_of, named_by, state_of, Waits, AreSized, AreEntries, AreConnects, AreNamed, IsKept}
 use Rattle.aom_clients.specs.Parts.{ConnectBelow, client_in, taken_of, if_taken, unlisted, held_by, given_up, slot_freed, place_freed, is_connecting, is_ending, is_apart}
 use Rattle.aom_clients.proofs.Entries.{Kind, kind, message-is, connect-is, close-is, message-no, close-no, no-connect, no-close}
@@ -23,6 +23,7 @@ use Rattle.aom_clients.proofs.Tables.{alike-same, alike-with, alike-without, Few
 use Rattle.aom_clients.proofs.Kept.{at-write, sized-as, named-set, named-as, entries-fewer, entries-client, entries-place, listed-rest-connect, listed-rest-other, listed-without-connect, listed-without-other, sessions-client, sessions-open, sessions-part, sent-taken, sent-complete}
 use Rattle.aom_clients.proofs.Leaving.{place}
 use Rattle.aom_clients.proofs.Plain.{false-true, nothing}
+use Rattle.aom_clients.proofs.Waiting.{taken-told}
 use Rattle.aom_clients.proofs.Steps.{client, queued-of, IsAsking, asking, asks, IsEnding, ending, NamesNone, names-none, client-is, place-is, queue-is, cell, among, waiting-below}
 
 -- a list by its first node
@@ -36,9 +37,7 @@ empty [] e = refl
 empty (x ∷ xs) e = absurd (nothing x e)
 
 pub none-taken : (t : Table) (k : ℕ) → None ≡ first_of (list_at t k) → with_list k (rest_of (list_at t k)) t ≡ t
-none-taken t k e =
-    let none : list_at t k ≡ [] = empty (list_at t k) e in
-    ap (λ xs. with_list k xs t) (ap rest_of none ∙ sym none) ∙ ap (λ ls. record t { lists = ls }) (set-get_or t.lists k [])
+none-taken t k e = grind (arith, nat_tests, empty, set-get_or t.lists k)
 
 queue-none : (cl : List Client) (pl : List Place) (q cn ss st : Table) (r : IsKept cl pl q cn ss st) (s : State) (is : state_of cl pl q ss st ≡ s) (k : ℕ)
     → None ≡ first_of (list_at q k) → queue_at s k ≡ []
@@ -55,13 +54,7 @@ message-below (Some t) n e all = subst (λ m. MessageBelow m t.entry) e all.1
 
 -- and the client of a connect among so many
 pub connect-below : (s : State) (es : List Entry) (x : Option Taken) (n : ℕ) → 64 ≡ n → x ≡ first_entry s es → IfSome x IsNumbered → IfSome x (λ t. ConnectBelow n t.entry)
-connect-below s es x n e told all = subst (λ y. IfSome y (λ t. ConnectBelow n t.entry)) (sym told) (go es (subst (λ y. IfSome y IsNumbered) told all))
-  where
-    go : (es : List Entry) → IfSome (first_entry s es) IsNumbered → IfSome (first_entry s es) (λ t. ConnectBelow n t.entry)
-    go [] all = all
-    go (Connect c ∷ es) all = subst (λ m. c < m) e all.0
-    go (Message m ∷ es) all = tt
-    go (Close c ∷ es) all = tt
+connect-below s es x n e told all = grind (arith, nat_tests)
 
 never-held : (p : Place) (c : ℕ) → held_place p ≡ Queued c → ⊥
 never-held x c e = grind arith
@@ -93,17 +86,7 @@ module _ (cl : List Client) (pl : List Place) (q cn ss st : Table) (r : IsKept c
     fewer = fewer-with q k ns here (λ y i. subst (IsIn y) (sym shaped) (inr i))
 
     rest-stays : (j y : ℕ) → y ≢ n → IsIn y (list_at q j) → IsIn y (list_at q1 j)
-    rest-stays j y other i = go (cases_eq j k)
-      where
-        behind : IsIn y (n ∷ ns) → IsIn y ns
-        behind (inl e) = absurd (other (sym e))
-        behind (inr i) = i
-
-        go : (j ≡ k) ⊎ (j ≢ k) → IsIn y (list_at q1 j)
-        go (inl same) =
-            subst (λ l. IsIn y (list_at q1 l)) (sym same) (subst (IsIn y) (sym (get_or-set_same q.lists k ns [] here))
-            (behind (subst (IsIn y) shaped (subst (λ l. IsIn y (list_at q l)) same i))))
-        go (inr apart) = subst (IsIn y) (sym (get_or-set_other q.lists k j ns [] apart)) i
+    rest-stays j y other i = grind (arith, nat_tests, cases_eq j, get_or-set_same, here, shaped, get_or-set_other)
 
     -- entries without one that is no message
     entries-less : 1024 ≤ n → AreEntries cl pl q1
@@ -144,8 +127,7 @@ module _ (cl : List Client) (pl : List Place) (q cn ss st : Table) (r : IsKept c
 
     -- its connect is listed no more
     connect-listed : (c : ℕ) → c < 64 → n ≡ 1024 + c → AreConnects q1 (with_list k (rest_of (list_at cn k)) cn)
-    connect-listed c less e =
-        listed-rest-connect q cn k c ns here r.sized.connects_long less (shaped ∙ ap (λ y. y ∷ ns) e) r.listed
+    connect-listed c less e = grind (arith, nat_tests, listed-rest-connect, here, shaped)
 
     -- a close leaves no trace but in its queue
     close-kept : (c : ℕ) → n ≡ 1088 + c → IsKept cl pl q1 cn ss st
@@ -161,21 +143,9 @@ module _ (cl : List Client) (pl : List Place) (q cn ss st : Table) (r : IsKept c
     seen-rest : state_of cl pl q1 ss st ≡ with_queue k (map entry_of ns) old
     seen-rest = ap (λ qs. record { clients = cl; places = pl; queues = qs; sessions = ss.lists; sent = take 64 st.lists }) shown-rest
 
-    client-told : (e : Entry) → client_in pl e ≡ (taken_entry s e).client
-    client-told (Connect c) = refl
-    client-told (Message m) = ap sender (place-is cl pl q cn ss st r s is m)
-    client-told (Close c) = refl
-
-    entry-told : (e : Entry) → e ≡ (taken_entry s e).entry
-    entry-told (Connect c) = refl
-    entry-told (Message m) = refl
-    entry-told (Close c) = refl
-
     -- what the call answers
     taken-is : Some (record { entry = entry_of n; client = client_in pl (entry_of n) }) ≡ first_entry s (queue_at s k)
-    taken-is = let e = entry_of n in
-        ap (λ x. Some (record { entry = e; client = x })) (client-told e) ∙ ap (λ x. Some (record { entry = x; client = (taken_entry s e).client })) (entry-told e)
-        ∙ sym (ap (first_entry s) queue-shape)
+    taken-is = taken-told cl pl q cn ss st r s is (entry_of n) ∙ sym (ap (first_entry s) queue-shape)
 
     -- its client and its message's place are among those that there are
     numbered : (client_in pl (entry_of n) < 64) × MessageBelow 1024 (entry_of n)
@@ -185,8 +155,7 @@ module _ (cl : List Client) (pl : List Place) (q cn ss st : Table) (r : IsKept c
         sent_by m w = subst (λ p. sender p < 64) (sym w.1) (r.out.waiting w.0 m w.1).0
 
         go : (y : ℕ) → Kind y → n ≡ y → (client_in pl (entry_of y) < 64) × MessageBelow 1024 (entry_of y)
-        go _ (message m less) e =
-            subst (λ y. (client_in pl y < 64) × MessageBelow 1024 y) (sym (message-is m less))
+        go _ (message m less) e = subst (λ y. (client_in pl y < 64) × MessageBelow 1024 y) (sym (message-is m less))
             (sent_by m (queued-of (place pl m) (r.entries.messages k m less (subst (λ y. IsIn y (list_at q k)) e head-in))), less)
         go _ (connect c less) e = subst (λ y. (client_in pl y < 64) × MessageBelow 1024 y) (sym (connect-is c less)) (less, tt)
         go _ (close c) e = subst (λ y. (client_in pl y < 64) × MessageBelow 1024 y) (sym (close-is c)) (omega (arith, e, small), tt)
@@ -330,16 +299,14 @@ module _ (cl : List Client) (pl : List Place) (q cn ss st : Table) (r : IsKept c
 
     -- messages are where they were
     message-stays : (j d m : ℕ) → place pl m ≡ Queued d → IsIn m (list_at q j) → IsIn m (list_at q4 j)
-    message-stays j d m e i =
-        subst (IsIn m) (sym (at-without q (1024 + c) j))
+    message-stays j d m e i = subst (IsIn m) (sym (at-without q (1024 + c) j))
         (without-in m (1024 + c) (list_at q j) (λ same. absurd (omega (arith, same, waiting-below cl pl q cn ss st r s is d m e))) i)
 
     no-connect-left : (j : ℕ) → IsIn (1024 + c) (list_at q4 j) → ⊥
     no-connect-left j i = (in-without (1024 + c) (1024 + c) (list_at q j) (subst (IsIn (1024 + c)) (at-without q (1024 + c) j) i)).0 refl
 
     entries-served : (to : Client) → AreEntries (slice_set cl c to) pl q4
-    entries-served to =
-        entries-client cl pl q4 c to (among cl pl q cn ss st r s is c small) (λ j less i. absurd (no-connect-left j i))
+    entries-served to = entries-client cl pl q4 c to (among cl pl q cn ss st r s is c small) (λ j less i. absurd (no-connect-left j i))
         (λ j less i. absurd (ask.leaving j (r.entries.closes j c less ((fewer-without q (1024 + c)).each j (1088 + c) i))))
         (λ m e. absurd (ask.opened (r.entries.waits c m e).server (r.entries.waits c m e).open_there))
         (entries-fewer cl pl q q4 (fewer-without q (1024 + c)) (λ d m e j i. message-stays j d m e i) r.entries)
@@ -390,13 +357,8 @@ module _ (cl : List Client) (pl : List Place) (q cn ss st : Table) (r : IsKept c
       where
         by : (x : Client) → is_connecting x ≡ true → client cl c ≡ x
             → with_client c Unconnected (record (state_of cl pl q ss st) { queues = map (filter (is_no_connect_of c)) (shown entry_of q.lists) }) ≡ opened (client cl c) None c (state_of cl pl q ss st)
-        by Unconnected e was = absurd (false-true e)
         by (Connecting k slots) e was = sym (ap (λ x. opened x None c (state_of cl pl q ss st)) was)
-        by (Open k n slots) e was = absurd (false-true e)
-        by (Closing k n) e was = absurd (false-true e)
-        by Gone e was = absurd (false-true e)
-        by Dead e was = absurd (false-true e)
-        by (Dying k n) e was = absurd (false-true e)
+        by _ e was = absurd (false-true e)
 
   -- a close was served ----------------------------------------------------------------------------------------------------------------------
   module _ (c : ℕ) (next : Client) (small : c < 64) (over : is_ending (client_at s c) ≡ true) (alone : is_apart next ≡ true) where
@@ -414,8 +376,7 @@ module _ (cl : List Client) (pl : List Place) (q cn ss st : Table) (r : IsKept c
       sized = sized-as _ _ _ _ _ _ _ _ _ _ _ _ (length-set cl c next) refl (alike-without q (1088 + c)) (alike-same cn) (alike-without ss c) (alike-same st) r.sized;
       entries = entries-client cl pl q5 c next (among cl pl q cn ss st r s is c small)
           (λ j less i. absurd (end.connecting j (r.entries.connects j c less ((fewer-without q (1088 + c)).each j (1024 + c) i))))
-          (λ j less i. absurd (no_more j i))
-          (λ m e. absurd (end.opened (r.entries.waits c m e).server (r.entries.waits c m e).open_there))
+          (λ j less i. absurd (no_more j i)) (λ m e. absurd (end.opened (r.entries.waits c m e).server (r.entries.waits c m e).open_there))
           (entries-fewer cl pl q q5 (fewer-without q (1088 + c)) (λ d m e j i. stay j d m e i) r.entries);
       listed = listed-without-other q cn (1088 + c) (close-no c) r.listed;
       connected = sessions-part cl ss c next (among cl pl q cn ss st r s is c small) none.server r.connected;
@@ -427,8 +388,7 @@ module _ (cl : List Client) (pl : List Place) (q cn ss st : Table) (r : IsKept c
         no_more j i = (in-without (1088 + c) (1088 + c) (list_at q j) (subst (IsIn (1088 + c)) (at-without q (1088 + c) j) i)).0 refl
 
         stay : (j d m : ℕ) → place pl m ≡ Queued d → IsIn m (list_at q j) → IsIn m (list_at q5 j)
-        stay j d m e i =
-            subst (IsIn m) (sym (at-without q (1088 + c) j))
+        stay j d m e i = subst (IsIn m) (sym (at-without q (1088 + c) j))
             (without-in m (1088 + c) (list_at q j) (λ same. absurd (omega (arith, same, waiting-below cl pl q cn ss st r s is d m e))) i)
 
     pub parted-seen : state_of (slice_set cl c next) pl q5 (record ss { lists = map (without c) ss.lists }) st ≡ parted c next s
@@ -439,10 +399,8 @@ module _ (cl : List Client) (pl : List Place) (q cn ss st : Table) (r : IsKept c
   -- a message is completed ------------------------------------------------------------------------------------------------------------------
   module _ (m : ℕ) (below : m < 1024) (out : IsSome (completion (place_at s m))) where
     not-queued : (p : Place) → IsSome (completion p) → is_queued p ≡ true → ⊥
-    not-queued Free some e = false-true e
     not-queued (Queued c) some e = false-true some
-    not-queued (Held c) some e = false-true e
-    not-queued (Discarded c) some e = false-true e
+    not-queued _ some e = false-true e
 
     pub complete-kept : IsKept cl (slice_set pl m Free) q cn ss (record st { lists = map (without m) st.lists })
     complete-kept = record {

@@ -47,18 +47,7 @@ module _ (pl : List Place) (st : Table) (c : ℕ) (small : c < 64) (long : lengt
   none = with_list (64 + c) [] (with_list c [] st)
 
   in-none : (j n : ℕ) → IsIn n (list_at none j) → (j ≢ c) × IsIn n (list_at st j)
-  in-none j n i = go (cases_eq j (64 + c)) (cases_eq j c)
-    where
-      go : (j ≡ 64 + c) ⊎ (j ≢ 64 + c) → (j ≡ c) ⊎ (j ≢ c) → (j ≢ c) × IsIn n (list_at st j)
-      go (inl same) d =
-          let empty : list_at none j ≡ [] =
-          ap (list_at none) same ∙ get_or-set_same (with_list c [] st).lists (64 + c) [] [] (omega (arith, listed_more, length-set st.lists c [])) in
-          elim (subst (IsIn n) empty i) [ ]
-      go (inr other) (inl same) =
-          let empty : list_at none j ≡ [] = get_or-set_other (with_list c [] st).lists (64 + c) j [] [] other ∙ ap (list_at (with_list c [] st)) same ∙ get_or-set_same st.lists c [] [] listed in
-          elim (subst (IsIn n) empty i) [ ]
-      go (inr other) (inr apart) =
-          (apart, subst (IsIn n) (get_or-set_other (with_list c [] st).lists (64 + c) j [] [] other ∙ get_or-set_other st.lists c j [] [] apart) i)
+  in-none j n i = grind (arith, nat_tests, cases_eq j, get_or-set_same, listed_more, length-set, get_or-set_other, listed)
 
   none-in : (j n : ℕ) → j ≢ c → j ≢ 64 + c → IsIn n (list_at st j) → IsIn n (list_at none j)
   none-in j n apart other i = subst (IsIn n) (sym (get_or-set_other (with_list c [] st).lists (64 + c) j [] [] other ∙ get_or-set_other st.lists c j [] [] apart)) i
@@ -84,10 +73,7 @@ module _ (pl : List Place) (st : Table) (c : ℕ) (small : c < 64) (long : lengt
   }
     where
       past : (d n : ℕ) → d < 64 → IsIn n (list_at none (64 + d)) → (d ≡ c) ⊎ (d ≢ c) → is_held_of d (place (map (left_place c) pl) n) ≡ true
-      past d n less i (inl same) =
-          let empty : list_at none (64 + d) ≡ [] =
-          ap (λ k. list_at none (64 + k)) same ∙ get_or-set_same (with_list c [] st).lists (64 + c) [] [] (omega (arith, listed_more, length-set st.lists c [])) in
-          elim (subst (IsIn n) empty i) [ ]
+      past d n less i (inl same) = grind (arith, nat_tests, get_or-set_same, listed_more, length-set)
       past d n less i (inr other) =
           let was = s.past d n less (in-none (64 + d) n i).1 in
           ap (is_held_of d) (left-at c pl n ∙ left-other c d (place pl n) other (held-out d (place pl n) was)) ∙ was
@@ -118,9 +104,7 @@ module _ (pl : List Place) (st : Table) (c : ℕ) (small : c < 64) (long : lengt
     empty-now = get_or-set_same more.lists c [] [] more_listed
 
     all-now : list_at moved (64 + c) ≡ list_at st (64 + c) ++ list_at st c
-    all-now =
-        let apart : 64 + c ≢ c = λ h. absurd (omega (arith, h)) in
-        get_or-set_other more.lists c (64 + c) [] [] apart ∙ get_or-set_same st.lists (64 + c) (list_at st (64 + c) ++ list_at st c) [] listed_more
+    all-now = grind (arith, nat_tests, get_or-set_other, get_or-set_same, listed_more)
 
     pub sent-release : AreSent pl moved
     sent-release = record {
@@ -137,13 +121,8 @@ module _ (pl : List Place) (st : Table) (c : ℕ) (small : c < 64) (long : lengt
         out d n less i (inr other) = s.out d n less (subst (IsIn n) (same-else d other (λ h. absurd (omega (arith, h, less)))) i)
 
         past : (d n : ℕ) → d < 64 → IsIn n (list_at moved (64 + d)) → (d ≡ c) ⊎ (d ≢ c) → is_held_of d (place pl n) ≡ true
-        past d n less i (inl same) = go (in-either n (list_at st (64 + c)) (list_at st c) (subst (IsIn n) (ap (λ k. list_at moved (64 + k)) same ∙ all-now) i))
-          where
-            go : IsIn n (list_at st (64 + c)) ⊎ IsIn n (list_at st c) → is_held_of d (place pl n) ≡ true
-            go (inl j) = s.past d n less (subst (λ k. IsIn n (list_at st (64 + k))) (sym same) j)
-            go (inr j) = ap (λ k. is_held_of k (place pl n)) same ∙ holds n j
-        past d n less i (inr other) =
-            s.past d n less (subst (IsIn n) (same-else (64 + d) (λ h. absurd (omega (arith, h, small))) (λ h. other (omega (arith, h)))) i)
+        past d n less i (inl same) = grind (arith, nat_tests, in-either n, all-now, place)
+        past d n less i (inr other) = grind (arith, nat_tests, same-else (64 + d))
 
         never : (d n : ℕ) → place pl n ≡ Queued d → d ≡ c → IsIn n (list_at st d) → ⊥
         never d n e same i = false-true (sym (ap (is_held_of c) e) ∙ holds n (subst (λ k. IsIn n (list_at st k)) same i))
@@ -155,13 +134,10 @@ module _ (pl : List Place) (st : Table) (c : ℕ) (small : c < 64) (long : lengt
             (w.0, subst (IsIn n) (sym (same-else d other (λ h. absurd (omega (arith, h, w.0))))) w.1)
 
         both : (d n : ℕ) → d < 64 → IsIn n (list_at st d) ⊎ IsIn n (list_at st (64 + d)) → (d ≡ c) ⊎ (d ≢ c) → IsIn n (list_at moved d) ⊎ IsIn n (list_at moved (64 + d))
-        both d n less (inl i) (inl same) =
-            inr (subst (IsIn n) (sym (ap (λ k. list_at moved (64 + k)) same ∙ all-now)) (in-right n (list_at st (64 + c)) (list_at st c) (subst (λ k. IsIn n (list_at st k)) same i)))
-        both d n less (inr i) (inl same) =
-            inr (subst (IsIn n) (sym (ap (λ k. list_at moved (64 + k)) same ∙ all-now)) (in-left n (list_at st (64 + c)) (list_at st c) (subst (λ k. IsIn n (list_at st (64 + k))) same i)))
+        both d n less (inl i) (inl same) = grind (arith, nat_tests, all-now, in-right n)
+        both d n less (inr i) (inl same) = grind (arith, nat_tests, all-now, in-left n)
         both d n less (inl i) (inr other) = inl (subst (IsIn n) (sym (same-else d other (λ h. absurd (omega (arith, h, less))))) i)
-        both d n less (inr i) (inr other) =
-            inr (subst (IsIn n) (sym (same-else (64 + d) (λ h. absurd (omega (arith, h, small))) (λ h. other (omega (arith, h))))) i)
+        both d n less (inr i) (inr other) = grind (arith, nat_tests, same-else (64 + d))
 
         few : (d : ℕ) → d < 64 → (d ≡ c) ⊎ (d ≢ c) → length (list_at moved d) ≤ 64
         few d less (inl same) = omega (arith, ap length (ap (list_at moved) same ∙ empty-now))

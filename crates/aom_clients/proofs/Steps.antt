@@ -8,7 +8,7 @@ use Rattle.aom_queues.specs.Lists.{Table, IsIn, IsFree, list_at, with_list}
 use Rattle.aom_clients.specs.declared.client.Client.{Client}
 use Rattle.aom_clients.specs.declared.client.Client.TheVariants.{Unconnected, Connecting, Open, Closing, Gone, Dead, Dying}
 use Rattle.aom_clients.specs.declared.place.Place.{Place}
-use Rattle.aom_clients.specs.declared.place.Place.TheVariants.{Free, Queued, Held, Discarded}
+use Rattle.aom_clients.specs.declared.place.Place.TheVariants.{Free, Queued}
 use Rattle.aom_clients.specs.declared.entry.Entry.TheVariants.{Connect, Message}
 use Rattle.aom_clients.specs.Table.{row, server_of, is_queued, is_out_of, at_gone}
 use Rattle.aom_clients.specs.Clients.{sessions_at, State, client_at, place_at, queue_at, sent_at, with_client, with_place, with_sent, queued}
@@ -32,12 +32,8 @@ pub record IsAway (x : Client) : Type 0 where
 
 pub away : (x : Client) → (row x).connect ≡ None → IsAway x
 away Unconnected e = record { server = refl; connecting = λ k h. false-true h; leaving = λ k h. false-true h; opened = λ k h. false-true h }
-away (Connecting k n) e = absurd (cc)
-away (Open k s n) e = absurd (cc)
-away (Closing k s) e = absurd (cc)
 away Gone e = record { server = refl; connecting = λ k h. false-true h; leaving = λ k h. false-true h; opened = λ k h. false-true h }
-away Dead e = absurd (cc)
-away (Dying k s) e = absurd (cc)
+away _ e = absurd (cc)
 
 -- a client that is connecting has no session
 pub record IsAsking (x : Client) : Type 0 where
@@ -46,22 +42,12 @@ pub record IsAsking (x : Client) : Type 0 where
   pub opened : (k : ℕ) → is_open_at k x ≡ true → ⊥
 
 pub asking : (x : Client) → is_connecting x ≡ true → IsAsking x
-asking Unconnected e = absurd (false-true e)
 asking (Connecting k n) e = record { server = refl; leaving = λ k h. false-true h; opened = λ k h. false-true h }
-asking (Open k s n) e = absurd (false-true e)
-asking (Closing k s) e = absurd (false-true e)
-asking Gone e = absurd (false-true e)
-asking Dead e = absurd (false-true e)
-asking (Dying k s) e = absurd (false-true e)
+asking _ e = absurd (false-true e)
 
 pub asks : (k : ℕ) (x : Client) → is_connecting_at k x ≡ true → is_connecting x ≡ true
-asks k Unconnected e = e
 asks k (Connecting j n) e = refl
-asks k (Open j s n) e = e
-asks k (Closing j s) e = e
-asks k Gone e = e
-asks k Dead e = e
-asks k (Dying j s) e = e
+asks k _ e = e
 
 -- so has one that names its server so, or not
 pub record IsWith (k : ℕ) (x : Client) : Type 0 where
@@ -89,26 +75,17 @@ is-with k (Dying j s) e =
     record { connecting = λ i h. false-true h; leaving = λ i h. sym (eqb-true j i h) ∙ same; opened = λ i h. absurd (false-true h); named = e; gone = refl; unnamed = λ i h. nothing i h; slots = omega arith }
 
 pub open-named : (k : ℕ) (x : Client) → is_open_at k x ≡ true → named_by x ≡ Some k
-open-named k Unconnected e = absurd (false-true e)
-open-named k (Connecting j n) e = absurd (false-true e)
 open-named k (Open j s n) e = ap Some (eqb-true j k e)
-open-named k (Closing j s) e = absurd (false-true e)
-open-named k Gone e = absurd (false-true e)
-open-named k Dead e = absurd (false-true e)
-open-named k (Dying j s) e = absurd (false-true e)
+open-named k _ e = absurd (false-true e)
 
 pub record IsEnding (x : Client) : Type 0 where
   pub connecting : (j : ℕ) → is_connecting_at j x ≡ true → ⊥
   pub opened : (j : ℕ) → is_open_at j x ≡ true → ⊥
 
 pub ending : (x : Client) → is_ending x ≡ true → IsEnding x
-ending Unconnected e = absurd (false-true e)
-ending (Connecting j n) e = absurd (false-true e)
-ending (Open j s n) e = absurd (false-true e)
 ending (Closing j s) e = record { connecting = λ i h. false-true h; opened = λ i h. false-true h }
-ending Gone e = absurd (false-true e)
-ending Dead e = absurd (false-true e)
 ending (Dying j s) e = record { connecting = λ i h. false-true h; opened = λ i h. false-true h }
+ending _ e = absurd (false-true e)
 
 pub record NamesNone (x : Client) : Type 0 where
   pub server : server_of x ≡ None
@@ -117,12 +94,9 @@ pub record NamesNone (x : Client) : Type 0 where
 
 pub names-none : (x : Client) → is_apart x ≡ true → NamesNone x
 names-none Unconnected e = record { server = refl; named = λ j h. nothing j h; slots = omega arith }
-names-none (Connecting j n) e = absurd (false-true e)
-names-none (Open j s n) e = absurd (false-true e)
-names-none (Closing j s) e = absurd (false-true e)
 names-none Gone e = record { server = refl; named = λ j h. nothing j h; slots = omega arith }
 names-none Dead e = record { server = refl; named = λ j h. nothing j h; slots = omega arith }
-names-none (Dying j s) e = absurd (false-true e)
+names-none _ e = absurd (false-true e)
 
 -- the lists of slots: the first 64
 pub take-set-lt : {A : Type 0} (n : ℕ) (xs : List A) (i : ℕ) (v : A) → i < n → take n (slice_set xs i v) ≡ slice_set (take n xs) i v
@@ -135,10 +109,8 @@ pub never-free : (p : Place) → is_queued p ≡ true → p ≡ Free → ⊥
 never-free p e f = false-true (sym (ap is_queued f) ∙ e)
 
 pub queued-of : (p : Place) → is_queued p ≡ true → (c : ℕ) × (p ≡ Queued c)
-queued-of Free e = absurd (false-true e)
 queued-of (Queued c) e = (c, refl)
-queued-of (Held c) e = absurd (false-true e)
-queued-of (Discarded c) e = absurd (false-true e)
+queued-of _ e = absurd (false-true e)
 
 module _ (cl : List Client) (pl : List Place) (q cn ss st : Table) (r : IsKept cl pl q cn ss st) (s : State) (is : state_of cl pl q ss st ≡ s) where
   -- the words of contracts and those of the lists

@@ -1,5 +1,6 @@
 -- Tables of lists after a call, and what contracts see of queues of nodes then.
-use Rattle.std.proofs.Common.{◌≡◌, ◌≢◌, ◌<◌, ◌⊎◌, ◌==◌, ◌++◌, ℕ, Bool, true, false, not, cond, List, [], ◌∷◌, length, refl, sym, ap, ◌∙◌, subst, inl, inr}
+use Rattle.std.proofs.lemmas.Bool.Decides.{nat_tests}
+use Rattle.std.proofs.Common.{arith, ◌≡◌, ◌≢◌, ◌<◌, ◌⊎◌, ◌==◌, ◌++◌, ℕ, Bool, not, List, [], ◌∷◌, length, refl, sym, ap, ◌∙◌, subst, inl, inr}
 use Rattle.std.specs.Prelude.{map, filter, slice_index_or, slice_set}
 use Rattle.std.proofs.lemmas.Bool.{cases_eq}
 use Rattle.std.proofs.lemmas.List.{map-set, map-append, length-set, length-map, get_or-set_same, get_or-set_other}
@@ -55,16 +56,7 @@ fewer-rest t k small = fewer-with t k (rest_of (list_at t k)) small (λ n i. res
 -- a node of a table where one was put last is that one or was there
 pub pushed-in : (t : Table) (k x j n : ℕ) → k < length t.lists → IsIn n (list_at (with_list k (list_at t k ++ x ∷ []) t) j)
     → ((j ≡ k) × (n ≡ x)) ⊎ IsIn n (list_at t j)
-pushed-in t k x j n small i = go (at-set-cases t.lists k j (list_at t k ++ x ∷ []) n small i)
-  where
-    go : ((j ≡ k) × IsIn n (list_at t k ++ x ∷ [])) ⊎ ((j ≢ k) × IsIn n (list_at t j)) → ((j ≡ k) × (n ≡ x)) ⊎ IsIn n (list_at t j)
-    go (inr there) = inr there.1
-    go (inl here) = deeper (in-either n (list_at t k) (x ∷ []) here.1)
-      where
-        deeper : IsIn n (list_at t k) ⊎ IsIn n (x ∷ []) → ((j ≡ k) × (n ≡ x)) ⊎ IsIn n (list_at t j)
-        deeper (inl old) = inr (subst (λ l. IsIn n (list_at t l)) (sym here.0) old)
-        deeper (inr (inl new)) = inl (here.0, sym new)
-        deeper (inr (inr none)) = elim none [ ]
+pushed-in t k x j n small i = grind (arith, nat_tests, at-set-cases t.lists k j, in-either n)
 
 -- what is in the list where a node was put last
 pub push-keeps : (t : Table) (k x : ℕ) (j n : ℕ) → k < length t.lists → IsIn n (list_at t j) → IsIn n (list_at (with_list k (list_at t k ++ x ∷ []) t) j)
@@ -76,8 +68,7 @@ push-keeps t k x j n small i = go (cases_eq j k)
     left (y ∷ ys) (inr i) = inr (left ys i)
 
     go : (j ≡ k) ⊎ (j ≢ k) → IsIn n (list_at (with_list k (list_at t k ++ x ∷ []) t) j)
-    go (inl same) =
-        subst (λ l. IsIn n (list_at (with_list k (list_at t k ++ x ∷ []) t) l)) (sym same)
+    go (inl same) = subst (λ l. IsIn n (list_at (with_list k (list_at t k ++ x ∷ []) t) l)) (sym same)
         (subst (IsIn n) (sym (get_or-set_same t.lists k (list_at t k ++ x ∷ []) [] small)) (left (list_at t k) (subst (λ l. IsIn n (list_at t l)) same i)))
     go (inr other) = subst (IsIn n) (sym (get_or-set_other t.lists k j (list_at t k ++ x ∷ []) [] other)) i
 
@@ -98,24 +89,16 @@ module _ {E : Type 0} (entry : ℕ → E) where
 
   pub shown-push : (lists : List (List ℕ)) (k n : ℕ) (e : E) → entry n ≡ e
       → shown (slice_set lists k (slice_index_or lists k [] ++ n ∷ [])) ≡ slice_set (shown lists) k (slice_index_or (shown lists) k [] ++ e ∷ [])
-  shown-push lists k n e is =
-      map-set (map entry) lists k (slice_index_or lists k [] ++ n ∷ [])
+  shown-push lists k n e is = map-set (map entry) lists k (slice_index_or lists k [] ++ n ∷ [])
       ∙ ap (slice_set (shown lists) k) (map-append entry (slice_index_or lists k []) (n ∷ []) ∙ ap (λ es. es ++ entry n ∷ []) (sym (shown-at lists k))
       ∙ ap (λ x. slice_index_or (shown lists) k [] ++ x ∷ []) is)
 
   -- a test of entries that leaves out just one node
   shown-list : (p : E → Bool) (n : ℕ) → ((x : ℕ) → p (entry x) ≡ not (x == n)) → (xs : List ℕ) → map entry (without n xs) ≡ filter p (map entry xs)
   shown-list p n same [] = refl
-  shown-list p n same (x ∷ xs) =
-      by_test (x == n) (p (entry x)) (same x) (without n xs) (filter p (map entry xs)) (shown-list p n same xs)
-    where
-      by_test : (b d : Bool) → d ≡ not b → (ns : List ℕ) (es : List E) → map entry ns ≡ es → map entry (cond (not b) (x ∷ ns) ns) ≡ cond d (entry x ∷ es) es
-      by_test true true e ns es rest = absurd (cc)
-      by_test true false e ns es rest = rest
-      by_test false true e ns es rest = ap (λ ys. entry x ∷ ys) rest
-      by_test false false e ns es rest = absurd (cc)
+  shown-list p n same (x ∷ xs) = grind (arith, nat_tests, shown-list p n same xs)
 
   pub shown-without : (p : E → Bool) (n : ℕ) → ((x : ℕ) → p (entry x) ≡ not (x == n)) → (lists : List (List ℕ))
       → shown (map (without n) lists) ≡ map (filter p) (shown lists)
   shown-without p n same [] = refl
-  shown-without p n same (xs ∷ lists) = ap (λ ys. ys ∷ shown (map (without n) lists)) (shown-list p n same xs) ∙ ap (λ ls. filter p (map entry xs) ∷ ls) (shown-without p n same lists)
+  shown-without p n same (xs ∷ lists) = grind (arith, nat_tests, lists, shown-list p n same xs, shown-without p n same lists)

@@ -1,5 +1,5 @@
 -- What waits in a queue behind so many others is the entry of the node there, with the client that it is of.
-use Rattle.std.proofs.Common.{◌≡◌, ◌∙◌, ℕ, List, Option, Some, refl, sym, ap}
+use Rattle.std.proofs.Common.{◌≡◌, ◌∙◌, ℕ, List, Some, refl, sym, ap}
 use Rattle.std.specs.Prelude.{option_map, slice_get}
 use Rattle.std.proofs.lemmas.Option.{slice_get-map}
 use Rattle.aom_queues.specs.Lists.{Table, list_at}
@@ -14,15 +14,11 @@ use Rattle.aom_clients.specs.Parts.{client_in}
 use Rattle.aom_clients.proofs.Steps.{place-is, queue-is}
 
 module _ (cl : List Client) (pl : List Place) (q cn ss st : Table) (r : IsKept cl pl q cn ss st) (s : State) (is : state_of cl pl q ss st ≡ s) where
-  client-told : (e : Entry) → client_in pl e ≡ (taken_entry s e).client
-  client-told (Connect c) = refl
-  client-told (Message m) = ap sender (place-is cl pl q cn ss st r s is m)
-  client-told (Close c) = refl
-
-  entry-told : (e : Entry) → e ≡ (taken_entry s e).entry
-  entry-told (Connect c) = refl
-  entry-told (Message m) = refl
-  entry-told (Close c) = refl
+  -- an entry is told with its client
+  pub taken-told : (e : Entry) → Some (record { entry = e; client = client_in pl e }) ≡ Some (taken_entry s e)
+  taken-told (Message m) = ap (λ p. Some (record { entry = Message m; client = sender p })) (place-is cl pl q cn ss st r s is m)
+  taken-told (Connect c) = refl
+  taken-told (Close c) = refl
 
   -- the places of a queue are those of its nodes
   places-are : (k ahead : ℕ) → option_map entry_of (slice_get (list_at q k) ahead) ≡ slice_get (queue_at s k) ahead
@@ -30,7 +26,4 @@ module _ (cl : List Client) (pl : List Place) (q cn ss st : Table) (r : IsKept c
 
   pub waits-there : (k ahead n : ℕ) → Some n ≡ slice_get (list_at q k) ahead →
       Some (record { entry = entry_of n; client = client_in pl (entry_of n) }) ≡ option_map (taken_entry s) (slice_get (queue_at s k) ahead)
-  waits-there k ahead n there =
-      let e = entry_of n in
-      ap (λ x. Some (record { entry = e; client = x })) (client-told e) ∙ ap (λ x. Some (record { entry = x; client = (taken_entry s e).client })) (entry-told e)
-      ∙ ap (option_map (taken_entry s)) (ap (option_map entry_of) there ∙ places-are k ahead)
+  waits-there k ahead n there = taken-told (entry_of n) ∙ ap (option_map (taken_entry s)) (ap (option_map entry_of) there ∙ places-are k ahead)

@@ -17,6 +17,5 @@ push_last-requires-clause-free c =
 pub returns-in-Open : goal.returns-in-Open
 returns-in-Open c =
     let q = c.args.queues.now in
-    c.push_last.ensures
-    ∙ ap (λ n. with_list c.in-Open.server (list_at q c.in-Open.server ++ n ∷ []) q) c.close_node.ensures
+    c.push_last.ensures ∙ ap (λ n. with_list c.in-Open.server (list_at q c.in-Open.server ++ n ∷ []) q) c.close_node.ensures
     ∙ ap (λ o. close_queued o c.args.client q) (sym c.in-Open.is)

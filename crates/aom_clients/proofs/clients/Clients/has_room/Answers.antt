@@ -6,8 +6,7 @@ use Rattle.aom_clients.proofs.Answering.{room-is}
 use Rattle.aom_clients.proofs.Steps.{connects-cell, sessions-cell}
 
 pub returns : goal.returns
-returns c =
-    ap (λ n. nat_lt (n + c.count-connects.result) c.args.server.most) c.count-sessions.ensures
+returns c = ap (λ n. nat_lt (n + c.count-connects.result) c.args.server.most) c.count-sessions.ensures
     ∙ ap (λ n. nat_lt (length (list_at c.self.inside.sessions c.args.server.cell) + n) c.args.server.most) c.count-connects.ensures
     ∙ room-is _ _ _ _ _ _ c.self.invariant _ c.self.view_is c.args.server.cell c.args.server.most
 

@@ -39,6 +39,5 @@ pub take-taken-requires-clause-places : goal.take-taken-requires-clause-places
 take-taken-requires-clause-places c = ap length c.deref.ensures.value ∙ c.self.invariant.sized.places_long
 
 pub hold-requires : goal.hold-requires
-hold-requires c =
-    message-below _ _ (sym (ap length c.deref_mut.ensures.value ∙ c.self.invariant.sized.places_long))
+hold-requires c = message-below _ _ (sym (ap length c.deref_mut.ensures.value ∙ c.self.invariant.sized.places_long))
     (served _ _ _ _ _ _ c.self.invariant _ c.self.view_is c.args.server c.requires _ c.take-taken.ensures.rest _ _ c.take-taken.ensures.taken c.deref.ensures.value c.take-taken.ensures.below c.take-taken.ensures.free).numbered

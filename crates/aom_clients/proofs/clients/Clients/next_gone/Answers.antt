@@ -51,6 +51,5 @@ give_up-requires c =
     connect-below c.args.self.now _ _ _ (sym (ap length c.deref_mut.ensures.value ∙ c.self.invariant.sized.clients_long)) taken.told taken.numbered
 
 pub free_place-requires : goal.free_place-requires
-free_place-requires c =
-    message-below _ _ (sym (ap length c.deref_mut-2.ensures.value ∙ c.self.invariant.sized.places_long))
+free_place-requires c = message-below _ _ (sym (ap length c.deref_mut-2.ensures.value ∙ c.self.invariant.sized.places_long))
     (served _ _ _ _ _ _ c.self.invariant _ c.self.view_is c.args.server c.requires _ c.take-taken.ensures.rest _ _ c.take-taken.ensures.taken c.deref.ensures.value c.take-taken.ensures.below c.take-taken.ensures.free).numbered

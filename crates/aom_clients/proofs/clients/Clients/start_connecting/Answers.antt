@@ -1,12 +1,11 @@
-use Rattle.std.proofs.Common.{◌≡◌, ◌<◌, length, ◌+◌, ◌++◌, ◌∷◌, [], refl, sym, ap, ◌∙◌, subst}
+use Rattle.std.proofs.Common.{◌≡◌, ◌<◌, ◌+◌, ◌++◌, ◌∷◌, [], refl, sym, ap, ◌∙◌, subst}
 use Rattle.aom_queues.specs.Lists.{IsFree, list_at, with_list}
 use Rattle.aom_clients.proofs.Same.{kept-as, state-as}
 use Rattle.aom_clients.proofs.clients.Clients.start_connecting.Goals as goal
 use Rattle.aom_clients.proofs.Steps.{cell, connect-free, connect-unlisted, connected}
 
 pub push_last-requires-clause-free : goal.push_last-requires-clause-free
-push_last-requires-clause-free c =
-    subst (IsFree c.self.inside.queues) (sym c.connect_node.ensures)
+push_last-requires-clause-free c = subst (IsFree c.self.inside.queues) (sym c.connect_node.ensures)
     (connect-free _ _ _ _ _ _ c.self.invariant _ c.self.view_is c.args.client c.args.server c.args.slots c.requires.client c.requires.server c.requires.slots c.requires.away)
 
 pub push_last-requires-2-clause-free : goal.push_last-requires-2-clause-free
