@@ -2,7 +2,7 @@
 use Rattle.std.proofs.lemmas.Bool.Decides.{nat_tests}
 use Rattle.std.proofs.Common.{◌≡◌, ◌≢◌, ◌<◌, ◌≤◌, ◌+◌, ℕ, suc, List, [], ◌∷◌, ◌++◌, Some, None, length, refl, sym, ap, ◌∙◌, subst, inl, inr, arith}
 use Rattle.std.specs.Prelude.{map, slice_set}
-use Rattle.std.proofs.lemmas.List.{length-set, length-append, set-set, set-get_or, set_comm, append_assoc, append-nil, get_or-set_same, get_or-set_other}
+use Rattle.std.proofs.lemmas.List.{length-set, length-append, set-set, set_comm, append_assoc, get_or-set_same, get_or-set_other}
 use Rattle.aom_queues.specs.Lists.{Table, IsIn, list_at, with_list, without, first_of, rest_of}
 use Rattle.aom_clients.specs.declared.place.Place.{Place}
 use Rattle.aom_clients.specs.Table.{closed_place}
@@ -101,15 +101,6 @@ released t u v c m small first u_is v_is =
     whole =
         ap (λ xs. xs ++ list_at v c) at_past ∙ ap (λ xs. (list_at t (64 + c) ++ m ∷ []) ++ xs) at_c ∙ append_assoc (list_at t (64 + c)) (m ∷ []) (list_at u c)
         ∙ ap (λ xs. list_at t (64 + c) ++ xs) (sym d.shaped)
-
--- and when none is left
-pub released-all : (t : Table) (c : ℕ) → None ≡ first_of (list_at t c) → c < length t.lists
-    → with_list c [] (with_list (64 + c) (list_at t (64 + c) ++ list_at t c) t) ≡ t
-released-all t c e small = grind (arith, nat_tests, drained-all t c, append-nil, set-get_or t.lists (64 + c), set-get_or t.lists c)
-
--- the same of the other loops
-pub emptied-all : (t : Table) (k : ℕ) → None ≡ first_of (list_at t k) → with_list k [] t ≡ t
-emptied-all t k e = ap (λ xs. with_list k xs t) (sym (drained-all t k (sym e))) ∙ ap (λ ls. record t { lists = ls }) (set-get_or t.lists k [])
 
 -- the messages of earlier sessions stay in their places, as those of this one are taken off
 pub past-stays : (st u : Table) (c : ℕ) (pl ps : List Place) → u ≡ with_list c [] st → ps ≡ left_each (list_at st c) pl

@@ -8,7 +8,7 @@ use Rattle.aom_clients.specs.declared.client.Client.{Client}
 use Rattle.aom_clients.specs.declared.client.Client.TheVariants.{Unconnected}
 use Rattle.aom_clients.specs.declared.place.Place.{Place}
 use Rattle.aom_clients.specs.Table.{server_of, released}
-use Rattle.aom_clients.specs.Clients.{State, after_release}
+use Rattle.aom_clients.specs.Clients.{State}
 use Rattle.aom_clients.specs.Nodes.{IsKept, is_connecting_at, is_leaving, is_open_at, named_by, slots_of, state_of}
 use Rattle.aom_clients.proofs.Kept.{sized-as}
 use Rattle.aom_clients.proofs.Steps.{client}
@@ -68,6 +68,3 @@ module _ (cl : List Client) (pl : List Place) (q cn ss st : Table) (r : IsKept c
       slots = λ d. subst (λ n. n ≤ 64) (sym (still slots_of slots-still d)) (r.named.slots d);
     };
   }
-
-  pub released-seen : state_of after pl q ss st ≡ after_release c s
-  released-seen = ap (λ t. after_release c t) is

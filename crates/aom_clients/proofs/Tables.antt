@@ -5,7 +5,7 @@ use Rattle.std.specs.Prelude.{map, filter, slice_index_or, slice_set}
 use Rattle.std.proofs.lemmas.Bool.{cases_eq}
 use Rattle.std.proofs.lemmas.List.{map-set, map-append, length-set, length-map, get_or-set_same, get_or-set_other}
 use Rattle.std.proofs.Math.ListN.{get_or-map}
-use Rattle.aom_queues.specs.Lists.{Table, IsIn, list_at, with_list, without, rest_of}
+use Rattle.aom_queues.specs.Lists.{Table, IsIn, list_at, with_list, without}
 use Rattle.aom_queues.proofs.Rings.{at-set-cases}
 use Rattle.aom_queues.proofs.Members.{in-without, in-either}
 
@@ -33,15 +33,8 @@ pub record Fewer (t u : Table) : Type 0 where
 pub at-without : (t : Table) (n k : ℕ) → list_at (record t { lists = map (without n) t.lists }) k ≡ without n (list_at t k)
 at-without t n k = get_or-map (without n) t.lists k []
 
-pub fewer-then : (t u v : Table) → Fewer t u → Fewer u v → Fewer t v
-fewer-then t u v a b = record { each = λ k n i. a.each k n (b.each k n i) }
-
 pub fewer-without : (t : Table) (n : ℕ) → Fewer t (record t { lists = map (without n) t.lists })
 fewer-without t n = record { each = λ k m i. (in-without m n (list_at t k) (subst (IsIn m) (at-without t n k) i)).1 }
-
-pub rest-in : (n : ℕ) (xs : List ℕ) → IsIn n (rest_of xs) → IsIn n xs
-rest-in n [] i = i
-rest-in n (x ∷ xs) i = inr i
 
 pub fewer-with : (t : Table) (k : ℕ) (xs : List ℕ) → k < length t.lists → ((n : ℕ) → IsIn n xs → IsIn n (list_at t k)) → Fewer t (with_list k xs t)
 fewer-with t k xs small less = record { each = λ j n i. go j n (at-set-cases t.lists k j xs n small i) }
@@ -49,9 +42,6 @@ fewer-with t k xs small less = record { each = λ j n i. go j n (at-set-cases t.
     go : (j n : ℕ) → ((j ≡ k) × IsIn n xs) ⊎ ((j ≢ k) × IsIn n (list_at t j)) → IsIn n (list_at t j)
     go j n (inl here) = subst (λ l. IsIn n (list_at t l)) (sym here.0) (less n here.1)
     go j n (inr there) = there.1
-
-pub fewer-rest : (t : Table) (k : ℕ) → k < length t.lists → Fewer t (with_list k (rest_of (list_at t k)) t)
-fewer-rest t k small = fewer-with t k (rest_of (list_at t k)) small (λ n i. rest-in n (list_at t k) i)
 
 -- a node of a table where one was put last is that one or was there
 pub pushed-in : (t : Table) (k x j n : ℕ) → k < length t.lists → IsIn n (list_at (with_list k (list_at t k ++ x ∷ []) t) j)

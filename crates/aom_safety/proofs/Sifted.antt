@@ -120,13 +120,6 @@ module _ (drops : Cell → Bool) (f : Cell → Service) where
       go true ih = ih
       go false ih = (unheld, unnamed, ih)
 
-  -- what a place held goes or stays
-  pub held_sifted : (cs : List Cell) (q : Place) → Tidy cs → (c : Cell) → cell_in cs q ≡ Some c → held (sifted drops f cs) q ≡ cond (drops c) None (Some c.object)
-  held_sifted cs q t c e = grind (arith, nat_tests, held_cell, cell_in_sifted cs q t)
-
-  pub unheld_sifted : (cs : List Cell) (q : Place) → Tidy cs → held cs q ≡ None → held (sifted drops f cs) q ≡ None
-  unheld_sifted cs q t e = held_cell (sifted drops f cs) q ∙ ap object_in (cell_in_sifted cs q t ∙ ap kept (no_cell (cell_in cs q) (sym (held_cell cs q) ∙ e)))
-
   -- where it stays, the rest of its cell stays too
   module _ (cs : List Cell) (t : Tidy cs) (n : ℕ) (c : Cell) (here : cell_of cs n ≡ Some c) (stays : drops c ≡ false) where
     is_there : cell_of (sifted drops f cs) n ≡ Some (record c { service = f c })
