@@ -24,10 +24,9 @@ same_price c x = grind arith
 module _ (p : Image) (c : Prices) (x : ℕ) where
   of_kind : (k : ClassKind) (budget : ℕ) → ((most : ℕ) → (if is_dispatched k then Some budget else None) ≡ Some most → kind_price p c x k ≤ most)
       → dispatch_price p c x (Some k) ≤ budget
-  of_kind Plain budget within = omega arith
   of_kind (Active provider) budget within = omega (arith, same_price c (role_of p x Handles), same_price c (role_of p x Error), within budget refl)
   of_kind (Server most session) budget within = omega (arith, same_price c (role_of p x Accept), same_price c (role_of p session Service), within budget refl)
-  of_kind Session budget within = omega arith
+  of_kind _ budget within = omega arith
 
   of_class : (d : Option ClassDecl) → ((most : ℕ) → class_declares d ≡ Some most → class_price p c x d ≤ most) → dispatch_price p c x (kind_in d) ≤ class_budget d
   unfolding kind_in

@@ -43,11 +43,7 @@ number_says p x n w o says shows = grind arith
 waits_under : (p : Image) (t : Typing) (cs : List Cell) (above : List Task) (fr : Frame) (below : List Task) → AllWait p t cs (above ++ Run fr ∷ below) → Waits p t cs (length below) fr
 waits_under p t cs [] fr below w = w.0
 waits_under p t cs (Run g ∷ above) fr below w = waits_under p t cs above fr below w.1
-waits_under p t cs (Trapped ∷ above) fr below w = waits_under p t cs above fr below w
-waits_under p t cs (Destroy ∷ above) fr below w = waits_under p t cs above fr below w
-waits_under p t cs (Closing ∷ above) fr below w = waits_under p t cs above fr below w
-waits_under p t cs (Unwind code ∷ above) fr below w = waits_under p t cs above fr below w
-waits_under p t cs (Dispatched d ∷ above) fr below w = waits_under p t cs above fr below w
+waits_under p t cs (_ ∷ above) fr below w = waits_under p t cs above fr below w
 
 deeper : (above : List Task) (fr : Frame) (below : List Task) → length below < length (above ++ Run fr ∷ below)
 deeper [] fr below = omega arith
@@ -91,8 +87,7 @@ module _ (p : Image) (t : Typing) (cs : List Cell) (n : ℕ) (o : Option Object)
       go AtRoot houses housed below fits = below fits
       go (Inside y from) houses housed below fits = inside (y.name == x.name) refl (field_thing p (holder_of p fr.method) f) refl fits
         where
-          inside :
-              (b : Bool) → (y.name == x.name) ≡ b → (own : Option Thing) → field_thing p (holder_of p fr.method) f ≡ own →
+          inside : (b : Bool) → (y.name == x.name) ≡ b → (own : Option Thing) → field_thing p (holder_of p fr.method) f ≡ own →
               F (cond b (own_field own (field sh f) (claim p (declared p cs) ls (Field x.name f))) (claim p (declared p cs) ls (Field x.name f))) → Declared x f
           inside true e None is fits = below fits
           inside true e (Some z) is fits =
@@ -104,31 +99,19 @@ module _ (p : Image) (t : Typing) (cs : List Cell) (n : ℕ) (o : Option Object)
   field_says x f lives (Unwinding code es ∷ ls) back st fits = field_says x f lives ls Leaves st.1 fits
   field_says x f lives (Dispatching d seats ∷ ls) back st fits = grind (arith, nat_tests, declared_says p)
   field_says x f lives (Dying y ∷ ls) back st fits = grind (arith, nat_tests, field_says x f lives ls Gone st.2, declared_says p, empty_fits p)
-  field_says x f lives (Ending y left ∷ ls) back st fits = grind (
-    arith,
-    nat_tests,
-    field_says x f lives ls Now st.3,
-    same_Some y x,
-    eqb-true y.name x.name,
-    declared_says p,
-  )
+  field_says x f lives (Ending y left ∷ ls) back st fits =
+      grind (arith, nat_tests, field_says x f lives ls Now st.3, same_Some y x, eqb-true y.name x.name, declared_says p)
 
   root_says : (ls : List Layer) → F (claim p (declared p cs) ls (Elsewhere Root)) → RootDeclared
   root_says [] fits = declared_says p (seen cs) (field_thing p Program 0) Perhaps n o same fits
   root_says (Method fr sh ∷ ls) fits = grind (arith, nat_tests, root_says ls, declared_says p)
-  root_says (Mark gv ∷ ls) fits = root_says ls fits
-  root_says (Dying y ∷ ls) fits = root_says ls fits
-  root_says (Ending y left ∷ ls) fits = root_says ls fits
-  root_says (Unwinding code es ∷ ls) fits = root_says ls fits
   root_says (Dispatching d seats ∷ ls) fits = grind (arith, nat_tests, root_says ls, declared_says p, empty_fits p)
+  root_says (_ ∷ ls) fits = root_says ls fits
 
 -- an object's item is claimed to own
 abbrev IsOwn : Kind → Type 0
-IsOwn Unset = ⊥
-IsOwn Word = ⊥
-IsOwn Null = ⊥
 IsOwn (Own t a) = Unit {0}
-IsOwn (Maybe t a) = ⊥
+IsOwn _ = ⊥
 
 owns_one : (p : Image) (h : Sight) (k : Kind) (o : Option Object) → IsOwn k → Fits p h o k → (x : Object) × (o ≡ Some x)
 owns_one p h x y own fits = grind arith
@@ -149,10 +132,8 @@ module _ (p : Image) (d : Place → Kind) (k : ℕ) where
   entries_own [] e = cc
   entries_own (Method fr sh ∷ ls) e = pushed_own sh.entries ls (entries_own ls) e
   entries_own (Unwinding code es ∷ ls) e = pushed_own es ls (entries_own ls) e
-  entries_own (Dying o ∷ ls) e = entries_own ls e
-  entries_own (Ending o left ∷ ls) e = entries_own ls e
-  entries_own (Dispatching d seats ∷ ls) e = entries_own ls e
   entries_own (Mark gv ∷ ls) e = let below : ClaimedOwn ls = entries_own ls in false_given (λ b. cond b (Some Mark_form) (over (items_of ls) k) ≡ Some Object_form) (length (items_of ls) == k) e (λ e. cc) (λ _ e. below e)
+  entries_own (_ ∷ ls) e = entries_own ls e
 
 -- ---- all together
 
@@ -214,8 +195,7 @@ module _ (m : Machine) (s : State) (st : StandsFor m s) where
     once = λ q r x lives none none' is is'. one_place s.cells q r x x st.typed.good.tidy (shows_owner q x lives none is) (shows_owner r x lives none' is') refl;
     registers = registers_agree;
     own_fields = own_fields_agree;
-    fields =
-        grind (arith, nat_tests, field_says, plain);
+    fields = grind (arith, nat_tests, field_says, plain);
     root = root_says p st.typing s.cells (value m.parts (Elsewhere Root)) (held s.cells (Elsewhere Root)) (plain (Elsewhere Root) refl) st.typed.layers (st.typed.good.fits (Elsewhere Root));
     entries = λ k object.
         let own = entries_own p (declared p s.cells) k st.typed.layers (ap (λ fs. over fs k) (sym st.typed.items) ∙ over_forms s.items k object) in

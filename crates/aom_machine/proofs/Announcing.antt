@@ -32,13 +32,12 @@ module _ (p : Image) (s : State) (told : IsTold s) where
 
   end_told : (d : Dispatch) → IsTold (dispatch_ends p d s)
   end_told Of_main = main_told p s told s.rest.stopped (held s.cells (Elsewhere Root))
-  end_told (Main_left code) = told
-  end_told Of_root = told
   end_told (Of_object x) = object_told
   end_told (Object_left x code) = asking_told (part_of p Answers x.object.thing) x code
   end_told (Asks x) = object_told
   end_told (Answered x answer) = answer_told answer
   end_told (Of_server x client stage) = stage_told x client stage
+  end_told _ = told
 
 pub step_told : (p : Image) (c : Choice) (s u : State) → step p c s ≡ Goes u → u.rest.announced ≡ true
 step_told p c s u e = grind (

@@ -45,16 +45,14 @@ use Rattle.aom_machine.proofs.StepLines.{going_lines, told_one}
 -- how many
 abbrev messages_of : List Asked → ℕ
 messages_of [] = 0
-messages_of (Connect_of c ∷ es) = messages_of es
 messages_of (Message_of c m ∷ es) = suc (messages_of es)
-messages_of (Close_of c ∷ es) = messages_of es
+messages_of (_ ∷ es) = messages_of es
 
 -- each waits there, and none twice
 abbrev AreThere : List Cell → ℕ → List Asked → Type 0
 AreThere cs n [] = Unit {0}
-AreThere cs n (Connect_of c ∷ es) = AreThere cs n es
 AreThere cs n (Message_of c m ∷ es) = ((x : Object) × (held cs (Elsewhere (Waits_at n m)) ≡ Some x) × (is_object x.thing ≡ false)) × (list_any (is_message m) es ≡ false) × AreThere cs n es
-AreThere cs n (Close_of c ∷ es) = AreThere cs n es
+AreThere cs n (_ ∷ es) = AreThere cs n es
 
 -- where one goes that is none of them, they still are
 still_there : (cs : List Cell) (n m : ℕ) (es : List Asked) → list_any (is_message m) es ≡ false → AreThere cs n es → AreThere (without (Elsewhere (Waits_at n m)) cs) n es
@@ -98,9 +96,8 @@ few_lines cs (Close_of c ∷ es) = few_lines cs es
 
 few_answers : (places : List Place) (es : List Entry) → answers es ≡ answered (map (asked_by places) es)
 few_answers places [] = refl
-few_answers places (Connect c ∷ es) = let e = few_answers places es in omega (arith, e)
-few_answers places (Message m ∷ es) = let e = few_answers places es in omega (arith, e)
 few_answers places (Close c ∷ es) = few_answers places es
+few_answers places (_ ∷ es) = let e = few_answers places es in omega (arith, e)
 
 -- ---- the seats of a class
 

@@ -40,11 +40,10 @@ module _ (p : Image) (m : Parts) (v : State) (d : Machine_dispatch) (d' : Dispat
   ts = Run fr ∷ Trapped ∷ Dispatched d' ∷ []
 
   values : (q : Place) → Represents (value_in us m.cells (Is_mark ∷ m.entries.items) (others m) q) (word_at ts q) (held v.cells q)
-  values (Register k i) = grind (arith, nat_tests)
   values (Entry k) = subst (λ n. Represents n None (held v.cells (Entry k))) (sym (mark_shows_none m.entries.items k)) (shows (Entry k))
   values (Field n g) = shows (Field n g)
-  values (Going k) = grind (arith, nat_tests)
   values (Elsewhere o) = shows (Elsewhere o)
+  values _ = grind (arith, nat_tests)
 
   pub begins_agrees : Agrees p (begins_under d f m) (record v { tasks = ts; items = A_mark ∷ v.items })
   begins_agrees =
@@ -75,19 +74,8 @@ module _ (s : Store) (place : ℕ) where
   -- so many registers have them, and the others are as they were
   told_register : (many : ℕ) (f : Machine_frame) → many ≤ length f.registers → (i : ℕ) → slice_index_or (told_first s place many f).registers i null ≡ cond (nat_lt i many) (number_of i) (slice_index_or f.registers i null)
   told_register zero f room i = sym (ap (λ b. cond b (number_of i) (slice_index_or f.registers i null)) (le-ltb i 0 (omega arith)))
-  told_register (suc n) f room i = grind (
-    arith,
-    nat_tests,
-    at_set,
-    told_wide n f,
-    told_register n f,
-    cases_lt i n,
-    eqb-true n i,
-    lt-ltb i (suc n),
-    lt-ltb i n,
-    le-ltb i n,
-    le-ltb i (suc n),
-  )
+  told_register (suc n) f room i =
+      grind (arith, nat_tests, at_set, told_wide n f, told_register n f, cases_lt i n, eqb-true n i, lt-ltb i (suc n), lt-ltb i n, le-ltb i n, le-ltb i (suc n))
 
   pub told_frame : (many : ℕ) (f : Machine_frame) (fr : Frame) (ws : List (Option ℤ)) → SameFrame f fr → SameFrame (told_first s place many f) (record fr { words = ws })
   told_frame zero f fr ws same = record { method = same.method; place = same.place; this = same.this; view = same.view; housed = same.housed; wide = same.wide; counters = same.counters; loops = same.loops }

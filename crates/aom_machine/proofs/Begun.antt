@@ -197,15 +197,13 @@ module _ (p : Image) (m : Machine_parts) (s : State) (st : StandsFor (record { i
     seat_left = grind (arith, nat_tests, seats_first, queue_so (Connect c ∷ es) at_first, service_here s.cells)
 
     accept_stands : StandsFor (record { image = p; parts = accepting method subject c taken }) accepted
-    accept_stands =
-        method_stands c method Accepts (Inside x.object x.place) [] (checked_taken n s) (accepting method subject c taken) refl accepted_goes
+    accept_stands = method_stands c method Accepts (Inside x.object x.place) [] (checked_taken n s) (accepting method subject c taken) refl accepted_goes
         (dispatches_with_room p (at 0 st.sound.depths.depths) st.sound.heights cs method (Inside x.object x.place) (Of_server x c Accepts) s.items (checked_taken n s).rest s.killed s.clients (none_pushed p m s st idle))
         (record {
           fit = fit_now (Connect c) es at_first;
           stage = (first_fits p m s st idle x lives serves keeps (Connect c) es at_first, ap (λ q. list_any (is_connect_of c) q) (queue_now (Connect c) es at_first) ∙ not_again, seat_left);
           tokens = taken_apart;
-        })
-        (accept_agrees p m s st idle x lives serves class is active noted c es at_first method accepts)
+        }) (accept_agrees p m s st idle x lives serves class is active noted c es at_first method accepts)
       where
         not_again : list_any (is_connect_of c) (map (asked_by m.clients.places) es) ≡ false
         not_again = first_once p m s st idle x lives serves keeps (Connect c) es at_first
@@ -221,8 +219,7 @@ module _ (p : Image) (m : Machine_parts) (s : State) (st : StandsFor (record { i
     home = Elsewhere (Session n c)
 
     abbrev attended : State
-    attended =
-        serving x c (Serves o) (record (frame_of method (Inside o home) (length (A_mark ∷ s.items))) { words = message_words cs (message_name j) })
+    attended = serving x c (Serves o) (record (frame_of method (Inside o home) (length (A_mark ∷ s.items))) { words = message_words cs (message_name j) })
         (record (checked_taken n s) { cells = moved (Elsewhere (Queued n (message_name j))) (Elsewhere In_service) cs })
 
     below : j < 1024

@@ -173,32 +173,13 @@ module _ (p : Image) (c : ℕ) (s : State) (tidy : Tidy s.cells) (fit : ClientsF
   other k n never = ne_eqb k n (λ e. absurd (never e))
 
   leaving_queue : (to : Option Client) (n : ℕ) → (named_by (client_at s.clients c) ≡ Some n → ⊥) → SameQueue (leaving p c s to).cells n
-  leaving_queue to n away = grind (
-    arith,
-    nat_tests,
-    by_leaving p c s,
-    by_told p c s,
-    service_there,
-    other,
-    queue_withdrawn c s tidy bare n,
-    all_stay s.clients c n away,
-  )
-
-  -- the queue at a number, which may be the message's
-  abbrev queue_beside : (name n server : ℕ) → Bool → List Asked
-  queue_beside name n server b = (cond b (record { queue = []; sessions = []; sender = Some (record { client = c; holds_slot = true; is_told = true }); token = None }) (service_of (reserved (asked_last (Message_of c name)) server s.cells) n)).queue
+  leaving_queue to n away =
+      grind (arith, nat_tests, by_leaving p c s, by_told p c s, service_there, other, queue_withdrawn c s tidy bare n, all_stay s.clients c n away)
 
   pub commanded_queue : (command : Command) (name : ℕ) → named s.cells name ≡ None → (n : ℕ) → Untouched p c s command n → SameQueue (commanded p c s command name).cells n
   commanded_queue (Connect class slots) name free n away = by_connecting p c s (λ t. SameQueue t.cells n) refl (refusal p c s (Connect class slots)) (asked_server p class s.cells) slots (λ x e.
       ap (λ (v : Service). v.queue) (service_there s.cells x.name n _ (other x.name n (away x e))))
-  commanded_queue (Send words) name free n away = grind (
-    arith,
-    nat_tests,
-    by_sending p c s,
-    service_there s.cells,
-    other,
-    service_unnamed s.cells n,
-    eqb-true name n,
-  )
+  commanded_queue (Send words) name free n away =
+      grind (arith, nat_tests, by_sending p c s, service_there s.cells, other, service_unnamed s.cells n, eqb-true name n)
   commanded_queue Close name free n away = leaving_queue (row (client_at s.clients c)).close n away
   commanded_queue Die name free n away = leaving_queue (row (client_at s.clients c)).die n away

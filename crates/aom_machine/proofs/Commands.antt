@@ -143,8 +143,7 @@ module _ (p : Image) (m : Parts) (s : State) (st : StandsFor (record { image = p
     withdraws f = messages_withdrawn p st.typing st.sound.wired w (typed_now p m s st idle c) st.kept.fit m.clients same c m.messages store f.gone f.others f.limit f.count st.agrees.services.messages
 
     pub obeys : (command : Command) → Acts c command (asked_by p m.listed command) m.clients k m.messages store result → NotesIf (queue_changed (asked_by p m.listed command) (kept.client_at m.clients c)) k m.active a → Obeyed old s c command told now new
-    obeys (Connect class slots) acts hears =
-        by_parts (Connect class slots) None tt
+    obeys (Connect class slots) acts hears = by_parts (Connect class slots) None tt
         (acts.0 ∙ ap (λ x. kept.answer (kept.connect_refusal c x m.clients)) (first_found class) ∙ ap kept.answer (connect_refused p c s m.clients same class slots))
         (kept.after_connect c (found_server (most_of (kind_of p (Some class))) (asked_server p class s.cells)) slots m.clients) (acts.1 ∙ ap (λ x. kept.after_connect c x slots m.clients) (first_found class))
         (same_connect p st.typing st.sound.wired w (typed_now p m s st idle c) st.kept.fit m.clients same p.header.cells st.agrees.services.sized (servers_below p m s st idle c) c one class slots (sent_name None))
@@ -170,13 +169,11 @@ module _ (p : Image) (m : Parts) (s : State) (st : StandsFor (record { image = p
         called : (place : Option ℕ) (n : ℕ) → place ≡ Some n → sent_name place ≡ message_name n
         called None n e = absurd (none-some n e)
         called (Some k) n e = ap message_name (same_Some k n e)
-    obeys Close acts hears =
-        by_parts Close None tt acts.0 (kept.after_close c m.clients) acts.1
+    obeys Close acts hears = by_parts Close None tt acts.0 (kept.after_close c m.clients) acts.1
         (same_close p st.typing st.sound.wired w (typed_now p m s st idle c) st.kept.fit m.clients same p.header.cells st.agrees.services.sized (servers_below p m s st idle c) c one (sent_name None))
         (sized_close p.header.cells m.clients st.agrees.services.sized c) (sessions_close m.clients c few)
         (messages_close p c w m.clients same m.messages store st.agrees.services.messages withdraws acts.2 (sent_name None)) (queue_changed None (kept.client_at m.clients c)) away_named hears
-    obeys Die acts hears =
-        by_parts Die None tt acts.0 (kept.after_die c m.clients) acts.1
+    obeys Die acts hears = by_parts Die None tt acts.0 (kept.after_die c m.clients) acts.1
         (same_die p st.typing st.sound.wired w (typed_now p m s st idle c) st.kept.fit m.clients same p.header.cells st.agrees.services.sized (servers_below p m s st idle c) c one (sent_name None))
         (sized_die p.header.cells m.clients st.agrees.services.sized c) (sessions_die m.clients c few)
         (messages_die p c w m.clients same m.messages store st.agrees.services.messages withdraws acts.2 (sent_name None)) (queue_changed None (kept.client_at m.clients c)) away_named hears

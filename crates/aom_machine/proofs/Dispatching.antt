@@ -198,14 +198,8 @@ module _ (p : Image) (m : Machine_parts) (s : State) (st : StandsFor (record { i
         begins_agrees p taken then (Server subject c stages.Accepts) (Of_server x c Accepts) (fresh method n) accept_frame (none_running p m s st idle) (aside_taken (Connect c) es at (λ j e. cc))
         (begun_frame method n (Inside x.object x.place) (length (A_mark ∷ s.items)) refl (λ there. small)) (
           x.place,
-          grind (
-            arith,
-            nat_tests,
-            object,
-            server_thing,
-          ),
-        )
-        (shows_taken (Connect c) es at (λ j e. cc)) unowned_taken (λ i. begun_registers method n i)
+          grind (arith, nat_tests, object, server_thing),
+        ) (shows_taken (Connect c) es at (λ j e. cc)) unowned_taken (λ i. begun_registers method n i)
 
   -- ---- a message
 
@@ -258,17 +252,15 @@ module _ (p : Image) (m : Machine_parts) (s : State) (st : StandsFor (record { i
       where
         numbered : (es : List Entry) → list_any (is_numbered (message_name j)) es ≡ list_any (is_at j) es
         numbered [] = refl
-        numbered (Connect d ∷ es) = numbered es
         numbered (Message i ∷ es) = ap (λ b. b || list_any (is_numbered (message_name j)) es) (names_same i j) ∙ ap (λ b. (i == j) || b) (numbered es)
-        numbered (Close d ∷ es) = numbered es
+        numbered (_ ∷ es) = numbered es
 
     -- the message was where it waited
     waited : value_in [] m.cells m.entries.items (others m) from ≡ message_name j
     waited = grind (arith, nat_tests, eq-eqb)
 
     shows_served : ShowsIdle served serving_cells
-    shows_served =
-        moves (value_in [] m.cells m.entries.items (others m)) _ (word_at []) _ (held cs) _ from (Elsewhere In_service)
+    shows_served = moves (value_in [] m.cells m.entries.items (others m)) _ (word_at []) _ (held cs) _ from (Elsewhere In_service)
         (λ q. subst (λ o. Represents (value_in [] m.cells m.entries.items (others m) q) (word_at [] q) o) (sym (held_served s.cells n (taken_first (service_of s.cells n)) q)) (shows q)) refl
         (λ q. served_written [] m.cells m.entries.items (others taken) (message_name j) q
         ∙ ap (λ i. changed (λ z. i) (Elsewhere In_service) (message_name j) q) (message_taken (others m) n j es queue_room at once [] m.cells m.entries.items q)

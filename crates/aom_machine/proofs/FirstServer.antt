@@ -46,11 +46,8 @@ among_first (k ∷ ns) n e = ap (λ b. b || is_among n ns) (eq-eqb k n (same_Som
 -- what is of a class of servers
 of_servers : (k : Option ClassKind) → is_some (sessions_in k) ≡ true → (most session : ℕ) × (k ≡ Some (Server most session))
 unfolding sessions_in sessions_of
-of_servers None e = absurd (false≢true e)
-of_servers (Some Plain) e = absurd (false≢true e)
-of_servers (Some (Active provider)) e = absurd (false≢true e)
 of_servers (Some (Server most session)) e = (most, session, refl)
-of_servers (Some Session) e = absurd (false≢true e)
+of_servers _ e = absurd (false≢true e)
 
 of_class : (class : ℕ) (t : Thing) → is_of_class class t ≡ true → t ≡ An_object_of class
 of_class class (An_object_of c) e = ap An_object_of (eqb-true c class e)
@@ -103,8 +100,7 @@ module _ (p : Image) (m : Parts) (class n : ℕ) (known : IsFirst p m class n) w
   -- it is found with the most sessions that its class takes
   pub first_served : first_of (list_at m.listed class) ≡ Some n → (most session : ℕ) → Server known.most known.session ≡ Server most session →
       Some (record { cell = n; most = most }) ≡ first_server p m.listed class
-  first_served first most session same =
-      ap (λ k. Some (found (most_of (Some k)))) (sym same) ∙ ap (λ k. Some (found (most_of k))) (sym known.kind)
+  first_served first most session same = ap (λ k. Some (found (most_of (Some k)))) (sym same) ∙ ap (λ k. Some (found (most_of k))) (sym known.kind)
       ∙ ap (option_map (λ i. record { cell = i; most = most_of (kind_of p (Some class)) })) (sym first)
     where
       found : ℕ → Asked_server

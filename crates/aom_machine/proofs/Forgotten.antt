@@ -15,12 +15,6 @@ pub record ForgetsFirst (places : List ℕ) (i : ℕ) (old now : Store) : Type 0
 pub none_yet : (places : List ℕ) (store : Store) → AreKept store places → ForgetsFirst places 0 store store
 none_yet places store kept = record { first = record { gone = λ m e. absurd (false≢true e); others = λ m e. refl; count = omega arith; limit = refl }; rest = kept }
 
--- the next one is there
-pub next_kept : (places : List ℕ) (i : ℕ) (store : Store) → i < length places → AreKept store (drop i places) → IsKept store (slice_index_or places i 0)
-next_kept [] i store within kept = absurd (omega (arith, within))
-next_kept (m ∷ ms) zero store within kept = kept.0
-next_kept (m ∷ ms) (suc i) store within kept = next_kept ms i store (omega (arith, within)) kept
-
 -- one more is not among those that come after it, nor among those before
 among_more : (places : List ℕ) (i m : ℕ) → i < length places → is_among m (take (suc i) places) ≡ (is_among m (take i places) || (slice_index_or places i 0 == m))
 among_more [] i m within = absurd (omega (arith, within))
@@ -62,6 +56,3 @@ one_more places i start old now within f ch fewer = record {
 
     others : (m : ℕ) → is_among m (take (suc i) places) ≡ false → message_at now m ≡ message_at start m
     others m e = grind (arith, nat_tests, among_more places i m within, eq-eqb at m)
-
-pub all_gone : (places : List ℕ) (i : ℕ) (old now : Store) → take i places ≡ places → ForgetsFirst places i old now → Forgets places old now
-all_gone places i old now whole f = subst (λ ms. Forgets ms old now) whole f.first

@@ -71,6 +71,5 @@ module _ (p : Image) (m : Parts) (turned : progress_by m.rest.ended m.stack.task
       (s : State) → StandsFor (record { image = p; parts = m }) s → Obeyed (record { image = p; parts = m }) s c command told now (record { image = p; parts = record m { clients = k; messages = store; active = a; rest = record m.rest { delivered = suc m.rest.delivered } } })
   heard k store a told now result lines acts hears s st =
       let b = between s (sym (is_as_far (record { image = p; parts = m }) s st) ∙ turned) in
-      obeys p m s st b.idle c one b k store a told now result lines command
-      (subst (λ x. Acts c command x m.clients k m.messages store result) asks acts)
+      obeys p m s st b.idle c one b k store a told now result lines command (subst (λ x. Acts c command x m.clients k m.messages store result) asks acts)
       (subst (λ x. NotesIf x k m.active a) (changed ∙ ap (λ x. queue_changed x (kept.client_at m.clients c)) asks) hears)

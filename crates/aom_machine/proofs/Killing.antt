@@ -111,23 +111,23 @@ module _ (p : Image) (native : ℕ) where
   hit_request cs id b e = request_after cs id ∙ go (requested cs id) (is_owed (requested cs id)) refl (in_session cs id) (serves p cs native id) ∙ ap (λ x. cond x (terminated_request (requested cs id)) (requested cs id)) e
     where
       go : (q : Option Request) (o : Bool) → is_owed q ≡ o → (i s : Bool) → cond s (terminated_request q) q ≡ cond ((o || i) && s) (terminated_request q) q
-      go q true f i true = refl
-      go q true f i false = refl
       go q false f true true = refl
       go q false f true false = refl
       go q false f false true = ap (λ b. cond b (on_request (completed_with terminated) q) q) f
       go q false f false false = refl
+      go q true f i true = refl
+      go q true f i false = refl
 
   hit_session : (cs : List Cell) (id : ℕ) (b : Bool) → is_hit cs id ≡ b → in_session (after cs) id ≡ cond b false (in_session cs id)
   hit_session cs id b e = session_after cs id ∙ go (is_owed (requested cs id)) (in_session cs id) (serves p cs native id) ∙ ap (λ x. cond x false (in_session cs id)) e
     where
       go : (o i s : Bool) → (not s && i) ≡ cond ((o || i) && s) false i
-      go true i true = refl
-      go true i false = refl
       go false true true = refl
       go false true false = refl
       go false false true = refl
       go false false false = refl
+      go true i true = refl
+      go true i false = refl
 
   -- what clients have is as it was
   many_after : (cs : List Cell) → count_messages (after cs) ≡ count_messages cs
@@ -160,8 +160,7 @@ module _ (p : Image) (native : ℕ) where
   services_bereaved :
       (k : Kept_state) (store : Store) (tokens : Kept_tokens) (table : Table) (clients : List Client) (cs : List Cell) → ((id : ℕ) → serves p cs native id ≡ true → awaited (requested cs id) ≡ None) →
       SameServices p k store tokens table cs clients → SameServices p k store tokens table (after cs) clients
-  services_bereaved k store tokens table clients cs untold same =
-      services_still p cs (after cs) (still_bereaved p native cs)
+  services_bereaved k store tokens table clients cs untold same = services_still p cs (after cs) (still_bereaved p native cs)
       (messages_as p store cs (after cs) (λ n. ap is_a_message ((bereaved_alike p native cs).named_so n)) (λ m w. words_after cs (message_name m) w) (many_after cs))
       (listed_alike p table cs (after cs) (bereaved_alike p native cs).named_so (order_after cs)) (waits_after cs untold) same
 
@@ -274,13 +273,7 @@ module _ (p : Image) (native : ℕ) (old : Parts) (k : ℕ) (now : Parts) (so_fa
     where
       open_next : (s : State) → StandsFor first s → (n : ℕ) (x : Bool) → (k == n) ≡ x →
           is_open new.sessions n ≡ cond x (in_session (all_bereaved p native s.cells) n) (up_to k (in_session (all_bereaved p native s.cells)) (in_session s.cells) n)
-      open_next s st n true same = grind (
-        arith,
-        nat_tests,
-        eqb-true k n same,
-        hit_session p native s.cells k true (hit_in true hit s st),
-        hit_in true hit s st,
-      )
+      open_next s st n true same = grind (arith, nat_tests, eqb-true k n same, hit_session p native s.cells k true (hit_in true hit s st), hit_in true hit s st)
       open_next s st n false other = sets.others n (λ e. eqb-false k n other (sym e)) ∙ so_far.sessions s st n
 
   -- the cell is not

@@ -38,13 +38,12 @@ module _ (p : Image) (s : State) (going : s.rest.ended ≡ None) where
 
   end_lasts : (d : Dispatch) → Lasts (dispatch_ends p d s)
   end_lasts Of_main = main_lasts p s going s.rest.stopped (held s.cells (Elsewhere Root))
-  end_lasts (Main_left code) = inr refl
-  end_lasts Of_root = inr refl
   end_lasts (Of_object x) = object_lasts
   end_lasts (Object_left x code) = asking_lasts (part_of p Answers x.object.thing) x code
   end_lasts (Asks x) = object_lasts
   end_lasts (Answered x answer) = answer_lasts answer
   end_lasts (Of_server x client stage) = stage_lasts x client stage
+  end_lasts _ = inr refl
 
 pub step_lasts : (p : Image) (c : Choice) (s u : State) → step p c s ≡ Goes u → s.rest.ended ≡ None → Lasts u
 step_lasts p c s u e going = grind (

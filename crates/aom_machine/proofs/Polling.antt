@@ -46,8 +46,7 @@ IsOwed m native completion = IfSome completion (λ x. (s : State) × StandsFor m
 
 -- from each state that it stands for the machine takes the poll that completes that
 abbrev pub PollsAll : (native : ℕ) → Option (ℕ × ℤ) → (old new : Machine) → Type 0
-PollsAll native completion old new =
-    (s : State) → StandsFor old s →
+PollsAll native completion old new = (s : State) → StandsFor old s →
     (answer : Option Completion) × Answers s.cells completion answer × AnswersWell old.image s (Polls native answer) × ((told : LineBuffer) → Takes old s (Polls native answer) told told new)
 
 some_request : (q : Option Request) → is_owed q ≡ true → (r : Request) × (q ≡ Some r)

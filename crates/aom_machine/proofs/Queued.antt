@@ -112,8 +112,7 @@ module _ (p : Image) (m : Machine_parts) (s : State) (st : StandsFor (record { i
       )
 
       pub message_there : IsKept m.messages j
-      message_there =
-          waiting_kept p st.typing st.sound.wired s st.typed st.kept.fit m.clients same n m.messages st.agrees.services.messages j
+      message_there = waiting_kept p st.typing st.sound.wired s st.typed st.kept.fit m.clients same n m.messages st.agrees.services.messages j
           (among_places queue j ∙ ap (list_any (is_at j)) at ∙ ap (λ b. b || list_any (is_at j) es) (eq-eqb j j refl))
 
       pub sender_there : sender (kept.place_at m.clients j) < 64
@@ -128,8 +127,7 @@ module _ (p : Image) (m : Machine_parts) (s : State) (st : StandsFor (record { i
     accept_there c es at class thing = grind (arith, nat_tests, first_keeps (Connect c ∷ es) at)
 
     -- the session of the client, and its method
-    pub attend_there :
-        (j : ℕ) (es : List Entry) → queue ≡ Message j ∷ es →
+    pub attend_there : (j : ℕ) (es : List Entry) → queue ≡ Message j ∷ es →
         (o : Object) × (held s.cells (Elsewhere (Session n (sender (kept.place_at m.clients j)))) ≡ Some o)
         × ((kind : ℕ) × HasSession m (sender (kept.place_at m.clients j)) o.name kind × (o.thing ≡ An_object_of kind) × IsSome (role_of p kind Attends_role))
     attend_there j es at =

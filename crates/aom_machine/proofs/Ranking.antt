@@ -74,12 +74,8 @@ runs_alike :
     waiting_rank p (map ranked ms) ≡ waiting_rank p us →
     left_in (method_at p f.method) f.counters place * price p f.method + (over_worth (rank_worths p) f.method (map ranked ms) + waiting_rank p (map ranked ms))
     ≡ left_in (method_at p fr.method) fr.counters place' * price p fr.method + (over_worth (rank_worths p) fr.method us + waiting_rank p us)
-runs_alike p f fr place place' ms us same there below waits = grind (
-  arith,
-  nat_tests,
-  frame_alike p f fr place place' same there,
-  over_alike p fr.method ms us below,
-)
+runs_alike p f fr place place' ms us same there below waits =
+    grind (arith, nat_tests, frame_alike p f fr place place' same there, over_alike p fr.method ms us below)
 
 waits_alike : (p : Image) (ms : List Machine_task) (us : List Task) → SameTasks ms us → waiting_rank p (map ranked ms) ≡ waiting_rank p us
 waits_alike p = by_tasks (λ ms us. waiting_rank p (map ranked ms) ≡ waiting_rank p us) refl (λ m u ms us same rest e.

@@ -138,8 +138,7 @@ module _ (p : Image) (m : Parts) (s : State) (st : StandsFor (record { image = p
       name = named_name s.cells id o lives
 
       none : requested s.cells id ≡ None
-      none =
-          unrequested p o.thing message (states_claim p o st.typed.layers) (requested s.cells id)
+      none = unrequested p o.thing message (states_claim p o st.typed.layers) (requested s.cells id)
           (subst (λ n. Suits (thing_kind p o.thing) (states_claim p o st.typed.layers) (requested s.cells n)) name (st.typed.good.suits o (ap (named s.cells) name ∙ lives)))
 
       past : (b : Bool) → nat_lt id 4096 ≡ b → p.header.cells ≤ id

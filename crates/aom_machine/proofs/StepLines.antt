@@ -50,11 +50,11 @@ going_lines s _ = 0
 writes_one : (p : Image) (s : State) (us : List Task) → length (written_task p s us) ≤ going_lines s us + 1
 writes_one p s [] = omega arith
 writes_one p s (Run fr ∷ ts) = grind (arith, nat_tests, message_one s.cells)
-writes_one p s (Trapped ∷ ts) = omega arith
-writes_one p s (Closing ∷ ts) = omega arith
 writes_one p s (Destroy ∷ ts) = grind (arith, nat_tests, going_one, length-append)
 writes_one p s (Unwind code ∷ ts) = arrival_one code s.items
 writes_one p s (Dispatched (Of_server x c stage) ∷ ts) = stage_one s.cells c stage
+writes_one p s (Trapped ∷ ts) = omega arith
+writes_one p s (Closing ∷ ts) = omega arith
 writes_one p s (Dispatched d ∷ ts) = omega arith
 
 announces_one : (r : Counters) → length (announcement r) ≤ 1

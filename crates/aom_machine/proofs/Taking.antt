@@ -46,8 +46,7 @@ module _ (p : Image) (m : Parts) (turned : progress_by m.rest.ended m.stack.task
     asked = ap is_some (ap (requested s.cells) it_is.name ∙ it_is.asked)
 
     can : HasCaller p (record m { active = a }) id
-    can =
-        subst (λ y. HasCaller p (record m { active = y }) id) (sym same_active)
+    can = subst (λ y. HasCaller p (record m { active = y }) id) (sym same_active)
         (subst (λ i. HasCaller p m i) it_is.name (server_can p m s st (machine_between was s st turned).idle x lives serving it_is.keeps))
 
     module _ (told now : LineBuffer) (new : Parts) (d : ServesFirst p id (record m { active = a }) told now new) where

@@ -153,8 +153,7 @@ module _ (p : Image) (m : Parts) (view : Machine) (is : record { image = p; part
 
   -- and what the machine stands for then it stood for before it
   pub stands_back : (s : State) → StandsFor (record { image = p; parts = record m { rest = record m.rest { delivered = suc m.rest.delivered } } }) s → StandsFor view (record s { rest = view.parts.rest })
-  stands_back s st =
-      subst (λ (x : Machine). StandsFor x (record s { rest = x.parts.rest })) is
+  stands_back s st = subst (λ (x : Machine). StandsFor x (record s { rest = x.parts.rest })) is
       (stands_rest p (record m { rest = record m.rest { delivered = suc m.rest.delivered } }) s m.rest m.rest refl (ap (λ (r : Counters). r.steps) st.agrees.rest) st)
 
   -- the run is over
@@ -468,8 +467,7 @@ module _ (p : Image) (m : Parts) (s : State) (st : StandsFor (record { image = p
           subject = record { number = id; class = d.class }
 
           seat : Of_object (seat_of k.found.candidate.seat.place subject) ≡ Of_object k.found.candidate.seat
-          seat =
-              ap (λ n. Of_object (record { object = record { name = n; thing = An_object_of d.class }; place = k.found.candidate.seat.place })) name
+          seat = ap (λ n. Of_object (record { object = record { name = n; thing = An_object_of d.class }; place = k.found.candidate.seat.place })) name
               ∙ ap (λ t. Of_object (record { object = record { name = object.name; thing = t }; place = k.found.candidate.seat.place })) (sym thing)
 
           dispatch : List Machine_task
@@ -559,10 +557,6 @@ module _ (p : Image) (m : Parts) (turned : progress_by m.rest.ended m.stack.task
           stands = grind (arith, nat_tests, dispatch_stands p m s st idle id k a told now new makes d);
         },
       )
-    where
-      -- it is the line of an object
-      written_plain : (s : State) (x : Seat) → is_server p x.object.thing ≡ false → run_line s x.object ≡ written_by p s (Picks x)
-      written_plain s x plain = grind (arith, nat_tests, plain)
 
   pub picks_none : (a : Active) (told : LineBuffer) (o : Option ℕ) → ((id : ℕ) → o ≡ Some id → ⊥) → meanings.Picks m.active a o → Picked was false told told (record { image = p; parts = record m { active = a } })
   picks_none a told (Some id) not c = absurd (not id refl)

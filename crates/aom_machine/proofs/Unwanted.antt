@@ -44,11 +44,8 @@ module _ (p : Image) (none_named : p.header.natives ≡ 0) (formed : WellFormed 
     none_of_task : (ts : List Task) → wanted_task s p ts ≡ None
     none_of_task [] = refl
     none_of_task (Run fr ∷ ts) = none_at_home fr ts fr.home (exchange_at (instr_at p fr.method fr.place))
-    none_of_task (Trapped ∷ ts) = refl
     none_of_task (Destroy ∷ ts) = none_gone (held s.cells (Going (length ts)))
-    none_of_task (Closing ∷ ts) = refl
-    none_of_task (Unwind code ∷ ts) = refl
-    none_of_task (Dispatched d ∷ ts) = refl
+    none_of_task (_ ∷ ts) = refl
 
     pub unwanted : wanted p s ≡ None
     unwanted = none_of_task s.tasks

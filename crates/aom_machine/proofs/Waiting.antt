@@ -166,14 +166,8 @@ module _ (p : Image) (fr : Frame) (ts : List Task) (s : State) where
       Says (passed_cells p fr ts s depth xs first to cs) (arguments_moved xs first sh)
   arguments_says depth [] first to cs sh deep met says = says
   arguments_says depth (Takes_word ∷ xs) first to cs sh deep met says = arguments_says depth xs (suc first) (suc to) cs sh deep met.1 says
-  arguments_says depth (Takes_own t ∷ xs) first to cs sh deep met says = grind (
-    arith,
-    nat_tests,
-    arguments_says depth xs,
-    emptied cs sh first (Register depth to),
-    higher_apart depth to,
-    no_word,
-  )
+  arguments_says depth (Takes_own t ∷ xs) first to cs sh deep met says =
+      grind (arith, nat_tests, arguments_says depth xs, emptied cs sh first (Register depth to), higher_apart depth to, no_word)
 
   called_says : (target : Target) (class : Option ℕ) (ended : ℕ) (cs : List Cell) (sh : Shape) → Says cs sh → Says cs (while_called target class ended sh)
   called_says x class ended cs sh says i = grind (arith, nat_tests, at-put_at Unset sh.registers, eqb-true, readied_says p)
@@ -206,20 +200,12 @@ begun_wait p t cs o height ts w = grind (arith, nat_tests, destructed_wait p t c
 resumed_wait : (p : Image) (t : Typing) (cs : List Cell) (ts : List Task) → AllWait p t cs ts → OthersWait p t cs (resumed ts)
 resumed_wait p t cs [] w = tt
 resumed_wait p t cs (Run fr ∷ ts) w = w.1
-resumed_wait p t cs (Trapped ∷ ts) w = w
-resumed_wait p t cs (Destroy ∷ ts) w = w
-resumed_wait p t cs (Closing ∷ ts) w = w
-resumed_wait p t cs (Unwind code ∷ ts) w = w
-resumed_wait p t cs (Dispatched d ∷ ts) w = w
+resumed_wait p t cs (_ ∷ ts) w = w
 
 trapped_wait : (p : Image) (t : Typing) (cs : List Cell) (ts : List Task) → AllWait p t cs ts → AllWait p t cs (to_trap ts)
 trapped_wait p t cs [] w = tt
 trapped_wait p t cs (Run fr ∷ ts) w = trapped_wait p t cs ts w.1
-trapped_wait p t cs (Trapped ∷ ts) w = w
-trapped_wait p t cs (Destroy ∷ ts) w = w
-trapped_wait p t cs (Closing ∷ ts) w = w
-trapped_wait p t cs (Unwind code ∷ ts) w = w
-trapped_wait p t cs (Dispatched d ∷ ts) w = w
+trapped_wait p t cs (_ ∷ ts) w = w
 
 -- a session is in no such place
 session_apart : (cs : List Cell) (n : ℕ) (clients : List ℕ) (x : Seat) (q : Place) → ((n c : ℕ) → same_place (Elsewhere (Session n c)) q ≡ false) → first_session cs n clients ≡ Some x → same_place x.place q ≡ false
@@ -240,8 +226,7 @@ module _ (p : Image) (t : Typing) (c : Choice) (s : State) (fr : Frame) (ts : Li
   }
 
   -- for a method that it has called, at that depth
-  calls :
-      (depth m first ended : ℕ) (target : Target) (more : List Need) → length ts < depth → AllTrue (needs_entering p fr ts s target m first more) →
+  calls : (depth m first ended : ℕ) (target : Target) (more : List Need) → length ts < depth → AllTrue (needs_entering p fr ts s target m first more) →
       ((sh : Shape) → while_waiting p (Some i) sh ≡ while_called target (method_class p m) ended (arguments_moved (arguments_of p m) first sh)) →
       AllWait p t (passed_cells p fr ts s depth (arguments_of p m) first 0 s.cells) (Run fr ∷ ts)
   calls depth m first ended target more deep needed is =
@@ -276,10 +261,7 @@ module _ (p : Image) (t : Typing) (c : Choice) (s : State) (fr : Frame) (ts : Li
       stays = subst (OthersWait p t over.cells) (sym at_hand) ended_w
   returns g a (Dispatched d ∷ below) e = subst (AllWait p t over.cells) (sym e) ended_w
   returns g a (Trapped ∷ []) e = subst (OthersWait p t over.cells) (sym at_hand) ended_w
-  returns g a (Trapped ∷ Trapped ∷ below) e = subst (OthersWait p t over.cells) (sym at_hand) ended_w
-  returns g a (Trapped ∷ Destroy ∷ below) e = subst (OthersWait p t over.cells) (sym at_hand) ended_w
-  returns g a (Trapped ∷ Closing ∷ below) e = subst (OthersWait p t over.cells) (sym at_hand) ended_w
-  returns g a (Trapped ∷ Unwind code ∷ below) e = subst (OthersWait p t over.cells) (sym at_hand) ended_w
+  returns g a (_ ∷ below) e = subst (OthersWait p t over.cells) (sym at_hand) ended_w
 
   -- the object of a register goes
   deletes_wait : (o : Object) (a : ℕ) → i ≡ Delete a → W (applied p fr ts s (Destroys o a (put_at None fr.words a None)))
@@ -304,10 +286,7 @@ module _ (p : Image) (t : Typing) (c : Choice) (s : State) (fr : Frame) (ts : Li
 
   -- its registers stay as they are
   pops : (cs : List Cell) → ((x : Shape) → while_waiting p (Some i) x ≡ without_entry x) → ((d j : ℕ) → held cs (Register d j) ≡ held s.cells (Register d j)) → AllWait p t cs (Run fr ∷ ts)
-  pops cs is same = (
-    grind (arith, nat_tests, begins cs),
-    still_wait p t s.cells cs ts (λ d j lt. same d j) w,
-  )
+  pops cs is same = (grind (arith, nat_tests, begins cs), still_wait p t s.cells cs ts (λ d j lt. same d j) w)
 
   -- and so they do while the method that cancels runs
   cancels : i ≡ Cancel → AllWait p t (begun_cells fr s.cells) (Run fr ∷ ts)
@@ -386,22 +365,20 @@ module _ (p : Image) (t : Typing) (c : Choice) (s u : State) (typed : WellTyped 
       begun_wait p t _ x.object _ over (still_wait p t s.cells _ ts (λ d i lt. held_apart s.cells x.place (Going (length over)) (Register d i) (session_apart s.cells o.name (service_of s.cells o.name).sessions x (Register d i) (λ n c. refl) (sym is)) refl) (over_these over top))
 
   ends : (d : Dispatch) → V (dispatch_ends p d (counted p s))
-  ends Of_root = tt
-  ends (Main_left code) = tt
   ends Of_main = main_wait (counted p s) s.rest.stopped (held s.cells (Elsewhere Root))
   ends (Of_object x) = object_wait (counted p s)
   ends (Object_left x code) = asking_waits (part_of p Answers x.object.thing) x code (counted p s)
   ends (Asks x) = object_wait (counted p s)
   ends (Answered x answer) = answer_waits answer (counted p s)
   ends (Of_server x client stage) = stage_waits x client stage (counted p s)
+  ends _ = tt
 
   pub keeps_waiting : V u
   keeps_waiting = go (steps_are_moves p c s u goes)
     where
       go : Move p c s u → V u
       go (Rests still same) = subst V (sym same) others
-      go (Acts fr ts i e top there met fits same) =
-          subst V (sym same)
+      go (Acts fr ts i e top there met fits same) = subst V (sym same)
           (acts_wait p t c (counted p s) fr ts top i there met (runs_typed p t s fr ts typed top) (over_these (Run fr ∷ ts) top) e
           (λ o a words is. let may = subst (May p c fr ts (counted p s) i) is fits in subst V same (deleted fr ts i o a top there may.0 may.1)) fits)
       go (Vanishes ts o top there owns same) =
@@ -409,8 +386,7 @@ module _ (p : Image) (t : Typing) (c : Choice) (s u : State) (typed : WellTyped 
       go (Empties ts o top there same) = subst V (sym same) (parting_waits ts o (first_session s.cells o.name (service_of s.cells o.name).sessions) top refl)
       go (Clears code ts items o top last there same) =
           let cs = moved (Entry (length items)) (Going (suc (length ts))) s.cells in
-          subst V (sym same)
-          (begun_wait p t cs o _ (Unwind code ∷ ts)
+          subst V (sym same) (begun_wait p t cs o _ (Unwind code ∷ ts)
           (still_wait p t s.cells cs ts (λ d i lt. held_apart s.cells (Entry (length items)) (Going (suc (length ts))) (Register d i) refl refl) (over_these (Unwind code ∷ ts) top)))
       go (Undoes code ts items m x top last same) = subst V (sym same) (over_these (Unwind code ∷ ts) top)
       go (Arrives code fr ts items top last same) = subst V (sym same) (over_these (Unwind code ∷ Trapped ∷ Run fr ∷ ts) top).1

@@ -65,9 +65,8 @@ module _ (p : Image) (m : Parts) (s : State) (st : StandsFor (record { image = p
   null_wants none = by_home ∙ go h.frame.home refl
     where
       go : (home : Home) → h.frame.home ≡ home → wanted_by s p h.frame h.below home call ≡ None
-      go Static e = refl
-      go AtRoot e = refl
       go (Inside o from) e = absurd (inside_there p m h o from e none)
+      go _ e = refl
 
   kind_told : (o : Object) → this m ≡ o.name → named s.cells o.name ≡ Some o → is_object o.thing ≡ true → native_of (thing_kind p o.thing) ≡ native_of (kind_of p (class_at m.cells (this m)))
   kind_told o number lives object = grind (arith, nat_tests, kind_same p, object_class p m s st.agrees o lives object)
@@ -76,9 +75,8 @@ module _ (p : Image) (m : Parts) (s : State) (st : StandsFor (record { image = p
   unserved_wants none = by_home ∙ go h.frame.home refl
     where
       go : (home : Home) → h.frame.home ≡ home → wanted_by s p h.frame h.below home call ≡ None
-      go Static e = refl
-      go AtRoot e = refl
       go (Inside o from) e = ap (λ n. wanted_at s h.frame h.below o n call) (kind_told o (inside_number p m h o from e) (housed p m h o from e) (inside_object p m h o from e) ∙ none)
+      go _ e = refl
 
   -- the instruction that is next, and its needs
   module _ (i : Instr) (here : instr_at p (method_here m.stack.tasks) (place_here m.stack.tasks) ≡ Some i) where
@@ -175,9 +173,7 @@ module _ (p : Image) (m : Parts) (s : State) (st : StandsFor (record { image = p
   nothing_going none = wanted_is ∙ ap (wanted_going s object.0) none
 
   pub closes_going : (n : ℕ) → native_of (kind_of p (class_at m.cells (going_here m.stack.tasks))) ≡ Some n → wanted p s ≡ option_map as_wanted (cond (is_open m.sessions (going_here m.stack.tasks)) (Some (Machine_close n (going_here m.stack.tasks))) None)
-  closes_going n serves =
-      wanted_is ∙ ap (wanted_going s object.0) serves
-      ∙ ap (λ k. cond (in_session s.cells k) (Some (Closes n k)) None) (sym number)
+  closes_going n serves = wanted_is ∙ ap (wanted_going s object.0) serves ∙ ap (λ k. cond (in_session s.cells k) (Some (Closes n k)) None) (sym number)
       ∙ ap (λ b. cond b (Some (Closes n (going_here m.stack.tasks))) None) (sym (st.agrees.natives.sessions (going_here m.stack.tasks)))
       ∙ mapped (is_open m.sessions (going_here m.stack.tasks)) (Machine_close n (going_here m.stack.tasks))
 

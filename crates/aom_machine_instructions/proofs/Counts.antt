@@ -23,7 +23,7 @@ use Rattle.aom_safety.specs.Laws.{IsWired}
 use Rattle.aom_semantics.specs.Places.{Cell}
 use Rattle.aom_safety.specs.Tasks.{Below}
 use Rattle.aom_safety.specs.Quiet.{IsCalm, calm, is_clearing}
-use Rattle.aom_semantics.specs.State.{Closing, Destroy, Dispatched, Frame, Item, Run, State, Task, Trapped, Unwind}
+use Rattle.aom_semantics.specs.State.{Dispatched, Frame, Item, Run, State, Task, Trapped, Unwind}
 use Rattle.aom_safety.specs.Traps.{marks, traps}
 use Rattle.aom_safety.specs.WellTyped.{Back, Gone, Leaves, Now, Returns, Stack, WellTyped}
 use Rattle.aom_safety.proofs.Layers.{method_layer}

@@ -14,8 +14,8 @@ use Rattle.aom_classes.proofs.Facts.{all_there, of_method}
 use Rattle.aom_cells.specs.Heap.{Lives, null, class_at}
 use Rattle.aom_rules.specs.Typing.{Typing}
 use Rattle.aom_semantics.specs.Places.{Place, Register, Going, Elsewhere, Root, Object, held}
-use Rattle.aom_semantics.specs.State.{Asks, Frame, Seat, Task, Run, Trapped, Closing, Destroy, Unwind, Dispatched, State}
-use Rattle.aom_safety.specs.Claims.{Ending, Layer, Method as A_method, Mark, Dying, Unwinding, Dispatching, tasks_of}
+use Rattle.aom_semantics.specs.State.{Asks, Frame, Seat, Task, Run, Trapped, Destroy, Unwind, Dispatched, State}
+use Rattle.aom_safety.specs.Claims.{Layer, Method as A_method, Mark, Dying, Unwinding, Dispatching, tasks_of}
 use Rattle.aom_semantics.specs.Moves.{needs}
 use Rattle.aom_safety.specs.WellTyped.{WellTyped, Good, Keeps, Stack, Back, Now, Returns, Caught, Leaves}
 use Rattle.aom_safety.specs.Tasks.{Below}

@@ -8,7 +8,7 @@ use Rattle.aom_cells.specs.Heap.{Lives, null}
 use Rattle.aom_clients.specs.Clients.{State as Machine_clients, client_at, first_there, sessions_at}
 use Rattle.aom_clients.specs.Table.{has_cell, no_cell, server_of, session_of}
 use Rattle.aom_clients.specs.declared.client.Client.{Client}
-use Rattle.aom_clients.specs.declared.client.Client.TheVariants.{Closing, Connecting, Dead, Dying, Gone, Open, Unconnected}
+use Rattle.aom_clients.specs.declared.client.Client.TheVariants.{Closing, Dying, Open}
 use Rattle.aom_image.specs.Image.{Image}
 use Rattle.aom_rules.specs.Typing.{Typing}
 use Rattle.aom_shape.specs.declared.kind.Age.TheVariants.{Ready}

@@ -13,7 +13,7 @@ use Rattle.aom_image.specs.declared.class.ClassDecl.{ClassDecl}
 use Rattle.aom_image.specs.declared.class.ClassKind.{ClassKind}
 use Rattle.aom_image.specs.declared.class.ClassKind.TheVariants.{Active as An_active}
 use Rattle.aom_image.specs.declared.class.Provider.{Provider}
-use Rattle.aom_image.specs.declared.class.Provider.TheVariants.{Own, Timer as A_timer, Native, Token as A_token}
+use Rattle.aom_image.specs.declared.class.Provider.TheVariants.{Timer as A_timer, Native}
 use Rattle.aom_image.specs.declared.method.Role.TheVariants.{Cancel as Cancels_role}
 use Rattle.aom_image.specs.declared.method.Thing.{Thing}
 use Rattle.aom_instructions.specs.declared.instr.Instr.{Instr}
@@ -40,7 +40,7 @@ use Rattle.aom_machine_state.proofs.Heights.{stands_here}
 use Rattle.aom_semantics.specs.Enlisted as enlisted
 use Rattle.aom_semantics.specs.Enlisted.{aborted, begun_cells, cancel_method, cancel_of, cancelling, due_after, first_request, home_kind, in_phase, is_cancelling, is_idle, is_issued, issued_by, issued_of, next_order, next_timer, on_request, own_request, rerequested, status_of, thing_kind, waits, Asking, completed_at_once}
 use Rattle.aom_semantics.specs.Places.{Register, Service, service_of, Cell, Idle, Issued, Object, Phase, Place, Request, in_session, named, requested, set_request}
-use Rattle.aom_semantics.specs.State.{Choice, Frame, Home, Inside, Counters, Run, State, Task, frame_as}
+use Rattle.aom_semantics.specs.State.{Choice, Frame, Home, Inside, Run, State, Task, frame_as}
 use Rattle.aom_semantics.specs.Moves.{needs}
 use Rattle.aom_semantics.specs.Words.{read, word_or_zero}
 use Rattle.aom_safety.proofs.Requesting.{active_listed, issuing_active}
@@ -64,7 +64,6 @@ use Rattle.aom_machine_instructions.specs.Acts as acts
 use Rattle.aom_machine_state.specs.Agrees.{SameFrame, viewed, Agrees, SameCells, SameRequests, Represents, home_number, thing_in, word_at, heard_by}
 use Rattle.aom_machine_state.specs.Fields.{this}
 use Rattle.aom_machine_instructions.specs.Next.{IsNext, counting}
-use Rattle.aom_machine_state.specs.Stands.{Stands}
 use Rattle.aom_machine_instructions.specs.Requests.{Issues, kind_here, provider_of}
 use Rattle.aom_machine_state.proofs.CellFields.{cell_of}
 use Rattle.aom_machine_instructions.proofs.FieldActs.{housed, inside_number, inside_object}
@@ -373,10 +372,6 @@ module _ (p : Image) (m : Parts) where
 
   pub abort_lives : IsNext p Abort m → Lives m.cells (this m)
   abort_lives next = finds_cell p m Abort next (λ c fr ts s n. active_listed (home_kind p fr.home) n.0)
-
-  -- there is a place for the request of each cell
-  pub same_limit : {counts : Counters} → Stands (record { image = p; parts = counting counts m }) → m.active.table.limit ≡ m.cells.limit
-  same_limit stands = stands.1.agrees.requests.limit ∙ sym stands.1.agrees.cells.limit
 
   -- an object that is enlisted is not so yet
   pub enlist_fresh : (priority : ℤ) → IsNext p (Enlist priority) m → request_at m.active.table (this m) ≡ None

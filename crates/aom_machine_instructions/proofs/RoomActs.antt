@@ -51,7 +51,7 @@ use Rattle.aom_semantics.specs.Effects.{Handed, Replied, Calls, Cancels, Carried
 use Rattle.aom_safety.specs.Laws.{IsWired}
 use Rattle.aom_safety.specs.Steps.{Fits as May, FitsUpdate}
 use Rattle.aom_semantics.specs.Places.{Session, Place, Elsewhere, Cell, Entry, Going, Object, Register, Sight, held, moved, same_place, seen, without}
-use Rattle.aom_semantics.specs.State.{Of_server, Dispatch, Accepts, A_mark, An_object, An_operation, AtRoot, Choice, Destroy, Dispatched, Frame, Home, Inside, Item, Run, State, Static, Task, Trapped, Unwind, field_place, frame_as, next, set_word}
+use Rattle.aom_semantics.specs.State.{Of_server, Dispatch, Accepts, A_mark, An_object, An_operation, Choice, Destroy, Dispatched, Frame, Home, Inside, Item, Run, State, Task, Trapped, Unwind, field_place, frame_as, next, set_word}
 use Rattle.aom_safety.specs.WellTyped.{AllUndo, Fits, IsUndo}
 use Rattle.aom_semantics.specs.Words.{here, stored}
 use Rattle.aom_machine_state.specs.Room.{Destructs, IsUnder, NoClosing, below_height, entries_in, may_push}

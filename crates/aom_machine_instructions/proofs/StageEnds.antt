@@ -54,7 +54,7 @@ use Rattle.aom_machine_state.proofs.Telling.{completed_lines, message_told}
 use Rattle.aom_machine_state.proofs.Values.{kept as stays, writes}
 use Rattle.aom_machine_state.specs.Agrees.{Agrees, SameCells, SameNatives, SameRequests, Represents, dispatch_of, number, seat_of, stage_of, subject_of, word_at}
 use Rattle.aom_machine_state.specs.Places.{others, session_with, value_in, with_tasks}
-use Rattle.aom_machine_state.specs.Serving.{message_name, sessionless}
+use Rattle.aom_machine_state.specs.Serving.{message_name}
 use Rattle.aom_machine_state.specs.Services.{SameServices}
 use Rattle.aom_machine_state.specs.Stands.{Stands}
 use Rattle.aom_machine_state.specs.declared.parts.Parts.{Parts}
@@ -205,9 +205,6 @@ module _ (p : Image) (formed : WellFormed p) (m : Parts) (announced : m.rest.ann
       kept_session : ℕ
       kept_session = session_with x.number (kept.client_at m.clients c)
 
-      leaving_sessionless : (n : ℕ) (y : Client) → is_leaving n (sessionless y) ≡ is_leaving n y
-      leaving_sessionless n y = grind arith
-
   -- the message of a service that was left is completed
   module _ (code : ℤ) (e : AtStage p m s x c (stages.ServiceLeft code)) where
     abbrev stage : Machine_stage
@@ -241,9 +238,6 @@ module _ (p : Image) (formed : WellFormed p) (m : Parts) (announced : m.rest.ann
         services = services_completed p t s typed q its.object its.there its.message does.place name wired fits refl sent m.clients m.messages m.tokens m.listed agrees.services mid.messages does.released does.count;
         values = grind (arith, nat_tests, writes, base, served_written (Ends (Of_one x) ∷ []) m.cells m.entries.items, stays, held_without s.cells);
       }
-        where
-          same_values : (r : Place) → value_in (Ends (Of_one x) ∷ []) m.cells m.entries.items (record (others m) { clients = k }) r ≡ value_in (Ends (Of_one x) ∷ []) m.cells m.entries.items (others m) r
-          same_values r = grind arith
 
       told : completion_lines (completion (kept.place_at m.clients does.place)) code ≡ message_line s.cells (held s.cells q) code
       told = same_lines (completion (kept.place_at m.clients does.place))

@@ -325,10 +325,6 @@ module _ (m : Parts) (refused : List ℕ) (a class : ℕ) (small : a < 16) (clas
   hand_does n new (inl does) = grind (arith, nat_tests, hand_none new)
   hand_does n new (inr does) = hand_one n new does
 
--- the method is as it was
-pub hand_rest : (n id class : ℕ) (old new : Parts) → Hands n id class old new → new.stack ≡ old.stack
-hand_rest n id class old new x = grind arith
-
 -- what the code needs to know of it
 module _ (p : Image) (m : Parts) (a : ℕ) (next : IsNext p (Hand a) m) where
   abbrev known : At_hand p (counting next.counts m)

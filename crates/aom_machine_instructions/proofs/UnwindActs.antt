@@ -9,7 +9,7 @@ use Rattle.std.proofs.lemmas.List.{length-set}
 use Rattle.aom_image.specs.Image.{Image}
 use Rattle.aom_image.specs.Views.{instr_at}
 use Rattle.aom_image.specs.declared.method.Gives.{Gives}
-use Rattle.aom_image.specs.declared.method.Gives.TheVariants.{Left, Maybe as A_maybe, Nothing, Own as An_own, Word as A_word}
+use Rattle.aom_image.specs.declared.method.Gives.TheVariants.{Maybe as A_maybe, Own as An_own, Word as A_word}
 use Rattle.aom_cells.specs.Heap.{null}
 use Rattle.aom_cleanup.specs.Items.{Stack as Machine_items, IsAboveMark, IsMarked}
 use Rattle.aom_cleanup.specs.declared.item.Item.{Item as Machine_item}

@@ -8,7 +8,7 @@ use Rattle.std.proofs.lemmas.List.Folds.{list_any-append}
 use Rattle.std.proofs.lemmas.Option.{none-some, same_Some}
 use Rattle.aom_clients.specs.Clients.{State, after_next_gone, first_entry, gone, going, place_at, queue_at, queue_gone, sessions_at, taken_entry, with_queue}
 use Rattle.aom_clients.specs.declared.entry.Entry.{Entry}
-use Rattle.aom_clients.specs.declared.entry.Entry.TheVariants.{Connect, Message, Close}
+use Rattle.aom_clients.specs.declared.entry.Entry.TheVariants.{Message}
 use Rattle.aom_clients.specs.declared.entry.Taken.{Taken}
 use Rattle.aom_messages.specs.Store.{Store, message_at}
 use Rattle.aom_lines.specs.LineBuffer.{LineBuffer}
