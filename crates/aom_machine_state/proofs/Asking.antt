@@ -11,7 +11,7 @@ use Rattle.aom_safety.proofs.Counts.{count_asked}
 use Rattle.aom_semantics.specs.Calls.{passed_cells}
 use Rattle.aom_semantics.specs.Places.{Cell, Object, Place, Register, Request, Service, Tidy, held, moved, named, requested, service_of, set_service, set_word_field, with_new, without, Elsewhere, Root, set_request, word_field}
 use Rattle.aom_semantics.specs.Clients.{each_unslotted}
-use Rattle.aom_semantics.specs.State.{AtRoot, Frame, Home, Inside, State, Static, Task}
+use Rattle.aom_semantics.specs.State.{Frame, Home, Inside, State, Task}
 use Rattle.aom_semantics.specs.Words.{here, stored}
 use Rattle.aom_requests.specs.Requests.{request_at}
 use Rattle.aom_semantics.proofs.Maps.{named_moved, requested_moved, requested_without, unrequested}

@@ -1,6 +1,6 @@
 -- A message is completed: its cell goes, its place and its slot are free, and all else goes on standing for what it stood for.
 use Rattle.std.proofs.lemmas.Bool.Decides.{nat_tests}
-use Rattle.std.proofs.Common.{Bool, List, None, Option, Some, [], ap, arith, cond, false, length, refl, subst, suc, sym, true, ℕ, ◌+◌, ◌<◌, ◌==◌, ◌∙◌, ◌∷◌, ◌≡◌, ◌≤◌, ◌⊎◌, inl, inr}
+use Rattle.std.proofs.Common.{Bool, List, None, Some, [], ap, arith, cond, false, length, refl, subst, suc, sym, true, ℕ, ◌+◌, ◌<◌, ◌==◌, ◌∙◌, ◌∷◌, ◌≡◌, ◌≤◌, ◌⊎◌, inl, inr}
 use Rattle.std.specs.List.{list_any}
 use Rattle.std.specs.Prelude.{filter, map, ◌-◌, ◌||◌}
 use Rattle.std.proofs.lemmas.Bool.{cases_lt, eq-eqb, eqb-true, false≢true, ne_eqb}
@@ -14,8 +14,7 @@ use Rattle.aom_clients.specs.Table.{is_out_of, is_queued}
 use Rattle.aom_semantics.proofs.Maps.{read_unnamed, read_without, unnamed}
 use Rattle.aom_safety.proofs.Parting.{among_others, among_parted}
 use Rattle.aom_safety.proofs.Services.{service_unnamed, service_without}
-use Rattle.aom_safety.proofs.Sifted.{cell_name, cell_of, cell_placed, held_cell, object_in, service_cell, service_in}
-use Rattle.aom_semantics.specs.Places.{Cell, Object, Place as Owner, Service, Tidy, held, named, same_place, service_of, unserved, without}
+use Rattle.aom_semantics.specs.Places.{Cell, Object, Place as Owner, Service, Tidy, held, named, service_of, unserved, without}
 use Rattle.aom_semantics.specs.Servers.{holds_slot, is_among, is_message, is_other, slots_taken}
 use Rattle.aom_machine_state.proofs.Serving.{asked_apart, at_set, names_apart, owners, slots_of}
 use Rattle.aom_machine_state.specs.Serving.{Once, SameClients, asked_by, holds, message_name, owner_of, sent_by, waits_in}
@@ -57,7 +56,7 @@ module _ (d : ℕ) (c : Cell) (cs : List Cell) (ms : List ℕ) (tidy : Tidy (c �
 
   -- nothing behind it has its name
   own : (n : ℕ) → (k == n) ≡ true → holds_slot d (service_of cs n).sender ≡ false
-  own n e = ap (λ i. holds_slot d (service_of cs i).sender) (sym (eqb-true k n e)) ∙ ap (λ (v : Service). holds_slot d v.sender) (service_unnamed cs k tidy.1)
+  own n e = grind (arith, nat_tests, eqb-true, service_unnamed)
 
   behind : holds_slot d c.service.sender ≡ false → (n : ℕ) → holds_slot d (service_of (c ∷ cs) n).sender ≡ holds_slot d (service_of cs n).sender
   behind none n = grind (arith, nat_tests, own n)
@@ -68,8 +67,8 @@ module _ (d : ℕ) (c : Cell) (cs : List Cell) (ms : List ℕ) (tidy : Tidy (c �
     there = same m ∙ ap (λ b. holds_slot d (cond b c.service (service_of cs (message_name m))).sender) (eq-eqb k (message_name m) name) ∙ holds
 
     others : (j : ℕ) (b : Bool) → (m == j) ≡ b → is_among j (filter (is_other m) ms) ≡ holds_slot d (service_of cs (message_name j)).sender
-    others j true e = ap (λ i. is_among i (filter (is_other m) ms)) (sym (eqb-true m j e)) ∙ among_parted m ms ∙ sym (own (message_name j) (eq-eqb k (message_name j) (name ∙ ap message_name (eqb-true m j e))))
-    others j false e = among_others j m ms e ∙ same j ∙ ap (λ b. holds_slot d (cond b c.service (service_of cs (message_name j))).sender) (ap (λ i. i == message_name j) name ∙ names_apart m j e)
+    others j true e = grind (arith, nat_tests, eqb-true, among_parted, own, eq-eqb)
+    others j false e = grind (arith, nat_tests, among_others j, names_apart)
 
     silent_behind : (n : ℕ) → n < 4096 → holds_slot d (service_of cs n).sender ≡ false
     silent_behind n small = sym (ap (λ b. holds_slot d (cond b c.service (service_of cs n)).sender) (ne_eqb k n (λ at. absurd (omega (arith, at, small, name))))) ∙ silent n small
@@ -109,11 +108,7 @@ module _ (s : kept.State) (cs : List Cell) (clients : List Client) (same : SameC
 
   -- what holds where nothing is, and of all others
   by_gone : (P : ℕ → Service → Type 0) → P (message_name m) unserved → ((n : ℕ) → (message_name m == n) ≡ false → P n (service_of cs n)) → (n : ℕ) → P n (service_of left n)
-  by_gone P here others n = go (message_name m == n) refl
-    where
-      go : (b : Bool) → (message_name m == n) ≡ b → P n (service_of left n)
-      go true e = subst (λ k. P k (service_of left k)) (eqb-true (message_name m) n e) (subst (λ v. P (message_name m) v) (sym gone) here)
-      go false e = subst (λ v. P n v) (sym (service_without cs g o n tidy there (ap (λ k. k == n) name ∙ e))) (others n e)
+  by_gone P here others n = grind (arith, nat_tests, eqb-true, gone, service_without, there, others n)
 
   places_at : (j : ℕ) → kept.place_at then j ≡ cond (m == j) Free (kept.place_at s j)
   places_at j = at_set Free s.places m j Free place

@@ -9,11 +9,11 @@ use Rattle.aom_cleanup.specs.declared.item.Item.{Item}
 use Rattle.aom_clients.specs.Clients as kept
 use Rattle.aom_clients.specs.Clients.{client_at, queue_at}
 use Rattle.aom_clients.specs.Nodes.{is_leaving}
-use Rattle.aom_clients.specs.Table.{no_cell, released, server_of}
+use Rattle.aom_clients.specs.Table.{no_cell, server_of}
 use Rattle.aom_clients.specs.declared.client.Client.{Client}
 use Rattle.aom_clients.specs.declared.client.Client.TheVariants.{Closing, Connecting, Dead, Dying, Open, Unconnected}
 use Rattle.aom_clients.specs.declared.entry.Entry.{Entry}
-use Rattle.aom_clients.specs.declared.entry.Entry.TheVariants.{Close, Connect, Message}
+use Rattle.aom_clients.specs.declared.entry.Entry.TheVariants.{Message}
 use Rattle.aom_clients.specs.declared.place.Place.{Place as Message_place}
 use Rattle.aom_frames.specs.declared.task.Task.{Task as Machine_task}
 use Rattle.aom_image.specs.Image.{Image}
@@ -29,7 +29,7 @@ use Rattle.aom_safety.proofs.Services.{service_unnamed}
 use Rattle.aom_safety.proofs.Straight.{fits_unowning}
 use Rattle.aom_safety.specs.Claims.{declared}
 use Rattle.aom_safety.specs.Kept.{ClientsFit}
-use Rattle.aom_semantics.specs.Places.{Cell, Elsewhere, Entry as Entry_at, Field, Going, In_service, Object, Other, Place, Queued, Register, Root, Session, changed, held, seen, service_of}
+use Rattle.aom_semantics.specs.Places.{Cell, Elsewhere, Object, Other, Place, Queued, Session, changed, held, seen, service_of}
 use Rattle.aom_semantics.specs.Servers.{has_message, is_message}
 use Rattle.aom_semantics.specs.State.{State, Task}
 use Rattle.aom_safety.specs.WellTyped.{Fits, WellTyped}
@@ -126,17 +126,7 @@ module _ (others : Others) (us : List Machine_task) (h : Heap) (es : List Item) 
 
   -- the cell of a session is at hand to go
   pub session_released : server_of (client_at s c) ≡ Some k → (r : Place) → after (kept.after_release c s) r ≡ changed before (Elsewhere (Session k c)) null r
-  session_released with_it r = session_written others (kept.after_release c s) c k null (sessions_now s (kept.after_release c s) c k null (released (client_at s c)) (client_now s c (released (client_at s c)) client) (λ n. here (client_at s c) with_it n)) (λ n m. refl) us h es r
-    where
-      none : (b : Bool) (x : ℕ) → cond b (session_number no_cell) null ≡ cond b null (cond b x null)
-      none true x = refl
-      none false x = refl
-
-      at : (server session n : ℕ) → Some server ≡ Some k → cond (server == n) (session_number no_cell) null ≡ cond (k == n) null (cond (server == n) (session_number session) null)
-      at server session n e = let same : server ≡ k = cc in none (server == n) (session_number session) ∙ ap (λ i. cond (i == n) null (cond (server == n) (session_number session) null)) same
-
-      here : (x : Client) → server_of x ≡ Some k → (n : ℕ) → session_with n (released x) ≡ cond (k == n) null (session_with n x)
-      here x e n = grind arith
+  session_released with_it r = grind (arith, nat_tests, session_written, sessions_now, client_now)
 
   -- the same places have the same numbers
   unmoved : (s' : kept.State) → ((n d : ℕ) → session_with n (client_at s' d) ≡ session_with n (client_at s d)) → ShowSame s s' → (r : Place) → after s' r ≡ before r

@@ -5,7 +5,7 @@ use Rattle.std.specs.Prelude.{is_some, ◌||◌}
 use Rattle.std.proofs.lemmas.Bool.{eq-eqb, eqb-true, false≢true, ne_eqb}
 use Rattle.aom_image.specs.Image.{Image}
 use Rattle.aom_roles.specs.Things.{is_object}
-use Rattle.aom_messages.specs.Store.{Store, count, message_at, word_at, word_of}
+use Rattle.aom_messages.specs.Store.{Store, count, message_at, word_at}
 use Rattle.aom_roles.specs.Tables.{at}
 use Rattle.aom_semantics.proofs.Maps.{same_place-true, same_place_refl, tidy_without, without_none}
 use Rattle.aom_safety.proofs.ClientsReturn.{without_so}
@@ -33,13 +33,7 @@ cell_without cs q n tidy = grind (arith, nat_tests, cell_of, without_so q cs, ce
 
 -- what is there then was there, and was at another place
 before_without : (cs : List Cell) (q : Owner) (n : ℕ) (y : Cell) → Tidy cs → cell_of (without q cs) n ≡ Some y → (cell_of cs n ≡ Some y) × (same_place y.owner q ≡ false)
-before_without cs q n y tidy e = go (cell_of cs n) refl (sym (cell_without cs q n tidy) ∙ e)
-  where
-    at : (z : Cell) → cell_of cs n ≡ Some z → (b : Bool) → same_place z.owner q ≡ b → cond b None (Some z) ≡ Some y → (cell_of cs n ≡ Some y) × (same_place y.owner q ≡ false)
-    at z f x g h = grind arith
-
-    go : (x : Option Cell) → cell_of cs n ≡ x → left_cell (λ c. same_place c.owner q) (λ c. c.service) x ≡ Some y → (cell_of cs n ≡ Some y) × (same_place y.owner q ≡ false)
-    go x f h = grind arith
+before_without cs q n y tidy e = grind (arith, nat_tests, cell_of cs n, cell_without cs q n tidy, left_cell)
 
 -- ---- some go that are messages
 
@@ -180,9 +174,4 @@ module _ (drops : Cell → Bool) (f : Cell → Service) where
 
       words : (m w : ℕ) (b : Bool) → is_among m places ≡ b → word_at after m w ≡ word_field (left cs) (message_name m) w
       words m w true h = grind (arith, nat_tests, gone m h, words_cell, went m h)
-      words m w false h =
-          ap (λ x. word_of x w) (others m h) ∙ same.words m w ∙ words_cell cs (message_name m) w ∙ sym (words_cell (left cs) (message_name m) w ∙ ap (λ x. words_in x w) (cell_left (message_name m)) ∙ go (cell_of cs (message_name m)) refl)
-        where
-          go : (x : Option Cell) → cell_of cs (message_name m) ≡ x → words_in (left_cell drops f x) w ≡ words_in x w
-          go None e = refl
-          go (Some x) e = ap (λ b. words_in (cond b None (Some (record x { service = f x }))) w) (stays m h x e)
+      words m w false h = grind (arith, nat_tests, words_cell, cell_left, cell_of, left_cell, stays m h)

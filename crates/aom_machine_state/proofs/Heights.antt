@@ -13,7 +13,7 @@ use Rattle.aom_safety.proofs.Items.{length_forms}
 use Rattle.aom_safety.proofs.Straight.{fits_unowning, register_fits}
 use Rattle.aom_safety.specs.Claims.{Dispatching, Dying, Ending, Form, Layer, Mark, Method, Unwinding, forms, items_of, objects, tasks_of}
 use Rattle.aom_semantics.specs.Places.{Cell, Entry, Register, held, seen}
-use Rattle.aom_semantics.specs.State.{An_object, An_operation, Closing, Destroy, Dispatched, Frame, Item, Run, State, Task, Trapped, Unwind, home_holder}
+use Rattle.aom_semantics.specs.State.{An_object, An_operation, Frame, Item, Run, State, Task, Trapped, Unwind, home_holder}
 use Rattle.aom_safety.specs.WellTyped.{Houses, Back, Caught, Fits, Gone, Good, CountsAs, Leaves, Now, Returns, Stack, WellTyped}
 use Rattle.aom_safety.proofs.Layers.{leave_layer, method_layer}
 use Rattle.aom_machine_state.specs.Room.{below_height, entries_in}

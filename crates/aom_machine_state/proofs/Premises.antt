@@ -29,7 +29,7 @@ use Rattle.aom_semantics.specs.Clients.{client_at}
 use Rattle.aom_safety.specs.Kept.{ClientsFit, EntryFits, QueueFits, is_close_of, is_connect_of, is_message_of}
 use Rattle.aom_safety.specs.Laws.{IsWired}
 use Rattle.aom_semantics.specs.Places.{Asked, Cell, Close_of, Connect_of, Elsewhere, Message_of, Object, Place as Owner, Queued as Waits_at, Sender, Service, Tidy, held, named, same_place, service_of}
-use Rattle.aom_semantics.specs.Servers.{has_message, holds_slot, is_among, is_from, is_message, is_queue}
+use Rattle.aom_semantics.specs.Servers.{has_message, is_among, is_from, is_message, is_queue}
 use Rattle.aom_semantics.specs.State.{State}
 use Rattle.aom_safety.specs.WellTyped.{WellTyped}
 use Rattle.aom_machine_state.proofs.Departing.{is_at}
@@ -85,10 +85,7 @@ waits_each : (places : List Place) (es : List Entry) → ((j : ℕ) → list_any
 waits_each places [] h = tt
 waits_each places (Connect c ∷ es) h = waits_each places es h
 waits_each places (Close c ∷ es) h = waits_each places es h
-waits_each places (Message k ∷ es) h = (h k (ap (λ b. b || list_any (is_at k) es) (eq-eqb k k refl)), waits_each places es (λ j e. h j (later (k == j) (list_any (is_at j) es) e)))
-  where
-    later : (a b : Bool) → b ≡ true → (a || b) ≡ true
-    later x b y = grind arith
+waits_each places (Message k ∷ es) h = grind (arith, nat_tests, is_at k, eq-eqb k k, waits_each places es, is_at)
 
 -- ---- clients of stages
 
@@ -138,14 +135,7 @@ module _ (p : Image) (t : Typing) (wired : IsWired p) (s : State) (w : WellTyped
 
   -- nor of what is owned elsewhere
   pub owned_nowhere : (g : Owner) (o : Object) → held s.cells g ≡ Some o → is_queue g ≡ false → (n : ℕ) → has_message (service_of s.cells n) o.name ≡ false
-  owned_nowhere g o there apart n = go (has_message (service_of s.cells n) o.name) refl
-    where
-      go : (b : Bool) → has_message (service_of s.cells n) o.name ≡ b → b ≡ false
-      go false e = refl
-      go true e =
-          let x = waiting_there n o.name e in
-          let one = one_place s.cells g (Elsewhere (Waits_at n o.name)) o x.0 w.good.tidy there x.1 (sym x.2) in
-          absurd (false≢true (sym apart ∙ ap is_queue one))
+  owned_nowhere g o there apart n = grind (arith, nat_tests, waiting_there n o.name, one_place)
 
   -- ---- beside the machine's
 
@@ -197,8 +187,7 @@ module _ (p : Image) (t : Typing) (wired : IsWired p) (s : State) (w : WellTyped
 
     -- a message that has a sender and is owned elsewhere was taken, and is completed once
     pub completes_at : (g : Owner) (o : Object) (m : ℕ) → held s.cells g ≡ Some o → is_queue g ≡ false → has_sender s.cells o.name ≡ true → o.name ≡ message_name m → IsSome (completion (kept.place_at k m))
-    completes_at g o m there apart sent name =
-        grind (arith, nat_tests, taken_sent k s.cells clients same m, has_sender s.cells, owner_held s.cells w.good.tidy g o there)
+    completes_at g o m there apart sent name = grind (arith, nat_tests, taken_sent, has_sender, owner_held)
 
 -- a client that is at something is one of those that there are
 module _ (cs : List Cell) (clients : List Client) (k : kept.State) (same : SameClients k cs clients) (c : ℕ) where

@@ -1,6 +1,6 @@
 -- A token is replied to: the request that waits for it is completed, or none where it is void, and all that the machine keeps goes on standing for the cells: by the one object that may wait for it.
 use Rattle.std.proofs.lemmas.Bool.Decides.{nat_tests}
-use Rattle.std.proofs.Common.{Bool, List, None, Option, Some, [], ap, arith, cond, false, length, pos, refl, subst, suc, sym, true, ℕ, ℤ, ◌+◌, ◌==◌, ◌≤◌, ◌∙◌, ◌∷◌, ◌≡◌}
+use Rattle.std.proofs.Common.{Bool, List, None, Option, Some, [], ap, arith, cond, false, length, refl, subst, suc, sym, true, ℕ, ℤ, ◌+◌, ◌==◌, ◌≤◌, ◌∙◌, ◌∷◌, ◌≡◌}
 use Rattle.std.specs.Prelude.{is_some, option_map}
 use Rattle.std.proofs.lemmas.Bool.{eq-eqb, eqb-true, false≢true, ne_eqb}
 use Rattle.std.proofs.lemmas.Option.{same_Some}
@@ -18,7 +18,6 @@ use Rattle.aom_messages.specs.Store.{Changes, Store, count}
 use Rattle.aom_queues.specs.Lists.{Table}
 use Rattle.aom_rules.specs.Typing.{Typing}
 use Rattle.aom_native_sessions.specs.Sessions.{Standing}
-use Rattle.aom_roles.specs.Tables.{at}
 use Rattle.aom_safety.proofs.Apart.{living_waits, redeems_none, redeems_one, void_waits_none}
 use Rattle.aom_semantics.proofs.Maps.{held_lives, unnamed}
 use Rattle.aom_safety.proofs.Redeeming.{redeemed_alike, redeeming, requested_redeemed}
@@ -28,10 +27,10 @@ use Rattle.aom_safety.proofs.Things.{message_plain}
 use Rattle.aom_semantics.specs.Clients.{count_messages}
 use Rattle.aom_semantics.specs.Enlisted.{on_request}
 use Rattle.aom_safety.specs.Kept.{IsKept}
-use Rattle.aom_semantics.specs.Places.{Cell, Object, Place, Request, Service, Token, count_cells, held, in_session, named, requested, service_of, unserved, without, word_field}
-use Rattle.aom_semantics.specs.Servers.{holds_slot, is_queue, slots_taken}
+use Rattle.aom_semantics.specs.Places.{Cell, Object, Place, Request, Service, Token, held, named, requested, service_of, unserved, without, word_field}
+use Rattle.aom_semantics.specs.Servers.{is_queue}
 use Rattle.aom_semantics.specs.State.{State}
-use Rattle.aom_semantics.specs.Tokens.{TokensApart, all_redeemed, awaited, order_in, redeemed, redeemed_request, redeemed_with}
+use Rattle.aom_semantics.specs.Tokens.{TokensApart, all_redeemed, awaited, order_in, redeemed_request, redeemed_with}
 use Rattle.aom_safety.specs.WellTyped.{WellTyped}
 use Rattle.aom_tokens.specs.Tokens.{Kept, Sets, class_at, class_kept, is_at, live_at, object_at, object_kept, token_at}
 use Rattle.aom_tokens.specs.Tokens as kept

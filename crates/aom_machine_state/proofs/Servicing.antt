@@ -1,6 +1,6 @@
 -- What stands for clients goes on through each part of a service, and through the going of a cell: with the premises that a well-typed state whose clients are kept gives.
 use Rattle.std.proofs.lemmas.Bool.Decides.{nat_tests}
-use Rattle.std.proofs.Common.{Bool, List, None, Some, [], ap, arith, cond, false, length, refl, subst, sym, true, ℕ, ◌<◌, ◌==◌, ◌∙◌, ◌∷◌, ◌≡◌, slice_set}
+use Rattle.std.proofs.Common.{List, None, Some, [], ap, arith, cond, false, length, refl, subst, sym, true, ℕ, ◌<◌, ◌==◌, ◌∙◌, ◌∷◌, ◌≡◌}
 use Rattle.std.specs.List.{list_any}
 use Rattle.std.specs.Prelude.{◌||◌}
 use Rattle.std.proofs.lemmas.Bool.{eq-eqb, eqb-true}
@@ -18,19 +18,17 @@ use Rattle.aom_image.specs.Image.{Image}
 use Rattle.aom_rules.specs.Typing.{Typing}
 use Rattle.aom_semantics.proofs.Maps.{held_lives}
 use Rattle.aom_safety.proofs.Services.{service_moved}
-use Rattle.aom_semantics.specs.Calls.{accepted_cells, accepted_clients}
-use Rattle.aom_semantics.specs.Clients.{at_opening, at_parting, client_at, each_unslotted, queue_ended, sessions_ended, with_client}
+use Rattle.aom_semantics.specs.Clients.{at_parting, client_at, each_unslotted, queue_ended, sessions_ended, with_client}
 use Rattle.aom_safety.specs.Kept.{ClientsFit, StageKept}
 use Rattle.aom_safety.specs.Laws.{IsWired}
-use Rattle.aom_semantics.specs.Places.{Cell, Elsewhere, In_service, Object, Place as Owner, Queued as Waits_at, Service, Session, held, moved, named, same_place, service_of, set_service, without}
-use Rattle.aom_semantics.specs.Servers.{is_message, is_queue, is_server, opened, parted, reserved, taken_first, without_queue}
-use Rattle.aom_semantics.specs.State.{Accepts, Of_server, Parts, Seat, State}
+use Rattle.aom_semantics.specs.Places.{Cell, Elsewhere, In_service, Object, Place as Owner, Queued as Waits_at, Service, held, moved, named, same_place, service_of, set_service, without}
+use Rattle.aom_semantics.specs.Servers.{is_message, is_queue, is_server, parted, reserved, taken_first, without_queue}
+use Rattle.aom_semantics.specs.State.{Accepts, Parts, Seat, State}
 use Rattle.aom_safety.specs.WellTyped.{WellTyped}
 use Rattle.aom_machine_state.proofs.Completing.{same_completed}
 use Rattle.aom_machine_state.proofs.Departing.{at_set_or, is_at}
 use Rattle.aom_machine_state.proofs.Premises.{asked_there, closes_nowhere, connecting_below, connects_nowhere, goes_there, leaving_below, messages_wait, owned_nowhere, owner_waiting, queue_empty, session_alone, waiting_there, waits_apart}
-use Rattle.aom_machine_state.proofs.Serving.{listed_as, same_opened, same_parted, same_served, same_taken, same_unopened}
-use Rattle.aom_machine_state.proofs.Still.{same_still, still_moved}
+use Rattle.aom_machine_state.proofs.Serving.{listed_as, same_parted, same_served, same_taken, same_unopened}
 use Rattle.aom_machine_state.proofs.Vanishing.{same_vanished}
 use Rattle.aom_machine_state.proofs.Withdrawing.{AllWait}
 use Rattle.aom_machine_state.specs.Serving.{AreSized, SameClients, message_name, sessionless}
@@ -46,14 +44,16 @@ released_sessionless x = grind arith
 -- ---- a session is at hand to go
 
 pub same_released : (k : kept.State) (cs : List Cell) (clients : List Client) → SameClients k cs clients → (c : ℕ) → SameClients (kept.after_release c k) cs clients
-same_released k cs clients same c = listed_as k cs clients clients (slice_set k.clients c (released (kept.client_at k c))) k.queues same at same.queues (length-set k.clients c (released (kept.client_at k c)))
-  where
-    at : (d : ℕ) → sessionless (kept.client_at (kept.after_release c k) d) ≡ client_at clients d
-    at d = ap sessionless (at_set_or Unconnected k.clients c d (released (kept.client_at k c)) (λ large. ap released (get_or_past k.clients c Unconnected large))) ∙ go (c == d) refl ∙ same.at d
-      where
-        go : (b : Bool) → (c == d) ≡ b → sessionless (cond b (released (kept.client_at k c)) (kept.client_at k d)) ≡ sessionless (kept.client_at k d)
-        go true e = released_sessionless (kept.client_at k c) ∙ ap (λ i. sessionless (kept.client_at k i)) (eqb-true c d e)
-        go false e = refl
+same_released k cs clients same c = grind (
+  arith,
+  nat_tests,
+  listed_as k cs clients clients,
+  length-set k.clients c,
+  at_set_or Unconnected k.clients c,
+  get_or_past k.clients c Unconnected,
+  released_sessionless,
+  eqb-true c,
+)
 
 -- ---- where cells move, and what clients have at one changes
 
@@ -71,17 +71,6 @@ module _ (p : Image) (t : Typing) (wired : IsWired p) (s : State) (w : WellTyped
   module _ (x : Seat) (c : ℕ) (lives : named s.cells x.object.name ≡ Some x.object) (below : x.object.name < cells) (kept_so : StageKept p s.clients s.cells x.object c Accepts) where
     session_room : x.object.name < length k.sessions
     session_room = subst (λ n. x.object.name < n) (sym sized.sessions) below
-
-    pub same_accepted : (session : ℕ) (from : Owner) → is_queue from ≡ false →
-        SameClients (kept.after_connected c (Some session) k) (accepted_cells (Of_server x c Accepts) from s.cells) (accepted_clients (Of_server x c Accepts) s.clients)
-    same_accepted session from apart =
-        let at = connecting_here k s.cells s.clients same x.object.name c kept_so.0 in
-        let none = connects_nowhere p s.clients s.cells fit x.object.name c kept_so.0 kept_so.1 in
-        let now : SameClients (kept.after_connected c (Some session) k) (reserved (opened c) x.object.name s.cells) (with_client c (at_opening 0 (client_at s.clients c)) s.clients) =
-        subst (λ y. SameClients (kept.opened y (Some session) c k) (reserved (opened c) x.object.name s.cells) (with_client c (at_opening 0 (client_at s.clients c)) s.clients)) (sym at.1)
-        (same_opened k s.cells s.clients same x.object lives c (connecting_below s.cells s.clients k same c x.object.name kept_so.0) at.0 session at.1 none session_room) in
-        subst (λ l. SameClients (kept.after_connected c (Some session) k) l (with_client c (at_opening 0 (client_at s.clients c)) s.clients)) (sym (reserved_moved (opened c) s.cells from (Elsewhere (Session x.object.name c)) x.object.name))
-        (same_still (kept.after_connected c (Some session) k) (reserved (opened c) x.object.name s.cells) _ _ (still_moved (reserved (opened c) x.object.name s.cells) from (Elsewhere (Session x.object.name c)) apart) now)
 
     -- or left
     pub same_unaccepted : SameClients (kept.after_connected c None k) s.cells (with_client c Unconnected s.clients)

@@ -1,11 +1,11 @@
 -- What stands for clients, queues and message places goes on standing for them through each command and each part of a service.
 use Rattle.std.proofs.lemmas.Bool.Decides.{nat_tests}
-use Rattle.std.proofs.Common.{Bool, List, None, Option, Some, [], ap, cond, false, length, refl, slice_index_or, slice_set, subst, suc, sym, true, zero, ℕ, ℤ, ◌+◌, ◌&&◌, ◌<◌, ◌++◌, ◌==◌, ◌∙◌, ◌∷◌, ◌≡◌, arith}
+use Rattle.std.proofs.Common.{Bool, List, None, Option, Some, [], ap, cond, false, length, refl, slice_index_or, slice_set, subst, sym, true, ℕ, ℤ, ◌<◌, ◌++◌, ◌==◌, ◌∙◌, ◌∷◌, ◌≡◌, arith}
 use Rattle.std.specs.List.{list_any}
 use Rattle.std.specs.Prelude.{filter, is_some, map, not, ◌||◌}
 use Rattle.std.proofs.lemmas.Bool.{eq-eqb, eqb-true, false≢true, ne_eqb}
 use Rattle.std.proofs.Math.ListN.{get_or-map}
-use Rattle.std.proofs.lemmas.List.{get_or-set_other, get_or-set_same, length-append, length-set, map-append}
+use Rattle.std.proofs.lemmas.List.{get_or-set_other, get_or-set_same, length-set, map-append}
 use Rattle.std.proofs.lemmas.List.Folds.{list_any-append}
 use Rattle.aom_image.specs.declared.method.Thing.TheVariants.{Message as A_message}
 use Rattle.aom_clients.specs.Clients as kept
@@ -22,8 +22,8 @@ use Rattle.aom_semantics.proofs.Maps.{at-put_at, front_free, same_place_refl}
 use Rattle.aom_safety.proofs.Services.{named_served, service_moved, service_unnamed}
 use Rattle.aom_semantics.specs.Clients.{at_opening, client_at, with_client}
 use Rattle.aom_safety.specs.Kept.{is_close_of, is_connect_of}
-use Rattle.aom_semantics.specs.Places.{Cell, Close_of, Connect_of, Elsewhere, In_service, Message_of, Object, Place as Owner, Queued as Waits_at, Service, Tidy, moved, named, same_place, service_of, set_service, unserved}
-use Rattle.aom_semantics.specs.Servers.{asked_last, holds_slot, is_among, is_message, opened, parted, reserved, rest_of, slots_taken, taken_first}
+use Rattle.aom_semantics.specs.Places.{Cell, Close_of, Connect_of, Elsewhere, In_service, Message_of, Object, Place as Owner, Queued as Waits_at, Service, moved, named, same_place, service_of, set_service, unserved}
+use Rattle.aom_semantics.specs.Servers.{asked_last, holds_slot, is_among, is_message, opened, parted, reserved, rest_of, taken_first}
 use Rattle.aom_machine_state.specs.Serving.{Once, SameClients, asked_by, holds, is_taken, message_name, owner_of, sent_by, sessionless, waits_in}
 
 -- ---- lists with one place written
@@ -138,10 +138,7 @@ taken_sent s cs clients same m = sym (taken_by (holds s m) (kept.place_at s m)) 
 
 -- a message is among its client's where it holds a slot
 pub slots_of : (s : kept.State) (cs : List Cell) (clients : List Client) → SameClients s cs clients → (c m : ℕ) → is_among m (kept.sent_at s c) ≡ holds_slot c (service_of cs (message_name m)).sender
-slots_of s cs clients same c m = here (kept.place_at s m) refl (same.out c m) ∙ ap (holds_slot c) (same.senders m)
-  where
-    here : (x : Place) → kept.place_at s m ≡ x → (is_among m (kept.sent_at s c) ≡ true → is_out_of c x ≡ true) → is_among m (kept.sent_at s c) ≡ holds_slot c (sent_by (is_among m (kept.sent_at s (sender x))) x)
-    here x e out = grind (arith, nat_tests, eqb-true)
+slots_of s cs clients same c m = grind (arith, nat_tests, eqb-true)
 
 -- ---- a client is at something else, and nothing is asked
 
@@ -363,20 +360,7 @@ module _ (s : kept.State) (cs : List Cell) (clients : List Client) (same : SameC
     once_after d = grind (arith, nat_tests, sent_of d, once_last, absent c)
 
     slotted_after : (j d : ℕ) → kept.place_at sent j ≡ Queued d → is_among j (kept.sent_at sent d) ≡ true
-    slotted_after j d e = ap (is_among j) (sent_of d) ∙ go (m == j) refl (sym (places_at j) ∙ e)
-      where
-        appended : is_among j (kept.sent_at s c ++ m ∷ []) ≡ (is_among j (kept.sent_at s c) || ((m == j) || false))
-        appended = list_any-append (λ n. n == j) (kept.sent_at s c) (m ∷ [])
-
-        still : is_among j (kept.sent_at s d) ≡ true → (b : Bool) → (c == d) ≡ b → is_among j (cond b (kept.sent_at s c ++ m ∷ []) (kept.sent_at s d)) ≡ true
-        still h true f = appended ∙ ap (λ b. b || ((m == j) || false)) (ap (λ i. is_among j (kept.sent_at s i)) (eqb-true c d f) ∙ h)
-        still h false f = h
-
-        go : (b : Bool) → (m == j) ≡ b → cond b (Queued c) (kept.place_at s j) ≡ Queued d → is_among j (cond (c == d) (kept.sent_at s c ++ m ∷ []) (kept.sent_at s d)) ≡ true
-        go true f e =
-            let client : c ≡ d = cc in
-            ap (λ b. is_among j (cond b (kept.sent_at s c ++ m ∷ []) (kept.sent_at s d))) (eq-eqb c d client) ∙ appended ∙ ap (λ b. is_among j (kept.sent_at s c) || (b || false)) f ∙ or_true (is_among j (kept.sent_at s c))
-        go false f e = still (same.slotted j d e) (c == d) refl
+    slotted_after j d e = grind (arith, nat_tests, sent_of d, places_at j, list_any-append, eqb-true, eq-eqb, or_true)
 
     out_after : (d j : ℕ) → is_among j (kept.sent_at sent d) ≡ true → is_out_of d (kept.place_at sent j) ≡ true
     out_after d j h = grind (arith, nat_tests, sent_of d, places_at j, list_any-append, same.out d j, eqb-true c d, eqb-true m j, eq-eqb c d, absent d)

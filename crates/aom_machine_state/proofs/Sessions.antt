@@ -12,7 +12,7 @@ use Rattle.aom_safety.proofs.Sessions.{session_asked, session_moved, session_new
 use Rattle.aom_semantics.specs.Calls.{passed_cells}
 use Rattle.aom_semantics.specs.Enlisted.{rerequested}
 use Rattle.aom_semantics.specs.Places.{Cell, Object, Place, Register, Request, Tidy, held, in_session, moved, named, set_request, set_session, with_new, without, word_field}
-use Rattle.aom_semantics.specs.State.{AtRoot, Frame, Home, Inside, State, Static, Task}
+use Rattle.aom_semantics.specs.State.{Frame, Home, Inside, State, Task}
 use Rattle.aom_semantics.specs.Words.{here, stored}
 use Rattle.aom_semantics.proofs.Maps.{unnamed}
 use Rattle.aom_machine_state.specs.Agrees.{SameCells, SameNatives}

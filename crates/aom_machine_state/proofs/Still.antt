@@ -1,17 +1,15 @@
 -- Where cells change of which clients have nothing, what stands for clients goes on: by the cells one after another.
 use Rattle.std.proofs.lemmas.Bool.Decides.{nat_tests}
-use Rattle.std.proofs.Common.{Bool, List, None, Option, Some, [], ap, arith, cond, false, refl, sym, true, ℕ, ℤ, ◌<◌, ◌==◌, ◌∙◌, ◌∷◌, ◌≡◌}
-use Rattle.std.specs.Prelude.{pos}
+use Rattle.std.proofs.Common.{Bool, List, None, Option, Some, ap, arith, cond, false, refl, sym, true, ℕ, ℤ, ◌<◌, ◌==◌, ◌∙◌, ◌≡◌}
 use Rattle.std.proofs.lemmas.Bool.{eqb-true, ne_eqb}
 use Rattle.aom_clients.specs.Clients as kept
 use Rattle.aom_clients.specs.declared.client.Client.{Client}
 use Rattle.aom_image.specs.Image.{Image}
 use Rattle.aom_image.specs.declared.method.Thing.{Thing}
-use Rattle.aom_roles.specs.Tables.{put_at}
 use Rattle.aom_semantics.proofs.Altering.{Alters, asking, bereaving, opening, read_kept, services, storing}
 use Rattle.aom_semantics.proofs.Maps.{same_place-true}
 use Rattle.aom_safety.proofs.Services.{service_moved, service_unnamed}
-use Rattle.aom_semantics.specs.Natives.{all_bereaved, bereaved, resessioned}
+use Rattle.aom_semantics.specs.Natives.{all_bereaved, resessioned}
 use Rattle.aom_semantics.specs.Places.{Cell, Place as Owner, Request, Service, moved, named, service_of, set_request, set_session, set_word_field, unserved, with_new}
 use Rattle.aom_semantics.specs.Servers.{holds_slot, is_queue}
 use Rattle.aom_semantics.specs.State.{Home}

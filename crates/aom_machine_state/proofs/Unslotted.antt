@@ -1,8 +1,7 @@
 -- Where messages hold no slot any more the machine's cells and sessions are as they were: by the cells one after another.
-use Rattle.std.proofs.Common.{List, [], ap, cond, refl, suc, sym, ℕ, pos, ◌==◌, ◌∙◌, ◌∷◌, ◌≡◌}
+use Rattle.std.proofs.Common.{List, [], ap, refl, sym, ℕ, pos, ◌∙◌, ◌∷◌, ◌≡◌}
 use Rattle.aom_cells.specs.Heap.{Heap}
 use Rattle.aom_image.specs.Image.{Image}
-use Rattle.aom_roles.specs.Things.{is_object}
 use Rattle.aom_machine_state.specs.Agrees.{SameCells, SameNatives, thing_of}
 use Rattle.aom_native_sessions.specs.Sessions.{Standing}
 use Rattle.aom_roles.specs.Tables.{at}

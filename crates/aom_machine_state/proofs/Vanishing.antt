@@ -15,16 +15,16 @@ use Rattle.aom_clients.specs.declared.place.Place.TheVariants.{Free, Queued}
 use Rattle.aom_safety.proofs.ClientsGone.{gone_so, goes_with, queue_ended_at, sessions_ended_at}
 use Rattle.aom_safety.proofs.Unslotting.{service_unslotted}
 use Rattle.aom_semantics.proofs.Altering.{read_kept, unslotting}
-use Rattle.aom_semantics.proofs.Maps.{one_place, same_place-true, same_place_refl}
+use Rattle.aom_semantics.proofs.Maps.{one_place, same_place-true}
 use Rattle.aom_safety.proofs.Parting.{among_others, among_parted}
 use Rattle.aom_safety.proofs.Sifted.{a_cell_of, cell_in, cell_lives, cell_name, cell_of, cell_of_sifted, cell_owner, cell_placed, held_cell, kept as left_cell, named_cell, object_in, service_cell, service_in, sifted}
 use Rattle.aom_semantics.specs.Clients.{client_at, each_unslotted, queue_ended, sessions_ended}
 use Rattle.aom_safety.specs.Kept.{is_connect_of}
 use Rattle.aom_semantics.specs.Places.{Cell, Close_of, Connect_of, Elsewhere, Object, Place as Owner, Queued as Waits_at, Sender, Service, Tidy, held, named, place_outer, same_place, service_of, without}
-use Rattle.aom_semantics.specs.Servers.{all_unslotted, has_message, holds_slot, is_among, is_message, is_other, is_queue, is_queue_of, slots_taken, unslotted, without_queue}
+use Rattle.aom_semantics.specs.Servers.{all_unslotted, has_message, holds_slot, is_among, is_message, is_other, is_queue, is_queue_of, unslotted, without_queue}
 use Rattle.aom_machine_state.proofs.Completing.{once_without, queued_still}
 use Rattle.aom_machine_state.proofs.Departing.{all_without, client_after_queue, client_after_sessions, connects, is_at, lengths_after_queue, lengths_after_sessions, place_after_queue, places_after_sessions, queue_after_queue, queues_after_sessions, sent_after_queue, sent_after_sessions, sessions_after_queue, sessions_after_sessions}
-use Rattle.aom_machine_state.proofs.Serving.{names_apart, owners, slots_of}
+use Rattle.aom_machine_state.proofs.Serving.{names_apart, owners}
 use Rattle.aom_machine_state.proofs.Withdrawing.{owner_cell, owner_in, queue_of_owner, queue_of_queue}
 use Rattle.aom_machine_state.specs.Serving.{Once, SameClients, asked_by, holds, message_name, owner_of, sent_by, sessionless, waits_in}
 use Rattle.aom_safety.proofs.Destroying.{eqb_comm}
@@ -216,15 +216,7 @@ module _
 
   -- a message that goes has its cell
   cell_stays : (j : ℕ) → cell_of stay (message_name j) ≡ cond (goes j) None (cell_of cs (message_name j))
-  cell_stays j = cell_of_sifted drops (λ c. c.service) cs (message_name j) tidy ∙ go (cell_of cs (message_name j)) refl
-    where
-      none : (b : Bool) → ◌≡◌ {A = Option Cell} None (cond b None None)
-      none true = refl
-      none false = refl
-
-      go : (x : Option Cell) → cell_of cs (message_name j) ≡ x → left_cell drops (λ c. c.service) x ≡ cond (goes j) None x
-      go None e = none (goes j)
-      go (Some x) e = ap (λ b. cond b None (Some x)) (drops_message j x e)
+  cell_stays j = grind (arith, nat_tests, cell_of_sifted, cell_of, left_cell, drops_message j)
 
   -- what else goes has no queue and no sessions
   parts_stay : (n : ℕ) → ((service_of stay n).queue ≡ cond (k == n) [] (service_of cs n).queue) × ((service_of stay n).sessions ≡ cond (k == n) [] (service_of cs n).sessions)
@@ -237,17 +229,7 @@ module _
 
       -- the one that goes
       own : (x : Cell) → cell_of cs n ≡ Some x → (k == n) ≡ true → drops x ≡ true
-      own x e f =
-          let z = a_cell_of (cell_in cs g) o (sym (held_cell cs g) ∙ there) in
-          let lives = cell_lives cs g z.0 tidy z.1 in
-          let one : Some z.0 ≡ Some x = sym lives ∙ ap (λ n. cell_of cs n) (ap (λ (y : Object). y.name) z.2 ∙ eqb-true k n f) ∙ e in
-          let cell : z.0 ≡ x = cc in
-          let at : same_place x.owner g ≡ true = ap (λ q. same_place q g) (ap (λ (c : Cell). c.owner) (sym cell) ∙ cell_owner cs g z.0 z.1) ∙ same_place_refl g in
-          or_true (is_queue_of k x.owner) (same_place x.owner g) at
-        where
-          or_true : (a b : Bool) → b ≡ true → (a || b) ≡ true
-          or_true true b h = refl
-          or_true false b h = h
+      own x e f = grind (arith, nat_tests, a_cell_of, cell_in, held_cell, cell_lives, cell_of, eqb-true, cell_owner)
 
       at : (x : Cell) → cell_of cs n ≡ Some x → (b : Bool) → (k == n) ≡ b → (d : Bool) → drops x ≡ d →
           ((service_in (cond d None (Some x))).queue ≡ cond b [] (service_of cs n).queue) × ((service_in (cond d None (Some x))).sessions ≡ cond b [] (service_of cs n).sessions)

@@ -1,5 +1,5 @@
 -- A client closes or dies: its messages that wait go, its others hold no slot and are told to nobody, and all else goes on standing for what it stood for.
-use Rattle.std.proofs.Common.{Bool, List, None, Option, Some, [], ap, cond, false, length, refl, slice_index_or, subst, suc, sym, true, zero, ℕ, ◌&&◌, ◌<◌, ◌==◌, ◌∙◌, ◌∷◌, ◌≡◌, arith}
+use Rattle.std.proofs.Common.{Bool, List, None, Option, Some, [], ap, cond, false, length, refl, slice_index_or, subst, sym, true, ℕ, ◌&&◌, ◌<◌, ◌==◌, ◌∙◌, ◌∷◌, ◌≡◌, arith}
 use Rattle.std.specs.Prelude.{filter, map, not}
 use Rattle.std.proofs.lemmas.Bool.{eq-eqb, eqb-true, false≢true, ne_eqb}
 use Rattle.std.proofs.lemmas.Bool.Decides.{nat_tests}
@@ -16,7 +16,7 @@ use Rattle.aom_clients.specs.declared.place.Place.TheVariants.{Free, Queued}
 use Rattle.aom_clients.specs.Table.{is_out_of, is_queued, is_waiting_of, sender}
 use Rattle.aom_safety.proofs.Sifted.{cell_of, cell_of_sifted, kept as left_cell, service_cell, service_in, withdrawn_so}
 use Rattle.aom_semantics.specs.Places.{Asked, Cell, Close_of, Connect_of, Elsewhere, Object, Place as Owner, Queued as Waits_at, named, Sender, Service, Tidy, service_of}
-use Rattle.aom_semantics.specs.Servers.{asked_last, discarded, holds_slot, is_among, is_from, is_queue, is_queue_of, left_by, reserved, slots_taken, stays, withdrawn}
+use Rattle.aom_semantics.specs.Servers.{asked_last, discarded, holds_slot, is_among, is_from, is_queue, is_queue_of, left_by, reserved, stays, withdrawn}
 use Rattle.aom_semantics.specs.Clients.{client_at, told, with_client}
 use Rattle.aom_semantics.specs.State.{State}
 use Rattle.aom_machine_state.proofs.Serving.{at_set, same_client, same_closing}
@@ -190,15 +190,7 @@ module _ (s : kept.State) (cs : List Cell) (clients : List Client) (same : SameC
   told_then : (f : Place → Bool) (g : Option Cell → Bool) → ((j : ℕ) → f (kept.left_place c (kept.place_at s j)) ≡ cond (is_queued (kept.place_at s j) && is_from c (sent_by (holds s j) (kept.place_at s j))) false (f (kept.place_at s j))) →
       ((x : Cell) (v : Service) → g (Some (record x { service = v })) ≡ g (Some x)) → g None ≡ false → ((j : ℕ) (x : Option Cell) → cell_of cs (message_name j) ≡ x → f (kept.place_at s j) ≡ g x) → (j : ℕ) →
       f (kept.place_at then j) ≡ g (cell_of left (message_name j))
-  told_then f g leaves plain none told j = ap f (place_then j) ∙ leaves j ∙ go (cell_of cs (message_name j)) refl ∙ sym (ap g (cell_then (message_name j)))
-    where
-      go : (x : Option Cell) → cell_of cs (message_name j) ≡ x → cond (is_queued (kept.place_at s j) && is_from c (sent_by (holds s j) (kept.place_at s j))) false (f (kept.place_at s j)) ≡ g (left_of c x)
-      go None at = ap (λ b. cond b false (f (kept.place_at s j))) (none_goes (kept.place_at s j) (holds s j) (sender_told j None at)) ∙ told j None at
-      go (Some x) at = ap (λ b. cond b false (f (kept.place_at s j))) (goes_so j x at) ∙ by (drops c x)
-        where
-          by : (b : Bool) → cond b false (f (kept.place_at s j)) ≡ g (cond b None (Some (record x { service = left_by c x.service })))
-          by true = sym none
-          by false = told j (Some x) at ∙ sym (plain x (left_by c x.service))
+  told_then f g leaves plain none told j = grind (arith, nat_tests, place_then j, cell_of, cell_then, none_goes, sender_told j None, goes_so j)
 
   waits_then : (j : ℕ) → is_queued (kept.place_at then j) ≡ waits_in (owner_of left (message_name j))
   waits_then j = told_then is_queued (λ x. waits_in (owner_in x)) (λ j. queued_left c (holds s j) (kept.place_at s j)) (λ x v. refl) refl waits_told j ∙ sym (ap waits_in (owner_cell left (message_name j)))
