@@ -1,6 +1,7 @@
 -- What reads answer, and the lists at first.
 use Rattle.std.proofs.lemmas.Bool.Decides.{nat_tests}
-use Rattle.std.proofs.Common.{Option, ◌≡◌, ◌≢◌, ◌<◌, ◌≤◌, ◌+◌, ◌⊎◌, ◌==◌, ℕ, zero, suc, Bool, true, false, List, [], ◌∷◌, Some, None, length, replicate, get_or, refl, sym, ap, ◌∙◌, subst, inl, inr, arith, rules}
+use Rattle.std.proofs.Common.{Option, ◌≡◌, ◌≢◌, ◌<◌, ◌≤◌, ◌+◌, ◌⊎◌, ◌==◌, ℕ, zero, suc, Bool, true, false, List, [], ◌∷◌}
+use Rattle.std.proofs.Common.{Some, None, length, replicate, get_or, refl, sym, ap, ◌∙◌, subst, inl, inr, arith, rules}
 use Rattle.std.specs.Prelude.{map, filter, slice_index_or, nat_lt, is_some, All, IfSome}
 use Rattle.std.proofs.lemmas.List.Elements.{All-nil, All-cons}
 use Rattle.std.proofs.lemmas.Bool.{cases_eq, eq-eqb, ne_eqb, cond-true, cond-false}
@@ -14,7 +15,8 @@ use Rattle.aom_clients.specs.declared.place.Place.TheVariants.{Free, Held, Disca
 use Rattle.aom_clients.specs.declared.entry.Entry.{Entry}
 use Rattle.aom_clients.specs.declared.place.Completion.{Completion}
 use Rattle.aom_clients.specs.Table.{completion, server_of}
-use Rattle.aom_clients.specs.Clients.{State, at_first, client_at, queue_at, sessions_at, sent_at, has_slot, sending_to, is_connect, first_client, first_entry, client_after}
+use Rattle.aom_clients.specs.Clients.{State, at_first, client_at, queue_at, sessions_at, sent_at, has_slot}
+use Rattle.aom_clients.specs.Clients.{sending_to, is_connect, first_client, first_entry, client_after}
 use Rattle.aom_clients.specs.Nodes.{entry_of, connecting_in, slots_of, named_by, state_of, AreSent, IsKept}
 use Rattle.aom_clients.proofs.Entries.{connects-counted}
 use Rattle.aom_clients.proofs.Plain.{nothing, false-true, cases_lt}

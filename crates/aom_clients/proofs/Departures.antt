@@ -17,7 +17,8 @@ use Rattle.aom_clients.specs.Nodes.{entry_of, is_leaving, named_by, is_held_of, 
 use Rattle.aom_clients.specs.Parts.{IsLeft, CanClose, close_queued}
 use Rattle.aom_clients.proofs.Entries.{close-is, message-no, close-no}
 use Rattle.aom_clients.proofs.Tables.{Alike, alike-same, alike-with, alike-without, alike-then, at-without, shown, shown-push}
-use Rattle.aom_clients.proofs.Kept.{sized-as, named-set, named-as, entries-client, IsApt, entries-push, listed-push-other, listed-without-connect, listed-without-other, sessions-client}
+use Rattle.aom_clients.proofs.Kept.{sized-as, named-set, named-as, entries-client, IsApt, entries-push, listed-push-other}
+use Rattle.aom_clients.proofs.Kept.{listed-without-connect, listed-without-other, sessions-client}
 use Rattle.aom_clients.proofs.Leaving.{place-there, place}
 use Rattle.std.proofs.Math.ListN.{get_or-map}
 use Rattle.aom_clients.specs.Withdrawals.{without_each, left_each}

@@ -10,7 +10,8 @@ use Rattle.aom_clients.specs.declared.server.Server.{Server}
 use Rattle.aom_clients.specs.declared.entry.Entry.{Entry}
 use Rattle.aom_clients.specs.declared.entry.Entry.TheVariants.{Connect, Message, Close}
 use Rattle.aom_clients.specs.Table.{row}
-use Rattle.aom_clients.specs.Clients.{State, connect_refusal, after_connect, send_refusal, after_send, after_close, after_die, freed, after_next, after_connected, after_closed, after_complete, after_next_gone, after_session_gone, server_gone}
+use Rattle.aom_clients.specs.Clients.{State, connect_refusal, after_connect, send_refusal, after_send, after_close, after_die, freed, after_next}
+use Rattle.aom_clients.specs.Clients.{after_connected, after_closed, after_complete, after_next_gone, after_session_gone, server_gone}
 
 -- client 0 with two message places and server 0: what it is at, what the places have, the queue, the sessions, and what holds a slot
 abbrev one : Client → Place → Place → List Entry → List ℕ → List ℕ → State

@@ -13,7 +13,8 @@ use Rattle.aom_clients.specs.declared.client.Client.TheVariants.{Unconnected}
 use Rattle.aom_clients.specs.declared.place.Place.{Place}
 use Rattle.aom_clients.specs.declared.place.Place.TheVariants.{Free, Queued, Held, Discarded}
 use Rattle.aom_clients.specs.Table.{server_of, is_queued, is_out_of, held_place}
-use Rattle.aom_clients.specs.Nodes.{is_connect_node, connecting_in, is_connecting_at, is_leaving, is_open_at, slots_of, named_by, is_held_of, Waits, AreSized, AreEntries, AreConnects, AreSessions, AreSent, AreNamed}
+use Rattle.aom_clients.specs.Nodes.{is_connect_node, connecting_in, is_connecting_at, is_leaving, is_open_at, slots_of, named_by}
+use Rattle.aom_clients.specs.Nodes.{is_held_of, Waits, AreSized, AreEntries, AreConnects, AreSessions, AreSent, AreNamed}
 use Rattle.aom_clients.proofs.Entries.{Kind, kind, listing-yes, listing-no, listing-append}
 use Rattle.aom_clients.proofs.Tables.{Alike, Fewer, fewer-with, fewer-without, at-without, pushed-in, push-keeps, push-has}
 use Rattle.aom_clients.proofs.Plain.{nothing, false-true}
@@ -175,17 +176,8 @@ listed-rest-other q cn k n ns small other is a = listed-one q cn k ns small (a.s
 -- a node leaves
 without-connect : (c : ℕ) → c < 64 → (xs : List ℕ) → connecting_in (without (1024 + c) xs) ≡ without c (connecting_in xs)
 without-connect c less [] = refl
-without-connect c less (x ∷ xs) = grind (
-  arith,
-  nat_tests,
-  kind x,
-  cases_eq x (1024 + c),
-  without-connect c less xs,
-  Kind x,
-  left (1024 + c) x xs,
-  listing-yes c xs less,
-  left c c,
-)
+without-connect c less (x ∷ xs) =
+    grind (arith, nat_tests, kind x, cases_eq x (1024 + c), without-connect c less xs, Kind x, left (1024 + c) x xs, listing-yes c xs less, left c c)
 
 without-other : (n : ℕ) → is_connect_node n ≡ false → (xs : List ℕ) → connecting_in (without n xs) ≡ connecting_in xs
 without-other n other [] = refl
@@ -249,15 +241,8 @@ sessions-part cl ss c to small none s = grind (arith, nat_tests, sessions-fewer 
 
 pub sessions-first : (cl : List Client) (ss : Table) (k c : ℕ) (cs : List ℕ) (to : Client) → c < length cl → k < length ss.lists → server_of to ≡ None
     → list_at ss k ≡ c ∷ cs → IsFree (with_list k cs ss) c → AreSessions cl ss → AreSessions (slice_set cl c to) (with_list k cs ss)
-sessions-first cl ss k c cs to small there none is free s = grind (
-  arith,
-  nat_tests,
-  sessions-fewer cl ss,
-  fewer-with ss k cs there,
-  cases_eq,
-  get_or-set_same ss.lists k cs,
-  get_or-set_other ss.lists k,
-)
+sessions-first cl ss k c cs to small there none is free s =
+    grind (arith, nat_tests, sessions-fewer cl ss, fewer-with ss k cs there, cases_eq, get_or-set_same ss.lists k cs, get_or-set_other ss.lists k)
 
 -- messages --------------------------------------------------------------------------------------------------------------------------------
 free-out : (c : ℕ) (p : Place) → p ≡ Free → is_out_of c p ≡ true → ⊥

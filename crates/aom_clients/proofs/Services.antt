@@ -1,6 +1,7 @@
 -- What the parts of a service, and the going of a server, make of the lists: they are kept, and tell the state that their definitions tell.
 use Rattle.std.proofs.lemmas.Bool.Decides.{nat_tests}
-use Rattle.std.proofs.Common.{◌≡◌, ◌≢◌, ◌<◌, ◌≤◌, ◌+◌, ◌++◌, ℕ, true, List, [], ◌∷◌, Option, Some, None, length, take, refl, sym, ap, ◌∙◌, subst, inl, inr, arith}
+use Rattle.std.proofs.Common.{◌≡◌, ◌≢◌, ◌<◌, ◌≤◌, ◌+◌, ◌++◌, ℕ, true, List, [], ◌∷◌, Option, Some}
+use Rattle.std.proofs.Common.{None, length, take, refl, sym, ap, ◌∙◌, subst, inl, inr, arith}
 use Rattle.std.specs.Prelude.{map, filter, slice_set, IfSome, IsNone, IsSome}
 use Rattle.std.proofs.lemmas.Bool.{cases_eq}
 use Rattle.std.proofs.lemmas.Option.{same_Some}
@@ -14,17 +15,22 @@ use Rattle.aom_clients.specs.declared.place.Place.TheVariants.{Free, Queued}
 use Rattle.aom_clients.specs.declared.entry.Entry.{Entry}
 use Rattle.aom_clients.specs.declared.entry.Taken.{Taken}
 use Rattle.aom_clients.specs.Table.{is_queued, held_place, completion, sender}
-use Rattle.aom_clients.specs.Clients.{MessageBelow, IsNumbered, State, client_at, place_at, queue_at, sessions_at, with_client, with_queue, first_entry, taking, taken, after_next, opened, going, gone, parted, after_complete, after_next_gone, is_no_connect_of, is_no_close_of}
+use Rattle.aom_clients.specs.Clients.{MessageBelow, IsNumbered, State, client_at, place_at, queue_at, sessions_at, with_client, with_queue, first_entry, taking}
+use Rattle.aom_clients.specs.Clients.{taken, after_next, opened, going, gone, parted, after_complete, after_next_gone, is_no_connect_of, is_no_close_of}
 use Rattle.aom_clients.specs.Nodes.{entry_of, is_connect_node, slots_of, named_by, state_of, Waits, AreSized, AreEntries, AreConnects, AreNamed, IsKept}
-use Rattle.aom_clients.specs.Parts.{ConnectBelow, client_in, taken_of, if_taken, unlisted, held_by, given_up, slot_freed, place_freed, is_connecting, is_ending, is_apart}
+use Rattle.aom_clients.specs.Parts.{ConnectBelow, client_in, taken_of, if_taken, unlisted, held_by, given_up}
+use Rattle.aom_clients.specs.Parts.{slot_freed, place_freed, is_connecting, is_ending, is_apart}
 use Rattle.aom_clients.proofs.Entries.{Kind, kind, message-is, connect-is, close-is, message-no, close-no, no-connect, no-close}
 use Rattle.aom_clients.proofs.Entries.Kind.{message, connect, close}
 use Rattle.aom_clients.proofs.Tables.{alike-same, alike-with, alike-without, Fewer, fewer-with, fewer-without, at-without, shown, shown-without}
-use Rattle.aom_clients.proofs.Kept.{at-write, sized-as, named-set, named-as, entries-fewer, entries-client, entries-place, listed-rest-connect, listed-rest-other, listed-without-connect, listed-without-other, sessions-client, sessions-open, sessions-part, sent-taken, sent-complete}
+use Rattle.aom_clients.proofs.Kept.{at-write, sized-as, named-set, named-as, entries-fewer, entries-client, entries-place}
+use Rattle.aom_clients.proofs.Kept.{listed-rest-connect, listed-rest-other, listed-without-connect, listed-without-other}
+use Rattle.aom_clients.proofs.Kept.{sessions-client, sessions-open, sessions-part, sent-taken, sent-complete}
 use Rattle.aom_clients.proofs.Leaving.{place}
 use Rattle.aom_clients.proofs.Plain.{false-true, nothing}
 use Rattle.aom_clients.proofs.Waiting.{taken-told}
-use Rattle.aom_clients.proofs.Steps.{client, queued-of, IsAsking, asking, asks, IsEnding, ending, NamesNone, names-none, client-is, place-is, queue-is, cell, among, waiting-below}
+use Rattle.aom_clients.proofs.Steps.{client, queued-of, IsAsking, asking, asks, IsEnding, ending, NamesNone}
+use Rattle.aom_clients.proofs.Steps.{names-none, client-is, place-is, queue-is, cell, among, waiting-below}
 
 -- a list by its first node
 pub shape : (xs : List ℕ) (n : ℕ) → first_of xs ≡ Some n → xs ≡ n ∷ rest_of xs

@@ -1,5 +1,6 @@
 -- What each call makes of the lists: they are kept, and tell the state that its definition tells.
-use Rattle.std.proofs.Common.{◌≡◌, ◌≢◌, ◌<◌, ◌≤◌, ◌+◌, ◌-◌, ◌⊎◌, ◌++◌, ℕ, zero, suc, true, List, [], ◌∷◌, Some, None, length, take, refl, sym, ap, ◌∙◌, subst, inl, inr, arith}
+use Rattle.std.proofs.Common.{◌≡◌, ◌≢◌, ◌<◌, ◌≤◌, ◌+◌, ◌-◌, ◌⊎◌, ◌++◌, ℕ, zero, suc, true, List, [], ◌∷◌}
+use Rattle.std.proofs.Common.{Some, None, length, take, refl, sym, ap, ◌∙◌, subst, inl, inr, arith}
 use Rattle.std.specs.Prelude.{map, slice_index_or, slice_set}
 use Rattle.std.proofs.lemmas.Bool.{eq-eqb, eqb-true}
 use Rattle.std.proofs.lemmas.Option.{same_Some}
@@ -16,7 +17,8 @@ use Rattle.aom_clients.specs.Nodes.{entry_of, is_connecting_at, is_leaving, is_o
 use Rattle.aom_clients.specs.Parts.{is_connecting, is_ending, is_apart}
 use Rattle.aom_clients.proofs.Entries.{message-is, connect-is, message-no, listed-in}
 use Rattle.aom_clients.proofs.Tables.{alike-same, alike-with, pushed-in, push-keeps, push-has, shown, shown-at, shown-push}
-use Rattle.aom_clients.proofs.Kept.{at-write, sized-as, named-set, named-as, entries-client, IsApt, entries-push, listed-push-connect, listed-push-other, sessions-client, sent-send}
+use Rattle.aom_clients.proofs.Kept.{at-write, sized-as, named-set, named-as, entries-client, IsApt, entries-push}
+use Rattle.aom_clients.proofs.Kept.{listed-push-connect, listed-push-other, sessions-client, sent-send}
 use Rattle.aom_clients.proofs.Leaving.{place-there, place}
 use Rattle.aom_clients.proofs.Plain.{cases_lt, false-true, nothing}
 

@@ -10,7 +10,8 @@ use Rattle.aom_semantics.specs.State.{Frame, Task, Run, Trapped, Destroy, Closin
 use Rattle.aom_frames.specs.declared.frame.Frame.{Frame as Machine_frame}
 use Rattle.aom_frames.specs.declared.dispatch.Dispatch.{Dispatch as Machine_dispatch}
 use Rattle.aom_frames.specs.declared.task.Task.{Task as Machine_task}
-use Rattle.aom_frames.specs.declared.task.Task.TheVariants.{Run as Runs_frame, Trapped as Is_trap, Destroy as Destroys, Closing as Closes, Unwind as Unwinds, Dispatched as Ends}
+use Rattle.aom_frames.specs.declared.task.Task.TheVariants.{Run as Runs_frame, Trapped as Is_trap, Destroy as Destroys}
+use Rattle.aom_frames.specs.declared.task.Task.TheVariants.{Closing as Closes, Unwind as Unwinds, Dispatched as Ends}
 use Rattle.aom_cleanup.specs.declared.item.Item.{Item as Machine_item}
 use Rattle.aom_cleanup.specs.declared.item.Item.TheVariants.{Object as Holds_object, Operation as Holds_operation, Mark as Is_mark}
 use Rattle.aom_machine_state.specs.Agrees.{SameFrame, SameTask, SameTasks, SameDispatch, SameItem, SameItems}
@@ -27,16 +28,19 @@ pub record EachTask (P : Machine_task → Task → Type 0) : Type 0 where
 pub by_task : (P : Machine_task → Task → Type 0) → EachTask P → (m : Machine_task) (u : Task) → SameTask m u → P m u
 by_task x each y z same = grind arith
 
-pub by_tasks : (P : List Machine_task → List Task → Type 0) → P [] [] → ((m : Machine_task) (u : Task) (ms : List Machine_task) (us : List Task) → SameTask m u → SameTasks ms us → P ms us → P (m ∷ ms) (u ∷ us)) → (ms : List Machine_task) (us : List Task) → SameTasks ms us → P ms us
+pub by_tasks : (P : List Machine_task → List Task → Type 0) → P [] [] → ((m : Machine_task) (u : Task) (ms : List Machine_task) (us : List Task) →
+    SameTask m u → SameTasks ms us → P ms us → P (m ∷ ms) (u ∷ us)) → (ms : List Machine_task) (us : List Task) → SameTasks ms us → P ms us
 by_tasks P none more [] [] same = none
 by_tasks P none more (m ∷ ms) (u ∷ us) same = more m u ms us same.0 same.1 (by_tasks P none more ms us same.1)
 by_tasks P none more _ _ same = absurd same
 
 -- an item of the cleanup stack and the one that it stands for
-pub by_item : (P : Machine_item → Item → Type 0) → ((n : ℕ) → P (Holds_object n) An_object) → ((m n k : ℕ) (w : ℤ) → m ≡ k → cast_signed w32 n ≡ w → P (Holds_operation m n) (An_operation k w)) → P Is_mark A_mark → (i : Machine_item) (j : Item) → SameItem i j → P i j
+pub by_item : (P : Machine_item → Item → Type 0) → ((n : ℕ) → P (Holds_object n) An_object) → ((m n k : ℕ) (w : ℤ) →
+    m ≡ k → cast_signed w32 n ≡ w → P (Holds_operation m n) (An_operation k w)) → P Is_mark A_mark → (i : Machine_item) (j : Item) → SameItem i j → P i j
 by_item x object operation mark y z same = grind arith
 
-pub by_items : (P : List Machine_item → List Item → Type 0) → P [] [] → ((i : Machine_item) (j : Item) (is : List Machine_item) (js : List Item) → SameItem i j → SameItems is js → P is js → P (i ∷ is) (j ∷ js)) → (is : List Machine_item) (js : List Item) → SameItems is js → P is js
+pub by_items : (P : List Machine_item → List Item → Type 0) → P [] [] → ((i : Machine_item) (j : Item) (is : List Machine_item) (js : List Item) →
+    SameItem i j → SameItems is js → P is js → P (i ∷ is) (j ∷ js)) → (is : List Machine_item) (js : List Item) → SameItems is js → P is js
 by_items P none more [] [] same = none
 by_items P none more (i ∷ is) (j ∷ js) same = more i j is js same.0 same.1 (by_items P none more is js same.1)
 by_items P none more _ _ same = absurd same

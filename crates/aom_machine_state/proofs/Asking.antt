@@ -9,7 +9,8 @@ use Rattle.aom_image.specs.declared.method.Argument.TheVariants.{Own as Takes_ow
 use Rattle.aom_image.specs.declared.method.Thing.{Thing}
 use Rattle.aom_safety.proofs.Counts.{count_asked}
 use Rattle.aom_semantics.specs.Calls.{passed_cells}
-use Rattle.aom_semantics.specs.Places.{Cell, Object, Place, Register, Request, Service, Tidy, held, moved, named, requested, service_of, set_service, set_word_field, with_new, without, Elsewhere, Root, set_request, word_field}
+use Rattle.aom_semantics.specs.Places.{Cell, Object, Place, Register, Request, Service, Tidy, held, moved, named, requested, service_of}
+use Rattle.aom_semantics.specs.Places.{set_service, set_word_field, with_new, without, Elsewhere, Root, set_request, word_field}
 use Rattle.aom_semantics.specs.Clients.{each_unslotted}
 use Rattle.aom_semantics.specs.State.{Frame, Home, Inside, State, Task}
 use Rattle.aom_semantics.specs.Words.{here, stored}
@@ -32,11 +33,13 @@ use Rattle.aom_image.specs.declared.method.Thing.TheVariants.{Message}
 
 module _ (p : Image) (a : Active) where
   -- it does not matter by which cells the requests and the queues are told
-  pub requests_as : (cs ds : List Cell) → ((n : ℕ) → requested cs n ≡ requested ds n) → ((n : ℕ) → is_some (requested ds n) ≡ true → queued p cs n ≡ queued p ds n) → SameRequests p a cs → SameRequests p a ds
+  pub requests_as : (cs ds : List Cell) → ((n : ℕ) → requested cs n ≡ requested ds n) →
+      ((n : ℕ) → is_some (requested ds n) ≡ true → queued p cs n ≡ queued p ds n) → SameRequests p a cs → SameRequests p a ds
   requests_as cs ds same queues h = record { stands = standing_follows a (requested cs) (requested ds) (queued p cs) (queued p ds) same queues h.stands; limit = h.limit }
 
   -- where the cells and what waits at them are as they were
-  pub requests_alike : (cs ds : List Cell) → ((n : ℕ) → requested ds n ≡ requested cs n) → ((n : ℕ) → named ds n ≡ named cs n) → ((n : ℕ) → (service_of ds n).queue ≡ (service_of cs n).queue) → SameRequests p a cs → SameRequests p a ds
+  pub requests_alike : (cs ds : List Cell) → ((n : ℕ) → requested ds n ≡ requested cs n) →
+      ((n : ℕ) → named ds n ≡ named cs n) → ((n : ℕ) → (service_of ds n).queue ≡ (service_of cs n).queue) → SameRequests p a cs → SameRequests p a ds
   requests_alike cs ds same names queues h = requests_as cs ds (λ n. sym (same n)) (λ n there. sym (queued_same p cs ds names queues n)) h
 
   pub requests_moved : (cs : List Cell) (q r : Place) → SameRequests p a cs → SameRequests p a (moved q r cs)
@@ -80,7 +83,8 @@ module _ (p : Image) (fr : Frame) (ts : List Task) (s : State) (a : Active) wher
 no_request : (r : Option Request) (waits : Option Bool) → Tells None r waits → r ≡ None
 no_request x waits tells = grind arith
 
-pub requests_gone : (p : Image) (old new : Active) (cs : List Cell) (g : Place) (o : Object) → Tidy cs → held cs g ≡ Some o → Delists old new o.name → SameRequests p old cs → SameRequests p new (without g cs)
+pub requests_gone : (p : Image) (old new : Active) (cs : List Cell) (g : Place) (o : Object) →
+    Tidy cs → held cs g ≡ Some o → Delists old new o.name → SameRequests p old cs → SameRequests p new (without g cs)
 requests_gone p old new cs g o tidy holds off h = elim off [ inl none ↦ unlisted none.0 none.1 | inr removes ↦ delisted removes ]
   where
     waits : (n : ℕ) → is_some (requested (without g cs) n) ≡ true → queued p cs n ≡ queued p (without g cs) n
@@ -94,14 +98,15 @@ requests_gone p old new cs g o tidy holds off h = elim off [ inl none ↦ unlist
     unlisted none same = subst (λ b. SameRequests p b (without g cs)) (sym same) (requests_as p old cs (without g cs) (λ n. by n (o.name == n) refl) waits h)
       where
         by : (n : ℕ) (b : Bool) → (o.name == n) ≡ b → requested cs n ≡ requested (without g cs) n
-        by n true is =
-            let never : requested cs n ≡ None = ap (requested cs) (sym (eqb-true o.name n is)) ∙ no_request (requested cs o.name) (queued p cs o.name) (subst (λ x. Tells x (requested cs o.name) (queued p cs o.name)) none (h.stands.tells o.name)) in
+        by n true is = let never : requested cs n ≡ None = ap (requested cs) (sym (eqb-true o.name n is)) ∙ no_request
+            (requested cs o.name) (queued p cs o.name) (subst (λ x. Tells x (requested cs o.name) (queued p cs o.name)) none (h.stands.tells o.name)) in
             never ∙ sym (unrequested cs g n tidy never)
         by n false other = sym (requested_without cs g o n tidy holds other)
 
     delisted : Removes old new o.name → SameRequests p new (without g cs)
     delisted removes = record {
-      stands = standing_follows new (asked_anew o.name None (requested cs)) (requested (without g cs)) (queued p cs) (queued p (without g cs)) (λ n. sym (asked_gone cs g o tidy holds n)) waits (removes.stands (requested cs) (queued p cs) h.stands);
+      stands = standing_follows new (asked_anew o.name None (requested cs)) (requested (without g cs))
+          (queued p cs) (queued p (without g cs)) (λ n. sym (asked_gone cs g o tidy holds n)) waits (removes.stands (requested cs) (queued p cs) h.stands);
       limit = removes.limit ∙ h.limit;
     }
 
@@ -113,5 +118,5 @@ words_asked (c ∷ cs) n r k w = ap (λ x. cond (c.object.name == k) (at (pos 0)
 
 -- so the same cells live
 pub cells_asked : (p : Image) (h : Heap) (cs : List Cell) (n : ℕ) (r : Option Request) → SameCells p h cs → SameCells p h (set_request n r cs)
-cells_asked p h cs n r =
-    cells_as p h cs (set_request n r cs) (λ k. ap thing_of ((rerequested_alike cs (Inside (record { name = n; thing = Message }) (Elsewhere Root)) r).named_so k)) (λ k w small. words_asked cs n r k w) (count_asked cs n r)
+cells_asked p h cs n r = cells_as p h cs (set_request n r cs) (λ k. ap thing_of ((rerequested_alike cs
+    (Inside (record { name = n; thing = Message }) (Elsewhere Root)) r).named_so k)) (λ k w small. words_asked cs n r k w) (count_asked cs n r)

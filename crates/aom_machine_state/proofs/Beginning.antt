@@ -97,8 +97,8 @@ tokens_begin p = record {
 }
 
 module _ (p : Image) (s : State) (store : Store) (tokens : Kept) (table : Table) where
-  pub services_begin :
-      s ≡ at_first p.header.cells → store ≡ record { slots = []; limit = p.header.messages } → tokens ≡ none_of p.header.messages p.header.cells → table ≡ no_list p.header.cells 256 → SameServices p s store tokens table [] []
+  pub services_begin : s ≡ at_first p.header.cells → store ≡ record { slots = []; limit = p.header.messages } →
+      tokens ≡ none_of p.header.messages p.header.cells → table ≡ no_list p.header.cells 256 → SameServices p s store tokens table [] []
   services_begin clients messages handed listed = subst (λ x. SameServices p x store tokens table [] []) (sym clients)
       (subst (λ x. SameServices p (at_first p.header.cells) x tokens table [] []) (sym messages)
       (subst (λ x. SameServices p (at_first p.header.cells) (record { slots = []; limit = p.header.messages }) x table [] []) (sym handed)

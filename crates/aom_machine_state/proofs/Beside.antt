@@ -1,6 +1,7 @@
 -- Where messages come and go, and queues change, the cells and requests, the natives' sessions and the lists of servers stay: by the cells one after another.
 use Rattle.std.proofs.lemmas.Bool.Decides.{nat_tests}
-use Rattle.std.proofs.Common.{Bool, List, None, Option, Some, [], ap, arith, cond, false, inl, inr, refl, suc, sym, true, ℕ, pos, ◌<◌, ◌==◌, ◌≤◌, ◌∙◌, ◌∷◌, ◌≡◌, ◌⊎◌}
+use Rattle.std.proofs.Common.{Bool, List, None, Option, Some, [], ap, arith, cond, false, inl, inr}
+use Rattle.std.proofs.Common.{refl, suc, sym, true, ℕ, pos, ◌<◌, ◌==◌, ◌≤◌, ◌∙◌, ◌∷◌, ◌≡◌, ◌⊎◌}
 use Rattle.std.specs.Prelude.{is_some}
 use Rattle.std.proofs.lemmas.Bool.{eqb-true, false≢true, ne_eqb}
 use Rattle.std.proofs.lemmas.List.{get_or_past}
@@ -14,7 +15,8 @@ use Rattle.aom_native_sessions.specs.Sessions.{Standing, is_open}
 use Rattle.aom_roles.specs.Tables.{at}
 use Rattle.aom_safety.proofs.Dropping.{requested_unnamed}
 use Rattle.aom_safety.proofs.Services.{named_served, requested_served}
-use Rattle.aom_safety.proofs.Sifted.{cell_in, cell_in_sifted, cell_lives, cell_of, cell_of_sifted, cell_owner, held_cell, kept as left_cell, named_cell, object_in, request_in, requested_cell, sifted}
+use Rattle.aom_safety.proofs.Sifted.{cell_in, cell_in_sifted, cell_lives, cell_of, cell_of_sifted, cell_owner, held_cell}
+use Rattle.aom_safety.proofs.Sifted.{kept as left_cell, named_cell, object_in, request_in, requested_cell, sifted}
 use Rattle.aom_semantics.specs.Places.{Cell, Place, Service, Tidy, count_cells, held, in_session, named, requested, service_of, set_service, word_field}
 use Rattle.aom_semantics.specs.Servers.{is_queue}
 use Rattle.aom_machine_state.proofs.Asking.{requests_as}
@@ -53,7 +55,8 @@ beside_then cs ds es a b = record {
     names : (n : ℕ) → NamedBeside cs ds n → NamedBeside ds es n → NamedBeside cs es n
     names n x y = grind arith
 
-    sessions : (n : ℕ) → (in_session ds n ≡ in_session cs n) ⊎ ((in_session ds n ≡ false) × (4096 ≤ n)) → (in_session es n ≡ in_session ds n) ⊎ ((in_session es n ≡ false) × (4096 ≤ n)) → (in_session es n ≡ in_session cs n) ⊎ ((in_session es n ≡ false) × (4096 ≤ n))
+    sessions : (n : ℕ) → (in_session ds n ≡ in_session cs n) ⊎ ((in_session ds n ≡ false) × (4096 ≤ n)) → (in_session es n ≡ in_session ds n) ⊎
+        ((in_session es n ≡ false) × (4096 ≤ n)) → (in_session es n ≡ in_session cs n) ⊎ ((in_session es n ≡ false) × (4096 ≤ n))
     sessions n x y = grind arith
 
 -- ---- what stands beside it
@@ -71,7 +74,8 @@ pub listed_beside : (p : Image) (t : Table) (cs ds : List Cell) → Beside cs ds
 listed_beside p t cs ds b same = grind (arith, nat_tests, listed_same p t cs ds)
 
 -- where the same waits at all that are enlisted
-pub requests_beside : (p : Image) (a : Active) (cs ds : List Cell) → Beside cs ds → ((n : ℕ) → is_some (requested cs n) ≡ true → (service_of ds n).queue ≡ (service_of cs n).queue) → SameRequests p a cs → SameRequests p a ds
+pub requests_beside : (p : Image) (a : Active) (cs ds : List Cell) →
+    Beside cs ds → ((n : ℕ) → is_some (requested cs n) ≡ true → (service_of ds n).queue ≡ (service_of cs n).queue) → SameRequests p a cs → SameRequests p a ds
 requests_beside p a cs ds b queues same = grind (arith, nat_tests, requests_as p a cs ds)
 
 -- ---- what clients have at a cell changes
@@ -97,7 +101,8 @@ abbrev session_in : Option Cell → Bool
 session_in None = false
 session_in (Some c) = c.session
 
-module _ (drops : Cell → Bool) (f : Cell → Service) (cs : List Cell) (tidy : Tidy cs) (messages : (n : ℕ) (x : Cell) → cell_of cs n ≡ Some x → drops x ≡ true → (4096 ≤ n) × (is_object x.object.thing ≡ false) × (x.request ≡ None)) where
+module _ (drops : Cell → Bool) (f : Cell → Service) (cs : List Cell) (tidy : Tidy cs)
+    (messages : (n : ℕ) (x : Cell) → cell_of cs n ≡ Some x → drops x ≡ true → (4096 ≤ n) × (is_object x.object.thing ≡ false) × (x.request ≡ None)) where
   abbrev ds : List Cell
   ds = sifted drops f cs
 
@@ -177,7 +182,8 @@ module _ (drops : Cell → Bool) (f : Cell → Service) (cs : List Cell) (tidy :
   }
 
 -- what is owned by no queue stays, where what goes is owned by queues
-pub holds_sifted : (drops : Cell → Bool) (f : Cell → Service) (cs : List Cell) → Tidy cs → ((n : ℕ) (x : Cell) → cell_of cs n ≡ Some x → drops x ≡ true → is_queue x.owner ≡ true) → (r : Place) → is_queue r ≡ false → held (sifted drops f cs) r ≡ held cs r
+pub holds_sifted : (drops : Cell → Bool) (f : Cell → Service) (cs : List Cell) → Tidy cs → ((n : ℕ) (x : Cell) →
+    cell_of cs n ≡ Some x → drops x ≡ true → is_queue x.owner ≡ true) → (r : Place) → is_queue r ≡ false → held (sifted drops f cs) r ≡ held cs r
 holds_sifted drops f cs tidy queues r apart = held_cell (sifted drops f cs) r ∙ ap object_in (cell_in_sifted drops f cs r tidy) ∙ go (cell_in cs r) refl ∙ sym (held_cell cs r)
   where
     go : (x : Option Cell) → cell_in cs r ≡ x → object_in (left_cell drops f x) ≡ object_in x

@@ -30,25 +30,30 @@ field_read : (h h' : Heap) (n f x : ℕ) → PutsField n f x h h' → (k g : ℕ
 field_read h h' n f x puts k g = grind (arith, nat_tests, eqb-true n k, eq-eqb n k, eqb-true f g, field_left)
 
 -- all other places stay as they are
-pub field_written : (us : List Machine_task) (h h' : Heap) (es : List Item) (others : Others) (n f x : ℕ) → PutsField n f x h h' → (r : Place) → value_in us h' es others r ≡ changed (value_in us h es others) (Field n f) x r
+pub field_written : (us : List Machine_task) (h h' : Heap) (es : List Item) (others : Others) (n f x : ℕ) →
+    PutsField n f x h h' → (r : Place) → value_in us h' es others r ≡ changed (value_in us h es others) (Field n f) x r
 field_written us h h' es others n f x puts y = grind (arith, nat_tests, field_read h h' n f x puts)
 
 -- so is it of any place that no task, no entry and no cell has
-pub elsewhere_written : (us : List Machine_task) (h : Heap) (es : List Item) (others then : Others) (q : Other) (x : ℕ) → ((o : Other) → other_in then o ≡ changed (value_in us h es others) (Elsewhere q) x (Elsewhere o))
+pub elsewhere_written : (us : List Machine_task) (h : Heap) (es : List Item) (others then : Others) (q : Other) (x : ℕ) →
+    ((o : Other) → other_in then o ≡ changed (value_in us h es others) (Elsewhere q) x (Elsewhere o))
     → (r : Place) → value_in us h es then r ≡ changed (value_in us h es others) (Elsewhere q) x r
 elsewhere_written us h es others then q x same y = grind arith
 
-pub root_written : (us : List Machine_task) (h : Heap) (es : List Item) (others : Others) (x : ℕ) (r : Place) → value_in us h es (record others { root = x }) r ≡ changed (value_in us h es others) (Elsewhere Root) x r
+pub root_written : (us : List Machine_task) (h : Heap) (es : List Item) (others : Others) (x : ℕ) (r : Place) →
+    value_in us h es (record others { root = x }) r ≡ changed (value_in us h es others) (Elsewhere Root) x r
 root_written us h es others x r = grind (arith, nat_tests, elsewhere_written us h es others)
 
-pub served_written : (us : List Machine_task) (h : Heap) (es : List Item) (others : Others) (x : ℕ) (r : Place) → value_in us h es (record others { served = x }) r ≡ changed (value_in us h es others) (Elsewhere In_service) x r
+pub served_written : (us : List Machine_task) (h : Heap) (es : List Item) (others : Others) (x : ℕ) (r : Place) →
+    value_in us h es (record others { served = x }) r ≡ changed (value_in us h es others) (Elsewhere In_service) x r
 served_written us h es others x r = grind (arith, nat_tests, elsewhere_written us h es others)
 
 -- a word of a cell is no place
 fields_left : (c : Option Machine_cell) (w g : ℕ) (v : ℤ) → field_of (with_word c w v) g ≡ field_of c g
 fields_left x w g v = grind arith
 
-pub word_put_elsewhere : (us : List Machine_task) (h h' : Heap) (es : List Item) (others : Others) (n w : ℕ) (v : ℤ) → PutsWord n w v h h' → (r : Place) → value_in us h' es others r ≡ value_in us h es others r
+pub word_put_elsewhere : (us : List Machine_task) (h h' : Heap) (es : List Item) (others : Others) (n w : ℕ) (v : ℤ) →
+    PutsWord n w v h h' → (r : Place) → value_in us h' es others r ≡ value_in us h es others r
 word_put_elsewhere us h h' es others n w v puts x = grind (arith, nat_tests, eqb-true n, fields_left, eq-eqb n)
 
 -- the machine has a cell of that name
@@ -56,7 +61,8 @@ pub cell_of : (p : Image) (h : Heap) (cs : List Cell) (n : ℕ) (o : Object) →
 cell_of p h cs n o same lives object = some_given (λ c. thing_in c ≡ Some o.thing) (cell_at h n) (class_told p h cs n o same lives object) (λ f. cc) (λ c e f. (c, e))
 
 -- a cell has other words and fields, of the same class and as many
-cells_rewritten : (p : Image) (h h' : Heap) (cs cs' : List Cell) (n : ℕ) (c c' : Machine_cell) → SameCells p h cs → cell_at h n ≡ Some c → Changes h h' n (Some c') → c'.class ≡ c.class → length c'.fields ≡ length c.fields → count h' ≡ count h
+cells_rewritten : (p : Image) (h h' : Heap) (cs cs' : List Cell) (n : ℕ) (c c' : Machine_cell) →
+    SameCells p h cs → cell_at h n ≡ Some c → Changes h h' n (Some c') → c'.class ≡ c.class → length c'.fields ≡ length c.fields → count h' ≡ count h
     → ((k : ℕ) → named cs' k ≡ named cs k) → count_cells cs' ≡ count_cells cs → ((k w : ℕ) → k < 4096 → cell_word h' k w ≡ word_field cs' k w) → SameCells p h' cs'
 cells_rewritten p h h' cs cs' n c c' same at ch class as_wide as_many names as_long words = record {
   things = λ k. things k ∙ same.things k ∙ ap thing_of (sym (names k));
@@ -85,7 +91,8 @@ cells_put p h h' cs n f x o same lives object puts =
     grind (arith, nat_tests, cell_of p h cs n o same lives object, cells_rewritten p h h' cs cs n, length-set, eqb-true n, eq-eqb n)
 
 -- a word is written
-pub cells_stored : (p : Image) (h h' : Heap) (cs : List Cell) (n w : ℕ) (v : ℤ) (o : Object) → SameCells p h cs → named cs n ≡ Some o → is_object o.thing ≡ true → PutsWord n w v h h' → SameCells p h' (set_word_field n w v cs)
+pub cells_stored : (p : Image) (h h' : Heap) (cs : List Cell) (n w : ℕ) (v : ℤ) (o : Object) →
+    SameCells p h cs → named cs n ≡ Some o → is_object o.thing ≡ true → PutsWord n w v h h' → SameCells p h' (set_word_field n w v cs)
 cells_stored p h h' cs n w v o same lives object puts = grind (
   arith,
   nat_tests,

@@ -1,6 +1,7 @@
 -- The words of cells: what moves, goes, is made and is written leaves all others as they were.
 use Rattle.std.proofs.lemmas.Bool.Decides.{nat_tests}
-use Rattle.std.proofs.Common.{zero, suc, inl, inr, ◌≡◌, ℕ, ℤ, pos, false, cond, ◌==◌, ◌&&◌, List, [], ◌∷◌, Option, Some, None, replicate, slice_index_or, refl, sym, ap, ◌∙◌, arith, ◌<◌}
+use Rattle.std.proofs.Common.{zero, suc, inl, inr, ◌≡◌, ℕ, ℤ, pos, false, cond, ◌==◌, ◌&&◌, List, [], ◌∷◌, Option}
+use Rattle.std.proofs.Common.{Some, None, replicate, slice_index_or, refl, sym, ap, ◌∙◌, arith, ◌<◌}
 use Rattle.std.specs.Prelude.{is_some}
 use Rattle.std.proofs.lemmas.Bool.{cases_lt, eq-eqb, eqb-true, false≢true}
 use Rattle.std.proofs.lemmas.List.{get_or_past, get_or-replicate, get_or-set_other, length-replicate}
@@ -43,7 +44,8 @@ word_left : (c : Option Machine_cell) (w x : ℕ) (v : ℤ) → (w == x) ≡ fal
 word_left None w x v d = refl
 word_left (Some c) w x v d = get_or-set_other c.words w x v (pos 0) (λ e. false≢true (sym d ∙ eq-eqb w x (sym e)))
 
-pub words_stored : (h h' : Heap) (cs : List Cell) (n w : ℕ) (v : ℤ) (o : Object) → ((k x : ℕ) → k < 4096 → cell_word h k x ≡ word_field cs k x) → named cs n ≡ Some o → Changes h h' n (with_word (cell_at h n) w v) → cell_word h' n w ≡ v
+pub words_stored : (h h' : Heap) (cs : List Cell) (n w : ℕ) (v : ℤ) (o : Object) →
+    ((k x : ℕ) → k < 4096 → cell_word h k x ≡ word_field cs k x) → named cs n ≡ Some o → Changes h h' n (with_word (cell_at h n) w v) → cell_word h' n w ≡ v
     → (k x : ℕ) → k < 4096 → cell_word h' k x ≡ word_field (set_word_field n w v cs) k x
 words_stored h h' cs n w v o same lives ch here k x small =
     grind (arith, nat_tests, eqb-true n k, eq-eqb n k, words_other cs n w v k x, words_here cs n w v x, eqb-true w x, word_left)

@@ -27,7 +27,8 @@ pub cell_small : (p : Image) (h : Heap) (cs : List Cell) → SameCells p h cs �
 cell_small p h cs same few n c there = let low = same.below n c there in let limit = same.limit in omega (arith, low, limit, few)
 
 -- what stands for cells stands for others with the same things and words
-pub cells_as : (p : Image) (h : Heap) (cs ds : List Cell) → ((n : ℕ) → thing_of (named ds n) ≡ thing_of (named cs n)) → ((n w : ℕ) → n < 4096 → word_field ds n w ≡ word_field cs n w) → count_cells ds ≡ count_cells cs → SameCells p h cs → SameCells p h ds
+pub cells_as : (p : Image) (h : Heap) (cs ds : List Cell) → ((n : ℕ) → thing_of (named ds n) ≡ thing_of (named cs n)) →
+    ((n w : ℕ) → n < 4096 → word_field ds n w ≡ word_field cs n w) → count_cells ds ≡ count_cells cs → SameCells p h cs → SameCells p h ds
 cells_as p h cs ds things words count same = record {
   things = λ n. same.things n ∙ sym (things n);
   words = λ n w small. same.words n w small ∙ sym (words n w small);
@@ -52,11 +53,12 @@ words_without [] g o n w t e d = refl
 words_without (c ∷ cs) g o n w t e d = grind (arith, nat_tests, words_without cs g o n w t.2, without_none cs g, same_place-true c.owner g)
 
 -- the cell that a place owned goes
-pub cells_without : (p : Image) (h h' : Heap) (cs : List Cell) (g : Place) (o : Object) → SameCells p h cs → Tidy cs → held cs g ≡ Some o → is_object o.thing ≡ true → Changes h h' o.name None → count h' + 1 ≡ count h → SameCells p h' (without g cs)
+pub cells_without : (p : Image) (h h' : Heap) (cs : List Cell) (g : Place) (o : Object) → SameCells p h cs →
+    Tidy cs → held cs g ≡ Some o → is_object o.thing ≡ true → Changes h h' o.name None → count h' + 1 ≡ count h → SameCells p h' (without g cs)
 cells_without p h h' cs g o same tidy is object ch less = record {
   things = grind (arith, nat_tests, eqb-true o.name, unnamed cs g o tidy is, named_without cs g o);
-  words = λ k w small. cases (o.name == k)
-      (λ e. ap (λ i. word_of (cell_at h' i) w) (sym (eqb-true o.name k e)) ∙ ap (λ c. word_of c w) ch.here ∙ sym (words_unnamed (without g cs) k w (ap (named (without g cs)) (sym (eqb-true o.name k e)) ∙ unnamed cs g o tidy is)))
+  words = λ k w small. cases (o.name == k) (λ e. ap (λ i. word_of (cell_at h' i) w) (sym (eqb-true o.name k e))
+      ∙ ap (λ c. word_of c w) ch.here ∙ sym (words_unnamed (without g cs) k w (ap (named (without g cs)) (sym (eqb-true o.name k e)) ∙ unnamed cs g o tidy is)))
       (λ e. ap (λ c. word_of c w) (other k e) ∙ same.words k w small ∙ sym (words_without cs g o k w tidy is e));
   count = (let a = count_without cs g tidy ∙ ap (λ o. counted_in o + count_cells (without g cs)) is in let one = ap {B = ℕ} (λ b. cond b 1 0) object in let b = same.count in omega (arith, a, one, b));
   limit = ch.limit ∙ same.limit;

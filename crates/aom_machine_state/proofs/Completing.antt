@@ -1,6 +1,7 @@
 -- A message is completed: its cell goes, its place and its slot are free, and all else goes on standing for what it stood for.
 use Rattle.std.proofs.lemmas.Bool.Decides.{nat_tests}
-use Rattle.std.proofs.Common.{Bool, List, None, Some, [], ap, arith, cond, false, length, refl, subst, suc, sym, true, ℕ, ◌+◌, ◌<◌, ◌==◌, ◌∙◌, ◌∷◌, ◌≡◌, ◌≤◌, ◌⊎◌, inl, inr}
+use Rattle.std.proofs.Common.{Bool, List, None, Some, [], ap, arith, cond, false, length, refl, subst}
+use Rattle.std.proofs.Common.{suc, sym, true, ℕ, ◌+◌, ◌<◌, ◌==◌, ◌∙◌, ◌∷◌, ◌≡◌, ◌≤◌, ◌⊎◌, inl, inr}
 use Rattle.std.specs.List.{list_any}
 use Rattle.std.specs.Prelude.{filter, map, ◌-◌, ◌||◌}
 use Rattle.std.proofs.lemmas.Bool.{cases_lt, eq-eqb, eqb-true, false≢true, ne_eqb}
@@ -95,8 +96,9 @@ slots_so s cs clients same tidy d = counted d cs (kept.sent_at s d) tidy (same.o
 -- ---- a message is completed
 
 -- the cell of that number goes from its place; it has no queue and no sessions, and no queue has it
-module _ (s : kept.State) (cs : List Cell) (clients : List Client) (same : SameClients s cs clients) (tidy : Tidy cs) (m : ℕ) (place : m < length s.places) (g : Owner) (o : Object) (there : held cs g ≡ Some o) (name : o.name ≡ message_name m)
-    (plain : ((service_of cs (message_name m)).queue ≡ []) × ((service_of cs (message_name m)).sessions ≡ [])) (nowhere : (n : ℕ) → list_any (is_message (message_name m)) (service_of cs n).queue ≡ false) where
+module _ (s : kept.State) (cs : List Cell) (clients : List Client) (same : SameClients s cs clients) (tidy : Tidy cs) (m : ℕ) (place : m < length s.places)
+    (g : Owner) (o : Object) (there : held cs g ≡ Some o) (name : o.name ≡ message_name m) (plain : ((service_of cs (message_name m)).queue ≡ []) ×
+    ((service_of cs (message_name m)).sessions ≡ [])) (nowhere : (n : ℕ) → list_any (is_message (message_name m)) (service_of cs n).queue ≡ false) where
   abbrev then : kept.State
   then = kept.after_complete m s
 

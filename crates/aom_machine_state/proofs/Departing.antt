@@ -1,6 +1,7 @@
 -- What is left of clients, queues, places and slots once a server went: by the entries of its queue and then its sessions, one after another.
 use Rattle.std.proofs.lemmas.Bool.Decides.{nat_tests}
-use Rattle.std.proofs.Common.{Bool, List, [], ap, arith, cond, false, length, refl, slice_index_or, slice_set, subst, sym, true, ℕ, ◌<◌, ◌==◌, ◌≤◌, ◌∙◌, ◌∷◌, ◌≡◌}
+use Rattle.std.proofs.Common.{Bool, List, [], ap, arith, cond, false, length, refl, slice_index_or}
+use Rattle.std.proofs.Common.{slice_set, subst, sym, true, ℕ, ◌<◌, ◌==◌, ◌≤◌, ◌∙◌, ◌∷◌, ◌≡◌}
 use Rattle.std.specs.List.{list_any}
 use Rattle.std.specs.Prelude.{filter, not, ◌||◌}
 use Rattle.std.proofs.lemmas.Bool.{cases_lt, eq-eqb, eqb-true}
@@ -117,9 +118,11 @@ module _ (k : ℕ) where
   gone_again : (x : Client) → at_gone (at_gone x) ≡ at_gone x
   gone_again x = grind arith
 
-  pub client_after_sessions : (cs : List ℕ) (s : kept.State) (c : ℕ) → kept.client_at (kept.sessions_gone k cs s) c ≡ cond (list_any (λ d. d == c) cs) (at_gone (kept.client_at s c)) (kept.client_at s c)
+  pub client_after_sessions : (cs : List ℕ) (s : kept.State) (c : ℕ) →
+      kept.client_at (kept.sessions_gone k cs s) c ≡ cond (list_any (λ d. d == c) cs) (at_gone (kept.client_at s c)) (kept.client_at s c)
   client_after_sessions [] s c = refl
-  client_after_sessions (d ∷ cs) s c = client_after_sessions cs (kept.session_gone k (d ∷ cs) s) c ∙ ap (λ x. cond (list_any (λ d. d == c) cs) (at_gone x) x) now ∙ go (list_any (λ d. d == c) cs) (d == c)
+  client_after_sessions (d ∷ cs) s c = client_after_sessions cs (kept.session_gone k (d ∷ cs) s) c
+      ∙ ap (λ x. cond (list_any (λ d. d == c) cs) (at_gone x) x) now ∙ go (list_any (λ d. d == c) cs) (d == c)
     where
       now : kept.client_at (kept.session_gone k (d ∷ cs) s) c ≡ cond (d == c) (at_gone (kept.client_at s c)) (kept.client_at s c)
       now = at_set_or Unconnected s.clients d c (at_gone (kept.client_at s d)) (λ large. ap at_gone (get_or_past s.clients d Unconnected large)) ∙ at (d == c) refl
@@ -128,7 +131,8 @@ module _ (k : ℕ) where
           at true e = ap (λ i. at_gone (kept.client_at s i)) (eqb-true d c e)
           at false e = refl
 
-      go : (a b : Bool) → cond a (at_gone (cond b (at_gone (kept.client_at s c)) (kept.client_at s c))) (cond b (at_gone (kept.client_at s c)) (kept.client_at s c)) ≡ cond (b || a) (at_gone (kept.client_at s c)) (kept.client_at s c)
+      go : (a b : Bool) → cond a (at_gone (cond b (at_gone (kept.client_at s c)) (kept.client_at s c)))
+          (cond b (at_gone (kept.client_at s c)) (kept.client_at s c)) ≡ cond (b || a) (at_gone (kept.client_at s c)) (kept.client_at s c)
       go true true = gone_again (kept.client_at s c)
       go false true = refl
       go _ false = refl
@@ -145,7 +149,8 @@ module _ (k : ℕ) where
   queues_after_sessions [] s = refl
   queues_after_sessions (c ∷ cs) s = queues_after_sessions cs (kept.session_gone k (c ∷ cs) s)
 
-  pub sessions_after_sessions : (cs : List ℕ) (s : kept.State) (n : ℕ) → k < length s.sessions → kept.sessions_at s k ≡ cs → kept.sessions_at (kept.sessions_gone k cs s) n ≡ cond (k == n) [] (kept.sessions_at s n)
+  pub sessions_after_sessions : (cs : List ℕ) (s : kept.State) (n : ℕ) →
+      k < length s.sessions → kept.sessions_at s k ≡ cs → kept.sessions_at (kept.sessions_gone k cs s) n ≡ cond (k == n) [] (kept.sessions_at s n)
   sessions_after_sessions [] s n small at = told_there k n (kept.sessions_at s) [] at
   sessions_after_sessions (c ∷ cs) s n small at =
       sessions_after_sessions cs (kept.session_gone k (c ∷ cs) s) n (subst (λ i. k < i) (sym (length-set s.sessions k cs)) small) (now k ∙ ap (λ b. cond b cs (kept.sessions_at s k)) (eq-eqb k k refl))

@@ -8,7 +8,8 @@ use Rattle.aom_semantics.specs.Cleanup.{to_trap}
 use Rattle.aom_semantics.specs.Calls.{below_top}
 use Rattle.aom_semantics.specs.Places.{Cell, Entry, Going, Place, held, moved, same_place}
 use Rattle.aom_semantics.specs.State.{Closing, Destroy, Dispatched, Frame, Item, Run, Task, Trapped, Unwind, resumed}
-use Rattle.aom_machine_state.specs.Room.{AllFit, AllRunUnder, AllUnder, Destructs, GoesUnder, IsUnder, NoClosing, RunsBy, RunsUnder, below_height, entries_in, may_push}
+use Rattle.aom_machine_state.specs.Room.{AllFit, AllRunUnder, AllUnder, Destructs, GoesUnder, IsUnder, NoClosing}
+use Rattle.aom_machine_state.specs.Room.{RunsBy, RunsUnder, below_height, entries_in, may_push}
 
 -- each method at hand began where the cleanup stack had no more items than that
 abbrev pub AllLow : ℕ → List Task → Type 0
@@ -52,7 +53,8 @@ module _ (p : Image) (depth heights : ℕ → ℕ) where
 
   -- ---- cells move
 
-  same_runs : (cs cs' : List Cell) (height n : ℕ) (items : List Item) → ((k : ℕ) → k < length items → held cs' (Entry k) ≡ held cs (Entry k)) → RunsUnder p depth cs height n items → RunsUnder p depth cs' height n items
+  same_runs : (cs cs' : List Cell) (height n : ℕ) (items : List Item) →
+      ((k : ℕ) → k < length items → held cs' (Entry k) ≡ held cs (Entry k)) → RunsUnder p depth cs height n items → RunsUnder p depth cs' height n items
   same_runs cs cs' height n [] same w = tt
   same_runs cs cs' height n (i ∷ items) same w = (λ le m e. w.0 le m (same_run i m e), same_runs cs cs' height n items (λ k lt. same k (omega (arith, lt))) w.1)
     where
@@ -85,7 +87,8 @@ module _ (p : Image) (depth heights : ℕ → ℕ) where
   runs_below cs i items (Closing ∷ ts) w = (w.0, runs_below cs i items ts w.1)
   runs_below cs i items (_ ∷ ts) w = runs_below cs i items ts w
 
-  same_fit : (items items' : List Item) (ts : List Task) (n : ℕ) → AllLow n ts → ((h : ℕ) → h ≤ n → below_height h items' ≡ below_height h items) → AllFit p heights items ts → AllFit p heights items' ts
+  same_fit : (items items' : List Item) (ts : List Task) (n : ℕ) →
+      AllLow n ts → ((h : ℕ) → h ≤ n → below_height h items' ≡ below_height h items) → AllFit p heights items ts → AllFit p heights items' ts
   same_fit items items' [] n low same w = tt
   same_fit items items' (Run fr ∷ ts) n low same w = (grind (arith, nat_tests), same_fit items items' ts n low.1 same w.1)
   same_fit items items' (_ ∷ ts) n low same w = same_fit items items' ts n low same w
@@ -104,14 +107,16 @@ module _ (p : Image) (depth heights : ℕ → ℕ) where
 
   -- ---- an item is pushed
 
-  pushed_runs : (cs : List Cell) (i : Item) (items : List Item) (ts : List Task) → AllUnder depth ts → ((m : ℕ) → RunsBy p cs i (length items) m → IsUnder depth (depth m) ts) → AllRunUnder p depth cs items ts → AllRunUnder p depth cs (i ∷ items) ts
+  pushed_runs : (cs : List Cell) (i : Item) (items : List Item) (ts : List Task) → AllUnder depth ts →
+      ((m : ℕ) → RunsBy p cs i (length items) m → IsUnder depth (depth m) ts) → AllRunUnder p depth cs items ts → AllRunUnder p depth cs (i ∷ items) ts
   pushed_runs cs i items [] u h w = tt
   pushed_runs cs i items (Run fr ∷ ts) u h w = ((λ le m e. h m e, w.0), pushed_runs cs i items ts u.1 (λ m e. under_less (depth m) (depth fr.method) ts (h m e) u.0) w.1)
   pushed_runs cs i items (Destroy ∷ ts) u h w = (w.0, pushed_runs cs i items ts u h w.1)
   pushed_runs cs i items (Closing ∷ ts) u h w = (w.0, pushed_runs cs i items ts u h w.1)
   pushed_runs cs i items (_ ∷ ts) u h w = pushed_runs cs i items ts u h w
 
-  pub item_pushed : (cs : List Cell) (i : Item) (items : List Item) (ts : List Task) → AllLow (length items) ts → ((m : ℕ) → RunsBy p cs i (length items) m → IsUnder depth (depth m) ts) → entries_in (i ∷ items) ≤ 1024 → Roomy cs items ts → Roomy cs (i ∷ items) ts
+  pub item_pushed : (cs : List Cell) (i : Item) (items : List Item) (ts : List Task) → AllLow (length items) ts →
+      ((m : ℕ) → RunsBy p cs i (length items) m → IsUnder depth (depth m) ts) → entries_in (i ∷ items) ≤ 1024 → Roomy cs items ts → Roomy cs (i ∷ items) ts
   item_pushed cs i items ts low h few w = (
     w.0,
     pushed_runs cs i items ts w.0 h w.1,
@@ -125,11 +130,13 @@ module _ (p : Image) (depth heights : ℕ → ℕ) where
   runs_above cs height n [] le = tt
   runs_above cs height n (i ∷ items) le = (λ low m e. absurd (omega (arith, le, low)), runs_above cs height n items (omega (arith, le)))
 
-  pub begins : (cs : List Cell) (items : List Item) (fr : Frame) (ts : List Task) → fr.height ≡ length items → IsUnder depth (depth fr.method) ts → (may_push p fr.method ≡ true → entries_in items + heights fr.method ≤ 1024) → Roomy cs items ts → Roomy cs items (Run fr ∷ ts)
+  pub begins : (cs : List Cell) (items : List Item) (fr : Frame) (ts : List Task) → fr.height ≡ length items → IsUnder depth (depth fr.method) ts →
+      (may_push p fr.method ≡ true → entries_in items + heights fr.method ≤ 1024) → Roomy cs items ts → Roomy cs items (Run fr ∷ ts)
   begins cs items fr ts high under fit w = grind (arith, nat_tests, runs_above cs fr.height (depth fr.method) items, below_all fr.height items)
 
   -- what the last item runs is less deep than the method below
-  pub top_under : (cs : List Cell) (i : Item) (items : List Item) (ts : List Task) (m : ℕ) → AllLow (length items) ts → RunsBy p cs i (length items) m → AllRunUnder p depth cs (i ∷ items) ts → IsUnder depth (depth m) ts
+  pub top_under : (cs : List Cell) (i : Item) (items : List Item) (ts : List Task) (m : ℕ) →
+      AllLow (length items) ts → RunsBy p cs i (length items) m → AllRunUnder p depth cs (i ∷ items) ts → IsUnder depth (depth m) ts
   top_under cs i items [] m low e w = tt
   top_under cs i items (Run fr ∷ ts) m low e w = w.0.0 low.0 m e
   top_under cs i items (Destroy ∷ ts) m low e w = top_under cs i items ts m low e w.1

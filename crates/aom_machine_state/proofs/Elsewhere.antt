@@ -64,7 +64,8 @@ module _ (p : Image) (t : Typing) (s : State) (w : WellTyped p t s) (fit : Clien
 -- ---- the sessions of clients
 
 -- a client is at something else, and by that one place has another number
-sessions_now : (s s' : kept.State) (c k x : ℕ) (to : Client) → ((d : ℕ) → client_at s' d ≡ cond (c == d) to (client_at s d)) → ((n : ℕ) → session_with n to ≡ cond (k == n) x (session_with n (client_at s c)))
+sessions_now : (s s' : kept.State) (c k x : ℕ) (to : Client) →
+    ((d : ℕ) → client_at s' d ≡ cond (c == d) to (client_at s d)) → ((n : ℕ) → session_with n to ≡ cond (k == n) x (session_with n (client_at s c)))
     → (n d : ℕ) → session_with n (client_at s' d) ≡ cond ((k == n) && (c == d)) x (session_with n (client_at s d))
 sessions_now s s' c k x to at here n d = grind (arith, nat_tests, eqb-true c d)
 
@@ -73,7 +74,8 @@ abbrev pub ShowSame : kept.State → kept.State → Type 0
 ShowSame s s' = (n m : ℕ) → list_any (is_numbered m) (queue_at s' n) ≡ list_any (is_numbered m) (queue_at s n)
 
 -- so a place of a session alone has another number
-session_written : (others : Others) (s' : kept.State) (c k x : ℕ) → ((n d : ℕ) → session_with n (client_at s' d) ≡ cond ((k == n) && (c == d)) x (session_with n (client_at others.clients d))) → ShowSame others.clients s'
+session_written : (others : Others) (s' : kept.State) (c k x : ℕ) →
+    ((n d : ℕ) → session_with n (client_at s' d) ≡ cond ((k == n) && (c == d)) x (session_with n (client_at others.clients d))) → ShowSame others.clients s'
     → (us : List Machine_task) (h : Heap) (es : List Item) (r : Place) → value_in us h es (record others { clients = s' }) r ≡ changed (value_in us h es others) (Elsewhere (Session k c)) x r
 session_written others s' c k x sessions queues us h es r = elsewhere_written us h es others (record others { clients = s' }) (Session k c) x other r
   where
@@ -83,7 +85,8 @@ session_written others s' c k x sessions queues us h es r = elsewhere_written us
     other _ = refl
 
 -- the same is shown where no message goes
-shows_filtered : (stays : Entry → Bool) (m : ℕ) → ((e : Entry) → stays e ≡ false → is_numbered m e ≡ false) → (es : List Entry) → list_any (is_numbered m) (filter stays es) ≡ list_any (is_numbered m) es
+shows_filtered : (stays : Entry → Bool) (m : ℕ) →
+    ((e : Entry) → stays e ≡ false → is_numbered m e ≡ false) → (es : List Entry) → list_any (is_numbered m) (filter stays es) ≡ list_any (is_numbered m) es
 shows_filtered stays m apart [] = refl
 shows_filtered stays m apart (e ∷ es) = grind (arith, nat_tests, shows_filtered stays m apart es)
 
@@ -109,8 +112,10 @@ module _ (others : Others) (us : List Machine_task) (h : Heap) (es : List Item) 
   after s' = value_in us h es (record others { clients = s' })
 
   -- a connect is served, with a session
-  pub session_opened : (slots session : ℕ) → client_at s c ≡ Connecting k slots → session < no_cell → (r : Place) → after (kept.after_connected c (Some session) s) r ≡ changed before (Elsewhere (Session k c)) session r
-  session_opened slots session was small r = ap (λ x. after (kept.opened x (Some session) c s) r) was ∙ session_written others then c k session (sessions_now s then c k session (Open k session slots) (client_now s c (Open k session slots) client) here) queues us h es r
+  pub session_opened : (slots session : ℕ) → client_at s c ≡ Connecting k slots →
+      session < no_cell → (r : Place) → after (kept.after_connected c (Some session) s) r ≡ changed before (Elsewhere (Session k c)) session r
+  session_opened slots session was small r = ap (λ x. after (kept.opened x (Some session) c s) r) was ∙ session_written others then c k session
+      (sessions_now s then c k session (Open k session slots) (client_now s c (Open k session slots) client) here) queues us h es r
     where
       then : kept.State
       then = kept.opened (Connecting k slots) (Some session) c s
@@ -135,12 +140,14 @@ module _ (others : Others) (us : List Machine_task) (h : Heap) (es : List Item) 
   unmoved s' sessions queues _ = refl
 
   -- a client is at something else, and has no cell of a session before or after, or the same one
-  sessions_same : (s' : kept.State) (to : Client) → ((d : ℕ) → client_at s' d ≡ cond (c == d) to (client_at s d)) → ((n : ℕ) → session_with n to ≡ session_with n (client_at s c)) → (n d : ℕ) → session_with n (client_at s' d) ≡ session_with n (client_at s d)
+  sessions_same : (s' : kept.State) (to : Client) → ((d : ℕ) → client_at s' d ≡ cond (c == d) to (client_at s d)) →
+      ((n : ℕ) → session_with n to ≡ session_with n (client_at s c)) → (n d : ℕ) → session_with n (client_at s' d) ≡ session_with n (client_at s d)
   sessions_same s' to at here n d = grind (arith, nat_tests, eqb-true c d)
 
   -- a connect is left
   pub connect_left : (slots : ℕ) → client_at s c ≡ Connecting k slots → (r : Place) → after (kept.after_connected c None s) r ≡ before r
-  connect_left slots was r = ap (λ x. after (kept.opened x None c s) r) was ∙ unmoved then (sessions_same then Unconnected (client_now s c Unconnected client) (λ n. ap (session_with n) (sym was))) queues r
+  connect_left slots was r = ap (λ x. after (kept.opened x None c s) r) was
+      ∙ unmoved then (sessions_same then Unconnected (client_now s c Unconnected client) (λ n. ap (session_with n) (sym was))) queues r
     where
       then : kept.State
       then = kept.opened (Connecting k slots) None c s
@@ -163,15 +170,17 @@ module _ (others : Others) (us : List Machine_task) (h : Heap) (es : List Item) 
       gone server session it e n = sym (ap (λ x. cond (server == n) x null) (sym (ap (λ b. cond b (session_number session) null) it) ∙ e) ∙ both_null (server == n))
 
       go : (x : Client) → client_at s c ≡ x → is_leaving k x ≡ true → session_with k x ≡ null → after (kept.ended x c s) r ≡ before r
-      go (Closing server session) e it null_there =
-          unmoved (kept.parted c Unconnected s) (sessions_same (kept.parted c Unconnected s) Unconnected (client_now s c Unconnected client) (λ n. gone server session it null_there n ∙ sym (ap (session_with n) e))) (queues Unconnected) r
-      go (Dying server session) e it null_there = unmoved (kept.parted c Dead s) (sessions_same (kept.parted c Dead s) Dead (client_now s c Dead client) (λ n. gone server session it null_there n ∙ sym (ap (session_with n) e))) (queues Dead) r
+      go (Closing server session) e it null_there = unmoved (kept.parted c Unconnected s) (sessions_same (kept.parted c Unconnected s) Unconnected
+          (client_now s c Unconnected client) (λ n. gone server session it null_there n ∙ sym (ap (session_with n) e))) (queues Unconnected) r
+      go (Dying server session) e it null_there = unmoved (kept.parted c Dead s) (sessions_same
+          (kept.parted c Dead s) Dead (client_now s c Dead client) (λ n. gone server session it null_there n ∙ sym (ap (session_with n) e))) (queues Dead) r
       go _ e it null_there = cc
 
 -- ---- a queue
 
 -- the queue of a server is another, by which one message comes or goes
-queue_written : (others : Others) (s' : kept.State) (k m x : ℕ) (to : List Entry) → ((n d : ℕ) → session_with n (client_at s' d) ≡ session_with n (client_at others.clients d)) → ((n : ℕ) → queue_at s' n ≡ cond (k == n) to (queue_at others.clients n))
+queue_written : (others : Others) (s' : kept.State) (k m x : ℕ) (to : List Entry) → ((n d : ℕ) →
+    session_with n (client_at s' d) ≡ session_with n (client_at others.clients d)) → ((n : ℕ) → queue_at s' n ≡ cond (k == n) to (queue_at others.clients n))
     → ((j : ℕ) → cond (list_any (is_numbered j) to) j null ≡ cond (m == j) x (cond (list_any (is_numbered j) (queue_at others.clients k)) j null))
     → (us : List Machine_task) (h : Heap) (es : List Item) (r : Place) → value_in us h es (record others { clients = s' }) r ≡ changed (value_in us h es others) (Elsewhere (Queued k m)) x r
 queue_written others s' k m x to sessions at here us h es r = elsewhere_written us h es others (record others { clients = s' }) (Queued k m) x other r
@@ -193,8 +202,9 @@ queue_written others s' k m x to sessions at here us h es r = elsewhere_written 
     other _ = refl
 
 -- the first of a queue is a message, which is taken
-pub message_taken : (others : Others) (k m : ℕ) (rest : List Entry) → k < length others.clients.queues → queue_at others.clients k ≡ Message m ∷ rest → list_any (is_numbered (message_name m)) rest ≡ false
-    → (us : List Machine_task) (h : Heap) (es : List Item) (r : Place) → value_in us h es (record others { clients = kept.after_next k others.clients }) r ≡ changed (value_in us h es others) (Elsewhere (Queued k (message_name m))) null r
+pub message_taken : (others : Others) (k m : ℕ) (rest : List Entry) → k < length others.clients.queues → queue_at others.clients k ≡ Message m ∷ rest →
+    list_any (is_numbered (message_name m)) rest ≡ false → (us : List Machine_task) (h : Heap) (es : List Item) (r : Place) → value_in us h es
+    (record others { clients = kept.after_next k others.clients }) r ≡ changed (value_in us h es others) (Elsewhere (Queued k (message_name m))) null r
 message_taken others k m rest small first once us h es r = grind (arith, nat_tests, queue_written others, at_set, eqb-true)
 
 -- anything else that is first is no message
@@ -209,11 +219,14 @@ abbrev pub SessionsSame : kept.State → kept.State → Type 0
 SessionsSame s s' = (n d : ℕ) → session_with n (client_at s' d) ≡ session_with n (client_at s d)
 
 -- the number of any place but of those in queues
-pub others_same : (others : Others) (s' : kept.State) → SessionsSame others.clients s' → (us : List Machine_task) (h : Heap) (es : List Item) (r : Place) → ((n m : ℕ) → r ≡ Elsewhere (Queued n m) → ⊥) → value_in us h es (record others { clients = s' }) r ≡ value_in us h es others r
+pub others_same : (others : Others) (s' : kept.State) → SessionsSame others.clients s' → (us : List Machine_task) (h : Heap) (es : List Item) (r : Place) →
+    ((n m : ℕ) → r ≡ Elsewhere (Queued n m) → ⊥) → value_in us h es (record others { clients = s' }) r ≡ value_in us h es others r
 others_same others s' sessions us h es x aside = grind arith
 
 -- what places show goes on so where messages come and go in queues alone
-pub shows_again : (p : Image) (t : Typing) (s : State) (others : Others) (s' : kept.State) (us : List Machine_task) (h : Heap) (es : List Item) (cs : List Cell) (ts : List Task) → WellTyped p t s → ClientsFit p s.clients s.cells → SameClients s' s.cells s.clients → SessionsSame others.clients s'
-    → ((r : Place) → ((n m : ℕ) → r ≡ Elsewhere (Queued n m) → ⊥) → held s.cells r ≡ held cs r) → ((r : Place) → Represents (value_in us h es others r) (word_at ts r) (held cs r)) → (r : Place) → Represents (value_in us h es (record others { clients = s' }) r) (word_at ts r) (held s.cells r)
+pub shows_again : (p : Image) (t : Typing) (s : State) (others : Others) (s' : kept.State) (us : List Machine_task) (h : Heap) (es : List Item)
+    (cs : List Cell) (ts : List Task) → WellTyped p t s → ClientsFit p s.clients s.cells → SameClients s' s.cells s.clients → SessionsSame others.clients s'
+    → ((r : Place) → ((n m : ℕ) → r ≡ Elsewhere (Queued n m) → ⊥) → held s.cells r ≡ held cs r) → ((r : Place) → Represents (value_in us h es others r)
+    (word_at ts r) (held cs r)) → (r : Place) → Represents (value_in us h es (record others { clients = s' }) r) (word_at ts r) (held s.cells r)
 shows_again p t s others s' us h es cs ts w fit same sessions holds old r =
     grind (arith, nat_tests, others_same others s' sessions us h es r, queued_shows p t s w fit s' same)

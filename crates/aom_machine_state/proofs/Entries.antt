@@ -32,7 +32,8 @@ owns_none i is k none = at_depth (length is) k (owned_by i) (entry_in is k) (λ 
 pub mark_shows_none : (is : List Machine_item) (k : ℕ) → entry_in (Is_mark ∷ is) k ≡ entry_in is k
 mark_shows_none is k = owns_none Is_mark is k refl
 
-pub value_alike : (us : List Machine_task) (h : Heap) (es es' : List Machine_item) (others : Others) → ((k : ℕ) → entry_in es k ≡ entry_in es' k) → (r : Place) → value_in us h es others r ≡ value_in us h es' others r
+pub value_alike : (us : List Machine_task) (h : Heap) (es es' : List Machine_item) (others : Others) →
+    ((k : ℕ) → entry_in es k ≡ entry_in es' k) → (r : Place) → value_in us h es others r ≡ value_in us h es' others r
 value_alike us h es es' others same x = grind arith
 
 -- the items below what is last
@@ -47,10 +48,12 @@ pub and_true : {A : Type 0} (b : Bool) (x y : A) → cond b x y ≡ cond (b && t
 and_true x y z = grind arith
 
 -- an object is pushed, and popped
-pub value_pushed : (us : List Machine_task) (h : Heap) (es : List Machine_item) (others : Others) (n d : ℕ) → length es ≡ d → (r : Place) → value_in us h (Holds_object n ∷ es) others r ≡ changed (value_in us h es others) (Entry d) n r
+pub value_pushed : (us : List Machine_task) (h : Heap) (es : List Machine_item) (others : Others) (n d : ℕ) →
+    length es ≡ d → (r : Place) → value_in us h (Holds_object n ∷ es) others r ≡ changed (value_in us h es others) (Entry d) n r
 value_pushed us h es others n d deep x = grind (arith, nat_tests, and_true)
 
-pub value_popped : (us : List Machine_task) (h : Heap) (es : List Machine_item) (others : Others) (n d : ℕ) → length es ≡ d → (r : Place) → value_in us h es others r ≡ changed (value_in us h (Holds_object n ∷ es) others) (Entry d) null r
+pub value_popped : (us : List Machine_task) (h : Heap) (es : List Machine_item) (others : Others) (n d : ℕ) →
+    length es ≡ d → (r : Place) → value_in us h es others r ≡ changed (value_in us h (Holds_object n ∷ es) others) (Entry d) null r
 value_popped us h es others n d deep x = grind (arith, nat_tests, entry_past es, eqb-true d)
 
 -- what it owns is found there

@@ -1,6 +1,7 @@
 -- Messages that wait are kept no more where their client leaves, or their server goes: by their cells one after another.
 use Rattle.std.proofs.lemmas.Bool.Decides.{nat_tests}
-use Rattle.std.proofs.Common.{Bool, List, None, Option, Some, [], ap, arith, cond, false, length, refl, suc, sym, true, ℕ, ℤ, pos, ◌+◌, ◌<◌, ◌==◌, ◌≤◌, ◌∙◌, ◌∷◌, ◌≡◌}
+use Rattle.std.proofs.Common.{Bool, List, None, Option, Some, [], ap, arith, cond, false, length, refl}
+use Rattle.std.proofs.Common.{suc, sym, true, ℕ, ℤ, pos, ◌+◌, ◌<◌, ◌==◌, ◌≤◌, ◌∙◌, ◌∷◌, ◌≡◌}
 use Rattle.std.specs.Prelude.{is_some, ◌||◌}
 use Rattle.std.proofs.lemmas.Bool.{eq-eqb, eqb-true, false≢true, ne_eqb}
 use Rattle.aom_image.specs.Image.{Image}
@@ -44,7 +45,8 @@ count_without cs x n tidy e message = go cs tidy (cell_placed cs n x tidy e)
     step true a c e = e
     step false a c e = ap suc e
 
-    by : (c : Cell) (cs : List Cell) → Tidy (c ∷ cs) → (b : Bool) → same_place c.owner x.owner ≡ b → cond b (Some c) (cell_in cs x.owner) ≡ Some x → (cell_in cs x.owner ≡ Some x → count_messages cs ≡ suc (count_messages (without x.owner cs))) →
+    by : (c : Cell) (cs : List Cell) → Tidy (c ∷ cs) → (b : Bool) → same_place c.owner x.owner ≡ b →
+        cond b (Some c) (cell_in cs x.owner) ≡ Some x → (cell_in cs x.owner ≡ Some x → count_messages cs ≡ suc (count_messages (without x.owner cs))) →
         cond (is_object c.object.thing) (count_messages cs) (suc (count_messages cs)) ≡ suc (count_messages (cond b (without x.owner cs) (c ∷ without x.owner cs)))
     by c cs tidy true f e rest =
         let one : c ≡ x = cc in
@@ -78,7 +80,8 @@ module _ (drops : Cell → Bool) (f : Cell → Service) where
   count_left : (places : List ℕ) → Once places → (cs : List Cell) → Tidy cs → Forgets places cs → count_messages (left cs) + length places ≡ count_messages cs
   count_left [] once cs tidy forgets = grind (arith, nat_tests, count_stay cs, each_cell, cell_of cs)
   count_left (m ∷ ms) once cs tidy forgets = more (count_messages (left cs)) (length ms) (count_messages (without x.owner cs)) (count_messages cs)
-      (ap (λ l. count_messages l + length ms) (sym (left_without cs x tidy placed w.2)) ∙ count_left ms once.1 (without x.owner cs) (tidy_without cs x.owner tidy) rest) (count_without cs x (message_name m) tidy w.1 w.3)
+      (ap (λ l. count_messages l + length ms) (sym (left_without cs x tidy placed w.2))
+      ∙ count_left ms once.1 (without x.owner cs) (tidy_without cs x.owner tidy) rest) (count_without cs x (message_name m) tidy w.1 w.3)
     where
       w : (x : Cell) × (cell_of cs (message_name m) ≡ Some x) × (drops x ≡ true) × (is_object x.object.thing ≡ false)
       w = forgets.goes m (ap (λ b. b || is_among m ms) (eq-eqb m m refl))
@@ -133,8 +136,9 @@ module _ (drops : Cell → Bool) (f : Cell → Service) where
                   absurd (false≢true (sym other ∙ ap (λ (z : Cell). same_place z.owner x.owner) (sym cell) ∙ same_place_refl x.owner))
 
   -- and they are kept no more
-  pub messages_sifted : (p : Image) (before after : Store) (places : List ℕ) → Once places → (cs : List Cell) → Tidy cs → Forgets places cs → ((m : ℕ) → is_among m places ≡ true → message_at after m ≡ None) →
-      ((m : ℕ) → is_among m places ≡ false → message_at after m ≡ message_at before m) → after.limit ≡ before.limit → count after + length places ≡ count before → SameMessages p before cs → SameMessages p after (left cs)
+  pub messages_sifted : (p : Image) (before after : Store) (places : List ℕ) → Once places → (cs : List Cell) → Tidy cs → Forgets places cs →
+      ((m : ℕ) → is_among m places ≡ true → message_at after m ≡ None) → ((m : ℕ) → is_among m places ≡ false → message_at after m ≡ message_at before m) →
+      after.limit ≡ before.limit → count after + length places ≡ count before → SameMessages p before cs → SameMessages p after (left cs)
   messages_sifted p before after places once cs tidy forgets gone others limit fewer same = record {
     there = λ m. there m (is_among m places) refl;
     within = λ m high. within m high (is_among m places) refl;

@@ -35,8 +35,8 @@ use Rattle.aom_machine_state.specs.Services.{SameServices}
 use Rattle.aom_machine_state.specs.Serving.{SameClients, message_name}
 use Rattle.aom_machine_state.specs.Tokens.{SameTokens, no_words}
 
-module _
-    (p : Image) (cs : List Cell) (o : Object) (lives : named cs o.name ≡ Some o) (q : Request) (asked : requested cs o.name ≡ Some q) (m class order : ℕ) (owner : Place) (free : named cs (message_name m) ≡ None) (apart : is_queue owner ≡ false) where
+module _ (p : Image) (cs : List Cell) (o : Object) (lives : named cs o.name ≡ Some o) (q : Request)
+    (asked : requested cs o.name ≡ Some q) (m class order : ℕ) (owner : Place) (free : named cs (message_name m) ≡ None) (apart : is_queue owner ≡ false) where
   abbrev its : Option Request
   its = Some (promised order q)
 
@@ -93,7 +93,8 @@ module _
   asked_then : (n : ℕ) → requested us n ≡ cond (o.name == n) its (requested cs n)
   asked_then n = sym (asked_set cs o.name its (ap is_some lives) n)
 
-  tokens_then : (w now : Kept) → Sets w.places now.places m (Some (record { class = class; object = o.name })) → Sets w.living now.living o.name (Some m) → SameTokens p w cs → SameTokens p now with_its_token
+  tokens_then : (w now : Kept) → Sets w.places now.places m (Some (record { class = class; object = o.name })) →
+      Sets w.living now.living o.name (Some m) → SameTokens p w cs → SameTokens p now with_its_token
   tokens_then w now hands living same =
       tokens_handed p w now cs us same m o.name class order owner (λ n. ap (λ (v : Service). v.token) (service_asked cs o.name its (message_name n))) free_then
       (ap awaited (asked_then o.name) ∙ ap (λ b. awaited (cond b its (requested cs o.name))) (eq-eqb o.name o.name refl))
@@ -102,9 +103,9 @@ module _
   order_so : (n : ℕ) → option_map (λ x. x.order) (requested us n) ≡ option_map (λ x. x.order) (requested cs n)
   order_so n = grind (arith, nat_tests, asked_then n, eqb-true o.name n)
 
-  pub services_handed :
-      (k : Kept_state) (store after : Store) (w now : Kept) (table : Table) (clients : List Client) → m < 1024 → Changes store after m (Some no_words) → count after ≡ count store + 1 →
-      Sets w.places now.places m (Some (record { class = class; object = o.name })) → Sets w.living now.living o.name (Some m) → SameServices p k store w table cs clients → SameServices p k after now table with_its_token clients
+  pub services_handed : (k : Kept_state) (store after : Store) (w now : Kept) (table : Table) (clients : List Client) → m < 1024 →
+      Changes store after m (Some no_words) → count after ≡ count store + 1 → Sets w.places now.places m (Some (record { class = class; object = o.name })) →
+      Sets w.living now.living o.name (Some m) → SameServices p k store w table cs clients → SameServices p k after now table with_its_token clients
   services_handed k store after w now table clients low adds more hands living same = record {
     clients = clients_handed k clients same.clients;
     sized = same.sized;

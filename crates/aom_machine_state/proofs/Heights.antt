@@ -74,7 +74,9 @@ stands_here p t s fr ts w at = method_layer (λ ls. (forms s.items ≡ items_of 
     })
 
 -- the items over a height are a method's own entries
-one_more : (es : List Pushed) (below : List Form) (i : Item) (items : List Item) → entries_in (i ∷ items) ≡ suc (entries_in items) → forms items ≡ objects es below → entries_in items ≡ length es + entries_in (below_height (length below) items) → entries_in (i ∷ items) ≡ suc (length es) + entries_in (below_height (length below) (i ∷ items))
+one_more : (es : List Pushed) (below : List Form) (i : Item) (items : List Item) → entries_in (i ∷ items) ≡ suc (entries_in items) →
+    forms items ≡ objects es below → entries_in items ≡ length es + entries_in (below_height (length below) items) →
+    entries_in (i ∷ items) ≡ suc (length es) + entries_in (below_height (length below) (i ∷ items))
 one_more es below i items one same h = grind (arith, nat_tests, below_pushed, below, items, length_forms items, length_objects es below)
 
 pub own_entries : (es : List Pushed) (below : List Form) (items : List Item) → forms items ≡ objects es below → entries_in items ≡ length es + entries_in (below_height (length below) items)
@@ -88,7 +90,8 @@ own_entries (Pushed_operation ∷ es) below (An_operation m w ∷ items) e =
 own_entries _ below _ e = cc
 
 -- what a leave has still to unwind lies over its trap's mark
-left_over : (p : Image) (t : Typing) (cs : List Cell) (es : List Pushed) (ls : List Layer) (i : Item) (items : List Item) → Stack p t cs Leaves ls → forms (i ∷ items) ≡ objects es (items_of ls) → AllLow (length items) (tasks_of ls)
+left_over : (p : Image) (t : Typing) (cs : List Cell) (es : List Pushed) (ls : List Layer) (i : Item) (items : List Item) →
+    Stack p t cs Leaves ls → forms (i ∷ items) ≡ objects es (items_of ls) → AllLow (length items) (tasks_of ls)
 left_over p t cs (e ∷ es) ls i items s same =
     let rest : forms items ≡ objects es (items_of ls) = cc in
     low_stack p t cs Leaves ls (length items) s (omega (arith, length_forms items, ap length rest, length_objects es (items_of ls)))
@@ -97,5 +100,8 @@ left_over p t cs [] (Mark gv ∷ ls) i items s same =
     low_stack p t cs (Caught gv) ls (length items) s.1 (omega (arith, length_forms items, ap length rest))
 left_over p t cs _ _ i items s same = absurd (first_of (assumption tt, cc))
 
-pub low_unwinding : (p : Image) (t : Typing) (s : State) (code : ℤ) (ts : List Task) (i : Item) (items : List Item) → WellTyped p t s → s.tasks ≡ Unwind code ∷ ts → s.items ≡ i ∷ items → AllLow (length items) ts
-low_unwinding p t s code ts i items w at top = leave_layer (λ ls. (forms (i ∷ items) ≡ items_of ls) × (Stack p t s.cells Now ls)) code ts w.layers (sym w.tasks ∙ at) (ap forms (sym top) ∙ w.items, w.good.stack) (λ es ls under h. subst (λ us. AllLow (length items) us) under (left_over p t s.cells es ls i items h.1.1 h.0))
+pub low_unwinding : (p : Image) (t : Typing) (s : State) (code : ℤ) (ts : List Task) (i : Item) (items : List Item) →
+    WellTyped p t s → s.tasks ≡ Unwind code ∷ ts → s.items ≡ i ∷ items → AllLow (length items) ts
+low_unwinding p t s code ts i items w at top =
+    leave_layer (λ ls. (forms (i ∷ items) ≡ items_of ls) × (Stack p t s.cells Now ls)) code ts w.layers (sym w.tasks ∙ at)
+    (ap forms (sym top) ∙ w.items, w.good.stack) (λ es ls under h. subst (λ us. AllLow (length items) us) under (left_over p t s.cells es ls i items h.1.1 h.0))

@@ -1,6 +1,7 @@
 -- The messages that a client leaves as it closes or dies, and those in the queue of a server that goes, are kept no more: what is kept stands for what is left.
 use Rattle.std.proofs.lemmas.Bool.Decides.{nat_tests}
-use Rattle.std.proofs.Common.{Bool, List, None, Option, Some, [], ap, arith, false, inl, inr, length, map, refl, subst, sym, true, ℕ, ◌&&◌, ◌+◌, ◌<◌, ◌==◌, ◌≤◌, ◌∙◌, ◌∷◌, ◌≡◌, ◌⊎◌}
+use Rattle.std.proofs.Common.{Bool, List, None, Option, Some, [], ap, arith, false, inl, inr, length, map}
+use Rattle.std.proofs.Common.{refl, subst, sym, true, ℕ, ◌&&◌, ◌+◌, ◌<◌, ◌==◌, ◌≤◌, ◌∙◌, ◌∷◌, ◌≡◌, ◌⊎◌}
 use Rattle.std.specs.List.{list_any}
 use Rattle.std.specs.Prelude.{filter, is_some, not, ◌-◌, ◌||◌}
 use Rattle.std.proofs.lemmas.Bool.{and_parts, cases_lt, eq-eqb, eqb-true, false≢true}
@@ -18,7 +19,8 @@ use Rattle.aom_messages.specs.Store.{Store, count, message_at}
 use Rattle.aom_roles.specs.Shapes.{kind_of}
 use Rattle.aom_rules.specs.Typing.{Typing}
 use Rattle.aom_safety.proofs.ClientsFacts.{waiting_message as queued_message}
-use Rattle.aom_safety.proofs.Sifted.{a_cell_of, cell_in, cell_lives, cell_name, cell_of, cell_owner, cell_placed, held_cell, named_cell, object_in, request_in, requested_cell, service_cell, service_in, unqueued_so, withdrawn_so}
+use Rattle.aom_safety.proofs.Sifted.{a_cell_of, cell_in, cell_lives, cell_name, cell_of, cell_owner, cell_placed, held_cell, named_cell}
+use Rattle.aom_safety.proofs.Sifted.{object_in, request_in, requested_cell, service_cell, service_in, unqueued_so, withdrawn_so}
 use Rattle.aom_safety.proofs.Sources.{from_some}
 use Rattle.aom_safety.specs.Kept.{ClientsFit, QueueFits}
 use Rattle.aom_safety.specs.Laws.{IsWired}
@@ -96,7 +98,8 @@ module _ (p : Image) (t : Typing) (wired : IsWired p) (s : State) (w : WellTyped
   -- ---- a client leaves
 
   -- a message that is forgotten was kept
-  forgotten_kept : {drops : Cell → Bool} {f : Cell → Service} {ms : List ℕ} {before : Store} → Forgets drops f ms s.cells → SameMessages p before s.cells → (m : ℕ) → is_among m ms ≡ true → is_some (message_at before m) ≡ true
+  forgotten_kept : {drops : Cell → Bool} {f : Cell → Service} {ms : List ℕ} {before : Store} →
+      Forgets drops f ms s.cells → SameMessages p before s.cells → (m : ℕ) → is_among m ms ≡ true → is_some (message_at before m) ≡ true
   forgotten_kept goes kept_so m h = grind (arith, nat_tests, named_cell s.cells, object_in)
 
   module _ (c : ℕ) where
@@ -127,7 +130,8 @@ module _ (p : Image) (t : Typing) (wired : IsWired p) (s : State) (w : WellTyped
             let m = message_place before kept_so n x e b.0 in
             let cell : cell_of s.cells (message_name m.0) ≡ Some x = ap (cell_of s.cells) (sym m.1) ∙ e in
             let waits : is_queued (kept.place_at k m.0) ≡ true = same.waits m.0 ∙ ap waits_in (owner_there (message_name m.0) x cell) ∙ b.0 in
-            let from : is_from c (sent_by (holds k m.0) (kept.place_at k m.0)) ≡ true = ap (is_from c) (same.senders m.0) ∙ ap (λ (v : Service). is_from c v.sender) (service_cell s.cells (message_name m.0) ∙ ap service_in cell) ∙ b.1 in
+            let from : is_from c (sent_by (holds k m.0) (kept.place_at k m.0)) ≡ true = ap (is_from c) (same.senders m.0)
+            ∙ ap (λ (v : Service). is_from c v.sender) (service_cell s.cells (message_name m.0) ∙ ap service_in cell) ∙ b.1 in
             (m.0, m.1, among_freed m.0 ∙ ap (λ y. y && is_among m.0 (kept.sent_at k c)) waits ∙ held_slot m.0 waits from)
           where
             held_slot : (m : ℕ) → is_queued (kept.place_at k m) ≡ true → is_from c (sent_by (holds k m) (kept.place_at k m)) ≡ true → is_among m (kept.sent_at k c) ≡ true
@@ -140,8 +144,8 @@ module _ (p : Image) (t : Typing) (wired : IsWired p) (s : State) (w : WellTyped
     freed_kept before kept_so = forgotten_kept (forgets before kept_so) kept_so
 
     pub messages_withdrawn : Taking p freed s.cells (withdrawn c s.cells)
-    messages_withdrawn before after gone others limit fewer kept_so =
-        subst (SameMessages p after) (sym (withdrawn_so c s.cells)) (messages_sifted drops (λ x. left_by c x.service) p before after freed freed_once s.cells w.good.tidy (forgets before kept_so) gone others limit fewer kept_so)
+    messages_withdrawn before after gone others limit fewer kept_so = subst (SameMessages p after) (sym (withdrawn_so c s.cells)) (messages_sifted drops
+        (λ x. left_by c x.service) p before after freed freed_once s.cells w.good.tidy (forgets before kept_so) gone others limit fewer kept_so)
 
   -- ---- a server goes
 
@@ -164,7 +168,8 @@ module _ (p : Image) (t : Typing) (wired : IsWired p) (s : State) (w : WellTyped
             let z = a_cell_of (cell_in s.cells (Elsewhere (Waits_at n (message_name m)))) y.0 (sym (held_cell s.cells (Elsewhere (Waits_at n (message_name m)))) ∙ y.1) in
             let place = cell_owner s.cells (Elsewhere (Waits_at n (message_name m))) z.0 z.1 in
             let here : is_queue_of n z.0.owner ≡ true = ap (is_queue_of n) place ∙ eq-eqb n n refl in
-            let cell : cell_of s.cells (message_name m) ≡ Some z.0 = ap (cell_of s.cells) (sym (ap (λ (o : Object). o.name) z.2 ∙ y.2)) ∙ cell_lives s.cells (Elsewhere (Waits_at n (message_name m))) z.0 w.good.tidy z.1 in
+            let cell : cell_of s.cells (message_name m) ≡ Some z.0 = ap (cell_of s.cells) (sym (ap (λ (o : Object). o.name) z.2 ∙ y.2))
+            ∙ cell_lives s.cells (Elsewhere (Waits_at n (message_name m))) z.0 w.good.tidy z.1 in
             (z.0, cell, here, waiting_message (message_name m) z.0 cell (queue_of_queue n z.0.owner here))
 
         gone : (i : ℕ) (x : Cell) → cell_of s.cells i ≡ Some x → is_queue_of n x.owner ≡ true → (m : ℕ) × (i ≡ message_name m) × (is_among m waiting ≡ true)
@@ -181,7 +186,8 @@ module _ (p : Image) (t : Typing) (wired : IsWired p) (s : State) (w : WellTyped
 
     pub messages_unqueued : Taking p waiting s.cells (without_queue n s.cells)
     messages_unqueued before after gone others limit fewer kept_so =
-        subst (SameMessages p after) (sym (unqueued_so n s.cells)) (messages_sifted (λ x. is_queue_of n x.owner) (λ x. x.service) p before after waiting waiting_once s.cells w.good.tidy (unqueues before kept_so) gone others limit fewer kept_so)
+        subst (SameMessages p after) (sym (unqueued_so n s.cells)) (messages_sifted (λ x. is_queue_of n x.owner)
+        (λ x. x.service) p before after waiting waiting_once s.cells w.good.tidy (unqueues before kept_so) gone others limit fewer kept_so)
 
   -- ---- all else stays where these messages go
 
@@ -201,7 +207,8 @@ module _ (p : Image) (t : Typing) (wired : IsWired p) (s : State) (w : WellTyped
     cell_placed s.cells n x w.good.tidy e,
   )
 
-  gone_message : (before : Store) → SameMessages p before s.cells → (n : ℕ) (x : Cell) → cell_of s.cells n ≡ Some x → is_queue x.owner ≡ true → (4096 ≤ n) × (is_object x.object.thing ≡ false) × (x.request ≡ None)
+  gone_message : (before : Store) → SameMessages p before s.cells →
+      (n : ℕ) (x : Cell) → cell_of s.cells n ≡ Some x → is_queue x.owner ≡ true → (4096 ≤ n) × (is_object x.object.thing ≡ false) × (x.request ≡ None)
   gone_message before kept_so n x e h = let m = message_place before kept_so n x e h in let name = m.1 in (omega (arith, name), waiting_message n x e h, waiting_unasked n x e h)
 
   pub beside_withdrawn : (before : Store) → SameMessages p before s.cells → (c : ℕ) → Beside s.cells (withdrawn c s.cells)
@@ -209,7 +216,8 @@ module _ (p : Image) (t : Typing) (wired : IsWired p) (s : State) (w : WellTyped
       (beside_sifted (drops c) (λ x. left_by c x.service) s.cells w.good.tidy (λ n x e h. gone_message before kept_so n x e (and_parts (is_queue x.owner) (is_from c x.service.sender) h).0))
 
   pub beside_unqueued : (before : Store) → SameMessages p before s.cells → (n : ℕ) → Beside s.cells (without_queue n s.cells)
-  beside_unqueued before kept_so n = subst (Beside s.cells) (sym (unqueued_so n s.cells)) (beside_sifted (λ x. is_queue_of n x.owner) (λ x. x.service) s.cells w.good.tidy (λ i x e h. gone_message before kept_so i x e (queued x.owner h)))
+  beside_unqueued before kept_so n = subst (Beside s.cells) (sym (unqueued_so n s.cells))
+      (beside_sifted (λ x. is_queue_of n x.owner) (λ x. x.service) s.cells w.good.tidy (λ i x e h. gone_message before kept_so i x e (queued x.owner h)))
     where
       queued : (q : Owner) → is_queue_of n q ≡ true → is_queue q ≡ true
       queued x h = grind arith

@@ -1,6 +1,7 @@
 -- The servers of each class in the order in which they were enlisted: the first is the one that a connect asks, and the lists go on.
 use Rattle.std.proofs.lemmas.Bool.Decides.{nat_tests}
-use Rattle.std.proofs.Common.{ap, arith, Bool, cond, false, inl, inr, length, List, None, Option, refl, Some, subst, suc, sym, true, ℕ, ◌&&◌, ◌++◌, ◌<◌, ◌==◌, ◌≤◌, ◌∙◌, ◌∷◌, ◌≡◌, ◌⊎◌, []}
+use Rattle.std.proofs.Common.{ap, arith, Bool, cond, false, inl, inr, length, List, None, Option, refl, Some}
+use Rattle.std.proofs.Common.{subst, suc, sym, true, ℕ, ◌&&◌, ◌++◌, ◌<◌, ◌==◌, ◌≤◌, ◌∙◌, ◌∷◌, ◌≡◌, ◌⊎◌, []}
 use Rattle.std.specs.Prelude.{◌||◌, AllPairs, nat_lt, not, option_map, slice_index_or, slice_set}
 use Rattle.std.proofs.lemmas.Bool.{and_parts, eq-eqb, eqb-true, ne_eqb, false≢true, ltb-false, ltb-true}
 use Rattle.std.proofs.Math.ListN.{get_or-map}
@@ -34,7 +35,8 @@ found : (class : ℕ) (cs : List Cell) (n : ℕ) (o : Object) (r : Request) → 
 found class [] n o r is asked of = absurd (none-some _ is)
 found class (c ∷ cs) n o r is asked of = go (c.object.name == n) is asked (λ is asked. found class cs n o r is asked of)
   where
-    go : (b : Bool) → cond b (Some c.object) (named cs n) ≡ Some o → cond b c.request (requested cs n) ≡ Some r → (named cs n ≡ Some o → requested cs n ≡ Some r → Found class cs r.order) → Found class (c ∷ cs) r.order
+    go : (b : Bool) → cond b (Some c.object) (named cs n) ≡ Some o →
+        cond b c.request (requested cs n) ≡ Some r → (named cs n ≡ Some o → requested cs n ≡ Some r → Found class cs r.order) → Found class (c ∷ cs) r.order
     go true is asked rest =
         let me : Listed = record { name = c.object.name; order = r.order } in
         let mine : is_of_class class c.object.thing ≡ true = ap (λ (x : Object). is_of_class class x.thing) (same_Some _ _ is) ∙ of in (
@@ -110,9 +112,11 @@ entry p cs class n e = go (named cs n) (requested cs n) refl refl e
     go : (o : Option Object) (r : Option Request) → named cs n ≡ o → requested cs n ≡ r → lists p class o r ≡ true → Entry p cs class n
     go None r is asked e = absurd (false≢true e)
     go (Some o) None is asked e = absurd (false≢true e)
-    go (Some o) (Some r) is asked e = let both = and_parts (is_server p o.thing) (is_of_class class o.thing) e in record { object = o; request = r; lives = is; asked = asked; serves = both.0; of = both.1 }
+    go (Some o) (Some r) is asked e = let both = and_parts (is_server p o.thing) (is_of_class class o.thing) e in
+        record { object = o; request = r; lives = is; asked = asked; serves = both.0; of = both.1 }
 
-listed_entry : (p : Image) (cs : List Cell) (class n : ℕ) (o : Object) (r : Request) → named cs n ≡ Some o → requested cs n ≡ Some r → is_server p o.thing ≡ true → is_of_class class o.thing ≡ true → is_listed p cs class n ≡ true
+listed_entry : (p : Image) (cs : List Cell) (class n : ℕ) (o : Object) (r : Request) →
+    named cs n ≡ Some o → requested cs n ≡ Some r → is_server p o.thing ≡ true → is_of_class class o.thing ≡ true → is_listed p cs class n ≡ true
 listed_entry p cs class n o r is asked serves of = grind (arith, nat_tests, asked, serves, of)
 
 -- whose class is one of servers
@@ -148,7 +152,8 @@ first_asked p t cs tidy same class = go (list_at t class) (λ n. same.there n cl
     go [] there sorted = by (is_server p (An_object_of class)) refl (first_listed class cs) refl
       where
         by : (b : Bool) → is_server p (An_object_of class) ≡ b → (l : Option Listed) → first_listed class cs ≡ l → None ≡ option_map (λ (x : Listed). x.name) (asked_server p class cs)
-        by b serves None e = sym (ap (λ l. option_map (λ (x : Listed). x.name) (cond (is_server p (An_object_of class)) l None)) e ∙ ap (λ b. option_map (λ (x : Listed). x.name) (cond b None None)) serves ∙ none b)
+        by b serves None e = sym (ap (λ l. option_map (λ (x : Listed). x.name) (cond (is_server p (An_object_of class)) l None)) e
+            ∙ ap (λ b. option_map (λ (x : Listed). x.name) (cond b None None)) serves ∙ none b)
           where
             none : (b : Bool) → option_map (λ (x : Listed). x.name) (cond b None None) ≡ None
             none true = refl
@@ -163,7 +168,8 @@ first_asked p t cs tidy same class = go (list_at t class) (λ n. same.there n cl
         let low : f.0.order ≤ me.request.order = f.2 in
         let is : order n ≡ me.request.order = ap order_in me.asked in
         let has : order f.0.name ≡ f.0.order = ap order_in r.1 ∙ sym r.2 in
-        let asked : option_map (λ (x : Listed). x.name) (asked_server p class cs) ≡ Some f.0.name = ap (λ b. option_map (λ (x : Listed). x.name) (cond b (first_listed class cs) None)) serves ∙ ap (λ l. option_map (λ (x : Listed). x.name) l) f.1 in
+        let asked : option_map (λ (x : Listed). x.name) (asked_server p class cs) ≡ Some f.0.name =
+        ap (λ b. option_map (λ (x : Listed). x.name) (cond b (first_listed class cs) None)) serves ∙ ap (λ l. option_map (λ (x : Listed). x.name) l) f.1 in
         by (n == f.0.name) f.0.name refl (there f.0.name ∙ in_list f.0 f.1 serves) (λ among. let later = after_first order n ns f.0.name sorted among in omega (arith, later, low, is, has)) ∙ sym asked
       where
         by : (b : Bool) (m : ℕ) → (n == m) ≡ b → (b || is_among m ns) ≡ true → (is_among m ns ≡ true → ⊥) → Some n ≡ Some m
@@ -173,7 +179,8 @@ first_asked p t cs tidy same class = go (list_at t class) (λ n. same.there n cl
 -- ---- the lists go on
 
 -- where the same are listed, in the same order
-pub listed_same : (p : Image) (t : Table) (cs ds : List Cell) → ((n class : ℕ) → is_listed p ds class n ≡ is_listed p cs class n) → ((n : ℕ) → order_in (requested ds n) ≡ order_in (requested cs n)) → SameListed p t cs → SameListed p t ds
+pub listed_same : (p : Image) (t : Table) (cs ds : List Cell) → ((n class : ℕ) → is_listed p ds class n ≡ is_listed p cs class n) →
+    ((n : ℕ) → order_in (requested ds n) ≡ order_in (requested cs n)) → SameListed p t cs → SameListed p t ds
 listed_same p t cs ds listed orders same = record {
   there = λ n class. same.there n class ∙ sym (listed n class);
   order = λ class i j d less within. let o = same.order class i j d less within in omega (arith, o, orders (slice_index_or (list_at t class) i d), orders (slice_index_or (list_at t class) j d));
@@ -182,7 +189,8 @@ listed_same p t cs ds listed orders same = record {
 }
 
 -- so it is where no name, no order and no one enlisted is another
-pub listed_alike : (p : Image) (t : Table) (cs ds : List Cell) → ((n : ℕ) → named ds n ≡ named cs n) → ((n : ℕ) → option_map (λ r. r.order) (requested ds n) ≡ option_map (λ r. r.order) (requested cs n)) → SameListed p t cs → SameListed p t ds
+pub listed_alike : (p : Image) (t : Table) (cs ds : List Cell) → ((n : ℕ) → named ds n ≡ named cs n) →
+    ((n : ℕ) → option_map (λ r. r.order) (requested ds n) ≡ option_map (λ r. r.order) (requested cs n)) → SameListed p t cs → SameListed p t ds
 listed_alike p t cs ds names orders same = grind (arith, nat_tests, listed_same p t cs ds, same_Some)
 
 or_true : (b : Bool) → (b || true) ≡ true
@@ -193,7 +201,8 @@ or_false b = grind arith
 
 -- one that is in no list is the last of its class from then on
 module _ (p : Image) (t : Table) (cs ds : List Cell) (id class : ℕ) where
-  pub listed_last : class < 256 → ((k : ℕ) → is_listed p cs k id ≡ false) → ((k : ℕ) → is_listed p ds k id ≡ (class == k)) → ((n k : ℕ) → (id == n) ≡ false → is_listed p ds k n ≡ is_listed p cs k n) → ((n : ℕ) → (id == n) ≡ false → order_in (requested ds n) ≡ order_in (requested cs n)) →
+  pub listed_last : class < 256 → ((k : ℕ) → is_listed p cs k id ≡ false) → ((k : ℕ) → is_listed p ds k id ≡ (class == k)) → ((n k : ℕ) →
+      (id == n) ≡ false → is_listed p ds k n ≡ is_listed p cs k n) → ((n : ℕ) → (id == n) ≡ false → order_in (requested ds n) ≡ order_in (requested cs n)) →
       ((n : ℕ) → is_listed p cs class n ≡ true → order_in (requested cs n) < order_in (requested ds id)) → SameListed p t cs → SameListed p (with_list class (list_at t class ++ id ∷ []) t) ds
   listed_last small free here others orders newest same = record {
     there = λ n k. ap (is_among n) (at_list k) ∙ among n k;
@@ -246,7 +255,8 @@ module _ (p : Image) (t : Table) (cs ds : List Cell) (id class : ℕ) where
 
 -- one that is gone is in no list
 module _ (p : Image) (t : Table) (cs ds : List Cell) (id : ℕ) where
-  pub listed_gone : ((k : ℕ) → is_listed p ds k id ≡ false) → ((n k : ℕ) → (id == n) ≡ false → is_listed p ds k n ≡ is_listed p cs k n) → ((n : ℕ) → (id == n) ≡ false → order_in (requested ds n) ≡ order_in (requested cs n)) → SameListed p t cs → SameListed p (unlisted id t) ds
+  pub listed_gone : ((k : ℕ) → is_listed p ds k id ≡ false) → ((n k : ℕ) → (id == n) ≡ false → is_listed p ds k n ≡ is_listed p cs k n) →
+      ((n : ℕ) → (id == n) ≡ false → order_in (requested ds n) ≡ order_in (requested cs n)) → SameListed p t cs → SameListed p (unlisted id t) ds
   listed_gone free others orders same = record {
     there = λ n k. ap (is_among n) (at_list k) ∙ among n k (list_at t k) (same.there n k);
     order = λ k. subst (λ ns. AllPairs (λ a b. order_in (requested ds a) < order_in (requested ds b)) ns) (sym (at_list k)) (sorted k);

@@ -1,6 +1,7 @@
 -- The messages that are kept, where cells move, change, come and go: by the cells one after another.
 use Rattle.std.proofs.lemmas.Bool.Decides.{nat_tests}
-use Rattle.std.proofs.Common.{Bool, List, None, Option, Some, [], ap, arith, cond, false, not, refl, suc, sym, true, ℕ, ℤ, pos, ◌+◌, ◌<◌, ◌==◌, ◌≤◌, ◌∙◌, ◌∷◌, ◌≡◌}
+use Rattle.std.proofs.Common.{Bool, List, None, Option, Some, [], ap, arith, cond, false, not, refl}
+use Rattle.std.proofs.Common.{suc, sym, true, ℕ, ℤ, pos, ◌+◌, ◌<◌, ◌==◌, ◌≤◌, ◌∙◌, ◌∷◌, ◌≡◌}
 use Rattle.std.specs.Prelude.{is_some}
 use Rattle.std.proofs.lemmas.Bool.{eq-eqb, eqb-true, false≢true, ne_eqb}
 use Rattle.aom_image.specs.Image.{Image}
@@ -15,7 +16,8 @@ use Rattle.aom_safety.proofs.Services.{named_served}
 use Rattle.aom_safety.proofs.Storing.{named_set_word, rerequested_alike, resessioned_alike}
 use Rattle.aom_safety.proofs.Unslotting.{each_unslotted_alike}
 use Rattle.aom_semantics.specs.Clients.{count_messages, each_unslotted}
-use Rattle.aom_semantics.specs.Places.{Cell, Object, Place, Request, Service, Tidy, held, moved, named, Register, set_request, set_service, set_session, set_word_field, with_new, without, word_field}
+use Rattle.aom_semantics.specs.Places.{Cell, Object, Place, Request, Service, Tidy, held, moved, named, Register, set_request}
+use Rattle.aom_semantics.specs.Places.{set_service, set_session, set_word_field, with_new, without, word_field}
 use Rattle.aom_semantics.specs.Servers.{all_unslotted}
 use Rattle.aom_semantics.specs.State.{Inside}
 use Rattle.aom_machine_state.specs.Messages.{SameMessages, is_a_message}
@@ -72,7 +74,8 @@ messages_counted : (o : Option Object) → counted_by (λ t. not (is_object t)) 
 messages_counted x = grind arith
 
 pub many_without : (cs : List Cell) (g : Place) → Tidy cs → count_messages cs ≡ messages_in (held cs g) + count_messages (without g cs)
-many_without cs g tidy = counted_without (record { passes = λ t. not (is_object t); some = λ c cs. go (is_object c.object.thing) (count_messages cs) }) cs g tidy ∙ ap (λ n. n + count_messages (without g cs)) (messages_counted (held cs g))
+many_without cs g tidy = counted_without (record { passes = λ t. not (is_object t); some = λ c cs. go (is_object c.object.thing) (count_messages cs) })
+    cs g tidy ∙ ap (λ n. n + count_messages (without g cs)) (messages_counted (held cs g))
   where
     go : (b : Bool) (n : ℕ) → cond b n (suc n) ≡ cond (not b) (suc n) n
     go x n = grind arith
@@ -82,15 +85,16 @@ many_without cs g tidy = counted_without (record { passes = λ t. not (is_object
 name_apart : (n m : ℕ) → n < message_name 0 → (n == message_name m) ≡ false
 name_apart n m small = ne_eqb n (message_name m) (λ e. absurd (omega (arith, small, e)))
 
-is_message_without : (cs : List Cell) (g : Place) (o : Object) → Tidy cs → held cs g ≡ Some o → is_object o.thing ≡ true → named cs o.name ≡ Some o → (n : ℕ) → is_a_message (named (without g cs) n) ≡ is_a_message (named cs n)
+is_message_without : (cs : List Cell) (g : Place) (o : Object) → Tidy cs →
+    held cs g ≡ Some o → is_object o.thing ≡ true → named cs o.name ≡ Some o → (n : ℕ) → is_a_message (named (without g cs) n) ≡ is_a_message (named cs n)
 is_message_without cs g o tidy holds object lives n = grind (arith, nat_tests, eqb-true o.name n, unnamed cs g o tidy holds, named_without cs g o n tidy holds)
 
 -- ---- the store
 
 module _ (p : Image) (store : Store) where
   -- it does not matter by which cells the messages are told
-  pub messages_as : (cs ds : List Cell) → ((n : ℕ) → is_a_message (named ds n) ≡ is_a_message (named cs n)) → ((m w : ℕ) → word_field ds (message_name m) w ≡ word_field cs (message_name m) w) → count_messages ds ≡ count_messages cs
-      → SameMessages p store cs → SameMessages p store ds
+  pub messages_as : (cs ds : List Cell) → ((n : ℕ) → is_a_message (named ds n) ≡ is_a_message (named cs n)) → ((m w : ℕ) → word_field ds
+      (message_name m) w ≡ word_field cs (message_name m) w) → count_messages ds ≡ count_messages cs → SameMessages p store cs → SameMessages p store ds
   messages_as cs ds names words many h = record {
     there = λ m. h.there m ∙ sym (names (message_name m));
     within = h.within;
@@ -109,12 +113,12 @@ module _ (p : Image) (store : Store) where
       grind (arith, nat_tests, messages_as cs, named_set_word cs n w v, words_other cs n w v, name_apart n, many_written cs n w v)
 
   pub messages_asked : (cs : List Cell) (n : ℕ) (r : Option Request) → SameMessages p store cs → SameMessages p store (set_request n r cs)
-  messages_asked cs n r h =
-      messages_as cs (set_request n r cs) (λ k. ap is_a_message ((rerequested_alike cs (Inside (record { name = n; thing = Message }) (Register 0 0)) r).named_so k)) (λ m w. words_asked cs n r (message_name m) w) (many_asked cs n r) h
+  messages_asked cs n r h = messages_as cs (set_request n r cs) (λ k. ap is_a_message ((rerequested_alike cs
+      (Inside (record { name = n; thing = Message }) (Register 0 0)) r).named_so k)) (λ m w. words_asked cs n r (message_name m) w) (many_asked cs n r) h
 
   pub messages_opened : (cs : List Cell) (n : ℕ) (b : Bool) → SameMessages p store cs → SameMessages p store (set_session n b cs)
-  messages_opened cs n b h =
-      messages_as cs (set_session n b cs) (λ k. ap is_a_message ((resessioned_alike cs (Inside (record { name = n; thing = Message }) (Register 0 0)) b).named_so k)) (λ m w. words_opened cs n b (message_name m) w) (many_opened cs n b) h
+  messages_opened cs n b h = messages_as cs (set_session n b cs) (λ k. ap is_a_message ((resessioned_alike cs
+      (Inside (record { name = n; thing = Message }) (Register 0 0)) b).named_so k)) (λ m w. words_opened cs n b (message_name m) w) (many_opened cs n b) h
 
   -- what clients have at a cell
   pub messages_served : (cs : List Cell) (n : ℕ) (v : Service) → SameMessages p store cs → SameMessages p store (set_service n v cs)
@@ -124,11 +128,13 @@ module _ (p : Image) (store : Store) where
   messages_unslotted clients cs h = grind (arith, nat_tests, messages_as cs, each_unslotted_alike clients cs, each_words clients cs, each_many clients cs)
 
   -- a new cell is no message
-  pub messages_made : (cs : List Cell) (n : ℕ) (thing : Thing) (words : List ℤ) (owner : Place) → named cs n ≡ None → n < message_name 0 → is_object thing ≡ true → SameMessages p store cs → SameMessages p store (with_new n thing words owner cs)
+  pub messages_made : (cs : List Cell) (n : ℕ) (thing : Thing) (words : List ℤ) (owner : Place) →
+      named cs n ≡ None → n < message_name 0 → is_object thing ≡ true → SameMessages p store cs → SameMessages p store (with_new n thing words owner cs)
   messages_made cs n thing words owner fresh small object h = grind (arith, nat_tests, messages_as cs, name_apart n, eqb-true n)
 
   -- an object goes
-  pub messages_without : (cs : List Cell) (g : Place) (o : Object) → Tidy cs → held cs g ≡ Some o → named cs o.name ≡ Some o → is_object o.thing ≡ true → o.name < message_name 0 → SameMessages p store cs → SameMessages p store (without g cs)
+  pub messages_without : (cs : List Cell) (g : Place) (o : Object) → Tidy cs → held cs g ≡ Some o →
+      named cs o.name ≡ Some o → is_object o.thing ≡ true → o.name < message_name 0 → SameMessages p store cs → SameMessages p store (without g cs)
   messages_without cs g o tidy holds lives object small h = grind (
     arith,
     nat_tests,
@@ -142,8 +148,8 @@ module _ (p : Image) (store : Store) where
 -- ---- a message comes and goes
 
 -- the message at a place goes
-pub message_gone : (p : Image) (old new : Store) (cs : List Cell) (g : Place) (o : Object) (m : ℕ) → SameMessages p old cs → Tidy cs → held cs g ≡ Some o → is_object o.thing ≡ false → o.name ≡ message_name m → Changes old new m None
-    → count new + 1 ≡ count old → SameMessages p new (without g cs)
+pub message_gone : (p : Image) (old new : Store) (cs : List Cell) (g : Place) (o : Object) (m : ℕ) → SameMessages p old cs → Tidy cs → held cs g ≡ Some o →
+    is_object o.thing ≡ false → o.name ≡ message_name m → Changes old new m None → count new + 1 ≡ count old → SameMessages p new (without g cs)
 message_gone p old new cs g o m h tidy holds message name ch less = record {
   there = λ k. by k (m == k) refl;
   within = λ k high. none_past k high (m == k) refl;
@@ -181,8 +187,8 @@ message_gone p old new cs g o m h tidy holds message name ch less = record {
     words k w false e = grind (arith, nat_tests, other k e, words_without cs g o, apart k e)
 
 -- a message of these words comes
-pub message_made :
-    (p : Image) (old new : Store) (cs : List Cell) (c : Cell) (m : ℕ) (ws : List ℤ) → SameMessages p old cs → c.object ≡ record { name = message_name m; thing = Message } → ((w : ℕ) → word_of (Some ws) w ≡ at (pos 0) c.words w)
+pub message_made : (p : Image) (old new : Store) (cs : List Cell) (c : Cell) (m : ℕ) (ws : List ℤ) →
+    SameMessages p old cs → c.object ≡ record { name = message_name m; thing = Message } → ((w : ℕ) → word_of (Some ws) w ≡ at (pos 0) c.words w)
     → m < 1024 → Changes old new m (Some ws) → count new ≡ count old + 1 → SameMessages p new (c ∷ cs)
 message_made p old new cs c m ws h is told low ch more = record {
   there = λ k. by k (m == k) refl;

@@ -23,12 +23,14 @@ use Rattle.aom_safety.proofs.ClientsGone.{open_server}
 use Rattle.aom_semantics.proofs.Maps.{one_place, same_place-true}
 use Rattle.aom_safety.proofs.Owners.{in_queue}
 use Rattle.aom_safety.proofs.Queues.{none_passes}
-use Rattle.aom_safety.proofs.Sifted.{a_cell_of, cell_in, cell_lives, cell_name, cell_of, cell_owner, cell_placed, held_cell, named_cell, object_in, service_cell, service_in}
+use Rattle.aom_safety.proofs.Sifted.{a_cell_of, cell_in, cell_lives, cell_name, cell_of, cell_owner, cell_placed}
+use Rattle.aom_safety.proofs.Sifted.{held_cell, named_cell, object_in, service_cell, service_in}
 use Rattle.aom_safety.proofs.Sources.{has_sender}
 use Rattle.aom_semantics.specs.Clients.{client_at}
 use Rattle.aom_safety.specs.Kept.{ClientsFit, EntryFits, QueueFits, is_close_of, is_connect_of, is_message_of}
 use Rattle.aom_safety.specs.Laws.{IsWired}
-use Rattle.aom_semantics.specs.Places.{Asked, Cell, Close_of, Connect_of, Elsewhere, Message_of, Object, Place as Owner, Queued as Waits_at, Sender, Service, Tidy, held, named, same_place, service_of}
+use Rattle.aom_semantics.specs.Places.{Asked, Cell, Close_of, Connect_of, Elsewhere, Message_of, Object, Place as Owner}
+use Rattle.aom_semantics.specs.Places.{Queued as Waits_at, Sender, Service, Tidy, held, named, same_place, service_of}
 use Rattle.aom_semantics.specs.Servers.{has_message, is_among, is_from, is_message, is_queue}
 use Rattle.aom_semantics.specs.State.{State}
 use Rattle.aom_safety.specs.WellTyped.{WellTyped}
@@ -91,11 +93,13 @@ waits_each places (Message k ∷ es) h = grind (arith, nat_tests, is_at k, eq-eq
 
 module _ (p : Image) (clients : List Client) (cs : List Cell) (fit : ClientsFit p clients cs) (k c : ℕ) where
   -- what is asked at one server alone, and there no more, is asked nowhere
-  asks_nowhere : (asks : Asked → Bool) → ((n : ℕ) → (k == n) ≡ false → (e : Asked) → asks e ≡ true → EntryFits clients n e → ⊥) → list_any asks (service_of cs k).queue ≡ false → (n : ℕ) → list_any asks (service_of cs n).queue ≡ false
+  asks_nowhere : (asks : Asked → Bool) → ((n : ℕ) → (k == n) ≡ false → (e : Asked) → asks e ≡ true → EntryFits clients n e → ⊥) →
+      list_any asks (service_of cs k).queue ≡ false → (n : ℕ) → list_any asks (service_of cs n).queue ≡ false
   asks_nowhere asks never none n = grind (arith, nat_tests, eqb-true k n, none_passes asks clients n)
 
   -- so with a client that connects to it, and with one that closes
-  pub connects_nowhere : is_connecting_at k (client_at clients c) ≡ true → list_any (is_connect_of c) (service_of cs k).queue ≡ false → (n : ℕ) → list_any (is_connect_of c) (service_of cs n).queue ≡ false
+  pub connects_nowhere : is_connecting_at k (client_at clients c) ≡ true →
+      list_any (is_connect_of c) (service_of cs k).queue ≡ false → (n : ℕ) → list_any (is_connect_of c) (service_of cs n).queue ≡ false
   connects_nowhere at = grind (arith, nat_tests, asks_nowhere)
 
   pub closes_nowhere : is_leaving k (client_at clients c) ≡ true → list_any (is_close_of c) (service_of cs k).queue ≡ false → (n : ℕ) → list_any (is_close_of c) (service_of cs n).queue ≡ false
@@ -186,7 +190,8 @@ module _ (p : Image) (t : Typing) (wired : IsWired p) (s : State) (w : WellTyped
         go (Some q) e h = queue q e (ap waits_in (sym e) ∙ h)
 
     -- a message that has a sender and is owned elsewhere was taken, and is completed once
-    pub completes_at : (g : Owner) (o : Object) (m : ℕ) → held s.cells g ≡ Some o → is_queue g ≡ false → has_sender s.cells o.name ≡ true → o.name ≡ message_name m → IsSome (completion (kept.place_at k m))
+    pub completes_at : (g : Owner) (o : Object) (m : ℕ) →
+        held s.cells g ≡ Some o → is_queue g ≡ false → has_sender s.cells o.name ≡ true → o.name ≡ message_name m → IsSome (completion (kept.place_at k m))
     completes_at g o m there apart sent name = grind (arith, nat_tests, taken_sent, has_sender, owner_held)
 
 -- a client that is at something is one of those that there are

@@ -1,6 +1,7 @@
 -- A token is replied to: the request that waits for it is completed, or none where it is void, and all that the machine keeps goes on standing for the cells: by the one object that may wait for it.
 use Rattle.std.proofs.lemmas.Bool.Decides.{nat_tests}
-use Rattle.std.proofs.Common.{Bool, List, None, Option, Some, [], ap, arith, cond, false, length, refl, subst, suc, sym, true, ℕ, ℤ, ◌+◌, ◌==◌, ◌≤◌, ◌∙◌, ◌∷◌, ◌≡◌}
+use Rattle.std.proofs.Common.{Bool, List, None, Option, Some, [], ap, arith, cond, false, length}
+use Rattle.std.proofs.Common.{refl, subst, suc, sym, true, ℕ, ℤ, ◌+◌, ◌==◌, ◌≤◌, ◌∙◌, ◌∷◌, ◌≡◌}
 use Rattle.std.specs.Prelude.{is_some, option_map}
 use Rattle.std.proofs.lemmas.Bool.{eq-eqb, eqb-true, false≢true, ne_eqb}
 use Rattle.std.proofs.lemmas.Option.{same_Some}
@@ -205,7 +206,8 @@ module _
     where
       go : (x : Option ℕ) → kept.redeemed tokens place ≡ x → Redeems x code a b → SameRequests p a first → SameRequests p b (all_redeemed order code first)
       go None e is h = subst (λ c. SameRequests p c (all_redeemed order code first)) (sym is)
-          (requests_none order code p first a (λ x. ap (redeemed_request order code) (asked_first x) ∙ redeems_none s.cells code order (waits_nowhere p tokens s.cells same place told kept_so.tokens order told_order e) x ∙ sym (asked_first x)) h)
+          (requests_none order code p first a (λ x. ap (redeemed_request order code) (asked_first x)
+          ∙ redeems_none s.cells code order (waits_nowhere p tokens s.cells same place told kept_so.tokens order told_order e) x ∙ sym (asked_first x)) h)
       go (Some n) e makes h =
           let waits = waits_here p tokens s.cells same place told kept_so.tokens order told_order n e in
           let r = request_there (requested s.cells n) waits in
@@ -236,7 +238,8 @@ module _
       owners : (m : ℕ) (b : Bool) → (place == m) ≡ b → waits_in (owner_of first (message_name m)) ≡ waits_in (owner_of s.cells (message_name m))
       owners m true e =
           let one : message_name m ≡ o.name = ap message_name (sym (eqb-true place m e)) ∙ sym name in
-          ap (λ i. waits_in (owner_of first i)) one ∙ ap waits_in (owner_unnamed first o.name gone) ∙ sym apart ∙ sym (ap waits_in (owner_held s.cells w.good.tidy g o there)) ∙ ap (λ i. waits_in (owner_of s.cells i)) (sym one)
+          ap (λ i. waits_in (owner_of first i)) one ∙ ap waits_in (owner_unnamed first o.name gone)
+          ∙ sym apart ∙ sym (ap waits_in (owner_held s.cells w.good.tidy g o there)) ∙ ap (λ i. waits_in (owner_of s.cells i)) (sym one)
       owners m false e = ap waits_in (owner_without g o s.cells (message_name m) w.good.tidy there (ap (λ i. i == message_name m) name ∙ names_apart place m e))
 
   tokens_answered : (now : Kept) → Sets tokens.places now.places place None → LetsGo (kept.redeemed tokens place) tokens now → SameTokens p now redeemed_left
@@ -276,7 +279,8 @@ module _
   services_answered k store after table now gone fewer freed lets h = record {
     clients = swapped (λ cs. SameClients k cs s.clients) (same_still k first (all_redeemed order code first) s.clients (still_redeemed order code first) (clients_first k s.clients h.clients));
     sized = h.sized;
-    messages = swapped (SameMessages p after) (messages_redeemed order code p first after (message_gone p store after s.cells g o place h.messages w.good.tidy there (ap is_object message) name gone fewer));
+    messages = swapped (SameMessages p after) (messages_redeemed order code p first after
+        (message_gone p store after s.cells g o place h.messages w.good.tidy there (ap is_object message) name gone fewer));
     tokens = tokens_answered now freed lets;
     listed = swapped (SameListed p table) (listed_redeemed order code p first table (listed_beside p table s.cells first (beside_completed p t s w g o there message place name) h.listed));
   }

@@ -38,8 +38,8 @@ abbrev Serves : Image → Kept_state → Store → Kept → Table → List Clien
 Serves p s store tokens table at cs = SameServices p s store tokens table cs at
 
 -- what is read of requests, where another has the same of it
-read_asked :
-    {A : Type 0} (read : Option Request → A) (cs : List Cell) (o : Object) (r : Option Request) → named cs o.name ≡ Some o → read r ≡ read (requested cs o.name) → (n : ℕ) → read (requested (set_request o.name r cs) n) ≡ read (requested cs n)
+read_asked : {A : Type 0} (read : Option Request → A) (cs : List Cell) (o : Object) (r : Option Request) →
+    named cs o.name ≡ Some o → read r ≡ read (requested cs o.name) → (n : ℕ) → read (requested (set_request o.name r cs) n) ≡ read (requested cs n)
 read_asked read cs o r lives same n = grind (arith, nat_tests, asked_set cs o.name r, eqb-true o.name n)
 
 module _ (p : Image) {s : Kept_state} {store : Store} {tokens : Kept} {table : Table} {at : List Client} where
@@ -57,8 +57,8 @@ module _ (p : Image) {s : Kept_state} {store : Store} {tokens : Kept} {table : T
 
   -- so where the same wait for them
   pub services_still :
-      (cs ds : List Cell) → Still cs ds → (SameMessages p store cs → SameMessages p store ds) → (SameListed p table cs → SameListed p table ds) → ((n : ℕ) → awaited (requested ds n) ≡ awaited (requested cs n)) →
-      Serves p s store tokens table at cs → Serves p s store tokens table at ds
+      (cs ds : List Cell) → Still cs ds → (SameMessages p store cs → SameMessages p store ds) → (SameListed p table cs → SameListed p table ds) →
+      ((n : ℕ) → awaited (requested ds n) ≡ awaited (requested cs n)) → Serves p s store tokens table at cs → Serves p s store tokens table at ds
   services_still cs ds still messages listed asks same =
       grind (arith, nat_tests, services_with cs ds still messages listed tokens, tokens_still p tokens cs ds asks)
 
@@ -72,7 +72,8 @@ module _ (p : Image) {s : Kept_state} {store : Store} {tokens : Kept} {table : T
   services_written cs n w v small = services_still cs (set_word_field n w v cs) (still_written cs n w v) (messages_written p store cs n w v small)
       (listed_alike p table cs (set_word_field n w v cs) (named_set_word cs n w v) (λ m. ap (option_map (λ x. x.order)) (asked_written cs n w v m))) (λ m. ap awaited (asked_written cs n w v m))
 
-  pub services_stored : (cs : List Cell) (home : Home) (w : ℕ) (v : ℤ) → ((o : Object) (from : Place) → home ≡ Inside o from → o.name < 4096) → Serves p s store tokens table at cs → Serves p s store tokens table at (stored cs home w v)
+  pub services_stored : (cs : List Cell) (home : Home) (w : ℕ) (v : ℤ) → ((o : Object) (from : Place) → home ≡ Inside o from → o.name < 4096) →
+      Serves p s store tokens table at cs → Serves p s store tokens table at (stored cs home w v)
   services_stored cs x w v small same = grind (arith, nat_tests, services_written cs)
 
   -- a request, where it is there before and after, in the same order, and tokens go on
@@ -85,11 +86,11 @@ module _ (p : Image) {s : Kept_state} {store : Store} {tokens : Kept} {table : T
       now go_on
 
   -- so where it waits for the same one
-  pub services_asked :
-      (cs : List Cell) (o : Object) (r : Option Request) → named cs o.name ≡ Some o → option_map (λ x. x.order) r ≡ option_map (λ x. x.order) (requested cs o.name) → awaited r ≡ awaited (requested cs o.name) →
+  pub services_asked : (cs : List Cell) (o : Object) (r : Option Request) →
+      named cs o.name ≡ Some o → option_map (λ x. x.order) r ≡ option_map (λ x. x.order) (requested cs o.name) → awaited r ≡ awaited (requested cs o.name) →
       Serves p s store tokens table at cs → Serves p s store tokens table at (set_request o.name r cs)
-  services_asked cs o r lives order token same = services_asked_with cs o r lives order tokens
-      (tokens_still p tokens cs (set_request o.name r cs) (λ n. read_asked awaited cs o r lives token n) (λ m. ap (λ (v : Service). v.token) ((still_requested cs o.name r).services (message_name m))) same.tokens) same
+  services_asked cs o r lives order token same = services_asked_with cs o r lives order tokens (tokens_still p tokens cs (set_request o.name r cs) (λ n.
+      read_asked awaited cs o r lives token n) (λ m. ap (λ (v : Service). v.token) ((still_requested cs o.name r).services (message_name m))) same.tokens) same
 
   -- of what a method works on, where tokens go on
   pub services_rerequested_with :
@@ -111,13 +112,13 @@ module _ (p : Image) {s : Kept_state} {store : Store} {tokens : Kept} {table : T
   pub services_resessioned : (cs : List Cell) (home : Home) (b : Bool) → Serves p s store tokens table at cs → Serves p s store tokens table at (resessioned cs home b)
   services_resessioned cs Static b same = same
   services_resessioned cs AtRoot b same = same
-  services_resessioned cs (Inside o from) b same =
-      services_still cs (resessioned cs (Inside o from) b) (still_sessioned cs o.name b) (messages_opened p store cs o.name b)
-      (listed_alike p table cs (resessioned cs (Inside o from) b) (λ n. (resessioned_alike cs (Inside o from) b).named_so n) (λ n. ap (option_map (λ x. x.order)) (resessioned_requests cs (Inside o from) b n)))
-      (λ n. ap awaited (resessioned_requests cs (Inside o from) b n)) same
+  services_resessioned cs (Inside o from) b same = services_still cs (resessioned cs (Inside o from) b) (still_sessioned cs o.name b) (messages_opened
+      p store cs o.name b) (listed_alike p table cs (resessioned cs (Inside o from) b) (λ n. (resessioned_alike cs (Inside o from) b).named_so n)
+      (λ n. ap (option_map (λ x. x.order)) (resessioned_requests cs (Inside o from) b n))) (λ n. ap awaited (resessioned_requests cs (Inside o from) b n)) same
 
   -- a new cell
-  pub services_made : (cs : List Cell) (n class : ℕ) (words : List ℤ) (owner : Place) → named cs n ≡ None → n < 4096 → Serves p s store tokens table at cs → Serves p s store tokens table at (with_new n (An_object_of class) words owner cs)
+  pub services_made : (cs : List Cell) (n class : ℕ) (words : List ℤ) (owner : Place) →
+      named cs n ≡ None → n < 4096 → Serves p s store tokens table at cs → Serves p s store tokens table at (with_new n (An_object_of class) words owner cs)
   services_made cs n class words owner fresh small =
       services_still cs ds (still_new cs n (An_object_of class) words owner small fresh) (messages_made p store cs n (An_object_of class) words owner fresh small refl)
       (listed_same p table cs ds (λ k x. listed k x (n == k) refl) (λ k. ap order_in (asked_new cs n (An_object_of class) words owner fresh k)))
@@ -139,11 +140,13 @@ module _ (p : Image) {s : Kept_state} {store : Store} {tokens : Kept} {table : T
 
   module _ (fr : Frame) where
     -- a cancel that may be over
-    pub services_ended : (cs : List Cell) → ((o : Object) (from : Place) → fr.home ≡ Inside o from → named cs o.name ≡ Some o) → Serves p s store tokens table at cs → Serves p s store tokens table at (ended_cells p fr cs)
+    pub services_ended : (cs : List Cell) → ((o : Object) (from : Place) → fr.home ≡ Inside o from → named cs o.name ≡ Some o) →
+        Serves p s store tokens table at cs → Serves p s store tokens table at (ended_cells p fr cs)
     services_ended cs lives same = grind (arith, nat_tests, services_rerequested cs fr.home)
 
     -- arguments that are passed
-    pub services_passed : (ts : List Task) (t : State) (depth : ℕ) (xs : List Argument) (first to : ℕ) (cs : List Cell) → Serves p s store tokens table at cs → Serves p s store tokens table at (passed_cells p fr ts t depth xs first to cs)
+    pub services_passed : (ts : List Task) (t : State) (depth : ℕ) (xs : List Argument) (first to : ℕ) (cs : List Cell) →
+        Serves p s store tokens table at cs → Serves p s store tokens table at (passed_cells p fr ts t depth xs first to cs)
     services_passed ts t depth [] first to cs same = same
     services_passed ts t depth (Takes_word ∷ xs) first to cs same = services_passed ts t depth xs (suc first) (suc to) cs same
     services_passed ts t depth (Takes_own x ∷ xs) first to cs same = grind (arith, nat_tests, services_passed ts t depth xs, services_moved cs)

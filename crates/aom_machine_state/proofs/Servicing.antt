@@ -21,13 +21,15 @@ use Rattle.aom_safety.proofs.Services.{service_moved}
 use Rattle.aom_semantics.specs.Clients.{at_parting, client_at, each_unslotted, queue_ended, sessions_ended, with_client}
 use Rattle.aom_safety.specs.Kept.{ClientsFit, StageKept}
 use Rattle.aom_safety.specs.Laws.{IsWired}
-use Rattle.aom_semantics.specs.Places.{Cell, Elsewhere, In_service, Object, Place as Owner, Queued as Waits_at, Service, held, moved, named, same_place, service_of, set_service, without}
+use Rattle.aom_semantics.specs.Places.{Cell, Elsewhere, In_service, Object, Place as Owner, Queued as Waits_at, Service}
+use Rattle.aom_semantics.specs.Places.{held, moved, named, same_place, service_of, set_service, without}
 use Rattle.aom_semantics.specs.Servers.{is_message, is_queue, is_server, parted, reserved, taken_first, without_queue}
 use Rattle.aom_semantics.specs.State.{Accepts, Parts, Seat, State}
 use Rattle.aom_safety.specs.WellTyped.{WellTyped}
 use Rattle.aom_machine_state.proofs.Completing.{same_completed}
 use Rattle.aom_machine_state.proofs.Departing.{at_set_or, is_at}
-use Rattle.aom_machine_state.proofs.Premises.{asked_there, closes_nowhere, connecting_below, connects_nowhere, goes_there, leaving_below, messages_wait, owned_nowhere, owner_waiting, queue_empty, session_alone, waiting_there, waits_apart}
+use Rattle.aom_machine_state.proofs.Premises.{asked_there, closes_nowhere, connecting_below, connects_nowhere, goes_there, leaving_below, messages_wait}
+use Rattle.aom_machine_state.proofs.Premises.{owned_nowhere, owner_waiting, queue_empty, session_alone, waiting_there, waits_apart}
 use Rattle.aom_machine_state.proofs.Serving.{listed_as, same_parted, same_served, same_taken, same_unopened}
 use Rattle.aom_machine_state.proofs.Vanishing.{same_vanished}
 use Rattle.aom_machine_state.proofs.Withdrawing.{AllWait}
@@ -35,7 +37,8 @@ use Rattle.aom_machine_state.specs.Serving.{AreSized, SameClients, message_name,
 
 -- ---- clients on both sides
 
-pub connecting_here : (k : kept.State) (cs : List Cell) (clients : List Client) → SameClients k cs clients → (n c : ℕ) → is_connecting_at n (client_at clients c) ≡ true → (slots : ℕ) × (kept.client_at k c ≡ Connecting n slots)
+pub connecting_here : (k : kept.State) (cs : List Cell) (clients : List Client) →
+    SameClients k cs clients → (n c : ℕ) → is_connecting_at n (client_at clients c) ≡ true → (slots : ℕ) × (kept.client_at k c ≡ Connecting n slots)
 connecting_here k cs clients same n c at = grind (arith, nat_tests)
 
 released_sessionless : (x : Client) → sessionless (released x) ≡ sessionless x
@@ -66,7 +69,8 @@ reserved_moved f cs a b n = ap (λ v. set_service n (f v) (moved a b cs)) (servi
 
 -- ---- all parts of a service
 
-module _ (p : Image) (t : Typing) (wired : IsWired p) (s : State) (w : WellTyped p t s) (fit : ClientsFit p s.clients s.cells) (k : kept.State) (same : SameClients k s.cells s.clients) (cells : ℕ) (sized : AreSized cells k) where
+module _ (p : Image) (t : Typing) (wired : IsWired p) (s : State) (w : WellTyped p t s)
+    (fit : ClientsFit p s.clients s.cells) (k : kept.State) (same : SameClients k s.cells s.clients) (cells : ℕ) (sized : AreSized cells k) where
   -- `accept` gave a session
   module _ (x : Seat) (c : ℕ) (lives : named s.cells x.object.name ≡ Some x.object) (below : x.object.name < cells) (kept_so : StageKept p s.clients s.cells x.object c Accepts) where
     session_room : x.object.name < length k.sessions
@@ -95,7 +99,8 @@ module _ (p : Image) (t : Typing) (wired : IsWired p) (s : State) (w : WellTyped
     same_closed = grind (arith, nat_tests, parting_as Unconnected, parting_as Dead)
 
   -- a message is completed that was taken
-  pub same_replied : (g : Owner) (o : Object) (m : ℕ) → held s.cells g ≡ Some o → is_queue g ≡ false → is_server p o.thing ≡ false → o.name ≡ message_name m → m < 1024 → SameClients (kept.after_complete m k) (without g s.cells) s.clients
+  pub same_replied : (g : Owner) (o : Object) (m : ℕ) → held s.cells g ≡ Some o → is_queue g ≡ false →
+      is_server p o.thing ≡ false → o.name ≡ message_name m → m < 1024 → SameClients (kept.after_complete m k) (without g s.cells) s.clients
   same_replied g o m there apart plain name below =
       same_completed k s.cells s.clients same w.good.tidy m (subst (λ n. m < n) (sym sized.places) below) g o there name
       (subst (λ n. ((service_of s.cells n).queue ≡ []) × ((service_of s.cells n).sessions ≡ [])) name (fit.servers o (held_lives s.cells g o w.good.tidy there) plain))
@@ -103,7 +108,8 @@ module _ (p : Image) (t : Typing) (wired : IsWired p) (s : State) (w : WellTyped
 
   -- a cell goes, a server with all that clients have at it
   pub same_gone : (g : Owner) (o : Object) → held s.cells g ≡ Some o → is_queue g ≡ false → o.name < 4096 → o.name < cells →
-      SameClients (kept.server_gone o.name k) (each_unslotted (service_of s.cells o.name).sessions (without g (without_queue o.name s.cells))) (sessions_ended (service_of s.cells o.name).sessions (queue_ended (service_of s.cells o.name).queue s.clients))
+      SameClients (kept.server_gone o.name k) (each_unslotted (service_of s.cells o.name).sessions (without g (without_queue o.name s.cells)))
+      (sessions_ended (service_of s.cells o.name).sessions (queue_ended (service_of s.cells o.name).queue s.clients))
   same_gone g o there apart small below =
       same_vanished k s.cells s.clients same w.good.tidy o g there apart small (subst (λ n. o.name < n) (sym sized.queues) below) (subst (λ n. o.name < n) (sym sized.sessions) below)
       (queue_empty p t wired s w s.clients fit) (asked_there p t wired s w s.clients fit o.name) (waiting_there p t wired s w s.clients fit) (goes_there p t wired s w s.clients fit k same o.name)
@@ -118,7 +124,8 @@ module _ (p : Image) (t : Typing) (wired : IsWired p) (s : State) (w : WellTyped
     first_so e es at = ap (λ l. kept.taken o.name l k) at
 
     -- a connect or a close
-    pub same_next : (e : Entry) (es : List Entry) → kept.queue_at k o.name ≡ e ∷ es → ((m : ℕ) → e ≡ Message m → ⊥) → SameClients (kept.after_next o.name k) (reserved taken_first o.name s.cells) s.clients
+    pub same_next : (e : Entry) (es : List Entry) →
+        kept.queue_at k o.name ≡ e ∷ es → ((m : ℕ) → e ≡ Message m → ⊥) → SameClients (kept.after_next o.name k) (reserved taken_first o.name s.cells) s.clients
     same_next e es at other = grind (arith, nat_tests, first_so e es at, same_taken k s.cells s.clients same o lives 0, queue_room)
 
     -- a message, which goes into service
@@ -126,7 +133,8 @@ module _ (p : Image) (t : Typing) (wired : IsWired p) (s : State) (w : WellTyped
         SameClients (kept.after_next o.name k) (moved (Elsewhere (Waits_at o.name (message_name m))) (Elsewhere In_service) (reserved taken_first o.name s.cells)) s.clients
     same_attended m es at small =
         subst (λ n. SameClients n (moved (Elsewhere (Waits_at o.name (message_name m))) (Elsewhere In_service) (reserved taken_first o.name s.cells)) s.clients) (sym (first_so (Message m) es at))
-        (same_served k s.cells s.clients same o lives 0 (omega arith) m es at queue_room (subst (λ n. m < n) (sym sized.places) small) who.0 who.1 (owner_waiting p t wired s w s.clients fit k same o.name m first) (waits_apart p t wired s w s.clients fit k same o.name m))
+        (same_served k s.cells s.clients same o lives 0 (omega arith) m es at queue_room (subst (λ n. m < n) (sym sized.places) small) who.0 who.1
+        (owner_waiting p t wired s w s.clients fit k same o.name m first) (waits_apart p t wired s w s.clients fit k same o.name m))
       where
         first : list_any (is_at m) (kept.queue_at k o.name) ≡ true
         first = ap (λ l. list_any (is_at m) l) at ∙ ap (λ b. b || list_any (is_at m) es) (eq-eqb m m refl)

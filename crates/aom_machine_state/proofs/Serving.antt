@@ -1,6 +1,7 @@
 -- What stands for clients, queues and message places goes on standing for them through each command and each part of a service.
 use Rattle.std.proofs.lemmas.Bool.Decides.{nat_tests}
-use Rattle.std.proofs.Common.{Bool, List, None, Option, Some, [], ap, cond, false, length, refl, slice_index_or, slice_set, subst, sym, true, ℕ, ℤ, ◌<◌, ◌++◌, ◌==◌, ◌∙◌, ◌∷◌, ◌≡◌, arith}
+use Rattle.std.proofs.Common.{Bool, List, None, Option, Some, [], ap, cond, false, length, refl, slice_index_or}
+use Rattle.std.proofs.Common.{slice_set, subst, sym, true, ℕ, ℤ, ◌<◌, ◌++◌, ◌==◌, ◌∙◌, ◌∷◌, ◌≡◌, arith}
 use Rattle.std.specs.List.{list_any}
 use Rattle.std.specs.Prelude.{filter, is_some, map, not, ◌||◌}
 use Rattle.std.proofs.lemmas.Bool.{eq-eqb, eqb-true, false≢true, ne_eqb}
@@ -22,7 +23,8 @@ use Rattle.aom_semantics.proofs.Maps.{at-put_at, front_free, same_place_refl}
 use Rattle.aom_safety.proofs.Services.{named_served, service_moved, service_unnamed}
 use Rattle.aom_semantics.specs.Clients.{at_opening, client_at, with_client}
 use Rattle.aom_safety.specs.Kept.{is_close_of, is_connect_of}
-use Rattle.aom_semantics.specs.Places.{Cell, Close_of, Connect_of, Elsewhere, In_service, Message_of, Object, Place as Owner, Queued as Waits_at, Service, moved, named, same_place, service_of, set_service, unserved}
+use Rattle.aom_semantics.specs.Places.{Cell, Close_of, Connect_of, Elsewhere, In_service, Message_of, Object, Place as Owner, Queued as Waits_at}
+use Rattle.aom_semantics.specs.Places.{Service, moved, named, same_place, service_of, set_service, unserved}
 use Rattle.aom_semantics.specs.Servers.{asked_last, holds_slot, is_among, is_message, opened, parted, reserved, rest_of, taken_first}
 use Rattle.aom_machine_state.specs.Serving.{Once, SameClients, asked_by, holds, is_taken, message_name, owner_of, sent_by, sessionless, waits_in}
 
@@ -109,7 +111,8 @@ pub names_apart : (m j : ℕ) → (m == j) ≡ false → (message_name m == mess
 names_apart m j other = ne_eqb (message_name m) (message_name j) (λ same. false≢true (sym other ∙ eq-eqb m j (omega (arith, same))))
 
 -- what waits in queues is of the same clients where no message of that place is among it
-pub asked_apart : (places : List Place) (m : ℕ) (p : Place) → m < length places → (es : List Entry) → list_any (is_message (message_name m)) (map (asked_by places) es) ≡ false → map (asked_by (slice_set places m p)) es ≡ map (asked_by places) es
+pub asked_apart : (places : List Place) (m : ℕ) (p : Place) → m < length places → (es : List Entry) →
+    list_any (is_message (message_name m)) (map (asked_by places) es) ≡ false → map (asked_by (slice_set places m p)) es ≡ map (asked_by places) es
 asked_apart places m p small [] none = refl
 asked_apart places m p small (Connect c ∷ es) none = ap (λ l. Connect_of c ∷ l) (asked_apart places m p small es none)
 asked_apart places m p small (Close c ∷ es) none = ap (λ l. Close_of c ∷ l) (asked_apart places m p small es none)
@@ -143,11 +146,13 @@ slots_of s cs clients same c m = grind (arith, nat_tests, eqb-true)
 -- ---- a client is at something else, and nothing is asked
 
 -- clients are at other things, and what waits is told alike
-pub listed_as : (s : kept.State) (cs : List Cell) (clients after xs : List Client) (queues : List (List Entry)) → SameClients s cs clients → ((c : ℕ) → sessionless (slice_index_or xs c Unconnected) ≡ client_at after c) →
+pub listed_as : (s : kept.State) (cs : List Cell) (clients after xs : List Client) (queues : List (List Entry)) →
+    SameClients s cs clients → ((c : ℕ) → sessionless (slice_index_or xs c Unconnected) ≡ client_at after c) →
     ((n : ℕ) → map (asked_by s.places) (slice_index_or queues n []) ≡ (service_of cs n).queue) → length xs ≡ length s.clients → SameClients (record s { clients = xs; queues = queues }) cs after
 listed_as s cs clients after xs queues same at waits long = let many = long ∙ same.many in assumption many
 
-pub same_client : (s : kept.State) (cs : List Cell) (clients : List Client) → SameClients s cs clients → (c : ℕ) → c < 64 → (to : Client) → SameClients (kept.with_client c to s) cs (with_client c (sessionless to) clients)
+pub same_client : (s : kept.State) (cs : List Cell) (clients : List Client) →
+    SameClients s cs clients → (c : ℕ) → c < 64 → (to : Client) → SameClients (kept.with_client c to s) cs (with_client c (sessionless to) clients)
 same_client s cs clients same c client to = grind (arith, nat_tests, listed_as s cs clients, client_set s.clients clients c to, length-set s.clients c to)
 
 -- ---- a connect
@@ -157,8 +162,10 @@ module _ (s : kept.State) (cs : List Cell) (clients : List Client) (same : SameC
   numbered = subst (λ n. c < n) (sym same.many) client
 
   -- what the server has changes, but not whose message it is
-  served_as : (f : Service → Service) → ((v : Service) → (f v).sender ≡ v.sender) → (after xs : List Client) (queues : List (List Entry)) (sessions : List (List ℕ)) → ((d : ℕ) → sessionless (slice_index_or xs d Unconnected) ≡ client_at after d) →
-      ((n : ℕ) → map (asked_by s.places) (slice_index_or queues n []) ≡ (service_of (reserved f o.name cs) n).queue) → ((n : ℕ) → slice_index_or sessions n [] ≡ (service_of (reserved f o.name cs) n).sessions) → length xs ≡ length s.clients →
+  served_as : (f : Service → Service) → ((v : Service) → (f v).sender ≡ v.sender) → (after xs : List Client)
+      (queues : List (List Entry)) (sessions : List (List ℕ)) → ((d : ℕ) → sessionless (slice_index_or xs d Unconnected) ≡ client_at after d) →
+      ((n : ℕ) → map (asked_by s.places) (slice_index_or queues n []) ≡ (service_of (reserved f o.name cs) n).queue) →
+      ((n : ℕ) → slice_index_or sessions n [] ≡ (service_of (reserved f o.name cs) n).sessions) → length xs ≡ length s.clients →
       SameClients (record s { clients = xs; queues = queues; sessions = sessions }) (reserved f o.name cs) after
   served_as f sender after xs queues sessions at waits listed long = record {
     at = at;
@@ -177,11 +184,11 @@ module _ (s : kept.State) (cs : List Cell) (clients : List Client) (same : SameC
   module _ (slots : ℕ) (queue : o.name < length s.queues) where
     pub same_connecting :
         SameClients (kept.queued o.name (Connect c) (kept.with_client c (Connecting o.name slots) s)) (reserved (asked_last (Connect_of c)) o.name cs) (with_client c (Connecting o.name slots) clients)
-    same_connecting =
-        served_as (asked_last (Connect_of c)) (λ v. refl) _ _ _ _ (client_set s.clients clients c (Connecting o.name slots) (Connecting o.name slots) numbered refl same.at)
-        (listed_then cs o lives (asked_last (Connect_of c)) s.queues (kept.queue_at s o.name ++ Connect c ∷ []) (λ es. map (asked_by s.places) es) (λ v. v.queue) queue
-        (map-append (asked_by s.places) (kept.queue_at s o.name) (Connect c ∷ []) ∙ ap (λ es. es ++ Connect_of c ∷ []) (same.queues o.name)) same.queues)
-        (λ n. by_server cs o lives (asked_last (Connect_of c)) (λ n v. kept.sessions_at s n ≡ v.sessions) (same.sessions o.name) (λ n other. same.sessions n) n) (length-set s.clients c (Connecting o.name slots))
+    same_connecting = served_as (asked_last (Connect_of c)) (λ v. refl) _ _ _ _ (client_set s.clients clients c (Connecting o.name slots)
+        (Connecting o.name slots) numbered refl same.at) (listed_then cs o lives (asked_last (Connect_of c)) s.queues (kept.queue_at s o.name ++ Connect c ∷ [])
+        (λ es. map (asked_by s.places) es) (λ v. v.queue) queue (map-append (asked_by s.places) (kept.queue_at s o.name) (Connect c ∷ [])
+        ∙ ap (λ es. es ++ Connect_of c ∷ []) (same.queues o.name)) same.queues) (λ n. by_server cs o lives (asked_last (Connect_of c))
+        (λ n v. kept.sessions_at s n ≡ v.sessions) (same.sessions o.name) (λ n other. same.sessions n) n) (length-set s.clients c (Connecting o.name slots))
 
   -- a close is asked for, and no client is at anything else
   module _ (queue : o.name < length s.queues) where
@@ -206,7 +213,8 @@ module _ (s : kept.State) (cs : List Cell) (clients : List Client) (same : SameC
   -- ---- a session opens
 
   -- where no connect of the client waits any more
-  module _ (slots session : ℕ) (at : kept.client_at s c ≡ Connecting o.name slots) (none : (n : ℕ) → list_any (is_connect_of c) (service_of cs n).queue ≡ false) (server : o.name < length s.sessions) where
+  module _ (slots session : ℕ) (at : kept.client_at s c ≡ Connecting o.name slots)
+      (none : (n : ℕ) → list_any (is_connect_of c) (service_of cs n).queue ≡ false) (server : o.name < length s.sessions) where
     unqueued : (n : ℕ) → slice_index_or (map (λ es. filter (kept.is_no_connect_of c) es) s.queues) n [] ≡ kept.queue_at s n
     unqueued n = get_or-map (filter (kept.is_no_connect_of c)) s.queues n [] ∙ no_connects s.places c (kept.queue_at s n) (ap (list_any (is_connect_of c)) (same.queues n) ∙ none n)
 
@@ -215,35 +223,38 @@ module _ (s : kept.State) (cs : List Cell) (clients : List Client) (same : SameC
 
     pub same_opened :
         SameClients (kept.opened (Connecting o.name slots) (Some session) c s) (reserved (opened c) o.name cs) (with_client c (at_opening 0 (client_at clients c)) clients)
-    same_opened =
-        served_as (opened c) (λ v. refl) _ _ _ _ (subst (λ x. (d : ℕ) → sessionless (kept.client_at (kept.with_client c (Open o.name session slots) s) d) ≡ client_at (with_client c (at_opening 0 x) clients) d) (sym own)
-        (client_set s.clients clients c (Open o.name session slots) (Open o.name 0 slots) numbered refl same.at))
-        (λ n. ap (λ l. map (asked_by s.places) l) (unqueued n) ∙ by_server cs o lives (opened c) (λ n v. map (asked_by s.places) (kept.queue_at s n) ≡ v.queue) (same.queues o.name) (λ n other. same.queues n) n)
-        (listed_then cs o lives (opened c) s.sessions (kept.sessions_at s o.name ++ c ∷ []) (λ l. l) (λ v. v.sessions) server (ap (λ l. l ++ c ∷ []) (same.sessions o.name)) same.sessions) (length-set s.clients c (Open o.name session slots))
+    same_opened = served_as (opened c) (λ v. refl) _ _ _ _ (subst (λ x. (d : ℕ) → sessionless
+        (kept.client_at (kept.with_client c (Open o.name session slots) s) d) ≡ client_at (with_client c (at_opening 0 x) clients) d) (sym own) (client_set
+        s.clients clients c (Open o.name session slots) (Open o.name 0 slots) numbered refl same.at)) (λ n. ap (λ l. map (asked_by s.places) l) (unqueued n)
+        ∙ by_server cs o lives (opened c) (λ n v. map (asked_by s.places) (kept.queue_at s n) ≡ v.queue) (same.queues o.name) (λ n other. same.queues n) n)
+        (listed_then cs o lives (opened c) s.sessions (kept.sessions_at s o.name ++ c ∷ [])
+        (λ l. l) (λ v. v.sessions) server (ap (λ l. l ++ c ∷ []) (same.sessions o.name)) same.sessions) (length-set s.clients c (Open o.name session slots))
 
     -- or none does
     pub same_unopened : SameClients (kept.opened (Connecting o.name slots) None c s) cs (with_client c Unconnected clients)
-    same_unopened =
-        listed_as s cs clients (with_client c Unconnected clients) (slice_set s.clients c Unconnected) (map (λ es. filter (kept.is_no_connect_of c) es) s.queues) same (client_set s.clients clients c Unconnected Unconnected numbered refl same.at)
+    same_unopened = listed_as s cs clients (with_client c Unconnected clients) (slice_set s.clients c Unconnected)
+        (map (λ es. filter (kept.is_no_connect_of c) es) s.queues) same (client_set s.clients clients c Unconnected Unconnected numbered refl same.at)
         (λ n. ap (λ l. map (asked_by s.places) l) (unqueued n) ∙ same.queues n) (length-set s.clients c Unconnected)
 
   -- ---- a session is closed
 
   -- of a client that has it with this server alone, and whose close waits no more
-  module _ (next : Client) (plain : sessionless next ≡ next) (none : (n : ℕ) → list_any (is_close_of c) (service_of cs n).queue ≡ false) (only : (n : ℕ) → (o.name == n) ≡ false → is_among c (service_of cs n).sessions ≡ false) where
+  module _ (next : Client) (plain : sessionless next ≡ next) (none : (n : ℕ) → list_any (is_close_of c) (service_of cs n).queue ≡ false)
+      (only : (n : ℕ) → (o.name == n) ≡ false → is_among c (service_of cs n).sessions ≡ false) where
     unclosed : (n : ℕ) → slice_index_or (map (λ es. filter (kept.is_no_close_of c) es) s.queues) n [] ≡ kept.queue_at s n
     unclosed n = get_or-map (filter (kept.is_no_close_of c)) s.queues n [] ∙ no_closes s.places c (kept.queue_at s n) (ap (list_any (is_close_of c)) (same.queues n) ∙ none n)
 
     pub same_parted : SameClients (kept.parted c next s) (reserved (parted c) o.name cs) (with_client c next clients)
     same_parted = served_as (parted c) (λ v. refl) _ _ _ _ (client_set s.clients clients c next next numbered plain same.at)
-        (λ n. ap (λ l. map (asked_by s.places) l) (unclosed n) ∙ by_server cs o lives (parted c) (λ n v. map (asked_by s.places) (kept.queue_at s n) ≡ v.queue) (same.queues o.name) (λ n other. same.queues n) n)
-        (λ n. get_or-map (filter (λ d. not (d == c))) s.sessions n []
-        ∙ by_server cs o lives (parted c) (λ n v. filter (λ d. not (d == c)) (kept.sessions_at s n) ≡ v.sessions) (ap (λ l. filter (λ d. not (d == c)) l) (same.sessions o.name))
-        (λ n other. ap (λ l. filter (λ d. not (d == c)) l) (same.sessions n) ∙ none_parted c (service_of cs n).sessions (only n other)) n) (length-set s.clients c next)
+        (λ n. ap (λ l. map (asked_by s.places) l) (unclosed n) ∙ by_server cs o lives (parted c) (λ n v. map (asked_by s.places) (kept.queue_at s n) ≡ v.queue)
+        (same.queues o.name) (λ n other. same.queues n) n) (λ n. get_or-map (filter (λ d. not (d == c))) s.sessions n [] ∙ by_server cs o lives (parted c)
+        (λ n v. filter (λ d. not (d == c)) (kept.sessions_at s n) ≡ v.sessions) (ap (λ l. filter (λ d. not (d == c)) l) (same.sessions o.name)) (λ n other.
+        ap (λ l. filter (λ d. not (d == c)) l) (same.sessions n) ∙ none_parted c (service_of cs n).sessions (only n other)) n) (length-set s.clients c next)
 
   -- ---- the first of a queue is a message, which is served
 
-  module _ (m : ℕ) (es : List Entry) (at : kept.queue_at s o.name ≡ Message m ∷ es) (queue : o.name < length s.queues) (place : m < length s.places) (by : ℕ) (waiting : kept.place_at s m ≡ Queued by) where
+  module _ (m : ℕ) (es : List Entry) (at : kept.queue_at s o.name ≡ Message m ∷ es)
+      (queue : o.name < length s.queues) (place : m < length s.places) (by : ℕ) (waiting : kept.place_at s m ≡ Queued by) where
     abbrev from : Owner
     from = Elsewhere (Waits_at o.name (message_name m))
 
@@ -319,7 +330,8 @@ module _ (s : kept.State) (cs : List Cell) (clients : List Client) (same : SameC
     sent_of d = at_set [] s.sent c d (kept.sent_at s c ++ m ∷ []) listed
 
     -- what is told of the place that is taken, and of all others
-    told_new : {A B : Type 0} (f : Place → A) (g : B → A) (j : ℕ) (x y : B) → f (Queued c) ≡ g x → ((m == j) ≡ false → f (kept.place_at s j) ≡ g y) → f (kept.place_at sent j) ≡ g (cond (message_name m == message_name j) x y)
+    told_new : {A B : Type 0} (f : Place → A) (g : B → A) (j : ℕ) (x y : B) →
+        f (Queued c) ≡ g x → ((m == j) ≡ false → f (kept.place_at s j) ≡ g y) → f (kept.place_at sent j) ≡ g (cond (message_name m == message_name j) x y)
     told_new f g j x y here others = grind (arith, nat_tests, places_at j, eq-eqb, eqb-true m j, names_apart m j)
 
     waits_then : (j : ℕ) → is_queued (kept.place_at sent j) ≡ waits_in (owner_of (message ∷ behind) (message_name j))
@@ -341,8 +353,8 @@ module _ (s : kept.State) (cs : List Cell) (clients : List Client) (same : SameC
         go : (b : Bool) → (m == j) ≡ b →
             sent_by (is_among j (kept.sent_at sent (sender (cond b (Queued c) (kept.place_at s j))))) (cond b (Queued c) (kept.place_at s j))
             ≡ (cond (message_name m == message_name j) message.service (service_of behind (message_name j))).sender
-        go true e =
-            ap (λ b. Some (record { client = c; holds_slot = b; is_told = true })) (ap (λ l. is_among j l) (sent_of c ∙ ap (λ b. cond b (kept.sent_at s c ++ m ∷ []) (kept.sent_at s c)) (eq-eqb c c refl))
+        go true e = ap (λ b. Some (record { client = c; holds_slot = b; is_told = true }))
+            (ap (λ l. is_among j l) (sent_of c ∙ ap (λ b. cond b (kept.sent_at s c ++ m ∷ []) (kept.sent_at s c)) (eq-eqb c c refl))
             ∙ list_any-append (λ d. d == j) (kept.sent_at s c) (m ∷ []) ∙ ap (λ b. is_among j (kept.sent_at s c) || (b || false)) e ∙ or_true (is_among j (kept.sent_at s c)))
             ∙ sym (ap (λ b. (cond b message.service (service_of behind (message_name j))).sender) (eq-eqb (message_name m) (message_name j) (ap message_name (eqb-true m j e))))
         go false e = ap (λ b. sent_by b (kept.place_at s j)) (still (kept.place_at s j) e) ∙ same.senders j
@@ -374,7 +386,8 @@ module _ (s : kept.State) (cs : List Cell) (clients : List Client) (same : SameC
     same_sent =
         let queues_after = λ (n : ℕ). queues n ∙ sym (other_service n).0 in
         let sessions_after : (n : ℕ) → kept.sessions_at s n ≡ (service_of (message ∷ behind) n).sessions =
-        λ n. by_server cs o lives (asked_last (Message_of c (message_name m))) (λ n v. kept.sessions_at s n ≡ v.sessions) (same.sessions o.name) (λ n other. same.sessions n) n ∙ sym (other_service n).1 in
+        λ n. by_server cs o lives (asked_last (Message_of c (message_name m)))
+        (λ n v. kept.sessions_at s n ≡ v.sessions) (same.sessions o.name) (λ n other. same.sessions n) n ∙ sym (other_service n).1 in
         let lists = length-set s.sent c (kept.sent_at s c ++ m ∷ []) ∙ same.lists in
         assumption (same.at, queues_after, sessions_after, senders_after, waits_then, out_after, slotted_after, once_after, silent_after, same.many, lists)
       where
@@ -386,4 +399,5 @@ module _ (s : kept.State) (cs : List Cell) (clients : List Client) (same : SameC
 
         queues : (n : ℕ) → map (asked_by sent.places) (kept.queue_at sent n) ≡ (service_of behind n).queue
         queues n = listed_then cs o lives (asked_last (Message_of c (message_name m))) s.queues (kept.queue_at s o.name ++ Message m ∷ []) (λ l. map (asked_by sent.places) l) (λ v. v.queue) queue
-            (map-append (asked_by sent.places) (kept.queue_at s o.name) (Message m ∷ []) ∙ ap (λ l. l ++ asked_by sent.places (Message m) ∷ []) (old o.name) ∙ ap (λ a. (service_of cs o.name).queue ++ a ∷ []) own) old n
+            (map-append (asked_by sent.places) (kept.queue_at s o.name) (Message m ∷ [])
+            ∙ ap (λ l. l ++ asked_by sent.places (Message m) ∷ []) (old o.name) ∙ ap (λ a. (service_of cs o.name).queue ++ a ∷ []) own) old n

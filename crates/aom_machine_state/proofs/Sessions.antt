@@ -11,7 +11,8 @@ use Rattle.aom_safety.proofs.Counts.{count_opened}
 use Rattle.aom_safety.proofs.Sessions.{session_asked, session_moved, session_new, session_set_word, session_unnamed, session_without}
 use Rattle.aom_semantics.specs.Calls.{passed_cells}
 use Rattle.aom_semantics.specs.Enlisted.{rerequested}
-use Rattle.aom_semantics.specs.Places.{Cell, Object, Place, Register, Request, Tidy, held, in_session, moved, named, set_request, set_session, with_new, without, word_field}
+use Rattle.aom_semantics.specs.Places.{Cell, Object, Place, Register, Request, Tidy, held, in_session, moved}
+use Rattle.aom_semantics.specs.Places.{named, set_request, set_session, with_new, without, word_field}
 use Rattle.aom_semantics.specs.State.{Frame, Home, Inside, State, Task}
 use Rattle.aom_semantics.specs.Words.{here, stored}
 use Rattle.aom_semantics.proofs.Maps.{unnamed}
@@ -34,7 +35,8 @@ module _ (p : Image) (w : Standing) (killed : List ℕ) where
   pub natives_stored : (cs : List Cell) (home : Home) (k : ℕ) (v : ℤ) → SameNatives p w cs killed → SameNatives p w (stored cs home k v) killed
   natives_stored cs x k v h = grind (arith, nat_tests, natives_as cs, session_set_word cs)
 
-  pub natives_made : (cs : List Cell) (n : ℕ) (thing : Thing) (words : List ℤ) (owner : Place) → named cs n ≡ None → SameNatives p w cs killed → SameNatives p w (with_new n thing words owner cs) killed
+  pub natives_made : (cs : List Cell) (n : ℕ) (thing : Thing) (words : List ℤ) (owner : Place) →
+      named cs n ≡ None → SameNatives p w cs killed → SameNatives p w (with_new n thing words owner cs) killed
   natives_made cs n thing words owner fresh h = natives_as cs (with_new n thing words owner cs) (session_new cs n thing words owner fresh) h
 
   pub natives_asked : (cs : List Cell) (n : ℕ) (r : Option Request) → SameNatives p w cs killed → SameNatives p w (set_request n r cs) killed
@@ -61,7 +63,8 @@ session_there : (cs : List Cell) (n : ℕ) (b : Bool) (k : ℕ) → (n == k) ≡
 session_there [] n b k apart = refl
 session_there (c ∷ cs) n b k apart = grind (arith, nat_tests, session_there cs n b k apart, eqb-true c.object.name n)
 
-pub natives_set : (p : Image) (old new : Standing) (killed : List ℕ) (cs : List Cell) (o : Object) (b : Bool) → named cs o.name ≡ Some o → Sets old new o.name b → SameNatives p old cs killed → SameNatives p new (set_session o.name b cs) killed
+pub natives_set : (p : Image) (old new : Standing) (killed : List ℕ) (cs : List Cell) (o : Object) (b : Bool) →
+    named cs o.name ≡ Some o → Sets old new o.name b → SameNatives p old cs killed → SameNatives p new (set_session o.name b cs) killed
 natives_set p old new killed cs o b lives set h = record { sessions = λ n. by n (o.name == n) refl; dead = set.killed ∙ h.dead; limit = set.places ∙ h.limit }
   where
     by : (n : ℕ) (x : Bool) → (o.name == n) ≡ x → is_open new n ≡ in_session (set_session o.name b cs) n
@@ -78,7 +81,8 @@ pub cells_resessioned : (p : Image) (h : Heap) (cs : List Cell) (home : Home) (b
 cells_resessioned p h cs x b same = grind (arith, nat_tests, resessioned_alike cs, words_opened cs, count_opened cs)
 
 -- a cell that goes has its session closed
-pub natives_gone : (p : Image) (old new : Standing) (killed : List ℕ) (cs : List Cell) (g : Place) (o : Object) → Tidy cs → held cs g ≡ Some o → Sets old new o.name false → SameNatives p old cs killed → SameNatives p new (without g cs) killed
+pub natives_gone : (p : Image) (old new : Standing) (killed : List ℕ) (cs : List Cell) (g : Place) (o : Object) →
+    Tidy cs → held cs g ≡ Some o → Sets old new o.name false → SameNatives p old cs killed → SameNatives p new (without g cs) killed
 natives_gone p old new killed cs g o tidy holds shut h = record {
   sessions = λ n. by n (o.name == n) refl;
   dead = shut.killed ∙ h.dead;

@@ -26,8 +26,8 @@ module _ (cells : ℕ) (k : kept.State) (sized : AreSized cells k) where
   sized_connected c session = go (kept.client_at k c) session
     where
       go : (x : Client) (session : Option ℕ) → AreSized cells (kept.opened x session c k)
-      go (Connecting n slots) (Some session) =
-          sized_so (kept.opened (Connecting n slots) (Some session) c k) refl (length-map k.queues (λ es. filter (kept.is_no_connect_of c) es)) (length-set k.sessions n (kept.sessions_at k n ++ c ∷ []))
+      go (Connecting n slots) (Some session) = sized_so (kept.opened (Connecting n slots) (Some session) c k) refl
+          (length-map k.queues (λ es. filter (kept.is_no_connect_of c) es)) (length-set k.sessions n (kept.sessions_at k n ++ c ∷ []))
       go (Connecting n slots) None = sized_so (kept.opened (Connecting n slots) None c k) refl (length-map k.queues (λ es. filter (kept.is_no_connect_of c) es)) refl
       go _ session = sized
 
@@ -82,8 +82,8 @@ module _ (cells : ℕ) (k : kept.State) (sized : AreSized cells k) where
       plain = sized_so (kept.with_client c to (kept.withdrawn c k)) places queues refl
 
       go : (x : Client) → AreSized cells (kept.told x c (kept.with_client c to (kept.withdrawn c k)))
-      go (Open n session slots) =
-          sized_so (kept.queued n (Close c) (kept.with_client c to (kept.withdrawn c k))) places (length-set (kept.withdrawn c k).queues n (kept.queue_at (kept.withdrawn c k) n ++ Close c ∷ []) ∙ queues) refl
+      go (Open n session slots) = sized_so (kept.queued n (Close c) (kept.with_client c to (kept.withdrawn c k))) places
+          (length-set (kept.withdrawn c k).queues n (kept.queue_at (kept.withdrawn c k) n ++ Close c ∷ []) ∙ queues) refl
       go _ = plain
 
   pub sized_close : (c : ℕ) → AreSized cells (kept.after_close c k)

@@ -10,7 +10,8 @@ use Rattle.aom_semantics.proofs.Altering.{Alters, asking, bereaving, opening, re
 use Rattle.aom_semantics.proofs.Maps.{same_place-true}
 use Rattle.aom_safety.proofs.Services.{service_moved, service_unnamed}
 use Rattle.aom_semantics.specs.Natives.{all_bereaved, resessioned}
-use Rattle.aom_semantics.specs.Places.{Cell, Place as Owner, Request, Service, moved, named, service_of, set_request, set_session, set_word_field, unserved, with_new}
+use Rattle.aom_semantics.specs.Places.{Cell, Place as Owner, Request, Service, moved, named, service_of}
+use Rattle.aom_semantics.specs.Places.{set_request, set_session, set_word_field, unserved, with_new}
 use Rattle.aom_semantics.specs.Servers.{holds_slot, is_queue}
 use Rattle.aom_semantics.specs.State.{Home}
 use Rattle.aom_machine_state.proofs.Serving.{moved_from, owner_moved, owners}
@@ -30,8 +31,8 @@ still_itself cs = record { services = λ n. refl; owners = λ m. refl }
 
 -- which messages are tokens is no matter of clients
 module _ (s : kept.State) (cs cs' : List Cell) (clients : List Client) where
-  pub same_untold :
-      ((n : ℕ) → untold (service_of cs' n) ≡ untold (service_of cs n)) → ((m : ℕ) → waits_in (owner_of cs' (message_name m)) ≡ waits_in (owner_of cs (message_name m))) → SameClients s cs clients → SameClients s cs' clients
+  pub same_untold : ((n : ℕ) → untold (service_of cs' n) ≡ untold (service_of cs n)) →
+      ((m : ℕ) → waits_in (owner_of cs' (message_name m)) ≡ waits_in (owner_of cs (message_name m))) → SameClients s cs clients → SameClients s cs' clients
   same_untold services owners same = record {
     at = same.at;
     queues = λ n. same.queues n ∙ ap (λ (v : Service). v.queue) (sym (services n));
@@ -79,7 +80,8 @@ still_new cs name x ws owner small free = record {
 -- ---- what is no matter of clients
 
 -- each cell is another, with the same object, owner and service
-pub still_each : {change : List Cell → List Cell} (a : Alters change) → ((c : Cell) → (a.each c).owner ≡ c.owner) → ((c : Cell) → (a.each c).service ≡ c.service) → (cs : List Cell) → Still cs (change cs)
+pub still_each : {change : List Cell → List Cell} (a : Alters change) →
+    ((c : Cell) → (a.each c).owner ≡ c.owner) → ((c : Cell) → (a.each c).service ≡ c.service) → (cs : List Cell) → Still cs (change cs)
 still_each a owner service cs = record { services = read_kept a services service cs; owners = λ m. ap waits_in (read_kept a owners (λ c. ap (λ q. Some q) (owner c)) cs (message_name m)) }
 
 pub still_requested : (cs : List Cell) (n : ℕ) (r : Option Request) → Still cs (set_request n r cs)

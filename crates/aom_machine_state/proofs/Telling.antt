@@ -34,10 +34,12 @@ told_place code slot x e = grind arith
 
 module _ (k : kept.State) (cs : List Cell) (clients : List Client) (same : SameClients k cs clients) where
   -- a message that was taken
-  pub message_told : (o : Object) (m : ℕ) (code : ℤ) → o.name ≡ message_name m → is_queued (kept.place_at k m) ≡ false → message_line cs (Some o) code ≡ completed_lines code (completion (kept.place_at k m))
+  pub message_told : (o : Object) (m : ℕ) (code : ℤ) →
+      o.name ≡ message_name m → is_queued (kept.place_at k m) ≡ false → message_line cs (Some o) code ≡ completed_lines code (completion (kept.place_at k m))
   message_told o m code name taken = grind (arith, nat_tests, told_place code)
 
-  waiting_told : (m : ℕ) → is_queued (kept.place_at k m) ≡ true → told_line (code_of ServerTerminated) (service_of cs (message_name m)).sender ≡ Reply (sender (kept.place_at k m)) (code_of ServerTerminated) ∷ []
+  waiting_told : (m : ℕ) → is_queued (kept.place_at k m) ≡ true →
+      told_line (code_of ServerTerminated) (service_of cs (message_name m)).sender ≡ Reply (sender (kept.place_at k m)) (code_of ServerTerminated) ∷ []
   waiting_told m waits = grind (arith, nat_tests)
 
   entries_told : (es : List Entry) → AllWait k.places es → flat_map (ended_line cs) (map (asked_by k.places) es) ≡ flat_map (gone_lines k.places) es

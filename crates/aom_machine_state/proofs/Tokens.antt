@@ -28,7 +28,8 @@ waited x e = grind arith
 -- ---- what changes no token and no request that waits for one
 
 module _ (p : Image) (w : Kept) (cs us : List Cell) where
-  pub tokens_still : ((n : ℕ) → awaited (requested us n) ≡ awaited (requested cs n)) → ((m : ℕ) → (service_of us (message_name m)).token ≡ (service_of cs (message_name m)).token) → SameTokens p w cs → SameTokens p w us
+  pub tokens_still : ((n : ℕ) → awaited (requested us n) ≡ awaited (requested cs n)) →
+      ((m : ℕ) → (service_of us (message_name m)).token ≡ (service_of cs (message_name m)).token) → SameTokens p w cs → SameTokens p w us
   tokens_still asks tells same = record {
     classes = λ m. same.classes m ∙ sym (ap class_in (tells m));
     waits = λ n k e.

@@ -51,10 +51,10 @@ pub told_served : (cs : List Cell) (n : ℕ) (v : Service) → v.token ≡ token
 told_served cs n v same k = grind (arith, nat_tests, service_there cs n k v, eqb-true n k, service_here cs n v, absent_served cs n v)
 
 -- some cells go, none of which is a token
-pub told_sifted :
-    (drops : Cell → Bool) (f : Cell → Service) (cs : List Cell) → Tidy cs → ((n : ℕ) (x : Cell) → cell_of cs n ≡ Some x → drops x ≡ true → x.service.token ≡ None) → ((x : Cell) → (f x).token ≡ x.service.token) → Told_alike cs (sifted drops f cs)
-told_sifted drops f cs tidy none keeps n =
-    ap (λ (v : Service). v.token) (service_cell (sifted drops f cs) n ∙ ap service_in (cell_of_sifted drops f cs n tidy)) ∙ go (cell_of cs n) refl ∙ sym (ap (λ (v : Service). v.token) (service_cell cs n))
+pub told_sifted : (drops : Cell → Bool) (f : Cell → Service) (cs : List Cell) → Tidy cs → ((n : ℕ) (x : Cell) →
+    cell_of cs n ≡ Some x → drops x ≡ true → x.service.token ≡ None) → ((x : Cell) → (f x).token ≡ x.service.token) → Told_alike cs (sifted drops f cs)
+told_sifted drops f cs tidy none keeps n = ap (λ (v : Service). v.token) (service_cell (sifted drops f cs) n ∙ ap service_in (cell_of_sifted drops f cs n tidy))
+    ∙ go (cell_of cs n) refl ∙ sym (ap (λ (v : Service). v.token) (service_cell cs n))
   where
     go : (x : Option Cell) → cell_of cs n ≡ x → (service_in (left_cell drops f x)).token ≡ (service_in x).token
     go None e = refl
@@ -70,7 +70,8 @@ tokens_unslotted p w clients cs same =
     tokens_still p w cs (each_unslotted clients cs) (λ n. ap awaited (each_unslotted_requests clients cs n)) (λ m. ap (λ (v : Service). v.token) (service_lost clients cs (message_name m))) same
 
 -- an object goes that waits for no token
-pub tokens_without : (p : Image) (w : Kept) (cs : List Cell) (g : Place) (o : Object) → Tidy cs → held cs g ≡ Some o → o.name < 4096 → awaited (requested cs o.name) ≡ None → SameTokens p w cs → SameTokens p w (without g cs)
+pub tokens_without : (p : Image) (w : Kept) (cs : List Cell) (g : Place) (o : Object) →
+    Tidy cs → held cs g ≡ Some o → o.name < 4096 → awaited (requested cs o.name) ≡ None → SameTokens p w cs → SameTokens p w (without g cs)
 tokens_without p w cs g o tidy there small rests same = tokens_still p w cs (without g cs) (λ n. asks n (o.name == n) refl) tells same
   where
     asks : (n : ℕ) (b : Bool) → (o.name == n) ≡ b → awaited (requested (without g cs) n) ≡ awaited (requested cs n)

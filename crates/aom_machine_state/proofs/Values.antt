@@ -1,6 +1,7 @@
 -- What a write does to the places, on the machine's side and on the checked machine's.
 use Rattle.std.proofs.lemmas.Bool.Decides.{nat_tests}
-use Rattle.std.proofs.Common.{suc, ◌≡◌, ℕ, ℤ, ◌<◌, ◌≤◌, Bool, true, false, cond, ◌==◌, length, List, [], ◌∷◌, Option, None, slice_set, slice_index_or, refl, sym, ap, ◌∙◌, subst, arith}
+use Rattle.std.proofs.Common.{suc, ◌≡◌, ℕ, ℤ, ◌<◌, ◌≤◌, Bool, true, false, cond, ◌==◌, length, List, [], ◌∷◌}
+use Rattle.std.proofs.Common.{Option, None, slice_set, slice_index_or, refl, sym, ap, ◌∙◌, subst, arith}
 use Rattle.std.proofs.lemmas.Bool.{eqb-true, eq-eqb, ne_eqb}
 use Rattle.std.proofs.lemmas.List.{get_or-set_same, get_or-set_other}
 use Rattle.aom_cells.specs.Heap.{Heap, null}
@@ -48,7 +49,8 @@ pub at_depth : {A : Type 0} (n d : ℕ) (x y : A) → ((d ≡ n) → y ≡ x) �
 at_depth n d x y h = grind (arith, nat_tests, eqb-true n d)
 
 -- a register of the frame that runs is read, and written
-pub value_here : (f : Machine_frame) (ms : List Machine_task) (h : Heap) (es : List Item) (others : Others) (d i : ℕ) → length ms ≡ d → value_in (Runs_frame f ∷ ms) h es others (Register d i) ≡ slice_index_or f.registers i null
+pub value_here : (f : Machine_frame) (ms : List Machine_task) (h : Heap) (es : List Item) (others : Others) (d i : ℕ) →
+    length ms ≡ d → value_in (Runs_frame f ∷ ms) h es others (Register d i) ≡ slice_index_or f.registers i null
 value_here f ms h es others d i e = ap (λ b. cond b (slice_index_or f.registers i null) (register_in ms d i)) (eq-eqb (length ms) d e)
 
 pub value_written : (f : Machine_frame) (ms : List Machine_task) (h : Heap) (es : List Item) (others : Others) (d i x place : ℕ) → length ms ≡ d → i < length f.registers → (r : Place)
@@ -56,10 +58,12 @@ pub value_written : (f : Machine_frame) (ms : List Machine_task) (h : Heap) (es 
 value_written f ms h es others d i x place deep small y = grind (arith, nat_tests, slot_set)
 
 -- counters and the method's place are no places of values
-pub value_counted : (f : Machine_frame) (ms : List Machine_task) (h : Heap) (es : List Item) (others : Others) (counters : List ℕ) (place : ℕ) (r : Place) → value_in (Runs_frame (record f { counters = counters; place = place }) ∷ ms) h es others r ≡ value_in (Runs_frame f ∷ ms) h es others r
+pub value_counted : (f : Machine_frame) (ms : List Machine_task) (h : Heap) (es : List Item) (others : Others) (counters : List ℕ) (place : ℕ) (r : Place) →
+    value_in (Runs_frame (record f { counters = counters; place = place }) ∷ ms) h es others r ≡ value_in (Runs_frame f ∷ ms) h es others r
 value_counted f ms h es others counters place _ = refl
 
-pub value_kept : (f : Machine_frame) (ms : List Machine_task) (h : Heap) (es : List Item) (others : Others) (place : ℕ) (r : Place) → value_in (Runs_frame (record f { place = place }) ∷ ms) h es others r ≡ value_in (Runs_frame f ∷ ms) h es others r
+pub value_kept : (f : Machine_frame) (ms : List Machine_task) (h : Heap) (es : List Item) (others : Others) (place : ℕ) (r : Place) →
+    value_in (Runs_frame (record f { place = place }) ∷ ms) h es others r ≡ value_in (Runs_frame f ∷ ms) h es others r
 value_kept f ms h es others place r = value_counted f ms h es others f.counters place r
 
 -- a word is written in the checked machine
@@ -74,7 +78,8 @@ pub word_next : (fr : Frame) (ts : List Task) (place : ℕ) (r : Place) → word
 word_next fr ts place r = word_counted fr ts fr.counters place r
 
 -- a destruction is at hand
-pub destroys_value : (us : List Machine_task) (h : Heap) (es : List Item) (others : Others) (n d : ℕ) → length us ≡ d → (r : Place) → value_in (Destroys n ∷ us) h es others r ≡ changed (value_in us h es others) (Going d) n r
+pub destroys_value : (us : List Machine_task) (h : Heap) (es : List Item) (others : Others) (n d : ℕ) →
+    length us ≡ d → (r : Place) → value_in (Destroys n ∷ us) h es others r ≡ changed (value_in us h es others) (Going d) n r
 destroys_value us h es others n d deep x = grind (arith, nat_tests, at_depth, register_past us)
 
 pub destroys_word : (us : List Task) (d : ℕ) (r : Place) → word_at (Destroy ∷ us) r ≡ changed (word_at us) (Going d) None r
@@ -85,7 +90,8 @@ pub moves : (v v' : Place → ℕ) (w w' : Place → Option ℤ) (h h' : Place �
     → w p ≡ None → ((r : Place) → v' r ≡ changed (changed v p null) q (v p) r) → ((r : Place) → w' r ≡ changed w q None r)
     → ((r : Place) → h' r ≡ transfer p q h r) → (r : Place) → Represents (v' r) (w' r) (h' r)
 moves v v' w w' h h' p q old no_word ev ew eh r =
-    subst (λ n. Represents n (w' r) (h' r)) (sym (ev r)) (subst (λ x. Represents (changed (changed v p null) q (v p) r) x (h' r)) (sym (ew r)) (subst (λ o. Represents (changed (changed v p null) q (v p) r) (changed w q None r) o) (sym (eh r)) (go (same_place q r) (same_place p r) refl)))
+    subst (λ n. Represents n (w' r) (h' r)) (sym (ev r)) (subst (λ x. Represents (changed (changed v p null) q (v p) r) x (h' r)) (sym (ew r))
+    (subst (λ o. Represents (changed (changed v p null) q (v p) r) (changed w q None r) o) (sym (eh r)) (go (same_place q r) (same_place p r) refl)))
   where
     go : (b c : Bool) → same_place p r ≡ c → Represents (cond b (v p) (cond c null (v r))) (cond b None (w r)) (cond b (h p) (cond c None (h r)))
     go true c e = subst (λ x. Represents (v p) x (h p)) no_word (old p)

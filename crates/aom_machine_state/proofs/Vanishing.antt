@@ -1,6 +1,7 @@
 -- A cell goes, a server with its queue and its sessions, and what stands for clients goes on standing for them.
 use Rattle.std.proofs.lemmas.Bool.Decides.{nat_tests}
-use Rattle.std.proofs.Common.{Bool, List, None, Option, Some, [], ap, arith, cond, false, length, refl, slice_index_or, subst, sym, true, ℕ, ◌<◌, ◌==◌, ◌∙◌, ◌∷◌, ◌≡◌, inl, inr, ◌⊎◌}
+use Rattle.std.proofs.Common.{Bool, List, None, Option, Some, [], ap, arith, cond, false, length, refl, slice_index_or}
+use Rattle.std.proofs.Common.{subst, sym, true, ℕ, ◌<◌, ◌==◌, ◌∙◌, ◌∷◌, ◌≡◌, inl, inr, ◌⊎◌}
 use Rattle.std.specs.List.{list_any}
 use Rattle.std.specs.Prelude.{filter, map, ◌||◌}
 use Rattle.std.proofs.lemmas.Bool.{eq-eqb, eqb-true, false≢true}
@@ -17,13 +18,17 @@ use Rattle.aom_safety.proofs.Unslotting.{service_unslotted}
 use Rattle.aom_semantics.proofs.Altering.{read_kept, unslotting}
 use Rattle.aom_semantics.proofs.Maps.{one_place, same_place-true}
 use Rattle.aom_safety.proofs.Parting.{among_others, among_parted}
-use Rattle.aom_safety.proofs.Sifted.{a_cell_of, cell_in, cell_lives, cell_name, cell_of, cell_of_sifted, cell_owner, cell_placed, held_cell, kept as left_cell, named_cell, object_in, service_cell, service_in, sifted}
+use Rattle.aom_safety.proofs.Sifted.{a_cell_of, cell_in, cell_lives, cell_name, cell_of, cell_of_sifted, cell_owner, cell_placed}
+use Rattle.aom_safety.proofs.Sifted.{held_cell, kept as left_cell, named_cell, object_in, service_cell, service_in, sifted}
 use Rattle.aom_semantics.specs.Clients.{client_at, each_unslotted, queue_ended, sessions_ended}
 use Rattle.aom_safety.specs.Kept.{is_connect_of}
-use Rattle.aom_semantics.specs.Places.{Cell, Close_of, Connect_of, Elsewhere, Object, Place as Owner, Queued as Waits_at, Sender, Service, Tidy, held, named, place_outer, same_place, service_of, without}
+use Rattle.aom_semantics.specs.Places.{Cell, Close_of, Connect_of, Elsewhere, Object, Place as Owner, Queued as Waits_at}
+use Rattle.aom_semantics.specs.Places.{Sender, Service, Tidy, held, named, place_outer, same_place, service_of, without}
 use Rattle.aom_semantics.specs.Servers.{all_unslotted, has_message, holds_slot, is_among, is_message, is_other, is_queue, is_queue_of, unslotted, without_queue}
 use Rattle.aom_machine_state.proofs.Completing.{once_without, queued_still}
-use Rattle.aom_machine_state.proofs.Departing.{all_without, client_after_queue, client_after_sessions, connects, is_at, lengths_after_queue, lengths_after_sessions, place_after_queue, places_after_sessions, queue_after_queue, queues_after_sessions, sent_after_queue, sent_after_sessions, sessions_after_queue, sessions_after_sessions}
+use Rattle.aom_machine_state.proofs.Departing.{all_without, client_after_queue, client_after_sessions, connects, is_at, lengths_after_queue}
+use Rattle.aom_machine_state.proofs.Departing.{lengths_after_sessions, place_after_queue, places_after_sessions, queue_after_queue, queues_after_sessions}
+use Rattle.aom_machine_state.proofs.Departing.{sent_after_queue, sent_after_sessions, sessions_after_queue, sessions_after_sessions}
 use Rattle.aom_machine_state.proofs.Serving.{names_apart, owners}
 use Rattle.aom_machine_state.proofs.Withdrawing.{owner_cell, owner_in, queue_of_owner, queue_of_queue}
 use Rattle.aom_machine_state.specs.Serving.{Once, SameClients, asked_by, holds, message_name, owner_of, sent_by, sessionless, waits_in}
@@ -46,9 +51,11 @@ lost_none (c ∷ xs) = lost_none xs
 lost_some : (xs : List ℕ) (d : ℕ) (slot told : Bool) →
     lost xs (Some (record { client = d; holds_slot = slot; is_told = told })) ≡ Some (record { client = d; holds_slot = cond (is_among d xs) false slot; is_told = told })
 lost_some [] d slot told = refl
-lost_some (c ∷ xs) d slot told = ap (λ m. lost xs (Some m)) (first (d == c)) ∙ lost_some xs d (cond (d == c) false slot) told ∙ ap (λ b. Some (record { client = d; holds_slot = b; is_told = told })) (both (is_among d xs) (d == c) (c == d) (eqb_comm d c))
+lost_some (c ∷ xs) d slot told = ap (λ m. lost xs (Some m)) (first (d == c)) ∙ lost_some xs d (cond (d == c) false slot) told
+    ∙ ap (λ b. Some (record { client = d; holds_slot = b; is_told = told })) (both (is_among d xs) (d == c) (c == d) (eqb_comm d c))
   where
-    first : (b : Bool) → ◌≡◌ {A = Sender} (cond b (record { client = d; holds_slot = false; is_told = told }) (record { client = d; holds_slot = slot; is_told = told })) (record { client = d; holds_slot = cond b false slot; is_told = told })
+    first : (b : Bool) → ◌≡◌ {A = Sender} (cond b (record { client = d; holds_slot = false; is_told = told })
+        (record { client = d; holds_slot = slot; is_told = told })) (record { client = d; holds_slot = cond b false slot; is_told = told })
     first x = grind arith
 
     both : (a b b' : Bool) → b ≡ b' → cond a false (cond b false slot) ≡ cond (b' || a) false slot
@@ -102,7 +109,8 @@ asks_connect places (Connect d ∷ es) c = ap (λ b. (d == c) || b) (asks_connec
 asks_connect places (_ ∷ es) c = asks_connect places es c
 
 -- the same is asked where the senders of its messages are the same
-asked_alike : (places places' : List Place) (es : List Entry) → ((m : ℕ) → list_any (is_at m) es ≡ true → sender (slice_index_or places' m Free) ≡ sender (slice_index_or places m Free)) → map (asked_by places') es ≡ map (asked_by places) es
+asked_alike : (places places' : List Place) (es : List Entry) → ((m : ℕ) → list_any (is_at m) es ≡ true →
+    sender (slice_index_or places' m Free) ≡ sender (slice_index_or places m Free)) → map (asked_by places') es ≡ map (asked_by places) es
 asked_alike places places' [] same = refl
 asked_alike places places' (Connect c ∷ es) same = ap (λ l. Connect_of c ∷ l) (asked_alike places places' es same)
 asked_alike places places' (Close c ∷ es) same = ap (λ l. Close_of c ∷ l) (asked_alike places places' es same)
@@ -126,15 +134,16 @@ gone_sessionless : (x : Client) → sessionless (at_gone x) ≡ at_gone (session
 gone_sessionless x = grind arith
 
 -- what clients are at, told twice
-client_alike : (a b : Bool) (x : Client) → sessionless (cond b (at_gone (cond a Unconnected x)) (cond a Unconnected x)) ≡ cond b (at_gone (cond a Unconnected (sessionless x))) (cond a Unconnected (sessionless x))
+client_alike : (a b : Bool) (x : Client) → sessionless (cond b (at_gone (cond a Unconnected x)) (cond a Unconnected x)) ≡ cond b
+    (at_gone (cond a Unconnected (sessionless x))) (cond a Unconnected (sessionless x))
 client_alike true true x = refl
 client_alike true false x = refl
 client_alike false true x = gone_sessionless x
 client_alike false false x = refl
 
 -- the object at g goes; it is none of messages, and nothing is a message in its queue but what is asked of it
-module _
-    (s : kept.State) (cs : List Cell) (clients : List Client) (same : SameClients s cs clients) (tidy : Tidy cs) (o : Object) (g : Owner) (there : held cs g ≡ Some o) (apart : is_queue g ≡ false) (small : o.name < 4096)
+module _ (s : kept.State) (cs : List Cell) (clients : List Client) (same : SameClients s cs clients)
+    (tidy : Tidy cs) (o : Object) (g : Owner) (there : held cs g ≡ Some o) (apart : is_queue g ≡ false) (small : o.name < 4096)
     (queue_room : o.name < length s.queues) (session_room : o.name < length s.sessions)
     (empty : (n : ℕ) (x : Cell) → cell_of cs n ≡ Some x → is_queue x.owner ≡ true → (x.service.queue ≡ []) × (x.service.sessions ≡ []))
     (asked : (m : ℕ) (x : Object) → held cs (Elsewhere (Waits_at o.name m)) ≡ Some x → (x.name ≡ m) × (has_message (service_of cs o.name) m ≡ true))
@@ -220,9 +229,8 @@ module _
 
   -- what else goes has no queue and no sessions
   parts_stay : (n : ℕ) → ((service_of stay n).queue ≡ cond (k == n) [] (service_of cs n).queue) × ((service_of stay n).sessions ≡ cond (k == n) [] (service_of cs n).sessions)
-  parts_stay n =
-      subst (λ v. (v.queue ≡ cond (k == n) [] (service_of cs n).queue) × (v.sessions ≡ cond (k == n) [] (service_of cs n).sessions)) (sym (service_cell stay n ∙ ap service_in (cell_of_sifted drops (λ c. c.service) cs n tidy)))
-      (go (cell_of cs n) refl (k == n) refl)
+  parts_stay n = subst (λ v. (v.queue ≡ cond (k == n) [] (service_of cs n).queue) × (v.sessions ≡ cond (k == n) [] (service_of cs n).sessions))
+      (sym (service_cell stay n ∙ ap service_in (cell_of_sifted drops (λ c. c.service) cs n tidy))) (go (cell_of cs n) refl (k == n) refl)
     where
       was : (x : Option Cell) → cell_of cs n ≡ x → service_of cs n ≡ service_in x
       was x e = service_cell cs n ∙ ap service_in e
@@ -247,16 +255,16 @@ module _
       nothing true l e = refl
       nothing false l e = sym e
 
-      go : (x : Option Cell) → cell_of cs n ≡ x → (b : Bool) → (k == n) ≡ b →
-          ((service_in (left_cell drops (λ c. c.service) x)).queue ≡ cond b [] (service_of cs n).queue) × ((service_in (left_cell drops (λ c. c.service) x)).sessions ≡ cond b [] (service_of cs n).sessions)
+      go : (x : Option Cell) → cell_of cs n ≡ x → (b : Bool) → (k == n) ≡ b → ((service_in (left_cell drops (λ c. c.service) x)).queue ≡ cond b []
+          (service_of cs n).queue) × ((service_in (left_cell drops (λ c. c.service) x)).sessions ≡ cond b [] (service_of cs n).sessions)
       go None e b f = (nothing b (service_of cs n).queue (ap (λ (v : Service). v.queue) (was None e)), nothing b (service_of cs n).sessions (ap (λ (v : Service). v.sessions) (was None e)))
       go (Some x) e b f = at x e b f (drops x) refl
 
   -- ---- what is told of a message
 
   sender_left : (j : ℕ) → (service_of left (message_name j)).sender ≡ lost xs (cond (goes j) None (service_of cs (message_name j)).sender)
-  sender_left j =
-      ap (λ (v : Service). v.sender) (service_lost xs stay (message_name j)) ∙ ap (λ (v : Service). lost xs v.sender) (service_cell stay (message_name j) ∙ ap service_in (cell_stays j)) ∙ ap (lost xs) (go (goes j))
+  sender_left j = ap (λ (v : Service). v.sender) (service_lost xs stay (message_name j))
+      ∙ ap (λ (v : Service). lost xs v.sender) (service_cell stay (message_name j) ∙ ap service_in (cell_stays j)) ∙ ap (lost xs) (go (goes j))
     where
       go : (b : Bool) → (service_in (cond b None (cell_of cs (message_name j)))).sender ≡ cond b None (service_of cs (message_name j)).sender
       go true = refl
@@ -294,8 +302,8 @@ module _
   -- what stays holds no slot that it did not hold
   silent_then : (n d : ℕ) → n < 4096 → holds_slot d (service_of left n).sender ≡ false
   silent_then n d low = ap (λ (v : Service). holds_slot d v.sender) (service_lost xs stay n) ∙ lost_slot xs d (service_of stay n).sender
-      ∙ ap (cond (is_among d xs) false) (ap (λ (v : Service). holds_slot d v.sender) (service_cell stay n ∙ ap service_in (cell_of_sifted drops (λ c. c.service) cs n tidy)) ∙ stays (cell_of cs n) (sym (ap (λ (v : Service). holds_slot d v.sender) (service_cell cs n)) ∙ same.silent n d low))
-      ∙ never (is_among d xs)
+      ∙ ap (cond (is_among d xs) false) (ap (λ (v : Service). holds_slot d v.sender) (service_cell stay n ∙ ap service_in (cell_of_sifted drops (λ c. c.service)
+      cs n tidy)) ∙ stays (cell_of cs n) (sym (ap (λ (v : Service). holds_slot d v.sender) (service_cell cs n)) ∙ same.silent n d low)) ∙ never (is_among d xs)
     where
       stays : (x : Option Cell) → holds_slot d (service_in x).sender ≡ false → holds_slot d (service_in (left_cell drops (λ c. c.service) x)).sender ≡ false
       stays x none = grind (arith, nat_tests)

@@ -1,5 +1,6 @@
 -- A client closes or dies: its messages that wait go, its others hold no slot and are told to nobody, and all else goes on standing for what it stood for.
-use Rattle.std.proofs.Common.{Bool, List, None, Option, Some, [], ap, cond, false, length, refl, slice_index_or, subst, sym, true, ℕ, ◌&&◌, ◌<◌, ◌==◌, ◌∙◌, ◌∷◌, ◌≡◌, arith}
+use Rattle.std.proofs.Common.{Bool, List, None, Option, Some, [], ap, cond, false, length, refl, slice_index_or}
+use Rattle.std.proofs.Common.{subst, sym, true, ℕ, ◌&&◌, ◌<◌, ◌==◌, ◌∙◌, ◌∷◌, ◌≡◌, arith}
 use Rattle.std.specs.Prelude.{filter, map, not}
 use Rattle.std.proofs.lemmas.Bool.{eq-eqb, eqb-true, false≢true, ne_eqb}
 use Rattle.std.proofs.lemmas.Bool.Decides.{nat_tests}
@@ -15,7 +16,8 @@ use Rattle.aom_clients.specs.declared.place.Place.{Place}
 use Rattle.aom_clients.specs.declared.place.Place.TheVariants.{Free, Queued}
 use Rattle.aom_clients.specs.Table.{is_out_of, is_queued, is_waiting_of, sender}
 use Rattle.aom_safety.proofs.Sifted.{cell_of, cell_of_sifted, kept as left_cell, service_cell, service_in, withdrawn_so}
-use Rattle.aom_semantics.specs.Places.{Asked, Cell, Close_of, Connect_of, Elsewhere, Object, Place as Owner, Queued as Waits_at, named, Sender, Service, Tidy, service_of}
+use Rattle.aom_semantics.specs.Places.{Asked, Cell, Close_of, Connect_of, Elsewhere, Object, Place as Owner}
+use Rattle.aom_semantics.specs.Places.{Queued as Waits_at, named, Sender, Service, Tidy, service_of}
 use Rattle.aom_semantics.specs.Servers.{asked_last, discarded, holds_slot, is_among, is_from, is_queue, is_queue_of, left_by, reserved, stays, withdrawn}
 use Rattle.aom_semantics.specs.Clients.{client_at, told, with_client}
 use Rattle.aom_semantics.specs.State.{State}
@@ -103,7 +105,8 @@ module _ (c : ℕ) (places : List Place) where
   abbrev places' : List Place
   places' = map (λ p. kept.left_place c p) places
 
-  step : (b : Bool) (e : Entry) (r : List Entry) (a : Asked) (q : List Asked) → map (asked_by places') r ≡ q → (b ≡ true → asked_by places' e ≡ a) → map (asked_by places') (cond b (e ∷ r) r) ≡ cond b (a ∷ q) q
+  step : (b : Bool) (e : Entry) (r : List Entry) (a : Asked) (q : List Asked) →
+      map (asked_by places') r ≡ q → (b ≡ true → asked_by places' e ≡ a) → map (asked_by places') (cond b (e ∷ r) r) ≡ cond b (a ∷ q) q
   step x e r a q ih h = grind arith
 
   entries_left : (es : List Entry) → AllWait places es → map (asked_by places') (filter (λ e. kept.stays c places e) es) ≡ filter (stays c) (map (asked_by places) es)
@@ -180,26 +183,30 @@ module _ (s : kept.State) (cs : List Cell) (clients : List Client) (same : SameC
       other : (d : ℕ) → sender p ≡ d → (d == c) ≡ false → is_among j (kept.sent_at then (sender (kept.left_place c p))) ≡ holds s j
       other d is e =
           let apart : (sender p == c) ≡ false = ap (λ k. k == c) is ∙ e in
-          ap (λ q. is_among j (kept.sent_at then (sender q))) (left_other c p apart) ∙ among_then (sender p) j ∙ ap (λ b. cond b false (is_among j (kept.sent_at s (sender p)))) (swapped (sender p) c false apart)
+          ap (λ q. is_among j (kept.sent_at then (sender q))) (left_other c p apart)
+          ∙ among_then (sender p) j ∙ ap (λ b. cond b false (is_among j (kept.sent_at s (sender p)))) (swapped (sender p) c false apart)
 
       own : is_queued p ≡ false → (d : ℕ) → sender p ≡ d → (d == c) ≡ true → is_among j (kept.sent_at then (sender (kept.left_place c p))) ≡ false
-      own unqueued d is e =
-          ap (λ k. is_among j (kept.sent_at then k)) (left_own c p unqueued) ∙ among_then (sender p) j ∙ ap (λ b. cond b false (is_among j (kept.sent_at s (sender p)))) (swapped (sender p) c true (ap (λ k. k == c) is ∙ e))
+      own unqueued d is e = ap (λ k. is_among j (kept.sent_at then k)) (left_own c p unqueued)
+          ∙ among_then (sender p) j ∙ ap (λ b. cond b false (is_among j (kept.sent_at s (sender p)))) (swapped (sender p) c true (ap (λ k. k == c) is ∙ e))
 
   -- what is told of places alone, and of cells but for what clients have there
-  told_then : (f : Place → Bool) (g : Option Cell → Bool) → ((j : ℕ) → f (kept.left_place c (kept.place_at s j)) ≡ cond (is_queued (kept.place_at s j) && is_from c (sent_by (holds s j) (kept.place_at s j))) false (f (kept.place_at s j))) →
-      ((x : Cell) (v : Service) → g (Some (record x { service = v })) ≡ g (Some x)) → g None ≡ false → ((j : ℕ) (x : Option Cell) → cell_of cs (message_name j) ≡ x → f (kept.place_at s j) ≡ g x) → (j : ℕ) →
-      f (kept.place_at then j) ≡ g (cell_of left (message_name j))
+  told_then : (f : Place → Bool) (g : Option Cell → Bool) → ((j : ℕ) → f (kept.left_place c (kept.place_at s j)) ≡ cond
+      (is_queued (kept.place_at s j) && is_from c (sent_by (holds s j) (kept.place_at s j))) false (f (kept.place_at s j))) →
+      ((x : Cell) (v : Service) → g (Some (record x { service = v })) ≡ g (Some x)) → g None ≡ false → ((j : ℕ) (x : Option Cell) →
+      cell_of cs (message_name j) ≡ x → f (kept.place_at s j) ≡ g x) → (j : ℕ) → f (kept.place_at then j) ≡ g (cell_of left (message_name j))
   told_then f g leaves plain none told j = grind (arith, nat_tests, place_then j, cell_of, cell_then, none_goes, sender_told j None, goes_so j)
 
   waits_then : (j : ℕ) → is_queued (kept.place_at then j) ≡ waits_in (owner_of left (message_name j))
-  waits_then j = told_then is_queued (λ x. waits_in (owner_in x)) (λ j. queued_left c (holds s j) (kept.place_at s j)) (λ x v. refl) refl waits_told j ∙ sym (ap waits_in (owner_cell left (message_name j)))
+  waits_then j = told_then is_queued (λ x. waits_in (owner_in x)) (λ j. queued_left c (holds s j) (kept.place_at s j)) (λ x v. refl) refl waits_told j
+      ∙ sym (ap waits_in (owner_cell left (message_name j)))
 
   out_then : (d j : ℕ) → is_among j (kept.sent_at then d) ≡ true → is_out_of d (kept.place_at then j) ≡ true
   out_then d j h = grind (arith, nat_tests, among_then d j, place_then j, same.out d j, left_out c)
 
   silent_then : (n d : ℕ) → n < 4096 → holds_slot d (service_of left n).sender ≡ false
-  silent_then n d small = ap (λ (v : Service). holds_slot d v.sender) (service_then n) ∙ slot_then c d (cell_of cs n) (sym (ap (λ (v : Service). holds_slot d v.sender) (service_cell cs n)) ∙ same.silent n d small)
+  silent_then n d small = ap (λ (v : Service). holds_slot d v.sender) (service_then n)
+      ∙ slot_then c d (cell_of cs n) (sym (ap (λ (v : Service). holds_slot d v.sender) (service_cell cs n)) ∙ same.silent n d small)
 
   slotted_then : (j d : ℕ) → kept.place_at then j ≡ Queued d → is_among j (kept.sent_at then d) ≡ true
   slotted_then j d e = grind (arith, nat_tests, left_queued c, place_then j, among_then d j, swapped d c)

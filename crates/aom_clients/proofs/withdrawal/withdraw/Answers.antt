@@ -26,8 +26,8 @@ loop-place-preserved c =
       queues = queues-drained t u c.args.list m d c.loop-place.queues c.remove.new.self c.remove.ensures.removed ∙ c.loop-place.invariant.queues;
       places = ap (left_each (list_at u c.args.list)) left ∙ places-drained t u c.args.list m d pl (closed_place (place pl m)) refl ∙ c.loop-place.invariant.places;
       freed = ap (λ ps. c.note.new.freed.items ++ waiting_each (list_at u c.args.list) ps) left
-          ∙ freed-drained t u c.args.list m d pl c.leave-was.result (closed_place (place pl m)) c.loop-place.freed.items c.note.new.freed.items c.leave-was.ensures.was (ap closed_place (sym c.leave-was.ensures.was)) c.note.ensures
-          ∙ c.loop-place.invariant.freed;
+          ∙ freed-drained t u c.args.list m d pl c.leave-was.result (closed_place (place pl m)) c.loop-place.freed.items
+          c.note.new.freed.items c.leave-was.ensures.was (ap closed_place (sym c.leave-was.ensures.was)) c.note.ensures ∙ c.loop-place.invariant.freed;
     }
 
 pub returns-clause-freed : goal.returns-clause-freed

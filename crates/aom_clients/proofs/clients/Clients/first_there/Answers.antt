@@ -41,7 +41,8 @@ loop-next-preserved c =
     record {
       inside = λ d e. after-in c.in-Some.client d xs (sym next ∙ e);
       below = λ d e. subst (λ o. IfSome o (λ k. k < 64)) e c.next_session-next.ensures.below;
-      rest = ap (λ o. first_there s (from o xs)) next ∙ sym (looked s c.in-Some.client xs once (c.loop-next.invariant.inside c.in-Some.client c.in-Some.is) none) ∙ ap (λ o. first_there s (from o xs)) (sym c.in-Some.is) ∙ c.loop-next.invariant.rest;
+      rest = ap (λ o. first_there s (from o xs)) next ∙ sym (looked s c.in-Some.client xs once (c.loop-next.invariant.inside c.in-Some.client c.in-Some.is)
+          none) ∙ ap (λ o. first_there s (from o xs)) (sym c.in-Some.is) ∙ c.loop-next.invariant.rest;
     }
 
 pub first_session-next-requires : goal.first_session-next-requires

@@ -14,16 +14,17 @@ use Rattle.aom_clients.proofs.Steps.{client-is}
 use Rattle.aom_clients.proofs.Answering.{all-in}
 
 pub withdraw_all-freed-requires-clause-within : goal.withdraw_all-freed-requires-clause-within
-withdraw_all-freed-requires-clause-within c =
-    λ m i. subst (λ (ps : List Place). m < length ps) (sym c.deref_mut.ensures.value) (sent-below _ _ _ _ _ _ c.self.invariant _ c.self.view_is c.args.client c.args.next c.requires.client c.requires.next m i)
+withdraw_all-freed-requires-clause-within c = λ m i. subst (λ (ps : List Place). m < length ps)
+    (sym c.deref_mut.ensures.value) (sent-below _ _ _ _ _ _ c.self.invariant _ c.self.view_is c.args.client c.args.next c.requires.client c.requires.next m i)
 
 pub withdraw_all-freed-requires-clause-past : goal.withdraw_all-freed-requires-clause-past
-withdraw_all-freed-requires-clause-past c =
-    λ m i. subst (λ (ps : List Place). m < length ps) (sym c.deref_mut.ensures.value) (past-below _ _ _ _ _ _ c.self.invariant _ c.self.view_is c.args.client c.args.next c.requires.client c.requires.next m i)
+withdraw_all-freed-requires-clause-past c = λ m i. subst (λ (ps : List Place). m < length ps)
+    (sym c.deref_mut.ensures.value) (past-below _ _ _ _ _ _ c.self.invariant _ c.self.view_is c.args.client c.args.next c.requires.client c.requires.next m i)
 
 pub queue_close-requires : goal.queue_close-requires
 queue_close-requires c = subst (CanClose c.client-was.result c.args.client) (sym c.withdraw_all-freed.ensures.queues)
-    (can-close _ _ _ _ _ _ c.self.invariant _ c.self.view_is c.args.client c.args.next c.requires.client c.requires.next c.client-was.result (client-is _ _ _ _ _ _ c.self.invariant _ c.self.view_is c.args.client ∙ sym c.client-was.ensures.value))
+    (can-close _ _ _ _ _ _ c.self.invariant _ c.self.view_is c.args.client c.args.next c.requires.client c.requires.next c.client-was.result
+    (client-is _ _ _ _ _ _ c.self.invariant _ c.self.view_is c.args.client ∙ sym c.client-was.ensures.value))
 
 pub invariant_of-self : goal.invariant_of-self
 invariant_of-self c =

@@ -6,24 +6,28 @@ use Rattle.aom_clients.proofs.Steps.{cell}
 use Rattle.aom_clients.proofs.clients.Clients.next.Goals as goal
 
 pub returns-clause-taken : goal.returns-clause-taken
-returns-clause-taken c = (served _ _ _ _ _ _ c.self.invariant _ c.self.view_is c.args.server c.requires _ c.take-taken.ensures.rest _ _ c.take-taken.ensures.taken c.deref.ensures.value c.take-taken.ensures.below c.take-taken.ensures.free).told
+returns-clause-taken c = (served _ _ _ _ _ _ c.self.invariant _ c.self.view_is c.args.server
+    c.requires _ c.take-taken.ensures.rest _ _ c.take-taken.ensures.taken c.deref.ensures.value c.take-taken.ensures.below c.take-taken.ensures.free).told
 
 pub returns-clause-below : goal.returns-clause-below
-returns-clause-below c = (served _ _ _ _ _ _ c.self.invariant _ c.self.view_is c.args.server c.requires _ c.take-taken.ensures.rest _ _ c.take-taken.ensures.taken c.deref.ensures.value c.take-taken.ensures.below c.take-taken.ensures.free).numbered
+returns-clause-below c = (served _ _ _ _ _ _ c.self.invariant _ c.self.view_is c.args.server
+    c.requires _ c.take-taken.ensures.rest _ _ c.take-taken.ensures.taken c.deref.ensures.value c.take-taken.ensures.below c.take-taken.ensures.free).numbered
 
 pub invariant_of-self : goal.invariant_of-self
 invariant_of-self c =
     let v = c.self.inside.places in
     let places = written v.len v.items _ c.hold.new.places v.ok.0 c.hold.auto.places c.deref_mut.ensures.value ∙ c.hold.ensures ∙ ap (if_taken held_by c.take-taken.result) c.deref_mut.ensures.value in
     kept-as _ _ _ _ _ _ _ _ _ _ _ _ refl places refl c.take-taken.ensures.listed refl refl
-    (served _ _ _ _ _ _ c.self.invariant _ c.self.view_is c.args.server c.requires _ c.take-taken.ensures.rest _ _ c.take-taken.ensures.taken c.deref.ensures.value c.take-taken.ensures.below c.take-taken.ensures.free).kept
+    (served _ _ _ _ _ _ c.self.invariant _ c.self.view_is c.args.server
+    c.requires _ c.take-taken.ensures.rest _ _ c.take-taken.ensures.taken c.deref.ensures.value c.take-taken.ensures.below c.take-taken.ensures.free).kept
 
 pub returns-clause-after : goal.returns-clause-after
 returns-clause-after c =
     let v = c.self.inside.places in
     let places = written v.len v.items _ c.hold.new.places v.ok.0 c.hold.auto.places c.deref_mut.ensures.value ∙ c.hold.ensures ∙ ap (if_taken held_by c.take-taken.result) c.deref_mut.ensures.value in
     state-as _ _ _ _ _ c.take-taken.new.queues _ c.self.inside.sessions _ c.self.inside.sent refl places refl refl refl
-    ∙ (served _ _ _ _ _ _ c.self.invariant _ c.self.view_is c.args.server c.requires _ c.take-taken.ensures.rest _ _ c.take-taken.ensures.taken c.deref.ensures.value c.take-taken.ensures.below c.take-taken.ensures.free).seen
+    ∙ (served _ _ _ _ _ _ c.self.invariant _ c.self.view_is c.args.server
+    c.requires _ c.take-taken.ensures.rest _ _ c.take-taken.ensures.taken c.deref.ensures.value c.take-taken.ensures.below c.take-taken.ensures.free).seen
 
 pub take-taken-requires-clause-queue : goal.take-taken-requires-clause-queue
 take-taken-requires-clause-queue c = cell _ _ _ _ _ _ c.self.invariant _ c.self.view_is c.args.server c.requires
@@ -40,4 +44,5 @@ take-taken-requires-clause-places c = ap length c.deref.ensures.value ∙ c.self
 
 pub hold-requires : goal.hold-requires
 hold-requires c = message-below _ _ (sym (ap length c.deref_mut.ensures.value ∙ c.self.invariant.sized.places_long))
-    (served _ _ _ _ _ _ c.self.invariant _ c.self.view_is c.args.server c.requires _ c.take-taken.ensures.rest _ _ c.take-taken.ensures.taken c.deref.ensures.value c.take-taken.ensures.below c.take-taken.ensures.free).numbered
+    (served _ _ _ _ _ _ c.self.invariant _ c.self.view_is c.args.server c.requires
+    _ c.take-taken.ensures.rest _ _ c.take-taken.ensures.taken c.deref.ensures.value c.take-taken.ensures.below c.take-taken.ensures.free).numbered

@@ -9,28 +9,37 @@ pub invariant_of-self : goal.invariant_of-self
 invariant_of-self c =
     let v = c.self.inside.places in
     let w = c.self.inside.clients in
-    let places = written v.len v.items _ c.free_place.new.places v.ok.0 c.free_place.auto.places c.deref_mut-2.ensures.value ∙ c.free_place.ensures ∙ ap (if_taken place_freed c.take-taken.result) c.deref_mut-2.ensures.value in
-    let clients = written w.len w.items _ c.give_up.new.clients w.ok.0 c.give_up.auto.clients c.deref_mut.ensures.value ∙ c.give_up.ensures ∙ ap (if_taken given_up c.take-taken.result) c.deref_mut.ensures.value in
+    let places = written v.len v.items _ c.free_place.new.places v.ok.0 c.free_place.auto.places c.deref_mut-2.ensures.value
+    ∙ c.free_place.ensures ∙ ap (if_taken place_freed c.take-taken.result) c.deref_mut-2.ensures.value in
+    let clients = written w.len w.items _ c.give_up.new.clients w.ok.0 c.give_up.auto.clients c.deref_mut.ensures.value
+    ∙ c.give_up.ensures ∙ ap (if_taken given_up c.take-taken.result) c.deref_mut.ensures.value in
     kept-as _ _ _ _ _ _ _ _ _ _ _ _ clients places refl c.take-taken.ensures.listed refl c.free_slot.ensures
-    (served _ _ _ _ _ _ c.self.invariant _ c.self.view_is c.args.server c.requires _ c.take-taken.ensures.rest _ _ c.take-taken.ensures.taken c.deref.ensures.value c.take-taken.ensures.below c.take-taken.ensures.free).gone_kept
+    (served _ _ _ _ _ _ c.self.invariant _ c.self.view_is c.args.server c.requires
+    _ c.take-taken.ensures.rest _ _ c.take-taken.ensures.taken c.deref.ensures.value c.take-taken.ensures.below c.take-taken.ensures.free).gone_kept
 
 pub returns-clause-taken : goal.returns-clause-taken
-returns-clause-taken c = (served _ _ _ _ _ _ c.self.invariant _ c.self.view_is c.args.server c.requires _ c.take-taken.ensures.rest _ _ c.take-taken.ensures.taken c.deref.ensures.value c.take-taken.ensures.below c.take-taken.ensures.free).told
+returns-clause-taken c = (served _ _ _ _ _ _ c.self.invariant _ c.self.view_is c.args.server
+    c.requires _ c.take-taken.ensures.rest _ _ c.take-taken.ensures.taken c.deref.ensures.value c.take-taken.ensures.below c.take-taken.ensures.free).told
 
 pub returns-clause-after : goal.returns-clause-after
 returns-clause-after c =
     let v = c.self.inside.places in
     let w = c.self.inside.clients in
-    let places = written v.len v.items _ c.free_place.new.places v.ok.0 c.free_place.auto.places c.deref_mut-2.ensures.value ∙ c.free_place.ensures ∙ ap (if_taken place_freed c.take-taken.result) c.deref_mut-2.ensures.value in
-    let clients = written w.len w.items _ c.give_up.new.clients w.ok.0 c.give_up.auto.clients c.deref_mut.ensures.value ∙ c.give_up.ensures ∙ ap (if_taken given_up c.take-taken.result) c.deref_mut.ensures.value in
+    let places = written v.len v.items _ c.free_place.new.places v.ok.0 c.free_place.auto.places c.deref_mut-2.ensures.value
+    ∙ c.free_place.ensures ∙ ap (if_taken place_freed c.take-taken.result) c.deref_mut-2.ensures.value in
+    let clients = written w.len w.items _ c.give_up.new.clients w.ok.0 c.give_up.auto.clients c.deref_mut.ensures.value
+    ∙ c.give_up.ensures ∙ ap (if_taken given_up c.take-taken.result) c.deref_mut.ensures.value in
     state-as _ _ _ _ _ c.take-taken.new.queues _ c.self.inside.sessions _ c.free_slot.new.sent clients places refl refl c.free_slot.ensures
-    ∙ (served _ _ _ _ _ _ c.self.invariant _ c.self.view_is c.args.server c.requires _ c.take-taken.ensures.rest _ _ c.take-taken.ensures.taken c.deref.ensures.value c.take-taken.ensures.below c.take-taken.ensures.free).gone_seen
+    ∙ (served _ _ _ _ _ _ c.self.invariant _ c.self.view_is c.args.server c.requires
+    _ c.take-taken.ensures.rest _ _ c.take-taken.ensures.taken c.deref.ensures.value c.take-taken.ensures.below c.take-taken.ensures.free).gone_seen
 
 pub returns-clause-below : goal.returns-clause-below
-returns-clause-below c = (served _ _ _ _ _ _ c.self.invariant _ c.self.view_is c.args.server c.requires _ c.take-taken.ensures.rest _ _ c.take-taken.ensures.taken c.deref.ensures.value c.take-taken.ensures.below c.take-taken.ensures.free).numbered
+returns-clause-below c = (served _ _ _ _ _ _ c.self.invariant _ c.self.view_is c.args.server
+    c.requires _ c.take-taken.ensures.rest _ _ c.take-taken.ensures.taken c.deref.ensures.value c.take-taken.ensures.below c.take-taken.ensures.free).numbered
 
 pub returns-clause-empty : goal.returns-clause-empty
-returns-clause-empty c = (served _ _ _ _ _ _ c.self.invariant _ c.self.view_is c.args.server c.requires _ c.take-taken.ensures.rest _ _ c.take-taken.ensures.taken c.deref.ensures.value c.take-taken.ensures.below c.take-taken.ensures.free).drained
+returns-clause-empty c = (served _ _ _ _ _ _ c.self.invariant _ c.self.view_is c.args.server
+    c.requires _ c.take-taken.ensures.rest _ _ c.take-taken.ensures.taken c.deref.ensures.value c.take-taken.ensures.below c.take-taken.ensures.free).drained
 
 pub take-taken-requires-clause-queue : goal.take-taken-requires-clause-queue
 take-taken-requires-clause-queue c = cell _ _ _ _ _ _ c.self.invariant _ c.self.view_is c.args.server c.requires
@@ -46,10 +55,11 @@ pub take-taken-requires-clause-places : goal.take-taken-requires-clause-places
 take-taken-requires-clause-places c = ap length c.deref.ensures.value ∙ c.self.invariant.sized.places_long
 
 pub give_up-requires : goal.give_up-requires
-give_up-requires c =
-    let taken = (served _ _ _ _ _ _ c.self.invariant _ c.self.view_is c.args.server c.requires _ c.take-taken.ensures.rest _ _ c.take-taken.ensures.taken c.deref.ensures.value c.take-taken.ensures.below c.take-taken.ensures.free) in
+give_up-requires c = let taken = (served _ _ _ _ _ _ c.self.invariant _ c.self.view_is c.args.server
+    c.requires _ c.take-taken.ensures.rest _ _ c.take-taken.ensures.taken c.deref.ensures.value c.take-taken.ensures.below c.take-taken.ensures.free) in
     connect-below c.args.self.now _ _ _ (sym (ap length c.deref_mut.ensures.value ∙ c.self.invariant.sized.clients_long)) taken.told taken.numbered
 
 pub free_place-requires : goal.free_place-requires
 free_place-requires c = message-below _ _ (sym (ap length c.deref_mut-2.ensures.value ∙ c.self.invariant.sized.places_long))
-    (served _ _ _ _ _ _ c.self.invariant _ c.self.view_is c.args.server c.requires _ c.take-taken.ensures.rest _ _ c.take-taken.ensures.taken c.deref.ensures.value c.take-taken.ensures.below c.take-taken.ensures.free).numbered
+    (served _ _ _ _ _ _ c.self.invariant _ c.self.view_is c.args.server c.requires
+    _ c.take-taken.ensures.rest _ _ c.take-taken.ensures.taken c.deref.ensures.value c.take-taken.ensures.below c.take-taken.ensures.free).numbered

@@ -45,7 +45,8 @@ invariant_of-self-2 c =
     let clients : slice_set cl d c.at_gone.result ≡ slice_set cl d (at_gone (slice_index_or cl d Unconnected)) =
     ap (slice_set cl d) (c.at_gone.ensures ∙ ap at_gone (get_or_read cl d c.index.result.now small c.index.ensures Unconnected)) in
     kept-as _ _ _ _ _ _ _ _ _ _ _ _ clients refl refl refl c.take_first.ensures.rest c.release.ensures
-    (session-gone-kept _ _ _ _ _ _ c.self.invariant _ c.self.view_is c.args.server _ c.requires.server c.requires.empty c.in_ok-client.ensures.first _ c.take_first.ensures.rest c.in_ok-client.ensures.free)
+    (session-gone-kept _ _ _ _ _ _ c.self.invariant _
+    c.self.view_is c.args.server _ c.requires.server c.requires.empty c.in_ok-client.ensures.first _ c.take_first.ensures.rest c.in_ok-client.ensures.free)
 
 pub returns-clause-after : goal.returns-clause-after
 returns-clause-after c =
@@ -55,7 +56,8 @@ returns-clause-after c =
     let clients : slice_set cl d c.at_gone.result ≡ slice_set cl d (at_gone (slice_index_or cl d Unconnected)) =
     ap (slice_set cl d) (c.at_gone.ensures ∙ ap at_gone (get_or_read cl d c.index.result.now small c.index.ensures Unconnected)) in
     state-as _ _ _ _ _ c.self.inside.queues _ c.take_first.new.self _ c.release.new.sent clients refl refl c.take_first.ensures.rest c.release.ensures
-    ∙ session-gone-seen _ _ _ _ _ _ c.self.invariant _ c.self.view_is c.args.server _ c.requires.server c.requires.empty c.in_ok-client.ensures.first _ c.take_first.ensures.rest c.in_ok-client.ensures.free
+    ∙ session-gone-seen _ _ _ _ _ _ c.self.invariant
+    _ c.self.view_is c.args.server _ c.requires.server c.requires.empty c.in_ok-client.ensures.first _ c.take_first.ensures.rest c.in_ok-client.ensures.free
 
 pub returns-clause-below : goal.returns-clause-below
 returns-clause-below c =
