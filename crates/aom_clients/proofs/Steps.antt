@@ -66,15 +66,39 @@ is-with k Unconnected e = absurd (nothing k e)
 is-with k (Connecting j n) e = absurd (nothing k e)
 is-with k (Open j s n) e =
     let same : j ≡ k = same_Some j k e in
-    record { connecting = λ i h. false-true h; leaving = λ i h. absurd (false-true h); opened = λ i h. sym (eqb-true j i h) ∙ same; named = e; gone = refl; unnamed = λ i h. nothing i h; slots = omega arith }
+    record {
+      connecting = λ i h. false-true h;
+      leaving = λ i h. absurd (false-true h);
+      opened = λ i h. sym (eqb-true j i h) ∙ same;
+      named = e;
+      gone = refl;
+      unnamed = λ i h. nothing i h;
+      slots = omega arith;
+    }
 is-with k (Closing j s) e =
     let same : j ≡ k = same_Some j k e in
-    record { connecting = λ i h. false-true h; leaving = λ i h. sym (eqb-true j i h) ∙ same; opened = λ i h. absurd (false-true h); named = e; gone = refl; unnamed = λ i h. nothing i h; slots = omega arith }
+    record {
+      connecting = λ i h. false-true h;
+      leaving = λ i h. sym (eqb-true j i h) ∙ same;
+      opened = λ i h. absurd (false-true h);
+      named = e;
+      gone = refl;
+      unnamed = λ i h. nothing i h;
+      slots = omega arith;
+    }
 is-with k Gone e = absurd (nothing k e)
 is-with k Dead e = absurd (nothing k e)
 is-with k (Dying j s) e =
     let same : j ≡ k = same_Some j k e in
-    record { connecting = λ i h. false-true h; leaving = λ i h. sym (eqb-true j i h) ∙ same; opened = λ i h. absurd (false-true h); named = e; gone = refl; unnamed = λ i h. nothing i h; slots = omega arith }
+    record {
+      connecting = λ i h. false-true h;
+      leaving = λ i h. sym (eqb-true j i h) ∙ same;
+      opened = λ i h. absurd (false-true h);
+      named = e;
+      gone = refl;
+      unnamed = λ i h. nothing i h;
+      slots = omega arith;
+    }
 
 pub open-named : (k : ℕ) (x : Client) → is_open_at k x ≡ true → named_by x ≡ Some k
 open-named k (Open j s n) e = ap Some (eqb-true j k e)

@@ -81,7 +81,13 @@ requests_beside p a cs ds b queues same = grind (arith, nat_tests, requests_as p
 -- ---- what clients have at a cell changes
 
 pub beside_served : (cs : List Cell) (n : ℕ) (v : Service) → Beside cs (set_service n v cs)
-beside_served cs n v = record { names = λ k. inl (named_served cs n v k); requests = requested_served cs n v; words = λ k w small. words cs k w; count = counts cs; sessions = λ k. inl (sessions cs k) }
+beside_served cs n v = record {
+  names = λ k. inl (named_served cs n v k);
+  requests = requested_served cs n v;
+  words = λ k w small. words cs k w;
+  count = counts cs;
+  sessions = λ k. inl (sessions cs k);
+}
   where
     words : (cs : List Cell) (k w : ℕ) → word_field (set_service n v cs) k w ≡ word_field cs k w
     words [] k w = refl
@@ -126,7 +132,11 @@ module _ (drops : Cell → Bool) (f : Cell → Service) (cs : List Cell) (tidy :
       at x e false d = inl (now (Some x) e ∙ ap (λ b. object_in (cond b None (Some (record x { service = f x })))) d ∙ sym (was (Some x) e))
       at x e true d =
           let m = messages n x e d in
-          inr (ap thing_of (now (Some x) e ∙ ap (λ b. object_in (cond b None (Some (record x { service = f x })))) d), ap thing_of (was (Some x) e) ∙ ap (λ b. cond b (Some x.object.thing) None) m.1, requested_cell cs n ∙ ap request_in e ∙ m.2)
+          inr (
+            ap thing_of (now (Some x) e ∙ ap (λ b. object_in (cond b None (Some (record x { service = f x })))) d),
+            ap thing_of (was (Some x) e) ∙ ap (λ b. cond b (Some x.object.thing) None) m.1,
+            requested_cell cs n ∙ ap request_in e ∙ m.2,
+          )
 
       go : (x : Option Cell) → cell_of cs n ≡ x → NamedBeside cs ds n
       go None e = inl (now None e ∙ sym (was None e))

@@ -115,8 +115,12 @@ module _ (drops : Cell → Bool) (f : Cell → Service) where
 
           goes : (j : ℕ) → is_among j ms ≡ true → (y : Cell) × (cell_of (without x.owner cs) (message_name j) ≡ Some y) × (drops y ≡ true) × (is_object y.object.thing ≡ false)
           goes j h =
-              let y = forgets.goes j (later (m == j) (is_among j ms) h) in
-              (y.0, cell_without cs x.owner (message_name j) tidy ∙ ap (left_cell (λ c. same_place c.owner x.owner) (λ c. c.service)) y.1 ∙ ap (λ b. cond b None (Some y.0)) (elsewhere j y.0 y.1 (apart j h)), y.2, y.3)
+              let y = forgets.goes j (later (m == j) (is_among j ms) h) in (
+                y.0,
+                cell_without cs x.owner (message_name j) tidy ∙ ap (left_cell (λ c. same_place c.owner x.owner) (λ c. c.service)) y.1 ∙ ap (λ b. cond b None (Some y.0)) (elsewhere j y.0 y.1 (apart j h)),
+                y.2,
+                y.3,
+              )
             where
               later : (a b : Bool) → b ≡ true → (a || b) ≡ true
               later true b h = refl

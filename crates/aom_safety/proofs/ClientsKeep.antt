@@ -53,7 +53,18 @@ use Rattle.aom_roles.specs.Tests.{AllTrue}
 
 boot_kept : (p : Image) → IsFit p (boot_state p)
 boot_kept p = record {
-  fit = record { queues = λ n. tt; sessions = λ n c h. cc; listed = λ n c h. cc; servers = λ o h plain. cc; names = λ n m o h. cc; senders = λ n c m h. cc; sources = λ o h. cc; served = λ o h. cc; seats = λ o h. cc; enlisted = λ o h e. cc };
+  fit = record {
+    queues = λ n. tt;
+    sessions = λ n c h. cc;
+    listed = λ n c h. cc;
+    servers = λ o h plain. cc;
+    names = λ n m o h. cc;
+    senders = λ n c m h. cc;
+    sources = λ o h. cc;
+    served = λ o h. cc;
+    seats = λ o h. cc;
+    enlisted = λ o h e. cc;
+  };
   stage = stage (main_of p);
 }
   where
@@ -206,7 +217,11 @@ module _ (p : Image) (t : Typing) (wired : IsWired p) (c : Choice) (s : State) (
     returns_kept g a =
         let still = steady_ended p fr s.cells in
         return_kept p fr ts (record (counted p s) { cells = ended_cells p fr s.cells }) (fit_steady p s.clients s.cells (ended_cells p fr s.cells) still kept.fit) g a ts
-        (λ x d at. let l = there (Run fr ∷ ts) tasks x d Accepts at in ((ended_alike p fr s.cells).named_so x.object.name ∙ l.0, l.1, stays_listed (requested s.cells x.object.name) (requested (ended_cells p fr s.cells) x.object.name) (still.carried.enlisted x.object ((ended_alike p fr s.cells).named_so x.object.name ∙ l.0)) l.2))
+        (λ x d at. let l = there (Run fr ∷ ts) tasks x d Accepts at in (
+          (ended_alike p fr s.cells).named_so x.object.name ∙ l.0,
+          l.1,
+          stays_listed (requested s.cells x.object.name) (requested (ended_cells p fr s.cells) x.object.name) (still.carried.enlisted x.object ((ended_alike p fr s.cells).named_so x.object.name ∙ l.0)) l.2,
+        ))
         tasks (tasks_steady p s.clients s.cells (ended_cells p fr s.cells) still ts stage_below) (tasks_steady p s.clients s.cells (ended_cells p fr s.cells) still ts stage_below)
 
     act_kept : (i : Instr) → AllTrue (needs p c fr ts (counted p s) i) → IsFit p (applied p fr ts (counted p s) (effect p c fr ts (counted p s) i))

@@ -192,7 +192,10 @@ module _ (p : Image) (t : Typing) (wired : IsWired p) (s : State) (w : WellTyped
         let session = goes_some o (λ o. attended p x c o m (taken_from n s)) NullOrDead u refl e in
         let method = goes_some (part_of p Attends_role session.0.thing) (λ k. attending k x c session.0 m (taken_from n s)) WrongKind u refl session.2 in
         subst (λ v. IsFit p v) (goes_same _ u method.2)
-        (record { fit = fit_moved p s.clients cs (Elsewhere (Queued n m)) (Elsewhere In_service) (empty_now (Elsewhere In_service) refl) (λ i j. refl) (λ b. first_sent p s.clients s.cells x.object there c m es queue kept.fit) (taken (Message_of c m) es queue); stage = tt })
+        (record {
+          fit = fit_moved p s.clients cs (Elsewhere (Queued n m)) (Elsewhere In_service) (empty_now (Elsewhere In_service) refl) (λ i j. refl) (λ b. first_sent p s.clients s.cells x.object there c m es queue kept.fit) (taken (Message_of c m) es queue);
+          stage = tt;
+        })
 
     close_kept : (c : ℕ) (es : List Asked) → (service_of s.cells n).queue ≡ Close_of c ∷ es → (o : Option Object) → parting_with p x c o (taken_from n s) ≡ Goes u → IsFit p u
     close_kept c es queue o e =

@@ -16,7 +16,12 @@ loop-place-preserved c =
     let d = drained c.loop-place.sent u c.args.list c.in-Some.place c.loop-place.invariant.list c.in-Some.ensures.first c.take_first.ensures.rest in
     record {
       list = d.listed;
-      within = λ m i. omega (arith, c.loop-place.invariant.within m (tail-in _ _ _ _ d m i), ap length c.leave.ensures.left, length-set c.loop-place.places c.in-Some.place (closed_place (place c.loop-place.places c.in-Some.place)));
+      within = λ m i. omega (
+        arith,
+        c.loop-place.invariant.within m (tail-in _ _ _ _ d m i),
+        ap length c.leave.ensures.left,
+        length-set c.loop-place.places c.in-Some.place (closed_place (place c.loop-place.places c.in-Some.place)),
+      );
       sent = d.emptied ∙ c.loop-place.invariant.sent;
       places = ap (left_each (list_at u c.args.list)) c.leave.ensures.left
           ∙ places-drained _ _ _ _ d c.loop-place.places (closed_place (place c.loop-place.places c.in-Some.place)) refl ∙ c.loop-place.invariant.places;

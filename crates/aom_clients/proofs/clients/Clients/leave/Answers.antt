@@ -55,5 +55,9 @@ pub returns-clause-below : goal.returns-clause-below
 returns-clause-below c =
     let xs = list_at c.self.inside.sent c.args.client in
     let below : All (λ m. m < 1024) xs =
-    all-in (λ m. m < 1024) xs (λ m i. omega (arith, sent-below _ _ _ _ _ _ c.self.invariant _ c.self.view_is c.args.client c.args.next c.requires.client c.requires.next m i, c.self.invariant.sized.places_long)) in
+    all-in (λ m. m < 1024) xs (λ m i. omega (
+      arith,
+      sent-below _ _ _ _ _ _ c.self.invariant _ c.self.view_is c.args.client c.args.next c.requires.client c.requires.next m i,
+      c.self.invariant.sized.places_long,
+    )) in
     subst (All (λ m. m < 1024)) (sym c.withdraw_all-freed.ensures.freed) (All-filter (λ m. is_queued (slice_index_or c.deref_mut.result.now m Free)) (λ m. m < 1024) xs below)

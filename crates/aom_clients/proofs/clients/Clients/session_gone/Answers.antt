@@ -23,7 +23,10 @@ returns-in_err-client-clause-after c =
 
 pub overflow_cast-client : goal.overflow_cast-client
 overflow_cast-client c =
-    omega (arith, session-below _ _ _ _ _ _ c.self.invariant _ c.self.view_is c.args.server _ c.requires.server c.requires.empty c.in_ok-client.ensures.first _ c.take_first.ensures.rest c.in_ok-client.ensures.free)
+    omega (
+      arith,
+      session-below _ _ _ _ _ _ c.self.invariant _ c.self.view_is c.args.server _ c.requires.server c.requires.empty c.in_ok-client.ensures.first _ c.take_first.ensures.rest c.in_ok-client.ensures.free,
+    )
 
 pub release-requires-clause-client : goal.release-requires-clause-client
 release-requires-clause-client c =
@@ -31,17 +34,31 @@ release-requires-clause-client c =
 
 pub index-requires : goal.index-requires
 index-requires c =
-    omega (arith, session-below _ _ _ _ _ _ c.self.invariant _ c.self.view_is c.args.server _ c.requires.server c.requires.empty c.in_ok-client.ensures.first _ c.take_first.ensures.rest c.in_ok-client.ensures.free, c.self.invariant.sized.clients_long, c.self.inside.clients.ok.0)
+    omega (
+      arith,
+      session-below _ _ _ _ _ _ c.self.invariant _ c.self.view_is c.args.server _ c.requires.server c.requires.empty c.in_ok-client.ensures.first _ c.take_first.ensures.rest c.in_ok-client.ensures.free,
+      c.self.invariant.sized.clients_long,
+      c.self.inside.clients.ok.0,
+    )
 
 pub index_mut-requires : goal.index_mut-requires
 index_mut-requires c =
-    omega (arith, session-below _ _ _ _ _ _ c.self.invariant _ c.self.view_is c.args.server _ c.requires.server c.requires.empty c.in_ok-client.ensures.first _ c.take_first.ensures.rest c.in_ok-client.ensures.free, c.self.invariant.sized.clients_long, c.self.inside.clients.ok.0)
+    omega (
+      arith,
+      session-below _ _ _ _ _ _ c.self.invariant _ c.self.view_is c.args.server _ c.requires.server c.requires.empty c.in_ok-client.ensures.first _ c.take_first.ensures.rest c.in_ok-client.ensures.free,
+      c.self.invariant.sized.clients_long,
+      c.self.inside.clients.ok.0,
+    )
 
 pub invariant_of-self-2 : goal.invariant_of-self-2
 invariant_of-self-2 c =
     let cl = c.self.inside.clients.items in
     let d = c.in_ok-client.field-0 in
-    let small : d < length cl = omega (arith, session-below _ _ _ _ _ _ c.self.invariant _ c.self.view_is c.args.server _ c.requires.server c.requires.empty c.in_ok-client.ensures.first _ c.take_first.ensures.rest c.in_ok-client.ensures.free, c.self.invariant.sized.clients_long) in
+    let small : d < length cl = omega (
+      arith,
+      session-below _ _ _ _ _ _ c.self.invariant _ c.self.view_is c.args.server _ c.requires.server c.requires.empty c.in_ok-client.ensures.first _ c.take_first.ensures.rest c.in_ok-client.ensures.free,
+      c.self.invariant.sized.clients_long,
+    ) in
     let clients : slice_set cl d c.at_gone.result ≡ slice_set cl d (at_gone (slice_index_or cl d Unconnected)) =
     ap (slice_set cl d) (c.at_gone.ensures ∙ ap at_gone (get_or_read cl d c.index.result.now small c.index.ensures Unconnected)) in
     kept-as _ _ _ _ _ _ _ _ _ _ _ _ clients refl refl refl c.take_first.ensures.rest c.release.ensures
@@ -52,7 +69,11 @@ pub returns-clause-after : goal.returns-clause-after
 returns-clause-after c =
     let cl = c.self.inside.clients.items in
     let d = c.in_ok-client.field-0 in
-    let small : d < length cl = omega (arith, session-below _ _ _ _ _ _ c.self.invariant _ c.self.view_is c.args.server _ c.requires.server c.requires.empty c.in_ok-client.ensures.first _ c.take_first.ensures.rest c.in_ok-client.ensures.free, c.self.invariant.sized.clients_long) in
+    let small : d < length cl = omega (
+      arith,
+      session-below _ _ _ _ _ _ c.self.invariant _ c.self.view_is c.args.server _ c.requires.server c.requires.empty c.in_ok-client.ensures.first _ c.take_first.ensures.rest c.in_ok-client.ensures.free,
+      c.self.invariant.sized.clients_long,
+    ) in
     let clients : slice_set cl d c.at_gone.result ≡ slice_set cl d (at_gone (slice_index_or cl d Unconnected)) =
     ap (slice_set cl d) (c.at_gone.ensures ∙ ap at_gone (get_or_read cl d c.index.result.now small c.index.ensures Unconnected)) in
     state-as _ _ _ _ _ c.self.inside.queues _ c.take_first.new.self _ c.release.new.sent clients refl refl c.take_first.ensures.rest c.release.ensures
