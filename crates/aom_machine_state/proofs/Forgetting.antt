@@ -117,7 +117,8 @@ module _ (drops : Cell → Bool) (f : Cell → Service) where
           goes j h =
               let y = forgets.goes j (later (m == j) (is_among j ms) h) in (
                 y.0,
-                cell_without cs x.owner (message_name j) tidy ∙ ap (left_cell (λ c. same_place c.owner x.owner) (λ c. c.service)) y.1 ∙ ap (λ b. cond b None (Some y.0)) (elsewhere j y.0 y.1 (apart j h)),
+                cell_without cs x.owner (message_name j) tidy ∙ ap (left_cell (λ c. same_place c.owner x.owner) (λ c. c.service)) y.1 ∙ ap
+                    (λ b. cond b None (Some y.0)) (elsewhere j y.0 y.1 (apart j h)),
                 y.2,
                 y.3,
               )

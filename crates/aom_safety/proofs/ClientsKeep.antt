@@ -220,7 +220,8 @@ module _ (p : Image) (t : Typing) (wired : IsWired p) (c : Choice) (s : State) (
         (λ x d at. let l = there (Run fr ∷ ts) tasks x d Accepts at in (
           (ended_alike p fr s.cells).named_so x.object.name ∙ l.0,
           l.1,
-          stays_listed (requested s.cells x.object.name) (requested (ended_cells p fr s.cells) x.object.name) (still.carried.enlisted x.object ((ended_alike p fr s.cells).named_so x.object.name ∙ l.0)) l.2,
+          stays_listed (requested s.cells x.object.name) (requested (ended_cells p fr s.cells) x.object.name)
+              (still.carried.enlisted x.object ((ended_alike p fr s.cells).named_so x.object.name ∙ l.0)) l.2,
         ))
         tasks (tasks_steady p s.clients s.cells (ended_cells p fr s.cells) still ts stage_below) (tasks_steady p s.clients s.cells (ended_cells p fr s.cells) still ts stage_below)
 

@@ -25,7 +25,8 @@ pub overflow_cast-client : goal.overflow_cast-client
 overflow_cast-client c =
     omega (
       arith,
-      session-below _ _ _ _ _ _ c.self.invariant _ c.self.view_is c.args.server _ c.requires.server c.requires.empty c.in_ok-client.ensures.first _ c.take_first.ensures.rest c.in_ok-client.ensures.free,
+      session-below _ _ _ _ _ _ c.self.invariant _ c.self.view_is c.args.server _ c.requires.server c.requires.empty c.in_ok-client.ensures.first _
+          c.take_first.ensures.rest c.in_ok-client.ensures.free,
     )
 
 pub release-requires-clause-client : goal.release-requires-clause-client
@@ -36,7 +37,8 @@ pub index-requires : goal.index-requires
 index-requires c =
     omega (
       arith,
-      session-below _ _ _ _ _ _ c.self.invariant _ c.self.view_is c.args.server _ c.requires.server c.requires.empty c.in_ok-client.ensures.first _ c.take_first.ensures.rest c.in_ok-client.ensures.free,
+      session-below _ _ _ _ _ _ c.self.invariant _ c.self.view_is c.args.server _ c.requires.server c.requires.empty c.in_ok-client.ensures.first _
+          c.take_first.ensures.rest c.in_ok-client.ensures.free,
       c.self.invariant.sized.clients_long,
       c.self.inside.clients.ok.0,
     )
@@ -45,7 +47,8 @@ pub index_mut-requires : goal.index_mut-requires
 index_mut-requires c =
     omega (
       arith,
-      session-below _ _ _ _ _ _ c.self.invariant _ c.self.view_is c.args.server _ c.requires.server c.requires.empty c.in_ok-client.ensures.first _ c.take_first.ensures.rest c.in_ok-client.ensures.free,
+      session-below _ _ _ _ _ _ c.self.invariant _ c.self.view_is c.args.server _ c.requires.server c.requires.empty c.in_ok-client.ensures.first _
+          c.take_first.ensures.rest c.in_ok-client.ensures.free,
       c.self.invariant.sized.clients_long,
       c.self.inside.clients.ok.0,
     )
@@ -56,7 +59,8 @@ invariant_of-self-2 c =
     let d = c.in_ok-client.field-0 in
     let small : d < length cl = omega (
       arith,
-      session-below _ _ _ _ _ _ c.self.invariant _ c.self.view_is c.args.server _ c.requires.server c.requires.empty c.in_ok-client.ensures.first _ c.take_first.ensures.rest c.in_ok-client.ensures.free,
+      session-below _ _ _ _ _ _ c.self.invariant _ c.self.view_is c.args.server _ c.requires.server c.requires.empty c.in_ok-client.ensures.first _
+          c.take_first.ensures.rest c.in_ok-client.ensures.free,
       c.self.invariant.sized.clients_long,
     ) in
     let clients : slice_set cl d c.at_gone.result ≡ slice_set cl d (at_gone (slice_index_or cl d Unconnected)) =
@@ -71,7 +75,8 @@ returns-clause-after c =
     let d = c.in_ok-client.field-0 in
     let small : d < length cl = omega (
       arith,
-      session-below _ _ _ _ _ _ c.self.invariant _ c.self.view_is c.args.server _ c.requires.server c.requires.empty c.in_ok-client.ensures.first _ c.take_first.ensures.rest c.in_ok-client.ensures.free,
+      session-below _ _ _ _ _ _ c.self.invariant _ c.self.view_is c.args.server _ c.requires.server c.requires.empty c.in_ok-client.ensures.first _
+          c.take_first.ensures.rest c.in_ok-client.ensures.free,
       c.self.invariant.sized.clients_long,
     ) in
     let clients : slice_set cl d c.at_gone.result ≡ slice_set cl d (at_gone (slice_index_or cl d Unconnected)) =
