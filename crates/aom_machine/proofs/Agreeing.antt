@@ -132,7 +132,8 @@ module _ (p : Image) (d : Place → Kind) (k : ℕ) where
   entries_own [] e = cc
   entries_own (Method fr sh ∷ ls) e = pushed_own sh.entries ls (entries_own ls) e
   entries_own (Unwinding code es ∷ ls) e = pushed_own es ls (entries_own ls) e
-  entries_own (Mark gv ∷ ls) e = let below : ClaimedOwn ls = entries_own ls in false_given (λ b. cond b (Some Mark_form) (over (items_of ls) k) ≡ Some Object_form) (length (items_of ls) == k) e (λ e. cc) (λ _ e. below e)
+  entries_own (Mark gv ∷ ls) e = let below : ClaimedOwn ls = entries_own ls in
+      false_given (λ b. cond b (Some Mark_form) (over (items_of ls) k) ≡ Some Object_form) (length (items_of ls) == k) e (λ e. cc) (λ _ e. below e)
   entries_own (_ ∷ ls) e = entries_own ls e
 
 -- ---- all together
@@ -146,7 +147,8 @@ module _ (m : Machine) (s : State) (st : StandsFor m s) where
   plain r none = subst (λ w. Represents (value m.parts r) w (held s.cells r)) none (st.agrees.values r)
 
   owner_shows : (r : Place) (x : Object) → held s.cells r ≡ Some x → (word_at s.tasks r ≡ None) × (value m.parts r ≡ x.name)
-  owner_shows r x holds = none_given (λ w. Represents (value m.parts r) w (Some x)) (word_at s.tasks r) (subst (λ o. Represents (value m.parts r) (word_at s.tasks r) o) holds (st.agrees.values r)) (λ w shows. shows) (λ e shows. (e, shows))
+  owner_shows r x holds = none_given (λ w. Represents (value m.parts r) w (Some x)) (word_at s.tasks r)
+      (subst (λ o. Represents (value m.parts r) (word_at s.tasks r) o) holds (st.agrees.values r)) (λ w shows. shows) (λ e shows. (e, shows))
 
   shows_owner : (r : Place) (x : Object) → named s.cells x.name ≡ Some x → word_at s.tasks r ≡ None → value m.parts r ≡ x.name → held s.cells r ≡ Some x
   shows_owner r x lives none is = go (held s.cells r) refl (sym is ∙ plain r none)
@@ -168,7 +170,8 @@ module _ (m : Machine) (s : State) (st : StandsFor m s) where
       record { shape = w.shape; typed = w.typed; registers = λ i. number_says p _ _ _ _ (w.says i) (shown (task ∷ above) fr below top i) }
 
   own_fields_agree : (fr : Frame) (below : List Task) → s.tasks ≡ Run fr ∷ below → FieldsAgree p st.typing m.parts s fr
-  own_fields_agree fr below top = method_layer (λ ls. Good p st.typing s.cells ls) fr below st.typed.layers (sym st.typed.tasks ∙ top) st.typed.good (λ sh ls _ good. (by_frame fr sh ls good.stack.0 good))
+  own_fields_agree fr below top = method_layer (λ ls. Good p st.typing s.cells ls) fr below st.typed.layers
+      (sym st.typed.tasks ∙ top) st.typed.good (λ sh ls _ good. (by_frame fr sh ls good.stack.0 good))
     where
       no_word_there : (home : Home) (f : ℕ) → word_at s.tasks (field_place home f) ≡ None
       no_word_there Static f = refl

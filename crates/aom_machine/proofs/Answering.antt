@@ -111,7 +111,8 @@ most_few p formed (An_object_of class) = go (class_at p class) refl
   where
     go : (o : Option ClassDecl) → class_at p class ≡ o → most_of (kind_in o) ≤ 64
     go None e = omega arith
-    go (Some d) e = let fits = all_there (ClassFits p.header.version (length p.classes) p.header.natives) p.classes class d formed.classes.each e in kind_few p.header.version (length p.classes) p.header.natives d.kind fits.kind
+    go (Some d) e = let fits = all_there (ClassFits p.header.version (length p.classes) p.header.natives) p.classes class d formed.classes.each e in
+        kind_few p.header.version (length p.classes) p.header.natives d.kind fits.kind
 
 -- ---- a server
 

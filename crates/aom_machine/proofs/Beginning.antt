@@ -31,7 +31,8 @@ abbrev pub ShowsIdle : Parts → List Cell → Type 0
 ShowsIdle m cs = (q : Place) → Represents (value_in [] m.cells m.entries.items (others m) q) (word_at [] q) (held cs q)
 
 -- a method begins over nothing; no register owns anything, and its own show its words
-module _ (p : Image) (m : Parts) (v : State) (d : Machine_dispatch) (d' : Dispatch) (f : Machine_frame) (fr : Frame) (none : m.stack.tasks ≡ []) (aside : Aside p m v) (frame : SameFrame f fr) (dispatch : SameDispatch d d') (shows : ShowsIdle m v.cells)
+module _ (p : Image) (m : Parts) (v : State) (d : Machine_dispatch) (d' : Dispatch) (f : Machine_frame)
+    (fr : Frame) (none : m.stack.tasks ≡ []) (aside : Aside p m v) (frame : SameFrame f fr) (dispatch : SameDispatch d d') (shows : ShowsIdle m v.cells)
     (unowned : (k i : ℕ) → held v.cells (Register k i) ≡ None) (words : (i : ℕ) → Represents (slice_index_or f.registers i null) (word fr i) None) where
   abbrev us : List Machine_task
   us = Runs_frame f ∷ Is_trap ∷ Ends d ∷ []
@@ -46,8 +47,9 @@ module _ (p : Image) (m : Parts) (v : State) (d : Machine_dispatch) (d' : Dispat
   values _ = grind (arith, nat_tests)
 
   pub begins_agrees : Agrees p (begins_under d f m) (record v { tasks = ts; items = A_mark ∷ v.items })
-  begins_agrees =
-      subst (λ us. Agrees p (record m { stack = record m.stack { tasks = Runs_frame f ∷ Is_trap ∷ Ends d ∷ us }; entries = record m.entries { items = Is_mark ∷ m.entries.items } }) (record v { tasks = ts; items = A_mark ∷ v.items })) (sym none)
+  begins_agrees = subst (λ us. Agrees p
+      (record m { stack = record m.stack { tasks = Runs_frame f ∷ Is_trap ∷ Ends d ∷ us }; entries = record m.entries { items = Is_mark ∷ m.entries.items } })
+      (record v { tasks = ts; items = A_mark ∷ v.items })) (sym none)
       (record {
         tasks = (frame, (tt, (dispatch, tt)));
         values = values;
@@ -72,7 +74,8 @@ module _ (s : Store) (place : ℕ) where
   told_wide (suc n) f = length-set (told_first s place n f).registers n (number_of n) ∙ told_wide n f
 
   -- so many registers have them, and the others are as they were
-  told_register : (many : ℕ) (f : Machine_frame) → many ≤ length f.registers → (i : ℕ) → slice_index_or (told_first s place many f).registers i null ≡ cond (nat_lt i many) (number_of i) (slice_index_or f.registers i null)
+  told_register : (many : ℕ) (f : Machine_frame) → many ≤ length f.registers →
+      (i : ℕ) → slice_index_or (told_first s place many f).registers i null ≡ cond (nat_lt i many) (number_of i) (slice_index_or f.registers i null)
   told_register zero f room i = sym (ap (λ b. cond b (number_of i) (slice_index_or f.registers i null)) (le-ltb i 0 (omega arith)))
   told_register (suc n) f room i =
       grind (arith, nat_tests, at_set, told_wide n f, told_register n f, cases_lt i n, eqb-true n i, lt-ltb i (suc n), lt-ltb i n, le-ltb i n, le-ltb i (suc n))
@@ -84,7 +87,8 @@ module _ (s : Store) (place : ℕ) where
       record { method = g.method; place = g.place; this = g.this; view = g.view; housed = g.housed; wide = length-set (told_first s place n f).registers n (number_of n) ∙ g.wide; counters = g.counters; loops = g.loops }
 
   -- each word is read again as it was
-  module _ (cs : List Cell) (name : ℕ) (f : Machine_frame) (wide : length f.registers ≡ 16) (bare : (i : ℕ) → slice_index_or f.registers i null ≡ null) (reads : (w : ℕ) → w < 5 → cast_signed w32 (number_of w) ≡ word_field cs name w) where
+  module _ (cs : List Cell) (name : ℕ) (f : Machine_frame) (wide : length f.registers ≡ 16)
+      (bare : (i : ℕ) → slice_index_or f.registers i null ≡ null) (reads : (w : ℕ) → w < 5 → cast_signed w32 (number_of w) ≡ word_field cs name w) where
     here : (i : ℕ) → i < 5 → slice_index_or (told_words s place f).registers i null ≡ number_of i
     here i small = grind (arith, nat_tests, told_register 5 f, lt-ltb i 5 small)
 

@@ -107,7 +107,8 @@ each_read : (s : Store) (place many : ℕ) → AreRead s place many → (w : ℕ
 each_read s place zero read w small = absurd (omega (arith, small))
 each_read s place (suc k) read w small = grind (arith, nat_tests, cases_lt w k, each_read s place k read.1 w)
 
-module _ (p : Image) (m : Machine_parts) (s : State) (st : StandsFor (record { image = p; parts = m }) s) (idle : s.tasks ≡ []) (x : Seat) (lives : named s.cells x.object.name ≡ Some x.object) (serves : is_server p x.object.thing ≡ true)
+module _ (p : Image) (m : Machine_parts) (s : State) (st : StandsFor (record { image = p; parts = m }) s)
+    (idle : s.tasks ≡ []) (x : Seat) (lives : named s.cells x.object.name ≡ Some x.object) (serves : is_server p x.object.thing ≡ true)
     (keeps : Keeps p st.typing (picked p x s)) (asked : is_some (requested s.cells x.object.name) ≡ true)
     (active : Active) (noted : Notes x.object.name (kept.after_next x.object.name m.clients) m.active active) where
   abbrev n : ℕ
@@ -170,7 +171,8 @@ module _ (p : Image) (m : Machine_parts) (s : State) (st : StandsFor (record { i
     abbrev begins : State
     begins = serving x c a (record (frame_of method home (length (A_mark ∷ from.items))) { words = words }) from
 
-    method_stands : from.rest.steps ≡ 0 → picked p x s ≡ Goes begins → HasRoom p (at 0 st.sound.depths.depths) (at 0 st.sound.heights.heights) begins → IsKept p begins → Agrees p new begins → StandsFor (record { image = p; parts = new }) begins
+    method_stands : from.rest.steps ≡ 0 → picked p x s ≡ Goes begins → HasRoom p (at 0 st.sound.depths.depths) (at 0 st.sound.heights.heights) begins →
+        IsKept p begins → Agrees p new begins → StandsFor (record { image = p; parts = new }) begins
     method_stands steps goes room kept agrees = record {
       typing = st.typing;
       sound = st.sound;
@@ -198,7 +200,8 @@ module _ (p : Image) (m : Machine_parts) (s : State) (st : StandsFor (record { i
 
     accept_stands : StandsFor (record { image = p; parts = accepting method subject c taken }) accepted
     accept_stands = method_stands c method Accepts (Inside x.object x.place) [] (checked_taken n s) (accepting method subject c taken) refl accepted_goes
-        (dispatches_with_room p (at 0 st.sound.depths.depths) st.sound.heights cs method (Inside x.object x.place) (Of_server x c Accepts) s.items (checked_taken n s).rest s.killed s.clients (none_pushed p m s st idle))
+        (dispatches_with_room p (at 0 st.sound.depths.depths) st.sound.heights cs method
+        (Inside x.object x.place) (Of_server x c Accepts) s.items (checked_taken n s).rest s.killed s.clients (none_pushed p m s st idle))
         (record {
           fit = fit_now (Connect c) es at_first;
           stage = (first_fits p m s st idle x lives serves keeps (Connect c) es at_first, ap (λ q. list_any (is_connect_of c) q) (queue_now (Connect c) es at_first) ∙ not_again, seat_left);
@@ -211,7 +214,8 @@ module _ (p : Image) (m : Machine_parts) (s : State) (st : StandsFor (record { i
   -- ---- a message
 
   module _ (j : ℕ) (es : List Entry) (at_first : queue ≡ Message j ∷ es) (o : Object) (class' : ℕ) (is' : class_at m.cells o.name ≡ Some class')
-      (there : held s.cells (Elsewhere (Session n (sender (kept.place_at m.clients j)))) ≡ Some o) (method : ℕ) (attends : role_of p class' Attends_role ≡ Some method) (read : AreRead m.messages j 5) where
+      (there : held s.cells (Elsewhere (Session n (sender (kept.place_at m.clients j)))) ≡ Some o)
+      (method : ℕ) (attends : role_of p class' Attends_role ≡ Some method) (read : AreRead m.messages j 5) where
     abbrev c : ℕ
     c = sender (kept.place_at m.clients j)
 
@@ -232,9 +236,10 @@ module _ (p : Image) (m : Machine_parts) (s : State) (st : StandsFor (record { i
     attended_goes = attend_goes p m s st idle x lives serves class is active noted j es at_first below o class' is' there method attends words
 
     attend_stands : StandsFor (record { image = p; parts = attending method (record { number = o.name; class = class' }) subject c j taken }) attended
-    attend_stands =
-        let r = dispatches_with_room p (at 0 st.sound.depths.depths) st.sound.heights attended.cells method (Inside o home) (Of_server x c (Serves o)) s.items (checked_taken n s).rest s.killed s.clients (none_pushed p m s st idle) in
-        method_stands c method (Serves o) (Inside o home) (message_words cs (message_name j)) (record (checked_taken n s) { cells = attended.cells }) (attending method (record { number = o.name; class = class' }) subject c j taken) refl attended_goes
+    attend_stands = let r = dispatches_with_room p (at 0 st.sound.depths.depths) st.sound.heights attended.cells method
+        (Inside o home) (Of_server x c (Serves o)) s.items (checked_taken n s).rest s.killed s.clients (none_pushed p m s st idle) in
+        method_stands c method (Serves o) (Inside o home) (message_words cs (message_name j)) (record (checked_taken n s) { cells = attended.cells })
+        (attending method (record { number = o.name; class = class' }) subject c j taken) refl attended_goes
         (record { under = r.under; runs = r.runs; fit = r.fit; entries = r.entries })
         (record { fit = fit_moved p s.clients cs (Elsewhere (Queued n (message_name j))) (Elsewhere In_service) (empty_now (Elsewhere In_service) refl) (λ i k. refl) (λ b. first_sent p s.clients s.cells x.object lives c (message_name j) (map (asked_by m.clients.places) es) (queue_so (Message j ∷ es) at_first) st.kept.fit) (fit_now (Message j) es at_first); stage = tt; tokens = moved_apart (Elsewhere (Queued n (message_name j))) (Elsewhere In_service) })
         (attend_agrees p m s st idle x lives serves class is active noted j es at_first below o class' is' there method attends words)
@@ -315,12 +320,13 @@ module _ (p : Image) (m : Machine_parts) (s : State) (st : StandsFor (record { i
   entry_line time (Message j) = refl
   entry_line time (Close c) = refl
 
-  line_so : (e : Entry) (es : List Entry) → queue ≡ e ∷ es → Serve m.rest.clock class (serve_asked (kept.taken_entry m.clients e).entry) (kept.taken_entry m.clients e).client ∷ [] ≡ pick_line p s x.object
+  line_so : (e : Entry) (es : List Entry) → queue ≡ e ∷ es →
+      Serve m.rest.clock class (serve_asked (kept.taken_entry m.clients e).entry) (kept.taken_entry m.clients e).client ∷ [] ≡ pick_line p s x.object
   line_so e es at = grind (arith, nat_tests, entry_line s.rest.clock e, queue_so (e ∷ es) at, thing)
 
 -- a server is picked: what the machine does is what the checked machine does
-pub server_served :
-    (p : Image) (m : Machine_parts) (s : State) (st : StandsFor (record { image = p; parts = m }) s) (between : IsBetween s) (x : Seat) → named s.cells x.object.name ≡ Some x.object → is_server p x.object.thing ≡ true →
+pub server_served : (p : Image) (m : Machine_parts) (s : State) (st : StandsFor (record { image = p; parts = m }) s) (between : IsBetween s) (x : Seat) →
+    named s.cells x.object.name ≡ Some x.object → is_server p x.object.thing ≡ true →
     Keeps p st.typing (picked p x s) → is_some (requested s.cells x.object.name) ≡ true →
     (told now : LineBuffer) (new : Machine_parts) → ServesFirst p x.object.name m told now new → Takes (record { image = p; parts = m }) s (Picks x) told now (record { image = p; parts = new })
 server_served p m s st between x lives serves keeps asked told now new f = go (kept.queue_at m.clients n) refl

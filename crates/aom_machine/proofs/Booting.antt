@@ -67,7 +67,8 @@ module _ (p : Image) (m : Parts) (booted : Booted p m) where
 
   boot_agrees : Agrees p m (boot_state p)
   boot_agrees = record {
-    tasks = subst (λ us. SameTasks us (main_tasks (main_of p))) (sym booted.tasks) (subst (λ us. SameTasks (Runs_frame (fresh booted.main null) ∷ Is_trap ∷ Ends Main ∷ []) us) (sym (boot_tasks p booted.main booted.is_main))
+    tasks = subst (λ us. SameTasks us (main_tasks (main_of p))) (sym booted.tasks)
+        (subst (λ us. SameTasks (Runs_frame (fresh booted.main null) ∷ Is_trap ∷ Ends Main ∷ []) us) (sym (boot_tasks p booted.main booted.is_main))
         (begun_frame booted.main null AtRoot 1 refl (λ other. absurd (other refl)), (tt, ((Elsewhere Root, refl), tt))));
     values = λ r. shows_null _ _ _ (no_value r) (no_word_yet r) refl;
     cells = record {

@@ -32,7 +32,8 @@ module _ (p : Image) (c : ℕ) (s : State) where
   by_sending P same _ _ name words sends = same
 
   -- the server of a client that was open is asked to close its session
-  pub by_told : (P : List Cell → Type 0) (cs : List Cell) → P cs → (x : Client) → ((server session slots : ℕ) → x ≡ Open server session slots → P (reserved (asked_last (Close_of c)) server cs)) → P (told p c s x cs)
+  pub by_told : (P : List Cell → Type 0) (cs : List Cell) → P cs →
+      (x : Client) → ((server session slots : ℕ) → x ≡ Open server session slots → P (reserved (asked_last (Close_of c)) server cs)) → P (told p c s x cs)
   by_told P cs same (Open server session slots) closes = closes server session slots refl
   by_told P cs same _ closes = same
 

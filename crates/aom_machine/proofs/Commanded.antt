@@ -46,7 +46,8 @@ module _ (s : kept.State) (c : ℕ) (small : c < length s.clients) where
   sessions_with to same n d = grind (arith, nat_tests, client_then to d, eqb-true c d)
 
 -- a connect
-connected_none : (x : Client) (refused : Option Refusal) (server : Option Server) (s : kept.State) → kept.asked (row x).connect server s ≡ None → (n : ℕ) → session_with n x ≡ session_with n Unconnected
+connected_none : (x : Client) (refused : Option Refusal) (server : Option Server) (s : kept.State) →
+    kept.asked (row x).connect server s ≡ None → (n : ℕ) → session_with n x ≡ session_with n Unconnected
 connected_none x refused server s e n = grind arith
 
 pub sessions_connect : (s : kept.State) (c : ℕ) (server : Option Server) (slots : ℕ) → c < length s.clients → SessionsSame s (kept.after_connect c server slots s)
@@ -82,7 +83,8 @@ module _ (s : kept.State) (c : ℕ) (small : c < length s.clients) where
 module _ (p : Image) (c : ℕ) (s : State) where
   -- cells and what clients are at, and nothing else
   pub commanded_form : (command : Command) (name : ℕ) → commanded p c s command name ≡ record s { cells = (commanded p c s command name).cells; clients = (commanded p c s command name).clients }
-  commanded_form command name = by_command p c s (λ t. t ≡ record s { cells = t.cells; clients = t.clients }) name (record { same = refl; connects = λ x slots. refl; sends = λ words server. refl; leaves = λ to. refl; closes = λ to server. refl }) command
+  commanded_form command name = by_command p c s (λ t. t ≡ record s { cells = t.cells; clients = t.clients }) name
+      (record { same = refl; connects = λ x slots. refl; sends = λ words server. refl; leaves = λ to. refl; closes = λ to server. refl }) command
 
   -- the queue of that server is none that the command changes
   abbrev pub Untouched : Command → ℕ → Type 0
@@ -99,7 +101,8 @@ module _ (p : Image) (c : ℕ) (s : State) where
       connects = λ x slots. beside_served s.cells x.name _;
       sends = λ words server.
           let v = asked_last (Message_of c name) (service_of s.cells server) in
-          beside_then s.cells (reserved (asked_last (Message_of c name)) server s.cells) _ (beside_served s.cells server v) (beside_message (reserved (asked_last (Message_of c name)) server s.cells) _ (named_served s.cells server v name ∙ free) refl high refl refl);
+          beside_then s.cells (reserved (asked_last (Message_of c name)) server s.cells) _ (beside_served s.cells server v)
+          (beside_message (reserved (asked_last (Message_of c name)) server s.cells) _ (named_served s.cells server v name ∙ free) refl high refl refl);
       leaves = λ to. withdraws;
       closes = λ to server. beside_then s.cells (withdrawn c s.cells) _ withdraws (beside_served (withdrawn c s.cells) server _);
     }) command
@@ -149,15 +152,18 @@ module _ (clients : List Client) (c n : ℕ) (away : named_by (client_at clients
 -- what a client leaves of a queue
 module _ (c : ℕ) (s : State) (tidy : Tidy s.cells) (bare : (n : ℕ) (x : Cell) → cell_of s.cells n ≡ Some x → is_queue x.owner ≡ true → x.service.queue ≡ []) where
   queue_withdrawn : (n : ℕ) → (service_of (withdrawn c s.cells) n).queue ≡ filter (stays c) (service_of s.cells n).queue
-  queue_withdrawn n =
-      ap (λ l. (service_of l n).queue) (withdrawn_so c s.cells) ∙ ap (λ (v : Service). v.queue) (service_cell (sifted (λ x. is_queue x.owner && is_from c x.service.sender) (λ x. left_by c x.service) s.cells) n)
-      ∙ ap (λ x. (service_in x).queue) (cell_of_sifted (λ x. is_queue x.owner && is_from c x.service.sender) (λ x. left_by c x.service) s.cells n tidy) ∙ go (cell_of s.cells n) refl ∙ sym (ap (λ (v : Service). filter (stays c) v.queue) (service_cell s.cells n))
+  queue_withdrawn n = ap (λ l. (service_of l n).queue) (withdrawn_so c s.cells)
+      ∙ ap (λ (v : Service). v.queue) (service_cell (sifted (λ x. is_queue x.owner && is_from c x.service.sender) (λ x. left_by c x.service) s.cells) n)
+      ∙ ap (λ x. (service_in x).queue) (cell_of_sifted (λ x. is_queue x.owner && is_from c x.service.sender) (λ x. left_by c x.service) s.cells n tidy)
+      ∙ go (cell_of s.cells n) refl ∙ sym (ap (λ (v : Service). filter (stays c) v.queue) (service_cell s.cells n))
     where
-      go : (x : Option Cell) → cell_of s.cells n ≡ x → (service_in (kept_cell (λ x. is_queue x.owner && is_from c x.service.sender) (λ x. left_by c x.service) x)).queue ≡ filter (stays c) (service_in x).queue
+      go : (x : Option Cell) → cell_of s.cells n ≡ x → (service_in
+          (kept_cell (λ x. is_queue x.owner && is_from c x.service.sender) (λ x. left_by c x.service) x)).queue ≡ filter (stays c) (service_in x).queue
       go None e = refl
       go (Some x) e = by (is_queue x.owner) refl (is_from c x.service.sender)
         where
-          by : (a : Bool) → is_queue x.owner ≡ a → Bool → (service_in (cond (is_queue x.owner && is_from c x.service.sender) None (Some (record x { service = left_by c x.service })))).queue ≡ filter (stays c) x.service.queue
+          by : (a : Bool) → is_queue x.owner ≡ a → Bool → (service_in (cond (is_queue x.owner && is_from c x.service.sender) None
+              (Some (record x { service = left_by c x.service })))).queue ≡ filter (stays c) x.service.queue
           by true h d = nothing (is_queue x.owner && is_from c x.service.sender) (bare n x e h)
             where
               nothing : (b : Bool) → x.service.queue ≡ [] → (service_in (cond b None (Some (record x { service = left_by c x.service })))).queue ≡ filter (stays c) x.service.queue
@@ -165,7 +171,8 @@ module _ (c : ℕ) (s : State) (tidy : Tidy s.cells) (bare : (n : ℕ) (x : Cell
               nothing false none = refl
           by false h d = ap (λ b. (service_in (cond (b && is_from c x.service.sender) None (Some (record x { service = left_by c x.service })))).queue) h
 
-module _ (p : Image) (c : ℕ) (s : State) (tidy : Tidy s.cells) (fit : ClientsFit p s.clients s.cells) (bare : (n : ℕ) (x : Cell) → cell_of s.cells n ≡ Some x → is_queue x.owner ≡ true → x.service.queue ≡ []) where
+module _ (p : Image) (c : ℕ) (s : State) (tidy : Tidy s.cells)
+    (fit : ClientsFit p s.clients s.cells) (bare : (n : ℕ) (x : Cell) → cell_of s.cells n ≡ Some x → is_queue x.owner ≡ true → x.service.queue ≡ []) where
   abbrev SameQueue : List Cell → ℕ → Type 0
   SameQueue ds n = (service_of ds n).queue ≡ (service_of s.cells n).queue
 

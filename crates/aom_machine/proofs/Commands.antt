@@ -76,9 +76,11 @@ module _ (p : Image) (m : Parts) (s : State) (st : StandsFor (record { image = p
 
   -- the server that is found
   pub first_found : (class : ℕ) → first_server p m.listed class ≡ found_server (most_of (kind_of p (Some class))) (asked_server p class s.cells)
-  first_found class = ap (λ o. option_map (λ n. record { cell = n; most = most_of (kind_of p (Some class)) }) o) (first_asked p m.listed s.cells st.typed.good.tidy st.agrees.services.listed class) ∙ go (asked_server p class s.cells)
+  first_found class = ap (λ o. option_map (λ n. record { cell = n; most = most_of (kind_of p (Some class)) }) o)
+      (first_asked p m.listed s.cells st.typed.good.tidy st.agrees.services.listed class) ∙ go (asked_server p class s.cells)
     where
-      go : (x : Option Listed) → option_map (λ n. record { cell = n; most = most_of (kind_of p (Some class)) }) (option_map (λ (y : Listed). y.name) x) ≡ found_server (most_of (kind_of p (Some class))) x
+      go : (x : Option Listed) → option_map (λ n. record { cell = n; most = most_of (kind_of p (Some class)) })
+          (option_map (λ (y : Listed). y.name) x) ≡ found_server (most_of (kind_of p (Some class))) x
       go x = grind arith
 
   -- ---- what an act needs
@@ -103,7 +105,8 @@ module _ (p : Image) (m : Parts) (s : State) (st : StandsFor (record { image = p
 
   -- ---- what it comes to
 
-  module _ (between : IsBetween s) (k : kept.State) (store : Store) (a : Active) (told now : LineBuffer) (result : Result (Unit {0}) Refusal) (lines : now ≡ record told { lines = told.lines ++ told_refusal c result }) where
+  module _ (between : IsBetween s) (k : kept.State) (store : Store) (a : Active)
+      (told now : LineBuffer) (result : Result (Unit {0}) Refusal) (lines : now ≡ record told { lines = told.lines ++ told_refusal c result }) where
     abbrev old : Machine
     old = record { image = p; parts = m }
 
@@ -114,7 +117,8 @@ module _ (p : Image) (m : Parts) (s : State) (st : StandsFor (record { image = p
     by_parts :
         (command : Command) (place : Option ℕ) → IfSome place (λ n. (n < 1024) × (message_at m.messages n ≡ None)) → result ≡ kept.answer (refusal p c s command) → (then : kept.State) → k ≡ then →
         SameClients then (commanded p c w command (sent_name place)).cells (commanded p c w command (sent_name place)).clients → AreSized p.header.cells then → SessionsSame m.clients then →
-        SameMessages p store (commanded p c w command (sent_name place)).cells → (server : Option ℕ) → ((n : ℕ) → (server ≡ Some n → ⊥) → Untouched p c w command n) → NotesIf server k m.active a → Obeyed old s c command told now new
+        SameMessages p store (commanded p c w command (sent_name place)).cells → (server : Option ℕ) →
+        ((n : ℕ) → (server ≡ Some n → ⊥) → Untouched p c w command n) → NotesIf server k m.active a → Obeyed old s c command told now new
     by_parts command place free answer then is clients sized sessions messages server touched hears =
         let unused = sent_free p m.cells m.messages s.cells st.agrees.cells st.sound.formed.header.cells st.agrees.services.messages place free in
         let clients_now = subst (λ x. SameClients x (commanded p c w command (sent_name place)).cells (commanded p c w command (sent_name place)).clients) (sym is) clients in
@@ -142,17 +146,21 @@ module _ (p : Image) (m : Parts) (s : State) (st : StandsFor (record { image = p
     withdraws : Forgets (kept.freed (Some Unconnected) c m.clients) m.messages store → SameMessages p store (withdrawn c w.cells)
     withdraws f = messages_withdrawn p st.typing st.sound.wired w (typed_now p m s st idle c) st.kept.fit m.clients same c m.messages store f.gone f.others f.limit f.count st.agrees.services.messages
 
-    pub obeys : (command : Command) → Acts c command (asked_by p m.listed command) m.clients k m.messages store result → NotesIf (queue_changed (asked_by p m.listed command) (kept.client_at m.clients c)) k m.active a → Obeyed old s c command told now new
-    obeys (Connect class slots) acts hears = by_parts (Connect class slots) None tt
-        (acts.0 ∙ ap (λ x. kept.answer (kept.connect_refusal c x m.clients)) (first_found class) ∙ ap kept.answer (connect_refused p c s m.clients same class slots))
-        (kept.after_connect c (found_server (most_of (kind_of p (Some class))) (asked_server p class s.cells)) slots m.clients) (acts.1 ∙ ap (λ x. kept.after_connect c x slots m.clients) (first_found class))
-        (same_connect p st.typing st.sound.wired w (typed_now p m s st idle c) st.kept.fit m.clients same p.header.cells st.agrees.services.sized (servers_below p m s st idle c) c one class slots (sent_name None))
+    pub obeys : (command : Command) → Acts c command (asked_by p m.listed command) m.clients k m.messages store result →
+        NotesIf (queue_changed (asked_by p m.listed command) (kept.client_at m.clients c)) k m.active a → Obeyed old s c command told now new
+    obeys (Connect class slots) acts hears = by_parts (Connect class slots) None tt (acts.0 ∙ ap (λ x. kept.answer (kept.connect_refusal c x m.clients))
+        (first_found class) ∙ ap kept.answer (connect_refused p c s m.clients same class slots)) (kept.after_connect c (found_server (most_of (kind_of p
+        (Some class))) (asked_server p class s.cells)) slots m.clients) (acts.1 ∙ ap (λ x. kept.after_connect c x slots m.clients) (first_found class))
+        (same_connect p st.typing st.sound.wired w (typed_now p m s st idle c) st.kept.fit m.clients same p.header.cells st.agrees.services.sized
+        (servers_below p m s st idle c) c one class slots (sent_name None))
         (sized_connect p.header.cells m.clients st.agrees.services.sized c _ slots) (sessions_connect m.clients c _ slots few)
-        (messages_connect p c w m.clients same m.messages store st.agrees.services.messages class slots (sent_name None) acts.2) (queue_changed (first_server p m.listed class) (kept.client_at m.clients c))
-        (λ n away x asked name. away (ap (λ y. queue_changed y (kept.client_at m.clients c)) (first_found class) ∙ ap (λ y. queue_changed (found_server (most_of (kind_of p (Some class))) y) (kept.client_at m.clients c)) asked ∙ ap Some name)) hears
-    obeys (Send words) acts hears =
-        by_parts (Send words) acts.place acts.free (acts.told ∙ ap kept.answer alike) (kept.after_send c acts.place m.clients) acts.after_it
-        (same_send p st.typing st.sound.wired w (typed_now p m s st idle c) st.kept.fit m.clients same p.header.cells st.agrees.services.sized (servers_below p m s st idle c) c one words acts.place found (by_place acts.place acts.free) (sent_name acts.place) (called acts.place))
+        (messages_connect p c w m.clients same m.messages store st.agrees.services.messages class slots (sent_name None) acts.2)
+        (queue_changed (first_server p m.listed class) (kept.client_at m.clients c))
+        (λ n away x asked name. away (ap (λ y. queue_changed y (kept.client_at m.clients c)) (first_found class)
+        ∙ ap (λ y. queue_changed (found_server (most_of (kind_of p (Some class))) y) (kept.client_at m.clients c)) asked ∙ ap Some name)) hears
+    obeys (Send words) acts hears = by_parts (Send words) acts.place acts.free (acts.told ∙ ap kept.answer alike) (kept.after_send c acts.place m.clients)
+        acts.after_it (same_send p st.typing st.sound.wired w (typed_now p m s st idle c) st.kept.fit m.clients same p.header.cells st.agrees.services.sized
+        (servers_below p m s st idle c) c one words acts.place found (by_place acts.place acts.free) (sent_name acts.place) (called acts.place))
         (sized_send p.header.cells m.clients st.agrees.services.sized c acts.place) (sessions_send m.clients c acts.place)
         (messages_send p c w m.clients same m.messages store st.agrees.services.messages words acts.place acts.free alike acts.kept) (queue_changed None (kept.client_at m.clients c)) away_named hears
       where

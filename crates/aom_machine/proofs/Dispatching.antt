@@ -79,7 +79,8 @@ served_object p x serves = grind (arith, nat_tests, message_plain p A_message)
 pub session_named : (n : ℕ) (k : Client) (name : ℕ) → session_with n k ≡ name → name < 4096 → session_of k ≡ Some name
 session_named n k name e small = grind (arith, nat_tests)
 
-module _ (p : Image) (m : Machine_parts) (s : State) (st : StandsFor (record { image = p; parts = m }) s) (idle : s.tasks ≡ []) (x : Seat) (lives : named s.cells x.object.name ≡ Some x.object) (serves : is_server p x.object.thing ≡ true)
+module _ (p : Image) (m : Machine_parts) (s : State) (st : StandsFor (record { image = p; parts = m }) s)
+    (idle : s.tasks ≡ []) (x : Seat) (lives : named s.cells x.object.name ≡ Some x.object) (serves : is_server p x.object.thing ≡ true)
     (class : ℕ) (is : class_at m.cells x.object.name ≡ Some class) (active : Active) (noted : Notes x.object.name (kept.after_next x.object.name m.clients) m.active active) where
   abbrev n : ℕ
   n = x.object.name
@@ -136,7 +137,8 @@ module _ (p : Image) (m : Machine_parts) (s : State) (st : StandsFor (record { i
   -- ---- the first of its queue is taken
 
   requests_taken : is_queued k' n ≡ has_more (service_of cs n).queue → SameRequests p active cs
-  requests_taken waits = noted_requests p m.active active s.cells cs (beside_served s.cells n (taken_first (service_of s.cells n))) st.agrees.requests n (λ i other. ap (λ (v : Service). v.queue) (service_there s.cells n i (taken_first (service_of s.cells n)) other)) (is_queued k' n) waits noted
+  requests_taken waits = noted_requests p m.active active s.cells cs (beside_served s.cells n (taken_first (service_of s.cells n))) st.agrees.requests n
+      (λ i other. ap (λ (v : Service). v.queue) (service_there s.cells n i (taken_first (service_of s.cells n)) other)) (is_queued k' n) waits noted
 
   tokens_taken : SameTokens p m.tokens cs
   tokens_taken = grind (arith, nat_tests, tokens_beside p m.tokens s.cells, beside_served s.cells, told_served s.cells)
@@ -228,13 +230,16 @@ module _ (p : Image) (m : Machine_parts) (s : State) (st : StandsFor (record { i
     aside_served = record {
       cells = cells_moved p m.cells cs from (Elsewhere In_service) (cells_beside p m.cells s.cells cs (beside_served s.cells n (taken_first (service_of s.cells n))) st.agrees.cells);
       entries = st.agrees.entries;
-      requests = requests_moved p active cs from (Elsewhere In_service) (requests_taken (waits_alike k' serving_cells s.clients clients_served n ∙ ap (λ (v : Service). has_more v.queue) (service_moved cs from (Elsewhere In_service) n)));
-      natives = natives_moved p m.sessions s.killed cs from (Elsewhere In_service) (natives_beside p m.sessions s.killed s.cells cs st.sound.formed.header.cells (beside_served s.cells n (taken_first (service_of s.cells n))) st.agrees.natives);
+      requests = requests_moved p active cs from (Elsewhere In_service) (requests_taken
+          (waits_alike k' serving_cells s.clients clients_served n ∙ ap (λ (v : Service). has_more v.queue) (service_moved cs from (Elsewhere In_service) n)));
+      natives = natives_moved p m.sessions s.killed cs from (Elsewhere In_service) (natives_beside p m.sessions s.killed s.cells cs st.sound.formed.header.cells
+          (beside_served s.cells n (taken_first (service_of s.cells n))) st.agrees.natives);
       services = record {
         clients = clients_served;
         sized = sized_next p.header.cells m.clients st.agrees.services.sized n;
         messages = messages_moved p m.messages cs from (Elsewhere In_service) (messages_served p m.messages s.cells n (taken_first (service_of s.cells n)) st.agrees.services.messages);
-        tokens = tokens_still p m.tokens cs serving_cells (λ i. ap awaited (requested_moved cs from (Elsewhere In_service) i)) (λ i. ap (λ (v : Service). v.token) (service_moved cs from (Elsewhere In_service) (message_name i))) tokens_taken;
+        tokens = tokens_still p m.tokens cs serving_cells (λ i. ap awaited (requested_moved cs from (Elsewhere In_service) i))
+            (λ i. ap (λ (v : Service). v.token) (service_moved cs from (Elsewhere In_service) (message_name i))) tokens_taken;
         listed = listed_alike p m.listed cs serving_cells (named_moved cs from (Elsewhere In_service)) (λ i. ap (option_map (λ r. r.order)) (requested_moved cs from (Elsewhere In_service) i))
             (listed_beside p m.listed s.cells cs (beside_served s.cells n (taken_first (service_of s.cells n))) st.agrees.services.listed);
       };
@@ -303,8 +308,10 @@ module _ (p : Image) (m : Machine_parts) (s : State) (st : StandsFor (record { i
     pub attend_agrees : Agrees p (attending method (record { number = o.name; class = class' }) subject c j taken) (serving x c (Serves o) attend_frame then_served)
     attend_agrees =
         let f = fresh method o.name in
-        let begun = begun_frame method o.name (Inside o (Elsewhere (Session n c))) (length (A_mark ∷ s.items)) refl (λ there. object_small p m s st.sound.formed st.agrees o session_lives session_is_object) in
-        begins_agrees p served then_served (Server subject c (stages.Serves (record { number = o.name; class = class' }))) (Of_server x c (Serves o)) (told_words m.messages j f) attend_frame (none_running p m s st idle) aside_served
+        let begun = begun_frame method o.name (Inside o (Elsewhere (Session n c)))
+        (length (A_mark ∷ s.items)) refl (λ there. object_small p m s st.sound.formed st.agrees o session_lives session_is_object) in
+        begins_agrees p served then_served (Server subject c (stages.Serves (record { number = o.name; class = class' })))
+        (Of_server x c (Serves o)) (told_words m.messages j f) attend_frame (none_running p m s st idle) aside_served
         (told_frame m.messages j 5 f (frame_of method (Inside o (Elsewhere (Session n c))) (length (A_mark ∷ s.items))) (message_words cs (message_name j)) begun)
         (x.place, grind (arith, nat_tests, object, server_thing, session_thing_so))
         shows_served unowned_served (words_shown m.messages j cs (message_name j) f (length-replicate 16 null) (begun_registers method o.name) (λ w small. reads w small ∙ word_so w))
@@ -373,7 +380,8 @@ module _ (p : Image) (m : Machine_parts) (s : State) (st : StandsFor (record { i
         (begins p released (record then { cells = moved gone_from (Going 1) cs }) us below_tasks o.name (class_at m.cells o.name) o (length s.items) refl part_small
         (server_same p m s st.agrees o part_lives part_object) (destructor_same p m s st.agrees o part_lives part_object)
         ((x.place, ap (λ t. Of_server (record { object = record { name = n; thing = t }; place = x.place }) c Parts) (sym server_thing)), tt) aside_released
-        (dying_shows p released (record then { cells = moved gone_from (Going 1) cs }) us below_tasks o.name cs gone_from (value_in [] m.cells m.entries.items (others taken)) (word_at []) refl (shows_taken (Close c) es at no_messages) refl refl
+        (dying_shows p released (record then { cells = moved gone_from (Going 1) cs }) us below_tasks o.name cs gone_from
+        (value_in [] m.cells m.entries.items (others taken)) (word_at []) refl (shows_taken (Close c) es at no_messages) refl refl
         (shows_taken (Close c) es at no_messages gone_from ∙ ap number there_now) nothing_going
         (λ q. session_released (others taken) us m.cells m.entries.items c n numbered its_server q ∙ ap (λ i. changed (λ z. i) gone_from null q) (end_shows (Server subject c stages.Parts) q))
         ended_word))

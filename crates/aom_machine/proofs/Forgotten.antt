@@ -34,7 +34,8 @@ rest_kept [] i old now within kept ch = absurd (omega (arith, within))
 rest_kept (m ∷ ms) zero old now within kept ch = still_kept old now m ms ch kept.1 kept.2
 rest_kept (m ∷ ms) (suc i) old now within kept ch = rest_kept ms i old now (omega (arith, within)) kept ch
 
-pub one_more : (places : List ℕ) (i : ℕ) (start old now : Store) → i < length places → ForgetsFirst places i start old → Changes old now (slice_index_or places i 0) None → count now + 1 ≡ count old → ForgetsFirst places (suc i) start now
+pub one_more : (places : List ℕ) (i : ℕ) (start old now : Store) → i < length places →
+    ForgetsFirst places i start old → Changes old now (slice_index_or places i 0) None → count now + 1 ≡ count old → ForgetsFirst places (suc i) start now
 one_more places i start old now within f ch fewer = record {
   first = record { gone = gone; others = others; count = let c = f.first.count in omega (arith, c, fewer, lengths); limit = ch.limit ∙ f.first.limit };
   rest = rest_kept places i old now within f.rest ch;

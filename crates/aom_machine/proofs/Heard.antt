@@ -33,7 +33,8 @@ use Rattle.aom_machine.proofs.Timers.{timers_same}
 pub told_none : (c : ℕ) (told : LineBuffer) (result : Result (Unit {0}) Refusal) (u : Unit {0}) → result ≡ Ok u → told ≡ record told { lines = told.lines ++ told_refusal c result }
 told_none c told result u is = ap (λ ls. record told { lines = ls }) (sym (append-nil told.lines) ∙ ap (λ r. told.lines ++ told_refusal c r) (sym is))
 
-pub told_one : (c : ℕ) (told now : LineBuffer) (result : Result (Unit {0}) Refusal) (r : Refusal) (code : ℤ) → result ≡ Err r → code ≡ code_of r → now ≡ record told { lines = told.lines ++ Refuse c code ∷ [] } → now ≡ record told { lines = told.lines ++ told_refusal c result }
+pub told_one : (c : ℕ) (told now : LineBuffer) (result : Result (Unit {0}) Refusal) (r : Refusal) (code : ℤ) → result ≡ Err r →
+    code ≡ code_of r → now ≡ record told { lines = told.lines ++ Refuse c code ∷ [] } → now ≡ record told { lines = told.lines ++ told_refusal c result }
 told_one c told now result r code is coded wrote = grind (arith, nat_tests, told_refusal c)
 
 -- ---- the queue that is told of
@@ -42,7 +43,8 @@ told_one c told now result r code is coded wrote = grind (arith, nat_tests, told
 sized_alike : {cells : ℕ} (k new then : kept.State) → new ≡ then → AreSized cells k → AreSized cells then → length new.queues ≡ length k.queues
 sized_alike k new then is sized now = ap (λ (x : kept.State). length x.queues) is ∙ now.queues ∙ sym sized.queues
 
-pub sized_acts : (cells : ℕ) (k new : kept.State) → AreSized cells k → (c : ℕ) (command : Command) (asked : Option Server) (before after : Store) (result : Result (Unit {0}) Refusal) → Acts c command asked k new before after result → length new.queues ≡ length k.queues
+pub sized_acts : (cells : ℕ) (k new : kept.State) → AreSized cells k → (c : ℕ) (command : Command) (asked : Option Server)
+    (before after : Store) (result : Result (Unit {0}) Refusal) → Acts c command asked k new before after result → length new.queues ≡ length k.queues
 sized_acts cells k new sized c (Connect class slots) asked before after result acts = sized_alike k new _ acts.1 sized (sized_connect cells k sized c asked slots)
 sized_acts cells k new sized c (Send words) asked before after result acts = sized_alike k new _ acts.after_it sized (sized_send cells k sized c acts.place)
 sized_acts cells k new sized c Close asked before after result acts = sized_alike k new _ acts.1 sized (sized_close cells k sized c)
@@ -53,7 +55,8 @@ pub small_queue : (queue : Option ℕ) (many now : ℕ) → IfSome queue (λ n. 
 small_queue x many now below few same = grind arith
 
 -- no timer is another
-pub hears_timers : (p : Image) (m : Parts) → Stands (record { image = p; parts = m }) → (queue : Option ℕ) (k : kept.State) (new : Active) → NotesIf queue k m.active new → new.pending.timers ≡ m.active.pending.timers
+pub hears_timers : (p : Image) (m : Parts) → Stands (record { image = p; parts = m }) →
+    (queue : Option ℕ) (k : kept.State) (new : Active) → NotesIf queue k m.active new → new.pending.timers ≡ m.active.pending.timers
 hears_timers p m stands None k new same = ap (λ (a : Active). a.pending.timers) same
 hears_timers p m stands (Some n) k new notes = go (is_server (request_at m.active.table n)) notes
   where
@@ -66,9 +69,12 @@ hears_timers p m stands (Some n) k new notes = go (is_server (request_at m.activ
 
 -- ---- all of it
 
-module _ (p : Image) (m : Parts) (turned : progress_by m.rest.ended m.stack.tasks ≡ Turned) (c : ℕ) (one : c < 64) (command : Command) (asked : Option Server) (asks : asked ≡ asked_by p m.listed command) (queue : Option ℕ) (changed : queue ≡ queue_changed asked (kept.client_at m.clients c)) where
-  pub heard : (k : kept.State) (store : Store) (a : Active) (told now : LineBuffer) (result : Result (Unit {0}) Refusal) → now ≡ record told { lines = told.lines ++ told_refusal c result } → Acts c command asked m.clients k m.messages store result → NotesIf queue k m.active a →
-      (s : State) → StandsFor (record { image = p; parts = m }) s → Obeyed (record { image = p; parts = m }) s c command told now (record { image = p; parts = record m { clients = k; messages = store; active = a; rest = record m.rest { delivered = suc m.rest.delivered } } })
+module _ (p : Image) (m : Parts) (turned : progress_by m.rest.ended m.stack.tasks ≡ Turned) (c : ℕ) (one : c < 64) (command : Command) (asked : Option Server)
+    (asks : asked ≡ asked_by p m.listed command) (queue : Option ℕ) (changed : queue ≡ queue_changed asked (kept.client_at m.clients c)) where
+  pub heard : (k : kept.State) (store : Store) (a : Active) (told now : LineBuffer) (result : Result (Unit {0}) Refusal) → now ≡ record told
+      { lines = told.lines ++ told_refusal c result } → Acts c command asked m.clients k m.messages store result → NotesIf queue k m.active a →
+      (s : State) → StandsFor (record { image = p; parts = m }) s → Obeyed (record { image = p; parts = m }) s c command told now
+      (record { image = p; parts = record m { clients = k; messages = store; active = a; rest = record m.rest { delivered = suc m.rest.delivered } } })
   heard k store a told now result lines acts hears s st =
       let b = between s (sym (is_as_far (record { image = p; parts = m }) s st) ∙ turned) in
       obeys p m s st b.idle c one b k store a told now result lines command (subst (λ x. Acts c command x m.clients k m.messages store result) asks acts)

@@ -61,15 +61,17 @@ use Rattle.aom_machine.proofs.Turning.{machine_between}
 -- ---- one request
 
 -- what is outstanding is completed, and all else stays
-pub terminates : (old new : Active) (id : ℕ) (asked : ℕ → Option Request) (queues : ℕ → Option Bool) → Asks_for old asked queues → is_owed (asked id) ≡ true → Makes old new id (completed_with terminated) → Asks_for new (asked_anew id (terminated_request (asked id)) asked) queues
+pub terminates : (old new : Active) (id : ℕ) (asked : ℕ → Option Request) (queues : ℕ → Option Bool) → Asks_for old asked queues →
+    is_owed (asked id) ≡ true → Makes old new id (completed_with terminated) → Asks_for new (asked_anew id (terminated_request (asked id)) asked) queues
 terminates old new id asked queues stands owed makes = go (asked id) refl owed
   where
     go : (q : Option Request) → asked id ≡ q → is_owed q ≡ true → Asks_for new (asked_anew id (terminated_request (asked id)) asked) queues
     go None e owed = absurd (false≢true owed)
-    go (Some r) e owed =
-        subst (λ q. Asks_for new (asked_anew id q asked) queues) (sym (ap terminated_request e ∙ ap (λ b. cond b (Some (completed_with terminated r)) (Some r)) owed)) (makes.stands asked queues r stands e)
+    go (Some r) e owed = subst (λ q. Asks_for new (asked_anew id q asked) queues)
+        (sym (ap terminated_request e ∙ ap (λ b. cond b (Some (completed_with terminated r)) (Some r)) owed)) (makes.stands asked queues r stands e)
 
-pub spares : (a : Active) (id : ℕ) (asked : ℕ → Option Request) (queues : ℕ → Option Bool) → Asks_for a asked queues → is_owed (asked id) ≡ false → Asks_for a (asked_anew id (terminated_request (asked id)) asked) queues
+pub spares : (a : Active) (id : ℕ) (asked : ℕ → Option Request) (queues : ℕ → Option Bool) →
+    Asks_for a asked queues → is_owed (asked id) ≡ false → Asks_for a (asked_anew id (terminated_request (asked id)) asked) queues
 spares a id asked queues stands owed = grind (arith, nat_tests, standing_follows a asked, eqb-true id)
 
 -- ---- the cells once a native is killed
@@ -108,7 +110,8 @@ module _ (p : Image) (native : ℕ) where
 
   -- and such cells alone are others
   hit_request : (cs : List Cell) (id : ℕ) (b : Bool) → is_hit cs id ≡ b → requested (after cs) id ≡ cond b (terminated_request (requested cs id)) (requested cs id)
-  hit_request cs id b e = request_after cs id ∙ go (requested cs id) (is_owed (requested cs id)) refl (in_session cs id) (serves p cs native id) ∙ ap (λ x. cond x (terminated_request (requested cs id)) (requested cs id)) e
+  hit_request cs id b e = request_after cs id ∙ go (requested cs id) (is_owed (requested cs id)) refl (in_session cs id) (serves p cs native id)
+      ∙ ap (λ x. cond x (terminated_request (requested cs id)) (requested cs id)) e
     where
       go : (q : Option Request) (o : Bool) → is_owed q ≡ o → (i s : Bool) → cond s (terminated_request q) q ≡ cond ((o || i) && s) (terminated_request q) q
       go q false f true true = refl
@@ -245,11 +248,13 @@ module _ (p : Image) (native : ℕ) (old : Parts) (k : ℕ) (now : Parts) (so_fa
         go false other = refl
 
   -- what the machine needs to know of the cell
-  pub needs_life : Stands first → (asked : ℕ → Option Request) × (queues : ℕ → Option Bool) × Asks_for now.active asked queues × ((is_owed (asked k) || is_open now.sessions k) ≡ true → Lives now.cells k)
+  pub needs_life : Stands first → (asked : ℕ → Option Request) ×
+      (queues : ℕ → Option Bool) × Asks_for now.active asked queues × ((is_owed (asked k) || is_open now.sessions k) ≡ true → Lives now.cells k)
   needs_life (s, st) = (asked s st, queued p s.cells, so_far.requests s st, lives_here s st)
 
   abbrev pub IsHit : Bool → Type 0
-  IsHit b = (asked : ℕ → Option Request) (queues : ℕ → Option Bool) → Asks_for now.active asked queues → b ≡ ((is_owed (asked k) || is_open now.sessions k) && serves_class p native (class_at now.cells k))
+  IsHit b = (asked : ℕ → Option Request) (queues : ℕ → Option Bool) →
+      Asks_for now.active asked queues → b ≡ ((is_owed (asked k) || is_open now.sessions k) && serves_class p native (class_at now.cells k))
 
   hit_in : (b : Bool) → IsHit b → (s : State) (st : StandsFor first s) → is_hit p native s.cells k ≡ b
   hit_in b hit s st = sym (hit (asked s st) (queued p s.cells) (so_far.requests s st) ∙ hit_told s st)
@@ -258,10 +263,12 @@ module _ (p : Image) (native : ℕ) (old : Parts) (k : ℕ) (now : Parts) (so_fa
   needs_code (s, st) hit = (asked s st, queued p s.cells, so_far.requests s st, coded_here s st (hit_in true hit s st))
 
   -- the cell is hit
-  pub hits_next : (new : Parts) → IsHit true → ((asked : ℕ → Option Request) (queues : ℕ → Option Bool) → Asks_for now.active asked queues → Asks_for new.active (asked_anew k (terminated_request (asked k)) asked) queues) →
-      new.active.table.limit ≡ now.active.table.limit → Sets now.sessions new.sessions k false → new ≡ record now { active = new.active; sessions = new.sessions } → BereavesBelow p native (k + 1) old new
+  pub hits_next : (new : Parts) → IsHit true → ((asked : ℕ → Option Request) (queues : ℕ → Option Bool) → Asks_for now.active asked queues →
+      Asks_for new.active (asked_anew k (terminated_request (asked k)) asked) queues) → new.active.table.limit ≡ now.active.table.limit →
+      Sets now.sessions new.sessions k false → new ≡ record now { active = new.active; sessions = new.sessions } → BereavesBelow p native (k + 1) old new
   hits_next new hit makes numbers sets rest = record {
-    requests = λ s st. standing_follows new.active _ _ (queued p s.cells) (queued p s.cells) (requests_next s st true (hit_in true hit s st)) (λ n there. refl) (makes (asked s st) (queued p s.cells) (so_far.requests s st));
+    requests = λ s st. standing_follows new.active _ _ (queued p s.cells)
+        (queued p s.cells) (requests_next s st true (hit_in true hit s st)) (λ n there. refl) (makes (asked s st) (queued p s.cells) (so_far.requests s st));
     sessions = λ s st n. open_next s st n (k == n) refl ∙ sym (up_to_next k (in_session (all_bereaved p native s.cells)) (in_session s.cells) n);
     others = record {
       numbers = numbers ∙ so_far.others.numbers;
@@ -279,7 +286,8 @@ module _ (p : Image) (native : ℕ) (old : Parts) (k : ℕ) (now : Parts) (so_fa
   -- the cell is not
   pub misses_next : IsHit false → BereavesBelow p native (k + 1) old now
   misses_next hit = record {
-    requests = λ s st. standing_follows now.active (asked s st) _ (queued p s.cells) (queued p s.cells) (λ n. same_request s st n ∙ requests_next s st false (hit_in false hit s st) n) (λ n there. refl) (so_far.requests s st);
+    requests = λ s st. standing_follows now.active (asked s st) _ (queued p s.cells)
+        (queued p s.cells) (λ n. same_request s st n ∙ requests_next s st false (hit_in false hit s st) n) (λ n there. refl) (so_far.requests s st);
     sessions = λ s st n. so_far.sessions s st n ∙ same_session s st n (k == n) refl ∙ sym (up_to_next k (in_session (all_bereaved p native s.cells)) (in_session s.cells) n);
     others = so_far.others;
   }
@@ -288,7 +296,8 @@ module _ (p : Image) (native : ℕ) (old : Parts) (k : ℕ) (now : Parts) (so_fa
       same_request s st n = grind (arith, nat_tests, eqb-true k n)
 
       same_session : (s : State) → StandsFor first s → (n : ℕ) (x : Bool) → (k == n) ≡ x →
-          up_to k (in_session (all_bereaved p native s.cells)) (in_session s.cells) n ≡ cond x (in_session (all_bereaved p native s.cells) n) (up_to k (in_session (all_bereaved p native s.cells)) (in_session s.cells) n)
+          up_to k (in_session (all_bereaved p native s.cells)) (in_session s.cells) n ≡ cond x
+          (in_session (all_bereaved p native s.cells) n) (up_to k (in_session (all_bereaved p native s.cells)) (in_session s.cells) n)
       same_session s st n true same =
           let is = eqb-true k n same in
           sym (ap (up_to k (in_session (all_bereaved p native s.cells)) (in_session s.cells)) is)
@@ -309,10 +318,12 @@ module _ (p : Image) (native : ℕ) (old : Parts) (k : ℕ) (now : Parts) (so_fa
       unnamed : (s : State) → StandsFor first s → (n : ℕ) → nat_lt n k ≡ false → serves p s.cells native n ≡ false
       unnamed s st n past = grind (arith, nat_tests, unserved_message p native, is_below n k)
 
-      request_of : (s : State) → StandsFor first s → (n : ℕ) (b : Bool) → nat_lt n k ≡ b → cond b (requested (all_bereaved p native s.cells) n) (requested s.cells n) ≡ requested (all_bereaved p native s.cells) n
+      request_of : (s : State) → StandsFor first s → (n : ℕ) (b : Bool) →
+          nat_lt n k ≡ b → cond b (requested (all_bereaved p native s.cells) n) (requested s.cells n) ≡ requested (all_bereaved p native s.cells) n
       request_of s st n x below = grind (arith, nat_tests, request_after p native s.cells n, unnamed s st n)
 
-      session_of : (s : State) → StandsFor first s → (n : ℕ) (b : Bool) → nat_lt n k ≡ b → cond b (in_session (all_bereaved p native s.cells) n) (in_session s.cells n) ≡ in_session (all_bereaved p native s.cells) n
+      session_of : (s : State) → StandsFor first s → (n : ℕ) (b : Bool) →
+          nat_lt n k ≡ b → cond b (in_session (all_bereaved p native s.cells) n) (in_session s.cells n) ≡ in_session (all_bereaved p native s.cells) n
       session_of s st n x below = grind (arith, nat_tests, session_after p native s.cells n, unnamed s st n)
 
 -- ---- the turn
@@ -325,7 +336,8 @@ module _ (p : Image) (native : ℕ) (m b : Parts) (bereaves : Bereaves p native 
   abbrev pub killed_parts : Parts
   killed_parts = record m { active = b.active; sessions = record b.sessions { killed = m.sessions.killed ++ native ∷ [] }; rest = record m.rest { delivered = suc m.rest.delivered } }
 
-  pub killed_is : (w : Standing) (r : Counters) → w ≡ record b.sessions { killed = b.sessions.killed ++ native ∷ [] } → r ≡ record b.rest { delivered = suc b.rest.delivered } → record b { sessions = w; rest = r } ≡ killed_parts
+  pub killed_is : (w : Standing) (r : Counters) → w ≡ record b.sessions { killed = b.sessions.killed ++ native ∷ [] } →
+      r ≡ record b.rest { delivered = suc b.rest.delivered } → record b { sessions = w; rest = r } ≡ killed_parts
   killed_is w r sessions rest = grind (arith, nat_tests, sessions)
 
   module _ (s : State) (st : StandsFor was s) where

@@ -53,8 +53,8 @@ module _ (p : Image) (old new : Active) (cs ds : List Cell) (b : Beside cs ds) (
       where
         go : (x : Bool) → is_kept_server (request_at old.table j) ≡ x → NotesBy x old new j waits → SameRequests p new ds
         go true serves asks = record {
-          stands = standing_follows new (requested cs) (requested ds) (queued_anew j (Some waits) (queued p cs)) (queued p ds) (λ n. sym (b.requests n)) (λ n asked. queues n (ap is_some (sym (b.requests n)) ∙ asked) (j == n) refl)
-              (asks.stands (requested cs) (queued p cs) same.stands);
+          stands = standing_follows new (requested cs) (requested ds) (queued_anew j (Some waits) (queued p cs)) (queued p ds) (λ n. sym (b.requests n))
+              (λ n asked. queues n (ap is_some (sym (b.requests n)) ∙ asked) (j == n) refl) (asks.stands (requested cs) (queued p cs) same.stands);
           limit = asks.limit ∙ same.limit;
         }
           where
@@ -65,12 +65,14 @@ module _ (p : Image) (old new : Active) (cs ds : List Cell) (b : Beside cs ds) (
                 ap (λ y. cond y (Some waits) (queued p cs n)) e ∙ ap Some (is ∙ ap (λ i. has_more (service_of ds i).queue) name) ∙ sym (of_server p (named ds n) (service_of ds n) server)
             queues n asked false e = ap (λ y. cond y (Some waits) (queued p cs n)) e ∙ others n asked e
         go false serves still = subst (λ a. SameRequests p a ds) (sym still) (record {
-          stands = standing_follows old (requested cs) (requested ds) (queued p cs) (queued p ds) (λ n. sym (b.requests n)) (λ n asked. queues n (ap is_some (sym (b.requests n)) ∙ asked) (j == n) refl) same.stands;
+          stands = standing_follows old (requested cs) (requested ds)
+              (queued p cs) (queued p ds) (λ n. sym (b.requests n)) (λ n asked. queues n (ap is_some (sym (b.requests n)) ∙ asked) (j == n) refl) same.stands;
           limit = same.limit;
         })
           where
             queues : (n : ℕ) → is_some (requested cs n) ≡ true → (y : Bool) → (j == n) ≡ y → queued p cs n ≡ queued p ds n
             queues n asked true e =
                 let plain : is_some (queued p ds n) ≡ false = sym (told n asked) ∙ ap (λ i. is_kept_server (request_at old.table i)) (sym (eqb-true j n e)) ∙ serves in
-                of_none (queued p cs n) (kind_alone p (named cs n) (service_of cs n) (service_of ds n) ∙ ap (λ o. is_some (queue_in p o (service_of ds n))) (sym (there n asked)) ∙ plain) ∙ sym (of_none (queued p ds n) plain)
+                of_none (queued p cs n) (kind_alone p (named cs n) (service_of cs n) (service_of ds n)
+                ∙ ap (λ o. is_some (queue_in p o (service_of ds n))) (sym (there n asked)) ∙ plain) ∙ sym (of_none (queued p ds n) plain)
             queues n asked false e = others n asked e

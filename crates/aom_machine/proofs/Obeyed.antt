@@ -75,8 +75,8 @@ module _ (p : Image) (m : Parts) (s : State) (st : StandsFor (record { image = p
   pub servers_below : (o : Object) → named s.cells o.name ≡ Some o → is_server p o.thing ≡ true → o.name < p.header.cells
   servers_below o lives serves = grind (arith, nat_tests, message_plain p Message)
 
-  module _
-      (command : Command) (name : ℕ) (free : named s.cells name ≡ None) (high : 4096 ≤ name) (k : kept.State) (store : Store) (a : Active) (clients : SameClients k (commanded p c v command name).cells (commanded p c v command name).clients)
+  module _ (command : Command) (name : ℕ) (free : named s.cells name ≡ None) (high : 4096 ≤ name)
+      (k : kept.State) (store : Store) (a : Active) (clients : SameClients k (commanded p c v command name).cells (commanded p c v command name).clients)
       (sized : AreSized p.header.cells k) (sessions : SessionsSame m.clients k) (messages : SameMessages p store (commanded p c v command name).cells) (server : Option ℕ)
       (touched : (n : ℕ) → (server ≡ Some n → ⊥) → Untouched p c v command n) (hears : NotesIf server k m.active a) where
     abbrev then : State
@@ -89,7 +89,8 @@ module _ (p : Image) (m : Parts) (s : State) (st : StandsFor (record { image = p
     form = commanded_form p c v command name
 
     beside : Beside s.cells then.cells
-    beside = commanded_beside p c v (beside_withdrawn p st.typing st.sound.wired v typed_now st.kept.fit m.clients st.agrees.services.clients m.messages st.agrees.services.messages c) command name free high
+    beside = commanded_beside p c v (beside_withdrawn
+        p st.typing st.sound.wired v typed_now st.kept.fit m.clients st.agrees.services.clients m.messages st.agrees.services.messages c) command name free high
 
     tells : Told_alike s.cells then.cells
     tells = commanded_told p c v (told_withdrawn p st.typing st.sound.wired v typed_now st.kept.fit m.clients st.agrees.services.clients c) command name free
@@ -104,7 +105,8 @@ module _ (p : Image) (m : Parts) (s : State) (st : StandsFor (record { image = p
     fit = fit_commanded p c v typed_now.good.tidy st.kept.fit waiting command name free
 
     queues : (n : ℕ) → (server ≡ Some n → ⊥) → (service_of then.cells n).queue ≡ (service_of s.cells n).queue
-    queues n away = commanded_queue p c v typed_now.good.tidy st.kept.fit (λ i x e h. (queue_empty p st.typing st.sound.wired v typed_now v.clients st.kept.fit i x e h).0) command name free n (touched n away)
+    queues n away = commanded_queue p c v typed_now.good.tidy st.kept.fit
+        (λ i x e h. (queue_empty p st.typing st.sound.wired v typed_now v.clients st.kept.fit i x e h).0) command name free n (touched n away)
 
     abbrev new : Parts
     new = record m { clients = k; messages = store; active = a; rest = record m.rest { delivered = suc m.rest.delivered } }
@@ -133,7 +135,9 @@ module _ (p : Image) (m : Parts) (s : State) (st : StandsFor (record { image = p
         apart x out = grind arith
 
         values : (r : Place) → Represents (value new r) (word_at s.tasks r) (held then.cells r)
-        values r = shows_again p st.typing there (others m) k m.stack.tasks m.cells m.entries.items s.cells s.tasks typed fit clients sessions (λ q out. commanded_holds p c v (λ i e. holds_withdrawn p st.typing st.sound.wired v typed_now st.kept.fit m.clients st.agrees.services.clients c i e) q (apart q out) command name) st.agrees.values r
+        values r = shows_again p st.typing there (others m) k m.stack.tasks m.cells m.entries.items s.cells s.tasks typed fit clients sessions (λ q out.
+            commanded_holds p c v (λ i e. holds_withdrawn p st.typing st.sound.wired v typed_now st.kept.fit m.clients st.agrees.services.clients c i e) q
+            (apart q out) command name) st.agrees.values r
 
         requests : SameRequests p a then.cells
         requests = by server touched_queues hears
@@ -143,8 +147,8 @@ module _ (p : Image) (m : Parts) (s : State) (st : StandsFor (record { image = p
 
             by : (x : Option ℕ) → ((n : ℕ) → (x ≡ Some n → ⊥) → (service_of then.cells n).queue ≡ (service_of s.cells n).queue) → NotesIf x k m.active a → SameRequests p a then.cells
             by None same still = subst (λ b. SameRequests p b then.cells) (sym still) (requests_beside p m.active s.cells then.cells beside (λ n asked. same n (λ e. none-some n e)) st.agrees.requests)
-            by (Some j) same notes =
-                noted_requests p m.active a s.cells then.cells beside st.agrees.requests j (λ n other. same n (λ e. false≢true (sym other ∙ eq-eqb j n (same_Some j n e)))) (is_queued k j) (waits_alike k then.cells then.clients clients j) notes
+            by (Some j) same notes = noted_requests p m.active a s.cells then.cells beside st.agrees.requests j (λ n other. same n
+                (λ e. false≢true (sym other ∙ eq-eqb j n (same_Some j n e)))) (is_queued k j) (waits_alike k then.cells then.clients clients j) notes
 
     -- and so it stands for the state
     pub obeyed_stands : StandsFor (record { image = p; parts = new }) then

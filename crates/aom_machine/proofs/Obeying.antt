@@ -77,24 +77,29 @@ module _ (p : Image) (c : ℕ) (v : State) (k : kept.State) (same : SameClients 
   messages_connect class slots name still = grind (arith, nat_tests, by_connecting p c v, messages_served p before v.cells)
 
   -- what is sent is kept, where it is not refused
-  pub messages_send : (words : List ℤ) (place : Option ℕ) → IfSome place (λ m. (m < 1024) × (message_at before m ≡ None)) → kept.send_refusal c place k ≡ refusal p c v (Send words) → Keeps_sent (kept.send_refusal c place k) place words before after → SameMessages p after (commanded p c v (Send words) (sent_name place)).cells
+  pub messages_send : (words : List ℤ) (place : Option ℕ) →
+      IfSome place (λ m. (m < 1024) × (message_at before m ≡ None)) → kept.send_refusal c place k ≡ refusal p c v (Send words) →
+      Keeps_sent (kept.send_refusal c place k) place words before after → SameMessages p after (commanded p c v (Send words) (sent_name place)).cells
   messages_send words place free alike is_kept = go (refusal p c v (Send words)) refl place refl free (subst (λ r. Keeps_sent r place words before after) alike is_kept)
     where
       -- it needs a place
       no_place : (r : Option Refusal) (b : Bool) → kept.sending_to r b None ≡ None → ⊥
       no_place r b e = grind arith
 
-      went_in : (m : ℕ) → m < 1024 → Keeps_sent None (Some m) words before after → refusal p c v (Send words) ≡ None → SameMessages p after (sending p c v None (client_at v.clients c) (message_name m) words).cells
+      went_in : (m : ℕ) → m < 1024 → Keeps_sent None (Some m) words before after →
+          refusal p c v (Send words) ≡ None → SameMessages p after (sending p c v None (client_at v.clients c) (message_name m) words).cells
       went_in m low is_kept e =
           let o = only_open (client_at v.clients c) (unrefused p c v (row (client_at v.clients c)).send e) in
           let from = messages_served p before v.cells o.0 _ messages in
           subst (λ x. SameMessages p after (sending p c v None x (message_name m) words).cells) (sym o.3)
           (message_made p before after (reserved (asked_last (Message_of c (message_name m))) o.0 v.cells) _ m words from refl (λ w. at_read words w) low is_kept.0 is_kept.1)
 
-      go : (r : Option Refusal) → refusal p c v (Send words) ≡ r → (y : Option ℕ) → place ≡ y → IfSome y (λ m. (m < 1024) × (message_at before m ≡ None)) → Keeps_sent r y words before after → SameMessages p after (sending p c v r (client_at v.clients c) (sent_name y) words).cells
+      go : (r : Option Refusal) → refusal p c v (Send words) ≡ r → (y : Option ℕ) → place ≡ y → IfSome y (λ m. (m < 1024) × (message_at before m ≡ None)) →
+          Keeps_sent r y words before after → SameMessages p after (sending p c v r (client_at v.clients c) (sent_name y) words).cells
       go (Some r) e y f free is_kept = still_kept p before after v.cells is_kept messages
       go None e (Some m) f free is_kept = went_in m free.0 is_kept e
-      go None e None f free is_kept = absurd (no_place (row (kept.client_at k c)).send (kept.has_slot (length (kept.sent_at k c)) (kept.client_at k c)) (sym (ap (λ y. kept.send_refusal c y k) f) ∙ alike ∙ e))
+      go None e None f free is_kept = absurd (no_place (row (kept.client_at k c)).send
+          (kept.has_slot (length (kept.sent_at k c)) (kept.client_at k c)) (sym (ap (λ y. kept.send_refusal c y k) f) ∙ alike ∙ e))
 
   -- what a client leaves is kept no more
   module _ (withdraws : Forgets (kept.freed (Some Unconnected) c k) before after → SameMessages p after (withdrawn c v.cells)) where
@@ -108,7 +113,8 @@ module _ (p : Image) (c : ℕ) (v : State) (k : kept.State) (same : SameClients 
     some_alike x y e = grind arith
 
     pub messages_close : Forgets (kept.freed (row (kept.client_at k c)).close c k) before after → (name : ℕ) → SameMessages p after (commanded p c v Close name).cells
-    messages_close f name = messages_left (row (kept.client_at k c)).close (row (client_at v.clients c)).close (some_alike _ _ (ap (λ x. (row x).close) (sym (same.at c)) ∙ row_close (kept.client_at k c))) f
+    messages_close f name = messages_left (row (kept.client_at k c)).close
+        (row (client_at v.clients c)).close (some_alike _ _ (ap (λ x. (row x).close) (sym (same.at c)) ∙ row_close (kept.client_at k c))) f
 
     pub messages_die : Forgets (kept.freed (row (kept.client_at k c)).die c k) before after → (name : ℕ) → SameMessages p after (commanded p c v Die name).cells
     messages_die f name = messages_left (row (kept.client_at k c)).die (row (client_at v.clients c)).die (some_alike _ _ (ap (λ x. (row x).die) (sym (same.at c)) ∙ row_die (kept.client_at k c))) f

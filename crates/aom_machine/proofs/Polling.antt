@@ -83,7 +83,8 @@ module _ (p : Image) (m : Parts) (native : ℕ) where
       one_timers =
           let r = request.0 in
           let none : r.timer ≡ None = sym (ap timer_in request.1) ∙ untimed p m s st native id both.0 in
-          timers_same m.active a (requested s.cells) _ (queued p s.cells) (queued p s.cells) (timer_anew id r (completed_with (recorded code) r) (requested s.cells) request.1 none) st.agrees.requests.stands
+          timers_same m.active a (requested s.cells) _ (queued p s.cells)
+          (queued p s.cells) (timer_anew id r (completed_with (recorded code) r) (requested s.cells) request.1 none) st.agrees.requests.stands
           (makes.stands (requested s.cells) (queued p s.cells) r st.agrees.requests.stands request.1)
 
       module _ (idle : s.tasks ≡ []) where
@@ -153,7 +154,8 @@ module _ (p : Image) (m : Parts) (native : ℕ) where
     nothing : PollsAll native None was (now m.active)
     nothing s st = (None, tt, tt, λ told. rest_turns p m turned_now (Polls native None) (λ r. record r { polled = suc native }) (λ s. (refl, refl)) (λ r. refl) told s st)
 
-    pub polls_well : (completion : Option (ℕ × ℤ)) (a : Active) → IfSome completion (λ x. FitsWord x.1) → IsOwed was native completion → Finishes completion m.active a → PollsAll native completion was (now a)
+    pub polls_well : (completion : Option (ℕ × ℤ)) (a : Active) →
+        IfSome completion (λ x. FitsWord x.1) → IsOwed was native completion → Finishes completion m.active a → PollsAll native completion was (now a)
     polls_well None a fits owed same s st = subst (λ x. PollsAll native None was (now x)) (sym same) nothing s st
     polls_well (Some x) a fits owed makes s st =
         let here = owes_in_all p m native x.0 owed.0 s owed.1 st owed.2 in

@@ -161,7 +161,8 @@ module _ (p : Image) (m : Machine_parts) (s : State) (st : StandsFor (record { i
     pub at_rest_here : IsIdle m
     at_rest_here = record {
       idle = none_alike m.stack.tasks s.tasks st.agrees.tasks idle;
-      bare = nil_from_length m.entries.items (same_items_length m.entries.items s.items st.agrees.entries ∙ ap length (none_formed s.items (st.typed.items ∙ ap items_of (at_rest p st.typing s st.typed idle))));
+      bare = nil_from_length m.entries.items (same_items_length m.entries.items s.items st.agrees.entries
+          ∙ ap length (none_formed s.items (st.typed.items ∙ ap items_of (at_rest p st.typing s st.typed idle))));
       room = (let deep = st.agrees.room in omega (arith, deep));
     }
 
@@ -194,5 +195,6 @@ pub client_same : (m : Machine_parts) (n : ℕ) (e : Entry) (es : List Entry) �
 client_same m n e es at c = grind (arith, nat_tests)
 
 -- and what serves it is there still
-pub take_again : (p : Image) (m : Machine_parts) (n : ℕ) (active : Active) (can : HasCaller p m n) (t : Taken) → kept.first_entry m.clients (kept.queue_at m.clients n) ≡ Some t → CanTake p can.class t.client t.entry (machine_taken n active m)
+pub take_again : (p : Image) (m : Machine_parts) (n : ℕ) (active : Active) (can : HasCaller p m n) (t : Taken) →
+    kept.first_entry m.clients (kept.queue_at m.clients n) ≡ Some t → CanTake p can.class t.client t.entry (machine_taken n active m)
 take_again p m n active can t waits = grind (arith, nat_tests, client_same m n, same, same_Some can.first)

@@ -46,7 +46,8 @@ left_alike cs ds alike x place = grind (arith, nat_tests, worth_alike)
 
 -- ---- tasks that stand for each other have the same rank
 
-frame_alike : (p : Image) (f : Machine_frame) (fr : Frame) (to to' : ℕ) → SameFrame f fr → to ≡ to' → left_in (method_at p f.method) f.counters to * price p f.method ≡ left_in (method_at p fr.method) fr.counters to' * price p fr.method
+frame_alike : (p : Image) (f : Machine_frame) (fr : Frame) (to to' : ℕ) → SameFrame f fr →
+    to ≡ to' → left_in (method_at p f.method) f.counters to * price p f.method ≡ left_in (method_at p fr.method) fr.counters to' * price p fr.method
 frame_alike p f fr to to' same there = grind (arith, nat_tests, left_alike f.counters fr.counters, at_index 0 f.counters)
 
 -- where an object sits its rank does not tell

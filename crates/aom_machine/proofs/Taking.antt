@@ -57,7 +57,8 @@ module _ (p : Image) (m : Parts) (turned : progress_by m.rest.ended m.stack.task
   pub can_serve : Stands was → meanings.Picks m.active a (Some id) → is_served (request_at a.table id) ≡ true → HasCaller p (record m { active = a }) id
   can_serve (s, st) picks serves = can s st picks serves
 
-  pub serves_one : (told now : LineBuffer) (new : Parts) → meanings.Picks m.active a (Some id) → is_served (request_at a.table id) ≡ true → ServesFirst p id (record m { active = a }) told now new → Picked was true told now (record { image = p; parts = new })
+  pub serves_one : (told now : LineBuffer) (new : Parts) → meanings.Picks m.active a (Some id) → is_served (request_at a.table id) ≡ true →
+      ServesFirst p id (record m { active = a }) told now new → Picked was true told now (record { image = p; parts = new })
   serves_one told now new picks serves d s st =
       let between = machine_between was s st turned in
       let k = it_is s st picks serves in (

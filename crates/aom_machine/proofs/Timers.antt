@@ -26,7 +26,8 @@ not_itself : (o : Option Timer) → ComesSooner o o → ⊥
 not_itself x e = grind (arith, nat_tests, not_both)
 
 distinct : (asked : ℕ → Option Request) (ts : List Machine_timer) → Timely asked ts → AreDistinct id_of ts
-distinct asked ts t = λ i j d less within same. not_itself (timer_in (asked (get_or ts j d).id)) (subst (λ n. ComesSooner (timer_in (asked n)) (timer_in (asked (get_or ts j d).id))) same (t.sooner i j d less within))
+distinct asked ts t = λ i j d less within same. not_itself (timer_in (asked (get_or ts j d).id))
+    (subst (λ n. ComesSooner (timer_in (asked n)) (timer_in (asked (get_or ts j d).id))) same (t.sooner i j d less within))
 
 -- behind the first stand those of all others
 behind : (asked : ℕ → Option Request) (t : Machine_timer) (ts : List Machine_timer) → Timely asked (t ∷ ts) → Timely (asked_anew t.id None asked) ts
@@ -38,7 +39,8 @@ one_list : (asked : ℕ → Option Request) (ts us : List Machine_timer) → Tim
 one_list asked [] [] a b = refl
 one_list asked [] (u ∷ us) a b = grind (arith, nat_tests, first_timer asked u us b)
 one_list asked (t ∷ ts) [] a b = grind (arith, nat_tests, first_timer asked t ts a)
-one_list asked (t ∷ ts) (u ∷ us) a b = go (t.id == u.id) refl (λ same. one_list (asked_anew t.id None asked) ts us (behind asked t ts a) (subst (λ n. Timely (asked_anew n None asked) us) (sym same) (behind asked u us b)))
+one_list asked (t ∷ ts) (u ∷ us) a b = go (t.id == u.id) refl (λ same. one_list
+    (asked_anew t.id None asked) ts us (behind asked t ts a) (subst (λ n. Timely (asked_anew n None asked) us) (sym same) (behind asked u us b)))
   where
     go : (x : Bool) → (t.id == u.id) ≡ x → (t.id ≡ u.id → ts ≡ us) → t ∷ ts ≡ u ∷ us
     go true e rest =
@@ -56,7 +58,8 @@ one_list asked (t ∷ ts) (u ∷ us) a b = go (t.id == u.id) refl (λ same. one_
         absurd (true≢false (sym (g.first t.id f.timer other f.runs) ∙ not_both f.timer g.timer (f.first u.id g.timer (λ same. other (sym same)) g.runs)))
 
 -- requests whose timers are the same
-pub timers_same : (old new : Active) (asked other : ℕ → Option Request) (queues then : ℕ → Option Bool) → ((n : ℕ) → timer_in (asked n) ≡ timer_in (other n)) → Asks_for old asked queues → Asks_for new other then → new.pending.timers ≡ old.pending.timers
+pub timers_same : (old new : Active) (asked other : ℕ → Option Request) (queues then : ℕ → Option Bool) →
+    ((n : ℕ) → timer_in (asked n) ≡ timer_in (other n)) → Asks_for old asked queues → Asks_for new other then → new.pending.timers ≡ old.pending.timers
 timers_same old new asked other queues then same a b =
     one_list other new.pending.timers old.pending.timers (record { dues = b.dues; sooner = b.sooner }) (timely_kept asked other old.pending.timers same (record { dues = a.dues; sooner = a.sooner }))
 

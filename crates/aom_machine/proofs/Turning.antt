@@ -84,7 +84,8 @@ module _ (cs : List Cell) (o : Object) (f : Request → Request) where
   pub cells_then : (p : Image) (h : Heap) → SameCells p h cs → SameCells p h (with_request f o cs)
   cells_then p h same = cells_asked p h cs o.name (on_request f (requested cs o.name)) same
 
-  pub requests_asked : (p : Image) (old new : Active) (r : Request) → named cs o.name ≡ Some o → requested cs o.name ≡ Some r → Makes old new o.name f → SameRequests p old cs → SameRequests p new (with_request f o cs)
+  pub requests_asked : (p : Image) (old new : Active) (r : Request) →
+      named cs o.name ≡ Some o → requested cs o.name ≡ Some r → Makes old new o.name f → SameRequests p old cs → SameRequests p new (with_request f o cs)
   requests_asked p old new r lives is makes h = record {
     stands =
         standing_follows new (asked_anew o.name (Some (f r)) (requested cs)) (requested (with_request f o cs)) (queued p cs) (queued p (with_request f o cs)) now
@@ -109,7 +110,8 @@ pub silent : (told : LineBuffer) → told ≡ record told { lines = told.lines +
 silent told = ap (λ ls. record told { lines = ls }) (sym (append-nil told.lines))
 
 -- what no place tells is another
-pub stands_rest : (p : Image) (m : Parts) (s : State) (r r' : Counters) → r ≡ r' → r'.steps ≡ s.rest.steps → StandsFor (record { image = p; parts = m }) s → StandsFor (record { image = p; parts = record m { rest = r } }) (record s { rest = r' })
+pub stands_rest : (p : Image) (m : Parts) (s : State) (r r' : Counters) → r ≡ r' → r'.steps ≡ s.rest.steps →
+    StandsFor (record { image = p; parts = m }) s → StandsFor (record { image = p; parts = record m { rest = r } }) (record s { rest = r' })
 stands_rest p m s r r' same steps st = record {
   typing = st.typing;
   sound = st.sound;
@@ -124,7 +126,8 @@ stands_rest p m s r r' same steps st = record {
 }
 
 -- a part that changes nothing but what no place tells, and writes nothing
-pub rest_turns : (p : Image) (m : Parts) → progress_by m.rest.ended m.stack.tasks ≡ Turned → (part : Turning) (f : Counters → Counters) → ((s : State) → (turned p s part ≡ Goes (record s { rest = f s.rest })) × (written_by p s part ≡ [])) →
+pub rest_turns : (p : Image) (m : Parts) → progress_by m.rest.ended m.stack.tasks ≡ Turned →
+    (part : Turning) (f : Counters → Counters) → ((s : State) → (turned p s part ≡ Goes (record s { rest = f s.rest })) × (written_by p s part ≡ [])) →
     ((r : Counters) → (f r).steps ≡ r.steps) → TakesAll (record { image = p; parts = m }) part (record { image = p; parts = record m { rest = f m.rest } })
 rest_turns p m over part f goes steps told s st = record {
   between = machine_between (record { image = p; parts = m }) s st over;
@@ -136,7 +139,8 @@ rest_turns p m over part f goes steps told s st = record {
 
 -- so it is of the machine as it is seen, which stands for a state again
 module _ (p : Image) (m : Parts) (view : Machine) (is : record { image = p; parts = m } ≡ view) (over : progress view ≡ Turned) (stands : Stands (record { image = p; parts = m })) where
-  seen_turns : (part : Turning) (f : Counters → Counters) → ((s : State) → (turned p s part ≡ Goes (record s { rest = f s.rest })) × (written_by p s part ≡ [])) → ((r : Counters) → (f r).steps ≡ r.steps) →
+  seen_turns : (part : Turning) (f : Counters → Counters) →
+      ((s : State) → (turned p s part ≡ Goes (record s { rest = f s.rest })) × (written_by p s part ≡ [])) → ((r : Counters) → (f r).steps ≡ r.steps) →
       TakesAll view part (record { image = p; parts = record m { rest = f m.rest } }) × Stands (record { image = p; parts = record m { rest = f m.rest } })
   seen_turns part f goes steps =
       let takes = rest_turns p m (subst (λ (x : Machine). progress x ≡ Turned) (sym is) over) part f goes steps in
@@ -144,23 +148,28 @@ module _ (p : Image) (m : Parts) (view : Machine) (is : record { image = p; part
       (subst (λ (x : Machine). TakesAll x part (record { image = p; parts = record m { rest = f m.rest } })) is takes, (t.state, t.stands))
 
   -- time passes
-  pub passes_time : (time : ℕ) → TakesAll view (Passes time) (record { image = p; parts = record m { rest = record m.rest { clock = time; polled = 0 } } }) × Stands (record { image = p; parts = record m { rest = record m.rest { clock = time; polled = 0 } } })
+  pub passes_time : (time : ℕ) → TakesAll view (Passes time) (record { image = p; parts = record m { rest = record m.rest { clock = time; polled = 0 } } }) ×
+      Stands (record { image = p; parts = record m { rest = record m.rest { clock = time; polled = 0 } } })
   passes_time time = seen_turns (Passes time) (λ r. record r { clock = time; polled = 0 }) (λ s. (refl, refl)) (λ r. refl)
 
   -- an event comes
-  pub hears_one : TakesAll view Hears (record { image = p; parts = record m { rest = record m.rest { delivered = suc m.rest.delivered } } }) × Stands (record { image = p; parts = record m { rest = record m.rest { delivered = suc m.rest.delivered } } })
+  pub hears_one : TakesAll view Hears (record { image = p; parts = record m { rest = record m.rest { delivered = suc m.rest.delivered } } }) ×
+      Stands (record { image = p; parts = record m { rest = record m.rest { delivered = suc m.rest.delivered } } })
   hears_one = seen_turns Hears (λ r. record r { delivered = suc r.delivered }) (λ s. (refl, refl)) (λ r. refl)
 
   -- and what the machine stands for then it stood for before it
-  pub stands_back : (s : State) → StandsFor (record { image = p; parts = record m { rest = record m.rest { delivered = suc m.rest.delivered } } }) s → StandsFor view (record s { rest = view.parts.rest })
+  pub stands_back : (s : State) → StandsFor (record { image = p; parts = record m { rest = record m.rest { delivered = suc m.rest.delivered } } }) s →
+      StandsFor view (record s { rest = view.parts.rest })
   stands_back s st = subst (λ (x : Machine). StandsFor x (record s { rest = x.parts.rest })) is
       (stands_rest p (record m { rest = record m.rest { delivered = suc m.rest.delivered } }) s m.rest m.rest refl (ap (λ (r : Counters). r.steps) st.agrees.rest) st)
 
   -- the run is over
-  pub waits_ends : TakesAll view Waits (record { image = p; parts = record m { rest = record m.rest { ended = Some Waiting } } }) × Stands (record { image = p; parts = record m { rest = record m.rest { ended = Some Waiting } } })
+  pub waits_ends : TakesAll view Waits (record { image = p; parts = record m { rest = record m.rest { ended = Some Waiting } } }) ×
+      Stands (record { image = p; parts = record m { rest = record m.rest { ended = Some Waiting } } })
   waits_ends = seen_turns Waits (λ r. record r { ended = Some Waiting }) (λ s. (refl, refl)) (λ r. refl)
 
-  pub cut_ends : TakesAll view Cuts (record { image = p; parts = record m { rest = record m.rest { ended = Some Limit } } }) × Stands (record { image = p; parts = record m { rest = record m.rest { ended = Some Limit } } })
+  pub cut_ends : TakesAll view Cuts (record { image = p; parts = record m { rest = record m.rest { ended = Some Limit } } }) ×
+      Stands (record { image = p; parts = record m { rest = record m.rest { ended = Some Limit } } })
   cut_ends = seen_turns Cuts (λ r. record r { ended = Some Limit }) (λ s. (refl, refl)) (λ r. refl)
 
 -- when the timer that is due first is due
@@ -190,8 +199,8 @@ module _ (p : Image) (m : Parts) (a : Active) (turned : progress_by m.rest.ended
   abbrev after : Machine
   after = record { image = p; parts = record m { active = a } }
 
-  module _ (s : State) (st : StandsFor before s) (o : Object) (r : Request) (lives : named s.cells o.name ≡ Some o) (is : requested s.cells o.name ≡ Some r) (untold : awaited (requested s.cells o.name) ≡ None)
-      (makes : Makes m.active a o.name timed_out) where
+  module _ (s : State) (st : StandsFor before s) (o : Object) (r : Request) (lives : named s.cells o.name ≡ Some o)
+      (is : requested s.cells o.name ≡ Some r) (untold : awaited (requested s.cells o.name) ≡ None) (makes : Makes m.active a o.name timed_out) where
     abbrev timed : State
     timed = record s { cells = with_request timed_out o s.cells }
 
@@ -222,7 +231,8 @@ module _ (p : Image) (m : Parts) (a : Active) (turned : progress_by m.rest.ended
         (comes_asked s.cells o.name (on_request timed_out (requested s.cells o.name)) (λ k e. sym waits_for_none ∙ e))
         (asked_same st.sound.prices is_entry o.name (on_request timed_out (requested s.cells o.name)) s.cells) refl timed_agrees
 
-  timer_completes : (id : ℕ) → Makes m.active a id timed_out → ((asked : ℕ → Option Request) (queues : ℕ → Option Bool) → Asks_for m.active asked queues → IsFirstDue m.rest.clock id asked) → Completed before true after
+  timer_completes : (id : ℕ) → Makes m.active a id timed_out → ((asked : ℕ → Option Request) (queues : ℕ → Option Bool) →
+      Asks_for m.active asked queues → IsFirstDue m.rest.clock id asked) → Completed before true after
   timer_completes id makes first told s st =
       let f = first (requested s.cells) (queued p s.cells) st.agrees.requests.stands in
       let d = due_first s.cells m.rest.clock id st.typed.good.tidy f in
@@ -288,7 +298,8 @@ dispatch_line : (s : State) (o : Object) (class : ℕ) → o.thing ≡ An_object
 dispatch_line s o class e = ap (λ (t : Thing). run_line s (record o { thing = t })) e
 
 -- no task of a dispatch that begins shows anything, and nor does its mark
-begun_value : (d : Machine_dispatch) (us : List Machine_task) (h : Heap) (es : List Machine_item) (others : Others) (q : Place) → value_in (Ends d ∷ us) h (Is_mark ∷ es) others q ≡ value_in us h es others q
+begun_value : (d : Machine_dispatch) (us : List Machine_task) (h : Heap) (es : List Machine_item) (others : Others) (q : Place) →
+    value_in (Ends d ∷ us) h (Is_mark ∷ es) others q ≡ value_in us h es others q
 begun_value d us h es others x = grind (arith, nat_tests, at_depth, register_past us, going_past us, mark_shows_none es)
 
 no_word : (d : Dispatch) (q : Place) → word_at (Dispatched d ∷ []) q ≡ word_at [] q
@@ -344,15 +355,16 @@ module _ (p : Image) (m : Parts) (s : State) (st : StandsFor (record { image = p
 
   -- whether it is a server the table tells
   pub serving_told : (id : ℕ) (k : Found id) → is_served (request_at m.active.table id) ≡ is_server p k.candidate.seat.object.thing
-  serving_told id k =
-      told_server m.active (requested s.cells) (queued p s.cells) st.agrees.requests.stands id k.candidate.request k.asked ∙ ap is_some (queue_told id k (is_server p k.candidate.seat.object.thing) refl) ∙ some (is_server p k.candidate.seat.object.thing)
+  serving_told id k = told_server m.active (requested s.cells) (queued p s.cells) st.agrees.requests.stands id k.candidate.request k.asked
+      ∙ ap is_some (queue_told id k (is_server p k.candidate.seat.object.thing) refl) ∙ some (is_server p k.candidate.seat.object.thing)
     where
       some : (b : Bool) → is_some (cond b (Some (has_more (service_of s.cells id).queue)) None) ≡ b
       some true = refl
       some false = refl
 
   -- and so it does once the pick has taken the signal of an object
-  pub serving_after : (id : ℕ) (k : Found id) (a : Active) → meanings.TakesUp (is_served (request_at m.active.table id)) m.active a id → is_served (request_at a.table id) ≡ is_server p k.candidate.seat.object.thing
+  pub serving_after : (id : ℕ) (k : Found id) (a : Active) →
+      meanings.TakesUp (is_served (request_at m.active.table id)) m.active a id → is_served (request_at a.table id) ≡ is_server p k.candidate.seat.object.thing
   serving_after id k a takes = go (is_served (request_at m.active.table id)) refl takes
     where
       go : (b : Bool) → is_served (request_at m.active.table id) ≡ b → meanings.TakesUp b m.active a id → is_served (request_at a.table id) ≡ is_server p k.candidate.seat.object.thing
@@ -361,7 +373,8 @@ module _ (p : Image) (m : Parts) (s : State) (st : StandsFor (record { image = p
           let stands = makes.stands (requested s.cells) (queued p s.cells) k.candidate.request st.agrees.requests.stands k.asked in
           let then = here id (Some (taken_up k.candidate.request)) (requested s.cells) in
           let plain = sym (serving_told id k) ∙ e in
-          told_server a (asked_anew id (Some (taken_up k.candidate.request)) (requested s.cells)) (queued p s.cells) stands id (taken_up k.candidate.request) then ∙ ap is_some (queue_told id k false plain) ∙ sym plain
+          told_server a (asked_anew id (Some (taken_up k.candidate.request)) (requested s.cells))
+          (queued p s.cells) stands id (taken_up k.candidate.request) then ∙ ap is_some (queue_told id k false plain) ∙ sym plain
 
   -- an object that is no server
   record Pick (id : ℕ) : Type 0 where
@@ -386,7 +399,8 @@ module _ (p : Image) (m : Parts) (s : State) (st : StandsFor (record { image = p
         ready = sym (or_false (is_ready k.candidate.request)) ∙ ap (λ q. meanings.goes k.candidate.request q) (sym none) ∙ k.goes;
         plain = plain;
         unqueued = none;
-        keeps = subst (λ b. Keeps p st.typing (cond b (serves_first p k.candidate.seat (service_of s.cells k.candidate.seat.object.name).queue s) (dispatched (part_of p Handles k.candidate.seat.object.thing) k.candidate.seat s))) plain k.keeps;
+        keeps = subst (λ b. Keeps p st.typing (cond b (serves_first p k.candidate.seat (service_of s.cells k.candidate.seat.object.name).queue s)
+            (dispatched (part_of p Handles k.candidate.seat.object.thing) k.candidate.seat s))) plain k.keeps;
       }
 
   module _ (id : ℕ) (k : Pick id) where
@@ -409,8 +423,8 @@ module _ (p : Image) (m : Parts) (s : State) (st : StandsFor (record { image = p
       is = is;
       small = subst (λ o. IfSome o (λ c. c < 256)) is (class_fits p m s st.agrees id);
       handled = subst (λ t. IsSome (part_of p Handles t)) its_class.1 its_method;
-      enlisted =
-          ap is_some (told_state a _ _ (makes.stands (requested s.cells) (queued p s.cells) k.found.candidate.request st.agrees.requests.stands k.found.asked) id (taken_up k.found.candidate.request) (here id (Some (taken_up k.found.candidate.request)) (requested s.cells)) k.unqueued);
+      enlisted = ap is_some (told_state a _ _ (makes.stands (requested s.cells) (queued p s.cells) k.found.candidate.request st.agrees.requests.stands
+          k.found.asked) id (taken_up k.found.candidate.request) (here id (Some (taken_up k.found.candidate.request)) (requested s.cells)) k.unqueued);
       idle = none_running;
       bare = none_marked;
       room = (let deep = st.agrees.room in omega (arith, deep));
@@ -457,7 +471,8 @@ module _ (p : Image) (m : Parts) (s : State) (st : StandsFor (record { image = p
         entries = (tt, st.agrees.entries);
         requests = requests_asked s.cells object taken_up p m.active a k.found.candidate.request lives asked made st.agrees.requests;
         natives = natives_asked p m.sessions s.killed s.cells object.name _ st.agrees.natives;
-        services = services_asked p s.cells object (on_request taken_up (requested s.cells object.name)) lives (order_same taken_up (λ r. refl) (requested s.cells object.name)) (same_waits (requested s.cells object.name)) st.agrees.services;
+        services = services_asked p s.cells object (on_request taken_up (requested s.cells object.name)) lives
+            (order_same taken_up (λ r. refl) (requested s.cells object.name)) (same_waits (requested s.cells object.name)) st.agrees.services;
         rest = ap (λ (r : Counters). record r { steps = 0; polled = 0 }) st.agrees.rest;
         room = st.agrees.room;
         entry_room = st.agrees.entry_room;
@@ -498,10 +513,12 @@ module _ (p : Image) (m : Parts) (s : State) (st : StandsFor (record { image = p
         typed = subst (λ h. Keeps p st.typing (dispatched h k.found.candidate.seat s)) method k.keeps;
         calm = (λ clearing. absurd (true≢false (sym clearing)), (refl, tt));
         traps = (tt, (tt, tt));
-        room = dispatches_with_room p (at 0 st.sound.depths.depths) st.sound.heights then.cells d.method (Inside object k.found.candidate.seat.place) (Of_object k.found.candidate.seat) s.items then.rest s.killed s.clients none_pushed;
+        room = dispatches_with_room p (at 0 st.sound.depths.depths) st.sound.heights then.cells d.method
+            (Inside object k.found.candidate.seat.place) (Of_object k.found.candidate.seat) s.items then.rest s.killed s.clients none_pushed;
         waits = tt;
         kept = record {
-          fit = fit_same p s.clients s.cells then.cells (same_requested s.cells object (on_request taken_up (requested s.cells object.name)) (λ e. on_none taken_up (requested s.cells object.name) e)) st.kept.fit;
+          fit = fit_same p s.clients s.cells then.cells (same_requested s.cells object
+              (on_request taken_up (requested s.cells object.name)) (λ e. on_none taken_up (requested s.cells object.name) e)) st.kept.fit;
           stage = tt;
           tokens = grind (arith, nat_tests, apart_still s.cells, comes_asked s.cells, same_waits);
         };
@@ -510,9 +527,9 @@ module _ (p : Image) (m : Parts) (s : State) (st : StandsFor (record { image = p
       }
 
       same_status : d.status ≡ status_of (requested s.cells object.name)
-      same_status =
-          same_Some _ _ (sym d.completed ∙ told_status a _ _ (makes.stands (requested s.cells) (queued p s.cells) k.found.candidate.request st.agrees.requests.stands k.found.asked) id (taken_up k.found.candidate.request) (here id (Some (taken_up k.found.candidate.request)) (requested s.cells)) k.unqueued)
-          ∙ sym (ap status_of asked)
+      same_status = same_Some _ _ (sym d.completed
+          ∙ told_status a _ _ (makes.stands (requested s.cells) (queued p s.cells) k.found.candidate.request st.agrees.requests.stands k.found.asked) id
+          (taken_up k.found.candidate.request) (here id (Some (taken_up k.found.candidate.request)) (requested s.cells)) k.unqueued) ∙ sym (ap status_of asked)
 
       same_line : Run_line m.rest.clock d.class d.status ∷ [] ≡ run_line s object
       same_line = grind (arith, nat_tests, same_status, dispatch_line s, thing)
@@ -526,7 +543,8 @@ module _ (p : Image) (m : Parts) (turned : progress_by m.rest.ended m.stack.task
   found_in a id c s st = found_of p m s st (machine_between was s st turned).idle id (c.1 (requested s.cells) (queued p s.cells) st.agrees.requests.stands)
 
   -- an object that is no server
-  plain_in : (a : Active) (id : ℕ) (c : meanings.Picks m.active a (Some id)) → is_served (request_at a.table id) ≡ false → (s : State) (st : StandsFor was s) → is_server p (found_in a id c s st).candidate.seat.object.thing ≡ false
+  plain_in : (a : Active) (id : ℕ) (c : meanings.Picks m.active a (Some id)) →
+      is_served (request_at a.table id) ≡ false → (s : State) (st : StandsFor was s) → is_server p (found_in a id c s st).candidate.seat.object.thing ≡ false
   plain_in a id c plain s st = sym (serving_after p m s st (machine_between was s st turned).idle id (found_in a id c s st) a c.0) ∙ plain
 
   -- the pick has taken its signal
@@ -541,7 +559,8 @@ module _ (p : Image) (m : Parts) (turned : progress_by m.rest.ended m.stack.task
       let idle = (machine_between was s st turned).idle in
       can_dispatch p m s st idle id (pick_of p m s st idle id (found_in a id c s st) (plain_in a id c plain s st)) a (makes_in a id c plain s st)
 
-  pub picks_one : (a : Active) (id : ℕ) (told now : LineBuffer) (new : Parts) → meanings.Picks m.active a (Some id) → is_served (request_at a.table id) ≡ false → Dispatches p id (record m { active = a }) told now new → Picked was true told now (record { image = p; parts = new })
+  pub picks_one : (a : Active) (id : ℕ) (told now : LineBuffer) (new : Parts) → meanings.Picks m.active a (Some id) → is_served
+      (request_at a.table id) ≡ false → Dispatches p id (record m { active = a }) told now new → Picked was true told now (record { image = p; parts = new })
   picks_one a id told now new c plain d s st =
       let idle = (machine_between was s st turned).idle in
       let k = pick_of p m s st idle id (found_in a id c s st) (plain_in a id c plain s st) in
@@ -558,7 +577,8 @@ module _ (p : Image) (m : Parts) (turned : progress_by m.rest.ended m.stack.task
         },
       )
 
-  pub picks_none : (a : Active) (told : LineBuffer) (o : Option ℕ) → ((id : ℕ) → o ≡ Some id → ⊥) → meanings.Picks m.active a o → Picked was false told told (record { image = p; parts = record m { active = a } })
+  pub picks_none : (a : Active) (told : LineBuffer) (o : Option ℕ) →
+      ((id : ℕ) → o ≡ Some id → ⊥) → meanings.Picks m.active a o → Picked was false told told (record { image = p; parts = record m { active = a } })
   picks_none a told (Some id) not c = absurd (not id refl)
   picks_none a told None not c = (
     ap (λ x. record { image = p; parts = record m { active = x } }) c.0,

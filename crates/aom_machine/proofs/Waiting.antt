@@ -208,12 +208,14 @@ trapped_wait p t cs (Run fr ∷ ts) w = trapped_wait p t cs ts w.1
 trapped_wait p t cs (_ ∷ ts) w = w
 
 -- a session is in no such place
-session_apart : (cs : List Cell) (n : ℕ) (clients : List ℕ) (x : Seat) (q : Place) → ((n c : ℕ) → same_place (Elsewhere (Session n c)) q ≡ false) → first_session cs n clients ≡ Some x → same_place x.place q ≡ false
+session_apart : (cs : List Cell) (n : ℕ) (clients : List ℕ) (x : Seat) (q : Place) →
+    ((n c : ℕ) → same_place (Elsewhere (Session n c)) q ≡ false) → first_session cs n clients ≡ Some x → same_place x.place q ≡ false
 session_apart cs n [] x q apart e = cc
 session_apart cs n (c ∷ clients) x q apart e = grind (arith, nat_tests, session_apart cs n clients x q apart, same_Some)
 
 -- a method's move
-module _ (p : Image) (t : Typing) (c : Choice) (s : State) (fr : Frame) (ts : List Task) (at_hand : s.tasks ≡ Run fr ∷ ts) (i : Instr) (there : instr_at p fr.method fr.place ≡ Some i) (met : AllTrue (needs p c fr ts s i)) (h : RunsTyped p t s.cells fr ts) (w : AllWait p t s.cells ts) where
+module _ (p : Image) (t : Typing) (c : Choice) (s : State) (fr : Frame) (ts : List Task) (at_hand : s.tasks ≡ Run fr ∷ ts) (i : Instr)
+    (there : instr_at p fr.method fr.place ≡ Some i) (met : AllTrue (needs p c fr ts s i)) (h : RunsTyped p t s.cells fr ts) (w : AllWait p t s.cells ts) where
   abbrev W : State → Type 0
   W u = OthersWait p t u.cells u.tasks
 
@@ -248,8 +250,10 @@ module _ (p : Image) (t : Typing) (c : Choice) (s : State) (fr : Frame) (ts : Li
   ended_w = still_wait p t s.cells over.cells ts (λ d j lt. (ended_alike p fr s.cells).held_so (Register d j)) w
 
   returns : (g : Gives) (a : ℕ) (us : List Task) → us ≡ ts → W (returned p fr ts over g a us)
-  returns g a (Run caller ∷ below) e = still_wait p t over.cells _ below (result_same p fr ts over g a _ below (let n = ap length e in omega (arith, n))) (subst (AllWait p t over.cells) (sym e) ended_w).1
-  returns g a (Trapped ∷ Run caller ∷ below) e = still_wait p t over.cells _ below (result_same p fr ts over g a _ below (let n = ap length e in omega (arith, n))) (subst (AllWait p t over.cells) (sym e) ended_w).1
+  returns g a (Run caller ∷ below) e = still_wait p t over.cells _ below
+      (result_same p fr ts over g a _ below (let n = ap length e in omega (arith, n))) (subst (AllWait p t over.cells) (sym e) ended_w).1
+  returns g a (Trapped ∷ Run caller ∷ below) e = still_wait p t over.cells _ below
+      (result_same p fr ts over g a _ below (let n = ap length e in omega (arith, n))) (subst (AllWait p t over.cells) (sym e) ended_w).1
   returns g a (Trapped ∷ Dispatched d ∷ below) e =
       still_wait p t over.cells _ below (accepted_same d a (length ts) over.cells (length below) (let n = ap length e in omega (arith, n))) (subst (AllWait p t over.cells) (sym e) ended_w)
   returns g a (Destroy ∷ below) e = line_wait p t over.cells fr.method fr.home fr.height below (subst (AllWait p t over.cells) (sym e) ended_w)
@@ -301,14 +305,15 @@ module _ (p : Image) (t : Typing) (c : Choice) (s : State) (fr : Frame) (ts : Li
   acts_wait (Calls target m first) deleted fits =
       calls (suc (length ts)) m first (after_of p m) target _ (omega arith) (subst (λ j. AllTrue (needs p c fr ts s j)) fits.1 met) (λ sh. ap (λ j. while_waiting p (Some j) sh) fits.1)
   acts_wait (Cancels m) deleted fits = cancels fits.0
-  acts_wait (Sets_trap target m first) deleted fits =
-      calls (suc (suc (length ts))) m first (resting p (method_class p m)) target _ (omega arith) (subst (λ j. AllTrue (needs p c fr ts s j)) fits.1 met) (λ sh. ap (λ j. while_waiting p (Some j) sh) fits.1)
+  acts_wait (Sets_trap target m first) deleted fits = calls (suc (suc (length ts))) m first (resting p (method_class p m)) target _
+      (omega arith) (subst (λ j. AllTrue (needs p c fr ts s j)) fits.1 met) (λ sh. ap (λ j. while_waiting p (Some j) sh) fits.1)
   acts_wait (Returns g a) deleted fits = returns g a ts refl
   acts_wait (Leaves code u) deleted fits = trapped_wait p t _ ts (still_wait p t s.cells _ ts (updated_same p fr ts s u) w)
   acts_wait (Destroys o a words) deleted fits = deleted o a words refl
   acts_wait (Destroys_last o) deleted fits =
       let cs = moved (top_place s.items) (Going (suc (length ts))) s.cells in
-      begun_wait p t cs o _ (Run fr ∷ ts) (pops cs (λ x. ap (λ j. while_waiting p (Some j) x) fits.0) (λ d j. held_apart s.cells (top_place s.items) (Going (suc (length ts))) (Register d j) refl refl))
+      begun_wait p t cs o _ (Run fr ∷ ts) (pops cs
+      (λ x. ap (λ j. while_waiting p (Some j) x) fits.0) (λ d j. held_apart s.cells (top_place s.items) (Going (suc (length ts))) (Register d j) refl refl))
   acts_wait (Operates m x) deleted fits = pops s.cells (λ x. ap (λ j. while_waiting p (Some j) x) fits.0) (λ d j. refl)
 
 module _ (p : Image) (t : Typing) (c : Choice) (s u : State) (typed : WellTyped p t s) (others : OthersWait p t s.cells s.tasks) (goes : step p c s ≡ Goes u) where
@@ -358,11 +363,13 @@ module _ (p : Image) (t : Typing) (c : Choice) (s u : State) (typed : WellTyped 
   stage_waits x client Parts v = tt
 
   -- a session goes over a server that goes, or the server's destructor runs
-  parting_waits : (ts : List Task) (o : Object) (y : Option Seat) → s.tasks ≡ Closing ∷ Destroy ∷ ts → y ≡ first_session s.cells o.name (service_of s.cells o.name).sessions → V (parting p o y ts (counted p s))
+  parting_waits : (ts : List Task) (o : Object) (y : Option Seat) →
+      s.tasks ≡ Closing ∷ Destroy ∷ ts → y ≡ first_session s.cells o.name (service_of s.cells o.name).sessions → V (parting p o y ts (counted p s))
   parting_waits ts o None top is = destructed_wait p t s.cells o _ ts (over_these (Closing ∷ Destroy ∷ ts) top)
   parting_waits ts o (Some x) top is =
       let over = Closing ∷ Destroy ∷ ts in
-      begun_wait p t _ x.object _ over (still_wait p t s.cells _ ts (λ d i lt. held_apart s.cells x.place (Going (length over)) (Register d i) (session_apart s.cells o.name (service_of s.cells o.name).sessions x (Register d i) (λ n c. refl) (sym is)) refl) (over_these over top))
+      begun_wait p t _ x.object _ over (still_wait p t s.cells _ ts (λ d i lt. held_apart s.cells x.place (Going (length over)) (Register d i)
+      (session_apart s.cells o.name (service_of s.cells o.name).sessions x (Register d i) (λ n c. refl) (sym is)) refl) (over_these over top))
 
   ends : (d : Dispatch) → V (dispatch_ends p d (counted p s))
   ends Of_main = main_wait (counted p s) s.rest.stopped (held s.cells (Elsewhere Root))
@@ -381,8 +388,8 @@ module _ (p : Image) (t : Typing) (c : Choice) (s u : State) (typed : WellTyped 
       go (Acts fr ts i e top there met fits same) = subst V (sym same)
           (acts_wait p t c (counted p s) fr ts top i there met (runs_typed p t s fr ts typed top) (over_these (Run fr ∷ ts) top) e
           (λ o a words is. let may = subst (May p c fr ts (counted p s) i) is fits in subst V same (deleted fr ts i o a top there may.0 may.1)) fits)
-      go (Vanishes ts o top there owns same) =
-          subst V (sym same) (resumed_wait p t _ ts (still_wait p t s.cells _ ts (gone_same (service_of s.cells o.name).sessions (length ts) o.name (length ts) s.cells) (over_these (Destroy ∷ ts) top)))
+      go (Vanishes ts o top there owns same) = subst V (sym same) (resumed_wait p t _ ts
+          (still_wait p t s.cells _ ts (gone_same (service_of s.cells o.name).sessions (length ts) o.name (length ts) s.cells) (over_these (Destroy ∷ ts) top)))
       go (Empties ts o top there same) = subst V (sym same) (parting_waits ts o (first_session s.cells o.name (service_of s.cells o.name).sessions) top refl)
       go (Clears code ts items o top last there same) =
           let cs = moved (Entry (length items)) (Going (suc (length ts))) s.cells in

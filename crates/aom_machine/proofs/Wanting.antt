@@ -111,8 +111,8 @@ module _ (p : Image) (m : Parts) (s : State) (st : StandsFor (record { image = p
     is_there = not (is_killed m.sessions n) && is_open m.sessions id
 
     -- a call with two words, at a session that is open
-    worded_so :
-        (w : (function word : ℤ) → Wanted) (v : (function word : ℤ) → Machine_wanted) → ((f x : ℤ) → as_wanted (v f x) ≡ w f x) → (a b : ℕ) → is_some (word h.frame a) ≡ true → is_some (word h.frame b) ≡ true →
+    worded_so : (w : (function word : ℤ) → Wanted) (v : (function word : ℤ) → Machine_wanted) →
+        ((f x : ℤ) → as_wanted (v f x) ≡ w f x) → (a b : ℕ) → is_some (word h.frame a) ≡ true → is_some (word h.frame b) ≡ true →
         cond (is_served s n id) (Some (w (read h.frame h.below s a) (read h.frame h.below s b))) None ≡ option_map as_wanted (cond is_there (Some (v (word_here m a) (word_here m b))) None)
     worded_so w v same a b some_a some_b = grind (arith, nat_tests, served, word_told a some_a, word_told b some_b, mapped)
 
@@ -124,7 +124,8 @@ module _ (p : Image) (m : Parts) (s : State) (st : StandsFor (record { image = p
     call_so A_cancel words = ap (λ b. cond b (Some (Cancels n id)) None) (sym owes) ∙ mapped owed (Cancel n id)
     call_so A_close words = ap (λ b. cond b (Some (Closes n id)) None) session ∙ mapped (is_open m.sessions id) (Machine_close n id)
 
-    pub served_wants : (id ≡ null → ⊥) → native_of (kind_of p (class_at m.cells id)) ≡ Some n → (i : Instr) → instr_at p (method_here m.stack.tasks) (place_here m.stack.tasks) ≡ Some i → wanted p s ≡ option_map as_wanted (wanted_of m owed n id i)
+    pub served_wants : (id ≡ null → ⊥) → native_of (kind_of p (class_at m.cells id)) ≡ Some n →
+        (i : Instr) → instr_at p (method_here m.stack.tasks) (place_here m.stack.tasks) ≡ Some i → wanted p s ≡ option_map as_wanted (wanted_of m owed n id i)
     served_wants some serves i here = by_home ∙ ap (λ o. wanted_by s p h.frame h.below h.frame.home (exchange_at o)) (found i here) ∙ go h.frame.home refl
       where
         go : (home : Home) → h.frame.home ≡ home → wanted_by s p h.frame h.below home (exchange i) ≡ option_map as_wanted (wanted_of m owed n id i)
@@ -172,7 +173,8 @@ module _ (p : Image) (m : Parts) (s : State) (st : StandsFor (record { image = p
   pub nothing_going : native_of (kind_of p (class_at m.cells (going_here m.stack.tasks))) ≡ None → wanted p s ≡ None
   nothing_going none = wanted_is ∙ ap (wanted_going s object.0) none
 
-  pub closes_going : (n : ℕ) → native_of (kind_of p (class_at m.cells (going_here m.stack.tasks))) ≡ Some n → wanted p s ≡ option_map as_wanted (cond (is_open m.sessions (going_here m.stack.tasks)) (Some (Machine_close n (going_here m.stack.tasks))) None)
+  pub closes_going : (n : ℕ) → native_of (kind_of p (class_at m.cells (going_here m.stack.tasks))) ≡ Some n →
+      wanted p s ≡ option_map as_wanted (cond (is_open m.sessions (going_here m.stack.tasks)) (Some (Machine_close n (going_here m.stack.tasks))) None)
   closes_going n serves = wanted_is ∙ ap (wanted_going s object.0) serves ∙ ap (λ k. cond (in_session s.cells k) (Some (Closes n k)) None) (sym number)
       ∙ ap (λ b. cond b (Some (Closes n (going_here m.stack.tasks))) None) (sym (st.agrees.natives.sessions (going_here m.stack.tasks)))
       ∙ mapped (is_open m.sessions (going_here m.stack.tasks)) (Machine_close n (going_here m.stack.tasks))

@@ -64,7 +64,8 @@ ended p m es s x d agrees marked same shut =
   where
     values : (r : Place) → Represents (value_in (Ends x ∷ []) m.cells es.items (others m) r) (word_at (Dispatched d ∷ []) r) (held s.cells r)
     values (Register k i) = shows_null _ _ _ (cond_same (0 == k) null) (cond_same (0 == k) None) (shut.registers k i)
-    values (Entry k) = shows_null _ _ _ (sym (mark_shows_none es.items k) ∙ ap (λ (e : Machine_items). entry_in e.items k) (sym marked) ∙ agrees.values (Entry k) ∙ ap number (shut.entries k)) refl (shut.entries k)
+    values (Entry k) = shows_null _ _ _ (sym (mark_shows_none es.items k)
+        ∙ ap (λ (e : Machine_items). entry_in e.items k) (sym marked) ∙ agrees.values (Entry k) ∙ ap number (shut.entries k)) refl (shut.entries k)
     values (Field n f) = agrees.values (Field n f)
     values (Going k) = shows_null _ _ _ (cond_same (0 == k) null) refl (shut.goings k)
     values (Elsewhere o) = agrees.values (Elsewhere o)

@@ -89,8 +89,8 @@ module _ (p : Image) (m : Parts) (h : At_hand p m) where
     over : int_eq request.status pending ≡ false
 
   cancels : (c : Choice) → is_active_kind (own_kind p h.frame.method) ≡ true → is_cancel (method_role p h.frame.method) ≡ true → not (hangs p h.frame h.below h.state) ≡ true → Cancels
-  cancels c active plays ends =
-      method_layer (λ ls. (forms h.state.items ≡ items_of ls) × Good p h.typing h.state.cells ls) h.frame h.below h.typed.layers (sym h.typed.tasks ∙ h.top) (h.typed.items, h.typed.good) (λ sh ls rest good.
+  cancels c active plays ends = method_layer (λ ls. (forms h.state.items ≡ items_of ls) × Good p h.typing h.state.cells ls) h.frame h.below h.typed.layers
+      (sym h.typed.tasks ∙ h.top) (h.typed.items, h.typed.good) (λ sh ls rest good.
       let at : At p h.typing h.state h.frame sh ls = record { tasks = h.top ∙ ap (λ us. Run h.frame ∷ us) (sym rest); items = good.0; undos = h.typed.undos; good = good.1 } in
       let it = of_object p h.typing (main_of_none p h.wired) c h.state h.frame sh ls at (active_listed (own_kind p h.frame.method) active) in
       let of_it : own_request h.state.cells h.frame.home ≡ requested h.state.cells it.object.name = ap (own_request h.state.cells) it.home in

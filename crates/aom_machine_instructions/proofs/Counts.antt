@@ -107,7 +107,8 @@ module _ (p : Image) (t : Typing) (depth : ℕ → ℕ) (cs : List Cell) (items 
   few_tasks back (Dispatching d seats ∷ ls) s r = subst (λ us. Few (tasks_of (Dispatching d seats ∷ us))) (sym s.1) (omega arith)
   few_tasks back _ s r = absurd (assumption tt)
 
-pub tasks_at_hand : (p : Image) (t : Typing) (depths : HasDepths p) (heights : ℕ → ℕ) (s : State) → WellTyped p t s → IsCalm p s.tasks → HasRoom p (at 0 depths.depths) heights s → length s.tasks ≤ 1036
+pub tasks_at_hand : (p : Image) (t : Typing) (depths : HasDepths p) (heights : ℕ → ℕ) (s : State) →
+    WellTyped p t s → IsCalm p s.tasks → HasRoom p (at 0 depths.depths) heights s → length s.tasks ≤ 1036
 tasks_at_hand p t depths heights s w is_calm room =
     let few = few_tasks p t (at 0 depths.depths) s.cells s.items Now w.layers w.good.stack (subst (AllRunUnder p (at 0 depths.depths) s.cells s.items) w.tasks room.runs) in
     let methods = few_methods (at 0 depths.depths) depths.are.within (tasks_of w.layers) (subst (AllUnder (at 0 depths.depths)) w.tasks room.under) in
@@ -136,7 +137,8 @@ marks_under p t s fr ts w same = method_layer (Stack p t s.cells Now) fr ts w.la
     let few = few_traps p t s.cells (Returns fr.method fr.home) ls h.4 in
     omega (arith, few, all_matched p t s w, ap traps same, ap traps under, ap methods_in under))
 
-pub marks_at_hand : (p : Image) (t : Typing) → IsWired p → IsTyped p t → IsStrongest p t → (depths : HasDepths p) (heights : HasHeights p) (s : State) (fr : Frame) (ts : List Task) → WellTyped p t s → s.tasks ≡ Run fr ∷ ts → HasRoom p (at 0 depths.depths) (at 0 heights.heights) s
+pub marks_at_hand : (p : Image) (t : Typing) → IsWired p → IsTyped p t → IsStrongest p t → (depths : HasDepths p) (heights : HasHeights p)
+    (s : State) (fr : Frame) (ts : List Task) → WellTyped p t s → s.tasks ≡ Run fr ∷ ts → HasRoom p (at 0 depths.depths) (at 0 heights.heights) s
     → (target : Target) (m first x : ℕ) → instr_at p fr.method fr.place ≡ Some (Trap target m first x) → marks s.items < 256
 marks_at_hand p t wired typed strongest depths heights s fr ts w same room target m first x here =
     let h = stands_here p t s fr ts w same in
@@ -149,7 +151,8 @@ marks_at_hand p t wired typed strongest depths heights s fr ts w same room targe
 -- ---- entries
 
 -- there is room for what is pushed
-pub push_at_hand : (p : Image) (t : Typing) → IsWired p → IsTyped p t → IsStrongest p t → (depths : HasDepths p) (heights : HasHeights p) (s : State) (fr : Frame) (ts : List Task) → WellTyped p t s → s.tasks ≡ Run fr ∷ ts → HasRoom p (at 0 depths.depths) (at 0 heights.heights) s
+pub push_at_hand : (p : Image) (t : Typing) → IsWired p → IsTyped p t → IsStrongest p t → (depths : HasDepths p) (heights : HasHeights p)
+    (s : State) (fr : Frame) (ts : List Task) → WellTyped p t s → s.tasks ≡ Run fr ∷ ts → HasRoom p (at 0 depths.depths) (at 0 heights.heights) s
     → (a : ℕ) → instr_at p fr.method fr.place ≡ Some (Push a) → entries_in s.items < 1024
 push_at_hand p t wired typed strongest depths heights s fr ts w same room a here =
     let h = stands_here p t s fr ts w same in
@@ -158,10 +161,13 @@ push_at_hand p t wired typed strongest depths heights s fr ts w same room a here
     let needs = subst (λ i. AllTrue (rule_needs p fr.method fr.place h.shape i)) it x.needs in
     let leads = subst (λ i. AllLead t fr.method (flows p fr.method fr.place h.shape i)) it x.flows in
     let roomy = subst (λ l. Roomy p (at 0 depths.depths) (at 0 heights.heights) s.cells s.items l) same (room.under, room.runs, room.fit, room.entries) in
-    let few = pushes p t (at 0 depths.depths) (at 0 heights.heights) (tables_of p t wired strongest depths heights) (record { name = 0; refused = false; answer = pos 0 }) fr ts s w.undos same h (none_going_there p t s w (length (Run fr ∷ ts)) (ap length same)) roomy (line_goes p t wired s w fr ts same) (Push a) (with_entry (entry_of (register h.shape a)) (set_register h.shape a Null)) here needs.1.0 leads.0 refl in
+    let few = pushes p t (at 0 depths.depths) (at 0 heights.heights) (tables_of p t wired strongest depths heights)
+    (record { name = 0; refused = false; answer = pos 0 }) fr ts s w.undos same h (none_going_there p t s w (length (Run fr ∷ ts)) (ap length same)) roomy
+    (line_goes p t wired s w fr ts same) (Push a) (with_entry (entry_of (register h.shape a)) (set_register h.shape a Null)) here needs.1.0 leads.0 refl in
     omega (arith, few)
 
-pub push_operation_at_hand : (p : Image) (t : Typing) → IsWired p → IsTyped p t → IsStrongest p t → (depths : HasDepths p) (heights : HasHeights p) (s : State) (fr : Frame) (ts : List Task) → WellTyped p t s → s.tasks ≡ Run fr ∷ ts → HasRoom p (at 0 depths.depths) (at 0 heights.heights) s
+pub push_operation_at_hand : (p : Image) (t : Typing) → IsWired p → IsTyped p t → IsStrongest p t → (depths : HasDepths p) (heights : HasHeights p)
+    (s : State) (fr : Frame) (ts : List Task) → WellTyped p t s → s.tasks ≡ Run fr ∷ ts → HasRoom p (at 0 depths.depths) (at 0 heights.heights) s
     → (a m : ℕ) → instr_at p fr.method fr.place ≡ Some (PushOperation a m) → entries_in s.items < 1024
 push_operation_at_hand p t wired typed strongest depths heights s fr ts w same room a m here =
     let h = stands_here p t s fr ts w same in
@@ -170,5 +176,7 @@ push_operation_at_hand p t wired typed strongest depths heights s fr ts w same r
     let needs = subst (λ i. AllTrue (rule_needs p fr.method fr.place h.shape i)) it x.needs in
     let leads = subst (λ i. AllLead t fr.method (flows p fr.method fr.place h.shape i)) it x.flows in
     let roomy = subst (λ l. Roomy p (at 0 depths.depths) (at 0 heights.heights) s.cells s.items l) same (room.under, room.runs, room.fit, room.entries) in
-    let few = pushes p t (at 0 depths.depths) (at 0 heights.heights) (tables_of p t wired strongest depths heights) (record { name = 0; refused = false; answer = pos 0 }) fr ts s w.undos same h (none_going_there p t s w (length (Run fr ∷ ts)) (ap length same)) roomy (line_goes p t wired s w fr ts same) (PushOperation a m) (with_entry Pushed_operation h.shape) here needs.1.0 leads.0 refl in
+    let few = pushes p t (at 0 depths.depths) (at 0 heights.heights) (tables_of p t wired strongest depths heights)
+    (record { name = 0; refused = false; answer = pos 0 }) fr ts s w.undos same h (none_going_there p t s w (length (Run fr ∷ ts)) (ap length same)) roomy
+    (line_goes p t wired s w fr ts same) (PushOperation a m) (with_entry Pushed_operation h.shape) here needs.1.0 leads.0 refl in
     omega (arith, few)

@@ -44,8 +44,8 @@ module _ (p : Image) (formed : WellFormed p) (m : Parts) (t : Typing) (s : State
   deep = same_length m.stack.tasks s.tasks agrees.tasks
 
   -- an object is destroyed
-  object_goes : (n : ℕ) (is : List Machine_item) (js : List Item) → m.entries.items ≡ Holds_object n ∷ is → SameItems is js → (o : Option Object) → held s.cells (Entry (length js)) ≡ o → top_is_whole s.cells (An_object ∷ js) ≡ true
-      → Agrees p (dealing p (Holds_object n ∷ is) m) (destroyed p o js s.tasks s)
+  object_goes : (n : ℕ) (is : List Machine_item) (js : List Item) → m.entries.items ≡ Holds_object n ∷ is → SameItems is js → (o : Option Object) → held s.cells
+      (Entry (length js)) ≡ o → top_is_whole s.cells (An_object ∷ js) ≡ true → Agrees p (dealing p (Holds_object n ∷ is) m) (destroyed p o js s.tasks s)
   object_goes n is js was same None e whole = let none = sym whole ∙ ap (λ (o : Option Object). is_some o) e in cc
   object_goes n is js was same (Some o) e whole =
       let us = m.stack.tasks in
@@ -55,7 +55,8 @@ module _ (p : Image) (formed : WellFormed p) (m : Parts) (t : Typing) (s : State
       let even = same_items_length is js same in
       let long = deep in
       let v' = value_in us m.cells (Holds_object n ∷ is) (others m) in
-      let old : (q : Place) → Represents (v' q) (word_at ts q) (held s.cells q) = λ q. subst (λ es. Represents (value_in us m.cells es (others m) q) (word_at ts q) (held s.cells q)) was (agrees.values q) in
+      let old : (q : Place) → Represents (v' q) (word_at ts q) (held s.cells q) =
+      λ q. subst (λ es. Represents (value_in us m.cells es (others m) q) (word_at ts q) (held s.cells q)) was (agrees.values q) in
       let there = top_value us m.cells is (others m) n (length js) even in
       let name : n ≡ o.name = sym there ∙ old from ∙ ap number e in
       let empty : held s.cells (Going (length ts)) ≡ None = grind (arith, nat_tests, nothing_held p m t s typed agrees, going_past us) in

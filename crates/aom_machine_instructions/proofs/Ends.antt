@@ -69,8 +69,10 @@ at_end p t m s typed agrees ending = go refl refl (tops An_end m.stack.tasks end
         record { dispatch = x; place = same.0; held = e ∙ ap (λ us. Ends x ∷ us) (none_alike ms ts rest below); state = f ∙ ap (λ us. Dispatched d ∷ us) below ∙ ap (λ y. Dispatched y ∷ []) (sym same.1) }
 
 -- who is dispatched lives
-pub seat_lives : (p : Image) (t : Typing) (s : State) → WellTyped p t s → (d : Dispatch) (x : Seat) → s.tasks ≡ Dispatched d ∷ [] → checked_seat d ≡ Some x → named s.cells x.object.name ≡ Some x.object
-seat_lives p t s typed d x top is = dispatch_layer (Good p t s.cells) d [] typed.layers (sym typed.tasks ∙ top) typed.good (λ seats ls _ good. sits_lives s.cells seats x good.stack.2 (subst (λ y. SitsFirst s.cells y seats) is good.stack.3))
+pub seat_lives : (p : Image) (t : Typing) (s : State) →
+    WellTyped p t s → (d : Dispatch) (x : Seat) → s.tasks ≡ Dispatched d ∷ [] → checked_seat d ≡ Some x → named s.cells x.object.name ≡ Some x.object
+seat_lives p t s typed d x top is = dispatch_layer (Good p t s.cells) d [] typed.layers
+    (sym typed.tasks ∙ top) typed.good (λ seats ls _ good. sits_lives s.cells seats x good.stack.2 (subst (λ y. SitsFirst s.cells y seats) is good.stack.3))
 
 -- the root's destruction and its destructor find room there
 pub uproot_room : (p : Image) (m : Parts) → Stands (record { image = p; parts = m }) → IsEnding m.stack.tasks → length (below_first m.stack.tasks) + 2 < m.stack.depth
@@ -84,7 +86,8 @@ pub which : (m : Parts) (s : State) (e : AtEnd m s) (x : Machine_dispatch) → e
 which m s e x is = let both : Some e.dispatch ≡ Some x = sym (ap ending_here e.held) ∙ is in cc
 
 -- nothing is left at hand
-emptied : (p : Image) (m : Parts) (s : State) (r r' : Counters) → Agrees p m s → Closing s → r ≡ r' → Agrees p (record m { stack = record m.stack { tasks = [] }; rest = r }) (record s { tasks = []; rest = r' })
+emptied : (p : Image) (m : Parts) (s : State) (r r' : Counters) →
+    Agrees p m s → Closing s → r ≡ r' → Agrees p (record m { stack = record m.stack { tasks = [] }; rest = r }) (record s { tasks = []; rest = r' })
 emptied p m s r r' agrees shut same =
     grind (arith, nat_tests, agrees_with p, aside_counted p m s r r' (aside_of p m s agrees) same, aside_of p m s agrees, held s.cells, shows_null)
 
@@ -131,7 +134,8 @@ module _ (p : Image) (formed : WellFormed p) (m : Parts) (announced : m.rest.ann
 
   -- nothing
   left_alone : (r r' : Counters) → r ≡ r' → Agrees p (record m { stack = record m.stack { tasks = below_first m.stack.tasks }; rest = r }) (record s { tasks = []; rest = r' })
-  left_alone r r' same = subst (λ us. Agrees p (record m { stack = record m.stack { tasks = us }; rest = r }) (record s { tasks = []; rest = r' })) (sym (ap below_first e.held)) (emptied p m s r r' agrees shut same)
+  left_alone r r' same = subst (λ us. Agrees p (record m { stack = record m.stack { tasks = us }; rest = r }) (record s { tasks = []; rest = r' }))
+      (sym (ap below_first e.held)) (emptied p m s r r' agrees shut same)
 
   -- but for the root, where there is one and `stop` was run
   ends_alike : (r r' : Counters) → r ≡ r' → Agrees p (ended_dispatch p (record m { rest = r })) (main_ends p r'.stopped (held s.cells (Elsewhere Root)) (record s { rest = r' }))
@@ -147,7 +151,8 @@ module _ (p : Image) (formed : WellFormed p) (m : Parts) (announced : m.rest.ann
       alone : Agrees p (ends.closed old) (closed new)
       alone = left_alone (closed_counts r) (closed_counts r') (ap closed_counts same)
 
-      go : (stopped : Bool) (root : Option Object) → held s.cells (Elsewhere Root) ≡ root → Agrees p (cond (stopped && not (m.root == null)) (uprooted p old) (ends.closed old)) (main_ends p stopped root new)
+      go : (stopped : Bool) (root : Option Object) → held s.cells (Elsewhere Root) ≡ root →
+          Agrees p (cond (stopped && not (m.root == null)) (uprooted p old) (ends.closed old)) (main_ends p stopped root new)
       go false root is = alone
       go true None is = subst (λ b. Agrees p (cond (not b) (uprooted p old) (ends.closed old)) (closed new)) (sym (eq-eqb m.root null (agrees.values (Elsewhere Root) ∙ ap number is))) alone
       go true (Some o) is =
@@ -203,40 +208,50 @@ module _ (p : Image) (formed : WellFormed p) (m : Parts) (announced : m.rest.ann
       at_rest q,
     )
 
-    error_runs : FitsSigned w32 code → Agrees p (with_tasks (Runs_frame (with_register 0 (cast_unsigned w32 code) f) ∷ us) m) (record (at_close s) { tasks = Run (error_frame k asked_seat code (length s.items)) ∷ ts })
+    error_runs : FitsSigned w32 code → Agrees p (with_tasks (Runs_frame (with_register 0 (cast_unsigned w32 code) f) ∷ us) m)
+        (record (at_close s) { tasks = Run (error_frame k asked_seat code (length s.items)) ∷ ts })
     error_runs fits =
         let n = cast_unsigned w32 code in
         let here = Register 1 0 in
-        agrees_with p m (at_close s) (Runs_frame (with_register 0 n f) ∷ us) (Run (error_frame k asked_seat code (length s.items)) ∷ ts) (aside_counted p m s m.rest (at_close s).rest (aside_of p m s agrees) (same_counts (λ r. r)))
+        agrees_with p m (at_close s) (Runs_frame (with_register 0 n f) ∷ us) (Run (error_frame k asked_seat code (length s.items)) ∷ ts)
+        (aside_counted p m s m.rest (at_close s).rest (aside_of p m s agrees) (same_counts (λ r. r)))
         (reframed f fr (slice_set f.registers 0 n) (Some code ∷ []) 0 0 (begun_frame k x.number home (length s.items) refl (λ there. object_small p m s formed agrees (subject_of x) sits refl)) (length-set f.registers 0 n ∙ length-replicate 16 null) refl, ((e.place, refl), tt))
         (writes _ _ _ _ (held s.cells) _ here n (Some code) None base (to_z-of_z w32 code fits)
         (value_written f us m.cells m.entries.items (others m) 1 0 n 0 refl (let wide = length-replicate 16 null in omega arith))
         (word_written fr ts 0 0 (Some code)) (λ q. kept (held s.cells) here q ∙ ap (λ o. changed (held s.cells) here o q) (shut.registers 1 0)))
 
-  asking_alike : (method : Option ℕ) (x : Subject) (code : ℤ) → named s.cells x.number ≡ Some (subject_of x) → FitsSigned w32 code → Agrees p (ends.asking p method x code m) (asking p method (seat_of e.place x) code (at_close s))
+  asking_alike : (method : Option ℕ) (x : Subject) (code : ℤ) → named s.cells x.number ≡ Some (subject_of x) →
+      FitsSigned w32 code → Agrees p (ends.asking p method x code m) (asking p method (seat_of e.place x) code (at_close s))
   asking_alike None x code sits fits = answered_alike code
   asking_alike (Some k) x code sits fits = grind (arith, nat_tests, error_runs x sits code k fits)
 
 module _ (p : Image) (m : Parts) (told : LineBuffer) (announced : m.rest.announced ≡ true) where
   -- the end of a dispatch writes nothing
-  by_end : (new : Parts) (x : Machine_dispatch) → IsPlain x → ending_here m.stack.tasks ≡ Some x → ((t : Typing) (s : State) → WellFormed p → WellTyped p t s → Agrees p m s → (e : AtEnd m s) → Agrees p new (dispatch_ends p (dispatch_of e.place x) (at_close s))) → Moves p m told told new
+  by_end : (new : Parts) (x : Machine_dispatch) → IsPlain x → ending_here m.stack.tasks ≡ Some x → ((t : Typing) (s : State) → WellFormed p →
+      WellTyped p t s → Agrees p m s → (e : AtEnd m s) → Agrees p new (dispatch_ends p (dispatch_of e.place x) (at_close s))) → Moves p m told told new
   by_end new x plain ending ends t s sound typed kept agrees =
       let e = at_end p t m s typed agrees (ending_of m.stack.tasks ending) in
       let c = an_open p told.refused m s agrees in
       let after = dispatch_ends p (dispatch_of e.place e.dispatch) (at_close s) in
-      let is = step_of_end p c.0 s (dispatch_of e.place e.dispatch) e.state ∙ ap (λ ns. guarded ns after) (needs_none e.place e.dispatch s.cells (subst IsPlain (sym (which m s e x ending)) plain)) in (
+      let is = step_of_end p c.0 s (dispatch_of e.place e.dispatch) e.state
+      ∙ ap (λ ns. guarded ns after) (needs_none e.place e.dispatch s.cells (subst IsPlain (sym (which m s e x ending)) plain)) in (
         grind (arith, nat_tests, moved_so p m new told.refused t s after sound typed c is, which m s e x ending),
-        ap (λ ls. record told { lines = ls }) (sym (ap (λ us. told.lines ++ written_task p s us) e.state ∙ ap (λ ls. told.lines ++ ls) (tells_none e.place e.dispatch s.cells (subst IsPlain (sym (which m s e x ending)) plain)) ∙ append-nil told.lines)),
+        ap (λ ls. record told { lines = ls }) (sym (ap (λ us. told.lines ++ written_task p s us) e.state
+            ∙ ap (λ ls. told.lines ++ ls) (tells_none e.place e.dispatch s.cells (subst IsPlain (sym (which m s e x ending)) plain)) ∙ append-nil told.lines)),
       )
 
   pub main_moves : ending_here m.stack.tasks ≡ Some Main → Moves p m told told (ended_dispatch p m)
-  main_moves is = by_end _ Main tt is (λ t s formed typed agrees e. ends_alike p formed m announced t s typed agrees e m.rest (now p formed m announced t s typed agrees e) (same_counts p formed m announced t s typed agrees e (λ r. r)))
+  main_moves is = by_end _ Main tt is (λ t s formed typed agrees e. ends_alike p formed m announced t s typed agrees e m.rest
+      (now p formed m announced t s typed agrees e) (same_counts p formed m announced t s typed agrees e (λ r. r)))
 
   pub over_moves : ending_here m.stack.tasks ≡ Some End_of_run → Moves p m told told (record m { stack = record m.stack { tasks = below_first m.stack.tasks }; rest = over_counts m.rest })
-  over_moves is = by_end _ End_of_run tt is (λ t s formed typed agrees e. left_alone p formed m announced t s typed agrees e (over_counts m.rest) _ (same_counts p formed m announced t s typed agrees e over_counts))
+  over_moves is = by_end _ End_of_run tt is (λ t s formed typed agrees e. left_alone p formed m announced t s typed agrees e
+      (over_counts m.rest) _ (same_counts p formed m announced t s typed agrees e over_counts))
 
-  pub left_moves : (code : ℤ) → ending_here m.stack.tasks ≡ Some (MainLeft code) → Moves p m told told (record m { stack = record m.stack { tasks = below_first m.stack.tasks }; rest = left_counts code m.rest })
-  left_moves code is = by_end _ (MainLeft code) tt is (λ t s formed typed agrees e. left_alone p formed m announced t s typed agrees e (left_counts code m.rest) _ (same_counts p formed m announced t s typed agrees e (left_counts code)))
+  pub left_moves : (code : ℤ) → ending_here m.stack.tasks ≡ Some (MainLeft code) →
+      Moves p m told told (record m { stack = record m.stack { tasks = below_first m.stack.tasks }; rest = left_counts code m.rest })
+  left_moves code is = by_end _ (MainLeft code) tt is (λ t s formed typed agrees e. left_alone p formed m announced t s typed agrees e
+      (left_counts code m.rest) _ (same_counts p formed m announced t s typed agrees e (left_counts code)))
 
   pub object_moves : (x : Subject) → ending_here m.stack.tasks ≡ Some (Of_one x) → Moves p m told told (ended_dispatch p (ends.handled m))
   object_moves x is = by_end _ (Of_one x) tt is (λ t s formed. object_alike p formed m announced t s)

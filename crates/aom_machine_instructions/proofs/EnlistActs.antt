@@ -92,9 +92,10 @@ module _ (p : Image) (t : Table) (cs : List Cell) (o : Object) (r : Request) (li
       orders n k listed = ap order_in (there n (unlike n k listed))
 
   -- and a server is the last of its class
-  pub listed_server : (class : ℕ) → is_server p o.thing ≡ true → o.thing ≡ An_object_of class → class < 256 → Tidy cs → r.order ≡ next_order cs → SameListed p t cs → SameListed p (with_list class (list_at t class ++ o.name ∷ []) t) then
-  listed_server class serves is small tidy order same =
-      listed_last p t cs then o.name class small not_listed (λ k. now_listed k ∙ ap (λ b. b && is_of_class k o.thing) serves ∙ ap (is_of_class k) is) listed_there (λ n other. ap order_in (there n other)) last same
+  pub listed_server : (class : ℕ) → is_server p o.thing ≡ true → o.thing ≡ An_object_of class →
+      class < 256 → Tidy cs → r.order ≡ next_order cs → SameListed p t cs → SameListed p (with_list class (list_at t class ++ o.name ∷ []) t) then
+  listed_server class serves is small tidy order same = listed_last p t cs then o.name class small not_listed
+      (λ k. now_listed k ∙ ap (λ b. b && is_of_class k o.thing) serves ∙ ap (is_of_class k) is) listed_there (λ n other. ap order_in (there n other)) last same
     where
       after : (n : ℕ) (x : Option Object) (q : Option Request) → requested cs n ≡ q → lists p class x q ≡ true → order_in q < next_order cs
       after n (Some x) (Some q) e listed = newest cs tidy n q e
@@ -134,7 +135,8 @@ module _ (p : Image) (m : Parts) (h : At_hand p m) (x : OnObject p m h) (priorit
   queue_told : (b : Bool) → is_server p x.object.thing ≡ b → queued p cs (this m) ≡ cond b (Some false) None
   queue_told b e = grind (arith, nat_tests, named_here p m h x)
 
-  services_enlisted : (t : Table) → (SameListed p m.listed cs → SameListed p t (set_request x.object.name (Some r) cs)) → SameServices p m.clients m.messages m.tokens t (rerequested cs h.frame.home (Some r)) h.state.clients
+  services_enlisted : (t : Table) → (SameListed p m.listed cs → SameListed p t (set_request x.object.name (Some r) cs)) →
+      SameServices p m.clients m.messages m.tokens t (rerequested cs h.frame.home (Some r)) h.state.clients
   services_enlisted t listed =
       let same = h.agrees.services in
       let ds = set_request x.object.name (Some r) cs in
@@ -152,7 +154,8 @@ module _ (p : Image) (m : Parts) (h : At_hand p m) (x : OnObject p m h) (priorit
           go n false e = refl
 
 module _ (p : Image) (m : Parts) (refused : List ℕ) (a : Active) (priority : ℤ) where
-  pub enlist_plain_does : is_server_class p (class_at m.cells (this m)) ≡ false → Enlists m.active a (this m) priority None → DoesIn p refused (Enlist priority) m (places.next (record m { active = a }))
+  pub enlist_plain_does : is_server_class p (class_at m.cells (this m)) ≡ false →
+      Enlists m.active a (this m) priority None → DoesIn p refused (Enlist priority) m (places.next (record m { active = a }))
   enlist_plain_does plain enlists h at_it = plain_at p m _ refused (Enlist priority) refl h (λ c met typed.
       let x = on_object p m h met.0 in
       let none = sym (own_told p m h x ∙ ap (requested h.state.cells) x.number) ∙ free _ met.1.0 in
@@ -172,4 +175,5 @@ module _ (p : Image) (m : Parts) (refused : List ℕ) (a : Active) (priority : �
       let listed = listed_server p m.listed h.state.cells x.object (first_request h.state.cells priority) x.lives none class is thing small h.typed.good.tidy refl in
       asks_on p m h a m.tokens t (Some (first_request h.state.cells priority))
       (requests_enlisted p m h x a priority (Some false) (queue_told p m h x priority none true is) enlists)
-      (services_enlisted p m h x priority none t (λ same. subst (λ n. SameListed p (with_list class (list_at m.listed class ++ n ∷ []) m.listed) (set_request x.object.name (Some (first_request h.state.cells priority)) h.state.cells)) (sym x.number) (listed same))))
+      (services_enlisted p m h x priority none t (λ same. subst (λ n. SameListed p (with_list class (list_at m.listed class ++ n ∷ []) m.listed)
+      (set_request x.object.name (Some (first_request h.state.cells priority)) h.state.cells)) (sym x.number) (listed same))))

@@ -83,7 +83,8 @@ length_more (x ∷ xs) v = ap suc (length_more xs v)
 -- ---- a method is called over another one, or over a trap on it
 
 -- a method's registers hold nothing that goes
-going_kept : (b : Bool) (f f' g : Machine_frame) (ms : List Machine_task) (k : ℕ) → going_in (Runs_frame g ∷ held_over b (Runs_frame f' ∷ ms)) k ≡ going_in (Runs_frame g ∷ held_over b (Runs_frame f ∷ ms)) k
+going_kept : (b : Bool) (f f' g : Machine_frame) (ms : List Machine_task) (k : ℕ) →
+    going_in (Runs_frame g ∷ held_over b (Runs_frame f' ∷ ms)) k ≡ going_in (Runs_frame g ∷ held_over b (Runs_frame f ∷ ms)) k
 going_kept x f f' g ms k = grind arith
 
 -- ---- the arguments go over one after the other
@@ -123,7 +124,8 @@ module _ (p : Image) (trapped : Bool) (heap : Heap) (es : List Item) (rest : Oth
     pub called : SameFrame g (with_words ws)
 
   -- what a register at that depth holds, past the method that is called
-  past_called : (f g : Machine_frame) (e j : ℕ) → value_in (Runs_frame g ∷ held_tops f) heap es rest (Register e j) ≡ cond (length (held_tops f) == e) (slice_index_or g.registers j null) (register_in (Runs_frame f ∷ ms) e j)
+  past_called : (f g : Machine_frame) (e j : ℕ) → value_in (Runs_frame g ∷ held_tops f) heap es rest
+      (Register e j) ≡ cond (length (held_tops f) == e) (slice_index_or g.registers j null) (register_in (Runs_frame f ∷ ms) e j)
   past_called f g e j = ap (λ x. cond (length (held_tops f) == e) (slice_index_or g.registers j null) x) (over_register trapped (Runs_frame f ∷ ms) e j)
 
   lower_value : (f g : Machine_frame) (i : ℕ) → value_in (Runs_frame g ∷ held_tops f) heap es rest (lower i) ≡ slice_index_or f.registers i null
@@ -148,7 +150,8 @@ module _ (p : Image) (trapped : Bool) (heap : Heap) (es : List Item) (rest : Oth
       ∙ go (length (held_tops f) == e) refl ∙ ap (λ x. cond ((length ts == e) && (i == j)) null x) (sym (past_called f g e j))
     where
       go : (b : Bool) → (length (held_tops f) == e) ≡ b
-          → cond b (slice_index_or g.registers j null) (cond ((length ts == e) && (i == j)) null (register_in (Runs_frame f ∷ ms) e j)) ≡ cond ((length ts == e) && (i == j)) null (cond b (slice_index_or g.registers j null) (register_in (Runs_frame f ∷ ms) e j))
+          → cond b (slice_index_or g.registers j null) (cond ((length ts == e) && (i == j)) null (register_in (Runs_frame f ∷ ms) e j)) ≡ cond
+          ((length ts == e) && (i == j)) null (cond b (slice_index_or g.registers j null) (register_in (Runs_frame f ∷ ms) e j))
       go false is = refl
       go true is =
           let at = eqb-true (length (held_tops f)) e is in
@@ -157,7 +160,8 @@ module _ (p : Image) (trapped : Bool) (heap : Heap) (es : List Item) (rest : Oth
           ap (λ b. cond (b && (i == j)) null (slice_index_or g.registers j null)) (sym (ne_eqb (length ts) e (λ d. absurd (omega arith))))
   lower_written f g i small _ = refl
 
-  words_put : (ws : List (Option ℤ)) (to : ℕ) (w : Option ℤ) → length ws ≡ to → (r : Place) → word_at (Run (with_words (ws ++ w ∷ [])) ∷ tops) r ≡ changed (word_at (Run (with_words ws) ∷ tops)) (upper to) w r
+  words_put : (ws : List (Option ℤ)) (to : ℕ) (w : Option ℤ) →
+      length ws ≡ to → (r : Place) → word_at (Run (with_words (ws ++ w ∷ [])) ∷ tops) r ≡ changed (word_at (Run (with_words ws) ∷ tops)) (upper to) w r
   words_put ws to w even r = ap (λ vs. word_at (Run (with_words vs) ∷ tops) r) (sym (put_at_end None ws w) ∙ ap (λ n. put_at None ws n w) even)
       ∙ word_written (with_words ws) tops to cal.place w r
 
@@ -172,11 +176,13 @@ module _ (p : Image) (trapped : Bool) (heap : Heap) (es : List Item) (rest : Oth
   word_alone : (n : ℕ) (w : Option ℤ) (o : Option Object) → is_some w ≡ true → Represents n w o → Represents n w None
   word_alone n w o e shows = grind arith
 
-  word_goes : (f g : Machine_frame) (cs : List Cell) (ws : List (Option ℤ)) (first to : ℕ) → to < 16 → is_some (word fr first) ≡ true → Passing f g cs ws to → Passing f (with_register to (slice_index_or f.registers first null) g) cs (ws ++ word fr first ∷ []) (suc to)
+  word_goes : (f g : Machine_frame) (cs : List Cell) (ws : List (Option ℤ)) (first to : ℕ) → to < 16 → is_some (word fr first) ≡ true →
+      Passing f g cs ws to → Passing f (with_register to (slice_index_or f.registers first null) g) cs (ws ++ word fr first ∷ []) (suc to)
   word_goes f g cs ws first to small some passing =
       let wide = passing.called.wide in
       let n = slice_index_or f.registers first null in
-      let shows = subst (λ k. Represents k (word fr first) (held cs (lower first))) (lower_value f g first) (subst (λ w. Represents (value_in (Runs_frame g ∷ held_tops f) heap es rest (lower first)) w (held cs (lower first))) (lower_word (with_words ws) first) (passing.values (lower first))) in
+      let shows = subst (λ k. Represents k (word fr first) (held cs (lower first))) (lower_value f g first) (subst (λ w. Represents (value_in (Runs_frame g
+      ∷ held_tops f) heap es rest (lower first)) w (held cs (lower first))) (lower_word (with_words ws) first) (passing.values (lower first))) in
       record {
         values = grind (arith, nat_tests, writes, word_alone n, upper_written f g to n, words_put ws to, kept);
         cells = passing.cells;
@@ -212,31 +218,41 @@ module _ (p : Image) (trapped : Bool) (heap : Heap) (es : List Item) (rest : Oth
       aside : (b : Bool) (x y : Option Object) → cond (b && false) x y ≡ y
       aside x y z = grind arith
 
-  all_go : (xs : List Argument) (first to : ℕ) (f g : Machine_frame) (cs : List Cell) (ws : List (Option ℤ)) → (first + length xs) ≤ 16 → (to + length xs) ≤ 16 → AllTrue (needs_each p fr ts s xs first) → Passing f g cs ws to
+  all_go : (xs : List Argument) (first to : ℕ) (f g : Machine_frame) (cs : List Cell) (ws : List (Option ℤ)) →
+      (first + length xs) ≤ 16 → (to + length xs) ≤ 16 → AllTrue (needs_each p fr ts s xs first) → Passing f g cs ws to
       → Passing (passed_on xs first f) (given xs first to f g) (passed_cells p fr ts s (length tops) xs first to cs) (ws ++ passed_words p fr ts s xs first) (to + length xs)
   all_go [] first to f g cs ws low small needs passing = subst (λ n. Passing f g cs (ws ++ []) n) (let n = zero in omega arith) (subst (λ vs. Passing f g cs vs to) (sym (append-nil ws)) passing)
   all_go (Takes_word ∷ xs) first to f g cs ws low small needs passing =
       let n = slice_index_or f.registers first null in
-      let rest = all_go xs (suc first) (suc to) f (with_register to n g) cs (ws ++ word fr first ∷ []) (omega arith) (omega arith) needs.1 (word_goes f g cs ws first to (omega arith) needs.0 passing) in
-      subst (λ k. Passing (passed_on xs (suc first) f) (given xs (suc first) (suc to) f (with_register to n g)) (passed_cells p fr ts s (length tops) xs (suc first) (suc to) cs) (ws ++ word fr first ∷ passed_words p fr ts s xs (suc first)) k) (omega arith)
-      (subst (λ vs. Passing (passed_on xs (suc first) f) (given xs (suc first) (suc to) f (with_register to n g)) (passed_cells p fr ts s (length tops) xs (suc first) (suc to) cs) vs (suc to + length xs)) (append_assoc ws (word fr first ∷ []) (passed_words p fr ts s xs (suc first))) rest)
+      let rest = all_go xs (suc first) (suc to) f (with_register to n g) cs
+      (ws ++ word fr first ∷ []) (omega arith) (omega arith) needs.1 (word_goes f g cs ws first to (omega arith) needs.0 passing) in
+      subst (λ k. Passing (passed_on xs (suc first) f) (given xs (suc first) (suc to) f (with_register to n g))
+      (passed_cells p fr ts s (length tops) xs (suc first) (suc to) cs) (ws ++ word fr first ∷ passed_words p fr ts s xs (suc first)) k) (omega arith)
+      (subst (λ vs. Passing (passed_on xs (suc first) f) (given xs (suc first) (suc to) f (with_register to n g)) (passed_cells p fr ts s (length tops) xs
+      (suc first) (suc to) cs) vs (suc to + length xs)) (append_assoc ws (word fr first ∷ []) (passed_words p fr ts s xs (suc first))) rest)
   all_go (Takes_own t ∷ xs) first to f g cs ws low small needs passing =
       let n = slice_index_or f.registers first null in
       let f' = with_register first null f in
       let g' = with_register to n g in
       let cs' = moved (lower first) (upper to) cs in
-      let rest = all_go xs (suc first) (suc to) f' g' cs' (ws ++ None ∷ []) (omega arith) (omega arith) needs.1.1.1 (object_goes f g cs ws first to (omega arith) (omega arith) (no_word _ needs.0) passing) in
-      subst (λ k. Passing (passed_on xs (suc first) f') (given xs (suc first) (suc to) f' g') (passed_cells p fr ts s (length tops) xs (suc first) (suc to) cs') (ws ++ None ∷ passed_words p fr ts s xs (suc first)) k) (omega arith)
-      (subst (λ vs. Passing (passed_on xs (suc first) f') (given xs (suc first) (suc to) f' g') (passed_cells p fr ts s (length tops) xs (suc first) (suc to) cs') vs (suc to + length xs)) (append_assoc ws (None ∷ []) (passed_words p fr ts s xs (suc first))) rest)
+      let rest = all_go xs (suc first) (suc to) f' g' cs'
+      (ws ++ None ∷ []) (omega arith) (omega arith) needs.1.1.1 (object_goes f g cs ws first to (omega arith) (omega arith) (no_word _ needs.0) passing) in
+      subst (λ k. Passing (passed_on xs (suc first) f') (given xs (suc first) (suc to) f' g')
+      (passed_cells p fr ts s (length tops) xs (suc first) (suc to) cs') (ws ++ None ∷ passed_words p fr ts s xs (suc first)) k) (omega arith)
+      (subst (λ vs. Passing (passed_on xs (suc first) f') (given xs (suc first) (suc to) f' g') (passed_cells p fr ts s
+      (length tops) xs (suc first) (suc to) cs') vs (suc to + length xs)) (append_assoc ws (None ∷ []) (passed_words p fr ts s xs (suc first))) rest)
 
 -- ---- the call
 
 -- its arguments lie in registers that a method has
-pub entering_fits : (p : Image) (fr : Frame) (ts : List Task) (s : State) (target : Target) (k first : ℕ) (more : List Need) → AllTrue (needs_entering p fr ts s target k first more) → (first + length (arguments_of p k)) ≤ 16
+pub entering_fits : (p : Image) (fr : Frame) (ts : List Task) (s : State) (target : Target) (k first : ℕ) (more : List Need) →
+    AllTrue (needs_entering p fr ts s target k first more) → (first + length (arguments_of p k)) ≤ 16
 entering_fits p fr ts s target k first more needs = grind (arith, nat_tests, all_parts, leb_tells)
 
 -- what the method works on
-home_of : (p : Image) (m : Parts) (h : At_hand p m) (target : Target) (k : ℕ) (class : Option ℕ) (first count : ℕ) → AllTrue (needs_target p h.frame h.below h.state target k class first count) → target_here target class m ≡ home_number (target_home p h.frame h.below h.state target class)
+home_of : (p : Image) (m : Parts) (h : At_hand p m) (target : Target) (k : ℕ) (class : Option ℕ) (first count : ℕ) →
+    AllTrue (needs_target p h.frame h.below h.state target k class first count) →
+    target_here target class m ≡ home_number (target_home p h.frame h.below h.state target class)
 home_of p m h This k None first count needs = refl
 home_of p m h This k (Some c) first count needs = by_top p m h (λ us. this_here us ≡ home_number h.frame.home) (λ f ms top. top.frame.this)
 home_of p m h (On_register r) k class first count needs =
@@ -254,11 +270,13 @@ module _ (p : Image) (m : Parts) (h : At_hand p m) (class : Option ℕ) where
   worked_small : (class : Option ℕ) (o : Option Object) (q : Place) → held h.state.cells q ≡ o → is_worked_on p class o ≡ true → home_number (home_at o q) ≢ null → home_number (home_at o q) < 4096
   worked_small x y q e worked there = grind (arith, nat_tests, object_small p m h.state h.formed h.agrees, held_lives h.state.cells q, object_for p)
 
-  home_small : (target : Target) (k first count : ℕ) → AllTrue (needs_target p h.frame h.below h.state target k class first count) → home_number (target_home p h.frame h.below h.state target class) ≢ null → home_number (target_home p h.frame h.below h.state target class) < 4096
+  home_small : (target : Target) (k first count : ℕ) → AllTrue (needs_target p h.frame h.below h.state target k class first count) →
+      home_number (target_home p h.frame h.below h.state target class) ≢ null → home_number (target_home p h.frame h.below h.state target class) < 4096
   home_small x k first count needs = grind (arith, nat_tests, this_is p m h, by_top p m h, worked_small class)
 
-housed_by : (p : Image) (m : Parts) (h : At_hand p m) (target : Target) (k : ℕ) (class : Option ℕ) (first count : ℕ) → AllTrue (needs_target p h.frame h.below h.state target k class first count) → target_here target class m ≡ home_number (target_home p h.frame h.below h.state target class)
-    → target_here target class m ≢ null → target_here target class m < 4096
+housed_by : (p : Image) (m : Parts) (h : At_hand p m) (target : Target) (k : ℕ) (class : Option ℕ) (first count : ℕ) →
+    AllTrue (needs_target p h.frame h.below h.state target k class first count) → target_here target class m ≡ home_number
+    (target_home p h.frame h.below h.state target class) → target_here target class m ≢ null → target_here target class m < 4096
 housed_by p m h target k class first count needs home there = subst (λ n. n < 4096) (sym home) (home_small p m h class target k first count needs (λ none. there (home ∙ none)))
 
 -- ---- what the call runs
@@ -272,7 +290,8 @@ class_viewed x t e = grind arith
 
 module _ (p : Image) (m : Parts) (h : At_hand p m) where
   -- the frame's view is what the target counts as
-  view_told : (target : Target) (class : Option ℕ) → viewed (view_of target class m.stack.tasks) (target_home p h.frame h.below h.state target class) ≡ target_view p h.frame h.below h.state target class
+  view_told : (target : Target) (class : Option ℕ) →
+      viewed (view_of target class m.stack.tasks) (target_home p h.frame h.below h.state target class) ≡ target_view p h.frame h.below h.state target class
   view_told x class = grind (arith, nat_tests, by_top p m h)
 
   -- what it works on is there, and is no message
@@ -303,7 +322,8 @@ module _ (p : Image) (m : Parts) (h : At_hand p m) where
       of_thing (An_object_of c) e = (c, refl)
       of_thing A_message e = cc
 
-  target_counts : (target : Target) (class : Option ℕ) (v : ℕ) → target_view p h.frame h.below h.state target class ≡ Some v → (c : ℕ) × (home_holder (target_home p h.frame h.below h.state target class) ≡ Member c)
+  target_counts : (target : Target) (class : Option ℕ) (v : ℕ) →
+      target_view p h.frame h.below h.state target class ≡ Some v → (c : ℕ) × (home_holder (target_home p h.frame h.below h.state target class) ≡ Member c)
   target_counts This None v e = cc
   target_counts This (Some c) v e = let between = (stands_here p h.typing h.state h.frame h.below h.typed h.top).view.between v e in (between.0, between.1)
   target_counts (On_register r) class v e = of_home (target_home p h.frame h.below h.state (On_register r) class) v e
@@ -332,10 +352,12 @@ module _ (p : Image) (m : Parts) (h : At_hand p m) where
   body_told target k first count needs =
       let class = method_class p k in
       ap (λ n. body_on p k n (view_of target class m.stack.tasks) m.cells) (home_of p m h target k class first count needs)
-      ∙ body_by_home k (target_home p h.frame h.below h.state target class) (view_of target class m.stack.tasks) (target_view p h.frame h.below h.state target class) (view_told target class) (target_counts target class) (target_there target k class first count needs)
+      ∙ body_by_home k (target_home p h.frame h.below h.state target class) (view_of target class m.stack.tasks) (target_view
+      p h.frame h.below h.state target class) (view_told target class) (target_counts target class) (target_there target k class first count needs)
 
   -- so it lives, where it is a cell
-  home_lives : (home : Home) → ((o : Object) (from : Place) → home ≡ Inside o from → (named h.state.cells o.name ≡ Some o) × (is_object o.thing ≡ true)) → home_number home ≢ null → Lives m.cells (home_number home)
+  home_lives : (home : Home) → ((o : Object) (from : Place) → home ≡ Inside o from → (named h.state.cells o.name ≡ Some o) × (is_object o.thing ≡ true)) →
+      home_number home ≢ null → Lives m.cells (home_number home)
   home_lives (Inside o from) there some = let x = there o from refl in object_lives_at p m h.state h.agrees o x.0 x.1
   home_lives _ there some = absurd (some refl)
 
@@ -343,7 +365,8 @@ module _ (p : Image) (m : Parts) (h : At_hand p m) where
       target_here target (method_class p k) m ≢ null → Lives m.cells (target_here target (method_class p k) m)
   target_lives target k first count needs =
       let class = method_class p k in
-      subst (λ n. n ≢ null → Lives m.cells n) (sym (home_of p m h target k class first count needs)) (home_lives (target_home p h.frame h.below h.state target class) (target_there target k class first count needs))
+      subst (λ n. n ≢ null → Lives m.cells n) (sym (home_of p m h target k class first count needs))
+      (home_lives (target_home p h.frame h.below h.state target class) (target_there target k class first count needs))
 
 -- what a method that is called finds, over the caller or over a trap on it
 module _ (p : Image) (m : Parts) (h : At_hand p m) (trapped : Bool) (target : Target) (k first height : ℕ) where
@@ -363,7 +386,8 @@ module _ (p : Image) (m : Parts) (h : At_hand p m) (trapped : Bool) (target : Ta
   called = frame_as body (target_home p h.frame h.below h.state target (method_class p k)) (viewed view (target_home p h.frame h.below h.state target (method_class p k))) height
 
   -- the table tells what runs
-  runs : AllTrue (needs_target p h.frame h.below h.state target k (method_class p k) first (length xs)) → record called { words = passed_words p h.frame h.below h.state xs first } ≡ entered p h.frame h.below h.state target k first height
+  runs : AllTrue (needs_target p h.frame h.below h.state target k (method_class p k) first (length xs)) →
+      record called { words = passed_words p h.frame h.below h.state xs first } ≡ entered p h.frame h.below h.state target k first height
   runs needs = grind (arith, nat_tests, body_told p m h target k first, view_told p m h target)
 
   abbrev over : List Task
@@ -373,7 +397,8 @@ module _ (p : Image) (m : Parts) (h : At_hand p m) (trapped : Bool) (target : Ta
   passed = passed_cells p h.frame h.below h.state (length over) xs first 0 h.state.cells
 
   enters : (more : List Need) → AllTrue (needs_entering p h.frame h.below h.state target k first more) → (f : Machine_frame) (ms : List Machine_task) (top : Top m h.state h.frame h.below f ms)
-      → Passing p trapped m.cells m.entries.items (others m) ms h.below h.frame called h.state top.deep (passed_on xs first f) (given xs first 0 f (callee_here p target k m)) passed (passed_words p h.frame h.below h.state xs first) (0 + length xs)
+      → Passing p trapped m.cells m.entries.items (others m) ms h.below h.frame called h.state top.deep
+      (passed_on xs first f) (given xs first 0 f (callee_here p target k m)) passed (passed_words p h.frame h.below h.state xs first) (0 + length xs)
   enters more needs f ms top =
       let parts = all_parts (needs_target p h.frame h.below h.state target k (method_class p k) first (length xs)) _ needs in
       let fits = entering_fits p h.frame h.below h.state target k first more needs in
@@ -387,8 +412,10 @@ module _ (p : Image) (m : Parts) (h : At_hand p m) (trapped : Bool) (target : Ta
       let layers = ap length h.top in
       let above = higher trapped (Run fr ∷ ts) {n = length ts} (omega arith) in
       let begun : Passing p trapped m.cells m.entries.items (others m) ms ts fr called s top.deep f (callee_here p target k m) s.cells [] 0 = record {
-        values = λ r. subst (λ n. Represents n (word_at (Run called ∷ over) r) (held s.cells r)) (sym (fresh_with body this view us m.cells m.entries.items (others m) r ∙ over_value trapped (Runs_frame f ∷ ms) m.cells m.entries.items (others m) r))
-            (subst (λ w. Represents (value_in (Runs_frame f ∷ ms) m.cells m.entries.items (others m) r) w (held s.cells r)) (sym (fresh_as body (target_home p fr ts s target (method_class p k)) (viewed view (target_home p fr ts s target (method_class p k))) height over r ∙ over_words trapped (Run fr ∷ ts) r)) (top.values r));
+        values = λ r. subst (λ n. Represents n (word_at (Run called ∷ over) r) (held s.cells r)) (sym (fresh_with body this view us m.cells m.entries.items
+            (others m) r ∙ over_value trapped (Runs_frame f ∷ ms) m.cells m.entries.items (others m) r)) (subst (λ w. Represents (value_in
+            (Runs_frame f ∷ ms) m.cells m.entries.items (others m) r) w (held s.cells r)) (sym (fresh_as body (target_home p fr ts s target (method_class p k))
+            (viewed view (target_home p fr ts s target (method_class p k))) height over r ∙ over_words trapped (Run fr ∷ ts) r)) (top.values r));
         cells = h.agrees.cells;
         free = λ i le. none_above p h.typing s (length over) i h.typed (omega arith);
         even = refl;
@@ -407,7 +434,8 @@ module _ (p : Image) (m : Parts) (h : At_hand p m) (trapped : Bool) (target : Ta
 
   -- so it begins there
   agrees_entered : (more : List Need) → AllTrue (needs_entering p h.frame h.below h.state target k first more) → (f : Machine_frame) (ms : List Machine_task) → Top m h.state h.frame h.below f ms
-      → Agrees p (with_tasks (Runs_frame (given xs first 0 f (callee_here p target k m)) ∷ held_over trapped (Runs_frame (passed_on xs first f) ∷ ms)) m) (record h.state { cells = passed; tasks = Run (entered p h.frame h.below h.state target k first height) ∷ over })
+      → Agrees p (with_tasks (Runs_frame (given xs first 0 f (callee_here p target k m)) ∷ held_over trapped (Runs_frame (passed_on xs first f) ∷ ms)) m)
+      (record h.state { cells = passed; tasks = Run (entered p h.frame h.below h.state target k first height) ∷ over })
   agrees_entered more needs f ms top =
       let done = enters more needs f ms top in
       let us = Runs_frame (given xs first 0 f (callee_here p target k m)) ∷ held_over trapped (Runs_frame (passed_on xs first f) ∷ ms) in
@@ -416,7 +444,8 @@ module _ (p : Image) (m : Parts) (h : At_hand p m) (trapped : Bool) (target : Ta
       (agrees_with p m (record h.state { cells = passed }) us (Run (record called { words = passed_words p h.frame h.below h.state xs first }) ∷ over)
       (aside_passed done.cells) (done.called, over_same trapped _ _ done.caller top.below) done.values)
     where
-      over_same : (b : Bool) (g : Machine_frame) (gs : List Machine_task) → SameFrame g h.frame → SameTasks gs h.below → SameTasks (held_over b (Runs_frame g ∷ gs)) (tasks_over b (Run h.frame ∷ h.below))
+      over_same : (b : Bool) (g : Machine_frame) (gs : List Machine_task) →
+          SameFrame g h.frame → SameTasks gs h.below → SameTasks (held_over b (Runs_frame g ∷ gs)) (tasks_over b (Run h.frame ∷ h.below))
       over_same true g gs frame below = (tt, (frame, below))
       over_same false g gs frame below = (frame, below)
 
@@ -425,7 +454,8 @@ abbrev pub calling : Image → Parts → Target → ℕ → ℕ → Bool → Lis
 calling p m target k first trapped us =
     Runs_frame (given_here (arguments_of p k) first us (callee_here p target k m)) ∷ held_over trapped (on_top (passed_on (arguments_of p k) first) us)
 
-pub call_does : (p : Image) (m : Parts) (refused : List ℕ) (target : Target) (k first x : ℕ) → DoesIn p refused (Call target k first x) m (with_tasks (calling p m target k first false m.stack.tasks) m)
+pub call_does : (p : Image) (m : Parts) (refused : List ℕ) (target : Target) (k first x : ℕ) →
+    DoesIn p refused (Call target k first x) m (with_tasks (calling p m target k first false m.stack.tasks) m)
 call_does p m refused target k first x h here =
     let cs = passed p m h false target k first (length h.state.items) in
     let vs = Run (entered p h.frame h.below h.state target k first (length h.state.items)) ∷ Run h.frame ∷ h.below in

@@ -93,8 +93,8 @@ module _ (p : Image) (m : Parts) (h : At_hand p m) (r : Counters) (rest : record
             value_pushed (Runs_frame (with_register a null f) ∷ ms) m.cells m.entries.items (others m) n (length s.items) (same_items_length m.entries.items s.items h.agrees.entries) q
             ∙ ap (λ x. changed (λ z. x) there n q) (value_written f ms m.cells m.entries.items (others m) (length ts) a null f.place top.deep (omega arith) q)
             ∙ ap (λ x. changed (changed v here null) there x q) (ap (λ us. register_here us a) e ∙ sym (value_here f ms m.cells m.entries.items (others m) (length ts) a top.deep)))
-            (λ q. word_written fr ts a fr.place None q ∙ sym (kept (word_at (Run fr ∷ ts)) here q ∙ ap (λ x. changed (word_at (Run fr ∷ ts)) here x q) was) ∙ entry_words (Run fr ∷ ts) (length s.items) q)
-            (λ q. held_moved s.cells here there q (none_over p m h f ms top));
+            (λ q. word_written fr ts a fr.place None q ∙ sym (kept (word_at (Run fr ∷ ts)) here q ∙ ap (λ x. changed (word_at (Run fr ∷ ts)) here x q) was)
+            ∙ entry_words (Run fr ∷ ts) (length s.items) q) (λ q. held_moved s.cells here there q (none_over p m h f ms top));
       })
 
   operation_comes : (a k : ℕ) → cast_signed w32 (register_here m.stack.tasks a) ≡ read h.frame h.below h.state a
@@ -104,7 +104,8 @@ module _ (p : Image) (m : Parts) (h : At_hand p m) (r : Counters) (rest : record
       let i = Holds_operation k (register_here m.stack.tasks a) in
       goes_on_as p m h (with_items (i ∷ m.entries.items) (asked m)) s.cells (An_operation k (read h.frame h.below s a) ∷ s.items) r
       (record { stack = refl; cells = h.agrees.cells; entries = ((refl, is), h.agrees.entries); requests = h.agrees.requests; natives = h.agrees.natives; services = h.agrees.services; rest = rest; room = h.agrees.entry_room })
-      (λ f ms e top q. subst (λ n. Represents n (word_at (Run h.frame ∷ h.below) q) (held s.cells q)) (sym (value_alike (Runs_frame f ∷ ms) m.cells (i ∷ m.entries.items) m.entries.items (others m) (λ d. owns_none i m.entries.items d refl) q)) (top.values q))
+      (λ f ms e top q. subst (λ n. Represents n (word_at (Run h.frame ∷ h.below) q) (held s.cells q)) (sym (value_alike
+      (Runs_frame f ∷ ms) m.cells (i ∷ m.entries.items) m.entries.items (others m) (λ d. owns_none i m.entries.items d refl) q)) (top.values q))
 
 -- where the request is refused the machine leaves
 leaves_if : (p : Image) (m : Parts) (fr : Frame) (ts : List Task) (s : State) (b : Bool) (off : Update) (on : Effect) → Agrees p m (applied p fr ts s on)
@@ -127,7 +128,8 @@ module _ (m : Parts) (turn : LineBuffer) where
             leaves_if p (held_pushed a m) h.frame h.below (requested (Push a) s) refused (Pushed a) (sets h.frame a None (Pushed a)) object refl needs.1.1.1.1,
       )
 
-  pub push_operation_does : (a k : ℕ) (refused : Bool) → refused ≡ refuses_entry turn m → Does turn.refused (PushOperation a k) m (cond refused (leaving (negsuc 3) (held_operation a k m)) (held_operation a k m))
+  pub push_operation_does : (a k : ℕ) (refused : Bool) →
+      refused ≡ refuses_entry turn m → Does turn.refused (PushOperation a k) m (cond refused (leaving (negsuc 3) (held_operation a k m)) (held_operation a k m))
   push_operation_does a k refused same p h here =
       let s = h.state in
       let c : Choice = record { name = null; refused = refused; answer = heard_by m } in (
@@ -137,7 +139,8 @@ module _ (m : Parts) (turn : LineBuffer) where
         λ needs typed.
             let is = word_read p m h a needs.0 in
             let operation = operation_comes p m h _ (asks_one m turn s.rest h.agrees.rest) a k is in
-            leaves_if p (held_operation a k m) h.frame h.below (requested (PushOperation a k) s) refused (Pushed_operation k (read h.frame h.below s a)) (updates h.frame (Pushed_operation k (read h.frame h.below s a))) operation refl needs.1.1,
+            leaves_if p (held_operation a k m) h.frame h.below (requested (PushOperation a k) s) refused
+            (Pushed_operation k (read h.frame h.below s a)) (updates h.frame (Pushed_operation k (read h.frame h.below s a))) operation refl needs.1.1,
       )
 
   -- `newl` leaves where it is refused
@@ -146,10 +149,12 @@ module _ (m : Parts) (turn : LineBuffer) where
     record { name = null; refused = true; answer = heard_by m },
     record { name = null_unnamed p m h.state h.agrees; refusal = full ∙ same_refusal p turn m h (NewOrLeave a class) here refl; answer = heard_fits m },
     refl,
-    λ needs typed. leaves_at p (asked m) (requested (NewOrLeave a class) h.state) h.frame h.below no_memory h.top (agrees_rest p m h.state _ _ (asks_one m turn h.state.rest h.agrees.rest) h.agrees) needs.1.1.0,
+    λ needs typed. leaves_at p (asked m) (requested (NewOrLeave a class) h.state) h.frame h.below no_memory h.top
+        (agrees_rest p m h.state _ _ (asks_one m turn h.state.rest h.agrees.rest) h.agrees) needs.1.1.0,
   )
 
-  pub newl_made : (a class n : ℕ) (heap : Heap) → a < 16 → false ≡ refuses turn m → Made class false n m.cells heap → Does turn.refused (NewOrLeave a class) m (places.next (set_register a n (record (asked m) { cells = heap })))
+  pub newl_made : (a class n : ℕ) (heap : Heap) → a < 16 → false ≡ refuses turn m →
+      Made class false n m.cells heap → Does turn.refused (NewOrLeave a class) m (places.next (set_register a n (record (asked m) { cells = heap })))
   newl_made a class n heap small granted made p h here = elim made [
     | inl none ↦ absurd (true≢false (sym none.0))
     | inr it ↦ (
@@ -182,7 +187,8 @@ module _ (m : Parts) (refused : List ℕ) (es : Machine_items) where
       (λ f ms e top.
       let wide = top.frame.wide in
       let v = value_in (Runs_frame f ∷ ms) m.cells (Holds_object n ∷ es.items) (others m) in
-      let old : (q : Place) → Represents (v q) (word_at (Run fr ∷ ts) q) (held s.cells q) = λ q. subst (λ is. Represents (value_in (Runs_frame f ∷ ms) m.cells is (others m) q) (word_at (Run fr ∷ ts) q) (held s.cells q)) was (top.values q) in
+      let old : (q : Place) → Represents (v q) (word_at (Run fr ∷ ts) q) (held s.cells q) =
+      λ q. subst (λ is. Represents (value_in (Runs_frame f ∷ ms) m.cells is (others m) q) (word_at (Run fr ∷ ts) q) (held s.cells q)) was (top.values q) in
       record {
         frame = framed p m h f ms _ a n top;
         values = moves v _ _ _ (held s.cells) _ from here old refl

@@ -109,11 +109,13 @@ module _ (p : Image) (m : Parts) (h : At_hand p m) where
   held_stored : (home : Home) (w : ℕ) (v : ℤ) (r : Place) → held (stored h.state.cells home w v) r ≡ held h.state.cells r
   held_stored x w v r = grind (arith, nat_tests, held_set_word h.state.cells)
 
-  cells_after_store : (heap : Heap) (w : ℕ) (v : ℤ) → nat_lt w (word_count p (holder_of p h.frame.method)) ≡ true → PutsWord (this m) w v m.cells heap → SameCells p heap (stored h.state.cells h.frame.home w v)
+  cells_after_store : (heap : Heap) (w : ℕ) (v : ℤ) → nat_lt w (word_count p (holder_of p h.frame.method)) ≡ true →
+      PutsWord (this m) w v m.cells heap → SameCells p heap (stored h.state.cells h.frame.home w v)
   cells_after_store heap w v has puts = go h.frame.home refl (word_there w has)
     where
       go : (home : Home) → h.frame.home ≡ home → nat_lt w (word_count p (home_holder home)) ≡ true → SameCells p heap (stored h.state.cells home w v)
-      go (Inside o from) e has = cells_stored p m.cells heap h.state.cells o.name w v o h.agrees.cells (housed o from e) (inside_object o from e) (subst (λ n. PutsWord n w v m.cells heap) (inside_number o from e) puts)
+      go (Inside o from) e has = cells_stored p m.cells heap h.state.cells o.name w v o h.agrees.cells
+          (housed o from e) (inside_object o from e) (subst (λ n. PutsWord n w v m.cells heap) (inside_number o from e) puts)
       go _ e has = no_words w has
 
   -- ---- owning fields
@@ -125,7 +127,8 @@ module _ (p : Image) (m : Parts) (h : At_hand p m) where
   field_no_queue x f = grind arith
 
   -- a method of which a field is declared works on the root or on an object
-  by_home : (f : ℕ) (P : Home → Type 0) → (h.frame.home ≡ AtRoot → P AtRoot) → ((o : Object) (from : Place) → h.frame.home ≡ Inside o from → P (Inside o from)) → is_some (field_thing p (holder_of p h.frame.method) f) ≡ true → P h.frame.home
+  by_home : (f : ℕ) (P : Home → Type 0) → (h.frame.home ≡ AtRoot → P AtRoot) → ((o : Object) (from : Place) →
+      h.frame.home ≡ Inside o from → P (Inside o from)) → is_some (field_thing p (holder_of p h.frame.method) f) ≡ true → P h.frame.home
   by_home f P root inside has = go h.frame.home refl (declared_there f has)
     where
       go : (home : Home) → h.frame.home ≡ home → is_some (field_thing p (home_holder home) f) ≡ true → P home
@@ -137,7 +140,8 @@ module _ (p : Image) (m : Parts) (h : At_hand p m) where
   here_at_root : (f : ℕ) → this m ≡ null → m.root ≡ field_here f m
   here_at_root f n = ap (λ b. cond b m.root (field_at m.cells (this m) f)) (sym (eq-eqb (this m) null n))
 
-  pub field_read_here : (f : ℕ) (us : List Machine_task) → is_some (field_thing p (holder_of p h.frame.method) f) ≡ true → value_in us m.cells m.entries.items (others m) (field_place h.frame.home f) ≡ field_here f m
+  pub field_read_here : (f : ℕ) (us : List Machine_task) → is_some (field_thing p (holder_of p h.frame.method) f) ≡ true →
+      value_in us m.cells m.entries.items (others m) (field_place h.frame.home f) ≡ field_here f m
   field_read_here f us = grind (arith, nat_tests, by_home f, here_at_root f, this_is, inside_number, ne_eqb, inside_there)
 
   -- and written in its place
@@ -159,7 +163,8 @@ module _ (p : Image) (m : Parts) (h : At_hand p m) where
       in_cell o from e puts same =
           let at = subst (λ n. PutsField n f x m.cells mid.cells) (inside_number o from e) puts in
           record {
-            values = λ us r. ap (λ (k : Parts). value_in us mid.cells m.entries.items (record (others m) { root = k.root }) r) same ∙ field_written us m.cells mid.cells m.entries.items (others m) o.name f x at r;
+            values = λ us r. ap (λ (k : Parts). value_in us mid.cells m.entries.items (record (others m) { root = k.root }) r) same
+                ∙ field_written us m.cells mid.cells m.entries.items (others m) o.name f x at r;
             cells = cells_put p m.cells mid.cells h.state.cells o.name f x o h.agrees.cells (housed o from e) (inside_object o from e) at;
             rest = same ∙ ap (λ n. record m { cells = mid.cells; root = n }) (sym (ap (λ (k : Parts). k.root) same));
           }
@@ -174,7 +179,8 @@ pub load_does : (m new : Parts) (refused : List ℕ) (a w : ℕ) → WritesWord 
 load_does m new refused a w x = plain_does m new refused (Load a w) refl (λ p h c met.
     subst (λ v. Agrees p new (applied p h.frame h.below h.state (writes_word h.frame a v))) (word_loaded p m h w met.0) (word_put p m new h a _ (free _ met.1.0) x))
 
-pub store_does : (m : Parts) (refused : List ℕ) (w b : ℕ) (heap : Heap) → PutsWord (this m) w (cast_signed w32 (register_here m.stack.tasks b)) m.cells heap → Does refused (Store w b) m (places.next (record m { cells = heap }))
+pub store_does : (m : Parts) (refused : List ℕ) (w b : ℕ) (heap : Heap) →
+    PutsWord (this m) w (cast_signed w32 (register_here m.stack.tasks b)) m.cells heap → Does refused (Store w b) m (places.next (record m { cells = heap }))
 store_does m refused w b heap puts = plain_does m (places.next (record m { cells = heap })) refused (Store w b) refl (λ p h c met.
     let s = h.state in
     let fr = h.frame in
@@ -189,8 +195,10 @@ store_does m refused w b heap puts = plain_does m (places.next (record m { cells
     (subst (λ o. Represents (value_in (Runs_frame f ∷ ms) m.cells m.entries.items (others m) q) (word_at (Run fr ∷ ts) q) o) (sym (held_stored p m h fr.home w v q)) (top.values q))))
 
 -- what a field or a register owns goes to the other, and the register is written
-goes_by_field : (p : Image) (m mid : Parts) (h : At_hand p m) (g x a n : ℕ) (ws : List (Option ℤ)) (from to : Place) → Written p m h mid (field_place h.frame.home g) x → is_queue from ≡ false → is_queue to ≡ false
-    → ((f : Machine_frame) (ms : List Machine_task) → m.stack.tasks ≡ Runs_frame f ∷ ms → Top m h.state h.frame h.below f ms → OnTop p m h (record m { cells = mid.cells; root = mid.root }) (moved from to h.state.cells) ws (with_register a n f) ms)
+goes_by_field : (p : Image) (m mid : Parts) (h : At_hand p m) (g x a n : ℕ) (ws : List (Option ℤ)) (from to : Place) →
+    Written p m h mid (field_place h.frame.home g) x → is_queue from ≡ false → is_queue to ≡ false
+    → ((f : Machine_frame) (ms : List Machine_task) → m.stack.tasks ≡ Runs_frame f ∷ ms → Top m h.state h.frame h.below f ms →
+    OnTop p m h (record m { cells = mid.cells; root = mid.root }) (moved from to h.state.cells) ws (with_register a n f) ms)
     → Agrees p (places.next (set_register a n mid)) (record h.state { cells = moved from to h.state.cells; tasks = Run (next (record h.frame { words = ws })) ∷ h.below })
 goes_by_field p m mid h g x a n ws from to written from_no to_no shows =
     let s = h.state in
@@ -242,7 +250,8 @@ put_does m mid refused g b x small reads writes = plain_does m (places.next (set
 
 module _ (m : Parts) (refused : List ℕ) where
   pub jump_empty_does : (g to : ℕ) → field_here g m ≡ null → Does refused (JumpEmpty g to) m (places.to_place to m)
-  jump_empty_does g to is = plain_does m (places.to_place to m) refused (JumpEmpty g to) refl (λ p h c met. jumps_empty m refused p h (field_place h.frame.home g) to (sym (field_shown p m h g met.0) ∙ is))
+  jump_empty_does g to is = plain_does m (places.to_place to m) refused
+      (JumpEmpty g to) refl (λ p h c met. jumps_empty m refused p h (field_place h.frame.home g) to (sym (field_shown p m h g met.0) ∙ is))
 
   pub jump_full_does : (g to : ℕ) → field_here g m ≢ null → Does refused (JumpEmpty g to) m (places.next m)
   jump_full_does g to is = plain_does m (places.next m) refused (JumpEmpty g to) refl (λ p h c met. passes_full m refused p h (field_place h.frame.home g) to (λ n. is (field_shown p m h g met.0 ∙ n)))

@@ -112,7 +112,8 @@ deletes_living p counted a next some =
     let ts = f.1 in
     let e : instr_at p fr.method fr.place ≡ Some (Delete a) = grind (arith, nat_tests) in
     let c = an_open p [] m s st.1.agrees in
-    let k = met p t (needs p c.0 fr ts (requested (Delete a) (at_step s)) (Delete a)) _ (subst (Keeps p t) (step_of_instr p c.0 s fr ts (Delete a) f.2 e) (st.1.sound.keeps c.0 s st.1.typed c.1.name)) in
+    let k = met p t (needs p c.0 fr ts (requested (Delete a) (at_step s)) (Delete a)) _
+    (subst (Keeps p t) (step_of_instr p c.0 s fr ts (Delete a) f.2 e) (st.1.sound.keeps c.0 s st.1.typed c.1.name)) in
     let h : At_hand p m = record { typing = t; state = s; frame = fr; below = ts; top = f.2; formed = st.1.sound.formed; linked = st.1.sound.linked; wired = st.1.sound.wired; typed = st.1.typed; kept = st.1.kept; agrees = st.1.agrees } in
     by_top p m h (λ us. (register_here us a ≡ null → ⊥) → Lives m.cells (register_here us a))
     (λ f ms top some. number_lives p m t s st.1.typed st.1.agrees (Register (length ts) a) _ k.0.1.0 (shown p m h f ms top a (no_word _ k.0.0)) some)
@@ -184,11 +185,13 @@ module _ (p : Image) (t : Typing) (s : State) (sound : Sound p t) where
   beneath _ _ stack = absurd (grind arith)
 
   pub stands_beneath : (fr : Frame) (ts : List Task) → WellTyped p t s → s.tasks ≡ Run fr ∷ ts → Beneath p ts
-  stands_beneath fr ts typed top = method_layer (λ ls. Good p t s.cells ls) fr ts typed.layers (sym typed.tasks ∙ top) typed.good (λ sh ls rest good. subst (Beneath p) rest (beneath (Returns fr.method fr.home) ls good.stack.4))
+  stands_beneath fr ts typed top = method_layer (λ ls. Good p t s.cells ls) fr ts typed.layers
+      (sym typed.tasks ∙ top) typed.good (λ sh ls rest good. subst (Beneath p) rest (beneath (Returns fr.method fr.home) ls good.stack.4))
 
   -- below a leave that unwinds stands a trap
   pub unwinds_over : (code : ℤ) (ts : List Task) → WellTyped p t s → s.tasks ≡ Unwind code ∷ ts → Beneath p ts × IsTrapOnTop ts
-  unwinds_over code ts typed top = leave_layer (λ ls. Good p t s.cells ls) code ts typed.layers (sym typed.tasks ∙ top) typed.good (λ es ls rest good. subst (λ us. Beneath p us × IsTrapOnTop us) rest (beneath Leaves ls good.stack.1))
+  unwinds_over code ts typed top = leave_layer (λ ls. Good p t s.cells ls) code ts typed.layers
+      (sym typed.tasks ∙ top) typed.good (λ es ls rest good. subst (λ us. Beneath p us × IsTrapOnTop us) rest (beneath Leaves ls good.stack.1))
 
 -- what the machine has there
 module _ (p : Image) (formed : WellFormed p) where
@@ -218,7 +221,8 @@ returns_to p m st runs = grind (
 
 -- the method that runs is one of the image
 pub finds_method : (p : Image) (m : Parts) → Stands (record { image = p; parts = m }) → Runs m.stack.tasks → IsSome (method_at p (method_here m.stack.tasks))
-finds_method p m st runs = some_given (λ o. IsSome o) (instr_at p (method_here m.stack.tasks) (place_here m.stack.tasks)) (finds_instr p m st runs) (λ some. cc) (λ i e some. ap is_some (of_method p (method_here m.stack.tasks) (place_here m.stack.tasks) i e).1)
+finds_method p m st runs = some_given (λ o. IsSome o) (instr_at p (method_here m.stack.tasks) (place_here m.stack.tasks))
+    (finds_instr p m st runs) (λ some. cc) (λ i e some. ap is_some (of_method p (method_here m.stack.tasks) (place_here m.stack.tasks) i e).1)
 
 -- of a machine in which a cell goes
 module _ (p : Image) (m : Parts) (st : Stands (record { image = p; parts = m })) (destroying : IsDestroying m.stack.tasks) where
@@ -231,7 +235,8 @@ module _ (p : Image) (m : Parts) (st : Stands (record { image = p; parts = m }))
       let f = going_of m.stack.tasks st.0.tasks destroying st.1.agrees.tasks in
       let h = at_going f.0 f.1 in
       let k = cell_found p m st.1.typing st.0 f.0 st.1.sound st.1.typed st.1.agrees f.1 in
-      by_going p m h (λ us. Lives m.cells (going_here us)) (λ x ms top. object_lives p m st.1.typing st.0 st.1.typed st.1.agrees (Going (length f.0)) k.0 x k.1 (going_object p m h k.0 x ms top k.1) (number_of p m h k.0 x ms top k.1))
+      by_going p m h (λ us. Lives m.cells (going_here us)) (λ x ms top. object_lives p m st.1.typing st.0 st.1.typed st.1.agrees
+      (Going (length f.0)) k.0 x k.1 (going_object p m h k.0 x ms top k.1) (number_of p m h k.0 x ms top k.1))
 
   -- the method below may go on
   pub going_within : place_here (below_first m.stack.tasks) + 1 < 2 ^ 64

@@ -90,7 +90,8 @@ module _ (p : Image) (m : Parts) (t : Typing) (s : State) (typed : WellTyped p t
     pub seat : o ≡ Some (record { object = object; place = its c })
     pub number : r ≡ object.name
 
-  one_there : (c : ℕ) → server_of (client_at m.clients c) ≡ Some n → has_cell (client_at m.clients c) ≡ true → (r : ℕ) → session_of (client_at m.clients c) ≡ Some r → (r ≡ null → ⊥) → (x : Object) × (held s.cells (its c) ≡ Some x) × (r ≡ x.name)
+  one_there : (c : ℕ) → server_of (client_at m.clients c) ≡ Some n → has_cell (client_at m.clients c) ≡ true →
+      (r : ℕ) → session_of (client_at m.clients c) ≡ Some r → (r ≡ null → ⊥) → (x : Object) × (held s.cells (its c) ≡ Some x) × (r ≡ x.name)
   one_there c at there r is some = go (held s.cells (its c)) refl (sym (shows_cell n (client_at m.clients c) at there r is) ∙ agrees.values (its c))
     where
       go : (o : Option Object) → held s.cells (its c) ≡ o → r ≡ number o → (x : Object) × (held s.cells (its c) ≡ Some x) × (r ≡ x.name)
@@ -108,7 +109,8 @@ module _ (p : Image) (m : Parts) (t : Typing) (s : State) (typed : WellTyped p t
   none_first [] all e = refl
   none_first (c ∷ cs) all e = go (has_cell (client_at m.clients c)) refl e (λ e. none_first cs (rest_with c cs all) e)
     where
-      go : (b : Bool) → has_cell (client_at m.clients c) ≡ b → cond b (Some c) (first_there m.clients cs) ≡ None → (first_there m.clients cs ≡ None → first_session s.cells n cs ≡ None) → first_session s.cells n (c ∷ cs) ≡ None
+      go : (b : Bool) → has_cell (client_at m.clients c) ≡ b → cond b (Some c) (first_there m.clients cs) ≡ None →
+          (first_there m.clients cs ≡ None → first_session s.cells n cs ≡ None) → first_session s.cells n (c ∷ cs) ≡ None
       go true there e rest = absurd (none-some c (sym e))
       go false gone e rest = ap (λ o. seat_or o (its c) (first_session s.cells n cs)) (none_there c (first_with c cs all) gone) ∙ rest e
 

@@ -53,10 +53,12 @@ use Rattle.aom_cleanup.specs.declared.item.Item.{Item}
 use Rattle.aom_machine_state.proofs.Alike.{Alike, both_go, alike, by_task, by_tasks}
 
 -- a method at its first place shows nothing, and has no word
-pub fresh_with : (method this : ℕ) (view : View) (us : List Machine_task) (h : Heap) (es : List Item) (rest : Others) (r : Place) → value_in (Runs_frame (with_view view (fresh method this)) ∷ us) h es rest r ≡ value_in us h es rest r
+pub fresh_with : (method this : ℕ) (view : View) (us : List Machine_task) (h : Heap) (es : List Item) (rest : Others) (r : Place) →
+    value_in (Runs_frame (with_view view (fresh method this)) ∷ us) h es rest r ≡ value_in us h es rest r
 fresh_with method this view us h es rest x = grind (arith, nat_tests, at_depth, register_past us, begun_registers method this, going_past us)
 
-pub fresh_value : (method this : ℕ) (us : List Machine_task) (h : Heap) (es : List Item) (rest : Others) (r : Place) → value_in (Runs_frame (fresh method this) ∷ us) h es rest r ≡ value_in us h es rest r
+pub fresh_value : (method this : ℕ) (us : List Machine_task) (h : Heap) (es : List Item) (rest : Others) (r : Place) →
+    value_in (Runs_frame (fresh method this) ∷ us) h es rest r ≡ value_in us h es rest r
 fresh_value method this us h es rest r = fresh_with method this own us h es rest r
 
 pub fresh_as : (method : ℕ) (home : Home) (view : Option ℕ) (height : ℕ) (ts : List Task) (r : Place) → word_at (Run (frame_as method home view height) ∷ ts) r ≡ word_at ts r
@@ -101,18 +103,22 @@ module _ (p : Image) (m : Parts) (v : State) (us : List Machine_task) (ts : List
   destructs (Some k) o height of name small same aside values = grind (arith, nat_tests, begun_as k n, agrees_with p m v, fresh_with k n, fresh_as k)
 
   -- or the sessions with it go first, where it is a server
-  pub begins : (class : Option ℕ) (o : Object) (height : ℕ) → n ≡ o.name → n < 4096 → is_server_class p class ≡ is_server p o.thing → destructor_in p class ≡ destructor_of p o.thing → SameTasks us ts → Aside p m v → DyingShows
+  pub begins : (class : Option ℕ) (o : Object) (height : ℕ) → n ≡ o.name →
+      n < 4096 → is_server_class p class ≡ is_server p o.thing → destructor_in p class ≡ destructor_of p o.thing → SameTasks us ts → Aside p m v → DyingShows
       → Agrees p (with_tasks (begun p class n us) m) (record v { tasks = checked.begun p o height ts })
-  begins class o height name small serves destructor same aside values =
-      subst (λ b. Agrees p (with_tasks (cond b (Closes ∷ Destroys n ∷ us) (destructed p (destructor_in p class) n (Destroys n ∷ us))) m) (record v { tasks = checked.begun p o height ts })) (sym serves) (go (is_server p o.thing))
+  begins class o height name small serves destructor same aside values = subst (λ b. Agrees p (with_tasks (cond b (Closes ∷ Destroys n ∷ us)
+      (destructed p (destructor_in p class) n (Destroys n ∷ us))) m) (record v { tasks = checked.begun p o height ts })) (sym serves) (go (is_server p o.thing))
     where
-      go : (b : Bool) → Agrees p (with_tasks (cond b (Closes ∷ Destroys n ∷ us) (destructed p (destructor_in p class) n (Destroys n ∷ us))) m) (record v { tasks = cond b (Closing ∷ Destroy ∷ ts) (checked.destructed p o height ts) })
+      go : (b : Bool) → Agrees p (with_tasks (cond b (Closes ∷ Destroys n ∷ us) (destructed p (destructor_in p class) n (Destroys n ∷ us))) m)
+          (record v { tasks = cond b (Closing ∷ Destroy ∷ ts) (checked.destructed p o height ts) })
       go true = agrees_with p m v (Closes ∷ Destroys n ∷ us) (Closing ∷ Destroy ∷ ts) aside (tt, (small, same)) (λ q.
           subst (λ x. Represents x (word_at (Closing ∷ Destroy ∷ ts) q) (held v.cells q)) (sym (closes_value (Destroys n ∷ us) m.cells m.entries.items (others m) q))
           (subst (λ w. Represents (value_in (Destroys n ∷ us) m.cells m.entries.items (others m) q) w (held v.cells q)) (sym (closes_word (Destroy ∷ ts) q)) (values q)))
-      go false = subst (λ d. Agrees p (with_tasks (destructed p d n (Destroys n ∷ us)) m) (record v { tasks = checked.destructed p o height ts })) (sym destructor) (destructs (destructor_of p o.thing) o height (destructor_class p o.thing) name small same aside values)
+      go false = subst (λ d. Agrees p (with_tasks (destructed p d n (Destroys n ∷ us)) m) (record v { tasks = checked.destructed p o height ts }))
+          (sym destructor) (destructs (destructor_of p o.thing) o height (destructor_class p o.thing) name small same aside values)
 
-  pub dying_shows : (cs : List Cell) (from : Place) (u : Place → ℕ) (w : Place → Option ℤ) → v.cells ≡ moved from (Going (length ts)) cs → ((q : Place) → Represents (u q) (w q) (held cs q)) → length us ≡ length ts → w from ≡ None → u from ≡ n → held cs (Going (length ts)) ≡ None
+  pub dying_shows : (cs : List Cell) (from : Place) (u : Place → ℕ) (w : Place → Option ℤ) → v.cells ≡ moved from (Going (length ts)) cs →
+      ((q : Place) → Represents (u q) (w q) (held cs q)) → length us ≡ length ts → w from ≡ None → u from ≡ n → held cs (Going (length ts)) ≡ None
       → ((q : Place) → value_in us m.cells m.entries.items (others m) q ≡ changed u from null q) → ((q : Place) → word_at ts q ≡ w q) → DyingShows
   dying_shows cs from u w moves_so old deep no_word is empty ev ew =
       let there = Going (length ts) in
@@ -125,9 +131,9 @@ module _ (p : Image) (m : Parts) (refused : List ℕ) where
   pub delete_does : (a : ℕ) → a < 16 → (register_here m.stack.tasks a ≡ null → ⊥)
       → DoesIn p refused (Delete a) m (with_tasks (dying p m.cells (register_here m.stack.tasks a) (on_top (with_register a null) m.stack.tasks)) m)
   delete_does a small is h here = plain_at p m _ refused (Delete a) refl h (λ c needs typed. by_top p m h
-      (λ us. (register_here us a ≡ null → ⊥) → Agrees p (with_tasks (dying p m.cells (register_here us a) (on_top (with_register a null) us)) m) (applied p h.frame h.below (requested (Delete a) h.state) (deletes h.frame (held h.state.cells (Register (length h.below) a)) a)))
-      (λ f ms top is.
-      let x = some_held (held h.state.cells (Register (length h.below) a)) (λ n. is (shown p m h f ms top a (no_word _ needs.0) ∙ n)) in
+      (λ us. (register_here us a ≡ null → ⊥) → Agrees p (with_tasks (dying p m.cells (register_here us a) (on_top (with_register a null) us)) m)
+      (applied p h.frame h.below (requested (Delete a) h.state) (deletes h.frame (held h.state.cells (Register (length h.below) a)) a)))
+      (λ f ms top is. let x = some_held (held h.state.cells (Register (length h.below) a)) (λ n. is (shown p m h f ms top a (no_word _ needs.0) ∙ n)) in
       subst (λ o. Agrees p (deleted f ms) (applied p h.frame h.below (requested (Delete a) h.state) (deletes h.frame o a))) (sym x.1)
       (object f ms top (no_word _ needs.0) x.0 x.1 (sym (ap is_no_message x.1) ∙ needs.1.0)))
       is)
@@ -136,7 +142,8 @@ module _ (p : Image) (m : Parts) (refused : List ℕ) where
       deleted f ms =
           with_tasks (dying p m.cells (slice_index_or f.registers a null) (Runs_frame (record f { registers = slice_set f.registers a null }) ∷ ms)) m
 
-      object : (f : Machine_frame) (ms : List Machine_task) → Top m h.state h.frame h.below f ms → word h.frame a ≡ None → (o : Object) → held h.state.cells (Register (length h.below) a) ≡ Some o → is_object o.thing ≡ true
+      object : (f : Machine_frame) (ms : List Machine_task) → Top m h.state h.frame h.below f ms →
+          word h.frame a ≡ None → (o : Object) → held h.state.cells (Register (length h.below) a) ≡ Some o → is_object o.thing ≡ true
           → Agrees p (deleted f ms) (applied p h.frame h.below (requested (Delete a) h.state) (deletes h.frame (Some o) a))
       object f ms top none o e cell =
           let s = h.state in
@@ -152,7 +159,8 @@ module _ (p : Image) (m : Parts) (refused : List ℕ) where
           let lives = held_lives s.cells here o h.typed.good.tidy e in
           let below = object_small p m s h.formed h.agrees o lives cell in
           let v : State = record s { cells = moved here (Going (suc (length ts))) s.cells } in
-          let empty : held s.cells (Going (suc (length ts))) ≡ None = nothing_held p m h.typing s h.typed h.agrees (Going (suc (length ts))) (sym (going_past (Runs_frame f ∷ ms) (suc (length ts)) (let d = top.deep in omega arith)) ∙ top.values (Going (suc (length ts)))) in
+          let empty : held s.cells (Going (suc (length ts))) ≡ None = nothing_held p m h.typing s h.typed h.agrees (Going (suc (length ts)))
+          (sym (going_past (Runs_frame f ∷ ms) (suc (length ts)) (let d = top.deep in omega arith)) ∙ top.values (Going (suc (length ts)))) in
           begins p m v us vs k (class_at m.cells k) o (length s.items) name (subst (λ i. i < 4096) (sym name) below)
           (ap (λ i. is_server_class p (class_at m.cells i)) name ∙ server_same p m s h.agrees o lives cell) (ap (λ i. destructor_at p m.cells i) name ∙ destructor_same p m s h.agrees o lives cell)
           (reframed f fr (slice_set f.registers a null) _ f.place fr.place top.frame (length-set f.registers a null ∙ wide) top.frame.place, top.below)
@@ -171,7 +179,9 @@ pub end_word : (d e : Dispatch) (q : Place) → word_at (Dispatched d ∷ []) q 
 end_word d e _ = refl
 
 -- where a dispatch is at its end, the root is at hand to go, with these counts
-pub uproots : (p : Image) → WellFormed p → (m : Parts) (t : Typing) (s : State) (x : Machine_dispatch) (d : Dispatch) (o : Object) (rest r : Counters) → WellTyped p t s → Agrees p m s → m.stack.tasks ≡ Ends x ∷ [] → s.tasks ≡ Dispatched d ∷ [] → held s.cells (Elsewhere Root) ≡ Some o → record rest { clock = raised rest.clock } ≡ r
+pub uproots : (p : Image) → WellFormed p →
+    (m : Parts) (t : Typing) (s : State) (x : Machine_dispatch) (d : Dispatch) (o : Object) (rest r : Counters) → WellTyped p t s → Agrees p m s →
+    m.stack.tasks ≡ Ends x ∷ [] → s.tasks ≡ Dispatched d ∷ [] → held s.cells (Elsewhere Root) ≡ Some o → record rest { clock = raised rest.clock } ≡ r
     → Agrees p (uprooted p (record m { rest = rest })) (record s { cells = moved (Elsewhere Root) (Going 1) s.cells; tasks = checked.begun p o (length s.items) (Dispatched Of_root ∷ []); rest = r })
 uproots p formed m t s x d o rest r typed agrees held_top top e same =
     let old = value_in (Ends x ∷ []) m.cells m.entries.items (others m) in
@@ -183,14 +193,17 @@ uproots p formed m t s x d o rest r typed agrees held_top top e same =
     let lives = held_lives s.cells (Elsewhere Root) o typed.good.tidy e in
     let cell = root_object p t s typed o e in
     let aside = aside_moved p m s (Elsewhere Root) (Going 1) agrees refl refl in
-    subst (λ ms. Agrees p (with_tasks (dying p m.cells m.root (Ends End_of_run ∷ ms)) mid) (record v { tasks = checked.begun p o (length s.items) (Dispatched Of_root ∷ []) })) (sym (ap below_first held_top))
-    (begins p mid v (Ends End_of_run ∷ []) (Dispatched Of_root ∷ []) m.root (class_at m.cells m.root) o (length s.items) name (subst (λ i. i < 4096) (sym name) (object_small p m s formed agrees o lives cell))
+    subst (λ ms. Agrees p (with_tasks (dying p m.cells m.root (Ends End_of_run ∷ ms)) mid)
+    (record v { tasks = checked.begun p o (length s.items) (Dispatched Of_root ∷ []) })) (sym (ap below_first held_top))
+    (begins p mid v (Ends End_of_run ∷ []) (Dispatched Of_root ∷ []) m.root
+    (class_at m.cells m.root) o (length s.items) name (subst (λ i. i < 4096) (sym name) (object_small p m s formed agrees o lives cell))
     (ap (λ i. is_server_class p (class_at m.cells i)) name ∙ server_same p m s agrees o lives cell) (ap (λ i. destructor_at p m.cells i) name ∙ destructor_same p m s agrees o lives cell)
     ((Elsewhere Root, refl), tt)
     (record { cells = aside.cells; entries = aside.entries; requests = aside.requests; natives = aside.natives; services = aside.services; rest = same; room = aside.room; entry_room = aside.entry_room })
     (dying_shows p mid v (Ends End_of_run ∷ []) (Dispatched Of_root ∷ []) m.root s.cells (Elsewhere Root) old w refl values refl refl refl
     (nothing_held p m t s typed agrees (Going 1) (values (Going 1)))
-    (λ q. root_written (Ends End_of_run ∷ []) m.cells m.entries.items (others m) null q ∙ ap (λ k. changed (λ z. k) (Elsewhere Root) null q) (end_value End_of_run x m.cells m.entries.items (others m) q)) (end_word Of_root d)))
+    (λ q. root_written (Ends End_of_run ∷ []) m.cells m.entries.items (others m) null q
+    ∙ ap (λ k. changed (λ z. k) (Elsewhere Root) null q) (end_value End_of_run x m.cells m.entries.items (others m) q)) (end_word Of_root d)))
 
 -- what is known of the machine, taken apart
 pub record Ends_cell (m : Parts) (s : State) (x : ℕ) (ms : List Machine_task) (ts : List Task) : Type 0 where
@@ -204,7 +217,8 @@ pub by_going : (p : Image) (m : Parts) (h : In_going p m) (G : List Machine_task
 by_going p m h G show = go (alike m.stack.tasks (Destroy ∷ h.below) (subst (λ us. SameTasks m.stack.tasks us) h.top h.agrees.tasks))
     (λ r. subst (λ us. Represents (value_in m.stack.tasks m.cells m.entries.items (others m) r) (word_at us r) (held h.state.cells r)) h.top (h.agrees.values r))
   where
-    go : {ms : List Machine_task} → Alike ms (Destroy ∷ h.below) → ((r : Place) → Represents (value_in ms m.cells m.entries.items (others m) r) (word_at (Destroy ∷ h.below) r) (held h.state.cells r)) → G ms
+    go : {ms : List Machine_task} → Alike ms (Destroy ∷ h.below) →
+        ((r : Place) → Represents (value_in ms m.cells m.entries.items (others m) r) (word_at (Destroy ∷ h.below) r) (held h.state.cells r)) → G ms
     go (both_go x ms _ small below _) values = show x ms (record { small = small; below = below; deep = same_length ms h.below below; values = values })
 
 -- the method below goes on, if there is one
@@ -238,7 +252,8 @@ pub over : {A : Type 0} (f g : Place → A) (q : Place) (x y : A) → ((r : Plac
 over f g q x y ef e r = grind (arith, nat_tests, same_place-true q r)
 
 -- the fields of a cell that owned nothing were null, and so they are where it is gone
-pub fields_gone : (us : List Machine_task) (h h' : Heap) (es : List Item) (rest : Others) (n : ℕ) → ((f : ℕ) → field_at h n f ≡ null) → Changes h h' n None → (r : Place) → value_in us h' es rest r ≡ value_in us h es rest r
+pub fields_gone : (us : List Machine_task) (h h' : Heap) (es : List Item) (rest : Others) (n : ℕ) →
+    ((f : ℕ) → field_at h n f ≡ null) → Changes h h' n None → (r : Place) → value_in us h' es rest r ≡ value_in us h es rest r
 fields_gone us h h' es rest n nulls ch x = grind (arith, nat_tests, eqb-true n, eq-eqb n)
 
 -- its class, as its line shows it

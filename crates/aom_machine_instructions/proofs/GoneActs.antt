@@ -110,7 +110,8 @@ abbrev NoCell : kept.State → ℕ → Type 0
 NoCell s c = (i : ℕ) → session_with i (kept.client_at s c) ≡ null
 
 -- one that has none is at something else
-set_same : (s s' : kept.State) (c : ℕ) (to : Client) → s'.clients ≡ (kept.with_client c to s).clients → (length s.clients ≤ c → to ≡ Unconnected) → NoCell s c → ((i : ℕ) → session_with i to ≡ null) → SessionsSame s s'
+set_same : (s s' : kept.State) (c : ℕ) (to : Client) → s'.clients ≡ (kept.with_client c to s).clients →
+    (length s.clients ≤ c → to ≡ Unconnected) → NoCell s c → ((i : ℕ) → session_with i to ≡ null) → SessionsSame s s'
 set_same s s' c to is past was none i d = grind (arith, nat_tests, at_set_or Unconnected s.clients c d to past, eqb-true c d)
 
 none_then : (s s' : kept.State) → SessionsSame s s' → (c : ℕ) → NoCell s c → NoCell s' c
@@ -156,7 +157,8 @@ sessions_same n [] s none = λ i d. refl
 sessions_same n (c ∷ cs) s none = λ i d. sessions_same n cs (kept.session_gone n (c ∷ cs) s) (none_of_then s (kept.session_gone n (c ∷ cs) s) one cs none.1) i d ∙ one i d
   where
     one : SessionsSame s (kept.session_gone n (c ∷ cs) s)
-    one = set_same s (kept.session_gone n (c ∷ cs) s) c (at_gone (kept.client_at s c)) refl (λ large. ap at_gone (get_or_past s.clients c Unconnected large)) none.0 (λ i. gone_none (kept.client_at s c) i (none.0 i))
+    one = set_same s (kept.session_gone n (c ∷ cs) s) c (at_gone (kept.client_at s c)) refl
+        (λ large. ap at_gone (get_or_past s.clients c Unconnected large)) none.0 (λ i. gone_none (kept.client_at s c) i (none.0 i))
 
 -- what is about to go waits for no token
 last_untold : (k : Option ClassKind) (r : Option Request) → Suits k (resting_in (last_of k)) r → awaited r ≡ None
@@ -165,7 +167,8 @@ last_untold k r s = grind arith
 
 -- ---- the going of a cell
 
-module _ (p : Image) (m : Parts) (h : In_going p m) (o : Object) (holds : held h.state.cells (Going (length h.below)) ≡ Some o) (free : owns_nothing (without_queue o.name h.state.cells) o.name ≡ true) where
+module _ (p : Image) (m : Parts) (h : In_going p m)
+    (o : Object) (holds : held h.state.cells (Going (length h.below)) ≡ Some o) (free : owns_nothing (without_queue o.name h.state.cells) o.name ≡ true) where
   abbrev s : State
   s = h.state
 
@@ -268,22 +271,24 @@ module _ (p : Image) (m : Parts) (h : In_going p m) (o : Object) (holds : held h
   sessions_stay : SessionsSame k k'
   sessions_stay i d =
       let queue = queue_same n (kept.queue_at k n) k (quiet_here (kept.queue_at k n) (subst (λ q. QueueFits s.clients n q) (sym (same.queues n)) (h.kept.fit.queues n))) in
-      sessions_same n (kept.sessions_at k n) (kept.queue_gone n (kept.queue_at k n) k) (none_of_then k (kept.queue_gone n (kept.queue_at k n) k) queue (kept.sessions_at k n) (none_listed (kept.sessions_at k n) (λ c e. e))) i d ∙ queue i d
+      sessions_same n (kept.sessions_at k n) (kept.queue_gone n (kept.queue_at k n) k) (none_of_then k
+      (kept.queue_gone n (kept.queue_at k n) k) queue (kept.sessions_at k n) (none_listed (kept.sessions_at k n) (λ c e. e))) i d ∙ queue i d
 
   -- what waits at others stays
   queue_stays : (i : ℕ) → is_some (requested s.cells i) ≡ true → (service_of unqueued i).queue ≡ (service_of s.cells i).queue
   queue_stays i asked = go (beside.names i) (cell_of s.cells i) refl
     where
       left : (x : Option Cell) → cell_of s.cells i ≡ x → cell_of unqueued i ≡ left_of (λ c. is_queue_of n c.owner) (λ c. c.service) x
-      left x e = ap (λ cs. cell_of cs i) (unqueued_so n s.cells) ∙ cell_of_sifted (λ c. is_queue_of n c.owner) (λ c. c.service) s.cells i h.typed.good.tidy ∙ ap (left_of (λ c. is_queue_of n c.owner) (λ c. c.service)) e
+      left x e = ap (λ cs. cell_of cs i) (unqueued_so n s.cells) ∙ cell_of_sifted (λ c. is_queue_of n c.owner) (λ c. c.service) s.cells i h.typed.good.tidy
+          ∙ ap (left_of (λ c. is_queue_of n c.owner) (λ c. c.service)) e
 
       here : (c : Cell) → cell_of s.cells i ≡ Some c → named unqueued i ≡ named s.cells i → (b : Bool) → is_queue_of n c.owner ≡ b → (service_of unqueued i).queue ≡ (service_of s.cells i).queue
       here c e names true drops =
           let none : named unqueued i ≡ None = named_cell unqueued i ∙ ap object_in (left (Some c) e ∙ ap (λ b. cond b None (Some (record c { service = c.service }))) drops) in
           let some : named s.cells i ≡ Some c.object = named_cell s.cells i ∙ ap object_in e in
           (let clash : None ≡ Some c.object = sym none ∙ names ∙ some in cc)
-      here c e names false drops =
-          ap (λ (v : Service). v.queue) (service_cell unqueued i ∙ ap service_in (left (Some c) e ∙ ap (λ b. cond b None (Some (record c { service = c.service }))) drops) ∙ sym (service_cell s.cells i ∙ ap service_in e))
+      here c e names false drops = ap (λ (v : Service). v.queue) (service_cell unqueued i ∙ ap service_in
+          (left (Some c) e ∙ ap (λ b. cond b None (Some (record c { service = c.service }))) drops) ∙ sym (service_cell s.cells i ∙ ap service_in e))
 
       go : NamedBeside s.cells unqueued i → (x : Option Cell) → cell_of s.cells i ≡ x → (service_of unqueued i).queue ≡ (service_of s.cells i).queue
       go (inr e) x at = absurd (false≢true (sym (ap is_some e.2) ∙ asked))
@@ -291,7 +296,8 @@ module _ (p : Image) (m : Parts) (h : In_going p m) (o : Object) (holds : held h
       go (inl e) (Some c) at = here c at e (is_queue_of n c.owner) refl
 
   -- the places show what they showed, but for what goes
-  module _ (heap : Heap) (a : Active) (w : Standing) (store : Store) (cleared : Changes m.cells heap o.name None) (less : count heap + 1 ≡ count m.cells) (off : Delists m.active a o.name) (shut : Sets m.sessions w o.name false) (drops : Drops (kept.queue_at m.clients o.name) m.messages store)
+  module _ (heap : Heap) (a : Active) (w : Standing) (store : Store) (cleared : Changes m.cells heap o.name None) (less : count heap + 1 ≡ count m.cells)
+      (off : Delists m.active a o.name) (shut : Sets m.sessions w o.name false) (drops : Drops (kept.queue_at m.clients o.name) m.messages store)
       (typed : WellTyped p h.typing (vanished o h.below h.state)) (fits : IsKept p (vanished o h.below h.state)) (x : ℕ) (ms : List Machine_task) (top : Ends_cell m h.state x ms h.below) where
     object : is_object o.thing ≡ true
     object = going_object p m h o x ms top holds
@@ -319,7 +325,8 @@ module _ (p : Image) (m : Parts) (h : In_going p m) (o : Object) (holds : held h
         let before = value_in (Destroys x ∷ ms) m.cells m.entries.items (others m) in
         let under = value_in ms m.cells m.entries.items (others m) in
         writes before _ (word_at (Destroy ∷ ts)) _ (held s.cells) _ (Going d) null None None top.values refl
-        (λ r. fields_gone (going_on ms) m.cells heap m.entries.items (others m) o.name (λ f. top.values (Field o.name f) ∙ ap number (sym (unqueued_holds (Field o.name f) refl) ∙ nothing_owned unqueued o.name f free)) cleared r
+        (λ r. fields_gone (going_on ms) m.cells heap m.entries.items (others m) o.name
+        (λ f. top.values (Field o.name f) ∙ ap number (sym (unqueued_holds (Field o.name f) refl) ∙ nothing_owned unqueued o.name f free)) cleared r
         ∙ value_resumed ms m.cells m.entries.items (others m) r
         ∙ sym (over before under (Going d) x null (destroys_value ms m.cells m.entries.items (others m) x d deep) (going_past ms d (omega arith)) r))
         (λ r. word_resumed ts r ∙ sym (over (word_at (Destroy ∷ ts)) (word_at ts) (Going d) None None (destroys_word ts d) refl r))
@@ -352,11 +359,13 @@ module _ (p : Image) (m : Parts) (h : In_going p m) (o : Object) (holds : held h
     pub goes_away : Agrees p (places.next (record (with_tasks ms m) { cells = heap; active = a; sessions = w; clients = k'; messages = store; listed = unlisted n m.listed })) (vanished o ts s)
     goes_away = record {
       tasks = same_resumed ms ts top.below;
-      values = shows_again p h.typing (vanished o ts s) (others m) k' (going_on ms) heap m.entries.items (without g s.cells) (resumed ts) typed fits.fit clients_gone sessions_stay (λ r aside. held_after r (in_no_queue r aside)) shows_before;
+      values = shows_again p h.typing (vanished o ts s) (others m) k' (going_on ms) heap m.entries.items
+          (without g s.cells) (resumed ts) typed fits.fit clients_gone sessions_stay (λ r aside. held_after r (in_no_queue r aside)) shows_before;
       cells = cells_unslotted p heap xs gone (cells_without p m.cells heap unqueued g o (cells_beside p m.cells s.cells unqueued beside h.agrees.cells) tidy there object cleared less);
       entries = h.agrees.entries;
       requests = requests_unslotted p a xs gone (requests_gone p m.active a unqueued g o tidy there off (requests_beside p m.active s.cells unqueued beside queue_stays h.agrees.requests));
-      natives = natives_unslotted p w s.killed xs gone (natives_gone p m.sessions w s.killed unqueued g o tidy there shut (natives_beside p m.sessions s.killed s.cells unqueued h.formed.header.cells beside h.agrees.natives));
+      natives = natives_unslotted p w s.killed xs gone (natives_gone p m.sessions w s.killed unqueued g o tidy there shut
+          (natives_beside p m.sessions s.killed s.cells unqueued h.formed.header.cells beside h.agrees.natives));
       services = record {
         clients = clients_gone;
         sized = sized_gone p.header.cells k h.agrees.services.sized n;
@@ -374,22 +383,31 @@ module _ (p : Image) (m : Parts) (h : In_going p m) (o : Object) (holds : held h
         → record told { lines = (told.lines ++ gone_lines k (kept.queue_at k n)) ++ Gone class ∷ [] } ≡ record told { lines = told.lines ++ (queue_lines s.cells (Some o) ++ goes_line (Some o)) }
     told_away class told is =
         let queue = queue_told k s.cells s.clients same o (messages_wait p h.typing h.wired s h.typed s.clients h.kept.fit k same n) ∙ lines_alike k (kept.queue_at k n) in
-        ap (λ ls. record told { lines = ls }) (append_assoc told.lines (gone_lines k (kept.queue_at k n)) (Gone class ∷ []) ∙ ap (λ ls. told.lines ++ (ls ++ Gone class ∷ [])) (sym queue) ∙ ap (λ ls. told.lines ++ (queue_lines s.cells (Some o) ++ ls)) (sym (line_of o class is)))
+        ap (λ ls. record told { lines = ls }) (append_assoc told.lines (gone_lines k (kept.queue_at k n)) (Gone class ∷ []) ∙ ap (λ ls. told.lines
+        ++ (ls ++ Gone class ∷ [])) (sym queue) ∙ ap (λ ls. told.lines ++ (queue_lines s.cells (Some o) ++ ls)) (sym (line_of o class is)))
 
-pub go_does : (m : Parts) (heap : Heap) (a : Active) (w : Standing) (store : Store) (n class : ℕ) (told : LineBuffer) → n ≡ going_here m.stack.tasks → class_at m.cells n ≡ Some class → Changes m.cells heap n None → count heap + 1 ≡ count m.cells → Delists m.active a n → Sets m.sessions w n false → Drops (kept.queue_at m.clients n) m.messages store
-    → GoesAway m (places.next (record (with_tasks (below_first m.stack.tasks) m) { cells = heap; active = a; sessions = w; clients = kept.server_gone n m.clients; messages = store; listed = unlisted n m.listed })) told (record told { lines = (told.lines ++ gone_lines m.clients (kept.queue_at m.clients n)) ++ Gone class ∷ [] })
-go_does m heap a w store n class told which is gone less off shut drops p h o holds free typed fits = by_going p m h
-    (λ us. n ≡ going_here us → Agrees p (places.next (record (with_tasks (below_first us) m) { cells = heap; active = a; sessions = w; clients = kept.server_gone n m.clients; messages = store; listed = unlisted n m.listed })) (vanished o h.below h.state)
-    × (record told { lines = (told.lines ++ gone_lines m.clients (kept.queue_at m.clients n)) ++ Gone class ∷ [] } ≡ record told { lines = told.lines ++ (queue_lines h.state.cells (Some o) ++ goes_line (Some o)) }))
-    (λ x ms top which.
-    let name : n ≡ o.name = which ∙ number_of p m h o x ms top holds in
+pub go_does : (m : Parts) (heap : Heap) (a : Active) (w : Standing) (store : Store) (n class : ℕ) (told : LineBuffer) →
+    n ≡ going_here m.stack.tasks → class_at m.cells n ≡ Some class → Changes m.cells heap n None → count heap + 1 ≡ count m.cells → Delists m.active a n →
+    Sets m.sessions w n false → Drops (kept.queue_at m.clients n) m.messages store → GoesAway m (places.next (record (with_tasks (below_first m.stack.tasks) m)
+    { cells = heap; active = a; sessions = w; clients = kept.server_gone n m.clients; messages = store; listed = unlisted n m.listed })) told
+    (record told { lines = (told.lines ++ gone_lines m.clients (kept.queue_at m.clients n)) ++ Gone class ∷ [] })
+go_does m heap a w store n class told which is gone less off shut drops p h o holds free typed fits =
+    by_going p m h (λ us. n ≡ going_here us → Agrees p (places.next (record (with_tasks (below_first us) m)
+    { cells = heap; active = a; sessions = w; clients = kept.server_gone n m.clients; messages = store; listed = unlisted n m.listed })) (vanished o h.below
+    h.state) × (record told { lines = (told.lines ++ gone_lines m.clients (kept.queue_at m.clients n)) ++ Gone class ∷ [] } ≡ record told {
+      lines = told.lines
+          ++ (queue_lines h.state.cells (Some o) ++ goes_line (Some o));
+    })) (λ x ms top which. let name : n ≡ o.name = which ∙ number_of p m h o x ms top holds in
     let gone = subst (λ k. Changes m.cells heap k None) name gone in
     let off = subst (λ k. Delists m.active a k) name off in
     let shut = subst (λ k. Sets m.sessions w k false) name shut in
     let drops = subst (λ k. Drops (kept.queue_at m.clients k) m.messages store) name drops in
     let thing = thing_of_it p m h o n class is name (held_lives h.state.cells _ o h.typed.good.tidy holds) (going_object p m h o x ms top holds) in
-    subst (λ i. Agrees p (places.next (record (with_tasks ms m) { cells = heap; active = a; sessions = w; clients = kept.server_gone i m.clients; messages = store; listed = unlisted i m.listed })) (vanished o h.below h.state)
-    × (record told { lines = (told.lines ++ gone_lines m.clients (kept.queue_at m.clients i)) ++ Gone class ∷ [] } ≡ record told { lines = told.lines ++ (queue_lines h.state.cells (Some o) ++ goes_line (Some o)) })) (sym name) (
+    subst (λ i. Agrees p (places.next (record
+    (with_tasks ms m) { cells = heap; active = a; sessions = w; clients = kept.server_gone i m.clients; messages = store; listed = unlisted i m.listed }))
+    (vanished o h.below h.state)
+    × (record told { lines = (told.lines ++ gone_lines m.clients (kept.queue_at m.clients i)) ++ Gone class ∷ [] } ≡ record told
+    { lines = told.lines ++ (queue_lines h.state.cells (Some o) ++ goes_line (Some o)) })) (sym name) (
       goes_away p m h o holds free heap a w store gone less off shut drops typed fits x ms top,
       told_away p m h o holds free heap a w store gone less off shut drops typed fits x ms top class told thing,
     ))

@@ -58,13 +58,15 @@ pub record Stays (cs : List Cell) (heap : Heap) (es : List Item) (rest : Others)
   pub tasks : SameTasks ms ts
   pub values : (r : Place) → Represents (value_in ms heap es rest r) (word_at ts r) (held cs r)
 
-pub stays_to_trap : (cs : List Cell) (heap : Heap) (es : List Item) (rest : Others) (ms : List Machine_task) (ts : List Task) → above_trap_is_free cs ts ≡ true → Stays cs heap es rest ms ts → Stays cs heap es rest (held_to_trap ms) (to_trap ts)
+pub stays_to_trap : (cs : List Cell) (heap : Heap) (es : List Item) (rest : Others) (ms : List Machine_task) (ts : List Task) →
+    above_trap_is_free cs ts ≡ true → Stays cs heap es rest ms ts → Stays cs heap es rest (held_to_trap ms) (to_trap ts)
 stays_to_trap cs heap es rest [] [] free stays = stays
 stays_to_trap cs heap es rest (Runs_frame f ∷ ms) (Run fr ∷ ts) free stays =
     let both = and_parts (none_owns_but cs (length ts) None) (above_trap_is_free cs ts) free in
     stays_to_trap cs heap es rest ms ts both.1 (record {
       tasks = stays.tasks.1;
-      values = λ r. subst (Represents (value_in ms heap es rest r) (word_at ts r)) (cleared_none (length ts) (held cs) (λ i. none_owned cs (length ts) i both.0) r) (beneath f ms fr ts heap es rest (held cs) (same_length ms ts stays.tasks.1) stays.values r);
+      values = λ r. subst (Represents (value_in ms heap es rest r) (word_at ts r)) (cleared_none (length ts)
+          (held cs) (λ i. none_owned cs (length ts) i both.0) r) (beneath f ms fr ts heap es rest (held cs) (same_length ms ts stays.tasks.1) stays.values r);
     })
 stays_to_trap cs heap es rest (Is_trap ∷ ms) (Trapped ∷ ts) free stays = stays
 stays_to_trap cs heap es rest (Destroys x ∷ ms) (Destroy ∷ ts) free stays = stays
@@ -81,7 +83,8 @@ leaves p m s code agrees free =
     (λ r. subst (λ n. Represents n (word_at (Unwind code ∷ to_trap s.tasks) r) (held s.cells r)) (sym (unwinds_value (held_to_trap m.stack.tasks) m.cells m.entries.items (others m) code r))
     (subst (λ w. Represents (value_in (held_to_trap m.stack.tasks) m.cells m.entries.items (others m) r) w (held s.cells r)) (sym (unwinds_word (to_trap s.tasks) code r)) (stays.values r)))
 
-pub leaves_at : (p : Image) (m : Parts) (s : State) (fr : Frame) (ts : List Task) (code : ℤ) → s.tasks ≡ Run fr ∷ ts → Agrees p m s → above_trap_is_free s.cells (Run fr ∷ ts) ≡ true → Agrees p (leaving code m) (record s { tasks = Unwind code ∷ to_trap ts })
+pub leaves_at : (p : Image) (m : Parts) (s : State) (fr : Frame) (ts : List Task) (code : ℤ) → s.tasks ≡ Run fr ∷ ts →
+    Agrees p m s → above_trap_is_free s.cells (Run fr ∷ ts) ≡ true → Agrees p (leaving code m) (record s { tasks = Unwind code ∷ to_trap ts })
 leaves_at p m s fr ts code top agrees free = subst (λ us. Agrees p (leaving code m) (record s { tasks = Unwind code ∷ to_trap us })) top
     (leaves p m s code agrees (subst (λ us. above_trap_is_free s.cells us ≡ true) (sym top) free))
 
@@ -100,7 +103,8 @@ module _ (m : Parts) (refused : List ℕ) where
   left_negative a less = plain_does m (leaving (cast_signed w32 (register_here m.stack.tasks a)) m) refused (LeaveIf a) refl (λ p h c met.
       let below : int_lt (read h.frame h.below h.state a) (pos 0) ≡ true = ap (λ w. int_lt w (pos 0)) (sym (word_read p m h a met.0)) ∙ less in
       let free = subst (λ b. AllTrue (cond b (leave_needs h.state.cells (Run h.frame ∷ h.below)) [])) below met.1 in
-      subst (λ b. Agrees p (leaving (cast_signed w32 (register_here m.stack.tasks a)) m) (applied p h.frame h.below h.state (cond b (Leaves (read h.frame h.below h.state a) Same) (updates h.frame Same)))) (sym below) (left_with p h a met.0 free.1.0))
+      subst (λ b. Agrees p (leaving (cast_signed w32 (register_here m.stack.tasks a)) m) (applied p h.frame h.below h.state
+      (cond b (Leaves (read h.frame h.below h.state a) Same) (updates h.frame Same)))) (sym below) (left_with p h a met.0 free.1.0))
 
   pub leave_if_leaves : (a : ℕ) (code : ℤ) → code ≡ cast_signed w32 (register_here m.stack.tasks a) → int_lt code (pos 0) ≡ true → Does refused (LeaveIf a) m (leaving code m)
   leave_if_leaves a code e less = grind (arith, nat_tests, left_negative a)

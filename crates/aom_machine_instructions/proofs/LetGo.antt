@@ -61,7 +61,8 @@ pub record Closed (m : Parts) (s : State) : Type 0 where
 pub closed : (p : Image) (t : Typing) (m : Parts) (s : State) → WellTyped p t s → Agrees p m s → IsClosing m.stack.tasks → Closed m s
 closed p t m s typed agrees closing = go refl refl (alike m.stack.tasks s.tasks agrees.tasks) closing
   where
-    under : {ms : List Machine_task} {ts : List Task} → m.stack.tasks ≡ Closes ∷ ms → s.tasks ≡ Closing ∷ Destroy ∷ ts → (o : Object) → held s.cells (Going (length ts)) ≡ Some o → Alike ms (Destroy ∷ ts) → Closed m s
+    under : {ms : List Machine_task} {ts : List Task} → m.stack.tasks ≡ Closes ∷ ms →
+        s.tasks ≡ Closing ∷ Destroy ∷ ts → (o : Object) → held s.cells (Going (length ts)) ≡ Some o → Alike ms (Destroy ∷ ts) → Closed m s
     under e f o holds (both_go x ms ts small same _) = record { number = x; held_below = ms; below = ts; held_top = e; top = f; small = small; same = same; object = o; holds = holds }
 
     go : {us : List Machine_task} {vs : List Task} → m.stack.tasks ≡ us → s.tasks ≡ vs → Alike us vs → IsClosing us → Closed m s
@@ -74,7 +75,8 @@ closed p t m s typed agrees closing = go refl refl (alike m.stack.tasks s.tasks 
 step_of_closing : (p : Image) (c : Choice) (s : State) (ts : List Task) → s.tasks ≡ Closing ∷ Destroy ∷ ts → step p c s ≡ checked.closing p (Destroy ∷ ts) (at_close s)
 step_of_closing p c s ts top = ap (λ us. step_task p c (counted_by s (asked p us) (is_counted us)) us) top
 
-module _ (p : Image) (formed : WellFormed p) (m : Parts) (announced : m.rest.announced ≡ true) (t : Typing) (s : State) (typed : WellTyped p t s) (fits : IsKept p s) (agrees : Agrees p m s) (e : Closed m s) where
+module _ (p : Image) (formed : WellFormed p) (m : Parts)
+    (announced : m.rest.announced ≡ true) (t : Typing) (s : State) (typed : WellTyped p t s) (fits : IsKept p s) (agrees : Agrees p m s) (e : Closed m s) where
   abbrev x : ℕ
   x = e.number
 
@@ -132,7 +134,8 @@ module _ (p : Image) (formed : WellFormed p) (m : Parts) (announced : m.rest.ann
   none_left none =
       let first = no_session p m t s typed agrees o.name fits.fit (ap (λ i. kept.first_there m.clients (kept.sessions_at m.clients i)) (sym number_is) ∙ none) in
       subst (λ f. Agrees p (with_tasks (destructed p (destructor_at p m.cells x) x (Destroys x ∷ ms)) m) (parting p o f ts (at_close s))) (sym first)
-      (subst (λ d. Agrees p (with_tasks (destructed p d x (Destroys x ∷ ms)) m) (record (at_close s) { tasks = checked.destructed p o (length s.items) ts })) (sym (ap (destructor_at p m.cells) number_is ∙ destructor_same p m s agrees o lives cell))
+      (subst (λ d. Agrees p (with_tasks (destructed p d x (Destroys x ∷ ms)) m) (record (at_close s) { tasks = checked.destructed p o (length s.items) ts }))
+      (sym (ap (destructor_at p m.cells) number_is ∙ destructor_same p m s agrees o lives cell))
       (destructs p m (at_close s) ms ts x (destructor_of p o.thing) o (length s.items) (destructor_class p o.thing) number_is e.small e.same aside under))
 
   -- the session of that client is the first that is there: it goes
@@ -219,7 +222,9 @@ module _ (p : Image) (formed : WellFormed p) (m : Parts) (announced : m.rest.ann
 
 module _ (p : Image) (m : Parts) (announced : m.rest.announced ≡ true) where
   -- whatever it goes over to
-  by_closing : (new : Parts) (told : LineBuffer) → IsClosing m.stack.tasks → ((t : Typing) (s : State) → WellFormed p → WellTyped p t s → IsKept p s → Agrees p m s → (e : Closed m s) → Agrees p new (parting p e.object (first_session s.cells e.object.name (service_of s.cells e.object.name).sessions) e.below (at_close s))) → Moves p m told told new
+  by_closing : (new : Parts) (told : LineBuffer) →
+      IsClosing m.stack.tasks → ((t : Typing) (s : State) → WellFormed p → WellTyped p t s → IsKept p s → Agrees p m s → (e : Closed m s) → Agrees p new
+      (parting p e.object (first_session s.cells e.object.name (service_of s.cells e.object.name).sessions) e.below (at_close s))) → Moves p m told told new
   by_closing new told closing goes t s sound typed fits agrees =
       let e = closed p t m s typed agrees closing in
       let c = an_open p told.refused m s agrees in
@@ -235,16 +240,20 @@ module _ (p : Image) (m : Parts) (announced : m.rest.announced ≡ true) where
       let same : Closes ∷ Destroys n ∷ ms ≡ Closes ∷ Destroys e.number ∷ e.held_below = sym tasks ∙ e.held_top in
       let is : n ≡ e.number = cc in
       let below : ms ≡ e.held_below = cc in
-      subst (λ k. Agrees p (with_tasks (destructed p (destructor_at p m.cells k) k (Destroys k ∷ ms)) m) (parting p e.object (first_session s.cells e.object.name (service_of s.cells e.object.name).sessions) e.below (at_close s))) (sym is)
-      (subst (λ l. Agrees p (with_tasks (destructed p (destructor_at p m.cells e.number) e.number (Destroys e.number ∷ l)) m) (parting p e.object (first_session s.cells e.object.name (service_of s.cells e.object.name).sessions) e.below (at_close s))) (sym below)
+      subst (λ k. Agrees p (with_tasks (destructed p (destructor_at p m.cells k) k (Destroys k ∷ ms)) m)
+      (parting p e.object (first_session s.cells e.object.name (service_of s.cells e.object.name).sessions) e.below (at_close s))) (sym is)
+      (subst (λ l. Agrees p (with_tasks (destructed p (destructor_at p m.cells e.number) e.number (Destroys e.number ∷ l)) m)
+      (parting p e.object (first_session s.cells e.object.name (service_of s.cells e.object.name).sessions) e.below (at_close s))) (sym below)
       (none_left p formed m announced t s typed fits agrees e (ap (λ i. kept.first_there m.clients (kept.sessions_at m.clients i)) (sym is) ∙ none))))
 
-  pub session_moves : (told : LineBuffer) (n c r : ℕ) (ms : List Machine_task) → m.stack.tasks ≡ Closes ∷ Destroys n ∷ ms → kept.first_there m.clients (kept.sessions_at m.clients n) ≡ Some c → session_of (kept.client_at m.clients c) ≡ Some r → r < 65536
+  pub session_moves : (told : LineBuffer) (n c r : ℕ) (ms : List Machine_task) → m.stack.tasks ≡ Closes ∷ Destroys n ∷ ms →
+      kept.first_there m.clients (kept.sessions_at m.clients n) ≡ Some c → session_of (kept.client_at m.clients c) ≡ Some r → r < 65536
       → Moves p m told told (with_tasks (dying p m.cells r (Closes ∷ Destroys n ∷ ms)) (record m { clients = kept.after_release c m.clients }))
   session_moves told n c r ms tasks first its small = by_closing _ told (subst IsClosing (sym tasks) tt) (λ t s formed typed fits agrees e.
       let same : Closes ∷ Destroys n ∷ ms ≡ Closes ∷ Destroys e.number ∷ e.held_below = sym tasks ∙ e.held_top in
       let is : n ≡ e.number = cc in
-      subst (λ l. Agrees p (with_tasks (dying p m.cells r l) (record m { clients = kept.after_release c m.clients })) (parting p e.object (first_session s.cells e.object.name (service_of s.cells e.object.name).sessions) e.below (at_close s))) (sym e.held_top ∙ tasks)
+      subst (λ l. Agrees p (with_tasks (dying p m.cells r l) (record m { clients = kept.after_release c m.clients }))
+      (parting p e.object (first_session s.cells e.object.name (service_of s.cells e.object.name).sessions) e.below (at_close s))) (sym e.held_top ∙ tasks)
       (goes_first p formed m announced t s typed fits agrees e c r (ap (λ i. kept.first_there m.clients (kept.sessions_at m.clients i)) (sym is) ∙ first) its small))
 
 -- what the code finds
@@ -280,7 +289,8 @@ first_has : (k : kept.State) (cs : List ℕ) (c : ℕ) → kept.first_there k cs
 first_has k [] c e = cc
 first_has k (d ∷ cs) c e = go (has_cell (kept.client_at k d)) refl e (first_has k cs c)
   where
-    go : (b : Bool) → has_cell (kept.client_at k d) ≡ b → cond b (Some d) (kept.first_there k cs) ≡ Some c → (kept.first_there k cs ≡ Some c → has_cell (kept.client_at k c) ≡ true) → has_cell (kept.client_at k c) ≡ true
+    go : (b : Bool) → has_cell (kept.client_at k d) ≡ b → cond b (Some d) (kept.first_there k cs) ≡ Some c →
+        (kept.first_there k cs ≡ Some c → has_cell (kept.client_at k c) ≡ true) → has_cell (kept.client_at k c) ≡ true
     go true has e rest = let same : d ≡ c = cc in subst (λ i. has_cell (kept.client_at k i) ≡ true) same has
     go false has e rest = rest e
 
@@ -332,7 +342,8 @@ module _ (p : Image) (m : Parts) (st : Stands (record { image = p; parts = m }))
     below_is = ap below_first tasks_are
 
     -- once none is left
-    module _ (mid taken : Parts) (result : Option ℕ) (drop : mid ≡ with_tasks (below_first m.stack.tasks) m) (takes : taken ≡ record mid { clients = released_by (kept.first_there mid.clients (kept.sessions_at mid.clients number)) mid.clients })
+    module _ (mid taken : Parts) (result : Option ℕ) (drop : mid ≡ with_tasks (below_first m.stack.tasks) m)
+        (takes : taken ≡ record mid { clients = released_by (kept.first_there mid.clients (kept.sessions_at mid.clients number)) mid.clients })
         (told : result ≡ session_there (kept.first_there mid.clients (kept.sessions_at mid.clients number)) mid.clients) where
       told_here : result ≡ session_there (kept.first_there m.clients (kept.sessions_at m.clients number)) m.clients
       told_here = told ∙ ap (λ (k : Parts). session_there (kept.first_there k.clients (kept.sessions_at k.clients number)) k.clients) drop
@@ -353,11 +364,14 @@ module _ (p : Image) (m : Parts) (st : Stands (record { image = p; parts = m }))
       pub taken_none : result ≡ None → taken ≡ with_tasks (below_first m.stack.tasks) m
       taken_none none = grind (arith, nat_tests, takes_here, first_none none)
 
-      pub moves_none : (turn : LineBuffer) (class : ℕ) (new : Parts) → result ≡ None → class_at taken.cells number ≡ Some class → new ≡ with_tasks (destructed p (destructor_in p (Some class)) number taken.stack.tasks) taken → Moves p m turn turn new
+      pub moves_none : (turn : LineBuffer) (class : ℕ) (new : Parts) → result ≡ None → class_at taken.cells number ≡ Some class →
+          new ≡ with_tasks (destructed p (destructor_in p (Some class)) number taken.stack.tasks) taken → Moves p m turn turn new
       moves_none turn class new none its new_is =
           let same = taken_none none in
           let class_is : class_at m.cells number ≡ Some class = ap (λ h. class_at h number) (sym cells_taken) ∙ its in
-          subst (λ k. Moves p m turn turn k) (sym (new_is ∙ ap (λ (k : Parts). with_tasks (destructed p (destructor_in p (Some class)) number k.stack.tasks) k) same ∙ ap (λ o. with_tasks (destructed p (destructor_in p o) number (below_first m.stack.tasks)) m) (sym class_is) ∙ ap (λ us. with_tasks (destructed p (destructor_at p m.cells number) number us) m) below_is))
+          subst (λ k. Moves p m turn turn k) (sym (new_is ∙ ap (λ (k : Parts). with_tasks (destructed p (destructor_in p (Some class)) number k.stack.tasks) k)
+          same ∙ ap (λ o. with_tasks (destructed p (destructor_in p o) number (below_first m.stack.tasks)) m) (sym class_is)
+          ∙ ap (λ us. with_tasks (destructed p (destructor_at p m.cells number) number us) m) below_is))
           (destructor_moves p m announced turn number found.below tasks_are (first_none none))
 
       pub session_found : (r : ℕ) → result ≡ Some r → r < 65536 → Lives taken.cells r
@@ -370,5 +384,7 @@ module _ (p : Image) (m : Parts) (st : Stands (record { image = p; parts = m }))
           let one = one_taken m.clients (kept.sessions_at m.clients number) r (sym told_here ∙ some) in
           let then = record m { clients = kept.after_release one.0 m.clients } in
           subst (λ k. Moves p m turn turn k)
-          (sym (new_is ∙ ap (λ (k : Parts). with_tasks (dying p k.cells r (Closes ∷ k.stack.tasks)) k) (takes_here ∙ ap (λ o. record (with_tasks (below_first m.stack.tasks) m) { clients = released_by o m.clients }) one.1) ∙ ap (λ us. with_tasks (dying p m.cells r (Closes ∷ us)) then) below_is))
+          (sym (new_is ∙ ap (λ (k : Parts). with_tasks (dying p k.cells r (Closes ∷ k.stack.tasks)) k)
+          (takes_here ∙ ap (λ o. record (with_tasks (below_first m.stack.tasks) m) { clients = released_by o m.clients }) one.1)
+          ∙ ap (λ us. with_tasks (dying p m.cells r (Closes ∷ us)) then) below_is))
           (session_moves p m announced turn number one.0 r found.below tasks_are one.1 one.2 small)

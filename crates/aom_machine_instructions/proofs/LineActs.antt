@@ -86,9 +86,11 @@ module _ (p : Image) (m : Parts) (refused : List ℕ) (a : ℕ) (act : Active) (
       let deep : length us ≡ length ts = omega (arith, top.deep) in
       let there : value_in (Destroys x ∷ us) m.cells m.entries.items (others m) (Going (length ts)) ≡ x = ap (λ b. cond b x (going_in us (length ts))) (eq-eqb (length us) (length ts) deep) in
       let name : x ≡ line.0.name = sym there ∙ waits.values (Going (length ts)) ∙ ap number (still h (Going (length ts)) ∙ line.1) in
-      let pushed = destructs p mid (past h) us ts x (next_destructor p h.frame.method) line.0 h.frame.height (λ k e. next_class p k h.frame.method e) name small same (aside_of p mid (past h) agree) waits.values in
+      let pushed = destructs p mid (past h) us ts x (next_destructor p h.frame.method) line.0 h.frame.height
+      (λ k e. next_class p k h.frame.method e) name small same (aside_of p mid (past h) agree) waits.values in
       subst (λ k. Agrees p (with_tasks (destructed p (next_destructor p k) x (Destroys x ∷ us)) mid) (after h (Destroy ∷ ts))) (sym top.frame.method)
-      (subst (λ home. Agrees p (with_tasks (destructed p (next_destructor p h.frame.method) x (Destroys x ∷ us)) mid) (record (past h) { tasks = line_on p h.frame.method home h.frame.height ts })) (sym line.2) pushed)
+      (subst (λ home. Agrees p (with_tasks (destructed p (next_destructor p h.frame.method) x (Destroys x ∷ us)) mid)
+      (record (past h) { tasks = line_on p h.frame.method home h.frame.height ts })) (sym line.2) pushed)
 
   abbrev pub goes : List Machine_task → Parts
   goes us = with_tasks (destructed p (next_destructor p (method_here us)) (going_here (below_first us)) (below_first us)) mid

@@ -52,7 +52,8 @@ use Rattle.aom_machine_instructions.proofs.Running.{free, no_word}
 use Rattle.aom_machine_instructions.proofs.WordActs.{plain_does, word_read}
 
 -- what a completion changes of clients shows in no place
-completed_values : (us : List Machine_task) (h : Heap) (es : List Item) (o : Others) (place : ℕ) (r : Place) → value_in us h es (record o { clients = after_complete place o.clients }) r ≡ value_in us h es o r
+completed_values : (us : List Machine_task) (h : Heap) (es : List Item) (o : Others) (place : ℕ) (r : Place) →
+    value_in us h es (record o { clients = after_complete place o.clients }) r ≡ value_in us h es o r
 completed_values us h es o place r = grind arith
 
 module _ (m : Parts) (refused : List ℕ) where
@@ -88,7 +89,8 @@ pub record InRegister (p : Image) (m : Parts) (h : At_hand p m) (a : ℕ) : Type
 pub in_register : (p : Image) (m : Parts) (h : At_hand p m) (a b : ℕ) (c : Choice) → AllTrue (needs p c h.frame h.below h.state (Reply a b)) → InRegister p m h a
 in_register p m h a b c met = go (held h.state.cells (Register (length h.below) a)) refl met.1.0 met.1.1.0
   where
-    go : (x : Option Object) → held h.state.cells (Register (length h.below) a) ≡ x → is_some (held h.state.cells (Register (length h.below) a)) ≡ true → is_thing p Message (held h.state.cells (Register (length h.below) a)) ≡ true → InRegister p m h a
+    go : (x : Option Object) → held h.state.cells (Register (length h.below) a) ≡ x → is_some (held h.state.cells (Register (length h.below) a)) ≡ true →
+        is_thing p Message (held h.state.cells (Register (length h.below) a)) ≡ true → InRegister p m h a
     go None e some thing = absurd (false≢true (ap is_some (sym e) ∙ some))
     go (Some o) e some thing = record {
       object = o;
@@ -116,7 +118,8 @@ module _ (p : Image) (m : Parts) (h : At_hand p m) (a : ℕ) (x : InRegister p m
   it_was_sent = message_sent p h.typing h.state h.typed (Register (length h.below) a) x.object x.there x.message h.kept.fit.sources no_token_there
 
 module _ (m : Parts) where
-  pub reply_does : (refused : List ℕ) (a b place : ℕ) (store : Store) → a < 16 → first_number + place ≡ register_here m.stack.tasks a → class_at m.tokens place ≡ None → Changes m.messages store place None → count store + 1 ≡ count m.messages →
+  pub reply_does : (refused : List ℕ) (a b place : ℕ) (store : Store) → a < 16 → first_number + place ≡ register_here m.stack.tasks a →
+      class_at m.tokens place ≡ None → Changes m.messages store place None → count store + 1 ≡ count m.messages →
       Does refused (Reply a b) m (places.next (record (set_register a null m) { clients = after_complete place m.clients; messages = store }))
   reply_does refused a b place store small named sent gone fewer =
       plain_does m (places.next (record (set_register a null m) { clients = after_complete place m.clients; messages = store })) refused (Reply a b) refl (λ p h c met.
@@ -125,7 +128,8 @@ module _ (m : Parts) where
       let g = Register (length h.below) a in
       let name : x.object.name ≡ message_name place = x.number ∙ sym named in
       let mid = record m { clients = after_complete place m.clients; messages = store } in
-      subst (λ order. Agrees p (places.next (record (set_register a null m) { clients = after_complete place m.clients; messages = store })) (replied p h a b order)) (sym (nothing_told p m h a x place name sent))
+      subst (λ order. Agrees p (places.next (record (set_register a null m) { clients = after_complete place m.clients; messages = store }))
+      (replied p h a b order)) (sym (nothing_told p m h a x place name sent))
       (goes_on_with p m h mid (without g s.cells) s.items s.rest (put_at None h.frame.words a None) (on_top (with_register a null)) (with_register a null) (λ f ms. refl)
       (record {
         stack = refl;
@@ -133,11 +137,13 @@ module _ (m : Parts) where
         entries = h.agrees.entries;
         requests = requests_completed p h.typing s h.typed g x.object x.there x.message place name m.active h.agrees.requests;
         natives = natives_completed p h.typing s h.typed g x.object x.there x.message place name m.sessions h.formed.header.cells h.agrees.natives;
-        services = services_completed p h.typing s h.typed g x.object x.there x.message place name h.wired h.kept refl (it_was_sent p m h a x place name sent) m.clients m.messages m.tokens m.listed h.agrees.services store gone fewer;
+        services = services_completed p h.typing s h.typed g x.object x.there x.message place name h.wired h.kept refl
+            (it_was_sent p m h a x place name sent) m.clients m.messages m.tokens m.listed h.agrees.services store gone fewer;
         rest = h.agrees.rest;
         room = h.agrees.entry_room;
       })
-      (λ f ms e top. written p m h mid (without g s.cells) a null None None small refl f ms top (completed_values (Runs_frame f ∷ ms) m.cells m.entries.items (others m) place) (held_without s.cells g))))
+      (λ f ms e top. written p m h mid (without g s.cells) a null None None small refl f ms top
+      (completed_values (Runs_frame f ∷ ms) m.cells m.entries.items (others m) place) (held_without s.cells g))))
 
   -- its line
   pub reply_tells : (told : LineBuffer) (a b place : ℕ) (code : ℤ) → first_number + place ≡ register_here m.stack.tasks a → code ≡ cast_signed w32 (register_here m.stack.tasks b) →
@@ -149,7 +155,8 @@ module _ (m : Parts) where
       let name : x.object.name ≡ message_name place = x.number ∙ sym named in
       let taken = was_taken p h.typing s h.typed g x.object x.there x.message place name h.wired h.kept refl m.clients h.agrees.services.clients in
       ap (λ l. record told { lines = told.lines ++ l })
-      (lines_so (completion (place_at m.clients place)) code ∙ sym (message_told m.clients s.cells s.clients h.agrees.services.clients x.object place code name taken) ∙ ap (λ o. message_line s.cells o code) (sym x.there) ∙ ap (message_line s.cells (held s.cells g)) (read ∙ word_read p m h b met.1.1.1.0))
+      (lines_so (completion (place_at m.clients place)) code ∙ sym (message_told m.clients s.cells s.clients h.agrees.services.clients x.object place code
+      name taken) ∙ ap (λ o. message_line s.cells o code) (sym x.there) ∙ ap (message_line s.cells (held s.cells g)) (read ∙ word_read p m h b met.1.1.1.0))
     where
       lines_so : (x : Option Completion) (code : ℤ) → completion_lines x code ≡ completed_lines code x
       lines_so None code = refl
@@ -158,12 +165,14 @@ module _ (m : Parts) where
 -- ---- as the code does it
 
 -- the register is null, the message is completed, and the method goes on
-module _ (m mid new : Parts) (told now : LineBuffer) (n : ℕ) (code : ℤ) (a b : ℕ) (emptied : mid ≡ set_register a null m) (number_so : n ≡ register_here m.stack.tasks a) (completes : Completes n code mid new told now) where
+module _ (m mid new : Parts) (told now : LineBuffer) (n : ℕ) (code : ℤ)
+    (a b : ℕ) (emptied : mid ≡ set_register a null m) (number_so : n ≡ register_here m.stack.tasks a) (completes : Completes n code mid new told now) where
   pub reply_done : (refused : List ℕ) (last : Parts) → class_at mid.tokens completes.place ≡ None → a < 16 → last ≡ places.next new → Does refused (Reply a b) m last
   reply_done refused last sent small goes_on =
       grind (arith, nat_tests, reply_does m refused a b completes.place new.messages small (completes.number ∙ number_so))
 
   pub reply_told : code ≡ cast_signed w32 (register_here m.stack.tasks b) → Tells (Reply a b) m told now
-  reply_told read =
-      subst (λ x. Tells (Reply a b) m told x) (sym (completes.line ∙ ap (λ (x : Parts). record told { lines = told.lines ++ completion_lines (completion (place_at x.clients completes.place)) code }) emptied))
-      (reply_tells m told a b completes.place code (completes.number ∙ number_so) read)
+  reply_told read = subst (λ x. Tells (Reply a b) m told x) (sym (completes.line ∙ ap (λ (x : Parts). record told {
+    lines = told.lines ++ completion_lines
+        (completion (place_at x.clients completes.place)) code;
+  }) emptied)) (reply_tells m told a b completes.place code (completes.number ∙ number_so) read)

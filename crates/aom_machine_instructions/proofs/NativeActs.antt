@@ -87,14 +87,16 @@ module _ (p : Image) (m : Parts) (h : At_hand p m) (on : OnObject p m h) (w : St
   }
 
   -- and a register that owned nothing has a word
-  session_put : (new : Parts) (a : ℕ) (v : ℤ) → held h.state.cells (Register (length h.below) a) ≡ None → WritesWord a v (record m { sessions = w }) new → Agrees p new (applied p h.frame h.below h.state (sets h.frame a (Some v) (Sessioned b)))
+  session_put : (new : Parts) (a : ℕ) (v : ℤ) → held h.state.cells (Register (length h.below) a) ≡ None →
+      WritesWord a v (record m { sessions = w }) new → Agrees p new (applied p h.frame h.below h.state (sets h.frame a (Some v) (Sessioned b)))
   session_put new a v none x =
       let s = h.state in
       let n = x.number in
       let cs = resessioned s.cells h.frame.home b in
       subst (λ k. Agrees p k (applied p h.frame h.below s (sets h.frame a (Some v) (Sessioned b)))) (sym x.written)
       (goes_on_with p m h (record m { sessions = w }) cs s.items s.rest (put_at None h.frame.words a (Some v)) (on_top (with_register a n)) (with_register a n) (λ f ms. refl) beside
-      (λ f ms e top. written p m h (record m { sessions = w }) cs a n (Some v) None x.small x.word f ms top (λ q. refl) (λ q. (resessioned_alike s.cells h.frame.home b).held_so q ∙ still_none p m h a none q)))
+      (λ f ms e top. written p m h (record m { sessions = w }) cs a n
+      (Some v) None x.small x.word f ms top (λ q. refl) (λ q. (resessioned_alike s.cells h.frame.home b).held_so q ∙ still_none p m h a none q)))
 
   session_passes : Agrees p (places.next (record m { sessions = w })) (applied p h.frame h.below h.state (updates h.frame (Sessioned b)))
   session_passes = grind (arith, nat_tests, goes_on_as p m h, beside, resessioned_alike h.state.cells h.frame.home b)

@@ -39,8 +39,10 @@ use Rattle.aom_cleanup.specs.declared.item.Item.{Item}
 use Rattle.aom_machine_state.proofs.Sessions.{natives_made}
 
 -- what a register shows that has no word
-pub shown : (p : Image) (m : Parts) (h : At_hand p m) (f : Machine_frame) (ms : List Machine_task) → Top m h.state h.frame h.below f ms → (a : ℕ) → word h.frame a ≡ None → slice_index_or f.registers a null ≡ number (held h.state.cells (Register (length h.below) a))
-shown p m h f ms top a none = subst (λ w. Represents (slice_index_or f.registers a null) w (held h.state.cells (Register (length h.below) a))) none (register_shows m h.state h.frame h.below f ms top a)
+pub shown : (p : Image) (m : Parts) (h : At_hand p m) (f : Machine_frame) (ms : List Machine_task) → Top m h.state h.frame h.below f ms →
+    (a : ℕ) → word h.frame a ≡ None → slice_index_or f.registers a null ≡ number (held h.state.cells (Register (length h.below) a))
+shown p m h f ms top a none = subst (λ w. Represents (slice_index_or f.registers a null) w (held h.state.cells (Register (length h.below) a))) none
+    (register_shows m h.state h.frame h.below f ms top a)
 
 pub shown_here : (p : Image) (m : Parts) (h : At_hand p m) (a : ℕ) → word h.frame a ≡ None → register_here m.stack.tasks a ≡ number (held h.state.cells (Register (length h.below) a))
 shown_here p m h a none = by_top p m h (λ us. register_here us a ≡ number (held h.state.cells (Register (length h.below) a))) (λ f ms top. shown p m h f ms top a none)
@@ -80,7 +82,8 @@ module _ (m : Parts) (refused : List ℕ) where
       (nulled p h a m.rest _ small h.agrees.rest none))
 
 -- the fields of a new cell are null, and so are those of one that is not there
-values_kept : (ms : List Machine_task) (h h' : Heap) (es : List Item) (rest : Others) (n class : ℕ) → cell_at h n ≡ None → Changes h h' n (Some (blank class)) → (r : Place) → value_in ms h' es rest r ≡ value_in ms h es rest r
+values_kept : (ms : List Machine_task) (h h' : Heap) (es : List Item) (rest : Others) (n class : ℕ) →
+    cell_at h n ≡ None → Changes h h' n (Some (blank class)) → (r : Place) → value_in ms h' es rest r ≡ value_in ms h es rest r
 values_kept ms h h' es rest n class none ch (Field k g) = cases (n == k) (λ e.
     let same = eqb-true n k e in
     ap (λ i. field_of (cell_at h' i) g) (sym same) ∙ ap (λ o. field_of o g) ch.here ∙ all_same 8 g null ∙ ap (λ o. field_of o g) (sym none) ∙ ap (λ i. field_of (cell_at h i) g) same)
@@ -92,11 +95,13 @@ abbrev zeros : Image → ℕ → List ℤ
 zeros p class = replicate (words_of p class) (pos 0)
 
 -- the cells with a new one
-cells_made : (p : Image) (h h' : Heap) (cs : List Cell) (n class : ℕ) (ws : List ℤ) (q : Place) → SameCells p h cs → ((w : ℕ) → at (pos 0) ws w ≡ pos 0) → class < 256 → cell_at h n ≡ None → n ≢ null → Changes h h' n (Some (blank class)) → count h' ≡ count h + 1 → n < h'.limit → SameCells p h' (with_new n (An_object_of class) ws q cs)
+cells_made : (p : Image) (h h' : Heap) (cs : List Cell) (n class : ℕ) (ws : List ℤ) (q : Place) →
+    SameCells p h cs → ((w : ℕ) → at (pos 0) ws w ≡ pos 0) → class < 256 → cell_at h n ≡ None →
+    n ≢ null → Changes h h' n (Some (blank class)) → count h' ≡ count h + 1 → n < h'.limit → SameCells p h' (with_new n (An_object_of class) ws q cs)
 cells_made p h h' cs n class ws q same zeros small none some ch more within = record {
   things = grind (arith, nat_tests, eqb-true n);
-  words = λ k w below. cases (n == k)
-      (λ e. ap (λ i. word_of (cell_at h' i) w) (sym (eqb-true n k e)) ∙ ap (λ c. word_of c w) ch.here ∙ all_same 8 w (pos 0) ∙ sym (zeros w) ∙ ap (λ b. cond b (at (pos 0) ws w) (word_field cs k w)) (sym e))
+  words = λ k w below. cases (n == k) (λ e. ap (λ i. word_of (cell_at h' i) w) (sym (eqb-true n k e))
+      ∙ ap (λ c. word_of c w) ch.here ∙ all_same 8 w (pos 0) ∙ sym (zeros w) ∙ ap (λ b. cond b (at (pos 0) ws w) (word_field cs k w)) (sym e))
       (λ e. ap (λ c. word_of c w) (other k e) ∙ same.words k w below ∙ ap (λ b. cond b (at (pos 0) ws w) (word_field cs k w)) (sym e));
   count = (let c = same.count in omega arith);
   limit = ch.limit ∙ same.limit;
@@ -147,7 +152,8 @@ module _ (m : Parts) (turn : LineBuffer) where
   )
 
   -- a new cell comes to a register
-  pub made_agrees : (p : Image) (h : At_hand p m) (a class n : ℕ) (heap : Heap) (r : Counters) → a < 16 → record m.rest { requests = raised m.rest.requests } ≡ r → is_none (held h.state.cells (Register (length h.below) a)) ≡ true
+  pub made_agrees : (p : Image) (h : At_hand p m) (a class n : ℕ) (heap : Heap) (r : Counters) →
+      a < 16 → record m.rest { requests = raised m.rest.requests } ≡ r → is_none (held h.state.cells (Register (length h.below) a)) ≡ true
       → class < 256 → cell_at m.cells n ≡ None → n ≢ null → Changes m.cells heap n (Some (blank class)) → count heap ≡ count m.cells + 1 → n < heap.limit
       → Agrees p (places.next (set_register a n (asked heap))) (record h.state { cells = with_new n (An_object_of class) (zeros p class) (Register (length h.below) a) h.state.cells; tasks = Run (next (set_word h.frame a None)) ∷ h.below; rest = r })
   made_agrees p h a class n heap r small rest empty fits none some ch more within =
@@ -172,8 +178,8 @@ module _ (m : Parts) (turn : LineBuffer) where
   pub asks_one : (r : Counters) → m.rest ≡ r → record m.rest { requests = raised m.rest.requests } ≡ record r { requests = raised r.requests }
   asks_one r e = ap (λ (q : Counters). record q { requests = raised q.requests }) e
 
-  made_does : (a class n : ℕ) (heap : Heap) → a < 16 → false ≡ refuses turn m → class < 256 → cell_at m.cells n ≡ None → n ≢ null → Changes m.cells heap n (Some (blank class)) → count heap ≡ count m.cells + 1 → n < heap.limit
-      → Does turn.refused (New a class) m (places.next (set_register a n (asked heap)))
+  made_does : (a class n : ℕ) (heap : Heap) → a < 16 → false ≡ refuses turn m → class < 256 → cell_at m.cells n ≡ None → n ≢ null → Changes m.cells heap n
+      (Some (blank class)) → count heap ≡ count m.cells + 1 → n < heap.limit → Does turn.refused (New a class) m (places.next (set_register a n (asked heap)))
   made_does a class n heap small granted fits none some ch more within p h here = (
     record { name = n; refused = false; answer = heard_by m },
     record { name = unnamed p m h.state n h.agrees (new_small p m h heap n class ch within) none; refusal = granted ∙ same_refusal p turn m h (New a class) here refl; answer = heard_fits m },
@@ -181,7 +187,8 @@ module _ (m : Parts) (turn : LineBuffer) where
     λ needs typed. made_agrees p h a class n heap _ small (asks_one h.state.rest h.agrees.rest) needs.0 fits none some ch more within,
   )
 
-  pub new_does : (a class n : ℕ) (refused : Bool) (heap : Heap) → a < 16 → refused ≡ refuses turn m → Made class refused n m.cells heap → Does turn.refused (New a class) m (places.next (set_register a n (asked heap)))
+  pub new_does : (a class n : ℕ) (refused : Bool) (heap : Heap) →
+      a < 16 → refused ≡ refuses turn m → Made class refused n m.cells heap → Does turn.refused (New a class) m (places.next (set_register a n (asked heap)))
   new_does a class n refused heap small same it = elim it [
     | inl null_made ↦ subst (λ x. Does turn.refused (New a class) m (places.next (set_register a n (asked x)))) (sym null_made.2) (subst (λ k. Does turn.refused (New a class) m (places.next (set_register a k (asked m.cells)))) (sym null_made.1) (refused_does a class small (sym null_made.0 ∙ same)))
     | inr new_made ↦ made_does a class n heap small (sym new_made.0 ∙ same) new_made.1 new_made.2 new_made.3 new_made.4 new_made.5 new_made.6

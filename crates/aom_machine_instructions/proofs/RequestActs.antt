@@ -82,7 +82,8 @@ pub cells_rerequested : (p : Image) (h : Heap) (cs : List Cell) (home : Home) (r
 cells_rerequested p h cs x r same = grind (arith, nat_tests, cells_asked p h cs)
 
 -- the table that has that request under its name stands for them
-pub requests_set : (p : Image) (old new : Active) (cs : List Cell) (o : Object) (r : Option Request) → named cs o.name ≡ Some o → new.table.limit ≡ old.table.limit → StandsFor new (asked_anew o.name r (requested cs)) (queued p cs) → SameRequests p old cs → SameRequests p new (set_request o.name r cs)
+pub requests_set : (p : Image) (old new : Active) (cs : List Cell) (o : Object) (r : Option Request) → named cs o.name ≡ Some o → new.table.limit
+    ≡ old.table.limit → StandsFor new (asked_anew o.name r (requested cs)) (queued p cs) → SameRequests p old cs → SameRequests p new (set_request o.name r cs)
 requests_set p old new cs o r lives limit stands same = record {
   stands = grind (
     arith,
@@ -260,16 +261,20 @@ module _ (p : Image) (m : Parts) (h : At_hand p m) where
     status_told active = grind (arith, nat_tests, fresh_told, told_status m.active, own_told, active_unqueued active)
 
     -- the requests with another one of this object
-    requests_asked : (a : Active) (r : Option Request) → a.table.limit ≡ m.active.table.limit → StandsFor a (asked_anew (this m) r (requested h.state.cells)) (queued p h.state.cells) → SameRequests p a (rerequested h.state.cells h.frame.home r)
+    requests_asked : (a : Active) (r : Option Request) → a.table.limit ≡ m.active.table.limit →
+        StandsFor a (asked_anew (this m) r (requested h.state.cells)) (queued p h.state.cells) → SameRequests p a (rerequested h.state.cells h.frame.home r)
     requests_asked a r limit stands = subst (λ home. SameRequests p a (rerequested h.state.cells home r)) (sym x.home)
-        (requests_set p m.active a h.state.cells x.object r x.lives limit (subst (λ n. StandsFor a (asked_anew n r (requested h.state.cells)) (queued p h.state.cells)) x.number stands) h.agrees.requests)
+        (requests_set p m.active a h.state.cells x.object r x.lives limit
+        (subst (λ n. StandsFor a (asked_anew n r (requested h.state.cells)) (queued p h.state.cells)) x.number stands) h.agrees.requests)
 
     -- it becomes this of it
-    pub requests_become : (a : Active) (f : Request → Request) (r : Request) → own_request h.state.cells h.frame.home ≡ Some r → Makes m.active a (this m) f → SameRequests p a (rerequested h.state.cells h.frame.home (on_request f (own_request h.state.cells h.frame.home)))
+    pub requests_become : (a : Active) (f : Request → Request) (r : Request) → own_request h.state.cells h.frame.home ≡ Some r →
+        Makes m.active a (this m) f → SameRequests p a (rerequested h.state.cells h.frame.home (on_request f (own_request h.state.cells h.frame.home)))
     requests_become a f r is makes = subst (λ o. SameRequests p a (rerequested h.state.cells h.frame.home (on_request f o))) (sym is)
         (requests_asked a (Some (f r)) makes.limit (makes.stands (requested h.state.cells) (queued p h.state.cells) r h.agrees.requests.stands (sym own_told ∙ is)))
 
-    pub requests_enlisted : (a : Active) (priority : ℤ) (waits : Option Bool) → queued p h.state.cells (this m) ≡ waits → Enlists m.active a (this m) priority waits → SameRequests p a (rerequested h.state.cells h.frame.home (Some (first_request h.state.cells priority)))
+    pub requests_enlisted : (a : Active) (priority : ℤ) (waits : Option Bool) → queued p h.state.cells (this m) ≡ waits →
+        Enlists m.active a (this m) priority waits → SameRequests p a (rerequested h.state.cells h.frame.home (Some (first_request h.state.cells priority)))
     requests_enlisted a priority waits is enlists = requests_asked a (Some (first_request h.state.cells priority)) enlists.limit
         (enlists.stands (requested h.state.cells) (queued p h.state.cells) (next_order h.state.cells) h.agrees.requests.stands (newest h.state.cells h.typed.good.tidy) is)
 
@@ -281,8 +286,8 @@ module _ (p : Image) (m : Parts) (h : At_hand p m) where
     pub services_become :
         (f : Request → Request) → ((r : Request) → (f r).order ≡ r.order) → awaited (on_request f (own_request h.state.cells h.frame.home)) ≡ awaited (own_request h.state.cells h.frame.home) →
         SameServices p m.clients m.messages m.tokens m.listed (become f) h.state.clients
-    services_become f same token =
-        services_rerequested p h.state.cells h.frame.home (on_request f (own_request h.state.cells h.frame.home)) (housed p m h) (order_kept f same (own_request h.state.cells h.frame.home)) token h.agrees.services
+    services_become f same token = services_rerequested p h.state.cells h.frame.home (on_request f (own_request h.state.cells h.frame.home))
+        (housed p m h) (order_kept f same (own_request h.state.cells h.frame.home)) token h.agrees.services
 
     -- each request but its own is as it was
     own_asked : (r : Option Request) (n : ℕ) → requested (rerequested h.state.cells h.frame.home r) n ≡ cond (this m == n) r (requested h.state.cells n)
@@ -300,7 +305,8 @@ module _ (p : Image) (m : Parts) (h : At_hand p m) where
         (tokens_forgotten p m.tokens w h.state.cells (become f) h.agrees.services.tokens (this m)
         (λ n other. ap awaited (own_asked (on_request f own) n) ∙ ap (λ b. awaited (cond b (on_request f own) (requested h.state.cells n))) other)
         (ap awaited (own_asked (on_request f own) (this m)) ∙ ap (λ b. awaited (cond b (on_request f own) (requested h.state.cells (this m)))) (eq-eqb (this m) (this m) refl) ∙ over own)
-        (λ n. ap (λ home. (service_of (rerequested h.state.cells home (on_request f own)) (message_name n)).token) x.home ∙ ap (λ (v : Service). v.token) (service_asked h.state.cells x.object.name (on_request f own) (message_name n)))
+        (λ n. ap (λ home. (service_of (rerequested h.state.cells home (on_request f own)) (message_name n)).token) x.home
+        ∙ ap (λ (v : Service). v.token) (service_asked h.state.cells x.object.name (on_request f own) (message_name n)))
         places forgets)
         h.agrees.services
       where
@@ -324,18 +330,20 @@ module _ (p : Image) (m : Parts) (h : At_hand p m) where
         (times.stands (requested h.state.cells) (queued p h.state.cells) r (next_timer h.state.cells) h.agrees.requests.stands (sym own_told ∙ is) (newest_timer h.state.cells h.typed.good.tidy)))
 
   -- the object's request is another, and the method goes on
-  pub asks_on :
-      (a : Active) (w : Kept) (t : Table) (r : Option Request) → SameRequests p a (rerequested h.state.cells h.frame.home r) → SameServices p m.clients m.messages w t (rerequested h.state.cells h.frame.home r) h.state.clients →
+  pub asks_on : (a : Active) (w : Kept) (t : Table) (r : Option Request) → SameRequests p a (rerequested h.state.cells h.frame.home r) →
+      SameServices p m.clients m.messages w t (rerequested h.state.cells h.frame.home r) h.state.clients →
       Agrees p (places.next (record m { active = a; tokens = w; listed = t })) (applied p h.frame h.below h.state (updates h.frame (Requested r)))
   asks_on a w t r requests services =
       let cs = rerequested h.state.cells h.frame.home r in
       goes_on_as p m h (record m { active = a; tokens = w; listed = t }) cs h.state.items h.state.rest
       (record { stack = refl; cells = cells_rerequested p m.cells h.state.cells h.frame.home r h.agrees.cells; entries = h.agrees.entries; requests = requests; natives = natives_rerequested p m.sessions h.state.killed h.state.cells h.frame.home r h.agrees.natives; services = services; rest = h.agrees.rest; room = h.agrees.entry_room })
-      (λ f ms e top q. subst (λ o. Represents (value_in (Runs_frame f ∷ ms) m.cells m.entries.items (others m) q) (word_at (Run h.frame ∷ h.below) q) o) (sym ((rerequested_alike h.state.cells h.frame.home r).held_so q)) (top.values q))
+      (λ f ms e top q. subst (λ o. Represents (value_in (Runs_frame f ∷ ms) m.cells m.entries.items (others m) q) (word_at (Run h.frame ∷ h.below) q) o)
+      (sym ((rerequested_alike h.state.cells h.frame.home r).held_so q)) (top.values q))
 
 -- ---- what the code needs to know of an instruction that is next
 
-module _ (p : Image) (m : Parts) (i : Instr) (next : IsNext p i m) (listed : (c : Choice) (fr : Frame) (ts : List Task) (s : State) → AllTrue (needs p c fr ts s i) → is_listed_kind (home_kind p fr.home) ≡ true) where
+module _ (p : Image) (m : Parts) (i : Instr) (next : IsNext p i m)
+    (listed : (c : Choice) (fr : Frame) (ts : List Task) (s : State) → AllTrue (needs p c fr ts s i) → is_listed_kind (home_kind p fr.home) ≡ true) where
   abbrev before : Parts
   before = counting next.counts m
 
@@ -418,7 +426,8 @@ module _ (p : Image) (m : Parts) where
 
 module _ (m : Parts) (refused : List ℕ) where
   -- a jump by what the table tells of the request
-  jumps_as : (p : Image) (h : At_hand p m) (there here : Bool) (to : ℕ) → here ≡ there → Agrees p (cond there (places.to_place to m) (places.next m)) (applied p h.frame h.below h.state (jumps_if h.frame here to))
+  jumps_as : (p : Image) (h : At_hand p m) (there here : Bool) (to : ℕ) →
+      here ≡ there → Agrees p (cond there (places.to_place to m) (places.next m)) (applied p h.frame h.below h.state (jumps_if h.frame here to))
   jumps_as p h x here to e = grind (arith, nat_tests, jumps m refused p h to, passes m refused p h)
 
   pub jump_active_does : (to : ℕ) (b : Bool) → is_busy (request_at m.active.table (this m)) ≡ b → Does refused (JumpActive to) m (cond b (places.to_place to m) (places.next m))
@@ -429,8 +438,8 @@ module _ (m : Parts) (refused : List ℕ) where
 
   -- the status of the last request, and 0 where there was none
   pub status_does : (new : Parts) (a : ℕ) → WritesWord a (word_or_zero (status_at m.active.table (this m))) m new → Does refused (Status a) m new
-  status_does new a x = plain_does m new refused (Status a) refl (λ p h c met.
-      subst (λ v. Agrees p new (applied p h.frame h.below h.state (writes_word h.frame a v))) (status_told p m h (on_object p m h (active_listed _ met.0)) met.0) (word_put p m new h a _ (free _ met.1.0) x))
+  status_does new a x = plain_does m new refused (Status a) refl (λ p h c met. subst (λ v. Agrees p new (applied p h.frame h.below h.state
+      (writes_word h.frame a v))) (status_told p m h (on_object p m h (active_listed _ met.0)) met.0) (word_put p m new h a _ (free _ met.1.0) x))
 
 module _ (m : Parts) (refused : List ℕ) (a : Active) where
   -- the request of the object that works becomes another at the same place of the list
@@ -448,8 +457,8 @@ module _ (m : Parts) (refused : List ℕ) (a : Active) where
       becomes is_issued waits m.tokens makes p h (λ on. services_become p m h on waits (λ r. refl) (token_kept waits (λ r. refl) (own_request h.state.cells h.frame.home))) met.0 met.1.1.1.0)
 
   -- its token, if it waits for one, is void
-  pub abort_does :
-      (w : Kept) → Makes m.active a (this m) aborted → w.places ≡ m.tokens.places → Sets m.tokens.living w.living (this m) None → Does refused Abort m (places.next (record m { active = a; tokens = w }))
+  pub abort_does : (w : Kept) → Makes m.active a (this m) aborted →
+      w.places ≡ m.tokens.places → Sets m.tokens.living w.living (this m) None → Does refused Abort m (places.next (record m { active = a; tokens = w }))
   abort_does w makes places forgets =
       plain_does m _ refused Abort refl (λ p h c met. becomes is_cancelling aborted w makes p h (λ on. services_forget p m h on w aborted (λ r. refl) (λ r. refl) places forgets) met.0 met.1.0)
 
@@ -461,7 +470,8 @@ module _ (p : Image) (m : Parts) (h : At_hand p m) (on : OnObject p m h) (n : �
   session_told : is_open m.sessions (this m) ≡ own_session h.state.cells h.frame.home
   session_told = h.agrees.natives.sessions (this m) ∙ ap (in_session h.state.cells) on.number ∙ sym (ap (own_session h.state.cells) on.home)
 
-  pub heard_told : {A : Type 0} (f : Bool → Bool → ℤ → A) (c : Choice) → c.answer ≡ heard_by m → f (is_killed m.sessions n) (is_open m.sessions (this m)) (heard_by m) ≡ heard p c h.frame h.below h.state f
+  pub heard_told : {A : Type 0} (f : Bool → Bool → ℤ → A) (c : Choice) →
+      c.answer ≡ heard_by m → f (is_killed m.sessions n) (is_open m.sessions (this m)) (heard_by m) ≡ heard p c h.frame h.below h.state f
   heard_told f c hears = grind (arith, nat_tests, dead_told, session_told)
 
 -- a request is made of a provider
@@ -482,10 +492,13 @@ issue_does p m refused a q b x provider issues h here = heard_at p m _ refused (
     let r = in_one is_idle _ met.1.1.1.1.0 in
     let made = issued_as (home_kind p h.frame.home) q asking w (ap provider_of (kind_told p m h on) ∙ provider) in
     let same : m.rest.clock ≡ clock = ap (λ r. r.clock) h.agrees.rest in
-    let it = subst (λ n. Issues q m.sessions (heard_by m) n w m.active a (this m)) same (subst (λ v. Issues q m.sessions (heard_by m) m.rest.clock v m.active a (this m)) (word_read p m h b met.0) issues) in
+    let it = subst (λ n. Issues q m.sessions (heard_by m) n w m.active a (this m)) same
+    (subst (λ v. Issues q m.sessions (heard_by m) m.rest.clock v m.active a (this m)) (word_read p m h b met.0) issues) in
     subst (λ f. Agrees p (places.next (record m { active = a })) (applied p h.frame h.below h.state (updates h.frame (Requested (on_request f (own_request h.state.cells h.frame.home)))))) (sym made)
     (asks_on p m h a m.tokens m.listed _ (requests_made p m h on a q w asking.started r.0 r.1
-    (λ n native. heard_told p m h on n (native_provided (kind_here p m) n (provider ∙ ap (λ v. Some v) native)) started c hears) it) (services_become p m h on (issued_by q asking w) (issued_order q asking w) (issued_untold q asking w (own_request h.state.cells h.frame.home) ∙ sym (idle_untold p m h on met.1.1.1.1.0)))))
+    (λ n native. heard_told p m h on n (native_provided (kind_here p m) n (provider ∙ ap (λ v. Some v) native)) started c hears) it)
+    (services_become p m h on (issued_by q asking w)
+    (issued_order q asking w) (issued_untold q asking w (own_request h.state.cells h.frame.home) ∙ sym (idle_untold p m h on met.1.1.1.1.0)))))
 
 -- a request that is not active is left alone
 pub cancel_idle_does : (m : Parts) (refused : List ℕ) → is_waited_for (request_at m.active.table (this m)) ≡ false → Does refused Cancel m (places.next m)
@@ -524,13 +537,16 @@ module _ (p : Image) (m : Parts) (refused : List ℕ) (a : Active) (k : ℕ) whe
         entries = h.agrees.entries;
         requests = requests;
         natives = natives_rerequested p m.sessions s.killed s.cells fr.home r h.agrees.natives;
-        services = services_rerequested p s.cells fr.home r (housed p m h) (order_kept cancelling (λ r. refl) (own_request s.cells fr.home)) (token_kept cancelling (λ r. refl) (own_request s.cells fr.home)) h.agrees.services;
+        services = services_rerequested p s.cells fr.home r (housed p m h) (order_kept cancelling (λ r. refl) (own_request s.cells fr.home))
+            (token_kept cancelling (λ r. refl) (own_request s.cells fr.home)) h.agrees.services;
         rest = h.agrees.rest;
         room = h.agrees.room;
         entry_room = h.agrees.entry_room;
       })
 
-  pub cancel_does : (class counted : ℕ) → class_at m.cells (this m) ≡ Some class → Some counted ≡ or_else (class_above (view_here m.stack.tasks)) (Some class) → role_of p counted Cancels_role ≡ Some k → is_waited_for (request_at m.active.table (this m)) ≡ true → Makes m.active a (this m) cancelling → DoesIn p refused Cancel m cancels
+  pub cancel_does : (class counted : ℕ) → class_at m.cells (this m) ≡ Some class →
+      Some counted ≡ or_else (class_above (view_here m.stack.tasks)) (Some class) → role_of p counted Cancels_role ≡ Some k →
+      is_waited_for (request_at m.active.table (this m)) ≡ true → Makes m.active a (this m) cancelling → DoesIn p refused Cancel m cancels
   cancel_does class counted is counts role waited makes h here = plain_at p m _ refused Cancel refl h (λ c met typed.
       let on = on_object p m h (active_listed _ met.0) in
       let active = sym (active_told p m h on) ∙ waited in

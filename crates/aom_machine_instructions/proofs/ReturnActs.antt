@@ -90,7 +90,8 @@ unfolding gives_in
 gives_here p k d e = ap gives_in e
 
 -- the machine once the method is gone, and the cancel that it may have ended is over
-pub dropped : (m ended new : Parts) → ended ≡ record m { active = ended.active } → new ≡ with_tasks (below_first ended.stack.tasks) ended → new ≡ with_tasks (below_first m.stack.tasks) (record m { active = ended.active })
+pub dropped : (m ended new : Parts) → ended ≡ record m { active = ended.active } →
+    new ≡ with_tasks (below_first ended.stack.tasks) ended → new ≡ with_tasks (below_first m.stack.tasks) (record m { active = ended.active })
 dropped m ended new rest drop = drop ∙ ap (λ (k : Parts). with_tasks (below_first k.stack.tasks) k) rest
 
 -- ---- what lies below the task that is over
@@ -129,12 +130,14 @@ pub awaiting : (g : Gives) (x : ℕ) (sh : Shape) → bears g ≡ true → Await
 awaiting g x sh b a = OnTrue_at b (awaits g x sh a)
 
 -- a register that is claimed to own nothing owns nothing
-pub awaits_none : (p : Image) (s : State) (ls : List Layer) (ts : List Task) (sh : Shape) (x : ℕ) (k : Kind) → is_unowning (register sh x) ≡ true → k ≡ register sh x → Fits p (seen s.cells) (held s.cells (Register (length (tasks_of ls)) x)) k
+pub awaits_none : (p : Image) (s : State) (ls : List Layer) (ts : List Task) (sh : Shape) (x : ℕ) (k : Kind) →
+    is_unowning (register sh x) ≡ true → k ≡ register sh x → Fits p (seen s.cells) (held s.cells (Register (length (tasks_of ls)) x)) k
     → tasks_of ls ≡ ts → held s.cells (Register (length ts) x) ≡ None
 awaits_none p s ls ts sh x k quiet claims fits rest = grind (arith, nat_tests, fits_unowning p)
 
 -- under a trap stands the method that set it
-pub caught_layer : (P : List Layer → Type 0) (G : Type 0) (caller : Frame) (ts : List Task) (ls : List Layer) → tasks_of ls ≡ Trapped ∷ Run caller ∷ ts → P ls → ((gv : Gives) (sh : Shape) (below : List Layer) → tasks_of below ≡ ts → P (Mark gv ∷ Method caller sh ∷ below) → G) → G
+pub caught_layer : (P : List Layer → Type 0) (G : Type 0) (caller : Frame) (ts : List Task) (ls : List Layer) → tasks_of ls ≡ Trapped ∷ Run caller ∷ ts →
+    P ls → ((gv : Gives) (sh : Shape) (below : List Layer) → tasks_of below ≡ ts → P (Mark gv ∷ Method caller sh ∷ below) → G) → G
 caught_layer P G caller ts ls under has gives =
     mark_layer P (Run caller ∷ ts) ls under has (λ gv ls under has. method_layer (λ ls. P (Mark gv ∷ ls)) caller ts ls under has (λ sh ls rest has. gives gv sh ls rest has))
 
@@ -146,7 +149,8 @@ awaited p t s fr caller ts typed top some =
     let x = result_register (instr_at p caller.method caller.place) in
     let q = Register (length (tasks_of ls)) x in
     awaits_none p s ls ts sh' x _ (awaiting (gives_of p fr.method) x sh' some good.stack.4.0.1)
-    (ap (λ b. cond b (register sh x) (claim p (declared p s.cells) (Method caller sh' ∷ ls) q)) (ne_eqb (suc (length (tasks_of ls))) (length (tasks_of ls)) (λ e. absurd (omega arith))) ∙ claim_register p (declared p s.cells) caller sh' ls x)
+    (ap (λ b. cond b (register sh x) (claim p (declared p s.cells) (Method caller sh' ∷ ls) q))
+    (ne_eqb (suc (length (tasks_of ls))) (length (tasks_of ls)) (λ e. absurd (omega arith))) ∙ claim_register p (declared p s.cells) caller sh' ls x)
     (good.fits q) rest))
 
 -- the same through a trap
@@ -159,11 +163,13 @@ awaited_trapped p t s fr caller ts typed top some =
     let d = length (tasks_of ls) in
     let mark = good.stack.4 in
     awaits_none p s ls ts sh' x _ (awaiting gv x sh' (ap bears (sym mark.0.0) ∙ some) mark.1.0.2)
-    (ap (λ b. cond b (register sh x) (claim p (declared p s.cells) (Mark gv ∷ Method caller sh' ∷ ls) (Register d x))) (ne_eqb (suc (suc d)) d (λ e. absurd (omega arith))) ∙ claim_register p (declared p s.cells) caller sh' ls x)
+    (ap (λ b. cond b (register sh x) (claim p (declared p s.cells) (Mark gv ∷ Method caller sh' ∷ ls) (Register d x)))
+    (ne_eqb (suc (suc d)) d (λ e. absurd (omega arith))) ∙ claim_register p (declared p s.cells) caller sh' ls x)
     (good.fits (Register d x)) rest))
 
 -- a register with a word owns nothing
-pub word_alone : (p : Image) (t : Typing) (s : State) (fr : Frame) (ts : List Task) (i : ℕ) (w : ℤ) → WellTyped p t s → s.tasks ≡ Run fr ∷ ts → word fr i ≡ Some w → held s.cells (Register (length ts) i) ≡ None
+pub word_alone : (p : Image) (t : Typing) (s : State) (fr : Frame) (ts : List Task) (i : ℕ) (w : ℤ) →
+    WellTyped p t s → s.tasks ≡ Run fr ∷ ts → word fr i ≡ Some w → held s.cells (Register (length ts) i) ≡ None
 word_alone p t s fr ts i w typed top has = method_layer (λ ls. Good p t s.cells ls) fr ts typed.layers (sym typed.tasks ∙ top) typed.good (λ sh ls rest good.
     let q = Register (length (tasks_of ls)) i in
     let claims = claim_register p (declared p s.cells) fr sh ls i in
@@ -191,11 +197,12 @@ module _ (p : Image) (m : Parts) (t : Typing) (s : State) (fr : Frame) (agrees :
   -- to the going of a cell, to an unwinding or to a dispatch: nothing goes over
   pub to_waiting : (ms : List Machine_task) (ts : List Task) → Top m s fr ts f ms → ((i : ℕ) → held s.cells (Register (length ts) i) ≡ None)
       → Agrees p (with_tasks ms m) (record s { tasks = ts })
-  to_waiting ms ts top clear = retasked p m s ms ts agrees top.below
-      (λ r. subst (Represents (value_in ms m.cells m.entries.items (others m) r) (word_at ts r)) (cleared_none _ (held s.cells) clear r) (beneath f ms fr ts m.cells m.entries.items (others m) (held s.cells) top.deep top.values r))
+  to_waiting ms ts top clear = retasked p m s ms ts agrees top.below (λ r. subst (Represents (value_in ms m.cells m.entries.items (others m) r) (word_at ts r))
+      (cleared_none _ (held s.cells) clear r) (beneath f ms fr ts m.cells m.entries.items (others m) (held s.cells) top.deep top.values r))
 
   -- to a method, or through a trap to one
-  module _ (trapped : Bool) (g : Machine_frame) (ms : List Machine_task) (caller : Frame) (ts : List Task) (top : Top m s fr (tasks_over trapped (Run caller ∷ ts)) f (held_over trapped (Runs_frame g ∷ ms))) (small : result_register (instr_at p caller.method caller.place) < 16) where
+  module _ (trapped : Bool) (g : Machine_frame) (ms : List Machine_task) (caller : Frame) (ts : List Task) (top : Top m s fr (tasks_over trapped
+      (Run caller ∷ ts)) f (held_over trapped (Runs_frame g ∷ ms))) (small : result_register (instr_at p caller.method caller.place) < 16) where
     abbrev x : ℕ
     x = result_register (instr_at p caller.method caller.place)
 
@@ -241,7 +248,8 @@ module _ (p : Image) (m : Parts) (t : Typing) (s : State) (fr : Frame) (agrees :
 
     -- the result has come
     record Landed (rs : List ℕ) (ws : List (Option ℤ)) (cs : List Cell) : Type 0 where
-      values : (r : Place) → Represents (value_in (Runs_frame (record g { registers = rs }) ∷ ms) m.cells m.entries.items (others m) r) (word_at (Run (record caller { words = ws }) ∷ ts) r) (held cs r)
+      values : (r : Place) → Represents (value_in (Runs_frame (record g { registers = rs }) ∷ ms) m.cells m.entries.items (others m) r)
+          (word_at (Run (record caller { words = ws }) ∷ ts) r) (held cs r)
       aside : Aside p m (record s { cells = cs })
       wide : length rs ≡ 16
 
@@ -257,7 +265,8 @@ module _ (p : Image) (m : Parts) (t : Typing) (s : State) (fr : Frame) (agrees :
     }
 
     -- with a number
-    lands : (cs : List Cell) (w : Option ℤ) (o : Option Object) → Aside p m (record s { cells = cs }) → Represents n w o → ((r : Place) → held cs r ≡ changed under to o r) → Landed (slice_set g.registers x n) (set_word caller x w).words cs
+    lands : (cs : List Cell) (w : Option ℤ) (o : Option Object) → Aside p m (record s { cells = cs }) →
+        Represents n w o → ((r : Place) → held cs r ≡ changed under to o r) → Landed (slice_set g.registers x n) (set_word caller x w).words cs
     lands cs w o aside shows holds =
         let wide = same_frame.wide in
         record {
@@ -279,7 +288,8 @@ module _ (p : Image) (m : Parts) (t : Typing) (s : State) (fr : Frame) (agrees :
         lands (moved from to s.cells) None (held s.cells from) (aside_moved p m s from to agrees refl refl) (subst (λ w. Represents n w (held s.cells from)) wordless number_shows) holds
       where
         elsewhere : (r : Place) → same_place from r ≡ false → under r ≡ held s.cells r → held (moved from to s.cells) r ≡ changed under to (held s.cells from) r
-        elsewhere r e same = held_moved s.cells from to r empty ∙ ap (λ b. cond (same_place to r) (held s.cells from) (cond b None (held s.cells r))) e ∙ ap (λ o. cond (same_place to r) (held s.cells from) o) (sym same)
+        elsewhere r e same = held_moved s.cells from to r empty ∙ ap (λ b. cond (same_place to r) (held s.cells from) (cond b None (held s.cells r))) e
+            ∙ ap (λ o. cond (same_place to r) (held s.cells from) o) (sym same)
 
         holds : (r : Place) → held (moved from to s.cells) r ≡ changed under to (held s.cells from) r
         holds (Entry k) = elsewhere (Entry k) refl refl
@@ -290,21 +300,26 @@ module _ (p : Image) (m : Parts) (t : Typing) (s : State) (fr : Frame) (agrees :
             let at = eqb-true (length over) e b in
             let above = high in
             ap (λ k. held (moved from to s.cells) (Register k i)) (sym at) ∙ clear i
-            ∙ sym (ap (λ c. cond (c && (x == i)) (held s.cells from) (under (Register e i))) (ne_eqb (length ts) e (λ d. absurd (omega arith))) ∙ ap (λ c. cond c None (held s.cells (Register e i))) b))
+            ∙ sym (ap (λ c. cond (c && (x == i)) (held s.cells from) (under (Register e i))) (ne_eqb (length ts) e (λ d. absurd (omega arith)))
+            ∙ ap (λ c. cond c None (held s.cells (Register e i))) b))
             (λ b. elsewhere (Register e i) (ap (λ c. c && (a == i)) b) (ap (λ c. cond c None (held s.cells (Register e i))) b))
 
     -- the method goes on
-    lands_next : (rs : List ℕ) (ws : List (Option ℤ)) (cs : List Cell) → Landed rs ws cs → Agrees p (places.next (with_tasks (Runs_frame (record g { registers = rs }) ∷ ms) m)) (record s { cells = cs; tasks = Run (next (record caller { words = ws })) ∷ ts })
+    lands_next : (rs : List ℕ) (ws : List (Option ℤ)) (cs : List Cell) → Landed rs ws cs → Agrees p (places.next
+        (with_tasks (Runs_frame (record g { registers = rs }) ∷ ms) m)) (record s { cells = cs; tasks = Run (next (record caller { words = ws })) ∷ ts })
     lands_next rs ws cs landed =
         let g' = record g { registers = rs } in
         let caller' = record caller { words = ws } in
-        agrees_with p m (record s { cells = cs }) (Runs_frame (record g' { place = suc g.place }) ∷ ms) (Run (next caller') ∷ ts) landed.aside (moved_on g caller rs ws same_frame landed.wide, same_there.1)
+        agrees_with p m (record s { cells = cs }) (Runs_frame (record g' { place = suc g.place }) ∷ ms)
+        (Run (next caller') ∷ ts) landed.aside (moved_on g caller rs ws same_frame landed.wide, same_there.1)
         (λ r. subst (λ k. Represents k (word_at (Run (next caller') ∷ ts) r) (held cs r)) (sym (value_kept g' ms m.cells m.entries.items (others m) (suc g.place) r))
         (subst (λ w. Represents (value_in (Runs_frame g' ∷ ms) m.cells m.entries.items (others m) r) w (held cs r)) (sym (word_next caller' ts (suc caller.place) r)) (landed.values r)))
 
     -- through its trap, with 0 for the code
-    lands_coded : (es : Machine_items) → m.entries ≡ record es { items = Is_mark ∷ es.items } → suc x < 16 → (rs : List ℕ) (ws : List (Option ℤ)) (cs : List Cell) → held cs (Register (length ts) (suc x)) ≡ None → Landed rs ws cs
-        → Agrees p (places.next (places.set_register (suc x) 0 (with_tasks (Runs_frame (record g { registers = rs }) ∷ ms) (record m { entries = es })))) (record s { cells = cs; tasks = Run (next (set_word (record caller { words = ws }) (suc x) (Some (pos 0)))) ∷ ts; items = below_top s.items })
+    lands_coded : (es : Machine_items) → m.entries ≡ record es { items = Is_mark ∷ es.items } →
+        suc x < 16 → (rs : List ℕ) (ws : List (Option ℤ)) (cs : List Cell) → held cs (Register (length ts) (suc x)) ≡ None → Landed rs ws cs
+        → Agrees p (places.next (places.set_register (suc x) 0 (with_tasks (Runs_frame (record g { registers = rs }) ∷ ms) (record m { entries = es }))))
+        (record s { cells = cs; tasks = Run (next (set_word (record caller { words = ws }) (suc x) (Some (pos 0)))) ∷ ts; items = below_top s.items })
     lands_coded es marked coded rs ws cs empty landed =
         let g' = record g { registers = rs } in
         let caller' = record caller { words = ws } in
@@ -313,7 +328,8 @@ module _ (p : Image) (m : Parts) (t : Typing) (s : State) (fr : Frame) (agrees :
         let was : m.entries.items ≡ Is_mark ∷ es.items = ap (λ (e : Machine_items). e.items) marked in
         let old : (r : Place) → Represents (value_in (Runs_frame g' ∷ ms) m.cells es.items (others m) r) (word_at (Run caller' ∷ ts) r) (held cs r) =
         grind (arith, nat_tests, value_alike (Runs_frame g' ∷ ms) m.cells (Is_mark ∷ es.items) es.items, mark_shows_none es.items) in
-        agrees_with p (record m { entries = es }) (record s { cells = cs; items = below_top s.items }) (Runs_frame (record g { registers = slice_set rs (suc x) 0; place = suc g.place }) ∷ ms) (Run (next (set_word caller' (suc x) (Some (pos 0)))) ∷ ts)
+        agrees_with p (record m { entries = es }) (record s { cells = cs; items = below_top s.items })
+        (Runs_frame (record g { registers = slice_set rs (suc x) 0; place = suc g.place }) ∷ ms) (Run (next (set_word caller' (suc x) (Some (pos 0)))) ∷ ts)
         (aside_unmarked p m (record s { cells = cs }) es marked landed.aside)
         (moved_on g caller (slice_set rs (suc x) 0) (set_word caller' (suc x) (Some (pos 0))).words same_frame (length-set rs (suc x) 0 ∙ wide), same_there.1)
         (writes _ _ _ _ (held cs) _ q 0 (Some (pos 0)) None old refl
@@ -321,7 +337,9 @@ module _ (p : Image) (m : Parts) (t : Typing) (s : State) (fr : Frame) (agrees :
         (word_written caller' ts (suc x) (suc caller.place) (Some (pos 0))) (λ r. kept (held cs) q r ∙ ap (λ o. changed (held cs) q o r) empty))
 
   -- to a method
-  module _ (g : Machine_frame) (ms : List Machine_task) (caller : Frame) (ts : List Task) (top : Top m s fr (Run caller ∷ ts) f (Runs_frame g ∷ ms)) (empty : bears (gives_of p fr.method) ≡ true → held s.cells (Register (length ts) (result_register (instr_at p caller.method caller.place))) ≡ None) (small : result_register (instr_at p caller.method caller.place) < 16) where
+  module _ (g : Machine_frame) (ms : List Machine_task) (caller : Frame) (ts : List Task) (top : Top m s fr (Run caller ∷ ts) f (Runs_frame g ∷ ms))
+      (empty : bears (gives_of p fr.method) ≡ true → held s.cells (Register (length ts) (result_register (instr_at p caller.method caller.place))) ≡ None)
+      (small : result_register (instr_at p caller.method caller.place) < 16) where
     abbrev y : ℕ
     y = result_register (instr_at p caller.method caller.place)
 
@@ -334,12 +352,17 @@ module _ (p : Image) (m : Parts) (t : Typing) (s : State) (fr : Frame) (agrees :
 
     to_method : (gv : Gives) → Goes gv
     to_method A_word met same typed = lands_next false g ms caller ts top small _ _ _ (lands_word false g ms caller ts top small (λ i. none_above p t _ _ i typed (omega arith)) (empty (sym same)))
-    to_method (An_own z) met same typed = lands_next false g ms caller ts top small _ _ _ (lands_object false g ms caller ts top small (λ i. none_above p t _ _ i typed (omega arith)) (empty (sym same)) met)
-    to_method (A_maybe z) met same typed = lands_next false g ms caller ts top small _ _ _ (lands_object false g ms caller ts top small (λ i. none_above p t _ _ i typed (omega arith)) (empty (sym same)) met)
+    to_method (An_own z) met same typed = lands_next false g ms caller ts top small _ _ _
+        (lands_object false g ms caller ts top small (λ i. none_above p t _ _ i typed (omega arith)) (empty (sym same)) met)
+    to_method (A_maybe z) met same typed = lands_next false g ms caller ts top small _ _ _
+        (lands_object false g ms caller ts top small (λ i. none_above p t _ _ i typed (omega arith)) (empty (sym same)) met)
     to_method _ met same typed = lands_next false g ms caller ts top small _ _ _ (lands_bare false g ms caller ts top small (λ i. none_above p t _ _ i typed (omega arith)))
 
   -- through a trap
-  module _ (es : Machine_items) (marked : m.entries ≡ record es { items = Is_mark ∷ es.items }) (g : Machine_frame) (ms : List Machine_task) (caller : Frame) (ts : List Task) (top : Top m s fr (Trapped ∷ Run caller ∷ ts) f (Is_trap ∷ Runs_frame g ∷ ms)) (empty : bears (gives_of p fr.method) ≡ true → held s.cells (Register (length ts) (result_register (instr_at p caller.method caller.place))) ≡ None) (coded : suc (result_register (instr_at p caller.method caller.place)) < 16) where
+  module _ (es : Machine_items) (marked : m.entries ≡ record es { items = Is_mark ∷ es.items }) (g : Machine_frame)
+      (ms : List Machine_task) (caller : Frame) (ts : List Task) (top : Top m s fr (Trapped ∷ Run caller ∷ ts) f (Is_trap ∷ Runs_frame g ∷ ms))
+      (empty : bears (gives_of p fr.method) ≡ true → held s.cells (Register (length ts) (result_register (instr_at p caller.method caller.place))) ≡ None)
+      (coded : suc (result_register (instr_at p caller.method caller.place)) < 16) where
     abbrev z : ℕ
     z = result_register (instr_at p caller.method caller.place)
 
@@ -350,19 +373,25 @@ module _ (p : Image) (m : Parts) (t : Typing) (s : State) (fr : Frame) (agrees :
     small_too = omega (arith, coded)
 
     abbrev GoesThrough : Gives → Type 0
-    GoesThrough gv = Wordless gv (word fr a) → bears gv ≡ bears (gives_of p fr.method)
-        → WellTyped p t (returned p fr (Trapped ∷ Run caller ∷ ts) s gv a (Trapped ∷ Run caller ∷ ts))
-        → Agrees p (places.next (places.set_register (suc z) 0 (resulted gv z j (with_tasks (Runs_frame g ∷ ms) (record m { entries = es }))))) (returned p fr (Trapped ∷ Run caller ∷ ts) s gv a (Trapped ∷ Run caller ∷ ts))
+    GoesThrough gv = Wordless gv (word fr a) → bears gv ≡ bears (gives_of p fr.method) → WellTyped p t
+        (returned p fr (Trapped ∷ Run caller ∷ ts) s gv a (Trapped ∷ Run caller ∷ ts)) → Agrees p (places.next (places.set_register (suc z) 0 (resulted gv z j
+        (with_tasks (Runs_frame g ∷ ms) (record m { entries = es }))))) (returned p fr (Trapped ∷ Run caller ∷ ts) s gv a (Trapped ∷ Run caller ∷ ts))
 
     -- the code's register has a word then
-    code_alone : (cs : List Cell) (caller' : Frame) (items : _) → WellTyped p t (record s { cells = cs; tasks = Run (next (set_word caller' (suc z) (Some (pos 0)))) ∷ ts; items = items }) → held cs (Register (length ts) (suc z)) ≡ None
-    code_alone cs caller' items typed = word_alone p t _ (next (set_word caller' (suc z) (Some (pos 0)))) ts (suc z) (pos 0) typed refl (at-put_at None caller'.words (suc z) (suc z) (Some (pos 0)) ∙ ap (λ b. cond b (Some (pos 0)) (word caller' (suc z))) (eq-eqb (suc z) (suc z) refl))
+    code_alone : (cs : List Cell) (caller' : Frame) (items : _) → WellTyped p t (record s
+        { cells = cs; tasks = Run (next (set_word caller' (suc z) (Some (pos 0)))) ∷ ts; items = items }) → held cs (Register (length ts) (suc z)) ≡ None
+    code_alone cs caller' items typed = word_alone p t _ (next (set_word caller' (suc z) (Some (pos 0)))) ts (suc z) (pos 0) typed refl
+        (at-put_at None caller'.words (suc z) (suc z) (Some (pos 0)) ∙ ap (λ b. cond b (Some (pos 0)) (word caller' (suc z))) (eq-eqb (suc z) (suc z) refl))
 
     through : (gv : Gives) → GoesThrough gv
-    through A_word met same typed = lands_coded true g ms caller ts top small_too es marked coded _ _ _ (code_alone _ (set_word caller z (word fr a)) _ typed) (lands_word true g ms caller ts top small_too (λ i. none_above p t _ _ i typed (omega arith)) (empty (sym same)))
-    through (An_own thing) met same typed = lands_coded true g ms caller ts top small_too es marked coded _ _ _ (code_alone _ (set_word caller z None) _ typed) (lands_object true g ms caller ts top small_too (λ i. none_above p t _ _ i typed (omega arith)) (empty (sym same)) met)
-    through (A_maybe thing) met same typed = lands_coded true g ms caller ts top small_too es marked coded _ _ _ (code_alone _ (set_word caller z None) _ typed) (lands_object true g ms caller ts top small_too (λ i. none_above p t _ _ i typed (omega arith)) (empty (sym same)) met)
-    through _ met same typed = lands_coded true g ms caller ts top small_too es marked coded _ _ _ (code_alone _ caller _ typed) (lands_bare true g ms caller ts top small_too (λ i. none_above p t _ _ i typed (omega arith)))
+    through A_word met same typed = lands_coded true g ms caller ts top small_too es marked coded _ _ _ (code_alone _ (set_word caller z (word fr a)) _ typed)
+        (lands_word true g ms caller ts top small_too (λ i. none_above p t _ _ i typed (omega arith)) (empty (sym same)))
+    through (An_own thing) met same typed = lands_coded true g ms caller ts top small_too es marked coded _ _ _ (code_alone _ (set_word caller z None) _ typed)
+        (lands_object true g ms caller ts top small_too (λ i. none_above p t _ _ i typed (omega arith)) (empty (sym same)) met)
+    through (A_maybe thing) met same typed = lands_coded true g ms caller ts top small_too es marked coded _ _ _ (code_alone _ (set_word caller z None) _ typed)
+        (lands_object true g ms caller ts top small_too (λ i. none_above p t _ _ i typed (omega arith)) (empty (sym same)) met)
+    through _ met same typed = lands_coded true g ms caller ts top small_too es marked coded _ _ _
+        (code_alone _ caller _ typed) (lands_bare true g ms caller ts top small_too (λ i. none_above p t _ _ i typed (omega arith)))
 
 -- ---- a return to a dispatch of the machine's
 
@@ -380,7 +409,8 @@ accepting_or x = grind arith
 
 -- it is served on both sides, and all else stays
 returned_plain : (p : Image) (fr : Frame) (s : State) (g : Gives) (a : ℕ) (ts : List Task) (q : Place) (x : Machine_dispatch) → AcceptsNot x →
-    returned p fr (Trapped ∷ Dispatched (dispatch_of q x) ∷ ts) s g a (Trapped ∷ Dispatched (dispatch_of q x) ∷ ts) ≡ record s { tasks = Dispatched (dispatch_of q (ends.served x)) ∷ ts; items = below_top s.items }
+    returned p fr (Trapped ∷ Dispatched (dispatch_of q x) ∷ ts) s g a
+    (Trapped ∷ Dispatched (dispatch_of q x) ∷ ts) ≡ record s { tasks = Dispatched (dispatch_of q (ends.served x)) ∷ ts; items = below_top s.items }
 returned_plain p fr s g a ts q x plain = grind arith
 
 opened_plain : (n : ℕ) (x : Machine_dispatch) (us : List Machine_task) (k : kept_clients.State) → AcceptsNot x → opened_by n (Ends x ∷ us) k ≡ k
@@ -393,7 +423,8 @@ record Gives_session (p : Image) (s : State) (fr : Frame) (x : Seat) : Type 0 wh
   object : is_object thing ≡ true
   lives : named s.cells x.object.name ≡ Some x.object
 
-gives_session : (p : Image) (t : Typing) (s : State) (fr : Frame) (x : Seat) (c : ℕ) (ts : List Task) → WellTyped p t s → s.tasks ≡ Run fr ∷ Trapped ∷ Dispatched (Of_server x c Accepts) ∷ ts → Gives_session p s fr x
+gives_session : (p : Image) (t : Typing) (s : State) (fr : Frame) (x : Seat) (c : ℕ) (ts : List Task) →
+    WellTyped p t s → s.tasks ≡ Run fr ∷ Trapped ∷ Dispatched (Of_server x c Accepts) ∷ ts → Gives_session p s fr x
 gives_session p t s fr x c ts typed top =
     method_layer (Good p t s.cells) fr (Trapped ∷ Dispatched (Of_server x c Accepts) ∷ ts) typed.layers (sym typed.tasks ∙ top) typed.good (λ sh ls under good.
     mark_layer (λ ls. Good p t s.cells (Method fr sh ∷ ls)) (Dispatched (Of_server x c Accepts) ∷ ts) ls under good (λ gv ls under good.
@@ -411,7 +442,8 @@ gives_session p t s fr x c ts typed top =
     session_is o y e = grind arith
 
 -- the number of what a register owns then is that of a cell
-owned_number : (p : Image) (m : Parts) (s : State) → p.header.cells ≤ 4096 → Agrees p m s → (r : Place) (n : ℕ) (y : Thing) → is_object y ≡ true → Tidy s.cells → is_some (held s.cells r) ≡ true → is_thing p y (held s.cells r) ≡ true → Represents n None (held s.cells r) → n < 4096
+owned_number : (p : Image) (m : Parts) (s : State) → p.header.cells ≤ 4096 → Agrees p m s → (r : Place) (n : ℕ) (y : Thing) →
+    is_object y ≡ true → Tidy s.cells → is_some (held s.cells r) ≡ true → is_thing p y (held s.cells r) ≡ true → Represents n None (held s.cells r) → n < 4096
 owned_number p m s few agrees r n y object tidy some thing shows = go (held s.cells r) refl some thing shows
   where
     go : (o : Option Object) → held s.cells r ≡ o → is_some o ≡ true → is_thing p y o ≡ true → Represents n None o → n < 4096
@@ -419,11 +451,13 @@ owned_number p m s few agrees r n y object tidy some thing shows = go (held s.ce
     go (Some o) e some thing shows =
         let lives = held_lives s.cells r o tidy e in
         let is : is_object o.thing ≡ true = stands_object p o.thing y thing ∙ object in
-        subst (λ k. k < 4096) (sym shows) (some_given (λ c. IsSome c) (cell_at m.cells o.name) (object_lives_at p m s agrees o lives is) (λ none. cc) (λ c there some. cell_small p m.cells s.cells agrees.cells few o.name c there))
+        subst (λ k. k < 4096) (sym shows) (some_given (λ c. IsSome c) (cell_at m.cells o.name)
+        (object_lives_at p m s agrees o lives is) (λ none. cc) (λ c there some. cell_small p m.cells s.cells agrees.cells few o.name c there))
 
 -- and below that of cells
 pub lives_within : (p : Image) (m : Parts) (s : State) → Agrees p m s → (o : Object) → named s.cells o.name ≡ Some o → is_object o.thing ≡ true → o.name < p.header.cells
-lives_within p m s agrees o lives object = some_given (λ c. IsSome c) (cell_at m.cells o.name) (object_lives_at p m s agrees o lives object) (λ none. cc) (λ c there some. subst (λ k. o.name < k) agrees.cells.limit (agrees.cells.below o.name c there))
+lives_within p m s agrees o lives object = some_given (λ c. IsSome c) (cell_at m.cells o.name)
+    (object_lives_at p m s agrees o lives object) (λ none. cc) (λ c there some. subst (λ k. o.name < k) agrees.cells.limit (agrees.cells.below o.name c there))
 
 -- ---- a dispatch that has asked hears the answer
 
@@ -476,9 +510,9 @@ module _ (p : Image) (m : Parts) (refused : List ℕ) (a : ℕ) (act : Active) (
 
   -- what holds of the machine's tasks tells what is below its method
   by_return : (P : List Machine_task → Type 0) (G : List Machine_task → Parts) → P m.stack.tasks
-      → ((h : At_hand p m) (f : Machine_frame) (ms : List Machine_task) → Top mid (past h) h.frame h.below f ms → Alike ms h.below → AllTrue (result_needs p h.frame h.below h.state (gives_of p h.frame.method) a) → AllTrue (end_needs p h.frame h.below h.state h.below)
-      → WellTyped p h.typing (after h h.below) → P (Runs_frame f ∷ ms) → Agrees p (G (Runs_frame f ∷ ms)) (after h h.below))
-      → DoesIn p refused (Return a) m (G m.stack.tasks)
+      → ((h : At_hand p m) (f : Machine_frame) (ms : List Machine_task) → Top mid (past h) h.frame h.below f ms → Alike ms h.below → AllTrue
+      (result_needs p h.frame h.below h.state (gives_of p h.frame.method) a) → AllTrue (end_needs p h.frame h.below h.state h.below) → WellTyped p h.typing
+      (after h h.below) → P (Runs_frame f ∷ ms) → Agrees p (G (Runs_frame f ∷ ms)) (after h h.below)) → DoesIn p refused (Return a) m (G m.stack.tasks)
   by_return P G has each h here = plain_at p m (G m.stack.tasks) refused (Return a) refl h (λ c needs typed.
       let met = all_parts (result_needs p h.frame h.below h.state (gives_of p h.frame.method) a) _ needs in
       by_top p m h (λ us. P us → Agrees p (G us) (after h h.below)) (λ f ms top has. each h f ms (top_over h h.below f ms top) (alike ms h.below top.below) met.0 met.1.1.1.1 typed has) has)
@@ -495,37 +529,46 @@ module _ (p : Image) (m : Parts) (refused : List ℕ) (a : ℕ) (act : Active) (
           → Wordless (gives_of p h.frame.method) (word h.frame a) → WellTyped p h.typing (after h ts)
           → Agrees p (places.next (resulted (gives_of p f.method) x (slice_index_or f.registers a null) (with_tasks ms mid))) (after h ts)
       go h f _ _ e top (method_on_top g ms) (both_run _ caller _ ts frame _ _) is wordless typed =
-          let at : x ≡ result_register (instr_at p caller.method caller.place) = is ∙ ap (λ k. result_register (instr_at p k g.place)) frame.method ∙ ap (λ k. result_register (instr_at p caller.method k)) frame.place in
+          let at : x ≡ result_register (instr_at p caller.method caller.place) =
+          is ∙ ap (λ k. result_register (instr_at p k g.place)) frame.method ∙ ap (λ k. result_register (instr_at p caller.method k)) frame.place in
           subst (λ k. Agrees p (places.next (resulted (gives_of p k) x (slice_index_or f.registers a null) (with_tasks (Runs_frame g ∷ ms) mid))) (after h (Run caller ∷ ts))) (sym top.frame.method)
           (subst (λ k. Agrees p (places.next (resulted (gives_of p h.frame.method) k (slice_index_or f.registers a null) (with_tasks (Runs_frame g ∷ ms) mid))) (after h (Run caller ∷ ts))) (sym at)
           (to_method p mid h.typing (past h) h.frame (agree h) f a g ms caller ts top (λ some. still h _ ∙ awaited p h.typing h.state h.frame caller ts h.typed e some)
           (subst (λ k. k < 16) at small) (gives_of p h.frame.method) wordless refl typed))
 
-  pub return_through : (es : Machine_items) (x : ℕ) → IsTrapped (below_first m.stack.tasks) → Runs (below_first (below_first m.stack.tasks)) → m.entries ≡ record es { items = Is_mark ∷ es.items } → suc x < 16
-      → x ≡ result_register (instr_at p (method_here (below_first (below_first m.stack.tasks))) (place_here (below_first (below_first m.stack.tasks))))
-      → DoesIn p refused (Return a) m (places.next (places.set_register (suc x) 0 (resulted (gives_of p (method_here m.stack.tasks)) x (register_here m.stack.tasks a) (record (with_tasks (below_first (below_first m.stack.tasks)) mid) { entries = es }))))
-  return_through es x trapped runs marked small is =
-      by_return (λ us. IsTrapped (below_first us) × Runs (below_first (below_first us)) × (x ≡ result_register (instr_at p (method_here (below_first (below_first us))) (place_here (below_first (below_first us))))))
-      (λ us. places.next (places.set_register (suc x) 0 (resulted (gives_of p (method_here us)) x (register_here us a) (record (with_tasks (below_first (below_first us)) mid) { entries = es })))) (trapped, runs, is)
+  pub return_through : (es : Machine_items) (x : ℕ) → IsTrapped (below_first m.stack.tasks) → Runs (below_first (below_first m.stack.tasks)) → m.entries
+      ≡ record es { items = Is_mark ∷ es.items } → suc x < 16 → x ≡ result_register (instr_at p (method_here (below_first (below_first m.stack.tasks)))
+      (place_here (below_first (below_first m.stack.tasks)))) → DoesIn p refused (Return a) m (places.next (places.set_register (suc x) 0 (resulted (gives_of p
+      (method_here m.stack.tasks)) x (register_here m.stack.tasks a) (record (with_tasks (below_first (below_first m.stack.tasks)) mid) { entries = es }))))
+  return_through es x trapped runs marked small is = by_return (λ us. IsTrapped (below_first us) × Runs (below_first (below_first us)) ×
+      (x ≡ result_register (instr_at p (method_here (below_first (below_first us))) (place_here (below_first (below_first us))))))
+      (λ us. places.next (places.set_register (suc x) 0 (resulted
+      (gives_of p (method_here us)) x (register_here us a) (record (with_tasks (below_first (below_first us)) mid) { entries = es })))) (trapped, runs, is)
       (λ h f ms top same met last typed has. go h f ms h.below h.top top (tops A_catcher ms (has.0, has.1)) same has.2 (wordless p h.frame h.below h.state (gives_of p h.frame.method) a met) typed)
     where
       go : (h : At_hand p m) (f : Machine_frame) (ms : List Machine_task) (ts : List Task) → h.state.tasks ≡ Run h.frame ∷ ts → Top mid (past h) h.frame ts f ms
           → Tops A_catcher ms → Alike ms ts → x ≡ result_register (instr_at p (method_here (below_first ms)) (place_here (below_first ms)))
           → Wordless (gives_of p h.frame.method) (word h.frame a) → WellTyped p h.typing (after h ts)
-          → Agrees p (places.next (places.set_register (suc x) 0 (resulted (gives_of p f.method) x (slice_index_or f.registers a null) (record (with_tasks (below_first ms) mid) { entries = es })))) (after h ts)
+          → Agrees p (places.next (places.set_register (suc x) 0
+          (resulted (gives_of p f.method) x (slice_index_or f.registers a null) (record (with_tasks (below_first ms) mid) { entries = es })))) (after h ts)
       go h f _ _ e top (catcher_on_top g ms) (both_trapped _ _ _ (both_run _ caller _ ts frame _ _)) is wordless typed =
-          let at : x ≡ result_register (instr_at p caller.method caller.place) = is ∙ ap (λ k. result_register (instr_at p k g.place)) frame.method ∙ ap (λ k. result_register (instr_at p caller.method k)) frame.place in
-          subst (λ k. Agrees p (places.next (places.set_register (suc x) 0 (resulted (gives_of p k) x (slice_index_or f.registers a null) (record (with_tasks (Runs_frame g ∷ ms) mid) { entries = es })))) (after h (Trapped ∷ Run caller ∷ ts))) (sym top.frame.method)
-          (subst (λ k. Agrees p (places.next (places.set_register (suc k) 0 (resulted (gives_of p h.frame.method) k (slice_index_or f.registers a null) (record (with_tasks (Runs_frame g ∷ ms) mid) { entries = es })))) (after h (Trapped ∷ Run caller ∷ ts))) (sym at)
+          let at : x ≡ result_register (instr_at p caller.method caller.place) =
+          is ∙ ap (λ k. result_register (instr_at p k g.place)) frame.method ∙ ap (λ k. result_register (instr_at p caller.method k)) frame.place in
+          subst (λ k. Agrees p (places.next (places.set_register (suc x) 0 (resulted (gives_of p k) x (slice_index_or f.registers a null)
+          (record (with_tasks (Runs_frame g ∷ ms) mid) { entries = es })))) (after h (Trapped ∷ Run caller ∷ ts))) (sym top.frame.method)
+          (subst (λ k. Agrees p (places.next (places.set_register (suc k) 0 (resulted (gives_of p h.frame.method) k (slice_index_or f.registers a null)
+          (record (with_tasks (Runs_frame g ∷ ms) mid) { entries = es })))) (after h (Trapped ∷ Run caller ∷ ts))) (sym at)
           (through p mid h.typing (past h) h.frame (agree h) f a es marked g ms caller ts top (λ some. still h _ ∙ awaited_trapped p h.typing h.state h.frame caller ts h.typed e some)
           (subst (λ k. suc k < 16) at small) (gives_of p h.frame.method) wordless refl typed))
 
   -- to what waits: nothing goes over
-  to_waits : (P : List Machine_task → Type 0) → ((ms : List Machine_task) (ts : List Task) → P ms → Alike ms ts → (h : At_hand p m) → after h ts ≡ record (past h) { tasks = ts }) → P (below_first m.stack.tasks) → DoesIn p refused (Return a) m (with_tasks (below_first m.stack.tasks) mid)
+  to_waits : (P : List Machine_task → Type 0) → ((ms : List Machine_task) (ts : List Task) → P ms → Alike ms ts → (h : At_hand p m) →
+      after h ts ≡ record (past h) { tasks = ts }) → P (below_first m.stack.tasks) → DoesIn p refused (Return a) m (with_tasks (below_first m.stack.tasks) mid)
   to_waits P waits has = by_return (λ us. P (below_first us)) (λ us. with_tasks (below_first us) mid) has (λ h f ms top same met last typed has.
       let is = waits ms h.below has same h in
       subst (Agrees p (with_tasks ms mid)) (sym is)
-      (to_waiting p mid h.typing (past h) h.frame (agree h) f a ms h.below top (λ i. none_above p h.typing (record (past h) { tasks = h.below }) _ i (subst (WellTyped p h.typing) is typed) (omega arith))))
+      (to_waiting p mid h.typing (past h) h.frame (agree h) f a ms h.below top
+      (λ i. none_above p h.typing (record (past h) { tasks = h.below }) _ i (subst (WellTyped p h.typing) is typed) (omega arith))))
 
   pub return_to_unwinding : IsUnwinding (below_first m.stack.tasks) → DoesIn p refused (Return a) m (with_tasks (below_first m.stack.tasks) mid)
   return_to_unwinding = to_waits IsUnwinding (λ ms ts has same h. go h (tops A_leave ms has) same)
@@ -554,24 +597,25 @@ module _ (p : Image) (m : Parts) (refused : List ℕ) (a : ℕ) (act : Active) (
 
   pub return_to_end : (es : Machine_items) → IsEnding (below_first (below_first m.stack.tasks)) → IsTrapped (below_first m.stack.tasks) → m.entries ≡ record es { items = Is_mark ∷ es.items }
       → DoesIn p refused (Return a) m (served (register_here m.stack.tasks a) (record (with_tasks (below_first (below_first m.stack.tasks)) mid) { entries = es }))
-  return_to_end es ending trapped marked =
-      by_return (λ us. IsTrapped (below_first us) × IsEnding (below_first (below_first us))) (λ us. served (register_here us a) (record (with_tasks (below_first (below_first us)) mid) { entries = es })) (trapped, ending)
+  return_to_end es ending trapped marked = by_return (λ us. IsTrapped (below_first us) × IsEnding (below_first (below_first us)))
+      (λ us. served (register_here us a) (record (with_tasks (below_first (below_first us)) mid) { entries = es })) (trapped, ending)
       (λ h f ms top same met last typed has. go h f ms h.below top h.top (tops A_last_trap ms has) same met last typed)
     where
       -- the dispatch on top, and the machine with it
       Ended : At_hand p m → Machine_frame → Machine_dispatch → List Machine_task → Dispatch → List Task → Type 0
-      Ended h f x ms d ts =
-          Top mid (past h) h.frame (Trapped ∷ Dispatched d ∷ ts) f (Is_trap ∷ Ends x ∷ ms) → h.state.tasks ≡ Run h.frame ∷ Trapped ∷ Dispatched d ∷ ts
-          → AllTrue (result_needs p h.frame (Trapped ∷ Dispatched d ∷ ts) h.state (gives_of p h.frame.method) a) → AllTrue (end_needs p h.frame (Trapped ∷ Dispatched d ∷ ts) h.state (Trapped ∷ Dispatched d ∷ ts))
-          → WellTyped p h.typing (after h (Trapped ∷ Dispatched d ∷ ts))
-          → Agrees p (served (slice_index_or f.registers a null) (record (with_tasks (Ends x ∷ ms) mid) { entries = es })) (after h (Trapped ∷ Dispatched d ∷ ts))
+      Ended h f x ms d ts = Top mid (past h) h.frame (Trapped ∷ Dispatched d ∷ ts) f (Is_trap ∷ Ends x ∷ ms) → h.state.tasks ≡ Run h.frame ∷ Trapped
+          ∷ Dispatched d ∷ ts → AllTrue (result_needs p h.frame (Trapped ∷ Dispatched d ∷ ts) h.state (gives_of p h.frame.method) a) → AllTrue (end_needs
+          p h.frame (Trapped ∷ Dispatched d ∷ ts) h.state (Trapped ∷ Dispatched d ∷ ts)) → WellTyped p h.typing (after h (Trapped ∷ Dispatched d ∷ ts)) →
+          Agrees p (served (slice_index_or f.registers a null) (record (with_tasks (Ends x ∷ ms) mid) { entries = es })) (after h (Trapped ∷ Dispatched d ∷ ts))
 
       plainly : (h : At_hand p m) (f : Machine_frame) (x : Machine_dispatch) (q : Place) → AcceptsNot x → Ended h f x [] (dispatch_of q x) []
       plainly h f x q plain top tasks met last typed =
           let is = returned_plain p h.frame (past h) (gives_of p h.frame.method) a [] q x plain in
           let shut = closing p h.typing _ (dispatch_of q (ends.served x)) (subst (λ v. WellTyped p h.typing v) is typed) refl in
           subst (λ v. Agrees p (served (slice_index_or f.registers a null) (record (with_tasks (Ends x ∷ []) mid) { entries = es })) v) (sym is)
-          (subst (λ k. Agrees p (record (with_tasks (Ends (ends.served x) ∷ []) mid) { entries = es; clients = k }) (record (past h) { tasks = Dispatched (dispatch_of q (ends.served x)) ∷ []; items = below_top h.state.items })) (sym (opened_plain (slice_index_or f.registers a null) x [] m.clients plain))
+          (subst (λ k. Agrees p (record (with_tasks (Ends (ends.served x) ∷ []) mid) { entries = es; clients = k })
+          (record (past h) { tasks = Dispatched (dispatch_of q (ends.served x)) ∷ []; items = below_top h.state.items }))
+          (sym (opened_plain (slice_index_or f.registers a null) x [] m.clients plain))
           (ended p mid es (past h) (ends.served x) (dispatch_of q (ends.served x)) (agree h) marked (q, refl) shut))
 
       opens : (h : At_hand p m) (f : Machine_frame) (y : Subject) (c : ℕ) (q : Place) → Ended h f (Of_one_served y c stages.Accepts) [] (Of_server (seat_of q y) c Accepts) []
@@ -586,11 +630,14 @@ module _ (p : Image) (m : Parts) (refused : List ℕ) (a : ℕ) (act : Active) (
           let still = steady_ended p h.frame h.state.cells in
           let fit = fit_steady p h.state.clients h.state.cells (past h).cells still h.kept.fit in
           let stage = subst (λ us. TasksKept p h.state.clients h.state.cells us) tasks h.kept.stage in
-          let connects : StageKept p h.state.clients (past h).cells (subject_of y) c Accepts = tasks_steady p h.state.clients h.state.cells (past h).cells still (Dispatched (Of_server (seat_of q y) c Accepts) ∷ []) stage in
+          let connects : StageKept p h.state.clients (past h).cells (subject_of y) c Accepts =
+          tasks_steady p h.state.clients h.state.cells (past h).cells still (Dispatched (Of_server (seat_of q y) c Accepts) ∷ []) stage in
           let there = over.named_so y.number ∙ g.lives in
           let few = h.formed.header.cells in
-          let shows : Represents n None (held (past h).cells from) = subst (λ w. Represents n w (held (past h).cells from)) wordless (register_shows mid (past h) h.frame (Trapped ∷ Dispatched (Of_server (seat_of q y) c Accepts) ∷ []) f (Is_trap ∷ Ends (Of_one_served y c stages.Accepts) ∷ []) top a) in
-          let small = owned_number p mid (past h) few (agree h) from n g.thing g.object tidy (ap is_some (over.held_so from) ∙ owned.1.0) (ap (is_thing p g.thing) (over.held_so from) ∙ owned.1.1.0) shows in
+          let shows : Represents n None (held (past h).cells from) = subst (λ w. Represents n w (held (past h).cells from)) wordless (register_shows mid (past
+          h) h.frame (Trapped ∷ Dispatched (Of_server (seat_of q y) c Accepts) ∷ []) f (Is_trap ∷ Ends (Of_one_served y c stages.Accepts) ∷ []) top a) in
+          let small = owned_number p mid (past h) few (agree h) from n g.thing g.object tidy
+          (ap is_some (over.held_so from) ∙ owned.1.0) (ap (is_thing p g.thing) (over.held_so from) ∙ owned.1.1.0) shows in
           let empty : held (past h).cells (Elsewhere (Session y.number c)) ≡ None = over.held_so (Elsewhere (Session y.number c)) ∙ free _ last.1.0 in
           accepts p few mid (past h) tidy fit (agree h) y q c there (lives_within p mid (past h) (agree h) (subject_of y) there refl) connects 2 a n (omega arith) shows empty es marked
           (closing p h.typing _ (Of_server (seat_of q y) c Accepted) typed refl)
@@ -604,7 +651,8 @@ module _ (p : Image) (m : Parts) (refused : List ℕ) (a : ℕ) (act : Active) (
           → Agrees p (served (slice_index_or f.registers a null) (record (with_tasks (below_first ms) mid) { entries = es })) (after h ts)
       go h f _ _ top tasks (last_trap_on_top x ms) (both_trapped _ _ _ (both_end _ d _ ts same below _)) met last typed =
           let none = under_dispatch p h.typing (after h (Trapped ∷ Dispatched d ∷ ts)) (ended_well d) ts typed refl in
-          (subst (λ us. Ended h f x us d ts) (sym (none_alike ms ts below none)) (subst (λ us. Ended h f x [] d us) (sym none) (subst (λ e. Ended h f x [] e []) same.1 (by_kind h f x same.0 (accepting_or x))))) top tasks met last typed
+          (subst (λ us. Ended h f x us d ts) (sym (none_alike ms ts below none)) (subst (λ us. Ended h f x [] d us)
+          (sym none) (subst (λ e. Ended h f x [] e []) same.1 (by_kind h f x same.0 (accepting_or x))))) top tasks met last typed
 
 -- ---- what `accept` gives is the number of a cell, and its client is one
 
@@ -625,7 +673,8 @@ module _ (p : Image) (m : Parts) (h : At_hand p m) (a : ℕ) where
       let g = gives_session p h.typing h.state h.frame (seat_of q y) c ts h.typed tasks in
       let owned = subst (λ g. AllTrue (result_needs p h.frame (Trapped ∷ Dispatched (Of_server (seat_of q y) c Accepts) ∷ ts) h.state g a)) g.gives met in
       let wordless : word h.frame a ≡ None = no_word _ owned.0 in
-      let shows : Represents n None (held h.state.cells from) = subst (λ w. Represents n w (held h.state.cells from)) wordless (register_shows m h.state h.frame (Trapped ∷ Dispatched (Of_server (seat_of q y) c Accepts) ∷ ts) f (Is_trap ∷ Ends (Of_one_served y c stages.Accepts) ∷ ms) top a) in
+      let shows : Represents n None (held h.state.cells from) = subst (λ w. Represents n w (held h.state.cells from)) wordless (register_shows m h.state h.frame
+      (Trapped ∷ Dispatched (Of_server (seat_of q y) c Accepts) ∷ ts) f (Is_trap ∷ Ends (Of_one_served y c stages.Accepts) ∷ ms) top a) in
       let small = owned_number p m h.state h.formed.header.cells h.agrees from n g.thing g.object h.typed.good.tidy owned.1.0 owned.1.1.0 shows in
       let connects = subst (λ us. TasksKept p h.state.clients h.state.cells us) tasks h.kept.stage in
       (connecting_below h.state.cells h.state.clients m.clients h.agrees.services.clients c y.number connects.0, omega (arith, small))
@@ -634,7 +683,8 @@ module _ (p : Image) (m : Parts) (h : At_hand p m) (a : ℕ) where
   can_by_kind f x ms q ts (inl plain) = λ top tasks met. can_plain (slice_index_or f.registers a null) x ms plain
   can_by_kind f x ms q ts (inr y) = subst (λ x. Can f x ms (dispatch_of q x) ts) (sym y.2) (accepts_one f y.0 y.1 ms q ts)
 
-  can_give : AllTrue (result_needs p h.frame h.below h.state (gives_of p h.frame.method) a) → IsTrapped (below_first m.stack.tasks) → IsEnding (below_first (below_first m.stack.tasks)) → CanServe (register_here m.stack.tasks a) (below_first (below_first m.stack.tasks))
+  can_give : AllTrue (result_needs p h.frame h.below h.state (gives_of p h.frame.method) a) → IsTrapped (below_first m.stack.tasks) →
+      IsEnding (below_first (below_first m.stack.tasks)) → CanServe (register_here m.stack.tasks a) (below_first (below_first m.stack.tasks))
   can_give met trapped ending =
       by_top p m h (λ us. (IsTrapped (below_first us) × IsEnding (below_first (below_first us))) → CanServe (register_here us a) (below_first (below_first us)))
       (λ f ms top has. go f ms h.below top h.top (tops A_last_trap ms has) (alike ms h.below top.below) met) (trapped, ending)
@@ -644,7 +694,8 @@ module _ (p : Image) (m : Parts) (h : At_hand p m) (a : ℕ) where
       go f _ _ top tasks (last_trap_on_top x ms) (both_trapped _ _ _ (both_end _ d _ ts same below _)) met =
           (subst (λ e. Can f x ms e ts) same.1 (can_by_kind f x ms same.0 ts (accepting_or x))) top tasks met
 
-pub can_serve : (p : Image) (m : Parts) (a : ℕ) → IsNext p (Return a) m → IsTrapped (below_first m.stack.tasks) → IsEnding (below_first (below_first m.stack.tasks)) → CanServe (register_here m.stack.tasks a) (below_first (below_first m.stack.tasks))
+pub can_serve : (p : Image) (m : Parts) (a : ℕ) → IsNext p (Return a) m → IsTrapped (below_first m.stack.tasks) →
+    IsEnding (below_first (below_first m.stack.tasks)) → CanServe (register_here m.stack.tasks a) (below_first (below_first m.stack.tasks))
 can_serve p m a next trapped ending =
     let n = needs_met p m (Return a) next in
     let k = counting next.counts m in

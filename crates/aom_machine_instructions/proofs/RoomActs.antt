@@ -127,7 +127,8 @@ register_apart d a e dealt = grind arith
 stored_same : (cs : List Cell) (home : Home) (w : ℕ) (v : ℤ) (e : Place) → held (stored cs home w v) e ≡ held cs e
 stored_same cs x w v e = grind (arith, nat_tests, held_set_word cs)
 
-passed_same : (p : Image) (fr : Frame) (ts : List Task) (s : State) (d : ℕ) (xs : List Argument) (first to : ℕ) (cs : List Cell) (e : Place) → IsDealt e → held (passed_cells p fr ts s d xs first to cs) e ≡ held cs e
+passed_same : (p : Image) (fr : Frame) (ts : List Task) (s : State) (d : ℕ) (xs : List Argument) (first to : ℕ) (cs : List Cell) (e : Place) →
+    IsDealt e → held (passed_cells p fr ts s d xs first to cs) e ≡ held cs e
 passed_same p fr ts s d [] first to cs e dealt = refl
 passed_same p fr ts s d (Takes_word ∷ xs) first to cs e dealt = passed_same p fr ts s d xs (suc first) (suc to) cs e dealt
 passed_same p fr ts s d (Takes_own t ∷ xs) first to cs e dealt =
@@ -175,11 +176,12 @@ module _ (p : Image) (t : Typing) (depth heights : ℕ → ℕ) (tables : Tables
       go None e = w
       go (Some m) e =
           let x = destroys p tables.wired o.thing m e in
-          begins p depth heights cs items (destructor_frame p m o (length ts) (length items)) (Destroy ∷ ts) refl (under m (own_destructs p o m e)) (λ may. absurd (pushes_none (is_quiet p m) (leaves p m) x.quiet x.stays may)) w
+          begins p depth heights cs items (destructor_frame p m o (length ts) (length items))
+          (Destroy ∷ ts) refl (under m (own_destructs p o m e)) (λ may. absurd (pushes_none (is_quiet p m) (leaves p m) x.quiet x.stays may)) w
 
   -- of a server nothing is begun over another that lets go of its sessions
-  pub begins_over :
-      (cs : List Cell) (items : List Item) (o : Object) (ts : List Task) → held cs (Going (length ts)) ≡ Some o → ((m : ℕ) → Destructs p (Some o) m → IsUnder depth (depth m) ts) → (is_server p o.thing ≡ true → NoClosing ts) →
+  pub begins_over : (cs : List Cell) (items : List Item) (o : Object) (ts : List Task) →
+      held cs (Going (length ts)) ≡ Some o → ((m : ℕ) → Destructs p (Some o) m → IsUnder depth (depth m) ts) → (is_server p o.thing ≡ true → NoClosing ts) →
       Roomy p depth heights cs items ts → Roomy p depth heights cs items (begun p o (length items) ts)
   begins_over cs items o ts there under lone w = grind (
     arith,
@@ -192,7 +194,8 @@ module _ (p : Image) (t : Typing) (depth heights : ℕ → ℕ) (tables : Tables
     destructed_over cs items o ts under,
   )
 
-  pub clears : (cs : List Cell) (items : List Item) (o : Object) (ts : List Task) → held cs (Entry (length items)) ≡ Some o → held cs (Going (length ts)) ≡ None → NoClosing ts → AllLow (length items) ts → Roomy p depth heights cs (An_object ∷ items) ts
+  pub clears : (cs : List Cell) (items : List Item) (o : Object) (ts : List Task) → held cs (Entry (length items)) ≡ Some o →
+      held cs (Going (length ts)) ≡ None → NoClosing ts → AllLow (length items) ts → Roomy p depth heights cs (An_object ∷ items) ts
       → Roomy p depth heights (moved (Entry (length items)) (Going (length ts)) cs) items (begun p o (length items) ts)
   clears cs items o ts there free lone low w =
       let cells' = moved (Entry (length items)) (Going (length ts)) cs in
@@ -210,7 +213,8 @@ module _ (p : Image) (t : Typing) (depth heights : ℕ → ℕ) (tables : Tables
       (λ may. absurd (pushes_none (is_quiet p m) (leaves p m) undo.quiet undo.leaves may)) (popped p depth heights cs (An_operation m w) items ts low room)
 
   -- what an instruction calls is less deep than its method
-  pub may_call : (fr : Frame) (sh : Shape) → shape_at t fr.method fr.place ≡ Some sh → (i : Instr) (k : ℕ) → instr_at p fr.method fr.place ≡ Some i → Among k (callees p fr.method sh i) → depth k < depth fr.method
+  pub may_call : (fr : Frame) (sh : Shape) → shape_at t fr.method fr.place ≡ Some sh →
+      (i : Instr) (k : ℕ) → instr_at p fr.method fr.place ≡ Some i → Among k (callees p fr.method sh i) → depth k < depth fr.method
   may_call fr sh there i k stands calls = tables.less fr.method k (record {
     states = at [] t fr.method;
     strongest = tables.strongest.each fr.method (ap is_some (of_method p fr.method fr.place i stands).1);
@@ -220,7 +224,8 @@ module _ (p : Image) (t : Typing) (depth heights : ℕ → ℕ) (tables : Tables
 
   -- ---- a method's move
 
-  module _ (c : Choice) (fr : Frame) (ts : List Task) (s : State) (undos : AllUndo p s.items) (at_hand : s.tasks ≡ Run fr ∷ ts) (h : Stands_here p t s fr ts) (unheld : held s.cells (Going (length (Run fr ∷ ts))) ≡ None) (w : Roomy p depth heights s.cells s.items (Run fr ∷ ts))
+  module _ (c : Choice) (fr : Frame) (ts : List Task) (s : State) (undos : AllUndo p s.items) (at_hand : s.tasks ≡ Run fr ∷ ts)
+      (h : Stands_here p t s fr ts) (unheld : held s.cells (Going (length (Run fr ∷ ts))) ≡ None) (w : Roomy p depth heights s.cells s.items (Run fr ∷ ts))
       (line : LineGoes p s.cells fr.method ts) where
     abbrev R : State → Type 0
     R u = Roomy p depth heights u.cells u.items u.tasks
@@ -286,16 +291,20 @@ module _ (p : Image) (t : Typing) (depth heights : ℕ → ℕ) (tables : Tables
         let cells' = given_cells p fr ts s (over_trap p fr ts s) m first in
         let may = pushes_loud (is_quiet p fr.method) (leaves p fr.method) loud in
         begins p depth heights cells' (A_mark ∷ s.items) (entered p fr ts s target m first (length (A_mark ∷ s.items))) (Trapped ∷ Run fr ∷ ts) refl
-        (may_call fr h.shape h.there (Trap target m first x) (run_by p fr ts s target m) stands (run_among p m (run_by p fr ts s target m) (body_runs p m (target_view p fr ts s target (method_class p m)))))
+        (may_call fr h.shape h.there (Trap target m first x)
+        (run_by p fr ts s target m) stands (run_among p m (run_by p fr ts s target m) (body_runs p m (target_view p fr ts s target (method_class p m)))))
         (λ _. finds (Trap target m first x) (run_by p fr ts s target m) stands (body_runs p m (target_view p fr ts s target (method_class p m))) may)
         (item_pushed p depth heights cells' A_mark s.items (Run fr ∷ ts) all_low (λ k e. absurd e) w.3 (moves cells' (λ e dealt. passed_same p fr ts s _ (arguments_of p m) first 0 s.cells e dealt)))
 
     -- ---- returns
 
-    goes_back : (cs : List Cell) (items : List Item) (g : Gives) (a x : ℕ) (caller : Frame) (below : List Task) → Roomy p depth heights cs items (Run caller ∷ below) → Roomy p depth heights cs items (Run (next (received p fr ts s g a x caller)) ∷ below)
+    goes_back : (cs : List Cell) (items : List Item) (g : Gives) (a x : ℕ) (caller : Frame) (below : List Task) →
+        Roomy p depth heights cs items (Run caller ∷ below) → Roomy p depth heights cs items (Run (next (received p fr ts s g a x caller)) ∷ below)
     goes_back cs items x a y caller below v = grind arith
 
-    goes_back_trapped : (cs : List Cell) (items : List Item) (g : Gives) (a x : ℕ) (caller : Frame) (below : List Task) (v : Option ℤ) → Roomy p depth heights cs items (Run caller ∷ below) → Roomy p depth heights cs items (Run (next (set_word (received p fr ts s g a x caller) (suc x) v)) ∷ below)
+    goes_back_trapped : (cs : List Cell) (items : List Item) (g : Gives) (a x : ℕ) (caller : Frame) (below : List Task) (v : Option ℤ) →
+        Roomy p depth heights cs items (Run caller ∷ below) →
+        Roomy p depth heights cs items (Run (next (set_word (received p fr ts s g a x caller) (suc x) v)) ∷ below)
     goes_back_trapped cs items x a y caller below u v = grind arith
 
     -- the mark is gone
@@ -310,7 +319,8 @@ module _ (p : Image) (t : Typing) (depth heights : ℕ → ℕ) (tables : Tables
     ended_same e = (ended_alike p fr s.cells).held_so e
 
     -- these tasks find the cells as they were
-    again : (cs' : List Cell) (items : List Item) (us : List Task) → ((e : Place) → IsDealt e → held cs' e ≡ held over.cells e) → Roomy p depth heights s.cells items us → Roomy p depth heights cs' items us
+    again : (cs' : List Cell) (items : List Item) (us : List Task) →
+        ((e : Place) → IsDealt e → held cs' e ≡ held over.cells e) → Roomy p depth heights s.cells items us → Roomy p depth heights cs' items us
     again cs' items us same v = recelled p depth heights s.cells cs' items us (same_all s.cells cs' (length items) (length us) (λ e dealt. same e dealt ∙ ended_same e)) v
 
     -- at its end a method has no items of its own
@@ -378,7 +388,8 @@ module _ (p : Image) (t : Typing) (depth heights : ℕ → ℕ) (tables : Tables
     -- ---- the cleanup stack
 
     -- a push finds room for one entry more
-    pub pushes : (i : Instr) (after : Shape) → instr_at p fr.method fr.place ≡ Some i → leaves p fr.method ≡ true → Leads t fr.method (suc fr.place) after → length after.entries ≡ suc (length h.shape.entries) → suc (entries_in s.items) ≤ 1024
+    pub pushes : (i : Instr) (after : Shape) → instr_at p fr.method fr.place ≡ Some i → leaves p fr.method ≡ true →
+        Leads t fr.method (suc fr.place) after → length after.entries ≡ suc (length h.shape.entries) → suc (entries_in s.items) ≤ 1024
     pushes i after stands leave leads one =
         let more = tables.own fr.method (suc (length h.shape.entries)) (record {
           place = suc fr.place;
@@ -391,9 +402,10 @@ module _ (p : Image) (t : Typing) (depth heights : ℕ → ℕ) (tables : Tables
 
     push_room : (a : ℕ) → instr_at p fr.method fr.place ≡ Some (Push a) → leaves p fr.method ≡ true →
         Leads t fr.method (suc fr.place) (with_entry (entry_of (register h.shape a)) (set_register h.shape a Null)) → After (Pushed a)
-    push_room a stands leave leads =
-        item_pushed p depth heights (moved (here fr ts s a) (Entry (length s.items)) s.cells) An_object s.items (Run fr ∷ ts) all_low
-        (λ m e. some_given (λ o. (Fits p (seen s.cells) o (register h.shape a)) × Destructs p o m) (held s.cells (here fr ts s a)) (h.fits a, subst (λ x. Destructs p x m) there_now e) (λ given. given.1) (λ o _ given. may_call fr h.shape h.there (Push a) m stands (destructs_as p (seen s.cells) o (register h.shape a) m given.0 given.1)))
+    push_room a stands leave leads = item_pushed p depth heights (moved (here fr ts s a) (Entry (length s.items)) s.cells) An_object s.items
+        (Run fr ∷ ts) all_low (λ m e. some_given (λ o. (Fits p (seen s.cells) o (register h.shape a)) × Destructs p o m)
+        (held s.cells (here fr ts s a)) (h.fits a, subst (λ x. Destructs p x m) there_now e) (λ given. given.1)
+        (λ o _ given. may_call fr h.shape h.there (Push a) m stands (destructs_as p (seen s.cells) o (register h.shape a) m given.0 given.1)))
         (let few = pushes (Push a) (with_entry (entry_of (register h.shape a)) (set_register h.shape a Null)) stands leave leads refl in omega (arith, few))
         (recelled p depth heights s.cells (moved (here fr ts s a) (Entry (length s.items)) s.cells) s.items (Run fr ∷ ts) (
           λ k lt. held_apart s.cells (here fr ts s a) (Entry (length s.items)) (Entry k) refl (entry_apart (length s.items) k lt),
@@ -402,7 +414,8 @@ module _ (p : Image) (t : Typing) (depth heights : ℕ → ℕ) (tables : Tables
       where
         -- what the register owned is in the entry's place
         there_now : held (moved (here fr ts s a) (Entry (length s.items)) s.cells) (Entry (length s.items)) ≡ held s.cells (here fr ts s a)
-        there_now = held_moved s.cells (here fr ts s a) (Entry (length s.items)) (Entry (length s.items)) h.free ∙ ap (λ b. cond b (held s.cells (here fr ts s a)) (held s.cells (Entry (length s.items)))) (same_place_refl (Entry (length s.items)))
+        there_now = held_moved s.cells (here fr ts s a) (Entry (length s.items)) (Entry (length s.items)) h.free
+            ∙ ap (λ b. cond b (held s.cells (here fr ts s a)) (held s.cells (Entry (length s.items)))) (same_place_refl (Entry (length s.items)))
 
     push_operation_room :
         (a m : ℕ) (v : ℤ) → instr_at p fr.method fr.place ≡ Some (PushOperation a m) → leaves p fr.method ≡ true → Leads t fr.method (suc fr.place) (with_entry Operation h.shape) →
@@ -425,7 +438,8 @@ module _ (p : Image) (t : Typing) (depth heights : ℕ → ℕ) (tables : Tables
     pop_room : (a : ℕ) → not (no_entry h.shape.entries) ≡ true → After (Popped a)
     pop_room a some = go s.items (low_below some) w
       where
-        go : (items : List Item) → AllLow (length (below_top items)) (Run fr ∷ ts) → Roomy p depth heights s.cells items (Run fr ∷ ts) → Roomy p depth heights (moved (top_place items) (here fr ts s a) s.cells) (below_top items) (Run fr ∷ ts)
+        go : (items : List Item) → AllLow (length (below_top items)) (Run fr ∷ ts) → Roomy p depth heights s.cells items (Run fr ∷ ts) →
+            Roomy p depth heights (moved (top_place items) (here fr ts s a) s.cells) (below_top items) (Run fr ∷ ts)
         go items low room =
             let cells' = moved (top_place items) (here fr ts s a) s.cells in
             recelled p depth heights s.cells cells' (below_top items) (Run fr ∷ ts)
@@ -466,7 +480,8 @@ module _ (p : Image) (t : Typing) (depth heights : ℕ → ℕ) (tables : Tables
     -- after an update, with the method on top
     updated_room : (i : Instr) → instr_at p fr.method fr.place ≡ Some i → Ruled i → Leading i → (u : Update) → FitsUpdate ts s.items i u → After u
     updated_room i stands r n Same f = w
-    updated_room i stands r n (Carried from to) f = moves (cells_after p fr ts s (Carried from to)) (λ e dealt. held_apart s.cells (spot_place p fr ts s from) (spot_place p fr ts s to) e (spot_apart from e dealt) (spot_apart to e dealt))
+    updated_room i stands r n (Carried from to) f = moves (cells_after p fr ts s (Carried from to))
+        (λ e dealt. held_apart s.cells (spot_place p fr ts s from) (spot_place p fr ts s to) e (spot_apart from e dealt) (spot_apart to e dealt))
     updated_room i stands r n (Made name x a) f = moves (cells_after p fr ts s (Made name x a)) (made_same name x a)
     updated_room i stands r n (Written x v) f = moves (cells_after p fr ts s (Written x v)) (λ e dealt. stored_same s.cells fr.home x v e)
     updated_room i stands r n (Requested q) f = moves (cells_after p fr ts s (Requested q)) (λ e dealt. (rerequested_alike s.cells fr.home q).held_so e)
@@ -479,9 +494,8 @@ module _ (p : Image) (t : Typing) (depth heights : ℕ → ℕ) (tables : Tables
     updated_room i stands r n Popped_operation f = popped_top p depth heights s.cells s.items (Run fr ∷ ts) (low_below (subst Ruled f.0 r).0) w
 
     -- an object of a register goes
-    delete_room :
-        (o : Object) (a : ℕ) (words : List (Option ℤ)) → instr_at p fr.method fr.place ≡ Some (Delete a) → held s.cells (here fr ts s a) ≡ Some o → Fits p (seen s.cells) (Some o) (register h.shape a) →
-        R (applied p fr ts s (Destroys o a words))
+    delete_room : (o : Object) (a : ℕ) (words : List (Option ℤ)) → instr_at p fr.method fr.place ≡ Some (Delete a) →
+        held s.cells (here fr ts s a) ≡ Some o → Fits p (seen s.cells) (Some o) (register h.shape a) → R (applied p fr ts s (Destroys o a words))
     delete_room o a words stands there fits =
         begins_over (moved (here fr ts s a) (Going (length (Run fr ∷ ts))) s.cells) s.items o (Run (with_words fr words) ∷ ts)
         (goes_there_now s.cells (here fr ts s a) (length (Run fr ∷ ts)) unheld refl ∙ there)
@@ -499,11 +513,14 @@ module _ (p : Image) (t : Typing) (depth heights : ℕ → ℕ) (tables : Tables
     acts_room i stands r n (Calls target m first) f = call_room target m first f.0 (stands_as i _ stands f.1) (subst Ruled f.1 r)
     acts_room i stands r n (Cancels m) f = cancel_room m (stands_as i _ stands f.0) f.1
     acts_room i stands r n (Sets_trap target m first) f = trap_room target m first f.0 (stands_as i _ stands f.1) (subst Ruled f.1 r).0
-    acts_room i stands r n (Returns g a) f = return_room g a ts h.low_under line (λ nothing. ended_high (none_left p fr h.shape a nothing (returnable p fr h.shape a (subst Ruled f.0 r)))) (dropped p depth heights s.cells s.items fr ts w)
+    acts_room i stands r n (Returns g a) f = return_room g a ts h.low_under line (λ nothing. ended_high
+        (none_left p fr h.shape a nothing (returnable p fr h.shape a (subst Ruled f.0 r)))) (dropped p depth heights s.cells s.items fr ts w)
     acts_room i stands r n (Leaves code u) f =
         let cs = cells_after p fr ts s u in
         let items = items_after u s.items in
         off_to_trap p depth heights cs items ts (dropped p depth heights cs items fr ts (updated_room i stands r n u f.2))
     acts_room i stands r n (Destroys o a words) f = delete_room o a words (stands_as i _ stands f.0) f.1 (subst (λ x. Fits p (seen s.cells) x (register h.shape a)) f.1 (h.fits a))
-    acts_room i stands r n (Destroys_last o) f = clears s.cells (below_top s.items) o (Run fr ∷ ts) f.2 unheld tt (low_below (subst Ruled f.0 r).0) (subst (λ is. Roomy p depth heights s.cells is (Run fr ∷ ts)) f.1 w)
-    acts_room i stands r n (Operates m v) f = undoes s.cells (below_top s.items) m v (Run fr ∷ ts) (subst (λ is. AllUndo p is) f.1 undos).0 (low_below (subst Ruled f.0 r).0) (subst (λ is. Roomy p depth heights s.cells is (Run fr ∷ ts)) f.1 w)
+    acts_room i stands r n (Destroys_last o) f = clears s.cells
+        (below_top s.items) o (Run fr ∷ ts) f.2 unheld tt (low_below (subst Ruled f.0 r).0) (subst (λ is. Roomy p depth heights s.cells is (Run fr ∷ ts)) f.1 w)
+    acts_room i stands r n (Operates m v) f = undoes s.cells (below_top s.items) m v (Run fr ∷ ts)
+        (subst (λ is. AllUndo p is) f.1 undos).0 (low_below (subst Ruled f.0 r).0) (subst (λ is. Roomy p depth heights s.cells is (Run fr ∷ ts)) f.1 w)

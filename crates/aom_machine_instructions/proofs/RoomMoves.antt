@@ -87,7 +87,8 @@ session_so p wired o so class has is = go o.thing has
     go Message has = absurd (none-some class has)
 
 -- the first of a server's sessions stands at its client's place
-pub first_held : (cs : List Cell) (n : ℕ) (clients : List ℕ) (x : Seat) → first_session cs n clients ≡ Some x → (c : ℕ) × (x.place ≡ Elsewhere (Session n c)) × (held cs (Elsewhere (Session n c)) ≡ Some x.object)
+pub first_held : (cs : List Cell) (n : ℕ) (clients : List ℕ) (x : Seat) →
+    first_session cs n clients ≡ Some x → (c : ℕ) × (x.place ≡ Elsewhere (Session n c)) × (held cs (Elsewhere (Session n c)) ≡ Some x.object)
 first_held cs n [] x e = cc
 first_held cs n (d ∷ clients) x e = go (held cs (Elsewhere (Session n d))) refl e (λ e. first_held cs n clients x e)
   where
@@ -100,8 +101,8 @@ first_held cs n (d ∷ clients) x e = go (held cs (Elsewhere (Session n d))) ref
         (d, sym (ap (λ (y : Seat). y.place) same), there ∙ ap (λ (y : Seat). Some y.object) same)
 
 -- of what lets go of its sessions
-pub session_told : (p : Image) (t : Typing) → IsWired p → (s : State) → WellTyped p t s → (ts : List Task) (o : Object) → s.tasks ≡ Closing ∷ Destroy ∷ ts → held s.cells (Going (length ts)) ≡ Some o → (c : ℕ) (so : Object)
-    → held s.cells (Elsewhere (Session o.name c)) ≡ Some so → SessionOf p o so
+pub session_told : (p : Image) (t : Typing) → IsWired p → (s : State) → WellTyped p t s → (ts : List Task) (o : Object) → s.tasks ≡ Closing ∷ Destroy ∷ ts →
+    held s.cells (Going (length ts)) ≡ Some o → (c : ℕ) (so : Object) → held s.cells (Elsewhere (Session o.name c)) ≡ Some so → SessionOf p o so
 session_told p t wired s w ts o at there c so holds = closing_layer (λ ls. Good p t s.cells ls) (Destroy ∷ ts) w.layers (sym w.tasks ∙ at) w.good over
   where
     its_thing : (x : Option ℕ) → session_class p o.thing ≡ x → (b : Bool) → Fits_kind p (seen s.cells) (Some so) (cond b (filled (of_class x) Full) Null) → SessionOf p o so
@@ -111,7 +112,8 @@ session_told p t wired s w ts o at there c so holds = closing_layer (λ ls. Good
 
     of_server : (left : List ℕ) (ls : List Layer) → Good p t s.cells (Ending o left ∷ ls) → SessionOf p o so
     of_server left ls good = its_thing (session_class p o.thing) refl (is_among c left)
-        (subst (λ b. Fits_kind p (seen s.cells) (Some so) (cond b (cond (is_among c left) (filled (of_class (session_class p o.thing)) Full) Null) (claim p (declared p s.cells) ls (Elsewhere (Session o.name c))))) (eq-eqb o.name o.name refl)
+        (subst (λ b. Fits_kind p (seen s.cells) (Some so) (cond b (cond (is_among c left) (filled (of_class (session_class p o.thing)) Full) Null)
+        (claim p (declared p s.cells) ls (Elsewhere (Session o.name c))))) (eq-eqb o.name o.name refl)
         (subst (λ y. Fits_kind p (seen s.cells) y (claim p (declared p s.cells) (Ending o left ∷ ls) (Elsewhere (Session o.name c)))) holds (good.fits (Elsewhere (Session o.name c)))))
 
     right_under : (x : Object) (left : List ℕ) (ls : List Layer) → tasks_of ls ≡ Destroy ∷ ts → Good p t s.cells (Ending x left ∷ ls) → IsOverDying x ls → SessionOf p o so
@@ -181,7 +183,8 @@ module _ (p : Image) (t : Typing) (depth heights : ℕ → ℕ) (tables : Tables
   few v bare = subst (λ items. entries_in items ≤ 1024) (sym bare) (omega arith)
 
   -- the method that goes on is the one that waited
-  told : (s : State) (g : Gives) (x : ℕ) (code : ℤ) (fr : Frame) (items : List Item) (ts : List Task) → Roomy p depth heights s.cells items (Run fr ∷ ts) → Roomy p depth heights s.cells items (Run (next (code_told g x code fr)) ∷ ts)
+  told : (s : State) (g : Gives) (x : ℕ) (code : ℤ) (fr : Frame) (items : List Item) (ts : List Task) →
+      Roomy p depth heights s.cells items (Run fr ∷ ts) → Roomy p depth heights s.cells items (Run (next (code_told g x code fr)) ∷ ts)
   told s x y code fr items ts w = grind arith
 
   -- a dispatch ends, and its method that answers finds all the room that there is
@@ -207,7 +210,8 @@ module _ (p : Image) (t : Typing) (depth heights : ℕ → ℕ) (tables : Tables
       let h = stands_here p t s fr ts w at in
       let x = typed.each fr.method fr.place h.shape h.there in
       let is : x.instr ≡ i = same_Some x.instr i (sym x.stands ∙ there) in
-      acts_room p t depth heights tables c fr ts (counted p s) w.undos at (again h) (none_going_there p t s w (length (Run fr ∷ ts)) (ap length at)) (subst (λ us. Roomy p depth heights s.cells s.items us) at room)
+      acts_room p t depth heights tables c fr ts (counted p s) w.undos at (again h)
+      (none_going_there p t s w (length (Run fr ∷ ts)) (ap length at)) (subst (λ us. Roomy p depth heights s.cells s.items us) at room)
       (line_goes p t tables.wired s w fr ts at) i there
       (subst (λ j. AllTrue (rule_needs p fr.method fr.place h.shape j)) is x.needs) (subst (λ j. AllLead t fr.method (flows p fr.method fr.place h.shape j)) is x.flows) e fits
     where
@@ -221,8 +225,8 @@ module _ (p : Image) (t : Typing) (depth heights : ℕ → ℕ) (tables : Tables
   with_top code ts i items s room at top = subst (λ is. Roomy p depth heights s.cells is (Unwind code ∷ ts)) top (subst (λ us. Roomy p depth heights s.cells s.items us) at room)
 
   -- a server lets go of a session, or its destructor begins
-  emptied :
-      (c : Choice) (s : State) → WellTyped p t s → (ts : List Task) (o : Object) → s.tasks ≡ Closing ∷ Destroy ∷ ts → held s.cells (Going (length ts)) ≡ Some o → Roomy p depth heights s.cells s.items (Closing ∷ Destroy ∷ ts) →
+  emptied : (c : Choice) (s : State) → WellTyped p t s → (ts : List Task) (o : Object) →
+      s.tasks ≡ Closing ∷ Destroy ∷ ts → held s.cells (Going (length ts)) ≡ Some o → Roomy p depth heights s.cells s.items (Closing ∷ Destroy ∷ ts) →
       (x : Option Seat) → first_session s.cells o.name (service_of s.cells o.name).sessions ≡ x → RoomyState (parting p o x ts (counted p s))
   emptied c s w ts o at there room None e = grind (arith, nat_tests, destructed_over p t depth heights tables s.cells s.items o ts)
   emptied c s w ts o at there room (Some x) e =
@@ -246,7 +250,8 @@ module _ (p : Image) (t : Typing) (depth heights : ℕ → ℕ) (tables : Tables
   roomy_moves within typed c s u w room (Vanishes ts o at there owns same) =
       let left = without_queue o.name s.cells in
       let cells' = each_unslotted (service_of s.cells o.name).sessions (without (Going (length ts)) left) in
-      let still : (e : Place) → held cells' e ≡ held (without (Going (length ts)) left) e = λ e. (each_unslotted_alike (service_of s.cells o.name).sessions (without (Going (length ts)) left)).held_so e in
+      let still : (e : Place) → held cells' e ≡ held (without (Going (length ts)) left) e =
+      λ e. (each_unslotted_alike (service_of s.cells o.name).sessions (without (Going (length ts)) left)).held_so e in
       let before : (e : Place) → held left e ≡ held (dropped (is_queue_of o.name) s.cells) e = λ e. ap (λ cs. held cs e) (queue_dropped o.name s.cells) in
       subst RoomyState (sym same) (on_again p depth heights cells' s.items ts (recelled p depth heights s.cells cells' s.items ts (
         λ k lt. still (Entry k) ∙ held_without left (Going (length ts)) (Entry k) ∙ before (Entry k) ∙ held_dropped (is_queue_of o.name) s.cells (Entry k),
@@ -255,25 +260,32 @@ module _ (p : Image) (t : Typing) (depth heights : ℕ → ℕ) (tables : Tables
   roomy_moves within typed c s u w room (Empties ts o at there same) =
       grind (arith, nat_tests, emptied c s w ts o at there, Roomy p depth heights s.cells s.items)
   roomy_moves within typed c s u w room (Clears code ts items o at top there same) =
-      subst RoomyState (sym same) (clears p t depth heights tables s.cells items o (Unwind code ∷ ts) there (none_going_there p t s w (length (Unwind code ∷ ts)) (ap length at)) tt (low_unwinding p t s code ts An_object items w at top) (with_top code ts An_object items s room at top))
+      subst RoomyState (sym same) (clears p t depth heights tables s.cells items o (Unwind code ∷ ts) there (none_going_there p t s w (length
+      (Unwind code ∷ ts)) (ap length at)) tt (low_unwinding p t s code ts An_object items w at top) (with_top code ts An_object items s room at top))
   roomy_moves within typed c s u w room (Undoes code ts items m x at top same) =
-      subst RoomyState (sym same) (undoes p t depth heights tables s.cells items m x (Unwind code ∷ ts) (subst (λ is. AllUndo p is) top w.undos).0 (low_unwinding p t s code ts (An_operation m x) items w at top) (with_top code ts (An_operation m x) items s room at top))
+      subst RoomyState (sym same) (undoes p t depth heights tables s.cells items m x (Unwind code ∷ ts) (subst (λ is. AllUndo p is) top w.undos).0
+      (low_unwinding p t s code ts (An_operation m x) items w at top) (with_top code ts (An_operation m x) items s room at top))
   roomy_moves within typed c s u w room (Arrives code fr ts items at top same) =
       let i = instr_at p fr.method fr.place in
       let low = low_unwinding p t s code (Trapped ∷ Run fr ∷ ts) A_mark items w at top in
-      subst RoomyState (sym same) (told s (called p i) (result_register i) code fr items ts (popped p depth heights s.cells A_mark items (Run fr ∷ ts) low (with_top code (Trapped ∷ Run fr ∷ ts) A_mark items s room at top)))
+      subst RoomyState (sym same) (told s (called p i) (result_register i) code fr items ts
+      (popped p depth heights s.cells A_mark items (Run fr ∷ ts) low (with_top code (Trapped ∷ Run fr ∷ ts) A_mark items s room at top)))
   roomy_moves within typed c s u w room (Comes_out code d ts items at top same) =
-      subst RoomyState (sym same) (popped p depth heights s.cells A_mark items (Dispatched d ∷ ts) (low_unwinding p t s code (Trapped ∷ Dispatched d ∷ ts) A_mark items w at top) (with_top code (Trapped ∷ Dispatched d ∷ ts) A_mark items s room at top))
-  roomy_moves within typed c s u w room (Ends d ts at same) = subst RoomyState (sym same) (ends within (counted p s) (bare_end p t s d ts w at) (none_going_there p t s w 1 (lone_end p t s d ts w at)) d)
+      subst RoomyState (sym same) (popped p depth heights s.cells A_mark items (Dispatched d ∷ ts) (low_unwinding p t s code
+      (Trapped ∷ Dispatched d ∷ ts) A_mark items w at top) (with_top code (Trapped ∷ Dispatched d ∷ ts) A_mark items s room at top))
+  roomy_moves within typed c s u w room (Ends d ts at same) =
+      subst RoomyState (sym same) (ends within (counted p s) (bare_end p t s d ts w at) (none_going_there p t s w 1 (lone_end p t s d ts w at)) d)
 
 -- the tables of an accepted image
 pub tables_of : (p : Image) (t : Typing) → IsWired p → IsStrongest p t → (depths : HasDepths p) (heights : HasHeights p) → Tables p t (at 0 depths.depths) (at 0 heights.heights)
 tables_of p t wired strongest depths heights = record { wired = wired; strongest = strongest; less = depths.are.less; own = heights.are.own; under = heights.are.under }
 
 -- each move keeps it
-pub keeps_room : (p : Image) (t : Typing) → IsWired p → IsTyped p t → IsStrongest p t → (depths : HasDepths p) (heights : HasHeights p) (c : Choice) (s u : State) → WellTyped p t s → HasRoom p (at 0 depths.depths) (at 0 heights.heights) s → step p c s ≡ Goes u → HasRoom p (at 0 depths.depths) (at 0 heights.heights) u
-keeps_room p t wired typed strongest depths heights c s u w room e =
-    let after = roomy_moves p t (at 0 depths.depths) (at 0 heights.heights) (tables_of p t wired strongest depths heights) (λ m. heights.are.within m) typed c s u w (room.under, room.runs, room.fit, room.entries) (steps_are_moves p c s u e) in
+pub keeps_room : (p : Image) (t : Typing) →
+    IsWired p → IsTyped p t → IsStrongest p t → (depths : HasDepths p) (heights : HasHeights p) (c : Choice) (s u : State) →
+    WellTyped p t s → HasRoom p (at 0 depths.depths) (at 0 heights.heights) s → step p c s ≡ Goes u → HasRoom p (at 0 depths.depths) (at 0 heights.heights) u
+keeps_room p t wired typed strongest depths heights c s u w room e = let after = roomy_moves p t (at 0 depths.depths) (at 0 heights.heights) (tables_of
+    p t wired strongest depths heights) (λ m. heights.are.within m) typed c s u w (room.under, room.runs, room.fit, room.entries) (steps_are_moves p c s u e) in
     record { under = after.0; runs = after.1; fit = after.2; entries = after.3 }
 
 -- the boot state has it

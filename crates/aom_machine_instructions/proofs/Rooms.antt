@@ -30,8 +30,8 @@ use Rattle.aom_machine_state.proofs.Values.{same_length}
 use Rattle.aom_machine_state.proofs.Alike.{by_item, by_items}
 
 -- each move keeps the room
-pub room_kept : (p : Image) (t : Typing) (s u : State) (sound : Sound p t) → WellTyped p t s → IsCalm p s.tasks → (c : Choice) → HasRoom p (at 0 sound.depths.depths) (at 0 sound.heights.heights) s → step p c s ≡ Goes u
-    → HasRoom p (at 0 sound.depths.depths) (at 0 sound.heights.heights) u
+pub room_kept : (p : Image) (t : Typing) (s u : State) (sound : Sound p t) → WellTyped p t s → IsCalm p s.tasks → (c : Choice) → HasRoom p
+    (at 0 sound.depths.depths) (at 0 sound.heights.heights) s → step p c s ≡ Goes u → HasRoom p (at 0 sound.depths.depths) (at 0 sound.heights.heights) u
 room_kept p t s u sound typed calm c room e = keeps_room p t sound.wired sound.typed sound.strongest sound.depths sound.heights c s u typed room e
 
 -- the boot state has it
@@ -59,7 +59,8 @@ module _ (p : Image) (m : Parts) (st : Stands (record { image = p; parts = m }))
   has_room = let much = has_much_room in omega (arith, much)
 
   -- the instruction at hand is that of the checked machine
-  at_hand : Runs m.stack.tasks → (i : Instr) → instr_at p (method_here m.stack.tasks) (place_here m.stack.tasks) ≡ Some i → (fr : Frame) × (ts : List Task) × (st.0.tasks ≡ Run fr ∷ ts) × (instr_at p fr.method fr.place ≡ Some i)
+  at_hand : Runs m.stack.tasks → (i : Instr) → instr_at p (method_here m.stack.tasks) (place_here m.stack.tasks) ≡ Some i →
+      (fr : Frame) × (ts : List Task) × (st.0.tasks ≡ Run fr ∷ ts) × (instr_at p fr.method fr.place ≡ Some i)
   at_hand runs i here =
       let f = frame_of m.stack.tasks st.0.tasks runs st.1.agrees.tasks in
       (f.0, f.1, f.2, ap (λ k. instr_at p k f.0.place) (sym f.3) ∙ ap (λ k. instr_at p (method_here m.stack.tasks) k) (sym f.4) ∙ here)

@@ -78,14 +78,17 @@ module _ (p : Image) (few : p.header.cells ≤ 4096) (m : Parts) (s : State) (ti
     holds r = held_served between x.number (opened c (service_of between x.number)) r ∙ held_moved s.cells from to r empty
 
     -- the number of the client's session is what came
-    values : (us : List Machine_task) (ts : List Task) (r : Place) → same_place from r ≡ false → Represents (value_in us m.cells m.entries.items (others m) r) (word_at ts r) (held s.cells r) → word_at ts to ≡ None
+    values : (us : List Machine_task) (ts : List Task) (r : Place) →
+        same_place from r ≡ false → Represents (value_in us m.cells m.entries.items (others m) r) (word_at ts r) (held s.cells r) → word_at ts to ≡ None
         → Represents (value_in us m.cells m.entries.items (record (others m) { clients = k }) r) (cond (same_place to r) None (word_at ts r)) (held after r)
     values us ts r apart old none =
         let at = connecting_here m.clients s.cells s.clients agrees.services.clients x.number c kept_so.0 in
         let client = connecting_below s.cells s.clients m.clients agrees.services.clients c x.number kept_so.0 in
         let many = agrees.services.clients.many in
-        subst (λ v. Represents v (cond (same_place to r) None (word_at ts r)) (held after r)) (sym (session_opened (others m) us m.cells m.entries.items c x.number (subst (λ i. c < i) (sym many) client) at.0 n at.1 small r))
-        (subst (λ o. Represents (cond (same_place to r) n (value_in us m.cells m.entries.items (others m) r)) (cond (same_place to r) None (word_at ts r)) o) (sym (holds r ∙ ap (λ b. cond (same_place to r) (held s.cells from) (cond b None (held s.cells r))) apart)) (go (same_place to r)))
+        subst (λ v. Represents v (cond (same_place to r) None (word_at ts r)) (held after r))
+        (sym (session_opened (others m) us m.cells m.entries.items c x.number (subst (λ i. c < i) (sym many) client) at.0 n at.1 small r))
+        (subst (λ o. Represents (cond (same_place to r) n (value_in us m.cells m.entries.items (others m) r)) (cond (same_place to r) None (word_at ts r)) o)
+        (sym (holds r ∙ ap (λ b. cond (same_place to r) (held s.cells from) (cond b None (held s.cells r))) apart)) (go (same_place to r)))
       where
         go : (b : Bool) → Represents (cond b n (value_in us m.cells m.entries.items (others m) r)) (cond b None (word_at ts r)) (cond b (held s.cells from) (held s.cells r))
         go true = shows
@@ -101,13 +104,14 @@ module _ (p : Image) (few : p.header.cells ≤ 4096) (m : Parts) (s : State) (ti
       cells = cells_beside p m.cells between after (beside_served between x.number (opened c (service_of between x.number))) (cells_moved p m.cells s.cells from to agrees.cells);
       entries = unmarked m.entries.items es.items s.items (ap (λ (e : Machine_items). e.items) marked) agrees.entries;
       requests = requests_kept p m.active between x.number (opened c (service_of between x.number)) refl (requests_moved p m.active s.cells from to agrees.requests);
-      natives = natives_beside p m.sessions s.killed between after few (beside_served between x.number (opened c (service_of between x.number))) (natives_moved p m.sessions s.killed s.cells from to agrees.natives);
+      natives = natives_beside p m.sessions s.killed between after few
+          (beside_served between x.number (opened c (service_of between x.number))) (natives_moved p m.sessions s.killed s.cells from to agrees.natives);
       services = record {
         clients = same_clients;
         sized = sized_connected p.header.cells m.clients agrees.services.sized c (Some n);
         messages = messages_served p m.messages between x.number (opened c (service_of between x.number)) (messages_moved p m.messages s.cells from to agrees.services.messages);
-        tokens = tokens_beside p m.tokens between after (beside_served between x.number (opened c (service_of between x.number))) (told_served between x.number (opened c (service_of between x.number)) refl)
-            ((services_moved p s.cells from to refl refl agrees.services).tokens);
+        tokens = tokens_beside p m.tokens between after (beside_served between x.number (opened c (service_of between x.number)))
+            (told_served between x.number (opened c (service_of between x.number)) refl) ((services_moved p s.cells from to refl refl agrees.services).tokens);
         listed = listed_beside p m.listed between after (beside_served between x.number (opened c (service_of between x.number))) ((services_moved p s.cells from to refl refl agrees.services).listed);
       };
       rest = agrees.rest;
@@ -115,12 +119,15 @@ module _ (p : Image) (few : p.header.cells ≤ 4096) (m : Parts) (s : State) (ti
       entry_room = subst (λ n. 1024 ≤ n) (ap (λ (e : Machine_items). e.depth) marked) agrees.entry_room;
     }
       where
-        shown : (r : Place) → Represents (value_in (Ends (Of_one_served x c stages.Accepted) ∷ []) m.cells es.items (record (others m) { clients = k }) r) (word_at (Dispatched (Of_server (seat_of q x) c Accepted) ∷ []) r) (held after r)
+        shown : (r : Place) → Represents (value_in (Ends (Of_one_served x c stages.Accepted) ∷ []) m.cells es.items (record (others m) { clients = k }) r)
+            (word_at (Dispatched (Of_server (seat_of q x) c Accepted) ∷ []) r) (held after r)
         shown (Register i j) = shows_null _ _ _ (cond_same (0 == i) null) (cond_same (0 == i) None) (shut.registers i j)
         shown (Entry i) = grind (arith, nat_tests, shows_null, mark_shows_none es.items i, holds (Entry i))
         shown (Going i) = shows_null _ _ _ (cond_same (0 == i) null) refl (shut.goings i)
         shown (Field i f) = values m.stack.tasks s.tasks (Field i f) refl (agrees.values (Field i f)) refl
         shown (Elsewhere Root) = values m.stack.tasks s.tasks (Elsewhere Root) refl (agrees.values (Elsewhere Root)) refl
-        shown (Elsewhere (Session i j)) = subst (λ w. Represents (value_in m.stack.tasks m.cells m.entries.items (record (others m) { clients = k }) (Elsewhere (Session i j))) w (held after (Elsewhere (Session i j)))) (cond_same (same_place to (Elsewhere (Session i j))) None) (values m.stack.tasks s.tasks (Elsewhere (Session i j)) refl (agrees.values (Elsewhere (Session i j))) refl)
+        shown (Elsewhere (Session i j)) = subst (λ w. Represents (value_in m.stack.tasks m.cells m.entries.items (record (others m) { clients = k })
+            (Elsewhere (Session i j))) w (held after (Elsewhere (Session i j)))) (cond_same (same_place to (Elsewhere (Session i j))) None)
+            (values m.stack.tasks s.tasks (Elsewhere (Session i j)) refl (agrees.values (Elsewhere (Session i j))) refl)
         shown (Elsewhere In_service) = values m.stack.tasks s.tasks (Elsewhere In_service) refl (agrees.values (Elsewhere In_service)) refl
         shown (Elsewhere (Queued i j)) = values m.stack.tasks s.tasks (Elsewhere (Queued i j)) refl (agrees.values (Elsewhere (Queued i j))) refl

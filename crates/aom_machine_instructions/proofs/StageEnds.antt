@@ -77,7 +77,8 @@ pub record AtStage (p : Image) (m : Parts) (s : State) (x : Subject) (c : ℕ) (
   pub held_top : m.stack.tasks ≡ Ends (Of_one_served x c stage) ∷ []
   pub top : s.tasks ≡ Dispatched (Of_server (seat_of place x) c (stage_of stage)) ∷ []
 
-pub at_stage : (p : Image) (t : Typing) (m : Parts) (s : State) → WellTyped p t s → Agrees p m s → (x : Subject) (c : ℕ) (stage : Machine_stage) → ending_here m.stack.tasks ≡ Some (Of_one_served x c stage) → AtStage p m s x c stage
+pub at_stage : (p : Image) (t : Typing) (m : Parts) (s : State) → WellTyped p t s →
+    Agrees p m s → (x : Subject) (c : ℕ) (stage : Machine_stage) → ending_here m.stack.tasks ≡ Some (Of_one_served x c stage) → AtStage p m s x c stage
 at_stage p t m s typed agrees x c stage ending =
     let e = at_end p t m s typed agrees (ending_of m.stack.tasks ending) in
     let is = which m s e (Of_one_served x c stage) ending in
@@ -96,7 +97,8 @@ in_service p t s x c code typed top =
     record { object = own.0; there = own.1; message = stands_message p own.0.thing own.2 })
 
 -- the session of a client whose close was served is gone
-session_gone : (p : Image) (t : Typing) (s : State) (x : Seat) (c : ℕ) → WellTyped p t s → s.tasks ≡ Dispatched (Of_server x c checked.Parts) ∷ [] → held s.cells (Elsewhere (Session x.object.name c)) ≡ None
+session_gone : (p : Image) (t : Typing) (s : State) (x : Seat) (c : ℕ) →
+    WellTyped p t s → s.tasks ≡ Dispatched (Of_server x c checked.Parts) ∷ [] → held s.cells (Elsewhere (Session x.object.name c)) ≡ None
 session_gone p t s x c typed top =
     dispatch_layer (Good p t s.cells) (Of_server x c checked.Parts) [] typed.layers (sym typed.tasks ∙ top) typed.good (λ seats ls _ good.
     let q = Elsewhere (Session x.object.name c) in
@@ -107,18 +109,21 @@ session_gone p t s x c typed top =
 
 -- ---- what is left
 
-module _ (p : Image) (formed : WellFormed p) (m : Parts) (announced : m.rest.announced ≡ true) (t : Typing) (s : State) (wired : IsWired p) (typed : WellTyped p t s) (fits : IsKept p s) (agrees : Agrees p m s) (x : Subject) (c : ℕ) where
+module _ (p : Image) (formed : WellFormed p) (m : Parts) (announced : m.rest.announced ≡ true)
+    (t : Typing) (s : State) (wired : IsWired p) (typed : WellTyped p t s) (fits : IsKept p s) (agrees : Agrees p m s) (x : Subject) (c : ℕ) where
   -- all of the machine but its tasks, with these cells and these clients
   record Left (k : kept.State) (store : Store) (served : ℕ) (cs : List Cell) (at : List Client) (seat : Seat) : Type 0 where
     cells : SameCells p m.cells cs
     requests : SameRequests p m.active cs
     natives : SameNatives p m.sessions cs s.killed
     services : SameServices p k store m.tokens m.listed cs at
-    values : (q : Place) → Represents (value_in (Ends (Of_one x) ∷ []) m.cells m.entries.items (record (others m) { clients = k; served = served }) q) (word_at (Dispatched (Of_object seat) ∷ []) q) (held cs q)
+    values : (q : Place) → Represents (value_in (Ends (Of_one x) ∷ []) m.cells m.entries.items (record (others m) { clients = k; served = served }) q)
+        (word_at (Dispatched (Of_object seat) ∷ []) q) (held cs q)
 
   -- the dispatch is one of an object then
   ends_so : (q : Place) (k : kept.State) (store : Store) (served : ℕ) (cs : List Cell) (at : List Client) → Left k store served cs at (seat_of q x)
-      → Agrees p (record m { stack = record m.stack { tasks = Ends (Of_one x) ∷ [] }; clients = k; messages = store; served = served }) (record (at_close s) { cells = cs; clients = at; tasks = Dispatched (Of_object (seat_of q x)) ∷ [] })
+      → Agrees p (record m { stack = record m.stack { tasks = Ends (Of_one x) ∷ [] }; clients = k; messages = store; served = served })
+      (record (at_close s) { cells = cs; clients = at; tasks = Dispatched (Of_object (seat_of q x)) ∷ [] })
   ends_so q k store served cs at left = record {
     tasks = ((q, refl), tt);
     values = left.values;
@@ -154,7 +159,8 @@ module _ (p : Image) (formed : WellFormed p) (m : Parts) (announced : m.rest.ann
     plain = record { cells = agrees.cells; requests = agrees.requests; natives = agrees.natives; services = agrees.services; values = base }
 
   -- a client whose connect was left has no session
-  left_alone : (code : ℤ) (e : AtStage p m s x c (stages.AcceptLeft code)) → Left (kept.after_connected c None m.clients) m.messages m.served s.cells (with_client c Unconnected s.clients) (seat_of e.place x)
+  left_alone : (code : ℤ) (e : AtStage p m s x c (stages.AcceptLeft code)) →
+      Left (kept.after_connected c None m.clients) m.messages m.served s.cells (with_client c Unconnected s.clients) (seat_of e.place x)
   left_alone code e =
       let stage = stages.AcceptLeft code in
       let same = agrees.services.clients in
@@ -172,11 +178,13 @@ module _ (p : Image) (formed : WellFormed p) (m : Parts) (announced : m.rest.ann
           tokens = agrees.services.tokens;
           listed = agrees.services.listed;
         };
-        values = λ q. subst (λ v. Represents v (word_at (Dispatched (Of_object (seat_of e.place x)) ∷ []) q) (held s.cells q)) (sym (connect_left (others m) (Ends (Of_one x) ∷ []) m.cells m.entries.items c x.number (subst (λ i. c < i) (sym same.many) client) at.0 at.1 q)) (base stage e q);
+        values = λ q. subst (λ v. Represents v (word_at (Dispatched (Of_object (seat_of e.place x)) ∷ []) q) (held s.cells q)) (sym (connect_left
+            (others m) (Ends (Of_one x) ∷ []) m.cells m.entries.items c x.number (subst (λ i. c < i) (sym same.many) client) at.0 at.1 q)) (base stage e q);
       }
 
   -- after a close there is no session
-  parts_so : (e : AtStage p m s x c stages.Parts) → Left (kept.after_closed c m.clients) m.messages m.served (reserved (parted c) x.number s.cells) (with_client c (at_parting (client_at s.clients c)) s.clients) (seat_of e.place x)
+  parts_so : (e : AtStage p m s x c stages.Parts) → Left (kept.after_closed c m.clients) m.messages m.served
+      (reserved (parted c) x.number s.cells) (with_client c (at_parting (client_at s.clients c)) s.clients) (seat_of e.place x)
   parts_so e =
       let stage = stages.Parts in
       let same = agrees.services.clients in
@@ -197,9 +205,10 @@ module _ (p : Image) (formed : WellFormed p) (m : Parts) (announced : m.rest.ann
           tokens = tokens_beside p m.tokens s.cells _ beside (told_served s.cells x.number v refl) agrees.services.tokens;
           listed = listed_beside p m.listed s.cells _ beside agrees.services.listed;
         };
-        values = λ q.
-            subst (λ v. Represents v (word_at (Dispatched (Of_object (seat_of e.place x)) ∷ []) q) (held (reserved (parted c) x.number s.cells) q)) (sym (session_closed (others m) (Ends (Of_one x) ∷ []) m.cells m.entries.items c x.number (subst (λ i. c < i) (sym same.many) client) leaving gone q))
-            (subst (λ o. Represents (value_in (Ends (Of_one x) ∷ []) m.cells m.entries.items (others m) q) (word_at (Dispatched (Of_object (seat_of e.place x)) ∷ []) q) o) (sym (held_served s.cells x.number v q)) (base stage e q));
+        values = λ q. subst (λ v. Represents v (word_at (Dispatched (Of_object (seat_of e.place x)) ∷ []) q) (held (reserved (parted c) x.number s.cells) q))
+            (sym (session_closed (others m) (Ends (Of_one x) ∷ []) m.cells m.entries.items c x.number
+            (subst (λ i. c < i) (sym same.many) client) leaving gone q)) (subst (λ o. Represents (value_in (Ends (Of_one x) ∷ []) m.cells m.entries.items
+            (others m) q) (word_at (Dispatched (Of_object (seat_of e.place x)) ∷ []) q) o) (sym (held_served s.cells x.number v q)) (base stage e q));
       }
     where
       kept_session : ℕ
@@ -235,7 +244,8 @@ module _ (p : Image) (formed : WellFormed p) (m : Parts) (announced : m.rest.ann
         cells = cells_completed p t s typed q its.object its.there its.message does.place name m.cells agrees.cells;
         requests = requests_completed p t s typed q its.object its.there its.message does.place name m.active agrees.requests;
         natives = natives_completed p t s typed q its.object its.there its.message does.place name m.sessions formed.header.cells agrees.natives;
-        services = services_completed p t s typed q its.object its.there its.message does.place name wired fits refl sent m.clients m.messages m.tokens m.listed agrees.services mid.messages does.released does.count;
+        services = services_completed p t s typed q its.object its.there
+            its.message does.place name wired fits refl sent m.clients m.messages m.tokens m.listed agrees.services mid.messages does.released does.count;
         values = grind (arith, nat_tests, writes, base, served_written (Ends (Of_one x) ∷ []) m.cells m.entries.items, stays, held_without s.cells);
       }
 
@@ -269,22 +279,26 @@ module _ (p : Image) (formed : WellFormed p) (m : Parts) (announced : m.rest.ann
 
   -- what is below goes on with it
   over : (k : kept.State) (store : Store) (served : ℕ) (stage : Machine_stage) (u : State) → AtStage p m s x c stage
-      → Agrees p (record m { stack = record m.stack { tasks = Ends (Of_one x) ∷ [] }; clients = k; messages = store; served = served }) u → Agrees p (then (record m { clients = k; messages = store; served = served })) u
+      → Agrees p (record m { stack = record m.stack { tasks = Ends (Of_one x) ∷ [] }; clients = k; messages = store; served = served }) u →
+      Agrees p (then (record m { clients = k; messages = store; served = served })) u
   over k store served _ u e h = grind (arith, nat_tests)
 
   ends_stage : (stage : Machine_stage) (mid : Parts) (before now : LineBuffer) (e : AtStage p m s x c stage) → EndsStage c stage m mid before now
       → Agrees p (then mid) (stage_ends (seat_of e.place x) c (stage_of stage) (at_close s)) × Told s.cells stage before now
   ends_stage stages.Accepts mid before now e does = (
-    subst (λ k. Agrees p (then k) (stage_ends (seat_of e.place x) c checked.Accepts (at_close s))) (sym does.0) (over m.clients m.messages m.served stages.Accepts _ e (ends_so e.place m.clients m.messages m.served s.cells s.clients (plain stages.Accepts e))),
+    subst (λ k. Agrees p (then k) (stage_ends (seat_of e.place x) c checked.Accepts (at_close s))) (sym does.0)
+        (over m.clients m.messages m.served stages.Accepts _ e (ends_so e.place m.clients m.messages m.served s.cells s.clients (plain stages.Accepts e))),
     does.1 ∙ ap (λ ls. record before { lines = ls }) (sym (append-nil before.lines)),
   )
   ends_stage stages.Accepted mid before now e does = (
-    subst (λ k. Agrees p (then k) (stage_ends (seat_of e.place x) c checked.Accepted (at_close s))) (sym does.0) (over m.clients m.messages m.served stages.Accepted _ e (ends_so e.place m.clients m.messages m.served s.cells s.clients (plain stages.Accepted e))),
+    subst (λ k. Agrees p (then k) (stage_ends (seat_of e.place x) c checked.Accepted (at_close s))) (sym does.0)
+        (over m.clients m.messages m.served stages.Accepted _ e (ends_so e.place m.clients m.messages m.served s.cells s.clients (plain stages.Accepted e))),
     does.1,
   )
   ends_stage (stages.AcceptLeft code) mid before now e does = (grind (arith, nat_tests, at_close s, over, ends_so e.place, left_alone code e), does.1)
   ends_stage (stages.Serves o) mid before now e does = (
-    subst (λ k. Agrees p (then k) (stage_ends (seat_of e.place x) c (checked.Serves (subject_of o)) (at_close s))) (sym does.0) (over m.clients m.messages m.served (stages.Serves o) _ e (ends_so e.place m.clients m.messages m.served s.cells s.clients (plain (stages.Serves o) e))),
+    subst (λ k. Agrees p (then k) (stage_ends (seat_of e.place x) c (checked.Serves (subject_of o)) (at_close s))) (sym does.0) (over
+        m.clients m.messages m.served (stages.Serves o) _ e (ends_so e.place m.clients m.messages m.served s.cells s.clients (plain (stages.Serves o) e))),
     does.1 ∙ ap (λ ls. record before { lines = ls }) (sym (append-nil before.lines)),
   )
   ends_stage (stages.ServiceLeft code) mid before now e does = (
@@ -313,7 +327,8 @@ module _ (p : Image) (formed : WellFormed p) (m : Parts) (announced : m.rest.ann
   )
 
 -- the end of a stage is a move
-pub stage_moves : (p : Image) (m : Parts) (before now : LineBuffer) → m.rest.announced ≡ true → (x : Subject) (c : ℕ) (stage : Machine_stage) (mid : Parts) → ending_here m.stack.tasks ≡ Some (Of_one_served x c stage) → EndsStage c stage m mid before now
+pub stage_moves : (p : Image) (m : Parts) (before now : LineBuffer) → m.rest.announced ≡ true → (x : Subject) (c : ℕ) (stage : Machine_stage) (mid : Parts) →
+    ending_here m.stack.tasks ≡ Some (Of_one_served x c stage) → EndsStage c stage m mid before now
     → Moves p m before now (with_tasks (Ends (Of_one x) ∷ below_first mid.stack.tasks) mid)
 stage_moves p m before now announced x c stage mid ending does t s sound typed fits agrees =
     let e = at_stage p t m s typed agrees x c stage ending in
@@ -327,7 +342,8 @@ stage_moves p m before now announced x c stage mid ending does t s sound typed f
     )
 
 -- what its end requires of the code
-pub stage_can : (p : Image) (m : Parts) → Stands (record { image = p; parts = m }) → m.rest.announced ≡ true → (x : Subject) (c : ℕ) (stage : Machine_stage) → ending_here m.stack.tasks ≡ Some (Of_one_served x c stage) → CanEndStage c stage m
+pub stage_can : (p : Image) (m : Parts) → Stands (record { image = p; parts = m }) →
+    m.rest.announced ≡ true → (x : Subject) (c : ℕ) (stage : Machine_stage) → ending_here m.stack.tasks ≡ Some (Of_one_served x c stage) → CanEndStage c stage m
 stage_can p m st announced x c stage ending = grind (
   arith,
   nat_tests,
@@ -339,5 +355,6 @@ stage_can p m st announced x c stage ending = grind (
 pub stage_stack : (c : ℕ) (stage : Machine_stage) (old new : Parts) (told now : LineBuffer) → EndsStage c stage old new told now → new.stack ≡ old.stack
 stage_stack c x old new _ _ does = grind arith
 
-pub stage_room : (c : ℕ) (stage : Machine_stage) (old new : Parts) (told now : LineBuffer) → EndsStage c stage old new told now → (length old.stack.tasks + 1) < old.stack.depth → length new.stack.tasks ≤ new.stack.depth
+pub stage_room : (c : ℕ) (stage : Machine_stage) (old new : Parts) (told now : LineBuffer) →
+    EndsStage c stage old new told now → (length old.stack.tasks + 1) < old.stack.depth → length new.stack.tasks ≤ new.stack.depth
 stage_room c stage old new told now does room = subst (λ k. length k.tasks ≤ k.depth) (sym (stage_stack c stage old new told now does)) (omega (arith, room))

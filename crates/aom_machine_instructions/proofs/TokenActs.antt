@@ -72,8 +72,8 @@ awaits_answered order k n r suits waits = grind arith
 none_redeemed : (w : Kept) (place : ℕ) → class_at w place ≡ None → redeemed w place ≡ None
 none_redeemed w place none = grind (arith, nat_tests)
 
-module _ (m : Parts) (a b place : ℕ) (store : Store) (active : Active) (w : Kept) (code : ℤ) (named_so : first_number + place ≡ register_here m.stack.tasks a) (told : is_some (class_at m.tokens place) ≡ true)
-    (read_so : code ≡ cast_signed w32 (register_here m.stack.tasks b)) where
+module _ (m : Parts) (a b place : ℕ) (store : Store) (active : Active) (w : Kept) (code : ℤ) (named_so : first_number + place ≡ register_here m.stack.tasks a)
+    (told : is_some (class_at m.tokens place) ≡ true) (read_so : code ≡ cast_signed w32 (register_here m.stack.tasks b)) where
   abbrev mid : Parts
   mid = record m { active = active; messages = store; tokens = w }
 
@@ -108,15 +108,19 @@ module _ (m : Parts) (a b place : ℕ) (store : Store) (active : Active) (w : Ke
     redeem_agrees small gone fewer freed lets answers =
         let s = h.state in
         subst (λ o. Agrees p (places.next (set_register a null mid)) (replied p h a b o)) (sym its_order_so)
-        (subst (λ v. Agrees p (places.next (set_register a null mid)) (record s { cells = without g (redeemed_by (Some order) v s.cells); tasks = Run (next (set_word h.frame a None)) ∷ h.below })) code_so
+        (subst (λ v. Agrees p (places.next (set_register a null mid))
+        (record s { cells = without g (redeemed_by (Some order) v s.cells); tasks = Run (next (set_word h.frame a None)) ∷ h.below })) code_so
         (goes_on_with p m h mid left s.items s.rest (put_at None h.frame.words a None) (on_top (with_register a null)) (with_register a null) (λ f ms. refl)
         (record {
           stack = refl;
           cells = cells_answered p h.typing s h.typed g it.object it.there it.message place name h.kept refl m.tokens h.agrees.services.tokens told code m.cells h.agrees.cells;
           entries = h.agrees.entries;
-          requests = requests_answered p h.typing s h.typed g it.object it.there it.message place name h.kept refl m.tokens h.agrees.services.tokens told code m.active active answers h.agrees.requests;
-          natives = natives_answered p h.typing s h.typed g it.object it.there it.message place name h.kept refl m.tokens h.agrees.services.tokens told code m.sessions h.formed.header.cells h.agrees.natives;
-          services = services_answered p h.typing s h.typed g it.object it.there it.message place name h.kept refl m.tokens h.agrees.services.tokens told code m.clients m.messages store m.listed w gone fewer freed lets h.agrees.services;
+          requests = requests_answered p h.typing s h.typed
+              g it.object it.there it.message place name h.kept refl m.tokens h.agrees.services.tokens told code m.active active answers h.agrees.requests;
+          natives = natives_answered p h.typing s h.typed g it.object
+              it.there it.message place name h.kept refl m.tokens h.agrees.services.tokens told code m.sessions h.formed.header.cells h.agrees.natives;
+          services = services_answered p h.typing s h.typed g it.object it.there it.message
+              place name h.kept refl m.tokens h.agrees.services.tokens told code m.clients m.messages store m.listed w gone fewer freed lets h.agrees.services;
           rest = h.agrees.rest;
           room = h.agrees.entry_room;
         }) (λ f ms e top. written p m h mid left a null None None small refl f ms top (λ q. refl)
@@ -125,25 +129,28 @@ module _ (m : Parts) (a b place : ℕ) (store : Store) (active : Active) (w : Ke
     -- a token has no client
     redeem_silent : message_line h.state.cells (held h.state.cells g) (read h.frame h.below h.state b) ≡ []
     redeem_silent = ap (λ o. message_line h.state.cells o (read h.frame h.below h.state b)) it.there
-        ∙ ap (told_line (read h.frame h.below h.state b)) (told_no_sender p h.typing h.state h.typed g it.object it.there it.message h.kept.fit.sources (some_token (service_of h.state.cells it.object.name).token its))
+        ∙ ap (told_line (read h.frame h.below h.state b)) (told_no_sender p h.typing h.state h.typed g it.object it.there it.message h.kept.fit.sources
+        (some_token (service_of h.state.cells it.object.name).token its))
       where
         some_token : (x : Option Token) → order_in x ≡ Some order → is_some x ≡ true
         some_token None e = absurd (none-some order e)
         some_token (Some x) e = refl
 
 -- as the code does it
-module _ (m mid new : Parts) (told now : LineBuffer) (n : ℕ) (code : ℤ) (a b : ℕ) (emptied : mid ≡ set_register a null m) (number_so : n ≡ register_here m.stack.tasks a) (read_so : code ≡ cast_signed w32 (register_here m.stack.tasks b)) where
+module _ (m mid new : Parts) (told now : LineBuffer) (n : ℕ) (code : ℤ) (a b : ℕ) (emptied : mid ≡ set_register a null m)
+    (number_so : n ≡ register_here m.stack.tasks a) (read_so : code ≡ cast_signed w32 (register_here m.stack.tasks b)) where
   redeem_done : (refused : List ℕ) (last : Parts) → a < 16 → last ≡ places.next new → RedeemsOne n code mid new told now → Does refused (Reply a b) m last
   redeem_done refused last small goes_on does =
       let r = subst (λ (x : Parts). Redeems does.place code x new) emptied does.redeems in
       subst (λ x. Does refused (Reply a b) m x) (sym (goes_on ∙ ap places.next r.rest)) (plain_does m _ refused (Reply a b) refl (λ p h c met.
-      redeem_agrees m a b does.place new.messages new.active new.tokens code (does.number ∙ number_so) (subst (λ (x : Parts). is_some (class_at x.tokens does.place) ≡ true) emptied does.token) read_so p h c met
+      redeem_agrees m a b does.place new.messages new.active new.tokens code
+      (does.number ∙ number_so) (subst (λ (x : Parts). is_some (class_at x.tokens does.place) ≡ true) emptied does.token) read_so p h c met
       small r.released r.count r.freed r.lets r.answers))
 
   redeem_told : RedeemsOne n code mid new told now → Tells (Reply a b) m told now
   redeem_told does p h c met = does.silent ∙ ap (λ ls. record told { lines = ls }) (sym (append-nil told.lines))
-      ∙ ap (λ ls. record told { lines = told.lines ++ ls })
-      (sym (redeem_silent m a b does.place new.messages new.active new.tokens code (does.number ∙ number_so) (subst (λ (x : Parts). is_some (class_at x.tokens does.place) ≡ true) emptied does.token) read_so p h c met))
+      ∙ ap (λ ls. record told { lines = told.lines ++ ls }) (sym (redeem_silent m a b does.place new.messages new.active new.tokens code
+      (does.number ∙ number_so) (subst (λ (x : Parts). is_some (class_at x.tokens does.place) ≡ true) emptied does.token) read_so p h c met))
 
   -- a message is a token, or a client's
   pub answer_done : (refused : List ℕ) (last : Parts) → a < 16 → last ≡ places.next new → Answers n code mid new told now → Does refused (Reply a b) m last
@@ -174,7 +181,8 @@ module _ (p : Image) (m : Parts) where
           let is : awaits o.0 (requested s.cells n) ≡ true = ap (is_order o.0) waits ∙ eq-eqb o.0 o.0 refl in
           let x = asked_lives s.cells n (some_asked o.0 (requested s.cells n) waits) in
           let suits = subst (λ i. Suits (thing_kind p x.0.thing) (states_claim p x.0 typed.layers) (requested s.cells i)) x.2 (typed.good.suits x.0 (ap (named s.cells) x.2 ∙ x.1)) in
-          pending_told (request_at m.active.table n) (requested s.cells n) (queued p s.cells n) (agrees.requests.stands.tells n) (awaits_answered o.0 _ _ (requested s.cells n) suits is) (awaits_owed o.0 _ _ (requested s.cells n) suits is)
+          pending_told (request_at m.active.table n) (requested s.cells n) (queued p s.cells n)
+          (agrees.requests.stands.tells n) (awaits_answered o.0 _ _ (requested s.cells n) suits is) (awaits_owed o.0 _ _ (requested s.cells n) suits is)
         where
           some_asked : (k : ℕ) (r : Option Request) → awaited r ≡ Some k → is_some r ≡ true
           some_asked k None e = absurd (none-some k e)
@@ -206,8 +214,8 @@ module _ (p : Image) (m : Parts) where
         below = place_below p h.typing h.state h.typed g x.object x.there x.message place.0 place.1 m.messages h.agrees.services.messages;
         kept = message_kept p h.typing h.state h.typed g x.object x.there x.message place.0 place.1 m.messages h.agrees.services.messages;
         pends = its_pending p before h.typing h.state h.typed h.kept h.agrees place.0;
-        taken = λ sent.
-            completion_told p h.typing h.state h.typed g x.object x.there x.message place.0 place.1 h.wired h.kept refl m.clients h.agrees.services.clients (it_was_sent p before h a x place.0 place.1 sent);
+        taken = λ sent. completion_told p h.typing h.state h.typed g x.object
+            x.there x.message place.0 place.1 h.wired h.kept refl m.clients h.agrees.services.clients (it_was_sent p before h a x place.0 place.1 sent);
       }
 
 -- ---- a token is handed out
@@ -279,9 +287,9 @@ module _ (m : Parts) (refused : List ℕ) (a class : ℕ) (small : a < 16) (clas
     class_here = ap home_class on.home ∙ ap class_of_thing (thing_is on.object.thing class (cell_at m.cells (this m)) class_so (thing_here p m h on))
 
     handed_so : handed_cells (message_name does.place) h.frame.home here s.cells ≡ then
-    handed_so =
-        ap (λ k. with_token (message_name does.place) (record { class = k; order = next_order }) here (rerequested s.cells h.frame.home (on_request (promised next_order) (own_request s.cells h.frame.home)))) class_here
-        ∙ ap (λ home. with_token (message_name does.place) (record { class = class; order = next_order }) here (rerequested s.cells home (on_request (promised next_order) (own_request s.cells home)))) on.home
+    handed_so = ap (λ k. with_token (message_name does.place) (record { class = k; order = next_order }) here (rerequested s.cells h.frame.home
+        (on_request (promised next_order) (own_request s.cells h.frame.home)))) class_here ∙ ap (λ home. with_token (message_name does.place)
+        (record { class = class; order = next_order }) here (rerequested s.cells home (on_request (promised next_order) (own_request s.cells home)))) on.home
         ∙ ap (λ q. with_token (message_name does.place) (record { class = class; order = next_order }) here (set_request on.object.name (on_request (promised next_order) q) s.cells)) asks.1
 
     table_then : SameRequests p new.active (set_request on.object.name (Some (promised next_order asks.0)) s.cells)
@@ -295,7 +303,8 @@ module _ (m : Parts) (refused : List ℕ) (a class : ℕ) (small : a < 16) (clas
     living_then : Sets m.tokens.living new.tokens.living on.object.name (Some does.place)
     living_then = subst (λ i. Sets m.tokens.living new.tokens.living i (Some does.place)) on.number does.lives
 
-    hand_agrees : Agrees p (places.next (set_register a n hand_mid)) (record s { cells = handed_cells (message_name does.place) h.frame.home here s.cells; tasks = Run (next (set_word h.frame a None)) ∷ h.below })
+    hand_agrees : Agrees p (places.next (set_register a n hand_mid))
+        (record s { cells = handed_cells (message_name does.place) h.frame.home here s.cells; tasks = Run (next (set_word h.frame a None)) ∷ h.below })
     hand_agrees =
         subst (λ cs. Agrees p (places.next (set_register a n hand_mid)) (record s { cells = cs; tasks = Run (next (set_word h.frame a None)) ∷ h.below })) (sym handed_so)
         (goes_on_with p m h hand_mid then s.items s.rest (put_at None h.frame.words a None) (on_top (with_register a n)) (with_register a n) (λ f ms. refl)
@@ -305,12 +314,14 @@ module _ (m : Parts) (refused : List ℕ) (a class : ℕ) (small : a < 16) (clas
           entries = h.agrees.entries;
           requests = requests_handed p s.cells on.object on.lives asks.0 asks.1 does.place class next_order here free_place refl new.active table_then;
           natives = natives_handed p s.cells on.object on.lives asks.0 asks.1 does.place class next_order here free_place refl m.sessions s.killed h.formed.header.cells h.agrees.natives;
-          services = services_handed p s.cells on.object on.lives asks.0 asks.1 does.place class next_order here free_place refl m.clients m.messages new.messages m.tokens new.tokens m.listed s.clients does.below does.kept does.count token_then living_then h.agrees.services;
+          services = services_handed p s.cells on.object on.lives asks.0 asks.1 does.place class next_order here free_place refl
+              m.clients m.messages new.messages m.tokens new.tokens m.listed s.clients does.below does.kept does.count token_then living_then h.agrees.services;
           rest = h.agrees.rest;
           room = h.agrees.entry_room;
         })
         (λ f ms e top. written p m h hand_mid then a n None (Some (record { name = message_name does.place; thing = Message })) small does.number f ms top (λ q. refl)
-        (λ q. ap (λ o. cond (same_place here q) (Some (record { name = message_name does.place; thing = Message })) o) ((rerequested_alike s.cells (Inside on.object (Elsewhere Root)) (Some (promised next_order asks.0))).held_so q))))
+        (λ q. ap (λ o. cond (same_place here q) (Some (record { name = message_name does.place; thing = Message })) o)
+        ((rerequested_alike s.cells (Inside on.object (Elsewhere Root)) (Some (promised next_order asks.0))).held_so q))))
 
   hand_one : (n : ℕ) (new : Parts) → HandsOne n (this m) class m new → Does refused (Hand a) m (places.next (set_register a n new))
   hand_one n new does =

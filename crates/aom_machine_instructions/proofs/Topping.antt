@@ -94,7 +94,8 @@ mark_tops x y fs same e = grind arith
 level : (p : Image) (fr : Frame) (ts : List Task) (s : State) (g : Gives) → LeavesNone g → is_level p fr ts s g ≡ true → length s.items ≡ fr.height
 level p fr ts s x none e = grind (arith, nat_tests, eqb-true)
 
-marked_under : (p : Image) (t : Typing) (s : State) (fr : Frame) (ts : List Task) (is : List Machine_item) → WellTyped p t s → s.tasks ≡ Run fr ∷ Trapped ∷ ts → SameItems is s.items → is_level p fr (Trapped ∷ ts) s (gives_of p fr.method) ≡ true → IsMarked is
+marked_under : (p : Image) (t : Typing) (s : State) (fr : Frame) (ts : List Task) (is : List Machine_item) →
+    WellTyped p t s → s.tasks ≡ Run fr ∷ Trapped ∷ ts → SameItems is s.items → is_level p fr (Trapped ∷ ts) s (gives_of p fr.method) ≡ true → IsMarked is
 marked_under p t s fr ts is typed top same flat =
     method_layer (λ ls. (forms s.items ≡ items_of ls) × Good p t s.cells ls) fr (Trapped ∷ ts) typed.layers (sym typed.tasks ∙ top) (typed.items, typed.good) (λ sh ls under h.
     mark_layer (λ ls. (forms s.items ≡ items_of (Method fr sh ∷ ls)) × Good p t s.cells (Method fr sh ∷ ls)) ts ls under h (λ gv ls _ h.
@@ -128,7 +129,8 @@ caught_within : (p : Image) {ms : List Machine_task} → ReturnsTo p ms → Tops
     → ((place_here (below_first ms) + 1) < 2 ^ 64) × (suc (result_register (instr_at p (method_here (below_first ms)) (place_here (below_first ms)))) < 16)
 caught_within p to (catcher_on_top f ms) = (to.1, to.2)
 
-pub coded_through : (p : Image) (ms : List Machine_task) → ReturnsTo p ms → IsTrapped ms → Runs (below_first ms) → suc (result_register (instr_at p (method_here (below_first ms)) (place_here (below_first ms)))) < 16
+pub coded_through : (p : Image) (ms : List Machine_task) →
+    ReturnsTo p ms → IsTrapped ms → Runs (below_first ms) → suc (result_register (instr_at p (method_here (below_first ms)) (place_here (below_first ms)))) < 16
 coded_through p ms to trapped runs = (caught_within p to (tops A_catcher ms (trapped, runs))).1
 
 pub ends_under : (p : Image) (ms : List Machine_task) → ReturnsTo p ms → IsTrapped ms → (Runs (below_first ms) → ⊥) → IsEnding (below_first ms)

@@ -12,7 +12,8 @@ use Rattle.aom_semantics.specs.Calls.{result_register}
 use Rattle.aom_semantics.specs.State.{Frame, Run, Task}
 use Rattle.aom_safety.specs.Traps.{IsAtTrap}
 
-instr_fits : (p : Image) → WellFormed p → (m place : ℕ) (i : Instr) → instr_at p m place ≡ Some i → (d : Method) × InstrFits (limits p.header.version (length p.classes) (length p.methods) (length d.code)) i
+instr_fits : (p : Image) → WellFormed p → (m place : ℕ) (i : Instr) →
+    instr_at p m place ≡ Some i → (d : Method) × InstrFits (limits p.header.version (length p.classes) (length p.methods) (length d.code)) i
 unfolding method_at
 instr_fits p formed m place i e =
     let w = of_method p m place i e in

@@ -68,16 +68,20 @@ deals_move p m told above h u e typed = go (entries_alike m.entries.items h.stat
     s : State
     s = h.state
 
-    done : (js : List Item) → s.items ≡ js → tops_entry js ≡ true → top_is_whole s.cells js ≡ true → deals_with p js (Unwind h.code ∷ h.below) s ≡ u → arrival h.code s.items ≡ [] → Agrees p (dealt_with p m) u × (told ≡ record told { lines = told.lines ++ arrival h.code s.items })
+    done : (js : List Item) → s.items ≡ js → tops_entry js ≡ true → top_is_whole s.cells js ≡ true → deals_with p js (Unwind h.code ∷ h.below) s ≡ u →
+        arrival h.code s.items ≡ [] → Agrees p (dealt_with p m) u × (told ≡ record told { lines = told.lines ++ arrival h.code s.items })
     done js is some whole same none = (
       subst (Agrees p (dealt_with p m)) (ap (λ us. deals_with p s.items us s) h.top ∙ ap (λ is. deals_with p is (Unwind h.code ∷ h.below) s) is ∙ same)
           (deals p h.formed m h.typing s h.typed h.agrees (ap tops_entry is ∙ some) (ap (λ is. top_is_whole s.cells is) is ∙ whole)),
       ap (λ ls. record told { lines = ls }) (sym (ap (λ ls. told.lines ++ ls) none ∙ append-nil told.lines)),
     )
 
-    go : {is : List Machine_item} {js : List Item} → Entries_alike is js → s.items ≡ js → unwound p h.code h.below s js ≡ Goes u → Agrees p (dealt_with p m) u × (told ≡ record told { lines = told.lines ++ arrival h.code s.items })
-    go (entries_own n is js same) is' e = let w = whole_goes (top_is_whole s.cells (An_object ∷ js)) (deals_with p (An_object ∷ js) (Unwind h.code ∷ h.below) s) u e in done (An_object ∷ js) is' refl w.0 w.1 (ap (arrival h.code) is')
-    go (entries_run m n k w is js _ _ same) is' e = done (An_operation k w ∷ js) is' refl refl (goes_same (deals_with p (An_operation k w ∷ js) (Unwind h.code ∷ h.below) s) u e) (ap (arrival h.code) is')
+    go : {is : List Machine_item} {js : List Item} → Entries_alike is js → s.items ≡ js →
+        unwound p h.code h.below s js ≡ Goes u → Agrees p (dealt_with p m) u × (told ≡ record told { lines = told.lines ++ arrival h.code s.items })
+    go (entries_own n is js same) is' e = let w = whole_goes (top_is_whole s.cells (An_object ∷ js))
+        (deals_with p (An_object ∷ js) (Unwind h.code ∷ h.below) s) u e in done (An_object ∷ js) is' refl w.0 w.1 (ap (arrival h.code) is')
+    go (entries_run m n k w is js _ _ same) is' e =
+        done (An_operation k w ∷ js) is' refl refl (goes_same (deals_with p (An_operation k w ∷ js) (Unwind h.code ∷ h.below) s) u e) (ap (arrival h.code) is')
 
 -- ---- what the code needs to know there
 
@@ -125,7 +129,8 @@ calls_there p wired x = grind (arith, nat_tests, callee_there p wired)
 -- ---- the code arrives
 
 -- what the result comes to owns nothing
-awaited_caught : (p : Image) (t : Typing) (s : State) (code : ℤ) (caller : Frame) (ts : List Task) → WellTyped p t s → s.tasks ≡ Unwind code ∷ Trapped ∷ Run caller ∷ ts → bears (called p (instr_at p caller.method caller.place)) ≡ true
+awaited_caught : (p : Image) (t : Typing) (s : State) (code : ℤ) (caller : Frame) (ts : List Task) →
+    WellTyped p t s → s.tasks ≡ Unwind code ∷ Trapped ∷ Run caller ∷ ts → bears (called p (instr_at p caller.method caller.place)) ≡ true
     → held s.cells (Register (length ts) (result_register (instr_at p caller.method caller.place))) ≡ None
 awaited_caught p t s code caller ts typed top some =
     leave_layer (Good p t s.cells) code (Trapped ∷ Run caller ∷ ts) typed.layers (sym typed.tasks ∙ top) typed.good (λ es ls under good.
@@ -138,7 +143,9 @@ awaited_caught p t s code caller ts typed top some =
 left_alike : (code : ℤ) (q : Place) (x : Machine_dispatch) → dispatch_of q (left code x) ≡ ended_by code (dispatch_of q x)
 left_alike code q x = grind arith
 
-module _ (p : Image) (m : Parts) (s : State) (agrees : Agrees p m s) (es : Machine_items) (marked : m.entries ≡ record es { items = Is_mark ∷ es.items }) (g : Machine_frame) (ms : List Machine_task) (caller : Frame) (ts : List Task) (same_frame : SameFrame g caller) (same_below : SameTasks ms ts) (x : ℕ) (coded : suc x < 16)
+module _ (p : Image)
+    (m : Parts) (s : State) (agrees : Agrees p m s) (es : Machine_items) (marked : m.entries ≡ record es { items = Is_mark ∷ es.items }) (g : Machine_frame)
+    (ms : List Machine_task) (caller : Frame) (ts : List Task) (same_frame : SameFrame g caller) (same_below : SameTasks ms ts) (x : ℕ) (coded : suc x < 16)
     (base : (r : Place) → Represents (value_in (Runs_frame g ∷ ms) m.cells es.items (others m) r) (word_at (Run caller ∷ ts) r) (held s.cells r)) where
   deep : length ms ≡ length ts
   deep = same_length ms ts same_below
@@ -159,14 +166,16 @@ module _ (p : Image) (m : Parts) (s : State) (agrees : Agrees p m s) (es : Machi
 
   -- and the next one has the code
   codes : (code : ℤ) (rs : List ℕ) (ws : List (Option ℤ)) → FitsSigned w32 code → held s.cells (Register (length ts) (suc x)) ≡ None → Cleared rs ws
-      → Agrees p (places.next (places.set_register (suc x) (cast_unsigned w32 code) (record (with_tasks (Runs_frame (record g { registers = rs }) ∷ ms) m) { entries = es }))) (record s { tasks = Run (next (set_word (record caller { words = ws }) (suc x) (Some code))) ∷ ts; items = below_top s.items })
+      → Agrees p (places.next (places.set_register (suc x) (cast_unsigned w32 code) (record (with_tasks (Runs_frame (record g { registers = rs }) ∷ ms) m)
+      { entries = es }))) (record s { tasks = Run (next (set_word (record caller { words = ws }) (suc x) (Some code))) ∷ ts; items = below_top s.items })
   codes code rs ws fits none cleared =
       let g' = record g { registers = rs } in
       let caller' = record caller { words = ws } in
       let q = Register (length ts) (suc x) in
       let n = cast_unsigned w32 code in
       let wide = cleared.wide in
-      agrees_with p (record m { entries = es }) (record s { items = below_top s.items }) (Runs_frame (record g { registers = slice_set rs (suc x) n; place = suc g.place }) ∷ ms) (Run (next (set_word caller' (suc x) (Some code))) ∷ ts)
+      agrees_with p (record m { entries = es }) (record s { items = below_top s.items })
+      (Runs_frame (record g { registers = slice_set rs (suc x) n; place = suc g.place }) ∷ ms) (Run (next (set_word caller' (suc x) (Some code))) ∷ ts)
       (aside_unmarked p m s es marked (aside_of p m s agrees))
       (moved_on g caller (slice_set rs (suc x) n) (set_word caller' (suc x) (Some code)).words same_frame (length-set rs (suc x) n ∙ wide), same_below)
       (writes _ _ _ _ (held s.cells) _ q n (Some code) None cleared.values (to_z-of_z w32 code fits)
@@ -175,14 +184,16 @@ module _ (p : Image) (m : Parts) (s : State) (agrees : Agrees p m s) (es : Machi
 
   -- by what the method gives
   tells : (code : ℤ) (gv : Gives) → FitsSigned w32 code → (bears gv ≡ true → held s.cells (Register (length ts) x) ≡ None) → held s.cells (Register (length ts) (suc x)) ≡ None
-      → Agrees p (places.next (places.set_register (suc x) (cast_unsigned w32 code) (lost gv x (record (with_tasks (Runs_frame g ∷ ms) m) { entries = es })))) (record s { tasks = Run (next (code_told gv x code caller)) ∷ ts; items = below_top s.items })
+      → Agrees p (places.next (places.set_register (suc x) (cast_unsigned w32 code) (lost gv x (record (with_tasks (Runs_frame g ∷ ms) m) { entries = es }))))
+      (record s { tasks = Run (next (code_told gv x code caller)) ∷ ts; items = below_top s.items })
   tells code A_word fits free none = codes code _ _ fits none (clears 0 (Some (pos 0)) refl (free refl))
   tells code (An_own t) fits free none = codes code _ _ fits none (clears null None refl (free refl))
   tells code (A_maybe t) fits free none = codes code _ _ fits none (clears null None refl (free refl))
   tells code _ fits free none = codes code g.registers caller.words fits none (record { values = base; wide = same_frame.wide })
 
 -- the code's register has a word then
-code_alone : (p : Image) (t : Typing) (gv : Gives) (x : ℕ) (code : ℤ) (caller : Frame) (ts : List Task) (s : State) → WellTyped p t s → s.tasks ≡ Run (next (code_told gv x code caller)) ∷ ts → held s.cells (Register (length ts) (suc x)) ≡ None
+code_alone : (p : Image) (t : Typing) (gv : Gives) (x : ℕ) (code : ℤ) (caller : Frame) (ts : List Task) (s : State) →
+    WellTyped p t s → s.tasks ≡ Run (next (code_told gv x code caller)) ∷ ts → held s.cells (Register (length ts) (suc x)) ≡ None
 code_alone p t gv x code caller ts s typed top = word_alone p t s (next (code_told gv x code caller)) ts (suc x) code typed top (has gv)
   where
     written : (ws : List (Option ℤ)) → at None (put_at None ws (suc x) (Some code)) (suc x) ≡ Some code
@@ -223,11 +234,13 @@ module _ (p : Image) (m : Parts) (es : Machine_items) (marked : m.entries ≡ re
       Done : List Machine_task → ℤ → Type 0
       Done us code =
           let v = below_first (below_first us) in
-          Agrees p (told p (instr_at p (method_here v) (place_here v)) (code_here us) (record (with_tasks v m) { entries = es })) u × (record t { lines = t.lines ++ Leave (code_here us) ∷ [] } ≡ record t { lines = t.lines ++ arrival code s.items })
+          Agrees p (told p (instr_at p (method_here v) (place_here v)) (code_here us) (record (with_tasks v m) { entries = es })) u ×
+          (record t { lines = t.lines ++ Leave (code_here us) ∷ [] } ≡ record t { lines = t.lines ++ arrival code s.items })
 
-      go : (us : List Machine_task) (code : ℤ) (below : List Task) → m.stack.tasks ≡ us → s.tasks ≡ Unwind code ∷ below → Tops A_caught_leave us → suc (result_register (instr_at p (method_here (below_first (below_first us))) (place_here (below_first (below_first us))))) < 16 → FitsSigned w32 (code_here us)
-          → Alike us (Unwind code ∷ below) → ((r : Place) → Represents (value_in us m.cells m.entries.items (others m) r) (word_at (Unwind code ∷ below) r) (held s.cells r))
-          → (ks : List Item) → s.items ≡ A_mark ∷ ks → unwound p code below s (A_mark ∷ ks) ≡ Goes u → Done us code
+      go : (us : List Machine_task) (code : ℤ) (below : List Task) → m.stack.tasks ≡ us → s.tasks ≡ Unwind code ∷ below → Tops A_caught_leave us →
+          suc (result_register (instr_at p (method_here (below_first (below_first us))) (place_here (below_first (below_first us))))) < 16 →
+          FitsSigned w32 (code_here us) → Alike us (Unwind code ∷ below) → ((r : Place) → Represents (value_in us m.cells m.entries.items (others m) r) (word_at
+          (Unwind code ∷ below) r) (held s.cells r)) → (ks : List Item) → s.items ≡ A_mark ∷ ks → unwound p code below s (A_mark ∷ ks) ≡ Goes u → Done us code
       go _ code _ held_tasks top (caught_leave_on_top c g ms) coded fits (both_unwind _ _ _ _ same _ (both_trapped _ _ _ (both_run _ caller _ ts frame rest _))) values ks items e =
           let i = instr_at p caller.method caller.place in
           let x = result_register i in
@@ -240,16 +253,22 @@ module _ (p : Image) (m : Parts) (es : Machine_items) (marked : m.entries ≡ re
           let was : m.entries.items ≡ Is_mark ∷ es.items = ap (λ (e : Machine_items). e.items) marked in
           let base : (r : Place) → Represents (value_in (Runs_frame g ∷ ms) m.cells es.items (others m) r) (word_at (Run caller ∷ ts) r) (held s.cells r) = λ r.
           subst (λ n. Represents n (word_at (Run caller ∷ ts) r) (held s.cells r))
-          (unwinds_value (Is_trap ∷ Runs_frame g ∷ ms) m.cells m.entries.items (others m) c r ∙ over_value true (Runs_frame g ∷ ms) m.cells m.entries.items (others m) r ∙ ap (λ is. value_in (Runs_frame g ∷ ms) m.cells is (others m) r) was ∙ value_alike (Runs_frame g ∷ ms) m.cells (Is_mark ∷ es.items) es.items (others m) (λ d. mark_shows_none es.items d) r)
-          (subst (λ w. Represents (value_in (Unwinds c ∷ Is_trap ∷ Runs_frame g ∷ ms) m.cells m.entries.items (others m) r) w (held s.cells r)) (unwinds_word (Trapped ∷ Run caller ∷ ts) code r ∙ over_words true (Run caller ∷ ts) r) (values r)) in
-          let told_all = tells p m s h.agrees es marked g ms caller ts frame rest x small base code gv (subst (FitsSigned w32) same fits) (awaited_caught p h.typing s code caller ts h.typed top) (code_alone p h.typing gv x code caller ts v fresh refl) in (
+          (unwinds_value (Is_trap ∷ Runs_frame g ∷ ms) m.cells m.entries.items (others m) c r
+          ∙ over_value true (Runs_frame g ∷ ms) m.cells m.entries.items (others m) r ∙ ap (λ is. value_in (Runs_frame g ∷ ms) m.cells is (others m) r) was
+          ∙ value_alike (Runs_frame g ∷ ms) m.cells (Is_mark ∷ es.items) es.items (others m) (λ d. mark_shows_none es.items d) r)
+          (subst (λ w. Represents (value_in (Unwinds c ∷ Is_trap ∷ Runs_frame g ∷ ms) m.cells m.entries.items (others m) r) w (held s.cells r))
+          (unwinds_word (Trapped ∷ Run caller ∷ ts) code r ∙ over_words true (Run caller ∷ ts) r) (values r)) in
+          let told_all = tells p m s h.agrees es marked g ms caller ts frame rest x small base code gv (subst (FitsSigned w32) same fits)
+          (awaited_caught p h.typing s code caller ts h.typed top) (code_alone p h.typing gv x code caller ts v fresh refl) in (
             subst (λ o. Agrees p (told p o c (record (with_tasks (Runs_frame g ∷ ms) m) { entries = es })) u) (sym alike)
                 (subst (λ w. Agrees p (told p i w (record (with_tasks (Runs_frame g ∷ ms) m) { entries = es })) u) (sym same)
-                (subst (Agrees p (told p i code (record (with_tasks (Runs_frame g ∷ ms) m) { entries = es }))) (ap (λ js. record s { tasks = Run (next (code_told gv x code caller)) ∷ ts; items = below_top js }) items ∙ is) told_all)),
+                (subst (Agrees p (told p i code (record (with_tasks (Runs_frame g ∷ ms) m) { entries = es })))
+                (ap (λ js. record s { tasks = Run (next (code_told gv x code caller)) ∷ ts; items = below_top js }) items ∙ is) told_all)),
             ap (λ w. record t { lines = t.lines ++ Leave w ∷ [] }) same ∙ ap (λ js. record t { lines = t.lines ++ arrival code js }) (sym items),
           )
 
-  pub arrives_end : IsUnwinding m.stack.tasks → IsTrapped (below_first m.stack.tasks) → IsEnding under → Unwinds_by p m (record (with_tasks (left_by (code_here m.stack.tasks) under) m) { entries = es }) t said
+  pub arrives_end : IsUnwinding m.stack.tasks → IsTrapped (below_first m.stack.tasks) →
+      IsEnding under → Unwinds_by p m (record (with_tasks (left_by (code_here m.stack.tasks) under) m) { entries = es }) t said
   arrives_end unwinding trapped ending h u e typed =
       let k = top_mark h.state.items h.agrees.entries in
       go m.stack.tasks h.code h.below h.top (tops A_last_leave m.stack.tasks (unwinding, trapped, ending))
@@ -259,8 +278,8 @@ module _ (p : Image) (m : Parts) (es : Machine_items) (marked : m.entries ≡ re
       s = h.state
 
       Done : List Machine_task → ℤ → Type 0
-      Done us code =
-          Agrees p (record (with_tasks (left_by (code_here us) (below_first (below_first us))) m) { entries = es }) u × (record t { lines = t.lines ++ Leave (code_here us) ∷ [] } ≡ record t { lines = t.lines ++ arrival code s.items })
+      Done us code = Agrees p (record (with_tasks (left_by (code_here us) (below_first (below_first us))) m) { entries = es }) u ×
+          (record t { lines = t.lines ++ Leave (code_here us) ∷ [] } ≡ record t { lines = t.lines ++ arrival code s.items })
 
       go : (us : List Machine_task) (code : ℤ) (below : List Task) → s.tasks ≡ Unwind code ∷ below → Tops A_last_leave us → Alike us (Unwind code ∷ below)
           → (ks : List Item) → s.items ≡ A_mark ∷ ks → unwound p code below s (A_mark ∷ ks) ≡ Goes u → Done us code
@@ -271,10 +290,12 @@ module _ (p : Image) (m : Parts) (es : Machine_items) (marked : m.entries ≡ re
           let fresh = subst (WellTyped p h.typing) (sym is) typed in
           let none = under_dispatch p h.typing v d' ts fresh refl in
           let bare = none_alike ms ts rest none in
-          let items_too : v ≡ record s { tasks = Dispatched d' ∷ []; items = below_top s.items } = ap (λ us. record s { tasks = Dispatched d' ∷ us; items = ks }) none ∙ ap (λ js. record s { tasks = Dispatched d' ∷ []; items = below_top js }) (sym items) in
+          let items_too : v ≡ record s { tasks = Dispatched d' ∷ []; items = below_top s.items } = ap (λ us. record s
+          { tasks = Dispatched d' ∷ us; items = ks }) none ∙ ap (λ js. record s { tasks = Dispatched d' ∷ []; items = below_top js }) (sym items) in
           let shut = closing p h.typing (record s { tasks = Dispatched d' ∷ []; items = below_top s.items }) d' (subst (WellTyped p h.typing) items_too fresh) refl in
           let as_left : dispatch_of ends.0 (left c y) ≡ d' = left_alike c ends.0 y ∙ ap (ended_by c) ends.1 ∙ ap (λ w. ended_by w d) same in
           let end = ended p m es s (left c y) d' h.agrees marked (ends.0, as_left) shut in (
-            subst (λ us. Agrees p (record (with_tasks (Ends (left c y) ∷ us) m) { entries = es }) u) (sym bare) (subst (Agrees p (record (with_tasks (Ends (left c y) ∷ []) m) { entries = es })) (sym items_too ∙ is) end),
+            subst (λ us. Agrees p (record (with_tasks (Ends (left c y) ∷ us) m) { entries = es }) u)
+                (sym bare) (subst (Agrees p (record (with_tasks (Ends (left c y) ∷ []) m) { entries = es })) (sym items_too ∙ is) end),
             ap (λ w. record t { lines = t.lines ++ Leave w ∷ [] }) same ∙ ap (λ js. record t { lines = t.lines ++ arrival code js }) (sym items),
           )

@@ -118,9 +118,10 @@ goes_on n old mid new told line line' t so first is drops written = go (queue_at
           clients = ap (λ q. queue_gone n q new.clients) queue ∙ ap (queue_gone n es) clients ∙ sym (ap (λ q. queue_gone n q s) e) ∙ so.clients;
           kept = subst (AllKept new.messages) (sym queue) (kept_still f mid.messages new.messages dropped es kept.1 kept.2);
           drops = drops_more so.done f old.messages mid.messages new.messages so.drops dropped;
-          rest = is ∙ ap (λ (m : Parts). record m { clients = after_next_gone n s; messages = new.messages }) so.rest ∙ ap (λ c. record old { clients = c; messages = new.messages }) (sym (ap (λ (m : Parts). m.clients) is));
-          lines = ap (λ q. line'.lines ++ gone_lines new.clients q) queue ∙ ap (λ ls. line'.lines ++ ls) still ∙ ap (λ ls. ls ++ gone_lines s es) said ∙ append_assoc line.lines (gone_line (taken_entry s f)) (gone_lines s es)
-              ∙ sym (ap (λ q. line.lines ++ gone_lines s q) e) ∙ so.lines;
+          rest = is ∙ ap (λ (m : Parts). record m { clients = after_next_gone n s; messages = new.messages }) so.rest
+              ∙ ap (λ c. record old { clients = c; messages = new.messages }) (sym (ap (λ (m : Parts). m.clients) is));
+          lines = ap (λ q. line'.lines ++ gone_lines new.clients q) queue ∙ ap (λ ls. line'.lines ++ ls) still ∙ ap (λ ls. ls ++ gone_lines s es) said
+              ∙ append_assoc line.lines (gone_line (taken_entry s f)) (gone_lines s es) ∙ sym (ap (λ q. line.lines ++ gone_lines s q) e) ∙ so.lines;
           turn = written ∙ ap (λ (x : LineBuffer). record x { lines = line.lines ++ gone_line t }) so.turn ∙ ap (λ ls. record told { lines = ls }) (sym (ap (λ (x : LineBuffer). x.lines) written));
           room =
               let many = ap length said ∙ length-append line.lines (gone_line (taken_entry s f)) in

@@ -23,7 +23,8 @@ pub class-requires : goal.class-requires
 class-requires c =
     let first = rw c.from.ensures at c.in_ok-cell.ensures in
     let class = rw c.from-2.ensures at c.class-class.ensures in
-    declared_first c.args.linked.now c.args.parts.now c.args.class c.in_ok-cell.cell (first_known c.args.linked.now c.args.parts.now c.requires c.args.class c.in_ok-cell.cell (sym first)) c.class-class.result class
+    declared_first c.args.linked.now c.args.parts.now c.args.class c.in_ok-cell.cell
+    (first_known c.args.linked.now c.args.parts.now c.requires c.args.class c.in_ok-cell.cell (sym first)) c.class-class.result class
 
 pub unreachable-requires : goal.unreachable-requires
 unreachable-requires c =

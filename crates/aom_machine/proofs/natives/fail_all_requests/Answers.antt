@@ -19,7 +19,8 @@ loop-number-preserved c = elim c.if-is_engaged.branch [
       let hit = rw (c.new-id.ensures, w.if-is_engaged.true) at c.is_engaged.ensures in
       let made = rw c.new-id.ensures at w.fail_requests.ensures.requests in
       let sets = rw c.new-id.ensures at w.fail_requests.ensures.sessions in
-      rw w.parts-is (hits_next c.args.linked.now c.args.native c.args.parts.now c.loop-number.number c.loop-number.parts c.loop-number.invariant w.fail_requests.new.parts hit made w.fail_requests.ensures.numbers sets w.fail_requests.ensures.rest)
+      rw w.parts-is (hits_next c.args.linked.now c.args.native c.args.parts.now c.loop-number.number
+      c.loop-number.parts c.loop-number.invariant w.fail_requests.new.parts hit made w.fail_requests.ensures.numbers sets w.fail_requests.ensures.rest)
   | else-is_engaged w ↦
       let miss = rw (c.new-id.ensures, w.if-is_engaged.false) at c.is_engaged.ensures in
       rw w.parts-is (misses_next c.args.linked.now c.args.native c.args.parts.now c.loop-number.number c.loop-number.parts c.loop-number.invariant miss)

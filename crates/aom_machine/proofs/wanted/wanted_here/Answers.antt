@@ -28,7 +28,8 @@ returns-in-Some c = λ s st.
     let serves = rw c.this-number.ensures at c.serving.ensures in
     let owed = rw (c.living-id.ensures.value, c.this-number.ensures) at c.is_pending-is_owed.ensures in
     let result = rw (c.living-id.ensures.value, c.this-number.ensures) at c.wanted_of.ensures in
-    served_wants c.args.linked.now c.args.parts.now s st c.requires.runs c.in-Some.native c.is_pending-is_owed.result (owed (requested s.cells) (queued c.args.linked.now s.cells) st.agrees.requests.stands)
+    served_wants c.args.linked.now c.args.parts.now s st c.requires.runs c.in-Some.native c.is_pending-is_owed.result
+    (owed (requested s.cells) (queued c.args.linked.now s.cells) st.agrees.requests.stands)
     (λ e. c.if-number.false (c.this-number.ensures ∙ e)) (serves ∙ c.in-Some.is) c.fetch.result.now c.fetch.ensures ∙ ap (option_map as_wanted) (sym result)
 
 pub returns-in-None : goal.returns-in-None

@@ -16,7 +16,8 @@ callee-whom-requires-clause-small c = (call_lives c.args.linked.now c.args.parts
 
 pub enter-requires-clause-within : goal.enter-requires-clause-within
 enter-requires-clause-within c =
-    rw (c.number.ensures.value, c.as_slice.ensures, sym (arguments_here c.args.linked.now c.args.method c.method-called.result.now c.method-called.ensures)) (calls_well c.args.linked.now c.args.parts.now c.args.on c.args.method c.args.first c.requires.0 c.requires.1).1
+    rw (c.number.ensures.value, c.as_slice.ensures, sym (arguments_here c.args.linked.now c.args.method c.method-called.result.now c.method-called.ensures))
+    (calls_well c.args.linked.now c.args.parts.now c.args.on c.args.method c.args.first c.requires.0 c.requires.1).1
 
 pub returns : goal.returns
 returns c = λ refused to.

@@ -16,7 +16,8 @@ pub returns-clause-gives : goal.returns-clause-gives
 returns-clause-gives c = sym (gives_here c.args.linked.now _ c.method-method.result.now (rw c.method.ensures at c.method-method.ensures))
 
 pub returns-clause-over : goal.returns-clause-over
-returns-clause-over c = rw c.end_method.ensures (is_over c.args.linked.now c.args.parts.now c.requires.0 c.end_cancel.new.parts.active c.method-method.result.now c.requires.1 (rw c.method.ensures at c.method-method.ensures) c.end_cancel.ensures.ended)
+returns-clause-over c = rw c.end_method.ensures (is_over c.args.linked.now c.args.parts.now c.requires.0
+    c.end_cancel.new.parts.active c.method-method.result.now c.requires.1 (rw c.method.ensures at c.method-method.ensures) c.end_cancel.ensures.ended)
 
 pub returns-clause-rest : goal.returns-clause-rest
 returns-clause-rest c = rw c.end_method.ensures (dropped c.args.parts.now _ _ c.end_cancel.ensures.rest refl)

@@ -58,7 +58,8 @@ returns-then-is_running-clause-does c = λ refused.
     let under = below_first (below_first c.args.parts.now.stack.tasks) in
     let x = result_register (instr_at c.args.linked.now (method_here under) (place_here under)) in
     rw (c.receive_trapped.ensures, c.register-number.ensures.value, c.drop_task.ensures, e.gives, e.rest)
-    (return_through c.args.linked.now c.args.parts.now refused c.args.from c.end_method-gives.new.parts.active e.over c.unmark.new.self x (rw e.rest at trapped) (rw e.rest at runs) marked (rw e.rest at coded) refl)
+    (return_through c.args.linked.now c.args.parts.now refused c.args.from c.end_method-gives.new.parts.active e.over c.unmark.new.self x
+    (rw e.rest at trapped) (rw e.rest at runs) marked (rw e.rest at coded) refl)
 
 pub returns-then-is_running-clause-runs : goal.returns-then-is_running-clause-runs
 returns-then-is_running-clause-runs c = λ still.
@@ -80,7 +81,8 @@ returns-else-is_running-clause-does c = λ refused.
     let trapped = trapped_on_top _ _ c.in-Some-Trapped.ensures.some c.in-Some-Trapped.field-0-is in
     let ending = ends_under c.args.linked.now _ e.returns trapped (λ runs. false≢true (sym c.if-is_running.false ∙ c.is_running.ensures.1 (rw c.drop_task.ensures runs))) in
     rw (c.serve.ensures, c.register-number.ensures.value, c.drop_task.ensures, e.rest)
-    (return_to_end c.args.linked.now c.args.parts.now refused c.args.from c.end_method-gives.new.parts.active e.over c.unmark.new.self (rw e.rest at ending) (rw e.rest at trapped) (rw (c.drop_task.ensures, e.rest) at c.unmark.ensures))
+    (return_to_end c.args.linked.now c.args.parts.now refused c.args.from c.end_method-gives.new.parts.active e.over c.unmark.new.self
+    (rw e.rest at ending) (rw e.rest at trapped) (rw (c.drop_task.ensures, e.rest) at c.unmark.ensures))
 
 -- ---- to the going of a cell, to a leave, or to a dispatch
 
@@ -98,7 +100,8 @@ returns-in-Some-Destroy-clause-does c = λ refused.
 pub returns-in-Some-Unwind-clause-does : goal.returns-in-Some-Unwind-clause-does
 returns-in-Some-Unwind-clause-does c = λ refused.
     let e = c.end_method-gives.ensures in
-    rw e.rest (return_to_unwinding c.args.linked.now c.args.parts.now refused c.args.from c.end_method-gives.new.parts.active e.over (rw e.rest at (leaves_on_top _ _ c.in-Some-Unwind.ensures.some c.in-Some-Unwind.field-0-is)))
+    rw e.rest (return_to_unwinding c.args.linked.now c.args.parts.now refused c.args.from c.end_method-gives.new.parts.active e.over
+    (rw e.rest at (leaves_on_top _ _ c.in-Some-Unwind.ensures.some c.in-Some-Unwind.field-0-is)))
 
 pub returns-in-Some-Dispatched-clause-does : goal.returns-in-Some-Dispatched-clause-does
 returns-in-Some-Dispatched-clause-does c = λ refused.

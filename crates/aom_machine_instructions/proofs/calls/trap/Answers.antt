@@ -20,7 +20,8 @@ mark-requires c = mark_room c.args.linked.now c.args.parts.now c.args.on c.args.
 
 pub enter_trap-requires-clause-within : goal.enter_trap-requires-clause-within
 enter_trap-requires-clause-within c =
-    rw (c.number.ensures.value, c.as_slice.ensures, sym (arguments_here c.args.linked.now c.args.method c.method-called.result.now c.method-called.ensures)) (traps_well c.args.linked.now c.args.parts.now c.args.on c.args.method c.args.first c.requires.0 c.requires.1).1
+    rw (c.number.ensures.value, c.as_slice.ensures, sym (arguments_here c.args.linked.now c.args.method c.method-called.result.now c.method-called.ensures))
+    (traps_well c.args.linked.now c.args.parts.now c.args.on c.args.method c.args.first c.requires.0 c.requires.1).1
 
 pub returns : goal.returns
 returns c = λ refused to.

@@ -20,16 +20,19 @@ pub end_answered-requires : goal.end_answered-requires
 end_answered-requires c = can_end c.args.linked.now c.args.parts.now c.requires.stands (ending_of _ c.requires.ending)
 
 pub returns-in-Main : goal.returns-in-Main
-returns-in-Main c = let told = c.args.turn.now in rw c.end_dispatch.ensures (main_moves c.args.linked.now c.args.parts.now told c.requires.announced (c.requires.ending ∙ ap (λ d. Some d) c.in-Main.is))
+returns-in-Main c = let told = c.args.turn.now in
+    rw c.end_dispatch.ensures (main_moves c.args.linked.now c.args.parts.now told c.requires.announced (c.requires.ending ∙ ap (λ d. Some d) c.in-Main.is))
 
 pub returns-in-Root : goal.returns-in-Root
-returns-in-Root c = let told = c.args.turn.now in rw (c.finish.ensures, c.drop_task-in-Root.ensures) (over_moves c.args.linked.now c.args.parts.now told c.requires.announced (c.requires.ending ∙ ap (λ d. Some d) c.in-Root.is))
+returns-in-Root c = let told = c.args.turn.now in rw (c.finish.ensures, c.drop_task-in-Root.ensures)
+    (over_moves c.args.linked.now c.args.parts.now told c.requires.announced (c.requires.ending ∙ ap (λ d. Some d) c.in-Root.is))
 
 pub returns-in-MainLeft : goal.returns-in-MainLeft
 returns-in-MainLeft c =
     let told = c.args.turn.now in
     let fits : FitsSigned w32 c.in-MainLeft.code = search rules in
-    rw (c.end_left.ensures, c.drop_task.ensures) (left_moves c.args.linked.now c.args.parts.now told c.requires.announced _ (c.requires.ending ∙ ap (λ d. Some d) c.in-MainLeft.is ∙ ap (λ w. Some (MainLeft w)) (sym (to_z-of_z w32 c.in-MainLeft.code fits))))
+    rw (c.end_left.ensures, c.drop_task.ensures) (left_moves c.args.linked.now c.args.parts.now told c.requires.announced _
+    (c.requires.ending ∙ ap (λ d. Some d) c.in-MainLeft.is ∙ ap (λ w. Some (MainLeft w)) (sym (to_z-of_z w32 c.in-MainLeft.code fits))))
 
 pub returns-in-Object : goal.returns-in-Object
 returns-in-Object c =
@@ -49,7 +52,8 @@ returns-in-ObjectLeft c =
     let code = c.in-ObjectLeft.code in
     let fits : FitsSigned w32 code = search rules in
     let same : to_z w32 (of_z w32 code) ≡ code = to_z-of_z w32 code fits in
-    rw c.ask.ensures (object_left_moves c.args.linked.now c.args.parts.now told c.requires.announced x (to_z w32 (of_z w32 code)) (subst (FitsSigned w32) (sym same) fits) (c.requires.ending ∙ ap (λ d. Some d) c.in-ObjectLeft.is ∙ ap (λ w. Some (ObjectLeft x w)) (sym same)))
+    rw c.ask.ensures (object_left_moves c.args.linked.now c.args.parts.now told c.requires.announced x (to_z w32 (of_z w32 code))
+    (subst (FitsSigned w32) (sym same) fits) (c.requires.ending ∙ ap (λ d. Some d) c.in-ObjectLeft.is ∙ ap (λ w. Some (ObjectLeft x w)) (sym same)))
 
 pub returns-in-Answered : goal.returns-in-Answered
 returns-in-Answered c =
@@ -58,16 +62,17 @@ returns-in-Answered c =
     let answer = c.in-Answered.answer in
     let fits : FitsSigned w32 answer = search rules in
     let same : to_z w32 (of_z w32 answer) ≡ answer = to_z-of_z w32 answer fits in
-    rw c.end_answered.ensures (answered_moves c.args.linked.now c.args.parts.now told c.requires.announced x (to_z w32 (of_z w32 answer)) (c.requires.ending ∙ ap (λ d. Some d) c.in-Answered.is ∙ ap (λ w. Some (Answered x w)) (sym same)))
+    rw c.end_answered.ensures (answered_moves c.args.linked.now c.args.parts.now told c.requires.announced x
+    (to_z w32 (of_z w32 answer)) (c.requires.ending ∙ ap (λ d. Some d) c.in-Answered.is ∙ ap (λ w. Some (Answered x w)) (sym same)))
 
 pub end_stage-requires-clause-can : goal.end_stage-requires-clause-can
 end_stage-requires-clause-can c =
     stage_can c.args.linked.now c.args.parts.now c.requires.stands c.requires.announced c.in-Server.subject c.in-Server.client c.in-Server.stage (c.requires.ending ∙ ap (λ d. Some d) c.in-Server.is)
 
 pub redispatch-requires-clause-room : goal.redispatch-requires-clause-room
-redispatch-requires-clause-room c =
-    stage_room c.in-Server.client c.in-Server.stage c.args.parts.now c.end_stage.new.parts c.args.turn.now c.end_stage.new.turn c.end_stage.ensures (has_room c.args.linked.now c.args.parts.now c.requires.stands)
+redispatch-requires-clause-room c = stage_room c.in-Server.client c.in-Server.stage c.args.parts.now
+    c.end_stage.new.parts c.args.turn.now c.end_stage.new.turn c.end_stage.ensures (has_room c.args.linked.now c.args.parts.now c.requires.stands)
 
 pub returns-in-Server : goal.returns-in-Server
-returns-in-Server c = rw c.redispatch.ensures
-    (stage_moves c.args.linked.now c.args.parts.now c.args.turn.now c.end_stage.new.turn c.requires.announced c.in-Server.subject c.in-Server.client c.in-Server.stage c.end_stage.new.parts (c.requires.ending ∙ ap (λ d. Some d) c.in-Server.is) c.end_stage.ensures)
+returns-in-Server c = rw c.redispatch.ensures (stage_moves c.args.linked.now c.args.parts.now c.args.turn.now c.end_stage.new.turn c.requires.announced
+    c.in-Server.subject c.in-Server.client c.in-Server.stage c.end_stage.new.parts (c.requires.ending ∙ ap (λ d. Some d) c.in-Server.is) c.end_stage.ensures)

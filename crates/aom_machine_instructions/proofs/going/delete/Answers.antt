@@ -10,10 +10,13 @@ begin-requires-clause-lives c = rw (c.take_register-number.ensures.emptied, c.ta
     (deletes_living c.args.linked.now c.args.parts.now c.args.from c.requires (λ e. c.if-number.false (c.take_register-number.ensures.value ∙ e)))
 
 pub returns-then-number-clause-does : goal.returns-then-number-clause-does
-returns-then-number-clause-does c = λ refused. rw (c.next.ensures, c.take_register-number.ensures.emptied) (delete_null_does c.args.parts.now refused c.args.linked.now c.args.from c.take_register-number.ensures.in_range (sym c.take_register-number.ensures.value ∙ c.if-number.true))
+returns-then-number-clause-does c = λ refused. rw (c.next.ensures, c.take_register-number.ensures.emptied) (delete_null_does c.args.parts.now
+    refused c.args.linked.now c.args.from c.take_register-number.ensures.in_range (sym c.take_register-number.ensures.value ∙ c.if-number.true))
 
 pub returns-clause-does : goal.returns-clause-does
-returns-clause-does c = λ refused. rw (c.begin.ensures, c.take_register-number.ensures.emptied, c.take_register-number.ensures.value) (delete_does c.args.linked.now c.args.parts.now refused c.args.from c.take_register-number.ensures.in_range (λ e. c.if-number.false (c.take_register-number.ensures.value ∙ e)))
+returns-clause-does c = λ refused. rw (c.begin.ensures, c.take_register-number.ensures.emptied, c.take_register-number.ensures.value)
+    (delete_does c.args.linked.now c.args.parts.now refused c.args.from c.take_register-number.ensures.in_range
+    (λ e. c.if-number.false (c.take_register-number.ensures.value ∙ e)))
 
 pub returns-then-number-clause-runs : goal.returns-then-number-clause-runs
 returns-then-number-clause-runs c = λ still. rw (c.next.ensures, c.take_register-number.ensures.emptied) (on_top_runs _ _ (on_top_runs _ _ c.requires.runs))

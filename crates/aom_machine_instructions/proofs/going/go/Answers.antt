@@ -25,4 +25,5 @@ returns c =
     let shut = rw (c.end_server.ensures.rest, c.end_other.ensures) at c.release-class.ensures.closed in
     let drops = rw c.end_other.ensures at c.end_server.ensures.messages in
     rw (c.resume.ensures, c.release-class.ensures.rest, c.release-class.ensures.unlisted, c.end_server.ensures.rest, c.end_server.ensures.clients, c.push.ensures, c.end_server.ensures.told, c.end_other.ensures)
-    (go_does m c.release-class.new.self.cells c.release-class.new.self.active c.release-class.new.self.sessions c.end_server.new.parts.messages c.args.number c.release-class.result c.args.turn.now c.requires.going class gone count off shut drops)
+    (go_does m c.release-class.new.self.cells c.release-class.new.self.active c.release-class.new.self.sessions
+    c.end_server.new.parts.messages c.args.number c.release-class.result c.args.turn.now c.requires.going class gone count off shut drops)

@@ -20,47 +20,58 @@ take_session-requires c =
 pub push-requires : goal.push-requires
 push-requires c =
     let is = rw c.drop_task.ensures at c.going_number-number.ensures in
-    let stack = stack_taken c.args.linked.now c.args.parts.now c.requires.stands c.requires.announced c.requires.closing c.going_number-number.result is c.drop_task.new.self c.take_session.new.parts c.take_session.result c.drop_task.ensures c.take_session.ensures.rest c.take_session.ensures.session in
+    let stack = stack_taken c.args.linked.now c.args.parts.now c.requires.stands c.requires.announced c.requires.closing c.going_number-number.result
+    is c.drop_task.new.self c.take_session.new.parts c.take_session.result c.drop_task.ensures c.take_session.ensures.rest c.take_session.ensures.session in
     let room = room_above c.args.linked.now c.args.parts.now c.requires.stands c.requires.announced c.requires.closing in
     rw stack (omega (arith, room))
 
 pub begin-requires-clause-lives : goal.begin-requires-clause-lives
 begin-requires-clause-lives c =
     let is = rw c.drop_task.ensures at c.going_number-number.ensures in
-    session_found c.args.linked.now c.args.parts.now c.requires.stands c.requires.announced c.requires.closing c.going_number-number.result is c.drop_task.new.self c.take_session.new.parts c.take_session.result c.drop_task.ensures c.take_session.ensures.rest c.take_session.ensures.session c.in-Some.session c.in-Some.is c.in-Some.ensures.small
+    session_found c.args.linked.now c.args.parts.now c.requires.stands
+    c.requires.announced c.requires.closing c.going_number-number.result is c.drop_task.new.self c.take_session.new.parts c.take_session.result
+    c.drop_task.ensures c.take_session.ensures.rest c.take_session.ensures.session c.in-Some.session c.in-Some.is c.in-Some.ensures.small
 
 pub begin-requires-clause-small : goal.begin-requires-clause-small
 begin-requires-clause-small c =
     let is = rw c.drop_task.ensures at c.going_number-number.ensures in
-    let cells = cells_taken c.args.linked.now c.args.parts.now c.requires.stands c.requires.announced c.requires.closing c.going_number-number.result is c.drop_task.new.self c.take_session.new.parts c.take_session.result c.drop_task.ensures c.take_session.ensures.rest c.take_session.ensures.session in
+    let cells = cells_taken c.args.linked.now c.args.parts.now c.requires.stands c.requires.announced c.requires.closing c.going_number-number.result
+    is c.drop_task.new.self c.take_session.new.parts c.take_session.result c.drop_task.ensures c.take_session.ensures.rest c.take_session.ensures.session in
     rw cells (class_fits c.args.linked.now c.args.parts.now c.requires.stands.0 c.requires.stands.1.agrees c.in-Some.session)
 
 pub begin-requires-clause-room : goal.begin-requires-clause-room
 begin-requires-clause-room c =
     let is = rw c.drop_task.ensures at c.going_number-number.ensures in
-    let stack = stack_taken c.args.linked.now c.args.parts.now c.requires.stands c.requires.announced c.requires.closing c.going_number-number.result is c.drop_task.new.self c.take_session.new.parts c.take_session.result c.drop_task.ensures c.take_session.ensures.rest c.take_session.ensures.session in
+    let stack = stack_taken c.args.linked.now c.args.parts.now c.requires.stands c.requires.announced c.requires.closing c.going_number-number.result
+    is c.drop_task.new.self c.take_session.new.parts c.take_session.result c.drop_task.ensures c.take_session.ensures.rest c.take_session.ensures.session in
     let room = room_above c.args.linked.now c.args.parts.now c.requires.stands c.requires.announced c.requires.closing in
     rw (c.push.ensures, stack) (omega (arith, room))
 
 pub class-class-requires-clause-lives : goal.class-class-requires-clause-lives
 class-class-requires-clause-lives c =
     let is = rw c.drop_task.ensures at c.going_number-number.ensures in
-    let cells = cells_taken c.args.linked.now c.args.parts.now c.requires.stands c.requires.announced c.requires.closing c.going_number-number.result is c.drop_task.new.self c.take_session.new.parts c.take_session.result c.drop_task.ensures c.take_session.ensures.rest c.take_session.ensures.session in
+    let cells = cells_taken c.args.linked.now c.args.parts.now c.requires.stands c.requires.announced c.requires.closing c.going_number-number.result
+    is c.drop_task.new.self c.take_session.new.parts c.take_session.result c.drop_task.ensures c.take_session.ensures.rest c.take_session.ensures.session in
     rw (cells, is) (server_there c.args.linked.now c.args.parts.now c.requires.stands c.requires.announced c.requires.closing)
 
 pub destruct-requires : goal.destruct-requires
 destruct-requires c =
     let is = rw c.drop_task.ensures at c.going_number-number.ensures in
-    let stack = stack_taken c.args.linked.now c.args.parts.now c.requires.stands c.requires.announced c.requires.closing c.going_number-number.result is c.drop_task.new.self c.take_session.new.parts c.take_session.result c.drop_task.ensures c.take_session.ensures.rest c.take_session.ensures.session in
+    let stack = stack_taken c.args.linked.now c.args.parts.now c.requires.stands c.requires.announced c.requires.closing c.going_number-number.result
+    is c.drop_task.new.self c.take_session.new.parts c.take_session.result c.drop_task.ensures c.take_session.ensures.rest c.take_session.ensures.session in
     let room = room_above c.args.linked.now c.args.parts.now c.requires.stands c.requires.announced c.requires.closing in
     record { room = rw stack (omega (arith, room)) }
 
 pub returns-in-Some : goal.returns-in-Some
 returns-in-Some c = λ told.
     let is = rw c.drop_task.ensures at c.going_number-number.ensures in
-    moves_some c.args.linked.now c.args.parts.now c.requires.stands c.requires.announced c.requires.closing c.going_number-number.result is c.drop_task.new.self c.take_session.new.parts c.take_session.result c.drop_task.ensures c.take_session.ensures.rest c.take_session.ensures.session told c.in-Some.session c.begin.new.parts c.in-Some.is c.in-Some.ensures.small (rw c.push.ensures at c.begin.ensures)
+    moves_some c.args.linked.now c.args.parts.now c.requires.stands c.requires.announced c.requires.closing
+    c.going_number-number.result is c.drop_task.new.self c.take_session.new.parts c.take_session.result c.drop_task.ensures c.take_session.ensures.rest
+    c.take_session.ensures.session told c.in-Some.session c.begin.new.parts c.in-Some.is c.in-Some.ensures.small (rw c.push.ensures at c.begin.ensures)
 
 pub returns-in-None : goal.returns-in-None
 returns-in-None c = λ told.
     let is = rw c.drop_task.ensures at c.going_number-number.ensures in
-    moves_none c.args.linked.now c.args.parts.now c.requires.stands c.requires.announced c.requires.closing c.going_number-number.result is c.drop_task.new.self c.take_session.new.parts c.take_session.result c.drop_task.ensures c.take_session.ensures.rest c.take_session.ensures.session told c.class-class.result c.destruct.new.parts c.in-None.is c.class-class.ensures c.destruct.ensures
+    moves_none c.args.linked.now c.args.parts.now c.requires.stands c.requires.announced c.requires.closing
+    c.going_number-number.result is c.drop_task.new.self c.take_session.new.parts c.take_session.result c.drop_task.ensures c.take_session.ensures.rest
+    c.take_session.ensures.session told c.class-class.result c.destruct.new.parts c.in-None.is c.class-class.ensures c.destruct.ensures

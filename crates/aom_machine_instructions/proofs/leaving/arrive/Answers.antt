@@ -20,9 +20,11 @@ returns-then-is_running c =
     let marked = rw (c.end_other-2.ensures, c.end_other.ensures) at c.unmark.ensures in
     let runs : Runs under = rw (c.end_other-2.ensures, c.end_other.ensures) at (c.is_running.ensures.0 c.if-is_running.true) in
     let coded = coded_through p (below_first m.stack.tasks) c.requires.below c.requires.trapped runs in
-    let received : c.receive_code.new.parts ≡ told p i (to_z w32 (of_z w32 c.args.code)) (record (with_tasks under m) { entries = c.unmark.new.self }) = rw (c.end_other-2.ensures, c.end_other.ensures) at c.receive_code.ensures in
+    let received : c.receive_code.new.parts ≡ told p i (to_z w32 (of_z w32 c.args.code)) (record (with_tasks under m) { entries = c.unmark.new.self }) =
+    rw (c.end_other-2.ensures, c.end_other.ensures) at c.receive_code.ensures in
     rw (received, c.push.ensures)
-    (subst (λ w. Unwinds p m (told p i w (record (with_tasks under m) { entries = c.unmark.new.self })) c.args.turn.now (record c.args.turn.now { lines = c.args.turn.now.lines ++ Leave w ∷ [] })) (sym code.0)
+    (subst (λ w. Unwinds p m (told p i w (record (with_tasks under m) { entries = c.unmark.new.self })) c.args.turn.now
+    (record c.args.turn.now { lines = c.args.turn.now.lines ++ Leave w ∷ [] })) (sym code.0)
     (arrives_method p m c.unmark.new.self marked c.args.turn.now code.1 c.requires.unwinding c.requires.trapped runs coded))
 
 pub returns-else-is_running : goal.returns-else-is_running
@@ -30,10 +32,13 @@ returns-else-is_running c =
     let m = c.args.parts.now in
     let code = told_code c.args.code (code_here m.stack.tasks) (search rules) c.requires.coded in
     let marked = rw (c.end_other-2.ensures, c.end_other.ensures) at c.unmark.ensures in
-    let ending = ends_under c.args.linked.now (below_first m.stack.tasks) c.requires.below c.requires.trapped (λ runs. false≢true (sym c.if-is_running.false ∙ c.is_running.ensures.1 (rw (c.end_other-2.ensures, c.end_other.ensures) runs))) in
-    let left : c.leave_dispatch.new.parts ≡ record (with_tasks (left_by (to_z w32 (of_z w32 c.args.code)) (below_first (below_first m.stack.tasks))) m) { entries = c.unmark.new.self } = rw (c.end_other-2.ensures, c.end_other.ensures) at c.leave_dispatch.ensures in
+    let ending = ends_under c.args.linked.now (below_first m.stack.tasks) c.requires.below c.requires.trapped
+    (λ runs. false≢true (sym c.if-is_running.false ∙ c.is_running.ensures.1 (rw (c.end_other-2.ensures, c.end_other.ensures) runs))) in
+    let left : c.leave_dispatch.new.parts ≡ record (with_tasks (left_by (to_z w32 (of_z w32 c.args.code)) (below_first (below_first m.stack.tasks))) m)
+    { entries = c.unmark.new.self } = rw (c.end_other-2.ensures, c.end_other.ensures) at c.leave_dispatch.ensures in
     rw (left, c.push.ensures)
-    (subst (λ w. Unwinds c.args.linked.now m (record (with_tasks (left_by w (below_first (below_first m.stack.tasks))) m) { entries = c.unmark.new.self }) c.args.turn.now (record c.args.turn.now { lines = c.args.turn.now.lines ++ Leave w ∷ [] })) (sym code.0)
+    (subst (λ w. Unwinds c.args.linked.now m (record (with_tasks (left_by w (below_first (below_first m.stack.tasks))) m)
+    { entries = c.unmark.new.self }) c.args.turn.now (record c.args.turn.now { lines = c.args.turn.now.lines ++ Leave w ∷ [] })) (sym code.0)
     (arrives_end c.args.linked.now m c.unmark.new.self marked c.args.turn.now code.1 c.requires.unwinding c.requires.trapped ending))
 
 pub unmark-requires : goal.unmark-requires

@@ -15,7 +15,8 @@ pub run_cleanup_entry-requires-clause-room : goal.run_cleanup_entry-requires-cla
 run_cleanup_entry-requires-clause-room c = has_room c.args.linked.now c.args.parts.now c.requires.stands
 
 pub arrive-requires-clause-marked : goal.arrive-requires-clause-marked
-arrive-requires-clause-marked c = unwinds_marked c.args.linked.now c.args.parts.now c.requires.stands c.requires.unwinding (λ above. false≢true (sym c.if-above_mark.false ∙ c.above_mark.ensures.1 above))
+arrive-requires-clause-marked c = unwinds_marked c.args.linked.now c.args.parts.now c.requires.stands c.requires.unwinding
+    (λ above. false≢true (sym c.if-above_mark.false ∙ c.above_mark.ensures.1 above))
 
 pub arrive-requires-clause-trapped : goal.arrive-requires-clause-trapped
 arrive-requires-clause-trapped c = unwinds_trapped c.args.linked.now c.args.parts.now c.requires.stands c.requires.unwinding

@@ -9,5 +9,6 @@ returns-else-is_some c =
     let completes = rw (to_z-of_z w32 c.args.code c.ranges.code) at c.complete.ensures in
     inr (record {
       completes = completes;
-      sent = is_no_token c.args.parts.now.tokens c.numbered-id.result completes.place c.class.result c.is_some.result c.class.ensures c.is_some.ensures c.if-is_some.false (place_told completes.place c.numbered-id.result c.args.number completes.number c.numbered-id.ensures);
+      sent = is_no_token c.args.parts.now.tokens c.numbered-id.result completes.place c.class.result c.is_some.result c.class.ensures
+          c.is_some.ensures c.if-is_some.false (place_told completes.place c.numbered-id.result c.args.number completes.number c.numbered-id.ensures);
     })

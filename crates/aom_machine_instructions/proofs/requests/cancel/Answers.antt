@@ -24,4 +24,5 @@ returns c = λ refused.
     let makes = rw c.cell-id.ensures at c.cancelling.ensures in
     let role = sym c.role.ensures ∙ c.in-Some.is in
     let counts = rw c.view-view.ensures at c.counted.ensures in
-    rw (c.push.ensures, c.counting_as.ensures, c.view-view.ensures, c.begin.ensures, c.number-2.ensures.value, c.cell-id.ensures) (cancel_does c.args.linked.now c.args.parts.now refused c.cancelling.new.self c.in-Some.method c.class-class.result c.counted.result class counts role waited makes)
+    rw (c.push.ensures, c.counting_as.ensures, c.view-view.ensures, c.begin.ensures, c.number-2.ensures.value, c.cell-id.ensures) (cancel_does
+    c.args.linked.now c.args.parts.now refused c.cancelling.new.self c.in-Some.method c.class-class.result c.counted.result class counts role waited makes)

@@ -17,7 +17,8 @@ pub returns : goal.returns
 returns c = λ refused other.
     let fits : FitsSigned w32 c.word-word.result = search rules in
     let made = rw (c.cell-id.ensures, to_z-of_z w32 c.word-word.result fits, c.word-word.ensures) at c.make_request.ensures.made in
-    rw (c.next.ensures, c.make_request.ensures.rest) (issue_does c.args.linked.now c.args.parts.now refused c.make_request.new.parts.active c.provider-provider.result c.args.from other c.provider-provider.ensures made)
+    rw (c.next.ensures, c.make_request.ensures.rest) (issue_does c.args.linked.now
+    c.args.parts.now refused c.make_request.new.parts.active c.provider-provider.result c.args.from other c.provider-provider.ensures made)
 
 pub next-requires-clause-runs : goal.next-requires-clause-runs
 next-requires-clause-runs c = rw c.make_request.ensures.rest c.requires.1.runs

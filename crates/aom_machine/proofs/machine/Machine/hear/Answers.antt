@@ -7,11 +7,12 @@ use Rattle.aom_machine.proofs.Agreeing.{agrees_in_all}
 use Rattle.aom_machine.proofs.machine.Machine.hear.Goals as goal
 
 pub invariant_of-self : goal.invariant_of-self
-invariant_of-self c = rw (to_z-of_z w32 c.args.answer c.ranges.answer) (c.self.invariant.0, heard_stands c.self.inside.accepted.now c.self.inside.parts c.args.answer c.self.invariant.0 c.self.invariant.1)
+invariant_of-self c = rw (to_z-of_z w32 c.args.answer c.ranges.answer)
+    (c.self.invariant.0, heard_stands c.self.inside.accepted.now c.self.inside.parts c.args.answer c.self.invariant.0 c.self.invariant.1)
 
 pub returns-clause-stands : goal.returns-clause-stands
-returns-clause-stands c =
-    rw (to_z-of_z w32 c.args.answer c.ranges.answer) (λ s st. heard_stands c.self.inside.accepted.now c.self.inside.parts c.args.answer s (subst (λ (x : Machine). StandsFor x s) (sym c.self.view_is) st))
+returns-clause-stands c = rw (to_z-of_z w32 c.args.answer c.ranges.answer)
+    (λ s st. heard_stands c.self.inside.accepted.now c.self.inside.parts c.args.answer s (subst (λ (x : Machine). StandsFor x s) (sym c.self.view_is) st))
 
 pub returns-clause-agrees : goal.returns-clause-agrees
 returns-clause-agrees c = agrees_in_all _

@@ -19,4 +19,5 @@ returns-clause-between c =
 pub returns-clause-at_end : goal.returns-clause-at_end
 returns-clause-at_end c =
     let m : Machine = record { image = c.self.inside.accepted.now; parts = c.self.inside.parts } in
-    subst (λ (n : Machine). (s : State) → StandsFor n s → (d : Dispatch) → s.tasks ≡ Dispatched d ∷ [] → c.signals.result ≡ ready_count s.cells) c.self.view_is (λ s st. ready_at_end m c.signals.result c.signals.ensures s st)
+    subst (λ (n : Machine). (s : State) → StandsFor n s → (d : Dispatch) → s.tasks ≡ Dispatched d ∷ [] → c.signals.result ≡ ready_count s.cells) c.self.view_is
+    (λ s st. ready_at_end m c.signals.result c.signals.ensures s st)
