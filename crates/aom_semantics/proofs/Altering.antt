@@ -6,7 +6,8 @@ use Rattle.std.specs.Prelude.{pos}
 use Rattle.aom_roles.specs.Tables.{put_at}
 use Rattle.aom_image.specs.Image.{Image}
 use Rattle.aom_semantics.specs.Natives.{all_bereaved, bereaved}
-use Rattle.aom_semantics.specs.Places.{Cell, Object, Place, Request, Service, Tidy, count_cells, held, in_session, moved, named, requested, same_place, service_of, set_request, set_service, set_session, set_word_field}
+use Rattle.aom_semantics.specs.Places.{Cell, Object, Place, Request, Service, Tidy, count_cells, held, in_session, moved, named}
+use Rattle.aom_semantics.specs.Places.{requested, same_place, service_of, set_request, set_service, set_session, set_word_field}
 use Rattle.aom_semantics.specs.Servers.{all_unslotted, unslotted}
 
 -- each cell is changed by itself, and stays that of its object

@@ -85,7 +85,16 @@ move_needs_fail = record { going = refl; unwinding = refl; arrival = refl; traps
 
 pub server_needs_fail : ServerNeedsFail
 unfolding is_role role_number role_of own_role keeper_in plays kind_of kind_in sessions_in sessions_of class_at class_in fields_in gives_in instr_in method_at role_in descends_in parent_in
-server_needs_fail = record { taking = refl; replying = refl; returning = refl; ending = refl; closing = refl; signals = (refl, (refl, (refl, (refl, (refl, tt))))); counts = (refl, refl, (refl, refl, (refl, refl, tt))); picking = refl }
+server_needs_fail = record {
+  taking = refl;
+  replying = refl;
+  returning = refl;
+  ending = refl;
+  closing = refl;
+  signals = (refl, (refl, (refl, (refl, (refl, tt)))));
+  counts = (refl, refl, (refl, refl, (refl, refl, tt)));
+  picking = refl;
+}
 
 pub turn_needs_fail : TurnNeedsFail
 turn_needs_fail =

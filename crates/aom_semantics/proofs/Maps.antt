@@ -6,7 +6,8 @@ use Rattle.std.proofs.lemmas.Bool.{and_from, eq-eqb, eqb-true, ne_eqb, true≢fa
 use Rattle.std.specs.Prelude.{◌⊎◌}
 use Rattle.aom_roles.specs.Tables.{at, put_at}
 use Rattle.aom_semantics.proofs.Altering.{Reads, moving, named_kept, names, read_kept, requests}
-use Rattle.aom_semantics.specs.Places.{Cell, Elsewhere, Entry, Field, Going, Object, Other, Place, Queued, Register, Root, In_service, Session, Tidy, changed, held, moved, named, place_inner, place_kind, place_outer, place_part, requested, same_place, without}
+use Rattle.aom_semantics.specs.Places.{Cell, Elsewhere, Entry, Field, Going, Object, Other, Place, Queued, Register, Root, In_service, Session, Tidy}
+use Rattle.aom_semantics.specs.Places.{changed, held, moved, named, place_inner, place_kind, place_outer, place_part, requested, same_place, without}
 use lib.Dec.{eqb-suc-suc, eqb-suc-zero, eqb-zero-suc}
 
 -- equal numbers, equal places
@@ -150,8 +151,8 @@ held_named cs p o = found (in_place p) o (λ cs. named cs o.name ≡ None → �
     (λ c cs other e rest n. rest (front_free _ _ _ n).1) cs
 
 pub one_place : (cs : List Cell) (p q : Place) (o x : Object) → Tidy cs → held cs p ≡ Some o → held cs q ≡ Some x → o.name ≡ x.name → p ≡ q
-one_place cs p q o x t e f n = found (in_place p) o (λ cs. Tidy cs → held cs q ≡ Some x → p ≡ q)
-    (λ c cs at is t f. ⊎_elim (λ h. sym (same_place-true c.owner p at) ∙ h.0) (λ h. absurd (held_named cs q x h (ap (λ k. named cs k) (sym n ∙ sym (ap (λ y. y.name) is)) ∙ t.1))) (held_front c cs q x f))
+one_place cs p q o x t e f n = found (in_place p) o (λ cs. Tidy cs → held cs q ≡ Some x → p ≡ q) (λ c cs at is t f. ⊎_elim (λ h. sym (same_place-true
+    c.owner p at) ∙ h.0) (λ h. absurd (held_named cs q x h (ap (λ k. named cs k) (sym n ∙ sym (ap (λ y. y.name) is)) ∙ t.1))) (held_front c cs q x f))
     (λ c cs other e rest t f. ⊎_elim (λ h. absurd (held_named cs p o e (ap (λ k. named cs k) (n ∙ sym (ap (λ y. y.name) h.1)) ∙ t.1))) (λ h. rest t.2 h) (held_front c cs q x f)) cs e t f
 
 -- what is held is there under its name
@@ -177,8 +178,8 @@ held_without [] g r = sym (cond_same (same_place g r) None)
 held_without (c ∷ cs) g r = grind (arith, nat_tests, held_without cs g r, same_place_along c.owner g r, same_place-true g r)
 
 -- what is read at the first cell of a name is the same but for the name of what goes
-pub read_without :
-    {A : Type 0} {read : List Cell → ℕ → A} (r : Reads read) (cs : List Cell) (g : Place) (o : Object) (n : ℕ) → Tidy cs → held cs g ≡ Some o → (o.name == n) ≡ false → read (without g cs) n ≡ read cs n
+pub read_without : {A : Type 0} {read : List Cell → ℕ → A} (r : Reads read) (cs : List Cell) (g : Place) (o : Object) (n : ℕ) →
+    Tidy cs → held cs g ≡ Some o → (o.name == n) ≡ false → read (without g cs) n ≡ read cs n
 read_without r [] g o n t e d = refl
 read_without {read = read} r (c ∷ cs) g o n t e d = grind (arith, nat_tests, read_without r cs g o n t.2, without_none cs g, same_place-true c.owner g)
 

@@ -67,8 +67,16 @@ owner_needs_fail = record {
   no_root = λ h. let has = h.each.0.0 in cc;
   of_session = record { each = ((((server, refl, refl), by_server server (Elsewhere Root) refl refl refl at_root)), ((refl, at_root), tt)); alone = (refl, refl, (refl, refl, tt)); settled = tt };
   in_queue = record { each = ((((server, refl, refl), by_server server (Elsewhere Root) refl refl refl at_root)), ((refl, at_root), tt)); alone = (refl, refl, (refl, refl, tt)); settled = tt };
-  served = record { each = ((refl, at_service), (((server, refl, refl), by_server server (Elsewhere Root) refl refl refl at_root), ((refl, at_root), tt))); alone = (refl, refl, (refl, refl, (refl, refl, tt))); settled = tt };
-  left = record { each = ((refl, at_service), (((server, refl, refl), by_server server (Elsewhere Root) refl refl refl at_root), ((refl, at_root), tt))); alone = (refl, refl, (refl, refl, (refl, refl, tt))); settled = tt };
+  served = record {
+    each = ((refl, at_service), (((server, refl, refl), by_server server (Elsewhere Root) refl refl refl at_root), ((refl, at_root), tt)));
+    alone = (refl, refl, (refl, refl, (refl, refl, tt)));
+    settled = tt;
+  };
+  left = record {
+    each = ((refl, at_service), (((server, refl, refl), by_server server (Elsewhere Root) refl refl refl at_root), ((refl, at_root), tt)));
+    alone = (refl, refl, (refl, refl, (refl, refl, tt)));
+    settled = tt;
+  };
   unlisted = λ h. let has : false ≡ true = h.each.0.0.2 in cc;
   not_queued = λ h. let has : false ≡ true = h.each.0.0.2 in cc;
   of_none = λ h. let there = h.each.0.0.1 in cc;

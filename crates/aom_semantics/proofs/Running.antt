@@ -12,8 +12,14 @@ use Rattle.aom_semantics.specs.Cases.Families.{LinesRun, OverridersRun}
 use Rattle.aom_semantics.specs.Cases.Further.{ServersRun}
 use Rattle.aom_semantics.specs.Cases.Tokens.{TokensRun}
 
+-- what a run computes with
+shown : Unit {0}
+unfolding arguments_in class_at class_in fields_in gives_in instr_in is_role kind_in kind_of main_of method_at plays role_in role_number role_of own_role
+    keeper_in sessions_in sessions_of words_in descends_in parent_in body_of found_in overrider_of replaces over_in leads_in
+shown = tt
+
 pub servers_run : ServersRun
-unfolding arguments_in class_at class_in fields_in gives_in instr_in is_role kind_in kind_of main_of method_at plays role_in role_number role_of own_role keeper_in sessions_in sessions_of words_in descends_in parent_in body_of found_in overrider_of replaces over_in leads_in
+unfolding shown
 servers_run =
     record {
       leaves = refl;
@@ -36,17 +42,17 @@ servers_run =
     }
 
 pub overriders_run : OverridersRun
-unfolding arguments_in class_at class_in fields_in gives_in instr_in is_role kind_in kind_of main_of method_at plays role_in role_number role_of own_role keeper_in sessions_in sessions_of words_in descends_in parent_in body_of found_in overrider_of replaces over_in leads_in
+unfolding shown
 overriders_run = record { child = refl; near = refl; slots = refl; self = refl }
 
 pub lines_run : LinesRun
-unfolding arguments_in class_at class_in fields_in gives_in instr_in is_role kind_in kind_of main_of method_at plays role_in role_number role_of own_role keeper_in sessions_in sessions_of words_in descends_in parent_in body_of found_in overrider_of replaces over_in leads_in
+unfolding shown
 lines_run = record { past_a_gap = refl; emptied = refl; left = refl; parent = refl; above = refl; below = refl }
 
 pub constructs_run : ConstructsRun
-unfolding arguments_in class_at class_in fields_in gives_in instr_in is_role kind_in kind_of main_of method_at plays role_in role_number role_of own_role keeper_in sessions_in sessions_of words_in descends_in parent_in body_of found_in overrider_of replaces over_in leads_in
+unfolding shown
 constructs_run = record { parent = refl; own = refl; filled = refl; again = refl }
 
 pub tokens_run : TokensRun
-unfolding arguments_in class_at class_in fields_in gives_in instr_in is_role kind_in kind_of main_of method_at plays role_in role_number role_of own_role keeper_in sessions_in sessions_of words_in descends_in parent_in body_of found_in overrider_of replaces over_in leads_in
+unfolding shown
 tokens_run = record { living = refl; full = refl; own = refl; elsewhere = refl; ancestor = refl; class = refl; class_still = refl }
