@@ -174,17 +174,8 @@ module _ (p : Image) (t : Typing) (c : Choice) (s : State) (fr : Frame) (sh : Sh
         tt (no_seat_there seats at_hand.good.stack.4.1.2) at_hand.good.stack.4.1.2
 
     suits_then : AllSuit p cs2 (Dispatching (Of_server x client Accepted) seats ∷ ls)
-    suits_then o lives = grind (
-      arith,
-      nat_tests,
-      requested_then o.name,
-      named_then o.name,
-      lives,
-      all_returned p,
-      rests_there p o,
-      suits_rests,
-      known_resting p o fr sh.states,
-    )
+    suits_then o lives =
+        grind (arith, nat_tests, requested_then o.name, named_then o.name, lives, all_returned p, rests_there p o, suits_rests, known_resting p o fr sh.states)
 
     good_then : Good p t cs2 (Dispatching (Of_server x client Accepted) seats ∷ ls)
     good_then = record {

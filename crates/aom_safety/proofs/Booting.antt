@@ -45,12 +45,7 @@ module _ (p : Image) (m : ℕ) (after : Shape) (w : SaysNoMore after (entry_shap
   fits x = grind (arith, nat_tests, unset, root_null p, plain_claim)
 
   pub good : (t : Typing) → shape_at t m 0 ≡ Some after → gives_of p m ≡ Nothing → Good p t [] layers
-  good t stands gives = record {
-    stack = grind (arith, nat_tests, unset, houses_same p, counts_same p AtRoot);
-    fits = fits;
-    suits = λ o lives. cc;
-    tidy = tt;
-  }
+  good t stands gives = record { stack = grind (arith, nat_tests, unset, houses_same p, counts_same p AtRoot); fits = fits; suits = λ o lives. cc; tidy = tt }
 
 -- main is typed, and stands where the typing begins
 booted : (p : Image) (t : Typing) → IsWired p → IsTyped p t → (m : ℕ) → main_of p ≡ Some m → (s : State) → s.cells ≡ [] → s.tasks ≡ main_tasks (Some m) → s.items ≡ A_mark ∷ [] → WellTyped p t s

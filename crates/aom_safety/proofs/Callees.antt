@@ -64,11 +64,6 @@ moved_entries [] first sh = refl
 moved_entries (Takes_word ∷ xs) first sh = moved_entries xs (suc first) sh
 moved_entries (Takes_own t ∷ xs) first sh = moved_entries xs (suc first) (set_register sh first Null)
 
-pub moved_states : (xs : List Argument) (first : ℕ) (sh : Shape) → (arguments_moved xs first sh).states ≡ sh.states
-moved_states [] first sh = refl
-moved_states (Takes_word ∷ xs) first sh = moved_states xs (suc first) sh
-moved_states (Takes_own t ∷ xs) first sh = moved_states xs (suc first) (set_register sh first Null)
-
 pub moved_register : (xs : List Argument) (first : ℕ) (sh : Shape) (r : ℕ) → (r < first) ⊎ ((first + length xs) ≤ r) → register (arguments_moved xs first sh) r ≡ register sh r
 moved_register [] first sh r h = refl
 moved_register (Takes_word ∷ xs) first sh r (inl lt) = moved_register xs (suc first) sh r (inl (omega arith))

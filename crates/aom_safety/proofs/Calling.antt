@@ -572,12 +572,7 @@ module _ (p : Image) (t : Typing) (wired : IsWired p) (typed : IsTyped p t) (c :
           there = there;
           lives = lives;
           below = omega (arith, high, within, length_each sh.entries (items_of ls), ap length same_items);
-          ready = grind (
-            arith,
-            nat_tests,
-            anew,
-            eq-eqb,
-          );
+          ready = grind (arith, nat_tests, anew, eq-eqb);
         };
         apart = apart_so;
         holder = target_holder y piled.0 z class piled.2 for;

@@ -66,12 +66,6 @@ rests_only x h e = grind arith
 active_state : (r : Option Request) → in_phase is_active r ≡ true → state_of r ≡ active
 active_state x e = grind arith
 
-active_still : (q : Phase) → is_active q ≡ true → is_cancelling q ≡ false
-active_still x e = grind arith
-
-active_made : (q : Phase) → is_active q ≡ true → is_idle q ≡ false
-active_made x e = grind arith
-
 -- what is active is not being cancelled
 uncancelled : (k : Option ClassKind) (n : Known) (r : Option Request) → is_active_kind k ≡ true → in_phase is_active r ≡ true → Suits k n r → n.cancelled ≡ false
 uncancelled x n y e a s = grind arith

@@ -149,13 +149,8 @@ module _ (p : Image) (t : Typing) (c : Choice) (fr : Frame) (ts : List Task) (s 
 pub begins :
     (p : Image) (t : Typing) → IsWired p → IsTyped p t → (c : Choice) (s u : State) → WellTyped p t s → named s.cells c.name ≡ None →
     (fr : Frame) (ts : List Task) (i : Instr) (code : ℤ) → s.tasks ≡ Run fr ∷ ts → instr_at p fr.method fr.place ≡ Some i → LeavesWith c fr i code → step p c s ≡ Goes u → Begins p code fr (length ts) i s u
-begins p t wired typed c s u w unused fr ts i code at there h e = grind (
-  arith,
-  nat_tests,
-  acts_at p c s u fr ts i at there e,
-  begins_by p t c fr ts s u at w,
-  step_keeps p t wired typed c s w unused,
-)
+begins p t wired typed c s u w unused fr ts i code at there h e =
+    grind (arith, nat_tests, acts_at p c s u fr ts i at there e, begins_by p t c fr ts s u at w, step_keeps p t wired typed c s w unused)
 
 -- ---- the entry that is dealt with
 

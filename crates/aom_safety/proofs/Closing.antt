@@ -94,12 +94,8 @@ module _ (p : Image) (t : Typing) (s : State) (wired : IsWired p) (typed : IsTyp
   ends (Main_left code) seats good = idle p t s (main_left code s) (Main_left code) seats refl refl refl items good
   ends Of_main seats good = closes p t s wired typed Of_main seats refl refl items good s.rest.stopped (held s.cells (Elsewhere Root)) refl
   ends (Of_object x) seats good = of_object (Of_object x) seats refl refl good
-  ends (Object_left x code) seats good = grind (
-    arith,
-    nat_tests,
-    with_answer (Object_left x code) seats code,
-    error_enters p t wired typed s x code seats items good,
-  )
+  ends (Object_left x code) seats good =
+      grind (arith, nat_tests, with_answer (Object_left x code) seats code, error_enters p t wired typed s x code seats items good)
   ends (Asks x) seats good = of_object (Asks x) seats refl refl good
   ends (Answered x answer) seats good = with_answer (Answered x answer) seats answer refl refl good
 

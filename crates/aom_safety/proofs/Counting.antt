@@ -84,30 +84,13 @@ anew x n = grind arith
 
 runs_count : (p : Image) (outside : Environment) {lines : List Line} {s : State} (reached : Reaches p outside (boot_state p) lines s) → s.rest.steps ≡ in_range (taken reached)
 runs_count p outside begins = refl
-runs_count p outside (moves {s = s} {u = u} c reached busy opened goes) = grind (
-  arith,
-  nat_tests,
-  runs_count p outside reached,
-  moves_count p c s u,
-  one_more,
-  at_most_one s.tasks,
-  anew,
-)
-runs_count p outside (turns {s = s} {u = u} heard reached between well goes) = grind (
-  arith,
-  nat_tests,
-  turn_count p outside heard s u goes,
-  runs_count p outside reached,
-  anew,
-)
+runs_count p outside (moves {s = s} {u = u} c reached busy opened goes) =
+    grind (arith, nat_tests, runs_count p outside reached, moves_count p c s u, one_more, at_most_one s.tasks, anew)
+runs_count p outside (turns {s = s} {u = u} heard reached between well goes) =
+    grind (arith, nat_tests, turn_count p outside heard s u goes, runs_count p outside reached, anew)
 
 pub steps_are_counted : StepsAreCounted
-steps_are_counted = record {
-  boot = λ p. refl;
-  moves = moves_count;
-  turns = turn_count;
-  runs = λ p outside lines s reached. runs_count p outside reached;
-}
+steps_are_counted = record { boot = λ p. refl; moves = moves_count; turns = turn_count; runs = λ p outside lines s reached. runs_count p outside reached }
 
 pub dispatches_are_counted : DispatchesAreCounted
 dispatches_are_counted = record { moves = λ p c s u e. (move_counts p c s u e).1; turns = turn_dispatches }

@@ -49,30 +49,3 @@ counted_in o = counted_by is_object o
 
 pub count_without : (cs : List Cell) (g : Place) → Tidy cs → count_cells cs ≡ counted_in (held cs g) + count_cells (without g cs)
 count_without = counted_without (record { passes = is_object; some = λ c cs. refl })
-
--- ---- against all that is in the list
-
-pub count_most : (cs : List Cell) → count_cells cs ≤ length cs
-count_most [] = omega arith
-count_most (c ∷ cs) = grind (arith, nat_tests, count_most cs)
-
--- each is an object
-abbrev pub AllObjects : List Cell → Type 0
-AllObjects [] = Unit {0}
-AllObjects (c ∷ cs) = (is_object c.object.thing ≡ true) × AllObjects cs
-
-pub count_objects : (cs : List Cell) → AllObjects cs → count_cells cs ≡ length cs
-count_objects [] all = refl
-count_objects (c ∷ cs) all = ap (λ b. cond b (suc (count_cells cs)) (count_cells cs)) all.0 ∙ ap suc (count_objects cs all.1)
-
--- they are where each name is an object's
-pub all_objects : (cs : List Cell) → Tidy cs → ((n : ℕ) (o : Object) → named cs n ≡ Some o → is_object o.thing ≡ true) → AllObjects cs
-all_objects [] tidy objects = tt
-all_objects (c ∷ cs) tidy objects = (objects c.object.name c.object (ap (λ b. cond b (Some c.object) (named cs c.object.name)) (eq-eqb c.object.name c.object.name refl)), all_objects cs tidy.2 others)
-  where
-    others : (n : ℕ) (o : Object) → named cs n ≡ Some o → is_object o.thing ≡ true
-    others n o e = go (c.object.name == n) refl
-      where
-        go : (b : Bool) → (c.object.name == n) ≡ b → is_object o.thing ≡ true
-        go true same = absurd (none-some o (sym tidy.1 ∙ ap (λ k. named cs k) (eqb-true c.object.name n same) ∙ e))
-        go false other = objects n o (ap (λ b. cond b (Some c.object) (named cs n)) other ∙ e)

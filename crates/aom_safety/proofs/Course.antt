@@ -102,11 +102,5 @@ module _ (p : Image) (t : Typing) (outside : Environment) (wired : IsWired p) (t
     course_of l _ _ (turns {lines = lines} {s = s} {u = u} heard before between hears e) = turned heard s u between hears e (course_of l lines s before)
 
 pub leaves_arrive : LeavesArrive
-leaves_arrive p t outside wired typed before s reached code below at = grind (
-  arith,
-  nat_tests,
-  well_on p t outside wired typed,
-  boot_keeps p t wired typed,
-  splits p t s,
-  course_of p t outside wired typed s,
-)
+leaves_arrive p t outside wired typed before s reached code below at =
+    grind (arith, nat_tests, well_on p t outside wired typed, boot_keeps p t wired typed, splits p t s, course_of p t outside wired typed s)

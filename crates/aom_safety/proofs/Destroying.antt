@@ -267,16 +267,8 @@ module _ (p : Image) (t : Typing) (linked : IsWired p) (typed : IsTyped p t) (cs
     clothed :
         (m height : ℕ) (after : Shape) → Destroys p o.thing m → ((f : ℕ) → field_thing p (holder_of p m) f ≡ None → held cs (Field o.name f) ≡ None) → SaysNoMore after (entry_shape p m) → (r : Place) →
         Fits p (seen cs) (held cs r) (claim p (declared p cs) (Method (destructor_frame p m o (length (tasks_of ls)) height) after ∷ Dying o ∷ ls) r)
-    clothed m height after is others w (Register f i) = grind (
-      arith,
-      nat_tests,
-      unset_only,
-      entry_registers p m is.arguments i,
-      fits_unowning p,
-      null_of p,
-      claim_register_above p cs ls f i,
-      eqb-true,
-    )
+    clothed m height after is others w (Register f i) =
+        grind (arith, nat_tests, unset_only, entry_registers p m is.arguments i, fits_unowning p, null_of p, claim_register_above p cs ls f i, eqb-true)
     clothed m height after is others w (Entry k) = grind (arith, nat_tests)
     clothed m height after is others w (Field n f) = grind (arith, nat_tests, perhaps_only, destruct_fields p m is.role f, fields_fit n f, eqb-true o.name n)
     clothed m height after is others w (Elsewhere Root) = fits (Elsewhere Root)

@@ -196,12 +196,7 @@ module _ (p : Image) (t : Typing) (c : Choice) (s : State) (fr : Frame) (sh : Sh
 
     -- with no fields of the parent's class the cell goes
     goes : ((f : ℕ) → held cs (Field o.name f) ≡ None) → Good p t cs (Dying o ∷ ls)
-    goes null = record {
-      stack = (at_hand.good.stack.4.0, tt, at_hand.good.stack.4.2);
-      fits = fits;
-      suits = suits_dying;
-      tidy = at_hand.good.tidy;
-    }
+    goes null = record { stack = (at_hand.good.stack.4.0, tt, at_hand.good.stack.4.2); fits = fits; suits = suits_dying; tidy = at_hand.good.tidy }
       where
         fits : (r : Place) → Fits p h (held cs r) (claim p (declared p cs) (Dying o ∷ ls) r)
         fits x = grind (arith, nat_tests, eqb-true o.name, beside)

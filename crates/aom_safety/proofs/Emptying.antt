@@ -74,10 +74,7 @@ none_from p t cs n c (Dispatching d seats ∷ ls) back s none = (at_seats seats 
   where
     at_seats : (xs : List Seat) → AllSit cs xs → (SomeSits n xs → ⊥) → NoSeatAt (Elsewhere (Session n c)) xs
     at_seats [] h none = tt
-    at_seats (x ∷ xs) h none = (
-      grind (arith, nat_tests, same_place-true (Elsewhere (Session n c)) x.place, cases_Bool),
-      at_seats xs h.1 (λ h. none (inr h)),
-    )
+    at_seats (x ∷ xs) h none = (grind (arith, nat_tests, same_place-true (Elsewhere (Session n c)) x.place, cases_Bool), at_seats xs h.1 (λ h. none (inr h)))
 
 among_less : (k c : ℕ) (ss : List ℕ) → is_among k (filter (is_other c) ss) ≡ true → is_among k ss ≡ true
 among_less k c ss e = grind (arith, nat_tests, eqb-true c k, among_parted c ss, among_others k c ss)

@@ -80,10 +80,7 @@ none_owns_from (c ∷ cs) d spared h = and_from _ _ (go spared c.owner h) (none_
     go :
         (spared : Option ℕ) (r : Place) → ((i : ℕ) → spares spared i ≡ false → cond (same_place r (Register d i)) (Some c.object) (held cs (Register d i)) ≡ None) →
         not (is_register_but d spared r) ≡ true
-    go None (Register f j) h = elim (cases_Bool (f == d)) as (λ x. not (f == d) ≡ true) [
-      | inl e ↦ absurd (here f j e (h j refl))
-      | inr e ↦ ap not e
-    ]
+    go None (Register f j) h = elim (cases_Bool (f == d)) as (λ x. not (f == d) ≡ true) [ inl e ↦ absurd (here f j e (h j refl)) | inr e ↦ ap not e ]
     go (Some a) (Register f j) h = elim (cases_Bool (f == d)) as (λ x. not ((f == d) && not (j == a)) ≡ true) [
       | inl e ↦ elim (cases_Bool (j == a)) as (λ x. not ((f == d) && not (j == a)) ≡ true) [
         | inl same ↦ ap (λ b. not (b && not (j == a))) e ∙ ap (λ b. not (not b)) same
@@ -112,14 +109,8 @@ pub ended :
     (p : Image) (cs : List Cell) (fr : Frame) (sh : Shape) (ls : List Layer) → Houses p (home_holder fr.home) (holder_of p fr.method) → CountsAs p (home_holder fr.home) fr.view (holder_of p fr.method) → IsHoused p cs ls fr.home → IsApart p fr.view fr.method fr.home ls → past_going ls ≡ ls → no_entry sh.entries ≡ true →
     none_owns sh.registers ≡ true → (serves p fr.method ≡ true → claim p (declared p cs) ls (Elsewhere In_service) ≡ delivered sh.delivery) → (r : Place) (h : Sight) (o : Option Object) →
     Fits p h o (claim p (declared p cs) (Method fr sh ∷ ls) r) → Fits p h o (claim p (declared p cs) ls r)
-ended p cs fr sh ls houses counts housed apart at_top e n message (Register f i) h o fits = grind (
-  arith,
-  nat_tests,
-  claim_register_above p cs ls f i,
-  eqb-true,
-  fits_unowning p h o,
-  none_owns_at sh.registers i n,
-)
+ended p cs fr sh ls houses counts housed apart at_top e n message (Register f i) h o fits =
+    grind (arith, nat_tests, claim_register_above p cs ls f i, eqb-true, fits_unowning p h o, none_owns_at sh.registers i n)
 ended p cs fr sh ls houses counts housed apart at_top e n message (Entry k) h o fits = subst (λ es. Fits p h o (entry_claim es (items_of ls) k (claim p (declared p cs) ls (Entry k)))) (no_entries sh.entries e) fits
 ended p cs fr sh ls houses counts housed apart at_top e n message (Field m f) h o fits = go fr.home houses housed apart fits
   where
@@ -243,22 +234,10 @@ module _ (p : Image) (t : Typing) (c : Choice) (s : State) (fr : Frame) (sh : Sh
 
 module _ (p : Image) (t : Typing) (c : Choice) (s : State) (fr : Frame) (sh : Shape) (ls : List Layer) (at_hand : At p t s fr sh ls) (a : ℕ) (r : Returnable p fr sh a) where
   spared : (g : Gives) → none_owns (result_moved p fr.method fr.place sh g a).registers ≡ true → (i : ℕ) → spares (result_source g a) i ≡ false → held s.cells (top ls i) ≡ None
-  spared (An_own x) n i other = grind (
-    arith,
-    nat_tests,
-    free_register p t c s fr sh ls at_hand i,
-    at-put_at Unset sh.registers a i Null,
-    eqb_comm a i,
-    none_owns_at,
-  )
-  spared (A_maybe x) n i other = grind (
-    arith,
-    nat_tests,
-    free_register p t c s fr sh ls at_hand i,
-    at-put_at Unset sh.registers a i Null,
-    eqb_comm a i,
-    none_owns_at,
-  )
+  spared (An_own x) n i other =
+      grind (arith, nat_tests, free_register p t c s fr sh ls at_hand i, at-put_at Unset sh.registers a i Null, eqb_comm a i, none_owns_at)
+  spared (A_maybe x) n i other =
+      grind (arith, nat_tests, free_register p t c s fr sh ls at_hand i, at-put_at Unset sh.registers a i Null, eqb_comm a i, none_owns_at)
   spared _ n i other = free_register p t c s fr sh ls at_hand i (none_owns_at sh.registers i n)
 
   -- a method that cancels does not hang

@@ -71,13 +71,8 @@ module _ (p : Image) (t : Typing) (cs : List Cell) (g : Place) (o : Object) (tid
 
   pub stack_without : (ls : List Layer) (back : Back) → Outside g ls → ((from : Place) → NoFieldHere g from) → Stack p t cs back ls → Stack p t (without g cs) back ls
   stack_without [] back out plain s = s
-  stack_without (Method fr sh ∷ ls) back out plain s = grind (
-    arith,
-    nat_tests,
-    outside_less g (Method fr sh) ls out,
-    housed_without ls fr.home,
-    stack_without ls (Returns fr.method fr.home),
-  )
+  stack_without (Method fr sh ∷ ls) back out plain s =
+      grind (arith, nat_tests, outside_less g (Method fr sh) ls out, housed_without ls fr.home, stack_without ls (Returns fr.method fr.home))
   stack_without (Mark gv ∷ ls) back out plain s = (s.0, stack_without ls (Caught gv) (outside_less g (Mark gv) ls out) plain s.1)
   stack_without (Dispatching d seats ∷ ls) back out plain s =
       let none = no_seat_outside g d seats ls out in (

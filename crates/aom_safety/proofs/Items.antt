@@ -83,14 +83,8 @@ pub readied_claim :
     entry_claim (readied_at es k) below j rest ≡ cond ((length (objects es below) - suc k) == j) (readied (entry_kind (at Pushed_operation es k))) (entry_claim es below j rest)
 readied_claim [] below k j rest lt = absurd (omega arith)
 readied_claim (x ∷ es) below zero j rest lt = grind (arith, nat_tests, readied_kind x)
-readied_claim (x ∷ es) below (suc k) j rest lt = grind (
-  arith,
-  nat_tests,
-  readied_items es k below,
-  readied_claim es below k j rest,
-  length_each es below,
-  eqb-true,
-)
+readied_claim (x ∷ es) below (suc k) j rest lt =
+    grind (arith, nat_tests, readied_items es k below, readied_claim es below k j rest, length_each es below, eqb-true)
 
 -- a method that begins with no entry over layers that are as they should be
 pub begins_well :

@@ -251,14 +251,8 @@ frame_is_free p cs fr sh ls h n = none_owns_from cs (length (tasks_of ls)) None 
 below_leaving :
     (p : Image) (t : Typing) (cs : List Cell) (ls : List Layer) (m : ℕ) (home : Home) → leaves p m ≡ true → Stack p t cs (Returns m home) ls → RegistersFit p cs ls →
     (has_trap (tasks_of ls) ≡ true) × (above_trap_is_free cs (tasks_of ls) ≡ true)
-below_leaving p t cs (Method fr sh ∷ ls) m home e s h = grind (
-  arith,
-  nat_tests,
-  below_leaving p t cs ls fr.method fr.home,
-  registers_below p cs fr sh ls h,
-  and_from,
-  frame_is_free p cs fr sh ls h,
-)
+below_leaving p t cs (Method fr sh ∷ ls) m home e s h =
+    grind (arith, nat_tests, below_leaving p t cs ls fr.method fr.home, registers_below p cs fr sh ls h, and_from, frame_is_free p cs fr sh ls h)
 below_leaving p t cs (Mark gv ∷ ls) m home e s h = (refl, refl)
 below_leaving p t cs (Dispatching d seats ∷ ls) m home e s h = no_end p d m home e s.0
 below_leaving p t cs _ m home e s h = absurd (first_of (assumption tt, cc))
@@ -267,14 +261,8 @@ below_leaving p t cs _ m home e s h = absurd (first_of (assumption tt, cc))
 pub leave_is_met :
     (p : Image) (t : Typing) (cs : List Cell) (fr top_frame : Frame) (sh : Shape) (ls : List Layer) → Fitted p t cs fr sh ls → leaves p fr.method ≡ true → none_owns sh.registers ≡ true →
     AllTrue (leave_needs cs (Run top_frame ∷ tasks_of ls))
-leave_is_met p t cs fr top_frame sh ls g may n = grind (
-  arith,
-  nat_tests,
-  below_leaving p t cs ls fr.method fr.home may g.stack,
-  registers_below p cs fr sh ls,
-  and_from,
-  frame_is_free p cs fr sh ls,
-)
+leave_is_met p t cs fr top_frame sh ls g may n =
+    grind (arith, nat_tests, below_leaving p t cs ls fr.method fr.home may g.stack, registers_below p cs fr sh ls, and_from, frame_is_free p cs fr sh ls)
 
 -- there is a trap under such a method
 pub trap_is_there :

@@ -91,14 +91,8 @@ module _ (p : Image) (looped_so : IsLooped p) (fr : Frame) (rounds : RoundsAt p 
 
     -- the last round is over
     ends_rounds : RoundsAt p (set_counter fr e 0) (suc fr.place)
-    ends_rounds from to d n body inside = grind (
-      arith,
-      nat_tests,
-      same_or from closing.0,
-      aside 0 from to d n body,
-      cases_lt from fr.place,
-      one_loop fr.method from d n e closing.1 body.begins,
-    )
+    ends_rounds from to d n body inside =
+        grind (arith, nat_tests, same_or from closing.0, aside 0 from to d n body, cases_lt from fr.place, one_loop fr.method from d n e closing.1 body.begins)
 
     -- another round begins
     next_round : (k : ℕ) → (counter fr e - 1) ≡ suc k → RoundsAt p (set_counter fr e (suc k)) t

@@ -50,13 +50,7 @@ module _ (p : Image) (t : Typing) (c : Choice) (s : State) (fr : Frame) (sh : Sh
 
   pub law_put : (f b : ℕ) → Law p t c s fr sh ls at_hand (Put f b)
   law_put f b n leads = (
-    (
-      ap is_none no,
-      (
-        declared_ok p t c s fr sh ls at_hand _ _ k n.0 (kind_fits p t c s fr sh ls at_hand b),
-        (ap is_none free, tt),
-      ),
-    ),
+    (ap is_none no, (declared_ok p t c s fr sh ls at_hand _ _ k n.0 (kind_fits p t c s fr sh ls at_hand b), (ap is_none free, tt))),
     well p t c s fr sh ls at_hand (does p c fr (tasks_of ls) s (Put f b)) (next fr) (set_field (set_register sh b Null) f (filling_of k)) refl at_hand.items at_hand.undos (settle p t (moved (top ls b) (field_place fr.home f) s.cells) (next fr) (set_field (set_register sh b Null) f (filling_of k)) ls goes leads.0),
   )
     where

@@ -84,10 +84,7 @@ comes_requested cs x r fewer = grind (arith, nat_tests, comes_itself cs, comes_a
 
 -- it is no other token
 pub comes_served : (cs : List Cell) (n : ℕ) (v : Service) → v.token ≡ (service_of cs n).token → NoneComes cs (set_service n v cs)
-comes_served cs n v same = record {
-  waits = λ m k e. sym (ap awaited (requested_served cs n v m)) ∙ e;
-  told = λ m k e. go m k (n == m) refl e;
-}
+comes_served cs n v same = record { waits = λ m k e. sym (ap awaited (requested_served cs n v m)) ∙ e; told = λ m k e. go m k (n == m) refl e }
   where
     here : (o : Option Object) → named cs n ≡ o → (k : ℕ) → order_in (service_of (set_service n v cs) n).token ≡ Some k → order_in (service_of cs n).token ≡ Some k
     here x free k e = grind (arith, nat_tests, service_unnamed, named_kept (serving n v) cs n, serving n v, service_here cs n v)
@@ -101,10 +98,7 @@ comes_served cs n v same = record {
 -- ---- a cell is made that is no token and waits for none
 
 pub comes_more : (c : Cell) (cs : List Cell) → c.request ≡ None → c.service.token ≡ None → NoneComes cs (c ∷ cs)
-comes_more c cs asks serves = record {
-  waits = λ n k e. wait n k (c.object.name == n) e;
-  told = λ n k e. tell n k (c.object.name == n) e;
-}
+comes_more c cs asks serves = record { waits = λ n k e. wait n k (c.object.name == n) e; told = λ n k e. tell n k (c.object.name == n) e }
   where
     wait : (n k : ℕ) (b : Bool) → awaited (cond b c.request (requested cs n)) ≡ Some k → awaited (requested cs n) ≡ Some k
     wait n k x e = grind arith

@@ -87,14 +87,8 @@ leads_there p m d named n z leads = go (method_at p z) refl n leads
 -- what overrides a method is a plain one
 overrides_plainly : (p : Image) → AllStandIn p → (m k : ℕ) (d e : Method) → method_at p m ≡ Some e → method_at p k ≡ Some d → overrides p k m ≡ true → d.role ≡ Do
 unfolding leads_in over_in method_at
-overrides_plainly p fit m k d e there at over = grind (
-  arith,
-  nat_tests,
-  leads_there p m e there,
-  there,
-  all_there (StandsInNamed p) p.methods k d fit at,
-  same_roles d.role Do,
-)
+overrides_plainly p fit m k d e there at over =
+    grind (arith, nat_tests, leads_there p m e there, there, all_there (StandsInNamed p) p.methods k d fit at, same_roles d.role Do)
 
 -- and where something does
 overrider_runs : (p : Image) → IsWired p → (m v k : ℕ) (h : Holder) (e : Method) → IsCalled p m → RunsAlike p m v k e → CountsAs p h (Some v) (holder_of p m) → RunsFor p m k h (Some v)

@@ -127,14 +127,8 @@ session_thing_of p t cs (Mark gv ∷ ls) back n c x s h = session_thing_of p t c
 session_thing_of p t cs (Unwinding code es ∷ ls) back n c x s h = session_thing_of p t cs ls Leaves n c x s.1 h
 session_thing_of p t cs (Dispatching d seats ∷ ls) back n c x s h = grind (arith, nat_tests, declared_session_of p cs n c x, by_close_below d n c)
 session_thing_of p t cs (Dying o ∷ ls) back n c x s h = grind (arith, nat_tests, session_thing_of p t cs ls Gone n c x s.2, below_null (o.name == n))
-session_thing_of p t cs (Ending o left ∷ ls) back n c x s h = grind (
-  arith,
-  nat_tests,
-  session_thing_of p t cs ls Now n c x s.3,
-  eqb-true o.name n,
-  found,
-  filled_where,
-)
+session_thing_of p t cs (Ending o left ∷ ls) back n c x s h =
+    grind (arith, nat_tests, session_thing_of p t cs ls Now n c x s.3, eqb-true o.name n, found, filled_where)
 
 -- a message that waits is in the queue of a server that stands
 abbrev pub IsQueuedAt : Image → List Cell → ℕ → ℕ → Thing → Type 0
@@ -325,14 +319,8 @@ module _ (p : Image) (t : Typing) (wired : IsWired p) (s : State) (w : WellTyped
   ends_by fuel (Elsewhere Root) o e le = at_root
   ends_by fuel (Elsewhere In_service) o e le = at_service
   ends_by fuel (Going k) o e le = absurd (unowned_going k o e)
-  ends_by zero (Field n f) o e le = grind (
-    arith,
-    nat_tests,
-    kind_at p t wired s w (Field n f) o e,
-    field_thing_of p t s.cells w.layers Now n f,
-    lower_rank p wired,
-    declaring p wired,
-  )
+  ends_by zero (Field n f) o e le =
+      grind (arith, nat_tests, kind_at p t wired s w (Field n f) o e, field_thing_of p t s.cells w.layers Now n f, lower_rank p wired, declaring p wired)
   ends_by (suc fuel) (Field n f) o e le =
       let k = kind_at p t wired s w (Field n f) o e in
       let x = field_thing_of p t s.cells w.layers Now n f k.0 w.good.stack k.1 in

@@ -107,16 +107,8 @@ module _ (p : Image) (t : Typing) (s : State) (x : Seat) (client : ℕ) (seats :
 
     declared_then : (r : Place) → declared p cs r ≡ claim p (declared p s.cells) (Dispatching (Of_server x client Parts) seats ∷ []) r
     declared_then (Field m f) = ap (λ o. declared_field p o f) (named_served s.cells n v m)
-    declared_then (Elsewhere (Session m k)) = grind (
-      arith,
-      nat_tests,
-      named_served s.cells,
-      service_now,
-      eqb-true client k,
-      among_parted client,
-      among_others k client,
-      service_there s.cells,
-    )
+    declared_then (Elsewhere (Session m k)) =
+        grind (arith, nat_tests, named_served s.cells, service_now, eqb-true client k, among_parted client, among_others k client, service_there s.cells)
     declared_then (Elsewhere (Queued m k)) = grind (arith, nat_tests, named_served s.cells, eqb-true, service_now, service_there s.cells)
     declared_then _ = refl
 

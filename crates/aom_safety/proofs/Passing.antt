@@ -226,12 +226,5 @@ module _ (p : Image) (t : Typing) (c : Choice) (s : State) (fr : Frame) (sh : Sh
   pub each_met : (xs : List Argument) (first : ℕ) → AllTrue (each_argument p sh xs first) → AllTrue (needs_each p fr (tasks_of ls) s xs first)
   each_met [] first n = tt
   each_met (Takes_word ∷ xs) first n = ((word_is p s (word fr first) (register sh first) n.0 (at_hand.good.stack.1.words first)).0, each_met xs (suc first) n.1)
-  each_met (Takes_own x ∷ xs) first n = grind (
-    arith,
-    nat_tests,
-    own_widens p x,
-    held_thing p s x,
-    kind_fits p t c s fr sh ls at_hand first,
-    word_of_object,
-    each_met xs,
-  )
+  each_met (Takes_own x ∷ xs) first n =
+      grind (arith, nat_tests, own_widens p x, held_thing p s x, kind_fits p t c s fr sh ls at_hand first, word_of_object, each_met xs)

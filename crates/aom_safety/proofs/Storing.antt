@@ -115,12 +115,7 @@ module _ (p : Image) (t : Typing) (cs cs' : List Cell) (alike : Alike cs cs') wh
     stack_alike (Dying o ∷ ls) back s = ((alike.named_so o.name ∙ s.0.0, alike.held_so _ ∙ s.0.1), s.1, stack_alike ls _ s.2)
     stack_alike (Dispatching d seats ∷ ls) back s =
         (s.0, s.1, sits_alike seats s.2, first_kept cs cs' (Entry 0) (seat_of d) seats (λ r o other there lives some. listed o.name some) tt s.2 s.3, attended_kept p cs cs' alike.sessions_so d s.4)
-    stack_alike (Ending o left ∷ ls) back s = (
-      sessions_kept p cs cs' alike.named_so alike.sessions_so o left s.0,
-      s.1,
-      s.2,
-      stack_alike ls _ s.3,
-    )
+    stack_alike (Ending o left ∷ ls) back s = (sessions_kept p cs cs' alike.named_so alike.sessions_so o left s.0, s.1, s.2, stack_alike ls _ s.3)
     stack_alike (Unwinding code es ∷ ls) back s = (s.0, stack_alike ls _ s.1)
 
   -- where what is claimed to be fresh has the request that it had

@@ -148,10 +148,7 @@ relocate p t cs fr fr' sh sh' ls a b g eh em eg es free oa ob nf fresh claims wo
       tidy = tidy_moved cs a b free g.tidy;
       frames = record {
         words = words;
-        holder = grind (
-          arith,
-          nat_tests,
-        );
+        holder = grind (arith, nat_tests);
         view = counts_too p fr fr' eh em eg g.frames.view;
         height = ap (λ (x : ℕ × Option ℕ). x.0) eg ∙ g.frames.height;
         alone = alone_too p fr fr' ls eh em g.frames.alone;
@@ -177,10 +174,7 @@ relabel p t cs fr fr' sh sh' ls a v g eh em eg es new claims words = record {
   tidy = g.tidy;
   frames = record {
     words = words;
-    holder = grind (
-      arith,
-      nat_tests,
-    );
+    holder = grind (arith, nat_tests);
     view = counts_too p fr fr' eh em eg g.frames.view;
     height = ap (λ (x : ℕ × Option ℕ). x.0) eg ∙ g.frames.height;
     alone = alone_too p fr fr' ls eh em g.frames.alone;
@@ -231,10 +225,7 @@ reframed p t cs fr fr' sh ls eh em eg ew g = record {
   tidy = g.tidy;
   frames = record {
     words = λ i. subst (λ ws. WordFits (at None ws i) (register sh i)) (sym ew) (g.frames.words i);
-    holder = grind (
-      arith,
-      nat_tests,
-    );
+    holder = grind (arith, nat_tests);
     view = counts_too p fr fr' eh em eg g.frames.view;
     height = ap (λ (x : ℕ × Option ℕ). x.0) eg ∙ g.frames.height;
     alone = alone_too p fr fr' ls eh em g.frames.alone;

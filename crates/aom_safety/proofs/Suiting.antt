@@ -136,15 +136,8 @@ rejoins_caller p o fr sh states ls ends r x well within u s = grind (
 pub rejoins_trap :
     (p : Image) (o : Object) (gv : Gives) (fr : Frame) (sh : Shape) (ls : List Layer) (states : ℕ) (r : Option Request) → Joins p o (Mark gv ∷ Method fr sh ∷ ls) → unissued states ≡ true →
     (states_claim p o (Method fr sh ∷ ls)).cancelled ≡ false → Suits (thing_kind p o.thing) (resting_in states) r → Suits (thing_kind p o.thing) (states_claim p o (Method fr sh ∷ ls)) r
-rejoins_trap p o gv fr sh ls states r x u none s = grind (
-  arith,
-  nat_tests,
-  rejoins_caller p o fr sh,
-  has_itself,
-  rests_unissued,
-  suits_rests,
-  rests_there p o (Method fr sh ∷ ls) r,
-)
+rejoins_trap p o gv fr sh ls states r x u none s =
+    grind (arith, nat_tests, rejoins_caller p o fr sh, has_itself, rests_unissued, suits_rests, rests_there p o (Method fr sh ∷ ls) r)
 
 -- a method is over: all but the object that it worked on is as it was
 pub all_returned :

@@ -124,10 +124,7 @@ pub polled_rest : (p : Image) (s u : State) (n : ℕ) (answer : Option Completio
 polled_rest p s u n answer e = grind (arith, nat_tests, polled_so p s u n answer e, nothing, answers)
 
 polled_turned : (p : Image) (s u : State) (n : ℕ) → Polled n s u → Turned p s u
-polled_turned p s u n d = elim d as (λ v d. Turned p s v) [
-  | nothing ↦ keeps_all _
-  | answers o code ↦ completes (recorded code) o _ (recorded_so code)
-]
+polled_turned p s u n d = elim d as (λ v d. Turned p s v) [ nothing ↦ keeps_all _ | answers o code ↦ completes (recorded code) o _ (recorded_so code) ]
 
 turned_so : (p : Image) (s u : State) (k : Turning) → turned p s k ≡ Goes u → Turned p s u
 turned_so p s u (Completes o) e = subst (λ v. Turned p s v) (goes_same _ u e) (completes (pos 0) o s.rest refl)

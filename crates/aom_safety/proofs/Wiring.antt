@@ -273,17 +273,8 @@ module _ (p : Image) (formed : WellFormed p) (linked : IsLinked p) where
 
   ends_unissued : (m : ℕ) (d : Method_declared) → method_at p m ≡ Some d → IsTrue (same_role d.role Do || same_role d.role Construct) → unissued (after_of p m) ≡ true
   unfolding after_in
-  ends_unissued m d e names = grind (
-    arith,
-    nat_tests,
-    one_of,
-    do_ends,
-    of_role m d Do e,
-    same_roles d.role Do,
-    construct_ends,
-    of_role m d Construct e,
-    same_roles d.role Construct,
-  )
+  ends_unissued m d e names =
+      grind (arith, nat_tests, one_of, do_ends, of_role m d Do e, same_roles d.role Do, construct_ends, of_role m d Construct e, same_roles d.role Construct)
 
   construct_begins : (m : ℕ) (d : Method_declared) → method_at p m ≡ Some d → d.role ≡ Construct → before_of p m ≡ first_of (kind_of p (method_class p m))
   unfolding before_in class_in
