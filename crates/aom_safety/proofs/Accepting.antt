@@ -134,8 +134,7 @@ module _ (p : Image) (t : Typing) (c : Choice) (s : State) (fr : Frame) (sh : Sh
 
     fits_then : (r : Place) → Fits p (seen cs2) (held cs2 r) (claim p (declared p cs2) (Dispatching (Of_server x client Accepted) seats ∷ ls) r)
     fits_then r =
-        subst (λ o. Fits p (seen cs2) o (claim p (declared p cs2) (Dispatching (Of_server x client Accepted) seats ∷ ls) r)) (sym (held_served cs1 n v r))
-        (fits_age p (seen cs1) (seen cs2) (held cs1 r) _ (λ y e fresh age. (λ f. held_served cs1 n v (Field y.name f) ∙ age.0 f, requested_served cs1 n v y.name ∙ age.1)) (go (same_place to r) refl carried))
+        rw (held_served cs1 n v r) (fits_age p (seen cs1) (seen cs2) (held cs1 r) _ (λ y e fresh age. (λ f. held_served cs1 n v (Field y.name f) ∙ age.0 f, requested_served cs1 n v y.name ∙ age.1)) (go (same_place to r) refl carried))
       where
         k : Place → Kind
         k = claim p (declared p cs) (Method fr sh ∷ below)
@@ -150,7 +149,7 @@ module _ (p : Image) (t : Typing) (c : Choice) (s : State) (fr : Frame) (sh : Sh
             let its_claim : claim p (declared p cs2) (Dispatching (Of_server x client Accepted) seats ∷ ls) to ≡ Own thing Ready =
             ap (λ l. claim p (declared p cs2) l to) at_hand.good.stack.4.1.1 ∙ declared_now in
             subst (λ y. Fits p (seen cs1) (held cs1 r) (claim p (declared p cs2) (Dispatching (Of_server x client Accepted) seats ∷ ls) y)) (same_place-true to r e)
-            (subst (λ y. Fits p (seen cs1) (held cs1 r) y) (sym its_claim) (given.fits (seen cs1) (held cs1 r) (subst (λ y. Fits p (seen cs1) (held cs1 r) y) (claim_register p (declared p cs) fr sh below a) f)))
+            (subst (λ y. Fits p (seen cs1) (held cs1 r) y) (sym its_claim) (given.fits (seen cs1) (held cs1 r) (grind (arith, nat_tests, claim_register))))
         go false e f =
             let bare = subst (λ y. Fits p (seen cs1) (held cs1 r) y) (sym (claim-set_register p (declared p cs) fr sh below a Null r)) f in
             let over =
@@ -163,10 +162,7 @@ module _ (p : Image) (t : Typing) (c : Choice) (s : State) (fr : Frame) (sh : Sh
 
     no_seat_there : (xs : List Seat) → AllSit cs xs → NoSeatAt to xs
     no_seat_there [] h = tt
-    no_seat_there (y ∷ ys) h = (go (same_place to y.place) refl, no_seat_there ys h.1)
-      where
-        go : (b : Bool) → same_place to y.place ≡ b → b ≡ false
-        go z e = grind (arith, nat_tests, same_place-true, free)
+    no_seat_there (y ∷ ys) h = search (arith, nat_tests, no_seat_there ys h.1, same_place-true, free)
 
     sits_then : AllSit cs2 seats
     sits_then = sits_kept cs cs2 q to seats
@@ -194,6 +190,6 @@ module _ (p : Image) (t : Typing) (c : Choice) (s : State) (fr : Frame) (sh : Sh
   law_return_accepted needed leads =
       let r = returnable p fr sh a needed in
       let items = same_items p t c s fr sh below at_hand (entries r) in (
-        return_needs p t c s fr sh below at_hand a r (subst (λ g. AllTrue (result_needs p fr (tasks_of below) s g a)) (sym gives) (needs_met r)) (mark_on_top s.items _ items, (ap is_none free, tt)),
+        return_needs p t c s fr sh below at_hand a r (rw gives (needs_met r)) (mark_on_top s.items _ items, (ap is_none free, tt)),
         grind (arith, nat_tests, ended_plainly p t c s fr sh, forms_below s.items Mark_form, undos_below p s.items at_hand.undos, good_then r),
       )

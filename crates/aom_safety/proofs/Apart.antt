@@ -1,6 +1,6 @@
 -- Orders of tokens: a new one lies past all that are there, so none is there twice, and a reply completes one request or none.
 use Rattle.std.proofs.lemmas.Bool.Decides.{nat_tests}
-use Rattle.std.proofs.Common.{arith, List, None, Option, Some, [], ap, cond, false, inr, refl, sym, true, ℕ, ℤ, ◌+◌, ◌<◌, ◌==◌, ◌∙◌, ◌∷◌, ◌≡◌}
+use Rattle.std.proofs.Common.{arith, List, Option, Some, [], ap, cond, false, refl, true, ℕ, ℤ, ◌+◌, ◌<◌, ◌==◌, ◌∙◌, ◌∷◌, ◌≡◌}
 use Rattle.std.proofs.lemmas.Bool.{eq-eqb, eqb-true, ne_eqb}
 use Rattle.std.proofs.lemmas.Option.{none-some, same_Some}
 use Rattle.std.specs.Prelude.{◌⊎◌}
@@ -11,7 +11,7 @@ use Rattle.aom_safety.proofs.Services.{service_asked}
 use Rattle.aom_safety.proofs.Storing.{requested_here, requested_there, rerequested_alike}
 use Rattle.aom_semantics.specs.Enlisted.{on_request}
 use Rattle.aom_semantics.specs.Places.{Cell, Elsewhere, Object, Place, Request, Root, Service, requested, service_of, set_request}
-use Rattle.aom_semantics.specs.State.{AtRoot, Home, Inside, Static}
+use Rattle.aom_semantics.specs.State.{Home, Inside}
 use Rattle.aom_semantics.specs.Tokens.{TokensApart, all_redeemed, awaited, handed_cells, handed_out, home_class, is_order, next_token, order_in, order_past, promised, redeemed_by, redeemed_request, redeemed_with, with_token}
 
 -- ---- one request, or none
@@ -47,7 +47,7 @@ module _ (cs : List Cell) (apart : TokensApart cs) (live_at object_at : ℕ → 
 pub apart_fewer :
     (cs cs' : List Cell) → ((n k : ℕ) → awaited (requested cs' n) ≡ Some k → awaited (requested cs n) ≡ Some k) →
     ((n k : ℕ) → order_in (service_of cs' n).token ≡ Some k → order_in (service_of cs n).token ≡ Some k) → TokensApart cs → TokensApart cs'
-apart_fewer cs cs' waits told apart = record { waits = λ n m k a b. apart.waits n m k (waits n k a) (waits m k b); told = λ n m k a b. apart.told n m k (told n k a) (told m k b) }
+apart_fewer cs cs' waits told apart = search (arith, nat_tests)
 
 -- ---- what a reply keeps
 
@@ -124,13 +124,11 @@ module _ (cs : List Cell) (o : Object) (r : Option Request) (order : ℕ) (promi
   )
 
 promises_it : (new : ℕ) (r : Option Request) (k : ℕ) → awaited (on_request (promised new) r) ≡ Some k → k ≡ new
-promises_it new None k e = absurd (none-some k e)
-promises_it new (Some r) k e = sym (same_Some new k e)
+promises_it new x k e = grind (arith, nat_tests, same_Some)
 
 pub handed_apart : (name : ℕ) (home : Home) (owner : Place) (cs : List Cell) → TokensApart cs → TokensApart (handed_cells name home owner cs)
-handed_apart name Static owner cs apart = token_apart cs cs apart name name (home_class Static) owner (λ n. refl) (λ n k e. inr e)
-handed_apart name AtRoot owner cs apart = token_apart cs cs apart name name (home_class AtRoot) owner (λ n. refl) (λ n k e. inr e)
 handed_apart name (Inside o from) owner cs apart =
     let r = on_request (promised (next_token cs)) (requested cs o.name) in
     token_apart cs (set_request o.name r cs) apart name o.name (home_class (Inside o from)) owner (service_asked cs o.name r)
     (asks_anew cs o r (next_token cs) (promises_it (next_token cs) (requested cs o.name)))
+handed_apart name x owner cs apart = grind (arith, nat_tests, token_apart cs cs apart name name)

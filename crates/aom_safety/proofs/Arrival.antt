@@ -1,10 +1,10 @@
 -- The code of a leave arrives: at the method that set the trap, or at main's dispatch.
 use Rattle.std.proofs.lemmas.Bool.Decides.{nat_tests}
-use Rattle.std.proofs.Common.{arith, [], List, None, Some, ap, pos, refl, subst, suc, sym, true, ℕ, ℤ, ◌∙◌, ◌∷◌, ◌≡◌}
+use Rattle.std.proofs.Common.{arith, [], List, None, Some, pos, refl, suc, true, ℕ, ℤ, ◌∷◌, ◌≡◌}
 use Rattle.aom_image.specs.Image.{Image}
 use Rattle.aom_image.specs.Views.{instr_at}
 use Rattle.aom_image.specs.declared.method.Gives.{Gives}
-use Rattle.aom_image.specs.declared.method.Gives.TheVariants.{Left, Maybe as A_maybe, Nothing, Own as An_own, Word as A_word}
+use Rattle.aom_image.specs.declared.method.Gives.TheVariants.{Maybe as A_maybe, Own as An_own, Word as A_word}
 use Rattle.aom_rules.specs.Calls.{caught}
 use Rattle.aom_shape.specs.Kinds.{is_unowning, register, set_register}
 use Rattle.aom_shape.specs.Shape.{Shape}
@@ -27,7 +27,6 @@ same_entries x c sh = grind arith
 told_fitted :
     (p : Image) (t : Typing) (cs : List Cell) (fr : Frame) (sh : Shape) (ls : List Layer) (code : ℤ) (g : Gives) (c : ℕ) →
     Fitted p t cs fr sh ls → is_unowning (register sh (suc c)) ≡ true → Awaits g c sh → Fitted p t cs (code_told g c code fr) (caught g c sh) ls
-told_fitted p t cs fr sh ls code Nothing c f u a = write p t cs fr sh ls (suc c) (Some code) Word f u (λ h. tt) tt
 told_fitted p t cs fr sh ls code A_word c f u a =
     write p t cs (set_word fr c (Some (pos 0))) (set_register sh c Word) ls (suc c) (Some code) Word
     (write p t cs fr sh ls c (Some (pos 0)) Word f a (λ h. tt) tt) (next_unowning sh.registers c Word u) (λ h. tt) tt
@@ -37,7 +36,7 @@ told_fitted p t cs fr sh ls code (An_own x) c f u a =
 told_fitted p t cs fr sh ls code (A_maybe x) c f u a =
     write p t cs (set_word fr c None) (set_register sh c (Maybe x Ready)) ls (suc c) (Some code) Word
     (write p t cs fr sh ls c None (Maybe x Ready) f a (λ h. tt) refl) (next_unowning sh.registers c (Maybe x Ready) u) (λ h. tt) tt
-told_fitted p t cs fr sh ls code (Left x) c f u a = write p t cs fr sh ls (suc c) (Some code) Word f u (λ h. tt) tt
+told_fitted p t cs fr sh ls code _ c f u a = write p t cs fr sh ls (suc c) (Some code) Word f u (λ h. tt) tt
 
 -- method and place stay
 abbrev pub bare : Frame → Frame
@@ -61,7 +60,7 @@ module _ (p : Image) (t : Typing) (s : State) (code : ℤ) (items : List Item) w
       grind (arith, nat_tests, Fitted p t s.cells, told_fitted p t s.cells fr sh ls code gv c f below.0.1 below.0.2) in
       let leads : Leads t fr'.method (suc fr'.place) (caught gv c sh) = grind (arith, nat_tests, told_same) in
       let e = settle p t s.cells (next fr') (caught gv c sh) ls (stepped p t s.cells fr' (caught gv c sh) ls g) leads in
-      record { layers = Method (next fr') e.0 ∷ ls; tasks = refl; items = same ∙ ap (λ es. objects es (items_of ls)) (sym (e.2 ∙ same_entries gv c sh)); undos = undos; good = e.1 }
+      record { layers = Method (next fr') e.0 ∷ ls; tasks = refl; items = grind (arith, nat_tests, same_entries); undos = undos; good = e.1 }
     where
       fits : (r : Place) → Fits p (seen s.cells) (held s.cells r) (claim p (declared p s.cells) (Method fr sh ∷ ls) r)
       fits r = grind arith
@@ -76,7 +75,7 @@ module _ (p : Image) (t : Typing) (s : State) (code : ℤ) (items : List Item) w
     tasks = refl;
     items = same;
     undos = undos;
-    good = record { stack = stack; fits = λ r. subst (λ k. Fits p (seen s.cells) (held s.cells r) k) (claims r) (good.fits r); suits = good.suits; tidy = good.tidy };
+    good = record { stack = stack; fits = grind (arith, nat_tests); suits = good.suits; tidy = good.tidy };
   }
     where
       below : Place → Kind

@@ -1,4 +1,5 @@
 -- An `error` method enters over the dispatch that asks it.
+use Rattle.std.proofs.lemmas.Bool.Decides.{nat_tests}
 use Rattle.std.proofs.Common.{[], inr, false, inl, List, None, Option, Some, ap, length, refl, subst, suc, sym, true, zero, ℕ, ℤ, ◌∙◌, ◌∷◌, ◌≡◌, arith}
 use Rattle.std.specs.Prelude.{bit_or, is_some, map}
 use Rattle.aom_image.specs.Image.{Image}
@@ -25,7 +26,7 @@ use Rattle.aom_semantics.specs.Moves.{asking}
 use Rattle.aom_semantics.specs.Places.{Elsewhere, Place, Request, Root, held, requested, seen}
 use Rattle.aom_safety.specs.Requests.{Suits, resting_in, thing_kind}
 use Rattle.aom_semantics.specs.State.{Asks, Object_left, Seat, State}
-use Rattle.aom_safety.specs.WellTyped.{AllUndo, Fits, Good, WellTyped, WordFits}
+use Rattle.aom_safety.specs.WellTyped.{Fits, Good, WellTyped, WordFits}
 use Rattle.aom_safety.proofs.Attending.{with_message}
 use Rattle.std.proofs.lemmas.Bool.{true≢false}
 use Rattle.aom_roles.specs.Roles.{is_service, is_cancel}
@@ -46,7 +47,7 @@ module _ (p : Image) (t : Typing) (wired : IsWired p) (typed : IsTyped p t) (s :
       WellTyped p t (asking p (Some m) x code s)
   asks_it above items good m e =
       enters p t typed s.cells x above over m (Some code ∷ []) entering (asking p (Some m) x code s) (length s.items) (ap length items) refl refl (ap forms items)
-      (subst (λ is. AllUndo p is) (sym items) tt)
+      (rw items tt)
     where
       over : List Layer
       over = Dispatching (Asks x) (x ∷ above) ∷ []
@@ -83,7 +84,7 @@ module _ (p : Image) (t : Typing) (wired : IsWired p) (typed : IsTyped p t) (s :
         past = refl;
         stack = ((it.2.leaves, it.2.gives, ap is_cancel it.2.role), refl, good.stack.2, (good.stack.3.0, above, refl), tt);
         fits = fits;
-        own = subst (λ n. Suits (thing_kind p x.object.thing) (resting_in n) (requested s.cells x.object.name)) (sym it.2.begins) (rests_listed (thing_kind p x.object.thing) (requested s.cells x.object.name) good.stack.3.0 (good.suits x.object good.stack.2.0.1));
+        own = subst (λ n. Suits (thing_kind p x.object.thing) (resting_in n) (requested s.cells x.object.name)) (sym it.2.begins) (grind (arith, nat_tests, rests_listed));
         others = λ y lives other. good.suits y lives;
         tidy = good.tidy;
         sits = good.stack.2;
@@ -98,4 +99,4 @@ module _ (p : Image) (t : Typing) (wired : IsWired p) (typed : IsTyped p t) (s :
   pub error_enters :
       (seats : List Seat) → s.items ≡ [] → Good p t s.cells (Dispatching (Object_left x code) seats ∷ []) → (m : ℕ) → part_of p Error x.object.thing ≡ Some m →
       WellTyped p t (asking p (Some m) x code s)
-  error_enters seats items good m e = asks_it good.stack.3.1 items (subst (λ xs. Good p t s.cells (Dispatching (Object_left x code) xs ∷ [])) good.stack.3.2 good) m e
+  error_enters seats items good m e = grind (arith, nat_tests, asks_it)

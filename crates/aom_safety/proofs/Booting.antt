@@ -1,6 +1,6 @@
 -- The boot state is well typed.
 use Rattle.std.proofs.lemmas.Bool.Decides.{nat_tests}
-use Rattle.std.proofs.Common.{List, None, Option, Some, [], ap, refl, subst, sym, true, ℕ, ◌∙◌, ◌∷◌, ◌≡◌, arith}
+use Rattle.std.proofs.Common.{List, None, Option, Some, [], ap, refl, subst, true, ℕ, ◌∷◌, ◌≡◌, arith}
 use Rattle.std.specs.Prelude.{IsSome}
 use Rattle.aom_classes.specs.Roles.{main_of}
 use Rattle.aom_image.specs.Image.{Image}
@@ -18,11 +18,11 @@ use Rattle.aom_shape.specs.declared.kind.Filling.TheVariants.{Full}
 use Rattle.aom_shape.specs.declared.kind.Kind.TheVariants.{Unset}
 use Rattle.aom_safety.proofs.Destroying.{entry_registers, unset_only}
 use Rattle.aom_safety.proofs.Housing.{counts_same, houses_same}
-use Rattle.aom_safety.specs.Claims.{Dispatching, Layer, Mark, Mark_form, Method, claim, declared, forms, objects}
+use Rattle.aom_safety.specs.Claims.{Dispatching, Layer, Mark, Method, claim, declared}
 use Rattle.aom_safety.specs.Laws.{IsWired}
 use Rattle.aom_semantics.specs.Places.{Place, Sight, seen}
 use Rattle.aom_semantics.specs.State.{A_mark, AtRoot, Frame, Of_main, State, frame_of}
-use Rattle.aom_safety.specs.WellTyped.{AllUndo, Fits, Good, WellTyped}
+use Rattle.aom_safety.specs.WellTyped.{Fits, Good, WellTyped}
 use Rattle.aom_semantics.specs.World.{boot_state, main_tasks}
 use Rattle.aom_safety.proofs.Attending.{plain_claim}
 
@@ -49,17 +49,7 @@ module _ (p : Image) (m : ℕ) (after : Shape) (w : SaysNoMore after (entry_shap
 
 -- main is typed, and stands where the typing begins
 booted : (p : Image) (t : Typing) → IsWired p → IsTyped p t → (m : ℕ) → main_of p ≡ Some m → (s : State) → s.cells ≡ [] → s.tasks ≡ main_tasks (Some m) → s.items ≡ A_mark ∷ [] → WellTyped p t s
-booted p t wired typed m e s cells tasks items =
-    let w = wired.main m e in
-    let leads = typed.entry m w.0 in
-    let below = Mark Nothing ∷ Dispatching Of_main [] ∷ [] in
-    record {
-      layers = Method (begins m) leads.0 ∷ below;
-      tasks = tasks;
-      items = ap forms items ∙ sym (ap (λ es. objects es (Mark_form ∷ [])) leads.2.entries);
-      undos = subst (λ is. AllUndo p is) (sym items) tt;
-      good = subst (λ cs. Good p t cs (Method (begins m) leads.0 ∷ below)) (sym cells) (good p m leads.0 leads.2 w.1 w.3 t leads.1 w.2);
-    }
+booted p t wired typed m e s cells tasks items = search (arith, nat_tests, wired.main m e, typed.entry m, good p m)
 
 some_of : {A : Type 0} (x : Option A) → IsSome x → (y : A) × (x ≡ Some y)
 some_of x s = grind arith

@@ -7,7 +7,6 @@ use Rattle.aom_image.specs.Views.{arguments_of, gives_of, has, instr_at, is_quie
 use Rattle.aom_instructions.specs.declared.instr.Instr.TheVariants.{Call, Trap}
 use Rattle.aom_instructions.specs.declared.instr.Target.{Target}
 use Rattle.aom_image.specs.declared.method.Gives.{Gives}
-use Rattle.aom_image.specs.declared.method.Role.TheVariants.{Construct, Do}
 use Rattle.aom_rules.specs.Calls.{caught, each_argument, rule_target, while_called}
 use Rattle.aom_rules.specs.Requests.{resting, unissued}
 use Rattle.aom_shape.specs.Arguments.{after_of, arguments_moved}
@@ -78,10 +77,9 @@ module _ (p : Image) (t : Typing) (wired : IsWired p) (typed : IsTyped p t) (c :
       let runs = runs_for p wired m view (home_holder home) called_so a.1.holder answered.1 in
       let stands : Stands p t (Returns k home) fr sh' = (
         grind (arith, nat_tests, only_then, none_owns_each sh'.registers, none_owns_at, called_unissued target, called_delivery target, here_is),
-        subst (λ g. Awaits g (result_register (instr_at p fr.method fr.place)) sh') (sym runs.gives)
-            (subst (λ y. Awaits (gives_of p m) y sh') (sym at_x) (awaited p t wired typed c s fr sh ls at_hand m first depth height deep called_so passed (gives_of p m) x sh' a.1.owning more.1.1.1.0)),
+        rw runs.gives (rw at_x (awaited p t wired typed c s fr sh ls at_hand m first depth height deep called_so passed (gives_of p m) x sh' a.1.owning more.1.1.1.0)),
         grind (arith, nat_tests),
-        ends_well p m k fr sh' home (ap is_cancel runs.role ∙ cancels_not p t wired typed c s fr sh ls at_hand m first depth height deep called_so) runs.after a.1.settles,
+        grind (arith, nat_tests, ends_well, cancels_not),
         λ q. runs.quiet (only_then (is_quiet p fr.method) (is_quiet p m) more.1.1.0 q),
       ) in
       let high = same_high p t wired typed c s fr sh ls at_hand m first depth height deep called_so passed home sh' a.1 in (
@@ -113,7 +111,7 @@ module _ (p : Image) (t : Typing) (wired : IsWired p) (typed : IsTyped p t) (c :
   law_trap target m first x here n leads =
       let ended = resting p (method_class p m) in
       let trapped = wired.trapped fr.method fr.place target m first x here in
-      let called_so : IsCalled p m = record { there = trapped.there; role = inl trapped.role; ends = trapped.ends; begins = λ e. let clash : Some Do ≡ Some Construct = sym trapped.role ∙ e in cc } in
+      let called_so : IsCalled p m = record { there = trapped.there; role = inl trapped.role; ends = trapped.ends; begins = grind (arith, nat_tests) } in
       let parts = all_parts (rule_target p fr.method sh target m (method_class p m) (is_construct (method_role p m)) first (length (arguments_of p m))) _ n.1 in
       let more = all_parts (each_argument p sh (arguments_of p m) first) _ parts.1.1 in
       let deep : length (tasks_of ls) < suc (suc (length (tasks_of ls))) = omega arith in
@@ -144,8 +142,8 @@ module _ (p : Image) (t : Typing) (wired : IsWired p) (typed : IsTyped p t) (c :
               (all_join (needs_result p fr (tasks_of ls) s gv (given_cells p fr (tasks_of ls) s (over_trap p fr (tasks_of ls) s) m first) x) _ (result_met p t wired typed c s fr sh ls at_hand m first depth height deep called_so passed gv x more.1.1.0) (free, tt)),
         ),
         enter p t wired typed c s fr sh ls at_hand m first depth height deep called_so passed home sh' over k view runs (λ x. x) a.1 refl (ap suc (ap length (sym high) ∙ length_forms s.items)) (λ d r. mark_claims p d gv (Method fr sh' ∷ ls) r) (λ o. refl)
-            (housed_mark p (given_cells p fr (tasks_of ls) s (over_trap p fr (tasks_of ls) s) m first) home gv (Method fr sh' ∷ ls) a.1.housed) (apart_mark p view k home gv fr sh' ls (a.1.apart k) (rests_under p m fr sh' home (kind_begun p t wired typed c s fr sh ls at_hand m first depth height deep called_so home sh' a.1.begun) a.1.settles))
-            ((runs.gives, trapped.gives, ap is_cancel (runs.role ∙ trapped.role)), below) (does p c fr (tasks_of ls) s (Trap target m first x)) refl refl (ap (λ fs. Mark_form ∷ fs) high) at_hand.undos,
+            (housed_mark p (given_cells p fr (tasks_of ls) s (over_trap p fr (tasks_of ls) s) m first) home gv (Method fr sh' ∷ ls) a.1.housed) (apart_mark p view k home gv fr sh' ls (a.1.apart k) (rests_under p m fr sh' home (grind (arith, nat_tests, kind_begun)) a.1.settles))
+            (grind (arith, nat_tests), below) (does p c fr (tasks_of ls) s (Trap target m first x)) refl refl (ap (λ fs. Mark_form ∷ fs) high) at_hand.undos,
       )
     where
       depth : ℕ

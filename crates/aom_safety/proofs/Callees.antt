@@ -1,6 +1,6 @@
 -- What a call says of its arguments, its target and the class of the method called.
 use Rattle.std.proofs.lemmas.Bool.Decides.{nat_tests}
-use Rattle.std.proofs.Common.{[], Bool, List, None, Option, Some, ap, arith, cond, false, inl, inr, length, refl, suc, true, ℕ, ◌&&◌, ◌+◌, ◌<◌, ◌==◌, ◌∙◌, ◌∷◌, ◌≡◌, ◌≤◌}
+use Rattle.std.proofs.Common.{[], Bool, List, None, Option, Some, arith, false, inl, inr, length, refl, suc, true, ℕ, ◌+◌, ◌<◌, ◌∷◌, ◌≡◌, ◌≤◌}
 use Rattle.std.proofs.lemmas.Bool.{and_from, ne_eqb}
 use Rattle.std.proofs.lemmas.Bool.Decides.{leb_tells}
 use Rattle.std.specs.Prelude.{not, replicate, ◌⊎◌}
@@ -26,7 +26,7 @@ use Rattle.aom_semantics.proofs.Maps.{at-put_at, held_moved}
 use Rattle.aom_safety.proofs.Passing.{lower, upper}
 use Rattle.aom_semantics.specs.Calls.{passed_cells}
 use Rattle.aom_safety.specs.Claims.{Layer, Method, tasks_of}
-use Rattle.aom_semantics.specs.Places.{Cell, Object, Place, Sight, held, moved, same_place}
+use Rattle.aom_semantics.specs.Places.{Cell, Object, Place, Sight, held, same_place}
 use Rattle.aom_semantics.specs.State.{Frame, Home, Inside, State, home_holder, thing_holder}
 use Rattle.aom_safety.specs.WellTyped.{CountsAs, Fits, IsBelow}
 use Rattle.aom_safety.specs.Requests.{thing_kind}
@@ -108,29 +108,8 @@ module _ (p : Image) (s : State) (fr : Frame) (ls : List Layer) (depth : ℕ) (d
       ((i : ℕ) → first ≤ i → i < (first + length xs) → same_place (lower p t fr ls depth deep i) q ≡ false) → ((i : ℕ) → same_place (upper p t fr ls depth deep i) q ≡ false) →
       held (passed_cells p fr (tasks_of ls) s depth xs first to cs) q ≡ held cs q
   passed_elsewhere t [] first to cs q free lo up = refl
-  passed_elsewhere t (Takes_word ∷ xs) first to cs q free lo up = passed_elsewhere t xs (suc first) (suc to) cs q (λ i le. free i (omega arith)) (λ i le lt. lo i (omega arith) (omega arith)) up
-  passed_elsewhere t (Takes_own x ∷ xs) first to cs q free lo up =
-      let a = lower p t fr ls depth deep first in
-      let b = upper p t fr ls depth deep to in
-      passed_elsewhere t xs (suc first) (suc to) (moved a b cs) q
-      (λ i le. held_moved cs a b (upper p t fr ls depth deep i) (free to (omega arith))
-      ∙ ap (λ y. cond y (held cs a) (cond (same_place a (upper p t fr ls depth deep i)) None (held cs (upper p t fr ls depth deep i)))) (same_upper i le)
-      ∙ ap (λ y. cond y None (held cs (upper p t fr ls depth deep i))) (lower_upper i)
-      ∙ free i (omega arith))
-      (λ i le lt. lo i (omega arith) (omega arith)) up
-      ∙ held_moved cs a b q (free to (omega arith))
-      ∙ ap (λ y. cond y (held cs a) (cond (same_place a q) None (held cs q))) (up to)
-      ∙ ap (λ y. cond y None (held cs q)) (lo first (omega arith) (omega arith))
-    where
-      same_upper : (i : ℕ) → suc to ≤ i → same_place (upper p t fr ls depth deep to) (upper p t fr ls depth deep i) ≡ false
-      same_upper i le = ap (λ y. (depth == depth) && y) (ne_eqb to i (λ e. absurd (omega arith))) ∙ both (depth == depth)
-        where
-          both : (b : Bool) → (b && false) ≡ false
-          both true = refl
-          both false = refl
-
-      lower_upper : (i : ℕ) → same_place (lower p t fr ls depth deep first) (upper p t fr ls depth deep i) ≡ false
-      lower_upper i = ap (λ y. y && (first == i)) (ne_eqb (length (tasks_of ls)) depth (λ e. absurd (omega arith)))
+  passed_elsewhere t (Takes_word ∷ xs) first to cs q free lo up = grind (arith, nat_tests, passed_elsewhere t xs)
+  passed_elsewhere t (Takes_own x ∷ xs) first to cs q free lo up = grind (arith, nat_tests, lower, upper, passed_elsewhere t xs, held_moved, ne_eqb)
 
 -- the method that cancels is quiet
 pub cancel_quiet : (p : Image) → IsWired p → (fr : Frame) (m : ℕ) → cancel_method p fr ≡ Some m → is_quiet p m ≡ true

@@ -9,16 +9,15 @@ use Rattle.aom_instructions.specs.declared.instr.Target.{Target}
 use Rattle.aom_instructions.specs.declared.instr.Target.TheVariants.{Entry as On_entry, Field as On_field, Register as On_register, This}
 use Rattle.aom_image.specs.declared.method.Argument.{Argument}
 use Rattle.aom_image.specs.declared.method.Gives.{Gives}
-use Rattle.aom_image.specs.declared.method.Gives.TheVariants.{Left, Nothing}
 use Rattle.aom_image.specs.declared.method.Role.TheVariants.{Construct, Do}
 use Rattle.aom_image.specs.declared.method.Thing.{Thing}
 use Rattle.aom_image.specs.declared.method.Thing.TheVariants.{Message as A_message, Object as An_object_of}
 use Rattle.aom_roles.specs.Tests.{AllTrue}
 use Rattle.aom_roles.specs.Roles.{is_cancel, is_construct, is_service}
 use Rattle.aom_rules.specs.Calls.{age_need, awaits, is_target, rule_target, stands_here, while_called}
-use Rattle.aom_rules.specs.Requests.{begins_here, begins_there, may_begin}
+use Rattle.aom_rules.specs.Requests.{begins_there, may_begin}
 use Rattle.aom_shape.specs.Arguments.{argument_kind, arguments_moved, before_of, entry_fields, entry_shape}
-use Rattle.aom_shape.specs.Kinds.{is_own_for, entry_kind, field, filled, is_fresh_kind, is_object_or_null, is_ready_kind, is_unowning, readied, register, set_register}
+use Rattle.aom_shape.specs.Kinds.{entry_kind, field, filled, is_fresh_kind, is_object_or_null, is_ready_kind, is_unowning, readied, register, set_register}
 use Rattle.aom_shape.specs.Entries.{readied_at}
 use Rattle.aom_shape.specs.Order.{SaysNoMore, WeakerFilling, alike, alike_filling, perhaps_empty, perhaps_full}
 use Rattle.aom_shape.specs.Shape.{Shape}
@@ -190,8 +189,8 @@ module _ (p : Image) (t : Typing) (wired : IsWired p) (typed : IsTyped p t) (c :
             apart,
             stack,
           );
-          fits = λ r. subst (λ k. Fits p (seen cs) (held cs r) k) (sym (as_begun leads.0 w r)) (begins k home sh' e (runs.holder, runs.only, runs.counts) silent leads.0 w r);
-          suits = begun_suits home sh' over leads.0 w.states housed same_states e.begun (λ x lives other. subst (λ k. Suits (thing_kind p x.thing) k (requested cs x.name)) (sym (same_states x)) (e.suits x lives other)) k view plain;
+          fits = λ r. rw (as_begun leads.0 w r) (begins k home sh' e (runs.holder, runs.only, runs.counts) silent leads.0 w r);
+          suits = begun_suits home sh' over leads.0 w.states housed same_states e.begun (λ x lives other. rw (same_states x) (e.suits x lives other)) k view plain;
           tidy = passed.tidy;
         } in
         begins_well p t cs (callee k view home) leads.0 over s' w.entries good cells tasks items undos
@@ -219,8 +218,7 @@ module _ (p : Image) (t : Typing) (wired : IsWired p) (typed : IsTyped p t) (c :
         IsApart p view m (Inside o from) (Method fr sh' ∷ ls) → method_role p m ≡ Some Do → FieldsBegin view (Inside o from)
     do_fields o from view sh' fits lives apart role k may f x is =
         let claims = claim_in_view p (declared p cs) (Method fr sh' ∷ ls) o.name f (λ f. filled (field_thing p (thing_holder o.thing) f) Perhaps) view apart.2.0 (ap is_some (may.2.fields f x is)) (ap (λ y. declared_field p y f) lives) in
-        subst (λ y. Fits p (seen cs) (held cs (Field o.name f)) (filled (Some x) y)) (sym (ap (λ r. at Perhaps (entry_fields r) f) role ∙ at_alike 8 Perhaps f))
-        (subst (λ v. Fits p (seen cs) (held cs (Field o.name f)) v) (claims ∙ ap (λ y. filled y Perhaps) (may.0.fields f x is)) (fits (Field o.name f)))
+        rw (ap (λ r. at Perhaps (entry_fields r) f) role ∙ at_alike 8 Perhaps f) (rw (claims ∙ ap (λ y. filled y Perhaps) (may.0.fields f x is)) at (fits (Field o.name f)))
 
     -- the fields of the called method's class are null
     abbrev AllNull : Object → Type 0
@@ -229,8 +227,7 @@ module _ (p : Image) (t : Typing) (wired : IsWired p) (typed : IsTyped p t) (c :
     construct_fields : (o : Object) (from : Place) (view : Option ℕ) → AllNull o → method_role p m ≡ Some Construct → FieldsBegin view (Inside o from)
     construct_fields o from view null role k may f x is =
         let none = null f x (ap (λ j. field_thing p (holder_of p j) f) (sym (may.1 role)) ∙ is) in
-        subst (λ y. Fits p (seen cs) (held cs (Field o.name f)) (filled (Some x) y)) (sym (ap (λ r. at Perhaps (entry_fields r) f) role))
-        (subst (λ y. Fits p (seen cs) y (filled (Some x) (at Perhaps (replicate 8 Empty) f))) (sym none) (fits_fresh p (seen cs) (Some x) 8 f))
+        rw (ap (λ r. at Perhaps (entry_fields r) f) role) (rw none (fits_fresh p (seen cs) (Some x) 8 f))
 
     -- it is a plain method, or a construct that finds them null
     abbrev Starts : Object → Type 0
@@ -329,11 +326,17 @@ module _ (p : Image) (t : Typing) (wired : IsWired p) (typed : IsTyped p t) (c :
         let apart : IsApart p fr.view fr.method (Inside o from) ls = subst (λ h. IsApart p fr.view fr.method h ls) eh at_hand.good.stack.3 in
         let apart' : (k : ℕ) → IsApart p fr.view k (Inside o from) (Method fr (worked ended) ∷ ls) = λ k. (apart.0, (subst (λ h. NotIn o.name h) (sym eh) apart.0, apart.1), (own_fields, tt), inl own_home_works) in
         let fits : (r : Place) → Fits p (seen cs) (held cs r) (filling p t fr ls depth deep (declared p cs) regs (worked ended) r) =
-        λ r. fits_weaker p (seen cs) (held cs r) (filled_weaker_below depth regs r _ _ (claim_weaker p (declared p cs) fr (worked ended) after_arguments ls r (opened ended))) (passed.fits r) in
+        λ r. fits_weaker p (seen cs) (held cs r) (grind (arith, nat_tests, filled_weaker_below depth, claim_weaker p, opened ended)) (passed.fits r) in
         record {
           fits = fits;
           words = passed.words;
-          housed = record { there = holds.there; lives = holds.lives; below = below_more from fr (worked ended) ls holds.below; ready = ap is_ready_kind (claim_from p (λ r. Null) fr o from (worked ended) ls eh apart.0 holds.below) ∙ holds.ready };
+          housed = record {
+            there = holds.there;
+            lives = holds.lives;
+            below = below_more from fr (worked ended) ls holds.below;
+            ready =
+                grind (arith, nat_tests, claim_from);
+          };
           apart = apart';
           holder = grind (arith, nat_tests, holder_called, houses_family p wired.family b k stands);
           owning = λ i. refl;
@@ -383,8 +386,7 @@ module _ (p : Image) (t : Typing) (wired : IsWired p) (typed : IsTyped p t) (c :
 
     target_holder : (y : ℕ) (x : Object) (z : Thing) → method_class p m ≡ Some y → stands_for p x.thing z ≡ true → stands_for p z (An_object_of y) ≡ true → Houses p (thing_holder x.thing) (holder_of p m)
     target_holder y x z class a b =
-        subst (λ h. Houses p (thing_holder x.thing) h) (sym (ap (λ c. holder_by (method_role p m) c) class ∙ holder_called (method_role p m) y is_called.role))
-        (of_family x.thing (stands_along p x.thing z (An_object_of y) a b))
+        rw (ap (λ c. holder_by (method_role p m) c) class ∙ holder_called (method_role p m) y is_called.role) (of_family x.thing (stands_along p x.thing z (An_object_of y) a b))
       where
         of_family : (v : Thing) → stands_for p v (An_object_of y) ≡ true → Houses p (thing_holder v) (Member y)
         of_family (An_object_of b) stands = houses_family p wired.family b y stands
@@ -416,7 +418,7 @@ module _ (p : Image) (t : Typing) (wired : IsWired p) (typed : IsTyped p t) (c :
       above i = ap (λ b. b && (i == r)) (ne_eqb depth (length (tasks_of ls)) (λ e. absurd (omega arith)))
 
       owned : (o : Object) × (held s.cells q ≡ Some o) × (stands_for p o.thing z ≡ true)
-      owned = held_own p (seen s.cells) (held s.cells q) z a (subst (λ k. Fits p (seen s.cells) (held s.cells q) k) kind (kind_fits p t c s fr sh ls at_hand r))
+      owned = held_own p (seen s.cells) (held s.cells q) z a (rw kind at (kind_fits p t c s fr sh ls at_hand r))
 
       on_register : (ended : ℕ) → begins_there p m ≡ true → Ages a → Entering ended (Inside owned.0 q) (thing_view owned.0.thing) readied_shape
       on_register ended may ages = record {
@@ -424,7 +426,7 @@ module _ (p : Image) (t : Typing) (wired : IsWired p) (typed : IsTyped p t) (c :
         begun = well_begun owned.0 readied_shape lives u.unworked (target_kind y owned.0 z class owned.2 for) may (fresh_one owned.0 z a here_fits ages);
         settles = settles_not ended readied_shape owned.0 q u.unworked.0;
         fits = fits;
-        words = words_kept fr.words after_arguments r (readied (register after_arguments r)) passed.words (subst (λ k. WordFits (word fr r) k) (sym now_ready) (subst (λ k. WordFits (word fr r) k) same_kind (passed.words r)));
+        words = words_kept fr.words after_arguments r (readied (register after_arguments r)) passed.words (grind (arith, nat_tests, now_ready, same_kind));
         housed = record { there = there; lives = lives; below = omega arith; ready = ap is_ready_kind (claim_register p (λ x. Null) fr readied_shape ls r ∙ at_r ∙ now_ready) };
         apart = apart_so;
         holder = target_holder y owned.0 z class owned.2 for;
@@ -446,8 +448,7 @@ module _ (p : Image) (t : Typing) (wired : IsWired p) (typed : IsTyped p t) (c :
           here_fits = grind (arith, nat_tests, there, same_kind, filling p t fr ls depth deep, ne_eqb depth, claim_register p)
 
           fits : (x : Place) → Fits p (seen cs) (held cs x) (filling p t fr ls depth deep (declared p cs) regs readied_shape x)
-          fits x =
-              subst (λ k. Fits p (seen cs) (held cs x) k) (sym (under p t fr ls depth deep (declared p cs) after_arguments regs r (readied (register after_arguments r)) x)) (go (same_place q x) refl)
+          fits x = rw (under p t fr ls depth deep (declared p cs) after_arguments regs r (readied (register after_arguments r)) x) (go (same_place q x) refl)
             where
               go : (b : Bool) → same_place q x ≡ b → Fits p (seen cs) (held cs x) (cond b (readied (register after_arguments r)) (filling p t fr ls depth deep (declared p cs) regs after_arguments x))
               go true e =
@@ -479,7 +480,7 @@ module _ (p : Image) (t : Typing) (wired : IsWired p) (typed : IsTyped p t) (c :
       aside_field x i j = grind arith
 
       kept_in : (o : Object) × (held s.cells spot ≡ Some o) × (stands_for p o.thing z ≡ true)
-      kept_in = held_own p (seen s.cells) (held s.cells spot) z a (subst (λ k. Fits p (seen s.cells) (held s.cells spot) k) kind (field_fits p t c s fr sh ls at_hand f own))
+      kept_in = grind (arith, nat_tests, held_own p, field_fits p t c s fr sh ls at_hand f own)
 
       on_field : (ended : ℕ) → begins_there p m ≡ true → Entering ended (Inside kept_in.0 spot) (thing_view kept_in.0.thing) after_arguments
       on_field ended may = record {
@@ -515,11 +516,10 @@ module _ (p : Image) (t : Typing) (wired : IsWired p) (typed : IsTyped p t) (c :
               (untouched p t cs spot kept_in.0 passed.tidy there (λ f. filled (field_thing p (thing_holder kept_in.0.thing) f) Perhaps) ls (Returns fr.method fr.home) outside passed.stack)
 
           no_field_of : (home : Home) → fr.home ≡ home → IsNoFieldOf kept_in.0.name (field_place home f)
-          no_field_of Static e = tt
-          no_field_of AtRoot e = tt
           no_field_of (Inside x from) e =
               let holds : Holds p cs ls x from = subst (λ h. IsHoused p cs ls h) e passed.housed in
               eqb_comm kept_in.0.name x.name ∙ other_name p t cs spot kept_in.0 passed.tidy there from x holds.there (outside_differs spot from ls outside (field_not_from p t c s fr sh ls at_hand fr.home f refl x from e) holds.below)
+          no_field_of _ e = tt
 
           apart_so : (k : ℕ) → IsApart p (thing_view kept_in.0.thing) k (Inside kept_in.0 spot) (Method fr after_arguments ∷ ls)
           apart_so k = (no_field_of fr.home refl, u.none_in, (λ f some. u.unclaimed f, tt), inr u.unworked)
@@ -559,7 +559,7 @@ module _ (p : Image) (t : Typing) (wired : IsWired p) (typed : IsTyped p t) (c :
       anew d j = grind (arith, nat_tests, same_entries, readied_claim sh.entries, high)
 
       piled : (o : Object) × (held s.cells pile ≡ Some o) × (stands_for p o.thing z ≡ true)
-      piled = held_own p (seen s.cells) (held s.cells pile) z a (subst (λ k. Fits p (seen s.cells) (held s.cells pile) k) (claimed (declared p s.cells) ∙ kind) (at_hand.good.fits pile))
+      piled = held_own p (seen s.cells) (held s.cells pile) z a (rw (claimed (declared p s.cells) ∙ kind) at (at_hand.good.fits pile))
 
       on_entry : (ended : ℕ) → begins_there p m ≡ true → Ages a → Entering ended (Inside piled.0 pile) (thing_view piled.0.thing) readied_pile
       on_entry ended may ages = record {
@@ -641,7 +641,7 @@ module _ (p : Image) (t : Typing) (wired : IsWired p) (typed : IsTyped p t) (c :
         go : (own : Option ℕ) → method_class p fr.method ≡ own → Answer ended This
         go None f = let clash : false ≡ true = sym (ap (λ x. stands_here p x (method_class p m)) f ∙ ap (λ x. stands_here p None x) e) ∙ n.0 in cc
         go (Some y) f =
-            let stands : stands_for p (An_object_of y) (An_object_of k) ≡ true = sym (ap (λ x. stands_here p x (method_class p m)) f ∙ ap (λ x. stands_here p (Some y) x) e) ∙ n.0 in
+            let stands : stands_for p (An_object_of y) (An_object_of k) ≡ true = sym (grind (arith, nat_tests)) ∙ n.0 in
             let own_holder : holder_of p fr.method ≡ Member y =
             ap (λ x. holder_by (method_role p fr.method) x) f
             ∙ holder_member (method_role p fr.method) y (λ r. let clash : Some y ≡ None = sym f ∙ wired.static_main fr.method r in cc) in
@@ -656,7 +656,7 @@ module _ (p : Image) (t : Typing) (wired : IsWired p) (typed : IsTyped p t) (c :
               (
                 (ap (λ k. works_on p k fr.view) e ∙ ap (λ v. works_on p (Some k) v) viewed.1 ∙ fits, (parents_met p t wired s fr sh ls at_hand m (is_construct (method_role p m)) n.1, tt)),
                 subst (λ x. Entering ended (own_home x fr.home) (own_view x fr.view) (while_called This x ended after_arguments)) (sym e)
-                    (subst (λ h. Entering ended h fr.view (worked ended)) (sym w.2) (on_own ended k houses.0 w.0 w.1 w.2 w.3 above e (starts w.0 w.1 w.2) (ap (λ c. begins_here p m c after_arguments.states) (sym e) ∙ may))),
+                    (subst (λ h. Entering ended h fr.view (worked ended)) (sym w.2) (on_own ended k houses.0 w.0 w.1 w.2 w.3 above e (starts w.0 w.1 w.2) (grind (arith, nat_tests)))),
               ),
               subst (λ x. CountsAs p (home_holder (own_home x fr.home)) (own_view x fr.view) (holder_of p m)) (sym e)
                   (subst (λ x. CountsAs p (home_holder fr.home) x (holder_of p m)) (sym viewed.1) (record {
@@ -697,10 +697,10 @@ module _ (p : Image) (t : Typing) (wired : IsWired p) (typed : IsTyped p t) (c :
     on_kept ended f (Some y) e n may =
         let kind : Kind = filled (field_thing p (home_holder fr.home) f) (field sh f) in
         let declared_there = something (field_thing p (holder_of p fr.method) f) (field sh f) in
-        let v = own_for p (An_object_of y) (filled (field_thing p (holder_of p fr.method) f) (field sh f)) (sym (ap (λ x. is_target p x (filled (field_thing p (holder_of p fr.method) f) (field sh f))) e) ∙ n.0) in
-        let same : kind ≡ filled (field_thing p (holder_of p fr.method) f) (field sh f) = ap (λ x. filled x (field sh f)) (houses_field p _ _ f at_hand.good.stack.1.holder (declared_there v.0 v.1 v.2)) in
+        let v = own_for p (An_object_of y) (filled (field_thing p (holder_of p fr.method) f) (field sh f)) (grind (arith, nat_tests)) in
+        let same : kind ≡ filled (field_thing p (holder_of p fr.method) f) (field sh f) = grind (arith, nat_tests, houses_field) in
         let w =
-        own_for p (An_object_of y) kind (ap (λ k. is_own_for p (An_object_of y) k) same ∙ sym (ap (λ x. is_target p x (filled (field_thing p (holder_of p fr.method) f) (field sh f))) e) ∙ n.0) in
+        own_for p (An_object_of y) kind (grind (arith, nat_tests)) in
         let there = something (field_thing p (home_holder fr.home) f) (field sh f) w.0 w.1 w.2 in
         let does_so = ready (field_thing p (holder_of p fr.method) f) (field sh f) (age_of (filled (field_thing p (holder_of p fr.method) f) (field sh f)) n.1) in
         let own = declared_there v.0 v.1 v.2 in
@@ -731,7 +731,7 @@ module _ (p : Image) (t : Typing) (wired : IsWired p) (typed : IsTyped p t) (c :
             entry_there sh.entries (items_of ls) s.items k at_hand.items within,
             (
               entry_owns sh.entries (items_of ls) s.items k at_hand.items within (ap is_unowning w.2),
-              subst (λ k'. AllTrue (needs_target_object p k' (held s.cells (entry_place s.items k)))) (sym e) (target_met y (held s.cells (entry_place s.items k)) x.0 w.0 x.1 x.2 w.3),
+              rw e (target_met y (held s.cells (entry_place s.items k)) x.0 w.0 x.1 x.2 w.3),
             ),
           ),
           at_home (entry_place s.items k) x.0 (while_called (On_entry k) (method_class p m) ended after_arguments) x.1 (on_entry k y e w.0 w.1 within w.2 w.3 ended may (ages kind w.0 w.1 w.2 (age_of kind n.1.1))),
@@ -756,9 +756,7 @@ module _ (p : Image) (t : Typing) (wired : IsWired p) (typed : IsTyped p t) (c :
     result_free x u = grind (arith, nat_tests, fits_unowning p, top ls x, ne_eqb depth, claim_register p)
 
     pub result_met : (g : Gives) (x : ℕ) → awaits g (register after_arguments x) ≡ true → AllTrue (needs_result p fr (tasks_of ls) s g cs x)
-    result_met Nothing x a = tt
-    result_met (Left y) x a = tt
-    result_met _ x a = (result_free x a, tt)
+    result_met x y a = grind (arith, nat_tests, result_free)
 
     pub awaited :
         (g : Gives) (x : ℕ) (sh' : Shape) → ((i : ℕ) → is_unowning (register sh' i) ≡ is_unowning (register after_arguments i)) → awaits g (register after_arguments x) ≡ true →

@@ -1,6 +1,6 @@
 -- A method that cancels returns: the request of its object is idle, and its signal is taken.
 use Rattle.std.proofs.lemmas.Bool.Decides.{nat_tests}
-use Rattle.std.proofs.Common.{Bool, IsTrue, List, Option, Some, ap, cond, false, refl, subst, sym, true, ℕ, ◌∙◌, ◌∷◌, ◌≡◌, arith}
+use Rattle.std.proofs.Common.{IsTrue, List, Option, Some, ap, cond, false, refl, subst, sym, true, ℕ, ◌∙◌, ◌∷◌, ◌≡◌, arith}
 use Rattle.std.proofs.lemmas.Bool.{ne_eqb, true≢false}
 use Rattle.aom_image.specs.Image.{Image}
 use Rattle.aom_image.specs.Views.{has, method_role}
@@ -23,7 +23,7 @@ use Rattle.aom_safety.proofs.Suiting.{all_returned, cancel_ends, rejoins_caller}
 use Rattle.aom_safety.specs.Claims.{Layer, Method, claim, declared}
 use Rattle.aom_semantics.specs.Enlisted.{cancelled, on_request, own_request, rerequested}
 use Rattle.aom_semantics.specs.Places.{Cell, Object, Place, Request, held, named, requested, seen}
-use Rattle.aom_safety.specs.Requests.{AllSuit, Suits, known_at, states_claim, thing_kind, works_at}
+use Rattle.aom_safety.specs.Requests.{AllSuit, known_at, states_claim, thing_kind, works_at}
 use Rattle.aom_semantics.specs.State.{AtRoot, Choice, Frame, Home, Inside, State, Static}
 use Rattle.aom_safety.specs.WellTyped.{EndsWell, Holds, IsAlone, IsApart, IsHoused, Returns, Stack}
 
@@ -46,22 +46,19 @@ module _ (p : Image) (t : Typing) (c : Choice) (s : State) (fr fr2 : Frame) (sh 
   others n off = grind (arith, nat_tests, requested_there s.cells)
 
   here : (o : Object) (from : Place) → fr.home ≡ Inside o from → named s.cells o.name ≡ Some o → requested cells_then o.name ≡ on_request cancelled (requested s.cells o.name)
-  here o from e lives =
-      subst (λ h. requested (rerequested s.cells h (on_request cancelled (own_request s.cells h))) o.name ≡ on_request cancelled (requested s.cells o.name)) (sym e)
-      (requested_here s.cells o.name (on_request cancelled (requested s.cells o.name)) o lives)
+  here o from e lives = rw e (requested_here s.cells o.name (on_request cancelled (requested s.cells o.name)) o lives)
 
   suits : AllSuit p cells_then below
   suits = all_returned p s.cells cells_then fr sh below at_hand.good.suits at_hand.good.stack.2 alike.named_so others (λ o from e h.
-      let holds : IsHoused p s.cells below (Inside o from) = subst (λ h. IsHoused p s.cells below h) e at_hand.good.stack.2 in
-      let apart : IsApart p fr.view fr.method (Inside o from) below = subst (λ h. IsApart p fr.view fr.method h below) e at_hand.good.stack.3 in
-      let alone : IsAlone p (Inside o from) below = subst (λ h. IsAlone p h below) e (at_hand.good.stack.1.alone cancels) in
-      let well : EndsWell p fr.method (Inside o from) fr2 sh2 = subst (λ h. EndsWell p fr.method h fr2 sh2) e at_hand.good.stack.4.0.3 in
+      let holds : IsHoused p s.cells below (Inside o from) = rw e at at_hand.good.stack.2 in
+      let apart : IsApart p fr.view fr.method (Inside o from) below = rw e at at_hand.good.stack.3 in
+      let alone : IsAlone p (Inside o from) below = rw e at (at_hand.good.stack.1.alone cancels) in
+      let well : EndsWell p fr.method (Inside o from) fr2 sh2 = rw e at at_hand.good.stack.4.0.3 in
       let done : IsTrue (has cancel_done sh.states) = ap (λ b. only_if b (has cancel_done sh.states)) (sym cancels) ∙ r.cancels in
       let then : Option Request = on_request cancelled (requested s.cells o.name) in
       let is_idle = cancel_ends (thing_kind p o.thing) (known_at p fr sh.states (states_claim p o below)) (requested s.cells o.name) done h in
-      subst (λ r. Suits (thing_kind p o.thing) (states_claim p o below) r) (sym (here o from e holds.lives))
-      (rejoins_caller p o fr2 sh2 idle ls idle then apart.3 (λ w. subst (λ n. IsTrue (has sh2.states n)) (ap (λ b. cond b idle (after_of p fr.method)) cancels) (well w)) (has_itself idle) refl
-      (subst (λ (b : Bool). Suits (thing_kind p o.thing) (record { states = idle; cancelled = b }) then) (sym alone) is_idle)))
+      rw (here o from e holds.lives) (rejoins_caller p o fr2 sh2 idle ls idle then apart.3 (λ w. rw (ap (λ b. cond b idle (after_of p fr.method)) cancels) at (well w)) (has_itself idle) refl
+      (rw alone is_idle)))
 
   -- what the layers below claim to be fresh is another object
   unworked : (q : Place) (x : Object) → held s.cells q ≡ Some x → is_ready_kind (claim p (declared p s.cells) below q) ≡ false → requested cells_then x.name ≡ requested s.cells x.name
@@ -86,5 +83,5 @@ module _ (p : Image) (t : Typing) (c : Choice) (s : State) (fr fr2 : Frame) (sh 
         frames = caller.1;
         housed = housed_alike p t s.cells cells_then alike ls fr2.home caller.2;
         apart = caller.3;
-        stack = stack_alike p t s.cells cells_then alike (listed_still s.cells fr.home (on_request cancelled (own_request s.cells fr.home)) (on_some cancelled (own_request s.cells fr.home))) ls _ caller.4;
+        stack = stack_alike p t s.cells cells_then alike (grind (arith, nat_tests, listed_still, on_some)) ls _ caller.4;
       }

@@ -17,12 +17,11 @@ use Rattle.aom_roles.proofs.Descending.{through}
 use Rattle.aom_roles.specs.Families.{descends}
 use Rattle.aom_roles.specs.Shapes.{kind_of}
 use Rattle.aom_roles.specs.States.{active, active_states, cancel_open, idle, server_states}
-use Rattle.aom_rules.specs.Calls.{brought}
 use Rattle.aom_rules.specs.Requests.{after_cancel, once_cancelled, own_kind}
 use Rattle.aom_rules.specs.Typing.{IsTyped, Leads, Typing}
 use Rattle.aom_shape.proofs.Ordering.{transitive}
 use Rattle.aom_shape.proofs.Sets.{has_along, has_first, has_itself, has_second}
-use Rattle.aom_shape.specs.Arguments.{after_of, entry_fields, entry_shape}
+use Rattle.aom_shape.specs.Arguments.{entry_fields, entry_shape}
 use Rattle.aom_shape.specs.Kinds.{field, filled, is_ready_kind, register}
 use Rattle.aom_shape.specs.Order.{SaysNoMore, Weaker, WeakerFilling, alike, alike_filling, perhaps_empty, perhaps_full}
 use Rattle.aom_shape.specs.Shape.{Shape}
@@ -42,15 +41,15 @@ use Rattle.aom_safety.proofs.Straight.{At, Law, fits_unowning, settle, stepped, 
 use Rattle.aom_safety.proofs.Suiting.{same_object}
 use Rattle.aom_safety.proofs.Housing.{houses_family}
 use Rattle.aom_safety.proofs.Waiting.{waits_in_view}
-use Rattle.aom_safety.specs.Claims.{declared_field, own_field, serves, Layer, Method, claim, declared, entry_claim, home_claim, items_of, objects, tasks_of}
+use Rattle.aom_safety.specs.Claims.{declared_field, own_field, serves, Layer, Method, claim, declared, home_claim, items_of, objects, tasks_of}
 use Rattle.aom_semantics.specs.Calls.{result_register}
 use Rattle.aom_semantics.specs.Effects.{applied, cancels_if}
-use Rattle.aom_semantics.specs.Enlisted.{begun_cells, cancel_method, cancel_of, cancelling, in_phase, is_active, is_cancelling, is_unsettled, on_request, own_request, rerequested, is_idle}
+use Rattle.aom_semantics.specs.Enlisted.{begun_cells, cancel_method, cancel_of, cancelling, in_phase, is_active, is_unsettled, on_request, own_request, rerequested}
 use Rattle.aom_safety.specs.Laws.{IsWired}
-use Rattle.aom_semantics.specs.Places.{In_service, Cell, Elsewhere, Entry, Field, Going, Object, Phase, Place, Register, Request, Root, held, requested, seen}
+use Rattle.aom_semantics.specs.Places.{In_service, Cell, Elsewhere, Entry, Field, Going, Object, Place, Register, Request, Root, held, requested, seen}
 use Rattle.aom_safety.specs.Requests.{AllSuit, Known, Suits, known_at, state_of, states_claim, thing_kind, works_at}
 use Rattle.aom_semantics.specs.State.{Choice, Frame, Home, Inside, State, frame_as, home_holder, next, thing_holder}
-use Rattle.aom_safety.specs.WellTyped.{view_holder, InView, IsOfFamily, Awaits, CountsAs, EndsWell, Fits, Good, Holds, Houses, IsAlone, IsApart, IsHoused, NotIn, Returns, Stack, Stands, WellTyped, WordFits}
+use Rattle.aom_safety.specs.WellTyped.{view_holder, InView, IsOfFamily, CountsAs, Fits, Good, Holds, Houses, IsAlone, IsApart, IsHoused, NotIn, Returns, Stack, Stands, WellTyped, WordFits}
 use Rattle.aom_safety.proofs.Attending.{plain_claim}
 
 -- ---- what is known of a request
@@ -125,7 +124,7 @@ module _ (p : Image) (t : Typing) (wired : IsWired p) (typed : IsTyped p t) (c :
       let states = once_cancelled sh.states in
       let sh' : Shape = record sh { states = states } in
       let here = suits_in (own_kind p fr.method) (its p t (main_of_none p wired) c s fr sh ls at_hand listed sh.states) request listed it.suits in
-      let known = stays_cancelled sh.states (state_of request) (has_common sh.states server_states (state_of request) here (rests_only request within inactive)) in
+      let known = stays_cancelled sh.states (state_of request) (grind (arith, nat_tests, has_common, rests_only)) in
       let less : SaysNoMore (after_cancel sh) sh' = record { registers = λ i. alike; fields = λ i. unknown_at i (field sh i); entries = refl; states = has_itself states; delivery = refl } in
       well p t c s fr sh ls at_hand _ (next fr) sh' refl at_hand.items at_hand.undos
       (settle p t s.cells (next fr) sh' ls (stepped p t s.cells fr sh' ls (learned p t (main_of_none p wired) c s fr sh ls at_hand listed states known)) (leads.0, leads.1, transitive leads.0 (after_cancel sh) sh' leads.2 less))
@@ -197,7 +196,7 @@ module _ (p : Image) (t : Typing) (wired : IsWired p) (typed : IsTyped p t) (c :
     unset i = unset_only (subst (λ k. Weaker (register begins.0 i) k) (entry_registers p m (wired.canceller class.0 m class.2).3 i) (begins.2.registers i))
 
     unfilled : (f : ℕ) → field begins.0 f ≡ Perhaps
-    unfilled f = perhaps_only (subst (λ x. WeakerFilling (field begins.0 f) x) (ap (λ r. at Perhaps (entry_fields r) f) role ∙ at_alike 8 Perhaps f) (begins.2.fields f))
+    unfilled f = perhaps_only (rw (ap (λ r. at Perhaps (entry_fields r) f) role ∙ at_alike 8 Perhaps f) at (begins.2.fields f))
 
     -- it is of the object's class, or of one above it
     family : IsOfFamily p class.0 m
@@ -207,9 +206,7 @@ module _ (p : Image) (t : Typing) (wired : IsWired p) (typed : IsTyped p t) (c :
     works = ap (λ r. holder_by r (method_class p m)) role ∙ ap (λ c. holder_by (Some Cancel_role) c) family.of
 
     holder : Houses p (home_holder fr.home) (holder_of p m)
-    holder =
-        subst (λ h. Houses p h (holder_of p m)) (sym between.1)
-        (subst (λ h. Houses p (Member between.0) h) (sym works) (houses_family p wired.family between.0 family.class (through p between.0 class.0 family.class between.2 family.above)))
+    holder = rw between.1 (rw works (houses_family p wired.family between.0 family.class (through p between.0 class.0 family.class between.2 family.above)))
 
     own_holder : Houses p (thing_holder o.thing) (holder_of p m)
     own_holder = subst (λ h. Houses p (home_holder h) (holder_of p m)) it.home holder
@@ -225,7 +222,7 @@ module _ (p : Image) (t : Typing) (wired : IsWired p) (typed : IsTyped p t) (c :
       some = at_hand.good.stack.1.view.some;
       between = λ v e.
           let same : class.0 ≡ v = let both = sym class.1 ∙ e in cc in
-          (between.0, between.1, subst (λ x. descends p between.0 x ≡ true) same between.2, family.class, works, subst (λ x. descends p x family.class ≡ true) same family.above);
+          (between.0, between.1, rw same at between.2, family.class, works, rw same at family.above);
       fields = λ f t is. ap (λ v. field_thing p (view_holder v) f) class.1 ∙ wired.family.inherits class.0 family.class f t family.above (ap (λ h. field_thing p h f) (sym works) ∙ is);
     }
 
@@ -241,7 +238,7 @@ module _ (p : Image) (t : Typing) (wired : IsWired p) (typed : IsTyped p t) (c :
             (subst (λ k. Fits p (seen cs') (held cs' (Register f i)) k) (claim_register_above p cs' over f i (omega (arith, eqb-true _ _ e))) h) in
             subst (λ k. Fits p (seen cs') (held cs' (Register f i)) k) (sym (unset i)) (subst (λ x. Fits p (seen cs') x Unset) (sym none) tt)
         go false e h = h
-    fits (Entry k) = subst (λ es. Fits p (seen cs') (held cs' (Entry k)) (entry_claim es (items_of over) k (claim p (declared p cs') over (Entry k)))) (sym begins.2.entries) (base (Entry k))
+    fits (Entry k) = rw begins.2.entries (base (Entry k))
     fits (Field n f) =
         subst (λ h. Fits p (seen cs') (held cs' (Field n f)) (home_claim p (holder_of p m) h begins.0 n f (claim p (declared p cs') over (Field n f)))) (sym it.home)
         (go (o.name == n) refl (field_thing p (holder_of p m) f) refl)
@@ -262,8 +259,7 @@ module _ (p : Image) (t : Typing) (wired : IsWired p) (typed : IsTyped p t) (c :
         go false e own is = base (Field n f)
     fits (Elsewhere Root) = grind (arith, nat_tests, base (Elsewhere Root))
     fits (Elsewhere In_service) =
-        subst (λ k. Fits p (seen cs') (held cs' (Elsewhere In_service)) k)
-        (sym (plain_claim (serves p m) begins.0 (claim p (declared p cs') over (Elsewhere In_service)) (ap is_service role))) (base (Elsewhere In_service))
+        rw (plain_claim (serves p m) begins.0 (claim p (declared p cs') over (Elsewhere In_service)) (ap is_service role)) (base (Elsewhere In_service))
     fits (Elsewhere w) = base (Elsewhere w)
     fits (Going k) = base (Going k)
 
@@ -311,7 +307,7 @@ module _ (p : Image) (t : Typing) (wired : IsWired p) (typed : IsTyped p t) (c :
             let before =
             subst (λ h. Suits (thing_kind p x.thing) (cond (works_at x.name h) (known_at p fr sh.states below) below) (requested s.cells x.name)) it.home
             (at_hand.good.suits x (sym (same_cells.named_so x.name) ∙ lives)) in
-            subst (λ r. Suits (thing_kind p x.thing) below r) (sym (others x.name e)) (subst (λ b. Suits (thing_kind p x.thing) (cond b (known_at p fr sh.states below) below) (requested s.cells x.name)) e before)
+            subst (λ r. Suits (thing_kind p x.thing) below r) (sym (others x.name e)) (grind (arith, nat_tests))
 
     -- the caller waits, and finds its object idle
     stands : Stands p t (Returns m fr.home) fr sh'
@@ -319,14 +315,13 @@ module _ (p : Image) (t : Typing) (wired : IsWired p) (typed : IsTyped p t) (c :
         let quiet = wired.cancels m role in
         let r = result_register (instr_at p fr.method fr.place) in
         let was : IsTrue (has sh.states active) =
-        subst (λ n. IsTrue (has sh.states n)) (active_state request is_active_now)
-        (suits_in (own_kind p fr.method) (known_at p fr sh.states (states_claim p o ls)) request (active_listed (own_kind p fr.method) is_kind) it.suits) in
+        rw (active_state request is_active_now) at (suits_in (own_kind p fr.method) (known_at p fr sh.states (states_claim p o ls)) request (active_listed (own_kind p fr.method) is_kind) it.suits) in
         let less : SaysNoMore (after_cancel sh) sh' = record { registers = λ i. alike; fields = λ i. alike_filling; entries = refl; states = idle_cancelled sh.states was; delivery = refl } in
         let on : Leads t fr.method (suc fr.place) sh' = (leads.0, leads.1, transitive leads.0 (after_cancel sh) sh' leads.2 less) in (
           λ may. absurd (true≢false (sym quiet.0 ∙ wired.quiets m may)),
-          subst (λ g. Awaits g r sh') (sym quiet.1) tt,
-          subst (λ g. Leads t fr.method (suc fr.place) (brought g r sh')) (sym quiet.1) on,
-          subst (λ h. EndsWell p m h fr sh') (sym it.home) (λ w. subst (λ b. IsTrue (has idle (cond b idle (after_of p m)))) (sym is_so) (has_itself idle)),
+          rw quiet.1 tt,
+          rw quiet.1 on,
+          rw it.home (λ w. rw is_so (has_itself idle)),
           λ q. quiet.0,
         )
 
@@ -347,7 +342,7 @@ module _ (p : Image) (t : Typing) (wired : IsWired p) (typed : IsTyped p t) (c :
       record { words = at_hand.good.stack.1.words; holder = at_hand.good.stack.1.holder; view = at_hand.good.stack.1.view; height = at_hand.good.stack.1.height; alone = at_hand.good.stack.1.alone; message = at_hand.good.stack.1.message },
       housed_alike p t s.cells cs' same_cells ls fr.home at_hand.good.stack.2,
       at_hand.good.stack.3,
-      stack_alike p t s.cells cs' same_cells (listed_still s.cells fr.home (on_request cancelling request) (on_some cancelling request)) ls _ at_hand.good.stack.4,
+      stack_alike p t s.cells cs' same_cells (grind (arith, nat_tests, listed_still, on_some)) ls _ at_hand.good.stack.4,
     )
 
     good : Good p t cs' (Method fr' begins.0 ∷ over)
@@ -406,5 +401,4 @@ module _ (p : Image) (t : Typing) (wired : IsWired p) (typed : IsTyped p t) (c :
       go : (b : Bool) (m : Option ℕ) → in_phase is_active request ≡ b → cancel_method p fr ≡ m → WellTyped p t (applied p fr (tasks_of ls) s (cancels_if fr b m))
       go true (Some m) a e = begun_well p t wired typed c s fr sh ls at_hand n.0 leads.0 m a e
       go true None a e = absurd (has_one e)
-      go false (Some m) a e = stays p t wired typed c s fr sh ls at_hand n.0 leads.0 within a
-      go false None a e = stays p t wired typed c s fr sh ls at_hand n.0 leads.0 within a
+      go false _ a e = stays p t wired typed c s fr sh ls at_hand n.0 leads.0 within a

@@ -6,10 +6,10 @@ use Rattle.std.specs.Prelude.{is_some, ◌++◌}
 use Rattle.aom_image.specs.Image.{Image}
 use Rattle.aom_image.specs.Views.{gives_of, instr_at}
 use Rattle.aom_instructions.specs.declared.instr.Instr.{Instr}
-use Rattle.aom_instructions.specs.declared.instr.Instr.TheVariants.{Push, PushOperation, Trap}
+use Rattle.aom_instructions.specs.declared.instr.Instr.TheVariants.{Push, Trap}
 use Rattle.aom_instructions.specs.declared.instr.Target.{Target}
 use Rattle.aom_image.specs.declared.method.Gives.{Gives}
-use Rattle.aom_image.specs.declared.method.Gives.TheVariants.{Left, Maybe as A_maybe, Nothing, Own as An_own, Word as A_word}
+use Rattle.aom_image.specs.declared.method.Gives.TheVariants.{Maybe as A_maybe, Own as An_own, Word as A_word}
 use Rattle.aom_roles.specs.Tests.{AllTrue}
 use Rattle.aom_shape.specs.Kinds.{is_unowning, register}
 use Rattle.aom_shape.specs.Shape.{Shape}
@@ -25,18 +25,16 @@ use Rattle.aom_safety.proofs.Straight.{claim_register, fits_unowning}
 use Rattle.aom_semantics.specs.Calls.{called, result_register}
 use Rattle.aom_safety.specs.Claims.{Dispatching, Form, Layer, Mark, Mark_form, Method, Unwinding, declared, forms, items_of, objects, tasks_of}
 use Rattle.aom_semantics.specs.Cleanup.{arrival, arrived, code_told, destroyed, has_trap, operation_frame, to_trap, unwound}
-use Rattle.aom_classes.specs.Roles.{destructor_of}
 use Rattle.aom_semantics.specs.Destruction.{begun_by}
 use Rattle.aom_safety.specs.Laws.{IsWired}
 use Rattle.aom_safety.specs.Leaves.{AreEntries, AreMethods, Arrives, ArrivesAt, Begins, HasMoved, HasNoResult, HasPushed, Hears, IsBegun, IsDestroyed, IsLeaving, IsOver, LeavesWith}
 use Rattle.aom_semantics.specs.Moves.{announcement, counted, does, needs, step, written_task}
 use Rattle.aom_semantics.specs.Places.{Cell, Entry, Going, Object, Place, Register, held, moved, named, same_place, seen}
-use Rattle.aom_semantics.specs.State.{Destroy, Closing, Of_server, Accepts, Serves, Of_object, A_mark, An_object, An_operation, Choice, Dispatch, Dispatched, Frame, Goes, Item, Main_left, Of_main, Run, State, Task, Trapped, Unwind, next, set_word, word}
+use Rattle.aom_semantics.specs.State.{Destroy, Closing, A_mark, An_object, An_operation, Choice, Dispatch, Dispatched, Frame, Goes, Item, Main_left, Run, State, Task, Trapped, Unwind, next, set_word, word}
 use Rattle.aom_safety.specs.WellTyped.{AllUndo, Awaits, EndsDispatch, Fits, Good, Leaves, Now, Stack, WellTyped}
 use Rattle.aom_semantics.specs.Effects.{Leaves, Update, applied}
 use Rattle.aom_transcript.specs.declared.line.Ending.TheVariants.{MainLeft}
 use Rattle.aom_safety.proofs.Steps.{step_keeps}
-use Rattle.aom_semantics.specs.Servers.{is_server}
 
 -- ---- the entries of a leave, and its mark
 
@@ -140,8 +138,7 @@ module _ (p : Image) (t : Typing) (c : Choice) (fr : Frame) (ts : List Task) (s 
       let o = is_there (held s.cells (Register (length ts) a)) n.1.0 in
       let goes = has_moved s.cells (Register (length ts) a) (Entry (length s.items)) o.0 o.1 (none_pushed_yet p t s w) refl in
       (o.0, goes, refl)
-  pushes (PushOperation a m) code n = grind (arith, nat_tests, is_there)
-  pushes _ code n = (refl, refl)
+  pushes x code n = grind (arith, nat_tests, is_there)
 
   pub begins_by : (i : Instr) (code : ℤ) → LeavesWith c fr i code → AllTrue (needs p c fr ts (counted p s) i) → does p c fr ts (counted p s) i ≡ u → Begins p code fr (length ts) i s u
   begins_by i code h n e = grind (arith, nat_tests, leaves_so p c fr ts, fits p c fr ts, begins_at i code, off_of p c fr ts, pushes i code n)
@@ -171,17 +168,15 @@ module _ (p : Image) (t : Typing) (wired : IsWired p) (s u : State) (w : WellTyp
       let o = is_there (held s.cells (Entry (length rest))) some in
       let g = Going (length (Unwind code ∷ below)) in
       let free = none_on_its_way p t s w (Unwind code ∷ below) at_hand in
-      subst (λ x. Dealt An_object rest (destroyed p x rest (Unwind code ∷ below) (counted p s))) (sym o.1)
-      (begins_over p wired o.0 (length rest) code below (Unwind code ∷ below) (refl, refl), refl, (o.0, has_moved s.cells (Entry (length rest)) g o.0 o.1 free refl, destroyed_over p (is_server p o.0.thing) (destructor_of p o.0.thing) o.0 (length rest) (Unwind code ∷ below)))
+      rw o.1 (begins_over p wired o.0 (length rest) code below (Unwind code ∷ below) (refl, refl), refl, (o.0, has_moved s.cells (Entry (length rest)) g o.0 o.1 free refl, grind (arith, nat_tests, destroyed_over, below)))
 
   of_item : AllUndo p s.items → (i : Item) (rest es : List Item) → s.items ≡ i ∷ rest → AreEntries (i ∷ es) → unwound p code below (counted p s) (i ∷ rest) ≡ Goes u → Dealt i rest u
-  of_item undos An_object rest es same plain e = grind (arith, nat_tests, guarded_goes, of_object rest, guarded_met)
   of_item undos (An_operation m x) rest es same plain e =
       let fr = operation_frame m x (length rest) in
       let undo = subst (λ l. AllUndo p l) same undos in
       subst (λ v. Dealt (An_operation m x) rest v) (goes_same (record (counted p s) { tasks = Run fr ∷ Unwind code ∷ below; items = rest }) u e)
       ((undo.0.quiet, refl, (refl, refl)), refl, (fr, refl, refl, refl, refl, refl))
-  of_item undos A_mark rest es same plain e = absurd plain
+  of_item undos x rest es same plain e = grind (arith, nat_tests, guarded_goes, of_object rest, guarded_met)
 
 others : (i : Item) (rest : List Item) → AreEntries (i ∷ rest) → AreEntries rest
 others x rest h = grind arith
@@ -210,21 +205,16 @@ module _ (c : ℕ) (code : ℤ) (fr : Frame) where
   next_register e = absurd (omega (arith, e))
 
   told_code : (g : Gives) → word (code_told g c code fr) (suc c) ≡ Some code
-  told_code Nothing = own_word fr (suc c) (Some code)
   told_code A_word = own_word (set_word fr c (Some (pos 0))) (suc c) (Some code)
   told_code (An_own t) = own_word (set_word fr c None) (suc c) (Some code)
   told_code (A_maybe t) = own_word (set_word fr c None) (suc c) (Some code)
-  told_code (Left x) = own_word fr (suc c) (Some code)
+  told_code _ = own_word fr (suc c) (Some code)
 
   told_both : (w : Option ℤ) (r : ℕ) → c ≢ r → suc c ≢ r → word (set_word (set_word fr c w) (suc c) (Some code)) r ≡ word fr r
   told_both w r n m = other_word (set_word fr c w) (suc c) r (Some code) m ∙ other_word fr c r w n
 
   told_others : (g : Gives) (r : ℕ) → c ≢ r → suc c ≢ r → word (code_told g c code fr) r ≡ word fr r
-  told_others Nothing r n m = other_word fr (suc c) r (Some code) m
-  told_others A_word r n m = told_both (Some (pos 0)) r n m
-  told_others (An_own t) r n m = told_both None r n m
-  told_others (A_maybe t) r n m = told_both None r n m
-  told_others (Left x) r n m = other_word fr (suc c) r (Some code) m
+  told_others x r n m = grind (arith, nat_tests, other_word, told_both)
 
   told_first : (w : Option ℤ) → word (set_word (set_word fr c w) (suc c) (Some code)) c ≡ w
   told_first w = other_word (set_word fr c w) (suc c) c (Some code) next_register ∙ own_word fr c w
@@ -232,11 +222,7 @@ module _ (c : ℕ) (code : ℤ) (fr : Frame) where
   told_result :
       (g : Gives) (cs : List Cell) (depth : ℕ) (sh : Shape) → Awaits g c sh → (is_unowning (register sh c) ≡ true → held cs (Register depth c) ≡ None) →
       HasNoResult g cs depth c fr (next (code_told g c code fr))
-  told_result Nothing cs depth sh a free = other_word fr (suc c) c (Some code) next_register
-  told_result A_word cs depth sh a free = (told_first (Some (pos 0)), free a)
-  told_result (An_own t) cs depth sh a free = (told_first None, free a)
-  told_result (A_maybe t) cs depth sh a free = (told_first None, free a)
-  told_result (Left x) cs depth sh a free = other_word fr (suc c) c (Some code) next_register
+  told_result x cs depth sh a free = grind (arith, nat_tests, other_word, next_register, told_first)
 
   pub told_frame : (g : Gives) → record (next (code_told g c code fr)) { words = fr.words } ≡ next fr
   told_frame x = grind arith
@@ -244,12 +230,7 @@ module _ (c : ℕ) (code : ℤ) (fr : Frame) where
   hears :
       (g : Gives) (cs : List Cell) (depth : ℕ) (sh : Shape) → Awaits g c sh → is_unowning (register sh (suc c)) ≡ true →
       ((r : ℕ) → is_unowning (register sh r) ≡ true → held cs (Register depth r) ≡ None) → Hears code g c cs depth fr (next (code_told g c code fr))
-  hears g cs depth sh a unowning free = record {
-    told = (told_code g, free (suc c) unowning);
-    result = told_result g cs depth sh a (free c);
-    others = λ r n m. told_others g r (λ e. n (sym e)) (λ e. m (sym e));
-    goes_on = told_frame g;
-  }
+  hears g cs depth sh a unowning free = search (arith, nat_tests, told_code g, told_result g cs depth sh a (free c), others, told_others g, told_frame g)
 
 module _ (p : Image) (t : Typing) (s u : State) (code : ℤ) (items : List Item) where
   -- where it arrives, and what stays
@@ -282,11 +263,7 @@ module _ (p : Image) (t : Typing) (s u : State) (code : ℤ) (items : List Item)
       (ls : List Layer) (gv : Gives) (es : List Pushed) → Good p t s.cells (Unwinding code es ∷ Mark gv ∷ ls) → arrived p code (Trapped ∷ tasks_of ls) items (counted p s) ≡ Goes u →
       Arrived (Trapped ∷ tasks_of ls) u
   below_trap (Method fr sh ∷ ls) gv es good e = subst (λ v. Arrived (Trapped ∷ Run fr ∷ tasks_of ls) v) (goes_same _ u e) (at_method fr sh ls gv es good)
-  below_trap (Dispatching (Of_server x c Accepts) seats ∷ ls) gv es good e = subst (λ v. Arrived (Trapped ∷ Dispatched (Of_server x c Accepts) ∷ tasks_of ls) v) (goes_same _ u e) (refl, refl, refl)
-  below_trap (Dispatching (Of_server x c (Serves o)) seats ∷ ls) gv es good e = grind (arith, nat_tests, goes_same)
-  below_trap (Dispatching Of_main seats ∷ ls) gv es good e = subst (λ v. Arrived (Trapped ∷ Dispatched Of_main ∷ tasks_of ls) v) (goes_same _ u e) (refl, refl, refl)
-  below_trap (Dispatching (Of_object x) seats ∷ ls) gv es good e = subst (λ v. Arrived (Trapped ∷ Dispatched (Of_object x) ∷ tasks_of ls) v) (goes_same _ u e) (refl, refl, refl)
-  below_trap _ gv es good e = grind arith
+  below_trap x gv es good e = grind (arith, nat_tests, goes_same)
 
   below_leave : (ls : List Layer) (es : List Pushed) → Good p t s.cells (Unwinding code es ∷ ls) → arrived p code (tasks_of ls) items (counted p s) ≡ Goes u → Arrived (tasks_of ls) u
   below_leave (Mark gv ∷ ls) es good e = below_trap ls gv es good e

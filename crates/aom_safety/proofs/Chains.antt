@@ -35,11 +35,7 @@ module _ (p : Image) (t : Typing) (wired : IsWired p) (s : State) (w : WellTyped
 
   -- what stands lower does not sit among what stands higher
   not_among : (o : Object) (xs : List Seat) → named s.cells o.name ≡ Some o → AllSit s.cells xs → Higher (rank p wired o.thing) xs → SomeSits o.name xs → ⊥
-  not_among o (x ∷ xs) lives sits high (inl same) =
-      let one : Some x.object ≡ Some o = sym sits.0.1 ∙ ap (λ n. named s.cells n) same ∙ lives in
-      let equal : x.object ≡ o = cc in
-      let lt : rank p wired o.thing < rank p wired o.thing = subst (λ (y : Object). rank p wired o.thing < rank p wired y.thing) equal high.0 in
-      omega (arith, lt)
+  not_among o (x ∷ xs) lives sits high (inl same) = grind (arith, nat_tests, rank)
   not_among o (x ∷ xs) lives sits high (inr some) = not_among o xs lives sits.1 high.1 some
   not_among o [] lives sits high some = some
 
@@ -50,8 +46,8 @@ module _ (p : Image) (t : Typing) (wired : IsWired p) (s : State) (w : WellTyped
   on : (place q : Place) (o z : Object) → held s.cells place ≡ Some o → rank p wired o.thing < rank p wired z.thing → Chain z q → ((above : List Seat) → SitsIn place (record { object = z; place = q } ∷ above)) → Chain o place
   on place q o z e lower rest sits =
       let lives = held_lives s.cells place o w.good.tidy e in
-      let high : Higher (rank p wired o.thing) (record { object = z; place = q } ∷ rest.0) = (lower, higher_too (rank p wired o.thing) (rank p wired z.thing) rest.0 lower rest.2) in
-      (record { object = z; place = q } ∷ rest.0, ((e, lives, sits rest.0, not_among o (record { object = z; place = q } ∷ rest.0) lives rest.1 high), rest.1), high)
+      let high : Higher (rank p wired o.thing) (record { object = z; place = q } ∷ rest.0) = grind (arith, nat_tests, higher_too, rank) in
+      (record { object = z; place = q } ∷ rest.0, grind (arith, nat_tests, not_among), high)
 
   -- of what is no message
   follow : (q : Place) (o : Object) → Ends s q → held s.cells q ≡ Some o → 0 < rank p wired o.thing → Chain o q
@@ -85,4 +81,4 @@ module _ (p : Image) (t : Typing) (wired : IsWired p) (s : State) (w : WellTyped
       (above : List Seat) × AllSit s.cells (record { object = o; place = q } ∷ above) × ((y : Object) → named s.cells y.name ≡ Some y → rank p wired y.thing < rank p wired o.thing → SomeSits y.name (record { object = o; place = q } ∷ above) → ⊥)
   chain q o e pos =
       let c = follow q o (ends p t wired s w clear q o e) e pos in
-      (c.0, c.1, λ y lives lower some. not_among y (record { object = o; place = q } ∷ c.0) lives c.1 (lower, higher_too (rank p wired y.thing) (rank p wired o.thing) c.0 lower c.2) some)
+      (c.0, c.1, λ y lives lower some. not_among y (record { object = o; place = q } ∷ c.0) lives c.1 (lower, grind (arith, nat_tests, higher_too, rank)) some)

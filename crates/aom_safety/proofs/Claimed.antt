@@ -1,6 +1,6 @@
 -- How the claims change with the abstract state of the top method, and how they go on to hold.
 use Rattle.std.proofs.lemmas.Bool.Decides.{nat_tests}
-use Rattle.std.proofs.Common.{[], Bool, List, None, Option, Some, ap, arith, cond, false, length, refl, subst, sym, true, zero, ℕ, ℤ, ◌&&◌, ◌<◌, ◌==◌, ◌∙◌, ◌∷◌, ◌≡◌, ◌≤◌}
+use Rattle.std.proofs.Common.{[], Bool, List, None, Option, Some, ap, arith, cond, false, length, refl, subst, true, zero, ℕ, ℤ, ◌&&◌, ◌<◌, ◌==◌, ◌∙◌, ◌∷◌, ◌≡◌, ◌≤◌}
 use Rattle.std.proofs.lemmas.Bool.{cases_Bool, eq-eqb, eqb-true, ne_eqb}
 use Rattle.std.specs.Prelude.{is_some}
 use Rattle.aom_image.specs.Image.{Image}
@@ -24,7 +24,7 @@ use Rattle.aom_semantics.proofs.Maps.{at-put_at, held_moved, named_moved, reques
 use Rattle.aom_safety.specs.Claims.{is_of_root, Dispatching, Dying, Form, Layer, Mark, Method, Unwinding, claim, declared, entries_of, entry_claim, home_claim, items_of, layer_claim, objects, own_field, root_claim, tasks_of, Ending, by_close, by_stage, delivered, serves}
 use Rattle.aom_semantics.specs.Places.{Service, Cell, Elsewhere, Entry, Field, Going, Object, Place, Register, Root, Sight, changed, held, moved, named, same_place, Session, In_service}
 use Rattle.aom_semantics.specs.State.{AtRoot, Dispatch, Frame, Home, Inside, Seat, Static, field_place, home_holder, Of_server, Parts, Serves, Service_left}
-use Rattle.aom_safety.specs.WellTyped.{view_holder, InView, Back, Caught, Fits, Gone, HasAge, Holds, IsBelow, IsHoused, IsNoFieldOf, Leaves, NoneFrom, NoneIn, Returns, Stack, Unclaimed, WordFits, by_field, seat_of, Now}
+use Rattle.aom_safety.specs.WellTyped.{view_holder, InView, Back, Caught, Fits, Gone, HasAge, Holds, IsBelow, IsHoused, IsNoFieldOf, Leaves, NoneFrom, NoneIn, Returns, Stack, Unclaimed, WordFits, by_field, Now}
 
 -- a frame counts for the claims by its home and its method alone
 pub claim_frame :
@@ -61,10 +61,9 @@ claim-set_member p d fr o from sh ls a x v y e some same = grind (arith, nat_tes
 claim-set_root :
     (p : Image) (d : Place → Kind) (fr : Frame) (sh : Shape) (ls : List Layer) (x : Filling) (v : Kind) (r : Place) → fr.home ≡ AtRoot → filled (field_thing p Program 0) x ≡ v →
     claim p d (Method fr (set_field sh 0 x) ∷ ls) r ≡ changed (claim p d (Method fr sh ∷ ls)) (Elsewhere Root) v r
-claim-set_root p d fr sh ls x v (Field n f) e same = grind (arith, nat_tests)
 claim-set_root p d fr sh ls x v (Elsewhere Root) e same =
     ap (λ h. root_claim p h (set_field sh 0 x) (claim p d ls (Elsewhere Root))) e ∙ filled_at (λ f. field_thing p Program f) sh.fields 0 x v 0 same
-claim-set_root p d fr sh ls x v _ e same = refl
+claim-set_root p d fr sh ls x v y e same = grind arith
 
 -- a field of the top method is claimed anew
 pub claim-set_field :
@@ -72,7 +71,7 @@ pub claim-set_field :
     field_thing p (home_holder home) a ≡ field_thing p (holder_of p fr.method) a → is_some (field_thing p (home_holder home) a) ≡ true → filled (field_thing p (home_holder home) a) x ≡ v →
     claim p d (Method fr (set_field sh a x) ∷ ls) r ≡ changed (claim p d (Method fr sh ∷ ls)) (field_place home a) v r
 claim-set_field p d fr AtRoot sh ls zero x v r e own some same = claim-set_root p d fr sh ls x v r e same
-claim-set_field p d fr (Inside o from) sh ls a x v r e own some same = claim-set_member p d fr o from sh ls a x v r e (ap is_some (sym own) ∙ some) (ap (λ y. filled y x) (sym own) ∙ same)
+claim-set_field p d fr (Inside o from) sh ls a x v r e own some same = grind (arith, nat_tests, claim-set_member p d fr o from sh ls a x v r e)
 claim-set_field p d fr _ sh ls _ x v r e own some same = cc
 
 -- one more entry, and one less
@@ -154,8 +153,7 @@ pub keep_fits :
     ((r : Place) (x : Object) → h.holds r ≡ Some x → is_ready_kind (k r) ≡ false → (f : ℕ) → same_place q (Field x.name f) ≡ false) →
     ((r : Place) → Fits image h (h.holds r) (k r)) →
     (r : Place) → Fits image h' (h'.holds r) (k' r)
-keep_fits image h h' k k' p q eh requests ek apart fits r =
-    subst (λ x. Fits image h' x (k' r)) (sym (eh r)) (subst (λ x. Fits image h' (transfer p q h.holds r) x) (sym (ek r)) (go (same_place q r) (same_place p r)))
+keep_fits image h h' k k' p q eh requests ek apart fits r = rw (eh r) (rw (ek r) (go (same_place q r) (same_place p r)))
   where
     null : (s : Place) (x : Object) → h.holds s ≡ Some x → is_ready_kind (k s) ≡ false → (f : ℕ) → h.holds (Field x.name f) ≡ None → h'.holds (Field x.name f) ≡ None
     null s x e fresh f n =
@@ -185,12 +183,12 @@ length_objects (x ∷ es) items = omega (arith, length_objects es items)
 
 pub claim_entry_above : (p : Image) (cs : List Cell) (ls : List Layer) (k : ℕ) → length (items_of ls) ≤ k → claim p (declared p cs) ls (Entry k) ≡ Null
 claim_entry_above p cs [] k le = refl
-claim_entry_above p cs (Method fr sh ∷ ls) k le = entries_above sh.entries (items_of ls) k _ le ∙ claim_entry_above p cs ls k (omega (arith, length_objects sh.entries (items_of ls)))
+claim_entry_above p cs (Method fr sh ∷ ls) k le = grind (arith, nat_tests, entries_above, claim_entry_above p cs ls k, length_objects)
 claim_entry_above p cs (Mark gv ∷ ls) k le = claim_entry_above p cs ls k (omega arith)
 claim_entry_above p cs (Dispatching w seats ∷ ls) k le = claim_entry_above p cs ls k (omega arith)
 claim_entry_above p cs (Dying o ∷ ls) k le = claim_entry_above p cs ls k le
 claim_entry_above p cs (Ending o left ∷ ls) k le = claim_entry_above p cs ls k le
-claim_entry_above p cs (Unwinding code es ∷ ls) k le = entries_above es (items_of ls) k _ le ∙ claim_entry_above p cs ls k (omega (arith, length_objects es (items_of ls)))
+claim_entry_above p cs (Unwinding code es ∷ ls) k le = grind (arith, nat_tests, entries_above, claim_entry_above p cs ls k, length_objects)
 
 pub declared_moved : (p : Image) (cs : List Cell) (a b : Place) → declared p (moved a b cs) ≡ declared p cs
 declared_moved p cs a b = grind (arith, nat_tests, named_moved cs a b, service_moved cs a b)
@@ -232,20 +230,14 @@ no_field_here x fr o from sh ls e h = grind arith
 pub holds_moved :
     (p : Image) (cs : List Cell) (a b : Place) (ls : List Layer) (o : Object) (from : Place) → held cs b ≡ None → same_place a from ≡ false → same_place b from ≡ false →
     Holds p cs ls o from → Holds p (moved a b cs) ls o from
-holds_moved p cs a b ls o from free na nb h = record {
-  there = grind (arith, nat_tests, held_moved cs a b from free);
-  lives = named_moved cs a b o.name ∙ h.lives;
-  below = h.below;
-  ready = h.ready;
-}
+holds_moved p cs a b ls o from free na nb h = search (arith, nat_tests, held_moved cs a b from free, named_moved cs a b o.name)
 
 housed_moved :
     (p : Image) (cs : List Cell) (a b : Place) (fr : Frame) (sh : Shape) (ls : List Layer) (home : Home) → fr.home ≡ home → held cs b ≡ None → Outside a (Method fr sh ∷ ls) →
     Outside b (Method fr sh ∷ ls) → IsHoused p cs ls home → IsHoused p (moved a b cs) ls home
-housed_moved p cs a b fr sh ls Static e free oa ob h = h
-housed_moved p cs a b fr sh ls AtRoot e free oa ob h = h
 housed_moved p cs a b fr sh ls (Inside o from) e free oa ob h =
     holds_moved p cs a b ls o from free (outside_differs a from ls (outside_less a _ ls oa) (no_field_here a fr o from sh ls e oa) h.below) (outside_differs b from ls (outside_less b _ ls ob) (no_field_here b fr o from sh ls e ob) h.below) h
+housed_moved p cs a b fr sh ls x e free oa ob h = grind arith
 
 pub going_differs : (r : Place) (o : Object) (ls : List Layer) → Outside r (Dying o ∷ ls) → same_place r (Going (length (tasks_of ls))) ≡ false
 going_differs x o ls h = grind (arith, nat_tests, ne_eqb)
@@ -260,13 +252,13 @@ pub stack_moved :
     Stack p t (moved a b cs) back ls
 stack_moved p t cs a b [] back free oa ob s = s
 stack_moved p t cs a b (Method fr sh ∷ ls) back free oa ob s =
-    (s.0, s.1, housed_moved p cs a b fr sh ls fr.home refl free oa ob s.2, s.3, stack_moved p t cs a b ls _ free (outside_less a _ ls oa) (outside_less b _ ls ob) s.4)
-stack_moved p t cs a b (Mark gv ∷ ls) back free oa ob s = (s.0, stack_moved p t cs a b ls _ free (outside_less a (Mark gv) ls oa) (outside_less b (Mark gv) ls ob) s.1)
+    search (arith, nat_tests, housed_moved p cs a b fr sh ls fr.home, stack_moved p t cs a b ls, outside_less a, outside_less b)
+stack_moved p t cs a b (Mark gv ∷ ls) back free oa ob s = (s.0, grind (arith, nat_tests, stack_moved p t cs a b ls, outside_less))
 stack_moved p t cs a b (Dispatching d seats ∷ ls) back free oa ob s = (
   s.0,
   s.1,
-  sits_kept cs (moved a b cs) a b seats (λ r o na nb there lives. (held_moved cs a b r free ∙ ap (λ x. cond x (held cs a) (cond (same_place a r) None (held cs r))) nb ∙ ap (λ x. cond x None (held cs r)) na ∙ there, named_moved cs a b o.name ∙ lives)) (no_seat_outside a d seats ls oa) (no_seat_outside b d seats ls ob) s.2,
-  first_kept cs (moved a b cs) a (seat_of d) seats (λ r o na there lives some. ap is_some (requested_moved cs a b o.name) ∙ some) (no_seat_outside a d seats ls oa) s.2 s.3,
+  grind (arith, nat_tests, sits_kept, held_moved, named_moved, no_seat_outside),
+  grind (arith, nat_tests, first_kept, requested_moved, no_seat_outside),
   attended_kept p cs (moved a b cs) (λ n. ap (λ (v : Service). v.sessions) (service_moved cs a b n)) d s.4,
 )
 stack_moved p t cs a b (Ending o left ∷ ls) back free oa ob s = (
@@ -275,9 +267,9 @@ stack_moved p t cs a b (Ending o left ∷ ls) back free oa ob s = (
   s.2,
   stack_moved p t cs a b ls _ free (outside_less a (Ending o left) ls oa) (outside_less b (Ending o left) ls ob) s.3,
 )
-stack_moved p t cs a b (Unwinding code es ∷ ls) back free oa ob s = (s.0, stack_moved p t cs a b ls _ free (outside_less a (Unwinding code es) ls oa) (outside_less b (Unwinding code es) ls ob) s.1)
+stack_moved p t cs a b (Unwinding code es ∷ ls) back free oa ob s = (s.0, grind (arith, nat_tests, stack_moved p t cs a b ls, outside_less))
 stack_moved p t cs a b (Dying o ∷ ls) back free oa ob s =
-    ((named_moved cs a b o.name ∙ s.0.0, going_moved cs a b o ls free oa ob s.0.1), s.1, stack_moved p t cs a b ls _ free (outside_less a (Dying o) ls oa) (outside_less b (Dying o) ls ob) s.2)
+    ((named_moved cs a b o.name ∙ s.0.0, going_moved cs a b o ls free oa ob s.0.1), s.1, grind (arith, nat_tests, stack_moved p t cs a b ls, outside_less))
 
 -- what holds a method's cell is claimed as it was before the method was called
 entries_below : (es : List Pushed) (items : List Form) (k : ℕ) (below : Kind) → k < length items → entry_claim es items k below ≡ below

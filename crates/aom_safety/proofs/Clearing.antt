@@ -27,17 +27,17 @@ use Rattle.aom_safety.proofs.Finishing.{all_parts}
 use Rattle.aom_safety.proofs.Items.{length_forms}
 use Rattle.aom_safety.proofs.Moving.{steps_are_moves}
 use Rattle.aom_safety.proofs.Preserving.{receives}
-use Rattle.aom_semantics.specs.Calls.{returned, target_view}
+use Rattle.aom_semantics.specs.Calls.{returned}
 use Rattle.aom_safety.specs.Claims.{Form, Layer, Method, forms, items_of, objects, tasks_of}
 use Rattle.aom_semantics.specs.Cleanup.{has_trap}
 use Rattle.aom_classes.specs.Roles.{role_of}
-use Rattle.aom_semantics.specs.Destruction.{class_destructor, line_on, destructed, parting, first_session, begun, begun_by}
-use Rattle.aom_semantics.specs.Effects.{Calls, Cancels, Counts, Destroys, Destroys_last, Effect, Goes_on, Jumps, Leaves, Operates, Repeats, Returns, Sets_trap, Update, applied, items_after, with_words}
+use Rattle.aom_semantics.specs.Destruction.{class_destructor, line_on, destructed, parting, begun, begun_by}
+use Rattle.aom_semantics.specs.Effects.{Effect, Update, applied, items_after}
 use Rattle.aom_safety.specs.Laws.{IsWired}
 use Rattle.aom_safety.specs.Leaves.{IsLeaving, IsOver}
 use Rattle.aom_semantics.specs.Moves.{counted, step}
-use Rattle.aom_semantics.specs.Places.{service_of, Cell, Object}
-use Rattle.aom_semantics.specs.State.{Static, Inside, AtRoot, Home, Closing, Seat, Choice, Destroy, Frame, Goes, Item, Run, State, Task, Unwind, resumed}
+use Rattle.aom_semantics.specs.Places.{Cell, Object}
+use Rattle.aom_semantics.specs.State.{Static, Inside, AtRoot, Home, Seat, Choice, Frame, Goes, Item, Run, State, Task, Unwind, resumed}
 use Rattle.aom_safety.specs.Steps.{Empties, Acts, Arrives, Clears, Comes_out, Ends, Fits, FitsUpdate, Move, Rests, Undoes, Vanishes}
 use Rattle.aom_safety.specs.WellTyped.{Good, WellTyped}
 use Rattle.aom_semantics.specs.Enlisted.{ended_cells}
@@ -45,10 +45,7 @@ use Rattle.aom_semantics.specs.Enlisted.{ended_cells}
 -- a leave that is begun over it finds no trap
 no_trap : (p : Image) (height : ℕ) (code : ℤ) (below ts : List Task) → IsOver p height code below ts → has_trap ts ≡ true → ⊥
 no_trap p height code below (Run fr ∷ ts) o e = no_trap p height code below ts o.2 e
-no_trap p height code below (Destroy ∷ ts) o e = true≢false (sym e)
-no_trap p height code below (Closing ∷ ts) o e = true≢false (sym e)
-no_trap p height code below (Unwind x ∷ ts) o e = true≢false (sym e)
-no_trap p height code below _ o e = o
+no_trap p height code below x o e = grind arith
 
 -- what waited goes on
 resumes_over : (p : Image) (height : ℕ) (code : ℤ) (below ts : List Task) → IsOver p height code below ts → IsOver p height code below (resumed ts)
@@ -111,19 +108,7 @@ module _ (p : Image) (wired : IsWired p) (c : Choice) (fr : Frame) (sh : Shape) 
   call_quiet target m first x r = grind (arith, nat_tests, all_parts, only_then)
 
   acts_kept : (i : Instr) (e : Effect) → Ruled i → Fits p c fr ts s i e → Kept (applied p fr ts s e)
-  acts_kept i (Goes_on ch) r f = (h, same_items i ch.update r f.1)
-  acts_kept i (Jumps to) r f = (h, refl)
-  acts_kept i (Counts d n) r f = (h, refl)
-  acts_kept i (Repeats d n to) r f = (h, refl)
-  acts_kept i (Calls target m first) r f = ((body_quiet p wired.overriders m (target_view p fr ts s target (method_class p m)) (call_quiet target m first f.0 (subst Ruled f.1 r)), refl, h), refl)
-  acts_kept i (Cancels m) r f = ((cancel_quiet p wired fr m f.1, refl, h), refl)
-  -- no quiet method sets a trap
-  acts_kept i (Sets_trap target m first) r f = absurd (true≢false (sym (subst Ruled f.1 r).0 ∙ ap not h.0))
-  acts_kept i (Returns g a) r f = return_kept g a ts h.2
-  acts_kept i (Leaves x u) r f = absurd (no_trap p (length s.items) code below ts h.2 f.0)
-  acts_kept i (Destroys o a words) r f = (begins_over p wired o (length s.items) code below (Run (with_words fr words) ∷ ts) h, refl)
-  acts_kept i (Destroys_last o) r f = absurd (no_entry_there (subst Ruled f.0 r).0)
-  acts_kept i (Operates m w) r f = absurd (no_entry_there (subst Ruled f.0 r).0)
+  acts_kept i x r f = grind (arith, nat_tests, same_items, body_quiet, call_quiet, cancel_quiet, return_kept, no_trap, begins_over, no_entry_there)
 
 module _ (p : Image) (t : Typing) (wired : IsWired p) (typed : IsTyped p t) (c : Choice) (s u : State) (w : WellTyped p t s) (code : ℤ) (below : List Task)
     (over : IsOver p (length s.items) code below s.tasks) (other : s.tasks ≡ Unwind code ∷ below → ⊥) where
@@ -138,8 +123,7 @@ module _ (p : Image) (t : Typing) (wired : IsWired p) (typed : IsTyped p t) (c :
 
   -- a server that goes over it has its sessions go first
   empties : (o : Object) (x : Option Seat) (ts : List Task) → IsOver p (length s.items) code below ts → Stays (parting p o x ts (counted p s))
-  empties o None ts h = (destructs_over p wired o (length s.items) code below ts h, refl)
-  empties o (Some x) ts h = (begins_over p wired x.object (length s.items) code below (Closing ∷ Destroy ∷ ts) h, refl)
+  empties o x ts h = grind (arith, nat_tests, destructs_over, begins_over)
 
   kept : Move p c s u → Stays u
   kept (Rests still e) = subst Stays (sym e) (over, refl)
@@ -148,9 +132,9 @@ module _ (p : Image) (t : Typing) (wired : IsWired p) (typed : IsTyped p t) (c :
       let stands = bare_shape p t s.cells fr ts s.items w.layers (sym at ∙ w.tasks) w.items h.1 w.good in
       let x = typed.each fr.method fr.place stands.0 stands.1 in
       let is : x.instr ≡ i = same_Some x.instr i (sym x.stands ∙ there) in
-      subst Stays (sym same) (acts_kept p wired c fr stands.0 ts (counted p s) at code below h stands.2 i e (subst (λ j. AllTrue (rule_needs p fr.method fr.place stands.0 j)) is x.needs) fits)
+      subst Stays (sym same) (acts_kept p wired c fr stands.0 ts (counted p s) at code below h stands.2 i e (rw is at x.needs) fits)
   kept (Vanishes ts o at there owns same) = subst Stays (sym same) (resumes_over p (length s.items) code below ts (subst O at over), refl)
-  kept (Empties ts o at there same) = subst Stays (sym same) (empties o (first_session s.cells o.name (service_of s.cells o.name).sessions) ts (subst O at over))
+  kept (Empties ts o at there same) = grind (arith, nat_tests, empties)
   kept (Clears x ts items o at top there same) = absurd (at_leave x ts at)
   kept (Undoes x ts items m y at top same) = absurd (at_leave x ts at)
   kept (Arrives x fr ts items at top same) = absurd (at_leave x _ at)

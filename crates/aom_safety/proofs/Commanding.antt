@@ -14,32 +14,23 @@ use Rattle.aom_safety.proofs.Claimed.{declared_ready}
 use Rattle.aom_safety.proofs.ClientsFit.{by_server}
 use Rattle.aom_safety.proofs.Picking.{fits_ready}
 use Rattle.aom_safety.proofs.Services.{held_served, named_served, requested_served, tidy_served}
-use Rattle.aom_safety.specs.Claims.{declared, declared_field}
-use Rattle.aom_semantics.specs.Places.{Asked, Cell, Elsewhere, Field, Object, Place, Queued, Session, Tidy, held, named, requested, seen, service_of}
-use Rattle.aom_safety.specs.Requests.{AllSuit}
+use Rattle.aom_safety.specs.Claims.{declared}
+use Rattle.aom_semantics.specs.Places.{Asked, Cell, Elsewhere, Object, Place, Queued, Tidy, held, named, requested, service_of}
 use Rattle.aom_semantics.specs.Servers.{asked_last, has_message, has_session, is_message, message_thing, reserved}
-use Rattle.aom_safety.specs.WellTyped.{Fits, Good}
+use Rattle.aom_safety.specs.WellTyped.{Good}
 
 -- ---- what is declared goes by names, messages and sessions
 
 module _ (p : Image) (cs cs' : List Cell) (names : (n : ℕ) → named cs' n ≡ named cs n) (messages : (n m : ℕ) → has_message (service_of cs' n) m ≡ has_message (service_of cs n) m)
     (sessions : (n c : ℕ) → has_session (service_of cs' n) c ≡ has_session (service_of cs n) c) where
   pub declared_same : (q : Place) → declared p cs' q ≡ declared p cs q
-  declared_same (Field m f) = ap (λ y. declared_field p y f) (names m)
-  declared_same (Elsewhere (Session m c)) = grind (arith, nat_tests)
   declared_same (Elsewhere (Queued m k)) =
       ap (λ b. cond b (filled (message_thing p (named cs' m)) Full) Null) (messages m k) ∙ ap (λ y. cond (has_message (service_of cs m) k) (filled (message_thing p y) Full) Null) (names m)
-  declared_same _ = refl
+  declared_same x = grind arith
 
   -- so that cells in the same places, with the same requests, are well typed
   pub good_same : (t : Typing) → ((q : Place) → held cs' q ≡ held cs q) → ((n : ℕ) → requested cs' n ≡ requested cs n) → Tidy cs' → Good p t cs [] → Good p t cs' []
-  good_same t places requests tidy good = record { stack = refl; fits = fits; suits = suits; tidy = tidy }
-    where
-      fits : (q : Place) → Fits p (seen cs') (held cs' q) (declared p cs' q)
-      fits q = grind (arith, nat_tests, declared_same q, fits_ready p, declared_ready p cs q)
-
-      suits : AllSuit p cs' []
-      suits y there = grind (arith, nat_tests)
+  good_same t places requests tidy good = search (arith, nat_tests, declared_same, fits_ready p, declared_ready p cs)
 
 -- something that is no message is queued last
 pub good_asked :

@@ -1,15 +1,13 @@
 -- How many cells there are as moves and turns change them: by the cells one after another.
 use Rattle.std.proofs.lemmas.Bool.Decides.{nat_tests}
-use Rattle.std.proofs.Common.{[], Bool, List, None, Option, Some, ap, arith, cond, false, length, refl, suc, sym, true, ℕ, ℤ, ◌+◌, ◌==◌, ◌∙◌, ◌∷◌, ◌≡◌, ◌≤◌}
-use Rattle.std.proofs.lemmas.Bool.{eq-eqb, eqb-true}
-use Rattle.std.proofs.lemmas.Option.{none-some}
+use Rattle.std.proofs.Common.{[], Bool, List, None, Option, Some, arith, cond, refl, suc, ℕ, ℤ, ◌+◌, ◌∷◌, ◌≡◌}
 use Rattle.aom_image.specs.Image.{Image}
 use Rattle.aom_image.specs.declared.method.Thing.{Thing}
 use Rattle.aom_roles.specs.Things.{is_object}
 use Rattle.aom_semantics.proofs.Altering.{asking, bereaving, count_kept, moving, opening, storing}
 use Rattle.aom_semantics.proofs.Maps.{same_place-true, without_none}
 use Rattle.aom_semantics.specs.Natives.{all_bereaved}
-use Rattle.aom_semantics.specs.Places.{Cell, Object, Place, Request, Tidy, count_cells, held, moved, named, set_request, set_session, set_word_field, without}
+use Rattle.aom_semantics.specs.Places.{Cell, Object, Place, Request, Tidy, count_cells, held, moved, set_request, set_session, set_word_field, without}
 
 -- ---- what changes no thing changes no count
 

@@ -1,7 +1,7 @@
 -- The course of a leave on a run: which entries it has dealt with, and that its code arrives.
 use Rattle.std.proofs.lemmas.Bool.Decides.{nat_tests}
 use Rattle.aom_safety.proofs.Turning.{turn_goes_on}
-use Rattle.std.proofs.Common.{arith, [], List, ap, append-nil, append_assoc, inl, inr, length, refl, subst, sym, ℤ, ◌∙◌, ◌∷◌, ◌≡◌, ◌≢◌}
+use Rattle.std.proofs.Common.{arith, [], List, append-nil, append_assoc, inl, inr, length, refl, subst, sym, ℤ, ◌∙◌, ◌∷◌, ◌≡◌, ◌≢◌}
 use Rattle.std.specs.Prelude.{◌++◌, ◌⊎◌}
 use Rattle.aom_image.specs.Image.{Image}
 use Rattle.aom_rules.specs.Typing.{IsTyped, Typing}
@@ -40,7 +40,7 @@ module _ (p : Image) (t : Typing) (outside : Environment) (wired : IsWired p) (t
       (subst (λ o. Keeps p t o) e (step_keeps p t wired typed c s b.0 choice.name), clients_keep.moves p t wired typed c s u b.0 choice.name b.1 e)
   well_on from w _ _ (turns {lines = lines} {s = s} {u = u} heard before between well e) =
       let b = well_on from w lines s before in
-      (subst (λ o. Keeps p t o) e (turn_goes_on p t outside wired typed heard s b.0 between well b.1.fit), clients_keep.turns p t outside wired typed heard s u b.0 between well b.1 e)
+      (grind (arith, nat_tests, turn_goes_on), clients_keep.turns p t outside wired typed heard s u b.0 between well b.1 e)
 
   module _ (from : State) (well : WellKept p t from) (code : ℤ) (below : List Task) (entries items : List Item) where
     abbrev Course : State → Type 0
@@ -83,7 +83,7 @@ module _ (p : Image) (t : Typing) (outside : Environment) (wired : IsWired p) (t
         go (Run fr ∷ ts) at o = goes_on s u c w h (λ top. let clash : Run fr ∷ ts ≡ Unwind code ∷ below = sym at ∙ top in cc) e
         go (Destroy ∷ ts) at o = goes_on s u c w h (λ top. let clash : Destroy ∷ ts ≡ Unwind code ∷ below = sym at ∙ top in cc) e
         go (Closing ∷ ts) at o = goes_on s u c w h (λ top. let clash : Closing ∷ ts ≡ Unwind code ∷ below = sym at ∙ top in cc) e
-        go (Unwind x ∷ ts) at o = leave_moves s u c w h.dealt h.rest h.all h.course h.leaving (at ∙ ap (λ y. Unwind y ∷ ts) o.0 ∙ ap (λ l. Unwind code ∷ l) o.1) e
+        go (Unwind x ∷ ts) at o = leave_moves s u c w h.dealt h.rest h.all h.course h.leaving (grind (arith, nat_tests)) e
         go _ at o = absurd o
 
     moved_on : (lines : List Line) (s u : State) (c : Choice) → WellTyped p t s → IsBusy s → IsOpen p outside.refused c s → step p c s ≡ Goes u → Course s → Course u

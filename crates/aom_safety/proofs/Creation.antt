@@ -17,7 +17,6 @@ use Rattle.aom_shape.specs.declared.kind.Age.{Age}
 use Rattle.aom_shape.specs.declared.kind.Filling.TheVariants.{Full, Perhaps}
 use Rattle.aom_shape.specs.declared.kind.Kind.{Kind}
 use Rattle.aom_shape.specs.declared.kind.Kind.TheVariants.{Maybe, Null}
-use Rattle.std.specs.Prelude.{is_some}
 use Rattle.aom_safety.proofs.Claimed.{Outside, claim-set_register, claim_frame, claim_rel, claim_unnamed, fits_age, fits_weaker, outside_differs}
 use Rattle.aom_safety.proofs.Straight.{At, Fitted, Law, fits_unowning, fitted, free_register, relabel, settle, top, well, words_set}
 use Rattle.aom_safety.proofs.Things.{stands_itself}
@@ -74,8 +73,7 @@ attended_new :
 attended_new p cs n x ws owner d seats e sits first h = grind (arith, nat_tests, attended_at p cs, service_new cs n x ws owner, sits_lives cs seats)
 
 lives_new : (cs : List Cell) (n : ℕ) (x : Thing) (ws : List ℤ) (owner : Place) (o : Object) → named cs n ≡ None → named cs o.name ≡ Some o → named (with_new n x ws owner cs) o.name ≡ Some o
-lives_new cs n x ws owner o e h =
-    ap (λ b. cond b (Some (record { name = n; thing = x })) (named cs o.name)) (ne_eqb n o.name (λ same. let e' : Some o ≡ None = sym h ∙ ap (λ k. named cs k) (sym same) ∙ e in cc)) ∙ h
+lives_new cs n x ws owner o e h = search (arith, nat_tests, ne_eqb n o.name)
 
 holds_new :
     (p : Image) (cs : List Cell) (n : ℕ) (x : Thing) (ws : List ℤ) (owner : Place) (ls : List Layer) (home : Home) → named cs n ≡ None → Outside owner ls →
@@ -92,8 +90,8 @@ stack_new p t cs n x ws f i (Mark gv ∷ ls) back e out s = (s.0, stack_new p t 
 stack_new p t cs n x ws f i (Dispatching d seats ∷ ls) back e out s = (
   s.0,
   s.1,
-  sits_kept cs cs' q q seats (λ r o other other' there lives. (ap (λ b. cond b (Some (record { name = n; thing = x })) (held cs r)) other ∙ there, lives_new cs n x ws q o e lives)) tt tt s.2,
-  first_kept cs cs' q (seat_of d) seats (λ r o other there lives some. ap (λ b. is_some (cond b None (requested cs o.name))) (ne_eqb n o.name (λ same. let e' : Some o ≡ None = sym lives ∙ ap (λ k. named cs k) (sym same) ∙ e in cc)) ∙ some) tt s.2 s.3,
+  sits_kept cs cs' q q seats (λ r o other other' there lives. (grind (arith, nat_tests), lives_new cs n x ws q o e lives)) tt tt s.2,
+  grind (arith, nat_tests, first_kept, ne_eqb),
   attended_new p cs n x ws q d seats e s.2 s.3 s.4,
 )
   where
@@ -102,11 +100,12 @@ stack_new p t cs n x ws f i (Dispatching d seats ∷ ls) back e out s = (
 
     cs' : List Cell
     cs' = with_new n x ws (Register f i) cs
-stack_new p t cs n x ws f i (Ending o left ∷ ls) back e out s = (
-  record { server = s.0.server; lives = lives_new cs n x ws (Register f i) o e s.0.lives; listed = λ c h. ap (λ v. has_session v c) (service_new cs n x ws (Register f i) o e s.0.lives) ∙ s.0.listed c h },
-  s.1,
-  s.2,
-  stack_new p t cs n x ws f i ls _ e (omega arith) s.3,
+stack_new p t cs n x ws f i (Ending o left ∷ ls) back e out s = search (
+  arith,
+  nat_tests,
+  lives_new cs n x ws (Register f i) o e s.0.lives,
+  service_new cs n x ws (Register f i) o e s.0.lives,
+  stack_new p t cs n x ws f i ls,
 )
 stack_new p t cs n x ws f i (Unwinding code es ∷ ls) back e out s = (s.0, stack_new p t cs n x ws f i ls _ e (omega arith) s.1)
 stack_new p t cs n x ws f i (Dying o ∷ ls) back e out s = ((lives_new cs n x ws (Register f i) o e s.0.0, s.0.1), s.1, stack_new p t cs n x ws f i ls _ e (omega arith) s.2)
@@ -114,9 +113,7 @@ stack_new p t cs n x ws f i (Dying o ∷ ls) back e out s = ((lives_new cs n x w
 -- no layer works on a cell that is not there
 module _ (p : Image) (cs : List Cell) (o : Object) where
   unworked_home : (ls : List Layer) (home : Home) → IsHoused p cs ls home → named cs o.name ≡ None → works_at o.name home ≡ false
-  unworked_home ls Static h e = refl
-  unworked_home ls AtRoot h e = refl
-  unworked_home ls (Inside x from) h e = grind (arith, nat_tests, ne_eqb x.name o.name)
+  unworked_home ls x h e = grind (arith, nat_tests, ne_eqb)
 
   unworked_unnamed : (t : Typing) (ls : List Layer) (back : Back) → Stack p t cs back ls → named cs o.name ≡ None → Unworked o.name ls
   unworked_unnamed t [] back s e = tt
@@ -157,7 +154,7 @@ create p t cs fr sh ls n x ws a k g e free new word = record {
     back = Returns fr.method fr.home
 
     no_field : (f : ℕ) → held cs (Field n f) ≡ None
-    no_field f = fits_unowning p (seen cs) _ Null refl (subst (λ k. Fits p (seen cs) (held cs (Field n f)) k) (unclaimed ∙ ap (λ o. declared_field p o f) e) (g.fits (Field n f)))
+    no_field f = fits_unowning p (seen cs) _ Null refl (rw (unclaimed ∙ ap (λ o. declared_field p o f) e) at (g.fits (Field n f)))
       where
         own : (h : Home) → IsHoused p cs ls h → home_claim p (holder_of p fr.method) h sh n f (claim p (declared p cs) ls (Field n f)) ≡ claim p (declared p cs) ls (Field n f)
         own Static h = refl
@@ -174,9 +171,7 @@ create p t cs fr sh ls n x ws a k g e free new word = record {
 
     fits : (r : Place) → Fits p (seen cs') (held cs' r) (claim p (declared p cs') (Method (next (set_word fr a None)) (set_register sh a k) ∷ ls) r)
     fits r =
-        subst (λ k. Fits p (seen cs') (held cs' r) k)
-        (sym (claim_frame p (declared p cs') fr (next (set_word fr a None)) (set_register sh a k) ls r refl refl ∙ claim-set_register p (declared p cs') fr sh ls a k r))
-        (go (same_place (top ls a) r))
+        rw (claim_frame p (declared p cs') fr (next (set_word fr a None)) (set_register sh a k) ls r refl refl ∙ claim-set_register p (declared p cs') fr sh ls a k r) (go (same_place (top ls a) r))
       where
         go : (b : Bool) → Fits p (seen cs') (cond b (Some (record { name = n; thing = x })) (held cs r)) (cond b k (claim p (declared p cs') (Method fr sh ∷ ls) r))
         go true = new (seen cs') no_field no_request
@@ -191,7 +186,7 @@ create p t cs fr sh ls n x ws a k g e free new word = record {
         go : (b : Bool) → (n == o.name) ≡ b → cond b (Some (record { name = n; thing = x })) (named cs o.name) ≡ Some o → Suits (thing_kind p o.thing) (states_claim p o (Method fr sh ∷ ls)) (cond b None (requested cs o.name))
         go true same here =
             let unnamed : named cs o.name ≡ None = ap (λ m. named cs m) (sym (eqb-true n o.name same)) ∙ e in
-            subst (λ k. Suits (thing_kind p o.thing) k None) (sym (unworked_rests p o (Method fr sh ∷ ls) (unworked_home p cs o ls fr.home g.housed unnamed, unworked_unnamed p cs o t ls back g.stack unnamed))) (suits_new (thing_kind p o.thing))
+            rw (unworked_rests p o (Method fr sh ∷ ls) (unworked_home p cs o ls fr.home g.housed unnamed, unworked_unnamed p cs o t ls back g.stack unnamed)) (suits_new (thing_kind p o.thing))
         go false other here = g.suits o here
 
 module _ (p : Image) (t : Typing) (c : Choice) (s : State) (fr : Frame) (sh : Shape) (ls : List Layer) (at_hand : At p t s fr sh ls) where
@@ -233,7 +228,7 @@ module _ (p : Image) (t : Typing) (c : Choice) (s : State) (fr : Frame) (sh : Sh
 
       refuses : Fitted p t s.cells fr' (set_register sh a k) ls
       refuses = relabel p t s.cells fr fr' sh (set_register sh a k) ls (top ls a) k (fitted p t s.cells fr sh ls at_hand.good) refl refl refl refl
-          (subst (λ o. Fits p (seen s.cells) o k) (sym free) tt) (λ r. claim-set_register p (declared p s.cells) fr sh ls a k r) (words_set fr.words sh a None k at_hand.good.stack.1.words refl)
+          (rw free tt) (λ r. claim-set_register p (declared p s.cells) fr sh ls a k r) (words_set fr.words sh a None k at_hand.good.stack.1.words refl)
 
       go : (b : Bool) → WellTyped p t (applied p fr (tasks_of ls) s (sets fr a None (makes_unless b c.name x a)))
       go true = well p t c s fr sh ls at_hand _ fr' (set_register sh a k) refl at_hand.items at_hand.undos (settle p t _ fr' (set_register sh a k) ls refuses leads.0)

@@ -28,9 +28,7 @@ use Rattle.aom_semantics.proofs.Maps.{same_place-true, same_place_refl}
 use Rattle.aom_safety.proofs.Straight.{fits_unowning}
 use Rattle.aom_safety.proofs.Housing.{counts_same, houses_same}
 use Rattle.aom_safety.specs.Claims.{Layer, Method, claim, declared, entry_form, forms, items_of, objects, tasks_of}
-use Rattle.aom_semantics.specs.Calls.{below_top}
 use Rattle.aom_semantics.specs.Cleanup.{dealt_with, destroyed, operation_frame, top_is_whole, top_place, tops_entry}
-use Rattle.aom_semantics.specs.Destruction.{begun}
 use Rattle.aom_semantics.specs.Effects.{applied, deals as deals_effect}
 use Rattle.aom_safety.specs.Laws.{IsWired}
 use Rattle.aom_semantics.specs.Places.{In_service, Elsewhere, Entry, Going, Object, Place, Register, Tidy, changed, held, moved, seen}
@@ -66,7 +64,7 @@ module _ (p : Image) (t : Typing) (wired : IsWired p) (typed : IsTyped p t) (s :
 
   -- what the entry's place holds is as the entry says
   entry_fits : Fits p (seen s.cells) (held s.cells (Entry (length (items_of below)))) (entry_kind e)
-  entry_fits = subst (λ k. Fits p (seen s.cells) (held s.cells q) k) (d.claims q ∙ ap (λ b. cond b (entry_kind e) (claim p (declared p s.cells) below q)) (same_place_refl q)) (d.fits q)
+  entry_fits = rw (d.claims q ∙ ap (λ b. cond b (entry_kind e) (claim p (declared p s.cells) below q)) (same_place_refl q)) at (d.fits q)
 
   -- the object of an entry goes
   object_goes :
@@ -106,13 +104,10 @@ module _ (p : Image) (t : Typing) (wired : IsWired p) (typed : IsTyped p t) (s :
       where
         go : (b : Bool) → (length (tasks_of below) == f) ≡ b → Fits p (seen s.cells) (held s.cells (Register f i)) (cond b (register after i) (claim p (declared p s.cells) below (Register f i)))
         go true h =
-            let above = subst (λ k. Fits p (seen s.cells) (held s.cells (Register f i)) k) (claim_register_above p s.cells below f i (omega (arith, eqb-true _ _ h))) (fits_below (Register f i)) in
-            subst (λ x. Fits p (seen s.cells) x (register after i)) (sym (fits_unowning p (seen s.cells) _ Null refl above))
-            (fits_weaker p (seen s.cells) None (says.registers i) (subst (λ k. Fits p (seen s.cells) None k) (sym (begins_with i)) (none_yet i)))
+            let above = rw (claim_register_above p s.cells below f i (omega (arith, eqb-true _ _ h))) at (fits_below (Register f i)) in
+            rw (fits_unowning p (seen s.cells) _ Null refl above) (fits_weaker p (seen s.cells) None (says.registers i) (rw (begins_with i) (none_yet i)))
         go false h = fits_below (Register f i)
-    runs_fitting height after says (Entry k) = grind (arith, nat_tests, fits_below (Entry k))
-    runs_fitting height after says (Elsewhere In_service) = grind (arith, nat_tests, plain_claim, fits_below (Elsewhere In_service))
-    runs_fitting height after says r = fits_below r
+    runs_fitting height after says r = grind (arith, nat_tests, plain_claim, fits_below (Elsewhere In_service), fits_below r)
 
     -- an operation works on nothing
     holder : holder_of p m ≡ Nobody
@@ -147,9 +142,7 @@ pub dealing :
     (p : Image) (fr : Frame) (ts : List Task) (s : State) (items : List Item) (o : Option Object) → s.items ≡ items → held s.cells (top_place items) ≡ o → tops_entry items ≡ true →
     top_is_whole s.cells items ≡ true
     → dealt_with p items (Run fr ∷ ts) s ≡ applied p fr ts s (deals_effect fr items o)
-dealing p fr ts s (An_object ∷ items) (Some o) at e there whole =
-    ap (λ x. destroyed p x items (Run fr ∷ ts) s) e
-    ∙ ap (λ l. record s { cells = moved (Entry (length l)) (Going (length (Run fr ∷ ts))) s.cells; tasks = begun p o (length l) (Run fr ∷ ts); items = l }) (sym (ap below_top at))
+dealing p fr ts s (An_object ∷ items) (Some o) at e there whole = grind (arith, nat_tests, items)
 dealing p fr ts s (An_operation m w ∷ items) o at e there whole = grind (arith, nat_tests, items)
 dealing p fr ts s _ o at e there whole = cc
 

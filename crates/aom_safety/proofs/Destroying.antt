@@ -1,6 +1,6 @@
 -- Destruction begins: from a delete, and as an entry is unwound.
 use Rattle.std.proofs.lemmas.Bool.Decides.{nat_tests}
-use Rattle.std.proofs.Common.{[], Bool, List, None, Option, Some, ap, arith, cond, false, length, refl, subst, suc, sym, true, zero, ℕ, ⊎_elim, ◌==◌, ◌∙◌, ◌∷◌, ◌≡◌, ◌≤◌}
+use Rattle.std.proofs.Common.{[], Bool, List, None, Option, Some, ap, arith, cond, false, length, refl, subst, suc, sym, true, ℕ, ⊎_elim, ◌==◌, ◌∙◌, ◌∷◌, ◌≡◌, ◌≤◌}
 use Rattle.std.proofs.lemmas.Bool.{cases_Bool, eq-eqb, eqb-true, ne_eqb, true≢false}
 use Rattle.std.specs.Prelude.{is_some, IsSome, is_none, map, replicate}
 use Rattle.aom_image.specs.Image.{Image}
@@ -11,7 +11,7 @@ use Rattle.aom_image.specs.declared.method.Role.TheVariants.{Destruct}
 use Rattle.aom_image.specs.declared.method.Thing.{Thing}
 use Rattle.aom_image.specs.declared.method.Thing.TheVariants.{Message, Object as An_object_of}
 use Rattle.aom_rules.specs.Calls.{is_destruct}
-use Rattle.aom_shape.specs.Kinds.{field, filled, is_object_or_null, is_ready_kind, may_be_destroyed, register, set_register}
+use Rattle.aom_shape.specs.Kinds.{field, filled, is_object_or_null, may_be_destroyed, register, set_register}
 use Rattle.aom_shape.specs.Order.{SaysNoMore, Weaker, WeakerFilling, alike, alike_filling}
 use Rattle.aom_shape.specs.Shape.{Shape}
 use Rattle.aom_roles.specs.Tables.{at}
@@ -39,7 +39,7 @@ use Rattle.aom_safety.specs.Laws.{IsWired}
 use Rattle.aom_semantics.specs.Effects.{applied, deletes}
 use Rattle.aom_semantics.specs.Objects.{is_no_message}
 use Rattle.aom_semantics.specs.Places.{In_service, Queued, service_of, Cell, Elsewhere, Entry, Field, Going, Object, Place, Register, Root, Sight, Tidy, changed, held, moved, named, requested, same_place, seen, Session}
-use Rattle.aom_semantics.specs.State.{Dispatch, Of_server, Parts, Closing, Destroy, AtRoot, Choice, Frame, Home, Inside, Run, Seat, State, Static, next, set_word, thing_holder, word}
+use Rattle.aom_semantics.specs.State.{Dispatch, Closing, Destroy, AtRoot, Choice, Frame, Home, Inside, Run, Seat, State, Static, next, set_word, thing_holder, word}
 use Rattle.aom_safety.specs.WellTyped.{view_holder, SitsFirst, seat_of, IsOverDying, Now, AllSit, NoSeatAt, NoSeatIn, SitsIn, SomeSits, AllUndo, Back, Caught, Fits, Gone, Good, Houses, IsBelow, IsHoused, IsNoFieldOf, IsOfFamily, Leaves, NoneIn, NotIn, Returns, SomeIn, Stack, Unclaimed, WellTyped, WordFits, WorksOn}
 use Rattle.aom_roles.specs.Shapes.{kind_of}
 use Rattle.aom_safety.proofs.Suiting.{all_moved, known_plain, same_object, suits_less, unworked_rests}
@@ -68,7 +68,7 @@ eqb_comm a b = grind (arith, nat_tests, cases_Bool (a == b), eq-eqb b a, eqb-tru
 
 module _ (p : Image) (t : Typing) (cs : List Cell) (q : Place) (o : Object) (tidy : Tidy cs) (there : held cs q ≡ Some o) where
   pub other_name : (from : Place) (x : Object) → held cs from ≡ Some x → same_place q from ≡ false → (x.name == o.name) ≡ false
-  other_name from x h e = ne_eqb x.name o.name (λ same. true≢false (sym (ap (λ r. same_place q r) (one_place cs from q x o tidy h there same) ∙ same_place_refl q) ∙ e))
+  other_name from x h e = ne_eqb x.name o.name (λ same. true≢false (grind (arith, nat_tests, one_place, same_place_refl)))
 
   pub untouched_method :
       (k : ℕ → Kind) (fr : Frame) (sh : Shape) (ls : List Layer) → ((x : Object) (from : Place) → fr.home ≡ Inside x from → NoFieldHere q from) → Outside q ls → IsHoused p cs ls fr.home →
@@ -112,8 +112,7 @@ module _ (p : Image) (t : Typing) (cs : List Cell) (q : Place) (o : Object) (tid
 
   -- the close of a session with what sits is none with it
   close_apart : (w : Dispatch) (seats : List Seat) → SitsFirst cs (seat_of w) seats → (SomeSits o.name seats → ⊥) → (c : ℕ) (k : Kind) → by_close w o.name c k ≡ k
-  close_apart (Of_server x client Parts) seats first none c k = grind (arith, nat_tests, ne_eqb x.object.name o.name)
-  close_apart _ seats first none c k = refl
+  close_apart x seats first none c k = grind (arith, nat_tests, ne_eqb)
 
   pub untouched : (k : ℕ → Kind) (ls : List Layer) (back : Back) → Outside q ls → Stack p t cs back ls → Untouched p k o.name ls
   untouched k [] back out s = record { some = λ x. x; unclaimed = λ f. refl; none_in = tt; unworked = tt; sessions = λ d c. refl }
@@ -133,7 +132,7 @@ module _ (p : Image) (t : Typing) (cs : List Cell) (q : Place) (o : Object) (tid
       record { some = u.some; unclaimed = λ f. ap (λ y. cond (x.name == o.name) Null y) (u.unclaimed f) ∙ ap (λ b. cond b Null (k f)) (other_name (Going (length (tasks_of ls))) x s.0.1 (going_differs q x ls out)); none_in = u.none_in; unworked = (other_name (Going (length (tasks_of ls))) x s.0.1 (going_differs q x ls out), u.unworked); sessions = λ d c. ap (λ b. cond b Null (claim p d ls (Elsewhere (Session o.name c)))) (other_name (Going (length (tasks_of ls))) x s.0.1 (going_differs q x ls out)) ∙ u.sessions d c }
   untouched k (Dispatching w seats ∷ ls) back out s =
       let h = unseated seats (no_seat_outside q w seats ls out) s.2 in
-      subst (λ l. Untouched p k o.name (Dispatching w seats ∷ l)) (sym s.1) (record { some = λ x. ⊎_elim h.0 (λ y. y) x; unclaimed = λ f. refl; none_in = (h.1, tt); unworked = tt; sessions = λ d c. close_apart w seats s.3 h.0 c (d (Elsewhere (Session o.name c))) })
+      rw s.1 (record { some = λ x. ⊎_elim h.0 (λ y. y) x; unclaimed = λ f. refl; none_in = (h.1, tt); unworked = tt; sessions = λ d c. close_apart w seats s.3 h.0 c (d (Elsewhere (Session o.name c))) })
   untouched k (Ending x left ∷ ls) back out s =
       let u = untouched k ls Now (outside_less q (Ending x left) ls out) s.3 in
       let apart = ending_apart x o.name ls s.2 u.unworked in
@@ -201,9 +200,8 @@ pub entry_registers : (p : Image) (m : ℕ) → arguments_of p m ≡ [] → (i :
 entry_registers p m e i = ap (λ xs. at Unset (map argument_kind xs) i) e
 
 pub at_alike : (n : ℕ) (x : Filling) (i : ℕ) → at x (replicate n x) i ≡ x
-at_alike zero x i = refl
-at_alike (suc n) x zero = refl
 at_alike (suc n) x (suc i) = at_alike n x i
+at_alike _ x _ = refl
 
 destruct_fields : (p : Image) (m : ℕ) → method_role p m ≡ Some Destruct → (f : ℕ) → field (entry_shape p m) f ≡ Perhaps
 destruct_fields p m e f = ap (λ r. at Perhaps (entry_fields r) f) e ∙ at_alike 8 Perhaps f
@@ -259,9 +257,7 @@ module _ (p : Image) (t : Typing) (linked : IsWired p) (typed : IsTyped p t) (cs
     -- with no destructor
     bare : destructor_of p o.thing ≡ None → (r : Place) → Fits p (seen cs) (held cs r) (claim p (declared p cs) (Dying o ∷ ls) r)
     bare none (Field n f) = grind (arith, nat_tests, no_fields_declared p linked o.thing none f, fields_fit n f)
-    bare none (Going k) = grind (arith, nat_tests)
-    bare none (Elsewhere Root) = fits (Elsewhere Root)
-    bare none r = fits r
+    bare none x = grind arith
 
     -- with one
     clothed :
@@ -269,12 +265,11 @@ module _ (p : Image) (t : Typing) (linked : IsWired p) (typed : IsTyped p t) (cs
         Fits p (seen cs) (held cs r) (claim p (declared p cs) (Method (destructor_frame p m o (length (tasks_of ls)) height) after ∷ Dying o ∷ ls) r)
     clothed m height after is others w (Register f i) =
         grind (arith, nat_tests, unset_only, entry_registers p m is.arguments i, fits_unowning p, null_of p, claim_register_above p cs ls f i, eqb-true)
-    clothed m height after is others w (Entry k) = grind (arith, nat_tests)
     clothed m height after is others w (Field n f) = grind (arith, nat_tests, perhaps_only, destruct_fields p m is.role f, fields_fit n f, eqb-true o.name n)
     clothed m height after is others w (Elsewhere Root) = fits (Elsewhere Root)
     clothed m height after is others w (Elsewhere In_service) = grind (arith, nat_tests, plain_claim)
     clothed m height after is others w (Elsewhere w') = fits (Elsewhere w')
-    clothed m height after is others w (Going k) = grind (arith, nat_tests)
+    clothed m height after is others w _ = grind (arith, nat_tests)
 
     -- and all others are as they were
     bare_suits : last_of (thing_kind p o.thing) ≡ states_of (thing_kind p o.thing) → AllSuit p cs (Dying o ∷ ls)
@@ -297,8 +292,8 @@ module _ (p : Image) (t : Typing) (linked : IsWired p) (typed : IsTyped p t) (cs
         let good : Good p t cs (Method fr leads.0 ∷ Dying o ∷ ls) = record {
           stack = (
             leads.1,
-            record { words = λ i. subst (λ k. WordFits None k) (sym (unset_only (subst (λ k. Weaker (register leads.0 i) k) (entry_registers p m d.arguments i) (w.registers i)))) tt; holder = d.holder; view = counts_line p o.thing d.family.0 m d.family.1 d.family.2 works; height = high; alone = λ e. absurd (true≢false (sym e ∙ ap is_cancel d.role)); message = (λ e. absurd (true≢false (sym e ∙ ap is_service d.role)), λ served. absurd served) },
-            record { there = there; lives = lives; below = omega arith; ready = ap (λ b. is_ready_kind (cond b (Own o.thing Ready) (claim p (λ x. Null) ls (Going (length (tasks_of ls)))))) (eq-eqb (length (tasks_of ls)) _ refl) },
+            record { words = grind (arith, nat_tests, unset_only, entry_registers); holder = d.holder; view = counts_line p o.thing d.family.0 m d.family.1 d.family.2 works; height = high; alone = λ e. absurd (true≢false (sym e ∙ ap is_cancel d.role)); message = (λ e. absurd (true≢false (sym e ∙ ap is_service d.role)), λ served. absurd served) },
+            record { there = there; lives = lives; below = omega arith; ready = grind (arith, nat_tests, eq-eqb) },
             (tt, apart.none_in, (λ f some. apart.unclaimed f, ap view_holder d.family.2.of ∙ sym works), apart.unworked),
             ((lives, there), (d.stays, refl, ap is_destruct d.role, d.gives, d.ends, d.quiet, d.family.0, d.family.1, d.family.2), stack),
           );
@@ -385,7 +380,7 @@ module _ (p : Image) (t : Typing) (cs : List Cell) (o : Object) (q : Place) (ls 
     (same : length (tasks_of ls) ≤ length (tasks_of ls'))
     (claims : (r : Place) → claim p (declared p cs) ls' r ≡ changed (claim p (declared p cs) ls) q Null r) where
   pub no_going : held cs (Going (length (tasks_of ls'))) ≡ None
-  no_going = fits_unowning p (seen cs) _ Null refl (subst (λ k. Fits p (seen cs) (held cs (Going (length (tasks_of ls')))) k) (claim_going_above p cs ls (length (tasks_of ls')) same) (fits (Going (length (tasks_of ls')))))
+  no_going = grind (arith, nat_tests, fits_unowning p, claim_going_above p cs ls)
 
   pub goes_there : held (moved q (Going (length (tasks_of ls'))) cs) (Going (length (tasks_of ls'))) ≡ Some o
   goes_there = grind (arith, nat_tests, held_moved cs q, no_going, same_place_refl, there)
@@ -394,8 +389,7 @@ module _ (p : Image) (t : Typing) (cs : List Cell) (o : Object) (q : Place) (ls 
       (r : Place) →
       Fits p (seen (moved q (Going (length (tasks_of ls'))) cs)) (held (moved q (Going (length (tasks_of ls'))) cs) r) (Dies p (moved q (Going (length (tasks_of ls'))) cs) o ls' r)
   goes_fitting r =
-      subst (λ d. Fits p (seen cs') (held cs' r) (cond (same_place g r) (Own o.thing Ready) (claim p d ls' r))) (sym (declared_moved p cs q g))
-      (go (same_place g r) refl (keep_fits p (seen cs) (seen cs') (claim p (declared p cs) ls) (changed (changed (claim p (declared p cs) ls) q Null) g (claim p (declared p cs) ls q)) q g (λ r. held_moved cs q g r no_going) (requested_moved cs q g) (λ r. refl) (λ r x e k f. refl) fits r))
+      rw (declared_moved p cs q g) (go (same_place g r) refl (keep_fits p (seen cs) (seen cs') (claim p (declared p cs) ls) (changed (changed (claim p (declared p cs) ls) q Null) g (claim p (declared p cs) ls q)) q g (λ r. held_moved cs q g r no_going) (requested_moved cs q g) (λ r. refl) (λ r x e k f. refl) fits r))
     where
       g : Place
       g = Going (length (tasks_of ls'))
@@ -407,7 +401,7 @@ module _ (p : Image) (t : Typing) (cs : List Cell) (o : Object) (q : Place) (ls 
           (b : Bool) → same_place g r ≡ b → Fits p (seen cs') (held cs' r) (cond b (claim p (declared p cs) ls q) (changed (claim p (declared p cs) ls) q Null r)) →
           Fits p (seen cs') (held cs' r) (cond b (Own o.thing Ready) (claim p (declared p cs) ls' r))
       go true e f =
-          subst (λ x. Fits p (seen cs') (held cs' x) (Own o.thing Ready)) (same_place-true g r e) (subst (λ x. Fits p (seen cs') x (Own o.thing Ready)) (sym goes_there) (stands_itself p o.thing, tt))
+          subst (λ x. Fits p (seen cs') (held cs' x) (Own o.thing Ready)) (same_place-true g r e) (grind (arith, nat_tests, cs', goes_there, stands_itself))
       go false e f = subst (λ k. Fits p (seen cs') (held cs' r) k) (sym (claims r)) f
 
   -- so its destruction begins
@@ -416,9 +410,7 @@ module _ (p : Image) (t : Typing) (cs : List Cell) (o : Object) (q : Place) (ls 
       Untouched p (λ f. filled (field_thing p (thing_holder o.thing) f) Perhaps) o.name ls' → AllSuit p cs ls' → (s : State) (height : ℕ) → height ≡ length (items_of ls') →
       s.cells ≡ moved q (Going (length (tasks_of ls'))) cs → s.tasks ≡ begun p o height (tasks_of ls') → forms s.items ≡ items_of ls' → AllUndo p s.items → WellTyped p t s
   goes_well wired typed tidy stack apart suits s height high cells tasks items undos =
-      let g = Going (length (tasks_of ls')) in
-      begin p t wired typed (moved q g cs) o ls' (tidy_moved cs q g no_going tidy) stack goes_there (named_moved cs q g o.name ∙ held_lives cs q o tidy there) apart (all_moved p cs q g ls' suits) goes_fitting
-      s height high cells tasks items undos
+      grind (arith, nat_tests, begin, tidy_moved, no_going, goes_there, named_moved, held_lives, there, all_moved, goes_fitting)
 
 module _ (p : Image) (t : Typing) (c : Choice) (s : State) (fr : Frame) (sh : Shape) (ls : List Layer) (at_hand : At p t s fr sh ls) where
   pub law_delete : IsWired p → IsTyped p t → (a : ℕ) → Law p t c s fr sh ls at_hand (Delete a)
@@ -450,7 +442,7 @@ module _ (p : Image) (t : Typing) (c : Choice) (s : State) (fr : Frame) (sh : Sh
 
       go : (x : Option Object) → held s.cells (top ls a) ≡ x → WellTyped p t (applied p fr (tasks_of ls) s (deletes fr x a))
       go None e = well p t c s fr sh ls at_hand (applied p fr (tasks_of ls) s (deletes fr None a)) (next fr') sh' refl at_hand.items at_hand.undos
-          (settle p t cs (next fr') sh' ls (relabel p t cs fr (next fr') sh sh' ls (top ls a) Null (fitted p t cs fr sh ls at_hand.good) refl refl refl refl (subst (λ o. Fits p (seen cs) o Null) (sym e) tt) (λ r. claim-set_register p (declared p cs) fr sh ls a Null r) words) leads.0)
+          (settle p t cs (next fr') sh' ls (grind (arith, nat_tests, relabel, cs, fr', sh', top, fitted, claim-set_register, words)) leads.0)
       go (Some o) e =
           let q = top ls a in
           let g = Going (length (Run fr ∷ tasks_of ls)) in

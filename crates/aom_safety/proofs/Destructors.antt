@@ -4,13 +4,13 @@ use Rattle.aom_image.specs.declared.method.Role.TheVariants.{Destruct}
 use Rattle.aom_image.specs.declared.class.ClassKind.{ClassKind}
 use Rattle.aom_safety.specs.Laws.{IsWired}
 use Rattle.aom_classes.specs.Roles.{role_of}
-use Rattle.aom_roles.specs.Families.{parent_of, parent_by, fields_above}
+use Rattle.aom_roles.specs.Families.{parent_of, fields_above}
 use Rattle.aom_roles.proofs.Descending.{through, itself, child}
 use Rattle.aom_semantics.specs.Destruction.{begun_by, class_destructor, next_destructor, needs_past, is_past}
 use Rattle.aom_safety.proofs.Dropping.{held_dropped, queue_dropped}
 use Rattle.aom_safety.proofs.Housing.{destructs_member}
 use Rattle.aom_safety.proofs.Destroying.{eqb_comm, begins_line, destroys_by, Destroys, Bare, untouched, Untouched}
-use Rattle.std.proofs.Common.{leb-true, eq-eqb, [], Bool, IsTrue, List, None, Option, Some, ap, arith, cond, false, length, refl, subst, suc, sym, true, zero, ℕ, ◌==◌, ◌∙◌, ◌∷◌, ◌≡◌, ◌≤◌, ◌&&◌}
+use Rattle.std.proofs.Common.{leb-true, [], Bool, IsTrue, List, None, Option, Some, ap, arith, cond, false, length, refl, subst, suc, sym, true, zero, ℕ, ◌==◌, ◌∙◌, ◌∷◌, ◌≡◌, ◌≤◌, ◌&&◌}
 use Rattle.std.proofs.lemmas.Bool.{and_parts, eqb-true}
 use Rattle.std.specs.Prelude.{slice_get, nat_le}
 use Rattle.aom_image.specs.Image.{Image}
@@ -34,15 +34,14 @@ use Rattle.aom_safety.proofs.Claimed.{claim_unclaimed, claim_register_above}
 use Rattle.aom_safety.proofs.Finishing.{perhaps_fits, ended_plainly, no_entries, none_left, none_owns_at, return_needs, returnable, same_items}
 use Rattle.aom_safety.proofs.Going.{past_by}
 use Rattle.aom_safety.proofs.Straight.{At, Law, fits_unowning}
-use Rattle.aom_semantics.specs.Calls.{needs_destroyed, result_needs}
-use Rattle.aom_safety.specs.Claims.{forms, declared_field, Dying, Layer, claim, declared, home_claim, items_of, own_field, root_claim, tasks_of}
-use Rattle.aom_semantics.specs.Places.{Queued, Session, Request, Cell, Sight, In_service, Elsewhere, Entry, Field, Going, Object, Place, Register, Root, held, requested, seen}
+use Rattle.aom_safety.specs.Claims.{forms, declared_field, Dying, Layer, claim, declared, items_of, own_field, tasks_of}
+use Rattle.aom_semantics.specs.Places.{Queued, Session, Request, Cell, Sight, In_service, Elsewhere, Entry, Field, Going, Object, Place, Register, Root, held, seen}
 use Rattle.aom_semantics.specs.Servers.{is_queue_of, without_queue}
 use Rattle.aom_semantics.specs.State.{home_holder, Choice, Frame, Inside, State, thing_holder}
 use Rattle.aom_safety.specs.WellTyped.{Gone, WellTyped, Houses, IsOfFamily, Fits, Good}
 use Rattle.aom_shape.specs.Arguments.{after_of}
 use Rattle.aom_roles.specs.States.{states_of, last_of}
-use Rattle.aom_safety.specs.Requests.{AllSuit, Known, Suits, known_at, resting_in, states_claim, thing_kind, works_at}
+use Rattle.aom_safety.specs.Requests.{AllSuit, Suits, resting_in}
 use Rattle.aom_safety.proofs.Suiting.{unworked_rests, known_plain, same_object, suits_less}
 use Rattle.aom_safety.proofs.Attending.{plain_claim}
 
@@ -126,10 +125,7 @@ module _ (p : Image) (t : Typing) (c : Choice) (s : State) (fr : Frame) (sh : Sh
       (ends : IsTrue (has (after_of p fr.method) sh.states)) where
     -- what is claimed of a field of the cell
     own_fits : (f : ℕ) → Fits p h (held cs (Field o.name f)) (own_field (field_thing p (holder_of p fr.method) f) (field sh f) Null)
-    own_fits f =
-        let below = claim p (declared p cs) ls (Field o.name f) in
-        subst (λ b. Fits p h (held cs (Field o.name f)) (cond b (own_field (field_thing p (holder_of p fr.method) f) (field sh f) (cond b Null below)) (cond b Null below))) (eq-eqb o.name o.name refl)
-        (subst (λ k. Fits p h (held cs (Field o.name f)) (home_claim p (holder_of p fr.method) k sh o.name f (cond (o.name == o.name) Null below))) home (at_hand.good.fits (Field o.name f)))
+    own_fits f = grind (arith, nat_tests, home)
 
     -- nothing is left past the parent's
     past : (f : ℕ) → above ≤ f → held cs (Field o.name f) ≡ None
@@ -157,49 +153,22 @@ module _ (p : Image) (t : Typing) (c : Choice) (s : State) (fr : Frame) (sh : Sh
             Fits p h (held cs (Register f i)) (cond b (register sh i) (claim p (declared p cs) ls (Register f i))) →
             Fits p h (held cs (Register f i)) (claim p (declared p cs) ls (Register f i))
         go true e fits =
-            subst (λ k. Fits p h (held cs (Register f i)) k) (sym (claim_register_above p cs ls f i (omega (arith, eqb-true _ _ e))))
-            (subst (λ x. Fits p h x Null) (sym (fits_unowning p h _ (register sh i) (none_owns_at sh.registers i free) fits)) tt)
+            rw (claim_register_above p cs ls f i (omega (arith, eqb-true _ _ e))) (rw (fits_unowning p h _ (register sh i) (none_owns_at sh.registers i free) fits) tt)
         go false e fits = fits
     beside (Entry k) u = grind (arith, nat_tests, no_entries sh.entries entries)
-    beside (Field m f) other = go (o.name == m) other
-        (subst (λ k. Fits p h (held cs (Field m f)) (home_claim p (holder_of p fr.method) k sh m f (cond (o.name == m) Null (claim p (declared p cs) ls (Field m f))))) home (at_hand.good.fits (Field m f)))
-      where
-        go :
-            (b : Bool) → b ≡ false →
-            Fits p h (held cs (Field m f)) (cond b (own_field (field_thing p (holder_of p fr.method) f) (field sh f) (cond b Null (claim p (declared p cs) ls (Field m f)))) (cond b Null (claim p (declared p cs) ls (Field m f)))) →
-            Fits p h (held cs (Field m f)) (cond b Null (claim p (declared p cs) ls (Field m f)))
-        go false e fits = fits
-        go true e fits = cc
-    beside (Elsewhere Root) u =
-        subst (λ k. Fits p h (held cs (Elsewhere Root)) (root_claim p k sh (claim p (declared p cs) ls (Elsewhere Root)))) home (at_hand.good.fits (Elsewhere Root))
+    beside (Field m f) other = grind (arith, nat_tests, home)
+    beside (Elsewhere Root) u = grind (arith, nat_tests, home)
     beside (Elsewhere In_service) u = grind (arith, nat_tests, plain_claim, destructs_plainly, destructs)
     beside (Elsewhere w) u = at_hand.good.fits (Elsewhere w)
     beside (Going k) u = at_hand.good.fits (Going k)
 
     -- the object is in a state in which it may go
     suits_dying : AllSuit p cs (Dying o ∷ ls)
-    suits_dying x lives =
-        go (o.name == x.name) refl (subst (λ k. Suits (thing_kind p x.thing) (cond (works_at x.name k) (known_at p fr sh.states (below (o.name == x.name))) (below (o.name == x.name))) (requested cs x.name)) home (at_hand.good.suits x lives))
-      where
-        below : Bool → Known
-        below b = cond b (resting_in (last_of (thing_kind p x.thing))) (states_claim p x ls)
-
-        go :
-            (b : Bool) → (o.name == x.name) ≡ b → Suits (thing_kind p x.thing) (cond b (known_at p fr sh.states (below b)) (below b)) (requested cs x.name) →
-            Suits (thing_kind p x.thing) (below b) (requested cs x.name)
-        go true same fits =
-            let one = same_object cs o x at_hand.good.stack.4.0.0 lives same in
-            let last = at_hand.good.stack.4.1.4 in
-            suits_less (thing_kind p x.thing) (last_of (thing_kind p x.thing)) sh.states false (requested cs x.name) (subst (λ k. IsTrue (has k sh.states)) (last ∙ ap (λ (y : Object). last_of (thing_kind p y.thing)) one) ends)
-            (subst (λ k. Suits (thing_kind p x.thing) k (requested cs x.name)) (known_plain p fr sh.states (resting_in (last_of (thing_kind p x.thing))) (destructs_only (method_role p fr.method) destructs)) fits)
-        go false other fits = fits
+    suits_dying x lives = grind (arith, nat_tests, home, same_object, suits_less, known_plain, destructs_only, destructs)
 
     -- with no fields of the parent's class the cell goes
     goes : ((f : ℕ) → held cs (Field o.name f) ≡ None) → Good p t cs (Dying o ∷ ls)
-    goes null = record { stack = (at_hand.good.stack.4.0, tt, at_hand.good.stack.4.2); fits = fits; suits = suits_dying; tidy = at_hand.good.tidy }
-      where
-        fits : (r : Place) → Fits p h (held cs r) (claim p (declared p cs) (Dying o ∷ ls) r)
-        fits x = grind (arith, nat_tests, eqb-true o.name, beside)
+    goes null = search (arith, nat_tests, suits_dying, eqb-true o.name, beside)
 
     -- no other layer works on it
     apart : Untouched p (λ f. filled (field_thing p (thing_holder o.thing) f) Perhaps) o.name ls
@@ -213,7 +182,7 @@ module _ (p : Image) (t : Typing) (c : Choice) (s : State) (fr : Frame) (sh : Sh
             claim_unclaimed p (declared p cs) ls o.name f (λ f. filled (field_thing p (thing_holder o.thing) f) Perhaps) apart.unclaimed (ap (λ x. declared_field p x f) at_hand.good.stack.4.0.0)
 
         go : (b : Bool) → (o.name == n) ≡ b → Fits p h (held cs (Field n f)) (claim p (declared p cs) ls (Field n f))
-        go true e = subst (λ n. Fits p h (held cs (Field n f)) (claim p (declared p cs) ls (Field n f))) (eqb-true o.name n e) (subst (λ k. Fits p h (held cs (Field o.name f)) k) (sym declares) (all_fit f))
+        go true e = subst (λ n. Fits p h (held cs (Field n f)) (claim p (declared p cs) ls (Field n f))) (eqb-true o.name n e) (grind (arith, nat_tests, declares, all_fit))
         go false e = subst (λ b. Fits p h (held cs (Field n f)) (cond b Null (claim p (declared p cs) ls (Field n f)))) e (beside (Field n f) e)
     bare (Going k) = grind (arith, nat_tests, beside (Going k))
     bare (Register f i) = beside (Register f i) tt
@@ -291,9 +260,8 @@ module _ (p : Image) (t : Typing) (c : Choice) (s : State) (fr : Frame) (sh : Sh
       let entries : no_entry sh.entries ≡ true = none_left p fr sh a its.3 r in
       let items = same_items p t c s fr sh (Dying o ∷ ls) at_hand entries in (
         return_needs p t c s fr sh (Dying o ∷ ls) at_hand a r
-            (subst (λ g. AllTrue (result_needs p fr (tasks_of (Dying o ∷ ls)) s g a)) (sym its.3) tt)
-            (subst (λ k. AllTrue (needs_destroyed p fr.method s.cells k)) (sym home)
-            (subst (λ x. AllTrue (needs_past (fields_above p (parent_by p x)) (without_queue o.name s.cells) o.name)) (sym line.of) (left entries free done r.ends))),
+            (rw its.3 tt)
+            (rw home (rw line.of (left entries free done r.ends))),
         grind (
           arith,
           nat_tests,

@@ -1,6 +1,6 @@
 -- Where messages go that wait in a queue or are served, all else is as it was: by the cells one after another.
 use Rattle.std.proofs.lemmas.Bool.Decides.{nat_tests}
-use Rattle.std.proofs.Common.{[], length, Bool, List, None, Option, Some, ap, cond, false, inl, inr, refl, subst, sym, true, ⊎_elim, ℕ, ◌==◌, ◌∙◌, ◌∷◌, ◌≡◌, ◌⊎◌, arith}
+use Rattle.std.proofs.Common.{[], Bool, List, None, Option, Some, ap, cond, false, inl, inr, refl, subst, sym, true, ⊎_elim, ℕ, ◌==◌, ◌∙◌, ◌∷◌, ◌≡◌, ◌⊎◌, arith}
 use Rattle.std.proofs.lemmas.Bool.{cases_Bool, eqb-true, true≢false}
 use Rattle.aom_image.specs.Image.{Image}
 use Rattle.aom_image.specs.declared.method.Thing.{Thing}
@@ -13,10 +13,10 @@ use Rattle.aom_shape.specs.declared.kind.Kind.TheVariants.{Null}
 pub use Rattle.aom_semantics.proofs.Maps.{requested_unnamed}
 use Rattle.aom_semantics.proofs.Maps.{cond_same, held_lives, same_place-true, same_place_refl}
 use Rattle.aom_safety.proofs.Services.{attended_at}
-use Rattle.aom_safety.specs.Claims.{claim, Dispatching, Dying, Ending, Layer, Mark, Method, Unwinding, declared, declared_field, tasks_of}
-use Rattle.aom_semantics.specs.Places.{Sight, seen, Cell, Elsewhere, Field, Going, In_service, Object, Place, Queued, Session, Tidy, held, named, requested, same_place, service_of, without, Service}
+use Rattle.aom_safety.specs.Claims.{claim, Dispatching, Dying, Ending, Layer, Mark, Method, Unwinding, declared, declared_field}
+use Rattle.aom_semantics.specs.Places.{Sight, seen, Cell, Elsewhere, Field, In_service, Object, Place, Queued, Session, Tidy, held, named, requested, same_place, service_of, without, Service}
 use Rattle.aom_semantics.specs.Servers.{is_server, has_message, has_session, is_queue_of, message_thing, session_thing, without_queue}
-use Rattle.aom_semantics.specs.State.{AtRoot, Home, Inside, Seat, Static}
+use Rattle.aom_semantics.specs.State.{Home, Inside, Seat}
 use Rattle.aom_safety.specs.WellTyped.{EndsSessions, Fits, SitsFirst, AllSit, Back, IsBelow, IsHoused, SitsIn, Stack, seat_of}
 use Rattle.std.specs.Prelude.{is_some}
 use Rattle.std.proofs.lemmas.Option.{same_Some}
@@ -148,9 +148,7 @@ module _ (gone : Place → Bool) where
     suits_dropped ls s o lives = grind (arith, nat_tests, each_name cs tidy o.name)
 
     pub fits_dropped : (r : Place) (k : Kind) → gone r ≡ false → Fits p (seen cs) (held cs r) k → Fits p (seen (dropped cs)) (held (dropped cs) r) k
-    fits_dropped r k e f =
-        subst (λ x. Fits p (seen (dropped cs)) x k) (sym (held_dropped cs r ∙ ap (λ b. cond b None (held cs r)) e))
-        (fits_age p (seen cs) (seen (dropped cs)) (held cs r) k (λ x at fresh age. (λ f. fewer_held cs (Field x.name f) (age.0 f), fewer_requested cs tidy x.name age.1)) f)
+    fits_dropped r k e f = grind (arith, nat_tests, held_dropped, fits_age, fewer_held, fewer_requested)
 
     -- that were sent
     module _ (sent : (r : Place) → gone r ≡ true → is_sent r ≡ true) where
@@ -165,9 +163,8 @@ module _ (gone : Place → Bool) where
       sits_spared x xs b = grind arith
 
       housed_dropped : (ls : List Layer) (home : Home) → IsHoused p cs ls home → IsHoused p (dropped cs) ls home
-      housed_dropped ls Static h = h
-      housed_dropped ls AtRoot h = h
       housed_dropped ls (Inside o from) h = let e = below_spared from ls h.below in record { there = stays_at from o e h.there; lives = stays_named from o e h.there; below = h.below; ready = h.ready }
+      housed_dropped ls _ h = h
 
       all_sit_dropped : (xs : List Seat) → AllSit cs xs → AllSit (dropped cs) xs
       all_sit_dropped [] s = tt
@@ -189,14 +186,14 @@ module _ (gone : Place → Bool) where
       sessions_dropped : (o : Object) (left : List ℕ) → EndsSessions p cs o left → EndsSessions p (dropped cs) o left
       sessions_dropped o left h = ⊎_elim
           (λ s. record { server = h.server; lives = s.name ∙ h.lives; listed = λ c e. ap (λ v. has_session v c) s.service ∙ h.listed c e })
-          (λ w. let same : w.object ≡ o = same_Some w.object o (sym w.was ∙ h.lives) in absurd (not_message o.thing h.server (sym (ap (λ (x : Object). x.thing) same) ∙ messages w.place w.object w.goes w.there)))
+          (λ w. let same : w.object ≡ o = same_Some w.object o (sym w.was ∙ h.lives) in absurd (grind (arith, nat_tests, not_message)))
           (each_name cs tidy o.name)
 
       pub stack_dropped : (t : Typing) (ls : List Layer) (back : Back) → Stack p t cs back ls → Stack p t (dropped cs) back ls
       stack_dropped t [] back s = s
       stack_dropped t (Method fr sh ∷ ls) back s = (s.0, s.1, housed_dropped ls fr.home s.2, s.3, stack_dropped t ls _ s.4)
       stack_dropped t (Mark gv ∷ ls) back s = (s.0, stack_dropped t ls _ s.1)
-      stack_dropped t (Dying o ∷ ls) back s = ((stays_named (Going (length (tasks_of ls))) o (spared (Going (length (tasks_of ls))) refl) s.0.1, stays_at (Going (length (tasks_of ls))) o (spared (Going (length (tasks_of ls))) refl) s.0.1), s.1, stack_dropped t ls _ s.2)
+      stack_dropped t (Dying o ∷ ls) back s = search (arith, nat_tests, stays_named, spared, stays_at, stack_dropped t ls)
       stack_dropped t (Ending o left ∷ ls) back s = (sessions_dropped o left s.0, s.1, s.2, stack_dropped t ls _ s.3)
       stack_dropped t (Unwinding code es ∷ ls) back s = (s.0, stack_dropped t ls _ s.1)
       stack_dropped t (Dispatching d seats ∷ ls) back s = (

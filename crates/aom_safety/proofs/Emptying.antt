@@ -70,7 +70,7 @@ none_from p t cs n c (Mark gv ∷ ls) back s none = none_from p t cs n c ls _ s.
 none_from p t cs n c (Dying o ∷ ls) back s none = none_from p t cs n c ls _ s.2 none
 none_from p t cs n c (Ending o left ∷ ls) back s none = none_from p t cs n c ls _ s.3 none
 none_from p t cs n c (Unwinding code es ∷ ls) back s none = none_from p t cs n c ls _ s.1 none
-none_from p t cs n c (Dispatching d seats ∷ ls) back s none = (at_seats seats s.2 (λ h. none (inl h)), subst (λ l. NoneFrom (Elsewhere (Session n c)) l) (sym s.1) tt)
+none_from p t cs n c (Dispatching d seats ∷ ls) back s none = (at_seats seats s.2 (λ h. none (inl h)), grind (arith, nat_tests))
   where
     at_seats : (xs : List Seat) → AllSit cs xs → (SomeSits n xs → ⊥) → NoSeatAt (Elsewhere (Session n c)) xs
     at_seats [] h none = tt
@@ -115,11 +115,9 @@ module _ (p : Image) (t : Typing) (wired : IsWired p) (typed : IsTyped p t) (s :
             (b : Bool) → (o.name == m) ≡ b →
             Fits p (seen cs) (held cs (Field m f)) (cond b (filled (field_thing p (thing_holder o.thing) f) Perhaps) (cond b Null (claim p (declared p cs) ls (Field m f)))) →
             Fits p (seen cs) (held cs (Field m f)) (claim p (declared p cs) ls (Field m f))
-        go true e h = subst (λ k. Fits p (seen cs) (held cs (Field m f)) k) (sym own_claim ∙ ap (λ i. claim p (declared p cs) ls (Field i f)) (eqb-true o.name m e)) h
+        go true e h = subst (λ k. Fits p (seen cs) (held cs (Field m f)) k) (grind (arith, nat_tests, own_claim, eqb-true)) h
         go false e h = h
-    bare (Going k) = grind (arith, nat_tests)
-    bare (Elsewhere (Session m c)) = grind (arith, nat_tests, eqb-true o.name m)
-    bare r = good.fits r
+    bare r = grind (arith, nat_tests, eqb-true o.name)
 
     suits_below : AllSuit p cs ls
     suits_below x lives' = go (o.name == x.name) refl (good.suits x lives')
@@ -135,7 +133,7 @@ module _ (p : Image) (t : Typing) (wired : IsWired p) (typed : IsTyped p t) (s :
         go false e h = h
 
     last_gone : WellTyped p t (parting p o None (tasks_of ls) s)
-    last_gone = destruct p t wired typed cs o ls good.tidy good.stack.3.2 there lives own suits_below bare (parting p o None (tasks_of ls) s) (length s.items) high refl refl items undos
+    last_gone = grind (arith, nat_tests, destruct, there, lives, own, suits_below, bare, high)
 
   -- one more goes
   module _ (c : ℕ) (so : Object) (holds : held cs (Elsewhere (Session o.name c)) ≡ Some so) where
@@ -155,7 +153,7 @@ module _ (p : Image) (t : Typing) (wired : IsWired p) (typed : IsTyped p t) (s :
     claims x = grind (arith, nat_tests, eqb-true c, among_parted c left, among_others)
 
     stack_over : Stack p t cs Gone over
-    stack_over = (record { server = good.stack.0.server; lives = good.stack.0.lives; listed = λ k e. good.stack.0.listed k (among_less k c left e) }, tt, good.stack.2, good.stack.3)
+    stack_over = search (arith, nat_tests, lives, among_less)
 
     outside : NoneFrom q ls
     outside = none_from p t cs o.name c ls Gone good.stack.3.2 own.some
@@ -176,7 +174,7 @@ module _ (p : Image) (t : Typing) (wired : IsWired p) (typed : IsTyped p t) (s :
   closing_well None e = grind (arith, nat_tests, last_gone, session_fits, none_first, fits_unowning p)
   closing_well (Some x) e =
       let f = found_first cs o.name (service_of cs o.name).sessions x e in
-      subst (λ (y : Seat). WellTyped p t (parting p o (Some y) (tasks_of ls) s)) (ap (λ q. record { object = x.object; place = q }) (sym f.place)) (session_gone f.client x.object (ap (λ q. held s.cells q) (sym f.place) ∙ f.there))
+      subst (λ (y : Seat). WellTyped p t (parting p o (Some y) (tasks_of ls) s)) (ap (λ q. record { object = x.object; place = q }) (sym f.place)) (grind (arith, nat_tests, session_gone))
 
   closing_goes : Keeps p t (closing p (tasks_of (Dying o ∷ ls)) s)
   closing_goes = grind (arith, nat_tests, there, closing_well)

@@ -7,7 +7,7 @@ use Rattle.aom_image.specs.Image.{Image}
 use Rattle.aom_image.specs.Views.{method_at, method_role}
 use Rattle.aom_rules.specs.Typing.{IsTyped, Typing}
 use Rattle.aom_shape.specs.Arguments.{before_of, entry_shape}
-use Rattle.aom_shape.specs.Kinds.{field, filled, is_ready_kind, register}
+use Rattle.aom_shape.specs.Kinds.{field, filled, register}
 use Rattle.aom_shape.specs.Order.{SaysNoMore, WeakerFilling}
 use Rattle.aom_shape.specs.Shape.{Shape}
 use Rattle.aom_roles.specs.Tables.{at}
@@ -78,7 +78,7 @@ module _ (p : Image) (t : Typing) (typed : IsTyped p t) (cs : List Cell) (x : Se
   begun height = record (frame_of m (Inside x.object x.place) height) { words = ws }
 
   housed : Holds p cs over x.object x.place
-  housed = record { there = e.sits.0.0; lives = e.sits.0.1; below = below x.place e.sits.0.2; ready = ap is_ready_kind (e.claims (λ r. Null) x.place) ∙ with_message_ready e.served x.place }
+  housed = record { there = e.sits.0.0; lives = e.sits.0.1; below = below x.place e.sits.0.2; ready = grind (arith, nat_tests, with_message_ready) }
     where
       below : (q : Place) → SitsIn q above → IsBelow q over
       below x h = grind arith
@@ -146,10 +146,10 @@ module _ (p : Image) (t : Typing) (typed : IsTyped p t) (cs : List Cell) (x : Se
       known = known_plain p (begun height) after.states (below x.object) e.plain ∙ ap (λ (k : Known). record { states = after.states; cancelled = k.cancelled }) (e.states x.object)
 
       own_now : Suits (thing_kind p x.object.thing) (known_at p (begun height) after.states (below x.object)) (requested cs x.object.name)
-      own_now = subst (λ k. Suits (thing_kind p x.object.thing) k (requested cs x.object.name)) (sym known) (suits_less (thing_kind p x.object.thing) after.states (before_of p m) false (requested cs x.object.name) w.states e.own)
+      own_now = rw known (suits_less (thing_kind p x.object.thing) after.states (before_of p m) false (requested cs x.object.name) w.states e.own)
 
       go : (b : Bool) → (x.object.name == y.name) ≡ b → Suits (thing_kind p y.thing) (cond b (known_at p (begun height) after.states (below y)) (below y)) (requested cs y.name)
-      go true same = subst (λ z. Suits (thing_kind p z.thing) (known_at p (begun height) after.states (below z)) (requested cs z.name)) (same_object cs x.object y e.sits.0.1 lives same) own_now
+      go true same = rw (same_object cs x.object y e.sits.0.1 lives same) at own_now
       go false other = subst (λ k. Suits (thing_kind p y.thing) k (requested cs y.name)) (sym (e.states y)) (e.others y lives other)
 
   pub enters :

@@ -110,7 +110,7 @@ module _ (p : Image) (t : Typing) (c : Choice) (s : State) (fr : Frame) (sh : Sh
   next_place = ap Entry (sym height)
 
   no_entry_yet : held s.cells (Entry (length s.items)) ≡ None
-  no_entry_yet = fits_unowning p (seen s.cells) _ Null refl (subst (λ k. Fits p (seen s.cells) (held s.cells (Entry (length s.items))) k) (claim_entry_above p s.cells (Method fr sh ∷ ls) (length s.items) (omega (arith, height))) (at_hand.good.fits (Entry (length s.items))))
+  no_entry_yet = fits_unowning p (seen s.cells) _ Null refl (rw (claim_entry_above p s.cells (Method fr sh ∷ ls) (length s.items) (omega (arith, height))) at (at_hand.good.fits (Entry (length s.items))))
 
   -- ---- a push
 

@@ -1,4 +1,5 @@
 -- What is known of an instruction by the call that it makes on a native.
+use Rattle.std.proofs.lemmas.Bool.Decides.{nat_tests}
 use Rattle.std.proofs.Common.{arith, List, None, refl, true, ℕ, ◌≡◌}
 use Rattle.std.specs.Prelude.{is_some}
 use Rattle.aom_image.specs.Image.{Image}
@@ -27,7 +28,7 @@ HasWords fr (An_ask a b) = (is_some (word fr a) ≡ true) × (is_some (word fr b
 HasWords fr _ = Unit {0}
 
 pub has_words : (p : Image) (c : Choice) (fr : Frame) (ts : List Task) (s : State) (i : Instr) → AllTrue (needs p c fr ts s i) → HasWords fr (exchange i)
-has_words p c fr ts s = by_exchange (λ i x. AllTrue (needs p c fr ts s i) → HasWords fr x) (λ a n. tt) (λ a b n. (n.0, n.1.0)) (λ a b x n. (n.0, n.1.0)) (λ n. tt) (λ n. tt) (λ i none n. tt)
+has_words p c fr ts s = grind (arith, nat_tests, by_exchange)
 
 -- what makes no call wants nothing, wherever it is
 pub none_wanted : (p : Image) (s : State) (fr : Frame) (ts : List Task) (h : Home) → wanted_by s p fr ts h Nothing ≡ None

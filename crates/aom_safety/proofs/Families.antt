@@ -1,6 +1,6 @@
 -- What a linked image gives of its families, by the laws of families: what descends from a class has what the class has, and an owner weighs more than what it owns.
 use Rattle.std.proofs.lemmas.Bool.Decides.{nat_tests}
-use Rattle.std.proofs.Common.{None, Option, Some, ap, arith, length, refl, slice_get, subst, sym, true, ℕ, ◌<◌, ◌∙◌, ◌≡◌, ◌≤◌}
+use Rattle.std.proofs.Common.{None, Option, Some, ap, arith, length, refl, slice_get, sym, true, ℕ, ◌<◌, ◌∙◌, ◌≡◌, ◌≤◌}
 use Rattle.std.proofs.lemmas.Option.{slice_get_within}
 use Rattle.aom_image.proofs.Given.{some_given}
 use Rattle.aom_image.specs.Image.{Image}
@@ -74,13 +74,12 @@ module _ (p : Image) (linked : IsLinked p) where
     no_child c e is session =
         let w = continued p linked.parents c e is in
         let fits : ParentFits p.header.version (length p.classes) w.child.kind w.child.parent = all_there (λ d. ParentFits p.header.version (length p.classes) d.kind d.parent) p.classes c w.child formed.families.parents w.at in
-        let may = subst (λ o. ParentFits p.header.version (length p.classes) w.child.kind o) w.named fits in
+        let may = rw w.named at fits in
         let above : is_session_kind w.parent.kind ≡ true = sym (ap (λ o. is_session_in (kind_in o)) w.above) ∙ session in
         session_childless w.child.kind may.1 (ap is_session_kind w.continues.kind ∙ above)
 
     sessions_alone : (c s x : ℕ) → sessions_at p c ≡ Some s → descends p x s ≡ true → x ≡ s
-    sessions_alone c s x serves h =
-        along p (λ y. y ≡ s) s (λ y e is same. absurd (no_child y e is (subst (λ z. is_session p z ≡ true) (sym same) (session_before c s serves).1))) refl x h
+    sessions_alone c s x serves h = along p (λ y. y ≡ s) s (λ y e is same. absurd (no_child y e is (rw same (session_before c s serves).1))) refl x h
 
     pub linked_is_family : IsFamily p
     unfolding kind_of

@@ -7,7 +7,7 @@ use Rattle.aom_image.specs.Image.{Image}
 use Rattle.aom_image.specs.Views.{gives_of, has, method_role}
 use Rattle.aom_instructions.specs.declared.instr.Instr.TheVariants.{Return}
 use Rattle.aom_image.specs.declared.method.Gives.{Gives}
-use Rattle.aom_image.specs.declared.method.Gives.TheVariants.{Left, Maybe as A_maybe, Nothing, Own as An_own}
+use Rattle.aom_image.specs.declared.method.Gives.TheVariants.{Maybe as A_maybe, Nothing, Own as An_own}
 use Rattle.aom_image.specs.declared.method.Thing.{Thing}
 use Rattle.aom_image.specs.declared.method.Thing.TheVariants.{Object as An_object_of}
 use Rattle.aom_rules.specs.Calls.{entries_done, fields_done, is_destructor, leaves_one, result_moved, rule_ended, rule_left, rule_result}
@@ -111,7 +111,7 @@ pub ended :
     Fits p h o (claim p (declared p cs) (Method fr sh ∷ ls) r) → Fits p h o (claim p (declared p cs) ls r)
 ended p cs fr sh ls houses counts housed apart at_top e n message (Register f i) h o fits =
     grind (arith, nat_tests, claim_register_above p cs ls f i, eqb-true, fits_unowning p h o, none_owns_at sh.registers i n)
-ended p cs fr sh ls houses counts housed apart at_top e n message (Entry k) h o fits = subst (λ es. Fits p h o (entry_claim es (items_of ls) k (claim p (declared p cs) ls (Entry k)))) (no_entries sh.entries e) fits
+ended p cs fr sh ls houses counts housed apart at_top e n message (Entry k) h o fits = grind (arith, nat_tests, no_entries)
 ended p cs fr sh ls houses counts housed apart at_top e n message (Field m f) h o fits = go fr.home houses housed apart fits
   where
     own : Option Thing
@@ -195,7 +195,7 @@ module _ (p : Image) (t : Typing) (c : Choice) (s : State) (fr : Frame) (sh : Sh
 
   -- the object that is left is owned by the last entry
   pub left_held : (x : ℕ) → leaves_one p x sh.entries ≡ true → Fits p (seen s.cells) (held s.cells (Entry (length (items_of ls)))) (Own (An_object_of x) Ready)
-  left_held x e = taken (held s.cells (Entry (length (items_of ls)))) (subst (λ k. Fits p (seen s.cells) (held s.cells (Entry (length (items_of ls)))) k) claims (at_hand.good.fits (Entry (length (items_of ls)))))
+  left_held x e = taken (held s.cells (Entry (length (items_of ls)))) (rw claims at (at_hand.good.fits (Entry (length (items_of ls)))))
     where
       w : LeftAlone p x sh.entries
       w = left_alone p x sh.entries e
@@ -229,8 +229,7 @@ module _ (p : Image) (t : Typing) (c : Choice) (s : State) (fr : Frame) (sh : Sh
 
   -- the cleanup stack is level
   level : (g : Gives) → entries_done p g sh.entries ≡ true → is_level p fr (tasks_of ls) s g ≡ true
-  level (Left x) e = one_left x e
-  level _ e = same_height e
+  level x e = grind (arith, nat_tests, one_left, same_height)
 
 module _ (p : Image) (t : Typing) (c : Choice) (s : State) (fr : Frame) (sh : Shape) (ls : List Layer) (at_hand : At p t s fr sh ls) (a : ℕ) (r : Returnable p fr sh a) where
   spared : (g : Gives) → none_owns (result_moved p fr.method fr.place sh g a).registers ≡ true → (i : ℕ) → spares (result_source g a) i ≡ false → held s.cells (top ls i) ≡ None

@@ -17,7 +17,7 @@ use Rattle.aom_classes.specs.Jumps.{jump_of}
 use Rattle.aom_classes.specs.Loops.{loop_in}
 use Rattle.aom_safety.proofs.Finishing.{all_parts}
 use Rattle.aom_semantics.specs.Calls.{below_top, needs_entering}
-use Rattle.aom_semantics.specs.Cleanup.{has_trap, is_negative, leave_needs, no_memory, top_is_whole, top_place, tops_entry, tops_object, tops_operation}
+use Rattle.aom_semantics.specs.Cleanup.{has_trap, leave_needs, no_memory, top_is_whole, top_place, tops_entry, tops_object, tops_operation}
 use Rattle.aom_semantics.specs.Effects.{The_message, Calls, Cancels, Carried, Destroys, Destroys_last, Effect, Goes_on, In_field, In_register, Leaves, Handed, Made, Operates, Popped, Pushed, Pushed_operation, Same, Sets_trap, Spot, Update, cancels_if, deals, deletes, effect, hands_unless, jumps_if, jumps_unless, makes_unless, round, sets}
 use Rattle.aom_semantics.specs.Enlisted.{cancel_method, in_phase, is_active, is_busy, own_request}
 use Rattle.aom_safety.specs.Leaves.{LeavesWith}
@@ -124,18 +124,14 @@ module _ (p : Image) (c : Choice) (fr : Frame) (ts : List Task) (s : State) wher
   fits (Delete a) n = deleting (held s.cells (here fr ts s a)) a refl
   fits (Call target m first x) n = ((x, refl), λ l f. few_arguments target m first _ n)
   fits (Trap target m first x) n = ((x, refl), λ l f. few_arguments target m first _ n)
-  fits (NewOrLeave a x) n = either (NewOrLeave a x) c.refused no_memory Same _ (λ e. ((may_leave c.refused s.cells n.1 e, (e, refl), tt), λ l f. tt)) ((refl, refl), λ l f. f.operands.a)
-  fits (Push a) n = either (Push a) c.refused no_memory (Pushed a) _ (λ e. ((n.1.1.1.0, (e, refl), (refl, n.1.1.1.0)), λ l f. tt)) ((refl, (refl, n.1.1.1.0)), λ l f. tt)
-  fits (PushOperation a m) n =
-      either (PushOperation a m) c.refused no_memory (Pushed_operation m (read fr ts s a)) _ (λ e. ((n.1.0, (e, refl), (a, refl, n.1.0)), λ l f. tt)) ((refl, (a, refl, n.1.0)), λ l f. tt)
+  fits (NewOrLeave a x) n = grind (arith, nat_tests, either, may_leave)
+  fits (Push a) n = grind (arith, nat_tests, either)
+  fits (PushOperation a m) n = grind (arith, nat_tests, either)
   fits (Pop a) n = ((refl, (refl, object_on_top s.items n.1.1.0)), λ l f. f.operands.a)
   fits PopOperation n = let o = operation_on_top s.items n.1.0 in ((refl, (refl, o.0, o.1, o.2)), λ l f. tt)
   fits PopDelete n = dealing s.items (held s.cells (top_place s.items)) refl refl n.0 n.1.0
   fits (Leave a) n = ((n.1.0, read_word (word fr a) n.0, tt), λ l f. tt)
-  fits (LeaveIf a) n =
-      let code = read fr ts s a in
-      let b = is_negative p c fr ts s code in
-      either (LeaveIf a) b code Same _ (λ e. ((may_leave b s.cells n.1 e, (read_word (word fr a) n.0, e), tt), λ l f. tt)) ((refl, tt), λ l f. tt)
+  fits (LeaveIf a) n = grind (arith, nat_tests, either, may_leave, read_word)
   fits (JumpActive to) n = branches (JumpActive to) (in_phase is_busy (own_request s.cells fr.home)) to refl refl
   fits (JumpAdded to) n = branches (JumpAdded to) (is_some (own_request s.cells fr.home)) to refl refl
   fits Cancel n = cancels_by (in_phase is_active (own_request s.cells fr.home)) (cancel_method p fr) refl

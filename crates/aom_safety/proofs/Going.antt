@@ -6,8 +6,7 @@ use Rattle.std.proofs.lemmas.Bool.{and_from, eq-eqb, eqb-true, ne_eqb, true≢fa
 use Rattle.std.specs.Prelude.{not}
 use Rattle.aom_image.specs.Image.{Image}
 use Rattle.aom_rules.specs.Typing.{Typing}
-use Rattle.aom_shape.specs.declared.kind.Age.TheVariants.{Ready}
-use Rattle.aom_shape.specs.declared.kind.Kind.TheVariants.{Null, Own}
+use Rattle.aom_shape.specs.declared.kind.Kind.TheVariants.{Null}
 use Rattle.std.specs.Prelude.{is_some}
 use Rattle.aom_safety.proofs.Seats.{no_seat, NoFieldHere, first_kept, sits_kept}
 use Rattle.aom_safety.proofs.Claimed.{no_seat_outside, Outside, claim_frame, claim_going_above, claim_rel, claim_unclaimed, fits_age, going_differs, outside_differs, outside_less}
@@ -18,7 +17,7 @@ use Rattle.aom_safety.proofs.Straight.{Fitted, fits_unowning, settle}
 use Rattle.aom_safety.specs.Claims.{Ending, Dispatching, Dying, Layer, Mark, Method, Unwinding, claim, declared, declared_field, forms, items_of, objects, tasks_of}
 use Rattle.aom_semantics.specs.Destruction.{needs_past, owns_none_past, is_past, gone, is_at_rest, is_field_of, owns_nothing}
 use Rattle.aom_semantics.specs.Places.{Session, Queued, service_of, Cell, Elsewhere, Field, Going, Object, Place, Request, Tidy, held, named, requested, same_place, seen, without}
-use Rattle.aom_semantics.specs.State.{Of_server, Parts, Seat, AtRoot, Home, Inside, Of_root, State, Static, next, resumed}
+use Rattle.aom_semantics.specs.State.{Of_server, Parts, Seat, Home, Of_root, State, next, resumed}
 use Rattle.aom_safety.specs.WellTyped.{IsOverDying, SitsFirst, NoSeatAt, seat_of, AllUndo, Back, Caught, Fits, Gone, Good, Holds, IsHoused, Keeps, Leaves, Now, Returns, Stack, WellTyped}
 use Rattle.aom_safety.specs.Requests.{AllSuit, Suits, resting_in, states_claim, thing_kind}
 use Rattle.aom_roles.specs.States.{last_of}
@@ -52,15 +51,13 @@ module _ (p : Image) (t : Typing) (cs : List Cell) (g : Place) (o : Object) (tid
   holds_without : (ls : List Layer) (x : Object) (from : Place) → same_place g from ≡ false → Holds p cs ls x from → Holds p (without g cs) ls x from
   holds_without ls x from e h = record {
     there = held_without cs g from ∙ ap (λ b. cond b None (held cs from)) e ∙ h.there;
-    lives = named_without cs g o x.name tidy there (ne_eqb o.name x.name (λ same. true≢false (sym (eq-eqb x.name o.name (sym same)) ∙ other_name p t cs g o tidy there from x h.there e))) ∙ h.lives;
+    lives = named_without cs g o x.name tidy there (grind (arith, nat_tests, ne_eqb, eq-eqb, other_name)) ∙ h.lives;
     below = h.below;
     ready = h.ready;
   }
 
   pub housed_without : (ls : List Layer) (home : Home) → Outside g ls → ((from : Place) → NoFieldHere g from) → IsHoused p cs ls home → IsHoused p (without g cs) ls home
-  housed_without ls Static out plain h = h
-  housed_without ls AtRoot out plain h = h
-  housed_without ls (Inside x from) out plain h = holds_without ls x from (outside_differs g from ls out (plain from) h.below) h
+  housed_without ls x out plain h = grind (arith, nat_tests, holds_without, outside_differs)
 
   -- the server that goes above a layer is another cell
   ending_other : (x : Object) (ls : List Layer) → Outside g ls → IsOverDying x ls → Stack p t cs Now ls → (o.name == x.name) ≡ false
@@ -92,7 +89,7 @@ module _ (p : Image) (t : Typing) (cs : List Cell) (g : Place) (o : Object) (tid
       another r x other h = ne_eqb o.name x.name (λ same. true≢false (sym (eq-eqb x.name o.name (sym same)) ∙ other_name p t cs g o tidy there_it r x h other))
   stack_without (Ending x left ∷ ls) back out plain s =
       let other = ending_other x ls (outside_less g (Ending x left) ls out) s.2 s.3 in (
-        record { server = s.0.server; lives = named_without cs g o x.name tidy there other ∙ s.0.lives; listed = λ c e. ap (λ v. has_session v c) (service_without cs g o x.name tidy there other) ∙ s.0.listed c e },
+        record { server = s.0.server; lives = named_without cs g o x.name tidy there other ∙ s.0.lives; listed = grind (arith, nat_tests, service_without) },
         s.1,
         s.2,
         stack_without ls Now (outside_less g (Ending x left) ls out) plain s.3,
@@ -120,7 +117,7 @@ module _ (p : Image) (t : Typing) (cs : List Cell) (o : Object) (ls : List Layer
   no_fields f = grind (arith, nat_tests, fits_unowning p, eq-eqb o.name)
 
   no_sessions : (c : ℕ) → held cs (Elsewhere (Session o.name c)) ≡ None
-  no_sessions c = fits_unowning p (seen cs) _ Null refl (subst (λ b. Fits p (seen cs) (held cs (Elsewhere (Session o.name c))) (cond b Null (claim p (declared p cs) ls (Elsewhere (Session o.name c))))) (eq-eqb o.name _ refl) (good.fits (Elsewhere (Session o.name c))))
+  no_sessions c = grind (arith, nat_tests, fits_unowning, eq-eqb)
 
   pub nothing_left : owns_nothing (without_queue o.name cs) o.name ≡ true
   nothing_left = grind (arith, nat_tests, nothing_in, queue_dropped o.name cs, held_dropped)
@@ -167,17 +164,17 @@ module _ (p : Image) (t : Typing) (cs : List Cell) (o : Object) (ls : List Layer
       others (Field n f) e = fields (o.name == n) refl
         where
           own_field : held cs (Field o.name f) ≡ None
-          own_field = fits_unowning p (seen cs) _ Null refl (subst (λ b. Fits p (seen cs) (held cs (Field o.name f)) (cond b Null (claim p (declared p cs) ls (Field o.name f)))) (eq-eqb o.name _ refl) (fits (Field o.name f) refl))
+          own_field = fits_unowning p (seen cs) _ Null refl (grind (arith, nat_tests, eq-eqb))
 
           fields : (b : Bool) → (o.name == n) ≡ b → Fits p (seen cs') (held cs (Field n f)) (claim p (declared p cs') ls (Field n f))
           fields true d =
               let same = eqb-true o.name n d in
               nothing (Field n f) (ap (λ m. held cs (Field m f)) (sym same) ∙ own_field) (ap (λ m. claim p (declared p cs') ls (Field m f)) (sym same) ∙ claim_unclaimed p (declared p cs') ls o.name f (λ f. Null) u.unclaimed (ap (λ x. declared_field p x f) name_gone))
-          fields false d = keep (Field n f) refl (ap (λ b. cond b Null (claim p (declared p cs) ls (Field n f))) d) (ap (λ x. declared_field p x f) (sym (named_without cs g o n tidy stack.0.1 d)))
+          fields false d = keep (Field n f) refl (grind (arith, nat_tests)) (ap (λ x. declared_field p x f) (sym (named_without cs g o n tidy stack.0.1 d)))
       others (Elsewhere (Session n c)) e = sessions (o.name == n) refl
         where
           own_session : held cs (Elsewhere (Session o.name c)) ≡ None
-          own_session = fits_unowning p (seen cs) _ Null refl (subst (λ b. Fits p (seen cs) (held cs (Elsewhere (Session o.name c))) (cond b Null (claim p (declared p cs) ls (Elsewhere (Session o.name c))))) (eq-eqb o.name _ refl) (fits (Elsewhere (Session o.name c)) refl))
+          own_session = fits_unowning p (seen cs) _ Null refl (grind (arith, nat_tests, eq-eqb))
 
           sessions : (b : Bool) → (o.name == n) ≡ b → Fits p (seen cs') (held cs (Elsewhere (Session n c))) (claim p (declared p cs') ls (Elsewhere (Session n c)))
           sessions true d =
@@ -195,7 +192,7 @@ module _ (p : Image) (t : Typing) (cs : List Cell) (o : Object) (ls : List Layer
               (ap (λ k. claim p (declared p cs') ls (Elsewhere (Queued k m))) (sym same) ∙ queued_claim p (declared p cs') ls o.name m ∙ ap (λ x. cond (has_message (service_of cs' o.name) m) (filled (message_thing p x) Full) Null) name_gone ∙ cond_same (has_message (service_of cs' o.name) m) Null)
           waits false d = keep (Elsewhere (Queued n m)) (eqb_comm n o.name ∙ d) refl
               (ap (λ v. cond (has_message v m) (filled (message_thing p (named cs n)) Full) Null) (sym (service_without cs g o n tidy stack.0.1 d)) ∙ ap (λ x. cond (has_message (service_of cs' n) m) (filled (message_thing p x) Full) Null) (sym (named_without cs g o n tidy stack.0.1 d)))
-      others (Going k) e = keep (Going k) refl (ap (λ b. cond b (Own o.thing Ready) (claim p (declared p cs) ls (Going k))) (tail (length (tasks_of ls) == k) e)) refl
+      others (Going k) e = keep (Going k) refl (grind (arith, nat_tests)) refl
         where
           tail : (b : Bool) → (b && true) ≡ false → b ≡ false
           tail true e = e
@@ -298,8 +295,7 @@ module _ (p : Image) (t : Typing) (s : State) (o : Object) (ls : List Layer) (go
 
   fits_less : (r : Place) → is_queue_of o.name r ≡ false → Fits p (seen less) (held less r) (claim p (declared p less) (Dying o ∷ ls) r)
   fits_less r e =
-      subst (λ k. Fits p (seen less) (held less r) k) (claim_rel (λ x y. x ≡ y) (λ k. refl) p (declared p s.cells) (declared p less) (Dying o ∷ ls) r (sym (declared_dropped waits p s.cells good.tidy waits_messages r)))
-      (fits_dropped waits p s.cells good.tidy waits_messages r _ e (good.fits r))
+      rw (claim_rel (λ x y. x ≡ y) (λ k. refl) p (declared p s.cells) (declared p less) (Dying o ∷ ls) r (sym (declared_dropped waits p s.cells good.tidy waits_messages r))) at (fits_dropped waits p s.cells good.tidy waits_messages r _ e (good.fits r))
 
   suits_less : AllSuit p less (Dying o ∷ ls)
   suits_less = suits_dropped waits p s.cells good.tidy waits_messages (Dying o ∷ ls) good.suits
@@ -331,12 +327,4 @@ module _ (p : Image) (t : Typing) (s : State) (o : Object) (ls : List Layer) (go
 pub going_keeps :
     (p : Image) (t : Typing) (s : State) (o : Object) (ls : List Layer) → Good p t s.cells (Dying o ∷ ls) → forms s.items ≡ items_of ls → AllUndo p s.items →
     Keeps p t (gone (held s.cells (Going (length (tasks_of ls)))) (tasks_of ls) s)
-going_keeps p t s o ls good items undos = grind (
-  arith,
-  nat_tests,
-  emptied_by,
-  nothing_left p t s.cells o ls good,
-  queue_dropped o.name s.cells,
-  rests_less p t s o ls good,
-  gone_well p t s o ls good items undos,
-)
+going_keeps p t s o ls good items undos = grind (arith, nat_tests, emptied_by, nothing_left, queue_dropped, rests_less, gone_well)

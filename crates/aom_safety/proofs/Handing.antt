@@ -1,5 +1,6 @@
 -- The law of `hand`: the object's request is made, and a register has its token, or null where there was no room and the request is completed.
-use Rattle.std.proofs.Common.{arith, Bool, List, None, Option, Some, [], ap, cond, false, refl, true, ℕ, ◌==◌, ◌∙◌, ◌≡◌}
+use Rattle.std.proofs.lemmas.Bool.Decides.{nat_tests}
+use Rattle.std.proofs.Common.{arith, Bool, List, None, Option, Some, [], ap, false, refl, true, ℕ, ◌∙◌, ◌≡◌}
 use Rattle.std.specs.Prelude.{is_none, is_some}
 use Rattle.aom_image.specs.Image.{Image}
 use Rattle.aom_image.specs.Views.{method_role}
@@ -25,27 +26,15 @@ use Rattle.aom_safety.proofs.Things.{stands_itself}
 use Rattle.aom_safety.specs.Claims.{Layer, tasks_of}
 use Rattle.aom_semantics.specs.Effects.{applied, hands_unless, sets}
 use Rattle.aom_semantics.specs.Enlisted.{completed_at_once, in_phase, is_idle, on_request, own_request, rerequested}
-use Rattle.aom_semantics.specs.Places.{Cell, Place, Request, Service, Token, held, named, service_of, unserved, with_new}
+use Rattle.aom_semantics.specs.Places.{Cell, Place, Request, Token, held, named, with_new}
 use Rattle.aom_safety.specs.Requests.{Known, Suits}
 use Rattle.aom_semantics.specs.State.{Choice, Frame, State, next, set_word}
-use Rattle.aom_semantics.specs.Tokens.{busy, handed_out, home_class, is_crowded, next_token, promised, with_token}
+use Rattle.aom_semantics.specs.Tokens.{busy, home_class, is_crowded, next_token, promised, with_token}
 use Rattle.aom_safety.specs.WellTyped.{WellTyped}
 
 -- a new token is like a new message, but for what it says
 pub token_alike : (name : ℕ) (token : Token) (owner : Place) (cs : List Cell) → Alike (with_new name Message [] owner cs) (with_token name token owner cs)
-token_alike name token owner cs = record {
-  held_so = λ r. refl;
-  named_so = λ n. refl;
-  queues_so = λ n. queue (name == n) (service_of cs n);
-  sessions_so = λ n. session (name == n) (service_of cs n);
-  tidy = λ t. t;
-}
-  where
-    queue : (b : Bool) (v : Service) → (cond b (handed_out token) v).queue ≡ (cond b unserved v).queue
-    queue x v = grind arith
-
-    session : (b : Bool) (v : Service) → (cond b (handed_out token) v).sessions ≡ (cond b unserved v).sessions
-    session x v = grind arith
+token_alike name token owner cs = search (arith, nat_tests)
 
 pub token_active : (k : Option ClassKind) → is_token_kind k ≡ true → is_active_kind k ≡ true
 token_active k e = grind arith

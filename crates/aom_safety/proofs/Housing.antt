@@ -1,6 +1,6 @@
 -- What a method works on has all that the method's class declares: by what is said of the family of its class.
 use Rattle.std.proofs.lemmas.Bool.Decides.{nat_tests}
-use Rattle.std.proofs.Common.{Option, Some, ap, arith, refl, subst, sym, true, ℕ, ◌∙◌, ◌≡◌}
+use Rattle.std.proofs.Common.{Option, Some, arith, refl, subst, true, ℕ, ◌≡◌}
 use Rattle.std.specs.Prelude.{is_some}
 use Rattle.aom_image.specs.Image.{Image}
 use Rattle.aom_image.specs.Views.{method_class, method_role}
@@ -16,7 +16,7 @@ use Rattle.aom_roles.specs.Shapes.{kind_of}
 use Rattle.aom_safety.specs.Laws.{IsFamily}
 use Rattle.aom_semantics.specs.Servers.{session_class}
 use Rattle.aom_semantics.specs.State.{Home, home_holder, home_view, thing_holder}
-use Rattle.aom_safety.specs.WellTyped.{view_holder, CountsAs, Houses, IsOfFamily}
+use Rattle.aom_safety.specs.WellTyped.{CountsAs, Houses, IsOfFamily}
 
 pub houses_itself : (p : Image) (h : Holder) → Houses p h h
 houses_itself p h = record { fields = λ f t e. e; words = omega arith; member = λ d e. (d, e, itself p d, refl); works = λ c e. (c, e) }
@@ -25,12 +25,7 @@ pub houses_same : (p : Image) (h k : Holder) → h ≡ k → Houses p h k
 houses_same p h k e = subst (λ x. Houses p h x) e (houses_itself p h)
 
 pub houses_family : (p : Image) → IsFamily p → (c d : ℕ) → descends p c d ≡ true → Houses p (Member c) (Member d)
-houses_family p family c d h = record {
-  fields = λ f t e. family.inherits c d f t h e;
-  words = family.words c d h;
-  member = λ x e. let same : d ≡ x = cc in (c, refl, subst (λ y. descends p c y ≡ true) same h, family.kinds c x (subst (λ y. descends p c y ≡ true) same h));
-  works = λ x e. (d, refl);
-}
+houses_family p family c d h = search (arith, nat_tests, family.inherits c d, family.words c d h, family.kinds c)
 
 -- an object of a class has what a method declares that is of the class or of one above it
 pub houses_role :
@@ -47,11 +42,7 @@ counts_same p h k e = houses_counts p h k (houses_same p (home_holder h) k e)
 -- under a destructor of the line an object counts as the destructor's class
 pub counts_line :
     (p : Image) (x : Thing) (c m : ℕ) → x ≡ An_object_of c → (of : IsOfFamily p c m) → holder_of p m ≡ Member of.class → CountsAs p (thing_holder x) (method_class p m) (holder_of p m)
-counts_line p x c m thing of works = record {
-  some = λ b e. (of.class, of.of);
-  between = grind (arith, nat_tests, itself p of.class);
-  fields = λ f t is. ap (λ v. field_thing p (view_holder v) f) of.of ∙ ap (λ h. field_thing p h f) (sym works) ∙ is;
-}
+counts_line p x c m thing of works = search (arith, nat_tests, itself p of.class)
 
 -- what destructs works on an object
 pub destructs_member : (r : Option Role) (d : ℕ) → is_destruct r ≡ true → holder_by r (Some d) ≡ Member d

@@ -2,30 +2,28 @@
 use Rattle.std.proofs.lemmas.Bool.Decides.{nat_tests}
 use Rattle.aom_semantics.specs.World.{heard_one, taken_from, Heard, Environment, turn}
 use Rattle.aom_safety.proofs.Turned.{obeys, handles, accepts, attends, parts, completes, keeps_all, kills, picks, turns_so}
-use Rattle.std.proofs.Common.{Bool, List, None, Option, Some, [], arith, cond, false, length, subst, suc, true, ℕ, ℤ, ◌+◌, ◌∷◌, ◌≡◌, ◌≤◌, sym}
+use Rattle.std.proofs.Common.{Bool, List, Option, [], arith, cond, false, length, subst, suc, true, ℕ, ℤ, ◌+◌, ◌∷◌, ◌≡◌, ◌≤◌, sym}
 use Rattle.aom_image.specs.Image.{Image}
 use Rattle.aom_instructions.specs.Operands.{IsRegister}
 use Rattle.aom_image.specs.Views.{instr_at}
 use Rattle.aom_image.specs.declared.method.Argument.{Argument}
 use Rattle.aom_image.specs.declared.method.Argument.TheVariants.{Own as Takes_own, Word as Takes_word}
 use Rattle.aom_image.specs.declared.method.Gives.{Gives}
-use Rattle.aom_image.specs.declared.method.Gives.TheVariants.{Left, Maybe as A_maybe, Nothing, Own as An_own, Word as A_word}
 use Rattle.aom_safety.proofs.Fitting.{EffectFits, SpotFits, UpdateFits, fits}
 use Rattle.aom_safety.proofs.Moving.{steps_are_moves}
 use Rattle.aom_safety.specs.Steps.{Acts, Arrives, Clears, Comes_out, Empties, Ends, Move, Rests, Undoes, Vanishes}
 use Rattle.aom_safety.proofs.Guarded.{acts_at}
 use Rattle.aom_semantics.specs.Calls.{passed_cells, result_cells, result_register, returned}
-use Rattle.aom_semantics.specs.Cleanup.{top_place}
-use Rattle.aom_semantics.specs.Destruction.{parting, first_session}
-use Rattle.aom_semantics.specs.Tokens.{all_redeemed, next_token, promised, redeemed_by, token_of}
-use Rattle.aom_semantics.specs.Effects.{Handed, Replied, Carried, Effect, Made, Popped, Pushed, Requested, Spot, Update, Written, applied, cells_after, effect, spot_place, Sessioned}
-use Rattle.aom_semantics.specs.Enlisted.{ended_cells, on_request, own_request, rerequested}
+use Rattle.aom_semantics.specs.Destruction.{parting}
+use Rattle.aom_semantics.specs.Tokens.{all_redeemed, redeemed_by}
+use Rattle.aom_semantics.specs.Effects.{Effect, Spot, Update, applied, cells_after, spot_place}
+use Rattle.aom_semantics.specs.Enlisted.{ended_cells, rerequested}
 use Rattle.aom_safety.specs.Laws.{IsWired, RegistersKeep}
 use Rattle.aom_semantics.specs.Moves.{counted, dispatch_ends, main_ends, step, answered, handled, object_ends}
-use Rattle.aom_semantics.specs.Places.{Service, set_service, Session, In_service, Queued, Cell, Elsewhere, Entry, Going, Object, Place, Register, Request, Root, held, moved, same_place, set_request, set_word_field, without, set_session, service_of}
+use Rattle.aom_semantics.specs.Places.{Service, set_service, Session, In_service, Queued, Cell, Elsewhere, Entry, Going, Object, Place, Request, Root, held, moved, same_place, set_request, set_word_field, without, set_session}
 use Rattle.aom_safety.specs.Registers.{AllInRange, IsInRange}
-use Rattle.aom_semantics.specs.State.{Seat, Of_server, Service_left, Parts, Choice, Dispatch, Dispatched, Frame, Goes, Home, Of_main, Run, State, Task, Trapped, field_place, Answered, Asks, Object_left, Of_object}
-use Rattle.aom_semantics.specs.Words.{here, stored}
+use Rattle.aom_semantics.specs.State.{Seat, Choice, Dispatch, Frame, Goes, Home, State, Task, field_place}
+use Rattle.aom_semantics.specs.Words.{stored}
 use Rattle.aom_semantics.specs.Natives.{all_bereaved, resessioned}
 use Rattle.aom_semantics.specs.Servers.{withdrawn, without_queue, is_queue_of, all_unslotted}
 use Rattle.aom_semantics.specs.Clients.{each_unslotted, commanded, Listed, connecting, sending, leaving, told}
@@ -113,16 +111,8 @@ module _ (p : Image) (wired : IsWired p) (fr : Frame) (ts : List Task) (s : Stat
   session_in_range x session = grind (arith, nat_tests, opens_in_range)
 
   update_in_range : (u : Update) → UpdateFits p u → AllInRange (cells_after p fr ts s u)
-  update_in_range (Carried from to) fits = move_in_range (spot_place p fr ts s from) (spot_place p fr ts s to) s.cells (spot_in_range to fits) all
-  update_in_range (Made name class a) fits = (fits, all)
-  update_in_range (Written w v) fits = store_in_range fr.home w v
-  update_in_range (Requested r) fits = request_in_range fr.home r
-  update_in_range (Sessioned session) fits = session_in_range fr.home session
-  update_in_range (Pushed a) fits = move_in_range (here fr ts s a) (Entry (length s.items)) s.cells tt all
-  update_in_range (Replied a code) fits = end_in_range (here fr ts s a) _ (redeems_in_range (token_of s.cells (held s.cells (here fr ts s a))) code s.cells all)
-  update_in_range (Handed name a) fits = (fits, request_in_range fr.home (on_request (promised (next_token s.cells)) (own_request s.cells fr.home)))
-  update_in_range (Popped a) fits = move_in_range (top_place s.items) (here fr ts s a) s.cells fits all
-  update_in_range _ fits = all
+  update_in_range x fits =
+      grind (arith, nat_tests, move_in_range, spot_in_range, fits, store_in_range, request_in_range, session_in_range, end_in_range, redeems_in_range)
 
   pass_in_range : (depth : ℕ) (xs : List Argument) (first to : ℕ) (cs : List Cell) → to + length xs ≤ 16 → AllInRange cs → AllInRange (passed_cells p fr ts s depth xs first to cs)
   pass_in_range depth [] first to cs few all = all
@@ -130,18 +120,10 @@ module _ (p : Image) (wired : IsWired p) (fr : Frame) (ts : List Task) (s : Stat
   pass_in_range depth (Takes_own t ∷ xs) first to cs few all = grind (arith, nat_tests, pass_in_range depth xs, move_in_range)
 
   bring_in_range : (g : Gives) (a x : ℕ) (below : List Task) → IsRegister x → AllInRange (result_cells p fr ts s g a x below)
-  bring_in_range Nothing a x below fits = all
-  bring_in_range A_word a x below fits = all
-  bring_in_range (An_own t) a x below fits = move_in_range (here fr ts s a) (Register (length below) x) s.cells fits all
-  bring_in_range (A_maybe t) a x below fits = move_in_range (here fr ts s a) (Register (length below) x) s.cells fits all
-  bring_in_range (Left t) a x below fits = all
+  bring_in_range x a y below fits = grind (arith, nat_tests, move_in_range, fits)
 
   return_in_range : (g : Gives) (a : ℕ) (below : List Task) → AllInRange (returned p fr ts s g a below).cells
-  return_in_range g a (Run caller ∷ below) = bring_in_range g a _ below (result_in_range p wired caller.method caller.place)
-  return_in_range g a (Trapped ∷ Run caller ∷ below) = bring_in_range g a _ below (result_in_range p wired caller.method caller.place)
-  return_in_range g a (Trapped ∷ Dispatched d ∷ below) = grind (arith, nat_tests, serve_in_range, move_in_range)
-  return_in_range g a (Trapped ∷ _) = all
-  return_in_range g a _ = all
+  return_in_range g a x = grind (arith, nat_tests, bring_in_range, result_in_range, serve_in_range, move_in_range)
 
   -- the request of what a method worked on counts for none
   ended_in_range : AllInRange (ended_cells p fr s.cells)
@@ -149,22 +131,11 @@ module _ (p : Image) (wired : IsWired p) (fr : Frame) (ts : List Task) (s : Stat
 
 module _ (p : Image) (wired : IsWired p) (fr : Frame) (ts : List Task) (s : State) (all : AllInRange s.cells) where
   apply_in_range : (e : Effect) → EffectFits p e → AllInRange (applied p fr ts s e).cells
-  apply_in_range x fits = grind (
-    arith,
-    nat_tests,
-    update_in_range p wired fr ts s all,
-    fits,
-    pass_in_range p wired fr ts s all,
-    request_in_range p wired fr ts s all fr.home,
-    return_in_range p wired fr ts,
-    ended_in_range p wired fr ts s all,
-    move_in_range,
-  )
+  apply_in_range x fits = grind (arith, nat_tests, update_in_range, fits, pass_in_range, request_in_range, return_in_range, ended_in_range, move_in_range)
 
 -- a session goes before its server
 parting_in_range : (p : Image) (o : Object) (x : Option Seat) (below : List Task) (s : State) → AllInRange s.cells → AllInRange (parting p o x below s).cells
-parting_in_range p o None below s all = all
-parting_in_range p o (Some x) below s all = move_in_range x.place (Going (suc (suc (length below)))) s.cells tt all
+parting_in_range p o x below s all = grind (arith, nat_tests, move_in_range)
 
 close_in_range : (p : Image) (s : State) (b : Bool) (root : Option Object) → AllInRange s.cells → AllInRange (main_ends p b root s).cells
 close_in_range p s x root all = grind (arith, nat_tests, move_in_range (Elsewhere Root) (Going 1) s.cells)
@@ -176,21 +147,12 @@ answer_in_range : (p : Image) (answer : ℤ) (s : State) → AllInRange s.cells 
 answer_in_range p answer s all = grind (arith, nat_tests, object_in_range p s all)
 
 dispatch_in_range : (p : Image) (d : Dispatch) (s : State) → AllInRange s.cells → AllInRange (dispatch_ends p d s).cells
-dispatch_in_range p Of_main s all = close_in_range p s s.rest.stopped (held s.cells (Elsewhere Root)) all
-dispatch_in_range p (Of_object x) s all = object_in_range p s all
-dispatch_in_range p (Object_left x code) s all = grind (arith, nat_tests, answer_in_range p code s all)
-dispatch_in_range p (Asks x) s all = object_in_range p s all
-dispatch_in_range p (Answered x answer) s all = answer_in_range p answer s all
-dispatch_in_range p (Of_server x client (Service_left code)) s all = end_in_range (Elsewhere In_service) s.cells all
-dispatch_in_range p (Of_server x client Parts) s all = serve_in_range x.object.name _ s.cells all
-dispatch_in_range p _ s all = all
+dispatch_in_range p x s all = grind (arith, nat_tests, close_in_range, object_in_range, answer_in_range, end_in_range, serve_in_range)
 
 -- what clients do
 module _ (p : Image) (client : ℕ) (s : State) (all : AllInRange s.cells) where
   connects_in_range : (refused : Option Refusal) (server : Option Listed) (slots : ℕ) → AllInRange (connecting p client s refused server slots).cells
-  connects_in_range None (Some x) slots = serve_in_range x.name _ s.cells all
-  connects_in_range None None slots = all
-  connects_in_range (Some r) server slots = all
+  connects_in_range x server slots = grind (arith, nat_tests, serve_in_range)
 
   sends_in_range : (refused : Option Refusal) (c : Client) (name : ℕ) (words : List ℤ) → AllInRange (sending p client s refused c name words).cells
   sends_in_range x y name words = grind (arith, nat_tests, serve_in_range)
@@ -214,11 +176,10 @@ moves p wired c s u all e = of (steps_are_moves p c s u e)
     of (Acts fr ts i x at there met may same) =
         let a = acts_at p c s u fr ts i at there e in
         let named = wired.operands fr.method fr.place i there in
-        along _ (sym a.1) (apply_in_range p wired fr ts (counted p s) all (effect p c fr ts (counted p s) i) ((fits p c fr ts (counted p s) i a.0).1 named.0 named.1))
+        along _ (sym a.1) (grind (arith, nat_tests, apply_in_range, fits))
     of (Vanishes ts o at there none same) =
-        along _ same (each_unslotted_in_range (service_of s.cells o.name).sessions (without (Going (length ts)) (without_queue o.name s.cells))
-        (end_in_range (Going (length ts)) (without_queue o.name s.cells) (dequeued_in_range o.name s.cells all)))
-    of (Empties ts o at there same) = along _ same (parting_in_range p o (first_session s.cells o.name (service_of s.cells o.name).sessions) ts (counted p s) all)
+        along _ same (grind (arith, nat_tests, each_unslotted_in_range, end_in_range, dequeued_in_range))
+    of (Empties ts o at there same) = along _ same (grind (arith, nat_tests, parting_in_range))
     of (Clears code ts items o at top there same) = along _ same (move_in_range (Entry (length items)) (Going (suc (length ts))) s.cells tt all)
     of (Ends d ts at same) = along _ same (dispatch_in_range p d (counted p s) all)
     -- the others change no cell

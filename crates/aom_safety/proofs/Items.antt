@@ -1,6 +1,6 @@
 -- What the layers know of the cleanup stack's items.
 use Rattle.std.proofs.lemmas.Bool.Decides.{nat_tests}
-use Rattle.std.proofs.Common.{List, [], ap, arith, cond, false, length, refl, subst, suc, sym, true, zero, ℕ, ◌+◌, ◌-◌, ◌<◌, ◌==◌, ◌∙◌, ◌∷◌, ◌≡◌}
+use Rattle.std.proofs.Common.{List, [], ap, arith, cond, false, length, refl, suc, true, zero, ℕ, ◌+◌, ◌-◌, ◌<◌, ◌==◌, ◌∷◌, ◌≡◌}
 use Rattle.std.proofs.lemmas.Bool.{eq-eqb, eqb-true, ne_eqb}
 use Rattle.std.specs.Prelude.{is_some}
 use Rattle.aom_image.specs.Image.{Image}
@@ -47,7 +47,7 @@ pub entry_there : (es : List Pushed) (below : List Form) (items : List Item) (k 
 entry_there (x ∷ es) below (An_object ∷ items) zero e lt = refl
 entry_there (x ∷ es) below (An_object ∷ items) (suc k) e lt = let same : forms items ≡ objects es below = cc in entry_there es below items k same (omega arith)
 entry_there (x ∷ es) below (An_operation m w ∷ items) zero e lt = refl
-entry_there (x ∷ es) below (An_operation m w ∷ items) (suc k) e lt = let same : forms items ≡ objects es below = cc in entry_there es below items k same (omega arith)
+entry_there (x ∷ es) below (An_operation m w ∷ items) (suc k) e lt = grind (arith, nat_tests, entry_there es below items k)
 entry_there (x ∷ es) below (A_mark ∷ items) k e lt = absurd (no_mark x cc)
 entry_there _ below _ k e lt = absurd (first_of (cc, omega arith))
 
@@ -55,11 +55,9 @@ entry_there _ below _ k e lt = absurd (first_of (cc, omega arith))
 pub entry_owns :
     (es : List Pushed) (below : List Form) (items : List Item) (k : ℕ) → forms items ≡ objects es below → k < length es → is_unowning (entry_kind (at Pushed_operation es k)) ≡ false →
     is_no_operation (entry_at items k) ≡ true
-entry_owns (x ∷ es) below (An_object ∷ items) zero e lt own = refl
-entry_owns (x ∷ es) below (An_object ∷ items) (suc k) e lt own = let same : forms items ≡ objects es below = cc in entry_owns es below items k same (omega arith) own
-entry_owns (x ∷ es) below (An_operation m w ∷ items) (suc k) e lt own = let same : forms items ≡ objects es below = cc in entry_owns es below items k same (omega arith) own
-entry_owns (x ∷ es) below (A_mark ∷ items) k e lt own = refl
-entry_owns _ below _ k e lt own = absurd (grind arith)
+entry_owns (x ∷ es) below (An_object ∷ items) (suc k) e lt own = grind (arith, nat_tests, entry_owns es below items k)
+entry_owns (x ∷ es) below (An_operation m w ∷ items) (suc k) e lt own = grind (arith, nat_tests, entry_owns es below items k)
+entry_owns x below y k e lt own = grind arith
 
 -- an entry that becomes ready is an item as before
 pub readied_items : (es : List Pushed) (k : ℕ) (below : List Form) → objects (readied_at es k) below ≡ objects es below
@@ -90,10 +88,4 @@ readied_claim (x ∷ es) below (suc k) j rest lt =
 pub begins_well :
     (p : Image) (t : Typing) (cs : List Cell) (fr : Frame) (sh : Shape) (over : List Layer) (s : State) → sh.entries ≡ [] → Good p t cs (Method fr sh ∷ over) →
     s.cells ≡ cs → s.tasks ≡ Run fr ∷ tasks_of over → forms s.items ≡ items_of over → AllUndo p s.items → WellTyped p t s
-begins_well p t cs fr sh over s none good cells tasks items undos = record {
-  layers = Method fr sh ∷ over;
-  tasks = tasks;
-  items = items ∙ ap (λ es. objects es (items_of over)) (sym none);
-  undos = undos;
-  good = subst (λ cs. Good p t cs (Method fr sh ∷ over)) (sym cells) good;
-}
+begins_well p t cs fr sh over s none good cells tasks items undos = search (arith, nat_tests)

@@ -53,7 +53,7 @@ module _ (p : Image) (t : Typing) (c : Choice) (s : State) (fr : Frame) (sh : Sh
           (fr' : Frame) (k : Kind) → fr'.home ≡ fr.home → fr'.method ≡ fr.method → began fr' ≡ began fr → fr'.words ≡ fr.words → Fits p (seen s.cells) (held s.cells (top ls a)) k →
           WordFits None k → Fitted p t s.cells fr' (set_register sh a k) ls
       learned fr' k eh em eg ew new w = relabel p t s.cells fr fr' sh (set_register sh a k) ls (top ls a) k g eh em eg refl new (λ r. claim-set_register p (declared p s.cells) fr sh ls a k r)
-          (λ i. subst (λ ws. WordFits (at None ws i) (register (set_register sh a k) i)) (sym ew) (words_kept fr.words sh a k at_hand.good.stack.1.words (subst (λ x. WordFits x k) (sym none) w) i))
+          (λ i. rw ew (words_kept fr.words sh a k at_hand.good.stack.1.words (rw none w) i))
 
       go :
           (k : Kind) (o : Option Object) → register sh a ≡ k → held s.cells (top ls a) ≡ o → AllLead t fr.method (flow_jump_null p fr.method fr.place sh k a to) →
@@ -62,14 +62,13 @@ module _ (p : Image) (t : Typing) (c : Choice) (s : State) (fr : Frame) (sh : Sh
       go Word o ek eo leads f = let e : is_object_or_null Word ≡ true = ap is_object_or_null (sym ek) ∙ n.0 in cc
       go Null None ek eo leads f =
           well p t c s fr sh ls at_hand _ (to_place fr to) sh refl at_hand.items at_hand.undos (settle p t s.cells (to_place fr to) sh ls (placed (to_place fr to) refl refl refl refl) leads.0)
-      go Null (Some o) ek eo leads f = grind (arith, nat_tests, top ls a)
-      go (Own x y) None ek eo leads f = grind (arith, nat_tests, top ls a)
       go (Own x y) (Some o) ek eo leads f =
           well p t c s fr sh ls at_hand _ (next fr) sh refl at_hand.items at_hand.undos (settle p t s.cells (next fr) sh ls (placed (next fr) refl refl refl refl) leads.0)
       go (Maybe x y) None ek eo leads f =
           well p t c s fr sh ls at_hand _ (to_place fr to) (set_register sh a Null) refl at_hand.items at_hand.undos
           (settle p t s.cells (to_place fr to) (set_register sh a Null) ls (learned (to_place fr to) Null refl refl refl refl (subst (λ o. Fits p (seen s.cells) o Null) (sym eo) tt) refl) leads.1.0)
       go (Maybe x y) (Some o) ek eo leads f = well p t c s fr sh ls at_hand _ (next fr) (set_register sh a (Own x y)) refl at_hand.items at_hand.undos (settle p t s.cells (next fr) (set_register sh a (Own x y)) ls (learned (next fr) (Own x y) refl refl refl refl (subst (λ z. Fits p (seen s.cells) z (Own x y)) (sym eo) (subst (λ z. Fits p (seen s.cells) z (Maybe x y)) eo (subst (λ k. Fits p (seen s.cells) (held s.cells (top ls a)) k) ek f))) refl) leads.0)
+      go _ _ ek eo leads f = grind (arith, nat_tests, top ls a)
 
   pub law_jump : (to : ℕ) → Law p t c s fr sh ls at_hand (Jump to)
   law_jump to n leads = (tt, well p t c s fr sh ls at_hand (does p c fr (tasks_of ls) s (Jump to)) (to_place fr to) sh refl at_hand.items at_hand.undos (settle p t s.cells (to_place fr to) sh ls (placed (to_place fr to) refl refl refl refl) leads.0))
@@ -114,9 +113,9 @@ module _ (p : Image) (t : Typing) (c : Choice) (s : State) (fr : Frame) (sh : Sh
 
       learns : (fr' : Frame) (y : Filling) (o : Option Object) → held s.cells q ≡ o → fr'.home ≡ fr.home → fr'.method ≡ fr.method → began fr' ≡ began fr → fr'.words ≡ fr.words → Fits p (seen s.cells) o (filled x y) → Leads t fr'.method fr'.place (set_field sh f y) → WellTyped p t (record s { tasks = Run fr' ∷ tasks_of ls })
       learns fr' y o e eh em eg ew new leads = well p t c s fr sh ls at_hand _ fr' (set_field sh f y) refl at_hand.items at_hand.undos (settle p t s.cells fr' (set_field sh f y) ls
-          (relabel p t s.cells fr fr' sh (set_field sh f y) ls q (filled x y) g eh em eg refl (subst (λ o. Fits p (seen s.cells) o (filled x y)) (sym e) new)
+          (relabel p t s.cells fr fr' sh (set_field sh f y) ls q (filled x y) g eh em eg refl (rw e new)
           (λ r. claim-set_field p (declared p s.cells) fr fr.home sh ls f y (filled x y) r refl own some refl)
-          (λ i. subst (λ ws. WordFits (at None ws i) (register sh i)) (sym ew) (at_hand.good.stack.1.words i))) leads)
+          (λ i. rw ew (at_hand.good.stack.1.words i))) leads)
 
       go :
           (y : Filling) (o : Option Object) → held s.cells q ≡ o → AllLead t fr.method (flow_jump_empty p fr.method fr.place sh y f to) → Fits p (seen s.cells) (held s.cells q) (filled x y) →
@@ -126,7 +125,7 @@ module _ (p : Image) (t : Typing) (c : Choice) (s : State) (fr : Frame) (sh : Sh
       go Full None e leads fit = absurd (not_full x some (subst (λ z. Fits p (seen s.cells) z (filled x Full)) e fit))
       go Full (Some o) e leads fit = stays (next fr) refl refl refl refl at_hand.items leads.0
       go Perhaps None e leads fit = learns (to_place fr to) Empty None e refl refl refl refl (holds_nothing x) leads.1.0
-      go Perhaps (Some o) e leads fit = learns (next fr) Full (Some o) e refl refl refl refl (holds_something x o some (subst (λ z. Fits p (seen s.cells) z (filled x Perhaps)) e fit)) leads.0
+      go Perhaps (Some o) e leads fit = learns (next fr) Full (Some o) e refl refl refl refl (holds_something x o some (rw e at fit)) leads.0
 
   -- a frame's counters are no concern of the typing
   pub law_loop : (depth rounds : ℕ) → Law p t c s fr sh ls at_hand (Loop depth rounds)

@@ -60,9 +60,7 @@ is_listed : (n c : ℕ) → server_of (client_at opened c) ≡ Some n → has_se
 is_listed n x e = grind arith
 
 has_its_own : (n c : ℕ) → has_session (service_of cells n) c ≡ true → server_of (client_at opened c) ≡ Some n
-has_its_own n c h = by_name (λ k. has_session (service_of cells k) c ≡ true → server_of (client_at opened c) ≡ Some k)
-    (λ h. subst (λ i. server_of (client_at opened i) ≡ Some 5) (one c h) refl) (λ h. cc) (λ h. cc)
-    (λ k e f g h. let clash : false ≡ true = ap (λ v. has_session v c) (sym (unserved_at k e f g)) ∙ h in cc) n h
+has_its_own n c h = grind (arith, nat_tests, by_name, one, unserved_at)
 
 its_server : (o : Object) → named cells 5 ≡ Some o → is_server an_image o.thing ≡ true
 unfolding class_at kind_in kind_of sessions_in sessions_of descends_in parent_in
@@ -81,9 +79,7 @@ stands_there : (n m : ℕ) (o : Object) → held cells (Elsewhere (Queued n m)) 
 stands_there n m o e = grind (arith, eqb-true)
 
 sent_so : (n c m : ℕ) → list_any (is_message_of c m) (service_of cells n).queue ≡ true → is_from c (service_of cells m).sender ≡ true
-sent_so n c m h = by_name (λ k. list_any (is_message_of c m) (service_of cells k).queue ≡ true → is_from c (service_of cells m).sender ≡ true)
-    (λ h. let is = both 0 7 c m h in subst (λ i. is_from i (service_of cells m).sender ≡ true) is.0 (subst (λ i. is_from 0 (service_of cells i).sender ≡ true) is.1 refl)) (λ h. cc) (λ h. cc)
-    (λ k e f g h. let clash : false ≡ true = ap (λ v. list_any (is_message_of c m) v.queue) (sym (unserved_at k e f g)) ∙ h in cc) n h
+sent_so n c m h = grind (arith, nat_tests, by_name, both, unserved_at)
 
 seats_so : (o : Object) → named cells o.name ≡ Some o → seats_taken (service_of cells o.name) ≤ most_of (thing_kind an_image o.thing)
 unfolding class_at kind_in kind_of descends_in parent_in
@@ -92,10 +88,7 @@ seats_so o there = by_name (λ n. named cells n ≡ Some o → seats_taken (serv
     (λ n e f g h. omega (arith, ap seats_taken (unserved_at n e f g))) o.name there
 
 unnamed_at : (n : ℕ) → (5 == n) ≡ false → (7 == n) ≡ false → (2 == n) ≡ false → named cells n ≡ None
-unnamed_at n e f g =
-    ap (λ b. cond b (Some (record { name = 5; thing = keeper })) (named (waits 7 0 7 ∷ a_session ∷ []) n)) e
-    ∙ ap (λ b. cond b (Some (record { name = 7; thing = Message })) (named (a_session ∷ []) n)) f
-    ∙ ap (λ b. cond b (Some (record { name = 2; thing = leaf })) None) g
+unnamed_at n e f g = search (arith, nat_tests)
 
 abbrev Counts : ℕ → Object → Type 0
 Counts n o = n ≡ cond (is_object o.thing) 0 1

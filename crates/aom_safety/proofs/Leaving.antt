@@ -6,7 +6,7 @@ use Rattle.std.specs.Prelude.{◌++◌}
 use Rattle.aom_image.specs.Image.{Image}
 use Rattle.aom_image.specs.Views.{is_quiet, leaves, method_role}
 use Rattle.aom_instructions.specs.declared.instr.Instr.TheVariants.{Leave, LeaveIf}
-use Rattle.aom_shape.specs.Kinds.{none_owns, register}
+use Rattle.aom_shape.specs.Kinds.{none_owns}
 use Rattle.aom_shape.specs.Shape.{Shape}
 use Rattle.aom_roles.specs.Things.{holder_of}
 use Rattle.aom_rules.specs.Typing.{Typing}
@@ -108,9 +108,9 @@ ended_by_leave p cs fr sh ls code houses counts housed apart at_top n here serve
     go : (r : Place) → Fits p h o (claim p (declared p cs) (Method fr sh ∷ ls) r) → Fits p h o (claim p (declared p cs) (Unwinding code sh.entries ∷ ls) r)
     go (Register f i) fits = ended p cs fr bare ls houses counts housed apart at_top refl n message (Register f i) h o fits
     go (Entry k) fits = fits
-    go (Field m f) fits = ended p cs fr bare ls houses counts housed apart at_top refl n message (Field m f) h o (subst (λ k. Fits p h o k) (same_fields fr.home m f (claim p (declared p cs) ls (Field m f))) fits)
+    go (Field m f) fits = ended p cs fr bare ls houses counts housed apart at_top refl n message (Field m f) h o (grind (arith, nat_tests, same_fields))
     go (Elsewhere Root) fits =
-        ended p cs fr bare ls houses counts housed apart at_top refl n message (Elsewhere Root) h o (subst (λ k. Fits p h o k) (same_root fr.home (claim p (declared p cs) ls (Elsewhere Root))) fits)
+        ended p cs fr bare ls houses counts housed apart at_top refl n message (Elsewhere Root) h o (grind (arith, nat_tests, same_root))
     go (Elsewhere In_service) fits = ended p cs fr bare ls houses counts housed apart at_top refl n message (Elsewhere In_service) h o fits
     go _ fits = fits
 
@@ -125,10 +125,9 @@ all_ended p t cs code (Method fr sh ∷ ls) es m home e s r h o fits =
     let one =
     layer_rel (λ x y. Fits p h o x → Fits p h o y) (λ k f. f) p (Unwinding code es) (length (tasks_of (Method fr sh ∷ ls))) (items_of (Method fr sh ∷ ls)) r _ _
     (ended_by_leave p cs fr sh ls code s.1.holder s.1.view s.2 s.3 (not_going p t cs ls _ _ may.0 s.4) may.1 may.3 s.1.message r h o) fits in
-    let two = subst (λ k. Fits p h o k) (join_claims p d code es sh.entries ls r) one in
-    subst (λ es. Fits p h o (claim p d (Unwinding code es ∷ from_trap ls) r)) (append_assoc es sh.entries (entries_over ls))
-    (all_ended p t cs code ls (es ++ sh.entries) fr.method fr.home may.0 s.4 r h o two)
-all_ended p t cs code (Mark gv ∷ ls) es m home e s r h o fits = subst (λ es. Fits p h o (claim p (declared p cs) (Unwinding code es ∷ Mark gv ∷ ls) r)) (sym (append-nil es)) fits
+    let two = rw (join_claims p d code es sh.entries ls r) at one in
+    rw (append_assoc es sh.entries (entries_over ls)) at (all_ended p t cs code ls (es ++ sh.entries) fr.method fr.home may.0 s.4 r h o two)
+all_ended p t cs code (Mark gv ∷ ls) es m home e s r h o fits = rw (append-nil es) fits
 all_ended p t cs code (Dispatching d seats ∷ ls) es m home e s r h o fits = no_end p d m home e s.0
 all_ended p t cs code _ es m home e s r h o fits = absurd (first_of (assumption tt, cc))
 
@@ -245,7 +244,7 @@ registers_below p cs fr sh ls h f i lt = grind (arith, nat_tests, ne_eqb)
 frame_is_free :
     (p : Image) (cs : List Cell) (fr : Frame) (sh : Shape) (ls : List Layer) → RegistersFit p cs (Method fr sh ∷ ls) → none_owns sh.registers ≡ true →
     none_owns_but cs (length (tasks_of ls)) None ≡ true
-frame_is_free p cs fr sh ls h n = none_owns_from cs (length (tasks_of ls)) None (λ i e. fits_unowning p (seen cs) _ (register sh i) (none_owns_at sh.registers i n) (subst (λ k. Fits p (seen cs) (held cs (Register (length (tasks_of ls)) i)) k) (claim_register p (declared p cs) fr sh ls i) (h (length (tasks_of ls)) i (omega arith))))
+frame_is_free p cs fr sh ls h n = grind (arith, nat_tests, none_owns_from, fits_unowning, none_owns_at, claim_register)
 
 -- under a method that may leave there is a trap, and the registers up to it own nothing
 below_leaving :
@@ -303,7 +302,7 @@ module _ (p : Image) (t : Typing) (wired : IsWired p) (c : Choice) (s : State) (
   leaves_here code may n u here = leave_keeps p t wired s code fr sh ls at_hand.items at_hand.undos (fitted p t s.cells fr sh ls at_hand.good) may n u here
 
   pub law_leave : (a : ℕ) → Law p t c s fr sh ls at_hand (Leave a)
-  law_leave a n leads = ((has_word p t c s fr sh ls at_hand a n.0, met n.1.0 n.1.1.0), leaves_here (read fr (tasks_of ls) s a) n.1.0 n.1.1.0 n.1.1.1.0 n.1.1.1.1.0)
+  law_leave a n leads = search (arith, nat_tests, has_word p t c s fr sh ls at_hand a n.0, met n.1.0 n.1.1.0, leaves_here)
 
   -- with a negative word only
   pub law_leave_if : (a : ℕ) → Law p t c s fr sh ls at_hand (LeaveIf a)
@@ -313,8 +312,7 @@ module _ (p : Image) (t : Typing) (wired : IsWired p) (c : Choice) (s : State) (
       w = read fr (tasks_of ls) s a
 
       needed : (b : Bool) → AllTrue (cond b (leave_needs s.cells (Run fr ∷ tasks_of ls)) [])
-      needed true = met n.1.0 n.1.1.0
-      needed false = tt
+      needed x = grind (arith, nat_tests, met)
 
       goes : (b : Bool) → WellTyped p t (applied p fr (tasks_of ls) s (cond b (Leaves w Same) (updates fr Same)))
       goes true = leaves_here w n.1.0 n.1.1.0 n.1.1.1.0 n.1.1.1.1.0

@@ -87,7 +87,7 @@ module _ (p : Image) (looped_so : IsLooped p) (fr : Frame) (rounds : RoundsAt p 
         let apart = looped_so.apart fr.method from to d n closing.0 fr.place e closing.1 fr.place body closing.2 differs inside (closing.2.later, omega arith) in
         let is = other_counter e k d (λ same. apart (sym same)) in
         let old = rounds from to d n body inside in
-        (subst (λ x. 0 < x) (sym is) old.0, subst (λ x. x ≤ n) (sym is) old.1)
+        (rw is old.0, rw is old.1)
 
     -- the last round is over
     ends_rounds : RoundsAt p (set_counter fr e 0) (suc fr.place)

@@ -56,7 +56,7 @@ served_outside p t cs ls back served s = grind (arith, served_unseated)
 
 served_elsewhere :
     (p : Image) (cs : List Cell) (ls : List Layer) (home : Home) → IsHoused p cs ls home → (o : Object) (from : Place) → home ≡ Inside o from → same_place (Elsewhere In_service) from ≡ false
-served_elsewhere p cs ls home h o from e = let housed : IsHoused p cs ls (Inside o from) = subst (λ k. IsHoused p cs ls k) e h in served_apart from ls housed.below
+served_elsewhere p cs ls home h o from e = grind (arith, nat_tests, served_apart)
 
 -- once it is taken no claim of it is left
 claim_taken :
@@ -108,7 +108,7 @@ module _ (p : Image) (t : Typing) (c : Choice) (s : State) (fr : Frame) (sh : Sh
       claimed = ap (λ b. cond b (delivered sh.delivery) (claim p d ls (Elsewhere In_service))) n.1.0 ∙ delivered_here sh.delivery n.1.1.0
 
       there : (x : Object) × (held s.cells (Elsewhere In_service) ≡ Some x)
-      there = let x = own_held p (seen s.cells) (held s.cells (Elsewhere In_service)) Message (subst (λ k. Fits p (seen s.cells) (held s.cells (Elsewhere In_service)) k) claimed (at_hand.good.fits (Elsewhere In_service))) in (x.0, x.1)
+      there = let x = own_held p (seen s.cells) (held s.cells (Elsewhere In_service)) Message (rw claimed at (at_hand.good.fits (Elsewhere In_service))) in (x.0, x.1)
 
       free : held s.cells (top ls a) ≡ None
       free = free_register p t c s fr sh ls at_hand a n.0
@@ -148,12 +148,9 @@ module _ (p : Image) (t : Typing) (s : State) (fr : Frame) (sh : Shape) (ls : Li
 
       go : (b : Bool) → same_place r (top ls a) ≡ b → Fits p (seen left) (held left r) (cond (same_place (top ls a) r) Null (claim p (declared p left) (Method fr sh ∷ ls) r))
       go true e =
-          subst (λ x. Fits p (seen left) x (cond (same_place (top ls a) r) Null (claim p (declared p left) (Method fr sh ∷ ls) r))) (sym (held_dropped (λ r. same_place r (top ls a)) s.cells r ∙ ap (λ b. cond b None (held s.cells r)) e))
-          (subst (λ b. Fits p (seen left) None (cond b Null (claim p (declared p left) (Method fr sh ∷ ls) r))) (sym (same_place_comm (top ls a) r ∙ e)) tt)
+          rw (held_dropped (λ r. same_place r (top ls a)) s.cells r ∙ ap (λ b. cond b None (held s.cells r)) e) (rw (same_place_comm (top ls a) r ∙ e) tt)
       go false e =
-          subst (λ b. Fits p (seen left) (held left r) (cond b Null (claim p (declared p left) (Method fr sh ∷ ls) r))) (sym (same_place_comm (top ls a) r ∙ e))
-          (subst (λ k. Fits p (seen left) (held left r) k) (claim_rel (λ x y. x ≡ y) (λ k. refl) p (declared p s.cells) (declared p left) (Method fr sh ∷ ls) r (sym (declared_dropped (λ r. same_place r (top ls a)) p s.cells at_hand.good.tidy messages r)))
-          (fits_dropped (λ r. same_place r (top ls a)) p s.cells at_hand.good.tidy messages r _ e (at_hand.good.fits r)))
+          rw (same_place_comm (top ls a) r ∙ e) (rw (claim_rel (λ x y. x ≡ y) (λ k. refl) p (declared p s.cells) (declared p left) (Method fr sh ∷ ls) r (sym (declared_dropped (λ r. same_place r (top ls a)) p s.cells at_hand.good.tidy messages r))) at (fits_dropped (λ r. same_place r (top ls a)) p s.cells at_hand.good.tidy messages r _ e (at_hand.good.fits r)))
 
   replied : Fitted p t left (next (set_word fr a None)) after ls
   replied = record {
@@ -161,7 +158,7 @@ module _ (p : Image) (t : Typing) (s : State) (fr : Frame) (sh : Shape) (ls : Li
     suits = same_suits p left fr (next (set_word fr a None)) sh after ls refl refl refl (suits_dropped (λ r. same_place r (top ls a)) p s.cells at_hand.good.tidy messages (Method fr sh ∷ ls) at_hand.good.suits);
     tidy = tidy_dropped (λ r. same_place r (top ls a)) s.cells at_hand.good.tidy;
     frames = record { words = words_set fr.words sh a None Null at_hand.good.stack.1.words refl; holder = at_hand.good.stack.1.holder; view = at_hand.good.stack.1.view; height = at_hand.good.stack.1.height; alone = at_hand.good.stack.1.alone; message = at_hand.good.stack.1.message };
-    housed = subst (λ l. IsHoused p l ls fr.home) (place_dropped (top ls a) s.cells) (housed_without p t s.cells (top ls a) it at_hand.good.tidy there ls fr.home (omega arith) (λ from. tt) at_hand.good.stack.2);
+    housed = subst (λ l. IsHoused p l ls fr.home) (place_dropped (top ls a) s.cells) (grind (arith, nat_tests, housed_without p t s.cells (top ls a) it at_hand.good.tidy there ls fr.home, top ls a));
     apart = at_hand.good.stack.3;
     stack = subst (λ l. Stack p t l (Returns fr.method fr.home) ls) (place_dropped (top ls a) s.cells) (stack_without p t s.cells (top ls a) it at_hand.good.tidy there ls (Returns fr.method fr.home) (omega arith) (λ from. tt) at_hand.good.stack.4);
   }

@@ -1,4 +1,5 @@
 -- The laws of the instructions that move a cell within their method.
+use Rattle.std.proofs.lemmas.Bool.Decides.{nat_tests}
 use Rattle.std.proofs.Common.{Bool, List, None, Option, Some, ap, arith, cond, false, refl, subst, sym, true, ℕ, ◌∙◌, ◌∷◌, ◌≡◌}
 use Rattle.std.proofs.lemmas.Bool.{eq-eqb}
 use Rattle.aom_semantics.proofs.Maps.{at-put_at}
@@ -26,8 +27,7 @@ use Rattle.aom_safety.specs.WellTyped.{WordFits}
 use Rattle.aom_instructions.specs.declared.instr.Instr.{Instr}
 
 null_filled : (c : Option Thing) → filled c Empty ≡ Null
-null_filled None = refl
-null_filled (Some c) = refl
+null_filled x = grind (arith, nat_tests)
 
 module _ (p : Image) (t : Typing) (c : Choice) (s : State) (fr : Frame) (sh : Shape) (ls : List Layer) (at_hand : At p t s fr sh ls) where
   pub law_move : (a b : ℕ) → Law p t c s fr sh ls at_hand (Move a b)
@@ -45,7 +45,7 @@ module _ (p : Image) (t : Typing) (c : Choice) (s : State) (fr : Frame) (sh : Sh
       (words_set fr.words (set_register sh b Null) a None (register sh b) (words_null fr.words sh b at_hand.good.stack.1.words no) (no_word_fits (register sh b) n.0)) in
       let g = settle p t (moved (top ls b) (top ls a) s.cells) (next (set_word fr a None)) (set_register (set_register sh b Null) a (register sh b)) ls h leads.0 in (
         (ap is_none no, (ap is_none free, tt)),
-        well p t c s fr sh ls at_hand (does p c fr (tasks_of ls) s (Move a b)) (next (set_word fr a None)) (set_register (set_register sh b Null) a (register sh b)) refl at_hand.items at_hand.undos g,
+        grind (arith, nat_tests, well),
       )
 
   pub law_put : (f b : ℕ) → Law p t c s fr sh ls at_hand (Put f b)
@@ -160,8 +160,8 @@ module _ (p : Image) (t : Typing) (c : Choice) (s : State) (fr : Frame) (sh : Sh
           claim p d (Method fr (set_register (set_field sh f Empty) a k) ∷ ls) r ≡ changed (changed (claim p d (Method fr sh ∷ ls)) q Null) (top ls a) (claim p d (Method fr sh ∷ ls) q) r
       claims r =
           claim-set_register p d fr (set_field sh f Empty) ls a k r
-          ∙ ap (λ x. cond (same_place (top ls a) r) k x) (claim-set_field p d fr fr.home sh ls f Empty Null r refl same some (null_filled (field_thing p (home_holder fr.home) f)))
-          ∙ ap (λ x. changed (changed (claim p d (Method fr sh ∷ ls)) q Null) (top ls a) x r) (ap (λ x. filled x (field sh f)) (sym same) ∙ sym (claim_field p d fr sh ls fr.home f refl same some))
+          ∙ ap (λ x. cond (same_place (top ls a) r) k x) (grind (arith, nat_tests, claim-set_field, d, same, some, null_filled))
+          ∙ ap (λ x. changed (changed (claim p d (Method fr sh ∷ ls)) q Null) (top ls a) x r) (grind (arith, nat_tests, same, claim_field, d, some))
 
       goes : Fitted p t (moved (field_place fr.home f) (top ls a) s.cells) (next (set_word fr a None)) (set_register (set_field sh f Empty) a k) ls
       goes = relocate p t s.cells fr (next (set_word fr a None)) sh (set_register (set_field sh f Empty) a k) ls q (top ls a)

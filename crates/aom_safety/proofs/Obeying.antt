@@ -3,7 +3,7 @@ use Rattle.std.proofs.lemmas.Bool.Decides.{nat_tests}
 use Rattle.std.proofs.Common.{arith, List, None, Option, Some, [], ap, false, refl, subst, sym, ℕ, ℤ, ◌∙◌, ◌∷◌, ◌≡◌}
 use Rattle.aom_image.specs.Image.{Image}
 use Rattle.aom_image.specs.declared.method.Thing.TheVariants.{Message}
-use Rattle.aom_clients.specs.Table.{row, server_of}
+use Rattle.aom_clients.specs.Table.{server_of}
 use Rattle.aom_clients.specs.declared.client.Client.{Client}
 use Rattle.aom_clients.specs.declared.client.Client.TheVariants.{Open}
 use Rattle.aom_clients.specs.declared.refusal.Refusal.{Refusal}
@@ -15,16 +15,15 @@ use Rattle.aom_safety.proofs.Owners.{IsQueuedAt, in_queue, queued_lower}
 use Rattle.aom_safety.proofs.Sending.{good_sent}
 use Rattle.aom_safety.proofs.Signals.{at_rest}
 use Rattle.aom_safety.proofs.Withdrawing.{good_withdrawn}
-use Rattle.aom_safety.specs.Claims.{forms, items_of}
 use Rattle.aom_semantics.specs.Clients.{sent_message, asked_server, Listed, client_at, commanded, connecting, leaving, refusal, sending, told}
 use Rattle.aom_safety.specs.Kept.{ClientsFit}
 use Rattle.aom_safety.specs.Laws.{IsWired}
 use Rattle.aom_semantics.specs.Places.{Cell, Close_of, Connect_of, Elsewhere, Message_of, Object, Queued, held, named, service_of}
 use Rattle.aom_semantics.specs.Servers.{asked_last, is_server, reserved, withdrawn}
 use Rattle.aom_semantics.specs.State.{State}
-use Rattle.aom_safety.specs.WellTyped.{AllUndo, Good, WellTyped}
+use Rattle.aom_safety.specs.WellTyped.{Good, WellTyped}
 use Rattle.aom_transcript.specs.declared.event.Command.{Command}
-use Rattle.aom_transcript.specs.declared.event.Command.TheVariants.{Close, Connect, Die, Send}
+use Rattle.aom_transcript.specs.declared.event.Command.TheVariants.{Connect}
 use Rattle.aom_safety.proofs.Things.{message_plain}
 
 module _ (p : Image) (t : Typing) (wired : IsWired p) (s : State) (w : WellTyped p t s) (idle : s.tasks ≡ []) (fit : ClientsFit p s.clients s.cells) (c : ℕ) where
@@ -33,13 +32,7 @@ module _ (p : Image) (t : Typing) (wired : IsWired p) (s : State) (w : WellTyped
 
   -- with other cells, and what clients are at
   well : (u : State) → u.tasks ≡ s.tasks → u.items ≡ s.items → Good p t u.cells [] → WellTyped p t u
-  well u tasks items now = record {
-    layers = [];
-    tasks = tasks ∙ idle;
-    items = ap forms items ∙ w.items ∙ ap items_of (at_rest p t s w idle);
-    undos = subst (λ is. AllUndo p is) (sym items) w.undos;
-    good = now;
-  }
+  well u tasks items now = search (arith, nat_tests, at_rest p t s w idle, good)
 
   message : (n m : ℕ) (o : Object) → held s.cells (Elsewhere (Queued n m)) ≡ Some o → o.thing ≡ Message
   message n m o e = grind (arith, nat_tests, queued_lower p wired, IsQueuedAt p s.cells n m o.thing, in_queue p t wired s w n m o e)
@@ -53,15 +46,14 @@ module _ (p : Image) (t : Typing) (wired : IsWired p) (s : State) (w : WellTyped
       go : (r : Option Refusal) (x : Option Listed) → asked_server p class s.cells ≡ x → WellTyped p t (connecting p c s r x slots)
       go None (Some x) e =
           let l = asked_there p class s.cells x good.tidy e in
-          well _ refl refl (subst (λ n. Good p t (reserved (asked_last (Connect_of c)) n s.cells) []) l.1 (good_asked p t s.cells l.0 l.2 (Connect_of c) (λ m. refl) good))
+          well _ refl refl (grind (arith, nat_tests, good_asked p t s.cells l.0 l.2 (Connect_of c), good))
       go None None e = w
       go (Some r) x e = w
 
   sends_well : (refused : Option Refusal) (name : ℕ) (words : List ℤ) → named s.cells name ≡ None → (k : Client) → client_at s.clients c ≡ k → WellTyped p t (sending p c s refused k name words)
   sends_well None name words free (Open server session slots) at =
       let there = server_there p c s good.tidy fit server (fit.listed server c (ap server_of at)) in
-      well _ refl refl (subst (λ n. Good p t (sent n) []) there.1
-      (good_sent p t s.cells good there.0 there.2 there.3 c name free (the_message there.0.name) refl refl refl refl refl (none_named name (service_of s.cells there.0.name).queue (nobody p c s good.tidy fit there.0.name name free))))
+      well _ refl refl (rw there.1 at (good_sent p t s.cells good there.0 there.2 there.3 c name free (the_message there.0.name) refl refl refl refl refl (none_named name (service_of s.cells there.0.name).queue (nobody p c s good.tidy fit there.0.name name free))))
     where
       the_message : ℕ → Cell
       the_message = sent_message c name words
@@ -80,13 +72,10 @@ module _ (p : Image) (t : Typing) (wired : IsWired p) (s : State) (w : WellTyped
       go : (k : Client) → client_at s.clients c ≡ k → Good p t (told p c s k (withdrawn c s.cells)) []
       go (Open server session slots) at =
           let there = server_there p c s good.tidy fit server (fit.listed server c (ap server_of at)) in
-          subst (λ n. Good p t (reserved (asked_last (Close_of c)) n (withdrawn c s.cells)) []) there.1
-          (good_asked p t (withdrawn c s.cells) there.0 (server_stays p c s good.tidy fit waiting there.0 there.2 (fit.listed there.0.name c (ap server_of at ∙ ap (λ n. Some n) (sym there.1)))) (Close_of c) (λ m. refl) alone)
+          rw there.1 at (good_asked p t (withdrawn c s.cells) there.0 (server_stays p c s good.tidy fit waiting there.0 there.2 (fit.listed there.0.name c (ap server_of at ∙ ap (λ n. Some n) (sym there.1)))) (Close_of c) (λ m. refl) alone)
       go _ at = alone
 
   -- whatever is commanded
   pub commanded_well : (command : Command) (name : ℕ) → named s.cells name ≡ None → WellTyped p t (commanded p c s command name)
   commanded_well (Connect class slots) name free = connects_well (refusal p c s (Connect class slots)) class slots
-  commanded_well (Send words) name free = sends_well (refusal p c s (Send words)) name words free (client_at s.clients c) refl
-  commanded_well Close name free = leaves_well (client_at s.clients c) refl (row (client_at s.clients c)).close
-  commanded_well Die name free = leaves_well (client_at s.clients c) refl (row (client_at s.clients c)).die
+  commanded_well x name free = grind (arith, nat_tests, sends_well, leaves_well)

@@ -17,7 +17,7 @@ use Rattle.aom_semantics.specs.Enlisted.{own_request, rerequested}
 use Rattle.aom_semantics.specs.Natives.{all_bereaved, is_served_by, resessioned, terminated_request}
 use Rattle.aom_semantics.specs.Places.{Cell, Object, Place, Request, Service, Tidy, moved, named, requested, service_of, set_request, set_service, without}
 use Rattle.aom_semantics.specs.Servers.{all_unslotted, withdrawn, without_queue}
-use Rattle.aom_semantics.specs.State.{AtRoot, Home, Inside, Static}
+use Rattle.aom_semantics.specs.State.{Home, Inside}
 use Rattle.aom_semantics.specs.Tokens.{TokensApart, awaited, order_in}
 use Rattle.aom_semantics.specs.Words.{stored}
 
@@ -52,14 +52,12 @@ comes_altered :
 comes_altered {change = change} a asks serves cs = comes_same cs (change cs) (read_kept a requests asks cs) (read_kept a services serves cs)
 
 pub comes_opened : (cs : List Cell) (home : Home) (b : Bool) → NoneComes cs (resessioned cs home b)
-comes_opened cs Static b = comes_itself cs
-comes_opened cs AtRoot b = comes_itself cs
 comes_opened cs (Inside o from) b = comes_altered (opening o.name b) (λ c. refl) (λ c. refl) cs
+comes_opened cs _ b = comes_itself cs
 
 pub comes_stored : (cs : List Cell) (home : Home) (w : ℕ) (v : ℤ) → NoneComes cs (stored cs home w v)
-comes_stored cs Static w v = comes_itself cs
-comes_stored cs AtRoot w v = comes_itself cs
 comes_stored cs (Inside o from) w v = comes_altered (storing o.name w v) (λ c. refl) (λ c. refl) cs
+comes_stored cs _ w v = comes_itself cs
 
 -- ---- one request changes, or one service
 
@@ -74,10 +72,7 @@ comes_asked cs n r fewer = record {
     here x free k e = grind (arith, nat_tests, requested_unnamed, named_kept (asking n r) cs n, asking n r, requested_here cs n r)
 
     go : (m k : ℕ) (b : Bool) → (n == m) ≡ b → awaited (requested (set_request n r cs) m) ≡ Some k → awaited (requested cs m) ≡ Some k
-    go m k true same e =
-        let equal : n ≡ m = eqb-true n m same in
-        ap (λ i. awaited (requested cs i)) (sym equal) ∙ here (named cs n) refl k (ap (λ i. awaited (requested (set_request n r cs) i)) equal ∙ e)
-    go m k false other e = sym (ap awaited (requested_there cs n m r other)) ∙ e
+    go m k x same e = grind (arith, nat_tests, eqb-true, here, requested_there)
 
 pub comes_requested : (cs : List Cell) (home : Home) (r : Option Request) → ((k : ℕ) → awaited r ≡ Some k → awaited (own_request cs home) ≡ Some k) → NoneComes cs (rerequested cs home r)
 comes_requested cs x r fewer = grind (arith, nat_tests, comes_itself cs, comes_asked cs)
@@ -90,10 +85,7 @@ comes_served cs n v same = record { waits = λ m k e. sym (ap awaited (requested
     here x free k e = grind (arith, nat_tests, service_unnamed, named_kept (serving n v) cs n, serving n v, service_here cs n v)
 
     go : (m k : ℕ) (b : Bool) → (n == m) ≡ b → order_in (service_of (set_service n v cs) m).token ≡ Some k → order_in (service_of cs m).token ≡ Some k
-    go m k true at e =
-        let equal : n ≡ m = eqb-true n m at in
-        ap (λ i. order_in (service_of cs i).token) (sym equal) ∙ here (named cs n) refl k (ap (λ i. order_in (service_of (set_service n v cs) i).token) equal ∙ e)
-    go m k false other e = sym (ap (λ (w : Service). order_in w.token) (service_there cs n m v other)) ∙ e
+    go m k x at e = grind (arith, nat_tests, eqb-true, here, service_there)
 
 -- ---- a cell is made that is no token and waits for none
 
@@ -117,9 +109,8 @@ module _ (drops : Cell → Bool) (f : Cell → Service) (keeps : (c : Cell) → 
 
   pub comes_sifted : (cs : List Cell) → Tidy cs → NoneComes cs (sifted drops f cs)
   comes_sifted cs tidy = record {
-    waits = λ n k e. ap awaited (requested_cell cs n) ∙ waits_kept (cell_of cs n) k (sym (ap awaited (requested_cell (sifted drops f cs) n ∙ ap request_in (cell_of_sifted drops f cs n tidy))) ∙ e);
-    told = λ n k e. ap (λ (v : Service). order_in v.token) (service_cell cs n)
-        ∙ told_kept (cell_of cs n) k (sym (ap (λ (v : Service). order_in v.token) (service_cell (sifted drops f cs) n ∙ ap service_in (cell_of_sifted drops f cs n tidy))) ∙ e);
+    waits = grind (arith, nat_tests, requested_cell, waits_kept, cell_of, sifted, request_in, cell_of_sifted);
+    told = grind (arith, nat_tests, service_cell, told_kept, cell_of, sifted, service_in, cell_of_sifted);
   }
 
 pub comes_without : (cs : List Cell) → Tidy cs → (g : Place) → NoneComes cs (without g cs)
@@ -160,4 +151,4 @@ waits_bereaved p native (c ∷ cs) n k e = go (c.object.name == n) e (waits_bere
     go false e rest = rest e
 
 pub comes_bereaved : (p : Image) (native : ℕ) (cs : List Cell) → NoneComes cs (all_bereaved p native cs)
-comes_bereaved p native cs = record { waits = waits_bereaved p native cs; told = λ n k e. sym (ap (λ (v : Service). order_in v.token) (service_bereaved p native cs n)) ∙ e }
+comes_bereaved p native cs = record { waits = waits_bereaved p native cs; told = grind (arith, nat_tests, service_bereaved) }

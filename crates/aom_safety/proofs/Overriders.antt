@@ -10,7 +10,7 @@ use Rattle.aom_image.specs.declared.method.Method.{Method}
 use Rattle.aom_image.specs.declared.method.Role.TheVariants.{Construct, Do}
 use Rattle.aom_classes.proofs.Facts.{all_there}
 use Rattle.aom_classes.proofs.Playing.{same_roles}
-use Rattle.aom_classes.specs.Overriding.{AllStandIn, StandsInNamed, body_of, leads_in, over_in, over_of, overrides}
+use Rattle.aom_classes.specs.Overriding.{AllStandIn, StandsInNamed, body_of, leads_in, over_in, overrides}
 use Rattle.aom_families.proofs.Bodies.{bodies_are_alike}
 use Rattle.aom_families.specs.Laws.{RunsAlike}
 use Rattle.aom_roles.proofs.Descending.{through}
@@ -82,7 +82,7 @@ leads_there p m d named n z leads = go (method_at p z) refl n leads
     go (Some e) at n leads = (e, at)
     go None at zero leads = absurd (itself (z == m) refl at leads)
     go None at (suc n) leads =
-        absurd (itself (z == m) refl at (either (z == m) (leads_in p n (over_of p z) m) (λ h. above_none n (sym (ap (λ o. leads_in p n (over_in o) m) at) ∙ h)) leads))
+        absurd (grind (arith, nat_tests, itself, either, above_none))
 
 -- what overrides a method is a plain one
 overrides_plainly : (p : Image) → AllStandIn p → (m k : ℕ) (d e : Method) → method_at p m ≡ Some e → method_at p k ≡ Some d → overrides p k m ≡ true → d.role ≡ Do

@@ -1,6 +1,6 @@
 -- What an entry, the root or a session owns is an object and no message: by the claims of the layers one after another.
 use Rattle.std.proofs.lemmas.Bool.Decides.{nat_tests}
-use Rattle.std.proofs.Common.{arith, Bool, List, Option, Some, [], cond, subst, true, ℕ, ◌==◌, ◌∷◌, ◌≡◌, length}
+use Rattle.std.proofs.Common.{arith, Bool, List, Option, Some, [], cond, true, ℕ, ◌∷◌, ◌≡◌}
 use Rattle.aom_image.specs.Image.{Image}
 use Rattle.aom_image.specs.declared.method.Thing.{Thing}
 use Rattle.aom_image.specs.declared.method.Thing.TheVariants.{Object as An_object_of}
@@ -12,8 +12,8 @@ use Rattle.aom_shape.specs.declared.kind.Entry.{Entry as Pushed}
 use Rattle.aom_shape.specs.declared.kind.Filling.{Filling}
 use Rattle.aom_shape.specs.declared.kind.Filling.TheVariants.{Full, Perhaps}
 use Rattle.aom_shape.specs.declared.kind.Kind.{Kind}
-use Rattle.aom_shape.specs.declared.kind.Kind.TheVariants.{Maybe, Null, Own}
-use Rattle.aom_safety.specs.Claims.{Dispatching, Dying, Ending, Form, Layer, Mark, Method, Unwinding, by_close, by_session, claim, declared, entry_claim, is_of_root, items_of, objects, root_claim}
+use Rattle.aom_shape.specs.declared.kind.Kind.TheVariants.{Maybe, Own}
+use Rattle.aom_safety.specs.Claims.{Dispatching, Dying, Ending, Form, Layer, Mark, Method, Unwinding, by_close, by_session, claim, declared, entry_claim, items_of, root_claim}
 use Rattle.aom_semantics.specs.Objects.{is_no_message}
 use Rattle.aom_safety.proofs.Things.{stands_object}
 use Rattle.aom_semantics.specs.Places.{Cell, Elsewhere, Entry, Object, Place, Root, Session, Sight, held, seen}
@@ -38,7 +38,7 @@ module _ (p : Image) (h : Sight) (o : Object) where
 
   among_entries : (es : List Pushed) (items : List Form) (k : ℕ) (below : Kind) → IsOne below → IsOne (entry_claim es items k below)
   among_entries [] items k below one = one
-  among_entries (x ∷ es) items k below one = either (length (objects es items) == k) (entry_kind x) (entry_claim es items k below) (by_entry x) (among_entries es items k below one)
+  among_entries (x ∷ es) items k below one = grind (arith, nat_tests, either, by_entry, among_entries es items k below one)
 
   claimed_entry : (cs : List Cell) (ls : List Layer) (k : ℕ) → IsOne (claim p (declared p cs) ls (Entry k))
   claimed_entry cs [] k = λ fits. absurd fits
@@ -62,14 +62,14 @@ module _ (p : Image) (h : Sight) (o : Object) where
   claimed_root cs (Dying x ∷ ls) = claimed_root cs ls
   claimed_root cs (Ending x left ∷ ls) = claimed_root cs ls
   claimed_root cs (Unwinding code es ∷ ls) = claimed_root cs ls
-  claimed_root cs (Dispatching d seats ∷ ls) = either (is_of_root d) Null (claim p (declared p cs) ls (Elsewhere Root)) (λ fits. absurd fits) (claimed_root cs ls)
+  claimed_root cs (Dispatching d seats ∷ ls) = grind (arith, nat_tests, either, claimed_root cs ls)
 
 module _ (p : Image) (t : Typing) (s : State) (typed : WellTyped p t s) (o : Object) where
   pub entry_object : (k : ℕ) → held s.cells (Entry k) ≡ Some o → is_object o.thing ≡ true
-  entry_object k e = claimed_entry p (seen s.cells) o s.cells typed.layers k (subst (λ x. Fits p (seen s.cells) x (claim p (declared p s.cells) typed.layers (Entry k))) e (typed.good.fits (Entry k)))
+  entry_object k e = claimed_entry p (seen s.cells) o s.cells typed.layers k (rw e at (typed.good.fits (Entry k)))
 
   pub root_object : held s.cells (Elsewhere Root) ≡ Some o → is_object o.thing ≡ true
-  root_object e = claimed_root p (seen s.cells) o s.cells typed.layers (subst (λ x. Fits p (seen s.cells) x (claim p (declared p s.cells) typed.layers (Elsewhere Root))) e (typed.good.fits (Elsewhere Root)))
+  root_object e = claimed_root p (seen s.cells) o s.cells typed.layers (rw e at (typed.good.fits (Elsewhere Root)))
 
 -- so it is where there is one
 pub root_cell : (p : Image) (t : Typing) (s : State) → WellTyped p t s → is_no_message (held s.cells (Elsewhere Root)) ≡ true

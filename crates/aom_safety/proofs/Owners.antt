@@ -4,7 +4,7 @@ use Rattle.std.proofs.Common.{Bool, List, None, Option, Some, [], ap, arith, con
 use Rattle.aom_image.proofs.Given.{false_given, nil_given, some_given}
 use Rattle.std.proofs.lemmas.Bool.{cases_lt, eqb-true, ne_eqb}
 use Rattle.std.proofs.lemmas.Option.{slice_get_within}
-use Rattle.std.specs.Prelude.{IsSome, is_some, option_map, slice_get}
+use Rattle.std.specs.Prelude.{IsSome, is_some, option_map}
 use Rattle.aom_image.specs.Image.{Image}
 use Rattle.aom_image.specs.Views.{class_at, fields_in}
 use Rattle.aom_image.specs.declared.method.Thing.{Thing}
@@ -102,7 +102,7 @@ field_thing_of p t cs (Method fr sh ∷ ls) back n f c s h = go fr.home s.1.hold
 field_thing_of p t cs (Mark gv ∷ ls) back n f c s h = field_thing_of p t cs ls (Caught gv) n f c s.1 h
 field_thing_of p t cs (Ending o left ∷ ls) back n f c s h = grind (arith, nat_tests, field_thing_of p t cs ls Now n f c s.3, eqb-true o.name n, filled_thing)
 field_thing_of p t cs (Unwinding code es ∷ ls) back n f c s h = field_thing_of p t cs ls Leaves n f c s.1 h
-field_thing_of p t cs (Dispatching w seats ∷ ls) back n f c s h = declared_thing_of p cs n f c (subst (λ l. HasThing (claim p (declared p cs) l (Field n f)) c) s.1 h)
+field_thing_of p t cs (Dispatching w seats ∷ ls) back n f c s h = grind (arith, nat_tests, declared_thing_of)
 field_thing_of p t cs (Dying o ∷ ls) back n f c s h = grind (arith, nat_tests, field_thing_of p t cs ls Gone n f c s.2, below_null (o.name == n))
 
 -- ---- sessions and messages
@@ -176,7 +176,7 @@ module _ (p : Image) (cs : List Cell) (x : Thing) where
   unclaimed ls q e h = subst (λ k. HasThing k x) e h
 
   register_below : (ls : List Layer) (f i : ℕ) → Claims ls (Register f i) → f < length (tasks_of ls)
-  register_below ls f i h = ⊎_elim (λ lt. lt) (λ le. absurd (unclaimed ls (Register f i) (claim_register_above p cs ls f i le) h)) (cases_lt f (length (tasks_of ls)))
+  register_below ls f i h = grind (arith, nat_tests, unclaimed ls (Register f i), claim_register_above p cs ls f i, cases_lt f)
 
   entry_below : (ls : List Layer) (k : ℕ) → Claims ls (Entry k) → k < length (items_of ls)
   entry_below ls k h = ⊎_elim (λ lt. lt) (λ le. absurd (unclaimed ls (Entry k) (claim_entry_above p cs ls k le) h)) (cases_lt k (length (items_of ls)))
@@ -262,7 +262,7 @@ declaring p wired x y f e = grind (arith, nat_tests, declaring_class p x y f e, 
 module _ (p : Image) (wired : IsWired p) where
   serving_within : (c k : ℕ) → sessions_at p c ≡ Some k → suc (wired.family.weight c) ≤ length p.classes
   unfolding class_at kind_in sessions_in
-  serving_within c k e = some_given (λ d. sessions_in (kind_in d) ≡ Some k) (slice_get p.classes c) e (λ none. cc) (λ d at _. (let lt = wired.family.few c (slice_get_within p.classes c d at) in omega (arith, lt)))
+  serving_within c k e = grind (arith, nat_tests, some_given, slice_get_within)
 
   abbrev IsLower : Thing → Thing → Type 0
   IsLower x y = (rank p wired x < rank p wired y) × (rank p wired y ≤ length p.classes)
@@ -300,15 +300,15 @@ module _ (p : Image) (t : Typing) (wired : IsWired p) (s : State) (w : WellTyped
 module _ (p : Image) (t : Typing) (wired : IsWired p) (s : State) (w : WellTyped p t s) (clear : NoneGoes s.tasks) where
   -- nothing is owned by a destruction
   unowned_going : (k : ℕ) (o : Object) → held s.cells (Going k) ≡ Some o → ⊥
-  unowned_going k o e = let y = kind_at p t wired s w (Going k) o e in unclaimed p s.cells y.0 w.layers (Going k) (none_going p (declared p s.cells) w.layers k (subst (λ ts. NoneGoes ts) w.tasks clear)) y.1
+  unowned_going k o e = grind (arith, nat_tests, kind_at, unclaimed, none_going)
 
   lives : (q : Place) (o : Object) → IsInRange q → held s.cells q ≡ Some o → Lives p s q
   lives (Register f i) o fits e = (grind (arith, nat_tests, kind_at p t wired s w (Register f i) o e, registers_live p s.cells), fits)
-  lives (Entry k) o fits e = objects_item s.items k (ap (λ is. over is k) w.items ∙ (let y = kind_at p t wired s w (Entry k) o e in items_live p s.cells y.0 w.layers k y.1))
+  lives (Entry k) o fits e = objects_item s.items k (grind (arith, nat_tests, kind_at p t wired s w (Entry k) o e, items_live p s.cells))
   lives (Field n f) o fits e = let y = kind_at p t wired s w (Field n f) o e in let x = field_thing_of p t s.cells w.layers Now n f y.0 w.good.stack y.1 in (x.0, x.1, ap is_some x.2)
   lives (Elsewhere Root) o fits e = let y = kind_at p t wired s w (Elsewhere Root) o e in root_lives p s.cells y.0 w.layers y.1
   lives (Elsewhere (Session n c)) o fits e = let x = at_session p t wired s w n c o e in (x.0, x.1, x.2)
-  lives (Elsewhere In_service) o fits e = subst (λ ts. HasService ts) (sym w.tasks) (let y = kind_at p t wired s w (Elsewhere In_service) o e in service_lives p t s.cells w.layers Now y.0 w.good.stack y.1)
+  lives (Elsewhere In_service) o fits e = rw w.tasks (let y = kind_at p t wired s w (Elsewhere In_service) o e in service_lives p t s.cells w.layers Now y.0 w.good.stack y.1)
   lives (Elsewhere (Queued n m)) o fits e = let x = in_queue p t wired s w n m o e in (x.0, x.1, x.2)
   lives (Going k) o fits e = absurd (unowned_going k o e)
 
@@ -354,10 +354,7 @@ module _ (p : Image) (t : Typing) (wired : IsWired p) (s : State) (w : WellTyped
 
 -- at a dispatch's end, and between dispatches
 pub ends_owned : EndsOwned
-ends_owned p t wired s w fits = (
-  λ d e. owned p t wired s w (subst (λ ts. NoneGoes ts) (sym e) tt) fits,
-  λ e. owned p t wired s w (subst (λ ts. NoneGoes ts) (sym e) tt) fits,
-)
+ends_owned p t wired s w fits = search (arith, nat_tests, owned p t wired s w)
 
 -- the layers of what is at hand
 pub layers_none : (ls : List Layer) → tasks_of ls ≡ [] → ls ≡ []

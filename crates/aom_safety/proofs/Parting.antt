@@ -1,6 +1,6 @@
 -- What a server's dispatch ends with: the entry is served, and it goes on as the dispatch of an object.
 use Rattle.std.proofs.lemmas.Bool.Decides.{nat_tests}
-use Rattle.std.proofs.Common.{arith, Bool, List, Some, [], ap, false, refl, subst, sym, true, ℕ, ℤ, ◌==◌, ◌∙◌, ◌∷◌, ◌≡◌}
+use Rattle.std.proofs.Common.{arith, Bool, List, Some, [], ap, false, refl, true, ℕ, ℤ, ◌==◌, ◌∙◌, ◌∷◌, ◌≡◌}
 use Rattle.std.proofs.lemmas.Bool.{eqb-true}
 use Rattle.std.specs.Prelude.{filter, is_some}
 use Rattle.aom_image.specs.Image.{Image}
@@ -13,12 +13,12 @@ use Rattle.aom_safety.proofs.Dropping.{declared_dropped, dropped, fits_dropped, 
 use Rattle.aom_semantics.proofs.Maps.{same_place-true}
 use Rattle.aom_safety.proofs.Services.{held_served, named_served, requested_served, service_here, service_there, sits_lives, tidy_served}
 use Rattle.aom_safety.proofs.Things.{stands_message}
-use Rattle.aom_safety.specs.Claims.{Dispatching, by_close, by_stage, claim, declared, declared_field, forms}
+use Rattle.aom_safety.specs.Claims.{Dispatching, by_close, by_stage, claim, declared}
 use Rattle.aom_semantics.specs.Moves.{dispatch_ends, needs_end, stage_ends}
-use Rattle.aom_semantics.specs.Places.{Cell, Elsewhere, Field, In_service, Object, Place, Queued, Service, Session, held, same_place, seen, service_of, set_service, without}
+use Rattle.aom_semantics.specs.Places.{Cell, Elsewhere, In_service, Object, Place, Service, Session, held, same_place, seen, service_of, set_service, without}
 use Rattle.aom_semantics.specs.Servers.{is_among, is_other, parted}
 use Rattle.aom_semantics.specs.State.{Accept_left, Accepted, Dispatched, Of_object, Of_server, Parts, Seat, Service_left, Stage, State, guarded}
-use Rattle.aom_safety.specs.WellTyped.{Now, AllSit, AllUndo, Fits, Good, Keeps, WellTyped}
+use Rattle.aom_safety.specs.WellTyped.{Now, AllSit, Fits, Good, Keeps, WellTyped}
 
 -- a client that has parted is not among them, and all others are
 pub among_parted : (c : ℕ) (ss : List ℕ) → is_among c (filter (is_other c) ss) ≡ false
@@ -44,14 +44,11 @@ module _ (p : Image) (t : Typing) (s : State) (x : Seat) (client : ℕ) (seats :
 
   -- with such cells the dispatch goes on
   served_well : (u : State) → u.tasks ≡ Dispatched (Of_object x) ∷ [] → u.items ≡ [] → Good p t u.cells (Dispatching (Of_object x) seats ∷ []) → WellTyped p t u
-  served_well u tasks items good = record { layers = Dispatching (Of_object x) seats ∷ []; tasks = tasks; items = ap forms items; undos = subst (λ is. AllUndo p is) (sym items) tt; good = good }
+  served_well u tasks items good = search (arith, nat_tests)
 
   -- the cells are as they were
   plain_good : (stage : Stage) → claims_none stage ≡ true → Good p t s.cells (Dispatching (Of_server x client stage) seats ∷ []) → Good p t s.cells (Dispatching (Of_object x) seats ∷ [])
-  plain_good stage plain good = record { stack = (tt, refl, good.stack.2, good.stack.3, tt); fits = fits; suits = good.suits; tidy = good.tidy }
-    where
-      fits : (r : Place) → Fits p (seen s.cells) (held s.cells r) (claim p (declared p s.cells) (Dispatching (Of_object x) seats ∷ []) r)
-      fits r = grind (arith, nat_tests, none_parts stage plain, none_served stage plain Null)
+  plain_good stage plain good = search (arith, nat_tests, none_parts stage plain, none_served stage plain Null)
 
   -- the message of a service that was left is completed
   module _ (code : ℤ) (good : Good p t s.cells (Dispatching (Of_server x client (Service_left code)) seats ∷ [])) where
@@ -79,8 +76,7 @@ module _ (p : Image) (t : Typing) (s : State) (x : Seat) (client : ℕ) (seats :
       where
         same : (r : Place) → same_place r (Elsewhere In_service) ≡ false → Fits p (seen s.cells) (held s.cells r) (declared p s.cells r) → Fits p (seen left) (held left r) (declared p left r)
         same r e f =
-            subst (λ k. Fits p (seen left) (held left r) k) (sym (declared_dropped goes p s.cells good.tidy goes_message r))
-            (fits_dropped goes p s.cells good.tidy goes_message r (declared p s.cells r) e f)
+            rw (declared_dropped goes p s.cells good.tidy goes_message r) (fits_dropped goes p s.cells good.tidy goes_message r (declared p s.cells r) e f)
 
         fits : (r : Place) → Fits p (seen left) (held left r) (claim p (declared p left) (Dispatching (Of_object x) seats ∷ []) r)
         fits r = grind (arith, nat_tests, held_dropped, same r)
@@ -106,11 +102,9 @@ module _ (p : Image) (t : Typing) (s : State) (x : Seat) (client : ℕ) (seats :
     service_now = service_here s.cells n v x.object (sits_lives s.cells seats x good.stack.2 good.stack.3)
 
     declared_then : (r : Place) → declared p cs r ≡ claim p (declared p s.cells) (Dispatching (Of_server x client Parts) seats ∷ []) r
-    declared_then (Field m f) = ap (λ o. declared_field p o f) (named_served s.cells n v m)
     declared_then (Elsewhere (Session m k)) =
         grind (arith, nat_tests, named_served s.cells, service_now, eqb-true client k, among_parted client, among_others k client, service_there s.cells)
-    declared_then (Elsewhere (Queued m k)) = grind (arith, nat_tests, named_served s.cells, eqb-true, service_now, service_there s.cells)
-    declared_then _ = refl
+    declared_then y = grind (arith, nat_tests, named_served s.cells, eqb-true, service_now, service_there s.cells)
 
     sits_then : (xs : List Seat) → AllSit s.cells xs → AllSit cs xs
     sits_then [] h = tt
@@ -121,7 +115,7 @@ module _ (p : Image) (t : Typing) (s : State) (x : Seat) (client : ℕ) (seats :
 
     parted_good : Good p t cs (Dispatching (Of_object x) seats ∷ [])
     parted_good = record {
-      stack = (tt, refl, sits_then seats good.stack.2, (ap is_some (requested_served s.cells n v x.object.name) ∙ good.stack.3.0, good.stack.3.1, good.stack.3.2), tt);
+      stack = grind (arith, nat_tests, sits_then, requested_served);
       fits = grind (arith, nat_tests, object_claims, declared_then, held_served s.cells, fits_age p, requested_served s.cells);
       suits = grind (arith, nat_tests, requested_served s.cells, named_served s.cells);
       tidy = tidy_served s.cells n v good.tidy;

@@ -108,9 +108,7 @@ module _ (p : Image) (t : Typing) (fr : Frame) (ls : List Layer) (depth : ℕ) (
       (regs : List Kind) (ws : List (Option ℤ)) (k : Kind) (w : Option ℤ) → length ws ≡ length regs → ((i : ℕ) → WordFits (at None ws i) (at Unset regs i)) → WordFits w k → (i : ℕ) →
       WordFits (at None (ws ++ w ∷ []) i) (at Unset (regs ++ k ∷ []) i)
   given_more regs ws k w even given new i =
-      subst (λ ks. WordFits (at None (ws ++ w ∷ []) i) (at Unset ks i)) (put_at_end Unset regs k)
-      (subst (λ vs. WordFits (at None vs i) (at Unset (put_at Unset regs (length regs) k) i)) (ap (λ n. put_at None ws n w) (sym even) ∙ put_at_end None ws w)
-      (words_set ws (taken regs) (length regs) w k given new i))
+      rw (put_at_end Unset regs k) at (rw (ap (λ n. put_at None ws n w) (sym even) ∙ put_at_end None ws w) at (words_set ws (taken regs) (length regs) w k given new i))
 
   even_more : (regs : List Kind) (ws : List (Option ℤ)) (k : Kind) (w : Option ℤ) → length ws ≡ length regs → length (ws ++ w ∷ []) ≡ length (regs ++ k ∷ [])
   even_more regs ws k w even = length_more ws w ∙ ap suc even ∙ sym (length_more regs k)
@@ -201,25 +199,22 @@ module _ (p : Image) (t : Typing) (fr : Frame) (ls : List Layer) (depth : ℕ) (
       (ts : State) (xs : List Argument) (first to : ℕ) (cs : List Cell) (sh : Shape) (regs : List Kind) (ws : List (Option ℤ)) → to ≡ length regs → AllTrue (each_argument p sh xs first) →
       Passed cs sh regs ws
       → Passed (passed_cells p fr (tasks_of ls) ts depth xs first to cs) (arguments_moved xs first sh) (regs ++ map argument_kind xs) (ws ++ passed_words p fr (tasks_of ls) ts xs first)
-  all_passed s [] first to cs sh regs ws e n g = subst (λ vs. Passed cs sh (regs ++ []) vs) (sym (append-nil ws)) (subst (λ ks. Passed cs sh ks ws) (sym (append-nil regs)) g)
+  all_passed s [] first to cs sh regs ws e n g = rw (append-nil ws) (rw (append-nil regs) g)
   all_passed s (Takes_word ∷ xs) first to cs sh regs ws e n g =
       let new : WordFits (word fr first) Word = (word_is p s (word fr first) (register sh first) n.0 (g.words first)).1 in
       let rest =
       all_passed s xs (suc first) (suc to) cs sh (regs ++ Word ∷ []) (ws ++ word fr first ∷ []) (ap suc e ∙ sym (length_more regs Word)) n.1 (word_passed cs sh regs ws (word fr first) new g) in
-      subst (λ vs. Passed (passed_cells p fr (tasks_of ls) s depth xs (suc first) (suc to) cs) (arguments_moved xs (suc first) sh) (regs ++ Word ∷ map argument_kind xs) vs) (append_assoc ws (word fr first ∷ []) (passed_words p fr (tasks_of ls) s xs (suc first)))
-      (subst (λ ks. Passed (passed_cells p fr (tasks_of ls) s depth xs (suc first) (suc to) cs) (arguments_moved xs (suc first) sh) ks ((ws ++ word fr first ∷ []) ++ passed_words p fr (tasks_of ls) s xs (suc first))) (append_assoc regs (Word ∷ []) (map argument_kind xs)) rest)
+      rw (append_assoc ws (word fr first ∷ []) (passed_words p fr (tasks_of ls) s xs (suc first))) at (rw (append_assoc regs (Word ∷ []) (map argument_kind xs)) at rest)
   all_passed s (Takes_own x ∷ xs) first to cs sh regs ws e n g =
       let k = own_widens p x (register sh first) n.0 n.1.0 in
       let cs' = moved (lower first) (upper to) cs in
       let sh' = set_register sh first Null in
       let one : Passed cs' sh' (regs ++ Own x Ready ∷ []) (ws ++ None ∷ []) =
-      subst (λ i. Passed (moved (lower first) (upper i) cs) sh' (regs ++ Own x Ready ∷ []) (ws ++ None ∷ [])) (sym e)
-      (wider_passed (moved (lower first) (upper (length regs)) cs) sh' regs ws (register sh first) (Own x Ready) k g.even g.given (object_passed cs sh regs ws first (register sh first) refl k.object g)) in
+      rw e (wider_passed (moved (lower first) (upper (length regs)) cs) sh' regs ws (register sh first) (Own x Ready) k g.even g.given (object_passed cs sh regs ws first (register sh first) refl k.object g)) in
       let rest =
       all_passed s xs (suc first) (suc to) cs' sh' (regs ++ Own x Ready ∷ []) (ws ++ None ∷ []) (ap suc e ∙ sym (length_more regs (Own x Ready)))
       (each_kept xs sh first (suc first) (omega arith) n.1.1) one in
-      subst (λ vs. Passed (passed_cells p fr (tasks_of ls) s depth xs (suc first) (suc to) cs') (arguments_moved xs (suc first) sh') (regs ++ Own x Ready ∷ map argument_kind xs) vs) (append_assoc ws (None ∷ []) (passed_words p fr (tasks_of ls) s xs (suc first)))
-      (subst (λ ks. Passed (passed_cells p fr (tasks_of ls) s depth xs (suc first) (suc to) cs') (arguments_moved xs (suc first) sh') ks ((ws ++ None ∷ []) ++ passed_words p fr (tasks_of ls) s xs (suc first))) (append_assoc regs (Own x Ready ∷ []) (map argument_kind xs)) rest)
+      rw (append_assoc ws (None ∷ []) (passed_words p fr (tasks_of ls) s xs (suc first))) at (rw (append_assoc regs (Own x Ready ∷ []) (map argument_kind xs)) at rest)
 
 module _ (p : Image) (t : Typing) (c : Choice) (s : State) (fr : Frame) (sh : Shape) (ls : List Layer) (at_hand : At p t s fr sh ls) where
   -- each argument is as the machine needs it

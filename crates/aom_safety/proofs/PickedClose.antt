@@ -2,7 +2,6 @@
 use Rattle.std.proofs.lemmas.Bool.Decides.{nat_tests}
 use Rattle.std.proofs.Common.{List, None, Some, [], ap, arith, cond, inl, inr, length, refl, subst, sym, true, ℕ, ⊎_elim, ◌&&◌, ◌<◌, ◌==◌, ◌∙◌, ◌∷◌, ◌≡◌}
 use Rattle.std.proofs.lemmas.Bool.{ne_eqb}
-use Rattle.std.specs.Prelude.{is_some}
 use Rattle.aom_image.specs.Image.{Image}
 use Rattle.aom_rules.specs.Typing.{IsTyped, Typing}
 use Rattle.aom_shape.specs.declared.kind.Kind.TheVariants.{Null}
@@ -86,13 +85,13 @@ module _ (p : Image) (t : Typing) (wired : IsWired p) (typed : IsTyped p t) (s :
   parted_well =
       let items = no_items p t wired typed s w idle_now fit x r there lives asked server in
       goes_well p t cs z q [] below fits z_there (omega arith) claims wired typed (tidy_now p t wired typed s w idle_now fit x r there lives asked server)
-      (tt, refl, seats_moved seats not_seated seated, (ap is_some (requested_moved cs q g n ∙ requested_now p t wired typed s w idle_now fit x r there lives asked server n ∙ asked), above p t wired typed s w idle_now fit x r there lives asked server, refl), (server, has_then))
+      (tt, refl, seats_moved seats not_seated seated, grind (arith, nat_tests, requested_moved, requested_now, above), (server, has_then))
       (record { some = λ h. ⊎_elim not_seated (λ y. y) h; unclaimed = λ f. refl; none_in = (no_fields cs z.name seats not_seated seated, tt); unworked = tt; sessions = λ d c. ap (λ b. cond (b && (client == c)) Null (d (Elsewhere (Session z.name c)))) (ne_eqb n z.name (λ same. not_seated (inl same))) })
       (suits_now p t wired typed s w idle_now fit x r there lives asked server)
       then (length s.items) (ap length items) refl refl (ap forms items) (subst (λ is. AllUndo p is) (sym items) tt)
     where
       has_then : has_session (service_of (moved q g cs) n) client ≡ true
-      has_then = ap (λ v. has_session v client) (service_moved cs q g n) ∙ sessions_now p t wired typed s w idle_now fit x r there lives asked server n client ∙ has_now
+      has_then = grind (arith, nat_tests, service_moved, sessions_now, has_now)
 
   pub parts_well : Keeps p t (parting_with p x client (held s.cells q) (taken_from n s))
   parts_well = subst (λ y. Keeps p t (parting_with p x client y (taken_from n s))) (sym session_there.1) parted_well

@@ -124,18 +124,17 @@ module _ (p : Image) (t : Typing) (wired : IsWired p) (typed : IsTyped p t) (s :
   sits_now = sits_same s.cells cs held_now named_now (x ∷ above) sits.1
 
   pub suits_now : (y : Object) → named cs y.name ≡ Some y → Suits (thing_kind p y.thing) (resting_in (rests_in p y)) (requested cs y.name)
-  suits_now y there = subst (λ z. Suits (thing_kind p y.thing) (resting_in (rests_in p y)) z) (sym (requested_now y.name)) (good.suits y (sym (named_now y.name) ∙ there))
+  suits_now y there = rw (requested_now y.name) (good.suits y (sym (named_now y.name) ∙ there))
 
   own_now : Suits (thing_kind p x.object.thing) (resting_in idle) (requested cs n)
-  own_now = subst (λ z. Suits (thing_kind p x.object.thing) (resting_in idle) z) (sym (requested_now n ∙ asked))
-      (suits_serving (thing_kind p x.object.thing) r server (subst (λ z. Suits (thing_kind p x.object.thing) (resting_in (rests_in p x.object)) z) asked (good.suits x.object lives)))
+  own_now = rw (requested_now n ∙ asked) (suits_serving (thing_kind p x.object.thing) r server (rw asked at (good.suits x.object lives)))
 
   -- ---- where the first is no message, all is declared as before
 
   module _ (e : Asked) (es : List Asked) (queue : (service_of s.cells n).queue ≡ e ∷ es) (plain_first : (k : ℕ) → is_message k e ≡ false) where
     messages : (m k : ℕ) → has_message (service_of cs m) k ≡ has_message (service_of s.cells m) k
     messages m k = by_server s.cells x.object lives taken_first (λ m v. has_message v k ≡ has_message (service_of s.cells m) k)
-        (ap (λ q. list_any (λ e. is_message k e) (rest_of q)) queue ∙ sym (ap (λ q. list_any (λ e. is_message k e) q) queue ∙ ap (λ b. b || list_any (λ e. is_message k e) es) (plain_first k)))
+        (ap (λ q. list_any (λ e. is_message k e) (rest_of q)) queue ∙ sym (grind (arith, nat_tests)))
         (λ m other. refl) m
 
     declared_now : (q : Place) → declared p cs q ≡ declared p s.cells q
@@ -145,7 +144,7 @@ module _ (p : Image) (t : Typing) (wired : IsWired p) (typed : IsTyped p t) (s :
     declared_now _ = refl
 
     pub fits_now : (q : Place) → Fits p (seen cs) (held cs q) (declared p cs q)
-    fits_now q = subst (λ y. Fits p (seen cs) y (declared p cs q)) (sym (held_now q)) (subst (λ k. Fits p (seen cs) (held s.cells q) k) (sym (declared_now q)) (fits_ready p (seen s.cells) (seen cs) (held s.cells q) (declared p s.cells q) (declared_ready p s.cells q) (good.fits q)))
+    fits_now q = rw (held_now q) (rw (declared_now q) (fits_ready p (seen s.cells) (seen cs) (held s.cells q) (declared p s.cells q) (declared_ready p s.cells q) (good.fits q)))
 
   -- ---- a connect
 
@@ -185,17 +184,17 @@ module _ (p : Image) (t : Typing) (wired : IsWired p) (typed : IsTyped p t) (s :
       some_in = λ m h. inl (inr h);
       joins = tt;
       past = refl;
-      stack = ((it.gives, tt, ap is_cancel it.role), ((An_object_of its_class.1, refl, session), refl, sits_now, (ap is_some (requested_now n ∙ asked), above, refl), (server, no_session)));
-      fits = λ q. subst (λ k. Fits p (seen cs) (held cs q) k) (sym (plain_message (declared p cs) q)) (fits_now (Connect_of client) es queue (λ k. refl) q);
-      own = subst (λ k. Suits (thing_kind p x.object.thing) (resting_in k) (requested cs n)) (sym it.begins) own_now;
+      stack = ((it.gives, tt, ap is_cancel it.role), grind (arith, nat_tests, session, sits_now, requested_now, no_session));
+      fits = λ q. rw (plain_message (declared p cs) q) (fits_now (Connect_of client) es queue (λ k. refl) q);
+      own = rw it.begins own_now;
       others = λ z there other. suits_now z there;
       tidy = tidy_now;
       sits = sits_now;
       there = it.there;
       holder = houses_same p _ _ (ap thing_holder its_class.2 ∙ sym (ap (λ z. holder_by z (method_class p its_method.0)) it.role ∙ ap (λ k. holder_by (Some Accepts_role) k) it.class));
       plain = ap is_cancel it.role;
-      words = λ i. subst (λ xs. WordFits None (at Unset (map argument_kind xs) i)) (sym it.arguments) tt;
-      free = λ i. subst (λ xs. Fits p (seen cs) None (at Unset (map argument_kind xs) i)) (sym it.arguments) tt;
+      words = λ i. rw it.arguments tt;
+      free = λ i. rw it.arguments tt;
       fields = λ f. ap (λ z. at Perhaps (entry_fields z) f) it.role ∙ at_alike 8 Perhaps f;
     }
 
@@ -217,7 +216,7 @@ module _ (p : Image) (t : Typing) (wired : IsWired p) (typed : IsTyped p t) (s :
 
     pub its_session : (z : Object) × (held s.cells (Elsewhere (Session n client)) ≡ Some z) × (stands_for p z.thing (An_object_of its_class.1) ≡ true)
     its_session = own_held p (seen s.cells) (held s.cells (Elsewhere (Session n client))) (An_object_of its_class.1)
-        (subst (λ k. Fits p (seen s.cells) (held s.cells (Elsewhere (Session n client))) k) (ap (λ b. cond b (filled (session_thing p (named s.cells n)) Full) Null) has_now ∙ ap (λ y. filled (session_thing p y) Full) lives ∙ ap (λ y. filled y Full) session_now) (good.fits (Elsewhere (Session n client))))
+        (rw (ap (λ b. cond b (filled (session_thing p (named s.cells n)) Full) Null) has_now ∙ ap (λ y. filled (session_thing p y) Full) lives ∙ ap (λ y. filled y Full) session_now) at (good.fits (Elsewhere (Session n client))))
 
     pub session_is : its_session.0.thing ≡ An_object_of its_class.1
     session_is = stands_session p wired.family its_class.0 its_class.1 its_class.3 its_session.0.thing its_session.2
@@ -262,7 +261,7 @@ module _ (p : Image) (t : Typing) (wired : IsWired p) (typed : IsTyped p t) (s :
 
     its_message : (y : Object) × (held s.cells (Elsewhere (Queued n m)) ≡ Some y) × (stands_for p y.thing Message ≡ true)
     its_message = own_held p (seen s.cells) (held s.cells (Elsewhere (Queued n m))) Message
-        (subst (λ k. Fits p (seen s.cells) (held s.cells (Elsewhere (Queued n m))) k) (ap (λ b. cond b (filled (message_thing p (named s.cells n)) Full) Null) waits ∙ ap (λ y. filled (message_thing p y) Full) lives ∙ ap (λ y. filled y Full) message_now) (good.fits (Elsewhere (Queued n m))))
+        (rw (ap (λ b. cond b (filled (message_thing p (named s.cells n)) Full) Null) waits ∙ ap (λ y. filled (message_thing p y) Full) lives ∙ ap (λ y. filled y Full) message_now) at (good.fits (Elsewhere (Queued n m))))
 
     -- ---- the cells as it is served
 
@@ -277,35 +276,23 @@ module _ (p : Image) (t : Typing) (wired : IsWired p) (typed : IsTyped p t) (s :
 
     messages_other : (i j : ℕ) → ((n == i) && (m == j)) ≡ false → has_message (service_of cs i) j ≡ has_message (service_of s.cells i) j
     messages_other i j = by_server s.cells x.object lives taken_first (λ i v. ((n == i) && (m == j)) ≡ false → has_message v j ≡ has_message (service_of s.cells i) j)
-        (λ other. ap (λ q. list_any (λ e. is_message j e) (rest_of q)) queue ∙ sym (ap (λ q. list_any (λ e. is_message j e) q) queue ∙ ap (λ b. b || list_any (λ e. is_message j e) es) (sym (ap (λ b. b && (m == j)) (eq-eqb n n refl)) ∙ other)))
+        (λ other. ap (λ q. list_any (λ e. is_message j e) (rest_of q)) queue ∙ sym (grind (arith, nat_tests, eq-eqb)))
         (λ i other same. refl) i
 
     none_twice : has_message (service_of cs n) m ≡ false
     none_twice = grind (arith, nat_tests, service_here s.cells)
 
     base : (q : Place) → Fits p (seen served) (held cs q) (declared p s.cells q)
-    base q =
-        subst (λ y. Fits p (seen served) y (declared p s.cells q)) (sym (held_now q))
-        (fits_ready p (seen s.cells) (seen served) (held s.cells q) (declared p s.cells q) (declared_ready p s.cells q) (good.fits q))
+    base q = rw (held_now q) (fits_ready p (seen s.cells) (seen served) (held s.cells q) (declared p s.cells q) (declared_ready p s.cells q) (good.fits q))
 
     -- where it neither waited nor is served
     there_still : (q : Place) → held served q ≡ held cs q → declared p cs q ≡ declared p s.cells q → Fits p (seen served) (held served q) (declared p served q)
-    there_still q places kinds =
-        subst (λ y. Fits p (seen served) y (declared p served q)) (sym places)
-        (subst (λ k. Fits p (seen served) (held cs q) k) (sym (ap (λ d. d q) (declared_moved p cs (Elsewhere (Queued n m)) (Elsewhere In_service)) ∙ kinds)) (base q))
+    there_still q places kinds = rw places (rw (ap (λ d. d q) (declared_moved p cs (Elsewhere (Queued n m)) (Elsewhere In_service)) ∙ kinds) (base q))
 
     fits_served : (q : Place) → Fits p (seen served) (held served q) (with_message true (declared p served) q)
     fits_served (Field i f) = there_still (Field i f) (held_served_so (Field i f)) (ap (λ y. declared_field p y f) (named_now i))
-    fits_served (Elsewhere (Session i c)) = grind (
-      arith,
-      nat_tests,
-      there_still (Elsewhere (Session i c)) (held_served_so (Elsewhere (Session i c))),
-      held_served_so (Elsewhere (Session i c)),
-      sessions_now i c,
-      named_now i,
-    )
-    fits_served (Elsewhere In_service) =
-        subst (λ y. Fits p (seen served) y (Own Message Ready)) (sym (held_served_so (Elsewhere In_service) ∙ held_now (Elsewhere (Queued n m)) ∙ its_message.1)) (its_message.2, tt)
+    fits_served (Elsewhere (Session i c)) = grind (arith, nat_tests, there_still, held_served_so, sessions_now, named_now)
+    fits_served (Elsewhere In_service) = rw (held_served_so (Elsewhere In_service) ∙ held_now (Elsewhere (Queued n m)) ∙ its_message.1) (its_message.2, tt)
     fits_served (Elsewhere (Queued i j)) = go ((n == i) && (m == j)) refl
       where
         now : held served (Elsewhere (Queued i j)) ≡ cond ((n == i) && (m == j)) None (held cs (Elsewhere (Queued i j)))
@@ -334,7 +321,7 @@ module _ (p : Image) (t : Typing) (wired : IsWired p) (typed : IsTyped p t) (s :
     -- who sits stays
     sits_served : (xs : List Seat) → AllSit cs xs → AllSit served xs
     sits_served [] h = tt
-    sits_served (y ∷ ys) h = ((place y.place h.0.2 ∙ h.0.0, named_moved cs (Elsewhere (Queued n m)) (Elsewhere In_service) y.object.name ∙ h.0.1, h.0.2, h.0.3), sits_served ys h.1)
+    sits_served (y ∷ ys) h = ((place y.place h.0.2 ∙ h.0.0, grind (arith, nat_tests, named_moved), h.0.2, h.0.3), sits_served ys h.1)
       where
         unchanged : (q : Place) → SitsIn q ys → transfer (Elsewhere (Queued n m)) (Elsewhere In_service) (held cs) q ≡ held cs q
         unchanged q e = grind arith
@@ -343,7 +330,7 @@ module _ (p : Image) (t : Typing) (wired : IsWired p) (typed : IsTyped p t) (s :
         place q e = held_served_so q ∙ unchanged q e
 
     suits_served : (y : Object) → named served y.name ≡ Some y → Suits (thing_kind p y.thing) (resting_in (rests_in p y)) (requested served y.name)
-    suits_served y there = subst (λ k. Suits (thing_kind p y.thing) (resting_in (rests_in p y)) k) (sym (requested_served_so y.name)) (good.suits y (sym (named_served_so y.name) ∙ there))
+    suits_served y there = rw (requested_served_so y.name) (good.suits y (sym (named_served_so y.name) ∙ there))
 
     -- ---- its method enters
 
@@ -359,7 +346,7 @@ module _ (p : Image) (t : Typing) (wired : IsWired p) (typed : IsTyped p t) (s :
     seat = record { object = z; place = Elsewhere (Session n client) }
 
     sits_all : AllSit served (seat ∷ x ∷ above)
-    sits_all = ((held_served_so (Elsewhere (Session n client)) ∙ held_now (Elsewhere (Session n client)) ∙ session_there.1, named_served_so z.name ∙ z_lives, inl refl, sits.2 z z_lives (session_lower client has_now)), sits_served (x ∷ above) sits_now)
+    sits_all = ((grind (arith, nat_tests, held_served_so, held_now), named_served_so z.name ∙ z_lives, inl refl, sits.2 z z_lives (session_lower client has_now)), sits_served (x ∷ above) sits_now)
 
     abbrev words : List (Option ℤ)
     words = message_words cs m
@@ -393,12 +380,12 @@ module _ (p : Image) (t : Typing) (wired : IsWired p) (typed : IsTyped p t) (s :
       stack = ((service.gives, tt, ap is_cancel service.role), (refl, refl, sits_served (x ∷ above) sits_now, (ap is_some (requested_served_so n ∙ asked), above, refl), (server, has_served)));
       fits = fits_served;
       own = subst (λ y. Suits (thing_kind p y) (resting_in (before_of p its_service.0)) (requested served z.name)) (sym z_thing)
-          (suits_session p its_class.1 (before_of p its_service.0) (resting_in (rests_in p z)) (requested served z.name) service.session (subst (λ y. Suits (thing_kind p y) (resting_in (rests_in p z)) (requested served z.name)) z_thing (suits_served z (named_served_so z.name ∙ z_lives))));
+          (suits_session p its_class.1 (before_of p its_service.0) (resting_in (rests_in p z)) (requested served z.name) service.session (grind (arith, nat_tests, z_thing, suits_served, named_served_so, z_lives)));
       others = λ y there other. suits_served y there;
       tidy = tidy_moved cs (Elsewhere (Queued n m)) (Elsewhere In_service) free tidy_now;
       sits = sits_all;
       there = service.there;
-      holder = houses_same p _ _ (ap thing_holder z_thing ∙ sym (ap (λ y. holder_by y (method_class p its_service.0)) service.role ∙ ap (λ k. holder_by (Some Attends_role) k) service.class));
+      holder = houses_same p _ _ (ap thing_holder z_thing ∙ sym (grind (arith, nat_tests)));
       plain = ap is_cancel service.role;
       words = grind (arith, nat_tests, five_words);
       free = λ i. subst (λ xs. Fits p (seen served) None (at Unset (map argument_kind xs) i)) (sym service.arguments) (no_owner i);

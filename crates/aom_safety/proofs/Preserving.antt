@@ -1,27 +1,26 @@
 -- What it takes that each step keeps a law of tasks, and that it then does: once for all such laws, by the moves.
 use Rattle.std.proofs.lemmas.Bool.Decides.{nat_tests}
 use Rattle.aom_classes.proofs.Playing.{destroyed}
-use Rattle.std.proofs.Common.{arith, Bool, List, None, Option, Some, [], length, refl, subst, suc, sym, true, ℕ, ℤ, ◌-◌, ◌∷◌, ◌≡◌}
+use Rattle.std.proofs.Common.{arith, Bool, List, Option, Some, [], length, refl, subst, suc, sym, true, ℕ, ℤ, ◌-◌, ◌∷◌, ◌≡◌}
 use Rattle.aom_image.specs.Image.{Image}
-use Rattle.aom_image.specs.Views.{method_class, instr_at}
+use Rattle.aom_image.specs.Views.{instr_at}
 use Rattle.aom_instructions.specs.declared.instr.Instr.{Instr}
 use Rattle.aom_instructions.specs.declared.instr.Instr.TheVariants.{Call, Cancel, Next, Trap}
 use Rattle.aom_instructions.specs.declared.instr.Target.{Target}
 use Rattle.aom_image.specs.declared.method.Role.TheVariants.{Destruct, Error}
 use Rattle.aom_image.specs.declared.method.Gives.{Gives}
 use Rattle.aom_roles.specs.Tests.{AllTrue}
-use Rattle.aom_roles.specs.Families.{parent_by}
 use Rattle.aom_classes.specs.Jumps.{jump_of}
 use Rattle.aom_classes.specs.Loops.{loop_in}
 use Rattle.aom_safety.proofs.Moving.{steps_are_moves}
 use Rattle.aom_semantics.specs.Calls.{below_top, entered, received, returned}
 use Rattle.aom_semantics.specs.Cleanup.{code_told, has_trap, operation_frame, to_trap}
-use Rattle.aom_classes.specs.Roles.{role_of, destructor_of}
-use Rattle.aom_semantics.specs.Destruction.{destructor_frame, class_destructor, line_on, destructed, parting, begun, begun_by}
-use Rattle.aom_semantics.specs.Effects.{Calls, Cancels, Counts, Destroys, Destroys_last, Effect, Goes_on, Jumps, Leaves, Operates, Repeats, Returns, Sets_trap, applied, with_words}
+use Rattle.aom_classes.specs.Roles.{role_of}
+use Rattle.aom_semantics.specs.Destruction.{destructor_frame, line_on, destructed, parting, begun}
+use Rattle.aom_semantics.specs.Effects.{Cancels, Counts, Destroys, Destroys_last, Effect, Goes_on, Jumps, Leaves, Operates, Repeats, Returns, applied, with_words}
 use Rattle.aom_semantics.specs.Moves.{answered, asking, counted, dispatch_ends, error_frame, handled, main_ends, needs, object_ends, step}
 use Rattle.aom_semantics.specs.Places.{Elsewhere, Object, Root, held}
-use Rattle.aom_semantics.specs.State.{Static, AtRoot, Closing, Home, Of_server, Accepts, Accept_left, Serves, Parts, A_mark, An_operation, Choice, Destroy, Dispatch, Dispatched, Frame, Goes, Inside, Item, Answered, Asks, Object_left, Of_main, Of_object, Run, Seat, State, Task, Trapped, Unwind, counter, frame_as, frame_of, next, resumed, set_counter, to_place}
+use Rattle.aom_semantics.specs.State.{Home, Of_server, Accepts, Serves, Parts, A_mark, An_operation, Choice, Destroy, Dispatch, Dispatched, Frame, Goes, Inside, Item, Asks, Of_object, Run, Seat, State, Task, Trapped, Unwind, counter, frame_as, frame_of, next, resumed, set_counter, to_place}
 use Rattle.aom_safety.specs.Steps.{Empties, Acts, Arrives, Clears, Comes_out, Ends, Fits, IsStraight, Move, Rests, Sets, Undoes, Vanishes}
 use Rattle.aom_safety.specs.Tasks.{Below, Holds, TaskLaw}
 use Rattle.aom_semantics.specs.World.{heard_one, Heard, Environment, turn}
@@ -69,25 +68,11 @@ told x y code fr = grind arith
 module _ (p : Image) (l : TaskLaw)
     (destructs : (o : Object) (x m height : ℕ) (ts : List Task) → role_of p x Destruct ≡ Some m → l.Runs (destructor_frame p m o (length ts) height) (Destroy ∷ ts)) where
   destructed_holds : (o : Object) (height : ℕ) (ts : List Task) → Below l ts → Holds l (destructed p o height ts)
-  destructed_holds o height ts b = go (destructor_of p o.thing) refl
-    where
-      go : (d : Option ℕ) → destructor_of p o.thing ≡ d → Holds l (begun_by p d o height ts)
-      go None e = b
-      go (Some m) e = let w = destroyed p o.thing m e in (destructs o w.0 m height ts w.2, b)
+  destructed_holds o height ts b = grind (arith, nat_tests, destroyed, destructs)
 
   -- and the next of its line
   line_holds : (m : ℕ) (home : Home) (height : ℕ) (ts : List Task) → Below l ts → Holds l (line_on p m home height ts)
-  line_holds m Static height ts b = b
-  line_holds m AtRoot height ts b = b
-  line_holds m (Inside o from) height ts b = go (parent_by p (method_class p m))
-    where
-      of_role : (x : ℕ) (d : Option ℕ) → role_of p x Destruct ≡ d → Holds l (begun_by p d o height ts)
-      of_role x None e = b
-      of_role x (Some k) e = (destructs o x k height ts e, b)
-
-      go : (x : Option ℕ) → Holds l (begun_by p (class_destructor p x) o height ts)
-      go None = b
-      go (Some x) = of_role x (role_of p x Destruct) refl
+  line_holds y z w u b = grind (arith, nat_tests, destructs)
 
   begun_holds : (o : Object) (height : ℕ) (ts : List Task) → Below l ts → Holds l (begun p o height ts)
   begun_holds o height ts b = grind (arith, nat_tests, destructed_holds o height ts b)
@@ -98,8 +83,7 @@ module _ (p : Image) (c : Choice) (l : TaskLaw) (s : State) (k : Kept p c l s) w
 
   -- a server that goes has a session go first, or its destructor begins
   empties : (o : Object) (x : Option Seat) (ts : List Task) (v : State) → Below l ts → Holds l (parting p o x ts v).tasks
-  empties o None ts v b = destructed_holds p l k.destructs o (length v.items) ts b
-  empties o (Some x) ts v b = begins_over x.object (length v.items) (Closing ∷ Destroy ∷ ts) b
+  empties o x ts v b = grind (arith, nat_tests, destructed_holds, begins_over)
 
   -- what waited goes on
   resumes_all : (ts : List Task) → Below l ts → Holds l (resumed ts)
@@ -110,20 +94,13 @@ module _ (p : Image) (c : Choice) (l : TaskLaw) (s : State) (k : Kept p c l s) w
   -- a leave comes to its trap
   lands : (code : ℤ) (ts : List Task) → has_trap ts ≡ true → Below l ts → Holds l (Unwind code ∷ to_trap ts)
   lands code (Run fr ∷ ts) e b = lands code ts e b.1
-  lands code (Trapped ∷ ts) e b = (k.unwinds code ts b.0, b)
-  lands code _ e b = cc
+  lands code x e b = grind arith
 
   resumes_with : (fr fr' : Frame) (ts : List Task) → fr' ≡ with_words fr fr'.words → Below l (Run fr ∷ ts) → Holds l (Run (next fr') ∷ ts)
   resumes_with fr fr' ts e b = (subst (λ x. l.Runs (next x) ts) (sym e) (k.resumes fr ts b.0 fr'.words), b.1)
 
   returns : (fr : Frame) (ts : List Task) (v : State) (g : Gives) (a : ℕ) (below : List Task) → Holds l v.tasks → Below l below → Holds l (returned p fr ts v g a below).tasks
-  returns fr ts v g a (Run caller ∷ below) h b = grind (arith, nat_tests, resumes_with caller, receives p fr ts v g a)
-  returns fr ts v g a (Trapped ∷ Run caller ∷ below) h b = grind (arith, nat_tests, resumes_with caller, receives p fr ts v g a)
-  returns fr ts v g a (Trapped ∷ Dispatched d ∷ below) h b = b.1
-  returns fr ts v g a (Destroy ∷ below) h b = line_holds p l k.destructs fr.method fr.home fr.height below b
-  returns fr ts v g a (Unwind code ∷ below) h b = b
-  returns fr ts v g a (Dispatched d ∷ below) h b = b
-  returns fr ts v g a _ h b = h
+  returns fr ts v g a x h b = grind (arith, nat_tests, resumes_with, receives, line_holds)
 
   closes : (v : State) (b : Bool) (root : Option Object) → Holds l (main_ends p b root v).tasks
   closes v x root = grind (arith, nat_tests, begins_over)
@@ -138,13 +115,7 @@ module _ (p : Image) (c : Choice) (l : TaskLaw) (s : State) (k : Kept p c l s) w
   asks_it x code y e = grind (arith, nat_tests, answers code)
 
   ends : (d : Dispatch) → Holds l (dispatch_ends p d (counted p s)).tasks
-  ends Of_main = closes (counted p s) s.rest.stopped (held s.cells (Elsewhere Root))
-  ends (Of_object x) = object_closes
-  ends (Object_left x code) = asks_it x code (part_of p Error x.object.thing) refl
-  ends (Asks x) = object_closes
-  ends (Answered x answer) = answers answer
-  ends (Of_server x client (Accept_left code)) = tt
-  ends _ = tt
+  ends x = grind (arith, nat_tests, closes, object_closes, asks_it, answers)
 
   module _ (fr : Frame) (ts : List Task) (at_hand : s.tasks ≡ Run fr ∷ ts) (h : Holds l (Run fr ∷ ts)) where
     acting : (i : Instr) → instr_at p fr.method fr.place ≡ Some i → AllTrue (needs p c fr ts (counted p s) i) → Acting p c l s fr ts i
@@ -159,20 +130,17 @@ module _ (p : Image) (c : Choice) (l : TaskLaw) (s : State) (k : Kept p c l s) w
     acts i (Jumps to) a f = (k.jumps fr ts i a to f, h.1)
     acts i (Counts d n) a f = (k.counts fr ts i a d n f, h.1)
     acts i (Repeats d n to) a f = (grind (arith, nat_tests, another i), h.1)
-    acts i (Calls target m first) a f = grind (arith, nat_tests, another i)
     acts i (Cancels m) a f = (k.cancels fr ts m (another i _ f.0 a) f.1, (k.waits fr ts _ (another i _ f.0 a) refl fr.words, h.1))
-    acts i (Sets_trap target m first) a f = grind (arith, nat_tests, another i)
     acts i (Returns g x) a f = grind (arith, nat_tests, returns fr ts)
     acts i (Leaves code u) a f = lands code ts f.0 h.1
     acts i (Destroys o x words) a f = begins_over o (length s.items) (Run (with_words fr words) ∷ ts) (k.waits fr ts _ (another i _ f.0 a) refl words, h.1)
     acts i (Destroys_last o) a f = begins_over o (length (below_top s.items)) (Run fr ∷ ts) (k.waits fr ts _ (another i _ f.0 a) refl fr.words, h.1)
     acts i (Operates m w) a f = (k.undoes m w (below_top s.items) (Run fr ∷ ts) f.1, (k.waits fr ts _ (another i _ f.0 a) refl fr.words, h.1))
+    acts i _ a f = grind (arith, nat_tests, another i)
 
   kept : (u : State) → Holds l s.tasks → Move p c s u → Holds l u.tasks
   kept u h (Rests still e) = subst (λ v. Holds l v.tasks) (sym e) h
-  kept u h (Acts fr ts i e at there met fits same) =
-      let h' = subst (λ ts. Holds l ts) at h in
-      subst (λ v. Holds l v.tasks) (sym same) (acts fr ts at h' i e (acting fr ts at h' i there met) fits)
+  kept u h (Acts fr ts i e at there met fits same) = grind (arith, nat_tests, acts, acting, there, met)
   kept u h (Vanishes ts o at there owns same) = subst (λ v. Holds l v.tasks) (sym same) (resumes_all ts (subst (λ ts. Holds l ts) at h))
   kept u h (Empties ts o at there same) = grind (arith, nat_tests, empties o)
   kept u h (Clears code ts items o at top there same) = grind (arith, nat_tests, begins_over o)
@@ -198,8 +166,8 @@ turn_keeps_it p outside heard l s u runs stands destructs h e = elim (turns_so p
   | obeys client command name ↦ subst (λ ts. Holds l ts) (sym (commanded_kept p client (heard_one s) command name).1) h
   | picks x v d ↦ elim d as (λ v d. Holds l v.tasks) [
     | handles m at ↦ (runs m (length (A_mark ∷ s.items)) (Inside x.object x.place) [] (Of_object x), (stands (Of_object x), tt))
-    | accepts client m at ↦ (runs m (length (A_mark ∷ s.items)) (Inside x.object x.place) [] (Of_server x client Accepts), (stands (Of_server x client Accepts), tt))
-    | attends client message m o there at ↦ (runs m (length (A_mark ∷ s.items)) _ _ (Of_server x client (Serves o)), (stands (Of_server x client (Serves o)), tt))
+    | accepts client m at ↦ (grind (arith, nat_tests, runs), (stands (Of_server x client Accepts), tt))
+    | attends client message m o there at ↦ (grind (arith, nat_tests, runs), (stands (Of_server x client (Serves o)), tt))
     | parts client o there ↦ begun_holds p l destructs o (length s.items) (Dispatched (Of_server x client Parts) ∷ []) tt
   ]
 ]

@@ -2,11 +2,10 @@
 use Rattle.std.proofs.lemmas.Bool.Decides.{nat_tests}
 use Rattle.aom_roles.proofs.Descending.{itself}
 use Rattle.std.proofs.lemmas.Option.{same_Some}
-use Rattle.std.proofs.Common.{arith, List, Some, [], ap, false, refl, subst, sym, true, ℕ, ℤ, ◌∙◌, ◌∷◌, ◌≡◌}
+use Rattle.std.proofs.Common.{arith, List, Some, [], false, refl, subst, sym, true, ℕ, ℤ, ◌∙◌, ◌∷◌, ◌≡◌}
 use Rattle.std.proofs.lemmas.Bool.{true≢false, false_from_ne_true}
-use Rattle.std.specs.Prelude.{not}
 use Rattle.aom_image.specs.Image.{Image}
-use Rattle.aom_image.specs.Views.{is_quiet, method_class}
+use Rattle.aom_image.specs.Views.{is_quiet}
 use Rattle.aom_instructions.specs.declared.instr.Instr.{Instr}
 use Rattle.aom_instructions.specs.declared.instr.Instr.TheVariants.{Call, Trap}
 use Rattle.aom_instructions.specs.declared.instr.Target.{Target}
@@ -22,8 +21,7 @@ use Rattle.aom_safety.proofs.Owners.{owned}
 use Rattle.aom_safety.proofs.Preserving.{Acting, Kept, keeps, turn_keeps_it}
 use Rattle.aom_safety.specs.Claims.{Layer, tasks_of}
 use Rattle.aom_safety.specs.Laws.{IsWired}
-use Rattle.aom_semantics.specs.Calls.{target_view}
-use Rattle.aom_semantics.specs.Moves.{counted, step}
+use Rattle.aom_semantics.specs.Moves.{step}
 use Rattle.aom_semantics.specs.Owned.{NoneGoes}
 use Rattle.aom_semantics.specs.Places.{Cell}
 use Rattle.aom_safety.specs.Quiet.{CalmKeeps, CaughtOwned, IsCalm, calm, is_clearing}
@@ -53,7 +51,7 @@ module _ (p : Image) (t : Typing) (wired : IsWired p) (typed : IsTyped p t) (c :
 
   -- no quiet method sets a trap
   not_clearing : (fr : Frame) (ts : List Task) (target : Target) (m first x : ℕ) → Acting p c (calm p) s fr ts (Trap target m first x) → is_clearing ts ≡ false
-  not_clearing fr ts target m first x a = false_from_ne_true (is_clearing ts) (λ e. true≢false (sym (ruled fr ts (Trap target m first x) a).1.0 ∙ ap not (a.runs e)))
+  not_clearing fr ts target m first x a = grind (arith, nat_tests, false_from_ne_true, ruled fr ts (Trap target m first x) a)
 
   undo_quiet : (m : ℕ) (x : ℤ) (items : List Item) → s.items ≡ An_operation m x ∷ items → is_quiet p m ≡ true
   undo_quiet m x items e = (subst (λ is. AllUndo p is) e w.undos).0.quiet
@@ -66,7 +64,7 @@ module _ (p : Image) (t : Typing) (wired : IsWired p) (typed : IsTyped p t) (c :
     repeats = λ fr ts d to k a f. a.runs;
     waits = λ fr ts i a f words. a.runs;
     resumes = λ fr ts h words. h;
-    calls = λ fr ts target m first x a clearing. body_quiet p wired.overriders m (target_view p fr ts (counted p s) target (method_class p m)) (calls_quiet fr ts target m first x a clearing);
+    calls = grind (arith, nat_tests, body_quiet, calls_quiet);
     traps = λ fr ts target m first x a. let clear = not_clearing fr ts target m first x a in (λ clearing. absurd (true≢false (sym clearing ∙ clear)), clear);
     cancels = λ fr ts m a e clearing. cancel_quiet p wired fr m e;
     destructs = λ o x m height ts e clearing. (destroys_by p wired x x m (itself p x) e).quiet;

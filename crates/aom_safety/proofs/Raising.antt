@@ -1,6 +1,6 @@
 -- A construct that calls its parent's on its own object finds no field of the parent's filled, by what its state says of them.
 use Rattle.std.proofs.lemmas.Bool.Decides.{nat_tests}
-use Rattle.std.proofs.Common.{Bool, List, None, Option, Some, ap, arith, false, length, refl, subst, suc, sym, true, zero, ℕ, ◌∙◌, ◌∷◌, ◌≡◌, ◌≤◌}
+use Rattle.std.proofs.Common.{Bool, List, None, Option, Some, ap, arith, length, refl, subst, suc, sym, true, zero, ℕ, ◌∙◌, ◌∷◌, ◌≡◌, ◌≤◌}
 use Rattle.std.proofs.lemmas.Bool.{and_from, and_parts, eqb-true}
 use Rattle.std.proofs.lemmas.Option.{slice_get-get_or}
 use Rattle.std.specs.Prelude.{get_or, is_none, is_some}
@@ -80,8 +80,7 @@ module _ (p : Image) (t : Typing) (wired : IsWired p) (s : State) (fr : Frame) (
       of (Some y) class empty = over y class (parent_of p y) refl empty
 
   pub parents_met : (m : ℕ) (b : Bool) → AllTrue (above_needs p fr.method m b sh.fields) → only_if b (none_filled s.cells fr.home (fields_above p (parent_above p fr.method))) ≡ true
-  parents_met m true n = parents_null n.1.0
-  parents_met m false n = refl
+  parents_met m x n = grind (arith, nat_tests, parents_null)
 
   -- and what the called construct finds of the fields of its class, which are the parent's
   module _ (m : ℕ) (role : method_role p m ≡ Some Construct) (cs : List Cell) (sh' : Shape) (same : sh'.fields ≡ sh.fields)

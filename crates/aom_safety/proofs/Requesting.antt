@@ -217,7 +217,7 @@ module _ (p : Image) (t : Typing) (main_none : (m : ℕ) → method_role p m ≡
       let here : requested (rerequested s.cells fr.home r) it.object.name ≡ r =
       subst (λ h. requested (rerequested s.cells h r) it.object.name ≡ r) (sym it.home) (requested_here s.cells it.object.name r it.object it.lives) in
       restated p t s.cells (rerequested s.cells fr.home r) fr sh ls it.object it.from states it.home it.lives (rerequested_alike s.cells fr.home r) (listed_still s.cells fr.home r more) others (nowhere_fresh it)
-      (subst (λ k. Suits k (its listed states) (requested (rerequested s.cells fr.home r) it.object.name)) (sym it.kind) (subst (λ x. Suits (own_kind p fr.method) (its listed states) x) (sym here) suit))
+      (subst (λ k. Suits k (its listed states) (requested (rerequested s.cells fr.home r) it.object.name)) (sym it.kind) (grind (arith, nat_tests)))
       (fitted p t s.cells fr sh ls at_hand.good)
 
   -- it is known to be in fewer states
@@ -226,7 +226,7 @@ module _ (p : Image) (t : Typing) (main_none : (m : ℕ) → method_role p m ≡
       let it = of_object listed in
       let suit = suits_within (own_kind p fr.method) states (its listed sh.states) own listed h it.suits in
       restated p t s.cells s.cells fr sh ls it.object it.from states it.home it.lives (alike_itself s.cells) (λ m some. some) (λ m other. refl) (nowhere_fresh it)
-      (subst (λ k. Suits k (its listed states) (requested s.cells it.object.name)) (sym it.kind) (subst (λ h. Suits (own_kind p fr.method) (its listed states) (own_request s.cells h)) it.home suit))
+      (subst (λ k. Suits k (its listed states) (requested s.cells it.object.name)) (sym it.kind) (grind (arith, nat_tests)))
       (fitted p t s.cells fr sh ls at_hand.good)
 
   pub law_status : (a : ℕ) → Law p t c s fr sh ls at_hand (Status a)
@@ -255,14 +255,14 @@ module _ (p : Image) (t : Typing) (main_none : (m : ℕ) → method_role p m ≡
           let sh' : Shape = record sh { states = bit_and sh.states x } in
           let goes_on = narrowed_leads t fr.method place x sh (some_left listed x h) l in
           well p t c s fr sh ls at_hand _ fr' sh' refl at_hand.items at_hand.undos
-          (settle p t s.cells fr' sh' ls (reframed p t s.cells fr fr' sh' ls eh em eg ew (learned listed (bit_and sh.states x) (within listed x h))) (subst (λ m. Leads t m fr'.place sh') (sym em) (subst (λ q. Leads t fr.method q sh') (sym ep) goes_on)))
+          (settle p t s.cells fr' sh' ls (reframed p t s.cells fr fr' sh' ls eh em eg ew (learned listed (bit_and sh.states x) (within listed x h))) (rw em (rw ep goes_on)))
 
       go : (x : Bool) → b ≡ x → WellTyped p t (applied p fr (tasks_of ls) s (jumps_if fr x to))
       go true e = goes (to_place fr to) to there refl refl refl refl refl (if_there e) parts.1
       go false e = goes (next fr) (suc fr.place) here refl refl refl refl refl (if_here e) parts.0
 
   pub law_jump_active : (to : ℕ) → Law p t c s fr sh ls at_hand (JumpActive to)
-  law_jump_active to n leads = ((active_home n.0, tt), goes_by (active_listed (own_kind p fr.method) n.0) outstanding inactive to (in_phase is_busy own) (busy_in own) (free_in own) leads)
+  law_jump_active to n leads = search (arith, nat_tests, active_home n.0, goes_by, active_listed, busy_in, free_in)
 
   pub law_jump_added : (to : ℕ) → Law p t c s fr sh ls at_hand (JumpAdded to)
   law_jump_added to n leads = ((listed_home n.0, tt), goes_by n.0 enlisted unlisted to (is_some own) (listed_in own) (unlisted_in own) leads)
@@ -282,7 +282,7 @@ module _ (p : Image) (t : Typing) (main_none : (m : ℕ) → method_role p m ≡
   law_enlist priority n leads =
       let it = of_object n.0 in
       let none = only_unlisted own (in_state n.0 unlisted n.1.0) in
-      let suit = suits_enlisted (own_kind p fr.method) (its n.0 sh.states) s.cells priority n.0 (subst (λ r. Suits (own_kind p fr.method) (its n.0 sh.states) r) none it.suits) in
+      let suit = suits_enlisted (own_kind p fr.method) (its n.0 sh.states) s.cells priority n.0 (rw none at it.suits) in
       ((listed_home n.0, (ap is_none none, tt)), asks n.0 idle (Some (first_request s.cells priority)) (λ some. refl) suit leads.0)
 
   pub law_issue : (a b : ℕ) → Law p t c s fr sh ls at_hand (Issue a b)
@@ -294,8 +294,8 @@ module _ (p : Image) (t : Typing) (main_none : (m : ℕ) → method_role p m ≡
       let code = read fr (tasks_of ls) s a in
       let asking = asking_with p c fr (tasks_of ls) s in
       let suit = subst (λ k. Suits (own_kind p fr.method) (its listed issued) (on_request (issued_of k asking code) own)) (sym (home_is_own listed)) (suits_issued (own_kind p fr.method) (its listed sh.states) asking code own active free.1 it.suits) in (
-        (has_word p t c s fr sh ls at_hand a n.0, (has_word p t c s fr sh ls at_hand b n.1.0, (ap is_issuing_kind (home_is_own listed) ∙ n.1.1.0, (free.0, (free.1, tt))))),
-        asks listed issued (on_request (issued_of (home_kind p fr.home) asking code) own) (on_some (issued_of (home_kind p fr.home) asking code) own) suit leads.0,
+        (has_word p t c s fr sh ls at_hand a n.0, (has_word p t c s fr sh ls at_hand b n.1.0, grind (arith, nat_tests, home_is_own))),
+        grind (arith, nat_tests, asks, on_some),
       )
 
   pub law_set_active : Law p t c s fr sh ls at_hand SetActive

@@ -5,7 +5,7 @@ use Rattle.std.specs.Prelude.{◌⊎◌}
 use Rattle.aom_image.specs.Image.{Image}
 use Rattle.aom_image.specs.declared.method.Gives.{Gives}
 use Rattle.aom_semantics.specs.Calls.{returned}
-use Rattle.aom_semantics.specs.Effects.{Course, Effect, Goes_its_way, Goes_on, Returns, applied, coursed}
+use Rattle.aom_semantics.specs.Effects.{Course, Effect, Goes_its_way, Goes_on, applied, coursed}
 use Rattle.aom_semantics.specs.Moves.{counted, dispatch_ends}
 use Rattle.aom_semantics.specs.State.{Seat, Choice, Dispatch, Dispatched, Frame, Counters, State, Task}
 use Rattle.aom_safety.specs.Steps.{Empties, Acts, Arrives, Clears, Comes_out, Ends, Move, Rests, Undoes, Vanishes}
@@ -27,8 +27,7 @@ module _ (p : Image) (fr : Frame) (ts : List Task) (s : State) where
 
   applied_rest : (e : Effect) → (x : Course) × ((applied p fr ts s e).rest ≡ coursed x s.rest)
   applied_rest (Goes_on ch) = (ch.course, refl)
-  applied_rest (Returns g a) = (Goes_its_way, returned_rest g a ts)
-  applied_rest _ = (Goes_its_way, refl)
+  applied_rest x = grind (arith, nat_tests, returned_rest)
 
 parting_rest : (p : Image) (o : Object) (x : Option Seat) (below : List Task) (s : State) → (parting p o x below s).rest ≡ s.rest
 parting_rest p o x below s = grind arith

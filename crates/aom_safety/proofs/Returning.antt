@@ -27,7 +27,7 @@ use Rattle.aom_semantics.proofs.Maps.{held_moved, requested_moved, same_place-tr
 use Rattle.aom_safety.proofs.Straight.{At, Fitted, Law, claim_register, fits_unowning, housed_relocated, next_unowning, no_word_fits, register_fits, settle, stepped, top, word_of_object, words_set, write, may_be_object}
 use Rattle.aom_safety.proofs.Widening.{hold_widens, own_widens, own_widens_more, retaken}
 use Rattle.aom_semantics.specs.Calls.{needs_ended, below_top, received, result_cells, result_needs, result_register, returned, told_answer}
-use Rattle.aom_safety.specs.Claims.{delivered, home_claim, root_claim, serves, Dispatching, Layer, Mark, Mark_form, Method, Unwinding, claim, declared, forms, items_of, objects, tasks_of}
+use Rattle.aom_safety.specs.Claims.{home_claim, root_claim, serves, Dispatching, Layer, Mark, Mark_form, Method, Unwinding, claim, declared, forms, items_of, objects, tasks_of}
 use Rattle.aom_semantics.specs.Objects.{is_thing}
 use Rattle.aom_semantics.specs.Places.{In_service, Session, Queued, Cell, Entry, Object, Place, Sight, changed, held, moved, requested, same_place, seen, Elsewhere, Field, Going, Register, Root}
 use Rattle.aom_semantics.specs.State.{Of_server, Serves, Static, AtRoot, Home, Dispatched, Answered, Asks, Choice, Dispatch, Frame, Inside, Of_main, Of_object, Run, Seat, State, next, set_word, word}
@@ -42,7 +42,6 @@ use Rattle.aom_semantics.specs.Moves.{does, needs}
 use Rattle.aom_safety.specs.Laws.{IsWired}
 use Rattle.aom_semantics.specs.Enlisted.{ended_cells}
 use Rattle.aom_shape.specs.declared.kind.Delivery.TheVariants.{Here}
-use Rattle.aom_image.specs.declared.method.Thing.TheVariants.{Message}
 use Rattle.aom_roles.specs.Roles.{is_cancel}
 use Rattle.aom_roles.specs.Tests.{AllTrue}
 use Rattle.aom_rules.specs.Rules.{rule_needs}
@@ -57,8 +56,7 @@ module _ (p : Image) (t : Typing) (c : Choice) (s : State) (fr fr2 : Frame) (sh 
   -- with no result in cells
   pub plain : no_entry sh.entries ≡ true → none_owns sh.registers ≡ true → Fitted p t s.cells fr2 sh2 ls
   plain e n = let g = at_hand.good in record {
-    fits = λ r. subst (λ k. Fits p (seen s.cells) (held s.cells r) k) (same_claims (declared p s.cells) r)
-        (ended p s.cells fr sh below g.stack.1.holder g.stack.1.view g.stack.2 g.stack.3 at_top e n (λ serving. absurd (unserving serving)) r (seen s.cells) (held s.cells r) (g.fits r));
+    fits = λ r. rw (same_claims (declared p s.cells) r) at (ended p s.cells fr sh below g.stack.1.holder g.stack.1.view g.stack.2 g.stack.3 at_top e n (λ serving. absurd (unserving serving)) r (seen s.cells) (held s.cells r) (g.fits r));
     suits = suits;
     tidy = g.tidy;
     frames = caller.1;
@@ -70,7 +68,7 @@ module _ (p : Image) (t : Typing) (c : Choice) (s : State) (fr fr2 : Frame) (sh 
   -- the object that is left is the caller's last entry
   pub pushed : (x : ℕ) → below ≡ Method fr2 sh2 ∷ ls → leaves_one p x sh.entries ≡ true → none_owns sh.registers ≡ true → Fitted p t s.cells fr2 (with_entry (Pushed_object x Ready) sh2) ls
   pushed x over e n = record {
-    fits = λ r. subst (λ k. Fits p (seen s.cells) (held s.cells r) k) (sym (claim_push p (declared p s.cells) fr2 sh2 ls entry r)) (go r (same_place spot r) refl);
+    fits = λ r. rw (claim_push p (declared p s.cells) fr2 sh2 ls entry r) (go r (same_place spot r) refl);
     suits = suits;
     tidy = at_hand.good.tidy;
     frames = record { words = caller.1.words; holder = caller.1.holder; view = caller.1.view; height = caller.1.height; alone = caller.1.alone; message = caller.1.message };
@@ -99,11 +97,9 @@ module _ (p : Image) (t : Typing) (c : Choice) (s : State) (fr fr2 : Frame) (sh 
           ∙ ap (λ b. cond b (entry_kind itself) (claim p (declared p s.cells) (Method fr bare ∷ below) r)) (ap (λ l. same_place (Entry (length (items_of l))) r) over ∙ f)
 
       go : (r : Place) (b : Bool) → same_place spot r ≡ b → Fits p (seen s.cells) (held s.cells r) (cond b (entry_kind entry) (claim p (declared p s.cells) (Method fr2 sh2 ∷ ls) r))
-      go r true f =
-          subst (λ y. Fits p (seen s.cells) (held s.cells y) (entry_kind entry)) (ap (λ l. Entry (length (items_of l))) over ∙ same_place-true spot r f) (left_held p t c s fr sh below at_hand x e)
-      go r false f = subst (λ k. Fits p (seen s.cells) (held s.cells r) k) (same_claims (declared p s.cells) r)
-          (ended p s.cells fr bare below at_hand.good.stack.1.holder at_hand.good.stack.1.view at_hand.good.stack.2 at_hand.good.stack.3 at_top refl n (λ serving. absurd (unserving serving)) r (seen s.cells) (held s.cells r)
-          (subst (λ k. Fits p (seen s.cells) (held s.cells r) k) (without r f) (at_hand.good.fits r)))
+      go r true f = rw (ap (λ l. Entry (length (items_of l))) over ∙ same_place-true spot r f) at (left_held p t c s fr sh below at_hand x e)
+      go r false f = rw (same_claims (declared p s.cells) r) at (ended p s.cells fr bare below at_hand.good.stack.1.holder at_hand.good.stack.1.view at_hand.good.stack.2 at_hand.good.stack.3 at_top refl n (λ serving. absurd (unserving serving)) r (seen s.cells) (held s.cells r)
+          (rw (without r f) at (at_hand.good.fits r)))
 
   -- the result goes to its register
   pub carried :
@@ -146,9 +142,7 @@ module _ (p : Image) (t : Typing) (c : Choice) (s : State) (fr fr2 : Frame) (sh 
       cs' = moved q to s.cells
 
       caller_fits : Fits p (seen s.cells) (held s.cells (top ls x)) (register sh2 x)
-      caller_fits = subst (λ k. Fits p (seen s.cells) (held s.cells (top ls x)) k)
-          (ap (λ b. cond b (register sh x) (claim p d below (top ls x))) (ne_eqb (length (tasks_of below)) (length (tasks_of ls)) (λ e. absurd (omega arith))) ∙ same_claims d (top ls x) ∙ claim_register p d fr2 sh2 ls x)
-          (at_hand.good.fits (top ls x))
+      caller_fits = rw (ap (λ b. cond b (register sh x) (claim p d below (top ls x))) (ne_eqb (length (tasks_of below)) (length (tasks_of ls)) (λ e. absurd (omega arith))) ∙ same_claims d (top ls x) ∙ claim_register p d fr2 sh2 ls x) at (at_hand.good.fits (top ls x))
 
       fits_aside : (r : Place) → Fits p (seen s.cells) (held s.cells r) (changed (claim p (declared p s.cells) (Method fr2 sh2 ∷ ls)) q k r)
       fits_aside r = go (same_place q r) refl
@@ -156,9 +150,8 @@ module _ (p : Image) (t : Typing) (c : Choice) (s : State) (fr fr2 : Frame) (sh 
           go : (b : Bool) → same_place q r ≡ b → Fits p (seen s.cells) (held s.cells r) (cond b k (claim p (declared p s.cells) (Method fr2 sh2 ∷ ls) r))
           go true e = subst (λ y. Fits p (seen s.cells) (held s.cells y) k) (same_place-true q r e) (register_fits p s.cells fr sh below at_hand.good.fits a)
           go false f =
-              subst (λ k. Fits p (seen s.cells) (held s.cells r) k) (same_claims (declared p s.cells) r)
-              (ended p s.cells fr (set_register sh a Null) below at_hand.good.stack.1.holder at_hand.good.stack.1.view at_hand.good.stack.2 at_hand.good.stack.3 at_top e n (λ serving. absurd (unserving serving)) r (seen s.cells) (held s.cells r)
-              (subst (λ k. Fits p (seen s.cells) (held s.cells r) k) (sym (claim-set_register p (declared p s.cells) fr sh below a Null r ∙ ap (λ b. cond b Null (claim p (declared p s.cells) (Method fr sh ∷ below) r)) f)) (at_hand.good.fits r)))
+              rw (same_claims (declared p s.cells) r) at (ended p s.cells fr (set_register sh a Null) below at_hand.good.stack.1.holder at_hand.good.stack.1.view at_hand.good.stack.2 at_hand.good.stack.3 at_top e n (λ serving. absurd (unserving serving)) r (seen s.cells) (held s.cells r)
+              (rw (claim-set_register p (declared p s.cells) fr sh below a Null r ∙ ap (λ b. cond b Null (claim p (declared p s.cells) (Method fr sh ∷ below) r)) f) (at_hand.good.fits r)))
 
       same :
           (r : Place) →
@@ -211,7 +204,7 @@ module _ (p : Image) (t : Typing) (wired : IsWired p) (c : Choice) (s : State) (
 
       finish : (cs : List Cell) (fr' : Frame) (sh' : Shape) → fr'.method ≡ fr2.method → fr'.place ≡ fr2.place → forms s.items ≡ objects sh'.entries (items_of ls) → Fitted p t cs fr' sh' ls → Leads t fr2.method (suc fr2.place) sh' → WellTyped p t (record s { cells = cs; tasks = Run (next fr') ∷ tasks_of ls })
       finish cs fr' sh' em ep items f leads =
-          let g = settle p t cs (next fr') sh' ls (stepped p t cs fr' sh' ls f) (subst (λ m. Leads t m (suc fr'.place) sh') (sym em) (subst (λ l. Leads t fr2.method (suc l) sh') (sym ep) leads)) in
+          let g = settle p t cs (next fr') sh' ls (stepped p t cs fr' sh' ls f) (grind (arith, nat_tests)) in
           record { layers = Method (next fr') g.0 ∷ ls; tasks = refl; items = items ∙ ap (λ es. objects es (items_of ls)) (sym g.2); undos = at_hand.undos; good = g.1 }
 
       Goal : Gives → Type 0
@@ -227,13 +220,13 @@ module _ (p : Image) (t : Typing) (wired : IsWired p) (c : Choice) (s : State) (
       go still (An_own y) r e n w leads =
           let k = own_widens p y (register sh a) r.0 r.1.0 in
           let f = carried p t c s fr fr2 sh sh2 ls below at_hand (Returns fr.method fr.home) at_hand.good.stack.4 (λ d r. refl) (omega arith) refl (suits still) at_hand.good.stack.1.message.0 a x e n w k.object in
-          let h = held_thing p s y (held s.cells (top below a)) (k.fits (seen s.cells) (held s.cells (top below a)) (register_fits p s.cells fr sh below at_hand.good.fits a)) in
+          let h = held_thing p s y (held s.cells (top below a)) (grind (arith, nat_tests, top, register_fits)) in
           ((ap is_none (word_of_object (word fr a) (register sh a) k.object (at_hand.good.stack.1.words a)), (h.0, (h.1, tt))), finish (moved (top below a) (top ls x) s.cells) (set_word fr2 x None) (set_register sh2 x (Own y Ready)) refl refl (items e) (retaken p t (moved (top below a) (top ls x) s.cells) (set_word fr2 x None) sh2 ls x (register sh a) (Own y Ready) k f) leads)
       go still (A_maybe y) r e n w leads =
           let obj : is_object_or_null (register sh a) ≡ true = object_of p s y (register sh a) r.0 in
           let f = carried p t c s fr fr2 sh sh2 ls below at_hand (Returns fr.method fr.home) at_hand.good.stack.4 (λ d r. refl) (omega arith) refl (suits still) at_hand.good.stack.1.message.0 a x e n w obj in
           let weak = hold_widens p y (register sh a) r.0 r.1.0 in
-          let h = held_maybe p s y (held s.cells (top below a)) (weak.fits (seen s.cells) (held s.cells (top below a)) (register_fits p s.cells fr sh below at_hand.good.fits a)) in
+          let h = held_maybe p s y (held s.cells (top below a)) (grind (arith, nat_tests, top, register_fits)) in
           ((ap is_none (word_of_object (word fr a) (register sh a) obj (at_hand.good.stack.1.words a)), (h, tt)), finish (moved (top below a) (top ls x) s.cells) (set_word fr2 x None) (set_register sh2 x (Maybe y Ready)) refl refl (items e) (retaken p t (moved (top below a) (top ls x) s.cells) (set_word fr2 x None) sh2 ls x (register sh a) (Maybe y Ready) weak f) leads)
       go still (Left y) r e n w leads = (tt, finish s.cells fr2 (with_entry (Pushed_object y Ready) sh2) refl refl (at_hand.items ∙ ap (λ es. objects es (items_of below)) (left_alone p y sh.entries e).alone) (pushed p t c s fr fr2 sh sh2 ls below at_hand (Returns fr.method fr.home) at_hand.good.stack.4 (λ d r. refl) (omega arith) refl (suits still) at_hand.good.stack.1.message.0 y refl e n) leads)
 
@@ -269,9 +262,9 @@ module _ (p : Image) (t : Typing) (wired : IsWired p) (c : Choice) (s : State) (
       let e = catches.0 in
       let r = returnable p fr sh a n in
       let w =
-      go (gives_of p fr.method) (subst (λ g. LeavesNone g) (sym e) catches.1) r.result r.entries r.free caller.0.1 (subst (λ g. Awaits g x sh2) (sym e) caller.0.2)
-      (subst (λ g. Leads t fr2.method (suc fr2.place) (caught g x sh2)) (sym e) caller.0.3) in
-      let mark = mark_on_top s.items _ (same_items p t c s fr sh marked at_hand (entries_none (gives_of p fr.method) (subst (λ g. LeavesNone g) (sym e) catches.1) r.entries)) in
+      go (gives_of p fr.method) (rw e catches.1) r.result r.entries r.free caller.0.1 (rw e caller.0.2)
+      (rw e caller.0.3) in
+      let mark = mark_on_top s.items _ (same_items p t c s fr sh marked at_hand (entries_none (gives_of p fr.method) (rw e catches.1) r.entries)) in
       (return_needs p t c s fr sh marked at_hand a r w.0 (mark, tt), ended_plainly p t c s fr sh marked at_hand a r catches.2 w.1)
     where
       -- what leaves no object has dealt with all its entries
@@ -289,7 +282,7 @@ module _ (p : Image) (t : Typing) (wired : IsWired p) (c : Choice) (s : State) (
           let apart : IsApart p fr.view fr.method (Inside o from) marked = subst (λ h. IsApart p fr.view fr.method h marked) e at_hand.good.stack.3 in
           let none = known_loud p t wired s.cells o fr2 sh2 ls caller.0.4 (none_cancels p t wired s.cells o ls fr2.method fr2.home caller.0.4 caller.4) in
           let known = known_plain p fr sh.states (states_claim p o marked) at_hand.good.stack.4.0.2 ∙ ap (λ (b : Bool). record { states = sh.states; cancelled = b }) none in
-          rejoins_trap p o gv fr2 sh2 ls sh.states (requested s.cells o.name) apart.3 (returnable p fr sh a n).settled none (subst (λ k. Suits (thing_kind p o.thing) k (requested s.cells o.name)) known h))
+          rejoins_trap p o gv fr2 sh2 ls sh.states (requested s.cells o.name) apart.3 (returnable p fr sh a n).settled none (grind (arith, nat_tests)))
 
       items : no_entry sh.entries ≡ true → forms (below_top s.items) ≡ objects sh2.entries (items_of ls)
       items e = forms_below s.items Mark_form _ (same_items p t c s fr sh marked at_hand e)
@@ -301,7 +294,7 @@ module _ (p : Image) (t : Typing) (wired : IsWired p) (c : Choice) (s : State) (
           let sh'' = set_register sh' (suc x) Word in
           let w = write p t cs fr' sh' ls (suc x) (Some (pos 0)) Word f u (λ h. tt) tt in
           let g =
-          settle p t cs (next fr'') sh'' ls (stepped p t cs fr'' sh'' ls w) (subst (λ m. Leads t m (suc fr'.place) sh'') (sym em) (subst (λ l. Leads t fr2.method (suc l) sh'') (sym ep) leads)) in
+          settle p t cs (next fr'') sh'' ls (stepped p t cs fr'' sh'' ls w) (grind (arith, nat_tests)) in
           record {
             layers = Method (next fr'') g.0 ∷ ls;
             tasks = refl;
@@ -324,14 +317,14 @@ module _ (p : Image) (t : Typing) (wired : IsWired p) (c : Choice) (s : State) (
       go (An_own y) none r e n u w leads =
           let k = own_widens p y (register sh a) r.0 r.1.0 in
           let f = carried p t c s fr fr2 sh sh2 ls marked at_hand (Caught gv) caller (λ d r. mark_claims p d gv (Method fr2 sh2 ∷ ls) r) (omega arith) refl suits at_hand.good.stack.1.message.0 a x e n w k.object in
-          let h = held_thing p s y (held s.cells (top marked a)) (k.fits (seen s.cells) (held s.cells (top marked a)) (register_fits p s.cells fr sh marked at_hand.good.fits a)) in
+          let h = held_thing p s y (held s.cells (top marked a)) (grind (arith, nat_tests, top, register_fits)) in
           let weak = own_widens_more p y (register sh a) r.0 r.1.0 in
           ((ap is_none (word_of_object (word fr a) (register sh a) k.object (at_hand.good.stack.1.words a)), (h.0, (h.1, tt))), finish (moved (top marked a) (top ls x) s.cells) (set_word fr2 x None) (set_register sh2 x (Maybe y Ready)) refl refl (items e) (next_unowning sh2.registers x (Maybe y Ready) u) (retaken p t (moved (top marked a) (top ls x) s.cells) (set_word fr2 x None) sh2 ls x (register sh a) (Maybe y Ready) weak f) leads)
       go (A_maybe y) none r e n u w leads =
           let obj : is_object_or_null (register sh a) ≡ true = object_of p s y (register sh a) r.0 in
           let f = carried p t c s fr fr2 sh sh2 ls marked at_hand (Caught gv) caller (λ d r. mark_claims p d gv (Method fr2 sh2 ∷ ls) r) (omega arith) refl suits at_hand.good.stack.1.message.0 a x e n w obj in
           let weak = hold_widens p y (register sh a) r.0 r.1.0 in
-          let h = held_maybe p s y (held s.cells (top marked a)) (weak.fits (seen s.cells) (held s.cells (top marked a)) (register_fits p s.cells fr sh marked at_hand.good.fits a)) in
+          let h = held_maybe p s y (held s.cells (top marked a)) (grind (arith, nat_tests, top, register_fits)) in
           ((ap is_none (word_of_object (word fr a) (register sh a) obj (at_hand.good.stack.1.words a)), (h, tt)), finish (moved (top marked a) (top ls x) s.cells) (set_word fr2 x None) (set_register sh2 x (Maybe y Ready)) refl refl (items e) (next_unowning sh2.registers x (Maybe y Ready) u) (retaken p t (moved (top marked a) (top ls x) s.cells) (set_word fr2 x None) sh2 ls x (register sh a) (Maybe y Ready) weak f) leads)
       go (Left y) none r e n u w leads = absurd none
 
@@ -370,8 +363,7 @@ module _ (p : Image) (t : Typing) (c : Choice) (s : State) (fr : Frame) (sh : Sh
       no_entry sh.entries ≡ true → none_owns sh.registers ≡ true → (serves p fr.method ≡ true → ⊥) → (q : Place) →
       Fits p (seen s.cells) (held s.cells q) (claim p (declared p s.cells) (Dispatching w seats ∷ ls) q)
   plain_below entries free plain q =
-      subst (λ k. Fits p (seen s.cells) (held s.cells q) k) (mark_claims p (declared p s.cells) gv (Dispatching w seats ∷ ls) q)
-      (ended p s.cells fr sh dispatched at_hand.good.stack.1.holder at_hand.good.stack.1.view at_hand.good.stack.2 at_hand.good.stack.3 refl entries free (λ serving. absurd (plain serving)) q (seen s.cells) (held s.cells q) (at_hand.good.fits q))
+      rw (mark_claims p (declared p s.cells) gv (Dispatching w seats ∷ ls) q) at (ended p s.cells fr sh dispatched at_hand.good.stack.1.holder at_hand.good.stack.1.view at_hand.good.stack.2 at_hand.good.stack.3 refl entries free (λ serving. absurd (plain serving)) q (seen s.cells) (held s.cells q) (at_hand.good.fits q))
 
   -- with nothing given, the needs of a return are those of its end
   pub return_nothing :
@@ -385,7 +377,7 @@ module _ (p : Image) (t : Typing) (c : Choice) (s : State) (fr : Frame) (sh : Sh
       let nothing : gives_of p fr.method ≡ Nothing = at_hand.good.stack.4.0.0 ∙ none in
       let entries : no_entry sh.entries ≡ true = none_left p fr sh a nothing r in
       let free : none_owns sh.registers ≡ true = ap (λ g. none_owns (result_moved p fr.method fr.place sh g a).registers) (sym nothing) ∙ r.free in (
-        return_needs p t c s fr sh dispatched at_hand a r (subst (λ g. AllTrue (result_needs p fr (tasks_of dispatched) s g a)) (sym nothing) tt) (mark_on_top s.items _ (same_items p t c s fr sh dispatched at_hand entries), met),
+        return_needs p t c s fr sh dispatched at_hand a r (grind (arith, nat_tests)) (mark_on_top s.items _ (same_items p t c s fr sh dispatched at_hand entries), met),
         ended_plainly p t c s fr sh dispatched at_hand a r at_hand.good.stack.4.0.2 (so r (dispatch_after d a r entries ends first attended (fits r entries free))),
       )
 
@@ -408,9 +400,7 @@ module _ (p : Image) (t : Typing) (c : Choice) (s : State) (fr : Frame) (sh : Sh
 
   -- no message is served any more
   taken : (a : ℕ) → Returnable p fr sh a → Fits p (seen s.cells) (held s.cells (Elsewhere In_service)) Null
-  taken a r =
-      subst (λ x. Fits p (seen s.cells) (held s.cells (Elsewhere In_service)) (delivered x)) (message_gone p fr sh a r serves_it)
-      (subst (λ b. Fits p (seen s.cells) (held s.cells (Elsewhere In_service)) (cond b (delivered sh.delivery) (Own Message Ready))) serves_it (at_hand.good.fits (Elsewhere In_service)))
+  taken a r = grind (arith, nat_tests, message_gone, serves_it)
 
   others_fit :
       (a : ℕ) → Returnable p fr sh a → no_entry sh.entries ≡ true → none_owns sh.registers ≡ true → (q : Place) →
@@ -445,7 +435,7 @@ module _ (p : Image) (t : Typing) (c : Choice) (s : State) (fr : Frame) (sh : Sh
       go (Register f i) = whole (Register f i) (at_hand.good.fits (Register f i))
       go (Entry k) = whole (Entry k) (at_hand.good.fits (Entry k))
       go (Field n f) =
-          whole (Field n f) (subst (λ k. Fits p (seen s.cells) (held s.cells (Field n f)) k) (same_fields fr.home n f (claim p (declared p s.cells) below (Field n f))) (at_hand.good.fits (Field n f)))
+          whole (Field n f) (grind (arith, nat_tests, same_fields, below))
       go (Going k) = whole (Going k) (at_hand.good.fits (Going k))
       go (Elsewhere Root) =
           whole (Elsewhere Root)
@@ -476,7 +466,7 @@ module _ (p : Image) (t : Typing) (c : Choice) (s : State) (fr : Frame) (sh : Sh
       let nothing : gives_of p fr.method ≡ Nothing = at_hand.good.stack.4.0.1 in
       let entries : no_entry sh.entries ≡ true = none_left p fr sh a nothing r in
       let free : none_owns sh.registers ≡ true = ap (λ g. none_owns (result_moved p fr.method fr.place sh g a).registers) (sym nothing) ∙ r.free in (
-        return_needs p t c s fr sh below at_hand a r (subst (λ g. AllTrue (result_needs p fr (tasks_of below) s g a)) (sym nothing) tt) tt,
+        return_needs p t c s fr sh below at_hand a r (rw nothing tt) tt,
         ended_plainly p t c s fr sh below at_hand a r at_hand.good.stack.4.0.2 (record {
           layers = Unwinding code es ∷ ls;
           tasks = refl;
@@ -486,8 +476,8 @@ module _ (p : Image) (t : Typing) (c : Choice) (s : State) (fr : Frame) (sh : Sh
             stack = (tt, at_hand.good.stack.4.1);
             fits = λ q. ended p s.cells fr sh below at_hand.good.stack.1.holder at_hand.good.stack.1.view at_hand.good.stack.2 at_hand.good.stack.3 refl entries free (λ serving. absurd (at_hand.good.stack.1.message.0 serving)) q (seen s.cells) (held s.cells q) (at_hand.good.fits q);
             suits = all_returned p s.cells s.cells fr sh below at_hand.good.suits at_hand.good.stack.2 (λ n. refl) (λ n off. refl) (λ o from e h.
-                let apart : IsApart p fr.view fr.method (Inside o from) below = subst (λ h. IsApart p fr.view fr.method h below) e at_hand.good.stack.3 in
-                rests_there p o below (requested s.cells o.name) apart.3 (suits_rests (thing_kind p o.thing) sh.states (requested s.cells o.name) r.settled (subst (λ k. Suits (thing_kind p o.thing) k (requested s.cells o.name)) (known_resting p o fr sh.states below at_hand.good.stack.4.0.2 apart.3) h)));
+                let apart : IsApart p fr.view fr.method (Inside o from) below = rw e at at_hand.good.stack.3 in
+                rests_there p o below (requested s.cells o.name) apart.3 (suits_rests (thing_kind p o.thing) sh.states (requested s.cells o.name) r.settled (rw (known_resting p o fr sh.states below at_hand.good.stack.4.0.2 apart.3) at h)));
             tidy = at_hand.good.tidy;
           };
         }),
@@ -507,11 +497,11 @@ module _ (p : Image) (t : Typing) (c : Choice) (s : State) (fr : Frame) (sh : Sh
       let below = at_hand.good.stack.4 in
       let gives : gives_of p fr.method ≡ A_word = below.0.1 in
       let answer : ℤ = told_answer (gives_of p fr.method) fr a in
-      let rule = subst (λ g. AllTrue (rule_result p fr.method fr.place sh g a)) gives r.result in
+      let rule = rw gives at r.result in
       let told = word_is p s (word fr a) (register sh a) rule.0 (at_hand.good.stack.1.words a) in
       let entries : no_entry sh.entries ≡ true = ap (λ g. entries_done p g sh.entries) (sym gives) ∙ r.entries in
       let free : none_owns sh.registers ≡ true = ap (λ g. none_owns (result_moved p fr.method fr.place sh g a).registers) (sym gives) ∙ r.free in (
-        return_needs p t c s fr sh asker at_hand a r (subst (λ g. AllTrue (result_needs p fr (tasks_of asker) s g a)) (sym gives) (told.0, tt)) (refl, tt),
+        return_needs p t c s fr sh asker at_hand a r (rw gives (told.0, tt)) (refl, tt),
         ended_plainly p t c s fr sh asker at_hand a r below.0.2 (record {
           layers = Dispatching (Answered x answer) seats ∷ ls;
           tasks = refl;
@@ -519,7 +509,7 @@ module _ (p : Image) (t : Typing) (c : Choice) (s : State) (fr : Frame) (sh : Sh
           undos = at_hand.undos;
           good = record {
             stack = (tt, below.1, below.2, below.3, tt);
-            fits = λ q. subst (λ k. Fits p (seen s.cells) (held s.cells q) k) (sym (same_claims answer (declared p s.cells) q)) (ended p s.cells fr sh asker at_hand.good.stack.1.holder at_hand.good.stack.1.view at_hand.good.stack.2 at_hand.good.stack.3 refl entries free (λ serving. absurd (at_hand.good.stack.1.message.0 serving)) q (seen s.cells) (held s.cells q) (at_hand.good.fits q));
+            fits = λ q. rw (same_claims answer (declared p s.cells) q) (ended p s.cells fr sh asker at_hand.good.stack.1.holder at_hand.good.stack.1.view at_hand.good.stack.2 at_hand.good.stack.3 refl entries free (λ serving. absurd (at_hand.good.stack.1.message.0 serving)) q (seen s.cells) (held s.cells q) (at_hand.good.fits q));
             suits = grind (arith, nat_tests, all_returned p s.cells s.cells fr sh, rests_there p, suits_rests, known_resting p);
             tidy = at_hand.good.tidy;
           };

@@ -21,7 +21,7 @@ use Rattle.aom_safety.proofs.Services.{held_served, named_served, requested_serv
 use Rattle.aom_safety.proofs.Straight.{fits_unowning}
 use Rattle.aom_safety.proofs.Things.{stands_itself}
 use Rattle.aom_safety.specs.Claims.{declared, declared_field}
-use Rattle.aom_semantics.specs.Places.{Service, unserved, Cell, Elsewhere, Field, Message_of, Object, Place, Queued, Session, Tidy, held, named, same_place, seen, service_of}
+use Rattle.aom_semantics.specs.Places.{Service, unserved, Cell, Elsewhere, Message_of, Object, Place, Queued, Session, Tidy, held, named, same_place, seen, service_of}
 use Rattle.aom_safety.specs.Requests.{AllSuit, Suits, resting_in, rests_in, thing_kind}
 use Rattle.aom_semantics.specs.Servers.{asked_last, has_message, has_session, is_message, is_server, message_thing, reserved, session_thing}
 use Rattle.aom_safety.specs.WellTyped.{Fits, Good}
@@ -64,7 +64,7 @@ module _ (p : Image) (t : Typing) (cs : List Cell) (good : Good p t cs []) (o : 
   sessions_then n d = ap (λ v. has_session v d) (service_then n) ∙ go (name == n) refl
     where
       go : (b : Bool) → (name == n) ≡ b → has_session (cond b message.service (service_of rest n)) d ≡ has_session (service_of cs n) d
-      go true e = ap (λ xs. list_any (λ k. k == d) xs) no_session ∙ sym (ap (λ v. has_session v d) (ap (λ k. service_of cs k) (sym (eqb-true name n e)) ∙ service_unnamed cs name free))
+      go true e = ap (λ xs. list_any (λ k. k == d) xs) no_session ∙ sym (grind (arith, nat_tests, eqb-true, service_unnamed))
       go false e = by_server cs o lives (asked_last (Message_of c name)) (λ n v. has_session v d ≡ has_session (service_of cs n) d) refl (λ n other. refl) n
 
   or_false : (b : Bool) → (b || false) ≡ b
@@ -74,7 +74,7 @@ module _ (p : Image) (t : Typing) (cs : List Cell) (good : Good p t cs []) (o : 
   messages_then n m other = ap (λ v. has_message v m) (service_then n) ∙ go (name == n) refl
     where
       go : (b : Bool) → (name == n) ≡ b → has_message (cond b message.service (service_of rest n)) m ≡ has_message (service_of cs n) m
-      go true e = ap (λ q. list_any (λ x. is_message m x) q) no_queue ∙ sym (ap (λ v. has_message v m) (ap (λ k. service_of cs k) (sym (eqb-true name n e)) ∙ service_unnamed cs name free))
+      go true e = grind (arith, nat_tests, eqb-true name n e, service_unnamed cs name free)
       go false e = by_server cs o lives (asked_last (Message_of c name)) (λ n v. ((o.name == n) && (name == m)) ≡ false → has_message v m ≡ has_message (service_of cs n) m)
           (λ other. list_any-append (λ x. is_message m x) (service_of cs o.name).queue (Message_of c name ∷ []) ∙ ap (λ b. list_any (λ x. is_message m x) (service_of cs o.name).queue || (b || false)) (sym (ap (λ b. b && (name == m)) (eq-eqb o.name o.name refl)) ∙ other) ∙ or_false (list_any (λ x. is_message m x) (service_of cs o.name).queue))
           (λ n apart same. refl) n other
@@ -112,8 +112,6 @@ module _ (p : Image) (t : Typing) (cs : List Cell) (good : Good p t cs []) (o : 
   own_kind = grind (arith, nat_tests, waits, named_then o.name, other_name)
 
   fits : (q : Place) → Fits p (seen then) (held then q) (declared p then q)
-  fits (Field n f) = there_still (Field n f) (held_then (Field n f)) (fields_then n f)
-  fits (Elsewhere (Session n d)) = there_still (Elsewhere (Session n d)) (held_then (Elsewhere (Session n d))) (session_kind n d)
   fits (Elsewhere (Queued n m)) = grind (
     arith,
     nat_tests,
@@ -125,7 +123,7 @@ module _ (p : Image) (t : Typing) (cs : List Cell) (good : Good p t cs []) (o : 
     own_kind,
     stands_itself p Message,
   )
-  fits r = there_still r (held_then r) refl
+  fits r = grind (arith, nat_tests, fields_then, session_kind, there_still r (held_then r), held_then r)
 
   tidy : Tidy then
   tidy = (

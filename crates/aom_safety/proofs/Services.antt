@@ -1,8 +1,8 @@
 -- What clients have at the cells where these change: by what a change keeps of a cell.
-use Rattle.std.proofs.Common.{arith, List, None, Option, Some, ap, false, refl, ℕ, ℤ, ◌==◌, ◌∙◌, ◌≡◌}
+use Rattle.std.proofs.lemmas.Bool.Decides.{nat_tests}
+use Rattle.std.proofs.Common.{arith, List, None, Option, Some, ap, false, refl, ℕ, ℤ, ◌==◌, ◌≡◌}
 use Rattle.aom_image.specs.Image.{Image}
 use Rattle.aom_safety.specs.WellTyped.{AllSit, SitsFirst, seat_of, EndsSessions, IsAttended}
-use Rattle.aom_semantics.specs.Servers.{is_among}
 use Rattle.aom_semantics.specs.State.{Seat, Dispatch}
 use Rattle.aom_semantics.proofs.Altering.{asking, bereaving, held_kept, moving, named_kept, read_here, read_kept, read_there, requests, services, serving, storing, tidy_kept}
 use Rattle.aom_semantics.proofs.Maps.{read_unnamed, read_without}
@@ -76,8 +76,4 @@ sits_lives cs seats y sits first = (sits_there cs seats y sits first).1
 pub sessions_kept :
     (p : Image) (cs cs' : List Cell) → ((n : ℕ) → named cs' n ≡ named cs n) → ((n : ℕ) → (service_of cs' n).sessions ≡ (service_of cs n).sessions) → (o : Object) (left : List ℕ) →
     EndsSessions p cs o left → EndsSessions p cs' o left
-sessions_kept p cs cs' names service o left h = record {
-  server = h.server;
-  lives = names o.name ∙ h.lives;
-  listed = λ c e. ap (λ ss. is_among c ss) (service o.name) ∙ h.listed c e;
-}
+sessions_kept p cs cs' names service o left h = search (arith, nat_tests)

@@ -13,7 +13,7 @@ use Rattle.aom_safety.proofs.Layers.{dispatch_layer}
 use Rattle.aom_safety.proofs.Owners.{layers_none}
 use Rattle.aom_safety.specs.Laws.{AllRest, SignalsAreReady}
 use Rattle.aom_semantics.specs.Places.{Cell, Object, Request, Tidy, named, requested}
-use Rattle.aom_safety.specs.Requests.{AllSuit, Suits, resting_in, thing_kind}
+use Rattle.aom_safety.specs.Requests.{AllSuit, Suits, resting_in}
 use Rattle.aom_semantics.specs.State.{Dispatch, Seat, State}
 use Rattle.aom_safety.specs.WellTyped.{Good, WellTyped}
 use Rattle.aom_semantics.specs.World.{AllSettled, Candidate, among_ready, first_ready, has_signal, is_settled, ready_count, signal_count, signals, stands_ready}
@@ -59,9 +59,7 @@ items_at_rest p t s w idle = nil_given (λ is. forms is ≡ []) s.items (w.items
 
 -- where no layer says more of an object, it rests
 all_rest : (p : Image) (cs : List Cell) → AllSuit p cs [] → Tidy cs → AllRest cs
-all_rest p cs suits tidy =
-    let settled = settled_cells cs (λ o e. rests_settled (thing_kind p o.thing) (requested cs o.name) (suits o e)) tidy in
-    record { settled = settled; count = same_count cs settled; first = same_signals cs settled }
+all_rest p cs suits tidy = search (arith, nat_tests, settled_cells cs, rests_settled, same_count cs, same_signals cs)
 
 pub signals_are_ready : SignalsAreReady
 signals_are_ready p t s w = (

@@ -136,7 +136,7 @@ module _ (p : Image) (t : Typing) (outside : Environment) (wired : IsWired p) (t
   pub sound : IsSound p outside
   sound = record {
     goes_on = λ lines s r busy c choice. goes (step p c s) (step_keeps p t wired typed c s (stays lines s r).well choice.name);
-    turns_on = λ lines s r between heard well. goes (turn p outside heard s) (turn_goes_on p t outside wired typed heard s (stays lines s r).well between well (stays lines s r).kept.fit);
+    turns_on = λ lines s r between heard well. goes (turn p outside heard s) (grind (arith, nat_tests, turn_goes_on, stays, well));
     rests = λ lines s r idle. (signals_are_ready p t s (stays lines s r).well).1 idle;
     ends_at_rest = λ lines s d r e. (signals_are_ready p t s (stays lines s r).well).0 d e;
     caught = λ lines s code tasks items r at top. let h = stays lines s r in caught_owned p t wired s h.well h.calm h.in_range code tasks items at top;

@@ -1,4 +1,5 @@
 -- Every message has a sender or is a token, nothing else has or is one, and what is served has a sender: by what the cells have that stay.
+use Rattle.std.proofs.lemmas.Bool.Decides.{nat_tests}
 use Rattle.std.proofs.Common.{Bool, List, Option, Some, ap, arith, false, sym, true, ℕ, ◌∙◌, ◌≡◌}
 use Rattle.std.specs.Prelude.{is_some}
 use Rattle.aom_safety.proofs.Sifted.{cell_lives, cell_of, held_cell, named_before, named_cell, object_in, placed_before, service_cell, service_in, service_sifted, sifted}
@@ -43,7 +44,7 @@ module _ (cs cs' : List Cell) where
 
 module _ (drops : Cell → Bool) (f : Cell → Service) where
   stays_as : {A : Type 0} (read : Service → A) → ((c : Cell) → read (f c) ≡ read c.service) → (cs : List Cell) → Tidy cs → (n : ℕ) (c : Cell) → cell_of cs n ≡ Some c → drops c ≡ false → read (service_of (sifted drops f cs) n) ≡ read (service_of cs n)
-  stays_as read keeps cs tidy n c here stays = ap read (service_sifted drops f cs tidy n c here stays) ∙ keeps c ∙ sym (ap read (service_cell cs n ∙ ap service_in here))
+  stays_as read keeps cs tidy n c here stays = grind (arith, nat_tests, service_sifted, service_cell, service_in)
 
   pub sources_sifted : ((c : Cell) → sources_of (f c) ≡ sources_of c.service) → (cs : List Cell) → Tidy cs → HasSources cs → HasSources (sifted drops f cs)
   sources_sifted keeps cs tidy sources o there =
@@ -54,4 +55,4 @@ module _ (drops : Cell → Bool) (f : Cell → Service) where
   served_sifted keeps cs tidy served o there =
       let b = placed_before drops f cs (Elsewhere In_service) o tidy there in
       let here : cell_of cs o.name ≡ Some b.0 = ap (λ y. cell_of cs y.name) (sym b.2) ∙ cell_lives cs (Elsewhere In_service) b.0 tidy b.1 in
-      stays_as (λ v. is_some v.sender) keeps cs tidy o.name b.0 here b.3 ∙ served o (held_cell cs (Elsewhere In_service) ∙ ap object_in b.1 ∙ ap (λ y. Some y) b.2)
+      stays_as (λ v. is_some v.sender) keeps cs tidy o.name b.0 here b.3 ∙ served o (grind (arith, nat_tests, held_cell, object_in))

@@ -1,4 +1,5 @@
 -- A method that waits under a trap stands at the instruction that set it: no move but that one sets a trap, and none changes a task under one.
+use Rattle.std.proofs.lemmas.Bool.Decides.{nat_tests}
 use Rattle.std.proofs.Common.{arith, List, Option, ◌≡◌, ℕ}
 use Rattle.aom_classes.specs.Roles.{main_of}
 use Rattle.aom_image.specs.Image.{Image}
@@ -10,21 +11,7 @@ use Rattle.aom_semantics.specs.World.{Reaches, begins, boot_state, main_tasks, m
 use Rattle.aom_transcript.specs.declared.line.Line.{Line}
 
 kept : (p : Image) (c : Choice) (s : State) → Kept p c (at_traps p) s
-kept p c s = record {
-  goes_on = λ fr ts i a f words. tt;
-  jumps = λ fr ts i a to f. tt;
-  counts = λ fr ts i a d n f. tt;
-  repeats = λ fr ts d to k a f. tt;
-  waits = λ fr ts i a f words. tt;
-  resumes = λ fr ts w words. tt;
-  calls = λ fr ts target m first x a. tt;
-  cancels = λ fr ts m a e. tt;
-  traps = λ fr ts target m first x a. (tt, (target, m, first, x, a.there));
-  destructs = λ o x m height ts e. tt;
-  asks = λ x m code height e. tt;
-  undoes = λ m w items ts e. tt;
-  unwinds = λ code ts w. tt;
-}
+kept p c s = search (arith, nat_tests)
 
 -- of each move
 pub stays : (p : Image) (c : Choice) (s u : State) → AllAtTraps p s.tasks → step p c s ≡ Goes u → AllAtTraps p u.tasks

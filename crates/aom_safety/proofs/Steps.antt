@@ -116,7 +116,7 @@ pub instruction_keeps :
 instruction_keeps p t wired typed c s fr sh ls at_hand unused =
     let x = typed.each fr.method fr.place sh at_hand.good.stack.0 in
     let l = law p t wired typed c s fr sh ls at_hand unused x.instr x.stands (λ a. returns p t wired typed c s fr sh ls at_hand a) x.needs x.flows in
-    subst (λ i. Keeps p t (step_instr p c fr (tasks_of ls) s i)) (sym x.stands) (kept p t (needs p c fr (tasks_of ls) s x.instr) (does p c fr (tasks_of ls) s x.instr) l.0 l.1)
+    rw x.stands (kept p t (needs p c fr (tasks_of ls) s x.instr) (does p c fr (tasks_of ls) s x.instr) l.0 l.1)
 
 -- the counts of a move are no concern of the typing
 pub counted_well : (p : Image) (t : Typing) (s : State) → WellTyped p t s → WellTyped p t (counted p s)

@@ -6,7 +6,7 @@ use Rattle.aom_image.proofs.Given.{some_given}
 use Rattle.aom_semantics.proofs.Altering.{Alters, asking, bereaving, held_kept, named_kept, opening, read_here, read_kept, read_so, read_there, requests, services, storing, tidy_kept}
 use Rattle.aom_safety.proofs.Services.{attended_kept, sessions_kept}
 use Rattle.aom_safety.proofs.Seats.{first_kept}
-use Rattle.std.proofs.Common.{arith, Bool, List, Option, Some, [], ap, cond, false, refl, subst, sym, true, ℕ, ℤ, ◌==◌, ◌∙◌, ◌∷◌, ◌≡◌, None}
+use Rattle.std.proofs.Common.{arith, Bool, List, Option, Some, [], ap, cond, false, refl, true, ℕ, ℤ, ◌==◌, ◌∙◌, ◌∷◌, ◌≡◌, None}
 use Rattle.aom_image.specs.Image.{Image}
 use Rattle.aom_shape.specs.Kinds.{is_ready_kind}
 use Rattle.aom_shape.specs.Shape.{Shape}
@@ -14,9 +14,9 @@ use Rattle.aom_rules.specs.Typing.{Typing}
 use Rattle.aom_safety.proofs.Claimed.{claim_rel, fits_age}
 use Rattle.aom_safety.proofs.Straight.{Fitted}
 use Rattle.aom_safety.specs.Claims.{Dispatching, Dying, Layer, Mark, Method, Unwinding, claim, declared, Ending}
-use Rattle.aom_semantics.specs.Places.{Service, Cell, Entry, Object, Place, Request, Tidy, held, named, requested, seen, set_request, set_word_field, service_of}
-use Rattle.aom_semantics.specs.State.{AtRoot, Frame, Home, Inside, Seat, Static}
-use Rattle.aom_safety.specs.WellTyped.{AllSit, Back, Fits, IsHoused, Stack, seat_of}
+use Rattle.aom_semantics.specs.Places.{Service, Cell, Object, Place, Request, Tidy, held, named, requested, seen, set_request, set_word_field, service_of}
+use Rattle.aom_semantics.specs.State.{Frame, Home, Inside, Seat}
+use Rattle.aom_safety.specs.WellTyped.{AllSit, Back, Fits, IsHoused, Stack}
 use Rattle.aom_semantics.specs.Words.{stored}
 use Rattle.std.proofs.lemmas.Bool.{eqb-true}
 use Rattle.aom_semantics.specs.Enlisted.{ended_cells, on_request, own_request, rerequested}
@@ -53,14 +53,12 @@ pub alike_itself : (cs : List Cell) → Alike cs cs
 alike_itself cs = record { held_so = λ r. refl; named_so = λ n. refl; queues_so = λ n. refl; sessions_so = λ n. refl; tidy = λ t. t }
 
 stored_alike : (cs : List Cell) (home : Home) (w : ℕ) (v : ℤ) → Alike cs (stored cs home w v)
-stored_alike cs Static w v = alike_itself cs
-stored_alike cs AtRoot w v = alike_itself cs
 stored_alike cs (Inside o from) w v = altered_alike (storing o.name w v) (λ c. refl) (λ c. refl) cs
+stored_alike cs _ w v = alike_itself cs
 
 stored_requests : (cs : List Cell) (home : Home) (w : ℕ) (v : ℤ) (n : ℕ) → requested (stored cs home w v) n ≡ requested cs n
-stored_requests cs Static w v n = refl
-stored_requests cs AtRoot w v n = refl
 stored_requests cs (Inside o from) w v n = read_kept (storing o.name w v) requests (λ c. refl) cs n
+stored_requests cs _ w v n = refl
 
 -- the cells with another request of one of them
 pub requested_here : (cs : List Cell) (n : ℕ) (r : Option Request) (o : Object) → named cs n ≡ Some o → requested (set_request n r cs) n ≡ r
@@ -87,9 +85,8 @@ pub listed_still :
 listed_still cs x r h m some = grind (arith, nat_tests, set_listed cs)
 
 pub rerequested_alike : (cs : List Cell) (home : Home) (r : Option Request) → Alike cs (rerequested cs home r)
-rerequested_alike cs Static r = alike_itself cs
-rerequested_alike cs AtRoot r = alike_itself cs
 rerequested_alike cs (Inside o from) r = altered_alike (asking o.name r) (λ c. refl) (λ c. refl) cs
+rerequested_alike cs _ r = alike_itself cs
 
 -- and the cells once a method is over
 pub ended_alike : (p : Image) (fr : Frame) (cs : List Cell) → Alike cs (ended_cells p fr cs)
@@ -114,7 +111,7 @@ module _ (p : Image) (t : Typing) (cs cs' : List Cell) (alike : Alike cs cs') wh
     stack_alike (Mark gv ∷ ls) back s = (s.0, stack_alike ls _ s.1)
     stack_alike (Dying o ∷ ls) back s = ((alike.named_so o.name ∙ s.0.0, alike.held_so _ ∙ s.0.1), s.1, stack_alike ls _ s.2)
     stack_alike (Dispatching d seats ∷ ls) back s =
-        (s.0, s.1, sits_alike seats s.2, first_kept cs cs' (Entry 0) (seat_of d) seats (λ r o other there lives some. listed o.name some) tt s.2 s.3, attended_kept p cs cs' alike.sessions_so d s.4)
+        (s.0, s.1, sits_alike seats s.2, grind (arith, nat_tests, first_kept), attended_kept p cs cs' alike.sessions_so d s.4)
     stack_alike (Ending o left ∷ ls) back s = (sessions_kept p cs cs' alike.named_so alike.sessions_so o left s.0, s.1, s.2, stack_alike ls _ s.3)
     stack_alike (Unwinding code es ∷ ls) back s = (s.0, stack_alike ls _ s.1)
 
@@ -123,27 +120,23 @@ module _ (p : Image) (t : Typing) (cs cs' : List Cell) (alike : Alike cs cs') wh
       (ls : List Layer) (r : Place) → ((x : Object) → held cs r ≡ Some x → is_ready_kind (claim p (declared p cs) ls r) ≡ false → requested cs' x.name ≡ requested cs x.name) →
       Fits p (seen cs) (held cs r) (claim p (declared p cs) ls r) → Fits p (seen cs') (held cs' r) (claim p (declared p cs') ls r)
   fits_alike ls r requests f =
-      subst (λ k. Fits p (seen cs') (held cs' r) k) (sym (claim_rel (λ x y. x ≡ y) (λ k. refl) p (declared p cs') (declared p cs) ls r (declared_alike r)))
-      (subst (λ o. Fits p (seen cs') o (claim p (declared p cs) ls r)) (sym (alike.held_so r)) (fits_age p (seen cs) (seen cs') (held cs r) _ (λ x e fresh age. (λ f. alike.held_so _ ∙ age.0 f, requests x e fresh ∙ age.1)) f))
+      rw (claim_rel (λ x y. x ≡ y) (λ k. refl) p (declared p cs') (declared p cs) ls r (declared_alike r)) (rw (alike.held_so r) (fits_age p (seen cs) (seen cs') (held cs r) _ (λ x e fresh age. (λ f. alike.held_so _ ∙ age.0 f, requests x e fresh ∙ age.1)) f))
 
   -- or where what has none gets none
   pub fits_listed :
       (ls : List Layer) (r : Place) → ((x : Object) → requested cs x.name ≡ None → requested cs' x.name ≡ None) →
       Fits p (seen cs) (held cs r) (claim p (declared p cs) ls r) → Fits p (seen cs') (held cs' r) (claim p (declared p cs') ls r)
   fits_listed ls r none f =
-      subst (λ k. Fits p (seen cs') (held cs' r) k) (sym (claim_rel (λ x y. x ≡ y) (λ k. refl) p (declared p cs') (declared p cs) ls r (declared_alike r)))
-      (subst (λ o. Fits p (seen cs') o (claim p (declared p cs) ls r)) (sym (alike.held_so r)) (fits_age p (seen cs) (seen cs') (held cs r) _ (λ x e fresh age. (λ f. alike.held_so _ ∙ age.0 f, none x age.1)) f))
+      rw (claim_rel (λ x y. x ≡ y) (λ k. refl) p (declared p cs') (declared p cs) ls r (declared_alike r)) (rw (alike.held_so r) (fits_age p (seen cs) (seen cs') (held cs r) _ (λ x e fresh age. (λ f. alike.held_so _ ∙ age.0 f, none x age.1)) f))
 
 -- the cells with a session of one of them open or not
 pub resessioned_alike : (cs : List Cell) (home : Home) (b : Bool) → Alike cs (resessioned cs home b)
-resessioned_alike cs Static b = alike_itself cs
-resessioned_alike cs AtRoot b = alike_itself cs
 resessioned_alike cs (Inside o from) b = altered_alike (opening o.name b) (λ c. refl) (λ c. refl) cs
+resessioned_alike cs _ b = alike_itself cs
 
 pub resessioned_requests : (cs : List Cell) (home : Home) (b : Bool) (n : ℕ) → requested (resessioned cs home b) n ≡ requested cs n
-resessioned_requests cs Static b n = refl
-resessioned_requests cs AtRoot b n = refl
 resessioned_requests cs (Inside o from) b n = read_kept (opening o.name b) requests (λ c. refl) cs n
+resessioned_requests cs _ b n = refl
 
 -- other cells in the same places, with the same requests
 pub alike_fitted :

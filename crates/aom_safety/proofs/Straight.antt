@@ -15,8 +15,7 @@ use Rattle.aom_roles.specs.Things.{field_thing, holder_of}
 use Rattle.aom_rules.specs.Typing.{AllLead, Leads, Typing}
 use Rattle.aom_shape.specs.declared.kind.Filling.{Filling}
 use Rattle.aom_shape.specs.declared.kind.Kind.{Kind}
-use Rattle.aom_shape.specs.declared.kind.Age.TheVariants.{Fresh, Ready}
-use Rattle.aom_shape.specs.declared.kind.Kind.TheVariants.{Maybe, Null, Own, Unset, Word}
+use Rattle.aom_shape.specs.declared.kind.Kind.TheVariants.{Null, Unset}
 use Rattle.aom_safety.proofs.Seats.{NoFieldHere}
 use Rattle.aom_safety.proofs.Claimed.{Outside, claim-set_register, claim_frame, claim_from, claim_ready, claim_weaker, declared_moved, fits_weaker, holds_moved, keep_fits, outside_differs, own_there, owns_no_more, stack_moved, word_fits_weaker}
 use Rattle.aom_safety.proofs.Housing.{houses_field}
@@ -88,11 +87,10 @@ settle p t cs fr sh ls g leads =
 pub housed_relocated :
     (p : Image) (cs : List Cell) (a b : Place) (ls : List Layer) (home : Home) → held cs b ≡ None → Outside a ls → Outside b ls →
     ((o : Object) (from : Place) → home ≡ Inside o from → NoFieldHere a from × NoFieldHere b from) → IsHoused p cs ls home → IsHoused p (moved a b cs) ls home
-housed_relocated p cs a b ls Static free oa ob n h = h
-housed_relocated p cs a b ls AtRoot free oa ob n h = h
 housed_relocated p cs a b ls (Inside o from) free oa ob n h =
     let m = n o from refl in
     holds_moved p cs a b ls o from free (outside_differs a from ls oa m.0 h.below) (outside_differs b from ls ob m.1 h.below) h
+housed_relocated p cs a b ls x free oa ob n h = grind arith
 
 -- the height and the view with which a method began
 abbrev pub began : Frame → ℕ × Option ℕ
@@ -239,7 +237,7 @@ reframed p t cs fr fr' sh ls eh em eg ew g = record {
 -- the place alone differs
 pub stepped : (p : Image) (t : Typing) (cs : List Cell) (fr : Frame) (sh : Shape) (ls : List Layer) → Fitted p t cs fr sh ls → Fitted p t cs (next fr) sh ls
 stepped p t cs fr sh ls g = record {
-  fits = λ r. subst (λ k. Fits p (seen cs) (held cs r) k) (sym (claim_frame p (declared p cs) fr (next fr) sh ls r refl refl)) (g.fits r);
+  fits = λ r. rw (claim_frame p (declared p cs) fr (next fr) sh ls r refl refl) (g.fits r);
   suits = g.suits;
   tidy = g.tidy;
   frames = record { words = g.frames.words; holder = g.frames.holder; view = g.frames.view; height = g.frames.height; alone = g.frames.alone; message = g.frames.message };
@@ -303,34 +301,17 @@ module _ (p : Image) (t : Typing) (c : Choice) (s : State) (fr : Frame) (sh : Sh
   kind_fits b = register_fits p s.cells fr sh ls at_hand.good.fits b
 
   pub thing_ok : (x : Thing) (o : Option Object) (k : Kind) → may_be p x k ≡ true → Fits p (seen s.cells) o k → is_thing p x o ≡ true
-  thing_ok x None k e f = refl
-  thing_ok x (Some o) (Own y a) e f = stands_along p o.thing y x f.0 e
-  thing_ok x (Some o) (Maybe y a) e f = stands_along p o.thing y x f.0 e
-  thing_ok x _ _ e f = absurd f
+  thing_ok x y k e f = grind (arith, nat_tests, stands_along)
 
   pub declared_ok : (x : Option Thing) (o : Option Object) (k : Kind) → may_be_declared p x k ≡ true → Fits p (seen s.cells) o k → is_declared_thing p x o ≡ true
-  declared_ok x o k e f = some_given (λ x. may_be_declared p x k ≡ true) x e (λ none. cc) (λ y is e. subst (λ z. is_declared_thing p z o ≡ true) (sym is) (thing_ok y o k e f))
+  declared_ok x o k e f = some_given (λ x. may_be_declared p x k ≡ true) x e (λ none. cc) (λ y is e. rw is (thing_ok y o k e f))
 
   pub declared_object : (x : Option Thing) (k : Kind) → may_be_declared p x k ≡ true → is_object_or_null k ≡ true
   declared_object x k e = grind arith
 
   -- a thing may be taken for one of what is declared
   pub refills : (h : Sight) (x : Option Thing) (o : Option Object) (k : Kind) → may_be_declared p x k ≡ true → is_ready_kind k ≡ true → Fits p h o k → Fits p h o (filled x (filling_of k))
-  refills h None o k e r f = cc
-  refills h (Some x) None Null e r f = tt
-  refills h (Some x) None (Own y Ready) e r f = absurd f
-  refills h (Some x) None (Own y Fresh) e r f = absurd f
-  refills h (Some x) None (Maybe y Ready) e r f = tt
-  refills h (Some x) None (Maybe y Fresh) e r f = cc
-  refills h (Some x) None Unset e r f = cc
-  refills h (Some x) None Word e r f = cc
-  refills h (Some x) (Some o) Null e r f = absurd f
-  refills h (Some x) (Some o) (Own y Ready) e r f = (stands_along p o.thing y x f.0 e, tt)
-  refills h (Some x) (Some o) (Own y Fresh) e r f = cc
-  refills h (Some x) (Some o) (Maybe y Ready) e r f = (stands_along p o.thing y x f.0 e, tt)
-  refills h (Some x) (Some o) (Maybe y Fresh) e r f = cc
-  refills h (Some x) (Some o) Unset e r f = cc
-  refills h (Some x) (Some o) Word e r f = cc
+  refills h x o k e r f = grind (arith, nat_tests, stands_along)
 
   pub filled_word : (x : Option Thing) (k : Kind) → may_be_declared p x k ≡ true → WordFits None (filled x (filling_of k))
   filled_word x k e = grind arith
@@ -340,15 +321,7 @@ module _ (p : Image) (t : Typing) (c : Choice) (s : State) (fr : Frame) (sh : Sh
 
   -- what is in a register may be claimed to be of another kind that holds of it
   pub widened : (b : ℕ) (l : Kind) → Fits p (seen s.cells) (held s.cells (top ls b)) l → WordFits (word fr b) l → Fitted p t s.cells fr (set_register sh b l) ls
-  widened b l new word_fits = grind (
-    arith,
-    nat_tests,
-    relabel p t s.cells fr fr sh,
-    fitted p t s.cells fr sh ls at_hand.good,
-    claim-set_register p,
-    at-put_at Unset sh.registers b,
-    eqb-true b,
-  )
+  widened b l new word_fits = grind (arith, nat_tests, relabel, fitted, claim-set_register, at-put_at, eqb-true)
 
   pub empties : (x : Option Thing) (y : Filling) → is_empty y ≡ true → is_unowning (filled x y) ≡ true
   empties x y e = grind arith

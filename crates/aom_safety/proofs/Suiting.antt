@@ -87,7 +87,7 @@ known_plain p fr states below e = ap (λ (b : Bool). record { states = states; c
 pub known_resting :
     (p : Image) (o : Object) (fr : Frame) (states : ℕ) (ls : List Layer) → is_cancel (method_role p fr.method) ≡ false → Unworked o.name ls →
     known_at p fr states (states_claim p o ls) ≡ resting_in states
-known_resting p o fr states ls e u = known_plain p fr states (states_claim p o ls) e ∙ ap (λ (k : Known). record { states = states; cancelled = k.cancelled }) (unworked_rests p o ls u)
+known_resting p o fr states ls e u = search (arith, nat_tests, known_plain p fr states, unworked_rests p o ls u)
 
 -- a method that cancels ends with its request completed
 served_only : (q : Phase) → IsTrue (has server_states (phase_state q)) → IsTrue (has cancel_done (phase_state q)) → ⊥
@@ -123,15 +123,7 @@ pub rejoins_caller :
     (works_at o.name fr.home ≡ true → IsTrue (has sh.states ends)) → IsTrue (has ends states) → unissued states ≡ true →
     Suits (thing_kind p o.thing) (record { states = states; cancelled = (states_claim p o (Method fr sh ∷ ls)).cancelled }) r →
     Suits (thing_kind p o.thing) (states_claim p o (Method fr sh ∷ ls)) r
-rejoins_caller p o fr sh states ls ends r x well within u s = grind (
-  arith,
-  nat_tests,
-  suits_less,
-  has_along sh.states ends states,
-  rests_there p o (Method fr sh ∷ ls) r,
-  suits_rests,
-  unworked_rests p o (Method fr sh ∷ ls),
-)
+rejoins_caller p o fr sh states ls ends r x well within u s = grind (arith, nat_tests, suits_less, has_along, rests_there, suits_rests, unworked_rests)
 
 pub rejoins_trap :
     (p : Image) (o : Object) (gv : Gives) (fr : Frame) (sh : Shape) (ls : List Layer) (states : ℕ) (r : Option Request) → Joins p o (Mark gv ∷ Method fr sh ∷ ls) → unissued states ≡ true →

@@ -26,14 +26,14 @@ use Rattle.aom_safety.specs.Claims.{Ending, Dispatching, Dying, Form, Layer, Mar
 use Rattle.aom_semantics.specs.Cleanup.{code_told, ended_by, to_trap}
 use Rattle.aom_classes.specs.Roles.{destructor_of}
 use Rattle.aom_semantics.specs.Destruction.{line_on, next_destructor, destructed, parting, first_session, begun, begun_by}
-use Rattle.aom_semantics.specs.Effects.{Calls, Cancels, Counts, Destroys, Destroys_last, Effect, Goes_on, Jumps, Leaves, Operates, Repeats, Returns, Sets_trap, Update, applied, items_after, with_words}
+use Rattle.aom_semantics.specs.Effects.{Calls, Cancels, Destroys, Destroys_last, Effect, Goes_on, Leaves, Operates, Returns, Sets_trap, Update, applied, items_after, with_words}
 use Rattle.aom_safety.specs.Laws.{IsWired}
 use Rattle.aom_semantics.specs.Moves.{IsOpen, counted, does, needs, step, step_instr, step_task}
 use Rattle.aom_semantics.specs.Places.{service_of, Object, named}
-use Rattle.aom_semantics.specs.State.{Static, Inside, AtRoot, Home, Closing, Seat, A_mark, An_object, An_operation, Choice, Destroy, Dispatch, Dispatched, Frame, Goes, Item, Run, State, Task, Trapped, Unwind, next, resumed, set_word}
+use Rattle.aom_semantics.specs.State.{Inside, Home, Closing, Seat, A_mark, An_object, An_operation, Choice, Destroy, Dispatch, Dispatched, Frame, Goes, Item, Run, State, Task, Trapped, Unwind, next, resumed, set_word}
 use Rattle.aom_safety.specs.Steps.{Empties, Acts, Arrives, Clears, Comes_out, Ends as A_dispatch_ends, Move, Rests, Undoes, Vanishes}
 use Rattle.aom_safety.specs.Traps.{ComesOff, GoesOnAfter, IsPast, IsTrapping, TellsZero, TrapsKeep, WasPast, marks, traps}
-use Rattle.aom_safety.specs.WellTyped.{Keeps, WellTyped}
+use Rattle.aom_safety.specs.WellTyped.{WellTyped}
 use Rattle.aom_semantics.specs.World.{Heard, HearsWell, IsBetween, IsBusy, Environment, Reaches, begins, boot_state, moves, turn, turns}
 use Rattle.aom_transcript.specs.declared.line.Line.{Line}
 use Rattle.aom_semantics.specs.Enlisted.{ended_cells}
@@ -149,13 +149,12 @@ destructs_there p o height below ts e = go (destructor_of p o.thing)
     go (Some m) = with_task below (Destroy ∷ ts) _ (with_task below ts Destroy e)
 
 line_there : (p : Image) (m : ℕ) (home : Home) (height : ℕ) (below ts : List Task) → Ends below (Destroy ∷ ts) → Ends below (line_on p m home height ts)
-line_there p m Static height below ts e = e
-line_there p m AtRoot height below ts e = e
 line_there p m (Inside o from) height below ts e = go (next_destructor p m)
   where
     go : (d : Option ℕ) → Ends below (begun_by p d o height ts)
     go None = e
     go (Some k) = with_task below (Destroy ∷ ts) _ e
+line_there p m x height below ts e = grind arith
 
 begins_there : (p : Image) (o : Object) (height : ℕ) (below ts : List Task) → Ends below ts → Ends below (begun p o height ts)
 begins_there p o height below ts e = go (is_server p o.thing)
@@ -205,9 +204,6 @@ near x items = grind (arith, nat_tests, near_top items)
 module _ (p : Image) (c : Choice) (s : State) (below : List Task) where
   acts : (fr : Frame) (ts : List Task) (i : Instr) (e : Effect) → s.tasks ≡ Run fr ∷ ts → Ends below ts → Moved p below s (applied p fr ts (counted p s) e)
   acts fr ts i (Goes_on ch) at o = inl (with_task below ts _ o, near ch.update s.items)
-  acts fr ts i (Jumps to) at o = inl (with_task below ts _ o, inl refl)
-  acts fr ts i (Counts d n) at o = inl (with_task below ts _ o, inl refl)
-  acts fr ts i (Repeats d n to) at o = inl (with_task below ts _ o, inl refl)
   acts fr ts i (Calls target m first) at o = inl (with_task below (Run fr ∷ ts) _ (with_task below ts (Run fr) o), inl refl)
   acts fr ts i (Cancels m) at o = inl (with_task below (Run fr ∷ ts) _ (with_task below ts (Run fr) o), inl refl)
   acts fr ts i (Sets_trap target m first) at o = inl (with_task below (Trapped ∷ Run fr ∷ ts) _ (with_task below (Run fr ∷ ts) Trapped (with_task below ts (Run fr) o)), inr (inl (A_mark, refl)))
@@ -216,6 +212,7 @@ module _ (p : Image) (c : Choice) (s : State) (below : List Task) where
   acts fr ts i (Destroys x a words) at o = inl (begins_there p x (length s.items) below (Run (with_words fr words) ∷ ts) (with_task below ts _ o), inl refl)
   acts fr ts i (Destroys_last x) at o = inl (begins_there p x (length (below_top s.items)) below (Run fr ∷ ts) (with_task below ts _ o), near_top s.items)
   acts fr ts i (Operates m w) at o = inl (with_task below (Run fr ∷ ts) _ (with_task below ts (Run fr) o), near_top s.items)
+  acts fr ts i _ at o = inl (with_task below ts _ o, inl refl)
 
   -- the code arrives at the trap, or at another over it
   arrives : (code : ℤ) (fr : Frame) (ts : List Task) (items : List Item) → s.tasks ≡ Unwind code ∷ Trapped ∷ Run fr ∷ ts → s.items ≡ A_mark ∷ items → (Run fr ∷ ts ≡ below) ⊎ Ends below (Run fr ∷ ts) →
@@ -232,16 +229,15 @@ module _ (p : Image) (c : Choice) (s : State) (below : List Task) where
   moved t u w o (Rests still e) = subst (λ v. Moved p below s v) (sym e) (inl (o, inl refl))
   moved t u w o (Acts fr ts i e at there met fits same) = grind (arith, nat_tests, acts fr ts i e at, under_frame below ts fr)
   moved t u w o (Vanishes ts x at there owns same) = grind (arith, nat_tests, resumes below ts, under_going below ts)
-  moved t u w o (Empties ts x at there same) = subst (λ v. Moved p below s v) (sym same) (inl (empties_there p x (first_session s.cells x.name (service_of s.cells x.name).sessions) below ts (counted p s) (under_going below ts (under_closing below (Destroy ∷ ts) (subst (λ l. Ends below l) at o)))))
+  moved t u w o (Empties ts x at there same) = rw same (inl (empties_there p x (first_session s.cells x.name (service_of s.cells x.name).sessions) below ts (counted p s) (under_going below ts (under_closing below (Destroy ∷ ts) (rw at at o)))))
   moved t u w o (Clears code ts items x at top there same) =
-      subst (λ v. Moved p below s v) (sym same) (inl (begins_there p x (length items) below (Unwind code ∷ ts) (subst (λ l. Ends below l) at o), inr (inr (An_object, top))))
-  moved t u w o (Undoes code ts items m x at top same) =
-      subst (λ v. Moved p below s v) (sym same) (inl (with_task below (Unwind code ∷ ts) _ (subst (λ l. Ends below l) at o), inr (inr (An_operation m x, top))))
+      subst (λ v. Moved p below s v) (sym same) (inl (grind (arith, nat_tests, begins_there), inr (inr (An_object, top))))
+  moved t u w o (Undoes code ts items m x at top same) = rw same (inl (with_task below (Unwind code ∷ ts) _ (rw at at o), inr (inr (An_operation m x, top))))
   moved t u w o (Arrives code fr ts items at top same) =
-      subst (λ v. Moved p below s v) (sym same) (arrives code fr ts items at top (under_trap below _ (under_leave below _ code (subst (λ l. Ends below l) at o))))
+      rw same (arrives code fr ts items at top (under_trap below _ (under_leave below _ code (rw at at o))))
   moved t u w o (Comes_out code d ts items at top same) =
-      subst (λ v. Moved p below s v) (sym same) (comes_out code d ts items at top (under_trap below _ (under_leave below _ code (subst (λ l. Ends below l) at o))))
-  moved t u w o (A_dispatch_ends d ts at same) = absurd (none_below below (subst (λ l. Ends below l) (nothing_under p t s d ts w at) (under_dispatch below ts d (subst (λ l. Ends below l) at o))))
+      rw same (comes_out code d ts items at top (under_trap below _ (under_leave below _ code (rw at at o))))
+  moved t u w o (A_dispatch_ends d ts at same) = grind (arith, nat_tests, none_below below, nothing_under p t s d ts w at, under_dispatch below ts d)
 
 -- ---- so the mark of the trap and what lies below it stay
 
@@ -252,10 +248,8 @@ module _ (p : Image) (t : Typing) (s u : State) (before : WellTyped p t s) (afte
 
   -- with these entries over the mark
   kept_by : (over : List Task) → u.tasks ≡ over ++ (Trapped ∷ below) → (entries : List Item) → u.items ≡ entries ++ (A_mark ∷ items) → IsTrapping below items u
-  kept_by over at entries stack = record { over = over; tasks = at; entries = entries; stack = stack; matched = same }
-    where
-      same : marks entries ≡ traps over
-      same = grind (arith, nat_tests, all_matched p t u after, marks_join entries (A_mark ∷ items), traps_join over (Trapped ∷ below), lower)
+  kept_by over at entries stack =
+      search (arith, nat_tests, all_matched p t u after, marks_join entries (A_mark ∷ items), traps_join over (Trapped ∷ below), lower)
 
   -- the mark itself does not go while the trap is there
   not_gone : (over : List Task) → u.tasks ≡ over ++ (Trapped ∷ below) → u.items ≡ items → ⊥
@@ -298,7 +292,7 @@ keeps_trap :
     (p : Image) (t : Typing) → IsWired p → IsTyped p t → (c : Choice) (s u : State) → WellTyped p t s → named s.cells c.name ≡ None →
     (below : List Task) (items : List Item) → IsTrapping below items s → step p c s ≡ Goes u → IsTrapping below items u ⊎ IsPast p below items s u
 keeps_trap p t wired typed c s u w unused below items h e =
-    by_moved p t s u w (subst (λ o. Keeps p t o) e (step_keeps p t wired typed c s w unused)) below items h (moved p c s below t u w (h.over, h.tasks) (steps_are_moves p c s u e))
+    by_moved p t s u w (grind (arith, nat_tests, step_keeps)) below items h (moved p c s below t u w (h.over, h.tasks) (steps_are_moves p c s u e))
 
 module _ (p : Image) (t : Typing) (outside : Environment) (wired : IsWired p) (typed : IsTyped p t) (from : State) (well : WellKept p t from) (below : List Task) (items : List Item) where
   abbrev Lasts : State → Type 0
@@ -306,18 +300,7 @@ module _ (p : Image) (t : Typing) (outside : Environment) (wired : IsWired p) (t
 
   -- what was so on the way stays so further on
   past_on : (s u : State) (h : WasPast p outside below items from s) (lines : List Line) → Reaches p outside h.after lines u → WasPast p outside below items from u
-  past_on s u h lines reaches = record {
-    earlier = h.earlier;
-    last = h.last;
-    until = h.until;
-    trapping = h.trapping;
-    choice = h.choice;
-    after = h.after;
-    move = h.move;
-    past = h.past;
-    lines = lines;
-    reaches = reaches;
-  }
+  past_on s u h lines reaches = search (arith, nat_tests)
 
   moved_on : (lines : List Line) (s u : State) (c : Choice) → WellTyped p t s → Reaches p outside from lines s → IsBusy s → IsOpen p outside.refused c s → step p c s ≡ Goes u → Lasts s → Lasts u
   moved_on lines s u c w before busy choice e (inl h) = go (keeps_trap p t wired typed c s u w choice.name below items h e)

@@ -1,6 +1,6 @@
 -- What a turn changes: nothing but what no place tells, the request of an object that is completed, what a native that is killed leaves behind, or what a client's command comes to, or all that a dispatch begins with.
 use Rattle.std.proofs.lemmas.Bool.Decides.{nat_tests}
-use Rattle.std.proofs.Common.{arith, Bool, List, None, Option, Some, cond, false, negsuc, pos, refl, subst, sym, true, ℕ, ℤ, ◌∷◌, ◌≡◌}
+use Rattle.std.proofs.Common.{arith, Bool, List, None, Option, Some, cond, false, negsuc, pos, refl, subst, ℕ, ℤ, ◌∷◌, ◌≡◌}
 use Rattle.std.specs.Ordering.{int_eq}
 use Rattle.aom_image.proofs.Given.{some_given}
 use Rattle.aom_image.specs.Image.{Image}
@@ -8,14 +8,13 @@ use Rattle.aom_image.specs.declared.method.Role.TheVariants.{Accept as Accepts_r
 use Rattle.aom_safety.proofs.Guarded.{goes_same, guarded_goes}
 use Rattle.aom_semantics.specs.Enlisted.{completed_with, part_of, pending, recorded, taken_up}
 use Rattle.aom_semantics.specs.Natives.{all_bereaved, is_outstanding_at}
-use Rattle.aom_semantics.specs.Places.{Asked, Connect_of, Message_of, Close_of, Elsewhere, Session, In_service, Queued, Going, held, moved, service_of, Object}
+use Rattle.aom_semantics.specs.Places.{Asked, Connect_of, Message_of, Close_of, Elsewhere, Session, In_service, Queued, Going, held, moved, Object}
 use Rattle.aom_semantics.specs.State.{Dispatched, Of_server, Accepts, Serves, Parts, frame_of, Inside, A_mark, CompletedTwice, Goes, Counters, Seat, State}
-use Rattle.aom_semantics.specs.World.{Obeys, heard_one, serving, taken_from, message_words, serves_first, accepting, attending, attended, parting_with, picked as any_picked, Completes, Completion, Heard, Kills, Environment, Picks, Polls, Strays, Turning, answered_by, cell_at, dispatched, past_native, polled, run_tasks, turn, turned, turning, with_request}
+use Rattle.aom_semantics.specs.World.{Obeys, heard_one, serving, taken_from, message_words, serves_first, attending, attended, picked as any_picked, Completes, Completion, Heard, Kills, Environment, Picks, Polls, Strays, Turning, answered_by, cell_at, dispatched, past_native, polled, run_tasks, turn, turned, turning, with_request}
 use Rattle.std.specs.Prelude.{[], length}
 use Rattle.aom_clients.specs.declared.client.Client.{Client}
 use Rattle.aom_clients.specs.declared.refusal.Refusal.{Refusal}
 use Rattle.aom_semantics.specs.Clients.{commanded, Listed, connecting, sending, leaving}
-use Rattle.aom_semantics.specs.Servers.{is_server}
 use Rattle.aom_semantics.specs.Destruction.{begun}
 use Rattle.aom_transcript.specs.declared.event.Command.{Command}
 
@@ -59,23 +58,15 @@ dispatched_so p s u x e = grind (arith, nat_tests)
 -- the first of a server's queue is served
 serves_so : (p : Image) (s u : State) (x : Seat) (queue : List Asked) → serves_first p x queue s ≡ Goes u → Picked p s x u
 serves_so p s u x [] e = cc
-serves_so p s u x (Connect_of client ∷ es) e =
-    some_given (λ m. accepting m x client (taken_from x.object.name s) ≡ Goes u) (part_of p Accepts_role x.object.thing) e
-    (λ stuck. cc) (λ m at e. subst (λ v. Picked p s x v) (goes_same _ u e) (accepts client m at))
+serves_so p s u x (Connect_of client ∷ es) e = grind (arith, nat_tests, some_given, goes_same, accepts)
 serves_so p s u x (Message_of client message ∷ es) e =
     some_given (λ o. attended p x client o message (taken_from x.object.name s) ≡ Goes u) (held s.cells (Elsewhere (Session x.object.name client))) e (λ stuck. cc) (λ o there e.
     some_given (λ m. attending m x client o message (taken_from x.object.name s) ≡ Goes u) (part_of p Attends o.thing) e (λ stuck. cc) (λ m at e.
     subst (λ v. Picked p s x v) (goes_same _ u e) (attends client message m o there at)))
-serves_so p s u x (Close_of client ∷ es) e =
-    some_given (λ o. parting_with p x client o (taken_from x.object.name s) ≡ Goes u) (held s.cells (Elsewhere (Session x.object.name client))) e
-    (λ stuck. cc) (λ o there e. subst (λ v. Picked p s x v) (goes_same _ u e) (parts client o there))
+serves_so p s u x (Close_of client ∷ es) e = grind (arith, nat_tests, some_given, goes_same, parts)
 
 pub picked_so : (p : Image) (s u : State) (x : Seat) → any_picked p x s ≡ Goes u → Picked p s x u
-picked_so p s u x e = go (is_server p x.object.thing) e
-  where
-    go : (b : Bool) → cond b (serves_first p x (service_of s.cells x.object.name).queue s) (dispatched (part_of p Handles x.object.thing) x s) ≡ Goes u → Picked p s x u
-    go true e = serves_so p s u x (service_of s.cells x.object.name).queue e
-    go false e = let d = dispatched_so p s u x e in subst (λ v. Picked p s x v) (sym d.2) (handles d.0 d.1)
+picked_so p s u x e = grind (arith, nat_tests, serves_so, dispatched_so, handles)
 
 -- steps are counted anew, and natives are polled anew
 pub picked_rest : (p : Image) (s u : State) (x : Seat) → any_picked p x s ≡ Goes u → u.rest ≡ record s.rest { steps = 0; polled = 0 }

@@ -92,8 +92,7 @@ module _ (c : Cell) (cs : List Cell) (y : Candidate) (tidy : Tidy (c ∷ cs)) (r
       go false e = let equal : me r ≡ y = cc in subst (λ z. Found (c ∷ cs) z) equal (found_here r here ready)
 
   of_ready : (r : Request) → c.request ≡ Some r → (b : Bool) → goes_now c r ≡ b → cond b (Some (before_others (me r) (first_ready cs))) (first_ready cs) ≡ Some y → Found (c ∷ cs) y
-  of_ready r here true ready e = first r here (first_ready cs) refl ready e
-  of_ready r here false ready e = among (first_ready cs) refl e
+  of_ready r here x ready e = grind (arith, nat_tests, first, ready, among)
 
   of_request : (r : Option Request) → c.request ≡ r → among_ready c r (first_ready cs) ≡ Some y → Found (c ∷ cs) y
   of_request x here e = grind (arith, nat_tests, among, of_ready)
@@ -165,8 +164,7 @@ module _ (p : Image) (t : Typing) (s : State) (w : WellTyped p t s) (idle_now : 
 
     others_then : (y : Object) → named then y.name ≡ Some y → (o.name == y.name) ≡ false → Suits (thing_kind p y.thing) (resting_in (rests_in p y)) (requested then y.name)
     others_then y lives other =
-        subst (λ r. Suits (thing_kind p y.thing) (resting_in (rests_in p y)) r) (sym (requested_there s.cells o.name y.name (on_request f (requested s.cells o.name)) other))
-        (good.suits y (sym (alike.named_so y.name) ∙ lives))
+        rw (requested_there s.cells o.name y.name (on_request f (requested s.cells o.name)) other) (good.suits y (sym (alike.named_so y.name) ∙ lives))
 
   -- the request of an object is completed
   module _ (code : ℤ) (settled : int_eq code pending ≡ false) (o : Object) where
@@ -181,7 +179,7 @@ module _ (p : Image) (t : Typing) (s : State) (w : WellTyped p t s) (idle_now : 
         go true same =
             let equal : o.name ≡ y.name = eqb-true o.name y.name same in
             subst (λ n. Suits (thing_kind p y.thing) (resting_in (rests_in p y)) (requested (with_request (completed_with code) o s.cells) n)) equal
-            (subst (λ r. Suits (thing_kind p y.thing) (resting_in (rests_in p y)) r) (sym (requested_here s.cells o.name (on_request (completed_with code) (requested s.cells o.name)) y (ap (λ n. named s.cells n) equal ∙ was)))
+            (subst (λ r. Suits (thing_kind p y.thing) (resting_in (rests_in p y)) r) (grind (arith, nat_tests, requested_here, was))
             (suits_completed code settled (thing_kind p y.thing) (resting_in (rests_in p y)) (requested s.cells o.name)
             (subst (λ n. Suits (thing_kind p y.thing) (resting_in (rests_in p y)) (requested s.cells n)) (sym equal) (good.suits y was))))
 
@@ -192,8 +190,7 @@ module _ (p : Image) (t : Typing) (s : State) (w : WellTyped p t s) (idle_now : 
   suits_without : (n : ℕ) → AllSuit p (all_bereaved p n s.cells) []
   suits_without n y lives =
       let was : named s.cells y.name ≡ Some y = sym ((bereaved_alike p n s.cells).named_so y.name) ∙ lives in
-      subst (λ r. Suits (thing_kind p y.thing) (resting_in (rests_in p y)) r) (sym (requested_bereaved p n s.cells y was))
-      (suits_bereaved (is_served_by p n y.thing) (thing_kind p y.thing) (resting_in (rests_in p y)) (requested s.cells y.name) (good.suits y was))
+      rw (requested_bereaved p n s.cells y was) (suits_bereaved (is_served_by p n y.thing) (thing_kind p y.thing) (resting_in (rests_in p y)) (requested s.cells y.name) (good.suits y was))
 
   pub bereaved_well : (n : ℕ) (r : Counters) (killed : List ℕ) → WellTyped p t (record s { cells = all_bereaved p n s.cells; rest = r; killed = killed })
   bereaved_well n r killed = alike_well (all_bereaved p n s.cells) (bereaved_alike p n s.cells) r killed (suits_without n)
@@ -277,7 +274,7 @@ module _ (p : Image) (t : Typing) (s : State) (w : WellTyped p t s) (idle_now : 
     server_well :
         (y : Candidate) → Found s.cells y → is_server p y.seat.object.thing ≡ true → (queue : List Asked) → (service_of s.cells y.seat.object.name).queue ≡ queue →
         Keeps p t (serves_first p y.seat queue s)
-    server_well y it_is server [] e = absurd (true≢false (sym it_is.ready ∙ ap (λ q. is_ready y.request || has_more q) e ∙ or_false (is_ready y.request) ∙ idles (thing_kind p y.seat.object.thing) y.request server (subst (λ r. Suits (thing_kind p y.seat.object.thing) (resting_in (rests_in p y.seat.object)) r) it_is.asked (good.suits y.seat.object it_is.lives))))
+    server_well y it_is server [] e = absurd (true≢false (sym it_is.ready ∙ ap (λ q. is_ready y.request || has_more q) e ∙ or_false (is_ready y.request) ∙ idles (thing_kind p y.seat.object.thing) y.request server (rw it_is.asked at (good.suits y.seat.object it_is.lives))))
     server_well y it_is server (Connect_of client ∷ es) e = accepts_well p t wired typed s w idle_now fit y.seat y.request it_is.there it_is.lives it_is.asked server client es e
     server_well y it_is server (Message_of client m ∷ es) e = attends_well p t wired typed s w idle_now fit y.seat y.request it_is.there it_is.lives it_is.asked server client m es e
     server_well y it_is server (Close_of client ∷ es) e = parts_well p t wired typed s w idle_now fit y.seat y.request it_is.there it_is.lives it_is.asked server client es e

@@ -101,7 +101,7 @@ under p t cs Leaves (Mark gv ∷ ls) s = let b = under p t cs (Caught gv) ls s.1
 under p t cs Now (Ending o left ∷ Dying x ∷ ls) s = let b = under p t cs Gone ls s.3.2 in (Closes b.0, ap (λ l. Closing ∷ Destroy ∷ l) b.1)
 under p t cs Gone (Ending o left ∷ Dying x ∷ ls) s = let b = under p t cs Gone ls s.3.2 in (Its_server b.0, ap (λ l. Closing ∷ Destroy ∷ l) b.1)
 under p t cs Gone (Dispatching (Of_server x client Parts) seats ∷ ls) s = (A_close x client, ap (λ l. Dispatched (Of_server x client Parts) ∷ tasks_of l) s.1)
-under p t cs (Caught g) (Dispatching (Of_server x client stage) seats ∷ ls) s = (Server's x client stage, ap (λ l. Dispatched (Of_server x client stage) ∷ tasks_of l) s.1)
+under p t cs (Caught g) (Dispatching (Of_server x client stage) seats ∷ ls) s = (Server's x client stage, grind (arith, nat_tests))
 under p t cs _ _ s = absurd (grind arith)
 
 pub stacked : (p : Image) (t : Typing) (s : State) → WellTyped p t s → (k : Tower) × (s.tasks ≡ all_listed k)

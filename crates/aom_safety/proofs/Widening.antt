@@ -7,9 +7,9 @@ use Rattle.aom_shape.specs.Kinds.{is_object_or_null, is_own_for, is_ready_kind, 
 use Rattle.aom_shape.specs.Shape.{Shape}
 use Rattle.aom_roles.specs.Tables.{put_at}
 use Rattle.aom_rules.specs.Typing.{Typing}
-use Rattle.aom_shape.specs.declared.kind.Age.TheVariants.{Fresh, Ready}
+use Rattle.aom_shape.specs.declared.kind.Age.TheVariants.{Ready}
 use Rattle.aom_shape.specs.declared.kind.Kind.{Kind}
-use Rattle.aom_shape.specs.declared.kind.Kind.TheVariants.{Maybe, Null, Own, Unset, Word}
+use Rattle.aom_shape.specs.declared.kind.Kind.TheVariants.{Maybe, Null, Own, Unset}
 use Rattle.aom_safety.proofs.Claimed.{claim-set_register}
 use Rattle.aom_semantics.proofs.Maps.{at-put_at}
 use Rattle.aom_safety.proofs.Straight.{Fitted, register_fits, relabel, top, word_of_object}
@@ -34,34 +34,22 @@ pub record Widens (p : Image) (k v : Kind) : Type 0 where
 
 module _ (p : Image) where
   pub own_widens : (x : Thing) (k : Kind) → is_own_for p x k ≡ true → is_ready_kind k ≡ true → Widens p k (Own x Ready)
-  own_widens x Unset e r = cc
-  own_widens x Word e r = cc
-  own_widens x Null e r = cc
-  own_widens x (Maybe y a) e r = cc
-  own_widens x (Own y Fresh) e r = cc
   own_widens x (Own y Ready) e r = record { object = refl; fits = go; word = refl }
     where
       go : (h : Sight) (o : Option Object) → Fits p h o (Own y Ready) → Fits p h o (Own x Ready)
       go h None f = f
       go h (Some o) f = (stands_along p o.thing y x f.0 e, tt)
+  own_widens x y e r = grind arith
 
   pub own_widens_more : (x : Thing) (k : Kind) → is_own_for p x k ≡ true → is_ready_kind k ≡ true → Widens p k (Maybe x Ready)
-  own_widens_more x Unset e r = cc
-  own_widens_more x Word e r = cc
-  own_widens_more x Null e r = cc
-  own_widens_more x (Maybe y a) e r = cc
-  own_widens_more x (Own y Fresh) e r = cc
   own_widens_more x (Own y Ready) e r = record { object = refl; fits = go; word = refl }
     where
       go : (h : Sight) (o : Option Object) → Fits p h o (Own y Ready) → Fits p h o (Maybe x Ready)
       go h None f = tt
       go h (Some o) f = (stands_along p o.thing y x f.0 e, tt)
+  own_widens_more x y e r = grind arith
 
   pub hold_widens : (x : Thing) (k : Kind) → may_be p x k ≡ true → is_ready_kind k ≡ true → Widens p k (Maybe x Ready)
-  hold_widens x Unset e r = cc
-  hold_widens x Word e r = cc
-  hold_widens x (Own y Fresh) e r = cc
-  hold_widens x (Maybe y Fresh) e r = cc
   hold_widens x Null e r = record { object = refl; fits = go; word = refl }
     where
       go : (h : Sight) (o : Option Object) → Fits p h o Null → Fits p h o (Maybe x Ready)
@@ -72,14 +60,14 @@ module _ (p : Image) where
       go : (h : Sight) (o : Option Object) → Fits p h o (Maybe y Ready) → Fits p h o (Maybe x Ready)
       go h None f = tt
       go h (Some o) f = (stands_along p o.thing y x f.0 e, tt)
+  hold_widens x _ e r = cc
 
   -- what the register of a frame is claimed to be widens
   pub retaken :
       (t : Typing) (cs : List Cell) (fr : Frame) (sh : Shape) (ls : List Layer) (c : ℕ) (k v : Kind) → Widens p k v → Fitted p t cs fr (set_register sh c k) ls → Fitted p t cs fr (set_register sh c v) ls
   retaken t cs fr sh ls c k v wide g =
-      subst (λ ks. Fitted p t cs fr (record sh { registers = ks }) ls) (put_twice Unset sh.registers c k v)
-      (relabel p t cs fr fr narrow (set_register narrow c v) ls (top ls c) v g refl refl refl refl
-      (wide.fits (seen cs) (held cs (top ls c)) (subst (λ x. Fits p (seen cs) (held cs (top ls c)) x) here (register_fits p cs fr narrow ls g.fits c)))
+      rw (put_twice Unset sh.registers c k v) at (relabel p t cs fr fr narrow (set_register narrow c v) ls (top ls c) v g refl refl refl refl
+      (wide.fits (seen cs) (held cs (top ls c)) (rw here at (register_fits p cs fr narrow ls g.fits c)))
       (λ r. claim-set_register p (declared p cs) fr narrow ls c v r) words)
     where
       narrow : Shape

@@ -39,7 +39,7 @@ use Rattle.aom_roles.specs.States.{cancel_open, first_of, last_of, server_states
 use Rattle.aom_rules.specs.Requests.{own_kind, unissued}
 use Rattle.aom_shape.specs.Arguments.{after_in, after_of, before_in, before_of}
 use Rattle.aom_image.specs.declared.class.ClassKind.{ClassKind}
-use Rattle.aom_image.specs.declared.class.ClassKind.TheVariants.{Active as An_active, Plain, Server as A_server, Session}
+use Rattle.aom_image.specs.declared.class.ClassKind.TheVariants.{Active as An_active, Server as A_server}
 use Rattle.aom_roles.specs.Kinds.{is_active_kind}
 use Rattle.aom_shape.proofs.Sets.{has_along}
 
@@ -104,9 +104,7 @@ module _ (p : Image) (formed : WellFormed p) (linked : IsLinked p) where
   -- a method that plays a role for a class, of the class or of one that it descends from, and its shape
   its_role : (c m : ℕ) (r : Role) → role_of p c r ≡ Some m → (d : Method_declared) × (method_at p m ≡ Some d) × IsOfFamily p c m × (d.role ≡ r) × HasShape r (kind_of p d.class) d
   unfolding class_in
-  its_role c m r e =
-      let w = role_inherits p c m r e in
-      (w.method, w.there, record { class = w.class; of = ap class_in w.there ∙ w.of; above = w.family }, w.role, of_role m w.method r w.there w.role)
+  its_role c m r e = search (arith, nat_tests, role_inherits p c m r e, of_role m)
 
   -- and of a role that is not inherited, of the class itself
   own_its_role : (c m : ℕ) (r : Role) → is_inherited r ≡ false → role_of p c r ≡ Some m → (d : Method_declared) × (method_at p m ≡ Some d) × (d.class ≡ Some c) × (d.role ≡ r) × HasShape r (kind_of p d.class) d
@@ -176,28 +174,11 @@ module _ (p : Image) (formed : WellFormed p) (linked : IsLinked p) where
 
   handler_is : (c m : ℕ) → role_of p c Run ≡ Some m → IsHandler p c m
   unfolding role_in arguments_in gives_in before_in
-  handler_is c m e =
-      let d = its_role c m Run e in record {
-        there = rw d.1 refl;
-        role = ap role_in d.1 ∙ ap (λ r. Some r) d.3;
-        family = d.2;
-        arguments = ap arguments_in d.1 ∙ nil_from_length d.0.arguments d.4.takes.count;
-        gives = ap gives_in d.1 ∙ nothing_given d.0.gives d.4.gives;
-        begins = ap before_in d.1 ∙ d.4.begins;
-      }
+  handler_is c m e = search (arith, nat_tests, its_role c m Run e, nil_from_length, nothing_given)
 
   answerer_is : (c m : ℕ) → role_of p c Error ≡ Some m → IsAnswerer p c m
   unfolding role_in arguments_in gives_in leaves_in before_in
-  answerer_is c m e =
-      let d = its_role c m Error e in record {
-        there = rw d.1 refl;
-        role = ap role_in d.1 ∙ ap (λ r. Some r) d.3;
-        family = d.2;
-        arguments = ap arguments_in d.1 ∙ words_alone 1 d.0.arguments d.4.takes.count d.4.takes.words;
-        gives = ap gives_in d.1 ∙ word_given d.0.gives d.4.gives;
-        leaves = ap leaves_in d.1 ∙ d.4.flags;
-        begins = ap before_in d.1 ∙ d.4.begins;
-      }
+  answerer_is c m e = search (arith, nat_tests, its_role c m Error e, words_alone 1, word_given)
 
   -- a server has a method that accepts
   has_acceptor : (c session : ℕ) → sessions_at p c ≡ Some session → (m : ℕ) × (role_of p c Accept ≡ Some m)
@@ -206,28 +187,11 @@ module _ (p : Image) (formed : WellFormed p) (linked : IsLinked p) where
 
   acceptor_is : (c session m : ℕ) → sessions_at p c ≡ Some session → role_of p c Accept ≡ Some m → IsAcceptor p c m session
   unfolding role_in class_in arguments_in gives_in before_in kind_of
-  acceptor_is c session m serves e =
-      let d = own_its_role c m Accept refl e in
-      let gives : IsTrue (gives_object session d.0.gives) = grind (arith, nat_tests) in record {
-        there = rw d.1 refl;
-        role = ap role_in d.1 ∙ ap (λ r. Some r) d.3;
-        class = ap class_in d.1 ∙ d.2;
-        arguments = ap arguments_in d.1 ∙ nil_from_length d.0.arguments d.4.takes.count;
-        gives = ap gives_in d.1 ∙ object_given session d.0.gives gives;
-        begins = ap before_in d.1 ∙ d.4.begins;
-      }
+  acceptor_is c session m serves e = search (arith, nat_tests, own_its_role c m Accept, nil_from_length, object_given session)
 
   attendant_is : (c m : ℕ) → role_of p c Service ≡ Some m → IsAttendant p c m
   unfolding role_in class_in arguments_in gives_in kind_of
-  attendant_is c m e =
-      let d = own_its_role c m Service refl e in record {
-        session = ap (λ k. is_session_in (kind_of p k)) (sym d.2) ∙ d.4.of;
-        there = rw d.1 refl;
-        role = ap role_in d.1 ∙ ap (λ r. Some r) d.3;
-        class = ap class_in d.1 ∙ d.2;
-        arguments = ap arguments_in d.1 ∙ words_alone 5 d.0.arguments d.4.takes.count d.4.takes.words;
-        gives = ap gives_in d.1 ∙ nothing_given d.0.gives d.4.gives;
-      }
+  attendant_is c m e = search (arith, nat_tests, own_its_role c m Service, words_alone 5, nothing_given)
 
   -- what is of a class of sessions has a method that serves, and no sessions
   of_session : (c : ℕ) → is_session p c ≡ true → ((m : ℕ) × (role_of p c Service ≡ Some m)) × (sessions_at p c ≡ None)
@@ -263,9 +227,7 @@ module _ (p : Image) (formed : WellFormed p) (linked : IsLinked p) where
   do_ends : (k : Option ClassKind) (d : Method_declared) → IsDo k d → unissued d.after.0 ≡ true
   do_ends (Some (An_active v)) d s = ap not s.settled
   do_ends (Some (A_server most x)) d s = unissued_part server_states d.after.0 refl s.ends.within
-  do_ends None d s = ap unissued s.ends
-  do_ends (Some Plain) d s = ap unissued s.ends
-  do_ends (Some Session) d s = ap unissued s.ends
+  do_ends _ d s = ap unissued s.ends
 
   construct_ends : (k : Option ClassKind) (d : Method_declared) → IsConstruct k d → unissued d.after.0 ≡ true
   unfolding states_of

@@ -1,6 +1,6 @@
 -- Between dispatches the cells that a client leaves as it closes or dies are well typed: its messages that wait go with their entries.
 use Rattle.std.proofs.lemmas.Bool.Decides.{nat_tests}
-use Rattle.std.proofs.Common.{arith, Bool, List, None, Option, Some, [], ap, cond, false, inl, inr, refl, subst, sym, true, ℕ, ◌&&◌, ◌==◌, ◌∙◌, ◌∷◌, ◌≡◌}
+use Rattle.std.proofs.Common.{arith, Bool, List, None, Option, Some, [], ap, cond, false, refl, subst, sym, true, ℕ, ◌&&◌, ◌==◌, ◌∙◌, ◌∷◌, ◌≡◌}
 use Rattle.std.proofs.lemmas.Bool.{eq-eqb, true≢false}
 use Rattle.std.specs.List.{list_any}
 use Rattle.std.specs.Prelude.{filter, not, ◌||◌, ◌⊎◌}
@@ -20,9 +20,9 @@ use Rattle.aom_safety.proofs.Queues.{none_stays}
 use Rattle.aom_safety.proofs.Sifted.{cell_in, cell_in_sifted, cell_lives, cell_of, cell_of_sifted, cell_owner, cell_placed, held_cell, kept, named_cell, object_in, request_in, requested_cell, service_cell, service_in, sifted, tidy_sifted, withdrawn_so}
 use Rattle.aom_safety.specs.Claims.{declared, declared_field}
 use Rattle.aom_safety.specs.Kept.{ClientsFit, is_message_of}
-use Rattle.aom_semantics.specs.Places.{Asked, Cell, Close_of, Connect_of, Elsewhere, Field, Message_of, Object, Place, Queued, Sender, Session, held, named, requested, seen, service_of}
+use Rattle.aom_semantics.specs.Places.{Asked, Cell, Close_of, Connect_of, Elsewhere, Message_of, Object, Place, Queued, Sender, Session, held, named, requested, seen, service_of}
 use Rattle.aom_safety.specs.Requests.{AllSuit}
-use Rattle.aom_semantics.specs.Servers.{has_message, has_session, is_from, is_message, is_queue, is_server, left_by, message_thing, session_thing, stays, withdrawn}
+use Rattle.aom_semantics.specs.Servers.{has_message, is_from, is_message, is_queue, is_server, left_by, message_thing, stays, withdrawn}
 use Rattle.aom_safety.specs.WellTyped.{Fits, Good}
 use Rattle.aom_safety.proofs.Things.{message_plain}
 
@@ -84,13 +84,7 @@ module _ (p : Image) (t : Typing) (clients : List Client) (cs : List Cell) (good
 
   -- what is in no queue stays
   stays_held : (q : Place) → is_queue q ≡ false → held left q ≡ held cs q
-  stays_held q apart = held_cell left q ∙ ap object_in (cell_in_sifted drops (λ x. left_by c x.service) cs q good.tidy) ∙ go (cell_in cs q) refl ∙ sym (held_cell cs q)
-    where
-      go : (x : Option Cell) → cell_in cs q ≡ x → object_in (after x) ≡ object_in x
-      go None e = refl
-      go (Some x) e =
-          ap (λ b. object_in (cond b None (Some (record x { service = left_by c x.service }))))
-          (ap (λ r. is_queue r && is_from c x.service.sender) (cell_owner cs q x e) ∙ ap (λ b. b && is_from c x.service.sender) apart)
+  stays_held q apart = grind (arith, nat_tests, held_cell, object_in, cell_in_sifted, cell_in, cell_owner)
 
   -- a name is of what it was, or was of a message that is gone
   abbrev IsNamed : ℕ → Type 0
@@ -100,31 +94,11 @@ module _ (p : Image) (t : Typing) (clients : List Client) (cs : List Cell) (good
   goes_message n x e goes = go x.owner refl goes
     where
       go : (q : Place) → x.owner ≡ q → (is_queue q && is_from c x.service.sender) ≡ true → x.object.thing ≡ Message
-      go (Elsewhere (Queued k m)) at h = message k m x.object (ap (λ q. held cs q) (sym at) ∙ held_cell cs x.owner ∙ ap object_in (cell_placed cs n x good.tidy e))
+      go (Elsewhere (Queued k m)) at h = message k m x.object (grind (arith, nat_tests, held_cell, object_in, cell_placed))
       go _ at h = cc
 
   name_left : (n : ℕ) → IsNamed n
-  name_left n = go (cell_of cs n) refl
-    where
-      now : named left n ≡ object_in (after (cell_of cs n))
-      now = named_cell left n ∙ ap object_in (cell_of_sifted drops (λ x. left_by c x.service) cs n good.tidy)
-
-      asked : requested left n ≡ request_in (after (cell_of cs n))
-      asked = requested_cell left n ∙ ap request_in (cell_of_sifted drops (λ x. left_by c x.service) cs n good.tidy)
-
-      at : (x : Cell) → cell_of cs n ≡ Some x → (b : Bool) → drops x ≡ b → IsNamed n
-      at x e false d = inl (
-        now ∙ ap (λ y. object_in (after y)) e ∙ ap (λ b. object_in (cond b None (Some (record x { service = left_by c x.service })))) d ∙ sym (named_cell cs n ∙ ap object_in e),
-        asked ∙ ap (λ y. request_in (after y)) e ∙ ap (λ b. request_in (cond b None (Some (record x { service = left_by c x.service })))) d ∙ sym (requested_cell cs n ∙ ap request_in e),
-      )
-      at x e true d = inr (
-        now ∙ ap (λ y. object_in (after y)) e ∙ ap (λ b. object_in (cond b None (Some (record x { service = left_by c x.service })))) d,
-        (x.object, named_cell cs n ∙ ap object_in e, goes_message n x e d),
-      )
-
-      go : (x : Option Cell) → cell_of cs n ≡ x → IsNamed n
-      go None e = inl (now ∙ ap (λ y. object_in (after y)) e ∙ sym (named_cell cs n ∙ ap object_in e), asked ∙ ap (λ y. request_in (after y)) e ∙ sym (requested_cell cs n ∙ ap request_in e))
-      go (Some x) e = at x e (drops x) refl
+  name_left n = grind (arith, nat_tests, cell_of, object_in, named_cell, cell_of_sifted, request_in, requested_cell, goes_message)
 
   base : (q : Place) → Fits p (seen left) (held cs q) (declared p cs q)
   base q = fits_ready p (seen cs) (seen left) (held cs q) (declared p cs q) (declared_ready p cs q) (good.fits q)
@@ -137,18 +111,7 @@ module _ (p : Image) (t : Typing) (clients : List Client) (cs : List Cell) (good
   field_kind n f = grind (arith, nat_tests, name_left n)
 
   session_kind : (n d : ℕ) → declared p left (Elsewhere (Session n d)) ≡ declared p cs (Elsewhere (Session n d))
-  session_kind n d = ap (λ xs. cond (list_any (λ k. k == d) xs) (filled (session_thing p (named left n)) Full) Null) (service_now n).1 ∙ go (name_left n)
-    where
-      go :
-          IsNamed n →
-          cond (has_session (service_of cs n) d) (filled (session_thing p (named left n)) Full) Null ≡ cond (has_session (service_of cs n) d) (filled (session_thing p (named cs n)) Full) Null
-      go (inl h) = ap (λ y. cond (has_session (service_of cs n) d) (filled (session_thing p y) Full) Null) h.0
-      go (inr h) =
-          let o = h.1.0 in
-          let name : o.name ≡ n = named_name cs n o h.1.1 in
-          let none : has_session (service_of cs n) d ≡ false =
-          ap (λ k. has_session (service_of cs k) d) (sym name) ∙ ap (λ xs. list_any (λ k. k == d) xs) (fit.servers o (ap (λ k. named cs k) name ∙ h.1.1) (message_plain p o.thing h.1.2)).1 in
-          ap (λ b. cond b (filled (session_thing p (named left n)) Full) Null) none ∙ sym (ap (λ b. cond b (filled (session_thing p (named cs n)) Full) Null) none)
+  session_kind n d = grind (arith, nat_tests, service_now, name_left, named_name, message_plain)
 
   thing_kind_left : (n : ℕ) → message_thing p (named left n) ≡ message_thing p (named cs n)
   thing_kind_left n = grind (arith, nat_tests, name_left n, message_plain p)
@@ -183,22 +146,20 @@ module _ (p : Image) (t : Typing) (clients : List Client) (cs : List Cell) (good
     -- a message was there, and goes or stays
     some_fits : (x : Cell) → cell_in cs q ≡ Some x → (g : Bool) → is_from c x.service.sender ≡ g → (b : Bool) → has_message (service_of cs n) m ≡ b → Fits p (seen left) (Some x.object) (cond b kind Null) → Fits p (seen left) (object_in (cond g None (Some (record x { service = left_by c x.service })))) (cond still kind Null)
     some_fits x e g from false has f = absurd f
-    some_fits x e true from true has f =
-        subst (λ b. Fits p (seen left) None (cond b kind Null)) (sym (none_left c m (service_of cs n).queue (λ d h. from_same c d x.service.sender from (sender d h)))) tt
+    some_fits x e true from true has f = rw (none_left c m (service_of cs n).queue (λ d h. from_same c d x.service.sender from (sender d h))) tt
       where
         name : x.object.name ≡ m
         name = fit.names n m x.object (was (Some x) e)
 
         sender : (d : ℕ) → list_any (is_message_of d m) (service_of cs n).queue ≡ true → is_from d x.service.sender ≡ true
-        sender d h = subst (λ v. is_from d v.sender ≡ true) (service_cell cs m ∙ ap service_in (ap (λ k. cell_of cs k) (sym name) ∙ cell_lives cs q x good.tidy e)) (fit.senders n d m h)
-    some_fits x e false from true has f =
-        subst (λ b. Fits p (seen left) (Some x.object) (cond b kind Null)) (sym (stays_there c m (service_of cs n).queue (λ d h. from_apart c d x.service.sender from (sender d h)) has)) f
+        sender d h = rw (service_cell cs m ∙ ap service_in (ap (λ k. cell_of cs k) (sym name) ∙ cell_lives cs q x good.tidy e)) at (fit.senders n d m h)
+    some_fits x e false from true has f = rw (stays_there c m (service_of cs n).queue (λ d h. from_apart c d x.service.sender from (sender d h)) has) f
       where
         name : x.object.name ≡ m
         name = fit.names n m x.object (was (Some x) e)
 
         sender : (d : ℕ) → list_any (is_message_of d m) (service_of cs n).queue ≡ true → is_from d x.service.sender ≡ true
-        sender d h = subst (λ v. is_from d v.sender ≡ true) (service_cell cs m ∙ ap service_in (ap (λ k. cell_of cs k) (sym name) ∙ cell_lives cs q x good.tidy e)) (fit.senders n d m h)
+        sender d h = rw (service_cell cs m ∙ ap service_in (ap (λ k. cell_of cs k) (sym name) ∙ cell_lives cs q x good.tidy e)) at (fit.senders n d m h)
 
     queue_fits : Fits p (seen left) (held left q) (declared p left q)
     queue_fits = subst (λ k. Fits p (seen left) (held left q) k) (sym kind_now) (go (cell_in cs q) refl)
@@ -207,17 +168,14 @@ module _ (p : Image) (t : Typing) (clients : List Client) (cs : List Cell) (good
         go None e =
             subst (λ y. Fits p (seen left) y (cond still kind Null)) (sym (held_now None e))
             (free_fits (has_message (service_of cs n) m) refl (subst (λ y. Fits p (seen left) y (declared p cs q)) (was None e) (base q)))
-        go (Some x) e = subst (λ y. Fits p (seen left) y (cond still kind Null)) (sym (held_now (Some x) e ∙ ap (λ b. object_in (cond b None (Some (record x { service = left_by c x.service })))) (ap (λ r. is_queue r && is_from c x.service.sender) (cell_owner cs q x e))))
-            (some_fits x e (is_from c x.service.sender) refl (has_message (service_of cs n) m) refl (subst (λ y. Fits p (seen left) y (declared p cs q)) (was (Some x) e) (base q)))
+        go (Some x) e = subst (λ y. Fits p (seen left) y (cond still kind Null)) (grind (arith, nat_tests, held_now (Some x) e, object_in, cell_owner cs))
+            (some_fits x e (is_from c x.service.sender) refl (has_message (service_of cs n) m) refl (grind (arith, nat_tests, was (Some x) e, base)))
 
   fits : (q : Place) → Fits p (seen left) (held left q) (declared p left q)
-  fits (Field n f) = there_still (Field n f) refl (field_kind n f)
-  fits (Elsewhere (Session n d)) = there_still (Elsewhere (Session n d)) refl (session_kind n d)
-  fits (Elsewhere (Queued n m)) = queue_fits n m
-  fits r = there_still r refl refl
+  fits r = grind (arith, nat_tests, there_still, field_kind, session_kind, queue_fits)
 
   suits : AllSuit p left []
   suits y there = grind (arith, nat_tests, name_left y.name)
 
   pub good_withdrawn : Good p t (withdrawn c cs) []
-  good_withdrawn = subst (λ l. Good p t l []) (sym (withdrawn_so c cs)) (record { stack = refl; fits = fits; suits = suits; tidy = tidy_sifted drops (λ x. left_by c x.service) cs good.tidy })
+  good_withdrawn = search (arith, nat_tests, withdrawn_so c cs, fits, suits, tidy_sifted)

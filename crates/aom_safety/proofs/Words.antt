@@ -1,4 +1,5 @@
 -- The laws of the instructions on words.
+use Rattle.std.proofs.lemmas.Bool.Decides.{nat_tests}
 use Rattle.std.proofs.Common.{Bool, List, Option, Some, ap, refl, true, ℕ, ℤ, ◌≡◌, arith, None}
 use Rattle.std.specs.Prelude.{is_none, is_some, length, int_lt}
 use Rattle.aom_image.specs.Image.{Image}
@@ -52,15 +53,15 @@ module _ (p : Image) (t : Typing) (c : Choice) (s : State) (fr : Frame) (sh : Sh
   pub law_binary :
       (op : ℤ → ℤ → ℤ) (a b x : ℕ) → AllTrue (rule_combine fr.place sh a b x) → AllLead t fr.method (flow_word fr.place sh a) →
       AllTrue (needs_binary fr (tasks_of ls) s a b x) × WellTyped p t (applied p fr (tasks_of ls) s (computes p c fr (tasks_of ls) s op a b x))
-  law_binary op a b x n leads = ((has_word b n.0, (has_word x n.1.0, (unowned a n.1.1.0, tt))), writes_word a (op (read fr (tasks_of ls) s b) (read fr (tasks_of ls) s x)) n.1.1.0 leads)
+  law_binary op a b x n leads = search (arith, nat_tests, has_word b n.0, has_word x n.1.0, unowned a n.1.1.0, writes_word a)
 
   pub law_compare :
       (test : ℤ → ℤ → Bool) (a b to : ℕ) → AllTrue (rule_compare fr.place sh a b) → AllLead t fr.method (flow_compare fr.place sh to) →
       AllTrue (needs_compare fr (tasks_of ls) s a b) × WellTyped p t (applied p fr (tasks_of ls) s (jumps_if fr (test (read fr (tasks_of ls) s a) (read fr (tasks_of ls) s b)) to))
-  law_compare test a b to n leads = ((has_word a n.0, (has_word b n.1.0, tt)), goes_either p t c s fr sh ls at_hand to leads (test (read fr (tasks_of ls) s a) (read fr (tasks_of ls) s b)))
+  law_compare test a b to n leads = search (arith, nat_tests, has_word a n.0, has_word b n.1.0, goes_either p t c s fr sh ls at_hand to leads)
 
   pub law_print : (a : ℕ) → Law p t c s fr sh ls at_hand (Print a)
-  law_print a n leads = ((has_word a n.0, tt), well p t c s fr sh ls at_hand (does p c fr (tasks_of ls) s (Print a)) (next fr) sh refl at_hand.items at_hand.undos (settle p t s.cells (next fr) sh ls (stepped p t s.cells fr sh ls (fitted p t s.cells fr sh ls at_hand.good)) leads.0))
+  law_print a n leads = ((has_word a n.0, tt), well p t c s fr sh ls at_hand (does p c fr (tasks_of ls) s (Print a)) (next fr) sh refl at_hand.items at_hand.undos (grind (arith, nat_tests, settle, stepped, fitted)))
 
   pub law_load : (a w : ℕ) → Law p t c s fr sh ls at_hand (Load a w)
   law_load a w n leads = ((n.0, (unowned a n.1.0, tt)), writes_word a (loaded s.cells fr.home w) n.1.0 leads)
