@@ -21,8 +21,8 @@ use Rattle.aom_safety.specs.WellTyped.{Keeps, WellTyped}
 pub leads_on : (p : Image) (t : Typing) (o : Outcome) → Keeps p t o → (u : State) × (o ≡ Goes u) × WellTyped p t u
 leads_on p t x k = grind arith
 
-module _ (p : Image) (t : Typing) (wired : IsWired p) (linked : IsLinked p) (typed : IsTyped p t) (choose : State → Choice) (unused : (s : State) → named s.cells (choose s).name ≡ None)
-    (code : ℤ) (below : List Task) (entries items : List Item) (from : State) where
+module _ (p : Image) (t : Typing) (wired : IsWired p) (linked : IsLinked p) (typed : IsTyped p t) (choose : State → Choice)
+    (unused : (s : State) → named s.cells (choose s).name ≡ None) (code : ℤ) (below : List Task) (entries items : List Item) (from : State) where
   abbrev Comes_from : State → Type 0
   Comes_from s = Comes p choose code below entries items from s
 

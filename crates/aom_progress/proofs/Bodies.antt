@@ -7,7 +7,7 @@ use Rattle.std.proofs.lemmas.Bool.{eq-eqb, ltb-true, lt-ltb, true≢false}
 use Rattle.std.proofs.lemmas.Bool.Decides.{nat_tests}
 use Rattle.std.proofs.lemmas.Option.{slice_get_within, same_Some}
 use Rattle.aom_instructions.specs.declared.instr.Instr.{Instr}
-use Rattle.aom_instructions.specs.declared.instr.Instr.TheVariants.{Loop, Next}
+use Rattle.aom_instructions.specs.declared.instr.Instr.TheVariants.{Loop}
 use Rattle.aom_classes.specs.Loops.{loop_in, loop_at, Ending, next_in, next_at, Closes, LoopsNest}
 use Rattle.aom_classes.specs.Scanning.{Enters}
 use Rattle.aom_classes.proofs.Nested.{scanned_at}
@@ -54,16 +54,6 @@ ends_so : (number back : ℕ) (i : Instr) → is_end_of number back i ≡ true �
 unfolding next_in
 ends_so number back i e = grind (arith, nat_tests)
 
-so_ends : (number back : ℕ) (i : Instr) → next_in (Some i) ≡ Some (record { number = number; back = back }) → is_end_of number back i ≡ true
-so_ends number back i e = grind (
-  arith,
-  nat_tests,
-  same_Some i (Next number back) (next_there (Some i) number back e),
-  next_there (Some i) number back e,
-  eq-eqb number number,
-  eq-eqb back back,
-)
-
 -- ---- a place within a body
 
 -- a place is after the loop at p, and up to a next that closes it
@@ -91,7 +81,7 @@ unfolding next_in
 standing_at code q e h = grind (arith, nat_tests)
 
 pub body_in : (code : List Instr) (number p place : ℕ) → IsIn code number p place → is_in_body code number p place ≡ true
-body_in code number p place w = grind (arith, nat_tests, standing_at code w.end, lt-ltb p place w.after, finds, so_ends number)
+body_in code number p place w = grind (arith, nat_tests, standing_at code w.end, lt-ltb p place w.after, finds, same_Some, next_there, eq-eqb)
 
 -- ---- the numbers of loops within each other
 
@@ -103,7 +93,8 @@ other_number code c d p r n nest w stands same =
     let passes = must_pass code r (Loop d n) s.0 stands s.1 nest in
     let open_still : slice_get s.0 c ≡ Some p = ⊎_elim
     (λ (o : slice_get s.0 c ≡ Some p). o)
-    (λ (b : ClosedBefore code r c p). let one = nest.closed p c w.closes.begins in let u = one.only w.end w.closes in let v = one.only b.place b.closes in absurd (omega (arith, u, v, b.below, w.upto)))
+    (λ (b : ClosedBefore code r c p). let one = nest.closed p c w.closes.begins in
+    let u = one.only w.end w.closes in let v = one.only b.place b.closes in absurd (omega (arith, u, v, b.below, w.upto)))
     (s.1.loops p c w.after w.closes.begins) in
     let below = slice_get_within s.0 c p open_still in
     let enters : Enters d r s.0 passes.0 = passes.1 in

@@ -4,8 +4,9 @@ use Rattle.std.proofs.Common.{◌≡◌, ◌≤◌, ◌∙◌, ℕ, ℤ, suc, Bo
 use Rattle.aom_image.specs.declared.method.Thing.{Thing}
 use Rattle.aom_roles.specs.Things.{is_object}
 use Rattle.aom_semantics.specs.Enlisted.{rerequested}
-use Rattle.aom_semantics.specs.Places.{Cell, Elsewhere, Going, Object, Place, Register, Request, Service, Session, held, moved, service_of, set_request, set_service, set_session, set_word_field, with_new, without}
-use Rattle.aom_semantics.specs.State.{Accepts, Accept_left, Dispatch, Home, Item, Of_server, field_place}
+use Rattle.aom_semantics.specs.Places.{Cell, Elsewhere, Going, Object, Place, Register, Request, Service, Session, held, moved}
+use Rattle.aom_semantics.specs.Places.{service_of, set_request, set_service, set_session, set_word_field, with_new, without}
+use Rattle.aom_semantics.specs.State.{Accepts, Dispatch, Home, Item, Of_server, field_place}
 use Rattle.aom_semantics.specs.Calls.{accepted_cells, below_top}
 use Rattle.aom_semantics.specs.Clients.{each_unslotted}
 use Rattle.aom_semantics.specs.Servers.{all_unslotted, opened, reserved, without_queue}
@@ -24,7 +25,8 @@ pub standing_passes : (d i e j : ℕ) (cs : List Cell) → standing (moved (Regi
 standing_passes d i e j cs = standing_moved (Register d i) (Register e j) cs refl
 
 -- what is there begins to go
-pub standing_goes : (from : Place) (k : ℕ) (o : Object) (cs : List Cell) → is_going from ≡ false → is_object o.thing ≡ true → held cs from ≡ Some o → suc (standing (moved from (Going k) cs)) ≤ standing cs
+pub standing_goes : (from : Place) (k : ℕ) (o : Object) (cs : List Cell) →
+    is_going from ≡ false → is_object o.thing ≡ true → held cs from ≡ Some o → suc (standing (moved from (Going k) cs)) ≤ standing cs
 standing_goes from k o [] e object there = cc
 standing_goes from k o (c ∷ cs) e object there = grind (arith, standing_moved from (Going k) cs e, standing_goes from k o cs e object, same_place-true c.owner from)
 
@@ -75,8 +77,7 @@ pub standing_accepted : (d : Dispatch) (e i : ℕ) (cs : List Cell) → standing
 standing_accepted (Of_server x client Accepts) e i cs =
     let place = Elsewhere (Session x.object.name client) in
     omega (arith, standing_reserved (opened client) x.object.name (moved (Register e i) place cs), standing_moved (Register e i) place cs refl)
-standing_accepted (Of_server x client (Accept_left code)) e i cs = omega arith
-standing_accepted _ e i cs = omega arith
+standing_accepted x e i cs = grind arith
 
 -- ---- a server goes
 

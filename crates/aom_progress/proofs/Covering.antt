@@ -1,12 +1,14 @@
 -- What the price of each instruction's place covers: that of the place at which its method goes on, and what begins or is pushed.
 use Rattle.std.proofs.lemmas.Bool.Decides.{nat_tests}
 use Rattle.std.proofs.lemmas.Option.{slice_get_within}
-use Rattle.std.proofs.Common.{inr, inl, ◌≡◌, ◌≤◌, ◌+◌, ◌-◌, ℕ, ℤ, suc, Bool, true, false, cond, List, [], ◌∷◌, ◌++◌, ◌==◌, Option, Some, None, refl, ap, subst, arith}
+use Rattle.std.proofs.Common.{inr, inl, ◌≡◌, ◌≤◌, ◌+◌, ◌-◌, ℕ, ℤ, suc, Bool, true, false, cond, List}
+use Rattle.std.proofs.Common.{[], ◌∷◌, ◌++◌, ◌==◌, Option, Some, None, refl, ap, arith}
 use Rattle.std.specs.Ordering.{int_eq}
 use Rattle.std.specs.Prelude.{bit_and, int_lt, is_some}
 use Rattle.aom_image.specs.Image.{Image}
 use Rattle.aom_instructions.specs.declared.instr.Instr.{Instr}
-use Rattle.aom_instructions.specs.declared.instr.Instr.TheVariants.{Call, Cancel, Hand, JumpActive, JumpAdded, JumpEmpty, JumpEqual, JumpLess, JumpNull, Leave, Loop, New, Next, Return, Trap}
+use Rattle.aom_instructions.specs.declared.instr.Instr.TheVariants.{Call, Cancel, Hand, JumpActive, JumpAdded, JumpEmpty, JumpEqual}
+use Rattle.aom_instructions.specs.declared.instr.Instr.TheVariants.{JumpLess, JumpNull, Leave, Loop, New, Next, Return, Trap}
 use Rattle.aom_image.specs.Views.{method_at, method_class, method_role}
 use Rattle.aom_image.specs.declared.method.Role.TheVariants.{Main}
 use Rattle.aom_image.specs.declared.method.Thing.{Thing}
@@ -25,15 +27,15 @@ use Rattle.aom_rules.specs.Rules.{flows, rule_needs}
 use Rattle.aom_shape.specs.Shape.{Shape}
 use Rattle.aom_rules.specs.Typing.{Typing}
 use Rattle.aom_shape.specs.declared.kind.Filling.{Filling}
-use Rattle.aom_shape.specs.declared.kind.Filling.TheVariants.{Empty, Full, Perhaps}
 use Rattle.aom_shape.specs.declared.kind.Kind.{Kind}
 use Rattle.aom_safety.proofs.Jumps.{not_empty, not_full}
 use Rattle.aom_safety.proofs.Requesting.{active_listed, busy_in, free_in, listed_in, some_left, unlisted_in}
 use Rattle.aom_safety.proofs.Straight.{At, field_fits, kind_fits}
 use Rattle.aom_safety.specs.Claims.{Layer, tasks_of}
-use Rattle.aom_semantics.specs.Effects.{Calls, Cancels, Counts, Destroys, Destroys_last, Effect, Goes_on, Jumps, Leaves, Operates, Pushed, Pushed_operation, Repeats, Returns, Sets_trap, Update, cancels_if, deals, deletes, effect, jumps_if, jumps_unless, round}
+use Rattle.aom_semantics.specs.Effects.{Calls, Cancels, Counts, Destroys, Destroys_last, Effect, Goes_on, Jumps, Leaves, Operates, Pushed, Pushed_operation}
+use Rattle.aom_semantics.specs.Effects.{Repeats, Returns, Sets_trap, Update, cancels_if, deals, deletes, effect, jumps_if, jumps_unless, round}
 use Rattle.aom_semantics.specs.Enlisted.{cancel_method, in_phase, is_active, is_busy, own_request}
-use Rattle.aom_semantics.specs.Places.{Object, held, seen}
+use Rattle.aom_semantics.specs.Places.{Object, seen}
 use Rattle.aom_semantics.specs.State.{Choice, Frame, Item, State, Task, counter}
 use Rattle.aom_safety.specs.WellTyped.{Fits}
 use Rattle.aom_semantics.specs.Words.{here, read}
@@ -90,27 +92,20 @@ module _ (p : Image) (c : Prices) (fr : Frame) (sh : Shape) where
   dealing : (items : List Item) (o : Option Object) → Affords 1 (suc fr.place) → Covers (deals fr items o)
   dealing x o pays = grind arith
 
-module _ (p : Image) (t : Typing) (c : Prices) (main_none : (m : ℕ) → method_role p m ≡ Some Main → own_kind p m ≡ None) (priced : IsPriced p t c) (ch : Choice) (s : State) (fr : Frame)
-    (sh : Shape) (ls : List Layer) (at_hand : At p t s fr sh ls) where
+module _ (p : Image) (t : Typing) (c : Prices) (main_none : (m : ℕ) → method_role p m ≡ Some Main → own_kind p m ≡ None)
+    (priced : IsPriced p t c) (ch : Choice) (s : State) (fr : Frame) (sh : Shape) (ls : List Layer) (at_hand : At p t s fr sh ls) where
   abbrev ts : List Task
   ts = tasks_of ls
 
   -- ---- jumps on what a register or a field holds: the flow that is taken is one of the typing's
 
-  on_null :
-      (a to : ℕ) (k : Kind) (o : Option Object) → is_object_or_null k ≡ true → AllPaid c fr.method 1 (c.from fr.method fr.place) (flow_jump_null p fr.method fr.place sh k a to) →
-      Fits p (seen s.cells) o k → Covers p c fr sh (jumps_unless fr o to)
+  on_null : (a to : ℕ) (k : Kind) (o : Option Object) → is_object_or_null k ≡ true → AllPaid c fr.method 1
+      (c.from fr.method fr.place) (flow_jump_null p fr.method fr.place sh k a to) → Fits p (seen s.cells) o k → Covers p c fr sh (jumps_unless fr o to)
   on_null a to x o need pays fits = grind arith
 
-  on_empty :
-      (f to : ℕ) (x : Option Thing) → is_some x ≡ true → (y : Filling) (o : Option Object) → AllPaid c fr.method 1 (c.from fr.method fr.place) (flow_jump_empty p fr.method fr.place sh y f to) →
-      Fits p (seen s.cells) o (filled x y) → Covers p c fr sh (jumps_unless fr o to)
-  on_empty f to x some Empty None pays fits = pays.0
-  on_empty f to x some Empty (Some o) pays fits = absurd (not_empty p t ch s fr sh ls at_hand x o fits)
-  on_empty f to x some Full None pays fits = absurd (not_full p t ch s fr sh ls at_hand x some fits)
-  on_empty f to x some Full (Some o) pays fits = pays.0
-  on_empty f to x some Perhaps None pays fits = pays.1.0
-  on_empty f to x some Perhaps (Some o) pays fits = pays.0
+  on_empty : (f to : ℕ) (x : Option Thing) → is_some x ≡ true → (y : Filling) (o : Option Object) → AllPaid c fr.method 1 (c.from fr.method fr.place)
+      (flow_jump_empty p fr.method fr.place sh y f to) → Fits p (seen s.cells) o (filled x y) → Covers p c fr sh (jumps_unless fr o to)
+  on_empty f to x some y z pays fits = grind (arith, nat_tests, not_empty, not_full)
 
   -- ---- jumps on the state of a request
 
@@ -122,14 +117,10 @@ module _ (p : Image) (t : Typing) (c : Prices) (main_none : (m : ℕ) → method
   paid_rest n here [] ys pays = pays
   paid_rest n here (x ∷ xs) ys pays = paid_rest n here xs ys pays.1
 
-  narrowed_paid : (place x : ℕ) → (bit_and sh.states x == 0) ≡ false → AllPaid c fr.method 1 (c.from fr.method fr.place) (flow_narrowed sh place x) → Affords p c fr sh 1 place
-  narrowed_paid place x left pays = (subst (λ b. AllPaid c fr.method 1 (c.from fr.method fr.place) (cond b [] ((place, record sh { states = bit_and sh.states x }) ∷ []))) left pays).0
-
-  on_states :
-      (there here to : ℕ) (b : Bool) → (b ≡ true → (bit_and sh.states there == 0) ≡ false) → (b ≡ false → (bit_and sh.states here == 0) ≡ false) →
-      AllPaid c fr.method 1 (c.from fr.method fr.place) (flow_narrowed sh (suc fr.place) here ++ flow_narrowed sh to there) → Covers p c fr sh (jumps_if fr b to)
-  on_states there here to true some_there some_here pays = grind (arith, nat_tests, narrowed_paid to there, paid_rest 1 (c.from fr.method fr.place))
-  on_states there here to false some_there some_here pays = grind (arith, nat_tests, narrowed_paid, paid_first 1 (c.from fr.method fr.place))
+  on_states : (there here to : ℕ) (b : Bool) → (b ≡ true → (bit_and sh.states there == 0) ≡ false) → (b ≡ false → (bit_and sh.states here == 0) ≡ false) →
+      AllPaid c fr.method 1 (c.from fr.method fr.place) (flow_narrowed sh (suc fr.place) here ++ flow_narrowed sh to there) →
+      Covers p c fr sh (jumps_if fr b to)
+  on_states there here to x some_there some_here pays = grind (arith, nat_tests, paid_rest, paid_first)
 
   -- ---- a cancel
 
@@ -137,12 +128,9 @@ module _ (p : Image) (t : Typing) (c : Prices) (main_none : (m : ℕ) → method
   cancel_counted : (m : ℕ) → cancel_method p fr ≡ Some m → price c m ≤ cancel_price p c (method_class p fr.method)
   cancel_counted m e = grind (arith, nat_tests, cancel_family p fr m at_hand.good.stack.1.view e, cancel_paid p c)
 
-  on_cancel :
-      (b : Bool) (x : Option ℕ) → cancel_method p fr ≡ x → 1 + cancel_price p c (method_class p fr.method) + c.from fr.method (suc fr.place) ≤ c.from fr.method fr.place →
-      Covers p c fr sh (cancels_if fr b x)
-  on_cancel true (Some m) e pays = omega (arith, pays, cancel_counted m e)
-  on_cancel true None e pays = omega (arith, pays)
-  on_cancel false x e pays = omega (arith, pays)
+  on_cancel : (b : Bool) (x : Option ℕ) → cancel_method p fr ≡ x →
+      1 + cancel_price p c (method_class p fr.method) + c.from fr.method (suc fr.place) ≤ c.from fr.method fr.place → Covers p c fr sh (cancels_if fr b x)
+  on_cancel x y e pays = grind (arith, nat_tests, cancel_counted)
 
   -- ---- every instruction
 
@@ -159,16 +147,9 @@ module _ (p : Image) (t : Typing) (c : Prices) (main_none : (m : ℕ) → method
   unfolding loop_in next_in
   covers (JumpEqual a b to) it rule = let f = paid (JumpEqual a b to) it refl refl in branches p c fr sh (int_eq (read fr ts s a) (read fr ts s b)) to f.0 f.1.0
   covers (JumpLess a b to) it rule = let f = paid (JumpLess a b to) it refl refl in branches p c fr sh (int_lt (read fr ts s a) (read fr ts s b)) to f.0 f.1.0
-  covers (JumpNull a to) it rule = on_null a to (register sh a) (held s.cells (here fr ts s a)) rule.0 (paid (JumpNull a to) it refl refl) (kind_fits p t ch s fr sh ls at_hand a)
-  covers (JumpEmpty f to) it rule = grind (
-    arith,
-    nat_tests,
-    some,
-    houses_field p,
-    on_empty f to,
-    paid (JumpEmpty f to) it,
-    field_fits p t ch s fr sh ls at_hand f rule.0,
-  )
+  covers (JumpNull a to) it rule = grind (arith, nat_tests, on_null a to, paid (JumpNull a to) it, kind_fits p t ch s fr sh ls at_hand a)
+  covers (JumpEmpty f to) it rule =
+      grind (arith, nat_tests, some, houses_field p, on_empty f to, paid (JumpEmpty f to) it, field_fits p t ch s fr sh ls at_hand f rule.0)
   covers (JumpActive to) it rule =
       let listed = active_listed (own_kind p fr.method) rule.0 in
       let r = own_request s.cells fr.home in
@@ -187,4 +168,4 @@ module _ (p : Image) (t : Typing) (c : Prices) (main_none : (m : ℕ) → method
   covers Cancel it rule = on_cancel (in_phase is_active (own_request s.cells fr.home)) (cancel_method p fr) refl (paid Cancel it refl refl).0
   covers (Leave a) it rule = some (Leave a) it
   covers (Return a) it rule = some (Return a) it
-  covers i it rule = first_of (assumption (paid i it refl refl), search (either p c fr sh, some i it, paid i it refl refl), search (deleting p c fr sh, paid i it refl refl), search (dealing p c fr sh, paid i it refl refl), grind (arith, rule))
+  covers i it rule = grind (arith, nat_tests, paid i it, either p c fr sh, some i it, deleting p c fr sh, dealing p c fr sh)

@@ -1,10 +1,11 @@
 -- Where nothing is at hand, or a dispatch alone, nothing is left of what was pushed.
-use Rattle.std.proofs.Common.{◌≡◌, ◌+◌, ◌∙◌, ℕ, true, false, cond, List, [], ◌∷◌, None, refl, sym, ap, arith}
+use Rattle.std.proofs.lemmas.Bool.Decides.{nat_tests}
+use Rattle.std.proofs.Common.{◌≡◌, ◌+◌, ◌∙◌, ℕ, true, false, cond, List, [], ◌∷◌, None, refl, sym, arith}
 use Rattle.aom_image.specs.Image.{Image}
 use Rattle.aom_rules.specs.Typing.{Typing}
 use Rattle.aom_semantics.proofs.Maps.{same_place_refl}
 use Rattle.aom_safety.specs.Claims.{Dispatching, forms, items_of}
-use Rattle.aom_semantics.specs.Places.{Cell, Entry, Place, held, same_place, seen}
+use Rattle.aom_semantics.specs.Places.{Cell, Entry, Place, held, seen}
 use Rattle.aom_semantics.specs.State.{Dispatch, Item, Seat}
 use Rattle.aom_safety.specs.WellTyped.{Good}
 use Rattle.aom_progress.proofs.Goings.{none_there, nothing_of_null}
@@ -18,7 +19,7 @@ module _ (c : Prices) where
   no_objects (x ∷ cs) none = here x.owner refl (no_objects cs (λ k. (none_there x cs (Entry k) (none k)).1))
     where
       here : (r : Place) → x.owner ≡ r → objects_left c cs ≡ 0 → cond (is_entry r) (c.destruction x.object.thing) 0 + objects_left c cs ≡ 0
-      here (Entry k) e ih = let clash : true ≡ false = sym (ap (λ r. same_place r (Entry k)) e ∙ same_place_refl (Entry k)) ∙ (none_there x cs (Entry k) (none k)).0 in cc
+      here (Entry k) e ih = let clash : true ≡ false = sym (grind (arith, nat_tests, same_place_refl (Entry k))) ∙ (none_there x cs (Entry k) (none k)).0 in cc
       here _ e ih = omega (arith, ih)
 
   no_operations : (items : List Item) → forms items ≡ [] → operations_left c items ≡ 0
@@ -31,7 +32,6 @@ module _ (c : Prices) where
   pub none_at_hand : (p : Image) (t : Typing) (cs : List Cell) (items : List Item) → Good p t cs [] → forms items ≡ items_of [] → objects_left c cs + operations_left c items ≡ 0
   none_at_hand p t cs items good e = bare cs items (λ k. nothing_of_null p (seen cs) (held cs (Entry k)) (good.fits (Entry k))) e
 
-  pub none_at_end :
-      (p : Image) (t : Typing) (cs : List Cell) (items : List Item) (d : Dispatch) (seats : List Seat) → Good p t cs (Dispatching d seats ∷ []) → forms items ≡ items_of (Dispatching d seats ∷ []) →
-      objects_left c cs + operations_left c items ≡ 0
+  pub none_at_end : (p : Image) (t : Typing) (cs : List Cell) (items : List Item) (d : Dispatch) (seats : List Seat) →
+      Good p t cs (Dispatching d seats ∷ []) → forms items ≡ items_of (Dispatching d seats ∷ []) → objects_left c cs + operations_left c items ≡ 0
   none_at_end p t cs items d seats good e = bare cs items (λ k. nothing_of_null p (seen cs) (held cs (Entry k)) (good.fits (Entry k))) e

@@ -1,7 +1,8 @@
 -- A closed image with a typing and a table that pays for it: the premises of the laws of steps can be met.
 use Rattle.std.proofs.lemmas.Option.{same_Some}
 use Rattle.std.specs.Prelude.{false}
-use Rattle.std.proofs.Common.{◌≡◌, ◌≤◌, ◌+◌, ◌-◌, ◌*◌, ◌∙◌, ℕ, zero, suc, List, [], ◌∷◌, Option, Some, None, IsSome, replicate, refl, sym, ap, arith, subst, pos}
+use Rattle.std.proofs.Common.{◌≡◌, ◌≤◌, ◌+◌, ◌-◌, ◌*◌, ◌∙◌, ℕ, zero, suc, List, [], ◌∷◌, Option}
+use Rattle.std.proofs.Common.{Some, None, IsSome, replicate, refl, sym, ap, arith, subst, pos}
 use Rattle.aom_image.specs.Image.{Image}
 use Rattle.aom_image.specs.Small.{a_class, a_header, a_method}
 use Rattle.aom_image.specs.Views.{arguments_in, class_at, class_in, fields_in, gives_in, instr_at, instr_in, method_at, quiet_in, role_in}
@@ -228,10 +229,10 @@ passing m place sh e = (there Passing
     (record { instr = Loop 0 3; stands = refl; needs = tt; flows = ((_, refl, one_register Unset Unset alike), tt) })
     (record { instr = New 0 0; stands = refl; needs = (refl, (refl, tt)); flows = ((_, refl, one_register made made alike), tt) })
     (record { instr = Delete 0; stands = refl; needs = (refl, tt); flows = ((_, refl, one_register Null Null alike), tt) })
-    (record { instr = Next 0 1; stands = refl; needs = tt; flows = ((_, refl, one_register Unset Null unset_null), ((_, refl, one_register Null Null alike), tt)) })
-    (record { instr = Stop; stands = refl; needs = tt; flows = ((_, refl, one_register Null Null alike), tt) })
-    (record { instr = Return 0; stands = refl; needs = (refl, (refl, (refl, (refl, (refl, (refl, (refl, (refl, (refl, tt))))))))); flows = tt })
-    m place sh e).2
+    (record
+    { instr = Next 0 1; stands = refl; needs = tt; flows = ((_, refl, one_register Unset Null unset_null), ((_, refl, one_register Null Null alike), tt)) })
+    (record { instr = Stop; stands = refl; needs = tt; flows = ((_, refl, one_register Null Null alike), tt) }) (record
+    { instr = Return 0; stands = refl; needs = (refl, (refl, (refl, (refl, (refl, (refl, (refl, (refl, (refl, tt))))))))); flows = tt }) m place sh e).2
 
 enters_method : (m : ℕ) → IsSome (method_at image m) → Leads typing m 0 (entry_shape image m)
 unfolding method_at arguments_in role_in before_in

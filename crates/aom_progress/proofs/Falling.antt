@@ -1,12 +1,13 @@
 -- The effect of each instruction leads to a lower rank.
 use Rattle.std.proofs.lemmas.Bool.Decides.{nat_tests}
 use Rattle.aom_safety.proofs.Overriders.{body_quiet}
-use Rattle.std.proofs.Common.{◌≡◌, ◌<◌, ◌≤◌, ◌+◌, ◌-◌, ◌*◌, ◌∙◌, ℕ, ℤ, suc, inl, inr, Bool, true, false, List, ◌∷◌, length, Option, Some, None, slice_get, refl, sym, ap, arith, subst}
+use Rattle.std.proofs.Common.{◌≡◌, ◌<◌, ◌≤◌, ◌+◌, ◌*◌, ◌∙◌, ℕ, ℤ, suc, Bool, true, false, List}
+use Rattle.std.proofs.Common.{◌∷◌, length, Option, Some, None, slice_get, refl, sym, ap, arith, subst}
 use Rattle.std.specs.Prelude.{not}
 use Rattle.aom_image.specs.Image.{Image}
 use Rattle.aom_image.specs.Views.{arguments_of, is_quiet, method_at, method_class}
 use Rattle.aom_instructions.specs.declared.instr.Instr.{Instr}
-use Rattle.aom_instructions.specs.declared.instr.Instr.TheVariants.{Call, Cancel, Delete, Next, Return, Trap}
+use Rattle.aom_instructions.specs.declared.instr.Instr.TheVariants.{Call, Cancel, Delete, Return, Trap}
 use Rattle.aom_instructions.specs.declared.instr.Target.{Target}
 use Rattle.aom_image.specs.declared.method.Gives.{Gives}
 use Rattle.aom_image.specs.declared.method.Method.{Method as Method_declared}
@@ -16,32 +17,35 @@ use Rattle.aom_classes.specs.Loops.{LoopsNest, loop_in}
 use Rattle.aom_classes.proofs.Facts.{at_place}
 use Rattle.aom_rules.specs.Rules.{rule_needs}
 use Rattle.aom_shape.specs.Shape.{Shape}
-use Rattle.aom_roles.specs.Tables.{put_at}
 use Rattle.aom_safety.proofs.Finishing.{all_parts}
 use Rattle.aom_safety.proofs.Fitting.{straight_by}
 use Rattle.aom_semantics.specs.Calls.{run_by, target_view, below_top, passed_cells, returned}
 use Rattle.aom_semantics.specs.Cleanup.{to_trap, top_place}
-use Rattle.aom_semantics.specs.Effects.{Calls, Cancels, Carried, Counts, Destroys, Destroys_last, Effect, Goes_on, Handed, Replied, Jumps, Leaves, Made, Operates, Popped, Popped_operation, Pushed, Pushed_operation, Repeats, Requested, Returns, Same, Sets_trap, Spot, Update, Written, applied, cells_after, items_after, spot_place, with_words, Sessioned}
+use Rattle.aom_semantics.specs.Effects.{Calls, Cancels, Carried, Counts, Destroys, Destroys_last, Effect, Goes_on, Handed, Replied, Jumps, Leaves}
+use Rattle.aom_semantics.specs.Effects.{Made, Operates, Popped, Popped_operation, Pushed, Pushed_operation, Repeats, Requested, Returns, Same, Sets_trap}
+use Rattle.aom_semantics.specs.Effects.{Spot, Update, Written, applied, cells_after, items_after, spot_place, Sessioned}
 use Rattle.aom_safety.specs.Leaves.{LeavesWith}
 use Rattle.aom_semantics.specs.Moves.{makes}
-use Rattle.aom_semantics.specs.Places.{Going, Object, held, moved}
-use Rattle.aom_semantics.specs.State.{An_object, An_operation, Choice, Frame, Run, State, Task, Trapped, counter}
+use Rattle.aom_semantics.specs.Places.{Object, held}
+use Rattle.aom_semantics.specs.State.{An_object, Choice, Frame, Run, State, Task, Trapped}
 use Rattle.aom_safety.specs.Steps.{Fits, FitsUpdate, Sets}
 use Rattle.aom_safety.specs.WellTyped.{AllUndo}
 use Rattle.aom_semantics.specs.Words.{here}
 use Rattle.aom_progress.specs.Worths.{over_worth}
 use Rattle.aom_progress.specs.Ranks.{cell_rank, frame_rank, is_going, left_in, operations, price, rank, rank_worths, standing, tasks_rank, waiting_rank}
 use Rattle.aom_progress.specs.Within.{left}
-use Rattle.aom_progress.proofs.Levels.{begun_paid, called_before, called_lower, cell_paid, cell_some, cell_two, loud_leaver, price_some, run_paid, trapped_before, undo_paid}
+use Rattle.aom_progress.proofs.Levels.{begun_paid, called_before, called_lower, cell_paid, cell_some, cell_two}
+use Rattle.aom_progress.proofs.Levels.{loud_leaver, price_some, run_paid, trapped_before, undo_paid}
 use Rattle.aom_progress.proofs.Places.{back, enters, jumps, leaves, straight_on}
-use Rattle.aom_progress.proofs.Cells.{field_stands, operations_below, standing_asked, standing_goes, standing_moved, standing_new, standing_passes, standing_stored, standing_opened, standing_redeemed, standing_without}
+use Rattle.aom_progress.proofs.Cells.{field_stands, operations_below, standing_asked, standing_goes, standing_moved, standing_new}
+use Rattle.aom_progress.proofs.Cells.{standing_passes, standing_stored, standing_opened, standing_redeemed, standing_without}
 use Rattle.aom_progress.proofs.Worths.{passed_less, to_trap_less}
 use Rattle.aom_progress.proofs.Sums.{one_less, one_more, scaled, scaled_le}
 use Rattle.aom_image.proofs.Given.{false_given}
 use Rattle.std.proofs.lemmas.Bool.{true≢false}
 use Rattle.aom_roles.specs.Things.{is_object}
 use Rattle.aom_roles.specs.Tests.{AllTrue, only_if}
-use Rattle.aom_semantics.specs.Tokens.{next_token, promised, redeemed_by, token_of}
+use Rattle.aom_semantics.specs.Tokens.{next_token, promised}
 use Rattle.aom_semantics.specs.Enlisted.{cancel_method, ended_cells, on_request, own_request}
 
 -- ---- an instruction
@@ -117,7 +121,7 @@ module _ (p : Image) (linked : IsLinked p) (c : Choice) (s : State) (fr : Frame)
       let less = paid fr.counters (suc fr.place) (straight (Trap target m first x) stands refl) in
       let k = run_by p fr ts s target m in
       let lower =
-      called_lower p fr.method k (trapped_before p linked fr.method fr.place d target m first x declared_there stands (target_view p fr ts s target (method_class p m)))
+      called_lower p fr.method k (grind (arith, nat_tests, trapped_before p linked fr.method fr.place d target m first x declared_there stands))
       (λ q. absurd (true≢false (sym q ∙ loud))) in
       let run = run_paid p k _ lower in
       let passed = passed_less standing standing_passes p fr ts s (length (Trapped ∷ Run fr ∷ ts)) (arguments_of p m) first 0 s.cells in
@@ -129,33 +133,16 @@ module _ (p : Image) (linked : IsLinked p) (c : Choice) (s : State) (fr : Frame)
   -- ---- the cleanup stack, and leaves
 
   -- what is left of a state whose methods end up to the trap: so many cells and operations, one more at most
-  leaves_on :
-      (i : Instr) → slice_get d.code fr.place ≡ Some i → loop_in (Some i) ≡ None → is_quiet p fr.method ≡ false → (m : ℕ) → m ≤ suc (standing s.cells + operations s.items) →
-      1 + waiting_rank p (to_trap ts) + m * cell_rank p < before
-  leaves_on i stands plain loud m more = grind (
-    arith,
-    nat_tests,
-    paid fr.counters,
-    straight i stands plain,
-    one_more m,
-    to_trap_less,
-    cell_paid p fr.method loud,
-    cell_two p,
-  )
+  leaves_on : (i : Instr) → slice_get d.code fr.place ≡ Some i → loop_in (Some i) ≡ None →
+      is_quiet p fr.method ≡ false → (m : ℕ) → m ≤ suc (standing s.cells + operations s.items) → 1 + waiting_rank p (to_trap ts) + m * cell_rank p < before
+  leaves_on i stands plain loud m more =
+      grind (arith, nat_tests, paid fr.counters, straight i stands plain, one_more m, to_trap_less, cell_paid p fr.method loud, cell_two p)
 
   -- an item more, an operation at most
-  pushes_on :
-      (i : Instr) → slice_get d.code fr.place ≡ Some i → loop_in (Some i) ≡ None → is_quiet p fr.method ≡ false → (m : ℕ) → m ≤ suc (standing s.cells + operations s.items) →
-      rest_at fr.counters (suc fr.place) + beyond + m * cell_rank p < before
-  pushes_on i stands plain loud m more = grind (
-    arith,
-    nat_tests,
-    paid fr.counters,
-    straight i stands plain,
-    one_more m,
-    cell_paid p fr.method loud,
-    cell_some p,
-  )
+  pushes_on : (i : Instr) → slice_get d.code fr.place ≡ Some i → loop_in (Some i) ≡ None → is_quiet p fr.method ≡ false →
+      (m : ℕ) → m ≤ suc (standing s.cells + operations s.items) → rest_at fr.counters (suc fr.place) + beyond + m * cell_rank p < before
+  pushes_on i stands plain loud m more =
+      grind (arith, nat_tests, paid fr.counters, straight i stands plain, one_more m, cell_paid p fr.method loud, cell_some p)
 
   -- ---- what an update leaves of cells and operations
 
@@ -202,7 +189,7 @@ module _ (p : Image) (linked : IsLinked p) (c : Choice) (s : State) (fr : Frame)
         (i : Instr) → slice_get d.code fr.place ≡ Some i → loop_in (Some i) ≡ None → Ruled i → (u : Update) → FitsUpdate ts s.items i u →
         rest_at fr.counters (suc fr.place) + beyond + count_after u * cell_rank p < before
     goes_after i stands plain r (Made name x a) f = pushes_on i stands plain (loud_maker i f r) (count_after (Made name x a)) (more (Made name x a))
-    goes_after i stands plain r (Pushed a) f = pushes_on i stands plain (loud_leaver p linked fr.method (subst Ruled f.0 r).1.0) (count_after (Pushed a)) (more (Pushed a))
+    goes_after i stands plain r (Pushed a) f = grind (arith, nat_tests, pushes_on i stands plain, loud_leaver p linked fr.method, more (Pushed a))
     goes_after i stands plain r (Pushed_operation m w) f =
         pushes_on i stands plain (loud_leaver p linked fr.method (subst Ruled f.1 r).1.0) (count_after (Pushed_operation m w)) (more (Pushed_operation m w))
     goes_after i stands plain r Same f = on i stands plain (count_after Same) (omega arith)
@@ -210,73 +197,41 @@ module _ (p : Image) (linked : IsLinked p) (c : Choice) (s : State) (fr : Frame)
     goes_after i stands plain r (Written w v) f = on i stands plain (count_after (Written w v)) (omega (arith, standing_stored s.cells fr.home w v))
     goes_after i stands plain r (Requested q) f = on i stands plain (count_after (Requested q)) (omega (arith, standing_asked s.cells fr.home q))
     goes_after i stands plain r (Sessioned b) f = on i stands plain (count_after (Sessioned b)) (omega (arith, standing_opened s.cells fr.home b))
-    goes_after i stands plain r (Replied a code) f = on i stands plain (count_after (Replied a code)) (omega (arith, standing_without (here fr ts s a) (redeemed_by (token_of s.cells (held s.cells (here fr ts s a))) code s.cells), standing_redeemed (token_of s.cells (held s.cells (here fr ts s a))) code s.cells))
-    goes_after i stands plain r (Handed name a) f = on i stands plain (count_after (Handed name a)) (omega (arith, standing_asked s.cells fr.home (on_request (promised (next_token s.cells)) (own_request s.cells fr.home))))
-    goes_after i stands plain r (Popped a) f = on i stands plain (count_after (Popped a)) (omega (arith, standing_moved (top_place s.items) (here fr ts s a) s.cells refl, operations_below s.items))
+    goes_after i stands plain r (Replied a code) f = grind (arith, nat_tests, on i stands plain, standing_without, standing_redeemed)
+    goes_after i stands plain r (Handed name a) f = on i stands plain
+        (count_after (Handed name a)) (omega (arith, standing_asked s.cells fr.home (on_request (promised (next_token s.cells)) (own_request s.cells fr.home))))
+    goes_after i stands plain r (Popped a) f = grind (arith, nat_tests, on i stands plain, standing_moved, operations_below s.items)
     goes_after i stands plain r Popped_operation f = on i stands plain (count_after Popped_operation) (omega (arith, operations_below s.items))
 
     -- a round of a loop begins or ends
     counts : (i : Instr) → slice_get d.code fr.place ≡ Some i → (depth n : ℕ) → Sets i depth n → rank p (applied p fr ts s (Counts depth n)) < before
-    counts i stands depth n (inl e) = grind (arith, nat_tests, goes, enters d.code fr.counters fr.place depth n nests, nests)
-    counts i stands depth n (inr e) = grind (arith, nat_tests, goes, leaves d.code fr.counters fr.place depth e.0)
-
-    repeats : (depth to n : ℕ) → slice_get d.code fr.place ≡ Some (Next depth to) → counter fr depth - 1 ≡ suc n → rank p (applied p fr ts s (Repeats depth (suc n) to)) < before
-    repeats depth to n stands e = goes (put_at 0 fr.counters depth (suc n)) to (standing s.cells + operations s.items) (back d.code fr.counters fr.place depth to n nests stands e) (omega arith)
+    counts i stands depth n x = grind (arith, nat_tests, goes, enters, nests, leaves)
 
     -- an object goes over the method
-    deletes :
-        (i : Instr) → slice_get d.code fr.place ≡ Some i → loop_in (Some i) ≡ None → (o : Object) (a : ℕ) (words : List (Option ℤ)) → held s.cells (here fr ts s a) ≡ Some o → is_object o.thing ≡ true →
-        rank p (applied p fr ts s (Destroys o a words)) < before
-    deletes i stands plain o a words there object =
-        let less = paid fr.counters (suc fr.place) (straight i stands plain) in
-        let destruction = begun_paid p linked o (length s.items) (Run (with_words fr words) ∷ ts) in
-        let goes = standing_goes (here fr ts s a) (length (Run fr ∷ ts)) o s.cells refl object there in
-        let cells =
-        one_less (standing (moved (here fr ts s a) (Going (length (Run fr ∷ ts))) s.cells) + operations s.items) (standing s.cells + operations s.items) (cell_rank p) (omega (arith, goes)) in
-        omega (arith, less, destruction, cells, price_some p fr.method)
+    deletes : (i : Instr) → slice_get d.code fr.place ≡ Some i → loop_in (Some i) ≡ None → (o : Object) (a : ℕ) (words : List (Option ℤ)) →
+        held s.cells (here fr ts s a) ≡ Some o → is_object o.thing ≡ true → rank p (applied p fr ts s (Destroys o a words)) < before
+    deletes i stands plain o a words there object = grind (arith, nat_tests, paid, straight, begun_paid, goes, standing_goes, one_less, price_some)
 
-    deletes_last :
-        (i : Instr) → slice_get d.code fr.place ≡ Some i → loop_in (Some i) ≡ None → (o : Object) → s.items ≡ An_object ∷ below_top s.items → held s.cells (top_place s.items) ≡ Some o → is_object o.thing ≡ true →
-        rank p (applied p fr ts s (Destroys_last o)) < before
-    deletes_last i stands plain o top there object =
-        let less = paid fr.counters (suc fr.place) (straight i stands plain) in
-        let destruction = begun_paid p linked o (length (below_top s.items)) (Run fr ∷ ts) in
-        let goes = standing_goes (top_place s.items) (length (Run fr ∷ ts)) o s.cells refl object there in
-        let same : operations s.items ≡ operations (below_top s.items) = ap operations top in
-        let cells =
-        one_less (standing (moved (top_place s.items) (Going (length (Run fr ∷ ts))) s.cells) + operations (below_top s.items)) (standing s.cells + operations s.items) (cell_rank p)
-        (omega (arith, goes, same)) in
-        omega (arith, less, destruction, cells, price_some p fr.method)
-
-    -- an operation runs over it
-    operates :
-        (i : Instr) → slice_get d.code fr.place ≡ Some i → loop_in (Some i) ≡ None → (m : ℕ) (w : ℤ) → AllUndo p s.items → s.items ≡ An_operation m w ∷ below_top s.items →
-        rank p (applied p fr ts s (Operates m w)) < before
-    operates i stands plain m w undos top =
-        let less = paid fr.counters (suc fr.place) (straight i stands plain) in
-        let run = undo_paid p m (subst (λ is. AllUndo p is) top undos).0 in
-        let same : operations s.items ≡ suc (operations (below_top s.items)) = ap operations top in
-        let cells = one_less (standing s.cells + operations (below_top s.items)) (standing s.cells + operations s.items) (cell_rank p) (omega (arith, same)) in
-        omega (arith, less, run, cells, price_some p fr.method)
+    deletes_last : (i : Instr) → slice_get d.code fr.place ≡ Some i → loop_in (Some i) ≡ None → (o : Object) → s.items ≡ An_object ∷ below_top s.items →
+        held s.cells (top_place s.items) ≡ Some o → is_object o.thing ≡ true → rank p (applied p fr ts s (Destroys_last o)) < before
+    deletes_last i stands plain o top there object = grind (arith, nat_tests, paid, straight, begun_paid, goes, standing_goes, one_less, price_some)
 
     -- a method that calls a quiet one, or is not quiet
-    called_quiet : (target : Target) (m first x : ℕ) → Ruled (Call target m first x) → only_if (is_quiet p fr.method) (is_quiet p m) ≡ true
-    called_quiet target m first x r = grind (arith, nat_tests, all_parts)
-
-    pub falls :
-        AllUndo p s.items → (i : Instr) → slice_get d.code fr.place ≡ Some i → Ruled i → (e : Effect) → Fits p c fr ts s i e →
-        ((g : Gives) (a : ℕ) → slice_get d.code fr.place ≡ Some (Return a) → rank p (returned p fr ts (record s { cells = ended_cells p fr s.cells }) g a ts) < before) →
-        ((a : ℕ) (o : Object) → i ≡ Delete a → held s.cells (here fr ts s a) ≡ Some o → is_object o.thing ≡ true) → ((o : Object) → held s.cells (top_place s.items) ≡ Some o → is_object o.thing ≡ true) →
+    pub falls : AllUndo p s.items → (i : Instr) → slice_get d.code fr.place ≡ Some i → Ruled i → (e : Effect) → Fits p c fr ts s i e → ((g : Gives) (a : ℕ) →
+        slice_get d.code fr.place ≡ Some (Return a) → rank p (returned p fr ts (record s { cells = ended_cells p fr s.cells }) g a ts) < before) →
+        ((a : ℕ) (o : Object) → i ≡ Delete a → held s.cells (here fr ts s a) ≡ Some o → is_object o.thing ≡ true) →
+        ((o : Object) → held s.cells (top_place s.items) ≡ Some o → is_object o.thing ≡ true) →
         ((m : ℕ) → slice_get d.code fr.place ≡ Some Cancel → cancel_method p fr ≡ Some m → (m < fr.method) × (is_quiet p m ≡ true)) → rank p (applied p fr ts s e) < before
     falls undos i stands r (Goes_on ch) f returns plain lasts lower = goes_after i stands f.0 r ch.update f.1
     falls undos i stands r (Jumps to) f returns plain lasts lower = to_jump i stands to f
     falls undos i stands r (Counts depth n) f returns plain lasts lower = counts i stands depth n f
-    falls undos i stands r (Repeats depth n to) f returns plain lasts lower = grind (arith, nat_tests, repeats depth to f.1)
-    falls undos i stands r (Calls target m first) f returns plain lasts lower = calls target m first f.0 (stands ∙ ap (λ x. Some x) f.1) (called_quiet target m first f.0 (subst Ruled f.1 r))
+    falls undos i stands r (Repeats depth n to) f returns plain lasts lower = grind (arith, nat_tests, goes, back, nests)
+    falls undos i stands r (Calls target m first) f returns plain lasts lower = calls target m first f.0 (stands ∙ ap (λ x. Some x) f.1) (grind (arith, nat_tests, all_parts))
     falls undos i stands r (Cancels m) f returns plain lasts lower = grind (arith, nat_tests, cancels m)
     falls undos i stands r (Sets_trap target m first) f returns plain lasts lower = grind (arith, nat_tests, traps target m first f.0, loud_by)
     falls undos i stands r (Returns g a) f returns plain lasts lower = returns g a (stands ∙ ap (λ x. Some x) f.0)
     falls undos i stands r (Leaves code u) f returns plain lasts lower = leaves_on i stands (straight_by p c fr ts s i (Leaves code u) f) (loud_leaving i code f.1 r) (count_after u) (more u)
     falls undos i stands r (Destroys o a words) f returns plain lasts lower = deletes i stands (straight_by p c fr ts s i (Destroys o a words) f) o a words f.1 (plain a o f.0 f.1)
     falls undos i stands r (Destroys_last o) f returns plain lasts lower = deletes_last i stands (straight_by p c fr ts s i (Destroys_last o) f) o f.1 f.2 (lasts o f.2)
-    falls undos i stands r (Operates m w) f returns plain lasts lower = operates i stands (straight_by p c fr ts s i (Operates m w) f) m w undos f.1
+    falls undos i stands r (Operates m w) f returns plain lasts lower =
+        grind (arith, nat_tests, paid, straight, undo_paid, one_less, price_some, straight_by p c fr ts s i (Operates m w) f)

@@ -4,7 +4,6 @@ use Rattle.std.proofs.Common.{◌≡◌, ◌≤◌, ◌+◌, ◌∙◌, ℕ, suc
 use Rattle.aom_image.proofs.Given.{false_given, none_given}
 use Rattle.std.specs.Prelude.{◌==◌, ◌&&◌, ◌||◌}
 use Rattle.std.proofs.lemmas.Bool.{eqb-true, false≢true, ne_eqb}
-use Rattle.std.proofs.lemmas.Option.{none-some}
 use Rattle.aom_image.specs.Image.{Image}
 use Rattle.aom_roles.specs.Things.{is_object}
 use Rattle.aom_rules.specs.Typing.{Typing}
@@ -33,7 +32,7 @@ all_stand [] none = refl
 all_stand (c ∷ cs) none = here c.owner refl (all_stand cs (λ k. (none_there c cs (Going k) (none k)).1))
   where
     here : (r : Place) → c.owner ≡ r → staying cs ≡ length cs → cond (is_going r) (staying cs) (suc (staying cs)) ≡ suc (length cs)
-    here (Going k) e ih = let clash : true ≡ false = sym (ap (λ r. same_place r (Going k)) e ∙ same_place_refl (Going k)) ∙ (none_there c cs (Going k) (none k)).0 in cc
+    here (Going k) e ih = let clash : true ≡ false = sym (grind (arith, nat_tests, same_place_refl (Going k))) ∙ (none_there c cs (Going k) (none k)).0 in cc
     here _ e ih = ap suc ih
 
 still_stand : (k : ℕ) (cs : List Cell) → staying (without (Going k) cs) ≡ staying cs
@@ -82,7 +81,7 @@ held_below cs n (Method fr sh ∷ ls) le h = held_below cs n ls (omega (arith, l
 held_below cs n (Mark gv ∷ ls) le h = held_below cs n ls (omega (arith, le)) h
 held_below cs n (Unwinding code es ∷ ls) le h = held_below cs n ls (omega (arith, le)) h
 held_below cs n (Ending o left ∷ ls) le h = held_below cs n ls (omega (arith, le)) h
-held_below cs n (Dying o ∷ ls) le h = (other_depth cs n (length (tasks_of ls)) (ne_eqb n (length (tasks_of ls)) (λ e. absurd (omega (arith, le, e)))) ∙ h.0, held_below cs n ls (omega (arith, le)) h.1)
+held_below cs n (Dying o ∷ ls) le h = search (arith, nat_tests, other_depth cs n, ne_eqb n, held_below cs n ls)
 held_below cs n (Dispatching d seats ∷ ls) le h = held_below cs n ls (omega (arith, le)) h
 
 counted_cells : (ls : List Layer) (cs : List Cell) → Tidy cs → DyingHeld cs ls → ((k : ℕ) → goes_at ls k ≡ false → held cs (Going k) ≡ None) → staying cs + destructions (tasks_of ls) ≡ length cs
@@ -92,18 +91,8 @@ counted_cells (Mark gv ∷ ls) cs t h none = counted_cells ls cs t h none
 counted_cells (Unwinding code es ∷ ls) cs t h none = counted_cells ls cs t h none
 counted_cells (Ending o left ∷ ls) cs t h none = counted_cells ls cs t h none
 counted_cells (Dispatching d seats ∷ ls) cs t h none = counted_cells ls cs t h none
-counted_cells (Dying o ∷ ls) cs t h none = grind (
-  arith,
-  nat_tests,
-  counted_cells ls,
-  tidy_without cs,
-  held_below cs,
-  still_stand,
-  one_without,
-  eqb-true,
-  same_depth cs,
-  other_depth cs,
-)
+counted_cells (Dying o ∷ ls) cs t h none =
+    grind (arith, nat_tests, counted_cells ls, tidy_without cs, held_below cs, still_stand, one_without, eqb-true, same_depth cs, other_depth cs)
 
 -- ---- well-typed states
 
@@ -146,22 +135,17 @@ objects_and_messages [] = refl
 objects_and_messages (c ∷ cs) = grind (arith, objects_and_messages cs)
 
 below_first_cell : (c : Cell) (cs : List Cell) → Tidy (c ∷ cs) → GoesNoMessage (c ∷ cs) → GoesNoMessage cs
-below_first_cell c cs t plain k o e = plain k o (go (same_place c.owner (Going k)) refl)
-  where
-    go : (b : Bool) → same_place c.owner (Going k) ≡ b → cond b (Some c.object) (held cs (Going k)) ≡ Some o
-    go true is = absurd (none-some o (sym t.0 ∙ ap (λ q. held cs q) (same_place-true c.owner (Going k) is) ∙ e))
-    go false other = e
+below_first_cell c cs t plain k o e = plain k o (grind (arith, nat_tests, same_place-true))
 
 -- where no message goes those stay that stand, and all messages
 stays_or_stands : (cs : List Cell) → Tidy cs → GoesNoMessage cs → staying cs ≡ standing cs + count_messages cs
 stays_or_stands [] t plain = refl
 stays_or_stands (c ∷ cs) t plain = go c.owner refl (is_object c.object.thing) refl (stays_or_stands cs t.2 (below_first_cell c cs t plain))
   where
-    go :
-        (r : Place) → c.owner ≡ r → (b : Bool) → is_object c.object.thing ≡ b → staying cs ≡ standing cs + count_messages cs →
-        cond (is_going r) (staying cs) (suc (staying cs)) ≡ cond b (cond (is_going r) (standing cs) (suc (standing cs))) (standing cs) + cond b (count_messages cs) (suc (count_messages cs))
+    go : (r : Place) → c.owner ≡ r → (b : Bool) → is_object c.object.thing ≡ b → staying cs ≡ standing cs + count_messages cs → cond (is_going r) (staying cs)
+        (suc (staying cs)) ≡ cond b (cond (is_going r) (standing cs) (suc (standing cs))) (standing cs) + cond b (count_messages cs) (suc (count_messages cs))
     go (Going k) at false e ih =
-        absurd (false≢true (sym e ∙ plain k c.object (ap (λ b. cond b (Some c.object) (held cs (Going k))) (ap (λ q. same_place q (Going k)) at ∙ same_place_refl (Going k)))))
+        absurd (false≢true (sym e ∙ plain k c.object (grind (arith, nat_tests, same_place_refl (Going k)))))
     go (Going k) at true e ih = ih
     go _ at true e ih = omega (arith, ih)
     go _ at false e ih = omega (arith, ih)

@@ -16,15 +16,17 @@ use Rattle.aom_safety.proofs.Storing.{held_set_word, rerequested_alike, resessio
 use Rattle.aom_semantics.specs.Calls.{passed_cells, result_cells}
 use Rattle.aom_semantics.specs.Cleanup.{to_trap, top_place}
 use Rattle.aom_semantics.specs.Clients.{each_unslotted}
-use Rattle.aom_semantics.specs.Effects.{Carried, Made, Popped, Popped_operation, Pushed, Pushed_operation, Replied, Handed, Requested, Same, Sessioned, Spot, Update, Written, cells_after, spot_place}
+use Rattle.aom_semantics.specs.Effects.{Carried, Made, Popped, Pushed, Replied, Handed}
+use Rattle.aom_semantics.specs.Effects.{Requested, Sessioned, Spot, Update, Written, cells_after, spot_place}
 use Rattle.aom_semantics.specs.Enlisted.{ended_cells, on_request, own_request, rerequested}
 use Rattle.aom_semantics.specs.Places.{Cell, Entry, Going, Object, Place, Request, held, moved, same_place, without}
 use Rattle.aom_semantics.specs.Servers.{all_unslotted, is_queue_of, without_queue}
-use Rattle.aom_semantics.specs.State.{Closing, Destroy, Dispatched, Frame, Home, Run, State, Task, Trapped, Unwind, field_place, resumed}
-use Rattle.aom_semantics.specs.Words.{here, stored}
+use Rattle.aom_semantics.specs.State.{Closing, Destroy, Dispatched, Frame, Home, Run, State, Task, Trapped, Unwind, resumed}
+use Rattle.aom_semantics.specs.Words.{here}
 use Rattle.aom_typings.specs.Prices.{Prices}
-use Rattle.aom_progress.specs.Left.{closing_left, closings_left, goes_below, is_session_with, sessions_left}
-use Rattle.aom_progress.proofs.Pushed.{each_unslotted_same, field_no_session, moved_less, queue_less, redeemed_same, rerequested_same, resessioned_same, stored_same, without_less}
+use Rattle.aom_progress.specs.Left.{closing_left, closings_left, is_session_with, sessions_left}
+use Rattle.aom_progress.proofs.Pushed.{each_unslotted_same, field_no_session, moved_less, queue_less, redeemed_same}
+use Rattle.aom_progress.proofs.Pushed.{rerequested_same, resessioned_same, stored_same, without_less}
 
 -- below that depth the same cells go, and with no server there are more sessions
 pub record Lasts (depth : ℕ) (cs us : List Cell) : Type 0 where
@@ -35,9 +37,6 @@ pub lasts_below : (m n : ℕ) (cs us : List Cell) → m ≤ n → Lasts n cs us 
 lasts_below m n cs us le h = record { going = λ k lt. h.going k (omega (arith, le, lt)); sessions = h.sessions }
 
 module _ (p : Image) (c : Prices) (cs us : List Cell) where
-  same_below : (ts : List Task) → Lasts (length ts) cs us → goes_below us ts ≡ goes_below cs ts
-  same_below x h = grind arith
-
   pub closing_less : (o : Option Object) → ((n : ℕ) → sessions_left c n us ≤ sessions_left c n cs) → closing_left p c us o ≤ closing_left p c cs o
   closing_less None h = omega arith
   closing_less (Some o) h = omega (arith, h o.name)
@@ -49,9 +48,7 @@ module _ (p : Image) (c : Prices) (cs us : List Cell) where
   lasting (Destroy ∷ ts) h = lasting ts (lasts_below _ _ cs us (omega arith) h)
   lasting (Unwind code ∷ ts) h = lasting ts (lasts_below _ _ cs us (omega arith) h)
   lasting (Dispatched d ∷ ts) h = lasting ts (lasts_below _ _ cs us (omega arith) h)
-  lasting (Closing ∷ ts) h =
-      let less = lasts_below (length ts) (length (Closing ∷ ts)) cs us (omega arith) h in
-      omega (arith, lasting ts less, closing_less (goes_below us ts) (h.sessions c), ap (λ o. closing_left p c cs o) (same_below ts less))
+  lasting (Closing ∷ ts) h = grind (arith, nat_tests, lasts_below, lasting ts, closing_less, h.sessions c)
 
 -- the methods over the trap end
 pub to_trap_closings : (p : Image) (c : Prices) (cs : List Cell) (ts : List Task) → closings_left p c cs (to_trap ts) ≡ closings_left p c cs ts
@@ -77,9 +74,6 @@ IsApart depth r = (k : ℕ) → k < depth → same_place r (Going k) ≡ false
 pub going_apart : (depth n : ℕ) → depth ≤ n → IsApart depth (Going n)
 going_apart depth n le k lt = ap (λ b. b && (0 == 0)) (ne_eqb n k (λ e. absurd (omega (arith, le, lt, e))))
 
-field_apart : (depth : ℕ) (h : Home) (f : ℕ) → IsApart depth (field_place h f)
-field_apart depth x f k lt = grind arith
-
 pub lasts_moved : (depth : ℕ) (from to : Place) (cs : List Cell) → IsApart depth from → IsApart depth to → ((n : ℕ) → is_session_with n to ≡ false) → Lasts depth cs (moved from to cs)
 lasts_moved depth from to cs a b none = record {
   going = λ k lt. held_elsewhere cs from to (Going k) (b k lt) ∙ ap (λ x. cond x None (held cs (Going k))) (a k lt);
@@ -92,11 +86,8 @@ lasts_without depth from cs a = record {
   sessions = λ c n. without_less c (is_session_with n) from cs;
 }
 
-stored_held : (cs : List Cell) (h : Home) (w : ℕ) (v : ℤ) (q : Place) → held (stored cs h w v) q ≡ held cs q
-stored_held cs x w v q = grind (arith, nat_tests, held_set_word cs)
-
 lasts_asked : (depth : ℕ) (cs : List Cell) (h : Home) (r : Option Request) → Lasts depth cs (rerequested cs h r)
-lasts_asked depth cs h r = record { going = λ k lt. (rerequested_alike cs h r).held_so (Going k); sessions = λ c n. omega (arith, rerequested_same c (is_session_with n) cs h r) }
+lasts_asked depth cs h r = record { going = λ k lt. (rerequested_alike cs h r).held_so (Going k); sessions = grind (arith, nat_tests, rerequested_same) }
 
 lasts_redeemed : (depth : ℕ) (order : Option ℕ) (code : ℤ) (cs : List Cell) → Lasts depth cs (redeemed_by order code cs)
 lasts_redeemed depth order code cs = record { going = λ k lt. (redeemed_by_alike order code cs).held_so (Going k); sessions = λ c n. omega (arith, redeemed_same c (is_session_with n) order code cs) }
@@ -106,29 +97,27 @@ lasts_ended depth p fr cs = grind (arith, nat_tests, lasts_asked depth cs fr.hom
 
 module _ (depth : ℕ) (p : Image) (fr : Frame) (ts : List Task) (s : State) where
   spot_apart : (x : Spot) → IsApart depth (spot_place p fr ts s x)
-  spot_apart x k lt = grind (arith, nat_tests, field_apart depth fr.home)
+  spot_apart x k lt = grind (arith, nat_tests)
 
   spot_no_session : (x : Spot) (n : ℕ) → is_session_with n (spot_place p fr ts s x) ≡ false
   spot_no_session x n = grind (arith, nat_tests, field_no_session n fr.home)
 
   pub lasts_update : (u : Update) → Lasts depth s.cells (cells_after p fr ts s u)
-  lasts_update Same = lasts_itself depth s.cells
   lasts_update (Carried from to) = lasts_moved depth (spot_place p fr ts s from) (spot_place p fr ts s to) s.cells (spot_apart from) (spot_apart to) (spot_no_session to)
   lasts_update (Made name x a) = record { going = λ k lt. refl; sessions = λ c n. omega arith }
-  lasts_update (Written w v) = record { going = λ k lt. stored_held s.cells fr.home w v (Going k); sessions = λ c n. omega (arith, stored_same c (is_session_with n) s.cells fr.home w v) }
+  lasts_update (Written w v) = record { going = λ k lt. grind (arith, nat_tests, held_set_word); sessions = λ c n. omega (arith, stored_same c (is_session_with n) s.cells fr.home w v) }
   lasts_update (Requested r) = lasts_asked depth s.cells fr.home r
   lasts_update (Sessioned b) = record {
     going = λ k lt. (resessioned_alike s.cells fr.home b).held_so (Going k);
     sessions = λ c n. omega (arith, resessioned_same c (is_session_with n) s.cells fr.home b);
   }
   lasts_update (Pushed a) = lasts_moved depth (here fr ts s a) (Entry (length s.items)) s.cells (λ k lt. refl) (λ k lt. refl) (λ n. refl)
-  lasts_update (Pushed_operation m w) = lasts_itself depth s.cells
   lasts_update (Popped a) = lasts_moved depth (top_place s.items) (here fr ts s a) s.cells (λ k lt. refl) (λ k lt. refl) (λ n. refl)
-  lasts_update Popped_operation = lasts_itself depth s.cells
   lasts_update (Replied a code) = grind (arith, nat_tests, lasts_then depth s.cells, lasts_redeemed depth, lasts_without depth)
   lasts_update (Handed name a) =
       let r = on_request (promised (next_token s.cells)) (own_request s.cells fr.home) in
       record { going = (lasts_asked depth s.cells fr.home r).going; sessions = λ c n. omega (arith, (lasts_asked depth s.cells fr.home r).sessions c n) }
+  lasts_update _ = lasts_itself depth s.cells
 
   pub lasts_passed : (to_depth : ℕ) (xs : List Argument) (first to : ℕ) (cs : List Cell) → Lasts depth cs (passed_cells p fr ts s to_depth xs first to cs)
   lasts_passed to_depth [] first to cs = lasts_itself depth cs

@@ -2,8 +2,8 @@
 use Rattle.std.proofs.lemmas.Bool.Decides.{nat_tests}
 use Rattle.aom_families.proofs.Running.{overrides_there, body_runs}
 use Rattle.aom_classes.specs.Overriding.{body_of}
-use Rattle.std.proofs.Common.{Bool, List, None, Option, Some, [], ap, arith, cond, false, length, refl, slice_get, subst, suc, true, zero, ℕ, ◌*◌, ◌+◌, ◌<◌, ◌^◌, ◌∙◌, ◌≡◌, ◌≤◌}
-use Rattle.std.specs.Prelude.{IsSome, position}
+use Rattle.std.proofs.Common.{Bool, List, None, Option, Some, [], ap, arith, cond, false, length, refl}
+use Rattle.std.proofs.Common.{slice_get, subst, suc, true, ℕ, ◌*◌, ◌+◌, ◌<◌, ◌^◌, ◌∙◌, ◌≡◌, ◌≤◌}
 use Rattle.std.proofs.lemmas.Option.{slice_get_within}
 use Rattle.aom_image.specs.Image.{Image}
 use Rattle.aom_image.specs.Views.{is_quiet, leaves, leaves_in, method_at, quiet_in}
@@ -17,7 +17,7 @@ use Rattle.aom_image.specs.declared.method.Role.TheVariants.{Cancel as Cancel_ro
 use Rattle.aom_image.specs.declared.method.Thing.{Thing}
 use Rattle.aom_classes.specs.Calls.{CallsBelow, CallsOrdered, RunsBelow}
 use Rattle.aom_classes.specs.Linked.{IsLinked}
-use Rattle.aom_classes.specs.Roles.{is_main, main_of, own_role, role_of}
+use Rattle.aom_classes.specs.Roles.{main_of, own_role, role_of}
 use Rattle.aom_roles.specs.Shapes.{FlagsFit, HasShape, IsShaped, kind_of, may_leave, is_quiet as quiet_bit}
 use Rattle.aom_classes.proofs.Facts.{all_there, at_place}
 use Rattle.aom_classes.proofs.Mentioning.{cancels_own}
@@ -70,7 +70,7 @@ cell_two p = omega (arith, pow_less (spare p) 0 (suc (length p.methods)) (omega 
 power_two : (p : Image) → IsLinked p → 2 ≤ base p ^ length p.methods
 unfolding main_of
 power_two p linked =
-    let some : 1 ≤ length p.methods = cons_given (λ ms. IsSome (position is_main ms)) p.methods linked.main (λ none. cc) (λ m ms is found. omega (arith, ap length is)) in
+    let some : 1 ≤ length p.methods = grind (arith, nat_tests, cons_given) in
     omega (arith, pow_less (spare p) 0 (length p.methods) (omega (arith, some)), pow_some (spare p) 0)
 
 closing_two : (p : Image) → IsLinked p → 2 ≤ closing_rank p
@@ -97,7 +97,8 @@ record IsQuietThere (p : Image) (m : ℕ) : Type 0 where
   quiet : is_quiet p m ≡ true
 
 -- what plays a role whose shape asks for it is a quiet method of the image
-role_quiet : (p : Image) → IsLinked p → (c m : ℕ) (role : Role) → ((kind : Option ClassKind) (d : Method) → HasShape role kind d → quiet_in (Some d) ≡ true) → role_of p c role ≡ Some m → IsQuietThere p m
+role_quiet : (p : Image) → IsLinked p → (c m : ℕ) (role : Role) →
+    ((kind : Option ClassKind) (d : Method) → HasShape role kind d → quiet_in (Some d) ≡ true) → role_of p c role ≡ Some m → IsQuietThere p m
 unfolding method_at
 role_quiet p linked c m role quiet e =
     let w = role_inherits p c m role e in
@@ -117,9 +118,8 @@ destructor_paid p linked c = grind (arith, nat_tests, power_two p linked, quiet_
 
 -- and so many of them by so many
 line_in_paid : (p : Image) → IsLinked p → (n : ℕ) (o : Option ℕ) → line_in p (run_rank p) n o + 2 ≤ suc n * base p ^ length p.methods
-line_in_paid p linked n None = omega (arith, power_two p linked, one_of n (base p ^ length p.methods))
-line_in_paid p linked zero (Some c) = omega (arith, destructor_paid p linked c, one_of 0 (base p ^ length p.methods))
 line_in_paid p linked (suc n) (Some c) = grind (arith, nat_tests, destructor_paid p linked c, line_in_paid p linked n, one_beside (suc n))
+line_in_paid p linked n x = grind (arith, nat_tests, power_two p linked, one_of n, destructor_paid p linked, one_of 0)
 
 -- a line has one of each class at most
 line_paid : (p : Image) → IsLinked p → (x : Thing) → line p (run_rank p) x + 2 ≤ closing_rank p
@@ -155,14 +155,12 @@ body_before : (p : Image) (m m' : ℕ) (view : Option ℕ) → CallsBelow p m m'
 unfolding method_at
 body_before p m m' view below = grind (arith, nat_tests, body_runs p m' view, overrides_there p)
 
-pub called_before :
-    (p : Image) → IsLinked p → (m place : ℕ) (d : Method) (target : Target) (m' first c : ℕ) → method_at p m ≡ Some d → slice_get d.code place ≡ Some (Call target m' first c) →
-    (view : Option ℕ) → body_of p m' view < m
+pub called_before : (p : Image) → IsLinked p → (m place : ℕ) (d : Method) (target : Target) (m' first c : ℕ) →
+    method_at p m ≡ Some d → slice_get d.code place ≡ Some (Call target m' first c) → (view : Option ℕ) → body_of p m' view < m
 called_before p linked m place d target m' first c is stands view = body_before p m m' view (runs_below p linked m place d (Call target m' first c) is stands)
 
-pub trapped_before :
-    (p : Image) → IsLinked p → (m place : ℕ) (d : Method) (target : Target) (m' first c : ℕ) → method_at p m ≡ Some d → slice_get d.code place ≡ Some (Trap target m' first c) →
-    (view : Option ℕ) → body_of p m' view < m
+pub trapped_before : (p : Image) → IsLinked p → (m place : ℕ) (d : Method) (target : Target) (m' first c : ℕ) →
+    method_at p m ≡ Some d → slice_get d.code place ≡ Some (Trap target m' first c) → (view : Option ℕ) → body_of p m' view < m
 trapped_before p linked m place d target m' first c is stands view = body_before p m m' view (runs_below p linked m place d (Trap target m' first c) is stands)
 
 -- an operation is paid by its item, with two left
@@ -170,7 +168,7 @@ pub undo_paid : (p : Image) (m : ℕ) → IsUndo p m → left_in (method_at p m)
 unfolding method_at
 undo_paid p m undo =
     let is : level p m ≡ m = ap (λ b. cond b m (suc (suc (length p.methods)) + m)) undo.quiet in
-    let within : m < length p.methods = some_given (λ o. IsSome o) (slice_get p.methods m) undo.there (λ none. cc) (λ d is some. slice_get_within p.methods m d is) in
+    let within : m < length p.methods = grind (arith, nat_tests, some_given, slice_get_within) in
     run_paid p m (suc (length p.methods)) (omega (arith, is, within))
 
 -- ---- methods that cancel
@@ -181,13 +179,7 @@ unfolding quiet_in
 quiet_canceller p linked c m e = (role_quiet p linked c m Cancel_role (λ kind d shape. shape.flags) e).quiet
 
 -- and comes before what cancels by it, also where the object is of a class that descends from the method's
-pub canceller_before :
-    (p : Image) → IsLinked p → (m place : ℕ) (d : Method) (c x m' : ℕ) → method_at p m ≡ Some d → slice_get d.code place ≡ Some Cancel → d.class ≡ Some c → descends p x c ≡ true → role_of p x Cancel_role ≡ Some m' →
-    m' < m
-canceller_before p linked m place d c x m' is stands class family e = grind (
-  arith,
-  nat_tests,
-  runs_below p linked m place d Cancel is stands,
-  cancels_own p m x,
-  through p,
-)
+pub canceller_before : (p : Image) → IsLinked p → (m place : ℕ) (d : Method) (c x m' : ℕ) →
+    method_at p m ≡ Some d → slice_get d.code place ≡ Some Cancel → d.class ≡ Some c → descends p x c ≡ true → role_of p x Cancel_role ≡ Some m' → m' < m
+canceller_before p linked m place d c x m' is stands class family e =
+    grind (arith, nat_tests, runs_below p linked m place d Cancel is stands, cancels_own p m x, through p)

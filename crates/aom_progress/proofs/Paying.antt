@@ -1,6 +1,7 @@
 -- Each effect pays for its step: what a method goes on with, what it calls, destroys or pushes, and where a loop leads.
 use Rattle.std.proofs.lemmas.Bool.Decides.{nat_tests}
-use Rattle.std.proofs.Common.{◌≡◌, ◌≤◌, ◌+◌, ◌-◌, ◌*◌, ◌∙◌, ℕ, ℤ, zero, suc, true, false, inl, inr, List, [], ◌∷◌, length, Option, Some, None, slice_get, refl, sym, ap, arith, subst}
+use Rattle.std.proofs.Common.{◌≡◌, ◌≤◌, ◌+◌, ◌-◌, ◌*◌, ◌∙◌, ℕ, ℤ, zero, suc, true, false, inl, inr, List, []}
+use Rattle.std.proofs.Common.{◌∷◌, length, Option, Some, None, slice_get, refl, sym, ap, arith, subst}
 use Rattle.aom_image.specs.Image.{Image}
 use Rattle.aom_image.specs.declared.method.Thing.TheVariants.{Object as An_object_of}
 use Rattle.aom_image.specs.Views.{method_class, arguments_of, method_at}
@@ -24,13 +25,15 @@ use Rattle.aom_image.proofs.Given.{some_given}
 use Rattle.aom_roles.specs.Families.{parent_above}
 use Rattle.aom_typings.proofs.Lines.{line_first, line_next}
 use Rattle.aom_typings.specs.Most.{line, line_after}
-use Rattle.aom_semantics.specs.Calls.{run_by, target_view, below_top, accepted_cells, ended_well, passed_cells, result_cells, returned}
+use Rattle.aom_semantics.specs.Calls.{run_by, target_view, below_top, ended_well, passed_cells, result_cells, returned}
 use Rattle.aom_safety.specs.Claims.{Layer, tasks_of, Method}
 use Rattle.aom_semantics.specs.Cleanup.{top_place}
 use Rattle.aom_semantics.specs.Destruction.{begun, begun_by, class_destructor, destructed, line_on, next_destructor}
-use Rattle.aom_semantics.specs.Effects.{Calls, Cancels, Carried, Counts, Destroys, Destroys_last, Effect, Goes_on, Jumps, Leaves, Made, Operates, Popped, Popped_operation, Pushed, Pushed_operation, Repeats, Requested, Returns, Same, Sets_trap, Spot, Update, Written, applied, cells_after, items_after, spot_place, with_words, Sessioned, Replied, Handed}
+use Rattle.aom_semantics.specs.Effects.{Calls, Cancels, Carried, Counts, Destroys, Destroys_last, Effect, Goes_on, Jumps, Leaves, Operates}
+use Rattle.aom_semantics.specs.Effects.{Popped, Popped_operation, Pushed, Repeats, Requested, Returns, Sets_trap, Spot, Update}
+use Rattle.aom_semantics.specs.Effects.{Written, applied, cells_after, items_after, spot_place, with_words, Sessioned, Replied, Handed}
 use Rattle.aom_semantics.specs.Places.{Entry, Going, Object, Sight, held, seen, Cell, Place, Register, moved}
-use Rattle.aom_semantics.specs.State.{An_object, An_operation, AtRoot, Choice, Frame, Home, Inside, Static, Run, State, Task, Trapped, counter, Dispatch}
+use Rattle.aom_semantics.specs.State.{An_object, An_operation, Choice, Frame, Home, Inside, Run, State, Task, Trapped, counter, Dispatch}
 use Rattle.aom_safety.specs.Steps.{Fits, Sets}
 use Rattle.aom_safety.specs.WellTyped.{Fits as Holds_of, Now, Stack}
 use Rattle.aom_semantics.specs.Words.{here}
@@ -40,9 +43,11 @@ use Rattle.aom_progress.proofs.Sums.{scaled, scaled_le}
 use Rattle.aom_progress.proofs.Worths.{passed_less, returned_less, to_trap_less}
 use Rattle.aom_typings.specs.Prices.{call_price, IsPriced, Prices, Stands, kind_price, price, perhaps_price, sessions_cost}
 use Rattle.aom_progress.specs.Worths.{over_worth}
-use Rattle.aom_progress.specs.Left.{is_entry, left, left_worths, method_left, objects_left, operations_left, rounds_left, rounds_price, tasks_left, waiting_left, closings_left, end_left, sessions_left}
+use Rattle.aom_progress.specs.Left.{is_entry, left, left_worths, method_left, objects_left, operations_left, rounds_left}
+use Rattle.aom_progress.specs.Left.{rounds_price, tasks_left, waiting_left, closings_left, end_left, sessions_left}
 use Rattle.aom_progress.proofs.Covering.{Affords, Covers, body_paid, pushes}
-use Rattle.aom_progress.proofs.Pushed.{enters_place, field_no_entry, leaves_place, moved_less, none_moves, operations_below, redeemed_same, rerequested_same, stored_same, resessioned_same, enters_place, served_same, without_less}
+use Rattle.aom_progress.proofs.Pushed.{enters_place, field_no_entry, leaves_place, moved_less, none_moves, operations_below, redeemed_same}
+use Rattle.aom_progress.proofs.Pushed.{rerequested_same, stored_same, resessioned_same, enters_place, served_same, without_less}
 use Rattle.aom_semantics.specs.Tokens.{next_token, promised}
 use Rattle.aom_semantics.specs.Enlisted.{cancelling, on_request, own_request, ended_cells}
 use Rattle.aom_semantics.specs.Servers.{is_server}
@@ -60,15 +65,13 @@ pub fresh_rounds : (c : Prices) (m : ℕ) (d : Option Method_declared) → round
 fresh_rounds c m x = grind (arith, nat_tests, none_in_all)
 
 -- a line of destructors that begins over the going of its cell
-pub destructed_left :
-    (p : Image) (c : Prices) (o : Object) (height : ℕ) (below : List Task) (us : List Cell) →
-    tasks_left p c (destructed p o height below) + closings_left p c us (destructed p o height below) ≤ 1 + line p (perhaps_price c) o.thing + (waiting_left p c below + closings_left p c us below)
+pub destructed_left : (p : Image) (c : Prices) (o : Object) (height : ℕ) (below : List Task) (us : List Cell) → tasks_left p c (destructed p o height below)
+    + closings_left p c us (destructed p o height below) ≤ 1 + line p (perhaps_price c) o.thing + (waiting_left p c below + closings_left p c us below)
 destructed_left p c o height below us = grind (arith, nat_tests, fresh_rounds c, line_first p)
 
 -- a destruction that begins costs what that of its class does, where what goes before a server is no more than its class pays for
-pub begun_left :
-    (p : Image) (t : Typing) (c : Prices) → IsPriced p t c → (o : Object) (height : ℕ) (below : List Task) (us : List Cell) →
-    (is_server p o.thing ≡ true → (held us (Going (length below)) ≡ Some o) × (sessions_left c o.name us ≤ sessions_cost p (λ k. c.destruction (An_object_of k)) o.thing)) →
+pub begun_left : (p : Image) (t : Typing) (c : Prices) → IsPriced p t c → (o : Object) (height : ℕ) (below : List Task) (us : List Cell) → (is_server p o.thing
+    ≡ true → (held us (Going (length below)) ≡ Some o) × (sessions_left c o.name us ≤ sessions_cost p (λ k. c.destruction (An_object_of k)) o.thing)) →
     tasks_left p c (begun p o height below) + closings_left p c us (begun p o height below) ≤ c.destruction o.thing + (waiting_left p c below + closings_left p c us below)
 begun_left p t c priced o height below us few = grind (arith, nat_tests, destructed_left p c o height below us)
 
@@ -78,8 +81,8 @@ kind_pays p t c priced h o k f = grind (arith, priced.stands_in)
 
 -- ---- a method at its place
 
-module _ (p : Image) (t : Typing) (c : Prices) (linked : IsLinked p) (priced : IsPriced p t c) (ch : Choice) (s : State) (fr : Frame) (sh : Shape) (ls : List Layer)
-    (at_hand : At p t s fr sh ls) (few : FewSeats p s.cells) (d : Method_declared) (declared_there : method_at p fr.method ≡ Some d) where
+module _ (p : Image) (t : Typing) (c : Prices) (linked : IsLinked p) (priced : IsPriced p t c) (ch : Choice) (s : State) (fr : Frame) (sh : Shape)
+    (ls : List Layer) (at_hand : At p t s fr sh ls) (few : FewSeats p s.cells) (d : Method_declared) (declared_there : method_at p fr.method ≡ Some d) where
   abbrev ts : List Task
   ts = tasks_of ls
 
@@ -117,15 +120,14 @@ module _ (p : Image) (t : Typing) (c : Prices) (linked : IsLinked p) (priced : I
   goes cs k n x y less most few = omega (arith, less, most, few)
 
   -- a destruction begins over the method
-  destruction :
-      (o : Object) (from : Place) (height : ℕ) (waits : Frame) → held s.cells from ≡ Some o → IsApart (length ts) from →
-      tasks_left p c (begun p o height (Run waits ∷ ts)) + closings_left p c (moved from (Going (length (Run fr ∷ ts))) s.cells) (begun p o height (Run waits ∷ ts))
+  destruction : (o : Object) (from : Place) (height : ℕ) (waits : Frame) → held s.cells from ≡ Some o → IsApart (length ts) from → tasks_left p c
+      (begun p o height (Run waits ∷ ts)) + closings_left p c (moved from (Going (length (Run fr ∷ ts))) s.cells) (begun p o height (Run waits ∷ ts))
       ≤ c.destruction o.thing + (waiting_left p c (Run waits ∷ ts) + closings)
   destruction o from height waits there apart =
       let depth = length (Run fr ∷ ts) in
       let us = moved from (Going depth) s.cells in
       let begins = begun_left p t c priced o height (Run waits ∷ ts) us (stands_at_going p t c priced s.cells (Method fr sh ∷ ls) at_hand.good few o from depth there (omega arith)) in
-      omega (arith, begins, lasting p c s.cells us ts (lasts_moved (length ts) from (Going depth) s.cells apart (going_apart (length ts) depth (omega arith)) (λ n. refl)))
+      omega (arith, begins, lasting p c s.cells us ts (grind (arith, nat_tests, lasts_moved, going_apart)))
 
   straight :
       (i : Instr) → slice_get d.code fr.place ≡ Some i → loop_in (Some i) ≡ None → (n : ℕ) → Affords p c fr sh n (suc fr.place) →
@@ -143,9 +145,7 @@ module _ (p : Image) (t : Typing) (c : Prices) (linked : IsLinked p) (priced : I
 
   -- what is on the cleanup stack after an update was there before, or its place pays for it
   after : (u : Update) → objects_left c (cells_after p fr ts s u) + operations_left c (items_after u s.items) ≤ pushes p c fr sh u + pushed
-  after Same = omega arith
   after (Carried from to) = omega (arith, moved_less c is_entry (spot_place p fr ts s from) (spot_place p fr ts s to) s.cells (spot_no_entry to))
-  after (Made name x a) = omega arith
   after (Written w v) = omega (arith, stored_same c is_entry s.cells fr.home w v)
   after (Requested r) = omega (arith, rerequested_same c is_entry s.cells fr.home r)
   after (Sessioned b) = omega (arith, resessioned_same c is_entry s.cells fr.home b)
@@ -153,14 +153,14 @@ module _ (p : Image) (t : Typing) (c : Prices) (linked : IsLinked p) (priced : I
     where
       of_object : (o : Option Object) → held s.cells (here fr ts s a) ≡ o → objects_left c (cells_after p fr ts s (Pushed a)) + operations_left c s.items ≤ kind_price c (register sh a) + pushed
       of_object None e = omega (arith, none_moves c is_entry (here fr ts s a) (Entry (length s.items)) s.cells e)
-      of_object (Some o) e =
-          let pays = kind_pays p t c priced (seen s.cells) o (register sh a) (subst (λ y. Holds_of p (seen s.cells) y (register sh a)) e (kind_fits p t ch s fr sh ls at_hand a)) in
+      of_object (Some o) e = let pays = kind_pays p t c priced
+          (seen s.cells) o (register sh a) (subst (λ y. Holds_of p (seen s.cells) y (register sh a)) e (kind_fits p t ch s fr sh ls at_hand a)) in
           omega (arith, pays, enters_place c is_entry (here fr ts s a) (Entry (length s.items)) o s.cells at_hand.good.tidy e)
-  after (Pushed_operation m w) = omega arith
   after (Popped a) = omega (arith, moved_less c is_entry (top_place s.items) (here fr ts s a) s.cells refl, operations_below c s.items)
   after Popped_operation = omega (arith, operations_below c s.items)
   after (Replied a code) = grind (arith, nat_tests, without_less c, redeemed_same c)
   after (Handed name a) = omega (arith, rerequested_same c is_entry s.cells fr.home (on_request (promised (next_token s.cells)) (own_request s.cells fr.home)))
+  after _ = omega arith
 
   -- and no more goes before servers
   closings_after : (u : Update) → closings_left p c (cells_after p fr ts s u) ts ≤ closings
@@ -202,14 +202,15 @@ module _ (p : Image) (t : Typing) (c : Prices) (linked : IsLinked p) (priced : I
   again : (depth to n : ℕ) → slice_get d.code fr.place ≡ Some (Next depth to) → Stands p t fr.method fr.place sh (Next depth to) → counter fr depth - 1 ≡ suc n → Pays (Repeats depth (suc n) to)
   again depth to n stands it e =
       let r = closed_loop d.code fr.place depth to nests stands in
-      let pays = priced.rounds fr.method fr.place depth r.0 sh (subst (λ k. Stands p t fr.method fr.place sh (Next depth k)) r.2 it) in
+      let pays = priced.rounds fr.method fr.place depth r.0 sh (rw r.2 at it) in
       let loops = back d.code worth grows fr.counters fr.place depth to (suc n) nests stands (omega (arith, e)) r.0 r.1 in
       let one : worth (suc n) r.0 ≡ n * c.round fr.method r.0 = ap (λ k. k * c.round fr.method r.0) (omega arith) in
       let more = scaled n (at 0 fr.counters depth - 1) (c.round fr.method r.0) (omega (arith, e)) in
       let less = there (put_at 0 fr.counters depth (suc n)) (suc r.0) 1 0 (c.round fr.method r.0) (omega (arith, loops, one, more)) (omega (arith, pays)) in
-      subst (λ k. Pays (Repeats depth (suc n) k)) (sym r.2) (goes (put_at 0 fr.counters depth (suc n)) (suc r.0) 0 pushed closings less (omega arith) (omega arith))
+      rw r.2 (goes (put_at 0 fr.counters depth (suc n)) (suc r.0) 0 pushed closings less (omega arith) (omega arith))
 
-  calls : (i : Instr) → slice_get d.code fr.place ≡ Some i → loop_in (Some i) ≡ None → (target : Target) (m first : ℕ) → Affords p c fr sh (1 + call_price p c m) (suc fr.place) → Pays (Calls target m first)
+  calls : (i : Instr) → slice_get d.code fr.place ≡ Some i →
+      loop_in (Some i) ≡ None → (target : Target) (m first : ℕ) → Affords p c fr sh (1 + call_price p c m) (suc fr.place) → Pays (Calls target m first)
   calls i stands plain target m first pays =
       let less = straight i stands plain (1 + call_price p c m) pays in
       let k = run_by p fr ts s target m in
@@ -222,9 +223,8 @@ module _ (p : Image) (t : Typing) (c : Prices) (linked : IsLinked p) (priced : I
       let after = on_request cancelling (own_request s.cells fr.home) in
       omega (arith, less, rerequested_same c is_entry s.cells fr.home after, closings_after (Requested after), fresh_rounds c m (method_at p m))
 
-  traps :
-      (i : Instr) → slice_get d.code fr.place ≡ Some i → loop_in (Some i) ≡ None → (target : Target) (m first : ℕ) → Affords p c fr sh (1 + call_price p c m) (suc fr.place) →
-      Pays (Sets_trap target m first)
+  traps : (i : Instr) → slice_get d.code fr.place ≡ Some i →
+      loop_in (Some i) ≡ None → (target : Target) (m first : ℕ) → Affords p c fr sh (1 + call_price p c m) (suc fr.place) → Pays (Sets_trap target m first)
   traps i stands plain target m first pays =
       let less = straight i stands plain (1 + call_price p c m) pays in
       let k = run_by p fr ts s target m in
@@ -232,38 +232,24 @@ module _ (p : Image) (t : Typing) (c : Prices) (linked : IsLinked p) (priced : I
       omega (arith, less, passed_less (objects_left c) (λ d i e j cs. moved_less c is_entry (Register d i) (Register e j) cs refl) p fr ts s (length (Trapped ∷ Run fr ∷ ts)) (arguments_of p m) first 0 s.cells, closings_passed (length (Trapped ∷ Run fr ∷ ts)) m first, fresh_rounds c k (method_at p k), run)
 
   -- the object of a register goes, or that of the last item, which was paid for as it was pushed
-  destroys :
-      (i : Instr) → slice_get d.code fr.place ≡ Some i → loop_in (Some i) ≡ None → (o : Object) (a : ℕ) (words : List (Option ℤ)) → held s.cells (here fr ts s a) ≡ Some o →
-      Affords p c fr sh (1 + kind_price c (register sh a)) (suc fr.place) →
-      Pays (Destroys o a words)
+  destroys : (i : Instr) → slice_get d.code fr.place ≡ Some i → loop_in (Some i) ≡ None → (o : Object) (a : ℕ) (words : List (Option ℤ)) →
+      held s.cells (here fr ts s a) ≡ Some o → Affords p c fr sh (1 + kind_price c (register sh a)) (suc fr.place) → Pays (Destroys o a words)
   destroys i stands plain o a words owned pays =
       let less = straight i stands plain (1 + kind_price c (register sh a)) pays in
       let begins = destruction o (here fr ts s a) (length s.items) (with_words fr words) owned (λ k lt. refl) in
-      let kind = kind_pays p t c priced (seen s.cells) o (register sh a) (subst (λ y. Holds_of p (seen s.cells) y (register sh a)) owned (kind_fits p t ch s fr sh ls at_hand a)) in
+      let kind = kind_pays p t c priced (seen s.cells) o (register sh a) (grind (arith, nat_tests, kind_fits p t ch s fr sh ls at_hand a)) in
       omega (arith, less, begins, kind, moved_less c is_entry (here fr ts s a) (Going (length (Run fr ∷ ts))) s.cells refl)
 
-  destroys_last :
-      (i : Instr) → slice_get d.code fr.place ≡ Some i → loop_in (Some i) ≡ None → (o : Object) → s.items ≡ An_object ∷ below_top s.items → held s.cells (top_place s.items) ≡ Some o →
-      Affords p c fr sh 1 (suc fr.place) →
-      Pays (Destroys_last o)
-  destroys_last i stands plain o top owned pays = grind (
-    arith,
-    nat_tests,
-    straight i stands plain 1 pays,
-    destruction o,
-    leaves_place c,
-    operations_below c s.items,
-  )
+  destroys_last : (i : Instr) → slice_get d.code fr.place ≡ Some i → loop_in (Some i) ≡ None → (o : Object) →
+      s.items ≡ An_object ∷ below_top s.items → held s.cells (top_place s.items) ≡ Some o → Affords p c fr sh 1 (suc fr.place) → Pays (Destroys_last o)
+  destroys_last i stands plain o top owned pays =
+      grind (arith, nat_tests, straight i stands plain 1 pays, destruction o, leaves_place c, operations_below c s.items)
 
-  operates :
-      (i : Instr) → slice_get d.code fr.place ≡ Some i → loop_in (Some i) ≡ None → (m : ℕ) (w : ℤ) → s.items ≡ An_operation m w ∷ below_top s.items → Affords p c fr sh 1 (suc fr.place) →
-      Pays (Operates m w)
+  operates : (i : Instr) → slice_get d.code fr.place ≡ Some i →
+      loop_in (Some i) ≡ None → (m : ℕ) (w : ℤ) → s.items ≡ An_operation m w ∷ below_top s.items → Affords p c fr sh 1 (suc fr.place) → Pays (Operates m w)
   operates i stands plain m w top pays = grind (arith, nat_tests, straight i stands plain 1 pays, fresh_rounds c m)
 
   -- what the method could still cost is dropped
-  accepted_less : (d : Dispatch) (e i : ℕ) (cs : List Cell) → objects_left c (accepted_cells d (Register e i) cs) ≤ objects_left c cs
-  accepted_less x e i cs = grind (arith, nat_tests, served_same c, moved_less c)
-
   well_ended : (d : Dispatch) → end_left p c (ended_well d) ≤ end_left p c d
   well_ended x = grind arith
 
@@ -282,25 +268,25 @@ module _ (p : Image) (t : Typing) (c : Prices) (linked : IsLinked p) (priced : I
     over_result over below x = omega (arith, over_ended below, lasting p c ended.cells _ below (lasts_result (length below) p fr over ended g a x below))
 
     line_closings : (cs : List Cell) (m : ℕ) (home : Home) (height : ℕ) (below : List Task) → closings_left p c cs (line_on p m home height below) ≡ closings_left p c cs below
-    line_closings cs m Static height below = refl
-    line_closings cs m AtRoot height below = refl
     line_closings cs m (Inside o from) height below = go (next_destructor p m)
       where
         go : (k : Option ℕ) → closings_left p c cs (begun_by p k o height below) ≡ closings_left p c cs below
         go None = refl
         go (Some k) = refl
+    line_closings cs m _ height below = refl
 
     returned_closings : (l : List Layer) → Stack p t s.cells Now (Method fr sh ∷ l) → Fewer l
     returned_closings x h = grind (arith, nat_tests, over_result, line_closings, over_ended)
 
   -- the rest of a line pays for the next of it
   lines_fall : (m k : ℕ) → next_destructor p m ≡ Some k → method_left p c k [] 0 + line_after p (perhaps_price c) k ≤ line_after p (perhaps_price c) m
-  lines_fall m k is = some_given (λ o. class_destructor p o ≡ Some k) (parent_above p m) is (λ none. cc) (λ e above next. omega (arith, line_next p (perhaps_price c) refl m e k above next, fresh_rounds c k (method_at p k)))
+  lines_fall m k is = some_given (λ o. class_destructor p o ≡ Some k)
+      (parent_above p m) is (λ none. cc) (λ e above next. omega (arith, line_next p (perhaps_price c) refl m e k above next, fresh_rounds c k (method_at p k)))
 
   returns : (g : Gives) (a : ℕ) → 1 ≤ c.from fr.method fr.place → Pays (Returns g a)
-  returns g a some =
-      let less = returned_less (left_worths p c) (objects_left c) (operations_left c) (λ d i e j cs. moved_less c is_entry (Register d i) (Register e j) cs refl) (operations_below c) (rerequested_same c is_entry) (λ x answer. omega arith) well_ended p t s fr sh g a
-      (λ d e i. accepted_less d e i (ended_cells p fr s.cells)) lines_fall ls at_hand.good.stack in
+  returns g a some = let less = returned_less (left_worths p c) (objects_left c) (operations_left c) (λ d i e j cs. moved_less c is_entry
+      (Register d i) (Register e j) cs refl) (operations_below c) (rerequested_same c is_entry) (λ x answer. omega arith) well_ended p t s fr sh g a
+      (λ d e i. grind (arith, nat_tests, served_same, moved_less)) lines_fall ls at_hand.good.stack in
       omega (arith, some, less.0, less.1, returned_closings g a ls at_hand.good.stack)
 
   pub pays : (i : Instr) → slice_get d.code fr.place ≡ Some i → Stands p t fr.method fr.place sh i → (e : Effect) → Fits p ch fr ts s i e → Covers p c fr sh e → Pays e

@@ -1,11 +1,10 @@
 -- Every move leads to a lower rank.
 use Rattle.std.proofs.lemmas.Bool.Decides.{nat_tests}
 use Rattle.std.proofs.lemmas.Option.{same_Some}
-use Rattle.std.proofs.Common.{◌≡◌, ◌<◌, ◌≤◌, ◌+◌, ◌*◌, ◌∙◌, ℕ, ℤ, Bool, true, false, List, [], ◌∷◌, length, Option, Some, None, slice_get, refl, sym, ap, arith, subst}
+use Rattle.std.proofs.Common.{◌≡◌, ◌<◌, ◌≤◌, ◌+◌, ◌*◌, ◌∙◌, ℕ, ℤ, Bool, true, List, [], ◌∷◌}
+use Rattle.std.proofs.Common.{length, Option, Some, None, slice_get, refl, sym, ap, arith, subst}
 use Rattle.aom_image.proofs.Given.{some_given}
 use Rattle.aom_typings.proofs.Lines.{line_next}
-use Rattle.aom_typings.specs.Most.{line_after}
-use Rattle.aom_semantics.specs.Destruction.{class_destructor, next_destructor}
 use Rattle.aom_image.specs.Image.{Image}
 use Rattle.aom_image.specs.Views.{class_in, instr_at, is_quiet, method_at}
 use Rattle.aom_instructions.specs.declared.instr.Instr.{Instr}
@@ -15,43 +14,42 @@ use Rattle.aom_image.specs.declared.method.Method.{Method as Method_declared}
 use Rattle.aom_classes.specs.Linked.{IsLinked}
 use Rattle.aom_classes.specs.Loops.{loop_in}
 use Rattle.aom_classes.proofs.Facts.{of_method}
-use Rattle.aom_rules.specs.Rules.{rule_needs}
 use Rattle.aom_shape.specs.Shape.{Shape}
 use Rattle.aom_rules.specs.Typing.{IsTyped, Typing}
 use Rattle.aom_semantics.specs.Calls.{returned}
-use Rattle.aom_semantics.specs.Cleanup.{ended_by, operation_frame}
-use Rattle.aom_semantics.specs.Calls.{ended_well}
 use Rattle.aom_semantics.specs.Effects.{Effect, applied, needs}
 use Rattle.aom_safety.proofs.Owned.{entry_object, root_object, session_object}
 use Rattle.aom_semantics.specs.Objects.{is_no_message}
 use Rattle.aom_semantics.specs.Words.{here}
-use Rattle.aom_safety.specs.Steps.{Acts, Arrives, Clears, Comes_out, Empties, Ends, Fits, IsStill, Move, Rests, Undoes, Vanishes}
+use Rattle.aom_safety.specs.Steps.{Acts, Arrives, Clears, Comes_out, Empties, Ends, Fits, Move, Rests, Undoes, Vanishes}
 use Rattle.aom_safety.proofs.Moving.{steps_are_moves}
 use Rattle.aom_safety.specs.Claims.{Layer, Method, tasks_of}
 use Rattle.aom_safety.proofs.Emptying.{found_first}
-use Rattle.aom_semantics.specs.Destruction.{begun, first_session, parting, vanished}
+use Rattle.aom_semantics.specs.Destruction.{begun, first_session, parting}
 use Rattle.aom_safety.proofs.Steps.{step_keeps}
 use Rattle.aom_safety.specs.Laws.{IsWired}
 use Rattle.aom_progress.specs.RankLaws.{Moves, no_move, one_move}
 use Rattle.aom_safety.specs.WellTyped.{CountsAs, Keeps}
-use Rattle.aom_semantics.specs.Moves.{answered, asking, counted, dispatch_ends, handled, main_ends, object_ends, stage_ends, step}
+use Rattle.aom_semantics.specs.Moves.{counted, main_ends, stage_ends, step}
 use Rattle.aom_semantics.specs.Places.{Cell, Elsewhere, Entry, Going, In_service, Object, Root, held, moved, service_of, without}
 use Rattle.aom_semantics.specs.Servers.{parted, reserved}
-use Rattle.aom_semantics.specs.State.{A_mark, An_object, An_operation, Answered, Asks, Choice, Closing, Destroy, Dispatch, Dispatched, Frame, Goes, Item, Main_left, Object_left, Of_main, Of_object, Of_root, Of_server, Outcome, Parts, Seat, Service_left, Stage, Run, State, Task, Trapped, Unwind, home_holder}
+use Rattle.aom_semantics.specs.State.{A_mark, An_object, Choice, Closing, Destroy, Dispatched}
+use Rattle.aom_semantics.specs.State.{Frame, Goes, Item, Of_root, Of_server, Outcome}
+use Rattle.aom_semantics.specs.State.{Parts, Seat, Service_left, Stage, Run, State, Task, Trapped, Unwind, home_holder}
 use Rattle.aom_safety.specs.WellTyped.{Good, Now, Stack, WellTyped}
 use Rattle.aom_semantics.specs.World.{IsBusy}
-use Rattle.aom_progress.specs.Ranks.{cell_rank, end_rank, frame_rank, is_going, method_rank, operations, rank, rank_worths, run_rank, standing, tasks_rank, waiting_rank}
+use Rattle.aom_progress.specs.Ranks.{cell_rank, frame_rank, is_going, operations}
+use Rattle.aom_progress.specs.Ranks.{rank, rank_worths, standing, tasks_rank}
 use Rattle.aom_progress.proofs.Falling.{falls, paid, straight}
 use Rattle.aom_progress.proofs.Levels.{begun_paid, canceller_before, destructed_paid, price_some, quiet_canceller, undo_paid}
-use Rattle.aom_progress.proofs.Cells.{operations_below, standing_accepted, standing_asked, standing_goes, standing_gone, standing_passes, standing_reserved, standing_without}
+use Rattle.aom_progress.proofs.Cells.{operations_below, standing_accepted, standing_asked, standing_goes, standing_gone}
+use Rattle.aom_progress.proofs.Cells.{standing_passes, standing_reserved, standing_without}
 use Rattle.aom_progress.proofs.Sums.{one_less, scaled_le}
 use Rattle.aom_progress.proofs.Worths.{resumed_alike, returned_less, told_alike}
 use Rattle.aom_safety.proofs.Layers.{method_layer}
-use Rattle.aom_semantics.specs.Enlisted.{cancel_method, ended_cells, part_of}
+use Rattle.aom_semantics.specs.Enlisted.{cancel_method, ended_cells}
 use Rattle.aom_roles.specs.Things.{holder_of, is_object}
-use Rattle.aom_image.specs.declared.method.Role.TheVariants.{Error}
 use Rattle.aom_roles.specs.Tests.{AllTrue}
-use Rattle.aom_roles.specs.Families.{parent_above}
 use Rattle.aom_safety.proofs.Callees.{cancel_family}
 
 -- ---- a return
@@ -69,40 +67,26 @@ ends p linked c s fr ts d declared_there a stands = grind (
   price_some p fr.method,
 )
 
--- the dispatch that heard it has no more before it
-well_less : (p : Image) (d : Dispatch) → end_rank p (ended_well d) ≤ end_rank p d
-well_less p x = grind arith
-
--- the rest of a line pays for the next of it
-lines_fall : (p : Image) (m k : ℕ) → next_destructor p m ≡ Some k → method_rank p k [] 0 + line_after p (run_rank p) k ≤ line_after p (run_rank p) m
-lines_fall p m k is = some_given (λ o. class_destructor p o ≡ Some k) (parent_above p m) is (λ none. cc) (λ e above next. omega (arith, line_next p (run_rank p) refl m e k above next))
-
 -- to what stands below
-returns :
-    (p : Image) (t : Typing) (s : State) (fr : Frame) (sh : Shape) (ls : List Layer) → Stack p t s.cells Now (Method fr sh ∷ ls) → 1 ≤ frame_rank p fr → (g : Gives) (a : ℕ) →
-    rank p (returned p fr (tasks_of ls) (record s { cells = ended_cells p fr s.cells }) g a (tasks_of ls)) < tasks_rank p (Run fr ∷ tasks_of ls) + (standing s.cells + operations s.items) * cell_rank p
+returns : (p : Image) (t : Typing) (s : State) (fr : Frame) (sh : Shape) (ls : List Layer) → Stack p t s.cells Now (Method fr sh ∷ ls) → 1 ≤ frame_rank p fr →
+    (g : Gives) (a : ℕ) → rank p (returned p fr (tasks_of ls) (record s { cells = ended_cells p fr s.cells }) g a (tasks_of ls)) < tasks_rank p
+    (Run fr ∷ tasks_of ls) + (standing s.cells + operations s.items) * cell_rank p
 returns p t s fr sh ls h some g a =
     let u = returned p fr (tasks_of ls) (record s { cells = ended_cells p fr s.cells }) g a (tasks_of ls) in
     let less =
-    returned_less (rank_worths p) standing operations standing_passes operations_below standing_asked (λ x answer. omega arith) (well_less p) p t s fr sh g a
-    (λ d e i. standing_accepted d e i (ended_cells p fr s.cells)) (lines_fall p) ls h in
+    returned_less (rank_worths p) standing operations standing_passes operations_below standing_asked (λ x answer. omega arith) (grind arith) p t s fr sh g a
+    (λ d e i. standing_accepted d e i (ended_cells p fr s.cells)) (grind (arith, nat_tests, some_given, line_next)) ls h in
     let cells = scaled_le (standing u.cells + operations u.items) (standing s.cells + operations s.items) (cell_rank p) less.1 in
     omega (arith, some, less.0, cells)
 
 -- ---- a cancel
 
 -- the method that cancels is quiet, and comes before
-cancels_below :
-    (p : Image) → IsLinked p → (fr : Frame) (d : Method_declared) → method_at p fr.method ≡ Some d → CountsAs p (home_holder fr.home) fr.view (holder_of p fr.method) → (m : ℕ) → slice_get d.code fr.place ≡ Some Cancel → cancel_method p fr ≡ Some m →
-    (m < fr.method) × (is_quiet p m ≡ true)
+cancels_below : (p : Image) → IsLinked p → (fr : Frame) (d : Method_declared) → method_at p fr.method ≡ Some d → CountsAs p (home_holder fr.home) fr.view
+    (holder_of p fr.method) → (m : ℕ) → slice_get d.code fr.place ≡ Some Cancel → cancel_method p fr ≡ Some m → (m < fr.method) × (is_quiet p m ≡ true)
 unfolding class_in
-cancels_below p linked fr d there counts m stands e = grind (
-  arith,
-  nat_tests,
-  cancel_family p fr m counts e,
-  canceller_before p linked fr.method fr.place d,
-  quiet_canceller p linked,
-)
+cancels_below p linked fr d there counts m stands e =
+    grind (arith, nat_tests, cancel_family p fr m counts e, canceller_before p linked fr.method fr.place d, quiet_canceller p linked)
 
 -- ---- every move
 
@@ -112,7 +96,8 @@ module _ (p : Image) (t : Typing) (linked : IsLinked p) (typed : IsTyped p t) (c
   total ts = tasks_rank p ts + (standing s.cells + operations s.items) * cell_rank p
 
   abbrev ActsLower : Frame → List Task → Type 0
-  ActsLower fr ts = (i : Instr) (e : Effect) → instr_at p fr.method fr.place ≡ Some i → AllTrue (needs p c fr ts (counted p s) i) → Fits p c fr ts (counted p s) i e → rank p (applied p fr ts (counted p s) e) < total (Run fr ∷ ts)
+  ActsLower fr ts = (i : Instr) (e : Effect) → instr_at p fr.method fr.place ≡ Some i →
+      AllTrue (needs p c fr ts (counted p s) i) → Fits p c fr ts (counted p s) i e → rank p (applied p fr ts (counted p s) e) < total (Run fr ∷ ts)
 
   -- what a register owns that is deleted
   plain : (fr : Frame) (ts : List Task) (a : ℕ) (o : Object) → is_no_message (held s.cells (here fr ts s a)) ≡ true → held s.cells (here fr ts s a) ≡ Some o → is_object o.thing ≡ true
@@ -123,9 +108,9 @@ module _ (p : Image) (t : Typing) (linked : IsLinked p) (typed : IsTyped p t) (c
       let x = typed.each fr.method fr.place sh good.stack.0 in
       let m = of_method p fr.method fr.place i there in
       let is : x.instr ≡ i = same_Some x.instr i (sym x.stands ∙ there) in
-      falls p linked c (counted p s) fr (tasks_of ls) m.0 m.1 sh w.undos i m.2 (subst (λ j. AllTrue (rule_needs p fr.method fr.place sh j)) is x.needs) e fits
+      falls p linked c (counted p s) fr (tasks_of ls) m.0 m.1 sh w.undos i m.2 (rw is at x.needs) e fits
       (λ g a stands. returns p t (counted p s) fr sh ls good.stack (ends p linked c (counted p s) fr (tasks_of ls) m.0 m.1 a stands) g a)
-      (λ a o delete owns. plain fr (tasks_of ls) a o (subst (λ j. AllTrue (needs p c fr (tasks_of ls) (counted p s) j)) delete met).1.0 owns) (λ o owns. entry_object p t s w o _ owns)
+      (λ a o delete owns. plain fr (tasks_of ls) a o (rw delete at met).1.0 owns) (λ o owns. entry_object p t s w o _ owns)
       (λ k stands e. cancels_below p linked fr m.0 m.1 good.stack.1.view k stands e)
 
   acts : (ls : List Layer) → Good p t s.cells ls → (fr : Frame) (ts : List Task) → tasks_of ls ≡ Run fr ∷ ts → ActsLower fr ts
@@ -134,10 +119,6 @@ module _ (p : Image) (t : Typing) (linked : IsLinked p) (typed : IsTyped p t) (c
   -- so many cells stand at most
   fewer_stand : (cs : List Cell) → standing cs ≤ standing s.cells → (standing cs + operations s.items) * cell_rank p ≤ (standing s.cells + operations s.items) * cell_rank p
   fewer_stand cs fewer = scaled_le (standing cs + operations s.items) (standing s.cells + operations s.items) (cell_rank p) (omega (arith, fewer))
-
-  -- a cell goes
-  vanishes : (ts : List Task) (o : Object) → rank p (vanished o ts (counted p s)) < total (Destroy ∷ ts)
-  vanishes ts o = grind (arith, nat_tests, fewer_stand, standing_gone, resumed_alike)
 
   -- a server lets go of a session, which pays for its destruction, or its destructor begins
   empties :
@@ -166,27 +147,11 @@ module _ (p : Image) (t : Typing) (linked : IsLinked p) (typed : IsTyped p t) (c
       let cells =
       one_less (standing (moved (Elsewhere Root) (Going (length (Dispatched Of_root ∷ []))) s.cells) + operations s.items) (standing s.cells + operations s.items) (cell_rank p)
       (omega (arith, goes)) in
-      let these : (standing (moved (Elsewhere Root) (Going (length (Dispatched Of_root ∷ []))) v.cells) + operations v.items) * cell_rank p ≡ (standing (moved (Elsewhere Root) (Going (length (Dispatched Of_root ∷ []))) s.cells) + operations s.items) * cell_rank p =
+      let these : (standing (moved (Elsewhere Root) (Going (length (Dispatched Of_root ∷ []))) v.cells) + operations v.items) * cell_rank p
+      ≡ (standing (moved (Elsewhere Root) (Going (length (Dispatched Of_root ∷ []))) s.cells) + operations s.items) * cell_rank p =
       grind (arith, nat_tests) in
       omega (arith, destruction, cells, these)
-  ends_main true None there v same alike = omega (arith, kept_alike v same alike)
-  ends_main false o there v same alike = omega (arith, kept_alike v same alike)
-
-  of_main : (ts : List Task) (b : Bool) (o : Option Object) → held s.cells (Elsewhere Root) ≡ o → rank p (main_ends p b o (counted p s)) < total (Dispatched Of_main ∷ ts)
-  of_main ts b o there = omega (arith, ends_main b o there (counted p s) refl refl)
-
-  -- the dispatch of an object is over, with at least as much before it as main's end has
-  of_object : (ts : List Task) (d : Dispatch) → 2 ≤ end_rank p d → rank p (object_ends p (counted p s)) < total (Dispatched d ∷ ts)
-  of_object ts d some = omega (arith, ends_main s.rest.stopped (held s.cells (Elsewhere Root)) refl (handled (counted p s)) refl refl, some)
-
-  by_answer : (ts : List Task) (d : Dispatch) → 2 ≤ end_rank p d → (answer : ℤ) → rank p (answered p answer (counted p s)) < total (Dispatched d ∷ ts)
-  by_answer ts d some answer = grind (arith, nat_tests, of_object ts d some)
-
-  -- a whole run of the method that is asked is paid for
-  by_asking :
-      (ts : List Task) (x : Seat) (code : ℤ) (m : Option ℕ) →
-      rank p (asking p m x code (counted p s)) < waiting_rank p ts + (4 + run_rank p m) + (standing s.cells + operations s.items) * cell_rank p
-  by_asking ts x code y = grind (arith, nat_tests, by_answer ts (Answered x code))
+  ends_main _ _ there v same alike = omega (arith, kept_alike v same alike)
 
   -- what is served ends as an object's dispatch does
   of_stage : (ts : List Task) (x : Seat) (client : ℕ) (stage : Stage) → rank p (stage_ends x client stage (counted p s)) < total (Dispatched (Of_server x client stage) ∷ ts)
@@ -194,26 +159,15 @@ module _ (p : Image) (t : Typing) (linked : IsLinked p) (typed : IsTyped p t) (c
   of_stage ts x client Parts = omega (arith, fewer_stand (reserved (parted client) x.object.name s.cells) (omega (arith, standing_reserved (parted client) x.object.name s.cells)))
   of_stage ts x client _ = omega arith
 
-  of_dispatch : (ts : List Task) (d : Dispatch) → rank p (dispatch_ends p d (counted p s)) < total (Dispatched d ∷ ts)
-  of_dispatch ts Of_main = of_main ts s.rest.stopped (held s.cells (Elsewhere Root)) refl
-  of_dispatch ts (Main_left code) = omega arith
-  of_dispatch ts Of_root = omega arith
-  of_dispatch ts (Of_object x) = of_object ts (Of_object x) (omega arith)
-  of_dispatch ts (Object_left x code) = omega (arith, by_asking ts x code (part_of p Error x.object.thing))
-  of_dispatch ts (Asks x) = of_object ts (Asks x) (omega arith)
-  of_dispatch ts (Answered x answer) = by_answer ts (Answered x answer) (omega arith) answer
-  of_dispatch ts (Of_server x client stage) = of_stage ts x client stage
-
-  ended_alike : (code : ℤ) (d : Dispatch) → end_rank p (ended_by code d) ≤ end_rank p d
-  ended_alike code x = grind arith
-
   -- the mark is no operation
   unmarked : (items : List Item) → s.items ≡ A_mark ∷ items → (standing s.cells + operations items) * cell_rank p ≤ (standing s.cells + operations s.items) * cell_rank p
   unmarked items e = grind (arith, nat_tests, scaled_le)
 
   -- a leave deals with an item
-  clears : (code : ℤ) (ts : List Task) (items : List Item) (o : Object) → s.items ≡ An_object ∷ items → held s.cells (Entry (length items)) ≡ Some o →
-      rank p (record (counted p s) { cells = moved (Entry (length items)) (Going (length (Unwind code ∷ ts))) s.cells; tasks = begun p o (length items) (Unwind code ∷ ts); items = items }) < total (Unwind code ∷ ts)
+  clears : (code : ℤ) (ts : List Task) (items : List Item) (o : Object) →
+      s.items ≡ An_object ∷ items → held s.cells (Entry (length items)) ≡ Some o → rank p (record (counted p s)
+      { cells = moved (Entry (length items)) (Going (length (Unwind code ∷ ts))) s.cells; tasks = begun p o (length items) (Unwind code ∷ ts); items = items })
+      < total (Unwind code ∷ ts)
   clears code ts items o e there =
       let destruction = begun_paid p linked o (length items) (Unwind code ∷ ts) in
       let goes = standing_goes (Entry (length items)) (length (Unwind code ∷ ts)) o s.cells refl (entry_object p t s w o (length items) there) there in
@@ -223,27 +177,21 @@ module _ (p : Image) (t : Typing) (linked : IsLinked p) (typed : IsTyped p t) (c
       (omega (arith, goes, same)) in
       omega (arith, destruction, cells)
 
-  undoes : (code : ℤ) (ts : List Task) (items : List Item) (m : ℕ) (x : ℤ) → s.items ≡ An_operation m x ∷ items → rank p (record (counted p s) { tasks = Run (operation_frame m x (length items)) ∷ Unwind code ∷ ts; items = items }) < total (Unwind code ∷ ts)
-  undoes code ts items m x e = grind (arith, nat_tests, undo_paid p m, one_less)
-
   -- what a move leads to, by what was at hand
   by : (ts : List Task) (u v : State) → s.tasks ≡ ts → u ≡ v → rank p v < total ts → rank p u < rank p s
   by ts u v at same lower = subst (λ x. rank p x < rank p s) (sym same) (subst (λ l. rank p v < total l) (sym at) lower)
 
   -- something that moves is at hand
-  not_still : (ls : List Layer) → Good p t s.cells ls → (task : Task) (tasks : List Task) → tasks_of ls ≡ task ∷ tasks → IsStill (tasks_of ls) → ⊥
-  not_still x good task tasks e still = grind arith
-
   lowers : IsBusy s → (u : State) → Move p c s u → rank p u < rank p s
-  lowers busy u (Rests still same) = absurd (not_still w.layers w.good busy.0 busy.1 (sym w.tasks ∙ busy.2) (subst IsStill w.tasks still))
+  lowers busy u (Rests still same) = absurd (grind arith)
   lowers busy u (Acts fr ts i e at there met fits same) = by (Run fr ∷ ts) u _ at same (acts w.layers w.good fr ts (sym w.tasks ∙ at) i e there met fits)
-  lowers busy u (Vanishes ts o at there owns same) = by (Destroy ∷ ts) u _ at same (vanishes ts o)
-  lowers busy u (Empties ts o at there same) = by (Closing ∷ Destroy ∷ ts) u _ at same (empties ts o (first_session s.cells o.name (service_of s.cells o.name).sessions) refl)
+  lowers busy u (Vanishes ts o at there owns same) = by (Destroy ∷ ts) u _ at same (grind (arith, nat_tests, fewer_stand, standing_gone, resumed_alike))
+  lowers busy u (Empties ts o at there same) = grind (arith, nat_tests, by, empties)
   lowers busy u (Clears code ts items o at top there same) = by (Unwind code ∷ ts) u _ at same (clears code ts items o top there)
-  lowers busy u (Undoes code ts items m x at top same) = by (Unwind code ∷ ts) u _ at same (undoes code ts items m x top)
+  lowers busy u (Undoes code ts items m x at top same) = by (Unwind code ∷ ts) u _ at same (grind (arith, nat_tests, undo_paid, one_less))
   lowers busy u (Arrives code fr ts items at top same) = grind (arith, nat_tests, by (Unwind code ∷ Trapped ∷ Run fr ∷ ts) u, told_alike, unmarked items top)
-  lowers busy u (Comes_out code d ts items at top same) = by (Unwind code ∷ Trapped ∷ Dispatched d ∷ ts) u _ at same (omega (arith, ended_alike code d, unmarked items top))
-  lowers busy u (Ends d ts at same) = by (Dispatched d ∷ ts) u _ at same (of_dispatch ts d)
+  lowers busy u (Comes_out code d ts items at top same) = grind (arith, nat_tests, by, unmarked)
+  lowers busy u (Ends d ts at same) = by (Dispatched d ∷ ts) u _ at same (grind (arith, nat_tests, ends_main, of_stage))
 
 pub moves_lower_ranks : (p : Image) (t : Typing) → IsLinked p → IsTyped p t → (c : Choice) (s u : State) → WellTyped p t s → IsBusy s → step p c s ≡ Goes u → rank p u < rank p s
 moves_lower_ranks p t linked typed c s u w busy e = lowers p t linked typed c s w busy u (steps_are_moves p c s u e)

@@ -1,6 +1,7 @@
 -- The loops round a place after each move of a method: what they count for is no more, but for a loop that begins.
 use Rattle.std.proofs.lemmas.Bool.Decides.{nat_tests}
-use Rattle.std.proofs.Common.{◌≡◌, ◌<◌, ◌≤◌, ◌+◌, ◌∙◌, ℕ, zero, suc, true, cond, List, length, Some, None, IfSome, slice_get, ⊎_elim, refl, sym, ap, arith, subst}
+use Rattle.std.proofs.Common.{◌≡◌, ◌<◌, ◌≤◌, ◌+◌, ◌∙◌, ℕ, zero, suc, true, cond, List, length, Some}
+use Rattle.std.proofs.Common.{None, IfSome, slice_get, ⊎_elim, refl, sym, ap, arith, subst}
 use Rattle.std.specs.Prelude.{◌≢◌}
 use Rattle.std.proofs.lemmas.Bool.{cases_lt, eq-eqb, ne_eqb}
 use Rattle.std.proofs.lemmas.Option.{slice_get_within, same_Some}
@@ -21,15 +22,7 @@ use Rattle.aom_classes.proofs.LoopPlaces.{loop_there, next_there}
 
 -- a body of which no loop begins here goes on from here
 from_here : (code : List Instr) (k p d : ℕ) → loop_at code k ≡ None → IsIn code d p (suc k) → IsIn code d p k
-from_here code k p d none w = record {
-  after = ⊎_elim (λ (lt : p < k). lt) (λ (ge : k ≤ p). let same : p ≡ k = omega (arith, ge, w.after) in absurd (no_loop (subst (λ j. loop_at code j ≡ Some d) same w.closes.begins))) (cases_lt p k);
-  end = w.end;
-  upto = omega (arith, w.upto);
-  closes = w.closes;
-}
-  where
-    no_loop : loop_at code k ≡ Some d → ⊥
-    no_loop e = (let clash : Some d ≡ None = sym e ∙ none in cc)
+from_here code k p d none w = search (arith, nat_tests, cases_lt p k)
 
 -- the body of a loop, as the jumps see it
 begins_there : (code : List Instr) (p d : ℕ) → loop_at code p ≡ Some d → IfSome (slice_get code p) (λ i. begins_loop i ≡ true)
@@ -67,9 +60,6 @@ at_same cs d n = at-put_at 0 cs d d n ∙ ap (λ b. cond b n (at 0 cs d)) (eq-eq
 
 at_other : (cs : List ℕ) (c d n : ℕ) → c ≢ d → at 0 (put_at 0 cs d n) c ≡ at 0 cs c
 at_other cs c d n other = at-put_at 0 cs d c n ∙ ap (λ b. cond b n (at 0 cs c)) (ne_eqb d c (λ e. other (sym e)))
-
-lowered : (cs : List ℕ) (d c : ℕ) → at 0 (put_at 0 cs d 0) c ≤ at 0 cs c
-lowered cs d c = grind (arith, nat_tests, at-put_at 0 cs d c 0)
 
 -- ---- what counters alike count for
 
@@ -118,7 +108,7 @@ module _ (code : List Instr) (worth : ℕ → ℕ → ℕ) (grows : (p a b : ℕ
   enters cs k d n nest stands =
       let cs' = put_at 0 cs d n in
       let within = slice_get_within code k (Loop d n) stands in
-      let most : of_loop cs' (suc k) k ≤ worth n k = subst (λ x. of_loop cs' (suc k) k ≤ worth x k) (at_same cs d n) (at_most cs' (suc k) k d (ap loop_in stands)) in
+      let most : of_loop cs' (suc k) k ≤ worth n k = grind (arith, nat_tests, at_same, at_most) in
       let sums = total_but (λ p. of_loop cs' (suc k) p) (λ p. of_loop cs k p) k (length code) 0 (worth n k) within others (omega (arith, most)) in
       omega (arith, sums)
     where
@@ -139,7 +129,7 @@ module _ (code : List Instr) (worth : ℕ → ℕ → ℕ) (grows : (p a b : ℕ
   -- the last round is over
   pub leaves : (cs : List ℕ) (k d t : ℕ) → slice_get code k ≡ Some (Next d t) → all_loops (put_at 0 cs d 0) (suc k) ≤ all_loops cs k
   unfolding loop_in
-  leaves cs k d t stands = forward cs (put_at 0 cs d 0) k (suc k) (λ p c w. (from_here code k p c (ap loop_in stands) w, lowered cs d c))
+  leaves cs k d t stands = forward cs (put_at 0 cs d 0) k (suc k) (λ p c w. (from_here code k p c (ap loop_in stands) w, grind (arith, nat_tests, at-put_at)))
 
   -- one more round begins of the loop that a next closes, with a counter that is no greater
   module _ (cs : List ℕ) (k d t n : ℕ) (nest : LoopsNest code) (stands : slice_get code k ≡ Some (Next d t)) (fewer : n ≤ at 0 cs d) (r : ℕ) (it : Closes code d r k) where

@@ -1,4 +1,5 @@
 -- Each run of a linked image that has a typing runs well: its states are well typed, so the laws of moves and ranks are laws of it.
+use Rattle.std.proofs.lemmas.Bool.Decides.{nat_tests}
 use Rattle.std.proofs.Common.{List, [], arith, refl, suc, zero, ℕ, ◌<◌, ◌∷◌, ◌≡◌}
 use Rattle.aom_image.specs.Image.{Image}
 use Rattle.aom_image.specs.WellFormed.{WellFormed}
@@ -74,7 +75,7 @@ module _ (p : Image) (t : Typing) (outside : Environment) (formed : WellFormed p
     falls = λ lines s reached n u more. ranks_bound_moves p t wired linked typed n s u (well lines s reached) more;
     begins = λ lines s reached c u unused fr ts i code at stands leaves e. leaves_move.begins p t wired typed c s u (well lines s reached) unused fr ts i code at stands leaves e;
     arrives = leaves_arrive p t outside wired typed;
-    comes = λ lines s reached choose unused code below entries items l. leaves_come p t wired linked typed choose unused s (well lines s reached) code below entries items l;
+    comes = grind (arith, nat_tests, leaves_come, wired, well);
     stands = traps_keep.stand p outside;
     holds = traps_keep.runs p t outside wired typed;
     rounds = rounds;

@@ -1,6 +1,6 @@
 -- A server pays for the sessions with it that are there: they are no more than it may have, and each is of their class.
 use Rattle.std.proofs.lemmas.Bool.Decides.{nat_tests}
-use Rattle.std.proofs.Common.{◌≡◌, ◌≤◌, ◌+◌, ◌*◌, ◌∙◌, ℕ, Bool, true, false, cond, List, [], ◌∷◌, length, Option, Some, None, refl, sym, ap, arith, subst}
+use Rattle.std.proofs.Common.{◌≡◌, ◌≤◌, ◌+◌, ◌*◌, ◌∙◌, ℕ, Bool, true, false, cond, List, [], ◌∷◌, length, Option, Some, None, refl, sym, ap, arith}
 use Rattle.std.specs.Prelude.{filter, is_some, ◌==◌}
 use Rattle.std.proofs.lemmas.Bool.{eqb-true, ne_eqb}
 use Rattle.std.proofs.Math.Nat.{mul-le-mul_right}
@@ -18,12 +18,11 @@ use Rattle.aom_safety.proofs.Claimed.{claim_going_above}
 use Rattle.aom_semantics.proofs.Maps.{held_lives, held_moved, same_place_refl, same_place-true}
 use Rattle.aom_safety.proofs.Parting.{among_others}
 use Rattle.aom_safety.proofs.Straight.{fits_unowning}
-use Rattle.aom_safety.specs.Claims.{by_close, Dispatching, Dying, Ending, Layer, Mark, Method, Unwinding, claim, declared, tasks_of}
+use Rattle.aom_safety.specs.Claims.{Dispatching, Dying, Ending, Layer, Mark, Method, Unwinding, claim, declared, tasks_of}
 use Rattle.aom_semantics.specs.Clients.{most_of}
 use Rattle.aom_semantics.specs.Enlisted.{thing_kind}
 use Rattle.aom_semantics.specs.Places.{Cell, Elsewhere, Going, Object, Place, Session, Tidy, held, moved, named, same_place, seen, service_of}
-use Rattle.aom_semantics.specs.Servers.{has_session, is_among, is_other, is_server, of_class, seats_taken, session_class, session_thing}
-use Rattle.aom_semantics.specs.State.{Dispatch}
+use Rattle.aom_semantics.specs.Servers.{has_session, is_among, is_other, is_server, seats_taken, session_class, session_thing}
 use Rattle.aom_safety.specs.WellTyped.{EndsSessions, Back, Caught, Fits, Gone, Good, Leaves, Now, Returns, Stack}
 use Rattle.aom_typings.specs.Prices.{IsPriced, Prices, sessions_cost}
 use Rattle.aom_progress.specs.Left.{due, is_session_with, sessions_left}
@@ -54,9 +53,6 @@ module _ (p : Image) (t : Typing) (cs : List Cell) (n client : ℕ) (o x : Objec
       Has (cond (y.name == n) (cond (is_among client left) (filled (session_thing p (Some y)) Full) Null) below)
   of_ending y left ends below has f = grind (arith, nat_tests, owns, eqb-true y.name n)
 
-  of_dispatch : (d : Dispatch) (below : Kind) → Has below → Has (by_close d n client below)
-  of_dispatch y below has f = grind (arith, nat_tests, of_cond)
-
   pub of_claim : (back : Back) (ls : List Layer) → Stack p t cs back ls → Has (claim p (declared p cs) ls (Elsewhere (Session n client)))
   of_claim back [] h f = of_declared f
   of_claim back (Method fr sh ∷ ls) h f = of_claim (Returns fr.method fr.home) ls h.4 f
@@ -64,7 +60,7 @@ module _ (p : Image) (t : Typing) (cs : List Cell) (n client : ℕ) (o x : Objec
   of_claim back (Unwinding code es ∷ ls) h f = of_claim Leaves ls h.1 f
   of_claim back (Dying y ∷ ls) h f = of_cond (y.name == n) _ (of_claim Gone ls h.2) f
   of_claim back (Ending y left ∷ ls) h f = of_ending y left h.0 _ (of_claim Now ls h.3) f
-  of_claim back (Dispatching d seats ∷ ls) h f = grind (arith, nat_tests, of_dispatch d, of_declared)
+  of_claim back (Dispatching d seats ∷ ls) h f = grind (arith, nat_tests, of_declared)
 
 -- ---- how many are there
 
@@ -98,23 +94,16 @@ module _ (c : Prices) (n most : ℕ) where
           go true e = let clash : None ≡ Some x = sym free ∙ ap (λ r. held cs r) (same_place-true y.owner (Elsewhere (Session n k)) e) ∙ there in cc
 
   others : (y : Cell) (cs : List Cell) (xs : List ℕ) → held cs y.owner ≡ None → Sessions (y ∷ cs) xs → Sessions cs xs
-  others y cs xs free all k x there = all k x (go (same_place y.owner (Elsewhere (Session n k))) refl)
-    where
-      go : (b : Bool) → same_place y.owner (Elsewhere (Session n k)) ≡ b → cond b (Some y.object) (held cs (Elsewhere (Session n k))) ≡ Some x
-      go false e = there
-      go true e = let clash : None ≡ Some x = sym free ∙ ap (λ r. held cs r) (same_place-true y.owner (Elsewhere (Session n k)) e) ∙ there in cc
+  others y cs xs free all k x there = all k x (grind (arith, nat_tests, same_place-true))
 
   -- one cell more
-  with_one :
-      (y : Cell) (cs : List Cell) (xs : List ℕ) → Tidy (y ∷ cs) → Sessions (y ∷ cs) xs → ((zs : List ℕ) → Sessions cs zs → sessions_left c n cs ≤ length zs * most) → (r : Place) → y.owner ≡ r →
-      due c (is_session_with n) r y.object + sessions_left c n cs ≤ length xs * most
+  with_one : (y : Cell) (cs : List Cell) (xs : List ℕ) → Tidy (y ∷ cs) → Sessions (y ∷ cs) xs → ((zs : List ℕ) → Sessions cs zs →
+      sessions_left c n cs ≤ length zs * most) → (r : Place) → y.owner ≡ r → due c (is_session_with n) r y.object + sessions_left c n cs ≤ length xs * most
   with_one y cs xs tidy all rest (Elsewhere (Session s client)) e = go (s == n) refl
     where
       here : y.owner ≡ Elsewhere (Session n client) → c.destruction y.object.thing + sessions_left c n cs ≤ length xs * most
-      here at =
-          let this =
-          all client y.object
-          (ap (λ b. cond b (Some y.object) (held cs (Elsewhere (Session n client)))) (ap (λ r. same_place r (Elsewhere (Session n client))) at ∙ same_place_refl (Elsewhere (Session n client)))) in
+      here at = let this = all client y.object (ap (λ b. cond b (Some y.object) (held cs (Elsewhere (Session n client))))
+          (ap (λ r. same_place r (Elsewhere (Session n client))) at ∙ same_place_refl (Elsewhere (Session n client)))) in
           let others = rest (filter (is_other client) xs) (one_fewer y cs xs client at tidy.0 all) in
           let more : (1 + length (filter (is_other client) xs)) * most ≤ length xs * most = mul-le-mul_right most (fewer_parted client xs this.0) in
           grind (arith, this.1, others, more)
@@ -155,14 +144,14 @@ module _ (p : Image) (t : Typing) (c : Prices) (priced : IsPriced p t c) (cs : L
           all client x there =
               let has =
               of_claim p t cs o.name client o x lives Now ls good.stack
-              (subst (λ y. Fits p (seen cs) y (claim p (declared p cs) ls (Elsewhere (Session o.name client)))) there (good.fits (Elsewhere (Session o.name client)))) in
-              let fits = subst (λ y. Fits p (seen cs) (Some x) (filled (of_class y) Full)) at has.1 in
+              (rw there at (good.fits (Elsewhere (Session o.name client)))) in
+              let fits = rw at at has.1 in
               (has.0, priced.stands_in x.thing (An_object_of k) fits.0)
 
   -- where it comes to the place of its going, it stands there with them
-  pub stands_at_going :
-      (o : Object) (from : Place) (depth : ℕ) → held cs from ≡ Some o → length (tasks_of ls) ≤ depth → is_server p o.thing ≡ true →
-      (held (moved from (Going depth) cs) (Going depth) ≡ Some o) × (sessions_left c o.name (moved from (Going depth) cs) ≤ sessions_cost p (λ k. c.destruction (An_object_of k)) o.thing)
+  pub stands_at_going : (o : Object) (from : Place) (depth : ℕ) →
+      held cs from ≡ Some o → length (tasks_of ls) ≤ depth → is_server p o.thing ≡ true → (held (moved from (Going depth) cs) (Going depth) ≡ Some o) ×
+      (sessions_left c o.name (moved from (Going depth) cs) ≤ sessions_cost p (λ k. c.destruction (An_object_of k)) o.thing)
   stands_at_going o from depth there deep server = grind (
     arith,
     nat_tests,

@@ -1,6 +1,6 @@
 -- Sums and powers.
 use Rattle.std.proofs.lemmas.Bool.Decides.{nat_tests}
-use Rattle.std.proofs.Common.{◌≡◌, ◌<◌, ◌≤◌, ◌+◌, ◌*◌, ◌^◌, ℕ, zero, suc, ⊎_elim, arith}
+use Rattle.std.proofs.Common.{◌≡◌, ◌<◌, ◌≤◌, ◌+◌, ◌*◌, ◌^◌, ℕ, zero, suc, arith}
 use Rattle.std.specs.Prelude.{◌≢◌}
 use Rattle.std.proofs.Math.Nat.{pow-succ', pow-zero, mul-le-mul_right}
 use Rattle.std.proofs.lemmas.Bool.{cases_lt}
@@ -24,29 +24,18 @@ total_but f g i (suc n) x y lt h here = grind (arith, nat_tests, total_but f g i
 -- powers of 2 or more
 pub pow_some : (b n : ℕ) → 1 ≤ (b + 2) ^ n
 pow_some b zero = rw (pow-zero (b + 2)) (omega arith)
-pow_some b (suc n) =
-    let some = pow_some b n in
-    let more : 1 * (b + 2) ^ n ≤ (b + 2) * (b + 2) ^ n = mul-le-mul_right ((b + 2) ^ n) (omega arith) in
-    rw (pow-succ' (b + 2) n) (omega (arith, some, more))
+pow_some b (suc n) = grind (arith, nat_tests, pow_some b n, mul-le-mul_right, pow-succ')
 
 pub pow_step : (b n : ℕ) → (b + 2) ^ suc n ≡ (b + 2) * (b + 2) ^ n
 pow_step b n = pow-succ' (b + 2) n
 
 pub pow_more : (b i j : ℕ) → i ≤ j → (b + 2) ^ i ≤ (b + 2) ^ j
 pow_more b i zero le = let same : i ≡ 0 = omega (arith, le) in rw same (omega arith)
-pow_more b i (suc j) le = ⊎_elim
-    (λ (below : i < suc j).
-    let ih = pow_more b i j (omega (arith, below)) in
-    let more : 1 * (b + 2) ^ j ≤ (b + 2) * (b + 2) ^ j = mul-le-mul_right ((b + 2) ^ j) (omega arith) in
-    rw (pow-succ' (b + 2) j) (omega (arith, ih, more)))
-    (λ (above : suc j ≤ i). let same : i ≡ suc j = omega (arith, le, above) in rw same (omega arith))
-    (cases_lt i (suc j))
+pow_more b i (suc j) le = grind (arith, nat_tests, pow_more b i j, mul-le-mul_right, pow-succ', cases_lt)
 
 -- the next power is at least twice as much
 pub pow_twice : (b n : ℕ) → (b + 2) ^ n + (b + 2) ^ n ≤ (b + 2) ^ suc n
-pow_twice b n =
-    let more : 2 * (b + 2) ^ n ≤ (b + 2) * (b + 2) ^ n = mul-le-mul_right ((b + 2) ^ n) (omega arith) in
-    rw (pow-succ' (b + 2) n) (omega (arith, more))
+pow_twice b n = grind (arith, nat_tests, mul-le-mul_right, pow-succ')
 
 pub pow_less : (b i j : ℕ) → i < j → (b + 2) ^ i < (b + 2) ^ j
 pow_less b i j lt = omega (arith, pow_twice b i, pow_more b (suc i) j (omega (arith, lt)), pow_some b i)

@@ -1,7 +1,6 @@
 -- What a turn may still cost: the price of the class whose object is dispatched, or nothing more.
 use Rattle.std.proofs.lemmas.Bool.Decides.{nat_tests}
-use Rattle.std.proofs.Common.{ℤ, ◌≡◌, ◌≤◌, ◌+◌, ◌∙◌, ℕ, true, false, List, [], ◌∷◌, Option, Some, None, refl, sym, ap, arith, subst, Bool, length}
-use Rattle.std.proofs.lemmas.Bool.{true≢false}
+use Rattle.std.proofs.Common.{ℤ, ◌≡◌, ◌≤◌, ◌+◌, ◌∙◌, ℕ, true, false, List, [], ◌∷◌, Option, Some, None, refl, ap, arith, subst, Bool, length}
 use Rattle.aom_image.specs.Image.{Image}
 use Rattle.aom_image.specs.Views.{method_at}
 use Rattle.aom_image.specs.declared.method.Role.TheVariants.{Accept as Accepts_role, Error, Run as Handles, Service as Attends}
@@ -13,14 +12,16 @@ use Rattle.aom_safety.specs.Laws.{IsFamily}
 use Rattle.aom_safety.proofs.Guarded.{goes_same}
 use Rattle.aom_safety.proofs.Housing.{stands_session_of}
 use Rattle.aom_safety.proofs.Turned.{accepts, attends, handles, parts, Polled, answers, nothing, polled_so, Picked, picked_so}
-use Rattle.aom_safety.specs.Claims.{forms, items_of}
 use Rattle.aom_safety.specs.Counting.{starts}
 use Rattle.aom_semantics.specs.Enlisted.{completed_with, on_request, part_of, recorded, taken_up, timed_out}
 use Rattle.aom_semantics.specs.Natives.{bereaved}
-use Rattle.aom_semantics.specs.Places.{Message_of, service_of, Cell, Object, Request, requested, Elsewhere, Going, In_service, Place, Queued, Session, Tidy, held, moved, named}
+use Rattle.aom_semantics.specs.Places.{Message_of, service_of, Cell, Object, Request, requested, Elsewhere}
+use Rattle.aom_semantics.specs.Places.{Going, In_service, Place, Queued, Session, Tidy, held, moved, named}
 use Rattle.aom_semantics.specs.State.{Goes, Counters, Seat, State, Dispatched, Of_server, Parts}
 use Rattle.aom_safety.specs.WellTyped.{Good, WellTyped, Now}
-use Rattle.aom_semantics.specs.World.{Completes, Cuts, Hears, Kills, Passes, Picks, Polls, Turning, Waits, heard_one, past_native, turned, turning, with_request, without_native, Candidate, Completion, Heard, Obeys, Environment, Timed, by_event, by_timer, delivers, first_ready, picks, polls, taken_from}
+use Rattle.aom_semantics.specs.World.{Completes, Cuts, Hears, Kills, Passes, Picks, Polls, Turning, Waits, heard_one, past_native}
+use Rattle.aom_semantics.specs.World.{turned, turning, with_request, without_native, Candidate, Heard, Obeys, Environment}
+use Rattle.aom_semantics.specs.World.{first_ready, picks, taken_from}
 use Rattle.aom_typings.specs.Prices.{Prices, perhaps_price, price, IsPriced}
 use Rattle.aom_progress.specs.Laws.{TurnsPay}
 use Rattle.aom_progress.specs.Left.{left, objects_left, operations_left, is_entry}
@@ -33,18 +34,16 @@ use Rattle.aom_progress.proofs.Classes.{acceptor_serves, plain_session, run_pric
 use Rattle.aom_progress.proofs.Sessions.{of_claim}
 use Rattle.aom_roles.specs.Shapes.{kind_of}
 use Rattle.std.specs.Prelude.{is_some}
-use Rattle.aom_semantics.specs.Servers.{asked_last, is_queue, is_server, session_class, withdrawn}
+use Rattle.aom_semantics.specs.Servers.{asked_last, is_queue, session_class, withdrawn}
 use Rattle.aom_safety.proofs.Turning.{found}
 use Rattle.aom_progress.proofs.Payers.{begun_payer}
 use Rattle.aom_semantics.specs.Destruction.{begun}
 use Rattle.aom_safety.proofs.Signals.{at_rest}
-use Rattle.aom_transcript.specs.declared.event.TimedEvent.{TimedEvent}
 use Rattle.aom_clients.specs.declared.refusal.Refusal.{Refusal}
 use Rattle.aom_clients.specs.declared.client.Client.TheVariants.{Open}
 use Rattle.aom_classes.specs.Linked.{IsLinked}
-use Rattle.aom_transcript.specs.declared.event.Event.{Event}
 use Rattle.aom_transcript.specs.declared.event.Command.{Command}
-use Rattle.aom_transcript.specs.declared.event.Command.TheVariants.{Close, Connect, Die, Send}
+use Rattle.aom_transcript.specs.declared.event.Command.TheVariants.{Connect, Send}
 use Rattle.aom_semantics.specs.Clients.{Listed, client_at, commanded, connecting, leaving, sending, told}
 use Rattle.aom_clients.specs.declared.client.Client.{Client}
 
@@ -62,13 +61,10 @@ module _ (p : Image) (c : Prices) (s : State) (idle : s.tasks ≡ []) where
   with_cells u tasks items same = grind (arith, nat_tests)
 
   completed : (f : Request → Request) (o : Object) (r : Counters) → Passed (record s { cells = with_request f o s.cells; rest = r })
-  completed f o r = with_cells (record s { cells = with_request f o s.cells; rest = r }) refl refl (asked_same c is_entry o.name (on_request f (requested s.cells o.name)) s.cells)
+  completed f o r = grind (arith, nat_tests, with_cells, asked_same)
 
   polling : (u : State) (n : ℕ) → Polled n s u → Passed u
-  polling u n d = elim d as (λ v d. Passed v) [
-    | nothing ↦ (idle, refl)
-    | answers o code ↦ completed (completed_with (recorded code)) o (past_native n s).rest
-  ]
+  polling u n d = elim d as (λ v d. Passed v) [ nothing ↦ (idle, refl) | answers o code ↦ completed (completed_with (recorded code)) o (past_native n s).rest ]
 
   killing : (n : ℕ) → Passed (without_native p n (heard_one s))
   killing n = with_cells (without_native p n (heard_one s)) refl refl (reset_same c is_entry (λ x. (bereaved p n x).request) (λ x. (bereaved p n x).session) s.cells)
@@ -85,8 +81,7 @@ module _ (p : Image) (c : Prices) (s : State) (idle : s.tasks ≡ []) where
 
       connects : (refused : Option Refusal) (server : Option Listed) (slots : ℕ) → Passed (connecting p client v refused server slots)
       connects None (Some y) slots = with_cells (connecting p client v None (Some y) slots) refl refl (served_same c is_entry y.name _ s.cells)
-      connects None None slots = with_cells v refl refl refl
-      connects (Some r) server slots = with_cells v refl refl refl
+      connects _ _ slots = with_cells v refl refl refl
 
       sends : (refused : Option Refusal) (own : Client) (words : List ℤ) → Passed (sending p client v refused own name words)
       sends None (Open server session slots) words =
@@ -105,8 +100,7 @@ module _ (p : Image) (c : Prices) (s : State) (idle : s.tasks ≡ []) where
       by : (command : Command) → Passed (commanded p client v command name)
       by (Connect class slots) = connects _ _ slots
       by (Send words) = sends _ _ words
-      by Close = leaves _
-      by Die = leaves _
+      by _ = leaves _
 
   passing : (x : Turning) → starts x ≡ false → (u : State) → turned p s x ≡ Goes u → Passed u
   passing Cuts f u e = passed u _ e (idle, refl)
@@ -126,7 +120,7 @@ at_rest_good p t s w idle = subst (λ ls. Good p t s.cells ls) (at_rest p t s w 
 
 -- nothing is on the cleanup stack between dispatches
 none_between : (p : Image) (t : Typing) (c : Prices) (s : State) → WellTyped p t s → s.tasks ≡ [] → objects_left c s.cells + operations_left c s.items ≡ 0
-none_between p t c s w idle = none_at_hand c p t s.cells s.items (at_rest_good p t s w idle) (subst (λ ls. forms s.items ≡ items_of ls) (at_rest p t s w idle) w.items)
+none_between p t c s w idle = none_at_hand c p t s.cells s.items (at_rest_good p t s w idle) (rw (at_rest p t s w idle) at w.items)
 
 -- what is picked lives
 abbrev Lives : State → Turning → Type 0
@@ -140,23 +134,11 @@ module _ (s : State) (tidy : Tidy s.cells) where
   picks_lives false y e None = tt
   picks_lives false y e (Some time) = tt
 
-  polls_lives : (n : Option ℕ) (answer : Option Completion) (after : Turning) → Lives s after → Lives s (polls n answer after)
-  polls_lives x answer after f = grind arith
-
-  delivers_lives : (outside : Environment) (name : ℕ) (event : Event) → Lives s (delivers outside name s event)
-  delivers_lives outside name x = grind arith
-
-  event_lives : (outside : Environment) (name : ℕ) (next : Option TimedEvent) (after : Turning) → Lives s after → Lives s (by_event outside name s next after)
-  event_lives outside name x after f = grind (arith, nat_tests, delivers_lives outside name)
-
-  timer_lives : (next : Option Timed) (after : Turning) → Lives s after → Lives s (by_timer s next after)
-  timer_lives x after f = grind arith
-
   turning_lives : (outside : Environment) (heard : Heard) → Lives s (turning outside heard s)
-  turning_lives outside heard = grind (arith, nat_tests, timer_lives, event_lives outside heard.name, polls_lives, picks_lives)
+  turning_lives outside heard = grind (arith, nat_tests, picks_lives)
 
-module _ (p : Image) (t : Typing) (c : Prices) (family : IsFamily p) (linked : IsLinked p) (priced : IsPriced p t c) (s : State) (good : Good p t s.cells []) (bare : objects_left c s.cells + operations_left c s.items ≡ 0) (x : Seat)
-    (there : named s.cells x.object.name ≡ Some x.object) where
+module _ (p : Image) (t : Typing) (c : Prices) (family : IsFamily p) (linked : IsLinked p) (priced : IsPriced p t c) (s : State) (good : Good p t s.cells [])
+    (bare : objects_left c s.cells + operations_left c s.items ≡ 0) (x : Seat) (there : named s.cells x.object.name ≡ Some x.object) where
   abbrev Paid : State → Type 0
   Paid u = left p c u ≤ price_of p c (payer u.tasks)
 
@@ -184,12 +166,8 @@ module _ (p : Image) (t : Typing) (c : Prices) (family : IsFamily p) (linked : I
   IsSessionOf y o = (session : ℕ) × (session_class p y ≡ Some session) × (o.thing ≡ An_object_of session)
 
   session_there : (client : ℕ) (o : Object) → held s.cells (Elsewhere (Session x.object.name client)) ≡ Some o → IsSessionOf x.object.thing o
-  session_there client o held_there = grind (
-    arith,
-    nat_tests,
-    of_claim p t s.cells x.object.name client x.object o there Now,
-    stands_session_of p family x.object.thing,
-  )
+  session_there client o held_there =
+      grind (arith, nat_tests, of_claim p t s.cells x.object.name client x.object o there Now, stands_session_of p family x.object.thing)
 
   attends_within : (y : Thing) (o : Object) (m : ℕ) → IsSessionOf y o → part_of p Attends o.thing ≡ Some m → Affords y (price c m)
   attends_within (An_object_of k) o m is e = grind (arith, nat_tests, server_price p linked k c is.0 is.1)
@@ -200,10 +178,6 @@ module _ (p : Image) (t : Typing) (c : Prices) (family : IsFamily p) (linked : I
   parts_within Message o is = absurd (no_message is.0 is.1)
 
   -- it is no server itself
-  no_server : (y : Thing) (o : Object) → IsSessionOf y o → is_server p o.thing ≡ true → ⊥
-  no_server (An_object_of k) o is server = true≢false (sym server ∙ ap (λ z. is_server p z) is.2 ∙ plain_session p linked k is.0 is.1)
-  no_server Message o is server = no_message is.0 is.1
-
   taken_same : objects_left c (taken_from x.object.name s).cells ≡ objects_left c s.cells
   taken_same = served_same c is_entry x.object.name _ s.cells
 
@@ -231,18 +205,18 @@ module _ (p : Image) (t : Typing) (c : Prices) (family : IsFamily p) (linked : I
       parted_pays client o is =
           let below = Dispatched (Of_server x client Parts) ∷ [] in
           let us = moved (Elsewhere (Session x.object.name client)) (Going 1) (taken_from x.object.name s).cells in
-          let begins = begun_left p t c priced o (length s.items) below us (λ server. absurd (no_server x.object.thing o is server)) in
+          let begins = begun_left p t c priced o (length s.items) below us (λ server. absurd (grind (arith, nat_tests, plain_session, no_message))) in
           let less = moved_less c is_entry (Elsewhere (Session x.object.name client)) (Going 1) (taken_from x.object.name s).cells refl in
           omega (arith, begins, parts_within x.object.thing o is, less, bare, taken_same, ap (λ y. price_of p c y) (begun_payer p o (length s.items) below))
 
-pub picking :
-    (p : Image) (t : Typing) (c : Prices) → IsFamily p → IsLinked p → IsPriced p t c → (s : State) → WellTyped p t s → s.tasks ≡ [] → (x : Turning) → Lives s x → starts x ≡ true → (u : State) → turned p s x ≡ Goes u →
-    left p c u ≤ price_of p c (payer u.tasks)
+pub picking : (p : Image) (t : Typing) (c : Prices) → IsFamily p → IsLinked p → IsPriced p t c → (s : State) → WellTyped p t s →
+    s.tasks ≡ [] → (x : Turning) → Lives s x → starts x ≡ true → (u : State) → turned p s x ≡ Goes u → left p c u ≤ price_of p c (payer u.tasks)
 picking p t c family linked priced s w idle (Picks x) there f u e = picked_pays p t c family linked priced s (at_rest_good p t s w idle) (none_between p t c s w idle) x there u (picked_so p s u x e)
 picking p t c family linked priced s w idle _ there f u e = cc
 
 pub turns_pay : TurnsPay
 turns_pay = record {
-  begins = λ p t c formed linked priced outside heard s u w idle e f. picking p t c (linked_is_family p linked formed) linked priced s w idle (turning outside heard s) (turning_lives s w.good.tidy outside heard) f u e;
+  begins = λ p t c formed linked priced outside heard s u w idle e f. picking p t c
+      (linked_is_family p linked formed) linked priced s w idle (turning outside heard s) (turning_lives s w.good.tidy outside heard) f u e;
   passes = λ p c outside heard s u idle e f. passing p c s idle (turning outside heard s) f u e;
 }

@@ -1,17 +1,14 @@
 -- Every move pays for the steps that it is, and so each dispatch keeps within what is declared.
 use Rattle.std.proofs.lemmas.Bool.Decides.{nat_tests}
 use Rattle.std.proofs.lemmas.Option.{same_Some}
-use Rattle.std.specs.Prelude.{IsSome, is_none}
-use Rattle.std.proofs.Common.{◌≡◌, ◌<◌, ◌≤◌, ◌+◌, ◌∙◌, ◌^◌, slice_get, ℕ, ℤ, Bool, true, false, cond, List, [], ◌∷◌, length, Option, Some, None, refl, sym, ap, arith, subst, suc}
+use Rattle.std.proofs.Common.{◌≡◌, ◌<◌, ◌≤◌, ◌+◌, ◌∙◌, ◌^◌, slice_get, ℕ, ℤ, Bool, true, false, cond, List}
+use Rattle.std.proofs.Common.{[], ◌∷◌, length, Option, Some, None, refl, sym, ap, arith, subst, suc}
 use Rattle.aom_image.specs.Image.{Image}
 use Rattle.aom_image.specs.Views.{instr_at}
 use Rattle.aom_image.specs.WellFormed.{ClassFits, WellFormed}
 use Rattle.aom_instructions.specs.declared.instr.Instr.{Instr}
-use Rattle.aom_image.specs.declared.class.ClassKind.{ClassKind}
-use Rattle.aom_image.specs.declared.class.ClassKind.TheVariants.{Active, Plain, Server, Session as A_session}
 use Rattle.aom_image.specs.declared.class.ClassDecl.{ClassDecl}
 use Rattle.aom_image.specs.declared.method.Role.{Role}
-use Rattle.aom_image.specs.declared.method.Role.TheVariants.{Accept, Error, Run as Handles, Service as Attends}
 use Rattle.aom_image.specs.Views.{class_at}
 use Rattle.aom_classes.specs.Roles.{role_of}
 use Rattle.aom_classes.proofs.Facts.{all_there}
@@ -20,7 +17,6 @@ use Rattle.aom_classes.specs.Linked.{IsLinked}
 use Rattle.aom_classes.specs.Roles.{main_of}
 use Rattle.aom_classes.proofs.Facts.{of_method}
 use Rattle.aom_shape.specs.Kinds.{filled}
-use Rattle.aom_rules.specs.Rules.{rule_needs}
 use Rattle.aom_shape.specs.Shape.{Shape}
 use Rattle.aom_roles.specs.Things.{root_thing}
 use Rattle.aom_rules.specs.Typing.{IsTyped, Typing}
@@ -32,15 +28,14 @@ use Rattle.aom_safety.proofs.Course.{well_on, WellKept}
 use Rattle.aom_safety.proofs.Straight.{At}
 use Rattle.aom_safety.proofs.Wiring.{linked_is_wired}
 use Rattle.aom_safety.specs.Claims.{Dispatching, Layer, Method, forms, items_of, tasks_of, declared}
-use Rattle.aom_semantics.specs.Cleanup.{ended_by}
 use Rattle.aom_safety.specs.Counting.{ends_object, restarts, starts, steps_of, taken}
 use Rattle.aom_semantics.specs.Destruction.{begun, first_session, parting, vanished}
 use Rattle.aom_semantics.specs.Effects.{effect}
 use Rattle.aom_safety.specs.Laws.{IsWired}
-use Rattle.aom_semantics.specs.Enlisted.{part_of}
-use Rattle.aom_semantics.specs.Moves.{answered, asking, counted, dispatch_ends, main_ends, object_ends, step, step_instr, step_task, stage_ends}
+use Rattle.aom_semantics.specs.Moves.{answered, counted, dispatch_ends, main_ends, object_ends, step, step_task}
 use Rattle.aom_semantics.specs.Places.{Elsewhere, Entry, Going, Object, Place, Root, Session, held, moved, same_place, seen, service_of}
-use Rattle.aom_semantics.specs.State.{An_object, Answered, Asks, Choice, Destroy, Dispatch, Dispatched, Frame, Goes, Item, Main_left, Object_left, Of_main, Of_object, Of_root, Run, Seat, State, Task, Trapped, Unwind, Closing, Of_server, Stage}
+use Rattle.aom_semantics.specs.State.{An_object, Choice, Destroy, Dispatch, Dispatched, Frame, Goes, Item}
+use Rattle.aom_semantics.specs.State.{Run, Seat, State, Task, Trapped, Unwind, Closing}
 use Rattle.aom_safety.specs.Steps.{Acts, Arrives, Clears, Comes_out, Ends, Move, Rests, Undoes, Vanishes, IsStill, Empties}
 use Rattle.aom_safety.specs.WellTyped.{Fits, Good, WellTyped}
 use Rattle.aom_semantics.specs.World.{Heard, Reaches, begins, boot_state, main_tasks, moves, turn, turning, turns, Environment}
@@ -48,10 +43,11 @@ use Rattle.aom_transcript.specs.declared.line.Line.{Line}
 use Rattle.aom_progress.proofs.Worths.{resumed_alike, told_alike}
 use Rattle.aom_typings.specs.Layers.{ArePricesUpTo}
 use Rattle.aom_typings.specs.Prices.{IsPriced, Prices, Stands, perhaps_price}
-use Rattle.aom_typings.specs.Dispatches.{IsAffordable, main_price, method_price, root_price}
+use Rattle.aom_typings.specs.Dispatches.{IsAffordable, main_price, root_price}
 use Rattle.aom_progress.specs.Laws.{BootWithin, KeepsBudget, MovesPay, StepsWithin}
-use Rattle.aom_progress.specs.Left.{WithinBudget, end_left, left, objects_left, operations_left, tasks_left, waiting_left, closing_left, closings_left, is_entry, is_session_with}
-use Rattle.aom_progress.specs.Payers.{AffordsObjects, class_budget, declared_of, payer, price_of, dispatch_price}
+use Rattle.aom_progress.specs.Left.{WithinBudget, left, objects_left, operations_left, tasks_left}
+use Rattle.aom_progress.specs.Left.{waiting_left, closing_left, closings_left, is_entry, is_session_with}
+use Rattle.aom_progress.specs.Payers.{AffordsObjects, class_budget, declared_of, payer, price_of}
 use Rattle.aom_progress.proofs.Covering.{covers}
 use Rattle.aom_progress.proofs.Paying.{begun_left, fresh_rounds, pays, destructed_left}
 use Rattle.aom_progress.proofs.Pushed.{leaves_place, moved_less, without_less, each_unslotted_same, queue_less, served_same}
@@ -65,7 +61,6 @@ use Rattle.aom_image.proofs.Given.{some_given}
 use Rattle.aom_safety.proofs.Layers.{dispatch_layer}
 use Rattle.std.proofs.Math.Nat.{le-max_left, le-max_right}
 use Rattle.std.proofs.lemmas.Bool.{eq-eqb}
-use Rattle.aom_roles.specs.Tests.{AllTrue}
 use Rattle.aom_safety.proofs.ClientsKeep.{clients_keep}
 use Rattle.aom_safety.specs.Kept.{IsKept}
 use Rattle.aom_progress.proofs.Lasting.{IsApart, going_apart, lasting, lasts_below, lasts_gone, lasts_moved, resumed_closings}
@@ -84,19 +79,18 @@ module _ (p : Image) (t : Typing) (c : Prices) (linked : IsLinked p) (typed : Is
   abbrev ActsPay : Frame → List Task → Type 0
   ActsPay fr ts = (i : Instr) (u : State) → instr_at p fr.method fr.place ≡ Some i → step_task p ch (counted p s) (Run fr ∷ ts) ≡ Goes u → 1 + left p c u ≤ all_left (Run fr ∷ ts)
 
-  acts_there :
-      (fr : Frame) (sh : Shape) (ls : List Layer) → s.tasks ≡ Run fr ∷ tasks_of ls → forms s.items ≡ items_of (Method fr sh ∷ ls) → Good p t s.cells (Method fr sh ∷ ls) →
-      ActsPay fr (tasks_of ls)
+  acts_there : (fr : Frame) (sh : Shape) (ls : List Layer) →
+      s.tasks ≡ Run fr ∷ tasks_of ls → forms s.items ≡ items_of (Method fr sh ∷ ls) → Good p t s.cells (Method fr sh ∷ ls) → ActsPay fr (tasks_of ls)
   acts_there fr sh ls tasks items good i u there goes =
       let ts = tasks_of ls in
       let m = of_method p fr.method fr.place i there in
       let x = typed.each fr.method fr.place sh good.stack.0 in
-      let rule = subst (λ j. AllTrue (rule_needs p fr.method fr.place sh j)) (same_Some x.instr i (sym x.stands ∙ there)) x.needs in
+      let rule = rw (same_Some x.instr i (sym x.stands ∙ there)) at x.needs in
       let it : Stands p t fr.method fr.place sh i = record { shape = good.stack.0; instr = there } in
       let at_hand : At p t (counted p s) fr sh ls = record { tasks = tasks; items = items; undos = w.undos; good = good } in
-      let a = acted p ch (counted p s) u fr ts i (subst (λ o. step_instr p ch fr ts (counted p s) o ≡ Goes u) there goes) in
+      let a = acted p ch (counted p s) u fr ts i (rw there at goes) in
       let covered = covers p t c (main_of_none p linked) priced ch (counted p s) fr sh ls at_hand i it rule in
-      subst (λ x. 1 + left p c x ≤ all_left (Run fr ∷ ts)) (sym a.2) (pays p t c linked priced ch (counted p s) fr sh ls at_hand few m.0 m.1 i m.2 it (effect p ch fr ts (counted p s) i) a.1 covered)
+      rw a.2 (pays p t c linked priced ch (counted p s) fr sh ls at_hand few m.0 m.1 i m.2 it (effect p ch fr ts (counted p s) i) a.1 covered)
 
   acts : (ls : List Layer) → s.tasks ≡ tasks_of ls → forms s.items ≡ items_of ls → Good p t s.cells ls → (fr : Frame) (ts : List Task) → tasks_of ls ≡ Run fr ∷ ts → ActsPay fr ts
   acts ls tasks items good fr ts at =
@@ -113,20 +107,17 @@ module _ (p : Image) (t : Typing) (c : Prices) (linked : IsLinked p) (typed : Is
       (o : Object) (from : Place) (height : ℕ) (below : List Task) → held s.cells from ≡ Some o → s.tasks ≡ below → ((depth : ℕ) → IsApart depth from) →
       tasks_left p c (begun p o height below) + closings_left p c (moved from (Going (length below)) s.cells) (begun p o height below)
       ≤ c.destruction o.thing + (waiting_left p c below + closings_left p c (moved from (Going (length below)) s.cells) below)
-  destruction o from height below there at apart = grind (
-    arith,
-    nat_tests,
-    begun_left p t c priced o height below,
-    stands_at_going p t c priced s.cells w.layers w.good few o from,
-  )
+  destruction o from height below there at apart =
+      grind (arith, nat_tests, begun_left p t c priced o height below, stands_at_going p t c priced s.cells w.layers w.good few o from)
 
   passed_on : (from : Place) (below : List Task) → ((depth : ℕ) → IsApart depth from) → closings_left p c (moved from (Going (length below)) s.cells) below ≤ closings_left p c s.cells below
   passed_on from below apart = grind (arith, nat_tests, lasting p c s.cells, lasts_moved, going_apart)
 
   -- what a leave deals with was paid for as it was pushed
-  clears :
-      (code : ℤ) (ts : List Task) (items : List Item) (o : Object) → s.tasks ≡ Unwind code ∷ ts → s.items ≡ An_object ∷ items → held s.cells (Entry (length items)) ≡ Some o →
-      left p c (record (counted p s) { cells = moved (Entry (length items)) (Going (length (Unwind code ∷ ts))) s.cells; tasks = begun p o (length items) (Unwind code ∷ ts); items = items }) ≤ all_left (Unwind code ∷ ts)
+  clears : (code : ℤ) (ts : List Task) (items : List Item) (o : Object) →
+      s.tasks ≡ Unwind code ∷ ts → s.items ≡ An_object ∷ items → held s.cells (Entry (length items)) ≡ Some o → left p c (record (counted p s)
+      { cells = moved (Entry (length items)) (Going (length (Unwind code ∷ ts))) s.cells; tasks = begun p o (length items) (Unwind code ∷ ts); items = items })
+      ≤ all_left (Unwind code ∷ ts)
   clears code ts items o at top there =
       let begins = destruction o (Entry (length items)) (length items) (Unwind code ∷ ts) there at (λ depth k lt. refl) in
       let cells = leaves_place c is_entry (Entry (length items)) (Going (length (Unwind code ∷ ts))) o s.cells refl refl there in
@@ -134,8 +125,8 @@ module _ (p : Image) (t : Typing) (c : Prices) (linked : IsLinked p) (typed : Is
       omega (arith, begins, passed_on (Entry (length items)) (Unwind code ∷ ts) (λ depth k lt. refl), cells, same)
 
   -- a server that goes lets go of a session that was counted before it, or begins its destructor
-  lets_go :
-      (ts : List Task) (o : Object) (x : Seat) (client : ℕ) → x.place ≡ Elsewhere (Session o.name client) → held s.cells x.place ≡ Some x.object → s.tasks ≡ Closing ∷ Destroy ∷ ts → held s.cells (Going (length ts)) ≡ Some o →
+  lets_go : (ts : List Task) (o : Object) (x : Seat) (client : ℕ) → x.place ≡ Elsewhere (Session o.name client) →
+      held s.cells x.place ≡ Some x.object → s.tasks ≡ Closing ∷ Destroy ∷ ts → held s.cells (Going (length ts)) ≡ Some o →
       left p c (parting p o (Some x) ts (counted p s)) ≤ all_left (Closing ∷ Destroy ∷ ts)
   lets_go ts o x client place there at server =
       let below = Closing ∷ Destroy ∷ ts in
@@ -149,9 +140,8 @@ module _ (p : Image) (t : Typing) (c : Prices) (linked : IsLinked p) (typed : Is
       let others = lasting p c s.cells us ts (lasts_below (length ts) (suc (length ts)) s.cells us (omega arith) lasts) in
       omega (arith, begins, below_us, below_now, fewer, others, moved_less c is_entry x.place (Going (length below)) s.cells refl)
 
-  empties :
-      (ts : List Task) (o : Object) (x : Option Seat) → s.tasks ≡ Closing ∷ Destroy ∷ ts → held s.cells (Going (length ts)) ≡ Some o → first_session s.cells o.name (service_of s.cells o.name).sessions ≡ x →
-      left p c (parting p o x ts (counted p s)) ≤ all_left (Closing ∷ Destroy ∷ ts)
+  empties : (ts : List Task) (o : Object) (x : Option Seat) → s.tasks ≡ Closing ∷ Destroy ∷ ts → held s.cells (Going (length ts)) ≡ Some o →
+      first_session s.cells o.name (service_of s.cells o.name).sessions ≡ x → left p c (parting p o x ts (counted p s)) ≤ all_left (Closing ∷ Destroy ∷ ts)
   empties ts o None at server first = omega (arith, destructed_left p c o (length s.items) ts s.cells, ap (λ y. closing_left p c s.cells y) server)
   empties ts o (Some x) at server first =
       let found = found_first s.cells o.name (service_of s.cells o.name).sessions x first in
@@ -159,29 +149,17 @@ module _ (p : Image) (t : Typing) (c : Prices) (linked : IsLinked p) (typed : Is
 
   -- a cell goes, and what waits in its queue
   vanishes : (ts : List Task) (o : Object) → 1 + left p c (vanished o ts (counted p s)) ≤ all_left (Destroy ∷ ts)
-  vanishes ts o = grind (
-    arith,
-    nat_tests,
-    lasting p c s.cells,
-    lasts_gone,
-    resumed_alike,
-    resumed_closings p c,
-    each_unslotted_same c,
-    without_less c,
-    queue_less c,
-  )
-
-  ended_less : (code : ℤ) (d : Dispatch) → end_left p c (ended_by code d) ≤ end_left p c d
-  ended_less code x = grind arith
+  vanishes ts o =
+      grind (arith, nat_tests, lasting p c s.cells, lasts_gone, resumed_alike, resumed_closings p c, each_unslotted_same c, without_less c, queue_less c)
 
   -- the root is of its declared class
   root_pays : (o : Object) (root : Option ℕ) → Fits p (seen s.cells) (Some o) (filled (root_thing root 0) Perhaps) → c.destruction o.thing ≤ root_price c root
   root_pays o root f = grind (arith, nat_tests, some_given)
 
   -- what is pushed, and the root's destruction, which main's end may begin
-  main_left_over :
-      (d : Dispatch) (seats : List Seat) → Good p t s.cells (Dispatching d seats ∷ []) → (b : Bool) (o : Option Object) (v : State) → v.cells ≡ s.cells → v.items ≡ s.items → held s.cells (Elsewhere Root) ≡ o →
-      Fits p (seen s.cells) o (filled (root_thing p.header.root 0) Perhaps) → left p c (main_ends p b o v) ≤ root_price c p.header.root + (objects_left c s.cells + operations_left c s.items)
+  main_left_over : (d : Dispatch) (seats : List Seat) → Good p t s.cells (Dispatching d seats ∷ []) → (b : Bool) (o : Option Object) (v : State) →
+      v.cells ≡ s.cells → v.items ≡ s.items → held s.cells (Elsewhere Root) ≡ o → Fits p (seen s.cells) o (filled (root_thing p.header.root 0) Perhaps) →
+      left p c (main_ends p b o v) ≤ root_price c p.header.root + (objects_left c s.cells + operations_left c s.items)
   main_left_over d seats last true (Some o) v same alike there f = grind (
     arith,
     nat_tests,
@@ -190,12 +168,7 @@ module _ (p : Image) (t : Typing) (c : Prices) (linked : IsLinked p) (typed : Is
     moved_less c,
     root_pays o p.header.root f,
   )
-  main_left_over d seats last true None v same alike there f = omega (arith, ap (λ cs. objects_left c cs) same, ap (λ is. operations_left c is) alike)
-  main_left_over d seats last false o v same alike there f = omega (arith, ap (λ cs. objects_left c cs) same, ap (λ is. operations_left c is) alike)
-
-  -- the stage of a server's dispatch ends
-  stage_left : (x : Seat) (client : ℕ) (stage : Stage) (ts : List Task) → left p c (stage_ends x client stage (counted p s)) ≤ all_left (Dispatched (Of_server x client stage) ∷ ts)
-  stage_left x client y ts = grind (arith, nat_tests, without_less c, served_same c)
+  main_left_over d seats last x o v same alike there f = grind arith
 
   -- a dispatch that ends stands alone
   abbrev Alone : Dispatch → Type 0
@@ -206,58 +179,23 @@ module _ (p : Image) (t : Typing) (c : Prices) (linked : IsLinked p) (typed : Is
       let both = subst (λ b. Good p t s.cells (Dispatching d seats ∷ b) × (forms s.items ≡ items_of (Dispatching d seats ∷ b))) last.0.stack.1 last in (seats, both.0, both.1))
 
   -- the method that is asked was paid for
-  asked_left :
-      (ts : List Task) (x : Seat) (code : ℤ) (m : Option ℕ) → is_none m ≡ false →
-      left p c (asking p m x code (counted p s)) ≤ perhaps_price c m + waiting_left p c ts + (objects_left c s.cells + operations_left c s.items)
-  asked_left ts x code m none = grind (arith, fresh_rounds c)
-
   of_dispatch : (d : Dispatch) (ts : List Task) → s.tasks ≡ Dispatched d ∷ ts → ends_object p d ≡ false → left p c (dispatch_ends p d (counted p s)) ≤ all_left (Dispatched d ∷ ts)
-  of_dispatch (Main_left code) ts at goes_on = omega arith
-  of_dispatch Of_root ts at goes_on = omega arith
-  of_dispatch Of_main ts at goes_on = grind (arith, nat_tests, alone Of_main ts at, main_left_over Of_main)
-  of_dispatch (Object_left x code) ts at goes_on = omega (arith, asked_left ts x code (part_of p Error x.object.thing) goes_on)
-  of_dispatch (Of_server x client stage) ts at goes_on = stage_left x client stage ts
-  of_dispatch _ ts at goes_on = cc
+  of_dispatch x ts at goes_on = grind (arith, nat_tests, alone, main_left_over, fresh_rounds, without_less, served_same)
 
   -- ---- the dispatch of an object ends
 
   -- main's price has the root's destruction in it
-  root_in_main : root_price c p.header.root ≤ main_price p c
-  root_in_main = some_given (λ o. IsSome o) (main_of p) linked.main (λ none. cc) (λ m is there. omega (arith, ap (λ o. method_price p c o) is))
-
   module _ (d : Dispatch) (seats : List Seat) (last : Good p t s.cells (Dispatching d seats ∷ [])) (items : forms s.items ≡ items_of (Dispatching d seats ∷ []))
       (root : Fits p (seen s.cells) (held s.cells (Elsewhere Root)) (filled (root_thing p.header.root 0) Perhaps)) where
     object_left_over : left p c (object_ends p (counted p s)) ≤ main_price p c
-    object_left_over = grind (
-      arith,
-      nat_tests,
-      none_at_end c p t s.cells s.items d seats last items,
-      root_in_main,
-      main_left_over d seats last s.rest.stopped,
-    )
+    object_left_over = grind (arith, nat_tests, none_at_end c p t s.cells s.items d seats last items, main_left_over d seats last s.rest.stopped)
 
     answer_left_over : (answer : ℤ) → left p c (answered p answer (counted p s)) ≤ main_price p c
     answer_left_over answer = grind (arith, nat_tests, object_left_over, none_at_end c p t s.cells s.items d seats last items)
 
-    unasked_left_over : (x : Seat) (code : ℤ) (m : Option ℕ) → is_none m ≡ true → left p c (asking p m x code (counted p s)) ≤ main_price p c
-    unasked_left_over x code m none = grind (arith, answer_left_over code)
-
-  over_by : (d : Dispatch) (ts : List Task) → s.tasks ≡ Dispatched d ∷ ts → ends_object p d ≡ true → left p c (dispatch_ends p d (counted p s)) ≤ main_price p c
-  over_by (Of_object x) ts at ends = let last = alone (Of_object x) ts at in object_left_over (Of_object x) last.0 last.1 last.2 (last.1.fits (Elsewhere Root))
-  over_by (Object_left x code) ts at ends = grind (arith, nat_tests, alone (Object_left x code) ts at, unasked_left_over (Object_left x code))
-  over_by (Asks x) ts at ends = let last = alone (Asks x) ts at in object_left_over (Asks x) last.0 last.1 last.2 (last.1.fits (Elsewhere Root))
-  over_by (Answered x answer) ts at ends = let last = alone (Answered x answer) ts at in answer_left_over (Answered x answer) last.0 last.1 last.2 (last.1.fits (Elsewhere Root)) answer
-  over_by _ ts at ends = cc
-
   -- no other move counts steps anew
-  not_over : (ts : List Task) (u : State) → s.tasks ≡ ts → restarts p s.tasks ≡ true → restarts p ts ≡ false → left p c u ≤ main_price p c
-  not_over ts u at ends goes_on = let clash : true ≡ false = sym ends ∙ ap (λ l. restarts p l) at ∙ goes_on in cc
-
-  still_on : (ts : List Task) → IsStill ts → restarts p ts ≡ false
-  still_on ts still = grind arith
-
   restart_pays : (u : State) → Move p ch s u → restarts p s.tasks ≡ true → left p c u ≤ main_price p c
-  restart_pays u x ends = grind (arith, nat_tests, not_over s.tasks u, still_on s.tasks, over_by)
+  restart_pays u x ends = grind (arith, nat_tests, alone, object_left_over, answer_left_over)
 
   -- ---- the kinds of moves
 
@@ -266,34 +204,26 @@ module _ (p : Image) (t : Typing) (c : Prices) (linked : IsLinked p) (typed : Is
 
   move_pays : (u : State) → step p ch s ≡ Goes u → Move p ch s u → restarts p s.tasks ≡ false → steps_of s.tasks + left p c u ≤ left p c s
   move_pays u goes (Rests still same) goes_on = by s.tasks u _ refl same (omega (arith, still_none s.tasks still))
-  move_pays u goes (Acts fr ts i e at there met fits same) goes_on =
-      by (Run fr ∷ ts) u u at refl (acts w.layers w.tasks w.items w.good fr ts (sym w.tasks ∙ at) i u there (subst (λ l. step_task p ch (counted p s) l ≡ Goes u) at goes))
+  move_pays u goes (Acts fr ts i e at there met fits same) goes_on = grind (arith, nat_tests, by, acts)
   move_pays u goes (Vanishes ts o at there owns same) goes_on = by (Destroy ∷ ts) u _ at same (vanishes ts o)
   move_pays u goes (Empties ts o at there same) goes_on = grind (arith, nat_tests, by (Closing ∷ Destroy ∷ ts) u, empties ts o)
   move_pays u goes (Clears code ts items o at top there same) goes_on = by (Unwind code ∷ ts) u _ at same (omega (arith, clears code ts items o at top there))
   move_pays u goes (Undoes code ts items m x at top same) goes_on = grind (arith, nat_tests, by (Unwind code ∷ ts) u, fresh_rounds c m)
   move_pays u goes (Arrives code fr ts items at top same) goes_on = grind (arith, nat_tests, by (Unwind code ∷ Trapped ∷ Run fr ∷ ts) u, told_alike)
-  move_pays u goes (Comes_out code d ts items at top same) goes_on = grind (
-    arith,
-    nat_tests,
-    by (Unwind code ∷ Trapped ∷ Dispatched d ∷ ts) u,
-    ended_less code d,
-  )
-  move_pays u goes (Ends d ts at same) goes_on = by (Dispatched d ∷ ts) u _ at same (omega (arith, of_dispatch d ts at (subst (λ l. restarts p l ≡ false) at goes_on)))
+  move_pays u goes (Comes_out code d ts items at top same) goes_on = grind (arith, nat_tests, by (Unwind code ∷ Trapped ∷ Dispatched d ∷ ts) u)
+  move_pays u goes (Ends d ts at same) goes_on = grind (arith, nat_tests, by, of_dispatch)
 
 -- ---- the laws
 
 pub boot_within : BootWithin
 boot_within p c = grind (arith, nat_tests, fresh_rounds c)
 
-step_pays :
-    (p : Image) (t : Typing) (c : Prices) → IsLinked p → IsTyped p t → IsPriced p t c → (ch : Choice) (s u : State) → WellTyped p t s → IsKept p s → step p ch s ≡ Goes u →
-    restarts p s.tasks ≡ false → steps_of s.tasks + left p c u ≤ left p c s
+step_pays : (p : Image) (t : Typing) (c : Prices) → IsLinked p → IsTyped p t → IsPriced p t c →
+    (ch : Choice) (s u : State) → WellTyped p t s → IsKept p s → step p ch s ≡ Goes u → restarts p s.tasks ≡ false → steps_of s.tasks + left p c u ≤ left p c s
 step_pays p t c linked typed priced ch s u w kept goes = move_pays p t c linked typed priced ch s w kept.fit.seats u goes (steps_are_moves p ch s u goes)
 
-restart_left :
-    (p : Image) (t : Typing) (c : Prices) → IsLinked p → IsTyped p t → IsPriced p t c → (ch : Choice) (s u : State) → WellTyped p t s → IsKept p s → step p ch s ≡ Goes u →
-    restarts p s.tasks ≡ true → left p c u ≤ main_price p c
+restart_left : (p : Image) (t : Typing) (c : Prices) → IsLinked p → IsTyped p t →
+    IsPriced p t c → (ch : Choice) (s u : State) → WellTyped p t s → IsKept p s → step p ch s ≡ Goes u → restarts p s.tasks ≡ true → left p c u ≤ main_price p c
 restart_left p t c linked typed priced ch s u w kept goes = restart_pays p t c linked typed priced ch s w kept.fit.seats u (steps_are_moves p ch s u goes)
 
 pub moves_pay : MovesPay
@@ -304,8 +234,8 @@ moves_pay = record {
   within = λ p t c linked typed priced ch s u w kept goes n enough h. go p t c linked typed priced ch s u w kept goes n h (restarts p s.tasks) refl enough;
 }
   where
-    go :
-        (p : Image) (t : Typing) (c : Prices) → IsLinked p → IsTyped p t → IsPriced p t c → (ch : Choice) (s u : State) → WellTyped p t s → IsKept p s → step p ch s ≡ Goes u →
+    go : (p : Image) (t : Typing) (c : Prices) →
+        IsLinked p → IsTyped p t → IsPriced p t c → (ch : Choice) (s u : State) → WellTyped p t s → IsKept p s → step p ch s ≡ Goes u →
         (n : ℕ) → WithinBudget p c n s → (b : Bool) → restarts p s.tasks ≡ b → (restarts p s.tasks ≡ true → main_price p c ≤ n) → WithinBudget p c n u
     go p t c linked typed priced ch s u w kept goes n h true ends enough = record {
       within =
@@ -333,9 +263,8 @@ module _ (p : Image) (t : Typing) (c : Prices) (outside : Environment) (formed :
   moves_on s u ch n w goes h false on = grind (arith, nat_tests, payers p ch s u goes, step_pays p t c linked typed priced ch s u w.0 w.1 goes on)
 
   -- and with a turn
-  turns_on :
-      (heard : Heard) (s u : State) (n : ℕ) → WellTyped p t s → s.tasks ≡ [] → turn p outside heard s ≡ Goes u → Within n s → (b : Bool) → starts (turning outside heard s) ≡ b →
-      Within (cond b 0 n) u
+  turns_on : (heard : Heard) (s u : State) (n : ℕ) →
+      WellTyped p t s → s.tasks ≡ [] → turn p outside heard s ≡ Goes u → Within n s → (b : Bool) → starts (turning outside heard s) ≡ b → Within (cond b 0 n) u
   turns_on heard s u n w idle goes h true begun = omega (arith, turns_pay.begins p t c formed linked priced outside heard s u w idle goes begun)
   turns_on heard s u n w idle goes h false on =
       let passed = turns_pay.passes p c outside heard s u idle goes on in
@@ -347,7 +276,7 @@ module _ (p : Image) (t : Typing) (c : Prices) (outside : Environment) (formed :
   stays : {lines : List Line} {s : State} (reached : Reaches p outside (boot_state p) lines s) → Within (taken reached) s
   stays begins = omega (arith, (boot_within p c).within, ap (λ x. price_of p c x) (by_main (main_of p)))
   stays (moves {s = s} {u = u} ch reached busy opened goes) = moves_on s u ch (taken reached) (well reached) goes (stays reached) (restarts p s.tasks) refl
-  stays (turns {s = s} {u = u} heard reached between owed goes) = turns_on heard s u (taken reached) (well reached).0 between.idle goes (stays reached) (starts (turning outside heard s)) refl
+  stays (turns {s = s} {u = u} heard reached between owed goes) = grind (arith, nat_tests, turns_on, well, stays reached)
 
 -- ---- what is declared
 
@@ -366,11 +295,8 @@ declared_fits p formed (Some x) = of_class (slice_get p.classes x) refl
 
 -- a price up to a limit that is below the limit is the price
 module _ (limit : ℕ) (p : Image) (t : Typing) (c : Prices) (wired : IsWired p) (are : ArePricesUpTo limit p t c) where
-  same_root : (root : Option ℕ) → root_price c root < limit → root_price are.whole.prices root ≡ root_price c root
-  same_root x less = grind arith
-
   same_main : main_price p c < limit → main_price p are.whole.prices ≤ main_price p c
-  same_main less = grind (arith, nat_tests, same_root p.header.root)
+  same_main less = grind (arith, nat_tests)
 
   pub affordable_below : p.header.budget < limit → main_price p c ≤ p.header.budget → IsAffordable p t are.whole.prices
   affordable_below below declared = record { priced = are.whole.pays; declared = omega (arith, same_main (omega (arith, below, declared)), declared) }
@@ -380,21 +306,10 @@ module _ (limit : ℕ) (p : Image) (t : Typing) (c : Prices) (wired : IsWired p)
     where
       go : (m : Option ℕ) → role_of p x role ≡ m → perhaps_price c m < limit → perhaps_price are.whole.prices m ≡ perhaps_price c m
       go None e less = refl
-      go (Some m) e less =
-          let w = role_inherits p x m role e in
-          omega (arith, are.methods m (subst (λ o. IsSome o) (sym w.there) refl), less)
-
-  same_dispatch : (x : ℕ) (k : Option ClassKind) → dispatch_price p c x k < limit → dispatch_price p are.whole.prices x k ≡ dispatch_price p c x k
-  same_dispatch x None less = refl
-  same_dispatch x (Some Plain) less = refl
-  same_dispatch x (Some A_session) less = refl
-  same_dispatch x (Some (Active provider)) less = omega (arith, same_part x Handles (omega (arith, less)), same_part x Error (omega (arith, less)))
-  same_dispatch x (Some (Server most session)) less = grind (arith, nat_tests, same_part x Accept, le-max_left, same_part session Attends, le-max_right)
+      go (Some m) e less = let w = role_inherits p x m role e in omega (arith, are.methods m (rw w.there refl), less)
 
   pub objects_below : ((x : ℕ) → declared_of p (Some x) < limit) → AffordsObjects p c → AffordsObjects p are.whole.prices
-  objects_below below affords = record {
-    each = grind (arith, nat_tests, same_dispatch);
-  }
+  objects_below below affords = record { each = grind (arith, nat_tests, same_part, le-max_left, le-max_right) }
 
 pub steps_within : StepsWithin
 steps_within = record { price = by_price; main = of_main; each = by_budget; limited = by_limit }

@@ -1,21 +1,21 @@
 -- What the tasks come to after a leave, a return, an arrival and the going of a cell; and what of the cells is only passed on.
 use Rattle.std.proofs.lemmas.Bool.Decides.{nat_tests}
-use Rattle.std.proofs.Common.{List, Option, Some, [], arith, length, suc, ℕ, ℤ, ◌+◌, ◌∷◌, ◌≡◌, ◌≤◌}
+use Rattle.std.proofs.Common.{List, Option, Some, [], arith, suc, ℕ, ℤ, ◌+◌, ◌∷◌, ◌≡◌, ◌≤◌}
 use Rattle.aom_image.specs.Image.{Image}
-use Rattle.aom_image.specs.Views.{instr_at}
 use Rattle.aom_image.specs.declared.method.Argument.{Argument}
 use Rattle.aom_image.specs.declared.method.Argument.TheVariants.{Word as Takes_word, Own as Takes_own}
 use Rattle.aom_image.specs.declared.method.Gives.{Gives}
 use Rattle.aom_shape.specs.Shape.{Shape}
 use Rattle.aom_rules.specs.Typing.{Typing}
-use Rattle.aom_semantics.specs.Calls.{accepted_cells, answered_by, below_top, ended_well, passed_cells, received, result_cells, result_register, returned, told_answer}
-use Rattle.aom_safety.specs.Claims.{Dispatching, Dying, Layer, Mark, Method, Unwinding, tasks_of}
+use Rattle.aom_semantics.specs.Calls.{accepted_cells, below_top, ended_well, passed_cells}
+use Rattle.aom_semantics.specs.Calls.{returned}
+use Rattle.aom_safety.specs.Claims.{Layer, Method, tasks_of}
 use Rattle.aom_semantics.specs.Cleanup.{code_told, to_trap}
 use Rattle.aom_semantics.specs.Places.{Cell, Register, Request, moved}
-use Rattle.aom_semantics.specs.State.{Answered, Asks, Dispatch, Dispatched, Frame, Home, Item, Run, Seat, State, Task, Trapped, next, resumed}
+use Rattle.aom_semantics.specs.State.{Answered, Asks, Dispatch, Frame, Home, Item, Run, Seat, State, Task, next, resumed}
 use Rattle.aom_safety.specs.WellTyped.{Now, Stack}
 use Rattle.aom_progress.specs.Worths.{Worths, over_worth, tasks_worth, waiting_worth}
-use Rattle.aom_semantics.specs.Destruction.{line_on, next_destructor}
+use Rattle.aom_semantics.specs.Destruction.{next_destructor}
 use Rattle.aom_semantics.specs.Enlisted.{ended_cells, rerequested}
 
 -- ---- cells that are only passed on
@@ -27,10 +27,6 @@ module _ (f : List Cell → ℕ) (passes : (d i e j : ℕ) (cs : List Cell) → 
   passed_less p fr ts s depth [] first to cs = omega arith
   passed_less p fr ts s depth (Takes_word ∷ xs) first to cs = passed_less p fr ts s depth xs (suc first) (suc to) cs
   passed_less p fr ts s depth (Takes_own t ∷ xs) first to cs = grind (arith, nat_tests, passed_less p fr ts s depth xs)
-
-  -- with a result
-  result_less : (p : Image) (fr : Frame) (ts : List Task) (s : State) (g : Gives) (a x : ℕ) (below : List Task) → f (result_cells p fr ts s g a x below) ≤ f s.cells
-  result_less p fr ts s x a y below = grind arith
 
 -- ---- tasks
 
@@ -48,18 +44,12 @@ module _ (w : Worths) where
   pub told_alike : (g : Gives) (r : ℕ) (code : ℤ) (fr : Frame) (ts : List Task) → tasks_worth w (Run (next (code_told g r code fr)) ∷ ts) ≡ waiting_worth w (Run fr ∷ ts)
   told_alike x r code fr ts = grind arith
 
-  -- and so is a result
-  received_alike :
-      (p : Image) (fr : Frame) (ts : List Task) (s : State) (g : Gives) (a x : ℕ) (caller : Frame) (below : List Task) →
-      tasks_worth w (Run (next (received p fr ts s g a x caller)) ∷ below) ≡ waiting_worth w (Run caller ∷ below)
-  received_alike p fr ts s x a y caller below = grind arith
-
   -- a return to what stands below
-  module _ (f : List Cell → ℕ) (g : List Item → ℕ)
-      (passes : (d i e j : ℕ) (cs : List Cell) → f (moved (Register d i) (Register e j) cs) ≤ f cs) (below : (items : List Item) → g (below_top items) ≤ g items)
-      (asks : (cs : List Cell) (h : Home) (r : Option Request) → f (rerequested cs h r) ≡ f cs) (answers : (x : Seat) (answer : ℤ) → w.dispatch (Answered x answer) ≤ w.dispatch (Asks x)) (serves : (d : Dispatch) → w.dispatch (ended_well d) ≤ w.dispatch d)
-      (p : Image) (t : Typing) (s : State) (fr : Frame) (sh : Shape) (gives : Gives) (a : ℕ)
-      (accepts : (d : Dispatch) (e i : ℕ) → f (accepted_cells d (Register e i) (ended_cells p fr s.cells)) ≤ f (ended_cells p fr s.cells)) where
+  module _ (f : List Cell → ℕ) (g : List Item → ℕ) (passes : (d i e j : ℕ) (cs : List Cell) → f (moved (Register d i) (Register e j) cs) ≤ f cs)
+      (below : (items : List Item) → g (below_top items) ≤ g items) (asks : (cs : List Cell) (h : Home) (r : Option Request) → f (rerequested cs h r) ≡ f cs)
+      (answers : (x : Seat) (answer : ℤ) → w.dispatch (Answered x answer) ≤ w.dispatch (Asks x))
+      (serves : (d : Dispatch) → w.dispatch (ended_well d) ≤ w.dispatch d) (p : Image) (t : Typing) (s : State) (fr : Frame) (sh : Shape) (gives : Gives)
+      (a : ℕ) (accepts : (d : Dispatch) (e i : ℕ) → f (accepted_cells d (Register e i) (ended_cells p fr s.cells)) ≤ f (ended_cells p fr s.cells)) where
     -- the state as the method ends
     abbrev pub ended : State
     ended = record s { cells = ended_cells p fr s.cells }
@@ -68,9 +58,6 @@ module _ (w : Worths) where
     ended_less = grind (arith, nat_tests)
 
     -- a dispatch that asked has its answer
-    answered_less : (answer : ℤ) (d : Dispatch) → w.dispatch (answered_by answer d) ≤ w.dispatch d
-    answered_less y z = grind arith
-
     abbrev pub after : List Layer → State
     after ls = returned p fr (tasks_of ls) ended gives a (tasks_of ls)
 
@@ -81,17 +68,5 @@ module _ (w : Worths) where
     abbrev pub LinesFall : Type 0
     LinesFall = (m k : ℕ) → next_destructor p m ≡ Some k → w.method k [] 0 + w.rest k ≤ w.rest m
 
-    line_less : LinesFall → (m : ℕ) (home : Home) (height : ℕ) (below : List Task) → tasks_worth w (line_on p m home height below) ≤ w.rest m + (w.going + waiting_worth w below)
-    line_less fall m y height z = grind arith
-
     pub returned_less : LinesFall → (ls : List Layer) → Stack p t s.cells Now (Method fr sh ∷ ls) → Less ls
-    returned_less fall (Method caller sh2 ∷ ls) h =
-        let x = result_register (instr_at p caller.method caller.place) in
-        let below = Run caller ∷ tasks_of ls in
-        (omega (arith, received_alike p fr below ended gives a x caller (tasks_of ls)), omega (arith, result_less f passes p fr below ended gives a x (tasks_of ls), ended_less))
-    returned_less fall (Dying o ∷ ls) h = (line_less fall fr.method fr.home fr.height (tasks_of ls), omega (arith, ended_less))
-    returned_less fall (Unwinding code es ∷ ls) h = (omega arith, omega (arith, ended_less))
-    returned_less fall (Mark gv ∷ Method caller sh2 ∷ ls) h = grind (arith, nat_tests, received_alike p fr, result_less f passes p fr, ended_less)
-    returned_less fall (Mark gv ∷ Dispatching d seats ∷ ls) h = (omega (arith, serves d), omega (arith, accepts d (length (Trapped ∷ Dispatched d ∷ tasks_of ls)) a, ended_less, below s.items))
-    returned_less fall (Dispatching d seats ∷ ls) h = (omega (arith, answered_less (told_answer gives fr a) d), omega (arith, ended_less))
-    returned_less fall _ h = absurd (grind arith)
+    returned_less fall y z = grind (arith, nat_tests, ended_less)
